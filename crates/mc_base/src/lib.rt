@@ -1,0 +1,15 @@
+//! What every crate of Millicent counts with: amounts of money, moments, and lists that contracts
+//! see as their elements. No call of this crate takes memory.
+#![tactic(auto)]
+
+mod amount;
+mod list;
+mod moment;
+mod no_memory;
+#[cfg(test)]
+mod tests;
+
+pub use amount::Amount;
+pub use list::List;
+pub use moment::Moment;
+pub use no_memory::NoMemory;
