@@ -1,0 +1,9 @@
+pub mod Fronts
+pub mod Formats
+pub mod FieldLaws
+pub mod TextField
+pub mod NumberField
+pub mod HexField
+pub mod FieldLoops
+pub mod HexLoop
+pub mod TextTest

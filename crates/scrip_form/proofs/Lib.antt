@@ -1,0 +1,3 @@
+pub mod FieldReads
+pub mod Laws
+pub mod PaddedLemmas

@@ -1,0 +1,28 @@
+-- The terms of an issuer, and the series that they give.
+use Rattle.std.specs.Prelude.{ℕ, ◌+◌, ◌*◌, ◌/◌, ◌%◌, ◌≤◌, ◌^◌, List, [], length, slice_index_or}
+use Rattle.scrip_form.specs.Identities.{epoch_of}
+
+pub record Issuing : Type 0 where
+  pub issuer : ℕ
+  pub period : ℕ
+  pub life : ℕ
+  pub scrip : List (List ℕ)
+  pub customer : List (List ℕ)
+
+-- the ranges of the period and the life, in seconds
+pub record HasPeriod (period life : ℕ) : Type 0 where
+  pub least : 2048 ≤ period
+  pub most : period ≤ 2 ^ 24
+  pub short : life ≤ 2 ^ 24
+
+-- the epoch of a moment: the moment divided by the period, rounded down
+abbrev pub epoch : Issuing → ℕ → ℕ
+epoch t moment = moment / t.period
+
+-- the end of the series of an epoch
+abbrev pub series_end : Issuing → ℕ → ℕ
+series_end t e = (e + 1) * t.period + t.life
+
+-- the secret that an identity selects: the one whose number is its epoch modulo the count
+abbrev pub selected : List (List ℕ) → ℕ → List ℕ
+selected secrets id = slice_index_or secrets (epoch_of id % length secrets) []

@@ -1,0 +1,36 @@
+//! Scrip, the money of Millicent, as it is written and read: names, identities, the terms of an
+//! issuer, and the one text of a piece with its certificate.
+//!
+//! From the paper of 1995 come a piece's seven fields (vendor, value, identity, customer identity,
+//! expiry, properties and certificate). Their spelling is this project's own:
+//! `MS1|vendor|value|id|cust|expires|props|cert`.
+//!
+//! No call of this crate takes memory.
+#![tactic(auto)]
+
+mod id;
+mod law;
+mod name;
+mod piece;
+mod props;
+mod read;
+mod scrip_ref;
+mod secrets;
+mod small_text;
+mod target;
+mod terms;
+#[cfg(test)]
+mod tests;
+mod write;
+
+pub use id::Id;
+pub use law::{no_scrip_text_begins_another, scrip_of_tells_the_text, scrip_text_is_of_one_piece};
+pub use name::{Name, NameRule, read_name};
+pub use piece::Piece;
+pub use props::{Props, PropsRule};
+pub use read::{FormFault, read_scrip};
+pub use scrip_ref::ScripRef;
+pub use secrets::Secrets;
+pub use target::{Target, TargetRule};
+pub use terms::Terms;
+pub use write::write_scrip;

@@ -1,0 +1,113 @@
+ghost use Rattle.std.specs.Prelude.{◌≡◌, ◌↔◌, ◌<◌, ◌≤◌, ◌^◌, IsSome, IfSome};
+ghost use Rattle.scrip_form.specs.Scrip.{Scrip, IsPiece};
+
+use crate::id::Id;
+use crate::name::Name;
+use crate::props::Props;
+use mc_base::Amount;
+use std::marker::Model;
+
+/// A piece of scrip without its certificate: its vendor, its value of 1 to 2^40 units, its identity
+/// and that of its customer, its expiry of 1 to 2^49 seconds since 1970, and its properties. Contracts
+/// see it as the record `Scrip`. That the expiry is the end of a series is for a house to ask.
+#[derive(Clone, Copy)]
+pub struct Piece {
+    vendor: Name,
+    value: Amount,
+    id: Id,
+    cust: Id,
+    expires: u64,
+    props: Props,
+}
+
+impl Model for Piece {
+    ghost use Rattle.scrip_form.specs.Scrip.{Scrip, IsPiece};
+
+    ghost Value = { Scrip };
+
+    ghost view = { λ p. record { vendor = p.vendor; value = p.value; id = p.id; cust = p.cust; expires = p.expires; props = p.props } };
+
+    ghost invariant = { λ p. IsPiece (record { vendor = p.vendor; value = p.value; id = p.id; cust = p.cust; expires = p.expires; props = p.props }) };
+
+    ghost inverse = { λ s. record { vendor = s.vendor; value = s.value; id = s.id; cust = s.cust; expires = s.expires; props = s.props } };
+}
+
+impl Piece {
+    /// The piece of these parts; None exactly where the value is 0, or `expires` is 0 or above 2^49.
+    pub fn new(
+        vendor: Name,
+        value: Amount,
+        id: Id,
+        cust: Id,
+        expires: u64,
+        props: Props,
+    ) -> Option<Piece>
+        ensures valid { IsSome result ↔ ((0 < value) × (0 < expires) × (expires ≤ 2 ^ 49)) }
+        ensures piece { IfSome result (λ p. p ≡ record { vendor = vendor; value = value; id = id; cust = cust; expires = expires; props = props }) }
+    {
+        if value.get() == 0 || expires == 0 || expires > 1 << 49 {
+            return None;
+        }
+        // What the parts know of themselves.
+        let _vendor = vendor.bytes();
+        let _props = props.bytes();
+        let _id = id.number();
+        let _cust = cust.number();
+        Some(Piece {
+            vendor,
+            value,
+            id,
+            cust,
+            expires,
+            props,
+        })
+    }
+
+    /// The name of the vendor that takes it.
+    pub fn vendor(&self) -> Name
+        ensures vendor { result ≡ self.now.vendor }
+        ensures piece { IsPiece self.now }
+    {
+        self.vendor
+    }
+
+    /// Its value.
+    pub fn value(&self) -> Amount
+        ensures value { result ≡ self.now.value }
+        ensures piece { IsPiece self.now }
+    {
+        self.value
+    }
+
+    /// Its identity, which is spent once.
+    pub fn id(&self) -> Id
+        ensures id { result ≡ self.now.id }
+        ensures piece { IsPiece self.now }
+    {
+        self.id
+    }
+
+    /// The identity that its customer secret is made for.
+    pub fn cust(&self) -> Id
+        ensures cust { result ≡ self.now.cust }
+        ensures piece { IsPiece self.now }
+    {
+        self.cust
+    }
+
+    /// The moment from which on it is expired, in seconds since 1970.
+    pub fn expires(&self) -> u64
+        ensures expires { result ≡ self.now.expires }
+        ensures piece { IsPiece self.now }
+    {
+        self.expires
+    }
+
+    /// Its properties.
+    pub fn props(&self) -> Props
+        ensures props { result ≡ self.now.props }
+        ensures piece { IsPiece self.now }
+    {
+        self.props
+    }
+}

@@ -1,0 +1,62 @@
+ghost use Rattle.std.specs.Prelude.{◌≡◌, ◌+◌, ◌≤◌, ◌<◌, ◌++◌, ◌^◌, length, take};
+ghost use Rattle.hex.specs.Hex.{encode_lower};
+ghost use Rattle.scrip_form.specs.Scrip.{IsTextOf, IsCert, barred, id_digits};
+
+use crate::id::Id;
+use crate::piece::Piece;
+use itoa::Buffer;
+
+/// Writes the text of the piece and the certificate to the front of `out`, and answers its length,
+/// which is at most 293.
+pub fn write_scrip(p: &Piece, cert: &[u8; 16], out: &mut [u8; 512]) -> usize
+    ensures short { result ≤ 293 }
+    ensures text { IsTextOf (take result out.new) p.now cert.now }
+{
+    let (vendor, props) = (p.vendor(), p.props());
+    let (mut value, mut expires) = (Buffer::new(), Buffer::new());
+    let at = put(out, 0, b"MS1|");
+    let at = put_field(out, at, vendor.bytes());
+    let at = put_field(out, at, value.format(p.value().get()).as_bytes());
+    let at = put_field(out, at, &digits_of_id(p.id()));
+    let at = put_field(out, at, &digits_of_id(p.cust()));
+    let at = put_field(out, at, expires.format(p.expires()).as_bytes());
+    let at = put_field(out, at, props.bytes());
+    put(out, at, &digits_of_cert(cert))
+}
+
+/// Writes the bytes at a place, and answers the place after them.
+fn put(out: &mut [u8; 512], at: usize, bytes: &[u8]) -> usize
+    requires { at + length bytes.now ≤ 512 }
+    ensures end { result ≡ at + length bytes.now }
+    ensures written { take result out.new ≡ take at out.old ++ bytes.now }
+{
+    let end = at + bytes.len();
+    out[at..end].copy_from_slice(bytes);
+    end
+}
+
+/// Writes a field and its `|`.
+fn put_field(out: &mut [u8; 512], at: usize, field: &[u8]) -> usize
+    requires { at + length field.now + 1 ≤ 512 }
+    ensures end { result ≡ at + length field.now + 1 }
+    ensures written { take result out.new ≡ take at out.old ++ barred field.now }
+{
+    let at = put(out, at, field);
+    put(out, at, b"|")
+}
+
+fn digits_of_id(id: Id) -> [u8; 16]
+    ensures { result ≡ id_digits id }
+{
+    let mut digits = [0; 16];
+    hex::encode_to_slice(id.number().to_be_bytes(), &mut digits).unwrap();
+    digits
+}
+
+fn digits_of_cert(cert: &[u8; 16]) -> [u8; 32]
+    ensures { result ≡ encode_lower cert.now }
+{
+    let mut digits = [0; 32];
+    hex::encode_to_slice(cert, &mut digits).unwrap();
+    digits
+}
