@@ -8,10 +8,10 @@ use Rattle.std.proofs.lemmas.List.{get_or_past}
 use Rattle.std.proofs.lemmas.List.Elements.{All-from_recursion, All-get_or}
 use Rattle.std.proofs.lemmas.Nat.{be_bytes_8, from_be_bytes-to_be_bytes_8}
 use Rattle.hex.specs.Hex.{encode_lower}
-use Rattle.mc_readers.proofs.Formats.{Reads, pair_reads, map_reads, pair_spelling, PairFits}
-use Rattle.mc_readers.proofs.FieldLaws.{literal_reads, literal_spelling, Always, with_stop}
-use Rattle.mc_readers.proofs.TextField.{AreTests, text_reads}
-use Rattle.mc_readers.proofs.HexField.{AreBytes, hex_reads}
+use Rattle.mc_fields.proofs.Formats.{Reads, pair_reads, map_reads, pair_spelling, PairFits}
+use Rattle.mc_fields.proofs.FieldLaws.{literal_reads, literal_spelling, Always, with_stop}
+use Rattle.mc_fields.proofs.TextField.{AreTests, text_reads}
+use Rattle.mc_fields.proofs.HexField.{AreBytes, hex_reads}
 use Rattle.scrip_form.specs.Texts.{IsName, IsProps, is_letter_or_digit, is_name_byte, is_props_byte, letter_is_name_byte}
 use Rattle.scrip_form.specs.Scrip.{id_digits, barred}
 use Rattle.scrip_form.specs.Reading.{name_until, name_at, props_at, id_at}

@@ -10,15 +10,15 @@ use Rattle.hex.specs.Hex.{encode_lower, lower_digits}
 use Rattle.hex.proofs.HexLemmas.{length-encode_with}
 use Rattle.scrip_form.specs.Texts.{IsName, IsProps, is_name_byte, is_props_byte}
 use Rattle.scrip_form.specs.Scrip.{Scrip, IsPiece, IsCert, IsTextOf, IsScripText, IsFaultPlace, scrip_text, scrip_body, barred, id_digits}
-use Rattle.mc_readers.specs.Reading.{Read, whole}
+use Rattle.mc_fields.specs.Reading.{Read, whole}
 use Rattle.scrip_form.specs.Reading.{scrip_of, all_fields_at, piece_of_fields, scrip_at}
 use Rattle.scrip_form.specs.Told.{IsTold}
-use Rattle.mc_readers.proofs.Fronts.{common, common-le_right, common-whole, common-longest, take-common}
-use Rattle.mc_readers.proofs.Formats.{Reads, done, failed, done_is, not_both, pair_reads, map_reads, pair_spelling, PairFits, others_part}
-use Rattle.mc_readers.proofs.FieldLaws.{literal_reads, literal_spelling, Always, with_stop}
+use Rattle.mc_fields.proofs.Fronts.{common, common-le_right, common-whole, common-longest, take-common}
+use Rattle.mc_fields.proofs.Formats.{Reads, done, failed, done_is, not_both, pair_reads, map_reads, pair_spelling, PairFits, others_part}
+use Rattle.mc_fields.proofs.FieldLaws.{literal_reads, literal_spelling, Always, with_stop}
 use Rattle.scrip_form.proofs.FieldReads.{name_reads, props_reads, IsId, id_reads}
-use Rattle.mc_readers.proofs.NumberField.{IsNumber, number_reads}
-use Rattle.mc_readers.proofs.HexField.{AreBytes, hex_reads, zeros, AreBytes-zeros}
+use Rattle.mc_fields.proofs.NumberField.{IsNumber, number_reads}
+use Rattle.mc_fields.proofs.HexField.{AreBytes, hex_reads, zeros, AreBytes-zeros}
 
 abbrev Fields : Type 0
 Fields = Unit {0} × (List ℕ × (ℕ × (ℕ × (ℕ × (ℕ × (List ℕ × List ℕ))))))

@@ -2,7 +2,7 @@
 use Rattle.std.specs.Prelude.{◌≡◌, ℕ, ◌==◌, ◌||◌, ◌&&◌, nat_le, Bool, true, List}
 use Rattle.std.proofs.lemmas.Bool.{or_left, eqb-true}
 use Rattle.std.proofs.Common.{subst, sym, refl}
-use Rattle.mc_readers.specs.Texts.{IsText}
+use Rattle.mc_fields.specs.Texts.{IsText}
 
 -- `a` to `z`, `0` to `9`
 abbrev pub is_letter_or_digit : ℕ → Bool

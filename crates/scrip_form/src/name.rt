@@ -1,11 +1,11 @@
 ghost use Rattle.std.specs.Prelude.{◌≡◌, ◌↔◌, false, IsSome, IfSome, IfOk};
-ghost use Rattle.mc_readers.specs.Gives.{Gives};
+ghost use Rattle.mc_fields.specs.Gives.{Gives};
 ghost use Rattle.scrip_form.specs.Texts as texts;
 ghost use Rattle.scrip_form.specs.Texts.{IsName};
 ghost use Rattle.scrip_form.specs.Reading.{name_until};
 
 use crate::small_text::SmallText;
-use mc_readers::{Stuck, TextRule, is_text, read_text};
+use mc_fields::{Stuck, TextRule, is_text, read_text};
 use std::marker::Model;
 
 /// The name of a vendor, a broker, a wallet or an account, or a reference: 1 to 63 bytes of `a` to

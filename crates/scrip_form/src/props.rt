@@ -3,7 +3,7 @@ ghost use Rattle.scrip_form.specs.Texts.{IsProps};
 
 use crate::name::is_letter_or_digit;
 use crate::small_text::SmallText;
-use mc_readers::{TextRule, is_text};
+use mc_fields::{TextRule, is_text};
 use std::marker::Model;
 
 /// The properties of a piece, which its change keeps: 0 to 128 bytes of `a` to `z`, `0` to `9`,

@@ -1,5 +1,5 @@
 ghost use Rattle.std.specs.Prelude.{◌≡◌, ◌↔◌, List, IfOk, IfErr, IsOk, MatchResult, Ok, Err};
-ghost use Rattle.mc_readers.specs.Gives.{Gives};
+ghost use Rattle.mc_fields.specs.Gives.{Gives};
 ghost use Rattle.scrip_form.specs.Reading.{id_at, scrip_at, scrip_of};
 ghost use Rattle.scrip_form.specs.Scrip.{IsPiece, IsTextOf, IsScripText, IsFaultPlace};
 ghost use Rattle.scrip_form.specs.PieceOf.{piece_of};
@@ -10,7 +10,7 @@ use crate::piece::Piece;
 use crate::props::{Props, PropsRule};
 use crate::scrip_ref::ScripRef;
 use mc_base::Amount;
-use mc_readers::{Stuck, read_hex, read_literal, read_number, read_text};
+use mc_fields::{Stuck, read_hex, read_literal, read_number, read_text};
 
 /// The bytes are no scrip text.
 #[derive(Clone, Copy, Debug, PartialEq, Eq)]

@@ -2,7 +2,7 @@ ghost use Rattle.std.specs.Prelude.{◌≡◌, ◌↔◌, IsSome, IfSome};
 ghost use Rattle.scrip_form.specs.Texts.{IsTarget};
 
 use crate::small_text::SmallText;
-use mc_readers::{TextRule, is_text};
+use mc_fields::{TextRule, is_text};
 use std::marker::Model;
 
 /// What a request asks for: 1 to 512 bytes from hex 21 to hex 7e, the first a `/`. Contracts see it

@@ -5,6 +5,7 @@ ghost use Rattle.scrip_form.specs.Scrip.{IsTextOf, IsCert, barred, id_digits};
 use crate::id::Id;
 use crate::piece::Piece;
 use itoa::Buffer;
+use mc_fields::put;
 
 /// Writes the text of the piece and the certificate to the front of `out`, and answers its length,
 /// which is at most 293.
@@ -22,17 +23,6 @@ pub fn write_scrip(p: &Piece, cert: &[u8; 16], out: &mut [u8; 512]) -> usize
     let at = put_field(out, at, expires.format(p.expires()).as_bytes());
     let at = put_field(out, at, props.bytes());
     put(out, at, &digits_of_cert(cert))
-}
-
-/// Writes the bytes at a place, and answers the place after them.
-fn put(out: &mut [u8; 512], at: usize, bytes: &[u8]) -> usize
-    requires { at + length bytes.now ≤ 512 }
-    ensures end { result ≡ at + length bytes.now }
-    ensures written { take result out.new ≡ take at out.old ++ bytes.now }
-{
-    let end = at + bytes.len();
-    out[at..end].copy_from_slice(bytes);
-    end
 }
 
 /// Writes a field and its `|`.

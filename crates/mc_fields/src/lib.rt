@@ -1,0 +1,26 @@
+//! Fields of texts: readers from the front of some bytes, with the exact place of a fault, and
+//! writers at a place of a buffer.
+//!
+//! A format is a sequence of fields: fixed bytes, numbers, texts up to a byte that stops them, and
+//! bytes as hex digits. Each reader gives what it read and the bytes after it, or how many bytes are
+//! left at the first byte that goes on as no such field does. So a reader of a whole format is its
+//! fields' readers joined by `?`, and the fault of a field is the fault of the whole.
+//!
+//! No call of this crate takes memory.
+#![tactic(auto)]
+
+mod digits;
+mod literal;
+mod number;
+mod stuck;
+#[cfg(test)]
+mod tests;
+mod text;
+mod writing;
+
+pub use digits::read_hex;
+pub use literal::read_literal;
+pub use number::read_number;
+pub use stuck::Stuck;
+pub use text::{TextRule, is_text, read_text};
+pub use writing::{put, put_number};

@@ -1,5 +1,0 @@
-use Rattle.mc_readers.proofs.TextTest.{AreTaken}
-use Rattle.mc_readers.proofs.text.is_text.Given as goal
-
-abbrev pub invariant-loop-len : goal.invariant-loop-len
-invariant-loop-len g l = AreTaken g.T.TextRule.first g.T.TextRule.other g.T.TextRule.most l.bytes l.len

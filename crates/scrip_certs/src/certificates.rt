@@ -1,0 +1,39 @@
+ghost use Rattle.std.specs.Prelude.{◌≡◌};
+ghost use Rattle.scrip_form.specs.Issuing as issuing;
+ghost use Rattle.scrip_certs.specs.Digests as digests;
+
+use md5::{Digest, Md5};
+use scrip_form::{Id, Secrets, Terms};
+
+/// The certificate of a piece: the digest of the body of its scrip text and of the scrip secret that
+/// its identity selects.
+#[tactic(auto, unfolding(crate::specs::Digests::certificate))]
+pub fn certificate(terms: &Terms, body: &[u8], id: Id) -> [u8; 16]
+    ensures { result ≡ digests.certificate terms.now body.now id }
+{
+    let mut hasher = Md5::new();
+    hasher.update(body);
+    hasher.update(&selected(&terms.scrip(), id));
+    hasher.finalize()
+}
+
+/// The secret of a customer, which he is handed beside his first piece: the digest of the eight bytes
+/// of his identity and of the customer secret that it selects in the terms of that identity's issuer.
+#[tactic(auto, unfolding(crate::specs::Digests::customer_secret))]
+pub fn customer_secret(terms: &Terms, cust: Id) -> [u8; 16]
+    ensures { result ≡ digests.customer_secret terms.now cust }
+{
+    let mut hasher = Md5::new();
+    hasher.update(&cust.number().to_be_bytes());
+    hasher.update(&selected(&terms.customer(), cust));
+    hasher.finalize()
+}
+
+/// The secret that an identity selects: the one numbered by its epoch, modulo their count.
+fn selected(secrets: &Secrets, id: Id) -> [u8; 16]
+    ensures { result ≡ issuing.selected secrets.now id }
+{
+    let list = secrets.list();
+    let (_, epoch, _) = id.parts();
+    list[epoch as usize % list.len()]
+}

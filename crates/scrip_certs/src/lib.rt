@@ -1,0 +1,20 @@
+//! The digests that scrip, requests and replies are proved by: certificates, customer secrets and
+//! the signatures of requests and replies. Each is MD5 (RFC 1321) of some bytes joined, and each
+//! call hashes the parts as they come.
+//!
+//! From the paper of 1995: a certificate is made of a piece's body and a secret of its issuer, a
+//! customer secret of the customer identity and another secret, a signature of a message and the
+//! customer secret. That a digest cannot be forged is claimed nowhere.
+//!
+//! No call of this crate takes memory.
+#![tactic(auto)]
+
+mod certificates;
+mod hex_text;
+mod signatures;
+#[cfg(test)]
+mod tests;
+
+pub use certificates::{certificate, customer_secret};
+pub use hex_text::{hex_of, of_hex};
+pub use signatures::{sign_reply, sign_request};
