@@ -1,0 +1,15 @@
+//! What is said between a house and those who ask it: requests, refusals with their numbers and
+//! texts, and the bytes of a reply as a function of its values.
+//!
+//! No call of this crate takes memory.
+#![tactic(auto)]
+
+mod limits;
+mod refusal;
+mod refusal_text;
+mod request;
+
+pub use limits::Limits;
+pub use refusal::Refusal;
+pub use refusal_text::{MOST_REFUSAL_BYTES, put_refusal_text};
+pub use request::Request;
