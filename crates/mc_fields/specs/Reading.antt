@@ -50,6 +50,11 @@ field_at m s (c ∷ cs) =
     else if (c == m.stop) && m.done s then Ok (s, cs)
     else Err (suc (length cs))
 
+-- the state that the bytes take the machine to, where they are a field whole
+unfoldable pub field_of : {S : Type 0} → Machine S → S → List ℕ → Option S
+field_of m s [] = if m.done s then Some s else None
+field_of m s (c ∷ cs) = if m.may s c then field_of m (m.next s c) cs else None
+
 -- whether a text of at most so many bytes that has n goes on with this byte
 abbrev pub may_follow : (ℕ → Bool) → (ℕ → Bool) → ℕ → ℕ → ℕ → Bool
 may_follow first other most n c = nat_lt n most && (if n == 0 then first c else other c)

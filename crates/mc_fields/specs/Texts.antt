@@ -1,4 +1,4 @@
--- Texts of a kind, as lists of bytes.
+-- Texts of a kind and numbers, as lists of bytes.
 use Rattle.std.specs.Prelude.{◌≡◌, ℕ, ◌<◌, ◌≤◌, Bool, List, length, slice_index}
 use Rattle.std.specs.List.{AllPass}
 
@@ -8,3 +8,8 @@ pub record IsText (first other : ℕ → Bool) (least most : ℕ) (bytes : List 
   pub short : length bytes ≤ most
   pub begins : 0 < length bytes → first (slice_index bytes 0) ≡ Bool.true
   pub all : AllPass other bytes
+
+-- a number from 1 to the most
+pub record IsNumber (most n : ℕ) : Type 0 where
+  pub some : 0 < n
+  pub within : n ≤ most

@@ -20,7 +20,7 @@ mod writing;
 
 pub use digits::read_hex;
 pub use literal::read_literal;
-pub use number::read_number;
+pub use number::{number_of, read_number};
 pub use stuck::Stuck;
 pub use text::{TextRule, is_text, read_text};
 pub use writing::{put, put_number};

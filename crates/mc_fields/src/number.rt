@@ -1,4 +1,5 @@
-ghost use Rattle.std.specs.Prelude.{◌≡◌, ◌≤◌, ◌^◌, ◌<◌, IfOk, Some, None, if◌then◌else◌, false};
+ghost use Rattle.std.specs.Prelude.{◌≡◌, ◌≤◌, ◌^◌, ◌<◌, ℕ, IfOk, IfSome, IsNone, Some, None, if◌then◌else◌, false, decimal};
+ghost use Rattle.mc_fields.specs.Texts.{IsNumber};
 ghost use Rattle.mc_fields.specs.Reading as reading;
 ghost use Rattle.mc_fields.specs.Reading.{number_machine, number_at};
 ghost use Rattle.mc_fields.specs.Gives.{Gives};
@@ -26,6 +27,20 @@ pub fn read_number(most: u64, stop: u8, bytes: &[u8]) -> Result<(u64, &[u8]), St
         }
     }
     Err(Stuck { left: 0 })
+}
+
+/// The number from 1 to `most` that the bytes spell whole, in decimal and without a leading zero;
+/// None exactly where they spell none.
+pub fn number_of(most: u64, bytes: &[u8]) -> Option<u64>
+    requires { most ≤ 2 ^ 60 }
+    ensures number { IfSome result (λ n. IsNumber most n × (bytes.now ≡ decimal n)) }
+    ensures none { IsNone result → (n : ℕ) → IsNumber most n → bytes.now ≡ decimal n → ⊥ }
+{
+    let mut value = 0;
+    for byte in bytes {
+        value = next_value(most, value, *byte)?;
+    }
+    if value > 0 { Some(value) } else { None }
 }
 
 /// The value with one more digit, where that is a number of at most `most`.

@@ -86,3 +86,22 @@ fn texts_are_put_one_behind_the_other(rt: HostRuntime) {
     assert_eq!(rt; put_number(&mut out, 0, 0), 1);
     assert_eq!(rt; &out[..2], b"0 ".as_slice());
 }
+
+#[test]
+fn whole_numbers(rt: HostRuntime) {
+    assert_eq!(rt; number_of(1 << 40, b"25"), Some(25));
+    assert_eq!(rt;
+        number_of(1 << 40, b"1099511627776"),
+        Some(1_099_511_627_776)
+    );
+    for bytes in [
+        b"".as_slice(),
+        b"0",
+        b"025",
+        b"+25",
+        b"25 ",
+        b"1099511627777",
+    ] {
+        assert_eq!(rt; number_of(1 << 40, bytes), None);
+    }
+}
