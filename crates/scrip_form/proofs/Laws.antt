@@ -6,6 +6,7 @@ use Rattle.std.proofs.lemmas.Fmt.{length-decimal-le}
 use Rattle.std.proofs.lemmas.Bool.{ne_eqb}
 use Rattle.std.proofs.lemmas.List.{append-nil, length-append, take_at, nil_from_length}
 use Rattle.std.proofs.lemmas.List.Elements.{All-cons, All-nil}
+use Rattle.mc_fields.specs.Texts.{IsNumber}
 use Rattle.hex.specs.Hex.{encode_lower, lower_digits}
 use Rattle.hex.proofs.HexLemmas.{length-encode_with}
 use Rattle.scrip_form.specs.Texts.{IsName, IsProps, is_name_byte, is_props_byte}
@@ -17,7 +18,7 @@ use Rattle.mc_fields.proofs.Fronts.{common, common-le_right, common-whole, commo
 use Rattle.mc_fields.proofs.Formats.{Reads, done, failed, done_is, not_both, pair_reads, map_reads, pair_spelling, PairFits, others_part}
 use Rattle.mc_fields.proofs.FieldLaws.{literal_reads, literal_spelling, Always, with_stop}
 use Rattle.scrip_form.proofs.FieldReads.{name_reads, props_reads, IsId, id_reads}
-use Rattle.mc_fields.proofs.NumberField.{IsNumber, number_reads}
+use Rattle.mc_fields.proofs.NumberField.{number_reads}
 use Rattle.mc_fields.proofs.HexField.{AreBytes, hex_reads, zeros, AreBytes-zeros}
 
 abbrev Fields : Type 0
@@ -40,7 +41,7 @@ no_props : IsProps []
 no_props = record { some = omega arith; short = omega arith; begins = λ h. absurd (omega arith); all = All-nil (λ x. is_props_byte x ≡ true) }
 
 one : (most : ℕ) → 1 ≤ most → IsNumber most 1
-one most h = (omega arith, h)
+one most h = record { some = omega arith; within = h }
 
 fields_read : Reads fields_spelling FieldsFit all_fields_at
 fields_read =
@@ -69,11 +70,11 @@ fields_of x = (tt, (x.0.vendor, (x.0.value, (x.0.id, (x.0.cust, (x.0.expires, (x
 
 fields_there : (x : Fields) → FieldsFit x → (text_of (piece_of_fields x) ≡ fields_spelling x) × HasText (piece_of_fields x)
 unfolding scrip_text
-fields_there x f = (refl, (record { vendor = f.1.0; some = f.1.1.0.0; most = f.1.1.0.1; id = f.1.1.1.0; cust = f.1.1.1.1.0; ends = f.1.1.1.1.1.0.0; last = f.1.1.1.1.1.0.1; props = f.1.1.1.1.1.1.0 }, f.1.1.1.1.1.1.1))
+fields_there x f = (refl, (record { vendor = f.1.0; some = f.1.1.0.some; most = f.1.1.0.within; id = f.1.1.1.0; cust = f.1.1.1.1.0; ends = f.1.1.1.1.1.0.some; last = f.1.1.1.1.1.0.within; props = f.1.1.1.1.1.1.0 }, f.1.1.1.1.1.1.1))
 
 fields_back : (x : Scrip × List ℕ) → HasText x → (fields_spelling (fields_of x) ≡ text_of x) × FieldsFit (fields_of x) × (piece_of_fields (fields_of x) ≡ x)
 unfolding scrip_text fields_of
-fields_back x f = (refl, (tt, (f.0.vendor, ((f.0.some, f.0.most), (f.0.id, (f.0.cust, ((f.0.ends, f.0.last), (f.0.props, f.1))))))), refl)
+fields_back x f = (refl, (tt, (f.0.vendor, (record { some = f.0.some; within = f.0.most }, (f.0.id, (f.0.cust, (record { some = f.0.ends; within = f.0.last }, (f.0.props, f.1))))))), refl)
 
 pub scrip_reads : Reads text_of HasText scrip_at
 unfolding scrip_at
