@@ -23,7 +23,7 @@ digit_spelling v = glyph v ∷ []
 abbrev pub IsDigit : ℕ → Type 0
 IsDigit v = v < 16
 
-digit_of-glyph : (v : ℕ) → v < 16 → digit_of (glyph v) ≡ Some v
+pub digit_of-glyph : (v : ℕ) → v < 16 → digit_of (glyph v) ≡ Some v
 unfolding digit_of glyph
 digit_of-glyph zero lt = refl
 digit_of-glyph (suc zero) lt = refl

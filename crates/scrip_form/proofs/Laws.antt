@@ -1,11 +1,11 @@
 -- The laws of scrip texts and of their reader.
-use Rattle.std.proofs.Common.{Ok, Err, ◌≡◌, ℕ, ◌+◌, ◌-◌, ◌^◌, ◌≤◌, true, List, [], ◌∷◌, ◌++◌, length, take, drop, refl, sym, ap, ◌∙◌, subst, append_assoc, arith, inl, inr}
+use Rattle.std.proofs.Common.{Ok, Err, ◌≡◌, ℕ, ◌+◌, ◌-◌, ◌^◌, ◌≤◌, ◌<◌, get_or, true, List, [], ◌∷◌, ◌++◌, length, take, drop, refl, sym, ap, ◌∙◌, subst, append_assoc, arith, inl, inr}
 use Rattle.std.specs.Prelude.{codes, decimal}
 use Rattle.std.specs.Int.{w64, to_be_bytes}
 use Rattle.std.proofs.lemmas.Fmt.{length-decimal-le}
 use Rattle.std.proofs.lemmas.Bool.{ne_eqb}
 use Rattle.std.proofs.lemmas.List.{append-nil, length-append, take_at, nil_from_length}
-use Rattle.std.proofs.lemmas.List.Elements.{All-cons, All-nil}
+use Rattle.std.proofs.lemmas.List.Elements.{All-cons, All-nil, All-from_get_or, recursion_from_All}
 use Rattle.mc_fields.specs.Texts.{IsNumber}
 use Rattle.hex.specs.Hex.{encode_lower, lower_digits}
 use Rattle.hex.proofs.HexLemmas.{length-encode_with}
@@ -79,6 +79,10 @@ fields_back x f = (refl, (tt, (f.0.vendor, (record { some = f.0.some; within = f
 pub scrip_reads : Reads text_of HasText scrip_at
 unfolding scrip_at
 scrip_reads = map_reads fields_read text_of HasText scrip_at piece_of_fields fields_of (λ bytes. refl) fields_there fields_back
+
+-- an array of 16 bytes is a certificate, or a secret
+pub is_cert : (cert : List ℕ) → length cert ≡ 16 → ((i : ℕ) → get_or cert i 0 < 256) → IsCert cert
+is_cert cert len below = (len, recursion_from_All (λ b. b < 256) cert (All-from_get_or (λ b. b < 256) cert 0 (λ i h. below i)))
 
 -- ---- whole texts
 
