@@ -4,11 +4,13 @@
 //! No call of this crate takes memory.
 #![tactic(auto)]
 
+mod date_law;
 mod limits;
 mod refusal;
 mod refusal_text;
 mod request;
 
+pub use date_law::date_of_its_second;
 pub use limits::Limits;
 pub use refusal::Refusal;
 pub use refusal_text::{MOST_REFUSAL_BYTES, put_refusal_text};
