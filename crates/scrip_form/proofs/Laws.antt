@@ -4,7 +4,7 @@ use Rattle.std.specs.Prelude.{codes, decimal}
 use Rattle.std.specs.Int.{w64, to_be_bytes}
 use Rattle.std.proofs.lemmas.Fmt.{length-decimal-le}
 use Rattle.std.proofs.lemmas.Bool.{ne_eqb}
-use Rattle.std.proofs.lemmas.List.{append-nil, length-append, take_at, nil_from_length}
+use Rattle.std.proofs.lemmas.List.{append-nil, length-append, take_at, nil_from_length, length-take-le, take-take}
 use Rattle.std.proofs.lemmas.List.Elements.{All-cons, All-nil, All-from_get_or, recursion_from_All}
 use Rattle.mc_fields.specs.Texts.{IsNumber}
 use Rattle.hex.specs.Hex.{encode_lower, lower_digits}
@@ -158,6 +158,15 @@ pub body_of_text : (bytes : List ℕ) (p : Scrip) (cert : List ℕ) → IsTextOf
 body_of_text bytes p cert is =
     let n : length (scrip_body p) ≡ length bytes - 32 = omega (arith, body_length bytes p cert is) in
     ap (λ (l : List ℕ). take (length bytes - 32) l) (is.spelled ∙ text_in_parts p cert) ∙ take_at (scrip_body p) (encode_lower cert) (length bytes - 32) n
+
+-- the same of a text at the front of a buffer
+pub front_is_body : (buf : List ℕ) (n : ℕ) (p : Scrip) (cert : List ℕ) → n ≤ length buf → IsTextOf (take n buf) p cert → (32 ≤ n) × (take (n - 32) buf ≡ scrip_body p)
+front_is_body buf n p cert le is =
+    let len : length (take n buf) ≡ n = length-take-le n buf le in
+    let long : 32 ≤ length (take n buf) = text_is_long (take n buf) p cert is in
+    let here : take (length (take n buf) - 32) (take n buf) ≡ scrip_body p = body_of_text (take n buf) p cert is in
+    let there : take (n - 32) (take n buf) ≡ scrip_body p = rw len at here in
+    (omega arith, sym (take-take (n - 32) n buf (omega arith)) ∙ there)
 
 -- ---- what the reader's answer says of the bytes
 

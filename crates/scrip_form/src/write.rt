@@ -1,6 +1,6 @@
-ghost use Rattle.std.specs.Prelude.{◌≡◌, ◌+◌, ◌≤◌, ◌<◌, ◌++◌, ◌^◌, length, take};
+ghost use Rattle.std.specs.Prelude.{◌≡◌, ◌+◌, ◌-◌, ◌≤◌, ◌++◌, length, take};
 ghost use Rattle.hex.specs.Hex.{encode_lower};
-ghost use Rattle.scrip_form.specs.Scrip.{IsTextOf, IsCert, barred, id_digits};
+ghost use Rattle.scrip_form.specs.Scrip.{IsTextOf, scrip_body, barred, id_digits};
 
 use crate::id::Id;
 use crate::piece::Piece;
@@ -8,10 +8,13 @@ use itoa::Buffer;
 use mc_fields::put;
 
 /// Writes the text of the piece and the certificate to the front of `out`, and answers its length,
-/// which is at most 293.
+/// which is at most 293. The last 32 bytes of the text are the certificate, and those before them the
+/// body.
 pub fn write_scrip(p: &Piece, cert: &[u8; 16], out: &mut [u8; 512]) -> usize
     ensures short { result ≤ 293 }
+    ensures long { 32 ≤ result }
     ensures text { IsTextOf (take result out.new) p.now cert.now }
+    ensures body { take (result - 32) out.new ≡ scrip_body p.now }
 {
     let (vendor, props) = (p.vendor(), p.props());
     let (mut value, mut expires) = (Buffer::new(), Buffer::new());
