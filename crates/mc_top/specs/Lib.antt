@@ -1,0 +1,14 @@
+pub mod Words
+pub mod Seven
+pub mod Opened
+pub mod Items
+pub mod Heads
+pub mod PlainTold
+pub mod Ledger
+pub mod Entries
+pub mod Replies
+pub mod Session
+pub mod Closing
+pub mod Statuses
+pub mod Course
+pub mod Stops
