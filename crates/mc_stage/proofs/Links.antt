@@ -1,0 +1,8 @@
+-- The links to come.
+use Rattle.std.proofs.Common.{◌≡◌, ℕ, List, [], ◌∷◌, ◌++◌, map, refl, ap, Vec, Global}
+use Rattle.mc_stage.specs.Script.{links_of}
+
+-- the one kept last is the next
+pub links_last : (ls : List (Vec (Vec ℕ Global) Global)) (l : Vec (Vec ℕ Global) Global) → links_of (ls ++ l ∷ []) ≡ map (λ (v : Vec ℕ Global). v.items) l.items ∷ links_of ls
+links_last [] l = refl
+links_last (k ∷ ls) l = ap (λ z. z ++ map (λ (v : Vec ℕ Global). v.items) k.items ∷ []) (links_last ls l)

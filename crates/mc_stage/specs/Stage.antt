@@ -1,0 +1,26 @@
+-- What a stage means.
+use Rattle.std.specs.Prelude.{◌≡◌, ℕ, List, Bool, true, false, Option, Some, None}
+use Rattle.std.proofs.Common.{ap}
+use Rattle.mc_outside.specs.LinkView.{Session, all_sent}
+use Rattle.mc_stage.specs.Model.{Tale, disk_of, link_of}
+use Rattle.mc_stage.specs.Tale.{same_some}
+use Rattle.mc_stage.specs.declared.stage.Stage.{Stage}
+
+abbrev pub told : Bool → List ℕ → Option (List ℕ)
+told true xs = None
+told false xs = Some xs
+
+abbrev pub tale_of : Stage → Tale
+tale_of s = record {
+  base = s.tape.first;
+  log = s.tape.calls;
+  faults = s.faults;
+  said = s.said.items;
+  readings = told s.lost s.given.items;
+  link_faults = s.link_faults;
+  stands = s.stands;
+  over = s.over;
+}
+
+pub sent_is : (t : Tale) (ss : List Session) → (link_of t).sessions ≡ Some ss → (disk_of t).aside ≡ all_sent ss
+sent_is t ss e = ap all_sent (same_some _ _ e)

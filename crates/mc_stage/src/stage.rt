@@ -1,0 +1,398 @@
+ghost use Rattle.std.specs.Prelude.{◌≡◌, ◌+◌, ◌-◌, ◌≤◌, ◌^◌, ◌*◌, ◌%◌, min, length, take, drop, IfOk, if◌then◌else◌};
+ghost use Rattle.mc_stage.specs.Script.{without_empty, first_link, links_of};
+ghost use Rattle.mc_stage.specs.Image.{image_from, fill};
+
+use crate::clock::Clock;
+use crate::pieces::{Pieces, copy_part};
+use crate::plan::Plan;
+use crate::tape::Tape;
+use mc_base::{List, Moment, NoMemory};
+use mc_outside::{Disk, DiskFault, Link, LinkFault, Outside};
+use std::alloc::Global;
+
+/// The calls that shall fail, by number. Fallible calls of Disk, and apart from them of Link, are
+/// numbered from 0.
+#[derive(Debug, Drop)]
+pub struct Failing {
+    pub disk: List<u32>,
+    pub link: List<u32>,
+}
+
+/// An outside in memory, which tells everything.
+///
+/// A call that is listed fails and does nothing else. A call that is refused memory fails, does
+/// nothing else, and is counted by [`Stage::starved`]. No other call fails.
+#[derive(Drop)]
+pub struct Stage {
+    pub(crate) alloc: Global,
+    pub(crate) tape: Tape,
+    pub(crate) disk_plan: Plan,
+    pub(crate) link_plan: Plan,
+    pub(crate) faults: u64,
+    pub(crate) link_faults: u64,
+    pub(crate) starved: u32,
+    pub(crate) links: Vec<Vec<Vec<u8>>>,
+    pub(crate) pieces: Pieces,
+    pub(crate) stands: bool,
+    pub(crate) over: bool,
+    pub(crate) said: Vec<u8>,
+    pub(crate) clock: Clock,
+    pub(crate) given: Vec<Moment>,
+    pub(crate) lost: bool,
+}
+
+/// One fault more; the count stops at its last value.
+fn raise(count: &mut u64)
+    ensures raised { count.new ≡ min (count.old + 1) (2 ^ 64 - 1) }
+    ensures grows { count.old ≤ count.new }
+{
+    let before = *count;
+    *count = before.saturating_add(1);
+}
+
+/// One call more that was refused memory; the count stops at its last value.
+fn raise_starved(count: &mut u32)
+    ensures { count.new ≡ min (count.old + 1) (2 ^ 32 - 1) }
+{
+    let before = *count;
+    *count = before.saturating_add(1);
+}
+
+/// Takes the next link's pieces; the links to come are kept with the next one last.
+fn take_pieces(alloc: Global, links: &mut Vec<Vec<Vec<u8>>>) -> Pieces
+    ensures pieces { result ≡ without_empty (first_link (links_of links.old.items)) }
+    ensures links { links_of links.new.items ≡ drop 1 (links_of links.old.items) }
+{
+    match links.pop() {
+        Some(pieces) => Pieces::of(pieces),
+        None => Pieces::none(alloc),
+    }
+}
+
+/// The byte that a choice puts at a place that isn't synced.
+fn fill_byte(choice: u64, place: u64) -> u8
+    ensures { result ≡ fill choice place }
+{
+    ((choice as u128 * place as u128 + 1) % 256) as u8
+}
+
+/// The bytes that are synced, and filled ones in place of the others.
+fn filled(alloc: Global, choice: u64, bytes: &[u8], marks: &[bool]) -> Result<Vec<u8>, NoMemory>
+    requires { length marks.now ≡ length bytes.now }
+    ensures { IfOk result (λ v. v.items ≡ image_from choice 0 bytes.now marks.now) }
+{
+    let mut image = Vec::new(alloc);
+    for (place, byte) in bytes.iter().enumerate() {
+        let kept = if marks[place] {
+            *byte
+        } else {
+            fill_byte(choice, place as u64)
+        };
+        image.push(kept)?;
+    }
+    Ok(image)
+}
+
+impl Stage {
+    ghost use Rattle.std.specs.Prelude.{[], None, Some, false, true, slice_get, option_map, map, reverse};
+    ghost use Rattle.mc_stage.specs.Stage.{tale_of};
+    ghost use Rattle.mc_stage.specs.Model.{Tale, model};
+    ghost use Rattle.mc_stage.specs.Image.{chosen};
+
+    /// A stage with these contents, which count as synced. Each link is a list of pieces; one
+    /// `recv` gives at most the rest of one piece, and empty pieces are passed over. Readings are
+    /// brought into the range of a moment; after the last one the last is repeated, and with none
+    /// the reading is 0.
+    pub fn new(
+        alloc: Global,
+        contents: Vec<u8>,
+        links: Vec<Vec<Vec<u8>>>,
+        readings: Vec<u64>,
+        failing: Failing,
+    ) -> Result<Stage, NoMemory>
+        ensures { IfOk result (λ s. tale_of s ≡ record { base = contents.items; log = []; faults = 0; said = []; readings = Some []; link_faults = 0; stands = false; over = false }) }
+    {
+        let clock = Clock::of(alloc, &readings)?;
+        let Failing { disk, link } = failing;
+        Stage::start(alloc, contents, links, clock, disk, link)
+    }
+
+    fn start(
+        alloc: Global,
+        contents: Vec<u8>,
+        links: Vec<Vec<Vec<u8>>>,
+        clock: Clock,
+        disk: List<u32>,
+        link: List<u32>,
+    ) -> Result<Stage, NoMemory>
+        ensures { IfOk result (λ s. tale_of s ≡ record { base = contents.items; log = []; faults = 0; said = []; readings = Some []; link_faults = 0; stands = false; over = false }) }
+    {
+        let tape = Tape::new(alloc, contents)?;
+        let mut links = links;
+        links.reverse();
+        Ok(Stage {
+            alloc,
+            tape,
+            disk_plan: Plan::of(disk),
+            link_plan: Plan::of(link),
+            faults: 0,
+            link_faults: 0,
+            starved: 0,
+            links,
+            pieces: Pieces::none(alloc),
+            stands: false,
+            over: false,
+            said: Vec::new(alloc),
+            clock,
+            given: Vec::new(alloc),
+            lost: false,
+        })
+    }
+
+    /// What a crash now may leave: with 0 what a read gives, with 1 what the last sync left, and
+    /// with any other `choice` the present size, where each byte that isn't synced is the low byte
+    /// of `choice` times its place, plus 1. The new stage has no links, the same readings from the
+    /// first on, and no failing calls.
+    pub fn crash(self, choice: u64) -> Result<Stage, NoMemory>
+        ensures image { IfOk result (λ s. (model (tale_of s)).contents ≡ chosen choice (model (tale_of self))) }
+        // It is an image of the disk as it was.
+        ensures possible { IfOk result (λ s. (model (tale_of self)).leaves (model (tale_of s)).contents) }
+    {
+        let bytes = self.image(choice)?;
+        let alloc = self.alloc;
+        let links = Vec::new(alloc);
+        let none = List::of(Vec::new(alloc));
+        let nothing = List::of(Vec::new(alloc));
+        Stage::start(alloc, bytes, links, self.clock.restarted(), none, nothing)
+    }
+
+    fn image(&self, choice: u64) -> Result<Vec<u8>, NoMemory>
+        ensures { IfOk result (λ v. v.items ≡ chosen choice (model (tale_of self.now))) }
+    {
+        if choice == 0 {
+            let bytes = self.tape.bytes().to_vec(self.alloc)?;
+            return Ok(bytes);
+        }
+        if choice == 1 {
+            let bytes = self.tape.kept().to_vec(self.alloc)?;
+            return Ok(bytes);
+        }
+        filled(self.alloc, choice, self.tape.bytes(), self.tape.marks())
+    }
+
+    /// The bytes sent on one link, numbered from 0; None exactly where fewer links were taken.
+    pub fn sent(&self, link: usize) -> Option<&[u8]>
+        ensures { option_map (λ b. b.now) result ≡ option_map (λ s. s.sent) (slice_get (model (tale_of self.now)).sessions link) }
+    {
+        self.tape.sent(link)
+    }
+
+    /// The bytes said.
+    pub fn said(&self) -> &[u8]
+        ensures { result.now ≡ (tale_of self.now).said }
+    {
+        &self.said
+    }
+
+    /// What a read gives.
+    pub fn contents(&self) -> &[u8]
+        ensures { result.now ≡ (model (tale_of self.now)).contents }
+    {
+        self.tape.bytes()
+    }
+
+    /// How many calls failed since memory was refused, up to 2^32 - 1.
+    pub fn starved(&self) -> u32 {
+        self.starved
+    }
+}
+
+impl Disk for Stage {
+    ghost use Rattle.mc_stage.specs.Stage.{tale_of};
+    ghost use Rattle.mc_stage.specs.Model.{disk_of, DiskMoved};
+    ghost use Rattle.mc_stage.specs.Tale.{is_disk, disk_none, disk_then, disk_goes};
+
+    ghost disk = { λ s. disk_of (tale_of s) };
+
+    ghost disk_moved = { λ a b. DiskMoved (tale_of a) (tale_of b) };
+
+    ghost is_disk = { λ a. is_disk (tale_of a) };
+
+    ghost disk_stays = { λ a. disk_none (tale_of a) };
+
+    ghost disk_goes_on = { λ a b c m n. disk_then (tale_of a) (tale_of b) (tale_of c) m n };
+
+    ghost disk_goes = { λ a b m. disk_goes (tale_of a) (tale_of b) m };
+
+    fn size(&mut self) -> Result<u64, DiskFault> {
+        if self.disk_plan.next() {
+            raise(&mut self.faults);
+            return Err(DiskFault);
+        }
+        Ok(self.tape.bytes().len() as u64)
+    }
+
+    fn read(&mut self, at: u64, buf: &mut [u8]) -> Result<usize, DiskFault> {
+        if self.disk_plan.next() {
+            raise(&mut self.faults);
+            return Err(DiskFault);
+        }
+        Ok(copy_part(self.tape.bytes(), at as usize, buf))
+    }
+
+    fn write_at(&mut self, at: u64, bytes: &[u8]) -> Result<(), DiskFault> {
+        if self.disk_plan.next() {
+            raise(&mut self.faults);
+            return Err(DiskFault);
+        }
+        if self.tape.write(at, bytes).is_err() {
+            raise_starved(&mut self.starved);
+            raise(&mut self.faults);
+            return Err(DiskFault);
+        }
+        Ok(())
+    }
+
+    fn cut(&mut self, size: u64) -> Result<(), DiskFault> {
+        if self.disk_plan.next() {
+            raise(&mut self.faults);
+            return Err(DiskFault);
+        }
+        if self.tape.cut(size).is_err() {
+            raise_starved(&mut self.starved);
+            raise(&mut self.faults);
+            return Err(DiskFault);
+        }
+        Ok(())
+    }
+
+    fn sync(&mut self) -> Result<(), DiskFault> {
+        if self.disk_plan.next() {
+            raise(&mut self.faults);
+            return Err(DiskFault);
+        }
+        if self.tape.sync().is_err() {
+            raise_starved(&mut self.starved);
+            raise(&mut self.faults);
+            return Err(DiskFault);
+        }
+        Ok(())
+    }
+}
+
+impl Link for Stage {
+    ghost use Rattle.mc_stage.specs.Stage.{tale_of};
+    ghost use Rattle.mc_stage.specs.Model.{link_of, LinkMoved};
+    ghost use Rattle.mc_stage.specs.Tale.{is_link, link_none, link_then, link_goes};
+
+    ghost link = { λ s. link_of (tale_of s) };
+
+    ghost link_moved = { λ a b. LinkMoved (tale_of a) (tale_of b) };
+
+    ghost is_link = { λ a. is_link (tale_of a) };
+
+    ghost link_stays = { λ a. link_none (tale_of a) };
+
+    ghost link_goes_on = { λ a b c m n. link_then (tale_of a) (tale_of b) (tale_of c) m n };
+
+    ghost link_goes = { λ a b m. link_goes (tale_of a) (tale_of b) m };
+
+    fn next_link(&mut self) -> Result<bool, LinkFault> {
+        self.stands = false;
+        if self.link_plan.next() {
+            raise(&mut self.link_faults);
+            return Err(LinkFault);
+        }
+        if self.over || self.links.is_empty() {
+            self.over = true;
+            return Ok(false);
+        }
+        if self.tape.take_link().is_err() {
+            raise_starved(&mut self.starved);
+            raise(&mut self.link_faults);
+            return Err(LinkFault);
+        }
+        self.pieces = take_pieces(self.alloc, &mut self.links);
+        self.stands = true;
+        Ok(true)
+    }
+
+    fn recv(&mut self, buf: &mut [u8]) -> Result<usize, LinkFault> {
+        if self.link_plan.next() {
+            raise(&mut self.link_faults);
+            return Err(LinkFault);
+        }
+        if buf.is_empty() {
+            return Ok(0);
+        }
+        let n = if self.tape.at_end() {
+            0
+        } else {
+            self.pieces.peek(buf)
+        };
+        if n == 0 {
+            if self.tape.end().is_err() {
+                raise_starved(&mut self.starved);
+                raise(&mut self.link_faults);
+                return Err(LinkFault);
+            }
+            return Ok(0);
+        }
+        if self.tape.hear(&buf[..n]).is_err() {
+            raise_starved(&mut self.starved);
+            raise(&mut self.link_faults);
+            return Err(LinkFault);
+        }
+        self.pieces.advance(n);
+        Ok(n)
+    }
+
+    fn send(&mut self, bytes: &[u8]) -> Result<usize, LinkFault> {
+        if self.link_plan.next() {
+            raise(&mut self.link_faults);
+            return Err(LinkFault);
+        }
+        if self.tape.send(bytes).is_err() {
+            raise_starved(&mut self.starved);
+            raise(&mut self.link_faults);
+            return Err(LinkFault);
+        }
+        Ok(bytes.len())
+    }
+
+    fn end_link(&mut self) {
+        self.stands = false;
+    }
+
+    fn say(&mut self, bytes: &[u8]) -> Result<(), LinkFault> {
+        if self.link_plan.next() {
+            raise(&mut self.link_faults);
+            return Err(LinkFault);
+        }
+        if self.said.extend_from_slice(bytes).is_err() {
+            raise_starved(&mut self.starved);
+            raise(&mut self.link_faults);
+            return Err(LinkFault);
+        }
+        Ok(())
+    }
+
+    fn now(&mut self) -> Moment {
+        let reading = self.clock.next();
+        if !self.lost && self.given.push(reading).is_err() {
+            self.lost = true;
+        }
+        reading
+    }
+}
+
+impl Outside for Stage {
+    ghost use Rattle.mc_stage.specs.Stage.{tale_of, sent_is};
+    ghost use Rattle.mc_stage.specs.Tale.{link_keeps, disk_keeps};
+
+    ghost link_keeps = { λ a b m. link_keeps (tale_of a) (tale_of b) m };
+
+    ghost disk_keeps = { λ a b m. disk_keeps (tale_of a) (tale_of b) m };
+
+    ghost sent_aside = { λ a ss e. sent_is (tale_of a) ss e };
+}
