@@ -2,5 +2,6 @@ pub mod Elements
 pub mod Images
 pub mod Links
 pub mod Plays
+pub mod Stores
 pub mod Calls
 pub mod LinkCalls

@@ -1,8 +1,15 @@
 -- The links to come.
-use Rattle.std.proofs.Common.{◌≡◌, ℕ, List, [], ◌∷◌, ◌++◌, map, refl, ap, Vec, Global}
+use Rattle.std.proofs.Common.{◌≡◌, ℕ, List, [], ◌∷◌, ◌++◌, ◌∙◌, map, refl, ap, Vec, Global}
+use Rattle.std.specs.Prelude.{reverse}
+use Rattle.std.proofs.lemmas.List.{reverse-append}
 use Rattle.mc_stage.specs.Script.{links_of}
 
 -- the one kept last is the next
 pub links_last : (ls : List (Vec (Vec ℕ Global) Global)) (l : Vec (Vec ℕ Global) Global) → links_of (ls ++ l ∷ []) ≡ map (λ (v : Vec ℕ Global). v.items) l.items ∷ links_of ls
 links_last [] l = refl
 links_last (k ∷ ls) l = ap (λ z. z ++ map (λ (v : Vec ℕ Global). v.items) k.items ∷ []) (links_last ls l)
+
+-- the links in their order
+pub links_in_order : (ls : List (Vec (Vec ℕ Global) Global)) → links_of (reverse ls) ≡ map (λ (l : Vec (Vec ℕ Global) Global). map (λ (v : Vec ℕ Global). v.items) l.items) ls
+links_in_order [] = refl
+links_in_order (l ∷ ls) = ap links_of (reverse-append (l ∷ []) ls) ∙ links_last (reverse ls) l ∙ ap (λ z. map (λ (v : Vec ℕ Global). v.items) l.items ∷ z) (links_in_order ls)

@@ -1,5 +1,6 @@
 -- What a stage was told to do.
-use Rattle.std.specs.Prelude.{◌≡◌, ℕ, List, [], ◌∷◌, ◌++◌, drop, map}
+use Rattle.std.specs.Prelude.{◌≡◌, ℕ, List, [], ◌∷◌, ◌++◌, drop, map, ◌+◌, ◌-◌, ◌^◌, ◌⊎◌, min, Result, OnOk, OnErr}
+use Rattle.std.specs.List.{Contains}
 use Rattle.std.proofs.Common.{Vec, Global}
 
 -- calls numbered from 0: the numbers of those that shall fail, and how many were made
@@ -61,3 +62,22 @@ first_link (l ∷ ls) = l
 abbrev pub links_of : List (Vec (Vec ℕ Global) Global) → List (List (List ℕ))
 links_of [] = []
 links_of (l ∷ ls) = links_of ls ++ map (λ (v : Vec ℕ Global). v.items) l.items ∷ []
+
+-- what a stage was told to do, as far as it isn't done
+pub record Script : Type 0 where
+  pub disk : Numbered
+  pub link : Numbered
+  -- the links to come
+  pub links : List (List (List ℕ))
+  -- what is left of the standing link
+  pub pieces : List (List ℕ)
+  pub readings : Readings
+  -- how many calls failed since memory was refused
+  pub starved : ℕ
+
+-- One numbered call: where it is listed it fails, and memory isn't asked for; else it fails only
+-- where memory was refused, which is counted.
+pub record Planned {T E : Type 0} (calls after : Numbered) (starved starved_after : ℕ) (result : Result T E) : Type 0 where
+  pub counted : after ≡ record calls { calls = min (calls.calls + 1) (2 ^ 64 - 1) }
+  pub ok : OnOk result ((Contains calls.listed calls.calls → ⊥) × (starved_after ≡ starved))
+  pub err : OnErr result ((Contains calls.listed calls.calls × (starved_after ≡ starved)) ⊎ ((Contains calls.listed calls.calls → ⊥) × (starved_after ≡ min (starved + 1) (2 ^ 32 - 1))))

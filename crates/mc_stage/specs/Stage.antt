@@ -4,6 +4,7 @@ use Rattle.std.proofs.Common.{ap}
 use Rattle.mc_outside.specs.LinkView.{Session, all_sent}
 use Rattle.mc_stage.specs.Model.{Tale, disk_of, link_of}
 use Rattle.mc_stage.specs.Tale.{same_some}
+use Rattle.mc_stage.specs.Script.{Script, links_of}
 use Rattle.mc_stage.specs.declared.stage.Stage.{Stage}
 
 abbrev pub told : Bool → List ℕ → Option (List ℕ)
@@ -24,3 +25,6 @@ tale_of s = record {
 
 pub sent_is : (t : Tale) (ss : List Session) → (link_of t).sessions ≡ Some ss → (disk_of t).aside ≡ all_sent ss
 sent_is t ss e = ap all_sent (same_some _ _ e)
+
+abbrev pub script_of : Stage → Script
+script_of s = record { disk = s.disk_plan; link = s.link_plan; links = links_of s.links.items; pieces = s.pieces; readings = s.clock; starved = s.starved }

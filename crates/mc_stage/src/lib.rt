@@ -8,5 +8,7 @@ mod pieces;
 mod plan;
 mod stage;
 mod tape;
+#[cfg(test)]
+mod tests;
 
 pub use stage::{Failing, Stage};

@@ -95,7 +95,7 @@ fn filled(alloc: Global, choice: u64, bytes: &[u8], marks: &[bool]) -> Result<Ve
 
 impl Stage {
     ghost use Rattle.std.specs.Prelude.{[], None, Some, false, true, slice_get, option_map, map, reverse};
-    ghost use Rattle.mc_stage.specs.Stage.{tale_of};
+    ghost use Rattle.mc_stage.specs.Stage.{tale_of, script_of};
     ghost use Rattle.mc_stage.specs.Model.{Tale, model};
     ghost use Rattle.mc_stage.specs.Image.{chosen};
 
@@ -110,7 +110,16 @@ impl Stage {
         readings: Vec<u64>,
         failing: Failing,
     ) -> Result<Stage, NoMemory>
-        ensures { IfOk result (λ s. tale_of s ≡ record { base = contents.items; log = []; faults = 0; said = []; readings = Some []; link_faults = 0; stands = false; over = false }) }
+        ensures tale { IfOk result (λ s. tale_of s ≡ record { base = contents.items; log = []; faults = 0; said = []; readings = Some []; link_faults = 0; stands = false; over = false }) }
+        // Nothing was called yet: the links and readings are all to come, in their order.
+        ensures script { IfOk result (λ s. script_of s ≡ record {
+          disk = record { listed = failing.disk; calls = 0 };
+          link = record { listed = failing.link; calls = 0 };
+          links = map (λ l. map (λ v. v.items) l.items) links.items;
+          pieces = [];
+          readings = record { all = map (λ r. min r (2 ^ 35 - 1)) readings.items; left = map (λ r. min r (2 ^ 35 - 1)) readings.items };
+          starved = 0;
+        }) }
     {
         let clock = Clock::of(alloc, &readings)?;
         let Failing { disk, link } = failing;
@@ -125,7 +134,15 @@ impl Stage {
         disk: List<u32>,
         link: List<u32>,
     ) -> Result<Stage, NoMemory>
-        ensures { IfOk result (λ s. tale_of s ≡ record { base = contents.items; log = []; faults = 0; said = []; readings = Some []; link_faults = 0; stands = false; over = false }) }
+        ensures tale { IfOk result (λ s. tale_of s ≡ record { base = contents.items; log = []; faults = 0; said = []; readings = Some []; link_faults = 0; stands = false; over = false }) }
+        ensures script { IfOk result (λ s. script_of s ≡ record {
+          disk = record { listed = disk; calls = 0 };
+          link = record { listed = link; calls = 0 };
+          links = map (λ l. map (λ v. v.items) l.items) links.items;
+          pieces = [];
+          readings = clock;
+          starved = 0;
+        }) }
     {
         let tape = Tape::new(alloc, contents)?;
         let mut links = links;
@@ -157,6 +174,15 @@ impl Stage {
         ensures image { IfOk result (λ s. (model (tale_of s)).contents ≡ chosen choice (model (tale_of self))) }
         // It is an image of the disk as it was.
         ensures possible { IfOk result (λ s. (model (tale_of self)).leaves (model (tale_of s)).contents) }
+        ensures script { IfOk result (λ s. script_of s ≡ record {
+          disk = record { listed = []; calls = 0 };
+          link = record { listed = []; calls = 0 };
+          links = [];
+          pieces = [];
+          readings = record (script_of self).readings { left = (script_of self).readings.all };
+          starved = 0;
+        }) }
+        ensures fresh { IfOk result (λ s. tale_of s ≡ record { base = (model (tale_of s)).contents; log = []; faults = 0; said = []; readings = Some []; link_faults = 0; stands = false; over = false }) }
     {
         let bytes = self.image(choice)?;
         let alloc = self.alloc;
@@ -202,12 +228,19 @@ impl Stage {
     }
 
     /// How many calls failed since memory was refused, up to 2^32 - 1.
-    pub fn starved(&self) -> u32 {
+    pub fn starved(&self) -> u32
+        ensures { result ≡ (script_of self.now).starved }
+    {
         self.starved
     }
 }
 
 impl Disk for Stage {
+    ghost use Rattle.std.specs.Prelude.{◌↔◌, ◌⊎◌, ◌++◌, List, ℕ, IfOk, OnOk, OnErr, option_map};
+    ghost use Rattle.mc_outside.specs.Bytes.{put, Told, HasCause};
+    ghost use Rattle.mc_outside.specs.DiskView.{CallPairs, Follows, LeavesNoMore, IsSynced, Torn, CutShort};
+    ghost use Rattle.mc_stage.specs.Stage.{script_of};
+    ghost use Rattle.mc_stage.specs.Script.{Planned};
     ghost use Rattle.mc_stage.specs.Stage.{tale_of};
     ghost use Rattle.mc_stage.specs.Model.{disk_of, DiskMoved};
     ghost use Rattle.mc_stage.specs.Tale.{is_disk, disk_none, disk_then, disk_goes};
@@ -224,7 +257,17 @@ impl Disk for Stage {
 
     ghost disk_goes = { λ a b m. disk_goes (tale_of a) (tale_of b) m };
 
-    fn size(&mut self) -> Result<u64, DiskFault> {
+    fn size(&mut self) -> Result<u64, DiskFault>
+        ensures moved { DiskMoved (tale_of self.old) (tale_of self.new) }
+        ensures pairs { CallPairs (disk_of (tale_of self.old)) (disk_of (tale_of self.new)) }
+        ensures cause { HasCause (disk_of (tale_of self.old)).faults (disk_of (tale_of self.new)).faults result }
+        ensures same { (disk_of (tale_of self.new)).contents ≡ (disk_of (tale_of self.old)).contents }
+        ensures crash { LeavesNoMore (disk_of (tale_of self.old)) (disk_of (tale_of self.new)) }
+        ensures length { IfOk result (λ n. (x : List ℕ) → (disk_of (tale_of self.old)).contents ≡ Some x → n ≡ length x) }
+        ensures plan { Planned (script_of self.old).disk (script_of self.new).disk (script_of self.old).starved (script_of self.new).starved result }
+        ensures script { script_of self.new ≡ record (script_of self.old) { disk = (script_of self.new).disk; starved = (script_of self.new).starved } }
+        ensures nothing { OnErr result (tale_of self.new ≡ record (tale_of self.old) { faults = (tale_of self.new).faults }) }
+    {
         if self.disk_plan.next() {
             raise(&mut self.faults);
             return Err(DiskFault);
@@ -232,7 +275,21 @@ impl Disk for Stage {
         Ok(self.tape.bytes().len() as u64)
     }
 
-    fn read(&mut self, at: u64, buf: &mut [u8]) -> Result<usize, DiskFault> {
+    fn read(&mut self, at: u64, buf: &mut [u8]) -> Result<usize, DiskFault>
+        ensures moved { DiskMoved (tale_of self.old) (tale_of self.new) }
+        ensures pairs { CallPairs (disk_of (tale_of self.old)) (disk_of (tale_of self.new)) }
+        ensures cause { HasCause (disk_of (tale_of self.old)).faults (disk_of (tale_of self.new)).faults result }
+        ensures same { (disk_of (tale_of self.new)).contents ≡ (disk_of (tale_of self.old)).contents }
+        ensures crash { LeavesNoMore (disk_of (tale_of self.old)) (disk_of (tale_of self.new)) }
+        ensures room { IfOk result (λ n. n ≤ length buf.old) }
+        ensures bytes { IfOk result (λ n. (x : List ℕ) → (disk_of (tale_of self.old)).contents ≡ Some x
+            → buf.new ≡ take n (drop at x) ++ drop n buf.old) }
+        ensures end { IfOk result (λ n. (x : List ℕ) → (disk_of (tale_of self.old)).contents ≡ Some x
+            → (n ≡ 0) ↔ ((length buf.old ≡ 0) ⊎ (length x ≤ at))) }
+        ensures plan { Planned (script_of self.old).disk (script_of self.new).disk (script_of self.old).starved (script_of self.new).starved result }
+        ensures script { script_of self.new ≡ record (script_of self.old) { disk = (script_of self.new).disk; starved = (script_of self.new).starved } }
+        ensures nothing { OnErr result (tale_of self.new ≡ record (tale_of self.old) { faults = (tale_of self.new).faults }) }
+    {
         if self.disk_plan.next() {
             raise(&mut self.faults);
             return Err(DiskFault);
@@ -240,7 +297,18 @@ impl Disk for Stage {
         Ok(copy_part(self.tape.bytes(), at as usize, buf))
     }
 
-    fn write_at(&mut self, at: u64, bytes: &[u8]) -> Result<(), DiskFault> {
+    fn write_at(&mut self, at: u64, bytes: &[u8]) -> Result<(), DiskFault>
+        requires { at + length bytes.now ≤ 2 ^ 40 }
+        ensures moved { DiskMoved (tale_of self.old) (tale_of self.new) }
+        ensures pairs { CallPairs (disk_of (tale_of self.old)) (disk_of (tale_of self.new)) }
+        ensures cause { HasCause (disk_of (tale_of self.old)).faults (disk_of (tale_of self.new)).faults result }
+        ensures written { OnOk result ((disk_of (tale_of self.new)).contents ≡ option_map (put at bytes.now) (disk_of (tale_of self.old)).contents) }
+        ensures failed { OnErr result (Told (Torn at (length bytes.now)) (disk_of (tale_of self.old)).contents (disk_of (tale_of self.new)).contents) }
+        ensures crash { Follows (Torn at (length bytes.now)) (disk_of (tale_of self.old)) (disk_of (tale_of self.new)) }
+        ensures plan { Planned (script_of self.old).disk (script_of self.new).disk (script_of self.old).starved (script_of self.new).starved result }
+        ensures script { script_of self.new ≡ record (script_of self.old) { disk = (script_of self.new).disk; starved = (script_of self.new).starved } }
+        ensures nothing { OnErr result (tale_of self.new ≡ record (tale_of self.old) { faults = (tale_of self.new).faults }) }
+    {
         if self.disk_plan.next() {
             raise(&mut self.faults);
             return Err(DiskFault);
@@ -253,7 +321,17 @@ impl Disk for Stage {
         Ok(())
     }
 
-    fn cut(&mut self, size: u64) -> Result<(), DiskFault> {
+    fn cut(&mut self, size: u64) -> Result<(), DiskFault>
+        ensures moved { DiskMoved (tale_of self.old) (tale_of self.new) }
+        ensures pairs { CallPairs (disk_of (tale_of self.old)) (disk_of (tale_of self.new)) }
+        ensures cause { HasCause (disk_of (tale_of self.old)).faults (disk_of (tale_of self.new)).faults result }
+        ensures cut { OnOk result ((disk_of (tale_of self.new)).contents ≡ option_map (take size) (disk_of (tale_of self.old)).contents) }
+        ensures failed { OnErr result (Told (CutShort size) (disk_of (tale_of self.old)).contents (disk_of (tale_of self.new)).contents) }
+        ensures crash { Follows (CutShort size) (disk_of (tale_of self.old)) (disk_of (tale_of self.new)) }
+        ensures plan { Planned (script_of self.old).disk (script_of self.new).disk (script_of self.old).starved (script_of self.new).starved result }
+        ensures script { script_of self.new ≡ record (script_of self.old) { disk = (script_of self.new).disk; starved = (script_of self.new).starved } }
+        ensures nothing { OnErr result (tale_of self.new ≡ record (tale_of self.old) { faults = (tale_of self.new).faults }) }
+    {
         if self.disk_plan.next() {
             raise(&mut self.faults);
             return Err(DiskFault);
@@ -266,7 +344,17 @@ impl Disk for Stage {
         Ok(())
     }
 
-    fn sync(&mut self) -> Result<(), DiskFault> {
+    fn sync(&mut self) -> Result<(), DiskFault>
+        ensures moved { DiskMoved (tale_of self.old) (tale_of self.new) }
+        ensures pairs { CallPairs (disk_of (tale_of self.old)) (disk_of (tale_of self.new)) }
+        ensures cause { HasCause (disk_of (tale_of self.old)).faults (disk_of (tale_of self.new)).faults result }
+        ensures same { (disk_of (tale_of self.new)).contents ≡ (disk_of (tale_of self.old)).contents }
+        ensures crash { LeavesNoMore (disk_of (tale_of self.old)) (disk_of (tale_of self.new)) }
+        ensures synced { OnOk result (IsSynced (disk_of (tale_of self.new))) }
+        ensures plan { Planned (script_of self.old).disk (script_of self.new).disk (script_of self.old).starved (script_of self.new).starved result }
+        ensures script { script_of self.new ≡ record (script_of self.old) { disk = (script_of self.new).disk; starved = (script_of self.new).starved } }
+        ensures nothing { OnErr result (tale_of self.new ≡ record (tale_of self.old) { faults = (tale_of self.new).faults }) }
+    {
         if self.disk_plan.next() {
             raise(&mut self.faults);
             return Err(DiskFault);
@@ -281,6 +369,11 @@ impl Disk for Stage {
 }
 
 impl Link for Stage {
+    ghost use Rattle.std.specs.Prelude.{◌<◌, ◌⊎◌, ◌++◌, [], ◌∷◌, List, ℕ, IfOk, OnOk, OnErr, IsTrue, true, false, option_map};
+    ghost use Rattle.mc_outside.specs.Bytes.{Told, AddsPart, HasCause};
+    ghost use Rattle.mc_outside.specs.LinkView.{Failed, next_taken, none_left, heard, told, finished};
+    ghost use Rattle.mc_stage.specs.Stage.{script_of};
+    ghost use Rattle.mc_stage.specs.Script.{Planned, first_piece, pieces_after, first_reading, next_readings};
     ghost use Rattle.mc_stage.specs.Stage.{tale_of};
     ghost use Rattle.mc_stage.specs.Model.{link_of, LinkMoved};
     ghost use Rattle.mc_stage.specs.Tale.{is_link, link_none, link_then, link_goes};
@@ -297,7 +390,17 @@ impl Link for Stage {
 
     ghost link_goes = { λ a b m. link_goes (tale_of a) (tale_of b) m };
 
-    fn next_link(&mut self) -> Result<bool, LinkFault> {
+    fn next_link(&mut self) -> Result<bool, LinkFault>
+        ensures moved { LinkMoved (tale_of self.old) (tale_of self.new) }
+        ensures cause { HasCause (link_of (tale_of self.old)).faults (link_of (tale_of self.new)).faults result }
+        ensures over { IfOk result (λ more. IsTrue more → (link_of (tale_of self.old)).over ≡ false) }
+        ensures taken { IfOk result (λ more. link_of (tale_of self.new) ≡ (if more then next_taken (link_of (tale_of self.old)) else none_left (link_of (tale_of self.old)))) }
+        ensures failed { OnErr result (link_of (tale_of self.new) ≡ record (link_of (tale_of self.old)) { stands = false; faults = (link_of (tale_of self.new)).faults }) }
+        ensures plan { Planned (script_of self.old).link (script_of self.new).link (script_of self.old).starved (script_of self.new).starved result }
+        ensures nothing { OnErr result (tale_of self.new ≡ record (tale_of self.old) { stands = false; link_faults = (tale_of self.new).link_faults }) }
+        ensures next { IfOk result (λ more. IsTrue more → ((script_of self.new).links ≡ drop 1 (script_of self.old).links) × ((script_of self.new).pieces ≡ without_empty (first_link (script_of self.old).links))) }
+        ensures none { IfOk result (λ more. more ≡ false → ((tale_of self.old).over ≡ true) ⊎ ((script_of self.old).links ≡ [])) }
+    {
         self.stands = false;
         if self.link_plan.next() {
             raise(&mut self.link_faults);
@@ -317,7 +420,22 @@ impl Link for Stage {
         Ok(true)
     }
 
-    fn recv(&mut self, buf: &mut [u8]) -> Result<usize, LinkFault> {
+    fn recv(&mut self, buf: &mut [u8]) -> Result<usize, LinkFault>
+        requires { IsTrue (link_of (tale_of self.old)).stands }
+        ensures moved { LinkMoved (tale_of self.old) (tale_of self.new) }
+        ensures cause { HasCause (link_of (tale_of self.old)).faults (link_of (tale_of self.new)).faults result }
+        ensures room { IfOk result (λ n. n ≤ length buf.old) }
+        ensures rest { IfOk result (λ n. drop n buf.new ≡ drop n buf.old) }
+        ensures heard { IfOk result (λ n. 0 < n ⊎ (length buf.old ≡ 0) → link_of (tale_of self.new) ≡ heard (take n buf.new) (link_of (tale_of self.old))) }
+        ensures end { IfOk result (λ n. n ≡ 0 → 0 < length buf.old → link_of (tale_of self.new) ≡ finished (link_of (tale_of self.old))) }
+        ensures stays_at_end { IfOk result (λ n. IsTrue (link_of (tale_of self.old)).at_end → n ≡ 0) }
+        ensures failed { OnErr result (Failed (link_of (tale_of self.old)) (link_of (tale_of self.new))) }
+        ensures plan { Planned (script_of self.old).link (script_of self.new).link (script_of self.old).starved (script_of self.new).starved result }
+        ensures nothing { OnErr result (tale_of self.new ≡ record (tale_of self.old) { link_faults = (tale_of self.new).link_faults }) }
+        ensures pieces { IfOk result (λ n. (0 < n → (script_of self.new).pieces ≡ pieces_after n (script_of self.old).pieces) × (n ≡ 0 → (script_of self.new).pieces ≡ (script_of self.old).pieces)) }
+        ensures given { IfOk result (λ n. take n buf.new ≡ take n (first_piece (script_of self.old).pieces)) }
+        ensures count { IfOk result (λ n. (link_of (tale_of self.old)).at_end ≡ false → n ≡ min (length buf.old) (length (first_piece (script_of self.old).pieces))) }
+    {
         if self.link_plan.next() {
             raise(&mut self.link_faults);
             return Err(LinkFault);
@@ -347,7 +465,19 @@ impl Link for Stage {
         Ok(n)
     }
 
-    fn send(&mut self, bytes: &[u8]) -> Result<usize, LinkFault> {
+    fn send(&mut self, bytes: &[u8]) -> Result<usize, LinkFault>
+        requires { IsTrue (link_of (tale_of self.old)).stands }
+        ensures moved { LinkMoved (tale_of self.old) (tale_of self.new) }
+        ensures cause { HasCause (link_of (tale_of self.old)).faults (link_of (tale_of self.new)).faults result }
+        ensures room { IfOk result (λ n. n ≤ length bytes.now) }
+        ensures some { IfOk result (λ n. 0 < length bytes.now → 0 < n) }
+        ensures sent { IfOk result (λ n. link_of (tale_of self.new) ≡ told (take n bytes.now) (link_of (tale_of self.old))) }
+        ensures failed { OnErr result (Failed (link_of (tale_of self.old)) (link_of (tale_of self.new))) }
+        ensures plan { Planned (script_of self.old).link (script_of self.new).link (script_of self.old).starved (script_of self.new).starved result }
+        ensures script { script_of self.new ≡ record (script_of self.old) { link = (script_of self.new).link; starved = (script_of self.new).starved } }
+        ensures nothing { OnErr result (tale_of self.new ≡ record (tale_of self.old) { link_faults = (tale_of self.new).link_faults }) }
+        ensures whole { IfOk result (λ n. n ≡ length bytes.now) }
+    {
         if self.link_plan.next() {
             raise(&mut self.link_faults);
             return Err(LinkFault);
@@ -364,7 +494,16 @@ impl Link for Stage {
         self.stands = false;
     }
 
-    fn say(&mut self, bytes: &[u8]) -> Result<(), LinkFault> {
+    fn say(&mut self, bytes: &[u8]) -> Result<(), LinkFault>
+        ensures moved { LinkMoved (tale_of self.old) (tale_of self.new) }
+        ensures cause { HasCause (link_of (tale_of self.old)).faults (link_of (tale_of self.new)).faults result }
+        ensures said { OnOk result (link_of (tale_of self.new) ≡ record (link_of (tale_of self.old)) { said = option_map (λ s. s ++ bytes.now) (link_of (tale_of self.old)).said }) }
+        ensures failed { OnErr result (link_of (tale_of self.new) ≡ record (link_of (tale_of self.old)) { faults = (link_of (tale_of self.new)).faults; said = (link_of (tale_of self.new)).said }) }
+        ensures failed_said { OnErr result (Told (AddsPart bytes.now) (link_of (tale_of self.old)).said (link_of (tale_of self.new)).said) }
+        ensures plan { Planned (script_of self.old).link (script_of self.new).link (script_of self.old).starved (script_of self.new).starved result }
+        ensures script { script_of self.new ≡ record (script_of self.old) { link = (script_of self.new).link; starved = (script_of self.new).starved } }
+        ensures nothing { OnErr result (tale_of self.new ≡ record (tale_of self.old) { link_faults = (tale_of self.new).link_faults }) }
+    {
         if self.link_plan.next() {
             raise(&mut self.link_faults);
             return Err(LinkFault);
@@ -377,7 +516,14 @@ impl Link for Stage {
         Ok(())
     }
 
-    fn now(&mut self) -> Moment {
+    fn now(&mut self) -> Moment
+        ensures moved { LinkMoved (tale_of self.old) (tale_of self.new) }
+        ensures rest { link_of (tale_of self.new) ≡ record (link_of (tale_of self.old)) { readings = (link_of (tale_of self.new)).readings } }
+        ensures read { (rs : List ℕ) → (link_of (tale_of self.new)).readings ≡ Some rs
+            → (qs : List ℕ) × ((link_of (tale_of self.old)).readings ≡ Some qs) × (rs ≡ qs ++ result ∷ []) }
+        ensures reading { result ≡ first_reading (script_of self.old).readings.left }
+        ensures left { script_of self.new ≡ record (script_of self.old) { readings = record (script_of self.old).readings { left = next_readings (script_of self.old).readings.left } } }
+    {
         let reading = self.clock.next();
         if !self.lost && self.given.push(reading).is_err() {
             self.lost = true;

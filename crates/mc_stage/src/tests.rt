@@ -1,0 +1,4 @@
+mod crashes;
+mod links;
+mod silent;
+mod stores;
