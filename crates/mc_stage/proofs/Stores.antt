@@ -1,5 +1,5 @@
 -- A write that lasts, and then bytes that are sent.
-use Rattle.std.proofs.Common.{◌≡◌, inl, inr, ℕ, List, Some, refl, sym, ◌∙◌, ap, Option}
+use Rattle.std.proofs.Common.{◌≡◌, inl, inr, ℕ, List, refl, ◌∙◌, ap}
 use Rattle.std.specs.Prelude.{option_map}
 use Rattle.mc_outside.specs.Bytes.{put}
 use Rattle.mc_outside.specs.DiskView.{DiskView, DiskGoes, LinkKeeps, CallPairs, IsSynced, Ran}

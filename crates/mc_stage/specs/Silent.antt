@@ -1,6 +1,6 @@
 -- What an outside means that tells nothing of its bytes, by its counts and flags alone.
-use Rattle.std.specs.Prelude.{◌≡◌, ◌⊎◌, ℕ, ◌+◌, ◌-◌, ◌^◌, ◌≤◌, min, List, [], ◌∷◌, ◌++◌, Option, Some, None, Bool, true, false, IsTrue, refl}
-use Rattle.std.proofs.Common.{inl, inr, ⊎_elim, arith}
+use Rattle.std.specs.Prelude.{◌≡◌, ℕ, ◌-◌, ◌^◌, ◌≤◌, min, List, [], Some, None, Bool, IsTrue, refl}
+use Rattle.std.proofs.Common.{⊎_elim, arith}
 use Rattle.mc_outside.specs.DiskView.{DiskView, IsDisk, Goes, DiskGoes, LinkKeeps}
 use Rattle.mc_outside.specs.LinkView.{LinkView, IsLink, LinkGoes, Session, all_sent}
 

@@ -30,7 +30,7 @@ impl Disk for Mute {
 
     ghost disk_moved = { λ a b. SilentDiskMoved (record { disk_faults = a.disk_faults; link_faults = a.link_faults; stands = a.stands; at_end = a.at_end; over = a.over }) (record { disk_faults = b.disk_faults; link_faults = b.link_faults; stands = b.stands; at_end = b.at_end; over = b.over }) };
 
-    ghost is_disk = { λ m. silent_is_disk _ };
+    ghost is_disk = { λ m. silent_is_disk (record { disk_faults = m.disk_faults; link_faults = m.link_faults; stands = m.stands; at_end = m.at_end; over = m.over }) };
 
     ghost disk_stays = { λ a. silent_disk_none _ };
 
@@ -70,7 +70,7 @@ impl Link for Mute {
 
     ghost link_moved = { λ a b. SilentLinkMoved (record { disk_faults = a.disk_faults; link_faults = a.link_faults; stands = a.stands; at_end = a.at_end; over = a.over }) (record { disk_faults = b.disk_faults; link_faults = b.link_faults; stands = b.stands; at_end = b.at_end; over = b.over }) };
 
-    ghost is_link = { λ m. silent_is_link _ };
+    ghost is_link = { λ m. silent_is_link (record { disk_faults = m.disk_faults; link_faults = m.link_faults; stands = m.stands; at_end = m.at_end; over = m.over }) };
 
     ghost link_stays = { λ a. silent_link_none _ };
 
@@ -120,7 +120,7 @@ impl Outside for Mute {
 
     ghost disk_keeps = { λ a b m. m.links };
 
-    ghost sent_aside = { λ a ss e. silent_sent _ ss e };
+    ghost sent_aside = { λ a ss e. silent_sent (record { disk_faults = a.disk_faults; link_faults = a.link_faults; stands = a.stands; at_end = a.at_end; over = a.over }) ss e };
 }
 
 #[test]
