@@ -134,3 +134,14 @@ pub record LinkMoved (a b : Tale) : Type 0 where
   pub link_faults : a.link_faults ≤ b.link_faults
   pub over : IsTrue a.over → IsTrue b.over
   pub readings : IsSome b.readings → IsSome a.readings
+
+-- nothing but the count of faults changed
+abbrev pub DiskFailed : Tale → Tale → Type 0
+DiskFailed a b = b ≡ record a { faults = b.faults }
+
+abbrev pub LinkFailed : Tale → Tale → Type 0
+LinkFailed a b = b ≡ record a { link_faults = b.link_faults }
+
+-- these contents, synced, and no call made
+abbrev pub untouched : List ℕ → Tale
+untouched contents = record { base = contents; log = []; faults = 0; said = []; readings = Some []; link_faults = 0; stands = false; over = false }

@@ -81,3 +81,17 @@ pub record Planned {T E : Type 0} (calls after : Numbered) (starved starved_afte
   pub counted : after ≡ record calls { calls = min (calls.calls + 1) (2 ^ 64 - 1) }
   pub ok : OnOk result ((Contains calls.listed calls.calls → ⊥) × (starved_after ≡ starved))
   pub err : OnErr result ((Contains calls.listed calls.calls × (starved_after ≡ starved)) ⊎ ((Contains calls.listed calls.calls → ⊥) × (starved_after ≡ min (starved + 1) (2 ^ 32 - 1))))
+
+-- a numbered call of Disk, and one of Link
+abbrev pub DiskPlanned : {T E : Type 0} → Script → Script → Result T E → Type 0
+DiskPlanned a b result = Planned a.disk b.disk a.starved b.starved result
+
+abbrev pub LinkPlanned : {T E : Type 0} → Script → Script → Result T E → Type 0
+LinkPlanned a b result = Planned a.link b.link a.starved b.starved result
+
+-- nothing else of what it was told to do is done
+abbrev pub OnlyDiskCalled : Script → Script → Type 0
+OnlyDiskCalled a b = b ≡ record a { disk = b.disk; starved = b.starved }
+
+abbrev pub OnlyLinkCalled : Script → Script → Type 0
+OnlyLinkCalled a b = b ≡ record a { link = b.link; starved = b.starved }

@@ -1,7 +1,8 @@
 -- What a stage means.
 use Rattle.std.specs.Prelude.{◌≡◌, ℕ, List, Bool, true, false, Option, Some, None}
 use Rattle.std.proofs.Common.{ap}
-use Rattle.mc_outside.specs.LinkView.{Session, all_sent}
+use Rattle.mc_outside.specs.DiskView.{DiskView}
+use Rattle.mc_outside.specs.LinkView.{LinkView, Session, all_sent}
 use Rattle.mc_stage.specs.Model.{Tale, disk_of, link_of}
 use Rattle.mc_stage.specs.Tale.{same_some}
 use Rattle.mc_stage.specs.Script.{Script, links_of}
@@ -28,3 +29,9 @@ sent_is t ss e = ap all_sent (same_some _ _ e)
 
 abbrev pub script_of : Stage → Script
 script_of s = record { disk = s.disk_plan; link = s.link_plan; links = links_of s.links.items; pieces = s.pieces; readings = s.clock; starved = s.starved }
+
+abbrev pub disk_view : Stage → DiskView
+disk_view s = disk_of (tale_of s)
+
+abbrev pub link_view : Stage → LinkView
+link_view s = link_of (tale_of s)

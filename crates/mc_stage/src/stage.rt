@@ -96,7 +96,7 @@ fn filled(alloc: Global, choice: u64, bytes: &[u8], marks: &[bool]) -> Result<Ve
 impl Stage {
     ghost use Rattle.std.specs.Prelude.{[], None, Some, false, true, slice_get, option_map, map, reverse};
     ghost use Rattle.mc_stage.specs.Stage.{tale_of, script_of};
-    ghost use Rattle.mc_stage.specs.Model.{Tale, model};
+    ghost use Rattle.mc_stage.specs.Model.{Tale, model, untouched};
     ghost use Rattle.mc_stage.specs.Image.{chosen};
 
     /// A stage with these contents, which count as synced. Each link is a list of pieces; one
@@ -110,7 +110,7 @@ impl Stage {
         readings: Vec<u64>,
         failing: Failing,
     ) -> Result<Stage, NoMemory>
-        ensures tale { IfOk result (λ s. tale_of s ≡ record { base = contents.items; log = []; faults = 0; said = []; readings = Some []; link_faults = 0; stands = false; over = false }) }
+        ensures tale { IfOk result (λ s. tale_of s ≡ untouched contents.items) }
         // Nothing was called yet: the links and readings are all to come, in their order.
         ensures script { IfOk result (λ s. script_of s ≡ record {
           disk = record { listed = failing.disk; calls = 0 };
@@ -134,7 +134,7 @@ impl Stage {
         disk: List<u32>,
         link: List<u32>,
     ) -> Result<Stage, NoMemory>
-        ensures tale { IfOk result (λ s. tale_of s ≡ record { base = contents.items; log = []; faults = 0; said = []; readings = Some []; link_faults = 0; stands = false; over = false }) }
+        ensures tale { IfOk result (λ s. tale_of s ≡ untouched contents.items) }
         ensures script { IfOk result (λ s. script_of s ≡ record {
           disk = record { listed = disk; calls = 0 };
           link = record { listed = link; calls = 0 };
@@ -182,7 +182,7 @@ impl Stage {
           readings = record (script_of self).readings { left = (script_of self).readings.all };
           starved = 0;
         }) }
-        ensures fresh { IfOk result (λ s. tale_of s ≡ record { base = (model (tale_of s)).contents; log = []; faults = 0; said = []; readings = Some []; link_faults = 0; stands = false; over = false }) }
+        ensures fresh { IfOk result (λ s. tale_of s ≡ untouched (model (tale_of s)).contents) }
     {
         let bytes = self.image(choice)?;
         let alloc = self.alloc;
@@ -208,7 +208,8 @@ impl Stage {
 
     /// The bytes sent on one link, numbered from 0; None exactly where fewer links were taken.
     pub fn sent(&self, link: usize) -> Option<&[u8]>
-        ensures { option_map (λ b. b.now) result ≡ option_map (λ s. s.sent) (slice_get (model (tale_of self.now)).sessions link) }
+        ensures { option_map (λ b. b.now) result
+            ≡ option_map (λ s. s.sent) (slice_get (model (tale_of self.now)).sessions link) }
     {
         self.tape.sent(link)
     }
@@ -239,10 +240,10 @@ impl Disk for Stage {
     ghost use Rattle.std.specs.Prelude.{◌↔◌, ◌⊎◌, ◌++◌, List, ℕ, IfOk, OnOk, OnErr, option_map};
     ghost use Rattle.mc_outside.specs.Bytes.{put, Told, HasCause};
     ghost use Rattle.mc_outside.specs.DiskView.{CallPairs, Follows, LeavesNoMore, IsSynced, Torn, CutShort};
-    ghost use Rattle.mc_stage.specs.Stage.{script_of};
-    ghost use Rattle.mc_stage.specs.Script.{Planned};
+    ghost use Rattle.mc_stage.specs.Stage.{script_of, disk_view};
+    ghost use Rattle.mc_stage.specs.Script.{DiskPlanned, OnlyDiskCalled};
     ghost use Rattle.mc_stage.specs.Stage.{tale_of};
-    ghost use Rattle.mc_stage.specs.Model.{disk_of, DiskMoved};
+    ghost use Rattle.mc_stage.specs.Model.{disk_of, DiskMoved, DiskFailed};
     ghost use Rattle.mc_stage.specs.Tale.{is_disk, disk_none, disk_then, disk_goes};
 
     ghost disk = { λ s. disk_of (tale_of s) };
@@ -259,14 +260,15 @@ impl Disk for Stage {
 
     fn size(&mut self) -> Result<u64, DiskFault>
         ensures moved { DiskMoved (tale_of self.old) (tale_of self.new) }
-        ensures pairs { CallPairs (disk_of (tale_of self.old)) (disk_of (tale_of self.new)) }
-        ensures cause { HasCause (disk_of (tale_of self.old)).faults (disk_of (tale_of self.new)).faults result }
-        ensures same { (disk_of (tale_of self.new)).contents ≡ (disk_of (tale_of self.old)).contents }
-        ensures crash { LeavesNoMore (disk_of (tale_of self.old)) (disk_of (tale_of self.new)) }
-        ensures length { IfOk result (λ n. (x : List ℕ) → (disk_of (tale_of self.old)).contents ≡ Some x → n ≡ length x) }
-        ensures plan { Planned (script_of self.old).disk (script_of self.new).disk (script_of self.old).starved (script_of self.new).starved result }
-        ensures script { script_of self.new ≡ record (script_of self.old) { disk = (script_of self.new).disk; starved = (script_of self.new).starved } }
-        ensures nothing { OnErr result (tale_of self.new ≡ record (tale_of self.old) { faults = (tale_of self.new).faults }) }
+        ensures pairs { CallPairs (disk_view self.old) (disk_view self.new) }
+        ensures cause { HasCause (disk_view self.old).faults (disk_view self.new).faults result }
+        ensures same { (disk_view self.new).contents ≡ (disk_view self.old).contents }
+        ensures crash { LeavesNoMore (disk_view self.old) (disk_view self.new) }
+        ensures length { IfOk result (λ n. (x : List ℕ) → (disk_view self.old).contents ≡ Some x
+            → n ≡ length x) }
+        ensures plan { DiskPlanned (script_of self.old) (script_of self.new) result }
+        ensures script { OnlyDiskCalled (script_of self.old) (script_of self.new) }
+        ensures nothing { OnErr result (DiskFailed (tale_of self.old) (tale_of self.new)) }
     {
         if self.disk_plan.next() {
             raise(&mut self.faults);
@@ -277,18 +279,18 @@ impl Disk for Stage {
 
     fn read(&mut self, at: u64, buf: &mut [u8]) -> Result<usize, DiskFault>
         ensures moved { DiskMoved (tale_of self.old) (tale_of self.new) }
-        ensures pairs { CallPairs (disk_of (tale_of self.old)) (disk_of (tale_of self.new)) }
-        ensures cause { HasCause (disk_of (tale_of self.old)).faults (disk_of (tale_of self.new)).faults result }
-        ensures same { (disk_of (tale_of self.new)).contents ≡ (disk_of (tale_of self.old)).contents }
-        ensures crash { LeavesNoMore (disk_of (tale_of self.old)) (disk_of (tale_of self.new)) }
+        ensures pairs { CallPairs (disk_view self.old) (disk_view self.new) }
+        ensures cause { HasCause (disk_view self.old).faults (disk_view self.new).faults result }
+        ensures same { (disk_view self.new).contents ≡ (disk_view self.old).contents }
+        ensures crash { LeavesNoMore (disk_view self.old) (disk_view self.new) }
         ensures room { IfOk result (λ n. n ≤ length buf.old) }
-        ensures bytes { IfOk result (λ n. (x : List ℕ) → (disk_of (tale_of self.old)).contents ≡ Some x
+        ensures bytes { IfOk result (λ n. (x : List ℕ) → (disk_view self.old).contents ≡ Some x
             → buf.new ≡ take n (drop at x) ++ drop n buf.old) }
-        ensures end { IfOk result (λ n. (x : List ℕ) → (disk_of (tale_of self.old)).contents ≡ Some x
+        ensures end { IfOk result (λ n. (x : List ℕ) → (disk_view self.old).contents ≡ Some x
             → (n ≡ 0) ↔ ((length buf.old ≡ 0) ⊎ (length x ≤ at))) }
-        ensures plan { Planned (script_of self.old).disk (script_of self.new).disk (script_of self.old).starved (script_of self.new).starved result }
-        ensures script { script_of self.new ≡ record (script_of self.old) { disk = (script_of self.new).disk; starved = (script_of self.new).starved } }
-        ensures nothing { OnErr result (tale_of self.new ≡ record (tale_of self.old) { faults = (tale_of self.new).faults }) }
+        ensures plan { DiskPlanned (script_of self.old) (script_of self.new) result }
+        ensures script { OnlyDiskCalled (script_of self.old) (script_of self.new) }
+        ensures nothing { OnErr result (DiskFailed (tale_of self.old) (tale_of self.new)) }
     {
         if self.disk_plan.next() {
             raise(&mut self.faults);
@@ -300,14 +302,15 @@ impl Disk for Stage {
     fn write_at(&mut self, at: u64, bytes: &[u8]) -> Result<(), DiskFault>
         requires { at + length bytes.now ≤ 2 ^ 40 }
         ensures moved { DiskMoved (tale_of self.old) (tale_of self.new) }
-        ensures pairs { CallPairs (disk_of (tale_of self.old)) (disk_of (tale_of self.new)) }
-        ensures cause { HasCause (disk_of (tale_of self.old)).faults (disk_of (tale_of self.new)).faults result }
-        ensures written { OnOk result ((disk_of (tale_of self.new)).contents ≡ option_map (put at bytes.now) (disk_of (tale_of self.old)).contents) }
-        ensures failed { OnErr result (Told (Torn at (length bytes.now)) (disk_of (tale_of self.old)).contents (disk_of (tale_of self.new)).contents) }
-        ensures crash { Follows (Torn at (length bytes.now)) (disk_of (tale_of self.old)) (disk_of (tale_of self.new)) }
-        ensures plan { Planned (script_of self.old).disk (script_of self.new).disk (script_of self.old).starved (script_of self.new).starved result }
-        ensures script { script_of self.new ≡ record (script_of self.old) { disk = (script_of self.new).disk; starved = (script_of self.new).starved } }
-        ensures nothing { OnErr result (tale_of self.new ≡ record (tale_of self.old) { faults = (tale_of self.new).faults }) }
+        ensures pairs { CallPairs (disk_view self.old) (disk_view self.new) }
+        ensures cause { HasCause (disk_view self.old).faults (disk_view self.new).faults result }
+        ensures written { OnOk result ((disk_view self.new).contents
+            ≡ option_map (put at bytes.now) (disk_view self.old).contents) }
+        ensures failed { OnErr result (Told (Torn at (length bytes.now)) (disk_view self.old).contents (disk_view self.new).contents) }
+        ensures crash { Follows (Torn at (length bytes.now)) (disk_view self.old) (disk_view self.new) }
+        ensures plan { DiskPlanned (script_of self.old) (script_of self.new) result }
+        ensures script { OnlyDiskCalled (script_of self.old) (script_of self.new) }
+        ensures nothing { OnErr result (DiskFailed (tale_of self.old) (tale_of self.new)) }
     {
         if self.disk_plan.next() {
             raise(&mut self.faults);
@@ -323,14 +326,15 @@ impl Disk for Stage {
 
     fn cut(&mut self, size: u64) -> Result<(), DiskFault>
         ensures moved { DiskMoved (tale_of self.old) (tale_of self.new) }
-        ensures pairs { CallPairs (disk_of (tale_of self.old)) (disk_of (tale_of self.new)) }
-        ensures cause { HasCause (disk_of (tale_of self.old)).faults (disk_of (tale_of self.new)).faults result }
-        ensures cut { OnOk result ((disk_of (tale_of self.new)).contents ≡ option_map (take size) (disk_of (tale_of self.old)).contents) }
-        ensures failed { OnErr result (Told (CutShort size) (disk_of (tale_of self.old)).contents (disk_of (tale_of self.new)).contents) }
-        ensures crash { Follows (CutShort size) (disk_of (tale_of self.old)) (disk_of (tale_of self.new)) }
-        ensures plan { Planned (script_of self.old).disk (script_of self.new).disk (script_of self.old).starved (script_of self.new).starved result }
-        ensures script { script_of self.new ≡ record (script_of self.old) { disk = (script_of self.new).disk; starved = (script_of self.new).starved } }
-        ensures nothing { OnErr result (tale_of self.new ≡ record (tale_of self.old) { faults = (tale_of self.new).faults }) }
+        ensures pairs { CallPairs (disk_view self.old) (disk_view self.new) }
+        ensures cause { HasCause (disk_view self.old).faults (disk_view self.new).faults result }
+        ensures cut { OnOk result ((disk_view self.new).contents
+            ≡ option_map (take size) (disk_view self.old).contents) }
+        ensures failed { OnErr result (Told (CutShort size) (disk_view self.old).contents (disk_view self.new).contents) }
+        ensures crash { Follows (CutShort size) (disk_view self.old) (disk_view self.new) }
+        ensures plan { DiskPlanned (script_of self.old) (script_of self.new) result }
+        ensures script { OnlyDiskCalled (script_of self.old) (script_of self.new) }
+        ensures nothing { OnErr result (DiskFailed (tale_of self.old) (tale_of self.new)) }
     {
         if self.disk_plan.next() {
             raise(&mut self.faults);
@@ -346,14 +350,14 @@ impl Disk for Stage {
 
     fn sync(&mut self) -> Result<(), DiskFault>
         ensures moved { DiskMoved (tale_of self.old) (tale_of self.new) }
-        ensures pairs { CallPairs (disk_of (tale_of self.old)) (disk_of (tale_of self.new)) }
-        ensures cause { HasCause (disk_of (tale_of self.old)).faults (disk_of (tale_of self.new)).faults result }
-        ensures same { (disk_of (tale_of self.new)).contents ≡ (disk_of (tale_of self.old)).contents }
-        ensures crash { LeavesNoMore (disk_of (tale_of self.old)) (disk_of (tale_of self.new)) }
-        ensures synced { OnOk result (IsSynced (disk_of (tale_of self.new))) }
-        ensures plan { Planned (script_of self.old).disk (script_of self.new).disk (script_of self.old).starved (script_of self.new).starved result }
-        ensures script { script_of self.new ≡ record (script_of self.old) { disk = (script_of self.new).disk; starved = (script_of self.new).starved } }
-        ensures nothing { OnErr result (tale_of self.new ≡ record (tale_of self.old) { faults = (tale_of self.new).faults }) }
+        ensures pairs { CallPairs (disk_view self.old) (disk_view self.new) }
+        ensures cause { HasCause (disk_view self.old).faults (disk_view self.new).faults result }
+        ensures same { (disk_view self.new).contents ≡ (disk_view self.old).contents }
+        ensures crash { LeavesNoMore (disk_view self.old) (disk_view self.new) }
+        ensures synced { OnOk result (IsSynced (disk_view self.new)) }
+        ensures plan { DiskPlanned (script_of self.old) (script_of self.new) result }
+        ensures script { OnlyDiskCalled (script_of self.old) (script_of self.new) }
+        ensures nothing { OnErr result (DiskFailed (tale_of self.old) (tale_of self.new)) }
     {
         if self.disk_plan.next() {
             raise(&mut self.faults);
@@ -372,10 +376,10 @@ impl Link for Stage {
     ghost use Rattle.std.specs.Prelude.{◌<◌, ◌⊎◌, ◌++◌, [], ◌∷◌, List, ℕ, IfOk, OnOk, OnErr, IsTrue, true, false, option_map};
     ghost use Rattle.mc_outside.specs.Bytes.{Told, AddsPart, HasCause};
     ghost use Rattle.mc_outside.specs.LinkView.{Failed, next_taken, none_left, heard, told, finished};
-    ghost use Rattle.mc_stage.specs.Stage.{script_of};
-    ghost use Rattle.mc_stage.specs.Script.{Planned, first_piece, pieces_after, first_reading, next_readings};
+    ghost use Rattle.mc_stage.specs.Stage.{script_of, link_view};
+    ghost use Rattle.mc_stage.specs.Script.{LinkPlanned, OnlyLinkCalled, first_piece, pieces_after, first_reading, next_readings};
     ghost use Rattle.mc_stage.specs.Stage.{tale_of};
-    ghost use Rattle.mc_stage.specs.Model.{link_of, LinkMoved};
+    ghost use Rattle.mc_stage.specs.Model.{link_of, LinkMoved, LinkFailed};
     ghost use Rattle.mc_stage.specs.Tale.{is_link, link_none, link_then, link_goes};
 
     ghost link = { λ s. link_of (tale_of s) };
@@ -392,14 +396,25 @@ impl Link for Stage {
 
     fn next_link(&mut self) -> Result<bool, LinkFault>
         ensures moved { LinkMoved (tale_of self.old) (tale_of self.new) }
-        ensures cause { HasCause (link_of (tale_of self.old)).faults (link_of (tale_of self.new)).faults result }
-        ensures over { IfOk result (λ more. IsTrue more → (link_of (tale_of self.old)).over ≡ false) }
-        ensures taken { IfOk result (λ more. link_of (tale_of self.new) ≡ (if more then next_taken (link_of (tale_of self.old)) else none_left (link_of (tale_of self.old)))) }
-        ensures failed { OnErr result (link_of (tale_of self.new) ≡ record (link_of (tale_of self.old)) { stands = false; faults = (link_of (tale_of self.new)).faults }) }
-        ensures plan { Planned (script_of self.old).link (script_of self.new).link (script_of self.old).starved (script_of self.new).starved result }
-        ensures nothing { OnErr result (tale_of self.new ≡ record (tale_of self.old) { stands = false; link_faults = (tale_of self.new).link_faults }) }
-        ensures next { IfOk result (λ more. IsTrue more → ((script_of self.new).links ≡ drop 1 (script_of self.old).links) × ((script_of self.new).pieces ≡ without_empty (first_link (script_of self.old).links))) }
-        ensures none { IfOk result (λ more. more ≡ false → ((tale_of self.old).over ≡ true) ⊎ ((script_of self.old).links ≡ [])) }
+        ensures cause { HasCause (link_view self.old).faults (link_view self.new).faults result }
+        ensures over { IfOk result (λ more. IsTrue more → (link_view self.old).over ≡ false) }
+        ensures taken { IfOk result (λ more. link_view self.new
+            ≡ (if more then next_taken (link_view self.old) else none_left (link_view self.old))) }
+        ensures failed { OnErr result (link_view self.new
+            ≡ record (link_view self.old) { stands = false; faults = (link_view self.new).faults }) }
+        ensures plan { LinkPlanned (script_of self.old) (script_of self.new) result }
+        ensures nothing { OnErr result (LinkFailed (record (tale_of self.old) { stands = false }) (tale_of self.new)) }
+        ensures others { script_of self.new ≡ record (script_of self.old) {
+          link = (script_of self.new).link;
+          starved = (script_of self.new).starved;
+          links = (script_of self.new).links;
+          pieces = (script_of self.new).pieces;
+        } }
+        ensures next { IfOk result (λ more. IsTrue more
+            → ((script_of self.new).links ≡ drop 1 (script_of self.old).links)
+            × ((script_of self.new).pieces ≡ without_empty (first_link (script_of self.old).links))) }
+        ensures none { IfOk result (λ more. more ≡ false
+            → ((tale_of self.old).over ≡ true) ⊎ ((script_of self.old).links ≡ [])) }
     {
         self.stands = false;
         if self.link_plan.next() {
@@ -421,20 +436,29 @@ impl Link for Stage {
     }
 
     fn recv(&mut self, buf: &mut [u8]) -> Result<usize, LinkFault>
-        requires { IsTrue (link_of (tale_of self.old)).stands }
+        requires { IsTrue (link_view self.old).stands }
         ensures moved { LinkMoved (tale_of self.old) (tale_of self.new) }
-        ensures cause { HasCause (link_of (tale_of self.old)).faults (link_of (tale_of self.new)).faults result }
+        ensures cause { HasCause (link_view self.old).faults (link_view self.new).faults result }
         ensures room { IfOk result (λ n. n ≤ length buf.old) }
         ensures rest { IfOk result (λ n. drop n buf.new ≡ drop n buf.old) }
-        ensures heard { IfOk result (λ n. 0 < n ⊎ (length buf.old ≡ 0) → link_of (tale_of self.new) ≡ heard (take n buf.new) (link_of (tale_of self.old))) }
-        ensures end { IfOk result (λ n. n ≡ 0 → 0 < length buf.old → link_of (tale_of self.new) ≡ finished (link_of (tale_of self.old))) }
-        ensures stays_at_end { IfOk result (λ n. IsTrue (link_of (tale_of self.old)).at_end → n ≡ 0) }
-        ensures failed { OnErr result (Failed (link_of (tale_of self.old)) (link_of (tale_of self.new))) }
-        ensures plan { Planned (script_of self.old).link (script_of self.new).link (script_of self.old).starved (script_of self.new).starved result }
-        ensures nothing { OnErr result (tale_of self.new ≡ record (tale_of self.old) { link_faults = (tale_of self.new).link_faults }) }
-        ensures pieces { IfOk result (λ n. (0 < n → (script_of self.new).pieces ≡ pieces_after n (script_of self.old).pieces) × (n ≡ 0 → (script_of self.new).pieces ≡ (script_of self.old).pieces)) }
+        ensures heard { IfOk result (λ n. 0 < n ⊎ (length buf.old ≡ 0)
+            → link_view self.new ≡ heard (take n buf.new) (link_view self.old)) }
+        ensures end { IfOk result (λ n. n ≡ 0 → 0 < length buf.old
+            → link_view self.new ≡ finished (link_view self.old)) }
+        ensures stays_at_end { IfOk result (λ n. IsTrue (link_view self.old).at_end → n ≡ 0) }
+        ensures failed { OnErr result (Failed (link_view self.old) (link_view self.new)) }
+        ensures plan { LinkPlanned (script_of self.old) (script_of self.new) result }
+        ensures nothing { OnErr result (LinkFailed (tale_of self.old) (tale_of self.new)) }
+        ensures others { script_of self.new ≡ record (script_of self.old) {
+          link = (script_of self.new).link;
+          starved = (script_of self.new).starved;
+          pieces = (script_of self.new).pieces;
+        } }
+        ensures pieces { IfOk result (λ n. (0 < n → (script_of self.new).pieces ≡ pieces_after n (script_of self.old).pieces)
+            × (n ≡ 0 → (script_of self.new).pieces ≡ (script_of self.old).pieces)) }
         ensures given { IfOk result (λ n. take n buf.new ≡ take n (first_piece (script_of self.old).pieces)) }
-        ensures count { IfOk result (λ n. (link_of (tale_of self.old)).at_end ≡ false → n ≡ min (length buf.old) (length (first_piece (script_of self.old).pieces))) }
+        ensures count { IfOk result (λ n. (link_view self.old).at_end ≡ false → n
+            ≡ min (length buf.old) (length (first_piece (script_of self.old).pieces))) }
     {
         if self.link_plan.next() {
             raise(&mut self.link_faults);
@@ -466,16 +490,16 @@ impl Link for Stage {
     }
 
     fn send(&mut self, bytes: &[u8]) -> Result<usize, LinkFault>
-        requires { IsTrue (link_of (tale_of self.old)).stands }
+        requires { IsTrue (link_view self.old).stands }
         ensures moved { LinkMoved (tale_of self.old) (tale_of self.new) }
-        ensures cause { HasCause (link_of (tale_of self.old)).faults (link_of (tale_of self.new)).faults result }
+        ensures cause { HasCause (link_view self.old).faults (link_view self.new).faults result }
         ensures room { IfOk result (λ n. n ≤ length bytes.now) }
         ensures some { IfOk result (λ n. 0 < length bytes.now → 0 < n) }
-        ensures sent { IfOk result (λ n. link_of (tale_of self.new) ≡ told (take n bytes.now) (link_of (tale_of self.old))) }
-        ensures failed { OnErr result (Failed (link_of (tale_of self.old)) (link_of (tale_of self.new))) }
-        ensures plan { Planned (script_of self.old).link (script_of self.new).link (script_of self.old).starved (script_of self.new).starved result }
-        ensures script { script_of self.new ≡ record (script_of self.old) { link = (script_of self.new).link; starved = (script_of self.new).starved } }
-        ensures nothing { OnErr result (tale_of self.new ≡ record (tale_of self.old) { link_faults = (tale_of self.new).link_faults }) }
+        ensures sent { IfOk result (λ n. link_view self.new ≡ told (take n bytes.now) (link_view self.old)) }
+        ensures failed { OnErr result (Failed (link_view self.old) (link_view self.new)) }
+        ensures plan { LinkPlanned (script_of self.old) (script_of self.new) result }
+        ensures script { OnlyLinkCalled (script_of self.old) (script_of self.new) }
+        ensures nothing { OnErr result (LinkFailed (tale_of self.old) (tale_of self.new)) }
         ensures whole { IfOk result (λ n. n ≡ length bytes.now) }
     {
         if self.link_plan.next() {
@@ -490,19 +514,25 @@ impl Link for Stage {
         Ok(bytes.len())
     }
 
-    fn end_link(&mut self) {
+    fn end_link(&mut self)
+        ensures moved { LinkMoved (tale_of self.old) (tale_of self.new) }
+        ensures ended { link_view self.new ≡ record (link_view self.old) { stands = false } }
+        ensures script { script_of self.new ≡ script_of self.old }
+    {
         self.stands = false;
     }
 
     fn say(&mut self, bytes: &[u8]) -> Result<(), LinkFault>
         ensures moved { LinkMoved (tale_of self.old) (tale_of self.new) }
-        ensures cause { HasCause (link_of (tale_of self.old)).faults (link_of (tale_of self.new)).faults result }
-        ensures said { OnOk result (link_of (tale_of self.new) ≡ record (link_of (tale_of self.old)) { said = option_map (λ s. s ++ bytes.now) (link_of (tale_of self.old)).said }) }
-        ensures failed { OnErr result (link_of (tale_of self.new) ≡ record (link_of (tale_of self.old)) { faults = (link_of (tale_of self.new)).faults; said = (link_of (tale_of self.new)).said }) }
-        ensures failed_said { OnErr result (Told (AddsPart bytes.now) (link_of (tale_of self.old)).said (link_of (tale_of self.new)).said) }
-        ensures plan { Planned (script_of self.old).link (script_of self.new).link (script_of self.old).starved (script_of self.new).starved result }
-        ensures script { script_of self.new ≡ record (script_of self.old) { link = (script_of self.new).link; starved = (script_of self.new).starved } }
-        ensures nothing { OnErr result (tale_of self.new ≡ record (tale_of self.old) { link_faults = (tale_of self.new).link_faults }) }
+        ensures cause { HasCause (link_view self.old).faults (link_view self.new).faults result }
+        ensures said { OnOk result (link_view self.new
+            ≡ record (link_view self.old) { said = option_map (λ s. s ++ bytes.now) (link_view self.old).said }) }
+        ensures failed { OnErr result (link_view self.new
+            ≡ record (link_view self.old) { faults = (link_view self.new).faults; said = (link_view self.new).said }) }
+        ensures failed_said { OnErr result (Told (AddsPart bytes.now) (link_view self.old).said (link_view self.new).said) }
+        ensures plan { LinkPlanned (script_of self.old) (script_of self.new) result }
+        ensures script { OnlyLinkCalled (script_of self.old) (script_of self.new) }
+        ensures nothing { OnErr result (LinkFailed (tale_of self.old) (tale_of self.new)) }
     {
         if self.link_plan.next() {
             raise(&mut self.link_faults);
@@ -518,11 +548,13 @@ impl Link for Stage {
 
     fn now(&mut self) -> Moment
         ensures moved { LinkMoved (tale_of self.old) (tale_of self.new) }
-        ensures rest { link_of (tale_of self.new) ≡ record (link_of (tale_of self.old)) { readings = (link_of (tale_of self.new)).readings } }
-        ensures read { (rs : List ℕ) → (link_of (tale_of self.new)).readings ≡ Some rs
-            → (qs : List ℕ) × ((link_of (tale_of self.old)).readings ≡ Some qs) × (rs ≡ qs ++ result ∷ []) }
+        ensures rest { link_view self.new ≡ record (link_view self.old) { readings = (link_view self.new).readings } }
+        ensures read { (rs : List ℕ) → (link_view self.new).readings ≡ Some rs
+            → (qs : List ℕ) × ((link_view self.old).readings ≡ Some qs) × (rs ≡ qs ++ result ∷ []) }
         ensures reading { result ≡ first_reading (script_of self.old).readings.left }
-        ensures left { script_of self.new ≡ record (script_of self.old) { readings = record (script_of self.old).readings { left = next_readings (script_of self.old).readings.left } } }
+        ensures left { script_of self.new ≡ record (script_of self.old) {
+          readings = record (script_of self.old).readings { left = next_readings (script_of self.old).readings.left };
+        } }
     {
         let reading = self.clock.next();
         if !self.lost && self.given.push(reading).is_err() {
