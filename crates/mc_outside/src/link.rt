@@ -1,4 +1,4 @@
-ghost use Rattle.std.specs.Prelude.{◌≡◌, ◌⊎◌, ◌≤◌, ◌<◌, ◌++◌, [], ◌∷◌, List, ℕ, length, take, drop, IfOk, OnOk, OnErr, option_map, IsTrue, false, if◌then◌else◌};
+ghost use Rattle.std.specs.Prelude.{◌≡◌, ◌⊎◌, ◌≤◌, ◌<◌, ◌++◌, [], ◌∷◌, List, ℕ, length, take, IfOk, OnOk, OnErr, option_map, IsTrue, false, if◌then◌else◌};
 ghost use Rattle.mc_outside.specs.Bytes.{Told, AddsPart, HasCause};
 ghost use Rattle.mc_outside.specs.LinkView.{LinkView, IsLink, LinkGoes, Failed, next_taken, none_left, heard, told, finished};
 
@@ -43,14 +43,13 @@ pub trait Link {
 
     /// Receives the next bytes of the standing link, at most as many as `buf` has room for, and
     /// answers how many. 0 for a `buf` that isn't empty says that the link was read to its end;
-    /// from then on each answer is 0. At an `Err` no byte was received, and what `buf` holds is
-    /// unspecified.
+    /// from then on each answer is 0. At an `Err` no byte was received. Behind the bytes received, and
+    /// at an `Err`, what `buf` holds is unspecified.
     fn recv(&mut self, buf: &mut [u8]) -> Result<usize, LinkFault>
         requires { IsTrue (link self.old).stands }
         ensures moved { link_moved self.old self.new }
         ensures cause { HasCause (link self.old).faults (link self.new).faults result }
         ensures room { IfOk result (λ n. n ≤ length buf.old) }
-        ensures rest { IfOk result (λ n. drop n buf.new ≡ drop n buf.old) }
         ensures heard { IfOk result (λ n. 0 < n ⊎ (length buf.old ≡ 0) → link self.new ≡ heard (take n buf.new) (link self.old)) }
         ensures end { IfOk result (λ n. n ≡ 0 → 0 < length buf.old → link self.new ≡ finished (link self.old)) }
         ensures stays_at_end { IfOk result (λ n. IsTrue (link self.old).at_end → n ≡ 0) }
