@@ -1,0 +1,9 @@
+ghost use Rattle.std.specs.Prelude.{◌≢◌, IsTrue};
+ghost use Rattle.mc_records.specs.declared.refusal.Refusal.{Refusal};
+ghost use Rattle.mc_records.specs.Refusals.{status_of};
+ghost use Rattle.millicent_http.specs.ReplyHeads.{is_status};
+
+/// The status of a refusal of a site is one of the twelve, and is not 200.
+pub fn a_refusal_has_a_status()
+    ensures { (f : Refusal) → status_of f ≢ 0 → IsTrue (is_status (status_of f)) × (status_of f ≢ 200) }
+{}
