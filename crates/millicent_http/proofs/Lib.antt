@@ -1,2 +1,10 @@
 pub mod Appends
 pub mod StatusLemmas
+pub mod EndLemmas
+pub mod ItemLemmas
+pub mod BufferLemmas
+pub mod AwaitLemmas
+pub mod TakeLemmas
+pub mod FieldLemmas
+pub mod JudgeLemmas
+pub mod ReadLemmas

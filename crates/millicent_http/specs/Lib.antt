@@ -1,1 +1,10 @@
+pub mod HeadEnds
+pub mod Fields
+pub mod Items
+pub mod Held
+pub mod HeadRefusals
+pub mod Takes
+pub mod Awaits
+pub mod Reads
+pub mod Occurs
 pub mod ReplyHeads

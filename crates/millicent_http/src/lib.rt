@@ -1,17 +1,24 @@
-//! HTTP on a link: the heads of requests, and the heads of replies.
+//! HTTP on a link: the heads of requests as they come in pieces, and the heads of replies.
 #![tactic(auto)]
 
-mod head;
+mod fields;
+mod item;
 mod law;
+mod reader;
 mod reply;
+mod reply_head;
+mod reply_text;
+mod request;
+mod scan;
 mod send;
-mod text;
 
-pub use head::write_reply_head;
-pub use law::a_refusal_has_a_status;
+pub use item::{After, HeadOut, HeadRefusal};
+pub use law::{a_refusal_has_a_status, one_reading};
+pub use reader::HeadReader;
 pub use reply::ReplyHead;
+pub use reply_head::write_reply_head;
+pub use reply_text::write_reply_text;
 pub use send::send_all;
-pub use text::write_reply_text;
 
 #[cfg(test)]
 mod tests;

@@ -1,4 +1,0 @@
-use Rattle.millicent_http.proofs.head.put_change.Goals as goal
-
-pub returns-clause-put : goal.returns-clause-put
-returns-clause-put c = rw (← c.or_dash.ensures) c.put_field.ensures.put

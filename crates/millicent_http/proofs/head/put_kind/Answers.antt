@@ -1,4 +1,0 @@
-use Rattle.millicent_http.proofs.head.put_kind.Goals as goal
-
-pub returns-in-Some-clause-put : goal.returns-in-Some-clause-put
-returns-in-Some-clause-put c = rw (c.in-Some.is, ← c.media_type.ensures.text) c.put_field.ensures.put

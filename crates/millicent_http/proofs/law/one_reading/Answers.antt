@@ -1,0 +1,5 @@
+use Rattle.millicent_http.proofs.ItemLemmas.{items_unique}
+use Rattle.millicent_http.proofs.law.one_reading.Goals as goal
+
+pub returns : goal.returns
+returns c bytes xs ys p q = items_unique 1000 bytes xs ys p q
