@@ -8,3 +8,4 @@ pub mod Awaits
 pub mod Reads
 pub mod Occurs
 pub mod ReplyHeads
+pub mod Untold
