@@ -9,6 +9,8 @@ mod limits;
 mod refusal;
 mod refusal_text;
 mod request;
+#[cfg(test)]
+mod tests;
 
 pub use date_law::date_of_its_second;
 pub use limits::Limits;

@@ -14,7 +14,7 @@ use std::alloc::Global;
 const MOST_LINK: usize = 8_192_000;
 
 /// The most bytes of one piece that is received.
-const MOST_PIECE: usize = 65536;
+const MOST_PIECE: usize = 16384;
 
 /// Why serving a link stopped before its end.
 #[derive(Clone, Copy, Debug, PartialEq, Eq)]
