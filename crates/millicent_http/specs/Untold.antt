@@ -1,5 +1,5 @@
 -- A link that tells nothing but its state, as the tests have one.
-use Rattle.std.specs.Prelude.{◌≡◌, ℕ, ◌^◌, ◌<◌, ◌≤◌, Bool, true, false, None, IsTrue, if◌then◌else◌, refl}
+use Rattle.std.specs.Prelude.{◌^◌, ◌<◌, ◌≤◌, Bool, true, false, None, IsTrue, if◌then◌else◌, refl}
 use Rattle.std.proofs.Common.{arith}
 use Rattle.mc_outside.specs.LinkView.{LinkView, IsLink, LinkGoes}
 

@@ -1,43 +1,14 @@
-ghost use Rattle.std.specs.Prelude.{◌≡◌, ◌≤◌, ◌++◌, ◌∷◌, [], List, ℕ, length, map, All, IfSome, IfNone, true};
-ghost use Rattle.httparse.specs.Spans.{IsHeaderWithin, header_bytes};
-ghost use Rattle.millicent_http.specs.Fields.{same_name, values, at_most_one, first_of};
-ghost use Rattle.mc_records.specs.Requests.{seen};
+ghost use Rattle.std.specs.Prelude.{◌≡◌, ◌≤◌, ◌==◌, List, ℕ, length, map, codes, slice_range, All};
+ghost use Rattle.std.specs.List.{list_any, list_all, slice_split};
+ghost use Rattle.httparse.specs.Grammar.{trim_ows, is_ows};
+ghost use Rattle.httparse.specs.Spans.{IsWithin, IsHeaderWithin, header_bytes, span_bytes};
+ghost use Rattle.millicent_http.specs.Fields.{same_name, values, host_is_fit, is_host_byte, is_host, is_target, says_body, says_close, has_close};
 ghost use Rattle.millicent_http.specs.Occurs.{Occurred};
 
+use crate::occurs::Occurs;
 use httparse::spans::{HeaderSpan, Span};
-
-/// How often a field occurs, with its value.
-#[derive(Drop)]
-pub(crate) enum Occurs<'b> {
-    Never,
-    Once(&'b [u8]),
-    Again,
-}
-
-impl<'b> Occurs<'b> {
-    /// The value, if there is one. None where there are more.
-    pub(crate) fn at_most_one(self) -> Option<Option<&'b [u8]>>
-        ensures some { IfSome result (λ v. (values : List (List ℕ)) → Occurred values self.entry
-            → (at_most_one values ≡ true) × (seen v ≡ first_of values)) }
-        ensures none { IfNone result ((values : List (List ℕ)) → Occurred values self.entry → at_most_one values ≡ false) }
-    {
-        match self {
-            Occurs::Never => Some(None),
-            Occurs::Once(value) => Some(Some(value)),
-            Occurs::Again => None,
-        }
-    }
-
-    /// One more value.
-    fn and(self, value: &'b [u8]) -> Occurs<'b>
-        ensures { (values : List (List ℕ)) → Occurred values self.entry → Occurred (values ++ value.now ∷ []) result }
-    {
-        match self {
-            Occurs::Never => Occurs::Once(value),
-            Occurs::Once(_) | Occurs::Again => Occurs::Again,
-        }
-    }
-}
+use mc_fields::is_text;
+use scrip_form::TargetRule;
 
 /// Whether these Host fields are right for a head of this version.
 pub(crate) fn host_is_fit(minor: u8, hosts: Occurs<'_>) -> bool
@@ -71,10 +42,6 @@ pub(crate) fn find_field<'b>(text: &'b [u8], fields: &[HeaderSpan], name: &[u8])
     found
 }
 
-ghost use Rattle.std.specs.Prelude.{codes, false, ◌==◌, ◌&&◌, nat_le};
-ghost use Rattle.std.specs.List.{list_any, list_all};
-ghost use Rattle.millicent_http.specs.Fields.{is_host_byte, is_host, is_target, says_body, says_close, has_close, host_is_fit};
-
 /// Whether this is a byte of a Host value.
 #[tactic(auto, unfolding(crate::specs::Fields::is_host_byte))]
 fn is_host_byte(b: u8) -> bool
@@ -96,12 +63,6 @@ fn all_host_bytes(value: &[u8]) -> bool
     value.iter().all(|b| is_host_byte(*b))
 }
 
-fn all_visible(bytes: &[u8]) -> bool
-    ensures { result ≡ list_all (λ b. nat_le 33 b && nat_le b 126) bytes.now }
-{
-    bytes.iter().all(|b| 33 <= *b && *b <= 126)
-}
-
 /// Whether this is a value of a Host field.
 #[tactic(auto, unfolding(crate::specs::Fields::is_host))]
 pub(crate) fn is_host(value: &[u8]) -> bool
@@ -111,11 +72,10 @@ pub(crate) fn is_host(value: &[u8]) -> bool
 }
 
 /// Whether this is a target.
-#[tactic(auto, unfolding(crate::specs::Fields::is_target))]
 pub(crate) fn is_target(bytes: &[u8]) -> bool
     ensures { result ≡ is_target bytes.now }
 {
-    bytes.len() <= 512 && bytes.starts_with(b"/") && all_visible(bytes)
+    is_text::<TargetRule>(bytes)
 }
 
 /// Whether this field says that a body follows.
@@ -141,11 +101,6 @@ pub(crate) fn any_body(text: &[u8], fields: &[HeaderSpan]) -> bool
     }
     false
 }
-
-ghost use Rattle.std.specs.Prelude.{slice_range};
-ghost use Rattle.httparse.specs.Grammar.{trim_ows, is_ows};
-ghost use Rattle.httparse.specs.Spans.{IsWithin, span_bytes};
-ghost use Rattle.std.specs.List.{slice_split};
 
 fn is_ows(b: u8) -> bool
     ensures { result ≡ is_ows b }

@@ -1,7 +1,9 @@
-ghost use Rattle.std.specs.Prelude.{◌≡◌, ◌≢◌, ℕ, List, IsTrue};
+ghost use Rattle.std.specs.Prelude.{◌≡◌, ◌≢◌, ℕ, Bool, List, IsTrue};
 ghost use Rattle.mc_records.specs.declared.refusal.Refusal.{Refusal};
 ghost use Rattle.mc_records.specs.Refusals.{status_of};
-ghost use Rattle.millicent_http.specs.Items.{Item, Heads};
+ghost use Rattle.mc_records.specs.Requests.{Asked};
+ghost use Rattle.scrip_form.specs.Texts.{IsTarget};
+ghost use Rattle.millicent_http.specs.Items.{Item, Heads, NextItem, request};
 ghost use Rattle.millicent_http.specs.ReplyHeads.{is_status};
 
 /// The status of a refusal of a site is one of the twelve, and is not 200.
@@ -12,4 +14,9 @@ pub fn a_refusal_has_a_status()
 /// The bytes of a link have one list of items.
 pub fn one_reading()
     ensures { (bytes : List ℕ) (xs ys : List Item) → Heads bytes xs → Heads bytes ys → xs ≡ ys }
+{}
+
+/// A request on a link asks a target.
+pub fn a_request_asks_a_target()
+    ensures { (bytes rest : List ℕ) (q : Asked) (closing : Bool) → NextItem bytes (request q closing) rest → IsTarget q.target }
 {}

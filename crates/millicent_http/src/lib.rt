@@ -4,6 +4,7 @@
 mod fields;
 mod item;
 mod law;
+mod occurs;
 mod reader;
 mod reply;
 mod reply_head;
@@ -13,7 +14,7 @@ mod scan;
 mod send;
 
 pub use item::{After, HeadOut, HeadRefusal};
-pub use law::{a_refusal_has_a_status, one_reading};
+pub use law::{a_refusal_has_a_status, a_request_asks_a_target, one_reading};
 pub use reader::HeadReader;
 pub use reply::ReplyHead;
 pub use reply_head::write_reply_head;

@@ -8,8 +8,9 @@ ghost use Rattle.mc_records.specs.declared.refusal.Refusal.TheVariants.{Repeated
 ghost use Rattle.millicent_http.specs.Items.{ReadsItem, judged, request, refused};
 ghost use Rattle.millicent_http.specs.Takes.{item_of};
 
-use crate::fields::{Occurs, any_body, any_close, find_field, host_is_fit, is_target};
+use crate::fields::{any_body, any_close, find_field, host_is_fit, is_target};
 use crate::item::{HeadRefusal, ItemRef};
+use crate::occurs::Occurs;
 use httparse::Status;
 use httparse::spans::{EMPTY_HEADER_SPAN, HeaderSpan, RequestSpans, parse_request};
 use mc_records::Request;
