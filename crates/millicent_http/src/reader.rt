@@ -78,7 +78,7 @@ impl HeadReader {
         })
     }
 
-    /// Forgets what is held, for a new link. What follows a head that closes its link is no head.
+    /// Forgets the bytes held and the count of items, for a new link.
     pub fn restart(&mut self)
         ensures { self.new ≡ nothing_held }
     {
@@ -91,8 +91,9 @@ impl HeadReader {
 
     /// The next item of the standing link. What is lent lies in the buffer, up to the next call.
     ///
-    /// Receives only while the bytes held end no item. The answer is `End` where the link is read to
-    /// its end, and `Fault` where a call of the link failed; then the bytes held stay.
+    /// Receives only while the bytes held end no item, and at most 8,192 bytes. `After::Close` comes
+    /// with the item that closes the link, and from the 1,000th on. The answer is `End` where the link
+    /// is read to its end, and `Fault` where a call of the link failed; then the bytes held stay.
     pub fn take<K: Link>(&mut self, k: &mut K) -> HeadOut<'_>
         requires { IsTrue (K.link k.old).stands }
         ensures moved { K.link_moved k.old k.new }
