@@ -1,4 +1,5 @@
 ghost use Rattle.std.specs.Prelude.{◌≡◌, ◌⊎◌, ◌↔◌, map, string_bytes, codes};
+ghost use Rattle.mc_outside.specs.Bytes.{Rose};
 ghost use Rattle.mc_top.specs.Statuses.{number_of, line_of};
 ghost use Rattle.mc_top.specs.Words.{Shop, AreWordsOf, AreBadWords};
 ghost use Rattle.mc_top.specs.Course.{IsServed, IsBroken, IsStarved, IsSaid, ThenSaid};
@@ -23,6 +24,7 @@ pub fn once_link<K: Link>(alloc: Global, words: &[String], k: &mut K) -> u8
     ensures served { result ≡ 0 → (shop : Shop) × AreWordsOf (map string_bytes words.now) shop × IsServed shop (K.link k.old) (K.link k.new) }
     ensures bad_words { result ≡ 2 → IsSaid (codes "bad words\n") (K.link k.old) (K.link k.new) }
     ensures starved { result ≡ 5 → ThenSaid (codes "no memory\n") (IsStarved (K.link k.old)) (K.link k.new) }
+    ensures cause { result ≡ 6 → Rose (K.link k.old).faults (K.link k.new).faults }
     ensures broken { result ≡ 6 → (shop : Shop) × AreWordsOf (map string_bytes words.now) shop
         × ThenSaid (codes "link fault\n") (IsBroken shop (K.link k.old)) (K.link k.new) }
 {
