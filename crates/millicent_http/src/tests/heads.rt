@@ -119,7 +119,7 @@ fn heads_are_refused(rt: HostRuntime) -> Result<(), Fail> {
             After::GoOn,
         ),
     ] {
-        for first in 1..=64 {
+        for first in 1..=bytes.len() {
             for equal in [true, false] {
                 reader.restart();
                 let mut link = cut(bytes, first, equal);
@@ -159,7 +159,7 @@ fn heads_ask(rt: HostRuntime) -> Result<(), Fail> {
         ),
         (b"GET /a HTTP/1.0\r\n\r\n", After::Close),
     ] {
-        for first in 1..=64 {
+        for first in 1..=bytes.len() {
             for equal in [true, false] {
                 reader.restart();
                 let mut link = cut(bytes, first, equal);
