@@ -122,7 +122,7 @@ digits_are_lower (b ∷ bytes) all =
     let high : is_lower_digit (slice_index lower_digits (b / 16)) ≡ true = glyph_is_lower (b / 16) (omega (arith, all.0)) in
     let low : is_lower_digit (slice_index lower_digits (b % 16)) ≡ true = glyph_is_lower (b % 16) (omega arith) in
     All-cons (λ c. is_lower_digit c ≡ true) (slice_index lower_digits (b / 16)) (slice_index lower_digits (b % 16) ∷ encode_lower bytes) high
-        (All-cons (λ c. is_lower_digit c ≡ true) (slice_index lower_digits (b % 16)) (encode_lower bytes) low (digits_are_lower bytes all.1))
+    (All-cons (λ c. is_lower_digit c ≡ true) (slice_index lower_digits (b % 16)) (encode_lower bytes) low (digits_are_lower bytes all.1))
 
 pub encode_lower_is_lower : (n : ℕ) (bytes : List ℕ) → length bytes ≡ n → AllByRecursion (λ b. b < 256) bytes → IsLowerHex (2 * n) (encode_lower bytes)
 encode_lower_is_lower n bytes len all = record { len = omega (arith, length-encode_with lower_digits bytes, len); digits = digits_are_lower bytes all }
