@@ -5,5 +5,4 @@ pub mod Tale
 pub mod Script
 pub mod Tape
 pub mod Stage
-pub mod Silent
 pub mod Stores

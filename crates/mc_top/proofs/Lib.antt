@@ -1,6 +1,6 @@
-pub mod ItemLemmas
 pub mod HistoryLemmas
-pub mod SessionLemmas
-pub mod CourseLemmas
-pub mod HeadLaws
 pub mod WordLaws
+pub mod SendLemmas
+pub mod TurnLemmas
+pub mod ServingLemmas
+pub mod ReplyingLemmas

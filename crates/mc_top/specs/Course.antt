@@ -1,35 +1,65 @@
 -- How serving one link goes, as what becomes of the links.
-use Rattle.std.specs.Prelude.{◌≡◌, ◌⊎◌, ℕ, ◌<◌, List, ◌++◌, length, take, option_map, false}
+use Rattle.std.specs.Prelude.{◌≡◌, ◌⊎◌, ℕ, ◌<◌, true, false, List, [], ◌∷◌, ◌++◌, length, take, option_map}
 use Rattle.mc_outside.specs.Bytes.{Rose, Told, AddsPart}
 use Rattle.mc_outside.specs.LinkView.{LinkView, next_taken, none_left, heard, told, finished, Failed}
+use Rattle.millicent_http.specs.Items.{Item, closes, Heads}
+use Rattle.millicent_http.specs.Reads.{HaveRead, NoneCloses}
 use Rattle.mc_top.specs.Words.{Shop}
-use Rattle.mc_top.specs.Session.{session}
+use Rattle.mc_top.specs.Session.{step, opened, replies, state_after}
 
--- these bytes were received on the standing link, which was read to its end or held no fewer than
--- 8,192,000 bytes
-abbrev pub ReadWhole : List ℕ → LinkView → LinkView → Type 0
-ReadWhole got before after =
-    ((after ≡ finished (heard got before)) × (length got < 8192000))
-    ⊎ ((after ≡ heard got before) × (length got ≡ 8192000))
+-- the last of these items closes the link, or is the 1,000th
+abbrev pub EndLink : List Item → Type 0
+EndLink items = (length items ≡ 1000) ⊎ ((front : List Item) × (last : Item) × (items ≡ front ++ last ∷ []) × (closes last ≡ true))
 
--- no link came, or one was read whole and got its session
-abbrev pub IsServed : Shop → LinkView → LinkView → Type 0
-IsServed shop before after =
-    (after ≡ none_left before)
-    ⊎ ((got : List ℕ) × (v : LinkView) × ReadWhole got (next_taken before) v × (after ≡ told (session shop got) v))
+-- these are the first items on a link with these bytes, and one more
+pub record AreFirst (got : List ℕ) (front : List Item) (last : Item) : Type 0 where
+  pub held : List ℕ
+  pub read : HaveRead got (front ++ last ∷ []) held
+  pub open' : NoneCloses front
+  pub few : length front < 1000
 
--- `next_link` failed, or a `recv` did, or a `send` before the whole session was sent
-abbrev pub IsBroken : Shop → LinkView → LinkView → Type 0
-IsBroken shop before after =
-    ((after ≡ record before { stands = false; faults = after.faults }) × Rose before.faults after.faults)
-    ⊎ (((got : List ℕ) × Failed (heard got (next_taken before)) after)
-    ⊎ ((got : List ℕ) × (v : LinkView) × ReadWhole got (next_taken before) v
-    × (n : ℕ) × (n < length (session shop got)) × Failed (told (take n (session shop got)) v) after))
+-- the reply to an item after these
+abbrev pub reply_after : Shop → List Item → Item → List ℕ
+reply_after shop front last = (step shop (state_after shop opened front) 0 last).reply
 
--- memory was refused before anything was sent
-abbrev pub IsStarved : LinkView → LinkView → Type 0
-IsStarved before after =
-    (got : List ℕ) × ((after ≡ heard got (next_taken before)) ⊎ (after ≡ finished (heard got (next_taken before))))
+-- Every item of what was received was answered, and the link was read to its end, or to an item that
+-- ends it.
+pub record IsServed (shop : Shop) (before after : LinkView) : Type 0 where
+  pub got : List ℕ
+  pub items : List Item
+  pub heads : Heads got items
+  pub read : LinkView
+  pub to_end : (read ≡ finished (heard got before)) ⊎ ((read ≡ heard got before) × EndLink items)
+  pub sent : after ≡ told (replies shop opened items) read
+
+-- A `recv` failed when every item of what was received was answered.
+pub record BrokeReceiving (shop : Shop) (before after : LinkView) : Type 0 where
+  pub got : List ℕ
+  pub items : List Item
+  pub heads : Heads got items
+  pub fault : Failed (told (replies shop opened items) (heard got before)) after
+
+-- A `send` failed: the replies to the first items were sent whole, and of the last one's a proper first
+-- part.
+pub record BrokeSending (shop : Shop) (before after : LinkView) : Type 0 where
+  pub got : List ℕ
+  pub front : List Item
+  pub last : Item
+  pub first : AreFirst got front last
+  pub n : ℕ
+  pub part : n < length (reply_after shop front last)
+  pub fault : Failed (told (replies shop opened front ++ take n (reply_after shop front last)) (heard got before)) after
+
+-- What becomes of a link that was taken: it is served whole, or up to a fault of one of its calls, and
+-- then ended.
+pub record HadLink (shop : Shop) (before after : LinkView) : Type 0 where
+  pub served : LinkView
+  pub course : IsServed shop before served ⊎ (BrokeReceiving shop before served ⊎ BrokeSending shop before served)
+  pub ended : after ≡ record served { stands = false }
+
+-- no link came, or one was taken
+abbrev pub IsDone : Shop → LinkView → LinkView → Type 0
+IsDone shop before after = (after ≡ none_left before) ⊎ HadLink shop (next_taken before) after
 
 -- a line was said, or saying it failed
 pub record SaidInPart (line : List ℕ) (before after : LinkView) : Type 0 where
@@ -40,6 +70,11 @@ pub record SaidInPart (line : List ℕ) (before after : LinkView) : Type 0 where
 abbrev pub IsSaid : List ℕ → LinkView → LinkView → Type 0
 IsSaid line before after = (after ≡ record before { said = option_map (λ s. s ++ line) before.said }) ⊎ SaidInPart line before after
 
--- what the link became, and then a line was said
-abbrev pub ThenSaid : List ℕ → (LinkView → Type 0) → LinkView → Type 0
-ThenSaid line Became after = (v : LinkView) × Became v × IsSaid line v after
+-- `next_link` failed
+pub record NoLink (before after : LinkView) : Type 0 where
+  pub same : after ≡ record before { stands = false; faults = after.faults }
+  pub rose : Rose before.faults after.faults
+
+-- and then a line was said
+abbrev pub IsBroken : List ℕ → LinkView → LinkView → Type 0
+IsBroken line before after = (failed : LinkView) × NoLink before failed × IsSaid line failed after

@@ -1,14 +1,13 @@
 pub mod Words
 pub mod Seven
 pub mod Opened
-pub mod Items
-pub mod Heads
-pub mod PlainTold
+pub mod Lines
 pub mod Ledger
 pub mod Entries
+pub mod Told
 pub mod Replies
 pub mod Session
-pub mod Closing
 pub mod Statuses
 pub mod Course
+pub mod Turns
 pub mod Stops

@@ -1,54 +1,47 @@
 -- What one item does, and the replies to a link.
-use Rattle.std.specs.Prelude.{ℕ, Bool, true, false, if◌then◌else◌, List, [], ◌∷◌, ◌++◌, Option, Some, None, Result, Ok, Err}
-use Rattle.scrip_form.specs.Scrip.{Scrip}
-use Rattle.scrip_form.specs.Reading.{scrip_of}
-use Rattle.mc_records.specs.declared.refusal.Refusal.TheVariants.{BadHead, BadScrip, Spent}
+use Rattle.std.specs.Prelude.{◌≡◌, ℕ, max, List, [], ◌∷◌, ◌++◌, Result, Ok, Err}
+use Rattle.mc_records.specs.Requests.{Asked}
+use Rattle.millicent_http.specs.Items.{Item, request, refused, Heads}
 use Rattle.mc_top.specs.Words.{Shop}
-use Rattle.mc_top.specs.Items.{items}
-use Rattle.mc_top.specs.Heads.{plain_value}
-use Rattle.mc_top.specs.Ledger.{Accepted, Answer, refused, again, taken, answer}
+use Rattle.mc_top.specs.Ledger.{Accepted, State, Stop, refuse, deny, repeat, lines}
 use Rattle.mc_top.specs.Replies.{first_reply, refusal_reply, signed_refusal_reply}
 
--- the reply to an item, the history after it, and whether the link ends
+-- the reply to an item, and what the shop knows after it
 pub record Step : Type 0 where
   pub reply : List ℕ
-  pub history : List Accepted
-  pub closes : Bool
+  pub state : State
 
--- the reply to an answer: refusals that come after the certificate was found right are signed
-abbrev pub reply_of : Shop → List ℕ → Scrip → Answer → List ℕ
-reply_of shop text p (refused Spent) = signed_refusal_reply shop text p Spent
-reply_of shop text p (refused f) = refusal_reply f
-reply_of shop text p (again e) = first_reply shop text p e.change
-reply_of shop text p (taken e) = first_reply shop text p e.change
+abbrev pub raised : State → ℕ → State
+raised s reading = record s { time = max s.time reading }
 
-abbrev pub history_after : List Accepted → Answer → List Accepted
-history_after history (refused f) = history
-history_after history (again e) = history
-history_after history (taken e) = history ++ e ∷ []
+-- a new entry is kept, and nothing else changes the history
+abbrev pub answered : Shop → State → Asked → Result Accepted Stop → Step
+answered shop s q (Ok e) = record { reply = first_reply shop e; state = record s { history = s.history ++ e ∷ [] } }
+answered shop s q (Err (repeat e)) = record { reply = first_reply shop e; state = s }
+answered shop s q (Err (refuse f)) = record { reply = refusal_reply shop s.time q.target f; state = s }
+answered shop s q (Err (deny text p f)) = record { reply = signed_refusal_reply shop s.time q.target text p f; state = s }
 
-abbrev pub answered : Shop → List Accepted → List ℕ → Scrip → Answer → Step
-answered shop history text p a = record { reply = reply_of shop text p a; history = history_after history a; closes = false }
+abbrev pub answered_at : Shop → State → Item → Step
+answered_at shop s (request q closes) = answered shop s q (lines shop s q)
+answered_at shop s (refused f closes) = record { reply = refusal_reply shop s.time [] f; state = s }
 
--- a plain head with this value
-abbrev pub value_step : Shop → List Accepted → List ℕ → Result (Scrip × List ℕ) ℕ → Step
-value_step shop history value (Err place) = record { reply = refusal_reply (BadScrip place); history = history; closes = false }
-value_step shop history value (Ok x) = answered shop history value x.0 (answer shop history value x.0 x.1)
+-- an item at a reading of the clock, to which the house time is raised
+unfoldable pub step : Shop → State → ℕ → Item → Step
+step shop s reading item = answered_at shop (raised s reading) item
 
-abbrev pub step_by : Shop → List Accepted → Option (List ℕ) → Step
-step_by shop history None = record { reply = refusal_reply BadHead; history = history; closes = true }
-step_by shop history (Some value) = value_step shop history value (scrip_of value)
+-- a shop that just opened
+abbrev pub opened : State
+opened = record { history = []; time = 0 }
 
-unfoldable pub step : Shop → List Accepted → List ℕ → Step
-step shop history item = step_by shop history (plain_value shop item)
+-- the replies to some items, joined, and what the shop knows after them; each reading is 0
+unfoldable pub replies : Shop → State → List Item → List ℕ
+replies shop s [] = []
+replies shop s (item ∷ items) = (step shop s 0 item).reply ++ replies shop (step shop s 0 item).state items
 
--- the replies to some items, joined, up to one that ends the link
-unfoldable pub replies_to : Shop → List Accepted → List (List ℕ) → List ℕ
-replies_to shop history [] = []
-replies_to shop history (item ∷ others) =
-    (step shop history item).reply
-    ++ (if (step shop history item).closes then [] else replies_to shop (step shop history item).history others)
+unfoldable pub state_after : Shop → State → List Item → State
+state_after shop s [] = s
+state_after shop s (item ∷ items) = state_after shop (step shop s 0 item).state items
 
--- the replies to a link, from no history on: to its first 1,000 items, up to one that ends it
-abbrev pub session : Shop → List ℕ → List ℕ
-session shop link = replies_to shop [] (items 1000 link)
+-- these are the replies to the items of a link with these bytes, from an empty history on
+abbrev pub IsSession : Shop → List ℕ → List ℕ → Type 0
+IsSession shop link bytes = (items : List Item) × Heads link items × (bytes ≡ replies shop opened items)

@@ -1,32 +1,71 @@
-ghost use Rattle.std.specs.Prelude.{◌≡◌, ◌++◌, ◌<◌, ◌+◌, ◌==◌, [], ◌∷◌, ◌^◌, length, find, count_by, is_some, option_map, OnOk, OnErr};
+ghost use Rattle.std.specs.Prelude.{◌≡◌, ◌++◌, ◌<◌, ◌==◌, ◌^◌, [], ◌∷◌, length, find, count_by, option_map, IfOk, IfSome};
 ghost use Rattle.std.specs.List.{list_any};
 ghost use Rattle.std.specs.Option.{option_copied};
-ghost use Rattle.std.specs.Str.{bytes_eq};
-ghost use Rattle.mc_top.specs.Ledger.{is_spent, next_identity};
+ghost use Rattle.mc_records.specs.Requests.{seen};
+ghost use Rattle.mc_top.specs.Ledger as ledger;
+ghost use Rattle.mc_top.specs.Ledger.{same_option, is_repeat, is_spent};
 ghost use Rattle.mc_top.specs.Entries.{accepted_of};
 
-use mc_base::NoMemory;
-use scrip_form::Id;
+use mc_base::{Moment, NoMemory};
+use scrip_form::{Id, ScripText};
 use std::alloc::Global;
 use std::marker::Model;
 
-/// An entry for a piece that was accepted. It borrows its text from the link.
+/// The most entries, one for each item of a link.
+const MOST_ENTRIES: usize = 1000;
+
+/// An entry for a piece that was accepted: the moment, the scrip text and the signature of its request,
+/// and the identities of the piece and of its change.
 #[derive(Clone, Copy)]
-pub(crate) struct Entry<'a> {
-    pub(crate) scrip: &'a [u8],
+pub(crate) struct Entry {
+    pub(crate) moment: Moment,
+    pub(crate) scrip: ScripText,
+    pub(crate) sign: Option<[u8; 32]>,
     pub(crate) id: Id,
     pub(crate) change: Option<Id>,
 }
 
-/// What was accepted so far, in order, and how many pieces of change were given.
-#[derive(Drop)]
-pub(crate) struct History<'a> {
-    entries: Vec<Entry<'a>>,
-    changes: u32,
+impl Entry {
+    /// Whether this is the entry of such a request, and its keeping time has not ended.
+    fn is_repeat(&self, keep: u64, time: Moment, scrip: &[u8], sign: Option<&[u8]>) -> bool
+        requires { keep < 2 ^ 32 }
+        ensures { result ≡ is_repeat keep time scrip.now (seen sign.entry) (accepted_of self.now) }
+    {
+        self.scrip.bytes() == scrip
+            && same_sign(&self.sign, sign)
+            && time.seconds() < self.moment.seconds() + keep
+    }
+
+    /// Whether its change is of this series.
+    fn gave(&self, series: u32) -> bool
+        ensures { result ≡ ledger.is_of_series series (accepted_of self.now).change }
+    {
+        match self.change {
+            Some(id) => id.series() == series,
+            None => false,
+        }
+    }
 }
 
-impl<'a> Model for History<'a> {
-    ghost use Rattle.std.specs.Prelude.{◌≡◌, ◌≤◌, List as Items, map, count_by, is_some};
+/// Whether two signatures are one, or both are missing.
+fn same_sign(kept: &Option<[u8; 32]>, sign: Option<&[u8]>) -> bool
+    ensures { result ≡ same_option kept.now (seen sign.entry) }
+{
+    match (kept, sign) {
+        (None, None) => true,
+        (Some(kept), Some(sign)) => kept.as_slice() == sign,
+        _ => false,
+    }
+}
+
+/// What was accepted so far, in order, with room for as many entries as a link has items.
+#[derive(Drop)]
+pub(crate) struct History {
+    entries: Vec<Entry>,
+}
+
+impl Model for History {
+    ghost use Rattle.std.specs.Prelude.{◌≤◌, List as Items, map, vec_capacity};
     ghost use Rattle.mc_top.specs.Ledger.{Accepted};
     ghost use Rattle.mc_top.specs.Entries.{accepted_of};
 
@@ -34,24 +73,32 @@ impl<'a> Model for History<'a> {
 
     ghost view = { λ h. map accepted_of h.entries.items };
 
-    ghost invariant = { λ h. h.changes ≡ count_by (λ e. is_some e.change) (map accepted_of h.entries.items) };
+    ghost invariant = { λ h. 1000 ≤ vec_capacity h.entries };
 }
 
-impl<'a> History<'a> {
-    pub(crate) fn new(alloc: Global) -> History<'a>
-        ensures { result ≡ [] }
+impl History {
+    /// An empty history. No later call takes memory.
+    pub(crate) fn new(alloc: Global) -> Result<History, NoMemory>
+        ensures { IfOk result (λ h. h ≡ []) }
     {
-        History {
-            entries: Vec::new(alloc),
-            changes: 0,
-        }
+        Ok(History {
+            entries: Vec::with_capacity(alloc, MOST_ENTRIES)?,
+        })
     }
 
-    /// The entry with this scrip text.
-    pub(crate) fn of_text(&self, scrip: &[u8]) -> Option<&Entry<'a>>
-        ensures { option_map accepted_of (option_copied result) ≡ find (λ e. bytes_eq e.scrip scrip.now) self.now }
+    /// The entry of such a request whose keeping time has not ended.
+    pub(crate) fn repeated(
+        &self,
+        keep: u64,
+        time: Moment,
+        scrip: &[u8],
+        sign: Option<&[u8]>,
+    ) -> Option<&Entry>
+        requires { keep < 2 ^ 32 }
+        ensures found { option_map accepted_of (option_copied result) ≡ find (is_repeat keep time scrip.now (seen sign.entry)) self.now }
+        ensures text { IfSome result (λ e. (accepted_of e.now).scrip ≡ scrip.now) }
     {
-        entry_of_text(&self.entries, scrip)
+        entry_of(&self.entries, keep, time, scrip, sign)
     }
 
     /// Whether the identity was accepted.
@@ -61,41 +108,52 @@ impl<'a> History<'a> {
         has_id(&self.entries, id)
     }
 
-    /// The identity of the next piece of change.
-    pub(crate) fn next_id(&self) -> Id
-        ensures { result ≡ next_identity self.now }
+    /// How many pieces of a series were given as change.
+    pub(crate) fn issued(&self, series: u32) -> usize
+        ensures { result ≡ ledger.issued self.now series }
     {
-        Id::of_parts(0, 0, self.changes).unwrap()
+        count_of(&self.entries, series)
     }
 
-    /// Adds an entry; an `Err` leaves the history as it was.
-    pub(crate) fn add(
-        &mut self,
-        scrip: &'a [u8],
-        id: Id,
-        change: Option<Id>,
-    ) -> Result<(), NoMemory>
-        requires { length self.old + 1 < 2 ^ 32 }
-        ensures ok { OnOk result (self.new ≡ self.old ++ (record { scrip = scrip.entry.now; id = id; change = change }) ∷ []) }
-        ensures err { OnErr result (self.new ≡ self.old) }
+    /// Adds an entry.
+    pub(crate) fn add(&mut self, entry: &Entry)
+        requires { length self.old < 1000 }
+        ensures { self.new ≡ self.old ++ accepted_of entry.now ∷ [] }
     {
-        self.entries.reserve(1)?;
-        if change.is_some() {
-            self.changes += 1;
-        }
-        self.entries.push_reserved(Entry { scrip, id, change });
-        Ok(())
+        self.entries.push_reserved(Entry {
+            moment: entry.moment,
+            scrip: entry.scrip,
+            sign: entry.sign,
+            id: entry.id,
+            change: entry.change,
+        });
     }
 }
 
-fn entry_of_text<'e, 'a>(entries: &'e [Entry<'a>], scrip: &[u8]) -> Option<&'e Entry<'a>>
-    ensures { option_copied result ≡ find (λ e. bytes_eq e.scrip.now scrip.now) entries.now }
+fn entry_of<'e>(
+    entries: &'e [Entry],
+    keep: u64,
+    time: Moment,
+    scrip: &[u8],
+    sign: Option<&[u8]>,
+) -> Option<&'e Entry>
+    requires { keep < 2 ^ 32 }
+    ensures found { option_copied result ≡ find (λ e. is_repeat keep time scrip.now (seen sign.entry) (accepted_of e)) entries.now }
+    ensures text { IfSome result (λ e. (accepted_of e.now).scrip ≡ scrip.now) }
 {
-    entries.iter().find(|e| e.scrip == scrip)
+    entries
+        .iter()
+        .find(|e| e.is_repeat(keep, time, scrip, sign))
 }
 
-fn has_id(entries: &[Entry<'_>], id: Id) -> bool
+fn has_id(entries: &[Entry], id: Id) -> bool
     ensures { result ≡ list_any (λ e. e.id == id) entries.now }
 {
     entries.iter().any(|e| e.id == id)
+}
+
+fn count_of(entries: &[Entry], series: u32) -> usize
+    ensures { result ≡ count_by (λ e. ledger.is_of_series series (accepted_of e).change) entries.now }
+{
+    entries.iter().filter(|e| e.gave(series)).count()
 }

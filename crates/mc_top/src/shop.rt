@@ -1,14 +1,15 @@
-ghost use Rattle.std.specs.Prelude.{◌≡◌, ◌≤◌, ◌<◌, [], ◌∷◌, length, take};
+ghost use Rattle.std.specs.Prelude.{◌≡◌, ◌≤◌, ◌<◌, [], ◌∷◌, length, take, option_map};
 ghost use Rattle.scrip_form.specs.Identities.{issuer_of};
 ghost use Rattle.scrip_form.specs.Scrip.{IsCert};
+ghost use Rattle.scrip_certs.specs.Digests.{customer_secret};
 ghost use Rattle.mc_top.specs.Words.{terms_of};
-ghost use Rattle.mc_top.specs.Heads.{fits_shop};
 ghost use Rattle.mc_top.specs.Ledger as ledger;
-ghost use Rattle.mc_top.specs.Ledger.{change_of, change_text};
+ghost use Rattle.mc_top.specs.Ledger.{of_issuer};
+ghost use Rattle.mc_top.specs.Replies.{change_of, change_text};
 
 use mc_base::Amount;
-use scrip_certs::certificate;
-use scrip_form::{Id, Name, Piece, ScripRef, Secrets, Target, Terms, write_scrip};
+use scrip_certs::{certificate, customer_secret};
+use scrip_form::{Id, Name, Piece, Secrets, Target, Terms, write_scrip};
 use std::marker::Model;
 
 /// The period of the shop's series, in seconds.
@@ -91,44 +92,40 @@ impl Shop<'_> {
         self.contents
     }
 
-    /// The terms of an issuer of the shop, 0 or 1.
-    pub(crate) fn terms(&self, issuer: u8) -> &Terms
-        requires { issuer ≤ 1 }
-        ensures { result.now ≡ terms_of self.now issuer }
+    pub(crate) fn name(&self) -> &[u8]
+        ensures { result.now ≡ self.now.name }
     {
-        if issuer == 0 {
-            &self.own
-        } else {
-            &self.licensed
+        self.name.bytes()
+    }
+
+    /// The terms of the shop itself.
+    pub(crate) fn own_terms(&self) -> &Terms
+        ensures { result.now ≡ terms_of self.now 0 }
+    {
+        &self.own
+    }
+
+    /// The terms of an issuer; None exactly where the shop has none for it.
+    pub(crate) fn terms(&self, issuer: u8) -> Option<&Terms>
+        ensures { option_map (λ t. t.now) result ≡ of_issuer (ledger.terms self.now) issuer }
+    {
+        match issuer {
+            0 => Some(&self.own),
+            1 => Some(&self.licensed),
+            _ => None,
         }
     }
 
-    /// Whether the piece is one that the shop judges by its certificate and its identity alone.
-    pub(crate) fn fits(&self, piece: &Piece) -> bool
-        ensures { result ≡ fits_shop self.now piece.now }
+    /// The secret of a customer. All terms of the shop have one secret, so that his issuer's need no
+    /// look-up.
+    pub(crate) fn customer_secret(&self, cust: Id) -> [u8; 16]
+        ensures { result ≡ customer_secret (terms_of self.now (issuer_of cust)) cust }
     {
-        let (issuer, epoch, _) = piece.id().parts();
-        let (customer, _, _) = piece.cust().parts();
-        piece.vendor().bytes() == self.name.bytes()
-            && issuer <= 1
-            && customer <= 1
-            && self.price() <= piece.value().get()
-            && piece.expires() == self.own.series_end(epoch)
-    }
-
-    /// Whether the certificate is the one of the piece.
-    pub(crate) fn is_genuine(&self, scrip: &ScripRef<'_>) -> bool
-        requires { issuer_of scrip.now.piece.id ≤ 1 }
-        ensures { result ≡ ledger.is_genuine self.now scrip.now.piece scrip.now.cert }
-    {
-        let id = scrip.piece().id();
-        let (issuer, _, _) = id.parts();
-        let wanted = certificate(self.terms(issuer), scrip.body(), id);
-        wanted.as_slice() == scrip.cert().as_slice()
+        customer_secret(&self.own, cust)
     }
 
     /// Writes the scrip text of a piece's change to the front of the buffer, and answers its length.
-    #[tactic(auto, unfolding(crate::specs::Ledger::change_text))]
+    #[tactic(auto, unfolding(crate::specs::Replies::change_text))]
     pub(crate) fn write_change(&self, paid: &Piece, id: Id, out: &mut [u8; 512]) -> usize
         requires { self.now.price < paid.now.value }
         ensures short { result ≤ 293 }

@@ -1,14 +1,14 @@
 ghost use Rattle.std.specs.Prelude.{◌≡◌, ◌≢◌, ◌⊎◌, ◌↔◌, [], map, string_bytes};
 ghost use Rattle.mc_top.specs.Words.{Shop, AreWordsOf, AreBadWords};
-ghost use Rattle.mc_top.specs.Session.{session};
+ghost use Rattle.mc_top.specs.Session.{IsSession};
 
-use crate::session::serve;
+use crate::session::reply_to_all;
 use crate::status::Status;
 use crate::words::shop_of;
 use std::alloc::Global;
 
-/// `vendor once` over a whole link: the replies to what the link brought, at the end of an empty
-/// `reply`, and the status.
+/// `vendor once` over a whole link whose bytes are all there: the replies that [`run`](crate::run) sends,
+/// at the end of an empty `reply`, and the status.
 ///
 /// 0: the reply is the session of the link, from no history on. 2: the words, those after the
 /// program's name, are not `vendor once NAME TARGET PRICE SECRET CONTENTS`. 5: memory was refused.
@@ -17,13 +17,13 @@ pub fn once(alloc: Global, words: &[String], link: &[u8], reply: &mut Vec<u8>) -
     requires { reply.old.items ≡ [] }
     ensures statuses { (result ≡ 0) ⊎ ((result ≡ 2) ⊎ (result ≡ 5)) }
     ensures words { (result ≡ 2) ↔ AreBadWords (map string_bytes words.now) }
-    ensures served { result ≡ 0 → (shop : Shop) × AreWordsOf (map string_bytes words.now) shop × (reply.new.items ≡ session shop link.now) }
+    ensures served { result ≡ 0 → (shop : Shop) × AreWordsOf (map string_bytes words.now) shop × IsSession shop link.now reply.new.items }
     ensures nothing { result ≢ 0 → reply.new.items ≡ [] }
 {
     let Some(shop) = shop_of(words) else {
         return Status::BadWords.number();
     };
-    match serve(alloc, &shop, link, reply) {
+    match reply_to_all(alloc, &shop, link, reply) {
         Ok(()) => Status::Done.number(),
         Err(_) => {
             reply.clear();

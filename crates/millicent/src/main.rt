@@ -2,10 +2,14 @@
 //! library `mc_top`, which answers the status.
 #![tactic(auto)]
 
+ghost use Rattle.std.specs.Prelude.{◌≡◌};
+
+mod no_disk;
 mod streams;
 
 use mc_outside::Link;
-use mc_top::once_link;
+use mc_top::run;
+use no_disk::NoDisk;
 use std::alloc::{AllocError, Global};
 use std::process::ExitCode;
 use std::{env, io};
@@ -14,10 +18,11 @@ use streams::Streams;
 fn main(rt: HostRuntime) -> ExitCode {
     let alloc = rt.alloc();
     let mut streams = Streams::new(rt.stdin(), rt.stdout(), &rt);
+    let books: Vec<NoDisk> = Vec::new(alloc);
     ExitCode::from(match words(alloc, &rt) {
-        Ok(words) => once_link(alloc, &words, &mut streams),
-        Err(NoWords::Memory) => ended(&mut streams, b"no memory\n", 5),
-        Err(NoWords::Bad) => ended(&mut streams, b"bad words\n", 2),
+        Ok(words) => run(alloc, &words, streams, books).status,
+        Err(NoWords::Memory) => end(&mut streams, b"no memory\n", 5),
+        Err(NoWords::Bad) => end(&mut streams, b"bad words\n", 2),
     })
 }
 
@@ -29,6 +34,11 @@ enum NoWords {
 }
 
 impl From<AllocError> for NoWords {
+    ghost use Rattle.std.specs.Prelude.{◌≡◌};
+    ghost use Rattle.millicent.specs.declared.NoWords.TheVariants.{Memory};
+
+    ghost from_gives = { λ e no. no ≡ Memory };
+
     fn from(_: AllocError) -> NoWords {
         NoWords::Memory
     }
@@ -45,7 +55,9 @@ fn words(alloc: Global, rt: &HostRuntime) -> Result<Vec<String>, NoWords> {
 }
 
 /// Says a line, and answers the status.
-fn ended<K: Link>(k: &mut K, line: &[u8], status: u8) -> u8 {
+fn end<K: Link>(k: &mut K, line: &[u8], status: u8) -> u8
+    ensures { result ≡ status }
+{
     let _ = k.say(line);
     status
 }

@@ -1,14 +1,16 @@
-ghost use Rattle.std.specs.Prelude.{◌≡◌, ◌+◌, ◌-◌, ◌≤◌, ◌^◌, min};
+ghost use Rattle.std.specs.Prelude.{◌≡◌, false};
 
+use crate::no_disk::raise;
 use mc_base::Moment;
-use mc_outside::{Link, LinkFault};
+use mc_outside::{Disk, DiskFault, Link, LinkFault, Outside};
 use std::io::{Read, Write};
 use std::rt::Clock;
 use std::time::{SystemTime, UNIX_EPOCH};
 
-/// One link over a reader and a writer, as standard input and standard output are, with the machine's
-/// clock. What is said goes to the writer too. It tells nothing of the bytes: that the reader and the
-/// writer give and take them is trusted.
+/// The outside of a command that has no disk: one link over a reader and a writer, as standard input and
+/// standard output are, the machine's clock, and a disk whose every call fails. What is said goes to the
+/// writer too. It tells nothing of the bytes: that the reader and the writer give and take them is
+/// trusted.
 #[derive(Drop)]
 pub struct Streams<R, W, C> {
     input: R,
@@ -18,12 +20,16 @@ pub struct Streams<R, W, C> {
     stands: bool,
     at_end: bool,
     over: bool,
-    faults: u64,
+    link_faults: u64,
+    disk_faults: u64,
 }
 
 impl<R: Read, W: Write, C: Clock> Streams<R, W, C> {
     /// Links of which the first is the input, and no more come.
-    pub fn new(input: R, output: W, clock: C) -> Streams<R, W, C> {
+    pub fn new(input: R, output: W, clock: C) -> Streams<R, W, C>
+        ensures fresh { (result.taken ≡ false) × (result.stands ≡ false) × (result.over ≡ false) }
+        ensures no_faults { (result.link_faults ≡ 0) × (result.disk_faults ≡ 0) }
+    {
         Streams {
             input,
             output,
@@ -32,33 +38,67 @@ impl<R: Read, W: Write, C: Clock> Streams<R, W, C> {
             stands: false,
             at_end: false,
             over: false,
-            faults: 0,
+            link_faults: 0,
+            disk_faults: 0,
         }
     }
 }
 
-/// One more fault, up to the greatest count.
-fn raise(faults: u64) -> u64
-    ensures raised { result ≡ min (faults + 1) (2 ^ 64 - 1) }
-    ensures grows { faults ≤ result }
-{
-    faults.saturating_add(1)
+impl<R: Read, W: Write, C: Clock> Disk for Streams<R, W, C> {
+    ghost use Rattle.mc_outside.specs.Silent.{silent_disk, SilentDiskMoved, silent_is_disk, silent_disk_none, silent_disk_then, silent_disk_goes};
+
+    ghost disk = { λ s. silent_disk (record { disk_faults = s.disk_faults; link_faults = s.link_faults; stands = s.stands; at_end = s.at_end; over = s.over }) };
+
+    ghost disk_moved = { λ a b. SilentDiskMoved (record { disk_faults = a.disk_faults; link_faults = a.link_faults; stands = a.stands; at_end = a.at_end; over = a.over }) (record { disk_faults = b.disk_faults; link_faults = b.link_faults; stands = b.stands; at_end = b.at_end; over = b.over }) };
+
+    ghost is_disk = { λ s. silent_is_disk (record { disk_faults = s.disk_faults; link_faults = s.link_faults; stands = s.stands; at_end = s.at_end; over = s.over }) };
+
+    ghost disk_stays = { λ a. silent_disk_none _ };
+
+    ghost disk_goes_on = { λ a b c m n. silent_disk_then _ _ _ m n };
+
+    ghost disk_goes = { λ a b m. silent_disk_goes _ _ m };
+
+    fn size(&mut self) -> Result<u64, DiskFault> {
+        raise(&mut self.disk_faults);
+        Err(DiskFault)
+    }
+
+    fn read(&mut self, _at: u64, _buf: &mut [u8]) -> Result<usize, DiskFault> {
+        raise(&mut self.disk_faults);
+        Err(DiskFault)
+    }
+
+    fn write_at(&mut self, _at: u64, _bytes: &[u8]) -> Result<(), DiskFault> {
+        raise(&mut self.disk_faults);
+        Err(DiskFault)
+    }
+
+    fn cut(&mut self, _size: u64) -> Result<(), DiskFault> {
+        raise(&mut self.disk_faults);
+        Err(DiskFault)
+    }
+
+    fn sync(&mut self) -> Result<(), DiskFault> {
+        raise(&mut self.disk_faults);
+        Err(DiskFault)
+    }
 }
 
 impl<R: Read, W: Write, C: Clock> Link for Streams<R, W, C> {
-    ghost use Rattle.millicent.specs.Untold.{untold, Moved, is_link, none_moved, moved_then, moved_goes};
+    ghost use Rattle.mc_outside.specs.Silent.{silent_link, SilentLinkMoved, silent_is_link, silent_link_none, silent_link_then, silent_link_goes};
 
-    ghost link = { λ s. untold s.stands s.at_end s.over s.faults };
+    ghost link = { λ s. silent_link (record { disk_faults = s.disk_faults; link_faults = s.link_faults; stands = s.stands; at_end = s.at_end; over = s.over }) };
 
-    ghost link_moved = { λ a b. Moved a.over a.faults b.over b.faults };
+    ghost link_moved = { λ a b. SilentLinkMoved (record { disk_faults = a.disk_faults; link_faults = a.link_faults; stands = a.stands; at_end = a.at_end; over = a.over }) (record { disk_faults = b.disk_faults; link_faults = b.link_faults; stands = b.stands; at_end = b.at_end; over = b.over }) };
 
-    ghost is_link = { λ s. is_link s.stands s.at_end s.over s.faults };
+    ghost is_link = { λ s. silent_is_link (record { disk_faults = s.disk_faults; link_faults = s.link_faults; stands = s.stands; at_end = s.at_end; over = s.over }) };
 
-    ghost link_stays = { λ a. none_moved a.over a.faults };
+    ghost link_stays = { λ a. silent_link_none _ };
 
-    ghost link_goes_on = { λ a b c m n. moved_then _ _ _ _ _ _ m n };
+    ghost link_goes_on = { λ a b c m n. silent_link_then _ _ _ m n };
 
-    ghost link_goes = { λ a b m. moved_goes a.stands a.at_end _ _ b.stands b.at_end _ _ m };
+    ghost link_goes = { λ a b m. silent_link_goes _ _ m };
 
     fn next_link(&mut self) -> Result<bool, LinkFault> {
         if self.taken || self.over {
@@ -82,7 +122,7 @@ impl<R: Read, W: Write, C: Clock> Link for Streams<R, W, C> {
                 Ok(n)
             }
             Err(_) => {
-                self.faults = raise(self.faults);
+                raise(&mut self.link_faults);
                 Err(LinkFault)
             }
         }
@@ -92,7 +132,7 @@ impl<R: Read, W: Write, C: Clock> Link for Streams<R, W, C> {
         match self.output.write(bytes) {
             Ok(n) if n > 0 || bytes.is_empty() => Ok(n),
             _ => {
-                self.faults = raise(self.faults);
+                raise(&mut self.link_faults);
                 Err(LinkFault)
             }
         }
@@ -106,7 +146,7 @@ impl<R: Read, W: Write, C: Clock> Link for Streams<R, W, C> {
         match self.output.write_all(bytes) {
             Ok(()) => Ok(()),
             Err(_) => {
-                self.faults = raise(self.faults);
+                raise(&mut self.link_faults);
                 Err(LinkFault)
             }
         }
@@ -122,6 +162,16 @@ impl<R: Read, W: Write, C: Clock> Link for Streams<R, W, C> {
         };
         Moment::clamped(seconds)
     }
+}
+
+impl<R: Read, W: Write, C: Clock> Outside for Streams<R, W, C> {
+    ghost use Rattle.mc_outside.specs.Silent.{silent_link_keeps, silent_sent};
+
+    ghost link_keeps = { λ a b m. silent_link_keeps _ _ m };
+
+    ghost disk_keeps = { λ a b m. m.links };
+
+    ghost sent_aside = { λ a ss e. silent_sent (record { disk_faults = a.disk_faults; link_faults = a.link_faults; stands = a.stands; at_end = a.at_end; over = a.over }) ss e };
 }
 
 #[cfg(test)]
@@ -142,7 +192,9 @@ mod tests {
         assert_eq!(rt; streams.say(b"said"), Ok(()));
         assert_eq!(rt; streams.output.as_slice(), b"outsaid".as_slice());
         assert!(rt; streams.now().seconds() > 1_700_000_000);
-        assert_eq!(rt; streams.faults, 0);
+        assert_eq!(rt; streams.link_faults, 0);
+        assert_eq!(rt; streams.sync(), Err(DiskFault));
+        assert_eq!(rt; streams.disk_faults, 1);
         Ok(())
     }
 }

@@ -5,6 +5,7 @@ pub mod ItemLemmas
 pub mod BufferLemmas
 pub mod AwaitLemmas
 pub mod TakeLemmas
+pub mod WholeLemmas
 pub mod FieldLemmas
 pub mod JudgeLemmas
 pub mod ReadLemmas

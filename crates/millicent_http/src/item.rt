@@ -1,4 +1,6 @@
 ghost use Rattle.std.specs.Prelude.{◌≡◌, ◌↔◌, ◌⊎◌, true};
+ghost use Rattle.millicent_http.specs.Items.{closes};
+ghost use Rattle.millicent_http.specs.Takes.{item_of};
 
 use mc_records::{Refusal, Request};
 
@@ -74,9 +76,22 @@ pub enum HeadOut<'a> {
     Fault,
 }
 
-/// An item, and whether it closes the link.
+/// An item on a link, and whether the link ends after the reply to it.
 #[derive(Drop)]
-pub(crate) enum ItemRef<'a> {
+pub enum ItemRef<'a> {
+    /// A request.
     Request(Request<'a>, bool),
+    /// A head that is refused.
     Refused(HeadRefusal, bool),
+}
+
+impl ItemRef<'_> {
+    /// Whether the link ends after the reply to it.
+    pub fn closes(&self) -> bool
+        ensures { result ≡ closes (item_of self.now) }
+    {
+        match self {
+            ItemRef::Request(_, closes) | ItemRef::Refused(_, closes) => *closes,
+        }
+    }
 }

@@ -12,14 +12,16 @@ mod reply_text;
 mod request;
 mod scan;
 mod send;
+mod whole;
 
-pub use item::{After, HeadOut, HeadRefusal};
+pub use item::{After, HeadOut, HeadRefusal, ItemRef};
 pub use law::{a_refusal_has_a_status, a_request_asks_a_target, one_reading};
 pub use reader::HeadReader;
 pub use reply::ReplyHead;
 pub use reply_head::write_reply_head;
 pub use reply_text::write_reply_text;
 pub use send::send_all;
+pub use whole::next_item;
 
 #[cfg(test)]
 mod tests;

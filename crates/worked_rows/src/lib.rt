@@ -1,6 +1,15 @@
-//! The worked examples of `vendor once`, run over the whole of it: heads and replies that another
-//! program computed, links that are cut everywhere, and links whose calls fail.
+//! The worked examples of `vendor once`, run over the whole of it: links and replies that another program
+//! computed, links that are cut everywhere, links whose calls fail, and links that are put together from
+//! the worked ones.
 #![tactic(auto)]
 
 #[cfg(test)]
+mod courses;
+#[cfg(test)]
+mod generated;
+#[cfg(test)]
+mod links;
+#[cfg(test)]
 mod once;
+#[cfg(test)]
+mod rows;

@@ -24,7 +24,7 @@ fn raise(count: &mut u64)
 }
 
 impl Disk for Mute {
-    ghost use Rattle.mc_stage.specs.Silent.{silent_disk, SilentDiskMoved, silent_is_disk, silent_disk_none, silent_disk_then, silent_disk_goes};
+    ghost use Rattle.mc_outside.specs.Silent.{silent_disk, SilentDiskMoved, silent_is_disk, silent_disk_none, silent_disk_then, silent_disk_goes};
 
     ghost disk = { λ m. silent_disk (record { disk_faults = m.disk_faults; link_faults = m.link_faults; stands = m.stands; at_end = m.at_end; over = m.over }) };
 
@@ -64,7 +64,7 @@ impl Disk for Mute {
 }
 
 impl Link for Mute {
-    ghost use Rattle.mc_stage.specs.Silent.{silent_link, SilentLinkMoved, silent_is_link, silent_link_none, silent_link_then, silent_link_goes};
+    ghost use Rattle.mc_outside.specs.Silent.{silent_link, SilentLinkMoved, silent_is_link, silent_link_none, silent_link_then, silent_link_goes};
 
     ghost link = { λ m. silent_link (record { disk_faults = m.disk_faults; link_faults = m.link_faults; stands = m.stands; at_end = m.at_end; over = m.over }) };
 
@@ -114,7 +114,7 @@ impl Link for Mute {
 }
 
 impl Outside for Mute {
-    ghost use Rattle.mc_stage.specs.Silent.{silent_link_keeps, silent_sent};
+    ghost use Rattle.mc_outside.specs.Silent.{silent_link_keeps, silent_sent};
 
     ghost link_keeps = { λ a b m. silent_link_keeps _ _ m };
 

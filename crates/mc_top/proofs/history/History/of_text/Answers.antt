@@ -1,7 +1,0 @@
-use Rattle.std.proofs.Common.{sym}
-use Rattle.mc_top.specs.Entries.{accepted_of}
-use Rattle.mc_top.proofs.HistoryLemmas.{find-map}
-use Rattle.mc_top.proofs.history.History.of_text.Goals as goal
-
-pub returns : goal.returns
-returns c = rw (c.entry_of_text.ensures, c.deref.ensures.value, ← c.self.view_is) (sym (find-map _ accepted_of c.self.inside.entries.items))
