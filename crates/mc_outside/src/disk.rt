@@ -10,6 +10,10 @@ use std::fmt;
 pub struct DiskFault;
 
 impl fmt::Display for DiskFault {
+    ghost use Rattle.std.specs.Prelude.{Some, codes};
+
+    ghost output = { λ _. Some (codes "disk fault") };
+
     fn fmt<W: fmt::Write>(&self, f: &mut fmt::Formatter<W>) -> fmt::Result {
         f.write_str("disk fault")
     }

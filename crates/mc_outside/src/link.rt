@@ -11,6 +11,10 @@ use std::fmt;
 pub struct LinkFault;
 
 impl fmt::Display for LinkFault {
+    ghost use Rattle.std.specs.Prelude.{Some, codes};
+
+    ghost output = { λ _. Some (codes "link fault") };
+
     fn fmt<W: fmt::Write>(&self, f: &mut fmt::Formatter<W>) -> fmt::Result {
         f.write_str("link fault")
     }

@@ -1,4 +1,5 @@
 mod crashes;
 mod links;
 mod silent;
+mod starving;
 mod stores;

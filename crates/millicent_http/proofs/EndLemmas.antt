@@ -125,6 +125,37 @@ first_end_stays a b n f = record {
   first = λ m lt. no_end_stays a b m (omega (arith, f.within)) (λ k le. f.first k (omega arith)) m (omega arith);
 }
 
+-- the end of a text's end is an end of the text
+ends_later : (t x y : List ℕ) → ends_with eqb t (x ++ y) ≡ true → ends_with eqb t y ≡ true
+ends_later t x y h =
+    let e : t ≡ take (length t - length (x ++ y)) t ++ (x ++ y) = (ends_is Decides-eqb t (x ++ y) (ends_with eqb t (x ++ y)) refl).0 h in
+    let f : t ≡ (take (length t - length (x ++ y)) t ++ x) ++ y = e ∙ sym (append_assoc (take (length t - length (x ++ y)) t) x y) in
+    (ends_is Decides-eqb t y (ends_with eqb t y) refl).1 (take (length t - length (x ++ y)) t ++ x) f
+
+or_both : (a b c : Bool) → (a ≡ true → c ≡ true) → (b ≡ true → c ≡ true) → (a || b) ≡ true → c ≡ true
+or_both true b c f g h = f refl
+or_both false b c f g h = g h
+
+-- an empty line ends in LF
+empty_ends_lf : (t : List ℕ) → ends_empty t ≡ true → ends_with eqb t (codes "\n") ≡ true
+unfolding ends_empty
+empty_ends_lf t h = or_both _ _ _ (ends_later t (codes "\n") (codes "\n")) (ends_later t (codes "\n\r") (codes "\n")) h
+
+-- the text from i on, up to n
+range_whole : (a : List ℕ) (i n : ℕ) → slice_range a i n ≡ drop i (take n a)
+range_whole a i n =
+    let e : i - 0 ≡ i = omega arith in
+    let f : n - 0 ≡ n = omega arith in
+    subst (λ (z : ℕ). slice_range a i n ≡ drop i (take z a)) f
+    (subst (λ (z : ℕ). slice_range a i n ≡ drop z (slice_range a 0 n)) e (range_later a 0 i n (omega arith)))
+
+-- no empty line ends behind a byte that is no LF
+pub no_end_but_lf : (a : List ℕ) (n : ℕ) → ends_with eqb (take n a) (codes "\n") ≡ false → ends_at a n ≡ false
+no_end_but_lf a n h = not_true (ends_at a n) (λ t.
+    let whole : ends_empty (take n a) ≡ true = empty_whole (line_ends a) (take n a) (subst (λ (z : List ℕ). ends_empty z ≡ true) (range_whole a (line_ends a) n) t) in
+    let lf : ends_with eqb (take n a) (codes "\n") ≡ true = empty_ends_lf (take n a) whole in
+    cc)
+
 -- there is one first end
 pub first_end_unique : (a : List ℕ) (m n : ℕ) → IsFirstEnd a m → IsFirstEnd a n → m ≡ n
 first_end_unique a m n f g = elim (cases_lt m n) [

@@ -1,5 +1,5 @@
 ghost use Rattle.std.specs.Prelude.{◌≡◌, ◌≤◌, ◌+◌, length, take, drop, IfSome, IfNone};
-ghost use Rattle.millicent_http.specs.HeadEnds.{line_ends, ends_empty, HasNoEnd, IsFirstEnd};
+ghost use Rattle.millicent_http.specs.HeadEnds.{line_ends, ends_empty, ends_at, HasNoEnd, IsFirstEnd};
 
 /// How many bytes the line ends at the front take, where the first `known` bytes are line ends.
 pub(crate) fn skip_line_ends(bytes: &[u8], known: usize) -> usize
@@ -41,6 +41,18 @@ pub(crate) fn ends_empty(text: &[u8]) -> bool
     text.ends_with(b"\n\n") || text.ends_with(b"\n\r\n")
 }
 
+/// Whether an empty line ends at `end`, behind the line ends at the front. Most bytes are no line
+/// feed, and cost the first comparison alone.
+#[tactic(auto, using(crate::proofs::EndLemmas::no_end_but_lf))]
+fn ends_at(bytes: &[u8], skip: usize, end: usize) -> bool
+    requires front { skip ≡ line_ends bytes.now }
+    requires order { skip ≤ end }
+    requires within { end ≤ length bytes.now }
+    ensures { result ≡ ends_at bytes.now end }
+{
+    bytes[..end].ends_with(b"\n") && ends_empty(&bytes[skip..end])
+}
+
 /// Where the first empty line ends, which doesn't in the first `searched` bytes.
 pub(crate) fn find_end(bytes: &[u8], skip: usize, searched: usize) -> Option<usize>
     requires within { skip ≤ searched }
@@ -50,7 +62,7 @@ pub(crate) fn find_end(bytes: &[u8], skip: usize, searched: usize) -> Option<usi
     ensures none { IfNone result (HasNoEnd bytes.now (length bytes.now)) }
 {
     for end in searched..bytes.len() {
-        if ends_empty(&bytes[skip..end + 1]) {
+        if ends_at(bytes, skip, end + 1) {
             return Some(end + 1);
         }
     }

@@ -3,6 +3,7 @@ ghost use Rattle.std.specs.Prelude.{IsTrue};
 use super::pieces::Pieces;
 use crate::*;
 use mc_outside::LinkFault;
+use mc_records::Refusal;
 use std::alloc::{AllocError, Global};
 use std::process::Abort;
 use std::test::Fail;
@@ -195,6 +196,67 @@ fn one_head_follows_another(rt: HostRuntime) -> Result<(), Fail> {
         }
     }
     Ok(())
+}
+
+/// A head that asks this target.
+fn asking(alloc: Global, target: &[u8]) -> Result<Vec<u8>, AllocError> {
+    let mut bytes = b"GET ".to_vec(alloc)?;
+    bytes.extend_from_slice(target)?;
+    bytes.extend_from_slice(b" HTTP/1.1\r\nHost: n\r\n\r\n")?;
+    Ok(bytes)
+}
+
+#[test]
+fn targets_end_at_512_bytes(rt: HostRuntime) -> Result<(), Fail> {
+    let mut reader = HeadReader::new(rt.alloc())?;
+    for (len, is_target) in [(1, true), (512, true), (513, false)] {
+        let mut target = vec![in rt.alloc(); b'a'; len]?;
+        target[0] = b'/';
+        let bytes = asking(rt.alloc(), &target)?;
+        reader.restart();
+        let mut link = Pieces::new(&bytes, 100, 100);
+        let out = reader.take(&mut link);
+        if is_target {
+            assert!(rt; asks(out, &target, None, None, After::GoOn));
+        } else {
+            assert!(rt; refuses(out, HeadRefusal::BadTarget, After::GoOn));
+        }
+    }
+    Ok(())
+}
+
+/// The thousandth item closes the link, and so does each after it, up to a new link.
+#[test]
+fn the_thousandth_item_closes(rt: HostRuntime) -> Result<(), Fail> {
+    let mut reader = HeadReader::new(rt.alloc())?;
+    for item in 1..=1002 {
+        let after = if item < 1000 {
+            After::GoOn
+        } else {
+            After::Close
+        };
+        let mut link = cut(b"GET /a HTTP/1.1\r\nHost: n\r\n\r\n", 20, true);
+        assert!(rt; asks(reader.take(&mut link), b"/a", None, None, after));
+    }
+    reader.restart();
+    let mut link = cut(b"GET /a HTTP/1.1\r\nHost: n\r\n\r\n", 20, true);
+    assert!(rt; asks(reader.take(&mut link), b"/a", None, None, After::GoOn));
+    Ok(())
+}
+
+#[test]
+fn refusals_of_heads_have_the_numbers_10_to_16(rt: HostRuntime) {
+    for (refusal, number) in [
+        (HeadRefusal::BadHead, 10),
+        (HeadRefusal::HeadTooLarge, 11),
+        (HeadRefusal::NoHost, 12),
+        (HeadRefusal::BodyRefused, 13),
+        (HeadRefusal::BadTarget, 14),
+        (HeadRefusal::BadMethod, 15),
+        (HeadRefusal::RepeatedField, 16),
+    ] {
+        assert_eq!(rt; Refusal::from(refusal).number(), number);
+    }
 }
 
 /// `before` line ends, and a head of that many bytes without its end, filled up in a field.

@@ -139,3 +139,40 @@ Millicent-Sign: -\r\n\r\n",
         b"403 25 BadCertificate - -\n",
     );
 }
+
+/// A reply of this refusal begins with this line.
+fn assert_begins(rt: &impl Abort, refusal: &Refusal, line: &[u8])
+    requires { status_of refusal.now ≢ 0 }
+{
+    let mut out = [0; 2048];
+    let end = write_reply_head(&refused(refusal, None, None), &mut out);
+    assert!(rt; out[..end].starts_with(line));
+}
+
+// The reasons of RFC 9110, and of RFC 6585 for 431.
+#[test]
+fn each_status_has_its_reason(rt: HostRuntime) {
+    assert_begins(&rt, &Refusal::NoScrip, b"HTTP/1.1 402 Payment Required\r\n");
+    assert_begins(&rt, &Refusal::NoSuchGoods, b"HTTP/1.1 404 Not Found\r\n");
+    assert_begins(&rt, &Refusal::Expired(7, 8), b"HTTP/1.1 410 Gone\r\n");
+    assert_begins(
+        &rt,
+        &Refusal::BodyRefused,
+        b"HTTP/1.1 413 Content Too Large\r\n",
+    );
+    assert_begins(
+        &rt,
+        &Refusal::HeadTooLarge,
+        b"HTTP/1.1 431 Request Header Fields Too Large\r\n",
+    );
+    assert_begins(
+        &rt,
+        &Refusal::DiskFault,
+        b"HTTP/1.1 500 Internal Server Error\r\n",
+    );
+    assert_begins(
+        &rt,
+        &Refusal::SeriesFull(7),
+        b"HTTP/1.1 503 Service Unavailable\r\n",
+    );
+}
