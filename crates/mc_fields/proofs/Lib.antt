@@ -7,3 +7,4 @@ pub mod HexField
 pub mod FieldLoops
 pub mod HexLoop
 pub mod TextTest
+pub mod Puts

@@ -1,3 +1,4 @@
 pub mod Texts
 pub mod Reading
 pub mod Gives
+pub mod Puts
