@@ -1,3 +1,5 @@
 pub mod Texts
 pub mod Reading
 pub mod Gives
+pub mod Field
+pub mod Form
