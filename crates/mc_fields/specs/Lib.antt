@@ -1,4 +1,6 @@
 pub mod Texts
 pub mod Reading
 pub mod Gives
+pub mod Field
+pub mod Form
 pub mod Puts

@@ -6,6 +6,8 @@
 
 mod date_law;
 mod limits;
+mod piece_list;
+mod record;
 mod refusal;
 mod refusal_text;
 mod request;
@@ -14,6 +16,8 @@ mod tests;
 
 pub use date_law::date_of_its_second;
 pub use limits::Limits;
+pub use piece_list::PieceList;
+pub use record::{Record, RecordDeed, RecordFault, SiteTerms};
 pub use refusal::Refusal;
 pub use refusal_text::{MOST_REFUSAL_BYTES, put_refusal_text};
 pub use request::Request;
