@@ -4,6 +4,7 @@
 //! No call of this crate takes memory.
 #![tactic(auto)]
 
+mod cells;
 mod date_law;
 mod limits;
 mod piece_list;
