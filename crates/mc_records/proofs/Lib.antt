@@ -1,1 +1,3 @@
 pub mod DateLemmas
+pub mod PartLaws
+pub mod KindLaws
