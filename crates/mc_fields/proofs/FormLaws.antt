@@ -188,6 +188,10 @@ whole_ok {A} n (Ok (y, [])) x e = ap all_read (ok_is y x e)
 whole_ok n (Ok (y, b ∷ bs)) x e = absurd (let other = rw (ne_eqb (length (b ∷ bs)) 0 (λ h. absurd (omega (arith, h)))) at e in cc)
 whole_ok n (Err left) x e = absurd cc
 
+-- what is left over is the fault
+pub whole_more : {A : Type 0} (n : ℕ) (x : A) (b : ℕ) (bs : List ℕ) → whole n (Ok (x, b ∷ bs)) ≡ Err (n - length (b ∷ bs))
+whole_more n x b bs = rw (ne_eqb (length (b ∷ bs)) 0 (λ h. absurd (omega (arith, h)))) refl
+
 pub whole_takes : {A : Type 0} (f : Form A) (bytes : List ℕ) (x : A) → IsBytes bytes → all_of f bytes ≡ Ok x → (p : Path f) × (answer f p ≡ x) × (bytes ≡ spelled (path_fields f p))
 whole_takes f bytes x fits e =
     let s = run_takes f bytes (x, []) fits (whole_ok (length bytes) (run f bytes) x e) in
