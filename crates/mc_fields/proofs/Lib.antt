@@ -8,3 +8,5 @@ pub mod FieldLoops
 pub mod HexLoop
 pub mod TextTest
 pub mod Puts
+pub mod FieldBytes
+pub mod FormLaws

@@ -6,7 +6,9 @@
 
 mod cells;
 mod date_law;
+mod kinds;
 mod limits;
+mod parts;
 mod piece_list;
 mod record;
 mod refusal;
