@@ -2,3 +2,4 @@ pub mod DateLemmas
 pub mod PartLaws
 pub mod KindLaws
 pub mod EntryLaws
+pub mod GroupLaws

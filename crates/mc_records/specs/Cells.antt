@@ -37,6 +37,9 @@ group_bytes group = cell_bytes group.0 ++ (cell_bytes group.1 ++ cell_bytes grou
 abbrev pub IsShort : Cell → Type 0
 IsShort c = AllByRecursion FieldFits (fields_of c)
 
+abbrev pub AreShort : Group → Type 0
+AreShort group = IsShort group.0 × (IsShort group.1 × IsShort group.2)
+
 -- the number of an entry's kind
 abbrev pub kind_of : Entry → ℕ
 kind_of (Site m kind name house) = 1

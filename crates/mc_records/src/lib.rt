@@ -4,6 +4,7 @@
 //! No call of this crate takes memory.
 #![tactic(auto)]
 
+mod appending;
 mod cells;
 mod date_law;
 mod kinds;
@@ -16,7 +17,9 @@ mod refusal_text;
 mod request;
 #[cfg(test)]
 mod tests;
+mod writing;
 
+pub use appending::write_record;
 pub use date_law::date_of_its_second;
 pub use limits::Limits;
 pub use piece_list::PieceList;
@@ -24,3 +27,4 @@ pub use record::{Record, RecordDeed, RecordFault, SiteTerms};
 pub use refusal::Refusal;
 pub use refusal_text::{MOST_REFUSAL_BYTES, put_refusal_text};
 pub use request::Request;
+pub use writing::put_record;
