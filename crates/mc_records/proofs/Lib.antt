@@ -3,3 +3,5 @@ pub mod PartLaws
 pub mod KindLaws
 pub mod EntryLaws
 pub mod GroupLaws
+pub mod PieceLaws
+pub mod ReadLaws

@@ -35,7 +35,7 @@ scrip_described = record {
 
 -- ---- a scrip text with its secret, and lists of them
 
-held_described : Describes held_form held_fields HeldFits
+pub held_described : Describes held_form held_fields HeldFits
 unfolding held_form
 held_described = record { tells = tells; leads = leads }
   where
