@@ -35,4 +35,6 @@ plain_bytes (s ∷ ss) = ap (λ (t : List ℕ). s ++ t) (plain_bytes ss)
 
 -- a count of one byte and the secrets that it counts
 pub secrets_text : (ss : List (List ℕ)) → length ss < 2 ^ 8 → length ss ∷ flat_map (λ s. s) ss ≡ length ss % 256 ∷ spelled (flat_map (λ s. plain s ∷ []) ss)
-secrets_text ss few = ap₂ (λ (k : ℕ) (t : List ℕ). k ∷ t) (sym (mod-eq_of_lt {b = 256} few)) (plain_bytes ss)
+secrets_text ss few =
+    let small : length ss < 256 = omega (arith, few) in
+    ap₂ (λ (k : ℕ) (t : List ℕ). k ∷ t) (sym (mod-eq_of_lt small)) (plain_bytes ss)
