@@ -59,10 +59,10 @@ pub fn table<'a>(r: &'a Record<'a>) -> [Group<'a>; 6]
         Record::Draw { .. } => money_table(r),
         Record::Licence { .. } => stock_table(r),
         Record::Stock { .. } => stock_table(r),
-        Record::Got { .. } => stock_table(r),
-        Record::Pend { .. } => asked_table(r),
-        Record::Done { .. } => asked_table(r),
-        Record::Refused { .. } => asked_table(r),
+        Record::Got { .. } => held_table(r),
+        Record::Pend { .. } => held_table(r),
+        Record::Done { .. } => settled_table(r),
+        Record::Refused { .. } => settled_table(r),
     }
 }
 
@@ -197,7 +197,7 @@ fn money_table<'a>(r: &'a Record<'a>) -> [Group<'a>; 6]
 }
 
 fn stock_table<'a>(r: &'a Record<'a>) -> [Group<'a>; 6]
-    requires { (9 < kind_of (entry r.now)) × (kind_of (entry r.now) < 13) }
+    requires { (9 < kind_of (entry r.now)) × (kind_of (entry r.now) < 12) }
     ensures { groups_fields result ≡ fields (entry r.now) }
 {
     match r {
@@ -219,19 +219,19 @@ fn stock_table<'a>(r: &'a Record<'a>) -> [Group<'a>; 6]
             head(11, *moment),
             Group(Cell::Str(vendor), Cell::Pieces(*pieces), Cell::Nothing),
         ),
-        Record::Got { moment, pieces } => two_groups(
-            head(12, *moment),
-            Group(Cell::Pieces(*pieces), Cell::Nothing, Cell::Nothing),
-        ),
         _ => unreachable!(),
     }
 }
 
-fn asked_table<'a>(r: &'a Record<'a>) -> [Group<'a>; 6]
-    requires { 12 < kind_of (entry r.now) }
+fn held_table<'a>(r: &'a Record<'a>) -> [Group<'a>; 6]
+    requires { (11 < kind_of (entry r.now)) × (kind_of (entry r.now) < 14) }
     ensures { groups_fields result ≡ fields (entry r.now) }
 {
     match r {
+        Record::Got { moment, pieces } => two_groups(
+            head(12, *moment),
+            Group(Cell::Pieces(*pieces), Cell::Nothing, Cell::Nothing),
+        ),
         Record::Pend {
             moment,
             ask,
@@ -245,6 +245,15 @@ fn asked_table<'a>(r: &'a Record<'a>) -> [Group<'a>; 6]
             text_cells(*scrip),
             Group(Cell::Plain(secret), Cell::Nothing, Cell::Nothing),
         ),
+        _ => unreachable!(),
+    }
+}
+
+fn settled_table<'a>(r: &'a Record<'a>) -> [Group<'a>; 6]
+    requires { 13 < kind_of (entry r.now) }
+    ensures { groups_fields result ≡ fields (entry r.now) }
+{
+    match r {
         Record::Done {
             moment,
             number,

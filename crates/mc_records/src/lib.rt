@@ -1,7 +1,8 @@
 //! What is said between a house and those who ask it: requests, refusals with their numbers and
-//! texts, and the bytes of a reply as a function of its values.
+//! texts, and the bytes of a reply as a function of its values. And what is kept: the entries of
+//! histories with their payloads, both ways.
 //!
-//! No call of this crate takes memory.
+//! No call of this crate but `write_record` takes memory.
 #![tactic(auto)]
 
 mod appending;
