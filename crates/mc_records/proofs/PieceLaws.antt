@@ -1,14 +1,15 @@
 -- Lists of pieces, read element by element.
-use Rattle.std.proofs.Common.{◌≡◌, ℕ, zero, suc, ◌+◌, ◌-◌, ◌<◌, ◌≤◌, List, [], ◌∷◌, ◌++◌, length, get_or, take, drop, Result, Ok, Err, is_ok, true, Bool, refl, sym, ap, subst, ◌∙◌, arith, append-nil, flat_map, append_assoc}
+use Rattle.std.proofs.Common.{◌≡◌, ℕ, zero, suc, ◌+◌, ◌-◌, ◌<◌, ◌≤◌, List, [], ◌∷◌, ◌++◌, length, get_or, take, drop, Some, None, slice_get, Result, Ok, Err, is_ok, true, refl, sym, ap, subst, ◌∙◌, arith, flat_map}
 use Rattle.std.proofs.lemmas.Bool.{and_parts, and_from, leb-true, le-leb, ltb-true, lt-ltb}
-use Rattle.std.proofs.lemmas.List.{take_at, length-append, drop_more}
+use Rattle.std.proofs.lemmas.List.{take_at, length-append}
+use Rattle.std.proofs.lemmas.Option.{slice_get-get_or, slice_get_past}
 use Rattle.std.proofs.lemmas.List.Concat.{flat_map-append}
 use Rattle.std.specs.List.{AllByRecursion, list_all}
 use Rattle.mc_fields.specs.Reading.{Read, ◌>>=◌, whole}
 use Rattle.mc_fields.specs.Field.{Field, spelled, field_bytes}
-use Rattle.mc_fields.specs.Form.{Form, followed, repeated, run, all_of, str_at, counted_at}
+use Rattle.mc_fields.specs.Form.{Form, repeated, run, all_of, str_at, counted_at}
 use Rattle.mc_fields.proofs.FieldBytes.{IsBytes, IsBytes-take, IsBytes-rest, ok_is}
-use Rattle.mc_fields.proofs.FormLaws.{Path, answer, path_fields, run_takes, run_reads, whole_ok, whole_takes, whole_reads, one_more, repeated_tells, repeated_leads}
+use Rattle.mc_fields.proofs.FormLaws.{path_fields, run_takes, run_reads, whole_takes, whole_reads, one_more, repeated_tells}
 use Rattle.mc_records.specs.Entry.{Held, HeldFits, ArePieces, held_fields}
 use Rattle.mc_records.specs.Forms.{held_form}
 use Rattle.mc_records.specs.Pieces.{pieces_bytes, listed, pieces_in, is_byte, are_pieces, after, element_at}
@@ -213,7 +214,7 @@ record IsNext (ps : List Held) (i : ℕ) : Type 0 where
 is_next : (ps : List Held) (i : ℕ) → AllByRecursion HeldFits ps → i < length ps → IsNext ps i
 is_next [] i good lt = absurd (omega arith)
 is_next (p ∷ ps) zero good lt = record { reads = ap after (held_reads p ps good.0) }
-is_next (p ∷ ps) (suc i) good lt = 
+is_next (p ∷ ps) (suc i) good lt =
     let n = is_next ps i good.1 (omega arith) in
     let e : suc i + 1 ≡ suc (i + 1) = omega arith in
     record { reads = subst (λ (k : ℕ). after (run held_form (pieces_bytes (drop (suc i) (p ∷ ps)))) ≡ read_to (pieces_bytes (drop k (p ∷ ps)))) (sym e) n.reads }
@@ -239,4 +240,60 @@ left_no bytes i rest d left h ps good same =
     let l = left ps good same in
     let n = is_next ps i good.held l.0 in
     let r = sym h ∙ ap (λ (k : List ℕ). after (run held_form k)) l.1 ∙ n.reads in
+    absurd cc
+
+pub left_none : (bytes : List ℕ) (i : ℕ) (rest : List ℕ) → AreLeft bytes i rest → 256 ≤ i → (ps : List Held) → ArePieces ps → bytes ≡ pieces_bytes ps → ⊥
+left_none bytes i rest left past ps good same = absurd (omega (arith, (left ps good same).0, good.few))
+
+pub more_read : (bytes : List ℕ) (i : ℕ) (rest more : List ℕ) → after (run (repeated i held_form) bytes) ≡ read_to rest → after (run held_form rest) ≡ read_to more → after (run (repeated (i + 1) held_form) bytes) ≡ read_to more
+more_read bytes i rest more h here =
+    let e : i + 1 ≡ suc i = omega arith in
+    ap (λ (n : ℕ). after (run (repeated n held_form) bytes)) e ∙ last_of held_form i bytes ∙ ap (λ (r : Read (Unit {0})). r >>= λ x. after (run held_form x.1)) h ∙ here
+
+-- ---- what a number gets
+
+element_fits : (ps : List Held) (n : ℕ) (d : Held) → AllByRecursion HeldFits ps → n < length ps → HeldFits (get_or ps n d)
+element_fits [] n d good lt = absurd (omega arith)
+element_fits (p ∷ ps) zero d good lt = good.0
+element_fits (p ∷ ps) (suc n) d good lt = element_fits ps n d good.1 (omega arith)
+
+nothing : Held
+nothing = record { text = []; secret = [] }
+
+pub past_list : (count n : ℕ) (bytes : List ℕ) → are_pieces count bytes ≡ true → count ≤ n → slice_get (pieces_in count bytes) n ≡ None
+past_list count n bytes are past =
+    let l = list_is count bytes are in
+    slice_get_past (pieces_in count bytes) n (omega (arith, l.counted))
+
+-- the element of a number below the count, and what reading it gives
+pub record Element (ps : List Held) (n : ℕ) (read : Read Held) : Type 0 where
+  pub held : Held
+  pub rest : List ℕ
+  pub found : read ≡ Ok (held, rest)
+  pub good : HeldFits held
+  pub is : slice_get ps n ≡ Some held
+
+pub in_list : (count n : ℕ) (bytes : List ℕ) → are_pieces count bytes ≡ true → n < count → Element (pieces_in count bytes) n (element_at n bytes)
+in_list count n bytes are lt =
+    let l = list_is count bytes are in
+    let ps = pieces_in count bytes in
+    let below : n < length ps = omega (arith, l.counted) in
+    record {
+      held = get_or ps n nothing;
+      rest = pieces_bytes (drop (n + 1) ps);
+      found = ap (element_at n) l.spelled ∙ element_is n ps nothing l.good.held below;
+      good = element_fits ps n nothing l.good.held below;
+      is = slice_get-get_or ps n nothing below;
+    }
+
+pub got : (count n : ℕ) (bytes : List ℕ) (p : Held) (rest : List ℕ) → are_pieces count bytes ≡ true → n < count → element_at n bytes ≡ Ok (p, rest) → (slice_get (pieces_in count bytes) n ≡ Some p) × HeldFits p
+got count n bytes p rest are lt h =
+    let e = in_list count n bytes are lt in
+    let same : e.held ≡ p = ap (λ (x : Held × List ℕ). x.0) (ok_is (e.held, e.rest) (p, rest) (sym e.found ∙ h)) in
+    subst (λ (x : Held). (slice_get (pieces_in count bytes) n ≡ Some x) × HeldFits x) same (e.is, e.good)
+
+pub not_got : (count n : ℕ) (bytes : List ℕ) (left : ℕ) → are_pieces count bytes ≡ true → n < count → element_at n bytes ≡ Err left → ⊥
+not_got count n bytes left are lt h =
+    let e = in_list count n bytes are lt in
+    let r = sym e.found ∙ h in
     absurd cc

@@ -7,7 +7,10 @@ ghost use Rattle.mc_records.specs.Entry.{Entry, Fits, payload};
 ghost use Rattle.mc_records.specs.Forms.{kind_form, entry_form, entry_of};
 ghost use Rattle.mc_records.specs.Views.{entry, GivesEntry};
 
-use crate::kinds::{accept, account, add_terms, deposit, done, draw, goods, licence, mint, pend, refused, site, withdraw};
+use crate::kinds::{
+    accept, account, add_terms, deposit, done, draw, goods, licence, mint, pend, refused, site,
+    withdraw,
+};
 use crate::piece_lists::{got_pieces, stock};
 use crate::record::{Record, RecordFault};
 use mc_base::Moment;

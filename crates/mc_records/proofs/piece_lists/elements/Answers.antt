@@ -1,4 +1,4 @@
-use Rattle.std.proofs.Common.{arith, ◌≡◌, ap₂, ◌∙◌, sym, take, List, ℕ, Result, Ok}
+use Rattle.std.proofs.Common.{arith, ap₂, ◌∙◌, sym, List, ℕ, Ok}
 use Rattle.mc_fields.specs.Reading.{Read}
 use Rattle.mc_records.specs.Entry.{Held}
 use Rattle.mc_records.specs.Pieces.{pieces_in}
