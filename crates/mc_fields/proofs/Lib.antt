@@ -9,3 +9,4 @@ pub mod HexLoop
 pub mod TextTest
 pub mod FieldBytes
 pub mod FormLaws
+pub mod StopLaws
