@@ -4,3 +4,10 @@ pub mod Limits
 pub mod Requests
 pub mod Dates
 pub mod Replies
+pub mod Entry
+pub mod Sizes
+pub mod Forms
+pub mod Pieces
+pub mod PieceViews
+pub mod Views
+pub mod Cells

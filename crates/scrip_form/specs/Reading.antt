@@ -1,5 +1,5 @@
 -- Reading a scrip text: its fields one after the other.
-use Rattle.std.specs.Prelude.{ℕ, ◌^◌, List, length, Result, codes}
+use Rattle.std.specs.Prelude.{ℕ, ◌^◌, Bool, List, length, Result, is_ok, codes}
 use Rattle.std.specs.Int.{w64, from_be_bytes}
 use Rattle.mc_fields.specs.Reading.{Read, pair_at, map_read, whole, literal_at, text_at, number_at, hex_at}
 use Rattle.scrip_form.specs.Texts.{is_letter_or_digit, is_name_byte, is_props_byte}
@@ -39,3 +39,7 @@ scrip_at bytes = map_read piece_of_fields (all_fields_at bytes)
 -- all of the bytes: a piece and its certificate, or the place of the fault
 unfoldable pub scrip_of : List ℕ → Result (Scrip × List ℕ) ℕ
 scrip_of bytes = whole (length bytes) (scrip_at bytes)
+
+-- the test of a scrip text
+unfoldable pub is_scrip : List ℕ → Bool
+is_scrip bytes = is_ok (scrip_of bytes)

@@ -2,7 +2,7 @@
 use Rattle.std.specs.Prelude.{◌≡◌, ℕ, ◌==◌, ◌||◌, ◌&&◌, nat_le, Bool, true, List}
 use Rattle.std.proofs.lemmas.Bool.{or_left, eqb-true}
 use Rattle.std.proofs.Common.{subst, sym, refl}
-use Rattle.mc_fields.specs.Texts.{IsText}
+use Rattle.mc_fields.specs.Texts.{IsText, is_text}
 
 -- `a` to `z`, `0` to `9`
 abbrev pub is_letter_or_digit : ℕ → Bool
@@ -31,6 +31,13 @@ IsProps bytes = IsText is_props_byte is_props_byte 0 128 bytes
 
 abbrev pub IsTarget : List ℕ → Type 0
 IsTarget bytes = IsText is_slash is_visible 1 512 bytes
+
+-- the tests of a name and of a target
+abbrev pub is_name : List ℕ → Bool
+is_name bytes = is_text is_letter_or_digit is_name_byte 1 63 bytes
+
+abbrev pub is_target : List ℕ → Bool
+is_target bytes = is_text is_slash is_visible 1 512 bytes
 
 pub letter_is_name_byte : (c : ℕ) → is_letter_or_digit c ≡ true → is_name_byte c ≡ true
 letter_is_name_byte c h = or_left (is_letter_or_digit c) (c == 45 || c == 46) h
