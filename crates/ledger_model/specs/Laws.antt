@@ -1,0 +1,26 @@
+-- What the laws speak of.
+use Rattle.std.specs.Prelude.{◌≡◌, ℕ, ◌+◌, ◌==◌, IsFalse, List, [], ◌∷◌, ◌++◌, Option, option_map, unwrap_or}
+use Rattle.std.specs.List.{list_any}
+use Rattle.scrip_form.specs.Scrip.{Scrip}
+use Rattle.mc_records.specs.Entry.{Entry, Accept}
+use Rattle.ledger_model.specs.Histories.{History}
+use Rattle.ledger_model.specs.Pieces.{change_piece, accepted_piece}
+
+-- no identity stands twice
+abbrev pub AreDistinct : List Scrip → Type 0
+AreDistinct [] = Unit {0}
+AreDistinct (p ∷ ps) = IsFalse (list_any (λ q. q.id == p.id) ps) × AreDistinct ps
+
+-- the value of a piece, 0 where there is none
+abbrev pub worth : Option Scrip → ℕ
+worth o = unwrap_or (option_map (λ p. p.value) o) 0
+
+-- what came in with an Accept entry went into its price and its change
+abbrev pub IsPaid : History → Entry → Type 0
+IsPaid before (Accept m scrip target sign price change deed) =
+    worth (accepted_piece (Accept m scrip target sign price change deed)) ≡ price + worth (change_piece before (Accept m scrip target sign price change deed))
+IsPaid before _ = Unit {0}
+
+abbrev pub ArePaid : History → History → Type 0
+ArePaid before [] = Unit {0}
+ArePaid before (e ∷ es) = IsPaid before e × ArePaid (before ++ e ∷ []) es

@@ -1,0 +1,11 @@
+pub mod Histories
+pub mod Houses
+pub mod Goods
+pub mod Pieces
+pub mod Sums
+pub mod Lines
+pub mod Stages
+pub mod Answer
+pub mod Lawful
+pub mod Replies
+pub mod Laws

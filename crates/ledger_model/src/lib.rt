@@ -1,0 +1,3 @@
+//! The ledger: what a history says, which answer it gives to a request, and which histories are
+//! lawful. The definitions stand in `specs/`.
+#![tactic(auto)]
