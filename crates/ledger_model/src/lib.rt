@@ -1,3 +1,10 @@
 //! The ledger: what a history says, which answer it gives to a request, and which histories are
-//! lawful. The definitions stand in `specs/`.
+//! lawful. The definitions stand in `specs/`, and laws over them on functions that do nothing.
 #![tactic(auto)]
+
+mod laws;
+
+pub use laws::{
+    accepted_once, first_replies_stay, fronts_are_lawful, refused_heads_have_one_reply,
+    taken_entries_follow, taken_requests_repeat, values_are_kept, values_are_paid,
+};
