@@ -1,24 +1,24 @@
 -- What a lawful history has accepted: no identity twice, and values that were paid.
-use Rattle.std.proofs.Common.{◌≡◌, ℕ, ◌+◌, ◌-◌, ◌<◌, ◌≤◌, Bool, true, false, cond, ◌||◌, List, [], ◌∷◌, ◌++◌, Option, Some, None, Result, Ok, Err, refl, sym, ap, subst, ◌∙◌, append_assoc, append-nil, arith, option_map, ltb, eqb}
+use Rattle.std.proofs.Common.{◌≡◌, ℕ, ◌+◌, ◌<◌, ◌≤◌, Bool, true, false, cond, ◌||◌, List, [], ◌∷◌, ◌++◌, Option, Some, None, Result, Ok, Err, refl, sym, ap, subst, ◌∙◌, append_assoc, append-nil, arith, option_map, ltb, eqb}
 use Rattle.std.specs.List.{list_any, cons_option}
 use Rattle.std.specs.Result.{result_ok}
 use Rattle.std.specs.Prelude.{option_to_list}
 use Rattle.std.proofs.lemmas.Bool.{ltb-true, ltb-false}
 use Rattle.std.proofs.lemmas.Bool.Decides.{nat_tests}
+use Rattle.std.proofs.lemmas.List.Sums.{sum_by-cons}
 use Rattle.scrip_form.specs.Scrip.{Scrip}
-use Rattle.scrip_form.specs.Reading.{scrip_of}
 use Rattle.mc_records.specs.declared.limits.Limits.{Limits}
 use Rattle.mc_records.specs.declared.refusal.Refusal.TheVariants.{TooLittle, NoSuchGoods}
 use Rattle.mc_records.specs.Entry.{Deed, goods_deed, Entry, Accept}
 use Rattle.ledger_model.specs.Histories.{History}
 use Rattle.ledger_model.specs.Houses.{is_vendor}
 use Rattle.ledger_model.specs.Goods.{price_in}
-use Rattle.ledger_model.specs.Pieces.{piece_of, accepted, is_spent, accepted_piece, change_piece, change_from, own_out_from, own_out}
+use Rattle.ledger_model.specs.Pieces.{piece_of, accepted, accepted_piece, change_piece, change_from, own_out_from, own_out}
 use Rattle.ledger_model.specs.Sums.{price_paid, takings, values}
 use Rattle.ledger_model.specs.Lines.{Stop, ◌>>=◌, given, refused_if}
 use Rattle.ledger_model.specs.Stages.{Offer, shelf_by, needed}
-use Rattle.ledger_model.specs.Answer.{offer, desk_offer, next_own}
-use Rattle.ledger_model.specs.Lawful.{unbounded, request_of, IsAllowed, MayFollow, AllFollow, IsLawful}
+use Rattle.ledger_model.specs.Answer.{offer, desk_offer}
+use Rattle.ledger_model.specs.Lawful.{unbounded, request_of, IsAllowed, AllFollow, IsLawful}
 use Rattle.ledger_model.specs.Laws.{AreDistinct, worth, IsPaid, ArePaid}
 use Rattle.ledger_model.proofs.TableLaws.{line_ok, refused_ok, ok_is, Through, answer_through}
 
@@ -162,11 +162,11 @@ values_are_paid limits (e ∷ es) lawful = all_paid limits [] (e ∷ es) lawful
 
 values_with : (o : Option Scrip) (ps : List Scrip) → values (option_to_list o ++ ps) ≡ worth o + values ps
 values_with None ps = omega arith
-values_with (Some p) ps = omega arith
+values_with (Some p) ps = sum_by-cons (λ (x : Scrip). x.value) p ps
 
 values_cons : (o : Option Scrip) (ps : List Scrip) → values (cons_option o ps) ≡ worth o + values ps
 values_cons None ps = omega arith
-values_cons (Some p) ps = omega arith
+values_cons (Some p) ps = sum_by-cons (λ (x : Scrip). x.value) p ps
 
 paid_one : (before : History) (e : Entry) → IsPaid before e → worth (accepted_piece e) ≡ price_paid e + worth (change_piece before e)
 paid_one before (Accept m scrip target sign price change deed) paid = paid
@@ -179,7 +179,8 @@ paid_sums before (e ∷ es) paid =
     let one = paid_one before e paid.0 in
     let came = values_cons (accepted_piece e) (accepted es) in
     let went = values_with (change_piece before e) (own_out_from (before ++ e ∷ []) es) in
-    omega (arith, ih, one, came, went)
+    let prices : takings (e ∷ es) ≡ price_paid e + takings es = sum_by-cons price_paid e es in
+    omega (arith, ih, one, came, went, prices)
 
 pub values_are_kept : (limits : Limits) (h : History) → IsLawful limits h → values (accepted h) ≡ takings h + values (own_out h)
 values_are_kept limits h lawful = paid_sums [] h (values_are_paid limits h lawful)

@@ -7,7 +7,6 @@ use Rattle.std.proofs.lemmas.Bool.{ltb-true, lt-ltb, lt-leb, and_parts}
 use Rattle.std.proofs.lemmas.Slice.Eq.{bytes_eq-Decides}
 use Rattle.std.proofs.lemmas.Iterator.Adapters.{position_from-zero}
 use Rattle.hex.specs.Hex.{encode_lower}
-use Rattle.scrip_form.specs.Identities.{issuer_of}
 use Rattle.scrip_form.specs.Scrip.{Certified}
 use Rattle.scrip_form.specs.Reading.{scrip_of}
 use Rattle.scrip_certs.specs.Digests.{request_signature}
@@ -18,12 +17,12 @@ use Rattle.mc_records.specs.Refusals.{number_of}
 use Rattle.mc_records.specs.Requests.{Asked}
 use Rattle.mc_records.specs.Entry.{Entry, Site, Accept}
 use Rattle.ledger_model.specs.Histories.{History}
-use Rattle.ledger_model.specs.Houses.{site_name, keeping, all_terms, terms_by}
-use Rattle.ledger_model.specs.Lines.{Stop, Refuse, ◌>>=◌, given, refused_if, again_if}
+use Rattle.ledger_model.specs.Houses.{keeping}
+use Rattle.ledger_model.specs.Lines.{Stop, Refuse, ◌>>=◌, refused_if, again_if}
 use Rattle.ledger_model.specs.Stages.{read_by, certified, is_repeat, is_same_sign, is_right}
-use Rattle.ledger_model.specs.Answer.{repeated, genuine, spendable, taken, lines, Answer, Take, Again, answered, answer}
+use Rattle.ledger_model.specs.Answer.{repeated, genuine, spendable, taken, lines, Take, Again, answered, answer}
 use Rattle.ledger_model.specs.Replies.{reply_of, reply_after, refusal_of, head_refusal, price_told, is_signed}
-use Rattle.ledger_model.proofs.TableLaws.{line_ok, given_ok, answered_take, Through, through}
+use Rattle.ledger_model.proofs.TableLaws.{answered_take, Through, through}
 
 -- ---- the first entry of a test
 
