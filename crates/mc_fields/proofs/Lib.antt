@@ -7,3 +7,5 @@ pub mod HexField
 pub mod FieldLoops
 pub mod HexLoop
 pub mod TextTest
+pub mod FieldBytes
+pub mod FormLaws

@@ -1,1 +1,4 @@
 pub mod DateLemmas
+pub mod PartLaws
+pub mod KindLaws
+pub mod EntryLaws

@@ -5,7 +5,9 @@
 #![tactic(auto)]
 
 mod date_law;
+mod kinds;
 mod limits;
+mod parts;
 mod piece_list;
 mod record;
 mod refusal;
