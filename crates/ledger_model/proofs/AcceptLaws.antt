@@ -24,13 +24,13 @@ use Rattle.ledger_model.proofs.TableLaws.{line_ok, refused_ok, ok_is, Through, a
 
 -- ---- an Accept entry that may follow
 
-abbrev some : {A : Type 0} → A → Option A
+abbrev pub some : {A : Type 0} → A → Option A
 some x = Some x
 
-some_is : {A : Type 0} (x y : A) → some x ≡ some y → x ≡ y
+pub some_is : {A : Type 0} (x y : A) → some x ≡ some y → x ≡ y
 some_is x y e = cc
 
-accept_through : (limits : Limits) (h : History) (m : ℕ) (scrip target : List ℕ) (sign : Option (List ℕ)) (price : ℕ) (change : Option ℕ) (deed : Deed)
+pub accept_through : (limits : Limits) (h : History) (m : ℕ) (scrip target : List ℕ) (sign : Option (List ℕ)) (price : ℕ) (change : Option ℕ) (deed : Deed)
     → IsAllowed limits h (Accept m scrip target sign price change deed)
     → Through h m (unbounded limits) (request_of scrip target sign) (Accept m scrip target sign price change deed)
 accept_through limits h m scrip target sign price change deed allowed = answer_through h m (unbounded limits) (request_of scrip target sign) _ allowed
@@ -39,7 +39,7 @@ abbrev piece_read : Result (Scrip × List ℕ) ℕ → Option Scrip
 piece_read r = option_map (λ x. x.0) (result_ok r)
 
 -- the piece of the text of an entry that ran through
-read_piece : (limits : Limits) (h : History) (m : ℕ) (scrip target : List ℕ) (sign : Option (List ℕ)) (e : Entry)
+pub read_piece : (limits : Limits) (h : History) (m : ℕ) (scrip target : List ℕ) (sign : Option (List ℕ)) (e : Entry)
     (t : Through h m (unbounded limits) (request_of scrip target sign) e) → piece_of scrip ≡ Some t.scrip.piece
 read_piece limits h m scrip target sign e t = ap piece_of (some_is scrip t.scrip.text t.given_scrip) ∙ ap piece_read t.is_scrip
 
@@ -121,7 +121,7 @@ needed_split value price r c le e = go (ltb price value) refl r e
     go true test (Ok id) e = record { with_change = λ i h. ltb-true _ _ test; without = λ h. absurd cc }
     go true test (Err a) e = absurd cc
 
-abbrev accept_change : Entry → Option ℕ
+abbrev pub accept_change : Entry → Option ℕ
 accept_change (Accept m scrip target sign price change deed) = change
 accept_change _ = None
 

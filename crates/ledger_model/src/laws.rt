@@ -9,12 +9,12 @@ ghost use Rattle.mc_records.specs.Entry.{Entry};
 ghost use Rattle.mc_records.specs.Sizes.{size};
 ghost use Rattle.ledger_model.specs.Histories.{History, time};
 ghost use Rattle.ledger_model.specs.Houses.{keeping};
-ghost use Rattle.ledger_model.specs.Pieces.{accepted, own_out};
+ghost use Rattle.ledger_model.specs.Pieces.{accepted, own_out, minted};
 ghost use Rattle.ledger_model.specs.Sums.{takings, values};
 ghost use Rattle.ledger_model.specs.Answer.{answer, Take, Again};
 ghost use Rattle.ledger_model.specs.Lawful.{IsLawful, MayFollow};
 ghost use Rattle.ledger_model.specs.Replies.{reply_of, refusal_of, head_refusal};
-ghost use Rattle.ledger_model.specs.Laws.{AreDistinct, ArePaid};
+ghost use Rattle.ledger_model.specs.Laws.{AreDistinct, ArePaid, HaveNoGap, with_id};
 
 /// In a lawful history no identity is accepted twice.
 #[tactic(auto, using(crate::proofs::AcceptLaws::accepted_once))]
@@ -53,6 +53,13 @@ pub fn values_are_paid()
 #[tactic(auto, using(crate::proofs::AcceptLaws::values_are_kept))]
 pub fn values_are_kept()
     ensures { (limits : Bounds) (h : History) → IsLawful limits h → values (accepted h) ≡ takings h + values (own_out h) }
+{}
+
+/// The pieces that a lawful history hands out and mints in a series of the house's own have the serials
+/// 0, 1, 2 and so on without a gap, and so no identity stands twice among them.
+pub fn serials_have_no_gap()
+    ensures serials { (limits : Bounds) (h : History) → limits.series ≤ 2 ^ 32 → IsLawful limits h → HaveNoGap (own_out h ++ minted h) }
+    ensures once { (limits : Bounds) (h : History) (id : ℕ) → limits.series ≤ 2 ^ 32 → IsLawful limits h → with_id (own_out h ++ minted h) id ≤ 1 }
 {}
 
 /// The entry that an answer takes may follow the history, and so makes a longer lawful one; it stays

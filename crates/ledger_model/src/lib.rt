@@ -6,5 +6,6 @@ mod laws;
 
 pub use laws::{
     accepted_once, first_replies_stay, fronts_are_lawful, refused_heads_have_one_reply,
-    taken_entries_follow, taken_requests_repeat, values_are_kept, values_are_paid,
+    serials_have_no_gap, taken_entries_follow, taken_requests_repeat, values_are_kept,
+    values_are_paid,
 };
