@@ -19,7 +19,7 @@ use Rattle.mc_records.specs.Entry.{goods_deed, Entry, Site, AddTerms, Goods, Acc
 use Rattle.mc_records.specs.Sizes.{size}
 use Rattle.ledger_model.specs.Histories.{History, time}
 use Rattle.ledger_model.specs.Goods.{price_in, in_force}
-use Rattle.ledger_model.specs.Pieces.{accepted, own_out, next_identity}
+use Rattle.ledger_model.specs.Pieces.{accepted, own_out, minted, next_identity}
 use Rattle.ledger_model.specs.Sums.{takings, outstanding, lapsed}
 use Rattle.ledger_model.specs.Answer.{answer, Take, Again, Refused}
 use Rattle.ledger_model.specs.Lawful.{IsLawful}
@@ -99,6 +99,9 @@ row_sums : (takings sold_once ≡ 25) × (outstanding (own_out sold_once) sold_o
 unfolding scrip_of scrip_at id_at literal_at field_at digit_of digit_at hex_at scrip_body certificate customer_secret encode_with
 row_sums = (refl, refl, refl)
 
+row_minted : minted (sold_once ++ Mint 1000000 (codes "m1") 2 50 0x000000f400000001 ∷ []) ≡ (record { vendor = news; value = 50; id = 0x000000f400000001; cust = 0x000000f400000001; expires = 1011712; props = [] }) ∷ (record { vendor = news; value = 50; id = 0x000000f400000002; cust = 0x000000f400000002; expires = 1011712; props = [] }) ∷ []
+row_minted = refl
+
 -- ---- answers
 
 row_take : answer founded 1000000 full ask ≡ Take accept
@@ -165,6 +168,31 @@ row_last_second = refl
 row_other_target : answer (founded ++ Accept 1011711 p1 page None 25 (Some 0x000000f600000000) goods_deed ∷ []) 1011800 full (asks (codes "/news/2") p1 None) ≡ Refused (refusals.Expired 1011712 1011800)
 unfolding answer digits scrip_of scrip_at id_at literal_at field_at digit_of digit_at hex_at scrip_body certificate customer_secret encode_with request_signature md5 block_words rounds compress hash_after digest_bytes
 row_other_target = refl
+
+-- a repeat comes before the end of the piece
+row_late_again : answer (founded ++ Accept 1011711 p1 page None 25 (Some 0x000000f600000000) goods_deed ∷ []) 1011800 full ask ≡ Again 3
+unfolding answer digits scrip_of scrip_at id_at literal_at field_at digit_of digit_at hex_at scrip_body certificate customer_secret encode_with request_signature md5 block_words rounds compress hash_after digest_bytes
+row_late_again = refl
+
+row_other_vendor : answer founded 1000000 full (asks page (codes "MS1|shop.example|100|010000f400000000|010000f400000000|1011712||00000000000000000000000000000000") None) ≡ Refused refusals.WrongVendor
+unfolding answer digits scrip_of scrip_at id_at literal_at field_at digit_of digit_at hex_at scrip_body certificate customer_secret encode_with request_signature md5 block_words rounds compress hash_after digest_bytes
+row_other_vendor = refl
+
+row_other_issuer : answer founded 1000000 full (asks page (codes "MS1|news.example|100|020000f400000000|010000f400000000|1011712||00000000000000000000000000000000") None) ≡ Refused refusals.UnknownIssuer
+unfolding answer digits scrip_of scrip_at id_at literal_at field_at digit_of digit_at hex_at scrip_body certificate customer_secret encode_with request_signature md5 block_words rounds compress hash_after digest_bytes
+row_other_issuer = refl
+
+row_other_customer : answer founded 1000000 full (asks page (codes "MS1|news.example|100|010000f400000000|020000f400000000|1011712||00000000000000000000000000000000") None) ≡ Refused refusals.UnknownIssuer
+unfolding answer digits scrip_of scrip_at id_at literal_at field_at digit_of digit_at hex_at scrip_body certificate customer_secret encode_with request_signature md5 block_words rounds compress hash_after digest_bytes
+row_other_customer = refl
+
+row_other_end : answer founded 1000000 full (asks page (codes "MS1|news.example|100|010000f400000000|010000f400000000|1011713||00000000000000000000000000000000") None) ≡ Refused (refusals.ExpiryMismatch 1011713 1011712)
+unfolding answer digits scrip_of scrip_at id_at literal_at field_at digit_of digit_at hex_at scrip_body certificate customer_secret encode_with request_signature md5 block_words rounds compress hash_after digest_bytes
+row_other_end = refl
+
+row_no_goods : answer founded 1000000 full (asks (codes "/news/2") p1 None) ≡ Refused refusals.NoSuchGoods
+unfolding answer digits scrip_of scrip_at id_at literal_at field_at digit_of digit_at hex_at scrip_body certificate customer_secret encode_with request_signature md5 block_words rounds compress hash_after digest_bytes
+row_no_goods = refl
 
 -- the signature of p1 for the page
 abbrev sign : List ℕ

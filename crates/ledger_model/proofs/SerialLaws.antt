@@ -22,10 +22,10 @@ use Rattle.ledger_model.proofs.AcceptLaws.{some_is, accept_change, accept_throug
 
 -- ---- counts, which know no order
 
-count-cons : (test : Scrip → Bool) (p : Scrip) (ps : List Scrip) → count_by test (p ∷ ps) ≡ cond (test p) 1 0 + count_by test ps
+pub count-cons : (test : Scrip → Bool) (p : Scrip) (ps : List Scrip) → count_by test (p ∷ ps) ≡ cond (test p) 1 0 + count_by test ps
 count-cons test p ps = sum_by-cons (λ (x : Scrip). cond (test x) 1 0) p ps
 
-count-append : (test : Scrip → Bool) (xs ys : List Scrip) → count_by test (xs ++ ys) ≡ count_by test xs + count_by test ys
+pub count-append : (test : Scrip → Bool) (xs ys : List Scrip) → count_by test (xs ++ ys) ≡ count_by test xs + count_by test ys
 count-append test xs ys = sum_by-append (λ (x : Scrip). cond (test x) 1 0) xs ys
 
 same_gap : (xs ys : List Scrip) → ((test : Scrip → Bool) → count_by test xs ≡ count_by test ys) → HaveNoGap xs → HaveNoGap ys
@@ -76,14 +76,14 @@ next_run before value s (suc n) ps c first no_gap is first_is le =
 
 -- ---- the pieces at one more entry
 
-own_out_snoc : (before h : History) (e : Entry) → own_out_from before (h ++ e ∷ []) ≡ own_out_from before h ++ option_to_list (change_piece (before ++ h) e)
+pub own_out_snoc : (before h : History) (e : Entry) → own_out_from before (h ++ e ∷ []) ≡ own_out_from before h ++ option_to_list (change_piece (before ++ h) e)
 own_out_snoc before [] e = append-nil (option_to_list (change_piece before e)) ∙ ap (λ (b : History). option_to_list (change_piece b e)) (sym (append-nil before))
 own_out_snoc before (x ∷ xs) e =
     ap (λ (ps : List Scrip). option_to_list (change_piece before x) ++ ps)
     (own_out_snoc (before ++ x ∷ []) xs e ∙ ap (λ (b : History). own_out_from (before ++ x ∷ []) xs ++ option_to_list (change_piece b e)) (append_assoc before (x ∷ []) xs))
     ∙ sym (append_assoc (option_to_list (change_piece before x)) (own_out_from (before ++ x ∷ []) xs) (option_to_list (change_piece (before ++ x ∷ xs) e)))
 
-minted_snoc : (before h : History) (e : Entry) → minted_from before (h ++ e ∷ []) ≡ minted_from before h ++ minted_pieces (before ++ h) e
+pub minted_snoc : (before h : History) (e : Entry) → minted_from before (h ++ e ∷ []) ≡ minted_from before h ++ minted_pieces (before ++ h) e
 minted_snoc before [] e = append-nil (minted_pieces before e) ∙ ap (λ (b : History). minted_pieces b e) (sym (append-nil before))
 minted_snoc before (x ∷ xs) e =
     ap (λ (ps : List Scrip). minted_pieces before x ++ ps)

@@ -1,4 +1,5 @@
 pub mod Histories
+pub mod Payloads
 pub mod Houses
 pub mod Goods
 pub mod Pieces
