@@ -1,6 +1,6 @@
 //! Laws over the definitions, each on a function that does nothing.
 
-ghost use Rattle.std.specs.Prelude.{◌≡◌, ◌+◌, ◌<◌, ◌≤◌, ◌^◌, ℕ, [], ◌∷◌, ◌++◌, length};
+ghost use Rattle.std.specs.Prelude.{◌≡◌, ◌+◌, ◌<◌, ◌≤◌, ◌^◌, ℕ, [], ◌∷◌, ◌++◌, length, List, Some, true, option_map, slice_get};
 ghost use Rattle.mc_records.specs.declared.limits.Limits.{Limits as Bounds};
 ghost use Rattle.mc_records.specs.declared.refusal.Refusal.{Refusal};
 ghost use Rattle.mc_records.specs.Refusals.{number_of};
@@ -11,6 +11,7 @@ ghost use Rattle.ledger_model.specs.Histories.{History, time};
 ghost use Rattle.ledger_model.specs.Houses.{keeping};
 ghost use Rattle.ledger_model.specs.Pieces.{accepted, own_out, minted};
 ghost use Rattle.ledger_model.specs.Sums.{takings, values};
+ghost use Rattle.ledger_model.specs.Stages.{is_repeat};
 ghost use Rattle.ledger_model.specs.Answer.{answer, Take, Again};
 ghost use Rattle.ledger_model.specs.Lawful.{IsLawful, MayFollow};
 ghost use Rattle.ledger_model.specs.Replies.{reply_of, refusal_of, head_refusal};
@@ -30,10 +31,12 @@ pub fn fronts_are_lawful()
 
 /// After an entry was taken for a request, the same request is answered with that entry's number
 /// while the house time is below the entry's moment plus the keeping time, whatever follows the entry.
-#[tactic(auto, using(crate::proofs::ReplyLaws::again))]
+/// And an answer with a number is that of an entry of the same request, within the keeping time.
 pub fn taken_requests_repeat()
-    ensures { (h more : History) (t later : ℕ) (limits others : Bounds) (q : Asked) (e : Entry)
+    ensures again { (h more : History) (t later : ℕ) (limits others : Bounds) (q : Asked) (e : Entry)
         → answer h t limits q ≡ Take e → t ≤ later → later < t + keeping h → answer (h ++ e ∷ more) later others q ≡ Again (length h) }
+    ensures same { (h : History) (t : ℕ) (limits : Bounds) (q : Asked) (n : ℕ) → answer h t limits q ≡ Again n
+        → (text : List ℕ) × (q.scrip ≡ Some text) × (option_map (is_repeat (keeping h) t text q.target q.sign) (slice_get h n) ≡ Some true) }
 {}
 
 /// The first reply of an entry does not depend on later entries.
