@@ -13,7 +13,7 @@ ghost use Rattle.ledger_model.specs.Pieces.{accepted, own_out, minted};
 ghost use Rattle.ledger_model.specs.Sums.{takings, values};
 ghost use Rattle.ledger_model.specs.Stages.{is_repeat};
 ghost use Rattle.ledger_model.specs.Answer.{answer, Take, Again};
-ghost use Rattle.ledger_model.specs.Lawful.{IsLawful, MayFollow};
+ghost use Rattle.ledger_model.specs.Lawful.{IsLawful, IsFirstUnlawful, MayFollow};
 ghost use Rattle.ledger_model.specs.Replies.{reply_of, refusal_of, head_refusal};
 ghost use Rattle.ledger_model.specs.Laws.{AreDistinct, ArePaid, HaveNoGap, with_id};
 
@@ -27,6 +27,12 @@ pub fn accepted_once()
 #[tactic(auto, using(crate::proofs::FollowLaws::front_lawful))]
 pub fn fronts_are_lawful()
     ensures { (limits : Bounds) (e : Entry) (xs ys : History) → IsLawful limits ((e ∷ xs) ++ ys) → IsLawful limits (e ∷ xs) }
+{}
+
+/// A history with a first unlawful entry is not lawful, and there is one number of that entry.
+pub fn first_unlawful_is_one()
+    ensures unlawful { (limits : Bounds) (h : History) (n : ℕ) → IsFirstUnlawful limits h n → IsLawful limits h → ⊥ }
+    ensures one { (limits : Bounds) (h : History) (n m : ℕ) → IsFirstUnlawful limits h n → IsFirstUnlawful limits h m → n ≡ m }
 {}
 
 /// After an entry was taken for a request, the same request is answered with that entry's number

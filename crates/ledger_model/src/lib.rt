@@ -5,7 +5,7 @@
 mod laws;
 
 pub use laws::{
-    accepted_once, first_replies_stay, fronts_are_lawful, refused_heads_have_one_reply,
-    serials_have_no_gap, taken_entries_follow, taken_requests_repeat, values_are_kept,
-    values_are_paid,
+    accepted_once, first_replies_stay, first_unlawful_is_one, fronts_are_lawful,
+    refused_heads_have_one_reply, serials_have_no_gap, taken_entries_follow, taken_requests_repeat,
+    values_are_kept, values_are_paid,
 };
