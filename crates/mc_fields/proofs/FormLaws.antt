@@ -1,6 +1,6 @@
 -- What holds of every form: what is read is what a path through the form spells, and what a path spells
 -- is read again, whatever follows it.
-use Rattle.std.proofs.Common.{◌≡◌, ℕ, zero, suc, ◌+◌, ◌-◌, ◌^◌, ◌<◌, ◌≤◌, Bool, true, false, cond, ltb, IsTrue, List, [], ◌∷◌, ◌++◌, length, get_or, take, drop, Option, Some, None, Result, Ok, Err, refl, sym, ap, subst, ◌∙◌, append_assoc, append-nil, arith, ap₂, flat_map}
+use Rattle.std.proofs.Common.{◌≡◌, ℕ, zero, suc, ◌+◌, ◌-◌, ◌^◌, ◌<◌, ◌≤◌, Bool, true, false, ltb, IsTrue, List, [], ◌∷◌, ◌++◌, length, take, drop, Option, Some, None, Result, Ok, Err, refl, sym, ap, subst, ◌∙◌, append_assoc, append-nil, arith, ap₂, flat_map}
 use Rattle.std.specs.Prelude.{IfSome}
 use Rattle.std.specs.List.{AllByRecursion}
 use Rattle.std.proofs.lemmas.Bool.{ltb-false, le-ltb, ne_eqb}
@@ -8,7 +8,7 @@ use Rattle.std.proofs.lemmas.List.{take_at, drop_at, take-append-drop, length-ap
 use Rattle.mc_fields.specs.Field.{Size, two, limit, size, number_bytes, bytes_number, Field, field_bytes, flag_byte, spelled, FieldFits, optional_fields}
 use Rattle.mc_fields.specs.Field as field
 use Rattle.mc_fields.specs.Reading.{Read, ◌>>=◌, whole}
-use Rattle.mc_fields.specs.Form.{Form, done, number, flag, str, plain, followed, repeated, optional, optional_after, sized_at, flag_at, plain_at, counted_after, counted_at, passing, str_at, run, all_of}
+use Rattle.mc_fields.specs.Form.{Form, done, number, flag, str, plain, followed, repeated, optional, sized_at, flag_at, plain_at, counted_after, counted_at, passing, str_at, run, all_of}
 use Rattle.mc_fields.proofs.FieldBytes.{IsBytes, IsBytes-drop, IsBytes-take, IsBytes-rest, bind_ok, guard_ok, guard_else, ok_is, Takes, Takes-then, length-number_bytes, number_back, number_again, number_below}
 
 -- the values that a form lets stand, one after the other

@@ -19,7 +19,9 @@ mod tests;
 mod text;
 mod writing;
 
-pub use binary::{read_counted, read_flag, read_key, read_plain, read_str, read_u8, read_u16, read_u32, read_u64};
+pub use binary::{
+    read_counted, read_flag, read_key, read_plain, read_str, read_u8, read_u16, read_u32, read_u64,
+};
 pub use digits::read_hex;
 pub use literal::read_literal;
 pub use number::{number_of, read_number};

@@ -1,12 +1,12 @@
 -- Payloads: what is read is an entry's payload, each entry's payload is read, and none begins another.
-use Rattle.std.proofs.Common.{◌≡◌, ◌≢◌, ℕ, ◌+◌, ◌-◌, ◌<◌, ◌≤◌, Bool, true, false, cond, eqb, List, [], ◌∷◌, ◌++◌, length, Result, Ok, Err, refl, sym, ap, subst, ◌∙◌, arith}
+use Rattle.std.proofs.Common.{◌≡◌, ◌≢◌, ℕ, ◌≤◌, Bool, true, false, cond, eqb, List, ◌∷◌, ◌++◌, length, Result, Ok, Err, refl, sym, ap, subst, ◌∙◌, arith}
 use Rattle.std.specs.List.{AllByRecursion}
 use Rattle.std.proofs.lemmas.Bool.{eqb-true}
 use Rattle.std.proofs.lemmas.Bool.Decides.{nat_tests}
 use Rattle.std.proofs.lemmas.List.{length-append}
 use Rattle.mc_fields.specs.Reading.{Read, whole}
 use Rattle.mc_fields.specs.Field.{Field, FieldFits, spelled}
-use Rattle.mc_fields.specs.Form.{Form, run, all_of}
+use Rattle.mc_fields.specs.Form.{Form, run}
 use Rattle.mc_fields.proofs.FieldBytes.{IsBytes, ok_is}
 use Rattle.mc_fields.proofs.FormLaws.{Path, answer, path_fields, path_fits, whole_takes, whole_reads, whole_more, run_reads}
 use Rattle.mc_records.specs.Entry.{Entry, fields, payload, Fits, IsMoment}

@@ -1,15 +1,15 @@
 -- Each kind of entry: its form, its table of fields and its ranges belong together.
-use Rattle.std.proofs.Common.{◌≡◌, ℕ, ◌^◌, ◌<◌, ◌≤◌, IsTrue, List, [], ◌∷◌, ◌++◌, length, refl, sym, ◌∙◌, ap, arith, zero-le}
+use Rattle.std.proofs.Common.{◌≡◌, ℕ, ◌≤◌, List, [], ◌∷◌, ◌++◌, refl, sym, ◌∙◌, ap, arith, zero-le}
 use Rattle.scrip_form.specs.Texts.{IsName, IsTarget, is_name, is_target}
 use Rattle.scrip_form.specs.Scrip.{IsScripText}
 use Rattle.scrip_form.specs.Reading.{is_scrip}
 use Rattle.scrip_form.proofs.TextTests.{name_decides, target_decides, scrip_decides, scrip_is_short}
-use Rattle.mc_fields.specs.Field.{one, two, four, eight, Field, number, flag, str, plain}
+use Rattle.mc_fields.specs.Field.{one, four, eight, Field, number, str, plain}
 use Rattle.mc_fields.specs.Form as forms
 use Rattle.mc_fields.specs.Form.{Form, done, followed}
 use Rattle.mc_fields.proofs.FormLaws.{Path, Leads, Tells, done_leads, number_leads, str_leads, plain_leads, part_leads, last_leads, part_tells, last_tells}
 use Rattle.mc_records.specs.Entry.{Entry, Site, AddTerms, Goods, Accept, Mint, Account, Deposit, Withdraw, Draw, Licence, Stock, Got, Pend, Done, Refused, fields, Fits, IsMoment, IsAmount, IsLong, sign_fields, change_fields, text_fields}
-use Rattle.mc_records.specs.Forms.{long, amount, sign_form, change_form, deed_form, text_form, got_form, site_form, add_terms_form, goods_form, accept_form, mint_form, account_form, deposit_form, withdraw_form, draw_form, licence_form, stock_form, got_pieces_form, pend_form, done_form, refused_form, kind_form, entry_form}
+use Rattle.mc_records.specs.Forms.{long, amount, site_form, add_terms_form, goods_form, accept_form, mint_form, account_form, deposit_form, withdraw_form, draw_form, licence_form, stock_form, got_pieces_form, pend_form, done_form, refused_form, kind_form, entry_form}
 use Rattle.mc_records.proofs.PartLaws.{sign_described, change_described, text_described, got_described, pieces_described, deed_described, terms_described, house_described, kind_of_site}
 
 -- ---- from a path through a kind's form to an entry that fits
@@ -41,9 +41,9 @@ pub accept_tells : (m : ℕ) → IsMoment m → (p : Path (accept_form m)) → K
 unfolding accept_form
 accept_tells m moment (scrip, scrip_ok, _, (target, ok, _, p)) =
     part_tells fields Fits (λ t. front 4 m (str scrip ∷ str target ∷ t)) _ sign_described (λ sign sign_fits (price, _, _, price_fits, q).
-      part_tells fields Fits (λ t. front 4 m (str scrip ∷ str target ∷ (sign_fields sign ++ (number eight price ∷ t)))) _ change_described (λ change change_fits r.
-        last_tells fields Fits (λ t. front 4 m (str scrip ∷ str target ∷ (sign_fields sign ++ (number eight price ∷ (change_fields change ++ t))))) (Accept m scrip target sign price change) deed_described (λ deed deed_fits.
-          (refl, record { moment = moment; scrip = (scrip_decides scrip).0 scrip_ok; target = (target_decides target).0 ok; sign = sign_fits; price = price_fits; change = change_fits; deed = deed_fits })) r) q) p
+    part_tells fields Fits (λ t. front 4 m (str scrip ∷ str target ∷ (sign_fields sign ++ (number eight price ∷ t)))) _ change_described (λ change change_fits r.
+    last_tells fields Fits (λ t. front 4 m (str scrip ∷ str target ∷ (sign_fields sign ++ (number eight price ∷ (change_fields change ++ t))))) (Accept m scrip target sign price change) deed_described (λ deed deed_fits.
+    (refl, record { moment = moment; scrip = (scrip_decides scrip).0 scrip_ok; target = (target_decides target).0 ok; sign = sign_fits; price = price_fits; change = change_fits; deed = deed_fits })) r) q) p
 
 pub mint_tells : (m : ℕ) → IsMoment m → (p : Path (mint_form m)) → KindTells 5 m (mint_form m) p
 unfolding mint_form
@@ -86,14 +86,14 @@ pub pend_tells : (m : ℕ) → IsMoment m → (p : Path (pend_form m)) → KindT
 unfolding pend_form
 pend_tells m moment (ask, _, high, _, (peer, peer_ok, _, (target, ok, _, p))) =
     part_tells fields Fits (λ t. front 13 m (number one ask ∷ str peer ∷ str target ∷ t)) _ text_described (λ scrip good (secret, len, _).
-      (refl, record { moment = moment; ask = omega arith; peer = (name_decides peer).0 peer_ok; target = (target_decides target).0 ok; scrip = good; secret = len })) p
+    (refl, record { moment = moment; ask = omega arith; peer = (name_decides peer).0 peer_ok; target = (target_decides target).0 ok; scrip = good; secret = len })) p
 
 pub done_tells : (m : ℕ) → IsMoment m → (p : Path (done_form m)) → KindTells 14 m (done_form m) p
 unfolding done_form
 done_tells m moment (n, _, _, n_fits, (price, _, _, price_fits, p)) =
     part_tells fields Fits (λ t. front 14 m (number eight n ∷ number eight price ∷ t)) _ text_described (λ change change_fits q.
-      last_tells fields Fits (λ t. front 14 m (number eight n ∷ number eight price ∷ (text_fields change ++ t))) (Done m n price change) got_described (λ got got_fits.
-        (refl, record { moment = moment; number = n_fits; price = price_fits; change = change_fits; got = got_fits })) q) p
+    last_tells fields Fits (λ t. front 14 m (number eight n ∷ number eight price ∷ (text_fields change ++ t))) (Done m n price change) got_described (λ got got_fits.
+    (refl, record { moment = moment; number = n_fits; price = price_fits; change = change_fits; got = got_fits })) q) p
 
 pub refused_tells : (m : ℕ) → IsMoment m → (p : Path (refused_form m)) → KindTells 15 m (refused_form m) p
 unfolding refused_form
@@ -131,10 +131,10 @@ leads (Site m kind name house) fits =
 leads (AddTerms m terms) fits = at_kind 2 m _ _ (omega arith) (omega arith) fits.moment refl (last_leads _ (terms_described 1 255 (omega arith)) fits.terms done_leads)
 leads (Goods m target price kind contents) fits =
     at_kind 3 m _ _ (omega arith) (omega arith) fits.moment refl (target_leads fits.target (amount_leads fits.price (number_leads zero-le (omega (arith, fits.kind)) (omega (arith, fits.kind))
-      (number_leads zero-le fits.contents (omega (arith, fits.contents)) (plain_leads refl done_leads)))))
+    (number_leads zero-le fits.contents (omega (arith, fits.contents)) (plain_leads refl done_leads)))))
 leads (Accept m scrip target sign price change deed) fits =
     at_kind 4 m _ _ (omega arith) (omega arith) fits.moment refl (scrip_leads fits.scrip (target_leads fits.target (part_leads _ sign_described fits.sign
-      (long_leads fits.price (part_leads _ change_described fits.change (last_leads _ deed_described fits.deed done_leads))))))
+    (long_leads fits.price (part_leads _ change_described fits.change (last_leads _ deed_described fits.deed done_leads))))))
 leads (Mint m reference count value first) fits =
     at_kind 5 m _ _ (omega arith) (omega arith) fits.moment refl (name_leads fits.reference (number_leads fits.count.0 fits.count.1 (omega (arith, fits.count.1)) (amount_leads fits.value (long_leads fits.first done_leads))))
 leads (Account m name key) fits = at_kind 6 m _ _ (omega arith) (omega arith) fits.moment refl (name_leads fits.name (plain_leads fits.key done_leads))
@@ -146,6 +146,6 @@ leads (Stock m vendor pieces) fits = at_kind 11 m _ _ (omega arith) (omega arith
 leads (Got m pieces) fits = at_kind 12 m _ _ (omega arith) (omega arith) fits.moment refl (last_leads _ pieces_described fits.pieces done_leads)
 leads (Pend m ask peer target scrip secret) fits =
     at_kind 13 m _ _ (omega arith) (omega arith) fits.moment refl (number_leads zero-le (omega (arith, fits.ask)) (omega (arith, fits.ask)) (name_leads fits.peer (target_leads fits.target
-      (part_leads _ text_described fits.scrip (plain_leads fits.secret done_leads)))))
+    (part_leads _ text_described fits.scrip (plain_leads fits.secret done_leads)))))
 leads (Done m n price change got) fits = at_kind 14 m _ _ (omega arith) (omega arith) fits.moment refl (long_leads fits.number (long_leads fits.price (part_leads _ text_described fits.change (last_leads _ got_described fits.got done_leads))))
 leads (Refused m n refusal) fits = at_kind 15 m _ _ (omega arith) (omega arith) fits.moment refl (long_leads fits.number (number_leads zero-le (omega (arith, fits.refusal)) fits.refusal done_leads))

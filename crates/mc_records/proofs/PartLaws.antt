@@ -1,10 +1,9 @@
 -- The parts of entries: the form of each, its table of fields and its ranges belong together.
-use Rattle.std.proofs.Common.{◌≡◌, ℕ, zero, suc, ◌^◌, ◌<◌, ◌≤◌, Bool, true, false, IsTrue, List, [], ◌∷◌, ◌++◌, length, Option, Some, None, refl, sym, ap, subst, ◌∙◌, append-nil, ap₂, arith, zero-le}
+use Rattle.std.proofs.Common.{◌≡◌, ℕ, zero, suc, ◌^◌, ◌<◌, ◌≤◌, Bool, List, [], ◌∷◌, ◌++◌, length, Option, Some, None, refl, sym, ap, subst, ◌∙◌, append-nil, ap₂, arith, zero-le}
 use Rattle.std.specs.Prelude.{IfSome}
-use Rattle.scrip_form.specs.Texts.{IsName, IsTarget}
 use Rattle.scrip_form.specs.Scrip.{IsScripText}
 use Rattle.scrip_form.specs.Reading.{is_scrip}
-use Rattle.scrip_form.specs.Issuing.{Issuing, HasPeriod}
+use Rattle.scrip_form.specs.Issuing.{Issuing}
 use Rattle.scrip_form.proofs.TextTests.{scrip_decides, scrip_is_short}
 use Rattle.mc_fields.specs.Field.{one, two, four, eight, Field, number, flag, str, plain}
 use Rattle.mc_fields.specs.Form as forms
@@ -35,7 +34,7 @@ scrip_described = record {
 
 -- ---- a scrip text with its secret, and lists of them
 
-held_described : Describes held_form held_fields HeldFits
+pub held_described : Describes held_form held_fields HeldFits
 unfolding held_form
 held_described = record { tells = tells; leads = leads }
   where

@@ -6,9 +6,13 @@
 
 mod date_law;
 mod kinds;
+mod law;
 mod limits;
+mod listing;
 mod parts;
 mod piece_list;
+mod piece_lists;
+mod reading;
 mod record;
 mod refusal;
 mod refusal_text;
@@ -17,8 +21,10 @@ mod request;
 mod tests;
 
 pub use date_law::date_of_its_second;
+pub use law::{bytes_after_a_payload, no_payload_begins_another};
 pub use limits::Limits;
 pub use piece_list::PieceList;
+pub use reading::read_record;
 pub use record::{Record, RecordDeed, RecordFault, SiteTerms};
 pub use refusal::Refusal;
 pub use refusal_text::{MOST_REFUSAL_BYTES, put_refusal_text};

@@ -1,5 +1,5 @@
 -- The tests of texts decide.
-use Rattle.std.proofs.Common.{◌≡◌, ◌↔◌, ℕ, ◌≤◌, ◌<◌, ◌^◌, Bool, true, List, length, Result, Ok, Err, refl, arith}
+use Rattle.std.proofs.Common.{◌≡◌, ◌↔◌, ℕ, ◌≤◌, true, List, length, Result, Ok, Err, refl}
 use Rattle.std.specs.Prelude.{is_ok}
 use Rattle.mc_fields.proofs.TextTest.{text_decides}
 use Rattle.scrip_form.specs.Texts.{IsName, IsTarget, is_name, is_target, is_letter_or_digit, is_name_byte, is_slash, is_visible}

@@ -1,6 +1,4 @@
-use Rattle.std.proofs.Common.{◌≡◌, ◌∙◌, sym, ap, Bool, true, false, Err, Ok}
-use Rattle.mc_fields.specs.Reading.{◌>>=◌, Read}
-use Rattle.mc_fields.specs.Form.{str_at, passing}
+use Rattle.std.proofs.Common.{◌∙◌, sym}
 use Rattle.mc_fields.specs.Texts.{is_text}
 use Rattle.mc_fields.proofs.TextTest.{is_text_by}
 use Rattle.mc_fields.proofs.FormLaws.{str_passes, str_fails}

@@ -1,6 +1,6 @@
 use Rattle.std.proofs.Common.{arith, ◌<◌, ◌∙◌, length}
 use Rattle.std.proofs.lemmas.List.{take_more_set, length-set}
-use Rattle.mc_fields.specs.Form.{run, repeated, plain, done}
+use Rattle.mc_fields.specs.Form.{plain, done}
 use Rattle.mc_fields.proofs.FormLaws.{goes_on, ends, plain_alone}
 use Rattle.mc_records.proofs.parts.secrets_list.Goals as goal
 
