@@ -1,0 +1,12 @@
+pub mod Histories
+pub mod Payloads
+pub mod Houses
+pub mod Goods
+pub mod Pieces
+pub mod Sums
+pub mod Lines
+pub mod Stages
+pub mod Answer
+pub mod Lawful
+pub mod Replies
+pub mod Laws
