@@ -1,5 +1,8 @@
 pub mod HistoryLemmas
 pub mod WordLaws
+pub mod OpeningLemmas
+pub mod SizeLemmas
+pub mod LedgerLemmas
 pub mod SendLemmas
 pub mod TurnLemmas
 pub mod ServingLemmas

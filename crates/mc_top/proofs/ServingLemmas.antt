@@ -13,8 +13,8 @@ use Rattle.millicent_http.proofs.ReadLemmas.{read_more, read_item, read_all, rea
 use Rattle.mc_top.specs.declared.serving.Turn.{Turn}
 use Rattle.mc_top.specs.declared.serving.Turn.TheVariants as turns
 use Rattle.mc_top.specs.Words.{Shop}
-use Rattle.mc_top.specs.Ledger.{Accepted, State, Stop, refuse, deny, repeat, lines}
-use Rattle.mc_top.specs.Session.{step, answered, answered_at, raised, opened, replies, state_after}
+use Rattle.ledger_model.specs.Answer.{Answer, Refused, Again, Take, answer}
+use Rattle.mc_top.specs.Session.{State, full, step, answered, answered_at, raised, opened, replies, state_after}
 use Rattle.mc_top.specs.Course.{IsServed, BrokeReceiving, BrokeSending, EndLink, reply_after}
 use Rattle.mc_top.specs.Turns.{Answered, Waited, Turned, Ended}
 
@@ -48,34 +48,33 @@ told_on before now got more sent reply e = sent_step (heard (got ++ more) before
 
 -- ---- the replies to one more item
 
-pub replies_more : (shop : Shop) (s : State) (items : List Item) (item : Item)
-    → replies shop s (items ++ item ∷ []) ≡ replies shop s items ++ (step shop (state_after shop s items) 0 item).reply
+pub replies_more : (s : State) (items : List Item) (item : Item)
+    → replies s (items ++ item ∷ []) ≡ replies s items ++ (step (state_after s items) 0 item).reply
 unfolding replies state_after
-replies_more shop s [] item = append-nil (step shop s 0 item).reply
-replies_more shop s (i ∷ items) item =
-    ap (λ (l : List ℕ). (step shop s 0 i).reply ++ l) (replies_more shop (step shop s 0 i).state items item)
-    ∙ sym (append_assoc (step shop s 0 i).reply (replies shop (step shop s 0 i).state items) (step shop (state_after shop (step shop s 0 i).state items) 0 item).reply)
+replies_more s [] item = append-nil (step s 0 item).reply
+replies_more s (i ∷ items) item =
+    ap (λ (l : List ℕ). (step s 0 i).reply ++ l) (replies_more (step s 0 i).state items item)
+    ∙ sym (append_assoc (step s 0 i).reply (replies (step s 0 i).state items) (step (state_after (step s 0 i).state items) 0 item).reply)
 
-pub state_more : (shop : Shop) (s : State) (items : List Item) (item : Item)
-    → state_after shop s (items ++ item ∷ []) ≡ (step shop (state_after shop s items) 0 item).state
+pub state_more : (s : State) (items : List Item) (item : Item)
+    → state_after s (items ++ item ∷ []) ≡ (step (state_after s items) 0 item).state
 unfolding state_after
-state_more shop s [] item = refl
-state_more shop s (i ∷ items) item = state_more shop (step shop s 0 i).state items item
+state_more s [] item = refl
+state_more s (i ∷ items) item = state_more (step s 0 i).state items item
 
 -- a step adds one entry at the most
-answered-short : (shop : Shop) (s : State) (q : Asked) (r : Result Accepted Stop) → length (answered shop s q r).state.history ≤ length s.history + 1
-answered-short shop s q (Ok e) = omega (arith, length-append s.history (e ∷ []))
-answered-short shop s q (Err (refuse f)) = omega arith
-answered-short shop s q (Err (deny text p f)) = omega arith
-answered-short shop s q (Err (repeat e)) = omega arith
+answered-short : (s : State) (q : Asked) (a : Answer) → length (answered s q a).state.history ≤ length s.history + 1
+answered-short s q (Take e) = omega (arith, length-append s.history (e ∷ []))
+answered-short s q (Again number) = omega arith
+answered-short s q (Refused f) = omega arith
 
-at-short : (shop : Shop) (s : State) (item : Item) → length (answered_at shop s item).state.history ≤ length s.history + 1
-at-short shop s (request q c) = answered-short shop s q (lines shop s q)
-at-short shop s (refused f c) = omega arith
+at-short : (s : State) (item : Item) → length (answered_at s item).state.history ≤ length s.history + 1
+at-short s (request q c) = answered-short s q (answer s.history s.time full q)
+at-short s (refused f c) = omega arith
 
-pub step-short : (shop : Shop) (s : State) (reading : ℕ) (item : Item) → length (step shop s reading item).state.history ≤ length s.history + 1
+pub step-short : (s : State) (reading : ℕ) (item : Item) → length (step s reading item).state.history ≤ length s.history + 1
 unfolding step
-step-short shop s reading item = at-short shop (raised s reading) item
+step-short s reading item = at-short (raised s reading) item
 
 -- ---- turn by turn
 
@@ -87,11 +86,11 @@ pub record IsServing (shop : Shop) (before : LinkView) (s : State) (h : Held) (n
   pub opens : NoneCloses items
   pub len : length items ≡ h.given
   pub few : h.given < 1000
-  pub state : s ≡ state_after shop opened items
-  pub room : length s.history ≤ h.given
-  pub link : now ≡ told (replies shop opened items) (heard got before)
+  pub state : s ≡ state_after (opened shop) items
+  pub room : length s.history ≤ h.given + 3
+  pub link : now ≡ told (replies (opened shop) items) (heard got before)
 
-pub serving_starts : (shop : Shop) (s : State) (h : Held) (v : LinkView) → s ≡ opened → h ≡ nothing_held → IsServing shop v s h v
+pub serving_starts : (shop : Shop) (s : State) (h : Held) (v : LinkView) → s ≡ opened shop → h ≡ nothing_held → IsServing shop v s h v
 unfolding replies state_after
 serving_starts shop s h v opened' empty = record {
   got = [];
@@ -110,7 +109,7 @@ none_more [] item n c = (c, tt)
 none_more (i ∷ items) item n c = (n.0, none_more items item n.1 c)
 
 -- an item was answered, and the link goes on
-pub serving_goes_on : (shop : Shop) (before : LinkView) (s t : State) (h k : Held) (now next : LinkView) → IsServing shop before s h now → Answered shop s h now turns.GoOn t k next
+pub serving_goes_on : (shop : Shop) (before : LinkView) (s t : State) (h k : Held) (now next : LinkView) → IsServing shop before s h now → Answered s h now turns.GoOn t k next
     → IsServing shop before t k next
 serving_goes_on shop before s t h k now next so a =
     let open' : closes a.item ≡ false = not_true (closes a.item) (λ e. a.sent.0 (a.took.after_is.1 (inl e))) in
@@ -124,15 +123,15 @@ serving_goes_on shop before s t h k now next so a =
       opens = none_more so.items a.item so.opens open';
       len = omega (arith, len, so.len, given);
       few = omega (arith, given, so.few, last);
-      state = a.state ∙ ap (λ (u : State). (step shop u 0 a.item).state) so.state ∙ sym (state_more shop opened so.items a.item);
-      room = omega (arith, ap (λ (u : State). length u.history) a.state, step-short shop s 0 a.item, so.room, given);
-      link = a.sent.1 ∙ told_on before now so.got a.more (replies shop opened so.items) (step shop s 0 a.item).reply so.link
-          ∙ ap (λ (u : State). told (replies shop opened so.items ++ (step shop u 0 a.item).reply) (heard (so.got ++ a.more) before)) so.state
-          ∙ ap (λ (l : List ℕ). told l (heard (so.got ++ a.more) before)) (sym (replies_more shop opened so.items a.item));
+      state = a.state ∙ ap (λ (u : State). (step u 0 a.item).state) so.state ∙ sym (state_more (opened shop) so.items a.item);
+      room = omega (arith, ap (λ (u : State). length u.history) a.state, step-short s 0 a.item, so.room, given);
+      link = a.sent.1 ∙ told_on before now so.got a.more (replies (opened shop) so.items) (step s 0 a.item).reply so.link
+          ∙ ap (λ (u : State). told (replies (opened shop) so.items ++ (step u 0 a.item).reply) (heard (so.got ++ a.more) before)) so.state
+          ∙ ap (λ (l : List ℕ). told l (heard (so.got ++ a.more) before)) (sym (replies_more (opened shop) so.items a.item));
     }
 
 -- an item was answered that ends the link
-pub serving_closes : (shop : Shop) (before : LinkView) (s t : State) (h k : Held) (now next : LinkView) → IsServing shop before s h now → Answered shop s h now turns.Last t k next
+pub serving_closes : (shop : Shop) (before : LinkView) (s t : State) (h k : Held) (now next : LinkView) → IsServing shop before s h now → Answered s h now turns.Last t k next
     → IsServed shop before next
 serving_closes shop before s t h k now next so a =
     let got : List ℕ = so.got ++ a.more in
@@ -154,9 +153,9 @@ serving_closes shop before s t h k now next so a =
       heads = ends.0;
       read = heard got before;
       to_end = inr (refl, ends.1);
-      sent = a.sent.1 ∙ told_on before now so.got a.more (replies shop opened so.items) (step shop s 0 a.item).reply so.link
-          ∙ ap (λ (u : State). told (replies shop opened so.items ++ (step shop u 0 a.item).reply) (heard got before)) so.state
-          ∙ ap (λ (l : List ℕ). told l (heard got before)) (sym (replies_more shop opened so.items a.item));
+      sent = a.sent.1 ∙ told_on before now so.got a.more (replies (opened shop) so.items) (step s 0 a.item).reply so.link
+          ∙ ap (λ (u : State). told (replies (opened shop) so.items ++ (step u 0 a.item).reply) (heard got before)) so.state
+          ∙ ap (λ (l : List ℕ). told l (heard got before)) (sym (replies_more (opened shop) so.items a.item));
     }
 
 -- the items read when what was received ends no further one
@@ -172,8 +171,8 @@ serving_ends shop before s h now next so w = record {
   heads = ending shop before s h now w.more so w.none;
   read = finished (heard (so.got ++ w.more) before);
   to_end = inl refl;
-  sent = w.then' ∙ ap (λ (v : LinkView). finished v) (heard_on before now so.got w.more (replies shop opened so.items) so.link)
-      ∙ finished_told (heard (so.got ++ w.more) before) (replies shop opened so.items);
+  sent = w.then' ∙ ap (λ (v : LinkView). finished v) (heard_on before now so.got w.more (replies (opened shop) so.items) so.link)
+      ∙ finished_told (heard (so.got ++ w.more) before) (replies (opened shop) so.items);
 }
 
 -- receiving failed
@@ -183,14 +182,14 @@ serving_broke shop before s h now next so w = record {
   got = so.got ++ w.more;
   items = so.items;
   heads = ending shop before s h now w.more so w.none;
-  fault = subst (λ (v : LinkView). Failed v next) (heard_on before now so.got w.more (replies shop opened so.items) so.link) w.then';
+  fault = subst (λ (v : LinkView). Failed v next) (heard_on before now so.got w.more (replies (opened shop) so.items) so.link) w.then';
 }
 
 -- sending failed
-pub serving_stops : (shop : Shop) (before : LinkView) (s t : State) (h k : Held) (now next : LinkView) → IsServing shop before s h now → Answered shop s h now turns.NotSent t k next
+pub serving_stops : (shop : Shop) (before : LinkView) (s t : State) (h k : Held) (now next : LinkView) → IsServing shop before s h now → Answered s h now turns.NotSent t k next
     → BrokeSending shop before next
 serving_stops shop before s t h k now next so a =
-    let same : (step shop s 0 a.item).reply ≡ reply_after shop so.items a.item = ap (λ (u : State). (step shop u 0 a.item).reply) so.state in
+    let same : (step s 0 a.item).reply ≡ reply_after shop so.items a.item = ap (λ (u : State). (step u 0 a.item).reply) so.state in
     record {
       got = so.got ++ a.more;
       front = so.items;
@@ -204,13 +203,13 @@ serving_stops shop before s t h k now next so a =
       n = a.sent.0;
       part = omega (arith, a.sent.1, ap length same);
       fault = subst (λ (v : LinkView). Failed v next)
-          (told_on before now so.got a.more (replies shop opened so.items) (take a.sent.0 (step shop s 0 a.item).reply) so.link
-          ∙ ap (λ (r : List ℕ). told (replies shop opened so.items ++ take a.sent.0 r) (heard (so.got ++ a.more) before)) same) a.sent.2;
+          (told_on before now so.got a.more (replies (opened shop) so.items) (take a.sent.0 (step s 0 a.item).reply) so.link
+          ∙ ap (λ (r : List ℕ). told (replies (opened shop) so.items ++ take a.sent.0 r) (heard (so.got ++ a.more) before)) same) a.sent.2;
     }
 
 -- the last turn
 pub serving_ended : (turn : Turn) (shop : Shop) (before : LinkView) (s t : State) (h k : Held) (now next : LinkView) → (turn ≡ turns.GoOn → ⊥) → IsServing shop before s h now
-    → Turned turn shop s h now t k next → Ended turn shop before next
+    → Turned turn s h now t k next → Ended turn shop before next
 serving_ended turns.GoOn shop before s t h k now next not so turned = absurd (not refl)
 serving_ended turns.Last shop before s t h k now next not so turned = serving_closes shop before s t h k now next so turned
 serving_ended turns.End shop before s t h k now next not so turned = serving_ends shop before s h now next so turned

@@ -9,6 +9,7 @@ use Rattle.mc_fields.proofs.Formats.{done_is}
 use Rattle.mc_fields.proofs.HexField.{hex_reads}
 use Rattle.mc_fields.proofs.NumberField.{number_reads}
 use Rattle.mc_top.specs.Words.{Shop, AreWordsOf}
+use Rattle.mc_top.specs.Opening.{IsOfRange}
 
 -- the bytes of some digits are one list
 same_secret : (a b : List ℕ) → IsCert a → IsCert b → encode_lower a ≡ encode_lower b → a ≡ b
@@ -32,3 +33,7 @@ one_shop words a b fa fb =
     let p = same_number a.price b.price fa.price fb.price price in
     let s = same_secret a.secret b.secret fa.secret fb.secret secret in
     λ i. record { name = name i; target = target i; price = p i; secret = s i; contents = contents i }
+
+-- the ranges of a shop that has words
+pub range_of_words : (words : List (List ℕ)) (shop : Shop) → AreWordsOf words shop → IsOfRange shop
+range_of_words words shop is = record { name = is.name.short; target = is.target.short; contents = is.contents; secret = is.secret.0 }

@@ -20,7 +20,7 @@ pub record AreFirst (got : List ℕ) (front : List Item) (last : Item) : Type 0 
 
 -- the reply to an item after these
 abbrev pub reply_after : Shop → List Item → Item → List ℕ
-reply_after shop front last = (step shop (state_after shop opened front) 0 last).reply
+reply_after shop front last = (step (state_after (opened shop) front) 0 last).reply
 
 -- Every item of what was received was answered, and the link was read to its end, or to an item that
 -- ends it.
@@ -30,14 +30,14 @@ pub record IsServed (shop : Shop) (before after : LinkView) : Type 0 where
   pub heads : Heads got items
   pub read : LinkView
   pub to_end : (read ≡ finished (heard got before)) ⊎ ((read ≡ heard got before) × EndLink items)
-  pub sent : after ≡ told (replies shop opened items) read
+  pub sent : after ≡ told (replies (opened shop) items) read
 
 -- A `recv` failed when every item of what was received was answered.
 pub record BrokeReceiving (shop : Shop) (before after : LinkView) : Type 0 where
   pub got : List ℕ
   pub items : List Item
   pub heads : Heads got items
-  pub fault : Failed (told (replies shop opened items) (heard got before)) after
+  pub fault : Failed (told (replies (opened shop) items) (heard got before)) after
 
 -- A `send` failed: the replies to the first items were sent whole, and of the last one's a proper first
 -- part.
@@ -48,7 +48,7 @@ pub record BrokeSending (shop : Shop) (before after : LinkView) : Type 0 where
   pub first : AreFirst got front last
   pub n : ℕ
   pub part : n < length (reply_after shop front last)
-  pub fault : Failed (told (replies shop opened front ++ take n (reply_after shop front last)) (heard got before)) after
+  pub fault : Failed (told (replies (opened shop) front ++ take n (reply_after shop front last)) (heard got before)) after
 
 -- What becomes of a link that was taken: it is served whole, or up to a fault of one of its calls, and
 -- then ended.

@@ -1,11 +1,10 @@
 pub mod Words
 pub mod Seven
+pub mod Opening
 pub mod Opened
-pub mod Lines
-pub mod Ledger
 pub mod Entries
 pub mod Told
-pub mod Replies
+pub mod Gifts
 pub mod Session
 pub mod Statuses
 pub mod Course

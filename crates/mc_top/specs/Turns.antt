@@ -9,8 +9,7 @@ use Rattle.millicent_http.specs.Takes.{TookItem}
 use Rattle.mc_top.specs.declared.serving.Turn.{Turn}
 use Rattle.mc_top.specs.declared.serving.Turn.TheVariants.{GoOn, Last, End, NotReceived, NotSent}
 use Rattle.mc_top.specs.Words.{Shop}
-use Rattle.mc_top.specs.Ledger.{State}
-use Rattle.mc_top.specs.Session.{step}
+use Rattle.mc_top.specs.Session.{State, step}
 use Rattle.mc_top.specs.Course.{IsServed, BrokeReceiving, BrokeSending}
 
 -- how sending a reply went
@@ -23,13 +22,13 @@ Sent after reply NotSent before link = (n : ℕ) × (n < length reply) × Failed
 
 -- from these books, these bytes held and this link on, an item was taken and its reply was sent, or
 -- not the whole of it
-pub record Answered (shop : Shop) (a : State) (old : Held) (before : LinkView) (turn : Turn) (b : State) (new : Held) (link : LinkView) : Type 0 where
+pub record Answered (a : State) (old : Held) (before : LinkView) (turn : Turn) (b : State) (new : Held) (link : LinkView) : Type 0 where
   pub more : List ℕ
   pub item : Item
   pub after : After
   pub took : TookItem (old.bytes ++ more) old.given item after new
-  pub state : b ≡ (step shop a 0 item).state
-  pub sent : Sent after (step shop a 0 item).reply turn (heard more before) link
+  pub state : b ≡ (step a 0 item).state
+  pub sent : Sent after (step a 0 item).reply turn (heard more before) link
 
 -- what was received ended no item
 pub record Waited (old : Held) (before : LinkView) (Then : LinkView → LinkView → Type 0) (link : LinkView) : Type 0 where
@@ -37,12 +36,12 @@ pub record Waited (old : Held) (before : LinkView) (Then : LinkView → LinkView
   pub none : EndsNoItem (old.bytes ++ more)
   pub then' : Then (heard more before) link
 
-abbrev pub Turned : Turn → Shop → State → Held → LinkView → State → Held → LinkView → Type 0
-Turned GoOn shop a old before b new link = Answered shop a old before GoOn b new link
-Turned Last shop a old before b new link = Answered shop a old before Last b new link
-Turned End shop a old before b new link = Waited old before (λ v w. w ≡ finished v) link
-Turned NotReceived shop a old before b new link = Waited old before Failed link
-Turned NotSent shop a old before b new link = Answered shop a old before NotSent b new link
+abbrev pub Turned : Turn → State → Held → LinkView → State → Held → LinkView → Type 0
+Turned GoOn a old before b new link = Answered a old before GoOn b new link
+Turned Last a old before b new link = Answered a old before Last b new link
+Turned End a old before b new link = Waited old before (λ v w. w ≡ finished v) link
+Turned NotReceived a old before b new link = Waited old before Failed link
+Turned NotSent a old before b new link = Answered a old before NotSent b new link
 
 -- how the last turn ended the link
 abbrev pub Ended : Turn → Shop → LinkView → LinkView → Type 0

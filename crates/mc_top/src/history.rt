@@ -1,12 +1,15 @@
-ghost use Rattle.std.specs.Prelude.{◌≡◌, ◌++◌, ◌<◌, ◌==◌, ◌^◌, [], ◌∷◌, length, find, count_by, option_map, IfOk, IfSome};
+ghost use Rattle.std.specs.Prelude.{◌≡◌, ◌++◌, ◌<◌, ◌==◌, [], ◌∷◌, Some, length, position, count_by, slice_get, IfOk};
 ghost use Rattle.std.specs.List.{list_any};
-ghost use Rattle.std.specs.Option.{option_copied};
 ghost use Rattle.mc_records.specs.Requests.{seen};
-ghost use Rattle.mc_top.specs.Ledger as ledger;
-ghost use Rattle.mc_top.specs.Ledger.{same_option, is_repeat, is_spent};
-ghost use Rattle.mc_top.specs.Entries.{accepted_of};
+ghost use Rattle.ledger_model.specs.Stages.{is_same_sign};
+ghost use Rattle.ledger_model.specs.Stages as stages;
+ghost use Rattle.mc_top.specs.Opening.{entry_of, is_of_series};
+ghost use Rattle.mc_top.specs.Entries.{kept_of};
 
+use crate::shop::Shop;
 use mc_base::{Moment, NoMemory};
+use mc_records::Request;
+use scrip_certs::hex_of;
 use scrip_form::{Id, ScripText};
 use std::alloc::Global;
 use std::marker::Model;
@@ -14,31 +17,34 @@ use std::marker::Model;
 /// The most entries, one for each item of a link.
 const MOST_ENTRIES: usize = 1000;
 
+/// How long a request gets its first reply again, in seconds.
+const KEEPING_TIME: u64 = 600;
+
 /// An entry for a piece that was accepted: the moment, the scrip text and the signature of its request,
 /// and the identities of the piece and of its change.
 #[derive(Clone, Copy)]
 pub(crate) struct Entry {
     pub(crate) moment: Moment,
     pub(crate) scrip: ScripText,
-    pub(crate) sign: Option<[u8; 32]>,
+    pub(crate) sign: Option<[u8; 16]>,
     pub(crate) id: Id,
     pub(crate) change: Option<Id>,
 }
 
 impl Entry {
     /// Whether this is the entry of such a request, and its keeping time has not ended.
-    fn is_repeat(&self, keep: u64, time: Moment, scrip: &[u8], sign: Option<&[u8]>) -> bool
-        requires { keep < 2 ^ 32 }
-        ensures { result ≡ is_repeat keep time scrip.now (seen sign.entry) (accepted_of self.now) }
+    fn is_repeat(&self, shop: &Shop<'_>, time: Moment, scrip: &[u8], q: &Request<'_>) -> bool
+        ensures { result ≡ stages.is_repeat 600 time scrip.now q.now.target.now (seen q.now.sign) (entry_of shop.now (kept_of self.now)) }
     {
         self.scrip.bytes() == scrip
-            && same_sign(&self.sign, sign)
-            && time.seconds() < self.moment.seconds() + keep
+            && shop.target() == q.target
+            && same_sign(&self.sign, q.sign)
+            && time.seconds() < self.moment.seconds() + KEEPING_TIME
     }
 
     /// Whether its change is of this series.
     fn gave(&self, series: u32) -> bool
-        ensures { result ≡ ledger.is_of_series series (accepted_of self.now).change }
+        ensures { result ≡ is_of_series series (kept_of self.now).change }
     {
         match self.change {
             Some(id) => id.series() == series,
@@ -47,13 +53,13 @@ impl Entry {
     }
 }
 
-/// Whether two signatures are one, or both are missing.
-fn same_sign(kept: &Option<[u8; 32]>, sign: Option<&[u8]>) -> bool
-    ensures { result ≡ same_option kept.now (seen sign.entry) }
+/// Whether a signature that a request has, or has not, is the one that is kept.
+fn same_sign(kept: &Option<[u8; 16]>, sign: Option<&[u8]>) -> bool
+    ensures { result ≡ is_same_sign kept.now (seen sign.entry) }
 {
     match (kept, sign) {
         (None, None) => true,
-        (Some(kept), Some(sign)) => kept.as_slice() == sign,
+        (Some(kept), Some(sign)) => hex_of(kept).as_slice() == sign,
         _ => false,
     }
 }
@@ -66,12 +72,12 @@ pub(crate) struct History {
 
 impl Model for History {
     ghost use Rattle.std.specs.Prelude.{◌≤◌, List as Items, map, vec_capacity};
-    ghost use Rattle.mc_top.specs.Ledger.{Accepted};
-    ghost use Rattle.mc_top.specs.Entries.{accepted_of};
+    ghost use Rattle.mc_top.specs.Opening.{Kept};
+    ghost use Rattle.mc_top.specs.Entries.{kept_of};
 
-    ghost Value = { Items Accepted };
+    ghost Value = { Items Kept };
 
-    ghost view = { λ h. map accepted_of h.entries.items };
+    ghost view = { λ h. map kept_of h.entries.items };
 
     ghost invariant = { λ h. 1000 ≤ vec_capacity h.entries };
 }
@@ -86,31 +92,37 @@ impl History {
         })
     }
 
-    /// The entry of such a request whose keeping time has not ended.
+    /// The number of the first entry of such a request whose keeping time has not ended.
     pub(crate) fn repeated(
         &self,
-        keep: u64,
+        shop: &Shop<'_>,
         time: Moment,
         scrip: &[u8],
-        sign: Option<&[u8]>,
-    ) -> Option<&Entry>
-        requires { keep < 2 ^ 32 }
-        ensures found { option_map accepted_of (option_copied result) ≡ find (is_repeat keep time scrip.now (seen sign.entry)) self.now }
-        ensures text { IfSome result (λ e. (accepted_of e.now).scrip ≡ scrip.now) }
+        q: &Request<'_>,
+    ) -> Option<usize>
+        ensures { result ≡ position (λ k. stages.is_repeat 600 time scrip.now q.now.target.now (seen q.now.sign) (entry_of shop.now k)) self.now }
     {
-        entry_of(&self.entries, keep, time, scrip, sign)
+        position_of(&self.entries, shop, time, scrip, q)
+    }
+
+    /// The entry of a number.
+    pub(crate) fn entry(&self, number: usize) -> &Entry
+        requires { number < length self.now }
+        ensures { slice_get self.now number ≡ Some (kept_of result.now) }
+    {
+        &self.entries[number]
     }
 
     /// Whether the identity was accepted.
     pub(crate) fn has(&self, id: Id) -> bool
-        ensures { result ≡ is_spent self.now id }
+        ensures { result ≡ list_any (λ k. k.id == id) self.now }
     {
         has_id(&self.entries, id)
     }
 
     /// How many pieces of a series were given as change.
     pub(crate) fn issued(&self, series: u32) -> usize
-        ensures { result ≡ ledger.issued self.now series }
+        ensures { result ≡ count_by (λ k. is_of_series series k.change) self.now }
     {
         count_of(&self.entries, series)
     }
@@ -118,7 +130,7 @@ impl History {
     /// Adds an entry.
     pub(crate) fn add(&mut self, entry: &Entry)
         requires { length self.old < 1000 }
-        ensures { self.new ≡ self.old ++ accepted_of entry.now ∷ [] }
+        ensures { self.new ≡ self.old ++ kept_of entry.now ∷ [] }
     {
         self.entries.push_reserved(Entry {
             moment: entry.moment,
@@ -130,20 +142,18 @@ impl History {
     }
 }
 
-fn entry_of<'e>(
-    entries: &'e [Entry],
-    keep: u64,
+fn position_of(
+    entries: &[Entry],
+    shop: &Shop<'_>,
     time: Moment,
     scrip: &[u8],
-    sign: Option<&[u8]>,
-) -> Option<&'e Entry>
-    requires { keep < 2 ^ 32 }
-    ensures found { option_copied result ≡ find (λ e. is_repeat keep time scrip.now (seen sign.entry) (accepted_of e)) entries.now }
-    ensures text { IfSome result (λ e. (accepted_of e.now).scrip ≡ scrip.now) }
+    q: &Request<'_>,
+) -> Option<usize>
+    ensures { result ≡ position (λ e. stages.is_repeat 600 time scrip.now q.now.target.now (seen q.now.sign) (entry_of shop.now (kept_of e))) entries.now }
 {
     entries
         .iter()
-        .find(|e| e.is_repeat(keep, time, scrip, sign))
+        .position(|e| e.is_repeat(shop, time, scrip, q))
 }
 
 fn has_id(entries: &[Entry], id: Id) -> bool
@@ -153,7 +163,7 @@ fn has_id(entries: &[Entry], id: Id) -> bool
 }
 
 fn count_of(entries: &[Entry], series: u32) -> usize
-    ensures { result ≡ count_by (λ e. ledger.is_of_series series (accepted_of e).change) entries.now }
+    ensures { result ≡ count_by (λ e. is_of_series series (kept_of e).change) entries.now }
 {
     entries.iter().filter(|e| e.gave(series)).count()
 }

@@ -2,6 +2,7 @@ ghost use Rattle.std.specs.Prelude.{◌≡◌, ◌⊎◌, ◌↔◌, ◌<◌, ma
 ghost use Rattle.mc_top.specs.Statuses.{number_of, line_of};
 ghost use Rattle.mc_top.specs.Words.{Shop, AreWordsOf, AreBadWords};
 ghost use Rattle.mc_top.specs.Course.{IsDone, IsBroken, IsSaid};
+ghost use Rattle.mc_top.specs.Opening.{IsOfRange};
 ghost use Rattle.mc_top.specs.Stops.{Stopped};
 
 use crate::books::Books;
@@ -78,6 +79,7 @@ enum Stop {
 
 /// Takes one link, where one comes, and serves it.
 fn serve_once<K: Link>(alloc: Global, shop: &Shop<'_>, k: &mut K) -> Result<(), Stop>
+    requires { IsOfRange shop.now }
     ensures moved { K.link_moved k.old k.new }
     ensures done { OnOk result (IsDone shop.now (K.link k.old) (K.link k.new)) }
     ensures stopped { IfErr result (λ stop. Stopped stop (K.link k.old) (K.link k.new)) }

@@ -1,15 +1,15 @@
-ghost use Rattle.std.specs.Prelude.{◌≡◌, ◌≤◌, ◌<◌, ◌++◌, ℕ, length, take, IfSome, IsTrue, OnOk, OnErr, Ok};
-ghost use Rattle.scrip_form.specs.Identities.{issuer_of};
-ghost use Rattle.scrip_form.specs.Reading.{scrip_of};
+ghost use Rattle.std.specs.Prelude.{◌≡◌, ◌≤◌, ◌<◌, ◌++◌, ℕ, List, [], length, take, option_map, Some, IfSome, IsTrue, OnOk, OnErr};
+ghost use Rattle.scrip_certs.specs.Digests.{reply_signature};
 ghost use Rattle.mc_outside.specs.LinkView.{told, Failed};
 ghost use Rattle.mc_records.specs.Requests.{seen};
 ghost use Rattle.mc_records.specs.Replies.{reply_head, reply_text};
+ghost use Rattle.ledger_model.specs.Pieces.{change_from};
+ghost use Rattle.ledger_model.specs.Replies.{own_text, signed, taken_values, taken_reply, refused_values, price_told};
 ghost use Rattle.millicent_http.specs.ReplyHeads.{IsReplyHead, reply_of};
-ghost use Rattle.scrip_certs.specs.Digests.{customer_secret, reply_signature};
-ghost use Rattle.mc_top.specs.Replies.{signed, goods_values, refusal_values, price_told, first_reply, refusal_reply, signed_refusal_reply};
-ghost use Rattle.mc_top.specs.Entries.{accepted_of};
+ghost use Rattle.mc_top.specs.Opening.{Kept, opening, history_of};
+ghost use Rattle.mc_top.specs.Entries.{kept_of};
+ghost use Rattle.mc_top.specs.Gifts.{goods_of};
 ghost use Rattle.mc_top.specs.Told.{IsOfSite};
-ghost use Rattle.mc_top.specs.Words.{terms_of};
 
 use crate::history::Entry;
 use crate::shop::Shop;
@@ -76,51 +76,50 @@ impl<'a> Reply<'a> {
 }
 
 /// A refusal that is not signed.
-#[tactic(auto, unfolding(crate::specs::Replies::refusal_reply))]
-pub(crate) fn refuse(
-    shop: &Shop<'_>,
-    time: Moment,
-    target: &[u8],
-    refusal: &Refusal,
-) -> Reply<'static>
+pub(crate) fn refuse(time: Moment, refusal: &Refusal, price: Option<u64>) -> Reply<'static>
     requires { IsOfSite refusal.now }
-    ensures { result ≡ refusal_reply shop.now time target.now refusal.now }
+    ensures { result ≡ reply_head (refused_values time refusal.now price) }
 {
-    Reply::of(&refusal_head(shop, time, target, refusal), b"")
+    Reply::of(&refusal_head(time, refusal, price), b"")
 }
 
-/// A refusal that is signed for the customer of a piece.
-#[tactic(auto, unfolding(crate::specs::Replies::signed_refusal_reply))]
+/// A refusal that is signed under the secret of a piece's customer.
 pub(crate) fn deny(
-    shop: &Shop<'_>,
     time: Moment,
     target: &[u8],
     scrip: &ScripRef<'_>,
+    secret: &[u8; 16],
     refusal: &Refusal,
+    price: Option<u64>,
 ) -> Reply<'static>
     requires { IsOfSite refusal.now }
-    ensures { result ≡ signed_refusal_reply shop.now time target.now scrip.now.text scrip.now.piece refusal.now }
+    ensures { result ≡ reply_head (signed (Some secret.now) scrip.now.text target.now [] (refused_values time refusal.now price)) }
 {
-    let mut head = refusal_head(shop, time, target, refusal);
-    head.sign = Some(sign(shop, target, scrip, &head, b""));
+    let mut head = refusal_head(time, refusal, price);
+    head.sign = Some(sign(target, scrip, secret, &head, b""));
     Reply::of(&head, b"")
 }
 
-/// The first reply to an entry: the goods and its change, signed for the customer of its piece.
-#[tactic(auto, unfolding(crate::specs::Replies::first_reply))]
-pub(crate) fn grant<'s>(shop: &'s Shop<'_>, entry: &Entry, scrip: &ScripRef<'_>) -> Reply<'s>
-    requires text { (accepted_of entry.now).scrip ≡ scrip.now.text }
-    requires read { scrip_of scrip.now.text ≡ Ok (scrip.now.piece, scrip.now.cert) }
-    ensures { result ≡ first_reply shop.now (accepted_of entry.now) }
+/// The first reply to an entry: the goods and its change, signed under the secret of its piece's
+/// customer.
+pub(crate) fn grant<'s>(
+    shop: &'s Shop<'_>,
+    entry: &Entry,
+    scrip: &ScripRef<'_>,
+    secret: &[u8; 16],
+) -> Reply<'s>
+    requires { IfSome (kept_of entry.now).change (λ id. shop.now.price < scrip.now.piece.value) }
+    ensures { result ≡ taken_reply (Some secret.now) scrip.now.text shop.now.target (goods_of shop.now)
+        (taken_values (kept_of entry.now).moment (goods_of shop.now) shop.now.price
+        (option_map (λ id. own_text (opening shop.now) (change_from (opening shop.now) scrip.now.piece shop.now.price id)) (kept_of entry.now).change)) }
 {
-    let paid = scrip.piece();
     match entry.change {
-        Some(id) if shop.price() < paid.value().get() => {
+        Some(id) => {
             let mut text = [0; 512];
-            let len = shop.write_change(&paid, id, &mut text);
-            give(shop, entry.moment, scrip, Some(&text[..len]))
+            let len = shop.write_change(&scrip.piece(), id, &mut text);
+            give(shop, entry.moment, scrip, secret, Some(&text[..len]))
         }
-        _ => give(shop, entry.moment, scrip, None),
+        None => give(shop, entry.moment, scrip, secret, None),
     }
 }
 
@@ -129,10 +128,11 @@ fn give<'s>(
     shop: &'s Shop<'_>,
     moment: Moment,
     scrip: &ScripRef<'_>,
+    secret: &[u8; 16],
     change: Option<&[u8]>,
 ) -> Reply<'s>
-    requires change { IfSome change (λ text. length text.now ≤ 293) }
-    ensures { result ≡ reply_head (signed shop.now shop.now.target scrip.now.text scrip.now.piece (goods_values shop.now moment (seen change.entry)) shop.now.contents) ++ shop.now.contents }
+    requires { IfSome change (λ text. length text.now ≤ 293) }
+    ensures { result ≡ taken_reply (Some secret.now) scrip.now.text shop.now.target (goods_of shop.now) (taken_values moment (goods_of shop.now) shop.now.price (seen change.entry)) }
 {
     let contents = shop.contents();
     let mut head = ReplyHead {
@@ -145,29 +145,26 @@ fn give<'s>(
         change,
         sign: None,
     };
-    head.sign = Some(sign(shop, shop.target(), scrip, &head, contents));
+    head.sign = Some(sign(shop.target(), scrip, secret, &head, contents));
     Reply::of(&head, contents)
 }
 
-/// The price that a refusal tells.
-fn price_of(shop: &Shop<'_>, target: &[u8], refusal: &Refusal) -> Option<u64>
-    ensures { result ≡ price_told shop.now target.now refusal.now }
+/// The price that a refusal tells: that of the target's goods where scrip is missing, and the one that is
+/// not covered.
+#[tactic(auto, using(crate::proofs::LedgerLemmas::price_is))]
+pub(crate) fn price_of(shop: &Shop<'_>, target: &[u8], refusal: &Refusal) -> Option<u64>
+    ensures { (kept : List Kept) → result ≡ price_told (history_of shop.now kept) target.now refusal.now }
 {
     match refusal {
-        Refusal::NoScrip if target == shop.target() => Some(shop.price()),
+        Refusal::NoScrip if shop.target() == target => Some(shop.price()),
         Refusal::TooLittle(price) => Some(*price),
         _ => None,
     }
 }
 
-fn refusal_head<'r>(
-    shop: &Shop<'_>,
-    time: Moment,
-    target: &[u8],
-    refusal: &'r Refusal,
-) -> ReplyHead<'r>
+fn refusal_head(time: Moment, refusal: &Refusal, price: Option<u64>) -> ReplyHead<'_>
     requires { IsOfSite refusal.now }
-    ensures values { reply_of result ≡ refusal_values shop.now time target.now refusal.now }
+    ensures values { reply_of result ≡ refused_values time refusal.now price }
     ensures head { IsReplyHead result }
 {
     ReplyHead {
@@ -176,7 +173,7 @@ fn refusal_head<'r>(
         kind: None,
         length: 0,
         refusal: Some(refusal),
-        price: price_of(shop, target, refusal),
+        price,
         change: None,
         sign: None,
     }
@@ -184,17 +181,16 @@ fn refusal_head<'r>(
 
 /// The signature of a reply, under the secret of the piece's customer.
 fn sign(
-    shop: &Shop<'_>,
     target: &[u8],
     scrip: &ScripRef<'_>,
+    secret: &[u8; 16],
     head: &ReplyHead<'_>,
     contents: &[u8],
 ) -> [u8; 16]
     requires { IsReplyHead head.now }
-    ensures { result ≡ reply_signature scrip.now.text target.now (reply_text (reply_of head.now)) contents.now (customer_secret (terms_of shop.now (issuer_of scrip.now.piece.cust)) scrip.now.piece.cust) }
+    ensures { result ≡ reply_signature scrip.now.text target.now (reply_text (reply_of head.now)) contents.now secret.now }
 {
     let mut text = [0; 1024];
     let len = write_reply_text(head, &mut text);
-    let secret = shop.customer_secret(scrip.piece().cust());
-    sign_reply(scrip.text(), target, &text[..len], contents, &secret)
+    sign_reply(scrip.text(), target, &text[..len], contents, secret)
 }

@@ -1,6 +1,7 @@
 ghost use Rattle.std.specs.Prelude.{◌≡◌, ◌<◌, length, IsTrue};
 ghost use Rattle.millicent_http.specs.Held.{nothing_held};
-ghost use Rattle.mc_top.specs.Session.{opened};
+ghost use Rattle.mc_top.specs.Opening.{Stands};
+ghost use Rattle.mc_top.specs.Session.{opened, state_of};
 ghost use Rattle.mc_top.specs.Course.{HadLink};
 ghost use Rattle.mc_top.specs.Turns.{Sent, Turned, Ended};
 
@@ -33,7 +34,8 @@ pub(crate) fn serve_standing<K: Link>(
     k: &mut K,
 )
     requires stands { IsTrue (K.link k.old).stands }
-    requires opened { books.old ≡ opened }
+    requires opened { state_of shop.now books.old ≡ opened shop.now }
+    requires before { Stands shop.now books.old }
     requires empty { reader.old ≡ nothing_held }
     ensures moved { K.link_moved k.old k.new }
     ensures course { HadLink shop.now (K.link k.old) (K.link k.new) }
@@ -50,7 +52,8 @@ fn serve_turns<K: Link>(
     k: &mut K,
 ) -> Turn
     requires stands { IsTrue (K.link k.old).stands }
-    requires opened { books.old ≡ opened }
+    requires opened { state_of shop.now books.old ≡ opened shop.now }
+    requires before { Stands shop.now books.old }
     requires empty { reader.old ≡ nothing_held }
     ensures moved { K.link_moved k.old k.new }
     ensures ended { Ended result shop.now (K.link k.old) (K.link k.new) }
@@ -71,9 +74,11 @@ fn serve_next<K: Link>(
     k: &mut K,
 ) -> Turn
     requires stands { IsTrue (K.link k.old).stands }
-    requires room { length books.old.history < 1000 }
+    requires before { Stands shop.now books.old }
+    requires room { length (state_of shop.now books.old).history < 1003 }
     ensures moved { K.link_moved k.old k.new }
-    ensures turned { Turned result shop.now books.old reader.old (K.link k.old) books.new reader.new (K.link k.new) }
+    ensures after { Stands shop.now books.new }
+    ensures turned { Turned result (state_of shop.now books.old) reader.old (K.link k.old) (state_of shop.now books.new) reader.new (K.link k.new) }
 {
     let reading = Moment::clamped(0);
     match reader.take(k) {

@@ -1,6 +1,7 @@
 ghost use Rattle.std.specs.Prelude.{◌≡◌, ◌<◌, ◌++◌, [], length, OnOk};
 ghost use Rattle.millicent_http.specs.Takes.{item_of};
-ghost use Rattle.mc_top.specs.Session.{IsSession, step};
+ghost use Rattle.mc_top.specs.Opening.{IsOfRange, Stands};
+ghost use Rattle.mc_top.specs.Session.{IsSession, step, state_of};
 
 use crate::books::Books;
 use crate::shop::Shop;
@@ -18,7 +19,8 @@ pub(crate) fn reply_to_all(
     link: &[u8],
     out: &mut Vec<u8>,
 ) -> Result<(), NoMemory>
-    requires { out.old.items ≡ [] }
+    requires empty { out.old.items ≡ [] }
+    requires range { IsOfRange shop.now }
     ensures { OnOk result (IsSession shop.now link.now out.new.items) }
 {
     let mut books = Books::open(alloc)?;
@@ -43,9 +45,11 @@ fn reply_to(
     item: &ItemRef<'_>,
     out: &mut Vec<u8>,
 ) -> Result<(), NoMemory>
-    requires { length books.old.history < 1000 }
-    ensures reply { OnOk result (out.new.items ≡ out.old.items ++ (step shop.now books.old 0 (item_of item.now)).reply) }
-    ensures state { books.new ≡ (step shop.now books.old 0 (item_of item.now)).state }
+    requires before { Stands shop.now books.old }
+    requires room { length (state_of shop.now books.old).history < 1003 }
+    ensures after { Stands shop.now books.new }
+    ensures reply { OnOk result (out.new.items ≡ out.old.items ++ (step (state_of shop.now books.old) 0 (item_of item.now)).reply) }
+    ensures state { state_of shop.now books.new ≡ (step (state_of shop.now books.old) 0 (item_of item.now)).state }
 {
     let reading = Moment::clamped(0);
     match item {

@@ -3,9 +3,10 @@ ghost use Rattle.scrip_form.specs.Identities.{issuer_of};
 ghost use Rattle.scrip_form.specs.Scrip.{IsCert};
 ghost use Rattle.scrip_certs.specs.Digests.{customer_secret};
 ghost use Rattle.mc_top.specs.Words.{terms_of};
-ghost use Rattle.mc_top.specs.Ledger as ledger;
-ghost use Rattle.mc_top.specs.Ledger.{of_issuer};
-ghost use Rattle.mc_top.specs.Replies.{change_of, change_text};
+ghost use Rattle.ledger_model.specs.Houses.{terms_by};
+ghost use Rattle.ledger_model.specs.Pieces.{change_from};
+ghost use Rattle.ledger_model.specs.Replies.{own_text};
+ghost use Rattle.mc_top.specs.Opening.{opening};
 
 use mc_base::Amount;
 use scrip_certs::{certificate, customer_secret};
@@ -107,7 +108,7 @@ impl Shop<'_> {
 
     /// The terms of an issuer; None exactly where the shop has none for it.
     pub(crate) fn terms(&self, issuer: u8) -> Option<&Terms>
-        ensures { option_map (λ t. t.now) result ≡ of_issuer (ledger.terms self.now) issuer }
+        ensures { option_map (λ t. t.now) result ≡ terms_by (terms_of self.now 0 ∷ terms_of self.now 1 ∷ []) issuer }
     {
         match issuer {
             0 => Some(&self.own),
@@ -125,11 +126,10 @@ impl Shop<'_> {
     }
 
     /// Writes the scrip text of a piece's change to the front of the buffer, and answers its length.
-    #[tactic(auto, unfolding(crate::specs::Replies::change_text))]
     pub(crate) fn write_change(&self, paid: &Piece, id: Id, out: &mut [u8; 512]) -> usize
         requires { self.now.price < paid.now.value }
         ensures short { result ≤ 293 }
-        ensures text { take result out.new ≡ change_text self.now paid.now id }
+        ensures text { take result out.new ≡ own_text (opening self.now) (change_from (opening self.now) paid.now self.now.price id) }
     {
         let change = self.change(paid, id);
         let len = write_scrip(&change, &[0; 16], out);
@@ -139,7 +139,7 @@ impl Shop<'_> {
 
     fn change(&self, paid: &Piece, id: Id) -> Piece
         requires { self.now.price < paid.now.value }
-        ensures { result ≡ change_of self.now paid.now id }
+        ensures { result ≡ change_from (opening self.now) paid.now self.now.price id }
     {
         let (_, epoch, _) = id.parts();
         let value = Amount::new(paid.value().get() - self.price()).unwrap();

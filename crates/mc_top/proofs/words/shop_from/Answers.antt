@@ -4,6 +4,8 @@ use Rattle.std.proofs.lemmas.Bool.{false≢true}
 use Rattle.hex.specs.Hex.{encode_lower}
 use Rattle.scrip_certs.specs.LowerHex.{IsLowerHex}
 use Rattle.scrip_certs.proofs.LowerHexLemmas.{encode_lower_is_lower}
+use Rattle.mc_top.specs.Seven.{words_in}
+use Rattle.mc_top.proofs.WordLaws.{range_of_words}
 use Rattle.mc_top.proofs.words.shop_from.Goals as goal
 
 pub returns-in_err-secret-clause-none : goal.returns-in_err-secret-clause-none
@@ -24,3 +26,6 @@ returns-clause-shop c =
       secret = c.open.ensures.secret;
       contents = c.if-words-gt-MOST_CONTENTS.false;
     })
+
+pub returns-clause-range : goal.returns-clause-range
+returns-clause-range c = range_of_words (words_in c.args.words) _ (returns-clause-shop c)
