@@ -9,3 +9,4 @@ pub mod Answer
 pub mod Lawful
 pub mod Replies
 pub mod Laws
+pub mod Stub
