@@ -9,4 +9,5 @@ pub mod Answer
 pub mod Lawful
 pub mod Replies
 pub mod Laws
+pub mod Slow
 pub mod Stub

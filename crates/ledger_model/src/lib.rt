@@ -2,5 +2,6 @@
 //! lawful. The definitions stand in `specs/`.
 #![tactic(auto)]
 
+mod slow_counts;
 mod slow_filters;
 mod slow_front;

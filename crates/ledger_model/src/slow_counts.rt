@@ -1,27 +1,25 @@
 //! Numbers over the entries of a history, each in one pass. A sum of 2^64 or more is want of memory:
 //! no memory holds a history that has it.
 
-ghost use Rattle.std.specs.Prelude.{◌≡◌, ◌≤◌, ◌<◌, ◌+◌, ◌++◌, ◌==◌, ℕ, ◌^◌, length, take, drop, None, Some, slice_get, IfSome, IfOk, if◌then◌else◌, option_to_list, option_map, count_by, position};
+ghost use Rattle.std.specs.Prelude.{◌≡◌, ◌≤◌, ◌<◌, ◌+◌, ℕ, length, drop, slice_get, IfSome, IfOk, List, Option, option_to_list, count_by, position};
 ghost use Rattle.std.specs.List.{list_any};
-ghost use Rattle.scrip_form.specs.Identities.{series_of};
-ghost use Rattle.scrip_form.specs.Scrip.{Scrip};
-ghost use Rattle.mc_records.specs.Views.{entry};
+ghost use Rattle.mc_records.specs.Entry.{Accept, Deed};
 ghost use Rattle.mc_records.specs.Requests.{seen};
-ghost use Rattle.mc_records.specs.Sizes as sizes;
+ghost use Rattle.mc_records.specs.Sizes.{size};
 ghost use Rattle.ledger_model.specs.Histories.{History};
 ghost use Rattle.ledger_model.specs.Goods.{is_goods_of, in_force};
 ghost use Rattle.ledger_model.specs.Pieces.{change_piece, minted_pieces, run_from, own_count};
-ghost use Rattle.ledger_model.specs.Stages as stages;
+ghost use Rattle.ledger_model.specs.Stages.{is_same_sign, is_repeat};
 ghost use Rattle.ledger_model.specs.Slow.{bytes_in, is_of};
 
 use crate::slow_front::Front;
-use mc_base::NoMemory;
+use mc_base::{Moment, NoMemory};
 use mc_records::Record;
 use scrip_certs::hex_of;
 use scrip_form::{Id, read_scrip};
 
 fn sum(a: u64, b: u64) -> Result<u64, NoMemory>
-    ensures { IfOk result (λ r. r ≡ a + b) }
+    ensures { IfOk result (λ all. all ≡ a + b) }
 {
     match a.checked_add(b) {
         Some(all) => Ok(all),
@@ -44,8 +42,154 @@ fn minted_of(first: Id, count: u16, series: u64) -> u64
     found
 }
 
-fn is_change_of(scrip: &[u8], id: Id, series: u64) -> bool
-    ensures { true }
+/// How many pieces of a series are handed out as change for a scrip text.
+fn changes_of(scrip: &[u8], change: Option<Id>, series: u64) -> u64
+    ensures { (before : History) → (m price : ℕ) → (target : List ℕ) → (sign : Option (List ℕ)) → (deed : Deed)
+        → result ≡ count_by (is_of series) (option_to_list (change_piece before (Accept m scrip.now target sign price change deed))) }
 {
-    read_scrip(scrip).is_ok() && u64::from(id.series()) == series
+    match change {
+        Some(id) => match read_scrip(scrip) {
+            Ok(_) => if u64::from(id.series()) == series { 1 } else { 0 },
+            Err(_) => 0,
+        },
+        None => 0,
+    }
+}
+
+/// How many pieces of a series an entry hands out or mints.
+fn pieces_at(h: &Front<'_>, n: usize, series: u64) -> u64
+    requires { n < length h.now }
+    ensures { IfSome (slice_get h.now n) (λ e. (before : History) → result ≡ count_by (is_of series) (option_to_list (change_piece before e)) + count_by (is_of series) (minted_pieces before e)) }
+{
+    match h.record(n) {
+        Record::Accept { scrip, change, .. } => changes_of(scrip, change, series),
+        Record::Mint { count, first, .. } => minted_of(first, count, series),
+        _ => 0,
+    }
+}
+
+/// How many pieces of a series of the house's own were handed out or minted.
+pub(crate) fn slow_own_count(h: &Front<'_>, series: u64) -> Result<u64, NoMemory>
+    ensures { IfOk result (λ all. all ≡ own_count h.now series) }
+{
+    let mut all = 0;
+    for n in 0..h.len() {
+        all = sum(all, pieces_at(h, n, series))?;
+    }
+    Ok(all)
+}
+
+/// How many bytes the journal of the entries has.
+pub(crate) fn slow_size(h: &Front<'_>) -> Result<u64, NoMemory>
+    ensures { IfOk result (λ all. all ≡ size h.now) }
+{
+    let mut all = 9;
+    for n in 0..h.len() {
+        all = sum(sum(all, h.payload(n).len() as u64)?, 5)?;
+    }
+    Ok(all)
+}
+
+fn is_goods_at(h: &Front<'_>, n: usize, target: &[u8]) -> bool
+    requires { n < length h.now }
+    ensures { IfSome (slice_get h.now n) (λ e. result ≡ is_goods_of target.now e) }
+{
+    match h.record(n) {
+        Record::Goods { target: at, .. } => at == target,
+        _ => false,
+    }
+}
+
+fn has_goods_after(h: &Front<'_>, n: usize, target: &[u8]) -> bool
+    requires { n < length h.now }
+    ensures { result ≡ list_any (is_goods_of target.now) (drop (n + 1) h.now) }
+{
+    let len = h.len();
+    for k in n + 1..len {
+        if is_goods_at(h, k, target) {
+            return true;
+        }
+    }
+    false
+}
+
+fn bytes_at(h: &Front<'_>, n: usize) -> u64
+    requires { n < length h.now }
+    ensures { IfSome (slice_get h.now n) (λ e. result ≡ bytes_in (drop (n + 1) h.now) e) }
+{
+    match h.record(n) {
+        Record::Goods {
+            target,
+            contents,
+            ..
+        } => if has_goods_after(h, n, target) { 0 } else { contents.len() as u64 },
+        _ => 0,
+    }
+}
+
+/// How many bytes of contents are in force.
+pub(crate) fn slow_in_force(h: &Front<'_>) -> Result<u64, NoMemory>
+    ensures { IfOk result (λ all. all ≡ in_force h.now) }
+{
+    let mut all = 0;
+    for n in 0..h.len() {
+        all = sum(all, bytes_at(h, n))?;
+    }
+    Ok(all)
+}
+
+fn same_sign(sign: &Option<[u8; 16]>, text: Option<&[u8]>) -> bool
+    ensures { result ≡ is_same_sign sign.now (seen text.entry) }
+{
+    match (sign, text) {
+        (None, None) => true,
+        (Some(sign), Some(text)) => hex_of(sign).as_slice() == text,
+        _ => false,
+    }
+}
+
+fn repeats_at(
+    h: &Front<'_>,
+    n: usize,
+    keep: u32,
+    time: Moment,
+    scrip: &[u8],
+    target: &[u8],
+    sign: Option<&[u8]>,
+) -> bool
+    requires { n < length h.now }
+    ensures { IfSome (slice_get h.now n) (λ e. result ≡ is_repeat keep time scrip.now target.now (seen sign.entry) e) }
+{
+    match h.record(n) {
+        Record::Accept {
+            moment,
+            scrip: text,
+            target: at,
+            sign: own,
+            ..
+        } => text == scrip
+            && at == target
+            && same_sign(&own, sign)
+            && time.seconds() < moment.seconds() + u64::from(keep),
+        _ => false,
+    }
+}
+
+/// The number of the first entry of the same request within the keeping time.
+pub(crate) fn slow_repeat(
+    h: &Front<'_>,
+    keep: u32,
+    time: Moment,
+    scrip: &[u8],
+    target: &[u8],
+    sign: Option<&[u8]>,
+) -> Option<u64>
+    ensures { result ≡ position (is_repeat keep time scrip.now target.now (seen sign.entry)) h.now }
+{
+    for n in 0..h.len() {
+        if repeats_at(h, n, keep, time, scrip, target, sign) {
+            return Some(n as u64);
+        }
+    }
+    None
 }
