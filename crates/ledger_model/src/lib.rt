@@ -5,3 +5,4 @@
 mod slow_counts;
 mod slow_filters;
 mod slow_front;
+mod slow_stages;
