@@ -2,6 +2,7 @@
 //! lawful. The definitions stand in `specs/`.
 #![tactic(auto)]
 
+mod slow_answer;
 mod slow_counts;
 mod slow_filters;
 mod slow_front;

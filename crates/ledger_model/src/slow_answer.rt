@@ -1,0 +1,128 @@
+ghost use Rattle.std.specs.Prelude.{◌≡◌, None, Some, IfOk, option_map};
+ghost use Rattle.scrip_form.specs.Scrip.{IsScripText};
+ghost use Rattle.scrip_form.specs.Texts.{IsTarget};
+ghost use Rattle.mc_records.specs.Entry as entries;
+ghost use Rattle.mc_records.specs.Limits.{AreInRange};
+ghost use Rattle.mc_records.specs.Requests.{asked_of};
+ghost use Rattle.ledger_model.specs.Answer as model;
+ghost use Rattle.ledger_model.specs.Slow.{Weighs, after_read, after_repeat};
+
+use crate::slow_counts::slow_repeat;
+use crate::slow_filters::slow_keeping;
+use crate::slow_front::Front;
+use crate::slow_stages::{Stopped, change_for, fitted, genuine, offered, spendable};
+use mc_base::{Moment, NoMemory};
+use mc_records::{Limits, Refusal, Request};
+use scrip_form::{Id, ScripRef, read_scrip};
+use std::alloc::Global;
+
+/// The payload of an Accept entry for goods.
+fn accept_payload(
+    alloc: Global,
+    time: Moment,
+    scrip: &[u8],
+    target: &[u8],
+    sign: &Option<[u8; 16]>,
+    price: u64,
+    change: Option<Id>,
+) -> Result<Vec<u8>, NoMemory>
+    requires scrip { IsScripText scrip.now }
+    requires target { IsTarget target.now }
+    ensures payload { IfOk result (λ v. v.items ≡ entries.payload (entries.Accept time scrip.now target.now sign.now price change entries.goods_deed)) }
+    ensures fits { entries.Fits (entries.Accept time scrip.now target.now sign.now price change entries.goods_deed) }
+{
+    unreachable!()
+}
+
+/// The payload of the entry that takes a piece.
+fn taken(
+    alloc: Global,
+    h: &Front<'_>,
+    time: Moment,
+    limits: Limits,
+    q: &Request<'_>,
+    s: &ScripRef<'_>,
+    sign: &Option<[u8; 16]>,
+) -> Result<Vec<u8>, Stopped>
+    requires { AreInRange limits }
+    ensures { Weighs result (model.taken h.now time limits (asked_of q.now) s.now sign.now) }
+{
+    let value = s.piece().value().get();
+    let price = match offered(h, q.target, value) {
+        Ok(price) => price,
+        Err(refusal) => return Err(Stopped::Refused(refusal)),
+    };
+    let change = match change_for(h, time, limits, price, value) {
+        Ok(change) => change,
+        Err(stopped) => return Err(stopped),
+    };
+    let payload = match accept_payload(alloc, time, s.text(), q.target, sign, price, change) {
+        Ok(payload) => payload,
+        Err(NoMemory) => return Err(Stopped::NoMemory),
+    };
+    match fitted(h, limits, &payload) {
+        Ok(()) => Ok(payload),
+        Err(stopped) => Err(stopped),
+    }
+}
+
+/// The payload of the entry for a piece that was read, or why there is none.
+fn weigh_new(
+    alloc: Global,
+    h: &Front<'_>,
+    time: Moment,
+    limits: Limits,
+    q: &Request<'_>,
+    s: &ScripRef<'_>,
+) -> Result<Vec<u8>, Stopped>
+    requires { AreInRange limits }
+    ensures { Weighs result (after_repeat h.now time limits (asked_of q.now) s.now) }
+{
+    let secret = match genuine(h, s) {
+        Ok(secret) => secret,
+        Err(refusal) => return Err(Stopped::Refused(refusal)),
+    };
+    let sign = match spendable(h, time, &secret, q.target, q.sign, s) {
+        Ok(sign) => sign,
+        Err(refusal) => return Err(Stopped::Refused(refusal)),
+    };
+    taken(alloc, h, time, limits, q, s, &sign)
+}
+
+/// The same, unless the request comes again.
+fn weigh_read(
+    alloc: Global,
+    h: &Front<'_>,
+    time: Moment,
+    limits: Limits,
+    q: &Request<'_>,
+    s: &ScripRef<'_>,
+) -> Result<Vec<u8>, Stopped>
+    requires { AreInRange limits }
+    ensures { Weighs result (after_read h.now time limits (asked_of q.now) s.now) }
+{
+    match slow_repeat(h, slow_keeping(h), time, s.text(), q.target, q.sign) {
+        Some(number) => Err(Stopped::Again(number)),
+        None => weigh_new(alloc, h, time, limits, q, s),
+    }
+}
+
+/// The payload of the entry that answers a request, or why there is none.
+pub(crate) fn weigh(
+    alloc: Global,
+    h: &Front<'_>,
+    time: Moment,
+    limits: Limits,
+    q: &Request<'_>,
+) -> Result<Vec<u8>, Stopped>
+    requires { AreInRange limits }
+    ensures { Weighs result (model.lines h.now time limits (asked_of q.now)) }
+{
+    let Some(text) = q.scrip else {
+        return Err(Stopped::Refused(Refusal::NoScrip));
+    };
+    match read_scrip(text) {
+        Ok(s) => weigh_read(alloc, h, time, limits, q, &s),
+        Err(fault) => Err(Stopped::Refused(Refusal::BadScrip(fault.place as u64))),
+    }
+}
