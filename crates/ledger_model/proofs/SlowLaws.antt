@@ -32,11 +32,11 @@ of_next P h n x said = subst (λ (o : Option Entry). IfSome o P) x.stands said
 
 -- ---- time
 
-pub time_more : (h : History) (n t r : ℕ) → n < length h → max t (time (drop n h)) ≡ time h
-    → IfSome (slice_get h n) (λ e. r ≡ max (moment_of e) t) → max r (time (drop (n + 1) h)) ≡ time h
-time_more h n t r lt so_far said =
+pub time_more : (h : History) (n t m r : ℕ) → n < length h → max t (time (drop n h)) ≡ time h
+    → IfSome (slice_get h n) (λ e. m ≡ moment_of e) → r ≡ max m t → max r (time (drop (n + 1) h)) ≡ time h
+time_more h n t m r lt so_far said is_max =
     let x = next h n lt in
-    let is : r ≡ max (moment_of x.entry) t = of_next (λ e. r ≡ max (moment_of e) t) h n x said in
+    let is : m ≡ moment_of x.entry = of_next (λ e. m ≡ moment_of e) h n x said in
     let all : max t (max (moment_of x.entry) (time (drop (n + 1) h))) ≡ time h = rw x.rest at so_far in
     omega arith
 

@@ -6,4 +6,5 @@ mod slow_answer;
 mod slow_counts;
 mod slow_filters;
 mod slow_front;
+mod slow_lawful;
 mod slow_stages;

@@ -11,12 +11,14 @@ ghost use Rattle.ledger_model.specs.Goods.{is_goods_of, goods_price, price_in};
 ghost use Rattle.ledger_model.specs.Pieces.{accepted_piece, is_spent, reference_of, has_reference};
 
 use crate::slow_front::Front;
+use mc_base::Moment;
 use mc_records::{Record, SiteTerms};
 use scrip_form::{Id, Terms, read_scrip};
 
-fn time_with(h: &Front<'_>, n: usize, before: u64) -> u64
+/// The moment of the entry of a number.
+pub(crate) fn moment_at(h: &Front<'_>, n: usize) -> Moment
     requires { n < length h.now }
-    ensures { IfSome (slice_get h.now n) (λ e. result ≡ max (entries.moment_of e) before) }
+    ensures { IfSome (slice_get h.now n) (λ e. result ≡ entries.moment_of e) }
 {
     match h.record(n) {
         Record::Site { moment, .. }
@@ -33,7 +35,7 @@ fn time_with(h: &Front<'_>, n: usize, before: u64) -> u64
         | Record::Got { moment, .. }
         | Record::Pend { moment, .. }
         | Record::Done { moment, .. }
-        | Record::Refused { moment, .. } => moment.seconds().max(before),
+        | Record::Refused { moment, .. } => moment,
     }
 }
 
@@ -43,7 +45,7 @@ pub(crate) fn slow_time(h: &Front<'_>) -> u64
 {
     let mut greatest = 0;
     for n in 0..h.len() {
-        greatest = time_with(h, n, greatest);
+        greatest = moment_at(h, n).seconds().max(greatest);
     }
     greatest
 }

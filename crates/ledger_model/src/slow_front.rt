@@ -26,6 +26,14 @@ impl<'a> Model for Front<'a> {
 }
 
 impl<'a> Front<'a> {
+    /// The first so many of the entries.
+    pub(crate) fn first(&self, count: usize) -> Front<'a>
+        requires { count ≤ length self.now }
+        ensures { result ≡ take count self.now }
+    {
+        unreachable!()
+    }
+
     /// How many entries there are.
     pub(crate) fn len(&self) -> usize
         ensures { result ≡ length self.now }
