@@ -1,4 +1,4 @@
-ghost use Rattle.std.specs.Prelude.{◌≡◌, ◌≤◌, ◌<◌, ◌+◌, ◌↔◌, ◌^◌, ◌++◌, ◌∷◌, [], IsTrue, IsFalse, None, Some, IfOk, IfSome, slice_get, length, take, option_map};
+ghost use Rattle.std.specs.Prelude.{◌≡◌, ℕ, List, ◌≤◌, ◌<◌, ◌+◌, ◌↔◌, ◌^◌, ◌++◌, ◌∷◌, [], IsTrue, IsFalse, None, Some, IfOk, IfSome, slice_get, length, take, option_map};
 ghost use Rattle.mc_records.specs.Entry as entries;
 ghost use Rattle.mc_records.specs.Entry.{Entry, Fits, payload};
 ghost use Rattle.mc_records.specs.Limits.{AreInRange};
@@ -17,10 +17,14 @@ use crate::slow_filters::{moment_at, slow_has_reference, slow_is_vendor, slow_te
 use crate::slow_front::Front;
 use crate::slow_stages::{Stopped, own_series};
 use mc_base::{Moment, NoMemory};
-use mc_records::{Limits, Record, Request, no_payload_begins_another};
+use mc_records::{Limits, Record, Request};
 use scrip_certs::hex_of;
 use scrip_form::Id;
 use std::alloc::Global;
+
+fn no_payload_begins_another()
+    ensures { (e f : Entry) (x y : List ℕ) → Fits e → Fits f → payload e ++ x ≡ payload f ++ y → (e ≡ f) × (x ≡ y) }
+{}
 
 /// The limits with the greatest journal.
 fn unbounded_of(limits: Limits) -> Limits
@@ -35,13 +39,13 @@ fn unbounded_of(limits: Limits) -> Limits
 }
 
 /// The answer to the request of an Accept entry, as its table gives it.
-fn weigh_entry(
+fn weigh_entry<'a>(
     alloc: Global,
     h: &Front<'_>,
     limits: Limits,
     moment: Moment,
-    scrip: &[u8],
-    target: &[u8],
+    scrip: &'a [u8],
+    target: &'a [u8],
     sign: &Option<[u8; 16]>,
 ) -> Result<Vec<u8>, Stopped>
     requires { AreInRange limits }
@@ -78,13 +82,13 @@ fn weigh_entry(
 }
 
 /// Whether the answer to the request of an Accept entry is the very entry of this payload.
-fn accept_allowed(
+fn accept_allowed<'a>(
     alloc: Global,
     h: &Front<'_>,
     limits: Limits,
     moment: Moment,
-    scrip: &[u8],
-    target: &[u8],
+    scrip: &'a [u8],
+    target: &'a [u8],
     sign: &Option<[u8; 16]>,
     spelled: &[u8],
 ) -> Result<bool, NoMemory>
@@ -114,13 +118,15 @@ fn mint_allowed(
     ensures { IfOk result (λ b. IsTrue b ↔ (IsTrue (is_vendor h.now) × IsFalse (has_reference h.now reference.now)
         × (first ≡ next_identity h.now (houses.own_series h.now moment)) × (own_count h.now (houses.own_series h.now moment) + count ≤ limits.series))) }
 {
+    if !slow_is_vendor(h) || slow_has_reference(h, reference) {
+        return Ok(false);
+    }
     let series = u64::from(own_series(h, moment));
     let own = slow_own_count(h, series)?;
-    let fits = own <= limits.series && u64::from(count) <= limits.series - own;
-    Ok(slow_is_vendor(h)
-        && !slow_has_reference(h, reference)
-        && fits
-        && first.number() == series * (1 << 32) + own)
+    if limits.series < own || limits.series - own < u64::from(count) {
+        return Ok(false);
+    }
+    Ok(first.number() == series * (1 << 32) + own)
 }
 
 /// Whether a vendor may bring the goods that are the last of these entries.
