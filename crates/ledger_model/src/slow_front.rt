@@ -1,4 +1,4 @@
-ghost use Rattle.std.specs.Prelude.{◌≡◌, ◌≤◌, ◌<◌, length, take, slice_get, Some, map, IfSome};
+ghost use Rattle.std.specs.Prelude.{◌≡◌, ◌≤◌, ◌<◌, ◌+◌, length, take, slice_get, Some, map, IfSome};
 ghost use Rattle.mc_records.specs.Views.{entry};
 ghost use Rattle.mc_records.specs.Entry.{Fits, payload};
 
@@ -30,6 +30,14 @@ impl<'a> Front<'a> {
     pub(crate) fn first(&self, count: usize) -> Front<'a>
         requires { count ≤ length self.now }
         ensures { result ≡ take count self.now }
+    {
+        unreachable!()
+    }
+
+    /// The entries up to and with that of a number.
+    pub(crate) fn through(&self, n: usize) -> Front<'a>
+        requires { n < length self.now }
+        ensures { result ≡ take (n + 1) self.now }
     {
         unreachable!()
     }

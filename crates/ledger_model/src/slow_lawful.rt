@@ -1,4 +1,4 @@
-ghost use Rattle.std.specs.Prelude.{◌≡◌, ℕ, List, ◌≤◌, ◌<◌, ◌+◌, ◌↔◌, ◌^◌, ◌++◌, ◌∷◌, [], IsTrue, IsFalse, None, Some, IfOk, IfSome, slice_get, length, take, option_map};
+ghost use Rattle.std.specs.Prelude.{◌≡◌, ℕ, List, ◌≤◌, ◌<◌, ◌+◌, ◌↔◌, ◌^◌, ◌++◌, ◌∷◌, [], IsTrue, IsFalse, IsNone, None, Some, IfOk, IfSome, slice_get, length, take, option_map};
 ghost use Rattle.mc_records.specs.Entry as entries;
 ghost use Rattle.mc_records.specs.Entry.{Entry, Fits, payload};
 ghost use Rattle.mc_records.specs.Limits.{AreInRange};
@@ -8,7 +8,7 @@ ghost use Rattle.ledger_model.specs.Houses.{is_vendor};
 ghost use Rattle.ledger_model.specs.Goods.{in_force};
 ghost use Rattle.ledger_model.specs.Pieces.{has_reference, next_identity, own_count};
 ghost use Rattle.ledger_model.specs.Answer.{answer, lines, Take};
-ghost use Rattle.ledger_model.specs.Lawful.{unbounded, request_of, IsAllowed, MayFollow};
+ghost use Rattle.ledger_model.specs.Lawful.{unbounded, request_of, IsAllowed, MayFollow, IsLawful, IsFirstUnlawful};
 ghost use Rattle.ledger_model.specs.Slow.{Weighs};
 
 use crate::slow_answer::weigh;
@@ -105,6 +105,12 @@ fn accept_allowed<'a>(
     }
 }
 
+fn has_room(limit: u64, own: u64, count: u64) -> bool
+    ensures { IsTrue result ↔ (own + count ≤ limit) }
+{
+    own <= limit && count <= limit - own
+}
+
 /// Whether a vendor may mint these pieces.
 fn mint_allowed(
     h: &Front<'_>,
@@ -123,7 +129,7 @@ fn mint_allowed(
     }
     let series = u64::from(own_series(h, moment));
     let own = slow_own_count(h, series)?;
-    if limits.series < own || limits.series - own < u64::from(count) {
+    if !has_room(limits.series, own, u64::from(count)) {
         return Ok(false);
     }
     Ok(first.number() == series * (1 << 32) + own)
@@ -153,7 +159,7 @@ fn allowed(
         Record::Site { kind, .. } => Ok(n == 0 && kind == 0),
         Record::Terms { terms, .. } =>
             Ok(slow_is_vendor(&before) && slow_terms(&before, terms.issuer()).is_none()),
-        Record::Goods { .. } => goods_allowed(&before, &h.first(n + 1)),
+        Record::Goods { .. } => goods_allowed(&before, &h.through(n)),
         Record::Accept {
             moment,
             scrip,
@@ -195,4 +201,22 @@ fn may_follow(
     let in_order = slow_time(&h.first(n)) <= moment_at(h, n).seconds();
     let allowed = allowed(alloc, h, n, limits)?;
     Ok(in_order && allowed)
+}
+
+/// The number of the first entry that may not follow those before it; 0 where there are none.
+pub(crate) fn first_unlawful(
+    alloc: Global,
+    h: &Front<'_>,
+    limits: Limits,
+) -> Result<Option<usize>, NoMemory>
+    requires { AreInRange limits }
+    ensures lawful { IfOk result (λ n. IsNone n ↔ IsLawful limits h.now) }
+    ensures first { IfOk result (λ n. IfSome n (IsFirstUnlawful limits h.now)) }
+{
+    for n in 0..h.len() {
+        if !may_follow(alloc, h, n, limits)? {
+            return Ok(Some(n));
+        }
+    }
+    if h.len() == 0 { Ok(Some(0)) } else { Ok(None) }
 }
