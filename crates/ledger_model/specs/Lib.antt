@@ -1,4 +1,5 @@
 pub mod Histories
+pub mod Payloads
 pub mod Houses
 pub mod Goods
 pub mod Pieces
@@ -10,4 +11,4 @@ pub mod Lawful
 pub mod Replies
 pub mod Laws
 pub mod Slow
-pub mod Stub
+pub mod Shown

@@ -94,9 +94,13 @@ has_reference h reference = list_any (λ r. bytes_eq r reference) (filter_map re
 
 -- ---- the next identity
 
+-- how many of some pieces are of a series
+abbrev pub in_series : List Scrip → ℕ → ℕ
+in_series pieces series = count_by (λ p. series_of p.id == series) pieces
+
 -- how many pieces of a series of the house's own were handed out or minted: the next serial of it
 abbrev pub own_count : History → ℕ → ℕ
-own_count h series = count_by (λ p. series_of p.id == series) (own_out h ++ minted h)
+own_count h series = in_series (own_out h ++ minted h) series
 
 -- the identity of a serial of a series
 abbrev pub numbered : ℕ → ℕ → ℕ

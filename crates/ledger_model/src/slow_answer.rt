@@ -5,21 +5,34 @@ ghost use Rattle.mc_records.specs.Entry as entries;
 ghost use Rattle.mc_records.specs.Limits.{AreInRange};
 ghost use Rattle.mc_records.specs.Requests.{asked_of};
 ghost use Rattle.ledger_model.specs.Answer as model;
+ghost use Rattle.ledger_model.specs.Shown.{Shows};
 ghost use Rattle.ledger_model.specs.Slow.{Weighs, after_read, after_repeat};
 
+use crate::history::History;
 use crate::slow_counts::slow_repeat;
 use crate::slow_filters::slow_keeping;
 use crate::slow_front::Front;
 use crate::slow_stages::{Stopped, change_for, fitted, genuine, offered, spendable};
-use mc_base::{Moment, NoMemory};
-use mc_records::{Limits, Refusal, Request};
+use mc_base::{List, Moment, NoMemory};
+use mc_records::{Limits, PieceList, Record, RecordDeed, Refusal, Request, write_record};
 use scrip_form::{Id, ScripRef, read_scrip};
 use std::alloc::Global;
+
+/// The answer of the definitions to a request.
+#[derive(Drop)]
+pub enum ModelAnswer {
+    /// It is refused.
+    Refused(Refusal),
+    /// It was accepted within the keeping time, by the entry of this number, from 0.
+    Again(u64),
+    /// It is accepted, by the entry of this payload.
+    Take(List<u8>),
+}
 
 /// The payload of an Accept entry for goods.
 fn accept_payload(
     alloc: Global,
-    time: Moment,
+    moment: Moment,
     scrip: &[u8],
     target: &[u8],
     sign: &Option<[u8; 16]>,
@@ -28,10 +41,22 @@ fn accept_payload(
 ) -> Result<Vec<u8>, NoMemory>
     requires scrip { IsScripText scrip.now }
     requires target { IsTarget target.now }
-    ensures payload { IfOk result (λ v. v.items ≡ entries.payload (entries.Accept time scrip.now target.now sign.now price change entries.goods_deed)) }
-    ensures fits { entries.Fits (entries.Accept time scrip.now target.now sign.now price change entries.goods_deed) }
+    ensures payload { IfOk result (λ v. v.items ≡ entries.payload (entries.Accept moment scrip.now target.now sign.now price change entries.goods_deed)) }
+    ensures fits { entries.Fits (entries.Accept moment scrip.now target.now sign.now price change entries.goods_deed) }
 {
-    unreachable!()
+    let _pieces: Option<PieceList<'_>> = None;
+    let mut payload = Vec::new(alloc);
+    let record = Record::Accept {
+        moment,
+        scrip,
+        target,
+        sign: *sign,
+        price,
+        change,
+        deed: RecordDeed::Goods,
+    };
+    write_record(&record, &mut payload)?;
+    Ok(payload)
 }
 
 /// The payload of the entry that takes a piece.
@@ -124,5 +149,26 @@ pub(crate) fn weigh(
     match read_scrip(text) {
         Ok(s) => weigh_read(alloc, h, time, limits, q, &s),
         Err(fault) => Err(Stopped::Refused(Refusal::BadScrip(fault.place as u64))),
+    }
+}
+
+/// The answer of a history to a request at a house time, under some limits, by the definitions.
+/// It goes over the whole history for each thing that it asks of it. Want of memory is free.
+#[tactic(auto, unfolding(crate::specs::Answer::answer))]
+pub fn slow_answer(
+    alloc: Global,
+    h: &History,
+    time: Moment,
+    limits: Limits,
+    q: &Request<'_>,
+) -> Result<ModelAnswer, NoMemory>
+    requires { AreInRange limits }
+    ensures { IfOk result (λ a. Shows a (model.answer h.now time limits (asked_of q.now))) }
+{
+    match weigh(alloc, &Front::whole(h), time, limits, q) {
+        Ok(payload) => Ok(ModelAnswer::Take(List::of(payload))),
+        Err(Stopped::Refused(refusal)) => Ok(ModelAnswer::Refused(refusal)),
+        Err(Stopped::Again(number)) => Ok(ModelAnswer::Again(number)),
+        Err(Stopped::NoMemory) => Err(NoMemory),
     }
 }

@@ -11,20 +11,17 @@ ghost use Rattle.ledger_model.specs.Answer.{answer, lines, Take};
 ghost use Rattle.ledger_model.specs.Lawful.{unbounded, request_of, IsAllowed, MayFollow, IsLawful, IsFirstUnlawful};
 ghost use Rattle.ledger_model.specs.Slow.{Weighs};
 
+use crate::history::History;
 use crate::slow_answer::weigh;
 use crate::slow_counts::{slow_in_force, slow_own_count};
 use crate::slow_filters::{moment_at, slow_has_reference, slow_is_vendor, slow_terms, slow_time};
 use crate::slow_front::Front;
 use crate::slow_stages::{Stopped, own_series};
 use mc_base::{Moment, NoMemory};
-use mc_records::{Limits, Record, Request};
+use mc_records::{Limits, Record, Request, no_payload_begins_another};
 use scrip_certs::hex_of;
 use scrip_form::Id;
 use std::alloc::Global;
-
-fn no_payload_begins_another()
-    ensures { (e f : Entry) (x y : List ℕ) → Fits e → Fits f → payload e ++ x ≡ payload f ++ y → (e ≡ f) × (x ≡ y) }
-{}
 
 /// The limits with the greatest journal.
 fn unbounded_of(limits: Limits) -> Limits
@@ -204,7 +201,7 @@ fn may_follow(
 }
 
 /// The number of the first entry that may not follow those before it; 0 where there are none.
-pub(crate) fn first_unlawful(
+fn first_unlawful(
     alloc: Global,
     h: &Front<'_>,
     limits: Limits,
@@ -219,4 +216,19 @@ pub(crate) fn first_unlawful(
         }
     }
     if h.len() == 0 { Ok(Some(0)) } else { Ok(None) }
+}
+
+/// Whether a history is lawful under some limits, by the definitions: None exactly where it is; else
+/// the number of the first entry that may not follow those before it, 0 for the empty history. Want
+/// of memory is free.
+pub fn slow_lawful(
+    alloc: Global,
+    h: &History,
+    limits: Limits,
+) -> Result<Option<usize>, NoMemory>
+    requires { AreInRange limits }
+    ensures lawful { IfOk result (λ n. IsNone n ↔ IsLawful limits h.now) }
+    ensures first { IfOk result (λ n. IfSome n (IsFirstUnlawful limits h.now)) }
+{
+    first_unlawful(alloc, &Front::whole(h), limits)
 }

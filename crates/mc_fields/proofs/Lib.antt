@@ -7,3 +7,6 @@ pub mod HexField
 pub mod FieldLoops
 pub mod HexLoop
 pub mod TextTest
+pub mod Puts
+pub mod FieldBytes
+pub mod FormLaws

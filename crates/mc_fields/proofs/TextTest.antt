@@ -1,10 +1,11 @@
 -- Whether some bytes are a text of a kind, byte by byte.
-use Rattle.std.proofs.Common.{◌≡◌, ℕ, ◌-◌, ◌+◌, ◌≤◌, ◌<◌, Bool, true, false, List, length, get_or, take, arith, inl, inr, below_more}
-use Rattle.std.specs.Prelude.{nat_lt, nat_le, if◌then◌else◌, ◌==◌}
-use Rattle.std.proofs.lemmas.Bool.{eq-eqb, ne_eqb, cases_eq, and_parts, and_from, true≢false, ltb-true, lt-ltb, leb-true}
+use Rattle.std.proofs.Common.{◌≡◌, ℕ, ◌-◌, ◌+◌, ◌≤◌, ◌<◌, Bool, true, false, List, [], ◌∷◌, length, get_or, refl, sym, take, arith, inl, inr, below_more}
+use Rattle.std.specs.Prelude.{IsTrue, ◌↔◌, nat_lt, nat_le, if◌then◌else◌, ◌==◌}
+use Rattle.std.proofs.lemmas.Bool.{eq-eqb, ne_eqb, cases_eq, and_parts, and_from, true≢false, ltb-true, lt-ltb, leb-true, le-leb}
 use Rattle.std.proofs.lemmas.List.{length-take-le, get_or-take}
 use Rattle.std.proofs.lemmas.List.Elements.{All-from_get_or, All-get_or}
-use Rattle.mc_fields.specs.Texts.{IsText}
+use Rattle.std.proofs.lemmas.List.Sums.{AllPass-from_list_all, list_all-from_AllPass}
+use Rattle.mc_fields.specs.Texts.{IsText, begins, is_text}
 use Rattle.mc_fields.specs.Reading.{Read, may_follow}
 use Rattle.mc_fields.proofs.FieldLoops.{IsAt}
 
@@ -76,3 +77,43 @@ taken_front first other least most bytes n fit le enough taken =
 pub record IsReadTo (first other : ℕ → Bool) (least most stop : ℕ) (bytes : List ℕ) (n : ℕ) (total : Read (List ℕ)) : Type 0 where
   pub at : IsAt first other least most stop bytes n total
   pub taken : AreTaken first other most bytes n
+
+-- ---- the test decides
+
+begins_first : (first : ℕ → Bool) (bytes : List ℕ) → begins first bytes ≡ true → 0 < length bytes → first (get_or bytes 0 0) ≡ true
+begins_first first [] e some = absurd (omega arith)
+begins_first first (c ∷ cs) e some = e
+
+first_begins : (first : ℕ → Bool) (bytes : List ℕ) → (0 < length bytes → first (get_or bytes 0 0) ≡ true) → begins first bytes ≡ true
+first_begins first [] h = refl
+first_begins first (c ∷ cs) h = h (omega arith)
+
+pub text_decides : (first other : ℕ → Bool) (least most : ℕ) (bytes : List ℕ) → (is_text first other least most bytes ≡ true) ↔ IsText first other least most bytes
+unfolding is_text
+text_decides first other least most bytes = (
+  (λ e.
+      let a = and_parts _ _ e in
+      let b = and_parts _ _ a.1 in
+      let c = and_parts _ _ b.1 in
+      record {
+        some = leb-true least (length bytes) a.0;
+        short = leb-true (length bytes) most b.0;
+        begins = begins_first first bytes c.0;
+        all = AllPass-from_list_all other bytes c.1;
+      }),
+  (λ t.
+      and_from _ _ (le-leb least (length bytes) t.some)
+      (and_from _ _ (le-leb (length bytes) most t.short)
+      (and_from _ _ (first_begins first bytes t.begins) (list_all-from_AllPass other bytes t.all)))),
+)
+
+same_test : (a b : Bool) → (a ≡ true → b ≡ true) → (b ≡ true → a ≡ true) → a ≡ b
+same_test true b there back = sym (there refl)
+same_test false true there back = back refl
+same_test false false there back = refl
+
+-- whatever decides it is the test
+pub is_text_by : (first other : ℕ → Bool) (least most : ℕ) (bytes : List ℕ) (r : Bool) → (IsTrue r ↔ IsText first other least most bytes) → r ≡ is_text first other least most bytes
+is_text_by first other least most bytes r h =
+    let d = text_decides first other least most bytes in
+    same_test r (is_text first other least most bytes) (λ t. d.1 (h.0 t)) (λ t. h.1 (d.0 t))

@@ -3,3 +3,4 @@ pub mod Reading
 pub mod Gives
 pub mod Field
 pub mod Form
+pub mod Puts

@@ -1,4 +1,5 @@
 use super::*;
+use std::test::Fail;
 
 /// A letter, then letters and digits: one to four bytes.
 struct Word;
@@ -85,6 +86,27 @@ fn texts_are_put_one_behind_the_other(rt: HostRuntime) {
     assert_eq!(rt; &out[..at], b"a 1099511627776".as_slice());
     assert_eq!(rt; put_number(&mut out, 0, 0), 1);
     assert_eq!(rt; &out[..2], b"0 ".as_slice());
+}
+
+#[test]
+fn bytes_are_put_where_there_is_room(rt: HostRuntime) {
+    let mut out = [b'.'; 8];
+    assert_eq!(rt; put_if_room(&mut out, 1, b"ab"), Some(3));
+    assert_eq!(rt; put_both_if_room(&mut out, 3, b"c", b"de"), Some(6));
+    assert_eq!(rt; &out, b".abcde..");
+    assert_eq!(rt; put_both_if_room(&mut out, 3, b"c", b"defgh"), None);
+    assert_eq!(rt; put_each_if_room(&mut out, 0, &[*b"12", *b"34"]), Some(4));
+    assert_eq!(rt; put_each_if_room(&mut out, 0, &[*b"12345"; 2]), None);
+    assert_eq!(rt; put_if_room(&mut out, 8, b""), Some(8));
+}
+
+#[test]
+fn bytes_are_appended(rt: HostRuntime) -> Result<(), Fail> {
+    let mut out = vec![in rt.alloc(); b'.']?;
+    append_both(&mut out, b"a", b"bc")?;
+    append_each(&mut out, &[*b"de", *b"fg"])?;
+    assert_eq!(rt; out.as_slice(), b".abcdefg".as_slice());
+    Ok(())
 }
 
 #[test]

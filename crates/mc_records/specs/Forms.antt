@@ -1,5 +1,5 @@
 -- The form of a payload, as it is read.
-use Rattle.std.specs.Prelude.{ℕ, zero, suc, Bool, true, false, List, length, Option, Some, None, Result, ◌==◌, if◌then◌else◌}
+use Rattle.std.specs.Prelude.{ℕ, zero, suc, List, Option, Some, None, Result, ◌==◌, if◌then◌else◌}
 use Rattle.mc_fields.specs.Field.{one, two, four, eight}
 use Rattle.mc_fields.specs.Form.{Form, done, number, flag, str, plain, followed, repeated, optional, all_of}
 use Rattle.scrip_form.specs.Texts.{is_name, is_target}

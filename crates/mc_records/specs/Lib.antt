@@ -10,3 +10,4 @@ pub mod Forms
 pub mod Pieces
 pub mod PieceViews
 pub mod Views
+pub mod Cells

@@ -1,8 +1,13 @@
 -- What a caller sees of a list of pieces.
-use Rattle.std.specs.Prelude.{List}
+use Rattle.std.specs.Prelude.{ℕ, List}
+use Rattle.scrip_form.specs.Scrip.{Certified}
 use Rattle.mc_records.specs.declared.piece_list.PieceList.{PieceList}
 use Rattle.mc_records.specs.Entry.{Held}
 use Rattle.mc_records.specs.Pieces.{pieces_in}
 
 abbrev pub pieces_of : PieceList → List Held
 pieces_of l = pieces_in l.count l.bytes.now
+
+-- a scrip text that was read, and its secret
+abbrev pub piece_of : Certified × List ℕ → Held
+piece_of p = record { text = p.0.text; secret = p.1 }

@@ -1,5 +1,5 @@
 -- A record of the program as an entry.
-use Rattle.std.specs.Prelude.{◌≡◌, ℕ, List, Option, option_map, Result, Ok, Err}
+use Rattle.std.specs.Prelude.{◌≡◌, ℕ, List, option_map, Result, Ok, Err}
 use Rattle.std.specs.Borrow.{Bor}
 use Rattle.mc_records.specs.declared.record.Record.{Record}
 use Rattle.mc_records.specs.declared.record.Record.TheVariants as records

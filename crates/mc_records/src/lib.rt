@@ -1,23 +1,37 @@
 //! What is said between a house and those who ask it: requests, refusals with their numbers and
-//! texts, and the bytes of a reply as a function of its values.
+//! texts, and the bytes of a reply as a function of its values. And what is kept: the entries of
+//! histories with their payloads, both ways.
 //!
-//! No call of this crate takes memory.
+//! No call of this crate but `write_record` takes memory.
 #![tactic(auto)]
 
+mod appending;
+mod cells;
 mod date_law;
+mod kinds;
+mod law;
 mod limits;
+mod listing;
+mod parts;
 mod piece_list;
+mod piece_lists;
+mod reading;
 mod record;
 mod refusal;
 mod refusal_text;
 mod request;
 #[cfg(test)]
 mod tests;
+mod writing;
 
+pub use appending::write_record;
 pub use date_law::date_of_its_second;
+pub use law::{bytes_after_a_payload, no_payload_begins_another};
 pub use limits::Limits;
 pub use piece_list::PieceList;
+pub use reading::read_record;
 pub use record::{Record, RecordDeed, RecordFault, SiteTerms};
 pub use refusal::Refusal;
 pub use refusal_text::{MOST_REFUSAL_BYTES, put_refusal_text};
 pub use request::Request;
+pub use writing::put_record;

@@ -1,5 +1,8 @@
 ghost use Rattle.std.specs.Prelude.{◌≤◌};
 
+mod entries;
+mod rows;
+
 use super::*;
 use scrip_form::{Id, Name};
 use std::test::Fail;

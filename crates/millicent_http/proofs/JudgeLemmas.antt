@@ -4,12 +4,13 @@ use Rattle.std.specs.Prelude.{codes, ◌==◌, ◌||◌, ◌&&◌, if◌then◌e
 use Rattle.std.specs.List.{list_any}
 use Rattle.std.specs.Str.{bytes_eq}
 use Rattle.mc_records.specs.declared.refusal.Refusal.TheVariants.{NoHost, BodyRefused, BadTarget, BadMethod, RepeatedField}
-use Rattle.millicent_http.specs.Fields.{values, host_is_fit, says_body, says_close, is_target, at_most_one, first_of}
+use Rattle.millicent_http.specs.Fields.{values, host_is_fit, says_body, says_close, at_most_one, first_of}
+use Rattle.scrip_form.specs.Texts.{is_target}
 use Rattle.httparse.specs.Spans.{name_and_value}
 use Rattle.mc_records.specs.Requests.{Asked}
 use Rattle.scrip_form.specs.Texts.{IsTarget}
 use Rattle.millicent_http.specs.Items.{request, refused, judged, NextItem}
-use Rattle.millicent_http.proofs.FieldLemmas.{target_decides}
+use Rattle.scrip_form.proofs.TextTests.{target_decides}
 
 pub judged_no_host : (m t : List ℕ) (v : ℕ) (fs : List (List ℕ × List ℕ)) → host_is_fit v (values (codes "host") fs) ≡ false
     → judged m t v fs ≡ refused NoHost (v == 0 || list_any says_close fs)

@@ -8,7 +8,8 @@ use Rattle.mc_records.specs.Requests.{Asked}
 use Rattle.mc_records.specs.declared.refusal.Refusal.{Refusal}
 use Rattle.mc_records.specs.declared.refusal.Refusal.TheVariants.{BadHead, HeadTooLarge, NoHost, BodyRefused, BadTarget, BadMethod, RepeatedField}
 use Rattle.millicent_http.specs.HeadEnds.{line_ends, HasNoEnd, IsFirstEnd}
-use Rattle.millicent_http.specs.Fields.{values, host_is_fit, says_body, says_close, is_target, at_most_one, first_of}
+use Rattle.millicent_http.specs.Fields.{values, host_is_fit, says_body, says_close, at_most_one, first_of}
+use Rattle.scrip_form.specs.Texts.{is_target}
 
 -- a request or a refusal, and whether the link ends after its reply
 pub data Item : Type 0 where

@@ -2,8 +2,9 @@ ghost use Rattle.std.specs.Prelude.{◌≡◌, ◌≤◌, ◌==◌, List, ℕ, l
 ghost use Rattle.std.specs.List.{list_any, list_all, slice_split};
 ghost use Rattle.httparse.specs.Grammar.{trim_ows, is_ows};
 ghost use Rattle.httparse.specs.Spans.{IsWithin, IsHeaderWithin, header_bytes, span_bytes};
-ghost use Rattle.millicent_http.specs.Fields.{same_name, values, host_is_fit, is_host_byte, is_host, is_target, says_body, says_close, has_close};
+ghost use Rattle.millicent_http.specs.Fields.{same_name, values, host_is_fit, is_host_byte, is_host, says_body, says_close, has_close};
 ghost use Rattle.millicent_http.specs.Occurs.{Occurred};
+ghost use Rattle.scrip_form.specs.Texts.{is_target};
 
 use crate::occurs::Occurs;
 use httparse::spans::{HeaderSpan, Span};

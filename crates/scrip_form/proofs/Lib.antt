@@ -1,3 +1,4 @@
 pub mod FieldReads
 pub mod Laws
 pub mod PaddedLemmas
+pub mod TextTests

@@ -1,4 +1,4 @@
-ghost use Rattle.std.specs.Prelude.{◌≡◌, ◌↔◌, ◌<◌, ◌^◌, IsSome, IfSome};
+ghost use Rattle.std.specs.Prelude.{◌≡◌, ◌↔◌, ◌<◌, ◌≤◌, ◌^◌, length, IsSome, IfSome};
 ghost use Rattle.scrip_form.specs.Issuing.{Issuing, HasPeriod, epoch, series_end};
 
 use crate::secrets::Secrets;
@@ -98,6 +98,22 @@ impl Terms {
         ensures { result ≡ self.now.scrip }
     {
         self.scrip
+    }
+
+    /// The secrets of certificates, in place.
+    pub fn scrip_list(&self) -> &[[u8; 16]]
+        ensures value { result.now ≡ self.now.scrip }
+        ensures few { length self.now.scrip ≤ 16 }
+    {
+        self.scrip.list()
+    }
+
+    /// The secrets of customers, in place.
+    pub fn customer_list(&self) -> &[[u8; 16]]
+        ensures value { result.now ≡ self.now.customer }
+        ensures few { length self.now.customer ≤ 16 }
+    {
+        self.customer.list()
     }
 
     /// The secrets of customers.

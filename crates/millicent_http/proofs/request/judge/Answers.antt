@@ -3,7 +3,8 @@ use Rattle.std.specs.Prelude.{codes, ◌&&◌, if◌then◌else◌}
 use Rattle.std.specs.Str.{bytes_eq}
 use Rattle.httparse.specs.Spans.{header_bytes, span_bytes}
 use Rattle.mc_records.specs.declared.refusal.Refusal.TheVariants.{NoHost, BadTarget, BadMethod, RepeatedField}
-use Rattle.millicent_http.specs.Fields.{values, is_target, at_most_one, first_of}
+use Rattle.millicent_http.specs.Fields.{values, at_most_one, first_of}
+use Rattle.scrip_form.specs.Texts.{is_target}
 use Rattle.millicent_http.specs.Items.{request, refused}
 use Rattle.millicent_http.proofs.JudgeLemmas.{judged_no_host, judged_body, judged_target, judged_method, judged_last}
 use Rattle.millicent_http.proofs.request.judge.Goals as goal
