@@ -1,6 +1,7 @@
 -- The definitions over the entries from a number on.
 use Rattle.std.proofs.Common.{◌≡◌, ℕ, zero, suc, ◌+◌, ◌<◌, max, Bool, true, false, cond, eqb, ◌||◌, List, [], ◌∷◌, ◌++◌, length, take, drop, find, filter, filter_map, Option, Some, None, option_map, option_to_list, slice_get, IfSome, add-one, refl, sym, ap, ap₂, ◌∙◌, arith, subst}
 use Rattle.std.specs.List.{list_any, last_or, cons_option}
+use Rattle.std.proofs.lemmas.Option.{slice_get_within}
 use Rattle.scrip_form.specs.Issuing.{Issuing}
 use Rattle.mc_records.specs.Entry.{Entry, moment_of}
 use Rattle.ledger_model.specs.Histories.{History, time}
@@ -29,6 +30,14 @@ next (x ∷ xs) (suc n) lt =
 -- what is said of the entry of the number
 pub of_next : (P : Entry → Type 0) (h : History) (n : ℕ) (x : Next h n) → IfSome (slice_get h n) P → P x.entry
 of_next P h n x said = subst (λ (o : Option Entry). IfSome o P) x.stands said
+
+same_entry : (a b : Entry) (o : Option Entry) → o ≡ Some a → o ≡ Some b → a ≡ b
+same_entry a b o e f = cc
+
+pub front_at : (h : History) (n : ℕ) (e : Entry) → slice_get h n ≡ Some e → take (n + 1) h ≡ take n h ++ e ∷ []
+front_at h n e got =
+    let x = next h n (slice_get_within h n e got) in
+    x.front ∙ ap (λ (y : Entry). take n h ++ y ∷ []) (same_entry x.entry e (slice_get h n) x.stands got)
 
 -- ---- time
 

@@ -4,11 +4,13 @@
 
 mod history;
 mod laws;
-mod slow_answer;
+mod slow_table;
+#[cfg(test)]
+mod slow_tests;
 mod slow_counts;
 mod slow_filters;
 mod slow_front;
-mod slow_lawful;
+mod slow_follow;
 mod slow_stages;
 
 pub use history::History;
@@ -17,5 +19,5 @@ pub use laws::{
     refused_heads_have_one_reply, serials_have_no_gap, taken_entries_follow, taken_requests_repeat,
     values_are_kept, values_are_paid,
 };
-pub use slow_answer::{ModelAnswer, slow_answer};
-pub use slow_lawful::slow_lawful;
+pub use slow_table::{ModelAnswer, slow_answer};
+pub use slow_follow::slow_lawful;

@@ -1,7 +1,7 @@
 use Rattle.std.proofs.Common.{ap, ◌≡◌, Some}
 use Rattle.mc_records.specs.Requests.{asked_of, seen}
 use Rattle.ledger_model.proofs.TableSteps.{weighs_along, to_read}
-use Rattle.ledger_model.proofs.slow_answer.weigh.Goals as goal
+use Rattle.ledger_model.proofs.slow_table.weigh.Goals as goal
 
 pub returns-in-Ok : goal.returns-in-Ok
 returns-in-Ok c =

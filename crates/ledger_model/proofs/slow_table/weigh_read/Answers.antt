@@ -1,7 +1,7 @@
 use Rattle.std.proofs.Common.{ap, ◌≡◌, Some, None}
 use Rattle.mc_records.specs.Requests.{asked_of, seen}
 use Rattle.ledger_model.proofs.TableSteps.{weighs_along, to_repeat}
-use Rattle.ledger_model.proofs.slow_answer.weigh_read.Goals as goal
+use Rattle.ledger_model.proofs.slow_table.weigh_read.Goals as goal
 
 pub returns-in-Some : goal.returns-in-Some
 returns-in-Some c =

@@ -3,7 +3,7 @@ use Rattle.mc_records.specs.Requests.{asked_of, seen}
 use Rattle.mc_records.specs.Entry.{Accept, goods_deed}
 use Rattle.ledger_model.specs.Lines.{Refuse}
 use Rattle.ledger_model.proofs.TableSteps.{weighs_along, stopped_weighs, to_offer, to_change, taken_ok, taken_full, after_change}
-use Rattle.ledger_model.proofs.slow_answer.taken.Goals as goal
+use Rattle.ledger_model.proofs.slow_table.taken.Goals as goal
 
 pub returns-in-Err : goal.returns-in-Err
 returns-in-Err c =

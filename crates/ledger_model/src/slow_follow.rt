@@ -12,7 +12,7 @@ ghost use Rattle.ledger_model.specs.Lawful.{unbounded, request_of, IsAllowed, Ma
 ghost use Rattle.ledger_model.specs.Slow.{Weighs};
 
 use crate::history::History;
-use crate::slow_answer::weigh;
+use crate::slow_table::weigh;
 use crate::slow_counts::{slow_in_force, slow_own_count};
 use crate::slow_filters::{moment_at, slow_has_reference, slow_is_vendor, slow_terms, slow_time};
 use crate::slow_front::Front;

@@ -1,4 +1,4 @@
-ghost use Rattle.std.specs.Prelude.{◌≡◌, None, Some, IfOk, option_map};
+ghost use Rattle.std.specs.Prelude.{◌≡◌, IfOk, IfSome};
 ghost use Rattle.scrip_form.specs.Scrip.{IsScripText};
 ghost use Rattle.scrip_form.specs.Texts.{IsTarget};
 ghost use Rattle.mc_records.specs.Entry as entries;
@@ -29,6 +29,51 @@ pub enum ModelAnswer {
     Take(List<u8>),
 }
 
+fn is_key(key: &[u8; 16])
+    ensures { entries.IsKey key.now }
+{
+}
+
+/// What a signature knows of itself.
+fn keys(sign: &Option<[u8; 16]>)
+    ensures { IfSome sign.now entries.IsKey }
+{
+    match sign {
+        Some(key) => is_key(key),
+        None => (),
+    }
+}
+
+/// What an identity knows of itself.
+fn longs(change: &Option<Id>)
+    ensures { IfSome change.now entries.IsLong }
+{
+    match change {
+        Some(id) => {
+            let _number = id.number();
+        }
+        None => (),
+    }
+}
+
+/// The parts of an Accept entry for goods are in their ranges.
+fn fit(
+    moment: Moment,
+    scrip: &[u8],
+    target: &[u8],
+    sign: &Option<[u8; 16]>,
+    price: u64,
+    change: &Option<Id>,
+)
+    requires scrip { IsScripText scrip.now }
+    requires target { IsTarget target.now }
+    ensures { entries.Fits (entries.Accept moment scrip.now target.now sign.now price change.now entries.goods_deed) }
+{
+    let _seconds = moment.seconds();
+    keys(sign);
+    longs(change);
+}
+
 /// The payload of an Accept entry for goods.
 fn accept_payload(
     alloc: Global,
@@ -44,6 +89,7 @@ fn accept_payload(
     ensures payload { IfOk result (λ v. v.items ≡ entries.payload (entries.Accept moment scrip.now target.now sign.now price change entries.goods_deed)) }
     ensures fits { entries.Fits (entries.Accept moment scrip.now target.now sign.now price change entries.goods_deed) }
 {
+    fit(moment, scrip, target, sign, price, &change);
     let _pieces: Option<PieceList<'_>> = None;
     let mut payload = Vec::new(alloc);
     let record = Record::Accept {

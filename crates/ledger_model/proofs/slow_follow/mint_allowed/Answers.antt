@@ -1,7 +1,7 @@
 use Rattle.std.proofs.Common.{arith, ap, ◌≡◌, ◌∙◌, ◌+◌, ◌≤◌}
 use Rattle.ledger_model.specs.Houses as houses
 use Rattle.ledger_model.specs.Pieces.{own_count}
-use Rattle.ledger_model.proofs.slow_lawful.mint_allowed.Goals as goal
+use Rattle.ledger_model.proofs.slow_follow.mint_allowed.Goals as goal
 
 pub returns-then-not-has_room : goal.returns-then-not-has_room
 returns-then-not-has_room c =
