@@ -35,7 +35,7 @@ path_fields (plain n next) p = field.plain p.0 ∷ path_fields (next p.0) p.2
 
 -- ---- what is read
 
-number_takes : (z : Size) (low high : ℕ) (bytes : List ℕ) (r : ℕ × List ℕ) → IsBytes bytes → sized_at z low high bytes ≡ Ok r
+pub number_takes : (z : Size) (low high : ℕ) (bytes : List ℕ) (r : ℕ × List ℕ) → IsBytes bytes → sized_at z low high bytes ≡ Ok r
     → Takes bytes (number_bytes z r.0) r.1 × (low ≤ r.0) × (r.0 ≤ high) × (r.0 < limit z)
 number_takes z low high bytes r fits e =
     let front = take (size z) bytes in
@@ -50,14 +50,14 @@ number_takes z low high bytes r fits e =
     subst (λ (x : ℕ × List ℕ). Takes bytes (number_bytes z x.0) x.1 × (low ≤ x.0) × (x.0 ≤ high) × (x.0 < limit z)) (ok_is (n, drop (size z) bytes) r c.1)
     (takes, ltb-false _ _ b.0, ltb-false _ _ c.0, number_below z front front_fits)
 
-plain_takes : (n : ℕ) (bytes : List ℕ) (r : List ℕ × List ℕ) → IsBytes bytes → plain_at n bytes ≡ Ok r → Takes bytes r.0 r.1 × (length r.0 ≡ n)
+pub plain_takes : (n : ℕ) (bytes : List ℕ) (r : List ℕ × List ℕ) → IsBytes bytes → plain_at n bytes ≡ Ok r → Takes bytes r.0 r.1 × (length r.0 ≡ n)
 plain_takes n bytes r fits e =
     let a = guard_ok (ltb (length bytes) n) (length bytes) _ r e in
     let long : n ≤ length bytes = ltb-false _ _ a.0 in
     let takes : Takes bytes (take n bytes) (drop n bytes) = record { parts = sym (take-append-drop n bytes); rest_fits = IsBytes-drop n bytes fits } in
     subst (λ (x : List ℕ × List ℕ). Takes bytes x.0 x.1 × (length x.0 ≡ n)) (ok_is (take n bytes, drop n bytes) r a.1) (takes, omega (arith, length-take n bytes))
 
-flag_takes : (bytes : List ℕ) (r : Bool × List ℕ) → IsBytes bytes → flag_at bytes ≡ Ok r → Takes bytes (flag_byte r.0 ∷ []) r.1
+pub flag_takes : (bytes : List ℕ) (r : Bool × List ℕ) → IsBytes bytes → flag_at bytes ≡ Ok r → Takes bytes (flag_byte r.0 ∷ []) r.1
 flag_takes [] r fits e = absurd cc
 flag_takes (zero ∷ rest) r fits e = subst (λ (x : Bool × List ℕ). Takes (0 ∷ rest) (flag_byte x.0 ∷ []) x.1) (ok_is (false, rest) r e) (record { parts = refl; rest_fits = IsBytes-rest 0 rest fits })
 flag_takes (suc zero ∷ rest) r fits e = subst (λ (x : Bool × List ℕ). Takes (1 ∷ rest) (flag_byte x.0 ∷ []) x.1) (ok_is (true, rest) r e) (record { parts = refl; rest_fits = IsBytes-rest 1 rest fits })
@@ -79,7 +79,7 @@ counted_takes bytes r fits e =
     let short : length (take n rest) < 2 ^ 16 = omega (arith, head.3) in
     subst (λ (x : List ℕ × List ℕ). Takes bytes (field_bytes (field.str x.0)) x.1 × (length x.0 < 2 ^ 16)) (ok_is (take n rest, drop n rest) r b.1) (made, short)
 
-str_takes : (test : List ℕ → Bool) (bytes : List ℕ) (r : List ℕ × List ℕ) → IsBytes bytes → str_at test bytes ≡ Ok r
+pub str_takes : (test : List ℕ → Bool) (bytes : List ℕ) (r : List ℕ × List ℕ) → IsBytes bytes → str_at test bytes ≡ Ok r
     → Takes bytes (field_bytes (field.str r.0)) r.1 × IsTrue (test r.0) × (length r.0 < 2 ^ 16)
 unfolding str_at
 str_takes test bytes r fits e =
@@ -129,17 +129,17 @@ run_takes (plain n next) bytes x fits e =
 
 -- ---- what is written
 
-number_reads : (z : Size) (low high n : ℕ) (rest : List ℕ) → low ≤ n → n ≤ high → n < limit z → sized_at z low high (number_bytes z n ++ rest) ≡ Ok (n, rest)
+pub number_reads : (z : Size) (low high n : ℕ) (rest : List ℕ) → low ≤ n → n ≤ high → n < limit z → sized_at z low high (number_bytes z n ++ rest) ≡ Ok (n, rest)
 number_reads z low high n rest above below lt =
     let len = length-number_bytes z n in
     let long : ltb (length (number_bytes z n ++ rest)) (size z) ≡ false = le-ltb _ _ (omega (arith, length-append (number_bytes z n) rest)) in
     rw (long, take_at (number_bytes z n) rest (size z) len, drop_at (number_bytes z n) rest (size z) len, number_again z n lt, le-ltb n low above, le-ltb high n below) refl
 
-flag_reads : (b : Bool) (rest : List ℕ) → flag_at (flag_byte b ∷ rest) ≡ Ok (b, rest)
+pub flag_reads : (b : Bool) (rest : List ℕ) → flag_at (flag_byte b ∷ rest) ≡ Ok (b, rest)
 flag_reads false rest = refl
 flag_reads true rest = refl
 
-plain_reads : (s rest : List ℕ) (n : ℕ) → length s ≡ n → plain_at n (s ++ rest) ≡ Ok (s, rest)
+pub plain_reads : (s rest : List ℕ) (n : ℕ) → length s ≡ n → plain_at n (s ++ rest) ≡ Ok (s, rest)
 plain_reads s rest n len =
     let long : ltb (length (s ++ rest)) n ≡ false = le-ltb _ _ (omega (arith, length-append s rest)) in
     rw (long, take_at s rest n len, drop_at s rest n len) refl
@@ -153,7 +153,7 @@ counted_reads s rest lt =
     let left = length (field_bytes (field.str s) ++ rest) in
     ap (λ (r : Read ℕ). r >>= counted_after left) head ∙ rw (long, take_at s rest (length s) refl, drop_at s rest (length s) refl) refl
 
-str_reads : (test : List ℕ → Bool) (s rest : List ℕ) → IsTrue (test s) → length s < 2 ^ 16 → str_at test (field_bytes (field.str s) ++ rest) ≡ Ok (s, rest)
+pub str_reads : (test : List ℕ → Bool) (s rest : List ℕ) → IsTrue (test s) → length s < 2 ^ 16 → str_at test (field_bytes (field.str s) ++ rest) ≡ Ok (s, rest)
 unfolding str_at
 str_reads test s rest ok lt =
     let left = length (field_bytes (field.str s) ++ rest) in

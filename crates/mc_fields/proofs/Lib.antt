@@ -10,3 +10,4 @@ pub mod TextTest
 pub mod Puts
 pub mod FieldBytes
 pub mod FormLaws
+pub mod StopLaws

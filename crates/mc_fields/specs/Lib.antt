@@ -4,3 +4,4 @@ pub mod Gives
 pub mod Field
 pub mod Form
 pub mod Puts
+pub mod Stops

@@ -1,7 +1,8 @@
 //! Payloads to entries.
 
-ghost use Rattle.std.specs.Prelude.{◌≡◌, IfOk, Ok};
+ghost use Rattle.std.specs.Prelude.{◌≡◌, IfOk, IfErr, Ok};
 ghost use Rattle.mc_fields.specs.Form.{run};
+ghost use Rattle.mc_fields.specs.Stops.{StopsAt};
 ghost use Rattle.mc_fields.specs.Gives.{Gives};
 ghost use Rattle.mc_records.specs.Entry.{Entry, Fits, payload};
 ghost use Rattle.mc_records.specs.Forms.{kind_form, entry_form, entry_of};
@@ -22,7 +23,9 @@ pub fn read_record(bytes: &[u8]) -> Result<Record<'_>, RecordFault>
     ensures found { IfOk result (λ r. Fits (entry r) × (bytes.now ≡ payload (entry r))) }
     // What is spelled so is read.
     ensures only { (e : Entry) → Fits e → bytes.now ≡ payload e → GivesEntry result (Ok e) }
-    // Which place a fault has.
+    // Before the place of a fault stand whole fields, and there none that may stand there.
+    ensures place { IfErr result (λ f. StopsAt entry_form bytes.now f.place) }
+    // All of it as one function of the bytes.
     ensures exact { GivesEntry result (entry_of bytes.now) }
 {
     whole_record(bytes)
