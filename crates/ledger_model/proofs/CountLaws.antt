@@ -37,7 +37,7 @@ pub own_more : (h : History) (n series all r new whole : ℕ) → n < length h �
 own_more h n series all r new whole lt so_far said is_sum =
     let x = next h n lt in
     let is : r ≡ count_by (is_of series) (option_to_list (change_piece (take n h) x.entry)) + count_by (is_of series) (minted_pieces (take n h) x.entry) =
-        of_next (λ e. (before : History) → r ≡ count_by (is_of series) (option_to_list (change_piece before e)) + count_by (is_of series) (minted_pieces before e)) h n x said (take n h) in
+    of_next (λ e. (before : History) → r ≡ count_by (is_of series) (option_to_list (change_piece before e)) + count_by (is_of series) (minted_pieces before e)) h n x said (take n h) in
     let here : all + own_from series (take n h) (x.entry ∷ drop (n + 1) h) ≡ whole = subst (λ (t : History). all + own_from series (take n h) t ≡ whole) x.rest so_far in
     let front : own_from series (take (n + 1) h) (drop (n + 1) h) ≡ own_from series (take n h ++ x.entry ∷ []) (drop (n + 1) h) = ap (λ (t : History). own_from series t (drop (n + 1) h)) x.front in
     omega (arith, own_from_cons series (take n h) x.entry (drop (n + 1) h))
@@ -52,13 +52,13 @@ minted_more before value series first count k found new test lt so_far is_test i
     let left : count - k ≡ suc (count - (k + 1)) = omega arith in
     let place : first + k + 1 ≡ first + (k + 1) = omega arith in
     let here : found + count_by (is_of series) (run_from before value (first + k) (suc (count - (k + 1)))) ≡ count_by (is_of series) (run_from before value first count) =
-        subst (λ (m : ℕ). found + count_by (is_of series) (run_from before value (first + k) m) ≡ count_by (is_of series) (run_from before value first count)) left so_far in
+    subst (λ (m : ℕ). found + count_by (is_of series) (run_from before value (first + k) m) ≡ count_by (is_of series) (run_from before value first count)) left so_far in
     let tail : List Scrip = run_from before value (first + k + 1) (count - (k + 1)) in
     let both : count_by (is_of series) (first_hand before value (first + k) ∷ tail) ≡ (0 + cond (eqb ((first + k) / 2 ^ 32) series) 1 0) + count_by (is_of series) tail =
-        count_append (is_of series) (first_hand before value (first + k) ∷ []) tail in
+    count_append (is_of series) (first_hand before value (first + k) ∷ []) tail in
     let one : cond {A = ℕ} (eqb ((first + k) / 2 ^ 32) series) 1 0 ≡ cond {A = ℕ} test 1 0 = ap (λ (b : Bool). cond {A = ℕ} b 1 0) is_test in
     let rest : count_by (is_of series) tail ≡ count_by (is_of series) (run_from before value (first + (k + 1)) (count - (k + 1))) =
-        ap (λ (m : ℕ). count_by (is_of series) (run_from before value m (count - (k + 1)))) place in
+    ap (λ (m : ℕ). count_by (is_of series) (run_from before value m (count - (k + 1)))) place in
     omega arith
 
 -- ---- size

@@ -31,13 +31,14 @@ pub allowed_taken : NoPrefix → (h : History) (t : ℕ) (limits : Limits) (q : 
     → (IsTrue same → answer h t limits q ≡ Take e) × (answer h t limits q ≡ Take e → IsTrue same)
 allowed_taken law h t limits q found bytes same (f, gives, fits_f, spelled) same_is e fits_e bytes_is =
     let is : answer h t limits q ≡ Take f = answer_is h t limits q ∙ ap answered gives in
-    let decides = bytes_eq-Decides found.items bytes in
-    (λ yes'.
-      let eq : found.items ≡ bytes = decides.0 (sym same_is ∙ yes') in
-      is ∙ ap Take (same_payload law f e fits_f fits_e (sym spelled ∙ eq ∙ bytes_is)),
-    λ taken.
-      let f_is : f ≡ e = take_of f e (sym is ∙ taken) in
-      same_is ∙ decides.1 (spelled ∙ ap payload f_is ∙ sym bytes_is))
+    let decides = bytes_eq-Decides found.items bytes in (
+      λ yes'.
+          let eq : found.items ≡ bytes = decides.0 (sym same_is ∙ yes') in
+          is ∙ ap Take (same_payload law f e fits_f fits_e (sym spelled ∙ eq ∙ bytes_is)),
+      λ taken.
+          let f_is : f ≡ e = take_of f e (sym is ∙ taken) in
+          same_is ∙ decides.1 (spelled ∙ ap payload f_is ∙ sym bytes_is),
+    )
 
 pub allowed_stopped : (h : History) (t : ℕ) (limits : Limits) (q : Asked) (stop : Stop) → lines h t limits q ≡ Err stop → (e : Entry)
     → (IsTrue false → answer h t limits q ≡ Take e) × (answer h t limits q ≡ Take e → IsTrue false)

@@ -83,8 +83,8 @@ pub to_repeat : (h : History) (t : ℕ) (limits : Limits) (q : Asked) (s : Certi
     → after_read h t limits q s ≡ (again_if found >>= λ _. after_repeat h t limits q s)
 to_repeat h t limits q s keep text found keep_is text_is e =
     let is : found ≡ repeated h t s q =
-        e ∙ ap (λ (k : ℕ). position (is_repeat k t text q.target q.sign) h) keep_is
-        ∙ ap (λ (x : List ℕ). position (is_repeat (keeping h) t x q.target q.sign) h) text_is in
+    e ∙ ap (λ (k : ℕ). position (is_repeat k t text q.target q.sign) h) keep_is
+    ∙ ap (λ (x : List ℕ). position (is_repeat (keeping h) t x q.target q.sign) h) text_is in
     ap (λ (o : Option ℕ). again_if o >>= λ _. after_repeat h t limits q s) (sym is)
 
 -- ---- 20, 21
@@ -93,6 +93,6 @@ pub to_read : (h : History) (t : ℕ) (limits : Limits) (q : Asked) (s : Certifi
     → q.scrip ≡ Some text → s.text ≡ text → scrip_of text ≡ Ok (s.piece, s.cert) → lines h t limits q ≡ after_read h t limits q s
 to_read h t limits q s text given_is text_is read =
     let is : read_by q.scrip ≡ Ok s =
-        ap read_by given_is ∙ ap (λ (r : Result (Scrip × List ℕ) ℕ). certified text r) read
-        ∙ ap (λ (x : List ℕ). certified x (Ok (s.piece, s.cert))) (sym text_is) in
+    ap read_by given_is ∙ ap (λ (r : Result (Scrip × List ℕ) ℕ). certified text r) read
+    ∙ ap (λ (x : List ℕ). certified x (Ok (s.piece, s.cert))) (sym text_is) in
     ap (λ (r : Result Certified Stop). r >>= after_read h t limits q) is

@@ -12,11 +12,11 @@ ghost use Rattle.ledger_model.specs.Lawful.{unbounded, request_of, IsAllowed, Ma
 ghost use Rattle.ledger_model.specs.Slow.{Weighs};
 
 use crate::history::History;
-use crate::slow_table::weigh;
 use crate::slow_counts::{slow_in_force, slow_own_count};
 use crate::slow_filters::{moment_at, slow_has_reference, slow_is_vendor, slow_terms, slow_time};
 use crate::slow_front::Front;
 use crate::slow_stages::{Stopped, own_series};
+use crate::slow_table::weigh;
 use mc_base::{Moment, NoMemory};
 use mc_records::{Limits, Record, Request, no_payload_begins_another};
 use scrip_certs::hex_of;
@@ -141,12 +141,7 @@ fn goods_allowed(before: &Front<'_>, h: &Front<'_>) -> Result<bool, NoMemory>
 }
 
 /// Whether the kind of the entry of a number allows it after those before it.
-fn allowed(
-    alloc: Global,
-    h: &Front<'_>,
-    n: usize,
-    limits: Limits,
-) -> Result<bool, NoMemory>
+fn allowed(alloc: Global, h: &Front<'_>, n: usize, limits: Limits) -> Result<bool, NoMemory>
     requires number { n < length h.now }
     requires limits { AreInRange limits }
     ensures { IfOk result (λ b. IfSome (slice_get h.now n) (λ e. IsTrue b ↔ IsAllowed limits (take n h.now) e)) }
@@ -154,8 +149,9 @@ fn allowed(
     let before = h.first(n);
     match h.record(n) {
         Record::Site { kind, .. } => Ok(n == 0 && kind == 0),
-        Record::Terms { terms, .. } =>
-            Ok(slow_is_vendor(&before) && slow_terms(&before, terms.issuer()).is_none()),
+        Record::Terms { terms, .. } => Ok(
+            slow_is_vendor(&before) && slow_terms(&before, terms.issuer()).is_none(),
+        ),
         Record::Goods { .. } => goods_allowed(&before, &h.through(n)),
         Record::Accept {
             moment,
@@ -163,7 +159,16 @@ fn allowed(
             target,
             sign,
             ..
-        } => accept_allowed(alloc, &before, limits, moment, scrip, target, &sign, h.payload(n)),
+        } => accept_allowed(
+            alloc,
+            &before,
+            limits,
+            moment,
+            scrip,
+            target,
+            &sign,
+            h.payload(n),
+        ),
         Record::Mint {
             moment,
             reference,
@@ -185,12 +190,7 @@ fn allowed(
 }
 
 /// Whether the entry of a number may follow those before it.
-fn may_follow(
-    alloc: Global,
-    h: &Front<'_>,
-    n: usize,
-    limits: Limits,
-) -> Result<bool, NoMemory>
+fn may_follow(alloc: Global, h: &Front<'_>, n: usize, limits: Limits) -> Result<bool, NoMemory>
     requires number { n < length h.now }
     requires limits { AreInRange limits }
     ensures { IfOk result (λ b. IfSome (slice_get h.now n) (λ e. IsTrue b ↔ MayFollow limits (take n h.now) e)) }
@@ -201,11 +201,7 @@ fn may_follow(
 }
 
 /// The number of the first entry that may not follow those before it; 0 where there are none.
-fn first_unlawful(
-    alloc: Global,
-    h: &Front<'_>,
-    limits: Limits,
-) -> Result<Option<usize>, NoMemory>
+fn first_unlawful(alloc: Global, h: &Front<'_>, limits: Limits) -> Result<Option<usize>, NoMemory>
     requires { AreInRange limits }
     ensures lawful { IfOk result (λ n. IsNone n ↔ IsLawful limits h.now) }
     ensures first { IfOk result (λ n. IfSome n (IsFirstUnlawful limits h.now)) }
@@ -221,11 +217,7 @@ fn first_unlawful(
 /// Whether a history is lawful under some limits, by the definitions: None exactly where it is; else
 /// the number of the first entry that may not follow those before it, 0 for the empty history. Want
 /// of memory is free.
-pub fn slow_lawful(
-    alloc: Global,
-    h: &History,
-    limits: Limits,
-) -> Result<Option<usize>, NoMemory>
+pub fn slow_lawful(alloc: Global, h: &History, limits: Limits) -> Result<Option<usize>, NoMemory>
     requires { AreInRange limits }
     ensures lawful { IfOk result (λ n. IsNone n ↔ IsLawful limits h.now) }
     ensures first { IfOk result (λ n. IfSome n (IsFirstUnlawful limits h.now)) }

@@ -31,8 +31,7 @@ pub enum ModelAnswer {
 
 fn is_key(key: &[u8; 16])
     ensures { entries.IsKey key.now }
-{
-}
+{}
 
 /// What a signature knows of itself.
 fn keys(sign: &Option<[u8; 16]>)

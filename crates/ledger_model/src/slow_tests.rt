@@ -38,9 +38,7 @@ fn text_of(alloc: Global, answer: &ModelAnswer) -> Result<Vec<u8>, Fail> {
             let len = put_refusal_text(&mut out, 0, refusal);
             Ok(out[..len].to_vec(alloc)?)
         }
-        ModelAnswer::Again(number) => {
-            Ok(format!(in alloc; "again {number}")?.into_bytes())
-        }
+        ModelAnswer::Again(number) => { Ok(format!(in alloc; "again {number}")?.into_bytes()) }
         ModelAnswer::Take(payload) => Ok(hex::encode(alloc, payload.slice())?.into_bytes()),
     }
 }
