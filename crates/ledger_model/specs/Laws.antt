@@ -21,6 +21,7 @@ IsPaid before (Accept m scrip target sign price change deed) =
     worth (accepted_piece (Accept m scrip target sign price change deed)) ≡ price + worth (change_piece before (Accept m scrip target sign price change deed))
 IsPaid before _ = Unit {0}
 
+-- each of some entries is paid, after those before it
 abbrev pub ArePaid : History → History → Type 0
 ArePaid before [] = Unit {0}
 ArePaid before (e ∷ es) = IsPaid before e × ArePaid (before ++ e ∷ []) es

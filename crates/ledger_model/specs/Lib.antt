@@ -10,3 +10,5 @@ pub mod Answer
 pub mod Lawful
 pub mod Replies
 pub mod Laws
+pub mod Slow
+pub mod Shown

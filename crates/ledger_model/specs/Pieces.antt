@@ -15,6 +15,7 @@ use Rattle.ledger_model.specs.Houses.{site_name, own_end}
 abbrev pub piece_of : List ℕ → Option Scrip
 piece_of text = option_map (λ x. x.0) (result_ok (scrip_of text))
 
+-- the piece that an Accept entry accepts
 abbrev pub accepted_piece : Entry → Option Scrip
 accepted_piece (Accept m scrip target sign price change deed) = piece_of scrip
 accepted_piece _ = None
@@ -52,6 +53,7 @@ abbrev pub own_out_from : History → History → List Scrip
 own_out_from before [] = []
 own_out_from before (e ∷ es) = option_to_list (change_piece before e) ++ own_out_from (before ++ e ∷ []) es
 
+-- the pieces that the house handed out in its own series
 abbrev pub own_out : History → List Scrip
 own_out h = own_out_from [] h
 
@@ -70,6 +72,7 @@ abbrev pub run_from : History → ℕ → ℕ → ℕ → List Scrip
 run_from before value first zero = []
 run_from before value first (suc n) = first_hand before value first ∷ run_from before value (first + 1) n
 
+-- the pieces that a Mint entry makes, after the entries before it
 abbrev pub minted_pieces : History → Entry → List Scrip
 minted_pieces before (Mint m reference count value first) = run_from before value first count
 minted_pieces before _ = []
@@ -89,6 +92,7 @@ reference_of (Deposit m name amount reference) = Some reference
 reference_of (Withdraw m name amount reference) = Some reference
 reference_of _ = None
 
+-- whether a reference stands
 abbrev pub has_reference : History → List ℕ → Bool
 has_reference h reference = list_any (λ r. bytes_eq r reference) (filter_map reference_of h)
 

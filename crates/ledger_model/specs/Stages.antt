@@ -15,10 +15,12 @@ use Rattle.ledger_model.specs.Lines.{Stop, Refuse, ◌>>=◌, given, refused_if}
 
 -- ---- 20, 21: the scrip text that was read
 
+-- what reading a text gives: the text with its piece and its certificate, or 21 with the place
 abbrev pub certified : List ℕ → Result (Scrip × List ℕ) ℕ → Result Certified Stop
 certified text (Ok x) = Ok (record { text = text; piece = x.0; cert = x.1 })
 certified text (Err place) = Err (Refuse (BadScrip place))
 
+-- a request's scrip text, read
 abbrev pub read_by : Option (List ℕ) → Result Certified Stop
 read_by scrip = do
   text ← given scrip NoScrip
