@@ -1,0 +1,14 @@
+pub mod Histories
+pub mod Payloads
+pub mod Houses
+pub mod Goods
+pub mod Pieces
+pub mod Sums
+pub mod Lines
+pub mod Stages
+pub mod Answer
+pub mod Lawful
+pub mod Replies
+pub mod Laws
+pub mod Slow
+pub mod Shown

@@ -1,0 +1,88 @@
+//! Laws over the definitions, each on a function that does nothing.
+
+ghost use Rattle.std.specs.Prelude.{◌≡◌, ◌+◌, ◌<◌, ◌≤◌, ◌^◌, ℕ, [], ◌∷◌, ◌++◌, length, List, Some, true, option_map, slice_get};
+ghost use Rattle.mc_records.specs.declared.limits.Limits.{Limits as Bounds};
+ghost use Rattle.mc_records.specs.declared.refusal.Refusal.{Refusal};
+ghost use Rattle.mc_records.specs.Refusals.{number_of};
+ghost use Rattle.mc_records.specs.Requests.{Asked};
+ghost use Rattle.mc_records.specs.Entry.{Entry};
+ghost use Rattle.mc_records.specs.Sizes.{size};
+ghost use Rattle.ledger_model.specs.Histories.{History, time};
+ghost use Rattle.ledger_model.specs.Houses.{keeping};
+ghost use Rattle.ledger_model.specs.Pieces.{accepted, own_out, minted};
+ghost use Rattle.ledger_model.specs.Sums.{takings, values};
+ghost use Rattle.ledger_model.specs.Stages.{is_repeat};
+ghost use Rattle.ledger_model.specs.Answer.{answer, Take, Again};
+ghost use Rattle.ledger_model.specs.Lawful.{IsLawful, IsFirstUnlawful, MayFollow};
+ghost use Rattle.ledger_model.specs.Replies.{reply_of, refusal_of, head_refusal};
+ghost use Rattle.ledger_model.specs.Laws.{AreDistinct, ArePaid, HaveNoGap, with_id};
+
+/// In a lawful history no identity is accepted twice.
+#[tactic(auto, using(crate::proofs::AcceptLaws::accepted_once))]
+pub fn accepted_once()
+    ensures { (limits : Bounds) (h : History) → IsLawful limits h → AreDistinct (accepted h) }
+{}
+
+/// A front of a lawful history, from its first entry on, is lawful.
+#[tactic(auto, using(crate::proofs::FollowLaws::front_lawful))]
+pub fn fronts_are_lawful()
+    ensures { (limits : Bounds) (e : Entry) (xs ys : History) → IsLawful limits ((e ∷ xs) ++ ys) → IsLawful limits (e ∷ xs) }
+{}
+
+/// A history with a first unlawful entry is not lawful, and there is one number of that entry.
+pub fn first_unlawful_is_one()
+    ensures unlawful { (limits : Bounds) (h : History) (n : ℕ) → IsFirstUnlawful limits h n → IsLawful limits h → ⊥ }
+    ensures one { (limits : Bounds) (h : History) (n m : ℕ) → IsFirstUnlawful limits h n → IsFirstUnlawful limits h m → n ≡ m }
+{}
+
+/// After an entry was taken for a request, the same request is answered with that entry's number
+/// while the house time is below the entry's moment plus the keeping time, whatever follows the entry.
+/// And an answer with a number is that of an entry of the same request, within the keeping time.
+pub fn taken_requests_repeat()
+    ensures again { (h more : History) (t later : ℕ) (limits others : Bounds) (q : Asked) (e : Entry)
+        → answer h t limits q ≡ Take e → t ≤ later → later < t + keeping h → answer (h ++ e ∷ more) later others q ≡ Again (length h) }
+    ensures same { (h : History) (t : ℕ) (limits : Bounds) (q : Asked) (n : ℕ) → answer h t limits q ≡ Again n
+        → (text : List ℕ) × (q.scrip ≡ Some text) × (option_map (is_repeat (keeping h) t text q.target q.sign) (slice_get h n) ≡ Some true) }
+{}
+
+/// The first reply of an entry does not depend on later entries.
+#[tactic(auto, using(crate::proofs::ReplyLaws::reply_stays))]
+pub fn first_replies_stay()
+    ensures { (h more : History) (n : ℕ) → n < length h → reply_of (h ++ more) n ≡ reply_of h n }
+{}
+
+/// In a lawful history the value that an entry accepts is its price and the value of its change.
+#[tactic(auto, using(crate::proofs::AcceptLaws::values_are_paid))]
+pub fn values_are_paid()
+    ensures { (limits : Bounds) (h : History) → IsLawful limits h → ArePaid [] h }
+{}
+
+/// In a lawful history the values of the accepted pieces are the takings and the values of the pieces
+/// that were given as change.
+#[tactic(auto, using(crate::proofs::AcceptLaws::values_are_kept))]
+pub fn values_are_kept()
+    ensures { (limits : Bounds) (h : History) → IsLawful limits h → values (accepted h) ≡ takings h + values (own_out h) }
+{}
+
+/// The pieces that a lawful history hands out and mints in a series of the house's own have the serials
+/// 0, 1, 2 and so on without a gap, and so no identity stands twice among them.
+pub fn serials_have_no_gap()
+    ensures serials { (limits : Bounds) (h : History) → limits.series ≤ 2 ^ 32 → IsLawful limits h → HaveNoGap (own_out h ++ minted h) }
+    ensures once { (limits : Bounds) (h : History) (id : ℕ) → limits.series ≤ 2 ^ 32 → IsLawful limits h → with_id (own_out h ++ minted h) id ≤ 1 }
+{}
+
+/// The entry that an answer takes may follow the history, and so makes a longer lawful one; it stays
+/// within the journal's limit.
+pub fn taken_entries_follow()
+    ensures follows { (h : History) (t : ℕ) (limits : Bounds) (q : Asked) (e : Entry)
+        → time h ≤ t → limits.journal ≤ 2 ^ 40 → answer h t limits q ≡ Take e → MayFollow limits h e }
+    ensures lawful { (h : History) (t : ℕ) (limits : Bounds) (q : Asked) (e : Entry)
+        → IsLawful limits h → time h ≤ t → limits.journal ≤ 2 ^ 40 → answer h t limits q ≡ Take e → IsLawful limits (h ++ e ∷ []) }
+    ensures fits { (h : History) (t : ℕ) (limits : Bounds) (q : Asked) (e : Entry) → answer h t limits q ≡ Take e → size (h ++ e ∷ []) ≤ limits.journal }
+{}
+
+/// A head that is refused gets the one reply of its refusal, whatever the history and the request.
+#[tactic(auto, using(crate::proofs::ReplyLaws::head_reply))]
+pub fn refused_heads_have_one_reply()
+    ensures { (h : History) (t : ℕ) (q : Asked) (f : Refusal) → number_of f ≤ 16 → refusal_of h t q f ≡ head_refusal t f }
+{}
