@@ -1,5 +1,5 @@
 -- Tests and look-ups over what is kept.
-use Rattle.std.proofs.Common.{◌≡◌, ℕ, ◌+◌, ◌-◌, ◌<◌, Bool, true, false, List, [], ◌∷◌, length, map, refl, sym, ap, ◌∙◌, Option, Some, None, inl, inr, arith, subst, cond, not}
+use Rattle.std.proofs.Common.{suc, ◌≡◌, ℕ, ◌+◌, ◌-◌, ◌<◌, Bool, true, false, List, [], ◌∷◌, length, map, refl, sym, ap, ◌∙◌, Option, Some, None, inl, inr, arith, subst, cond, not}
 use Rattle.std.specs.Prelude.{◌||◌, option_map, position, slice_get, count_by}
 use Rattle.std.specs.List.{list_any, position_or_len}
 use Rattle.std.proofs.lemmas.Bool.{cases_Bool, cases_lt, lt-ltb, le-ltb}
@@ -21,7 +21,8 @@ found_at {X = X} p (x ∷ xs) n e lt = elim (cases_Bool (p x)) [
       let zero : n ≡ 0 = e ∙ ap (λ (b : Bool). cond (not b) (1 + position_or_len p xs) 0) yes' in
       (x, ap (λ (i : ℕ). slice_get (x ∷ xs) i) zero, yes')
   | inr no' ↦
-      let next : n ≡ 1 + position_or_len p xs = e ∙ ap (λ (b : Bool). cond (not b) (1 + position_or_len p xs) 0) no' in
+      let more : n ≡ 1 + position_or_len p xs = e ∙ ap (λ (b : Bool). cond (not b) (1 + position_or_len p xs) 0) no' in
+      let next : n ≡ suc (position_or_len p xs) = omega (arith, more) in
       let found = found_at p xs (position_or_len p xs) refl (omega (arith, next)) in
       (found.0, ap (λ (i : ℕ). slice_get (x ∷ xs) i) next ∙ found.1, found.2)
 ]

@@ -1,15 +1,15 @@
 -- The ledger's answer and replies, over what is known of a shop.
-use Rattle.std.proofs.Common.{subst, take, zero, suc, ◌≡◌, ℕ, ◌+◌, ◌<◌, ◌≤◌, ◌^◌, Bool, true, false, List, [], ◌∷◌, ◌++◌, length, map, refl, sym, ap, ◌∙◌, Option, Some, None, Result, Ok, Err, arith, inl, inr}
-use Rattle.std.specs.Prelude.{slice_get, ◌==◌, option_map, count_by, position, bytes_eq, if◌then◌else◌, nat_lt}
+use Rattle.std.proofs.Common.{◌-◌, subst, take, zero, suc, ◌≡◌, ℕ, ◌+◌, ◌<◌, ◌≤◌, ◌^◌, Bool, true, false, List, [], ◌∷◌, ◌++◌, length, map, refl, sym, ap, ◌∙◌, Option, Some, None, Result, Ok, Err, arith, inl, inr}
+use Rattle.std.specs.Prelude.{unwrap_or, slice_get, ◌==◌, option_map, count_by, position, bytes_eq, if◌then◌else◌, nat_lt}
 use Rattle.std.specs.List.{list_any}
 use Rattle.std.proofs.lemmas.Bool.{cases_lt}
 use Rattle.std.proofs.lemmas.List.{take-map}
 use Rattle.std.proofs.lemmas.Slice.Eq.{bytes_eq-Decides}
-use Rattle.scrip_form.specs.Identities.{issuer_of}
-use Rattle.scrip_form.specs.Issuing.{Issuing, epoch}
-use Rattle.scrip_form.specs.Scrip.{Scrip, Certified}
+use Rattle.scrip_form.specs.Identities.{issuer_of, epoch_of}
+use Rattle.scrip_form.specs.Issuing.{Issuing, epoch, series_end}
+use Rattle.scrip_form.specs.Scrip.{Scrip, Certified, scrip_body, scrip_text}
 use Rattle.scrip_form.specs.Reading.{scrip_of}
-use Rattle.scrip_certs.specs.Digests.{customer_secret}
+use Rattle.scrip_certs.specs.Digests.{certificate, customer_secret}
 use Rattle.mc_records.specs.Requests.{Asked}
 use Rattle.mc_records.specs.declared.refusal.Refusal.{Refusal}
 use Rattle.mc_records.specs.Entry.{goods_deed, Entry, Goods, Accept}
@@ -46,7 +46,7 @@ terms_in_is : (shop : Shop) (kept : List Kept) (issuer : ℕ) → issuer ≤ 1 �
 terms_in_is shop kept issuer le = ap (λ (l : List Issuing). terms_by l issuer) (its_terms shop kept) ∙ terms_found shop issuer le
 
 own_series_is : (shop : Shop) (kept : List Kept) (t : ℕ) → own_series (history_of shop kept) t ≡ epoch (terms_of shop 0) t
-own_series_is shop kept t = rw (terms_in_is shop kept 0 (omega arith)) refl
+own_series_is shop kept t = ap (λ (o : Option Issuing). unwrap_or (option_map (λ x. epoch x t) o) 0) (terms_in_is shop kept 0 (omega arith))
 
 pub secret_is : (shop : Shop) (kept : List Kept) (text : List ℕ) (p : Scrip) (cert : List ℕ) → scrip_of text ≡ Ok (p, cert) → issuer_of p.cust ≤ 1
     → secret_for (history_of shop kept) text ≡ Some (customer_secret (terms_of shop (issuer_of p.cust)) p.cust)
@@ -90,13 +90,13 @@ answer_taken shop kept t q c secret e asked read none is not = answer_rest shop 
 
 -- ---- the lines from the expiry on
 
-abbrev asks_spendable : List Kept → ℕ → List ℕ → Asked → Certified → Result (Option (List ℕ)) Stop
+abbrev pub asks_spendable : List Kept → ℕ → List ℕ → Asked → Certified → Result (Option (List ℕ)) Stop
 asks_spendable kept t secret q c = spendable_by true (list_any (λ k. k.id == c.piece.id) kept) t secret q.target q.sign c
 
-abbrev asks_goods : Shop → List ℕ → ℕ → Result Offer Stop
+abbrev pub asks_goods : Shop → List ℕ → ℕ → Result Offer Stop
 asks_goods shop target value = shelf_by (if bytes_eq shop.target target then Some shop.price else None) value
 
-abbrev asks_change : Shop → List Kept → ℕ → ℕ → Result (Option ℕ) Stop
+abbrev pub asks_change : Shop → List Kept → ℕ → ℕ → Result (Option ℕ) Stop
 asks_change shop kept t value = needed (nat_lt shop.price value) (next_by (2 ^ 32) (epoch (terms_of shop 0) t) (count_by (λ k. is_of_series (epoch (terms_of shop 0) t) k.change) kept))
 
 spendable_is : (shop : Shop) (kept : List Kept) (t : ℕ) (secret : List ℕ) (q : Asked) (c : Certified) → AreKept shop kept
@@ -151,9 +151,16 @@ pub signed_refusal : (shop : Shop) (kept : List Kept) (t : ℕ) (q : Asked) (f :
 unfolding refusal_of
 signed_refusal shop kept t q f text secret is asked s = rw (is, asked, s) refl
 
+-- the text of change, by the terms of issuer 0
+change_by : Shop → Scrip → ℕ → Option Issuing → List ℕ
+change_by shop p id o =
+    let change : Scrip = record { vendor = shop.name; value = p.value - shop.price; id = id; cust = p.cust; expires = unwrap_or (option_map (λ t. series_end t (epoch_of id)) o) 0; props = p.props } in
+    scrip_text change (unwrap_or (option_map (λ t. certificate t (scrip_body change) id) o) [])
+
 change_text : (shop : Shop) (kept : List Kept) (p : Scrip) (id : ℕ)
     → own_text (history_of shop kept) (change_from (history_of shop kept) p shop.price id) ≡ own_text (opening shop) (change_from (opening shop) p shop.price id)
-change_text shop kept p id = rw (terms_in_is shop kept 0 (omega arith)) refl
+unfolding scrip_text change_by
+change_text shop kept p id = ap (change_by shop p id) (terms_in_is shop kept 0 (omega arith) ∙ sym (terms_in_is shop [] 0 (omega arith)))
 
 changes_text : (shop : Shop) (kept : List Kept) (k : Kept) (p : Scrip) (cert : List ℕ) → scrip_of k.scrip ≡ Ok (p, cert)
     → option_map (own_text (history_of shop kept)) (change_piece (history_of shop kept) (entry_of shop k))
@@ -172,10 +179,16 @@ first_is shop kept k p cert read le =
     let brings : brought (history_of shop kept) shop.target goods_deed ≡ goods_of shop = rw (its_goods shop kept shop.target, (bytes_eq-Decides shop.target shop.target).1 refl) refl in
     rw (secret_is shop kept k.scrip p cert read le, brings, changes_text shop kept k p cert read) refl
 
+three : (n : ℕ) → 3 + n ≡ suc (suc (suc n))
+three n = omega arith
+
 take_map : (shop : Shop) (kept : List Kept) (n : ℕ) → take (3 + n) (history_of shop kept) ≡ history_of shop (take n kept)
-take_map shop kept n = ap (λ (l : History). opening shop ++ l) (take-map (entry_of shop) n kept)
+take_map shop kept n = ap (λ (i : ℕ). take i (history_of shop kept)) (three n) ∙ ap (λ (l : History). opening shop ++ l) (take-map (entry_of shop) n kept)
 
 -- by the number of an entry
 pub first_of : (shop : Shop) (kept : List Kept) (n : ℕ) (k : Kept) → slice_get kept n ≡ Some k → reply_of (history_of shop kept) (3 + n) ≡ reply_after (history_of shop (take n kept)) (entry_of shop k)
 unfolding reply_of
-first_of shop kept n k e = rw (take_map shop kept n, get_map (entry_of shop) kept n, e) refl
+first_of shop kept n k e =
+    let got : slice_get (history_of shop kept) (3 + n) ≡ Some (entry_of shop k) =
+        ap (λ (i : ℕ). slice_get (history_of shop kept) i) (three n) ∙ get_map (entry_of shop) kept n ∙ ap (λ (o : Option Kept). option_map (entry_of shop) o) e in
+    ap (λ (o : Option Entry). unwrap_or (option_map (reply_after (take (3 + n) (history_of shop kept))) o) []) got ∙ ap (λ (t : History). reply_after t (entry_of shop k)) (take_map shop kept n)

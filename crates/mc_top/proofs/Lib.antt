@@ -3,6 +3,7 @@ pub mod WordLaws
 pub mod OpeningLemmas
 pub mod SizeLemmas
 pub mod LedgerLemmas
+pub mod JudgeLemmas
 pub mod SendLemmas
 pub mod TurnLemmas
 pub mod ServingLemmas

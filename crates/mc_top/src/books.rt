@@ -58,6 +58,18 @@ impl Books {
         })
     }
 
+    fn history(&self) -> &History
+        ensures { result.now ≡ self.now.kept }
+    {
+        &self.history
+    }
+
+    fn time(&self) -> Moment
+        ensures { result ≡ self.now.time }
+    {
+        self.time
+    }
+
     /// Raises the house time to a reading.
     fn raise(&mut self, reading: Moment)
         ensures { self.new ≡ record { kept = self.old.kept; time = max self.old.time reading } }
@@ -79,7 +91,7 @@ impl Books {
         ensures state { (closes : Bool) → state_of shop.now self.new ≡ (step (state_of shop.now self.old) reading (refused (as_refusal head) closes)).state }
     {
         self.raise(reading);
-        refuse(self.time, &Refusal::from(head), None)
+        refuse(self.time(), &Refusal::from(head), None)
     }
 
     /// The reply to a request, at a reading of the clock.
@@ -110,13 +122,13 @@ impl Books {
     {
         let Some(text) = q.scrip else {
             let refusal = Refusal::NoScrip;
-            return refuse(self.time, &refusal, price_of(shop, q.target, &refusal));
+            return refuse(self.time(), &refusal, price_of(shop, q.target, &refusal));
         };
         let scrip = match read_scrip(text) {
             Ok(scrip) => scrip,
             Err(fault) => {
                 let refusal = Refusal::BadScrip(fault.place as u64);
-                return refuse(self.time, &refusal, price_of(shop, q.target, &refusal));
+                return refuse(self.time(), &refusal, price_of(shop, q.target, &refusal));
             }
         };
         self.judge_scrip(shop, q, &scrip)
@@ -137,21 +149,21 @@ impl Books {
         ensures reply { result ≡ (answered (state_of shop.now self.old) (asked_of q.now) (ledger.answer (history_of shop.now self.old.kept) self.old.time full (asked_of q.now))).reply }
         ensures state { state_of shop.now self.new ≡ (answered (state_of shop.now self.old) (asked_of q.now) (ledger.answer (history_of shop.now self.old.kept) self.old.time full (asked_of q.now))).state }
     {
-        if let Some(number) = self.history.repeated(shop, self.time, scrip.text(), q) {
+        if let Some(number) = self.history().repeated(shop, self.time(), scrip.text(), q) {
             let secret = shop.customer_secret(scrip.piece().cust());
-            return grant(shop, self.history.entry(number), scrip, &secret);
+            return grant(shop, self.history().entry(number), scrip, &secret);
         }
         let secret = match genuine(shop, scrip) {
             Ok(secret) => secret,
             Err(refusal) => {
-                return refuse(self.time, &refusal, price_of(shop, q.target, &refusal));
+                return refuse(self.time(), &refusal, price_of(shop, q.target, &refusal));
             }
         };
         let entry = match self.weigh(shop, q, scrip, &secret) {
             Ok(entry) => entry,
             Err(refusal) => {
                 let price = price_of(shop, q.target, &refusal);
-                return deny(self.time, q.target, scrip, &secret, &refusal, price);
+                return deny(self.time(), q.target, scrip, &secret, &refusal, price);
             }
         };
         self.history.add(&entry);
@@ -177,8 +189,8 @@ impl Books {
         ensures text { IfOk result (λ e. (kept_of e).scrip ≡ scrip.now.text) }
     {
         let piece = scrip.piece();
-        let spent = self.history.has(piece.id());
-        let sign = match spendable(CLEAR, spent, self.time, secret, q, scrip) {
+        let spent = self.history().has(piece.id());
+        let sign = match spendable(CLEAR, spent, self.time(), secret, q, scrip) {
             Ok(sign) => sign,
             Err(refusal) => return Err(refusal),
         };
@@ -186,12 +198,12 @@ impl Books {
             Ok(()) => (),
             Err(refusal) => return Err(refusal),
         }
-        let change = match change(shop, &self.history, self.time, piece.value().get()) {
+        let change = match change(shop, self.history(), self.time(), piece.value().get()) {
             Ok(change) => change,
             Err(refusal) => return Err(refusal),
         };
         Ok(Entry {
-            moment: self.time,
+            moment: self.time(),
             scrip: ScripText::of(scrip),
             sign,
             id: piece.id(),
