@@ -78,14 +78,9 @@ taken_full h t limits q s sign value price change text stops.NoMemory is e c tex
 
 -- ---- repeats
 
-pub to_repeat : (h : History) (t : ℕ) (limits : Limits) (q : Asked) (s : Certified) (keep : ℕ) (text : List ℕ) (found : Option ℕ)
-    → keep ≡ keeping h → text ≡ s.text → found ≡ position (is_repeat keep t text q.target q.sign) h
-    → after_read h t limits q s ≡ (again_if found >>= λ _. after_repeat h t limits q s)
-to_repeat h t limits q s keep text found keep_is text_is e =
-    let is : found ≡ repeated h t s q =
-    e ∙ ap (λ (k : ℕ). position (is_repeat k t text q.target q.sign) h) keep_is
-    ∙ ap (λ (x : List ℕ). position (is_repeat (keeping h) t x q.target q.sign) h) text_is in
-    ap (λ (o : Option ℕ). again_if o >>= λ _. after_repeat h t limits q s) (sym is)
+pub to_repeat : (h : History) (t : ℕ) (limits : Limits) (q : Asked) (s : Certified) (found : Option ℕ)
+    → found ≡ repeated h t s q → after_read h t limits q s ≡ (again_if found >>= λ _. after_repeat h t limits q s)
+to_repeat h t limits q s found e = ap (λ (o : Option ℕ). again_if o >>= λ _. after_repeat h t limits q s) (sym e)
 
 -- ---- 20, 21
 

@@ -159,6 +159,13 @@ fn weigh_new(
     taken(alloc, h, time, limits, q, s, &sign)
 }
 
+/// The number of the entry of the same request, within the keeping time.
+fn repeated(h: &Front<'_>, time: Moment, q: &Request<'_>, s: &ScripRef<'_>) -> Option<u64>
+    ensures { result ≡ model.repeated h.now time s.now (asked_of q.now) }
+{
+    slow_repeat(h, slow_keeping(h), time, s.text(), q.target, q.sign)
+}
+
 /// The same, unless the request comes again.
 fn weigh_read(
     alloc: Global,
@@ -171,7 +178,7 @@ fn weigh_read(
     requires { AreInRange limits }
     ensures { Weighs result (after_read h.now time limits (asked_of q.now) s.now) }
 {
-    match slow_repeat(h, slow_keeping(h), time, s.text(), q.target, q.sign) {
+    match repeated(h, time, q, s) {
         Some(number) => Err(Stopped::Again(number)),
         None => weigh_new(alloc, h, time, limits, q, s),
     }
