@@ -1,6 +1,6 @@
 -- Tests and look-ups over what is kept.
-use Rattle.std.proofs.Common.{suc, ◌≡◌, ℕ, ◌+◌, ◌-◌, ◌<◌, Bool, true, false, List, [], ◌∷◌, length, map, refl, sym, ap, ◌∙◌, Option, Some, None, inl, inr, arith, subst, cond, not}
-use Rattle.std.specs.Prelude.{◌||◌, option_map, position, slice_get, count_by}
+use Rattle.std.proofs.Common.{suc, ◌≡◌, ℕ, ◌+◌, ◌<◌, Bool, true, List, [], ◌∷◌, length, map, refl, ap, ◌∙◌, Some, None, inl, inr, arith, cond, not}
+use Rattle.std.specs.Prelude.{◌||◌, position, slice_get}
 use Rattle.std.specs.List.{list_any, position_or_len}
 use Rattle.std.proofs.lemmas.Bool.{cases_Bool, cases_lt, lt-ltb, le-ltb}
 use Rattle.std.proofs.lemmas.List.{length-map}

@@ -7,10 +7,11 @@ use Rattle.scrip_form.specs.Told.{IsTold}
 use Rattle.scrip_form.proofs.Laws.{scrip_of_tells, text_is_short}
 use Rattle.ledger_model.specs.Stages.{is_repeat, is_same_sign}
 use Rattle.scrip_form.specs.Identities.{issuer_of}
-use Rattle.scrip_form.specs.Scrip.{Scrip, Certified, IsTextOf}
+use Rattle.scrip_form.specs.Scrip.{Scrip, IsTextOf}
 use Rattle.scrip_form.specs.Reading.{scrip_of}
 use Rattle.scrip_certs.specs.Digests.{customer_secret}
-use Rattle.mc_records.specs.Requests.{Asked}
+use Rattle.std.specs.Borrow.{Bor}
+use Rattle.mc_records.specs.Requests.{Asked, seen}
 use Rattle.mc_records.specs.declared.refusal.Refusal.{Refusal}
 use Rattle.mc_records.specs.declared.refusal.Refusal.TheVariants.{NoScrip, BadScrip}
 use Rattle.mc_records.specs.Entry.{Entry}
@@ -18,15 +19,19 @@ use Rattle.mc_records.specs.Replies.{reply_head}
 use Rattle.ledger_model.specs.Histories.{History}
 use Rattle.ledger_model.specs.Pieces.{change_from}
 use Rattle.ledger_model.specs.Answer.{Answer, Refused, Again, Take, answer}
-use Rattle.ledger_model.specs.Replies.{own_text, signed, taken_values, taken_reply, refused_values, price_told, is_signed, secret_for, reply_after, reply_of, refusal_of}
+use Rattle.ledger_model.specs.Replies.{own_text, signed, taken_values, taken_reply, refused_values, price_told, is_signed, secret_for, reply_after, reply_of}
 use Rattle.mc_top.specs.Words.{Shop, terms_of}
 use Rattle.mc_top.specs.Opening.{Kept, IsKept, AreKept, Known, Stands, entry_of, history_of, opening}
 use Rattle.mc_top.specs.Gifts.{goods_of}
-use Rattle.mc_top.specs.Session.{State, full, answered, state_of}
+use Rattle.mc_top.specs.Session.{full, answered, state_of}
 use Rattle.mc_top.proofs.LedgerLemmas.{secret_is, unsigned_refusal, signed_refusal, first_is, first_of}
 
 abbrev answer_of : Shop → Known → Asked → Answer
 answer_of shop b q = answer (history_of shop b.kept) b.time full q
+
+pub none_seen : (o : Option (Bor (List ℕ))) → ((x : Bor (List ℕ)) → o ≡ Some x → ⊥) → seen o ≡ None
+none_seen (Some x) not = absurd (not x refl)
+none_seen None not = refl
 
 pub no_scrip : (shop : Shop) (b : Known) (q : Asked) → q.scrip ≡ None → answer (history_of shop b.kept) b.time full q ≡ Refused NoScrip
 unfolding answer
@@ -121,7 +126,7 @@ pub taken_state : (shop : Shop) (b c : Known) (q : Asked) (k : Kept) → answer 
     → state_of shop c ≡ (answered (state_of shop b) q (answer (history_of shop b.kept) b.time full q)).state
 taken_state shop b c q k is more time =
     let longer : history_of shop c.kept ≡ history_of shop b.kept ++ entry_of shop k ∷ [] =
-        ap (λ (l : List Kept). history_of shop l) more ∙ ap (λ (l : History). opening shop ++ l) (map_more (entry_of shop) b.kept k) in
+    ap (λ (l : List Kept). history_of shop l) more ∙ ap (λ (l : History). opening shop ++ l) (map_more (entry_of shop) b.kept k) in
     let same : state_of shop c ≡ record { history = history_of shop b.kept ++ entry_of shop k ∷ []; time = b.time } = λ i. record { history = longer i; time = time i } in
     same ∙ ap (λ (a : Answer). (answered (state_of shop b) q a).state) (sym is)
 

@@ -12,15 +12,15 @@ use Rattle.scrip_form.specs.Reading.{scrip_of}
 use Rattle.scrip_certs.specs.Digests.{certificate, customer_secret}
 use Rattle.mc_records.specs.Requests.{Asked}
 use Rattle.mc_records.specs.declared.refusal.Refusal.{Refusal}
-use Rattle.mc_records.specs.Entry.{goods_deed, Entry, Goods, Accept}
+use Rattle.mc_records.specs.Entry.{goods_deed, Entry, Accept}
 use Rattle.mc_records.specs.Replies.{reply_head}
-use Rattle.ledger_model.specs.Lines.{Stop, Refuse, Repeat, ◌>>=◌}
+use Rattle.ledger_model.specs.Lines.{Stop, Refuse}
 use Rattle.ledger_model.specs.Histories.{History}
 use Rattle.ledger_model.specs.Goods.{price_in}
-use Rattle.ledger_model.specs.Houses.{all_terms, terms_by, terms_in, own_series}
-use Rattle.ledger_model.specs.Pieces.{is_spent, own_count, change_from, change_piece}
+use Rattle.ledger_model.specs.Houses.{terms_by, terms_in, own_series}
+use Rattle.ledger_model.specs.Pieces.{change_from, change_piece}
 use Rattle.ledger_model.specs.Stages.{Offer, is_repeat, genuine_by, spendable_by, shelf_by, next_by, needed}
-use Rattle.ledger_model.specs.Answer.{Answer, Refused, Again, Take, answer, answered, genuine, spendable, taken, next_own, fitted}
+use Rattle.ledger_model.specs.Answer.{Refused, Again, Take, answer, answered, genuine, spendable, next_own, fitted}
 use Rattle.ledger_model.specs.Replies.{own_text, signed, taken_values, taken_reply, refused_values, price_told, is_signed, secret_for, brought, reply_after, reply_of, refusal_of}
 use Rattle.mc_top.specs.Words.{Shop, terms_of}
 use Rattle.mc_top.specs.Opening.{Kept, IsKept, AreKept, IsOfRange, entry_of, history_of, opening, is_of_series}
@@ -136,7 +136,7 @@ pub new_entry : (shop : Shop) (kept : List Kept) (t : ℕ) (secret : List ℕ) (
 unfolding accepting
 new_entry shop kept t secret q c sign change k range all one few target is ok paid next =
     let fits : fitted (history_of shop kept) full (Accept t c.text q.target sign shop.price change goods_deed) ≡ Ok (Accept t c.text q.target sign shop.price change goods_deed) =
-        rw target (subst (λ (x : Kept). fitted (history_of shop kept) full (entry_of shop x) ≡ Ok (entry_of shop x)) is (it_fits shop kept k full range all one few refl)) in
+    rw target (subst (λ (x : Kept). fitted (history_of shop kept) full (entry_of shop x) ≡ Ok (entry_of shop x)) is (it_fits shop kept k full range all one few refl)) in
     rw (spendable_is shop kept t secret q c all, ← ok, price_is shop kept q.target, ← paid, change_is shop kept t c.piece.value all, ← next, fits, is, target) refl
 
 -- ---- the replies
@@ -164,7 +164,7 @@ change_text shop kept p id = ap (change_by shop p id) (terms_in_is shop kept 0 (
 
 changes_text : (shop : Shop) (kept : List Kept) (k : Kept) (p : Scrip) (cert : List ℕ) → scrip_of k.scrip ≡ Ok (p, cert)
     → option_map (own_text (history_of shop kept)) (change_piece (history_of shop kept) (entry_of shop k))
-        ≡ option_map (λ id. own_text (opening shop) (change_from (opening shop) p shop.price id)) k.change
+    ≡ option_map (λ id. own_text (opening shop) (change_from (opening shop) p shop.price id)) k.change
 changes_text shop kept k p cert read = elim k.change as (λ x. k.change ≡ x → option_map (own_text (history_of shop kept)) (change_piece (history_of shop kept) (entry_of shop k)) ≡ option_map (λ id. own_text (opening shop) (change_from (opening shop) p shop.price id)) x) [
   | Some id ↦ λ e. rw (e, read) (ap (λ (t : List ℕ). Some t) (change_text shop kept p id))
   | None ↦ λ e. rw e refl
@@ -173,8 +173,8 @@ changes_text shop kept k p cert read = elim k.change as (λ x. k.change ≡ x �
 -- the first reply to an entry
 pub first_is : (shop : Shop) (kept : List Kept) (k : Kept) (p : Scrip) (cert : List ℕ) → scrip_of k.scrip ≡ Ok (p, cert) → issuer_of p.cust ≤ 1
     → reply_after (history_of shop kept) (entry_of shop k)
-        ≡ taken_reply (Some (customer_secret (terms_of shop (issuer_of p.cust)) p.cust)) k.scrip shop.target (goods_of shop)
-        (taken_values k.moment (goods_of shop) shop.price (option_map (λ id. own_text (opening shop) (change_from (opening shop) p shop.price id)) k.change))
+    ≡ taken_reply (Some (customer_secret (terms_of shop (issuer_of p.cust)) p.cust)) k.scrip shop.target (goods_of shop)
+    (taken_values k.moment (goods_of shop) shop.price (option_map (λ id. own_text (opening shop) (change_from (opening shop) p shop.price id)) k.change))
 first_is shop kept k p cert read le =
     let brings : brought (history_of shop kept) shop.target goods_deed ≡ goods_of shop = rw (its_goods shop kept shop.target, (bytes_eq-Decides shop.target shop.target).1 refl) refl in
     rw (secret_is shop kept k.scrip p cert read le, brings, changes_text shop kept k p cert read) refl
@@ -190,5 +190,5 @@ pub first_of : (shop : Shop) (kept : List Kept) (n : ℕ) (k : Kept) → slice_g
 unfolding reply_of
 first_of shop kept n k e =
     let got : slice_get (history_of shop kept) (3 + n) ≡ Some (entry_of shop k) =
-        ap (λ (i : ℕ). slice_get (history_of shop kept) i) (three n) ∙ get_map (entry_of shop) kept n ∙ ap (λ (o : Option Kept). option_map (entry_of shop) o) e in
+    ap (λ (i : ℕ). slice_get (history_of shop kept) i) (three n) ∙ get_map (entry_of shop) kept n ∙ ap (λ (o : Option Kept). option_map (entry_of shop) o) e in
     ap (λ (o : Option Entry). unwrap_or (option_map (reply_after (take (3 + n) (history_of shop kept))) o) []) got ∙ ap (λ (t : History). reply_after t (entry_of shop k)) (take_map shop kept n)

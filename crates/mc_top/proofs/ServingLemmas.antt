@@ -1,5 +1,5 @@
 -- Serving a link turn by turn.
-use Rattle.std.proofs.Common.{◌≡◌, inl, inr, ℕ, ◌+◌, ◌≤◌, ◌<◌, true, false, List, [], ◌∷◌, ◌++◌, length, take, refl, sym, ap, ◌∙◌, append_assoc, Option, Some, None, Result, Ok, Err, arith, length-append, subst}
+use Rattle.std.proofs.Common.{◌≡◌, inl, inr, ℕ, ◌+◌, ◌≤◌, ◌<◌, true, false, List, [], ◌∷◌, ◌++◌, length, take, refl, sym, ap, ◌∙◌, append_assoc, Option, Some, None, arith, length-append, subst}
 use Rattle.std.specs.Prelude.{option_map}
 use Rattle.std.proofs.lemmas.List.{append-nil}
 use Rattle.mc_outside.specs.LinkView.{Session, LinkView, on_last, hear, send, ended, heard, told, finished, Failed}
@@ -15,7 +15,7 @@ use Rattle.mc_top.specs.declared.serving.Turn.TheVariants as turns
 use Rattle.mc_top.specs.Words.{Shop}
 use Rattle.ledger_model.specs.Answer.{Answer, Refused, Again, Take, answer}
 use Rattle.mc_top.specs.Session.{State, full, step, answered, answered_at, raised, opened, replies, state_after}
-use Rattle.mc_top.specs.Course.{IsServed, BrokeReceiving, BrokeSending, EndLink, reply_after}
+use Rattle.mc_top.specs.Course.{IsServed, BrokeReceiving, BrokeSending, EndLink, reply_behind}
 use Rattle.mc_top.specs.Turns.{Answered, Waited, Turned, Ended}
 
 -- ---- what is received, sent and ended on one link may be told in any order
@@ -189,7 +189,7 @@ serving_broke shop before s h now next so w = record {
 pub serving_stops : (shop : Shop) (before : LinkView) (s t : State) (h k : Held) (now next : LinkView) → IsServing shop before s h now → Answered s h now turns.NotSent t k next
     → BrokeSending shop before next
 serving_stops shop before s t h k now next so a =
-    let same : (step s 0 a.item).reply ≡ reply_after shop so.items a.item = ap (λ (u : State). (step u 0 a.item).reply) so.state in
+    let same : (step s 0 a.item).reply ≡ reply_behind shop so.items a.item = ap (λ (u : State). (step u 0 a.item).reply) so.state in
     record {
       got = so.got ++ a.more;
       front = so.items;

@@ -19,8 +19,8 @@ pub record AreFirst (got : List ℕ) (front : List Item) (last : Item) : Type 0 
   pub few : length front < 1000
 
 -- the reply to an item after these
-abbrev pub reply_after : Shop → List Item → Item → List ℕ
-reply_after shop front last = (step (state_after (opened shop) front) 0 last).reply
+abbrev pub reply_behind : Shop → List Item → Item → List ℕ
+reply_behind shop front last = (step (state_after (opened shop) front) 0 last).reply
 
 -- Every item of what was received was answered, and the link was read to its end, or to an item that
 -- ends it.
@@ -47,8 +47,8 @@ pub record BrokeSending (shop : Shop) (before after : LinkView) : Type 0 where
   pub last : Item
   pub first : AreFirst got front last
   pub n : ℕ
-  pub part : n < length (reply_after shop front last)
-  pub fault : Failed (told (replies (opened shop) front ++ take n (reply_after shop front last)) (heard got before)) after
+  pub part : n < length (reply_behind shop front last)
+  pub fault : Failed (told (replies (opened shop) front ++ take n (reply_behind shop front last)) (heard got before)) after
 
 -- What becomes of a link that was taken: it is served whole, or up to a fault of one of its calls, and
 -- then ended.

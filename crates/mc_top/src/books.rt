@@ -1,4 +1,4 @@
-ghost use Rattle.std.specs.Prelude.{◌≡◌, ◌<◌, ◌≤◌, Bool, Ok, Some, [], true, length, max, IfOk, IfErr};
+ghost use Rattle.std.specs.Prelude.{◌≡◌, ◌<◌, ◌≤◌, Bool, Ok, Some, [], true, length, max, IfOk, IfErr, IfSome};
 ghost use Rattle.scrip_form.specs.Identities.{issuer_of};
 ghost use Rattle.scrip_form.specs.Reading.{scrip_of};
 ghost use Rattle.mc_records.specs.Requests.{asked_of};
@@ -186,6 +186,7 @@ impl Books {
         ensures site { IfErr result IsOfSite }
         ensures signed { IfErr result (λ f. is_signed f ≡ true) }
         ensures kept { IfOk result (λ e. IsKept shop.now (kept_of e)) }
+        ensures covers { IfOk result (λ e. IfSome (kept_of e).change (λ id. shop.now.price < scrip.now.piece.value)) }
         ensures text { IfOk result (λ e. (kept_of e).scrip ≡ scrip.now.text) }
     {
         let piece = scrip.piece();
