@@ -1,7 +1,11 @@
+ghost use Rattle.std.specs.Prelude.{IfSome};
+ghost use Rattle.mc_records.specs.Entry.{Fits};
+ghost use Rattle.mc_records.specs.Views.{entry};
+
 use super::rows::{ROWS, WHOLE};
 use crate::*;
 use mc_base::{Moment, NoMemory};
-use scrip_form::Terms;
+use scrip_form::{Name, Terms};
 use std::test::Fail;
 
 /// The place of the fault, and `WHOLE` where the bytes are a payload.
@@ -183,26 +187,38 @@ fn payloads_have_their_values(rt: HostRuntime) -> Result<(), Fail> {
     Ok(())
 }
 
+/// A deposit of these values; None where one is outside its range.
+fn deposit<'a>(seconds: u64, name: &'a [u8], amount: u64, reference: &'a [u8]) -> Option<Record<'a>>
+    ensures { IfSome result (λ r. Fits (entry r)) }
+{
+    let moment = Moment::new(seconds)?;
+    Name::new(name)?;
+    Name::new(reference)?;
+    if amount == 0 || amount > 1 << 40 {
+        return None;
+    }
+    Some(Record::Deposit {
+        moment,
+        name,
+        amount,
+        reference,
+    })
+}
+
 /// A deposit of 1,000 to `ann` under the reference `r1`: one byte more is the fault at 26, and without
 /// its last byte it is its reference, which begins at 22.
 #[test]
 fn a_deposit_has_its_places(rt: HostRuntime) -> Result<(), Fail> {
     let payload = b"0700000000000f42400003616e6e00000000000003e800027231";
     let mut bytes = hex::decode(rt.alloc(), payload)?;
-    let Some(moment) = Moment::new(1_000_000) else {
-        return Err("a moment")?;
-    };
-    let record = Record::Deposit {
-        moment,
-        name: b"ann",
-        amount: 1000,
-        reference: b"r1",
+    let Some(record) = deposit(1_000_000, b"ann", 1000, b"r1") else {
+        return Err("a deposit")?;
     };
     let mut written = Vec::new(rt.alloc());
     write_record(&record, &mut written)?;
     assert_eq!(rt; written.as_slice(), bytes.as_slice());
     assert_eq!(rt; place_of(&bytes), WHOLE);
-    assert_eq!(rt; place_of(&bytes[..25]), 22);
+    assert_eq!(rt; place_of(&bytes[..bytes.len().min(25)]), 22);
     bytes.push(0)?;
     assert_eq!(rt; place_of(&bytes), 26);
     Ok(())
