@@ -1,9 +1,9 @@
 -- The bytes of the groups of a table are those of its fields, and each of its fields can be spelled.
-use Rattle.std.proofs.Common.{◌≡◌, ℕ, ◌^◌, ◌<◌, List, [], ◌∷◌, ◌++◌, length, refl, sym, ap, ap₂, ◌∙◌, append_assoc, arith, flat_map, ◌%◌, mod-eq_of_lt}
+use Rattle.std.proofs.Common.{◌≡◌, ℕ, ◌^◌, ◌<◌, List, [], ◌∷◌, ◌++◌, length, refl, sym, ap, ap₂, ◌∙◌, arith, flat_map, ◌%◌, mod-eq_of_lt}
 use Rattle.std.specs.List.{AllByRecursion}
 use Rattle.std.proofs.lemmas.List.Concat.{flat_map-append}
 use Rattle.mc_fields.specs.Field.{Field, FieldFits, field_bytes, plain, spelled}
-use Rattle.mc_records.specs.Cells.{fields_of, group_fields, groups_fields, cell_bytes, group_bytes, IsShort, AreShort}
+use Rattle.mc_records.specs.Cells.{fields_of, group_fields, groups_fields, cell_bytes, group_bytes, AreShort}
 use Rattle.mc_records.specs.declared.cells.Group.{Group}
 
 spelled-append : (a b : List Field) → spelled (a ++ b) ≡ spelled a ++ spelled b
