@@ -14,7 +14,7 @@ ghost use Rattle.ledger_model.specs.Sums.{takings, values};
 ghost use Rattle.ledger_model.specs.Stages.{is_repeat};
 ghost use Rattle.ledger_model.specs.Answer.{answer, Take, Again};
 ghost use Rattle.ledger_model.specs.Lawful.{IsLawful, IsFirstUnlawful, MayFollow};
-ghost use Rattle.ledger_model.specs.Replies.{reply_of, refusal_of, head_refusal};
+ghost use Rattle.ledger_model.specs.Replies.{reply_after, reply_of, refusal_of, head_refusal};
 ghost use Rattle.ledger_model.specs.Laws.{AreDistinct, ArePaid, HaveNoGap, with_id};
 
 /// In a lawful history no identity is accepted twice.
@@ -45,10 +45,11 @@ pub fn taken_requests_repeat()
         → (text : List ℕ) × (q.scrip ≡ Some text) × (option_map (is_repeat (keeping h) t text q.target q.sign) (slice_get h n) ≡ Some true) }
 {}
 
-/// The first reply of an entry does not depend on later entries.
-#[tactic(auto, using(crate::proofs::ReplyLaws::reply_stays))]
+/// The first reply of an entry does not depend on later entries: it is the reply after the entries
+/// before it.
 pub fn first_replies_stay()
-    ensures { (h more : History) (n : ℕ) → n < length h → reply_of (h ++ more) n ≡ reply_of h n }
+    ensures own { (h more : History) (e : Entry) → reply_of (h ++ e ∷ more) (length h) ≡ reply_after h e }
+    ensures stays { (h more : History) (n : ℕ) → n < length h → reply_of (h ++ more) n ≡ reply_of h n }
 {}
 
 /// In a lawful history the value that an entry accepts is its price and the value of its change.
