@@ -50,7 +50,7 @@ fn a_link_has_1000_heads(rt: HostRuntime) -> Result<(), Fail> {
     }
     let mut reply = Vec::new(alloc);
     assert_eq!(rt; once(alloc, &words, &link, &mut reply), 0);
-    assert_eq!(rt; reply.len(), 1000 * wanted.len());
+    assert_eq!(rt; Some(reply.len()), wanted.len().checked_mul(1000));
     let stage = stage(alloc, pieces(alloc, &link, 0, 4096)?, &[])?;
     let (status, stage) = ran(alloc, &words, stage);
     assert_eq!(rt; status, 0);
