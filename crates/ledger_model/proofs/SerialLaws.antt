@@ -4,14 +4,14 @@ use Rattle.std.specs.Prelude.{count_by, option_to_list}
 use Rattle.std.proofs.lemmas.Bool.{leb-false, le-ltb, eq-eqb}
 use Rattle.std.proofs.lemmas.Bool.Decides.{nat_tests}
 use Rattle.std.proofs.lemmas.List.Sums.{sum_by-cons, sum_by-append}
-use Rattle.scrip_form.specs.Identities.{series_of}
+use Rattle.scrip_form.specs.Identities.{series_of, numbered}
 use Rattle.scrip_form.specs.Scrip.{Scrip}
 use Rattle.mc_records.specs.declared.limits.Limits.{Limits}
 use Rattle.mc_records.specs.declared.refusal.Refusal.TheVariants.{SeriesFull}
 use Rattle.mc_records.specs.Entry.{Deed, Entry, Accept, Mint}
 use Rattle.ledger_model.specs.Histories.{History}
 use Rattle.ledger_model.specs.Houses.{own_series}
-use Rattle.ledger_model.specs.Pieces.{change_piece, own_out, own_out_from, minted, minted_from, minted_pieces, run_from, first_hand, numbered, in_series, own_count, piece_of, change_from}
+use Rattle.ledger_model.specs.Pieces.{change_piece, own_out, own_out_from, minted, minted_from, minted_pieces, run_from, first_hand, in_series, own_count, piece_of, change_from}
 use Rattle.ledger_model.specs.Lines.{Stop, refused_if}
 use Rattle.ledger_model.specs.Stages.{next_by, needed}
 use Rattle.ledger_model.specs.Answer.{next_own}

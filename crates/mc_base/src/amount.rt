@@ -1,4 +1,4 @@
-ghost use Rattle.std.specs.Prelude.{◌≡◌, ℕ, ◌≤◌, ◌^◌, ◌↔◌, IsSome, IfSome};
+ghost use Rattle.std.specs.Prelude.{◌≡◌, ℕ, ◌+◌, ◌<◌, ◌≤◌, ◌^◌, ◌↔◌, IsSome, IsNone, IfSome};
 
 use std::marker::Model;
 
@@ -41,5 +41,19 @@ impl Amount {
         ensures most { self ≤ 2 ^ 40 }
     {
         self.units
+    }
+
+    /// What is left of the amount after a part; None exactly where the part is greater.
+    pub fn checked_sub(self, part: Amount) -> Option<Amount>
+        ensures greater { IsNone result ↔ (self < part) }
+        ensures rest { IfSome result (λ a. part + a ≡ self) }
+    {
+        if part.units <= self.units {
+            Some(Amount {
+                units: self.units - part.units,
+            })
+        } else {
+            None
+        }
     }
 }

@@ -16,3 +16,7 @@ serial_of id = id % 2 ^ 32
 
 abbrev pub series_of : ℕ → ℕ
 series_of id = id / 2 ^ 32
+
+-- the identity of a serial of a series
+abbrev pub numbered : ℕ → ℕ → ℕ
+numbered series serial = series * 2 ^ 32 + serial

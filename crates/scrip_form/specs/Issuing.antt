@@ -19,6 +19,10 @@ pub record HasPeriod (period life : ℕ) : Type 0 where
 abbrev pub epoch : Issuing → ℕ → ℕ
 epoch t moment = moment / t.period
 
+-- the series that an issuer hands out at a moment
+abbrev pub series_at : Issuing → ℕ → ℕ
+series_at t moment = t.issuer * 2 ^ 24 + epoch t moment
+
 -- the end of the series of an epoch
 abbrev pub series_end : Issuing → ℕ → ℕ
 series_end t e = (e + 1) * t.period + t.life
