@@ -5,3 +5,4 @@ pub mod EntryLaws
 pub mod GroupLaws
 pub mod PieceLaws
 pub mod ReadLaws
+pub mod PayloadSizes

@@ -6,6 +6,10 @@ use Rattle.mc_records.specs.Entry.{Entry, payload}
 abbrev pub tail : List Entry → Entry → List ℕ
 tail before e = []
 
+-- how many bytes that is for every entry that comes next
+abbrev pub tail_size : List Entry → ℕ
+tail_size before = 0
+
 -- an entry's payload and its tail, the four bytes of its length before them and the gate after them
 abbrev pub entry_size : List Entry → Entry → ℕ
 entry_size before e = length (payload e) + length (tail before e) + 5

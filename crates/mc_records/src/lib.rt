@@ -26,7 +26,7 @@ mod writing;
 
 pub use appending::write_record;
 pub use date_law::date_of_its_second;
-pub use law::{bytes_after_a_payload, no_payload_begins_another};
+pub use law::{bytes_after_a_payload, no_payload_begins_another, payloads_are_short};
 pub use limits::Limits;
 pub use piece_list::PieceList;
 pub use reading::read_record;
