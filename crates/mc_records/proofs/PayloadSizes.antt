@@ -1,16 +1,15 @@
 -- How long a payload may be.
-use Rattle.std.proofs.Common.{◌≡◌, ℕ, zero, suc, ◌+◌, ◌*◌, ◌^◌, ◌<◌, ◌≤◌, Bool, true, false, List, [], ◌∷◌, ◌++◌, length, flat_map, Option, Some, None, ap, ◌∙◌, subst, sym, arith}
+use Rattle.std.proofs.Common.{ℕ, zero, suc, ◌+◌, ◌*◌, ◌<◌, ◌≤◌, Bool, true, List, [], ◌∷◌, ◌++◌, length, flat_map, Option, Some, None, ap, arith}
 use Rattle.std.specs.Prelude.{IfSome}
 use Rattle.std.specs.List.{AllByRecursion}
 use Rattle.std.proofs.lemmas.List.{length-append}
 use Rattle.std.proofs.lemmas.Grind.{flat_map-append}
-use Rattle.mc_fields.specs.Field.{Size, one, two, four, eight, Field, number, flag, str, plain, field_bytes, spelled, number_bytes, size}
+use Rattle.mc_fields.specs.Field.{Size, one, two, four, eight, Field, number, flag, str, plain, field_bytes, spelled, number_bytes}
 use Rattle.mc_fields.proofs.FieldBytes.{length-number_bytes}
-use Rattle.scrip_form.specs.Texts.{IsName, IsTarget}
 use Rattle.scrip_form.specs.Scrip.{IsScripText}
 use Rattle.scrip_form.specs.Issuing.{Issuing}
 use Rattle.scrip_form.proofs.TextTests.{scrip_is_short}
-use Rattle.mc_records.specs.Entry.{Deed, goods_deed, sale, credit, House, Held, Entry, Site, AddTerms, Goods, Accept, Mint, Account, Deposit, Withdraw, Draw, Licence, Stock, Got, Pend, Done, Refused, payload, fields, sign_fields, change_fields, deed_fields, secrets_fields, terms_fields, house_fields, held_fields, pieces_fields, text_fields, got_fields, Fits, IsKey, AreSecrets, AreTerms, SiteFits, HeldFits, ArePieces, DeedFits}
+use Rattle.mc_records.specs.Entry.{Deed, goods_deed, sale, credit, House, Held, Entry, Site, AddTerms, Goods, Accept, Mint, Account, Deposit, Withdraw, Draw, Licence, Stock, Got, Pend, Done, Refused, payload, sign_fields, change_fields, deed_fields, secrets_fields, terms_fields, house_fields, held_fields, pieces_fields, text_fields, got_fields, Fits, IsKey, AreSecrets, AreTerms, SiteFits, HeldFits, ArePieces}
 
 -- the fields have at most so many bytes
 record Within (n : ℕ) (fs : List Field) : Type 0 where
