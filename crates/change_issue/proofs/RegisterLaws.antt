@@ -1,5 +1,5 @@
 -- What becomes of a register where the sheet of one series is written anew, and where one is added.
-use Rattle.std.proofs.Common.{◌≡◌, ℕ, ◌+◌, ◌<◌, Bool, true, false, cond, eqb, ltb, List, [], ◌∷◌, ◌++◌, length, get_or, Option, Some, None, option_map, unwrap_or, ◌||◌, IsTrue, IsSome, refl, sym, ap, ◌∙◌, subst, arith, eq-eqb}
+use Rattle.std.proofs.Common.{◌≡◌, ℕ, ◌+◌, ◌<◌, Bool, true, false, cond, eqb, ltb, List, [], ◌∷◌, ◌++◌, length, get_or, Option, Some, None, option_map, unwrap_or, ◌||◌, IsTrue, IsSome, refl, sym, ap, ◌∙◌, arith, eq-eqb}
 use Rattle.std.specs.Prelude.{is_some, find, position}
 use Rattle.std.specs.List.{position_or_len, slice_get}
 use Rattle.std.specs.Option.{option_or}
@@ -9,7 +9,7 @@ use Rattle.std.proofs.lemmas.Bool.Decides.{nat_tests}
 use Rattle.std.proofs.lemmas.List.Folds.{find_at, find-set, find_past, find-append}
 use Rattle.std.proofs.lemmas.List.Quantifiers.{position-Some}
 use Rattle.std.proofs.lemmas.Option.{slice_get_read, slice_get_past, slice_get-get_or}
-use Rattle.change_issue.specs.Registers.{SeriesSheet, Register, is_of, sheet_of, on_sheet, has_room, count_in, issued_in, redeemed_in}
+use Rattle.change_issue.specs.Registers.{SeriesSheet, Register, is_of, sheet_of, on_sheet, has_room}
 
 -- a sheet on which nothing stands
 abbrev pub blank : ℕ → SeriesSheet
@@ -69,7 +69,7 @@ stands {s = s} {series = series} {sheets = sheets} view_is series_is sheets_is p
   there = there;
 }
 
-other_series : (a b s q : ℕ) → a ≡ b → b ≡ s → eqb q s ≡ false → eqb a q ≡ false
+other_series : (a b s q : ℕ) → a ≡ b → b ≡ s → eqb s q ≡ false → eqb a q ≡ false
 other_series a b s q same is other = grind (arith, nat_tests)
 
 zero_either : (b : Bool) → ◌≡◌ {A = ℕ} (cond b 0 0) 0
@@ -95,19 +95,19 @@ module _ {r : Register} {sheets : List SeriesSheet} {s i : ℕ} {x : SeriesSheet
   here = find-set (is_of s) sheets i y (place_is (is_of s) sheets i h.place) (place_within (is_of s) sheets i h.place) (eq-eqb y.series s (same ∙ its_series h))
 
   -- the sheet of another series is as it was
-  elsewhere : (q : ℕ) → eqb q s ≡ false → find (is_of q) (set sheets i y) ≡ sheet_of r q
+  elsewhere : (q : ℕ) → eqb s q ≡ false → find (is_of q) (set sheets i y) ≡ sheet_of r q
   elsewhere q other =
       find_past (is_of q) sheets i y x (ap (is_of q) (sym h.there) ∙ other_series x.series x.series s q refl (its_series h) other) (other_series y.series x.series s q same (its_series h) other)
       ∙ ap (find (is_of q)) h.its_sheets
 
   -- what the sheet has more, its series has more, and no other
-  pub raised : (number : SeriesSheet → ℕ) (n : ℕ) → number y ≡ number x + n → (q : ℕ) → unwrap_or (option_map number (find (is_of q) (set sheets i y))) 0 ≡ on_sheet number r q + cond (eqb q s) n 0
-  raised number n more q = go (eqb q s) refl
+  pub raised : (number : SeriesSheet → ℕ) (n : ℕ) → number y ≡ number x + n → (q : ℕ) → unwrap_or (option_map number (find (is_of q) (set sheets i y))) 0 ≡ on_sheet number r q + cond (eqb s q) n 0
+  raised number n more q = go (eqb s q) refl
     where
       on : Option SeriesSheet → ℕ
       on o = unwrap_or (option_map number o) 0
 
-      go : (b : Bool) → eqb q s ≡ b → on (find (is_of q) (set sheets i y)) ≡ on_sheet number r q + cond b n 0
+      go : (b : Bool) → eqb s q ≡ b → on (find (is_of q) (set sheets i y)) ≡ on_sheet number r q + cond b n 0
       go true t =
           let mine : q ≡ s = grind (arith, nat_tests) in
           rw mine (ap on here ∙ more ∙ ap (λ (k : ℕ). k + n) (sym (ap on (found h))))
@@ -116,15 +116,15 @@ module _ {r : Register} {sheets : List SeriesSheet} {s i : ℕ} {x : SeriesSheet
   -- what the sheet has as before, each series has as before
   pub kept : (number : SeriesSheet → ℕ) → number y ≡ number x → (q : ℕ) → unwrap_or (option_map number (find (is_of q) (set sheets i y))) 0 ≡ on_sheet number r q
   kept number equal q =
-      let z : cond (eqb q s) 0 0 ≡ 0 = zero_either (eqb q s) in
+      let z : cond (eqb s q) 0 0 ≡ 0 = zero_either (eqb s q) in
       omega (arith, raised number 0 (omega (arith, equal)) q, z)
 
   -- each series has room as before
   pub room_kept : (q : ℕ) → is_some (find (is_of q) (set sheets i y)) ≡ has_room r q
   unfolding has_room
-  room_kept q = go (eqb q s) refl
+  room_kept q = go (eqb s q) refl
     where
-      go : (b : Bool) → eqb q s ≡ b → is_some (find (is_of q) (set sheets i y)) ≡ is_some (sheet_of r q)
+      go : (b : Bool) → eqb s q ≡ b → is_some (find (is_of q) (set sheets i y)) ≡ is_some (sheet_of r q)
       go true t =
           let mine : q ≡ s = grind (arith, nat_tests) in
           rw (mine, here, found h) refl
@@ -132,30 +132,15 @@ module _ {r : Register} {sheets : List SeriesSheet} {s i : ℕ} {x : SeriesSheet
 
 -- ---- a blank sheet more
 
-turned : (a b : ℕ) → eqb a b ≡ eqb b a
-turned a b = grind (arith, nat_tests)
+-- the sheets of a register with a blank sheet behind them, where they are those of a view of it
+pub added : {r view : Register} {s : ℕ} {sheets : List SeriesSheet} {x : SeriesSheet}
+    → view ≡ r → sheets ≡ view.sheets ++ x ∷ [] → x ≡ blank s → sheets ≡ r.sheets ++ blank s ∷ []
+added {view = view} {s = s} view_is more blank_is =
+    more ∙ ap (λ (x : SeriesSheet). view.sheets ++ x ∷ []) blank_is ∙ ap (λ (r : Register). r.sheets ++ blank s ∷ []) view_is
 
--- Some sheets are those of a register with a blank sheet behind them, of a series that had none.
-pub record IsAdded (r : Register) (sheets : List SeriesSheet) (s : ℕ) : Type 0 where
-  pub none : position (is_of s) r.sheets ≡ None
-  pub more : sheets ≡ r.sheets ++ blank s ∷ []
-
-no_place : (o : Option ℕ) → is_some o ≡ false → o ≡ None
-no_place None e = refl
-no_place (Some i) e = absurd cc
-
--- so it is where no place was found in a view of the register
-pub added : {r view : Register} {s : ℕ} {sheets more : List SeriesSheet} {o : Option ℕ} {x : SeriesSheet}
-    → view ≡ r → sheets ≡ view.sheets → o ≡ position (is_of s) sheets → is_some o ≡ false → more ≡ view.sheets ++ x ∷ [] → x ≡ blank s
-    → IsAdded r more s
-added {view = view} {s = s} {o = o} view_is sheets_is place none more blank_is = record {
-  none = ap (position (is_of s)) (sym (sheets_is ∙ ap (λ (r : Register). r.sheets) view_is)) ∙ sym place ∙ no_place o none;
-  more = more ∙ ap (λ (x : SeriesSheet). view.sheets ++ x ∷ []) blank_is ∙ ap (λ (r : Register). r.sheets ++ blank s ∷ []) view_is;
-}
-
-module _ {r : Register} {sheets : List SeriesSheet} {s : ℕ} (a : IsAdded r sheets s) where
+module _ (r : Register) (s : ℕ) {sheets : List SeriesSheet} (more : sheets ≡ r.sheets ++ blank s ∷ []) where
   found_added : (q : ℕ) → find (is_of q) sheets ≡ option_or (sheet_of r q) (cond (eqb s q) (Some (blank s)) None)
-  found_added q = ap (find (is_of q)) a.more ∙ find-append (is_of q) r.sheets (blank s ∷ [])
+  found_added q = ap (find (is_of q)) more ∙ find-append (is_of q) r.sheets (blank s ∷ [])
 
   -- no number changes
   pub added_kept : (number : SeriesSheet → ℕ) → number (blank s) ≡ 0 → (q : ℕ) → unwrap_or (option_map number (find (is_of q) sheets)) 0 ≡ on_sheet number r q
@@ -170,9 +155,9 @@ module _ {r : Register} {sheets : List SeriesSheet} {s : ℕ} (a : IsAdded r she
       go None false = refl
 
   -- this series has room, and the others as before
-  pub added_room : (q : ℕ) → is_some (find (is_of q) sheets) ≡ (eqb q s || has_room r q)
+  pub added_room : (q : ℕ) → is_some (find (is_of q) sheets) ≡ (eqb s q || has_room r q)
   unfolding has_room
-  added_room q = ap is_some (found_added q) ∙ go (sheet_of r q) (eqb s q) ∙ ap (λ (b : Bool). b || has_room r q) (turned s q)
+  added_room q = ap is_some (found_added q) ∙ go (sheet_of r q) (eqb s q)
     where
       go : (o : Option SeriesSheet) (b : Bool) → is_some (option_or o (cond b (Some (blank s)) None)) ≡ (b || is_some o)
       go (Some x) true = refl
@@ -182,10 +167,10 @@ module _ {r : Register} {sheets : List SeriesSheet} {s : ℕ} (a : IsAdded r she
 
 -- where a series has room already, it has room as before
 pub room_before : {r view : Register} (s : ℕ) {sheets : List SeriesSheet} {o : Option ℕ}
-    → view ≡ r → sheets ≡ view.sheets → o ≡ position (is_of s) sheets → is_some o ≡ true → (q : ℕ) → has_room r q ≡ (eqb q s || has_room r q)
-room_before {r = r} s view_is sheets_is place some q = go (eqb q s) refl
+    → view ≡ r → sheets ≡ view.sheets → o ≡ position (is_of s) sheets → is_some o ≡ true → (q : ℕ) → has_room r q ≡ (eqb s q || has_room r q)
+room_before {r = r} s view_is sheets_is place some q = go (eqb s q) refl
   where
-    go : (b : Bool) → eqb q s ≡ b → has_room r q ≡ (b || has_room r q)
+    go : (b : Bool) → eqb s q ≡ b → has_room r q ≡ (b || has_room r q)
     go true t =
         let mine : q ≡ s = grind (arith, nat_tests) in
         rw mine (room_is_place r s ∙ ap is_some (ap (position (is_of s)) (sym (sheets_is ∙ ap (λ (t : Register). t.sheets) view_is)) ∙ sym place) ∙ some)

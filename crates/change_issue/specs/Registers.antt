@@ -51,4 +51,4 @@ next_in r series = numbered series (count_in r series)
 
 -- a number of each series: n more at one series, and at the others as it was
 abbrev pub IsRaisedAt : ℕ → ℕ → (ℕ → ℕ) → (ℕ → ℕ) → Type 0
-IsRaisedAt series n old new = (s : ℕ) → new s ≡ old s + (if s == series then n else 0)
+IsRaisedAt series n old new = (s : ℕ) → new s ≡ old s + (if series == s then n else 0)

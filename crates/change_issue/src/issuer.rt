@@ -1,4 +1,4 @@
-ghost use Rattle.std.specs.Prelude.{◌≡◌, ◌+◌, ◌<◌, ◌≤◌, ◌^◌, ◌↔◌, ◌==◌, ◌||◌, ℕ, false, IsTrue, IsErr, IfErr, IfOk, OnOk, OnErr};
+ghost use Rattle.std.specs.Prelude.{◌≡◌, ◌+◌, ◌<◌, ◌≤◌, ◌^◌, ◌↔◌, ◌==◌, ◌||◌, ℕ, false, IsTrue, IsOk, IsErr, IfErr, IfOk, OnOk, OnErr};
 ghost use Rattle.scrip_form.specs.Identities.{series_of, numbered};
 ghost use Rattle.scrip_form.specs.Issuing.{HasPeriod, series_at};
 ghost use Rattle.mc_records.specs.Limits.{AreInRange};
@@ -58,11 +58,12 @@ impl Issuer {
         }
     }
 
-    /// Makes room for a series, where it has none. It changes nothing else, and after an `Err` all is
-    /// as it was.
+    /// Makes room for a series. Where it has room it is `Ok` and takes no memory. It changes nothing
+    /// else, and after an `Err` all is as it was.
     pub fn reserve(&mut self, series: u32) -> Result<(), NoMemory>
-        ensures ok { OnOk result ((s : ℕ) → has_room self.new s ≡ (s == series || has_room self.old s)) }
+        ensures ok { OnOk result ((s : ℕ) → has_room self.new s ≡ (series == s || has_room self.old s)) }
         ensures err { OnErr result ((s : ℕ) → has_room self.new s ≡ has_room self.old s) }
+        ensures again { IsTrue (has_room self.old series) → IsOk result }
 
         ensures terms { self.new.terms ≡ self.old.terms }
         ensures most { self.new.most ≡ self.old.most }

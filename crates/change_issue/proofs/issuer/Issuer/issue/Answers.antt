@@ -1,4 +1,4 @@
-use Rattle.std.proofs.Common.{arith, ap, sym, ◌∙◌}
+use Rattle.std.proofs.Common.{arith, ap}
 use Rattle.change_issue.specs.Registers.{Register, SeriesSheet, has_room, count_in, issued_in, redeemed_in}
 use Rattle.change_issue.proofs.RegisterLaws.{stands, has_place, on_its_sheet, raised, kept, room_kept}
 use Rattle.change_issue.proofs.issuer.Issuer.issue.Goals as goal
