@@ -1,6 +1,13 @@
 //! First replies, kept so that a request that comes again gets its reply again.
+//!
+//! No call of this crate but `Kept::reserve` takes memory.
 #![tactic(auto)]
 
 mod deed;
+mod kept;
+#[cfg(test)]
+mod tests;
+mod texts;
 
 pub use deed::{Deed, KeptEntry};
+pub use kept::Kept;
