@@ -4,10 +4,12 @@
 //! No call of this crate takes memory.
 #![tactic(auto)]
 
+mod body;
 mod law;
 mod offer;
 mod trade;
 
+pub use body::body_of_deed;
 pub use law::entries_follow_in_parts;
 pub use offer::{Body, DrawAsk, Offer, SiteKind, Unlawful};
 pub use trade::Trade;

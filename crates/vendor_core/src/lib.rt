@@ -1,0 +1,8 @@
+//! A vendor: what it sells, and which scrip it takes.
+#![tactic(auto)]
+
+mod shelf;
+mod ware;
+mod wares;
+
+pub use shelf::Shelf;
