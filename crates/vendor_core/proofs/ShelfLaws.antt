@@ -16,7 +16,7 @@ use Rattle.ledger_model.specs.Replies.{no_contents, goods_brought, brought}
 use Rattle.ledger_model.specs.Slow.{bytes_in}
 use Rattle.vendor_core.specs.declared.ware.Article.{Article}
 use Rattle.vendor_core.specs.declared.ware.Ware.{Ware}
-use Rattle.vendor_core.specs.Wares.{goods_entry, Sold, sold_by_entry, sold_by, is_on_sale, is_needed, IsWareOf}
+use Rattle.vendor_core.specs.Wares.{goods_entry, bytes_of_ware, Sold, sold_by_entry, sold_by, is_on_sale, is_needed, IsWareOf}
 use Rattle.vendor_core.specs.Shelf.{Shows, HasNumber}
 use Rattle.vendor_core.proofs.ListLemmas.{find_all, find_any, found_any, find_passes, any_map}
 use Rattle.vendor_core.proofs.GoodsLaws.{IsQuiet, bytes_of, in_force_quiet, in_force_goods, in_force_most}
@@ -109,10 +109,6 @@ none_is_held wares number none has = false≢true (ap is_some (sym none) ∙ fin
 
 -- ---- bytes on sale
 
--- how many bytes of contents the ware of a target has
-abbrev pub bytes_on_sale : Option Ware → ℕ
-bytes_on_sale o = length (unwrap_or (option_map (λ w. w.article.contents.items) o) [])
-
 sold_bytes : Option Sold → ℕ
 sold_bytes o = length (unwrap_or (option_map (λ s. s.brings.bytes) o) [])
 
@@ -121,14 +117,14 @@ unfolding sold_bytes
 by_entry None = refl
 by_entry (Some x) = refl
 
-by_ware : (o : Option Ware) → sold_bytes (option_map sold_by o) ≡ bytes_on_sale o
+by_ware : (o : Option Ware) → sold_bytes (option_map sold_by o) ≡ bytes_of_ware o
 unfolding sold_bytes
 by_ware None = refl
 by_ware (Some x) = refl
 
 -- what is on sale once a Goods entry comes
 pub in_force_now : (wares : List Ware) (issuers : List ℕ) (references : List (Vec ℕ)) (bytes old : ℕ) (h : History) (m price kind : ℕ) (target contents : List ℕ) → Shows wares issuers references bytes h
-    → old ≡ bytes_on_sale (find (is_on_sale target) wares) → in_force (h ++ Goods m target price kind contents ∷ []) ≡ (bytes - old) + length contents
+    → old ≡ bytes_of_ware (find (is_on_sale target) wares) → in_force (h ++ Goods m target price kind contents ∷ []) ≡ (bytes - old) + length contents
 in_force_now wares issuers references bytes old h m price kind target contents s is =
     let same : bytes_of (goods_in h target) ≡ old = sym (by_entry (goods_in h target)) ∙ ap sold_bytes (s.on_sale target) ∙ by_ware (find (is_on_sale target) wares) ∙ sym is in
     let most : bytes_of (goods_in h target) ≤ in_force h = in_force_most h target in

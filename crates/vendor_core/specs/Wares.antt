@@ -1,5 +1,5 @@
 -- The wares of a shelf.
-use Rattle.std.specs.Prelude.{◌≡◌, ℕ, ◌≤◌, Bool, true, false, ◌&&◌, nat_lt, if◌then◌else◌, is_none, bytes_eq, List, Option, Some, None, slice_get}
+use Rattle.std.specs.Prelude.{◌≡◌, ℕ, ◌≤◌, Bool, true, false, ◌&&◌, nat_lt, if◌then◌else◌, is_none, bytes_eq, List, length, Option, Some, None, slice_get}
 use Rattle.mc_records.specs.Entry.{Entry, Goods}
 use Rattle.ledger_model.specs.Histories.{History}
 use Rattle.ledger_model.specs.Goods.{goods_price}
@@ -26,6 +26,11 @@ sold_by w = record { price = w.article.price; brings = record { kind = w.article
 -- whether a ware is what a target sells: no later goods have replaced it
 abbrev pub is_on_sale : List ℕ → Ware → Bool
 is_on_sale target w = is_none w.replaced && bytes_eq w.article.target.items target
+
+-- how many bytes of contents a ware has, where there is one
+abbrev pub bytes_of_ware : Option Ware → ℕ
+bytes_of_ware None = 0
+bytes_of_ware (Some w) = length w.article.contents.items
 
 -- a ware after the entry of this number put goods at a target
 abbrev pub taken_off : List ℕ → ℕ → Ware → Ware

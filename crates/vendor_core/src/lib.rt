@@ -2,6 +2,8 @@
 #![tactic(auto)]
 
 mod shelf;
+#[cfg(test)]
+mod tests;
 mod ware;
 mod wares;
 

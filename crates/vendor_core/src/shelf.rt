@@ -1,11 +1,7 @@
-ghost use Rattle.std.specs.Prelude.{◌≡◌, ℕ, List, MatchOption, ◌↔◌, ◌<◌, ◌≤◌, ◌^◌, [], ◌∷◌, ◌++◌, Some, not, is_ok, IsOk, IsSome, OnOk, OnErr, IsNone, IsFalse, length, option_map, vec_len, vec_capacity};
-ghost use Rattle.scrip_form.specs.Issuing.{Issuing};
-ghost use Rattle.mc_records.specs.Views.{house_of};
-ghost use Rattle.mc_records.specs.Entry.{Site, AddTerms, Goods, Mint};
+ghost use Rattle.std.specs.Prelude.{◌≡◌, ℕ, ◌↔◌, ◌<◌, ◌≤◌, ◌^◌, [], ◌∷◌, ◌++◌, Some, option_map, MatchOption, IsSome, IsOk, OnOk, OnErr, length, vec_len, vec_capacity};
+ghost use Rattle.mc_records.specs.Entry.{Goods};
 ghost use Rattle.ledger_model.specs.Histories.{History};
-ghost use Rattle.ledger_model.specs.Houses.{terms_in};
 ghost use Rattle.ledger_model.specs.Goods as goods;
-ghost use Rattle.ledger_model.specs.Pieces as pieces;
 
 use crate::ware::{Article, Ware};
 use crate::wares::{
@@ -97,7 +93,7 @@ impl Shelf {
 }
 
 impl Trade for Shelf {
-    ghost use Rattle.std.specs.Prelude.{ℕ};
+    ghost use Rattle.house_core.specs.Trade.{IsKeptFrom};
     ghost use Rattle.vendor_core.specs.Shelf.{Stands, HasRoom, Holds};
 
     ghost stands = { Stands };
@@ -216,7 +212,12 @@ impl Trade for Shelf {
         }
     }
 
-    fn forget(&mut self, kept_from: Option<u64>) {
+    fn forget(&mut self, kept_from: Option<u64>)
+        ensures same { (h : History) → Stands self.old h → Stands self.new h }
+        ensures held { (h : History) (n : ℕ) → Stands self.old h → IsKeptFrom h kept_from n → Holds self.old n → Holds self.new n }
+        // No other contents stay.
+        ensures freed { (h : History) (n : ℕ) → Stands self.old h → Holds self.new n → IsKeptFrom h kept_from n }
+    {
         keep_needed(&mut self.wares, kept_from);
     }
 }

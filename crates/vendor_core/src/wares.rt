@@ -1,7 +1,7 @@
-ghost use Rattle.std.specs.Prelude.{◌≡◌, ◌==◌, ◌<◌, ◌++◌, ◌∷◌, [], vec_len, vec_capacity, length, unwrap_or, option_map, filter, find, map, bytes_eq};
+ghost use Rattle.std.specs.Prelude.{◌≡◌, ◌==◌, ◌<◌, ◌++◌, ◌∷◌, [], vec_len, vec_capacity, filter, find, map, bytes_eq};
 ghost use Rattle.std.specs.Option.{option_copied};
 ghost use Rattle.std.specs.List.{list_any};
-ghost use Rattle.vendor_core.specs.Wares.{is_on_sale, is_needed, taken_off};
+ghost use Rattle.vendor_core.specs.Wares.{is_on_sale, is_needed, taken_off, bytes_of_ware};
 
 use crate::ware::{Article, Ware};
 
@@ -14,7 +14,7 @@ pub(crate) fn ware_on_sale<'a>(wares: &'a [Ware], target: &[u8]) -> Option<&'a W
 
 /// How many bytes of contents a target sells now.
 pub(crate) fn bytes_on_sale(wares: &[Ware], target: &[u8]) -> u64
-    ensures { result ≡ length (unwrap_or (option_map (λ w. w.article.contents.items) (find (is_on_sale target.now) wares.now)) []) }
+    ensures { result ≡ bytes_of_ware (find (is_on_sale target.now) wares.now) }
 {
     match ware_on_sale(wares, target) {
         Some(ware) => ware.article.contents.len() as u64,
