@@ -1,0 +1,15 @@
+//! A house: a site that takes scrip and gives something for it. Here is what every house asks of the
+//! trade that it carries, whether it sells goods or scrip.
+//!
+//! No call of this crate takes memory.
+#![tactic(auto)]
+
+mod body;
+mod law;
+mod offer;
+mod trade;
+
+pub use body::body_of_deed;
+pub use law::entries_follow_in_parts;
+pub use offer::{Body, DrawAsk, Offer, SiteKind, Unlawful};
+pub use trade::Trade;

@@ -1,0 +1,99 @@
+ghost use Rattle.std.specs.Prelude.{◌≡◌, ℕ, ◌↔◌, [], ◌∷◌, ◌++◌, Some, IfOk, IsOk, OnOk, OnErr};
+ghost use Rattle.mc_records.specs.declared.limits.Limits.{Limits as Bounds};
+ghost use Rattle.mc_records.specs.Entry.{Entry};
+ghost use Rattle.mc_records.specs.Views.{entry};
+ghost use Rattle.ledger_model.specs.Histories.{History};
+ghost use Rattle.ledger_model.specs.Houses.{site_kind};
+ghost use Rattle.ledger_model.specs.Answer as answers;
+ghost use Rattle.ledger_model.specs.Replies.{brought, price_asked};
+ghost use Rattle.ledger_model.specs.Slow.{told};
+ghost use Rattle.house_core.specs.Views.{kind_number, entry_deed, offer_of, contents_of};
+ghost use Rattle.house_core.specs.Trade.{draw_asked, brought_by, IsHeld, IsKeptFrom};
+ghost use Rattle.house_core.specs.Learning.{ByTrade, MayLearn, IsGoods};
+
+use crate::offer::{Body, DrawAsk, Offer, SiteKind, Unlawful};
+use kept_replies::Deed;
+use mc_base::{Amount, Moment, NoMemory};
+use mc_records::{Limits, Record, Refusal};
+
+/// What a site offers for scrip, as far as a history says something of it: goods, or accounts, licences
+/// and stock. A trade stands for a history, whose entries it learns one by one, and answers as the
+/// ledger does for that history.
+pub trait Trade: Drop {
+    // What the trade says is what this history says.
+    ghost stands: { Self → History → Type 0 };
+
+    // The number of the kind of its site, which no call changes.
+    ghost site: { Self → ℕ };
+
+    // There is room to learn this entry.
+    ghost has_room: { Self → Entry → Type 0 };
+
+    // It still has the contents of the Goods entry of this number.
+    ghost holds: { Self → ℕ → Type 0 };
+
+    // Its own test of a note that follows a history.
+    ghost passes: { History → Entry → Type 0 };
+
+    /// The kind of its site.
+    fn kind(&self) -> SiteKind
+        ensures { kind_number result ≡ site self.now };
+
+    /// The price of a target, in units; None where nothing is sold there.
+    fn price(&self, target: &[u8]) -> Option<u64>
+        ensures { (h : History) → stands self.now h → site_kind h ≡ Some (site self.now) → result ≡ price_asked h target.now };
+
+    /// What is given for a piece of this value, or why nothing is.
+    fn offer(
+        &self,
+        time: Moment,
+        limits: Limits,
+        target: &[u8],
+        value: Amount,
+    ) -> Result<Offer, Refusal>
+        // The price and the deed of the entry, or the refusal, are the ledger's.
+        ensures offer { (h : History) → stands self.now h → site_kind h ≡ Some (site self.now)
+            → told offer_of result ≡ answers.offer h time limits target.now value }
+        // What the deed names is what the entry brings.
+        ensures brings { (h : History) → stands self.now h → site_kind h ≡ Some (site self.now)
+            → IfOk result (λ o. brought_by h o.deed ≡ brought h target.now (entry_deed o.deed)) }
+        ensures held { IfOk result (λ o. IsHeld (holds self.now) o.deed) };
+
+    /// The draw that a target asks for, with what is known of its account; None where it asks for none.
+    fn draw(&self, target: &[u8]) -> Option<DrawAsk>
+        ensures { (h : History) → stands self.now h → site_kind h ≡ Some (site self.now) → result ≡ draw_asked h target.now };
+
+    /// Makes room to learn an entry. The trade stands for what it stood for, also after an `Err`.
+    fn reserve(&mut self, r: &Record<'_>) -> Result<(), NoMemory>
+        ensures site { site self.new ≡ site self.old }
+        ensures same { (h : History) → stands self.old h → stands self.new h }
+        ensures held { (n : ℕ) → holds self.old n → holds self.new n }
+        ensures room { OnOk result (has_room self.new (entry r.now)) };
+
+    /// Learns the next entry, of which the house has told its half of what makes it lawful. `Err` comes
+    /// exactly where the trade's half does not hold, and leaves the trade standing for what it stood for.
+    fn learn(&mut self, number: u64, r: &Record<'_>) -> Result<(), Unlawful>
+        requires { has_room self.old (entry r.now) }
+        ensures site { site self.new ≡ site self.old }
+        ensures held { (n : ℕ) → holds self.old n → holds self.new n }
+        ensures learned { OnOk result ((limits : Bounds) (h : History) → stands self.old h
+            → MayLearn limits (site self.old) number h (entry r.now) → stands self.new (h ++ entry r.now ∷ [])) }
+        ensures goods { OnOk result ((limits : Bounds) (h : History) → stands self.old h
+            → MayLearn limits (site self.old) number h (entry r.now) → IsGoods (entry r.now) → holds self.new number) }
+        ensures exact { (limits : Bounds) (h : History) → stands self.old h
+            → MayLearn limits (site self.old) number h (entry r.now) → IsOk result ↔ ByTrade passes (site self.old) h (entry r.now) }
+        ensures same { OnErr result ((h : History) → stands self.old h → stands self.new h) };
+
+    /// What a reply with this deed brings, where the trade holds what the deed names. `room` is for
+    /// contents that are made of the deed itself.
+    fn body<'a>(&'a self, deed: &Deed, room: &'a mut [u8; 512]) -> Body<'a>
+        ensures { (h : History) → stands self.now h → site_kind h ≡ Some (site self.now)
+            → IsHeld (holds self.now) deed.now → contents_of result ≡ brought_by h deed.now };
+
+    /// Lets contents go that no reply of an entry from this number on brings, and that are not in force.
+    /// With None no reply is kept.
+    fn forget(&mut self, kept_from: Option<u64>)
+        ensures site { site self.new ≡ site self.old }
+        ensures same { (h : History) → stands self.old h → stands self.new h }
+        ensures held { (h : History) (n : ℕ) → stands self.old h → IsKeptFrom h kept_from n → holds self.old n → holds self.new n };
+}

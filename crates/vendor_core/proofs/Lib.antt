@@ -1,0 +1,4 @@
+pub mod ListLemmas
+pub mod GoodsLaws
+pub mod WareLaws
+pub mod ShelfLaws

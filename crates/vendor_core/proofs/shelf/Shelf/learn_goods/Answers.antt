@@ -1,0 +1,17 @@
+use Rattle.std.proofs.Common.{◌≡◌, [], ◌∷◌, ◌++◌, sym, ap, ◌∙◌}
+use Rattle.mc_records.specs.Entry.{Entry, Goods}
+use Rattle.ledger_model.specs.Goods.{in_force}
+use Rattle.vendor_core.specs.Wares.{goods_entry}
+use Rattle.vendor_core.proofs.WareLaws.{has_more}
+use Rattle.vendor_core.proofs.ShelfLaws.{goods_learned, article_is}
+use Rattle.vendor_core.proofs.shelf.Shelf.learn_goods.Goals as goal
+
+pub returns-clause-held : goal.returns-clause-held
+returns-clause-held c n held = rw c.put_on_sale.ensures (has_more c.args.self.now.wares.items c.args.number n c.unwrap-article.result held)
+
+pub returns-clause-learned : goal.returns-clause-learned
+returns-clause-learned c h m price kind stands is ready =
+    let same : goods_entry m c.unwrap-article.result ≡ Goods m c.args.target.now price kind c.args.contents.now =
+    article_is m _ _ c.unwrap-article.result (sym c.take.ensures.value ∙ c.unwrap-article.ensures) ready in
+    let bytes : c.in-Some.bytes ≡ in_force (h ++ goods_entry m c.unwrap-article.result ∷ []) = (c.in-Some.ensures h m price kind stands).1 ∙ ap (λ (e : Entry). in_force (h ++ e ∷ [])) (sym same) in
+    rw (c.put_on_sale.ensures, ← same) (goods_learned _ _ _ _ c.in-Some.bytes c.args.number h m c.unwrap-article.result is bytes stands)

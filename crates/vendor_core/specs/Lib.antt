@@ -1,0 +1,2 @@
+pub mod Wares
+pub mod Shelf

@@ -1,0 +1,50 @@
+-- What a shelf stands for.
+use Rattle.std.specs.Prelude.{◌≡◌, ℕ, ◌<◌, ◌==◌, IsTrue, List, map, filter_map, find, Some, option_map, vec_len, vec_capacity, All}
+use Rattle.std.specs.Global.{Vec}
+use Rattle.std.specs.List.{list_any}
+use Rattle.mc_records.specs.Entry.{Entry, Site, AddTerms, Goods, Mint}
+use Rattle.ledger_model.specs.Histories.{History}
+use Rattle.ledger_model.specs.Houses.{all_terms}
+use Rattle.ledger_model.specs.Goods as goods
+use Rattle.ledger_model.specs.Goods.{goods_in}
+use Rattle.ledger_model.specs.Pieces.{reference_of}
+use Rattle.vendor_core.specs.declared.ware.Ware.{Ware}
+use Rattle.vendor_core.specs.declared.shelf.Shelf.{Shelf}
+use Rattle.vendor_core.specs.Wares.{goods_entry, sold_by_entry, sold_by, is_on_sale, IsWareOf}
+
+-- Wares, issuers, references and bytes of contents are what a history says of them. Of goods that
+-- were replaced some may be missing.
+pub record Shows (wares : List Ware) (issuers : List ℕ) (references : List (Vec ℕ)) (bytes : ℕ) (h : History) : Type 0 where
+  pub of_entries : All (IsWareOf h) wares
+  pub on_sale : (target : List ℕ) → option_map sold_by_entry (goods_in h target) ≡ option_map sold_by (find (is_on_sale target) wares)
+  pub all_issuers : map (λ t. t.issuer) (all_terms h) ≡ issuers
+  pub all_references : filter_map reference_of h ≡ map (λ r. r.items) references
+  pub in_force : goods.in_force h ≡ bytes
+
+abbrev pub Stands : Shelf → History → Type 0
+Stands s h = Shows s.wares.items s.issuers.items s.references.items s.in_force h
+
+-- the ware of the entry of this number is there
+abbrev pub HasNumber : List Ware → ℕ → Type 0
+HasNumber wares number = IsTrue (list_any (λ w. w.number == number) wares)
+
+abbrev pub Holds : Shelf → ℕ → Type 0
+Holds s number = HasNumber s.wares.items number
+
+-- room for a ware, with the article ready
+pub record HasRoomForGoods (s : Shelf) (e : Entry) (m : ℕ) : Type 0 where
+  pub place : vec_len s.wares < vec_capacity s.wares
+  pub ready : option_map (goods_entry m) s.next_article ≡ Some e
+
+-- room for a reference, with its bytes ready
+pub record HasRoomForReference (s : Shelf) (reference : List ℕ) : Type 0 where
+  pub place : vec_len s.references < vec_capacity s.references
+  pub ready : option_map (λ r. r.items) s.next_reference ≡ Some reference
+
+-- there is room for what an entry adds
+abbrev pub HasRoom : Shelf → Entry → Type 0
+HasRoom s (Site m kind name house) = vec_len s.issuers < vec_capacity s.issuers
+HasRoom s (AddTerms m terms) = vec_len s.issuers < vec_capacity s.issuers
+HasRoom s (Goods m target price kind contents) = HasRoomForGoods s (Goods m target price kind contents) m
+HasRoom s (Mint m reference count value first) = HasRoomForReference s reference
+HasRoom s _ = Unit {0}

@@ -1,0 +1,57 @@
+-- The wares of a shelf.
+use Rattle.std.specs.Prelude.{◌≡◌, ℕ, ◌≤◌, Bool, true, false, ◌&&◌, nat_lt, if◌then◌else◌, is_none, bytes_eq, List, length, Option, Some, None, slice_get}
+use Rattle.mc_records.specs.Entry.{Entry, Goods}
+use Rattle.ledger_model.specs.Histories.{History}
+use Rattle.ledger_model.specs.Goods.{goods_price}
+use Rattle.ledger_model.specs.Replies.{Contents, goods_brought}
+use Rattle.house_core.specs.Trade.{Replaces}
+use Rattle.vendor_core.specs.declared.ware.Article.{Article}
+use Rattle.vendor_core.specs.declared.ware.Ware.{Ware}
+
+-- the entry of an article at a moment
+abbrev pub goods_entry : ℕ → Article → Entry
+goods_entry m a = Goods m a.target.items a.price a.kind a.contents.items
+
+-- what is sold: its price, and what it brings
+pub record Sold : Type 0 where
+  pub price : ℕ
+  pub brings : Contents
+
+abbrev pub sold_by_entry : Entry → Sold
+sold_by_entry e = record { price = goods_price e; brings = goods_brought e }
+
+abbrev pub sold_by : Ware → Sold
+sold_by w = record { price = w.article.price; brings = record { kind = w.article.kind; bytes = w.article.contents.items } }
+
+-- whether a ware is what a target sells: no later goods have replaced it
+abbrev pub is_on_sale : List ℕ → Ware → Bool
+is_on_sale target w = is_none w.replaced && bytes_eq w.article.target.items target
+
+-- how many bytes of contents a ware has, where there is one
+abbrev pub bytes_of_ware : Option Ware → ℕ
+bytes_of_ware None = 0
+bytes_of_ware (Some w) = length w.article.contents.items
+
+-- a ware after the entry of this number put goods at a target
+abbrev pub taken_off : List ℕ → ℕ → Ware → Ware
+taken_off target number w = if is_on_sale target w then record w { replaced = Some number } else w
+
+-- whether goods that were replaced by some entry, or by none, are needed by replies from a number on
+abbrev pub may_be_brought : Option ℕ → Option ℕ → Bool
+may_be_brought from None = true
+may_be_brought None (Some m) = false
+may_be_brought (Some from) (Some m) = nat_lt from m
+
+abbrev pub is_needed : Option ℕ → Ware → Bool
+is_needed from w = may_be_brought from w.replaced
+
+-- the number of the first entry that replaces the goods of entry n, or None where none does
+abbrev pub IsReplacement : History → ℕ → Option ℕ → Type 0
+IsReplacement h n None = (m : ℕ) → Replaces h n m → ⊥
+IsReplacement h n (Some m) = Replaces h n m × ((k : ℕ) → Replaces h n k → m ≤ k)
+
+-- a ware is of the Goods entry of its number
+pub record IsWareOf (h : History) (w : Ware) : Type 0 where
+  pub moment : ℕ
+  pub entry : slice_get h w.number ≡ Some (goods_entry moment w.article)
+  pub replaced : IsReplacement h w.number w.replaced

@@ -1,0 +1,223 @@
+ghost use Rattle.std.specs.Prelude.{◌≡◌, ℕ, ◌↔◌, ◌<◌, ◌≤◌, ◌^◌, [], ◌∷◌, ◌++◌, Some, option_map, MatchOption, IsSome, IsOk, OnOk, OnErr, length, vec_len, vec_capacity};
+ghost use Rattle.mc_records.specs.Entry.{Goods};
+ghost use Rattle.ledger_model.specs.Histories.{History};
+ghost use Rattle.ledger_model.specs.Goods as goods;
+
+use crate::ware::{Article, Ware};
+use crate::wares::{
+    bytes_on_sale, has_reference, keep_needed, put_on_sale, ware_of_number, ware_on_sale,
+};
+use house_core::{Body, DrawAsk, Offer, SiteKind, Trade, Unlawful, body_of_deed};
+use kept_replies::Deed;
+use mc_base::{Amount, Moment, NoMemory};
+use mc_records::{Limits, Record, Refusal};
+use std::alloc::Global;
+
+/// The most bytes of contents that a vendor may have on sale.
+const MOST_IN_FORCE: u64 = 1 << 26;
+
+/// The trade of a vendor: its goods by their targets, the issuers whose scrip it takes, and the
+/// references of its mints.
+#[derive(Drop)]
+pub struct Shelf {
+    wares: Vec<Ware>,
+    issuers: Vec<u8>,
+    references: Vec<Vec<u8>>,
+    /// How many bytes of contents are on sale.
+    in_force: u64,
+    /// What the next Goods entry puts on sale.
+    next_article: Option<Article>,
+    /// The reference of the next Mint entry.
+    next_reference: Option<Vec<u8>>,
+    alloc: Global,
+}
+
+impl Shelf {
+    ghost use Rattle.vendor_core.specs.Wares.{goods_entry};
+    ghost use Rattle.vendor_core.specs.Shelf.{Stands, Holds};
+
+    /// The shelf of an empty history. It takes no memory.
+    pub fn new(alloc: Global) -> Shelf
+        ensures { Stands result [] }
+    {
+        Shelf {
+            wares: Vec::new(alloc),
+            issuers: Vec::new(alloc),
+            references: Vec::new(alloc),
+            in_force: 0,
+            next_article: None,
+            next_reference: None,
+            alloc,
+        }
+    }
+
+    /// How many bytes of contents are on sale once a target sells these; None exactly where they are more
+    /// than may be.
+    fn in_force_with(&self, target: &[u8], contents: &[u8]) -> Option<u64>
+        ensures { (h : History) (m price kind : ℕ) → Stands self.now h
+            → MatchOption result (2 ^ 26 < goods.in_force (h ++ Goods m target.now price kind contents.now ∷ []))
+            (λ bytes. (bytes ≤ 2 ^ 26) × (bytes ≡ goods.in_force (h ++ Goods m target.now price kind contents.now ∷ []))) }
+    {
+        let others = self
+            .in_force
+            .saturating_sub(bytes_on_sale(&self.wares, target));
+        let bytes = contents.len() as u64;
+        if bytes <= MOST_IN_FORCE && others <= MOST_IN_FORCE - bytes {
+            Some(others + bytes)
+        } else {
+            None
+        }
+    }
+
+    /// Learns the Goods entry of a number, for which there is room.
+    fn learn_goods(&mut self, number: u64, target: &[u8], contents: &[u8]) -> Result<(), Unlawful>
+        requires place { vec_len self.old.wares < vec_capacity self.old.wares }
+        requires ready { IsSome self.old.next_article }
+        ensures held { (n : ℕ) → Holds self.old n → Holds self.new n }
+        ensures goods { OnOk result (Holds self.new number) }
+        ensures learned { OnOk result ((h : History) (m price kind : ℕ) → Stands self.old h → number ≡ length h
+            → option_map (goods_entry m) self.old.next_article ≡ Some (Goods m target.now price kind contents.now)
+            → Stands self.new (h ++ Goods m target.now price kind contents.now ∷ [])) }
+        ensures exact { (h : History) (m price kind : ℕ) → Stands self.old h
+            → IsOk result ↔ (goods.in_force (h ++ Goods m target.now price kind contents.now ∷ []) ≤ 2 ^ 26) }
+        ensures same { OnErr result ((h : History) → Stands self.old h → Stands self.new h) }
+    {
+        let Some(bytes) = self.in_force_with(target, contents) else {
+            return Err(Unlawful);
+        };
+        let article = self.next_article.take().unwrap();
+        put_on_sale(&mut self.wares, number, article);
+        self.in_force = bytes;
+        Ok(())
+    }
+}
+
+impl Trade for Shelf {
+    ghost use Rattle.house_core.specs.Trade.{IsKeptFrom};
+    ghost use Rattle.vendor_core.specs.Shelf.{Stands, HasRoom, Holds};
+
+    ghost stands = { Stands };
+
+    ghost site = { λ s. 0 };
+
+    ghost has_room = { HasRoom };
+
+    ghost holds = { Holds };
+
+    ghost passes = { λ h e. Unit {0} };
+
+    fn kind(&self) -> SiteKind {
+        SiteKind::Vendor
+    }
+
+    fn price(&self, target: &[u8]) -> Option<u64> {
+        match ware_on_sale(&self.wares, target) {
+            Some(ware) => Some(ware.article.price),
+            None => None,
+        }
+    }
+
+    fn offer(
+        &self,
+        _time: Moment,
+        _limits: Limits,
+        target: &[u8],
+        value: Amount,
+    ) -> Result<Offer, Refusal> {
+        let Some(ware) = ware_on_sale(&self.wares, target) else {
+            return Err(Refusal::NoSuchGoods);
+        };
+        let price = ware.article.price;
+        if value.get() < price {
+            return Err(Refusal::TooLittle(price));
+        }
+        Ok(Offer {
+            price,
+            deed: Deed::Goods { goods: ware.number },
+        })
+    }
+
+    fn draw(&self, _target: &[u8]) -> Option<DrawAsk> {
+        None
+    }
+
+    fn reserve(&mut self, r: &Record<'_>) -> Result<(), NoMemory> {
+        match *r {
+            Record::Site { .. } | Record::Terms { .. } => self.issuers.reserve(1)?,
+            Record::Goods {
+                target,
+                price,
+                kind,
+                contents,
+                ..
+            } => {
+                self.wares.reserve(1)?;
+                self.next_article = Some(Article::copy_of(
+                    self.alloc, target, price, kind, contents,
+                )?);
+            }
+            Record::Mint { reference, .. } => {
+                self.references.reserve(1)?;
+                self.next_reference = Some(Vec::from_slice(self.alloc, reference)?);
+            }
+            _ => (),
+        }
+        Ok(())
+    }
+
+    fn learn(&mut self, number: u64, r: &Record<'_>) -> Result<(), Unlawful> {
+        match *r {
+            Record::Site { house, .. } => {
+                if let Some(house) = house {
+                    self.issuers.push_reserved(house.terms.issuer());
+                }
+                Ok(())
+            }
+            Record::Terms { terms, .. } => {
+                let issuer = terms.issuer();
+                if self.issuers.contains(&issuer) {
+                    return Err(Unlawful);
+                }
+                self.issuers.push_reserved(issuer);
+                Ok(())
+            }
+            Record::Goods {
+                target,
+                contents,
+                ..
+            } => self.learn_goods(number, target, contents),
+            Record::Mint { reference, .. } => {
+                if has_reference(&self.references, reference) {
+                    return Err(Unlawful);
+                }
+                let reference = self.next_reference.take().unwrap();
+                self.references.push_reserved(reference);
+                Ok(())
+            }
+            Record::Accept { .. } | Record::Draw { .. } => Ok(()),
+            _ => Err(Unlawful),
+        }
+    }
+
+    fn body<'a>(&'a self, deed: &Deed, room: &'a mut [u8; 512]) -> Body<'a> {
+        let Deed::Goods { goods } = *deed else {
+            return body_of_deed(deed, room);
+        };
+        match ware_of_number(&self.wares, goods) {
+            Some(ware) => Body {
+                kind: ware.article.kind,
+                bytes: &ware.article.contents,
+            },
+            None => body_of_deed(deed, room),
+        }
+    }
+
+    fn forget(&mut self, kept_from: Option<u64>)
+        ensures same { (h : History) → Stands self.old h → Stands self.new h }
+        ensures held { (h : History) (n : ℕ) → Stands self.old h → IsKeptFrom h kept_from n → Holds self.old n → Holds self.new n }
+        // No other contents stay.
+        ensures freed { (h : History) (n : ℕ) → Stands self.old h → Holds self.new n → IsKeptFrom h kept_from n }
+    {
+        keep_needed(&mut self.wares, kept_from);
+    }
+}
