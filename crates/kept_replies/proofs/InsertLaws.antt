@@ -1,9 +1,10 @@
 -- A reply that is put among others by its number.
-use Rattle.std.proofs.Common.{◌≡◌, subst, ℕ, zero, suc, ◌<◌, ◌≤◌, Bool, true, false, cond, ltb, eqb, List, [], ◌∷◌, ◌++◌, take, drop, filter, All, refl, ap, ◌∙◌, arith}
+use Rattle.std.proofs.Common.{◌≡◌, subst, ℕ, zero, suc, ◌<◌, ◌≤◌, Bool, true, false, cond, ltb, eqb, List, [], ◌∷◌, ◌++◌, get_or, take, drop, filter, All, refl, ap, ◌∙◌, arith}
 use Rattle.std.specs.List.{AllByRecursion, insert}
 use Rattle.std.specs.List.Sorted.{IsPartitionPoint}
 use Rattle.std.proofs.lemmas.List.Elements.{recursion_from_All}
-use Rattle.std.proofs.lemmas.Bool.{ltb-true, ltb-false, lt-ltb, le-ltb, eqb-false, or_parts}
+use Rattle.std.proofs.lemmas.List.Folds.{list_any_none}
+use Rattle.std.proofs.lemmas.Bool.{ltb-true, ltb-false, lt-ltb, le-ltb, eqb-false, ne_eqb, or_parts}
 use Rattle.kept_replies.specs.Kept.{KeptReply, AreRising, IsBelowAll, has_number, inserted}
 use Rattle.kept_replies.proofs.ReplyLaws.{number, AreRising-filter}
 
@@ -107,3 +108,10 @@ inserted_last new rs all =
     let by_recursion = recursion_from_All (λ r. number r < number new) rs all in
     ap (λ (t : List KeptReply). t ++ new ∷ filter (above (number new)) rs) (all_below (number new) rs by_recursion)
     ∙ ap (λ (t : List KeptReply). rs ++ new ∷ t) (none_above (number new) rs by_recursion)
+
+-- and is not kept yet
+pub not_numbered : (n : ℕ) (rs : List KeptReply) → All (λ r. r.entry.number < n) rs → has_number rs n ≡ false
+not_numbered n rs all = list_any_none (λ r. eqb r.entry.number n) rs (λ k d lt. other (get_or rs k d) (all k d lt))
+  where
+    other : (r : KeptReply) → r.entry.number < n → eqb r.entry.number n ≡ false
+    other r lt = ne_eqb r.entry.number n (λ e. omega (arith, lt, e))

@@ -119,6 +119,7 @@ fn text_at(bytes: &[u8], span: Option<Span>) -> Option<&[u8]>
     }
 }
 
+/// Whether two texts, either of which may be absent, are the same.
 fn is_same(a: Option<&[u8]>, b: Option<&[u8]>) -> bool
     ensures { result ≡ is_same_text (seen a.entry) (seen b.entry) }
 {

@@ -19,12 +19,14 @@ now_kept c =
     with_entry : Asked → KeptReply
     with_entry q = record { asked = q; entry = c.args.e }
 
+rise : (c : In-Ok) → AreRising c.insert.new.self.items
+rise c = rw (now_kept c) (AreRising-inserted (record { asked = asked_of c.args.q.now; entry = c.args.e }) c.self.inside.replies.items c.self.invariant.0)
+
 pub invariant_of-self : goal.invariant_of-self
-invariant_of-self c =
-    (rw (now_kept c) (AreRising-inserted (record { asked = asked_of c.args.q.now; entry = c.args.e }) c.self.inside.replies.items c.self.invariant.0), rw c.replace-buffer.ensures.after c.new.ensures.items)
+invariant_of-self c = (rise c, rw c.replace-buffer.ensures.after c.new.ensures.items)
 
 pub returns-clause-replies : goal.returns-clause-replies
 returns-clause-replies c = rw (← c.self.view_is) (now_kept c)
 
 pub returns-clause-rising : goal.returns-clause-rising
-returns-clause-rising c = rw (now_kept c) (AreRising-inserted (record { asked = asked_of c.args.q.now; entry = c.args.e }) c.self.inside.replies.items c.self.invariant.0)
+returns-clause-rising c = rise c
