@@ -12,6 +12,6 @@ mod tests;
 mod trade;
 
 pub use body::body_of_deed;
-pub use law::entries_follow_in_parts;
+pub use law::{contents_stay, entries_follow_in_parts, goods_in_force_are_kept};
 pub use offer::{Body, DrawAsk, Offer, SiteKind, Unlawful};
 pub use trade::Trade;
