@@ -39,12 +39,14 @@ pub record MayLearn (limits : Limits) (kind number : ℕ) (h : History) (e : Ent
   pub in_order : time h ≤ moment_of e
   pub by_house : ByHouse limits kind h e
 
+-- an entry that puts goods on sale
 abbrev pub IsGoods : Entry → Type 0
 IsGoods (Goods m target price kind contents) = Unit {0}
 IsGoods _ = ⊥
 
 -- ---- the halves together
 
+-- the entry that founds a site
 abbrev pub IsSite : Entry → Type 0
 IsSite (Site m kind name house) = Unit {0}
 IsSite _ = ⊥
