@@ -1,18 +1,18 @@
 -- An entry may follow exactly where both halves hold.
-use Rattle.std.proofs.Common.{◌≡◌, ℕ, ◌↔◌, IsTrue, Some, refl, ap, Option, option_map, unwrap_or}
+use Rattle.std.proofs.Common.{⊎_elim, ℕ, ◌↔◌, IsTrue, refl, ap, Option, option_map, unwrap_or}
 use Rattle.std.specs.Prelude.{false, ◌==◌}
 use Rattle.mc_records.specs.declared.limits.Limits.{Limits}
 use Rattle.mc_records.specs.Entry.{Entry, Site, AddTerms, Goods, Accept, Mint, Account, Deposit, Withdraw, Draw, Licence, Stock, Got, Pend, Done, Refused}
 use Rattle.ledger_model.specs.Histories.{History}
-use Rattle.ledger_model.specs.Houses.{site_kind, is_vendor}
+use Rattle.ledger_model.specs.Houses.{is_vendor}
 use Rattle.ledger_model.specs.Lawful.{MayFollow, IsAllowed}
-use Rattle.house_core.specs.Learning.{ByHouse, ByTrade, InParts, IsOfKind}
+use Rattle.house_core.specs.Learning.{ByHouse, ByTrade, InParts, IsSite, IsOfKind}
 
 abbrev Test : Type 1
 Test = History → Entry → Type 0
 
-is_vendors : (h : History) → site_kind h ≡ Some 0 → IsTrue (is_vendor h)
-is_vendors h kind = ap (λ (k : Option ℕ). unwrap_or (option_map (λ n. n == 0) k) false) kind
+is_vendors : (h : History) (e : Entry) → IsOfKind 0 h e → (IsSite e → ⊥) → IsTrue (is_vendor h)
+is_vendors h e kind other = ⊎_elim (λ is. ap (λ (k : Option ℕ). unwrap_or (option_map (λ n. n == 0) k) false) is) (λ site. absurd (other site)) kind
 
 told_by_house : (limits : Limits) (h : History) (e : Entry) → IsAllowed limits h e → ByHouse limits 0 h e
 told_by_house limits h (Site m k name house) a = a
@@ -50,10 +50,10 @@ told_by_trade passes limits h (Refused m n refusal) a = a
 
 allowed : (passes : Test) (limits : Limits) (h : History) (e : Entry) → IsOfKind 0 h e → ByHouse limits 0 h e → ByTrade passes 0 h e → IsAllowed limits h e
 allowed passes limits h (Site m k name house) kind a b = a
-allowed passes limits h (AddTerms m terms) kind a b = (is_vendors h kind, b.1)
-allowed passes limits h (Goods m target price k contents) kind a b = (is_vendors h kind, b.1)
+allowed passes limits h (AddTerms m terms) kind a b = (is_vendors h (AddTerms m terms) kind (λ x. x), b.1)
+allowed passes limits h (Goods m target price k contents) kind a b = (is_vendors h (Goods m target price k contents) kind (λ x. x), b.1)
 allowed passes limits h (Accept m scrip target sign price change deed) kind a b = a
-allowed passes limits h (Mint m reference count value first) kind a b = (is_vendors h kind, b.1, a.0, a.1)
+allowed passes limits h (Mint m reference count value first) kind a b = (is_vendors h (Mint m reference count value first) kind (λ x. x), b.1, a.0, a.1)
 allowed passes limits h (Account m name key) kind a b = b
 allowed passes limits h (Deposit m name amount reference) kind a b = b
 allowed passes limits h (Withdraw m name amount reference) kind a b = b

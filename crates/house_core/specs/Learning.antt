@@ -1,6 +1,6 @@
 -- Which entries a trade may learn: the lawfulness of an entry in two halves, of which the house tells
 -- one and the trade the other.
-use Rattle.std.specs.Prelude.{◌≡◌, ℕ, ◌+◌, ◌≤◌, ◌^◌, IsFalse, IsNone, [], ◌∷◌, ◌++◌, length, Some}
+use Rattle.std.specs.Prelude.{◌≡◌, ℕ, ◌+◌, ◌≤◌, ◌^◌, ◌⊎◌, IsFalse, IsNone, [], ◌∷◌, ◌++◌, length, Some}
 use Rattle.mc_records.specs.declared.limits.Limits.{Limits}
 use Rattle.mc_records.specs.Entry.{Entry, Site, AddTerms, Goods, Accept, Mint, Draw, moment_of}
 use Rattle.ledger_model.specs.Histories.{History, time}
@@ -39,16 +39,21 @@ pub record MayLearn (limits : Limits) (kind number : ℕ) (h : History) (e : Ent
   pub in_order : time h ≤ moment_of e
   pub by_house : ByHouse limits kind h e
 
+-- an entry that puts goods on sale
 abbrev pub IsGoods : Entry → Type 0
 IsGoods (Goods m target price kind contents) = Unit {0}
 IsGoods _ = ⊥
 
 -- ---- the halves together
 
--- an entry opens a history, or stands in one of this kind of site
+-- the entry that founds a site
+abbrev pub IsSite : Entry → Type 0
+IsSite (Site m kind name house) = Unit {0}
+IsSite _ = ⊥
+
+-- a history of this kind of site, or the Site entry of one
 abbrev pub IsOfKind : ℕ → History → Entry → Type 0
-IsOfKind kind h (Site m k name house) = Unit {0}
-IsOfKind kind h _ = site_kind h ≡ Some kind
+IsOfKind kind h e = (site_kind h ≡ Some kind) ⊎ IsSite e
 
 -- both halves hold of the entry that comes next
 pub record InParts (passes : History → Entry → Type 0) (limits : Limits) (kind : ℕ) (h : History) (e : Entry) : Type 0 where

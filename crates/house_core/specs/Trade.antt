@@ -1,10 +1,11 @@
 -- What a history says of a trade.
-use Rattle.std.specs.Prelude.{◌≡◌, ℕ, ◌<◌, true, List, ◌++◌, codes, decimal, Option, Some, None, option_map, unwrap_or, slice_get}
+use Rattle.std.specs.Prelude.{◌≡◌, ℕ, ◌<◌, true, List, ◌++◌, codes, decimal, Option, Some, None, option_map, option_and_then, slice_get}
 use Rattle.kept_replies.specs.declared.deed.Deed.{Deed}
 use Rattle.kept_replies.specs.declared.deed.Deed.TheVariants as kept
+use Rattle.mc_records.specs.Entry.{Entry, Goods}
 use Rattle.ledger_model.specs.Histories.{History}
 use Rattle.ledger_model.specs.Goods.{is_goods_of}
-use Rattle.ledger_model.specs.Replies.{Contents, no_contents, goods_brought}
+use Rattle.ledger_model.specs.Replies.{Contents, no_contents}
 use Rattle.house_core.specs.declared.offer.DrawAsk.{DrawAsk}
 
 -- ---- what is asked and brought
@@ -14,20 +15,25 @@ use Rattle.house_core.specs.declared.offer.DrawAsk.{DrawAsk}
 abbrev pub draw_asked : History → List ℕ → Option DrawAsk
 draw_asked h target = None
 
--- What a kept deed brings: the contents of the Goods entry of its number; of a credit the balance as
--- a line. The pieces that are sold and drawn stand here.
-abbrev pub brought_by : History → Deed → Contents
-brought_by h (kept.Goods number) = unwrap_or (option_map goods_brought (slice_get h number)) no_contents
-brought_by h (kept.Sale piece cert secret stock) = no_contents
-brought_by h (kept.Credit balance) = record { kind = 1; bytes = decimal balance ++ codes "\n" }
-brought_by h (kept.Draw piece cert secret) = no_contents
+-- the contents of a Goods entry; other entries have none
+abbrev pub contents_in : Entry → Option Contents
+contents_in (Goods m target price kind contents) = Some (record { kind = kind; bytes = contents })
+contents_in _ = None
 
--- ---- contents that are held
+-- What a kept deed brings: the contents of the Goods entry of its number, where there is one; of a
+-- credit the balance as a line. The pieces that are sold and drawn stand here.
+abbrev pub brought_by : History → Deed → Option Contents
+brought_by h (kept.Goods number) = option_and_then contents_in (slice_get h number)
+brought_by h (kept.Sale piece cert secret stock) = Some no_contents
+brought_by h (kept.Credit balance) = Some (record { kind = 1; bytes = decimal balance ++ codes "\n" })
+brought_by h (kept.Draw piece cert secret) = Some no_contents
 
--- what a kept deed names is held: goods by the number of their entry, the rest by the deed itself
-abbrev pub IsHeld : (ℕ → Type 0) → Deed → Type 0
-IsHeld holds (kept.Goods number) = holds number
-IsHeld holds _ = Unit {0}
+-- ---- goods that are kept
+
+-- what holds of the number of the Goods entry that a kept deed names; other deeds name none
+abbrev pub OfGoods : (ℕ → Type 0) → Deed → Type 0
+OfGoods P (kept.Goods number) = P number
+OfGoods P _ = Unit {0}
 
 -- the entry of number m replaces the goods of the one of number n: it puts goods at the same target
 pub record Replaces (h : History) (n m : ℕ) : Type 0 where
@@ -36,12 +42,16 @@ pub record Replaces (h : History) (n m : ℕ) : Type 0 where
   pub replaced : option_map (is_goods_of target) (slice_get h n) ≡ Some true
   pub replacing : option_map (is_goods_of target) (slice_get h m) ≡ Some true
 
--- A number lies behind the first one whose reply is kept. Behind none there is nothing.
+-- no entry replaces the goods of entry n
+abbrev pub IsInForce : History → ℕ → Type 0
+IsInForce h n = (m : ℕ) → Replaces h n m → ⊥
+
+-- A number lies behind the first one whose reply is kept. Where no reply is kept, none does.
 abbrev pub LiesBehind : Option ℕ → ℕ → Type 0
 LiesBehind None m = ⊥
 LiesBehind (Some from) m = from < m
 
--- A reply that is kept from some number on may need the goods of entry n: every entry that replaces
--- them lies behind. So it is with goods in force, which nothing replaces.
+-- The goods of entry n are in force, or the reply of an entry from some number on may bring them:
+-- every entry that replaces them lies behind that number.
 abbrev pub IsKeptFrom : History → Option ℕ → ℕ → Type 0
 IsKeptFrom h from n = (m : ℕ) → Replaces h n m → LiesBehind from m

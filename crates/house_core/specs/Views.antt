@@ -24,8 +24,10 @@ entry_deed (kept.Sale piece cert secret stock) = entries.sale stock piece.id
 entry_deed (kept.Credit balance) = entries.credit balance
 entry_deed (kept.Draw piece cert secret) = entries.sale false piece.id
 
+-- an offer, as the ledger has it
 abbrev pub offer_of : Offer → ledger.Offer
 offer_of o = record { price = o.price; deed = entry_deed o.deed }
 
+-- what a reply brings, without where its bytes lie in memory
 abbrev pub contents_of : Body → Contents
 contents_of b = record { kind = b.kind; bytes = b.bytes.now }

@@ -8,7 +8,7 @@ ghost use Rattle.ledger_model.specs.Answer as answers;
 ghost use Rattle.ledger_model.specs.Replies.{brought, price_asked};
 ghost use Rattle.ledger_model.specs.Slow.{told};
 ghost use Rattle.house_core.specs.Views.{kind_number, entry_deed, offer_of, contents_of};
-ghost use Rattle.house_core.specs.Trade.{draw_asked, brought_by, IsHeld, IsKeptFrom};
+ghost use Rattle.house_core.specs.Trade.{draw_asked, brought_by, OfGoods, IsInForce, IsKeptFrom};
 ghost use Rattle.house_core.specs.Learning.{ByTrade, MayLearn, IsGoods};
 
 use crate::offer::{Body, DrawAsk, Offer, SiteKind, Unlawful};
@@ -54,10 +54,11 @@ pub trait Trade: Drop {
         // The price and the deed of the entry, or the refusal, are the ledger's.
         ensures offer { (h : History) → stands self.now h → site_kind h ≡ Some (site self.now)
             → told offer_of result ≡ answers.offer h time limits target.now value }
-        // What the deed names is what the entry brings.
+        // What the kept deed names is what the entry's deed brings, and what is in force.
         ensures brings { (h : History) → stands self.now h → site_kind h ≡ Some (site self.now)
-            → IfOk result (λ o. brought_by h o.deed ≡ brought h target.now (entry_deed o.deed)) }
-        ensures held { IfOk result (λ o. IsHeld (holds self.now) o.deed) };
+            → IfOk result (λ o. brought_by h o.deed ≡ Some (brought h target.now (entry_deed o.deed))) }
+        ensures in_force { (h : History) → stands self.now h → site_kind h ≡ Some (site self.now) → IfOk result (λ o. OfGoods (IsInForce h) o.deed) }
+        ensures held { IfOk result (λ o. OfGoods (holds self.now) o.deed) };
 
     /// The draw that a target asks for, with what is known of its account; None where it asks for none.
     fn draw(&self, target: &[u8]) -> Option<DrawAsk>
@@ -84,11 +85,11 @@ pub trait Trade: Drop {
             → MayLearn limits (site self.old) number h (entry r.now) → IsOk result ↔ ByTrade passes (site self.old) h (entry r.now) }
         ensures same { OnErr result ((h : History) → stands self.old h → stands self.new h) };
 
-    /// What a reply with this deed brings, where the trade holds what the deed names. `room` is for
-    /// contents that are made of the deed itself.
+    /// What a reply with this deed brings, where the trade holds the goods that the deed names. `room` is
+    /// for contents that are made of the deed itself.
     fn body<'a>(&'a self, deed: &Deed, room: &'a mut [u8; 512]) -> Body<'a>
         ensures { (h : History) → stands self.now h → site_kind h ≡ Some (site self.now)
-            → IsHeld (holds self.now) deed.now → contents_of result ≡ brought_by h deed.now };
+            → OfGoods (holds self.now) deed.now → brought_by h deed.now ≡ Some (contents_of result) };
 
     /// Lets contents go that no reply of an entry from this number on brings, and that are not in force.
     /// With None no reply is kept.

@@ -1,6 +1,7 @@
 -- What a shelf stands for at one more entry, and what it answers.
 use Rattle.std.proofs.Common.{◌≡◌, ℕ, ◌+◌, ◌-◌, ◌≤◌, true, false, List, [], ◌∷◌, ◌++◌, length, map, filter, filter_map, find, Option, Some, None, option_map, unwrap_or, is_some, IsNone, refl, sym, ap, subst, ◌∙◌, All, slice_get, arith, append-nil}
-use Rattle.std.specs.Prelude.{bytes_eq, ◌==◌}
+use Rattle.std.specs.Prelude.{bytes_eq, ◌==◌, option_and_then}
+use Rattle.house_core.specs.Trade.{contents_in, IsInForce}
 use Rattle.std.specs.Global.{Vec}
 use Rattle.std.specs.List.{list_any}
 use Rattle.std.proofs.lemmas.Bool.{false≢true, eqb-true, eq-eqb}
@@ -12,7 +13,7 @@ use Rattle.ledger_model.specs.Histories.{History}
 use Rattle.ledger_model.specs.Houses.{terms_of, all_terms, terms_in}
 use Rattle.ledger_model.specs.Goods.{goods_in, in_force}
 use Rattle.ledger_model.specs.Pieces.{reference_of, has_reference}
-use Rattle.ledger_model.specs.Replies.{no_contents, goods_brought, brought}
+use Rattle.ledger_model.specs.Replies.{Contents, no_contents, goods_brought, brought}
 use Rattle.ledger_model.specs.Slow.{bytes_in}
 use Rattle.vendor_core.specs.declared.ware.Article.{Article}
 use Rattle.vendor_core.specs.declared.ware.Ware.{Ware}
@@ -20,7 +21,7 @@ use Rattle.vendor_core.specs.Wares.{goods_entry, bytes_of_ware, Sold, sold_by_en
 use Rattle.vendor_core.specs.Shelf.{Shows, HasNumber}
 use Rattle.vendor_core.proofs.ListLemmas.{find_all, find_any, found_any, find_passes, any_map}
 use Rattle.vendor_core.proofs.GoodsLaws.{IsQuiet, bytes_of, in_force_quiet, in_force_goods, in_force_most}
-use Rattle.vendor_core.proofs.WareLaws.{wares_with, wares_quiet, wares_goods, sells_quiet, sells_goods, sells_needed}
+use Rattle.vendor_core.proofs.WareLaws.{on_sale_in_force, wares_with, wares_quiet, wares_goods, sells_quiet, sells_goods, sells_needed}
 
 -- ---- one more entry
 
@@ -86,23 +87,34 @@ sold_brings : (o : Option Entry) (s : Sold) → option_map sold_by_entry o ≡ S
 sold_brings None s e = absurd cc
 sold_brings (Some x) s e = let same : sold_by_entry x ≡ s = cc in ap (λ (y : Sold). y.brings) same
 
+abbrev some_contents : Contents → Option Contents
+some_contents c = Some c
+
+-- what the goods of a ware bring
+ware_brings : (h : History) (w : Ware) → IsWareOf h w → option_and_then contents_in (slice_get h w.number) ≡ Some (sold_by w).brings
+ware_brings h w of = ap (option_and_then contents_in) of.entry
+
 -- what the ware on sale at a target names is what its goods bring
 pub sold_is_brought : (wares : List Ware) (issuers : List ℕ) (references : List (Vec ℕ)) (bytes : ℕ) (h : History) (target : List ℕ) (w : Ware) → Shows wares issuers references bytes h → find (is_on_sale target) wares ≡ Some w
-    → unwrap_or (option_map goods_brought (slice_get h w.number)) no_contents ≡ brought h target goods_deed
+    → option_and_then contents_in (slice_get h w.number) ≡ Some (brought h target goods_deed)
 sold_is_brought wares issuers references bytes h target w s found =
-    let of : IsWareOf h w = find_all (IsWareOf h) (is_on_sale target) wares w s.of_entries found in
-    ap (λ (o : Option Entry). unwrap_or (option_map goods_brought o) no_contents) of.entry ∙ sym (sold_brings (goods_in h target) (sold_by w) (s.on_sale target ∙ ap (option_map sold_by) found))
+    ware_brings h w (find_all (IsWareOf h) (is_on_sale target) wares w s.of_entries found)
+    ∙ ap some_contents (sym (sold_brings (goods_in h target) (sold_by w) (s.on_sale target ∙ ap (option_map sold_by) found)))
+
+-- and it is in force
+pub sold_is_in_force : (wares : List Ware) (issuers : List ℕ) (references : List (Vec ℕ)) (bytes : ℕ) (h : History) (target : List ℕ) (w : Ware) → Shows wares issuers references bytes h → find (is_on_sale target) wares ≡ Some w
+    → IsInForce h w.number
+sold_is_in_force wares issuers references bytes h target w s found = on_sale_in_force h target w (find_all (IsWareOf h) (is_on_sale target) wares w s.of_entries found) (find_passes (is_on_sale target) wares w found)
 
 pub sold_is_held : (wares : List Ware) (target : List ℕ) (w : Ware) → find (is_on_sale target) wares ≡ Some w → HasNumber wares w.number
 sold_is_held wares target w found = found_any (is_on_sale target) (λ v. v.number == w.number) wares w found (eq-eqb w.number w.number refl)
 
 -- what the ware of a number brings
 pub ware_is_brought : (wares : List Ware) (issuers : List ℕ) (references : List (Vec ℕ)) (bytes : ℕ) (h : History) (number : ℕ) (w : Ware) → Shows wares issuers references bytes h → find (λ v. v.number == number) wares ≡ Some w
-    → (sold_by w).brings ≡ unwrap_or (option_map goods_brought (slice_get h number)) no_contents
+    → option_and_then contents_in (slice_get h number) ≡ Some (sold_by w).brings
 ware_is_brought wares issuers references bytes h number w s found =
-    let of : IsWareOf h w = find_all (IsWareOf h) (λ v. v.number == number) wares w s.of_entries found in
     let same : w.number ≡ number = eqb-true w.number number (find_passes (λ v. v.number == number) wares w found) in
-    ap (λ (o : Option Entry). unwrap_or (option_map goods_brought o) no_contents) (sym of.entry) ∙ ap (λ (n : ℕ). unwrap_or (option_map goods_brought (slice_get h n)) no_contents) same
+    ap (λ (n : ℕ). option_and_then contents_in (slice_get h n)) (sym same) ∙ ware_brings h w (find_all (IsWareOf h) (λ v. v.number == number) wares w s.of_entries found)
 
 pub none_is_held : (wares : List Ware) (number : ℕ) → find (λ v. v.number == number) wares ≡ None → HasNumber wares number → ⊥
 none_is_held wares number none has = false≢true (ap is_some (sym none) ∙ find_any (λ v. v.number == number) wares ∙ has)

@@ -11,7 +11,7 @@ use Rattle.std.proofs.lemmas.List.Elements.{All-weaker, All-push, All-map, All-h
 use Rattle.mc_records.specs.Entry.{Entry, Goods}
 use Rattle.ledger_model.specs.Histories.{History}
 use Rattle.ledger_model.specs.Goods.{is_goods_of, goods_in}
-use Rattle.house_core.specs.Trade.{Replaces, LiesBehind, IsKeptFrom}
+use Rattle.house_core.specs.Trade.{Replaces, IsInForce, LiesBehind, IsKeptFrom}
 use Rattle.vendor_core.specs.declared.ware.Article.{Article}
 use Rattle.vendor_core.specs.declared.ware.Ware.{Ware}
 use Rattle.vendor_core.specs.Wares.{goods_entry, Sold, sold_by_entry, sold_by, is_on_sale, taken_off, may_be_brought, is_needed, IsReplacement, IsWareOf}
@@ -254,6 +254,9 @@ has_new wares number a =
     (or_left (number == number) false (eq-eqb number number refl))
 
 -- ---- what is needed
+
+pub on_sale_in_force : (h : History) (target : List ℕ) (w : Ware) → IsWareOf h w → is_on_sale target w ≡ true → IsInForce h w.number
+on_sale_in_force h target w of on = subst (IsReplacement h w.number) (on_sale_is w.replaced (bytes_eq w.article.target.items target) on).0 of.replaced
 
 on_sale_needed : (from : Option ℕ) (target : List ℕ) (w : Ware) → is_on_sale target w ≡ true → is_needed from w ≡ true
 on_sale_needed from target w on = ap (may_be_brought from) (on_sale_is w.replaced (bytes_eq w.article.target.items target) on).0

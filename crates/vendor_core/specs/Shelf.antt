@@ -21,6 +21,7 @@ pub record Shows (wares : List Ware) (issuers : List ℕ) (references : List (Ve
   pub all_references : filter_map reference_of h ≡ map (λ r. r.items) references
   pub in_force : goods.in_force h ≡ bytes
 
+-- a shelf stands for a history
 abbrev pub Stands : Shelf → History → Type 0
 Stands s h = Shows s.wares.items s.issuers.items s.references.items s.in_force h
 
@@ -28,6 +29,7 @@ Stands s h = Shows s.wares.items s.issuers.items s.references.items s.in_force h
 abbrev pub HasNumber : List Ware → ℕ → Type 0
 HasNumber wares number = IsTrue (list_any (λ w. w.number == number) wares)
 
+-- a shelf has the contents of the Goods entry of this number
 abbrev pub Holds : Shelf → ℕ → Type 0
 Holds s number = HasNumber s.wares.items number
 

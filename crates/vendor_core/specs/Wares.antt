@@ -4,7 +4,7 @@ use Rattle.mc_records.specs.Entry.{Entry, Goods}
 use Rattle.ledger_model.specs.Histories.{History}
 use Rattle.ledger_model.specs.Goods.{goods_price}
 use Rattle.ledger_model.specs.Replies.{Contents, goods_brought}
-use Rattle.house_core.specs.Trade.{Replaces}
+use Rattle.house_core.specs.Trade.{Replaces, IsInForce}
 use Rattle.vendor_core.specs.declared.ware.Article.{Article}
 use Rattle.vendor_core.specs.declared.ware.Ware.{Ware}
 
@@ -17,9 +17,11 @@ pub record Sold : Type 0 where
   pub price : ℕ
   pub brings : Contents
 
+-- what a Goods entry sells
 abbrev pub sold_by_entry : Entry → Sold
 sold_by_entry e = record { price = goods_price e; brings = goods_brought e }
 
+-- what a ware sells
 abbrev pub sold_by : Ware → Sold
 sold_by w = record { price = w.article.price; brings = record { kind = w.article.kind; bytes = w.article.contents.items } }
 
@@ -36,18 +38,20 @@ bytes_of_ware (Some w) = length w.article.contents.items
 abbrev pub taken_off : List ℕ → ℕ → Ware → Ware
 taken_off target number w = if is_on_sale target w then record w { replaced = Some number } else w
 
--- whether goods that were replaced by some entry, or by none, are needed by replies from a number on
+-- Whether goods are needed: those that nothing replaced, and those that the reply of an entry from a
+-- number on may bring, since they were replaced behind it.
 abbrev pub may_be_brought : Option ℕ → Option ℕ → Bool
 may_be_brought from None = true
 may_be_brought None (Some m) = false
 may_be_brought (Some from) (Some m) = nat_lt from m
 
+-- whether a ware is needed
 abbrev pub is_needed : Option ℕ → Ware → Bool
 is_needed from w = may_be_brought from w.replaced
 
 -- the number of the first entry that replaces the goods of entry n, or None where none does
 abbrev pub IsReplacement : History → ℕ → Option ℕ → Type 0
-IsReplacement h n None = (m : ℕ) → Replaces h n m → ⊥
+IsReplacement h n None = IsInForce h n
 IsReplacement h n (Some m) = Replaces h n m × ((k : ℕ) → Replaces h n k → m ≤ k)
 
 -- a ware is of the Goods entry of its number

@@ -17,7 +17,8 @@ use std::alloc::Global;
 const MOST_IN_FORCE: u64 = 1 << 26;
 
 /// The trade of a vendor: its goods by their targets, the issuers whose scrip it takes, and the
-/// references of its mints.
+/// references of its mints. It owns the contents of its goods. Those that were replaced stay until
+/// `forget` lets them go.
 #[derive(Drop)]
 pub struct Shelf {
     wares: Vec<Ware>,
