@@ -1,0 +1,84 @@
+-- What one call of `next_record` does, from its steps.
+use Rattle.std.proofs.Common.{◌≡◌, ℕ, ◌+◌, List, [], ◌∷◌, ◌++◌, drop, Option, Some, None, Result, Ok, Err, refl, sym, ◌∙◌, ap, subst, arith}
+use Rattle.mc_outside.specs.DiskView.{DiskView}
+use Rattle.mc_records.specs.Entry.{Entry, Fits, payload}
+use Rattle.scrip_journal.specs.Layout.{body, next_of}
+use Rattle.scrip_journal.specs.States.{Reading, IsReading, EndedBy}
+use Rattle.scrip_journal.specs.Answers.{Given, answer_of}
+use Rattle.scrip_journal.specs.Replays.{ReadAhead, FaultsBy, CausedBy, IsFrame, EndsHere, TookEntry, ReadsOn, Advanced, ending_of}
+use Rattle.scrip_journal.specs.declared.ending.Ending.{Ending}
+use Rattle.scrip_journal.specs.declared.ending.Ending.TheVariants.{Closed, Spoiled, Failed}
+use Rattle.scrip_journal.proofs.Reading.{gate_place, behind_gate, of_disk, still_reading, ended_reading, next_reading, stands_here, spoiled_here}
+
+pub none_of : {A : Type 0} (o : Option A) → ((x : A) → o ≡ Some x → ⊥) → o ≡ None
+none_of None not = refl
+none_of (Some x) not = absurd (not x refl)
+
+-- the payload read last says nothing of what is read
+abbrev pub relast : {D : Type 0} (view : D → DiskView) (a : Reading D) (h : List Entry) (last : List ℕ) → IsReading view a h → IsReading view (record a { last = last }) h
+relast view a h last r = record {
+  bytes = r.bytes;
+  told = r.told;
+  fits = r.fits;
+  most = r.most;
+  rest = r.rest;
+  shape = r.shape;
+  gate_is = r.gate_is;
+  entries_is = r.entries_is;
+  held_is = r.held_is;
+  ended_by = r.ended_by;
+  synced = r.synced;
+}
+
+module _ {D : Type 0} (view : D → DiskView) (moved : D → D → Type 0) (old b : Reading D) (last : List ℕ) (on : old.ended ≡ None) (goes : moved old.disk b.disk) (ahead : ReadAhead view (record old { last = last }) b) where
+  not_again : (given : Given) (new : Reading D) (e : Ending) → old.ended ≡ Some e → (given ≡ answer_of e) × (new ≡ old)
+  not_again given new e is = absurd (cc (sym on ∙ is))
+
+  pub advanced_on : (n gate : ℕ) (new : Reading D) → (view b.disk).faults ≡ (view old.disk).faults → IsFrame n b.gate b.held → TookEntry b n gate new → Advanced view moved old (Ok (Some gate)) new
+  advanced_on n gate new faults frame took = subst (λ (v : Reading D). Advanced view moved old (Ok (Some gate)) v) (sym took.2) (record {
+    disk_moved = goes;
+    only_read = ahead.only_read;
+    again = not_again (Ok (Some gate)) _;
+    ended = ahead.same.ended ∙ on;
+    limit = ahead.same.limit;
+    cause = λ _. faults;
+    reads = λ h r.
+        (took.0 ∙ ahead.same.gate, frame.next, frame.fits, took.1 frame, next_reading view b h (still_reading view (record old { last = last }) h (relast view old h last r) b ahead) _ n frame (ahead.same.ended ∙ on) refl);
+  })
+
+  -- what a reading that ended answers
+  reads_no_more : (e : Ending) → EndsHere view (record old { last = last }) e → (h : List Entry) (r : IsReading view old h) → ReadsOn view h r.bytes old.gate (answer_of e) (record b { ended = Some e })
+  reads_no_more e ends h r =
+      let before = relast view old h last r in
+      let still = still_reading view (record old { last = last }) h before b ahead in
+      let by = ends h r.bytes r.told (gate_place view (record old { last = last }) h before) (of_disk view (record old { last = last }) h before) in
+      let now : IsReading view (record b { ended = Some e }) h = ended_reading view b h still (record b { ended = Some e }) e refl (subst (λ (k : ℕ). EndedBy (Some e) (next_of h (drop k r.bytes))) (sym ahead.same.gate) by) in
+      go e (subst (λ (l : List ℕ). EndedBy (Some e) (next_of h l)) (behind_gate view (record old { last = last }) h before) by) now
+    where
+      go : (f : Ending) → EndedBy (Some f) (next_of h r.rest) → IsReading view (record b { ended = Some f }) h → ReadsOn view h r.bytes old.gate (answer_of f) (record b { ended = Some f })
+      go Closed by now = (stands_here view old h r by, now)
+      go (Spoiled place) by now = (spoiled_here view old h r place by, now)
+      go Failed by now = now
+
+  caused : (e : Ending) → FaultsBy {X = ℕ} (Err e) (view old.disk).faults (view b.disk).faults → CausedBy (answer_of e) (view old.disk).faults (view b.disk).faults
+  caused Closed f = f
+  caused (Spoiled place) f = f
+  caused Failed f = f
+
+  ended_so : (e : Ending) → Some e ≡ ending_of (answer_of e)
+  ended_so Closed = refl
+  ended_so (Spoiled place) = refl
+  ended_so Failed = refl
+
+  pub advanced_to_end : (e : Ending) (given : Given) (new : Reading D) → FaultsBy {X = ℕ} (Err e) (view old.disk).faults (view b.disk).faults → EndsHere view (record old { last = last }) e
+      → given ≡ answer_of e → new ≡ record b { ended = Some e } → Advanced view moved old given new
+  advanced_to_end e given new faults ends given_is new_is =
+      subst (λ (g : Given). Advanced view moved old g new) (sym given_is) (subst (λ (v : Reading D). Advanced view moved old (answer_of e) v) (sym new_is) (record {
+        disk_moved = goes;
+        only_read = ahead.only_read;
+        again = not_again (answer_of e) _;
+        ended = ended_so e;
+        limit = ahead.same.limit;
+        cause = λ _. caused e faults;
+        reads = reads_no_more e ends;
+      }))

@@ -1,0 +1,12 @@
+pub mod Bytes
+pub mod Bodies
+pub mod Steps
+pub mod Founding
+pub mod Nexts
+pub mod Unique
+pub mod Windows
+pub mod Looking
+pub mod Reading
+pub mod Pieces
+pub mod Advancing
+pub mod Heading

@@ -1,0 +1,144 @@
+-- How a reading ends at a gate, and what is held where it goes on.
+use Rattle.std.proofs.Common.{◌≡◌, ◌≢◌, ◌⊎◌, inl, inr, ⊎_elim, ℕ, ◌+◌, ◌^◌, ◌≤◌, ◌<◌, List, [], ◌∷◌, ◌++◌, length, take, drop, Some, Result, Ok, Err, refl, sym, ◌∙◌, ap, subst, arith, append_assoc, length-append}
+use Rattle.std.specs.Int.{to_be_bytes, from_be_bytes, w32}
+use Rattle.std.proofs.lemmas.List.{take-append-le, drop-append-le, take-append-drop, length-drop, length-take}
+use Rattle.std.proofs.lemmas.Bool.{cases_lt}
+use Rattle.mc_outside.specs.Bytes.{BeginsWith}
+use Rattle.mc_outside.specs.DiskView.{DiskView}
+use Rattle.mc_outside.proofs.Runs.{read_then}
+use Rattle.mc_records.specs.Entry.{Entry, Fits, payload}
+use Rattle.mc_records.specs.Forms.{entry_of}
+use Rattle.mc_records.proofs.PayloadSizes.{payload_is_short}
+use Rattle.scrip_journal.specs.Layout.{body, at_end, spoiled, next_of}
+use Rattle.scrip_journal.specs.States.{Reading, EndedBy}
+use Rattle.scrip_journal.specs.Replays.{SameBut, HeldOf, ReadAhead, IsCut, AllHeld, IsFrame, EndsHere}
+use Rattle.scrip_journal.specs.declared.ending.Ending.{Ending}
+use Rattle.scrip_journal.specs.declared.ending.Ending.TheVariants.{Closed, Spoiled, Failed}
+use Rattle.scrip_journal.proofs.Nexts.{nothing_there, closed_there, length_cut, long_there, far_there, payload_cut, payload_there}
+
+begins_then : (a b c : List ℕ) → BeginsWith a b → BeginsWith b c → BeginsWith a c
+begins_then a b c x y = (x.0 ++ y.0, y.1 ∙ ap (λ (l : List ℕ). l ++ y.0) x.1 ∙ append_assoc a x.0 y.0)
+
+-- ---- reading ahead, again and again
+
+pub ahead_then : {D : Type 0} (view : D → DiskView) (a b c : Reading D) → ReadAhead view a b → ReadAhead view b c → ReadAhead view a c
+ahead_then view a b c x y = record {
+  same = record { gate = y.same.gate ∙ x.same.gate; entries = y.same.entries ∙ x.same.entries; limit = y.same.limit ∙ x.same.limit; ended = y.same.ended ∙ x.same.ended };
+  only_read = read_then (view a.disk) (view b.disk) (view c.disk) x.only_read y.only_read;
+  more = begins_then a.held b.held c.held x.more y.more;
+  held = λ bytes told of. y.held bytes (x.only_read.contents ∙ told) (x.held bytes told of);
+}
+
+-- all that is held in the end is held of what was told first
+pub all_then : {D : Type 0} (view : D → DiskView) (a b c : Reading D) → ReadAhead view a b → AllHeld view b c → AllHeld view a c
+all_then view a b c x all bytes told of = all bytes (x.only_read.contents ∙ told) (x.held bytes told of)
+
+pub cut_then : {D : Type 0} (view : D → DiskView) (a b c : Reading D) (count : ℕ) (e : Ending) → ReadAhead view a b → IsCut view b c count e → IsCut view a c count e
+cut_then view a b c count Closed x cut = cut
+cut_then view a b c count (Spoiled place) x cut = (cut.0, cut.1, all_then view a b c x cut.2)
+cut_then view a b c count Failed x cut = cut
+
+-- ---- the ends
+
+module _ {D : Type 0} (view : D → DiskView) (a b : Reading D) (ahead : ReadAhead view a b) where
+  -- what is held now begins what comes at the gate of before
+  now_held : (bytes : List ℕ) → (view a.disk).contents ≡ Some bytes → HeldOf bytes a → BeginsWith b.held (drop a.gate bytes)
+  now_held bytes told of = subst (λ (g : ℕ). BeginsWith b.held (drop g bytes)) ahead.same.gate (ahead.held bytes told of)
+
+  all_now : AllHeld view a b → (bytes : List ℕ) → (view a.disk).contents ≡ Some bytes → HeldOf bytes a → drop a.gate bytes ≡ b.held
+  all_now all bytes told of = ap (λ (g : ℕ). drop g bytes) (sym ahead.same.gate) ∙ all bytes told of
+
+  -- the disk ends at the gate
+  pub ends_at_gate : (e : Ending) → IsCut view a b 1 e → EndsHere view a e
+  ends_at_gate Closed cut h bytes told gate of = absurd cut
+  ends_at_gate Failed cut h bytes told gate of = tt
+  ends_at_gate (Spoiled place) cut h bytes told gate of = go b.held (cut.0) (all_now cut.2 bytes told of) (cut.1) where
+    go : (held : List ℕ) → length held < 1 → drop a.gate bytes ≡ held → place ≡ b.gate + length held → next_of h (drop a.gate bytes) ≡ spoiled place
+    go [] few is place_is = ap (next_of h) is ∙ nothing_there h a.gate gate ∙ ap spoiled (omega (arith, place_is, ahead.same.gate))
+    go (x ∷ xs) few is place_is = absurd (omega (arith, few))
+
+  -- the gate is closed
+  pub ends_closed : (byte : ℕ) → BeginsWith (byte ∷ []) b.held → byte ≢ 1 → EndsHere view a Closed
+  ends_closed byte begins shut h bytes told gate of =
+      let front = begins_then (byte ∷ []) b.held (drop a.gate bytes) begins (now_held bytes told of) in
+      ap (next_of h) front.1 ∙ closed_there h a.gate gate byte front.0 shut
+
+  -- the disk ends in the length
+  pub ends_in_length : (e : Ending) → BeginsWith (1 ∷ []) b.held → IsCut view a b 5 e → EndsHere view a e
+  ends_in_length Closed begins cut h bytes told gate of = absurd cut
+  ends_in_length Failed begins cut h bytes told gate of = tt
+  ends_in_length (Spoiled place) begins cut h bytes told gate of =
+      let is : drop a.gate bytes ≡ 1 ∷ begins.0 = all_now cut.2 bytes told of ∙ begins.1 in
+      let long : length b.held ≡ 1 + length begins.0 = omega (arith, ap (λ (l : List ℕ). length l) begins.1) in
+      ap (next_of h) is ∙ length_cut h a.gate gate begins.0 (omega (arith, cut.0, long)) ∙ ap spoiled (omega (arith, cut.1, long, ahead.same.gate))
+
+  -- behind a whole length
+  module _ (begins : BeginsWith (1 ∷ []) b.held) (five : 5 ≤ length b.held) (n : ℕ) (n_is : from_be_bytes w32 (take 4 (drop 1 b.held)) ≡ n) where
+    -- what comes at the gate begins with an open gate and this length
+    pub opened : (bytes : List ℕ) → (view a.disk).contents ≡ Some bytes → HeldOf bytes a → (rest : List ℕ) × (drop a.gate bytes ≡ 1 ∷ rest) × (from_be_bytes w32 (take 4 rest) ≡ n) × (4 ≤ length rest)
+    opened bytes told of =
+        let all = now_held bytes told of in
+        let rest : List ℕ = begins.0 ++ all.0 in
+        let is : drop a.gate bytes ≡ 1 ∷ rest = all.1 ∙ ap (λ (l : List ℕ). l ++ all.0) begins.1 in
+        let four : 4 ≤ length begins.0 = omega (arith, five, ap (λ (l : List ℕ). length l) begins.1) in
+        let front : take 4 rest ≡ take 4 begins.0 = take-append-le 4 begins.0 all.0 four in
+        (rest, is, ap (λ (l : List ℕ). from_be_bytes w32 l) (front ∙ ap (λ (l : List ℕ). take 4 (drop 1 l)) (sym begins.1)) ∙ n_is, omega (arith, four, length-append begins.0 all.0))
+
+    -- the length may not stand
+    pub ends_at_length : (131066 ≤ n) ⊎ (2 ^ 40 < a.gate + n + 6) → EndsHere view a (Spoiled (a.gate + 1))
+    ends_at_length which h bytes told gate of =
+        let o = opened bytes told of in
+        let long : 131066 ≤ n → next_of h (1 ∷ o.0) ≡ spoiled (a.gate + 1) = λ l. long_there h a.gate gate n o.0 o.2 o.3 l in
+        ap (next_of h) o.1 ∙ ⊎_elim long (λ far. ⊎_elim (λ short. far_there h a.gate gate n o.0 o.2 o.3 short far) long (cases_lt n 131066)) which
+
+    -- the disk ends in the payload
+    pub ends_in_payload : n < 131066 → a.gate + n + 6 ≤ 2 ^ 40 → (e : Ending) → IsCut view a b (n + 5) e → EndsHere view a e
+    ends_in_payload short near Closed cut h bytes told gate of = absurd cut
+    ends_in_payload short near Failed cut h bytes told gate of = tt
+    ends_in_payload short near (Spoiled place) cut h bytes told gate of =
+        let is : drop a.gate bytes ≡ 1 ∷ begins.0 = all_now cut.2 bytes told of ∙ begins.1 in
+        let long : length b.held ≡ 1 + length begins.0 = omega (arith, ap (λ (l : List ℕ). length l) begins.1) in
+        let front : from_be_bytes w32 (take 4 begins.0) ≡ n = ap (λ (l : List ℕ). from_be_bytes w32 (take 4 (drop 1 l))) (sym begins.1) ∙ n_is in
+        ap (next_of h) is ∙ payload_cut h a.gate gate n begins.0 front (omega (arith, five, long)) short near (omega (arith, length-drop 4 begins.0, cut.0, long))
+        ∙ ap spoiled (omega (arith, cut.1, long, five, length-drop 4 begins.0, ahead.same.gate))
+
+    -- the payload is malformed
+    pub ends_at_fault : n < 131066 → a.gate + n + 6 ≤ 2 ^ 40 → n + 5 ≤ length b.held → (fault : ℕ) → entry_of (take n (drop 5 b.held)) ≡ Err fault → EndsHere view a (Spoiled (a.gate + 5 + fault))
+    ends_at_fault short near whole fault read h bytes told gate of =
+        let all = now_held bytes told of in
+        let o = opened bytes told of in
+        let long : length b.held ≡ 1 + length begins.0 = omega (arith, ap (λ (l : List ℕ). length l) begins.1) in
+        let rest_is : o.0 ≡ begins.0 ++ all.0 = ap (λ (l : List ℕ). drop 1 l) (sym o.1 ∙ all.1 ∙ ap (λ (l : List ℕ). l ++ all.0) begins.1) in
+        let back : drop 4 o.0 ≡ drop 4 begins.0 ++ all.0 = ap (λ (l : List ℕ). drop 4 l) rest_is ∙ drop-append-le 4 begins.0 all.0 (omega (arith, five, long)) in
+        let part : take n (drop 4 o.0) ≡ take n (drop 5 b.held) =
+        ap (λ (l : List ℕ). take n l) back ∙ take-append-le n (drop 4 begins.0) all.0 (omega (arith, whole, long, length-drop 4 begins.0)) ∙ ap (λ (l : List ℕ). take n (drop 5 l)) (sym begins.1) in
+        ap (next_of h) o.1 ∙ payload_there h a.gate gate n o.0 o.2 o.3 short near (omega (arith, ap (λ (l : List ℕ). length l) back, length-append (drop 4 begins.0) all.0, whole, long, length-drop 4 begins.0)) (Err fault) (ap entry_of part ∙ read)
+
+    -- the entry is there
+    pub framed_here : b.gate + n + 6 ≤ 2 ^ 40 → n + 5 ≤ length b.held → take 4 (drop 1 b.held) ≡ to_be_bytes w32 n → (e : Entry) → Fits e → take n (drop 5 b.held) ≡ payload e → IsFrame n b.gate b.held
+    framed_here near whole spelled e fits payload_is =
+        let long : length b.held ≡ 1 + length begins.0 = omega (arith, ap (λ (l : List ℕ). length l) begins.1) in
+        let front : take 4 begins.0 ≡ to_be_bytes w32 n = ap (λ (l : List ℕ). take 4 (drop 1 l)) (sym begins.1) ∙ spelled in
+        let middle : take n (drop 4 begins.0) ≡ payload e = ap (λ (l : List ℕ). take n (drop 5 l)) (sym begins.1) ∙ payload_is in
+        let rest : List ℕ = drop n (drop 4 begins.0) in
+        let parts : begins.0 ≡ to_be_bytes w32 n ++ (payload e ++ rest) =
+        sym (take-append-drop 4 begins.0) ∙ ap (λ (l : List ℕ). l ++ drop 4 begins.0) front ∙ ap (λ (l : List ℕ). to_be_bytes w32 n ++ l) (sym (take-append-drop n (drop 4 begins.0)) ∙ ap (λ (l : List ℕ). l ++ rest) middle) in
+        record {
+          next = e;
+          fits = fits;
+          length_is = omega (arith, ap (λ (l : List ℕ). length l) middle, length-take n (drop 4 begins.0), length-drop 4 begins.0, whole, long);
+          rest = rest;
+          shape = begins.1 ∙ ap (λ (l : List ℕ). 1 ∷ l) parts;
+          within = near;
+        }
+
+-- what was known of the length is known still
+pub length_stays : (old new : List ℕ) → BeginsWith old new → 5 ≤ length old → take 4 (drop 1 new) ≡ take 4 (drop 1 old)
+length_stays [] new b five = absurd (omega (arith, five))
+length_stays (x ∷ old) new b five = ap (λ (l : List ℕ). take 4 (drop 1 l)) b.1 ∙ take-append-le 4 old b.0 (omega (arith, five))
+
+pub begins_still : (front old new : List ℕ) → BeginsWith front old → BeginsWith old new → BeginsWith front new
+begins_still front old new x y = begins_then front old new x y
+
+pub longer : (old new : List ℕ) → BeginsWith old new → (n : ℕ) → n ≤ length old → n ≤ length new
+longer old new b n le = omega (arith, ap (λ (l : List ℕ). length l) b.1, length-append old b.0, le)

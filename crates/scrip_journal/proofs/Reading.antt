@@ -1,0 +1,110 @@
+-- How a journal is read on.
+use Rattle.std.proofs.Common.{◌≡◌, ◌≢◌, ℕ, ◌+◌, ◌^◌, ◌≤◌, List, [], ◌∷◌, ◌++◌, length, take, drop, Option, Some, None, refl, sym, ◌∙◌, ap, subst, arith, append_assoc, append-nil, length-append}
+use Rattle.std.specs.Int.{to_be_bytes, w32}
+use Rattle.std.proofs.lemmas.List.{drop_at}
+use Rattle.mc_outside.specs.Bytes.{BeginsWith}
+use Rattle.mc_outside.specs.DiskView.{DiskView}
+use Rattle.mc_records.specs.Entry.{Entry, Fits, payload}
+use Rattle.mc_records.specs.Sizes.{tail, entry_size, size}
+use Rattle.scrip_journal.specs.Layout.{body, framed, next_of, at_end, spoiled, Stands, Reads, IsSpoiled}
+use Rattle.scrip_journal.specs.States.{Reading, AtRest, IsReading, IsJournal, EndedBy}
+use Rattle.scrip_journal.specs.Replays.{SameBut, HeldOf, ReadAhead, IsFrame, EndsHere}
+use Rattle.scrip_journal.specs.declared.ending.Ending.{Ending}
+use Rattle.scrip_journal.specs.declared.ending.Ending.TheVariants.{Closed, Spoiled, Failed}
+use Rattle.scrip_journal.proofs.Bodies.{body_long, body_more, size_more, fits_more, framed_long}
+use Rattle.scrip_journal.proofs.Nexts.{at_end_is}
+
+-- a length and the payload of that length are the frame of an entry
+frame_is : (before : List Entry) (e : Entry) (m : ℕ) → length (payload e) ≡ m → 1 ∷ (to_be_bytes w32 m ++ payload e) ≡ 1 ∷ framed before e
+unfolding framed
+frame_is before e m is = ap (λ (k : ℕ). 1 ∷ (to_be_bytes w32 k ++ payload e)) (sym is) ∙ ap (λ (l : List ℕ). 1 ∷ (to_be_bytes w32 (length (payload e)) ++ l)) (sym (append-nil (payload e)))
+
+module _ {D : Type 0} (view : D → DiskView) (a : Reading D) (h : List Entry) (r : IsReading view a h) where
+  pub gate_place : a.gate ≡ length (body h)
+  gate_place = omega (arith, r.gate_is, body_long h)
+
+  pub behind_gate : drop a.gate r.bytes ≡ r.rest
+  behind_gate = ap (λ (l : List ℕ). drop a.gate l) r.shape ∙ drop_at (body h) r.rest a.gate (sym gate_place)
+
+  pub of_disk : HeldOf r.bytes a
+  of_disk = subst (BeginsWith a.held) (sym behind_gate) r.held_is
+
+  -- more was read ahead
+  abbrev pub still_reading : (b : Reading D) → ReadAhead view a b → IsReading view b h
+  still_reading b x = record {
+    bytes = r.bytes;
+    told = x.only_read.contents ∙ r.told;
+    fits = r.fits;
+    most = r.most;
+    rest = r.rest;
+    shape = r.shape;
+    gate_is = ap (λ (n : ℕ). n + 1) x.same.gate ∙ r.gate_is;
+    entries_is = x.same.entries ∙ r.entries_is;
+    held_is = subst (BeginsWith b.held) (ap (λ (g : ℕ). drop g r.bytes) x.same.gate ∙ behind_gate) (x.held r.bytes r.told of_disk);
+    ended_by = subst (λ (e : Option Ending). EndedBy e (next_of h r.rest)) (sym x.same.ended) r.ended_by;
+    synced = λ c l. r.synced c (x.only_read.leaves c l);
+  }
+
+  -- the reading ended
+  pub ended_reading : (b : Reading D) (e : Ending) → b ≡ record a { ended = Some e } → EndedBy (Some e) (next_of h (drop a.gate r.bytes)) → IsReading view b h
+  ended_reading b e is by = subst (λ (v : Reading D). IsReading view v h) (sym is) (record {
+    bytes = r.bytes;
+    told = r.told;
+    fits = r.fits;
+    most = r.most;
+    rest = r.rest;
+    shape = r.shape;
+    gate_is = r.gate_is;
+    entries_is = r.entries_is;
+    held_is = r.held_is;
+    ended_by = subst (λ (l : List ℕ). EndedBy (Some e) (next_of h l)) behind_gate by;
+    synced = r.synced;
+  })
+
+  -- the next entry was taken off
+  pub next_reading : (b : Reading D) (n : ℕ) (f : IsFrame n a.gate a.held) → a.ended ≡ None → b ≡ record a { gate = a.gate + n + 5; entries = a.entries + 1; held = drop (n + 5) a.held; last = b.last } → IsReading view b (h ++ f.next ∷ [])
+  next_reading b n f on is =
+      let more = r.held_is in
+      let bytes = to_be_bytes w32 n in
+      let front : List ℕ = 1 ∷ (bytes ++ payload f.next) in
+      let long : length front ≡ n + 5 = omega (arith, length-append bytes (payload f.next), f.length_is) in
+      let held : a.held ≡ front ++ f.rest = f.shape ∙ ap (λ (l : List ℕ). 1 ∷ l) (sym (append_assoc bytes (payload f.next) f.rest)) in
+      let rest : r.rest ≡ front ++ (f.rest ++ more.0) = more.1 ∙ ap (λ (l : List ℕ). l ++ more.0) held ∙ append_assoc front f.rest more.0 in
+      let frame : front ≡ 1 ∷ framed h f.next = frame_is h f.next n f.length_is in
+      let whole : r.bytes ≡ body (h ++ f.next ∷ []) ++ (f.rest ++ more.0) =
+      r.shape ∙ ap (λ (l : List ℕ). body h ++ l) (rest ∙ ap (λ (l : List ℕ). l ++ (f.rest ++ more.0)) frame)
+      ∙ sym (append_assoc (body h) (1 ∷ framed h f.next) (f.rest ++ more.0)) ∙ ap (λ (l : List ℕ). l ++ (f.rest ++ more.0)) (sym (body_more h f.next)) in
+      let grown : size (h ++ f.next ∷ []) ≡ size h + (n + 5) = omega (arith, size_more h f.next, f.length_is) in
+      subst (λ (v : Reading D). IsReading view v (h ++ f.next ∷ [])) (sym is) (record {
+        bytes = r.bytes;
+        told = r.told;
+        fits = fits_more h f.next r.fits f.fits;
+        most = omega (arith, grown, f.within, r.gate_is);
+        rest = f.rest ++ more.0;
+        shape = whole;
+        gate_is = omega (arith, grown, r.gate_is);
+        entries_is = omega (arith, r.entries_is, length-append h (f.next ∷ []));
+        held_is = (more.0, ap (λ (l : List ℕ). l ++ more.0) (sym (ap (λ (l : List ℕ). drop (n + 5) l) held ∙ drop_at front f.rest (n + 5) long)));
+        ended_by = subst (λ (e : Option Ending). EndedBy e (next_of (h ++ f.next ∷ []) (f.rest ++ more.0))) (sym on) tt;
+        synced = r.synced;
+      })
+
+  -- at a closed gate
+  pub stands_here : next_of h r.rest ≡ at_end → Stands h r.bytes
+  stands_here e =
+      let g = at_end_is h r.rest e in
+      record { fits = r.fits; most = r.most; gate = g.0; rest = g.1; closed = g.2; shape = r.shape ∙ ap (λ (l : List ℕ). body h ++ l) g.3 }
+
+  pub spoiled_here : (place : ℕ) → next_of h r.rest ≡ spoiled place → IsSpoiled h r.bytes place
+  spoiled_here place e = record { fits = r.fits; most = r.most; rest = r.rest; shape = r.shape; next_is = e }
+
+-- a reading that ended at a closed gate leaves a journal
+pub finished : {D : Type 0} (view : D → DiskView) (a : Reading D) (h : List Entry) (j : AtRest D) → a.ended ≡ Some Closed → j ≡ record { disk = a.disk; size = a.gate + 1; entries = a.entries; limit = a.limit } → IsReading view a h → IsJournal view j h
+finished {D = D} view a h j ended is r = subst (λ (v : AtRest D). IsJournal view v h) (sym is) (record {
+  bytes = r.bytes;
+  told = r.told;
+  stands = stands_here view a h r (subst (λ (e : Option Ending). EndedBy e (next_of h r.rest)) ended r.ended_by);
+  size_is = r.gate_is;
+  entries_is = r.entries_is;
+  synced = r.synced;
+})

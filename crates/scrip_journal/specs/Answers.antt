@@ -1,0 +1,16 @@
+-- What a journal that is read answers.
+use Rattle.std.specs.Prelude.{ℕ, Option, Some, None, Result, Ok, Err}
+use Rattle.scrip_journal.specs.declared.ending.Ending.{Ending}
+use Rattle.scrip_journal.specs.declared.ending.Ending.TheVariants.{Closed, Spoiled, Failed}
+use Rattle.scrip_journal.specs.declared.ending.ReplayFault.{ReplayFault}
+use Rattle.scrip_journal.specs.declared.ending.ReplayFault.TheVariants.{BadRecord, Disk}
+
+-- the place of the gate of the next entry, or none, or a fault
+abbrev pub Given : Type 0
+Given = Result (Option ℕ) ReplayFault
+
+-- the answer of a reading that has ended
+abbrev pub answer_of : Ending → Given
+answer_of Closed = Ok None
+answer_of (Spoiled place) = Err (BadRecord place)
+answer_of Failed = Err Disk

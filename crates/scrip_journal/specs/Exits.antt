@@ -1,0 +1,36 @@
+-- What calls hand back, and what a crash in them leaves.
+use Rattle.std.specs.Prelude.{◌≡◌, ◌⊎◌, ℕ, List, [], ◌∷◌, ◌++◌, Result, Ok, Err}
+use Rattle.mc_records.specs.Entry.{Entry}
+use Rattle.scrip_journal.specs.Layout.{Stands}
+use Rattle.scrip_journal.specs.States.{AtRest, WithNext}
+use Rattle.scrip_journal.specs.declared.journal.StageFault.{StageFault}
+use Rattle.scrip_journal.specs.declared.journal.StageFault.TheVariants.{Full, Disk}
+
+-- the disk that comes back from staging, whatever is answered
+abbrev pub staged_disk : {D : Type 0} → Result (WithNext D) (StageFault D) → D
+staged_disk (Ok s) = s.disk
+staged_disk (Err (Full j)) = j.disk
+staged_disk (Err (Disk d)) = d
+
+-- and from opening a gate
+abbrev pub opened_disk : {D : Type 0} → Result (AtRest D × ℕ) D → D
+opened_disk (Ok r) = r.0.disk
+opened_disk (Err d) = d
+
+-- P of the journal that comes back, Q of the disk of a halted one
+abbrev pub MatchStageFault : {D : Type 0} → StageFault D → (AtRest D → Type 0) → (D → Type 0) → Type 0
+MatchStageFault (Full j) P Q = P j
+MatchStageFault (Disk d) P Q = Q d
+
+-- the answer is that the entry would pass the limit
+abbrev pub IsFull : {D : Type 0} → Result (WithNext D) (StageFault D) → Type 0
+IsFull (Err (Full j)) = Unit {0}
+IsFull _ = ⊥
+
+-- a crash pair that stands for these entries, with nothing sent
+abbrev pub StandsQuiet : List Entry → List ℕ → List ℕ → List ℕ → Type 0
+StandsQuiet h aside c s = Stands h c × (s ≡ aside)
+
+-- with the new entry or without it, with nothing sent
+abbrev pub EitherQuiet : List Entry → Entry → List ℕ → List ℕ → List ℕ → Type 0
+EitherQuiet h e aside c s = (Stands h c ⊎ Stands (h ++ e ∷ []) c) × (s ≡ aside)

@@ -1,0 +1,85 @@
+-- The states of a journal. Each is seen as the disk that it owns and some numbers.
+use Rattle.std.specs.Prelude.{◌≡◌, ◌≢◌, ℕ, ◌+◌, ◌^◌, ◌≤◌, List, [], ◌∷◌, ◌++◌, length, Option, Some, None}
+use Rattle.std.specs.List.{AllByRecursion}
+use Rattle.mc_outside.specs.DiskView.{DiskView}
+use Rattle.mc_records.specs.Entry.{Entry, Fits}
+use Rattle.mc_records.specs.Sizes.{size}
+use Rattle.mc_outside.specs.Bytes.{BeginsWith}
+use Rattle.scrip_journal.specs.Layout.{body, framed, Stands, Next, at_end, spoiled, next_of}
+use Rattle.scrip_journal.specs.declared.ending.Ending.{Ending}
+use Rattle.scrip_journal.specs.declared.ending.Ending.TheVariants.{Closed, Spoiled, Failed}
+
+-- a journal at rest
+pub record AtRest (D : Type 0) : Type 0 where
+  pub disk : D
+  -- the place after the closed gate, which is how many bytes of the disk mean something
+  pub size : ℕ
+  -- how many entries there are
+  pub entries : ℕ
+  -- how many bytes it may have
+  pub limit : ℕ
+
+-- a journal with a next entry behind its closed gate; the size is what it will be
+pub record WithNext (D : Type 0) : Type 0 where
+  pub disk : D
+  pub gate : ℕ
+  pub size : ℕ
+  pub entries : ℕ
+  pub limit : ℕ
+
+-- A journal that is read: the place of the next gate, how many entries stand before it, the bytes from
+-- the gate on that were read ahead, the payload that was read last, and how the reading ended, where it
+-- has.
+pub record Reading (D : Type 0) : Type 0 where
+  pub disk : D
+  pub gate : ℕ
+  pub entries : ℕ
+  pub limit : ℕ
+  pub held : List ℕ
+  pub last : List ℕ
+  pub ended : Option Ending
+
+-- The disk tells its bytes, which stand for these entries, and a crash now leaves just them.
+pub record IsJournal {D : Type 0} (view : D → DiskView) (j : AtRest D) (h : List Entry) : Type 0 where
+  pub bytes : List ℕ
+  pub told : (view j.disk).contents ≡ Some bytes
+  pub stands : Stands h bytes
+  pub size_is : j.size ≡ size h
+  pub entries_is : j.entries ≡ length h
+  pub synced : (c : List ℕ) → (view j.disk).leaves c → c ≡ bytes
+
+-- the same, with a next entry behind the closed gate
+pub record IsStaged {D : Type 0} (view : D → DiskView) (s : WithNext D) (h : List Entry) (e : Entry) : Type 0 where
+  pub bytes : List ℕ
+  pub told : (view s.disk).contents ≡ Some bytes
+  pub fits : AllByRecursion Fits h
+  pub next_fits : Fits e
+  pub gate : ℕ
+  pub rest : List ℕ
+  pub closed : gate ≢ 1
+  pub shape : bytes ≡ body h ++ gate ∷ (framed h e ++ 0 ∷ rest)
+  pub gate_is : s.gate + 1 ≡ size h
+  pub size_is : s.size ≡ size (h ++ e ∷ [])
+  pub entries_is : s.entries ≡ length h
+  pub synced : (c : List ℕ) → (view s.disk).leaves c → c ≡ bytes
+
+-- a reading that ended at a closed gate, or at bytes that can't stand, did so by what comes there
+abbrev pub EndedBy : Option Ending → Next → Type 0
+EndedBy None next = Unit {0}
+EndedBy (Some Closed) next = next ≡ at_end
+EndedBy (Some (Spoiled place)) next = next ≡ spoiled place
+EndedBy (Some Failed) next = Unit {0}
+
+-- The disk tells its bytes, which begin with these entries, and a crash now leaves just those bytes.
+pub record IsReading {D : Type 0} (view : D → DiskView) (r : Reading D) (h : List Entry) : Type 0 where
+  pub bytes : List ℕ
+  pub told : (view r.disk).contents ≡ Some bytes
+  pub fits : AllByRecursion Fits h
+  pub most : size h ≤ 2 ^ 40
+  pub rest : List ℕ
+  pub shape : bytes ≡ body h ++ rest
+  pub gate_is : r.gate + 1 ≡ size h
+  pub entries_is : r.entries ≡ length h
+  pub held_is : BeginsWith r.held rest
+  pub ended_by : EndedBy r.ended (next_of h rest)
+  pub synced : (c : List ℕ) → (view r.disk).leaves c → c ≡ bytes

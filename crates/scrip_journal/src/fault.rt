@@ -1,0 +1,27 @@
+/// Why a journal was not founded or opened. Each hands the disk back.
+pub enum OpenFault<D> {
+    /// The first eight bytes of the disk aren't those of a journal.
+    NotJournal(D),
+    /// The disk failed.
+    Disk(D),
+    /// Memory was refused.
+    NoMemory(D),
+}
+
+/// Why the book of a house was not founded or opened. Each hands the disk back.
+pub enum HouseFault<D> {
+    /// The first eight bytes of the disk aren't those of a journal.
+    NotJournal(D),
+    /// The bytes from this place on can't stand in a journal.
+    BadRecord(D, u64),
+    /// The entry behind the gate at this place isn't lawful after those before it.
+    Unlawful(D, u64),
+    /// The book is that of a site of another kind.
+    WrongKind(D),
+    /// The book that was to be founded has so many bytes already, and doesn't stand for no entries.
+    NotEmpty(D, u64),
+    /// The disk failed.
+    Disk(D),
+    /// Memory was refused.
+    NoMemory(D),
+}

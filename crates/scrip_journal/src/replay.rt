@@ -1,0 +1,360 @@
+//! Reading a journal from its first entry on.
+
+ghost use Rattle.std.specs.Prelude.{◌≡◌, ◌≢◌, ◌↔◌, ◌+◌, ◌-◌, ◌^◌, ◌≤◌, ◌<◌, ◌++◌, [], ◌∷◌, List, ℕ, length, take, drop, slice_range, vec_len, option_map, IfOk, IfErr, OnOk, IfSome, IfNone, Err, Some, None, IsTrue, true, false};
+ghost use Rattle.std.specs.Int.{w32, to_be_bytes, from_be_bytes};
+ghost use Rattle.mc_outside.specs.Bytes.{BeginsWith, HasCause};
+ghost use Rattle.mc_outside.specs.DiskView.{OnlyRead};
+ghost use Rattle.mc_records.specs.Entry.{Entry, Fits, payload};
+ghost use Rattle.mc_records.specs.Forms.{entry_of};
+ghost use Rattle.mc_records.specs.Views.{entry};
+ghost use Rattle.scrip_journal.specs.States.{IsReading, IsJournal};
+ghost use Rattle.scrip_journal.specs.Layout.{header};
+ghost use Rattle.scrip_journal.specs.Replays.{Advanced, ReadAhead, FaultsBy, IsFrame, EndsHere, IsCut, AllHeld, TookEntry, FoundHeader};
+ghost use Rattle.scrip_journal.specs.declared.ending.Ending.TheVariants.{Closed};
+
+use crate::ending::{Ending, ReplayFault};
+use crate::journal::Journal;
+use crate::place::{BUFFER, Place};
+use mc_outside::{Disk, DiskFault};
+use mc_records::{Record, read_record};
+use std::marker::Model;
+
+/// What a journal begins with.
+const HEADER: [u8; 8] = *b"MCJRNL1\n";
+
+/// The lengths of payloads are below this.
+const MAX_PAYLOAD: u64 = 131_066;
+
+/// No journal goes past this place.
+const LAST_PLACE: u64 = 1 << 40;
+
+/// A journal that is read, entry by entry, from its first on. It owns its disk and never lends it.
+/// Contracts see the disk, the place of the next gate, how many entries stand before it, the bytes from
+/// there on that were read ahead, the payload read last, and how the reading ended.
+///
+/// The disk is read once, in large pieces.
+pub struct Replay<D> {
+    disk: D,
+    gate: u64,
+    entries: u64,
+    limit: u64,
+    buf: Vec<u8>,
+    // the bytes read ahead lie in `start..end` of the buffer, and the payload read last right before
+    start: usize,
+    end: usize,
+    last: usize,
+    ended: Option<Ending>,
+}
+
+impl<D> Model for Replay<D> {
+    ghost use Rattle.std.specs.Prelude.{◌≡◌, ◌+◌, ◌-◌, ◌<◌, ◌≤◌, ◌^◌, length, slice_range};
+    ghost use Rattle.scrip_journal.specs.States.{Reading};
+
+    ghost Value = { Reading D };
+
+    ghost view = { λ r. record { disk = r.disk; gate = r.gate; entries = r.entries; limit = r.limit; held = slice_range r.buf.items r.start r.end; last = slice_range r.buf.items (r.start - r.last) r.start; ended = r.ended } };
+
+    ghost invariant = { λ r. (r.gate < 2 ^ 40) × (r.entries ≤ r.gate) × (r.limit ≤ 2 ^ 40) × (length r.buf.items ≡ 131072) × (r.start ≤ r.end) × (r.end ≤ 131072) × (r.last ≤ r.start) };
+}
+
+impl<D: Disk> Replay<D> {
+    /// Reads the next entry and answers the place of its gate; `None` exactly at a closed gate.
+    /// [`Replay::record`] then has the entry. It takes no memory.
+    ///
+    /// `BadRecord` comes where the bytes can't stand, with the least of these places that applies: the
+    /// disk's end where a gate, a length or a payload should go on; a length of 131,066 or more, and one
+    /// with which the entry and its closed gate would go past 2^40 bytes, each at its first byte; in a
+    /// payload the place that [`read_record`] gives. `Disk` comes only where the disk failed. After
+    /// `None` or a fault the same answer comes again.
+    pub fn next_record(&mut self) -> Result<Option<u64>, ReplayFault>
+        ensures { Advanced D.disk D.disk_moved self.old result self.new }
+    {
+        if let Some(ending) = self.ended {
+            return ending.answer();
+        }
+        self.last = 0;
+        match self.look() {
+            Ok(length) => Ok(Some(self.advance(length))),
+            Err(ending) => {
+                self.ended = Some(ending);
+                ending.answer()
+            }
+        }
+    }
+
+    /// The entry that was read last, which lies in the buffer up to the next call of
+    /// [`Replay::next_record`]; None where that call gave none.
+    pub fn record(&self) -> Option<Record<'_>>
+        ensures value { (e : Entry) → Fits e → self.now.last ≡ payload e → option_map entry result ≡ Some e }
+        ensures none { self.now.last ≡ [] → result ≡ None }
+    {
+        let from = self.start - self.last;
+        match read_record(&self.buf[from..self.start]) {
+            Ok(record) => Some(record),
+            Err(_) => None,
+        }
+    }
+
+    /// A reading from the front of the disk on.
+    pub(crate) fn at_front(disk: D, limit: u64, buf: Vec<u8>) -> Replay<D>
+        requires limit { limit ≤ 2 ^ 40 }
+        requires buffer { length buf.items ≡ 131072 }
+        ensures { result ≡ record { disk = disk; gate = 0; entries = 0; limit = limit; held = []; last = []; ended = None } }
+    {
+        Replay {
+            disk,
+            gate: 0,
+            entries: 0,
+            limit,
+            buf,
+            start: 0,
+            end: 0,
+            last: 0,
+            ended: None,
+        }
+    }
+
+    /// Reads the header at the front of the disk. False where another eight bytes, or fewer, stand there.
+    pub(crate) fn read_header(&mut self) -> Result<bool, DiskFault>
+        requires { self.old ≡ record { disk = self.old.disk; gate = 0; entries = 0; limit = self.old.limit; held = []; last = []; ended = None } }
+        ensures moved { D.disk_moved self.old.disk self.new.disk }
+        ensures only_read { OnlyRead (D.disk self.old.disk) (D.disk self.new.disk) }
+        ensures cause { HasCause (D.disk self.old.disk).faults (D.disk self.new.disk).faults result }
+        ensures found { IfOk result (λ found. found ≡ true → FoundHeader self.old self.new) }
+        ensures begins { IfOk result (λ found. found ≡ true → (x : List ℕ) → (D.disk self.old.disk).contents ≡ Some x
+            → BeginsWith (header ++ self.new.held) x) }
+        ensures other { IfOk result (λ found. found ≡ false → (x : List ℕ) → (D.disk self.old.disk).contents ≡ Some x
+            → BeginsWith header x → ⊥) }
+    {
+        match self.hold(8) {
+            Ok(()) => {}
+            Err(Ending::Failed) => return Err(DiskFault),
+            Err(Ending::Closed) => return Ok(false),
+            Err(Ending::Spoiled(_)) => return Ok(false),
+        }
+        if !self.holds_header() {
+            return Ok(false);
+        }
+        self.start += 8;
+        self.gate = 8;
+        Ok(true)
+    }
+
+    /// Whether the bytes held begin with the header.
+    fn holds_header(&self) -> bool
+        requires { 8 ≤ length self.now.held }
+        ensures { IsTrue result ↔ (take 8 self.now.held ≡ header) }
+    {
+        &self.buf[self.start..self.start + 8] == HEADER.as_slice()
+    }
+
+    /// The journal at rest, behind its last entry.
+    pub fn finish(self) -> Journal<D>
+        requires { self.ended ≡ Some Closed }
+        ensures disk { (result.disk ≡ self.disk) × (result.limit ≡ self.limit) × (result.entries ≡ self.entries) }
+        ensures journal { (h : List Entry) → IsReading D.disk self h → IsJournal D.disk result h }
+    {
+        let Replay {
+            disk,
+            gate,
+            entries,
+            limit,
+            buf,
+            start: _,
+            end: _,
+            last: _,
+            ended: _,
+        } = self;
+        let at = Place {
+            gate,
+            entries,
+            limit,
+            buf,
+        };
+        Journal { disk, at }
+    }
+
+    /// The disk, as it is.
+    pub fn close(self) -> D
+        ensures { result ≡ self.disk }
+    {
+        let Replay {
+            disk,
+            gate: _,
+            entries: _,
+            limit: _,
+            buf: _,
+            start: _,
+            end: _,
+            last: _,
+            ended: _,
+        } = self;
+        disk
+    }
+
+    /// Looks for an entry behind the next gate. Answers the length of its payload, which is then
+    /// wholly in the buffer, or how the reading ends here.
+    fn look(&mut self) -> Result<usize, Ending>
+        ensures moved { D.disk_moved self.old.disk self.new.disk }
+        ensures ahead { ReadAhead D.disk self.old self.new }
+        ensures cause { FaultsBy result (D.disk self.old.disk).faults (D.disk self.new.disk).faults }
+        ensures frame { IfOk result (λ n. IsFrame n self.new.gate self.new.held) }
+        ensures ends { IfErr result (EndsHere D.disk self.old) }
+    {
+        if let Err(ending) = self.hold(1) {
+            return Err(ending);
+        }
+        if !self.is_open() {
+            return Err(Ending::Closed);
+        }
+        if let Err(ending) = self.hold(5) {
+            return Err(ending);
+        }
+        let length = self.payload_length();
+        if length >= MAX_PAYLOAD || LAST_PLACE < self.gate + length + 6 {
+            return Err(Ending::Spoiled(self.gate + 1));
+        }
+        let length = length as usize;
+        if let Err(ending) = self.hold(length + 5) {
+            return Err(ending);
+        }
+        if let Some(place) = self.malformed(length) {
+            return Err(Ending::Spoiled(self.gate + 5 + place as u64));
+        }
+        Ok(length)
+    }
+
+    /// Whether the gate is open.
+    fn is_open(&self) -> bool
+        requires { 1 ≤ length self.now.held }
+        ensures opened { result ≡ true → BeginsWith (1 ∷ []) self.now.held }
+        ensures closed { result ≡ false → (byte : ℕ) × BeginsWith (byte ∷ []) self.now.held × (byte ≢ 1) }
+    {
+        self.buf[self.start] == 1
+    }
+
+    /// The length that stands behind the gate.
+    fn payload_length(&self) -> u64
+        requires { 5 ≤ length self.now.held }
+        ensures value { result ≡ from_be_bytes w32 (take 4 (drop 1 self.now.held)) }
+        ensures bytes { take 4 (drop 1 self.now.held) ≡ to_be_bytes w32 result }
+        ensures gate { self.now.gate < 2 ^ 40 }
+    {
+        let from = self.start + 1;
+        length_at(&self.buf[from..from + 4])
+    }
+
+    /// Reads on until so many bytes are held, from the gate on; where the disk ends before, its end is the
+    /// place from which on the bytes can't stand.
+    fn hold(&mut self, count: usize) -> Result<(), Ending>
+        requires { count ≤ 131072 }
+        ensures moved { D.disk_moved self.old.disk self.new.disk }
+        ensures ahead { ReadAhead D.disk self.old self.new }
+        ensures cause { FaultsBy result (D.disk self.old.disk).faults (D.disk self.new.disk).faults }
+        ensures enough { OnOk result (count ≤ length self.new.held) }
+        ensures short { IfErr result (IsCut D.disk self.old self.new count) }
+    {
+        'pieces: while self.end - self.start < count {
+            match self.read_piece() {
+                Ok(0) => return Err(Ending::Spoiled(self.disk_end())),
+                Ok(_) => {}
+                Err(DiskFault) => return Err(Ending::Failed),
+            }
+        }
+        Ok(())
+    }
+
+    /// The place behind the bytes held.
+    fn disk_end(&self) -> u64
+        ensures { result ≡ self.now.gate + length self.now.held }
+    {
+        self.gate + (self.end - self.start) as u64
+    }
+
+    /// Reads a piece behind the bytes held. Answers how many bytes that are: 0 at the disk's end.
+    fn read_piece(&mut self) -> Result<usize, DiskFault>
+        requires room { length self.old.held < 131072 }
+        ensures moved { D.disk_moved self.old.disk self.new.disk }
+        ensures ahead { ReadAhead D.disk self.old self.new }
+        ensures cause { HasCause (D.disk self.old.disk).faults (D.disk self.new.disk).faults result }
+        ensures more { IfOk result (λ n. length self.new.held ≡ length self.old.held + n) }
+        ensures end { IfOk result (λ n. n ≡ 0 → AllHeld D.disk self.old self.new) }
+    {
+        move_to_front(&mut self.buf, self.start, self.end);
+        self.end -= self.start;
+        self.start = 0;
+        self.last = 0;
+        let place = self.gate + self.end as u64;
+        let read = read_behind(&mut self.disk, place, &mut self.buf, self.end)?;
+        self.end += read;
+        Ok(read)
+    }
+
+    /// Where the payload of this length behind the gate is malformed, from its front on.
+    fn malformed(&self, count: usize) -> Option<usize>
+        requires { count + 5 ≤ length self.now.held }
+        ensures fault { IfSome result (λ place. entry_of (take count (drop 5 self.now.held)) ≡ Err place) }
+        ensures payload { IfNone result ((e : Entry) × Fits e × (take count (drop 5 self.now.held) ≡ payload e)) }
+    {
+        let from = self.start + 5;
+        match read_record(&self.buf[from..from + count]) {
+            Ok(_) => None,
+            Err(fault) => Some(fault.place),
+        }
+    }
+
+    /// Takes the entry whose payload of this length is in the buffer. Answers the place of its gate.
+    fn advance(&mut self, length: usize) -> u64
+        requires frame { IsFrame length self.old.gate self.old.held }
+        ensures { TookEntry self.old length result self.new }
+    {
+        let gate = self.gate;
+        self.start += length + 5;
+        self.last = length;
+        self.gate = gate + length as u64 + 5;
+        self.entries += 1;
+        gate
+    }
+}
+
+/// The number that four bytes spell, the high one first.
+fn length_at(bytes: &[u8]) -> u64
+    requires { length bytes.now ≡ 4 }
+    ensures value { result ≡ from_be_bytes w32 bytes.now }
+    ensures bytes { bytes.now ≡ to_be_bytes w32 result }
+{
+    u64::from(u32::from_be_bytes([bytes[0], bytes[1], bytes[2], bytes[3]]))
+}
+
+/// Moves the bytes from `start` to `end` to the front.
+fn move_to_front(buf: &mut Vec<u8>, start: usize, end: usize)
+    requires order { start ≤ end }
+    requires within { end ≤ vec_len buf.old }
+    ensures len { length buf.new.items ≡ length buf.old.items }
+    ensures moved { take (end - start) buf.new.items ≡ slice_range buf.old.items start end }
+{
+    if start > 0 {
+        buf.copy_within(start..end, 0);
+    }
+}
+
+/// Reads a piece of the disk, from this place on, behind the front of the buffer.
+fn read_behind<D: Disk>(
+    disk: &mut D,
+    place: u64,
+    buf: &mut Vec<u8>,
+    at: usize,
+) -> Result<usize, DiskFault>
+    requires room { at < vec_len buf.old }
+    ensures moved { D.disk_moved disk.old disk.new }
+    ensures only_read { OnlyRead (D.disk disk.old) (D.disk disk.new) }
+    ensures cause { HasCause (D.disk disk.old).faults (D.disk disk.new).faults result }
+    ensures len { length buf.new.items ≡ length buf.old.items }
+    ensures front { take at buf.new.items ≡ take at buf.old.items }
+    ensures within { IfOk result (λ n. at + n ≤ length buf.new.items) }
+    ensures piece { IfOk result (λ n. (x : List ℕ) → (D.disk disk.old).contents ≡ Some x
+        → slice_range buf.new.items at (at + n) ≡ take n (drop place x)) }
+    ensures end { IfOk result (λ n. n ≡ 0 → (x : List ℕ) → (D.disk disk.old).contents ≡ Some x → length x ≤ place) }
+{
+    disk.read(place, &mut buf[at..])
+}
