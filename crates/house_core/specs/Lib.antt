@@ -1,3 +1,7 @@
 pub mod Views
 pub mod Trade
 pub mod Learning
+pub mod Spent
+pub mod Stands
+pub mod Verdicts
+pub mod Bench

@@ -1,15 +1,24 @@
 //! A house: a site that takes scrip and gives something for it. Here is what every house asks of the
-//! trade that it carries, whether it sells goods or scrip.
-//!
-//! No call of this crate takes memory.
+//! trade that it carries, whether it sells goods or scrip, and what it keeps beside it.
 #![tactic(auto)]
 
+mod bench;
 mod body;
+mod books;
 mod law;
+mod lengths;
 mod offer;
+mod spent;
+mod stages;
 mod trade;
+mod verdict;
+mod weigh;
 
+pub use bench::Bench;
 pub use body::body_of_deed;
+pub use books::Books;
 pub use law::entries_follow_in_parts;
 pub use offer::{Body, DrawAsk, Offer, SiteKind, Unlawful};
+pub use spent::Spent;
 pub use trade::Trade;
+pub use verdict::Verdict;
