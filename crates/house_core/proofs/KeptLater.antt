@@ -10,11 +10,11 @@ use Rattle.kept_replies.specs.declared.deed.KeptEntry.{KeptEntry}
 use Rattle.kept_replies.specs.Requests.{is_same_request}
 use Rattle.kept_replies.specs.Kept.{KeptReply, KeptView, is_in_time, found}
 use Rattle.ledger_model.specs.Histories.{History}
-use Rattle.house_core.specs.declared.books.Books.{Books}
+use Rattle.house_core.specs.Books.{BooksView}
 use Rattle.house_core.specs.declared.bench.Bench.{Bench}
 use Rattle.house_core.specs.Trade.{Replaces, LiesBehind, IsKeptFrom, IsHeld}
 use Rattle.house_core.specs.Stands.{Stands, scrip_request}
-use Rattle.house_core.specs.Bench.{IsInForceFor, Holds}
+use Rattle.house_core.specs.Bench.{IsInForceFor, Holds, HasContents}
 
 -- ---- replies
 
@@ -66,7 +66,7 @@ all_held old new h from rs keeps least none in_force held k d lt =
 
 -- ---- the books
 
-pub stands_later : {b : Books} {h : History} → Stands b h → (t : ℕ) (kept : KeptView) → b.time ≤ t → kept.keep ≡ b.kept.keep → kept.replies ≡ filter (is_in_time b.kept.keep t) b.kept.replies
+pub stands_later : {b : BooksView} {h : History} → Stands b h → (t : ℕ) (kept : KeptView) → b.time ≤ t → kept.keep ≡ b.kept.keep → kept.replies ≡ filter (is_in_time b.kept.keep t) b.kept.replies
     → Stands (record b { time = t; kept = kept }) h
 stands_later {b = b} {h = h} st t kept le keep replies = record {
   name = st.name;
@@ -74,12 +74,15 @@ stands_later {b = b} {h = h} st t kept le keep replies = record {
   keep = st.keep ∙ sym keep;
   terms = st.terms;
   own_terms = st.own_terms;
+  issuer = st.issuer;
   in_time = omega (arith, st.in_time, le);
   spent = λ id lt. st.spent id (omega (arith, lt, le));
   again = λ u text target sign later. st.again u text target sign (omega (arith, later, le)) ∙ ap (option_map (λ (e : KeptEntry). e.number)) (sym (found_later b.kept kept t u (scrip_request text target sign) keep replies later));
-  numbers = subst (All (λ r. r.entry.number < length h)) (sym replies) (All-filter (is_in_time b.kept.keep t) (λ r. r.entry.number < length h) b.kept.replies st.numbers);
   issued = st.issued;
   most = st.most;
+  redeemed = st.redeemed;
+  worth = st.worth;
+  takings = st.takings;
   counted = st.counted;
   sized = st.sized;
   within = st.within;
@@ -87,24 +90,13 @@ stands_later {b = b} {h = h} st t kept le keep replies = record {
   lawful = st.lawful;
 }
 
-pub holds_later : {T : Type 0} (stands : T → History → Type 0) (site : T → ℕ) (holds : T → ℕ → Type 0) (b c : Bench T) (h : History) (t : ℕ) (kept : KeptView) (from : Option ℕ)
-    → Holds stands site holds b h → b.books.time ≤ t → kept.keep ≡ b.books.kept.keep → kept.replies ≡ filter (is_in_time b.books.kept.keep t) b.books.kept.replies
-    → IfSome from (λ n. All (λ r. n ≤ r.entry.number) kept.replies) → (from ≡ None → kept.replies ≡ [])
-    → c.books ≡ record (b.books) { time = t; kept = kept } → stands c.trade h → site c.trade ≡ site b.trade
-    → ((n : ℕ) → IsKeptFrom h from n → holds b.trade n → holds c.trade n) → Holds stands site holds c h
-holds_later {T = T} stands site holds b c h t kept from st le keep replies least none is stands_still same keeps =
-    let of_rest : (P : KeptReply → Type 0) → All P b.books.kept.replies → All P kept.replies =
+pub contents_later : {T : Type 0} (holds : T → ℕ → Type 0) (b c : Bench T) (h : History) (t : ℕ) (from : Option ℕ)
+    → HasContents holds b h → c.books.kept.replies ≡ filter (is_in_time b.books.kept.keep t) b.books.kept.replies
+    → IfSome from (λ n. All (λ r. n ≤ r.entry.number) c.books.kept.replies) → (from ≡ None → c.books.kept.replies ≡ [])
+    → ((n : ℕ) → IsKeptFrom h from n → holds b.trade n → holds c.trade n) → HasContents holds c h
+contents_later {T = T} holds b c h t from has replies least none keeps =
+    let of_rest : (P : KeptReply → Type 0) → All P b.books.kept.replies → All P c.books.kept.replies =
     λ P all. subst (All P) (sym replies) (All-filter (is_in_time b.books.kept.keep t) P b.books.kept.replies all) in
-    let in_force = of_rest (IsInForceFor h) st.in_force in
-    let held = of_rest (λ r. IsHeld (holds b.trade) r.entry.deed) st.held in
-    let of_kept : c.books.kept.replies ≡ kept.replies = ap (λ (x : Books). x.kept.replies) is in
-    record {
-      books = subst (λ (x : Books). Stands x h) (sym is) (stands_later st.books t kept le keep replies);
-      trade = stands_still;
-      of_kind = st.of_kind ∙ ap some (sym same);
-      in_force = subst (All (IsInForceFor h)) (sym of_kept) in_force;
-      held = subst (All (λ r. IsHeld (holds c.trade) r.entry.deed)) (sym of_kept) (all_held (holds b.trade) (holds c.trade) h from kept.replies keeps least none in_force held);
-    }
-  where
-    some : ℕ → Option ℕ
-    some n = Some n
+    let in_force = of_rest (IsInForceFor h) has.in_force in
+    let held = of_rest (λ r. IsHeld (holds b.trade) r.entry.deed) has.held in
+    record { in_force = in_force; held = all_held (holds b.trade) (holds c.trade) h from c.books.kept.replies keeps least none in_force held }

@@ -1,3 +1,4 @@
 pub mod PartLaws
 pub mod Tabled
 pub mod KeptLater
+pub mod Entering

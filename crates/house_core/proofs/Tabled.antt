@@ -23,16 +23,16 @@ use Rattle.ledger_model.specs.Stages.{is_repeat, is_right, genuine_by, spendable
 use Rattle.ledger_model.specs.Answer.{repeated, genuine, spendable, offer, next_own, fitted, taken, lines, Answer, Refused, answered, answer}
 use Rattle.ledger_model.specs.Slow.{after_repeat, after_read}
 use Rattle.ledger_model.proofs.TableLaws.{line_ok, refused_ok, given_ok}
-use Rattle.house_core.specs.declared.books.Books.{Books}
+use Rattle.house_core.specs.Books.{BooksView}
 use Rattle.house_core.specs.Spent.{is_marked}
 use Rattle.house_core.specs.Stands.{Stands, end_in, scrip_request}
 
 -- ---- 22 to 25
 
-abbrev pub genuine_in : Books → Certified → Result (List ℕ) Stop
-genuine_in b c = genuine_by b.name (λ series. 1) b.terms.items c
+abbrev pub genuine_in : BooksView → Certified → Result (List ℕ) Stop
+genuine_in b c = genuine_by b.name (λ series. 1) b.terms c
 
-genuine_stands : {b : Books} {h : History} → Stands b h → (c : Certified) → genuine h c ≡ genuine_in b c
+genuine_stands : {b : BooksView} {h : History} → Stands b h → (c : Certified) → genuine h c ≡ genuine_in b c
 genuine_stands st c = ap₂ (λ (n : List ℕ) (ts : List Issuing). genuine_by n (λ series. 1) ts c) st.name st.terms
 
 not_false : (b : Bool) → not b ≡ false → b ≡ true
@@ -69,10 +69,10 @@ spent_counts clear x y t secret target sign c same = go (leb c.piece.expires t) 
     go true same = refl
     go false same = ap (λ (s : Bool). rest_spendable clear s secret target sign c) (same refl)
 
-abbrev pub spendable_in : Books → List ℕ → Asked → Certified → Result (Option (List ℕ)) Stop
+abbrev pub spendable_in : BooksView → List ℕ → Asked → Certified → Result (Option (List ℕ)) Stop
 spendable_in b secret q c = spendable_by b.clear (is_marked b.spent c.piece.id) b.time secret q.target q.sign c
 
-spendable_stands : {b : Books} {h : History} → Stands b h → (secret : List ℕ) (q : Asked) (c : Certified) → genuine h c ≡ Ok secret
+spendable_stands : {b : BooksView} {h : History} → Stands b h → (secret : List ℕ) (q : Asked) (c : Certified) → genuine h c ≡ Ok secret
     → spendable h b.time secret q c ≡ spendable_in b secret q c
 spendable_stands {b = b} {h = h} st secret q c is =
     ap (λ (clear : Bool). spendable_by clear (is_spent h c.piece.id) b.time secret q.target q.sign c) st.clear
@@ -82,7 +82,7 @@ spendable_stands {b = b} {h = h} st secret q c is =
 
 -- ---- 32, 33
 
-abbrev pub change_in : Books → ℕ → ℕ → Result (Option ℕ) Stop
+abbrev pub change_in : BooksView → ℕ → ℕ → Result (Option ℕ) Stop
 change_in b price value = needed (nat_lt price value) (next_by b.own.most (series_at b.own.terms b.time) (count_in b.own (series_at b.own.terms b.time)))
 
 -- the terms of an issuer are of it
@@ -94,38 +94,44 @@ terms_are_of (x ∷ xs) issuer t e = go (eqb x.issuer issuer) refl (terms_are_of
     go true is more f = let same : x ≡ t = cc in ap (λ (y : Issuing). y.issuer) (sym same) ∙ eqb-true x.issuer issuer is
     go false is more f = more f
 
-series_stands : {b : Books} {h : History} → Stands b h → (t : ℕ) → own_series h t ≡ series_at b.own.terms t
+series_stands : {b : BooksView} {h : History} → Stands b h → (t : ℕ) → own_series h t ≡ series_at b.own.terms t
 series_stands {b = b} {h = h} st t =
-    let zero : b.own.terms.issuer ≡ 0 = terms_are_of (all_terms h) 0 b.own.terms st.own_terms in
-    ap (λ (o : Option Issuing). unwrap_or (option_map (λ x. epoch x t) o) 0) st.own_terms ∙ omega (arith, zero)
+    let zero : b.own_terms.issuer ≡ 0 = terms_are_of (all_terms h) 0 b.own_terms st.own_terms in
+    ap (λ (o : Option Issuing). unwrap_or (option_map (λ x. epoch x t) o) 0) st.own_terms ∙ omega (arith, zero) ∙ ap (λ (x : Issuing). series_at x t) (sym st.issuer)
 
-change_stands : {b : Books} {h : History} → Stands b h → (price value : ℕ) → needed (nat_lt price value) (next_own h b.time b.limits) ≡ change_in b price value
+change_stands : {b : BooksView} {h : History} → Stands b h → (price value : ℕ) → needed (nat_lt price value) (next_own h b.time b.limits) ≡ change_in b price value
 change_stands {b = b} {h = h} st price value =
     rw (series_stands st b.time, st.issued (series_at b.own.terms b.time), st.most) refl
 
-fitted_stands : {b : Books} {h : History} → Stands b h → (e : Entry) → fitted h b.limits e ≡ fitted_by b.limits.journal b.size 0 e
+fitted_stands : {b : BooksView} {h : History} → Stands b h → (e : Entry) → fitted h b.limits e ≡ fitted_by b.limits.journal b.size 0 e
 fitted_stands {b = b} {h = h} st e = ap (λ (n : ℕ). fitted_by b.limits.journal n 0 e) st.sized
 
 -- ---- 30 to 33
 
-pub no_change : {b : Books} {h : History} → Stands b h → (q : Asked) (c : Certified) (sign : Option (List ℕ)) (o : Offer) (s : Stop)
+-- an offer at the same time, limits and value
+pub offered_at : (h : History) (t u : ℕ) (limits others : Limits) (target : List ℕ) (value worth : ℕ) (o : Offer) → u ≡ t → others ≡ limits → worth ≡ value
+    → Ok o ≡ offer h u others target worth → Ok o ≡ offer h t limits target value
+offered_at h t u limits others target value worth o time limit same e =
+    e ∙ ap (λ (x : ℕ). offer h x others target worth) time ∙ ap (λ (l : Limits). offer h t l target worth) limit ∙ ap (λ (n : ℕ). offer h t limits target n) same
+
+pub no_change : {b : BooksView} {h : History} → Stands b h → (q : Asked) (c : Certified) (sign : Option (List ℕ)) (o : Offer) (s : Stop)
     → Ok o ≡ offer h b.time b.limits q.target c.piece.value → Err s ≡ change_in b o.price c.piece.value → Err s ≡ taken h b.time b.limits q c sign
 no_change st q c sign o s offered full = rw (← offered, change_stands st o.price c.piece.value, ← full) refl
 
-pub fits : {b : Books} {h : History} → Stands b h → (q : Asked) (c : Certified) (sign : Option (List ℕ)) (o : Offer) (change : Option ℕ) (r : Result Entry Stop)
+pub fits : {b : BooksView} {h : History} → Stands b h → (q : Asked) (c : Certified) (sign : Option (List ℕ)) (o : Offer) (change : Option ℕ) (r : Result Entry Stop)
     → Ok o ≡ offer h b.time b.limits q.target c.piece.value → Ok change ≡ change_in b o.price c.piece.value
     → r ≡ fitted_by b.limits.journal b.size 0 (Accept b.time c.text q.target sign o.price change o.deed) → r ≡ taken h b.time b.limits q c sign
 fits st q c sign o change r offered changed is = rw (← offered, change_stands st o.price c.piece.value, ← changed, fitted_stands st (Accept _ c.text q.target sign o.price change o.deed)) is
 
 -- ---- from 22 on
 
-pub not_spendable : {b : Books} {h : History} → Stands b h → (q : Asked) (c : Certified) (secret : List ℕ) (s : Stop)
+pub not_spendable : {b : BooksView} {h : History} → Stands b h → (q : Asked) (c : Certified) (secret : List ℕ) (s : Stop)
     → Ok secret ≡ genuine_in b c → Err s ≡ spendable_in b secret q c → Err s ≡ after_repeat h b.time b.limits q c
 not_spendable {h = h} st q c secret s is refused =
     let genuine_is : genuine h c ≡ Ok secret = genuine_stands st c ∙ sym is in
     rw (genuine_is, spendable_stands st secret q c genuine_is, ← refused) refl
 
-pub takes : {b : Books} {h : History} → Stands b h → (q : Asked) (c : Certified) (secret : List ℕ) (sign : Option (List ℕ)) (r : Result Entry Stop)
+pub takes : {b : BooksView} {h : History} → Stands b h → (q : Asked) (c : Certified) (secret : List ℕ) (sign : Option (List ℕ)) (r : Result Entry Stop)
     → Ok secret ≡ genuine_in b c → Ok sign ≡ spendable_in b secret q c → r ≡ taken h b.time b.limits q c sign → r ≡ after_repeat h b.time b.limits q c
 takes {h = h} st q c secret sign r is may e =
     let genuine_is : genuine h c ≡ Ok secret = genuine_stands st c ∙ sym is in
@@ -133,16 +139,21 @@ takes {h = h} st q c secret sign r is may e =
 
 -- ---- repeats
 
-abbrev pub kept_number : Books → Asked → Certified → Option ℕ
+abbrev pub kept_number : BooksView → Asked → Certified → Option ℕ
 kept_number b q c = option_map (λ e. e.number) (found b.kept b.time (scrip_request c.text q.target q.sign))
 
-again_is : {b : Books} {h : History} → Stands b h → (q : Asked) (c : Certified) → repeated h b.time c q ≡ kept_number b q c
+-- the number that a search for the request with its text gives
+pub number_at : (b : BooksView) (q asked : Asked) (c : Certified) (r : Option ℕ) → asked ≡ scrip_request c.text q.target q.sign
+    → r ≡ option_map (λ e. e.number) (found b.kept b.time asked) → r ≡ kept_number b q c
+number_at b q asked c r same e = e ∙ ap (λ (p : Asked). option_map (λ e. e.number) (found b.kept b.time p)) same
+
+again_is : {b : BooksView} {h : History} → Stands b h → (q : Asked) (c : Certified) → repeated h b.time c q ≡ kept_number b q c
 again_is {b = b} st q c = st.again b.time c.text q.target q.sign (omega arith)
 
-pub comes_again : {b : Books} {h : History} → Stands b h → (q : Asked) (c : Certified) (n : ℕ) → Some n ≡ kept_number b q c → Err (Repeat n) ≡ after_read h b.time b.limits q c
+pub comes_again : {b : BooksView} {h : History} → Stands b h → (q : Asked) (c : Certified) (n : ℕ) → Some n ≡ kept_number b q c → Err (Repeat n) ≡ after_read h b.time b.limits q c
 comes_again st q c n is = rw (again_is st q c, ← is) refl
 
-pub is_new : {b : Books} {h : History} → Stands b h → (q : Asked) (c : Certified) (r : Result Entry Stop) → None ≡ kept_number b q c
+pub is_new : {b : BooksView} {h : History} → Stands b h → (q : Asked) (c : Certified) (r : Result Entry Stop) → None ≡ kept_number b q c
     → r ≡ after_repeat h b.time b.limits q c → r ≡ after_read h b.time b.limits q c
 is_new st q c r none e = rw (again_is st q c, ← none) e
 

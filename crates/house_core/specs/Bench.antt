@@ -18,11 +18,13 @@ limits_of b = b.books.limits
 abbrev pub IsInForceFor : History → KeptReply → Type 0
 IsInForceFor h r = IsHeld (λ n. (m : ℕ) → Replaces h n m → r.entry.number < m) r.entry.deed
 
--- The books and the trade stand for the history, which is of the trade's kind of site, and the trade
--- has what the kept replies bring.
-pub record Holds {T : Type 0} (stands : T → History → Type 0) (site : T → ℕ) (holds : T → ℕ → Type 0) (b : Bench T) (h : History) : Type 0 where
+-- The books and the trade stand for the history, which is of the trade's kind of site.
+pub record Holds {T : Type 0} (stands : T → History → Type 0) (site : T → ℕ) (b : Bench T) (h : History) : Type 0 where
   pub books : Stands b.books h
   pub trade : stands b.trade h
   pub of_kind : site_kind h ≡ Some (site b.trade)
+
+-- The trade has what the kept replies bring, and no earlier entry replaces it.
+pub record HasContents {T : Type 0} (holds : T → ℕ → Type 0) (b : Bench T) (h : History) : Type 0 where
   pub in_force : All (IsInForceFor h) b.books.kept.replies
   pub held : All (λ r. IsHeld (holds b.trade) r.entry.deed) b.books.kept.replies

@@ -2,7 +2,7 @@ ghost use Rattle.std.specs.Prelude.{◌≡◌, ℕ, max};
 ghost use Rattle.mc_records.specs.Requests.{asked_of};
 ghost use Rattle.ledger_model.specs.Histories.{History};
 ghost use Rattle.ledger_model.specs.Answer as model;
-ghost use Rattle.house_core.specs.Bench.{Holds, house_time, limits_of};
+ghost use Rattle.house_core.specs.Bench.{Holds, HasContents, house_time, limits_of};
 ghost use Rattle.house_core.specs.Verdicts.{judged, judged_of};
 
 use crate::books::Books;
@@ -20,17 +20,10 @@ pub struct Bench<T> {
     trade: T,
 }
 
-/// The later of two moments.
-fn later(a: Moment, b: Moment) -> Moment
-    ensures { result ≡ max a b }
-{
-    if a.seconds() < b.seconds() { b } else { a }
-}
-
 impl<T: Trade> Bench<T> {
     /// Its trade.
     pub fn trade(&self) -> &T
-        ensures { (h : History) → Holds T.stands T.site T.holds self.now h → T.stands result.now h }
+        ensures { (h : History) → Holds T.stands T.site self.now h → T.stands result.now h }
     {
         &self.trade
     }
@@ -39,7 +32,7 @@ impl<T: Trade> Bench<T> {
     /// takes no memory.
     #[tactic(auto, unfolding(ledger_model::specs::Answer::answer))]
     pub fn judge(&self, q: &Request<'_>) -> Verdict
-        ensures { (h : History) → Holds T.stands T.site T.holds self.now h
+        ensures { (h : History) → Holds T.stands T.site self.now h
             → judged_of result ≡ judged (model.answer h (house_time self.now) (limits_of self.now) (asked_of q.now)) }
     {
         let Some(text) = q.scrip else {
@@ -57,18 +50,17 @@ impl<T: Trade> Bench<T> {
     }
 
     /// Raises the house time to a reading of the clock where that is later, and answers it. Replies whose
-    /// keeping time is over are let go, and the contents that no kept reply brings. It takes no memory.
+    /// keeping time is over are let go, and so may be contents that no kept reply brings. It takes no
+    /// memory.
     pub fn raise(&mut self, reading: Moment) -> Moment
         ensures time { result ≡ max (house_time self.old) reading }
         ensures raised { house_time self.new ≡ max (house_time self.old) reading }
         ensures limits { limits_of self.new ≡ limits_of self.old }
-        ensures same { (h : History) → Holds T.stands T.site T.holds self.old h → Holds T.stands T.site T.holds self.new h }
+        ensures same { (h : History) → Holds T.stands T.site self.old h → Holds T.stands T.site self.new h }
+        ensures contents { (h : History) → Holds T.stands T.site self.old h → HasContents T.holds self.old h → HasContents T.holds self.new h }
     {
-        let time = later(self.books.time, reading);
-        self.books.time = time;
-        self.books.kept.forget(time);
-        let first = self.books.kept.first();
-        self.trade.forget(first);
+        let time = self.books.raise(reading);
+        self.trade.forget(self.books.first_kept());
         time
     }
 }

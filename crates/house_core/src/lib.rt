@@ -7,6 +7,7 @@ mod body;
 mod books;
 mod law;
 mod lengths;
+mod money;
 mod offer;
 mod spent;
 mod stages;

@@ -1,11 +1,11 @@
 //! The stages of the answer to a scrip request, each over what it asks.
 
-ghost use Rattle.std.specs.Prelude.{◌≡◌, ◌≤◌, ◌==◌, ℕ, nat_lt, find, length, option_map, IfOk, IfSome};
+ghost use Rattle.std.specs.Prelude.{◌≡◌, ◌+◌, ◌<◌, ◌≤◌, ◌==◌, ℕ, nat_lt, find, length, option_map, IfOk, IfSome, MatchOption, OnOk};
 ghost use Rattle.scrip_form.specs.Issuing.{series_at};
 ghost use Rattle.mc_records.specs.Entry.{IsKey};
 ghost use Rattle.mc_records.specs.Entry as entries;
 ghost use Rattle.mc_records.specs.Requests.{seen};
-ghost use Rattle.change_issue.specs.Registers.{count_in};
+ghost use Rattle.change_issue.specs.Registers.{count_in, next_in};
 ghost use Rattle.ledger_model.specs.Houses.{terms_by};
 ghost use Rattle.ledger_model.specs.Stages.{genuine_by, spendable_by, next_by, needed, fitted_by};
 ghost use Rattle.ledger_model.specs.Slow.{told};
@@ -98,7 +98,8 @@ pub(crate) fn change(
     price: u64,
     value: u64,
 ) -> Result<Option<Id>, Refusal>
-    ensures { told (λ id. id) result ≡ needed (nat_lt price value) (next_by own.now.most (series_at own.now.terms time) (count_in own.now (series_at own.now.terms time))) }
+    ensures lines { told (λ id. id) result ≡ needed (nat_lt price value) (next_by own.now.most (series_at own.now.terms time) (count_in own.now (series_at own.now.terms time))) }
+    ensures next { IfOk result (λ c. MatchOption c (value ≤ price) (λ id. (price < value) × (count_in own.now (series_at own.now.terms time) < own.now.most) × (id ≡ next_in own.now (series_at own.now.terms time)))) }
 {
     if value <= price {
         return Ok(None);
@@ -111,7 +112,8 @@ pub(crate) fn change(
 
 /// Refused where an entry of so many bytes of payload would pass the limit of the journal.
 pub(crate) fn fitted(limit: u64, size: u64, payload: u64) -> Result<(), Refusal>
-    ensures { (e : entries.Entry) → payload ≡ length (entries.payload e) → told (λ u. e) result ≡ fitted_by limit size 0 e }
+    ensures lines { (e : entries.Entry) → payload ≡ length (entries.payload e) → told (λ u. e) result ≡ fitted_by limit size 0 e }
+    ensures room { OnOk result (size + payload + 5 ≤ limit) }
 {
     if limit < size || limit - size < 5 || limit - size - 5 < payload {
         return Err(Refusal::JournalFull(size, payload));
