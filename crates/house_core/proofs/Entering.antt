@@ -114,7 +114,7 @@ entered old spent kept own takings size q paid a piece made sound marks keep rep
 
 -- ---- the books stay sound
 
-at_most : (series n s : ℕ) → at_series series n s ≤ n
+pub at_most : (series n s : ℕ) → at_series series n s ≤ n
 at_most series n s = go (eqb series s)
   where
     go : (b : Bool) → cond b n 0 ≤ n

@@ -2,3 +2,5 @@ pub mod PartLaws
 pub mod Tabled
 pub mod KeptLater
 pub mod Entering
+pub mod Entered
+pub mod Accepting

@@ -1,17 +1,25 @@
-ghost use Rattle.std.specs.Prelude.{◌≡◌, ℕ, max};
-ghost use Rattle.mc_records.specs.Requests.{asked_of};
+ghost use Rattle.std.specs.Prelude.{◌≡◌, ℕ, max, None, Ok};
+ghost use Rattle.scrip_form.specs.Reading.{scrip_of};
+ghost use Rattle.mc_records.specs.declared.refusal.Refusal.TheVariants.{BadScrip};
+ghost use Rattle.mc_records.specs.Requests.{asked_of, seen};
+ghost use Rattle.mc_records.specs.Views.{deed_of};
+ghost use Rattle.kept_replies.specs.Kept.{found};
 ghost use Rattle.ledger_model.specs.Histories.{History};
 ghost use Rattle.ledger_model.specs.Answer as model;
-ghost use Rattle.house_core.specs.Bench.{Holds, HasContents, house_time, limits_of};
-ghost use Rattle.house_core.specs.Verdicts.{judged, judged_of};
+ghost use Rattle.house_core.specs.Bench.{Holds, HasContents, Takes, Accepts, stopped_with, house_time, limits_of};
+ghost use Rattle.house_core.specs.Views.{entry_deed};
+ghost use Rattle.house_core.specs.Stands.{scrip_request};
+ghost use Rattle.house_core.specs.Verdicts.{judged, judged_of, accept_entry, IsReady};
 
 use crate::books::Books;
+use crate::offer::Unlawful;
 use crate::trade::Trade;
-use crate::verdict::{Stopped, Verdict};
-use crate::weigh::weigh;
-use mc_base::Moment;
-use mc_records::{Refusal, Request};
-use scrip_form::read_scrip;
+use crate::verdict::{Acceptance, BenchFault, Stopped, Verdict};
+use crate::weigh::{request_with, weigh};
+use kept_replies::Deed;
+use mc_base::{Moment, NoMemory};
+use mc_records::{PieceList, Record, RecordDeed, Refusal, Request};
+use scrip_form::{FormFault, ScripRef, read_scrip};
 
 /// A house without a journal: its books and the trade that it carries.
 #[derive(Drop)]
@@ -40,7 +48,7 @@ impl<T: Trade> Bench<T> {
         };
         let scrip = match read_scrip(text) {
             Ok(scrip) => scrip,
-            Err(fault) => return Verdict::Refused(Refusal::BadScrip(fault.place as u64)),
+            Err(fault) => return Verdict::Refused(bad_scrip(fault)),
         };
         match weigh(&self.books, &self.trade, q, &scrip) {
             Ok(_) => Verdict::Take,
@@ -62,5 +70,109 @@ impl<T: Trade> Bench<T> {
         let time = self.books.raise(reading);
         self.trade.forget(self.books.first_kept());
         time
+    }
+    /// Accepts a request at the house time: enters its entry, and answers the entry's number, from 0. Where
+    /// the request comes again it enters nothing, and answers the number of the entry that it repeats.
+    pub fn accept(&mut self, q: &Request<'_>) -> Result<u64, BenchFault>
+        ensures time { house_time self.new ≡ house_time self.old }
+        ensures limits { limits_of self.new ≡ limits_of self.old }
+        ensures exact { (h : History) → Holds T.stands T.site self.old h
+            → Accepts T.stands T.site self.new h (model.answer h (house_time self.old) (limits_of self.old) (asked_of q.now)) result }
+    {
+        let Some(text) = q.scrip else {
+            return Err(BenchFault::Refused(Refusal::NoScrip));
+        };
+        let scrip = match read_scrip(text) {
+            Ok(scrip) => scrip,
+            Err(fault) => return Err(BenchFault::Refused(bad_scrip(fault))),
+        };
+        let acceptance = match weigh(&self.books, &self.trade, q, &scrip) {
+            Ok(acceptance) => acceptance,
+            Err(stopped) => return stopped_with(stopped),
+        };
+        match self.take(q, &scrip, &acceptance) {
+            Ok(number) => Ok(number),
+            Err(NoMemory) => Err(BenchFault::NoMemory),
+        }
+    }
+
+    /// Enters the entry of an acceptance, with room for it made first, and answers its number.
+    fn take(
+        &mut self,
+        q: &Request<'_>,
+        scrip: &ScripRef<'_>,
+        acceptance: &Acceptance,
+    ) -> Result<u64, NoMemory>
+        requires read { scrip_of scrip.now.text ≡ Ok (scrip.now.piece, scrip.now.cert) }
+        requires new { found self.old.books.kept self.old.books.time (scrip_request scrip.now.text q.now.target.now (seen q.now.sign)) ≡ None }
+        requires ready { IsReady self.old.books scrip.now q.now.target.now acceptance.now }
+        ensures time { house_time self.new ≡ house_time self.old }
+        ensures limits { limits_of self.new ≡ limits_of self.old }
+        ensures exact { (h : History) → Holds T.stands T.site self.old h
+            → model.answer h (house_time self.old) (limits_of self.old) (asked_of q.now) ≡ model.Take (accept_entry (house_time self.old) scrip.now.text q.now.target.now acceptance.now)
+            → Takes T.stands T.site self.new h (accept_entry (house_time self.old) scrip.now.text q.now.target.now acceptance.now) result }
+    {
+        let request = request_with(q, scrip);
+        let number = self.books.count();
+        // The check lets a record go only where the types of its parts are named.
+        let _pieces: Option<PieceList<'_>> = None;
+        let record = Record::Accept {
+            moment: self.books.time(),
+            scrip: scrip.text(),
+            target: q.target,
+            sign: acceptance.sign,
+            price: acceptance.price,
+            change: acceptance.change,
+            deed: record_deed(&acceptance.deed),
+        };
+        match self.trade.reserve(&record) {
+            Ok(()) => (),
+            Err(NoMemory) => return Err(NoMemory),
+        }
+        let paid = scrip.piece();
+        match self.books.reserve(&request, paid.id()) {
+            Ok(()) => (),
+            Err(NoMemory) => return Err(NoMemory),
+        }
+        match self.trade.learn(number, &record) {
+            Ok(()) => (),
+            Err(Unlawful) => return Err(NoMemory),
+        }
+        self.books.enter(&request, &paid, acceptance);
+        Ok(number)
+    }
+}
+
+fn bad_scrip(fault: FormFault) -> Refusal
+    ensures { result ≡ BadScrip fault.place }
+{
+    Refusal::BadScrip(fault.place as u64)
+}
+
+/// What comes of a request that makes no entry.
+fn stopped_with(stopped: Stopped) -> Result<u64, BenchFault>
+    ensures { result ≡ stopped_with stopped }
+{
+    match stopped {
+        Stopped::Refused(refusal) => Err(BenchFault::Refused(refusal)),
+        Stopped::Again(number) => Ok(number),
+    }
+}
+
+/// A kept deed as that of the entry.
+fn record_deed(deed: &Deed) -> RecordDeed
+    ensures { deed_of result ≡ entry_deed deed.now }
+{
+    match deed {
+        Deed::Goods { .. } => RecordDeed::Goods,
+        Deed::Sale { piece, stock, .. } => RecordDeed::Sale {
+            stock: *stock,
+            id: piece.id(),
+        },
+        Deed::Credit { balance } => RecordDeed::Credit { balance: *balance },
+        Deed::Draw { piece, .. } => RecordDeed::Sale {
+            stock: false,
+            id: piece.id(),
+        },
     }
 }

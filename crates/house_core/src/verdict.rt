@@ -13,6 +13,14 @@ pub enum Verdict {
     Take,
 }
 
+/// Why a request was not accepted.
+#[derive(Drop)]
+pub enum BenchFault {
+    Refused(Refusal),
+    /// Memory was refused.
+    NoMemory,
+}
+
 /// Why a request with a scrip text makes no entry.
 #[derive(Drop)]
 pub(crate) enum Stopped {
