@@ -1,5 +1,5 @@
 -- What comes of a request, from the answer to it.
-use Rattle.std.proofs.Common.{◌≡◌, ℕ, ◌≤◌, List, [], ◌∷◌, ◌++◌, length, filter, Option, Some, None, Result, Ok, Err, refl, sym, ap, subst, ◌∙◌, arith}
+use Rattle.std.proofs.Common.{◌≡◌, ℕ, ◌≤◌, Bool, false, List, [], ◌∷◌, ◌++◌, length, filter, Option, Some, None, Result, Ok, Err, refl, sym, ap, subst, ◌∙◌, arith}
 use Rattle.std.specs.Prelude.{option_map, position}
 use Rattle.std.specs.Borrow.{Bor}
 use Rattle.scrip_form.specs.Issuing.{Issuing}
@@ -28,7 +28,7 @@ use Rattle.house_core.specs.declared.verdict.BenchFault.{BenchFault}
 use Rattle.house_core.specs.declared.verdict.BenchFault.TheVariants as faults
 use Rattle.house_core.specs.Learning.{MayLearn}
 use Rattle.house_core.specs.Books.{BooksView, HasChange, IsEntered, IsAsBefore, series_now}
-use Rattle.house_core.specs.Stands.{Stands, end_in, scrip_request}
+use Rattle.house_core.specs.Stands.{Stands, has_ended, scrip_request}
 use Rattle.house_core.specs.Verdicts.{accept_entry, stop_of, IsReady}
 use Rattle.house_core.specs.Bench.{Holds, Accepts, house_time, limits_of, stopped_with}
 use Rattle.house_core.proofs.Tabled.{answer_read}
@@ -68,7 +68,7 @@ stands_as_before {old = old} {new = new} {h = h} st is = record {
   own_terms = st.own_terms ∙ ap some (sym is.own_terms);
   issuer = is.issuer ∙ st.issuer ∙ sym is.own_terms;
   in_time = omega (arith, st.in_time, is.time);
-  spent = λ id lt. st.spent id (omega (arith, lt, is.time)) ∙ sym (is.spent id);
+  spent = λ id live. st.spent id (subst (λ (t : ℕ). has_ended h t id ≡ false) is.time live) ∙ sym (is.spent id);
   again = λ t text target sign later. st.again t text target sign (omega (arith, later, is.time)) ∙ same_found t (scrip_request text target sign);
   issued = λ s. st.issued s ∙ sym (is.issued s);
   most = is.most ∙ st.most ∙ ap (λ (l : Limits). l.series) (sym is.limits);
@@ -77,7 +77,6 @@ stands_as_before {old = old} {new = new} {h = h} st is = record {
   takings = st.takings ∙ sym is.takings;
   counted = st.counted ∙ sym is.counted;
   sized = st.sized ∙ sym is.sized;
-  within = rw is.limits st.within;
   limits = rw is.limits st.limits;
   lawful = rw is.limits st.lawful;
 }

@@ -1,5 +1,5 @@
 -- What the books keep after an acceptance was entered says what the longer history says.
-use Rattle.std.proofs.Common.{◌≡◌, ℕ, ◌+◌, ◌-◌, ◌*◌, ◌/◌, ◌<◌, ◌≤◌, ◌^◌, Bool, true, false, not, cond, List, [], ◌∷◌, ◌++◌, length, filter, find, All, Option, Some, None, Result, Ok, Err, refl, sym, ap, ap₂, subst, ◌∙◌, arith, eqb, ltb, inl, inr, append-nil, length-append}
+use Rattle.std.proofs.Common.{◌≡◌, ℕ, ◌+◌, ◌-◌, ◌*◌, ◌/◌, ◌<◌, ◌≤◌, ◌^◌, Bool, true, false, not, cond, List, [], ◌∷◌, ◌++◌, length, filter, find, All, Option, Some, None, Result, Ok, Err, refl, sym, ap, ap₂, subst, ◌∙◌, arith, eqb, ltb, leb, inl, inr, append-nil, length-append}
 use Rattle.std.specs.Prelude.{◌&&◌, ◌||◌, ◌==◌, min, max, option_map, option_to_list, unwrap_or, position, count_by, sum_by, bytes_eq, filter_map}
 use Rattle.std.specs.Option.{option_or}
 use Rattle.std.specs.List.{list_any, cons_option, position_or_len}
@@ -35,12 +35,12 @@ use Rattle.ledger_model.specs.Lawful.{IsLawful}
 use Rattle.ledger_model.proofs.TableLaws.{line_ok, refused_ok, ok_is, Through, answer_through}
 use Rattle.ledger_model.proofs.AcceptLaws.{accepted_snoc}
 use Rattle.ledger_model.proofs.SerialLaws.{own_out_snoc, minted_snoc, count-append}
-use Rattle.ledger_model.proofs.FollowLaws.{same_request, taken_lawful, size_snoc, taken_fits}
+use Rattle.ledger_model.proofs.FollowLaws.{same_request, taken_lawful, size_snoc}
 use Rattle.house_core.specs.declared.verdict.Acceptance.{Acceptance}
 use Rattle.house_core.specs.Views.{entry_deed}
 use Rattle.house_core.specs.Spent.{is_marked}
 use Rattle.house_core.specs.Books.{BooksView, HasChange, IsEntered, series_now, kept_entry, at_series, change_count, change_worth}
-use Rattle.house_core.specs.Stands.{Stands, end_in, scrip_request, of_series}
+use Rattle.house_core.specs.Stands.{Stands, has_ended, scrip_request, of_series}
 use Rattle.house_core.specs.Verdicts.{accept_entry, IsReady}
 use Rattle.house_core.proofs.Entering.{at_most}
 
@@ -307,10 +307,11 @@ stands_entered {old = old} {new = new} {h = h} st q c a read ready takes is =
       own_terms = ap (λ (ts : List Issuing). terms_by ts 0) terms ∙ st.own_terms ∙ ap some (sym is.own_terms);
       issuer = is.issuer ∙ st.issuer ∙ sym is.own_terms;
       in_time = omega (arith, time_snoc h e, st.in_time, is.time);
-      spent = λ id lt.
-          let ends : end_in (h ++ e ∷ []) id ≡ end_in h id = ap (λ (ts : List Issuing). unwrap_or (option_map (λ t. series_end t (epoch_of id)) (terms_by ts (issuer_of id))) 0) terms in
+      spent = λ id live.
+          let ends : has_ended (h ++ e ∷ []) new.time id ≡ has_ended h old.time id =
+          ap₂ (λ (ts : List Issuing) (t : ℕ). unwrap_or (option_map (λ x. leb (series_end x (epoch_of id)) t) (terms_by ts (issuer_of id))) false) terms is.time in
           ap (list_any (λ p. p.id == id)) accepts ∙ list_any-append (λ p. p.id == id) (accepted h) (c.piece ∷ [])
-          ∙ ap₂ (λ (x y : Bool). x || y) (st.spent id (omega (arith, lt, ends, is.time))) (or_end (eqb c.piece.id id)) ∙ sym (is.spent id);
+          ∙ ap₂ (λ (x y : Bool). x || y) (st.spent id (sym ends ∙ live)) (or_end (eqb c.piece.id id)) ∙ sym (is.spent id);
       again = λ t text target sign later.
           ap (λ (o : Option House). position (is_repeat (unwrap_or (option_map (λ x. x.keep) o) 0) t text target sign) (h ++ e ∷ [])) same.house
           ∙ again_more st q c a taken.sign is t text target sign (omega (arith, later, is.time));
@@ -323,7 +324,6 @@ stands_entered {old = old} {new = new} {h = h} st q c a read ready takes is =
       takings = omega (arith, sum_by-append price_paid h (e ∷ []), st.takings, is.takings, taken.price);
       counted = omega (arith, length-append h (e ∷ []), st.counted, is.counted);
       sized = omega (arith, size_snoc h e, st.sized, ready.payload, is.sized);
-      within = rw is.limits (taken_fits h old.time old.limits q e takes);
       limits = rw is.limits st.limits;
       lawful = rw is.limits (taken_lawful h old.time old.limits q e st.lawful st.in_time st.limits.journal_most takes);
     }

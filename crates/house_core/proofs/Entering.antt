@@ -126,7 +126,7 @@ sound_entered old new q paid a sound piece fits e = record {
   terms = e.issuer ∙ sound.terms ∙ sym e.own_terms;
   limits = rw e.limits sound.limits;
   counted = omega (arith, e.counted, e.sized, sound.counted);
-  sized = omega (arith, e.sized, fits, ap (λ (l : Limits). l.journal) e.limits);
+  sized = omega (arith, e.sized, fits, sound.limits.journal_most);
   keeps = subst (λ (n : ℕ). 0 < n) (sym e.keep) sound.keeps;
   numbers = rw (e.replies, e.counted) (All-push (λ r. r.entry.number < old.count + 1) old.kept.replies last
       (All-weaker (λ r. r.entry.number < old.count) (λ r. r.entry.number < old.count + 1) (λ r lt. omega (arith, lt)) old.kept.replies sound.numbers) (omega arith));

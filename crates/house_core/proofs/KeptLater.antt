@@ -1,7 +1,7 @@
 -- What is kept still stands at a later house time.
-use Rattle.std.proofs.Common.{◌≡◌, ℕ, ◌+◌, ◌<◌, ◌≤◌, Bool, true, false, cond, List, [], ◌∷◌, length, get_or, filter, find, All, IfSome, Option, Some, None, refl, sym, ap, subst, ◌∙◌, arith, ltb}
-use Rattle.std.specs.Prelude.{◌&&◌, IsNone, ◌↔◌, option_map, position, max}
-use Rattle.std.proofs.lemmas.Bool.{and_parts, ltb-true, lt-ltb}
+use Rattle.std.proofs.Common.{◌≡◌, ℕ, ◌+◌, ◌<◌, ◌≤◌, Bool, true, false, cond, List, [], ◌∷◌, length, get_or, filter, find, All, IfSome, Option, Some, None, refl, sym, ap, subst, ◌∙◌, arith, ltb, leb}
+use Rattle.std.specs.Prelude.{◌&&◌, IsNone, ◌↔◌, option_map, position, max, unwrap_or}
+use Rattle.std.proofs.lemmas.Bool.{and_parts, ltb-true, lt-ltb, leb-false}
 use Rattle.std.proofs.lemmas.List.Elements.{All-filter}
 use Rattle.mc_records.specs.Requests.{Asked}
 use Rattle.kept_replies.specs.declared.deed.Deed.{Deed}
@@ -9,11 +9,14 @@ use Rattle.kept_replies.specs.declared.deed.Deed.TheVariants as kept
 use Rattle.kept_replies.specs.declared.deed.KeptEntry.{KeptEntry}
 use Rattle.kept_replies.specs.Requests.{is_same_request}
 use Rattle.kept_replies.specs.Kept.{KeptReply, KeptView, is_in_time, found}
+use Rattle.scrip_form.specs.Identities.{issuer_of, epoch_of}
+use Rattle.scrip_form.specs.Issuing.{Issuing, series_end}
 use Rattle.ledger_model.specs.Histories.{History}
+use Rattle.ledger_model.specs.Houses.{terms_in}
 use Rattle.house_core.specs.Books.{BooksView}
 use Rattle.house_core.specs.declared.bench.Bench.{Bench}
 use Rattle.house_core.specs.Trade.{Replaces, LiesBehind, IsKeptFrom, IsHeld}
-use Rattle.house_core.specs.Stands.{Stands, scrip_request}
+use Rattle.house_core.specs.Stands.{Stands, has_ended, scrip_request}
 use Rattle.house_core.specs.Bench.{IsInForceFor, Holds, HasContents}
 
 -- ---- replies
@@ -66,6 +69,15 @@ all_held old new h from rs keeps least none in_force held k d lt =
 
 -- ---- the books
 
+-- a series that has not ended later has not ended now
+live_before : (h : History) (t u id : ℕ) → t ≤ u → has_ended h u id ≡ false → has_ended h t id ≡ false
+live_before h t u id le = by_terms (terms_in h (issuer_of id))
+  where
+    by_terms : (o : Option Issuing) → unwrap_or (option_map (λ x. leb (series_end x (epoch_of id)) u) o) false ≡ false
+        → unwrap_or (option_map (λ x. leb (series_end x (epoch_of id)) t) o) false ≡ false
+    by_terms None live = refl
+    by_terms (Some x) live = let above : u < series_end x (epoch_of id) = leb-false (series_end x (epoch_of id)) u live in grind (arith, above, le)
+
 pub stands_later : {b : BooksView} {h : History} → Stands b h → (t : ℕ) (kept : KeptView) → b.time ≤ t → kept.keep ≡ b.kept.keep → kept.replies ≡ filter (is_in_time b.kept.keep t) b.kept.replies
     → Stands (record b { time = t; kept = kept }) h
 stands_later {b = b} {h = h} st t kept le keep replies = record {
@@ -76,7 +88,7 @@ stands_later {b = b} {h = h} st t kept le keep replies = record {
   own_terms = st.own_terms;
   issuer = st.issuer;
   in_time = omega (arith, st.in_time, le);
-  spent = λ id lt. st.spent id (omega (arith, lt, le));
+  spent = λ id live. st.spent id (live_before h b.time t id le live);
   again = λ u text target sign later. st.again u text target sign (omega (arith, later, le)) ∙ ap (option_map (λ (e : KeptEntry). e.number)) (sym (found_later b.kept kept t u (scrip_request text target sign) keep replies later));
   issued = st.issued;
   most = st.most;
@@ -85,7 +97,6 @@ stands_later {b = b} {h = h} st t kept le keep replies = record {
   takings = st.takings;
   counted = st.counted;
   sized = st.sized;
-  within = st.within;
   limits = st.limits;
   lawful = st.lawful;
 }

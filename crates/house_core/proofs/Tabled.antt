@@ -1,7 +1,7 @@
 -- The stages of the table over a history are those over what a house keeps of it.
 use Rattle.std.proofs.Common.{◌≡◌, ℕ, ◌+◌, ◌*◌, ◌<◌, ◌≤◌, ◌^◌, Bool, true, false, not, cond, List, [], ◌∷◌, length, Option, Some, None, Result, Ok, Err, refl, sym, ap, ap₂, subst, ◌∙◌, arith, leb, ltb, eqb, bytes_eq}
 use Rattle.std.specs.Prelude.{◌&&◌, is_none, nat_lt, option_map, unwrap_or, position}
-use Rattle.std.proofs.lemmas.Bool.{leb-false, eqb-true}
+use Rattle.std.proofs.lemmas.Bool.{eqb-true}
 use Rattle.scrip_form.specs.Identities.{issuer_of, epoch_of}
 use Rattle.scrip_form.specs.Issuing.{Issuing, epoch, series_at, series_end}
 use Rattle.scrip_form.specs.Scrip.{Certified, scrip_body}
@@ -25,7 +25,7 @@ use Rattle.ledger_model.specs.Slow.{after_repeat, after_read}
 use Rattle.ledger_model.proofs.TableLaws.{line_ok, refused_ok, given_ok}
 use Rattle.house_core.specs.Books.{BooksView}
 use Rattle.house_core.specs.Spent.{is_marked}
-use Rattle.house_core.specs.Stands.{Stands, end_in, scrip_request}
+use Rattle.house_core.specs.Stands.{Stands, has_ended, scrip_request}
 
 -- ---- 22 to 25
 
@@ -39,16 +39,17 @@ not_false : (b : Bool) → not b ≡ false → b ≡ true
 not_false true e = refl
 not_false false e = absurd cc
 
--- a genuine piece ends with its series
-genuine_ends : (h : History) (c : Certified) (secret : List ℕ) → genuine h c ≡ Ok secret → end_in h c.piece.id ≡ c.piece.expires
-genuine_ends h c secret e =
+-- the series of a genuine piece has ended where the piece has
+genuine_ends : (h : History) (t : ℕ) (c : Certified) (secret : List ℕ) → genuine h c ≡ Ok secret → has_ended h t c.piece.id ≡ leb c.piece.expires t
+genuine_ends h t c secret e =
     let v = line_ok (refused_if (not (bytes_eq c.piece.vendor (site_name h))) WrongVendor) _ secret e in
     let own = line_ok (given (terms_in h (issuer_of c.piece.id)) UnknownIssuer) _ secret v.2 in
     let customers = line_ok (given (terms_in h (issuer_of c.piece.cust)) UnknownIssuer) _ secret own.2 in
     let end = series_end own.0 (epoch_of c.piece.id) in
     let ends = line_ok (refused_if (not (eqb c.piece.expires end)) (ExpiryMismatch c.piece.expires end)) _ secret customers.2 in
     let is : c.piece.expires ≡ end = eqb-true _ _ (not_false _ (refused_ok _ _ ends.0 ends.1)) in
-    ap (λ (o : Option Issuing). unwrap_or (option_map (λ t. series_end t (epoch_of c.piece.id)) o) 0) (given_ok (terms_in h (issuer_of c.piece.id)) UnknownIssuer own.0 own.1) ∙ sym is
+    ap (λ (o : Option Issuing). unwrap_or (option_map (λ x. leb (series_end x (epoch_of c.piece.id)) t) o) false) (given_ok (terms_in h (issuer_of c.piece.id)) UnknownIssuer own.0 own.1)
+    ∙ ap (λ (n : ℕ). leb n t) (sym is)
 
 -- ---- 26 to 29
 
@@ -77,8 +78,7 @@ spendable_stands : {b : BooksView} {h : History} → Stands b h → (secret : Li
 spendable_stands {b = b} {h = h} st secret q c is =
     ap (λ (clear : Bool). spendable_by clear (is_spent h c.piece.id) b.time secret q.target q.sign c) st.clear
     ∙ spent_counts b.clear (is_spent h c.piece.id) (is_marked b.spent c.piece.id) b.time secret q.target q.sign c
-    (λ live. let later : b.time < c.piece.expires = leb-false _ _ live in
-    st.spent c.piece.id (subst (λ (n : ℕ). b.time < n) (sym (genuine_ends h c secret is)) later))
+    (λ live. st.spent c.piece.id (genuine_ends h b.time c secret is ∙ live))
 
 -- ---- 32, 33
 

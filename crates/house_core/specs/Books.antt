@@ -41,7 +41,7 @@ pub record AreSound (b : BooksView) : Type 0 where
   pub terms : b.own.terms ≡ b.own_terms
   pub limits : AreInRange b.limits
   pub counted : b.count ≤ b.size
-  pub sized : b.size ≤ b.limits.journal
+  pub sized : b.size ≤ 2 ^ 40
   pub keeps : 0 < b.kept.keep
   pub numbers : All (λ r. r.entry.number < b.count) b.kept.replies
   pub in_time : All (λ r. IsTrue (is_in_time b.kept.keep b.time r)) b.kept.replies

@@ -1,5 +1,5 @@
 -- What a house keeps says what its history says, part by part.
-use Rattle.std.specs.Prelude.{◌≡◌, ℕ, ◌<◌, ◌≤◌, ◌==◌, List, filter, length, Option, Some, option_map, unwrap_or, position}
+use Rattle.std.specs.Prelude.{◌≡◌, ℕ, ◌≤◌, ◌==◌, nat_le, Bool, false, List, filter, length, Option, Some, option_map, unwrap_or, position}
 use Rattle.scrip_form.specs.Identities.{issuer_of, epoch_of, series_of}
 use Rattle.scrip_form.specs.Issuing.{series_end}
 use Rattle.scrip_form.specs.Scrip.{Scrip}
@@ -17,9 +17,10 @@ use Rattle.ledger_model.specs.Lawful.{IsLawful}
 use Rattle.house_core.specs.Books.{BooksView}
 use Rattle.house_core.specs.Spent.{is_marked}
 
--- when the pieces of an identity's series end, by the terms of its issuer
-abbrev pub end_in : History → ℕ → ℕ
-end_in h id = unwrap_or (option_map (λ t. series_end t (epoch_of id)) (terms_in h (issuer_of id))) 0
+-- Whether the series of an identity has ended at a time, by the terms of its issuer. Without terms it has
+-- not.
+abbrev pub has_ended : History → ℕ → ℕ → Bool
+has_ended h t id = unwrap_or (option_map (λ x. nat_le (series_end x (epoch_of id)) t) (terms_in h (issuer_of id))) false
 
 -- the request for a target with a scrip text, and with a signature or none
 abbrev pub scrip_request : List ℕ → List ℕ → Option (List ℕ) → Asked
@@ -42,7 +43,7 @@ pub record Stands (b : BooksView) (h : History) : Type 0 where
   -- the house time is not before any entry
   pub in_time : time h ≤ b.time
   -- of the identities whose series has not ended, those that were accepted
-  pub spent : (id : ℕ) → b.time < end_in h id → is_spent h id ≡ is_marked b.spent id
+  pub spent : (id : ℕ) → has_ended h b.time id ≡ false → is_spent h id ≡ is_marked b.spent id
   -- the entry that a request repeats, at the house time and later
   pub again : (t : ℕ) (text target : List ℕ) (sign : Option (List ℕ)) → b.time ≤ t
       → position (is_repeat (keeping h) t text target sign) h ≡ option_map (λ e. e.number) (found b.kept t (scrip_request text target sign))
@@ -53,9 +54,8 @@ pub record Stands (b : BooksView) (h : History) : Type 0 where
   pub redeemed : (series : ℕ) → values (of_series series (accepted h)) ≡ redeemed_in b.own series
   pub worth : (series : ℕ) → values (of_series series (own_out h)) ≡ issued_in b.own series
   pub takings : takings h ≡ b.takings
-  -- the number of entries, and the bytes of their journal, which are within its limit
+  -- the number of entries, and the bytes of their journal
   pub counted : length h ≡ b.count
   pub sized : size h ≡ b.size
-  pub within : size h ≤ b.limits.journal
   pub limits : AreInRange b.limits
   pub lawful : IsLawful b.limits h
