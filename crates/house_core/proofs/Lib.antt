@@ -4,3 +4,4 @@ pub mod KeptLater
 pub mod Entering
 pub mod Entered
 pub mod Accepting
+pub mod Founded

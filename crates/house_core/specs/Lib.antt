@@ -3,6 +3,7 @@ pub mod Trade
 pub mod Learning
 pub mod Spent
 pub mod Books
+pub mod Founding
 pub mod Stands
 pub mod Verdicts
 pub mod Bench

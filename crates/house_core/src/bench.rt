@@ -1,8 +1,13 @@
-ghost use Rattle.std.specs.Prelude.{◌≡◌, ℕ, max, None, Ok};
+ghost use Rattle.std.specs.Prelude.{◌≡◌, ℕ, [], ◌∷◌, max, None, Some, Ok, IfOk};
+ghost use Rattle.mc_records.specs.Limits.{AreInRange};
+ghost use Rattle.mc_records.specs.Entry.{moment_of};
+ghost use Rattle.ledger_model.specs.Houses.{site_kind};
+ghost use Rattle.ledger_model.specs.Lawful.{MayFollow};
+ghost use Rattle.house_core.specs.Founding.{FoundsHouse};
 ghost use Rattle.scrip_form.specs.Reading.{scrip_of};
 ghost use Rattle.mc_records.specs.declared.refusal.Refusal.TheVariants.{BadScrip};
 ghost use Rattle.mc_records.specs.Requests.{asked_of, seen};
-ghost use Rattle.mc_records.specs.Views.{deed_of};
+ghost use Rattle.mc_records.specs.Views.{deed_of, entry};
 ghost use Rattle.kept_replies.specs.Kept.{found};
 ghost use Rattle.ledger_model.specs.Histories.{History};
 ghost use Rattle.ledger_model.specs.Answer as model;
@@ -12,14 +17,16 @@ ghost use Rattle.house_core.specs.Stands.{scrip_request};
 ghost use Rattle.house_core.specs.Verdicts.{judged, judged_of, accept_entry, IsReady};
 
 use crate::books::Books;
+use crate::founding::{found_books, payload_len};
 use crate::offer::Unlawful;
 use crate::trade::Trade;
 use crate::verdict::{Acceptance, BenchFault, Stopped, Verdict};
 use crate::weigh::{request_with, weigh};
 use kept_replies::Deed;
 use mc_base::{Moment, NoMemory};
-use mc_records::{PieceList, Record, RecordDeed, Refusal, Request};
+use mc_records::{Limits, PieceList, Record, RecordDeed, Refusal, Request};
 use scrip_form::{FormFault, ScripRef, read_scrip};
+use std::alloc::Global;
 
 /// A house without a journal: its books and the trade that it carries.
 #[derive(Drop)]
@@ -29,6 +36,35 @@ pub struct Bench<T> {
 }
 
 impl<T: Trade> Bench<T> {
+    /// The house that a Site entry founds, with a trade that has learned nothing yet. The house time is the
+    /// entry's moment.
+    pub fn new(
+        alloc: Global,
+        site: &Record<'_>,
+        limits: Limits,
+        mut trade: T,
+    ) -> Result<Bench<T>, NoMemory>
+        requires limits { AreInRange limits }
+        requires site { FoundsHouse (entry site.now) }
+        requires first { MayFollow limits [] (entry site.now) }
+        requires kind { site_kind (entry site.now ∷ []) ≡ Some (T.site trade) }
+        requires trade { T.stands trade [] }
+        ensures holds { IfOk result (λ b. Holds T.stands T.site b (entry site.now ∷ [])) }
+        ensures time { IfOk result (λ b. house_time b ≡ moment_of (entry site.now)) }
+        ensures limits { IfOk result (λ b. limits_of b ≡ limits) }
+    {
+        let bytes = payload_len(alloc, site)?;
+        let books = found_books(alloc, site, limits, bytes)?;
+        match trade.reserve(site) {
+            Ok(()) => (),
+            Err(NoMemory) => return Err(NoMemory),
+        }
+        match trade.learn(0, site) {
+            Ok(()) => Ok(Bench { books, trade }),
+            Err(Unlawful) => Err(NoMemory),
+        }
+    }
+
     /// Its trade.
     pub fn trade(&self) -> &T
         ensures { (h : History) → Holds T.stands T.site self.now h → T.stands result.now h }

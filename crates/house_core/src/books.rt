@@ -1,4 +1,7 @@
-ghost use Rattle.std.specs.Prelude.{◌≡◌, ◌+◌, ◌-◌, ◌≤◌, ◌<◌, Some, None, option_map, filter, max, All, IfSome, IsNone, ◌↔◌, [], OnOk};
+ghost use Rattle.std.specs.Prelude.{◌≡◌, ◌+◌, ◌-◌, ◌≤◌, ◌<◌, Some, None, option_map, filter, max, All, IfSome, IsNone, ◌↔◌, ◌^◌, [], IfOk, OnOk};
+ghost use Rattle.mc_records.specs.Limits.{AreInRange};
+ghost use Rattle.mc_records.specs.Views.{house_of};
+ghost use Rattle.house_core.specs.Founding.{AreFounded};
 ghost use Rattle.mc_records.specs.Requests.{asked_of};
 ghost use Rattle.kept_replies.specs.Kept.{found, is_in_time};
 ghost use Rattle.house_core.specs.Spent.{is_marked};
@@ -10,8 +13,9 @@ use crate::verdict::Acceptance;
 use change_issue::Issuer;
 use kept_replies::{Kept, KeptEntry};
 use mc_base::{Moment, NoMemory, Total};
-use mc_records::{Limits, Request};
+use mc_records::{Limits, Request, SiteTerms};
 use scrip_form::{Id, Name, Piece, Terms};
+use std::alloc::Global;
 use std::marker::Model;
 
 /// What a house keeps in place of its history, beside its trade. Contracts see it as the record
@@ -51,6 +55,38 @@ impl Model for Books {
 }
 
 impl Books {
+    /// The books of a house that is founded so, by an entry of so many bytes of payload.
+    pub(crate) fn found(
+        alloc: Global,
+        moment: Moment,
+        name: Name,
+        house: &SiteTerms,
+        limits: Limits,
+        payload: u64,
+    ) -> Result<Books, NoMemory>
+        requires limits { AreInRange limits }
+        requires keeps { 0 < house.now.keep }
+        requires short { payload < 2 ^ 32 }
+        ensures { IfOk result (λ b. AreFounded b moment name (house_of house.now) limits payload) }
+    {
+        let mut terms = Vec::with_capacity(alloc, 1)?;
+        terms.push_reserved(house.terms);
+        Ok(Books {
+            name,
+            clear: house.clear,
+            terms,
+            own_terms: house.terms,
+            time: moment,
+            spent: Spent::new(alloc),
+            kept: Kept::new(alloc, house.keep),
+            own: Issuer::new(alloc, house.terms, limits),
+            takings: Total::zero(),
+            count: 1,
+            size: payload + 14,
+            limits,
+        })
+    }
+
     pub(crate) fn name(&self) -> &[u8]
         ensures { result.now ≡ self.now.name }
     {

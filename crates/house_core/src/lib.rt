@@ -5,6 +5,7 @@
 mod bench;
 mod body;
 mod books;
+mod founding;
 mod law;
 mod lengths;
 mod money;
