@@ -1,3 +1,9 @@
 pub mod Views
 pub mod Trade
 pub mod Learning
+pub mod Spent
+pub mod Books
+pub mod Founding
+pub mod Stands
+pub mod Verdicts
+pub mod Bench

@@ -1,0 +1,118 @@
+-- What comes of a request, from the answer to it.
+use Rattle.std.proofs.Common.{◌≡◌, ℕ, ◌≤◌, Bool, false, List, [], ◌∷◌, ◌++◌, length, filter, Option, Some, None, Result, Ok, Err, refl, sym, ap, subst, ◌∙◌, arith}
+use Rattle.std.specs.Prelude.{option_map, position}
+use Rattle.std.specs.Borrow.{Bor}
+use Rattle.scrip_form.specs.Issuing.{Issuing}
+use Rattle.scrip_form.specs.Scrip.{Scrip, Certified}
+use Rattle.scrip_form.specs.Reading.{scrip_of}
+use Rattle.mc_records.specs.declared.limits.Limits.{Limits}
+use Rattle.mc_records.specs.Limits.{AreInRange}
+use Rattle.mc_records.specs.declared.refusal.Refusal.{Refusal}
+use Rattle.mc_records.specs.declared.refusal.Refusal.TheVariants.{NoScrip, BadScrip}
+use Rattle.mc_records.specs.Entry.{Entry, Accept, payload}
+use Rattle.mc_records.specs.Requests.{Asked, seen}
+use Rattle.mc_records.specs.Sizes.{size}
+use Rattle.kept_replies.specs.declared.deed.KeptEntry.{KeptEntry}
+use Rattle.kept_replies.specs.Kept.{KeptReply, KeptView, is_in_time, found}
+use Rattle.ledger_model.specs.Histories.{History, time}
+use Rattle.ledger_model.specs.Answer as answers
+use Rattle.ledger_model.specs.Answer.{Answer, answer, answered}
+use Rattle.ledger_model.specs.Slow.{after_read}
+use Rattle.ledger_model.specs.Lawful.{IsLawful, MayFollow}
+use Rattle.ledger_model.proofs.FollowLaws.{may_follow}
+use Rattle.house_core.specs.declared.bench.Bench.{Bench}
+use Rattle.house_core.specs.declared.verdict.Acceptance.{Acceptance}
+use Rattle.house_core.specs.declared.verdict.Stopped.{Stopped}
+use Rattle.house_core.specs.declared.verdict.Stopped.TheVariants as stops
+use Rattle.house_core.specs.declared.verdict.BenchFault.{BenchFault}
+use Rattle.house_core.specs.declared.verdict.BenchFault.TheVariants as faults
+use Rattle.house_core.specs.Learning.{MayLearn}
+use Rattle.house_core.specs.Books.{BooksView, HasChange, IsEntered, IsAsBefore, series_now}
+use Rattle.house_core.specs.Stands.{Stands, has_ended, scrip_request}
+use Rattle.house_core.specs.Verdicts.{accept_entry, stop_of, IsReady}
+use Rattle.house_core.specs.Bench.{Holds, Accepts, house_time, limits_of, stopped_with}
+use Rattle.house_core.proofs.Tabled.{answer_read}
+use Rattle.house_core.proofs.Entered.{stands_entered}
+
+-- ---- refusals and repeats
+
+pub none_seen : (o : Option (Bor (List ℕ))) → ((x : Bor (List ℕ)) → o ≡ Some x → ⊥) → seen o ≡ None
+none_seen (Some x) not = absurd (not x refl)
+none_seen None not = refl
+
+pub no_scrip : (h : History) (t : ℕ) (limits : Limits) (q : Asked) → q.scrip ≡ None → answers.Refused NoScrip ≡ answer h t limits q
+unfolding answer
+no_scrip h t limits q none = rw none refl
+
+pub bad_scrip : (h : History) (t : ℕ) (limits : Limits) (q : Asked) (text : List ℕ) (place : ℕ) → q.scrip ≡ Some text → scrip_of text ≡ Err place → answers.Refused (BadScrip place) ≡ answer h t limits q
+unfolding answer
+bad_scrip h t limits q text place asked fault = rw (asked, fault) refl
+
+pub refuses : {T : Type 0} (stands : T → History → Type 0) (site : T → ℕ) (b : Bench T) (h : History) (q : Asked) (f : Refusal) → Holds stands site b h
+    → answers.Refused f ≡ answer h (house_time b) (limits_of b) q → Accepts stands site b h (answer h (house_time b) (limits_of b) q) (Err (faults.Refused f))
+refuses stands site b h q f st e = subst (λ (a : Answer). Accepts stands site b h a (Err (faults.Refused f))) e (refl, st)
+
+pub makes_none : {T : Type 0} (stands : T → History → Type 0) (site : T → ℕ) (b : Bench T) (h : History) (q : Asked) (s : Stopped) → Holds stands site b h
+    → answered (Err (stop_of s)) ≡ answer h (house_time b) (limits_of b) q → Accepts stands site b h (answer h (house_time b) (limits_of b) q) (stopped_with s)
+makes_none stands site b h q (stops.Refused f) st e = subst (λ (a : Answer). Accepts stands site b h a (Err (faults.Refused f))) e (refl, st)
+makes_none stands site b h q (stops.Again n) st e = subst (λ (a : Answer). Accepts stands site b h a (Ok n)) e (refl, st)
+
+-- ---- room that was made
+
+pub stands_as_before : {old new : BooksView} {h : History} → Stands old h → IsAsBefore old new → Stands new h
+stands_as_before {old = old} {new = new} {h = h} st is = record {
+  name = st.name ∙ sym is.name;
+  clear = st.clear ∙ sym is.clear;
+  keep = st.keep ∙ sym is.keep;
+  terms = st.terms ∙ sym is.terms;
+  own_terms = st.own_terms ∙ ap some (sym is.own_terms);
+  issuer = is.issuer ∙ st.issuer ∙ sym is.own_terms;
+  in_time = omega (arith, st.in_time, is.time);
+  spent = λ id live. st.spent id (subst (λ (t : ℕ). has_ended h t id ≡ false) is.time live) ∙ sym (is.spent id);
+  again = λ t text target sign later. st.again t text target sign (omega (arith, later, is.time)) ∙ same_found t (scrip_request text target sign);
+  issued = λ s. st.issued s ∙ sym (is.issued s);
+  most = is.most ∙ st.most ∙ ap (λ (l : Limits). l.series) (sym is.limits);
+  redeemed = λ s. st.redeemed s ∙ sym (is.redeemed s);
+  worth = λ s. st.worth s ∙ sym (is.worth s);
+  takings = st.takings ∙ sym is.takings;
+  counted = st.counted ∙ sym is.counted;
+  sized = st.sized ∙ sym is.sized;
+  limits = rw is.limits st.limits;
+  lawful = rw is.limits st.lawful;
+}
+  where
+    some : Issuing → Option Issuing
+    some t = Some t
+
+    same_found : (t : ℕ) (q : Asked) → option_map (λ (e : KeptEntry). e.number) (found old.kept t q) ≡ option_map (λ e. e.number) (found new.kept t q)
+    same_found t q = rw (is.keep, is.replies) refl
+
+ready_as_before : {old new : BooksView} → IsAsBefore old new → (c : Certified) (target : List ℕ) (a : Acceptance) → IsReady old c target a → IsReady new c target a
+ready_as_before {old = old} {new = new} is c target a ready = record {
+  change = by_change a.change ready.change;
+  payload = subst (λ (t : ℕ). a.payload ≡ length (payload (accept_entry t c.text target a))) (sym is.time) ready.payload;
+  fits = omega (arith, ready.fits, is.sized, ap (λ (l : Limits). l.journal) is.limits);
+}
+  where
+    series : series_now new ≡ series_now old
+    series = rw (is.issuer, is.time) refl
+
+    by_change : (o : Option ℕ) → HasChange old a.price c.piece.value o → HasChange new a.price c.piece.value o
+    by_change None has = has
+    by_change (Some id) has = (has.0, rw (series, is.issued (series_now old), is.most) has.1, rw (series, is.issued (series_now old)) has.2)
+
+-- ---- the new entry
+
+pub may_learn : {b : BooksView} {h : History} → Stands b h → (kind : ℕ) (q : Asked) (text : List ℕ) (a : Acceptance) → answer h b.time b.limits q ≡ answers.Take (accept_entry b.time text q.target a)
+    → MayLearn b.limits kind b.count h (accept_entry b.time text q.target a)
+may_learn {b = b} {h = h} st kind q text a takes =
+    let may = may_follow h b.time b.limits q (accept_entry b.time text q.target a) st.in_time st.limits.journal_most takes in
+    record { counted = sym st.counted; in_order = may.in_order; by_house = may.allowed }
+
+pub stands_taken : {old mid new : BooksView} {h : History} → Stands old h → IsAsBefore old mid → (q : Asked) (c : Certified) (a : Acceptance) → scrip_of c.text ≡ Ok (c.piece, c.cert)
+    → IsReady old c q.target a → answer h old.time old.limits q ≡ answers.Take (accept_entry old.time c.text q.target a)
+    → IsEntered mid new (scrip_request c.text q.target q.sign) c.piece a → Stands new (h ++ accept_entry old.time c.text q.target a ∷ [])
+stands_taken {old = old} {mid = mid} {new = new} {h = h} st before q c a read ready takes is =
+    let later : answer h mid.time mid.limits q ≡ answers.Take (accept_entry mid.time c.text q.target a) = rw (before.time, before.limits) takes in
+    subst (λ (t : ℕ). Stands new (h ++ accept_entry t c.text q.target a ∷ [])) before.time
+    (stands_entered (stands_as_before st before) q c a read (ready_as_before before c q.target a ready) later is)

@@ -1,0 +1,332 @@
+-- What the books keep after an acceptance was entered says what the longer history says.
+use Rattle.std.proofs.Common.{◌≡◌, ℕ, ◌+◌, ◌-◌, ◌*◌, ◌/◌, ◌<◌, ◌≤◌, ◌^◌, Bool, true, false, not, cond, List, [], ◌∷◌, ◌++◌, length, filter, find, All, Option, Some, None, Result, Ok, Err, refl, sym, ap, ap₂, subst, ◌∙◌, arith, eqb, ltb, leb, inl, inr, append-nil, length-append}
+use Rattle.std.specs.Prelude.{◌&&◌, ◌||◌, ◌==◌, min, max, option_map, option_to_list, unwrap_or, position, count_by, sum_by, bytes_eq, filter_map}
+use Rattle.std.specs.Option.{option_or}
+use Rattle.std.specs.List.{list_any, cons_option, position_or_len}
+use Rattle.std.specs.Result.{result_ok}
+use Rattle.std.proofs.lemmas.Bool.{ltb-false, lt-ltb, le-ltb, eq-eqb, cases_lt}
+use Rattle.std.proofs.lemmas.List.Elements.{filter-append, filter_map-append}
+use Rattle.std.proofs.lemmas.List.Folds.{find-append, list_any-append, position_or_len_push}
+use Rattle.std.proofs.lemmas.List.Sums.{sum_by-append}
+use Rattle.hex.specs.Hex.{encode_lower}
+use Rattle.scrip_form.specs.Identities.{issuer_of, epoch_of, series_of, numbered}
+use Rattle.scrip_form.specs.Issuing.{Issuing, series_end}
+use Rattle.scrip_form.specs.Scrip.{Scrip, Certified}
+use Rattle.scrip_form.specs.Reading.{scrip_of}
+use Rattle.mc_records.specs.declared.limits.Limits.{Limits}
+use Rattle.mc_records.specs.declared.refusal.Refusal.TheVariants.{TooLittle, NoSuchGoods}
+use Rattle.mc_records.specs.Limits.{AreInRange}
+use Rattle.mc_records.specs.Entry.{House, Entry, Site, AddTerms, Goods, Accept, Mint, Account, Deposit, Withdraw, Draw, Licence, Stock, Got, Pend, Done, Refused, goods_deed, moment_of, payload}
+use Rattle.mc_records.specs.Requests.{Asked}
+use Rattle.mc_records.specs.Sizes.{size}
+use Rattle.kept_replies.specs.declared.deed.KeptEntry.{KeptEntry}
+use Rattle.kept_replies.specs.Requests.{is_same_text, is_same_request}
+use Rattle.kept_replies.specs.Kept.{KeptReply, KeptView, is_in_time, found}
+use Rattle.change_issue.specs.Registers.{count_in, issued_in, redeemed_in, next_in}
+use Rattle.ledger_model.specs.Histories.{History, time}
+use Rattle.ledger_model.specs.Houses.{site_name, site_kind, house, keeping, is_clear, is_vendor, terms_of, all_terms, terms_by, terms_in}
+use Rattle.ledger_model.specs.Goods.{price_in}
+use Rattle.ledger_model.specs.Pieces.{piece_of, accepted_piece, accepted, is_spent, change_from, change_piece, own_out_from, own_out, minted, own_count}
+use Rattle.ledger_model.specs.Sums.{price_paid, takings, values}
+use Rattle.ledger_model.specs.Lines.{Stop, given, refused_if, ◌>>=◌}
+use Rattle.ledger_model.specs.Stages.{Offer, is_repeat, is_same_sign, shelf_by}
+use Rattle.ledger_model.specs.Answer.{offer, desk_offer, answer, Take}
+use Rattle.ledger_model.specs.Lawful.{IsLawful}
+use Rattle.ledger_model.proofs.TableLaws.{line_ok, refused_ok, ok_is, Through, answer_through}
+use Rattle.ledger_model.proofs.AcceptLaws.{accepted_snoc}
+use Rattle.ledger_model.proofs.SerialLaws.{own_out_snoc, minted_snoc, count-append}
+use Rattle.ledger_model.proofs.FollowLaws.{same_request, taken_lawful, size_snoc}
+use Rattle.house_core.specs.declared.verdict.Acceptance.{Acceptance}
+use Rattle.house_core.specs.Views.{entry_deed}
+use Rattle.house_core.specs.Spent.{is_marked}
+use Rattle.house_core.specs.Books.{BooksView, HasChange, IsEntered, series_now, kept_entry, at_series, change_count, change_worth}
+use Rattle.house_core.specs.Stands.{Stands, has_ended, scrip_request, of_series}
+use Rattle.house_core.specs.Verdicts.{accept_entry, IsReady}
+use Rattle.house_core.proofs.Entering.{at_most}
+
+-- ---- what the first entry founds
+
+record SameHouse (h k : History) : Type 0 where
+  pub name : site_name k ≡ site_name h
+  pub house : house k ≡ house h
+  pub kind : site_kind k ≡ site_kind h
+
+same_house : (limits : Limits) (h : History) (e : Entry) → IsLawful limits h → SameHouse h (h ++ e ∷ [])
+same_house limits [] e lawful = absurd lawful
+same_house limits (Site m k name house ∷ xs) e lawful = record { name = refl; house = refl; kind = refl }
+same_house limits (AddTerms m terms ∷ xs) e lawful = record { name = refl; house = refl; kind = refl }
+same_house limits (Goods m target price k contents ∷ xs) e lawful = record { name = refl; house = refl; kind = refl }
+same_house limits (Accept m scrip target sign price change deed ∷ xs) e lawful = record { name = refl; house = refl; kind = refl }
+same_house limits (Mint m reference count value first ∷ xs) e lawful = record { name = refl; house = refl; kind = refl }
+same_house limits (Account m name key ∷ xs) e lawful = record { name = refl; house = refl; kind = refl }
+same_house limits (Deposit m name amount reference ∷ xs) e lawful = record { name = refl; house = refl; kind = refl }
+same_house limits (Withdraw m name amount reference ∷ xs) e lawful = record { name = refl; house = refl; kind = refl }
+same_house limits (Draw m target sign drawn ∷ xs) e lawful = record { name = refl; house = refl; kind = refl }
+same_house limits (Licence m vendor terms ∷ xs) e lawful = record { name = refl; house = refl; kind = refl }
+same_house limits (Stock m vendor pieces ∷ xs) e lawful = record { name = refl; house = refl; kind = refl }
+same_house limits (Got m pieces ∷ xs) e lawful = record { name = refl; house = refl; kind = refl }
+same_house limits (Pend m ask peer target scrip secret ∷ xs) e lawful = record { name = refl; house = refl; kind = refl }
+same_house limits (Done m n price change got ∷ xs) e lawful = record { name = refl; house = refl; kind = refl }
+same_house limits (Refused m n refusal ∷ xs) e lawful = record { name = refl; house = refl; kind = refl }
+
+pub kind_stays : (limits : Limits) (h : History) (e : Entry) → IsLawful limits h → site_kind (h ++ e ∷ []) ≡ site_kind h
+kind_stays limits h e lawful = (same_house limits h e lawful).kind
+
+-- ---- the time
+
+time_snoc : (h : History) (e : Entry) → time (h ++ e ∷ []) ≡ max (time h) (moment_of e)
+time_snoc [] e = omega arith
+time_snoc (x ∷ xs) e = omega (arith, time_snoc xs e)
+
+-- ---- repeats
+
+place_within : (p : Entry → Bool) (h : History) → position_or_len p h ≤ length h
+place_within p [] = omega arith
+place_within p (x ∷ xs) = go (p x) (place_within p xs)
+  where
+    go : (b : Bool) → position_or_len p xs ≤ length xs → cond (not b) (1 + position_or_len p xs) 0 ≤ length (x ∷ xs)
+    go true le = omega arith
+    go false le = omega (arith, le)
+
+position_snoc : (p : Entry → Bool) (h : History) (e : Entry) → position p (h ++ e ∷ []) ≡ option_or (position p h) (cond (p e) (Some (length h)) None)
+position_snoc p h e = elim (cases_lt (position_or_len p h) (length h)) [
+  | inl lt ↦ here lt
+  | inr ge ↦ let same : position_or_len p h ≡ length h = omega (arith, ge, place_within p h) in at_end (p e) refl same
+]
+  where
+    n : ℕ
+    n = position_or_len p h
+
+    longer : length (h ++ e ∷ []) ≡ length h + 1
+    longer = length-append h (e ∷ [])
+
+    here : n < length h → position p (h ++ e ∷ []) ≡ option_or (position p h) (cond (p e) (Some (length h)) None)
+    here lt =
+        let other : eqb n (length h) ≡ false = grind (arith, lt) in
+        let place : position_or_len p (h ++ e ∷ []) ≡ n = rw (position_or_len_push p h e, other) refl in
+        rw (place, longer, lt-ltb n (length h + 1) (omega (arith, lt)), lt-ltb n (length h) lt) refl
+
+    at_end : (b : Bool) → p e ≡ b → n ≡ length h → position p (h ++ e ∷ []) ≡ option_or (position p h) (cond (p e) (Some (length h)) None)
+    at_end true is same =
+        let place : position_or_len p (h ++ e ∷ []) ≡ length h = rw (position_or_len_push p h e, eq-eqb n (length h) same, is) (omega arith) in
+        let below : length h < length h + 1 = omega arith in
+        rw (place, longer, lt-ltb (length h) (length h + 1) below, le-ltb n (length h) (omega (arith, same)), is) refl
+    at_end false is same =
+        let place : position_or_len p (h ++ e ∷ []) ≡ length h + 1 = rw (position_or_len_push p h e, eq-eqb n (length h) same, is) (omega arith) in
+        rw (place, longer, le-ltb (length h + 1) (length h + 1) (omega arith), le-ltb n (length h) (omega (arith, same)), is) refl
+
+sign_as_text : (sign other : Option (List ℕ)) → is_same_text (option_map encode_lower sign) other ≡ is_same_sign sign other
+sign_as_text None None = refl
+sign_as_text None (Some t) = refl
+sign_as_text (Some s) None = refl
+sign_as_text (Some s) (Some t) = refl
+
+swap_and : (a b c d : Bool) → (a && b && c && d) ≡ (b && a && c && d)
+swap_and true true c d = refl
+swap_and true false c d = refl
+swap_and false true c d = refl
+swap_and false false c d = refl
+
+number_or : (o : Option KeptReply) (b : Bool) (r : KeptReply) → option_or (option_map (λ e. e.number) (option_map (λ x. x.entry) o)) (cond b (Some r.entry.number) None)
+    ≡ option_map (λ e. e.number) (option_map (λ x. x.entry) (option_or o (cond b (Some r) None)))
+number_or None true r = refl
+number_or None false r = refl
+number_or (Some x) true r = refl
+number_or (Some x) false r = refl
+
+-- ---- sums and counts at one more piece
+
+or_end : (b : Bool) → (b || false) ≡ b
+or_end true = refl
+or_end false = refl
+
+one_value : (series s value : ℕ) (p : Scrip) → series_of p.id ≡ series → p.value ≡ value → values (of_series s (p ∷ [])) ≡ at_series series value s
+one_value series s value p is same = rw is (go (eqb series s))
+  where
+    go : (b : Bool) → values (cond b (p ∷ []) []) ≡ cond b value 0
+    go true = omega (arith, same)
+    go false = refl
+
+one_count : (series s : ℕ) (p : Scrip) → series_of p.id ≡ series → count_by (λ x. series_of x.id == s) (p ∷ []) ≡ at_series series 1 s
+one_count series s p is = let one : count_by (λ x. series_of x.id == s) (p ∷ []) ≡ at_series (series_of p.id) 1 s = omega arith in one ∙ ap (λ (n : ℕ). at_series n 1 s) is
+
+zero_at : (series s : ℕ) → at_series series 0 s ≡ 0
+zero_at series s = omega (arith, at_most series 0 s)
+
+values_more : (s : ℕ) (ps qs : List Scrip) → values (of_series s (ps ++ qs)) ≡ values (of_series s ps) + values (of_series s qs)
+values_more s ps qs =
+    let test : Scrip → Bool = λ p. series_of p.id == s in
+    ap values (filter-append test ps qs) ∙ sum_by-append (λ (p : Scrip). p.value) (filter test ps) (filter test qs)
+
+-- ---- what an offer costs
+
+offer_below : (h : History) (t : ℕ) (limits : Limits) (target : List ℕ) (value : ℕ) (o : Offer) → offer h t limits target value ≡ Ok o → o.price ≤ value
+offer_below h t limits target value o e = by_kind (is_vendor h) e
+  where
+    on_shelf : shelf_by (price_in h target) value ≡ Ok o → o.price ≤ value
+    on_shelf r =
+        let a = line_ok (given (price_in h target) NoSuchGoods) (λ price. refused_if (ltb value price) (TooLittle price) >>= λ _. Ok (record { price = price; deed = goods_deed })) o r in
+        let b = line_ok (refused_if (ltb value a.0) (TooLittle a.0)) (λ _. Ok (record { price = a.0; deed = goods_deed })) o a.2 in
+        let le : a.0 ≤ value = ltb-false value a.0 (refused_ok _ _ b.0 b.1) in
+        let is : a.0 ≡ o.price = ap (λ (x : Offer). x.price) (ok_is _ o b.2) in
+        omega arith
+
+    by_kind : (b : Bool) → cond b (shelf_by (price_in h target) value) (desk_offer h t limits target value) ≡ Ok o → o.price ≤ value
+    by_kind true r = on_shelf r
+    by_kind false r = absurd cc
+
+-- ---- the entry
+
+abbrev accept_text : Entry → List ℕ
+accept_text (Accept m scrip target sign price change deed) = scrip
+accept_text _ = []
+
+abbrev accept_sign : Entry → Option (List ℕ)
+accept_sign (Accept m scrip target sign price change deed) = sign
+accept_sign _ = None
+
+-- what is known of an acceptance that the answer takes
+record IsTaken (h : History) (t : ℕ) (q : Asked) (c : Certified) (a : Acceptance) : Type 0 where
+  pub piece : piece_of c.text ≡ Some c.piece
+  pub price : a.price ≤ c.piece.value
+  pub sign : option_map encode_lower a.sign ≡ q.sign
+
+is_taken : (h : History) (t : ℕ) (limits : Limits) (q : Asked) (c : Certified) (a : Acceptance) → scrip_of c.text ≡ Ok (c.piece, c.cert)
+    → answer h t limits q ≡ Take (accept_entry t c.text q.target a) → IsTaken h t q c a
+is_taken h t limits q c a read takes =
+    let e = accept_entry t c.text q.target a in
+    let x = answer_through h t limits q e takes in
+    let text : x.scrip.text ≡ c.text = ap accept_text x.is in
+    let sign : x.sign ≡ a.sign = ap accept_sign x.is in
+    let price : x.offered.price ≡ a.price = ap price_paid x.is in
+    let whole : Scrip × List ℕ = (x.scrip.piece, x.scrip.cert) in
+    let pair : whole ≡ (c.piece, c.cert) = cc (x.is_scrip, ap scrip_of text, read) in
+    let piece : x.scrip.piece ≡ c.piece = ap (λ (p : Scrip × List ℕ). p.0) pair in
+    let below : x.offered.price ≤ x.scrip.piece.value = offer_below h t limits q.target x.scrip.piece.value x.offered x.is_offered in
+    record {
+      piece = ap (λ (r : Result (Scrip × List ℕ) ℕ). option_map (λ p. p.0) (result_ok r)) read;
+      price = omega (arith, below, price, ap (λ (p : Scrip). p.value) piece);
+      sign = ap (option_map encode_lower) (sym sign) ∙ ap (λ (p : Asked). p.sign) (same_request h t limits q e x);
+    }
+
+-- ---- the change
+
+-- the change piece of an entry is of the series in which it was handed out
+series_is : (b : BooksView) (id : ℕ) → count_in b.own (series_now b) < 2 ^ 32 → id ≡ next_in b.own (series_now b) → series_of id ≡ series_now b
+series_is b id below is = omega (arith, below, is)
+
+change_counted : (h : History) (b : BooksView) (text target : List ℕ) (paid : Scrip) (a : Acceptance) (s : ℕ) → b.own.most ≤ 2 ^ 32 → piece_of text ≡ Some paid → HasChange b a.price paid.value a.change
+    → count_by (λ p. series_of p.id == s) (option_to_list (change_piece h (accept_entry b.time text target a))) ≡ at_series (series_now b) (change_count a.change) s
+change_counted h b text target paid a s most piece has = go a.change has
+  where
+    go : (o : Option ℕ) → HasChange b a.price paid.value o
+        → count_by (λ p. series_of p.id == s) (option_to_list (change_piece h (Accept b.time text target a.sign a.price o (entry_deed a.deed)))) ≡ at_series (series_now b) (change_count o) s
+    go None has = sym (zero_at (series_now b) s)
+    go (Some id) has =
+        let series : series_of id ≡ series_now b = series_is b id (omega (arith, most, has.1)) has.2 in
+        ap (λ (o : Option Scrip). count_by (λ p. series_of p.id == s) (option_to_list (option_map (λ p. change_from h p a.price id) o))) piece
+        ∙ one_count (series_now b) s (change_from h paid a.price id) series
+
+change_worthy : (h : History) (b : BooksView) (text target : List ℕ) (paid : Scrip) (a : Acceptance) (s : ℕ) → b.own.most ≤ 2 ^ 32 → piece_of text ≡ Some paid → HasChange b a.price paid.value a.change
+    → values (of_series s (option_to_list (change_piece h (accept_entry b.time text target a)))) ≡ at_series (series_now b) (change_worth a.price paid.value a.change) s
+change_worthy h b text target paid a s most piece has = go a.change has
+  where
+    go : (o : Option ℕ) → HasChange b a.price paid.value o
+        → values (of_series s (option_to_list (change_piece h (Accept b.time text target a.sign a.price o (entry_deed a.deed))))) ≡ at_series (series_now b) (change_worth a.price paid.value o) s
+    go None has = sym (zero_at (series_now b) s)
+    go (Some id) has =
+        let series : series_of id ≡ series_now b = series_is b id (omega (arith, most, has.1)) has.2 in
+        ap (λ (o : Option Scrip). values (of_series s (option_to_list (option_map (λ p. change_from h p a.price id) o)))) piece
+        ∙ one_value (series_now b) s (paid.value - a.price) (change_from h paid a.price id) series refl
+
+own_count_snoc : (h : History) (b : BooksView) (text target : List ℕ) (a : Acceptance) (s : ℕ)
+    → own_count (h ++ accept_entry b.time text target a ∷ []) s ≡ own_count h s + count_by (λ p. series_of p.id == s) (option_to_list (change_piece h (accept_entry b.time text target a)))
+own_count_snoc h b text target a s =
+    let e = accept_entry b.time text target a in
+    let test : Scrip → Bool = λ p. series_of p.id == s in
+    let change = option_to_list (change_piece h e) in
+    let out = own_out_snoc [] h e in
+    let made : minted (h ++ e ∷ []) ≡ minted h = minted_snoc [] h e ∙ append-nil (minted h) in
+    let longer : own_count (h ++ e ∷ []) s ≡ count_by test ((own_out h ++ change) ++ minted h) = ap₂ (λ (ps qs : List Scrip). count_by test (ps ++ qs)) out made in
+    omega (arith, longer, count-append test (own_out h ++ change) (minted h), count-append test (own_out h) change, count-append test (own_out h) (minted h))
+
+-- ---- the books
+
+all_terms_stay : (h : History) (b : BooksView) (text target : List ℕ) (a : Acceptance) → all_terms (h ++ accept_entry b.time text target a ∷ []) ≡ all_terms h
+all_terms_stay h b text target a = filter_map-append terms_of h (accept_entry b.time text target a ∷ []) ∙ append-nil (all_terms h)
+
+accepted_more : (h : History) (b : BooksView) (text target : List ℕ) (paid : Scrip) (a : Acceptance) → piece_of text ≡ Some paid
+    → accepted (h ++ accept_entry b.time text target a ∷ []) ≡ accepted h ++ paid ∷ []
+accepted_more h b text target paid a piece =
+    let e = accept_entry b.time text target a in
+    accepted_snoc h e ∙ ap (λ (o : Option Scrip). accepted h ++ cons_option o []) piece
+
+-- a repeat of the new entry is a repeat of its reply
+repeats_alike : (b : BooksView) (paid : Scrip) (a : Acceptance) (t : ℕ) (text target : List ℕ) (own own_target : List ℕ) (own_sign sign : Option (List ℕ)) → option_map encode_lower a.sign ≡ own_sign
+    → is_repeat b.kept.keep t text target sign (accept_entry b.time own own_target a)
+    ≡ (is_same_request (scrip_request own own_target own_sign) (scrip_request text target sign) && is_in_time b.kept.keep t (record { asked = scrip_request own own_target own_sign; entry = kept_entry b paid a }))
+repeats_alike b paid a t text target own own_target own_sign sign same =
+    swap_and (bytes_eq own text) (bytes_eq own_target target) (is_same_sign a.sign sign) (ltb t (b.time + b.kept.keep))
+    ∙ ap (λ (x : Bool). bytes_eq own_target target && bytes_eq own text && x && ltb t (b.time + b.kept.keep)) (sym (sign_as_text a.sign sign) ∙ ap (λ (o : Option (List ℕ)). is_same_text o sign) same)
+
+again_more : {old new : BooksView} {h : History} → Stands old h → (q : Asked) (c : Certified) (a : Acceptance) → option_map encode_lower a.sign ≡ q.sign
+    → IsEntered old new (scrip_request c.text q.target q.sign) c.piece a
+    → (t : ℕ) (text target : List ℕ) (sign : Option (List ℕ)) → old.time ≤ t
+    → position (is_repeat (keeping h) t text target sign) (h ++ accept_entry old.time c.text q.target a ∷ []) ≡ option_map (λ e. e.number) (found new.kept t (scrip_request text target sign))
+again_more {old = old} {new = new} {h = h} st q c a same is t text target sign later =
+    let e = accept_entry old.time c.text q.target a in
+    let r : KeptReply = record { asked = scrip_request c.text q.target q.sign; entry = kept_entry old c.piece a } in
+    let asks : KeptReply → Bool = λ x. is_same_request x.asked (scrip_request text target sign) && is_in_time old.kept.keep t x in
+    let number : Option KeptReply → Option ℕ = λ o. option_map (λ x. x.number) (option_map (λ x. x.entry) o) in
+    let one : is_repeat (keeping h) t text target sign e ≡ asks r =
+    ap (λ (k : ℕ). is_repeat k t text target sign e) st.keep ∙ repeats_alike old c.piece a t text target c.text q.target q.sign sign same in
+    let kept : number (find asks (old.kept.replies ++ r ∷ [])) ≡ option_map (λ x. x.number) (found new.kept t (scrip_request text target sign)) =
+    ap₂ (λ (k : ℕ) (rs : List KeptReply). number (find (λ x. is_same_request x.asked (scrip_request text target sign) && is_in_time k t x) rs)) (sym is.keep) (sym is.replies) in
+    position_snoc (is_repeat (keeping h) t text target sign) h e
+    ∙ ap₂ (λ (o : Option ℕ) (b : Bool). option_or o (cond b (Some (length h)) None)) (st.again t text target sign later) one
+    ∙ ap (λ (n : ℕ). option_or (number (find asks old.kept.replies)) (cond (asks r) (Some n) None)) st.counted
+    ∙ number_or (find asks old.kept.replies) (asks r) r
+    ∙ ap number (sym (find-append asks old.kept.replies (r ∷ [])))
+    ∙ kept
+
+pub stands_entered : {old new : BooksView} {h : History} → Stands old h → (q : Asked) (c : Certified) (a : Acceptance) → scrip_of c.text ≡ Ok (c.piece, c.cert)
+    → IsReady old c q.target a → answer h old.time old.limits q ≡ Take (accept_entry old.time c.text q.target a)
+    → IsEntered old new (scrip_request c.text q.target q.sign) c.piece a → Stands new (h ++ accept_entry old.time c.text q.target a ∷ [])
+stands_entered {old = old} {new = new} {h = h} st q c a read ready takes is =
+    let e = accept_entry old.time c.text q.target a in
+    let taken = is_taken h old.time old.limits q c a read takes in
+    let same = same_house old.limits h e st.lawful in
+    let terms = all_terms_stay h old c.text q.target a in
+    let most : old.own.most ≤ 2 ^ 32 = omega (arith, st.most, st.limits.series_most) in
+    let accepts = accepted_more h old c.text q.target c.piece a taken.piece in
+    record {
+      name = same.name ∙ st.name ∙ sym is.name;
+      clear = ap (λ (o : Option House). unwrap_or (option_map (λ x. x.clear) o) false) same.house ∙ st.clear ∙ sym is.clear;
+      keep = ap (λ (o : Option House). unwrap_or (option_map (λ x. x.keep) o) 0) same.house ∙ st.keep ∙ sym is.keep;
+      terms = terms ∙ st.terms ∙ sym is.terms;
+      own_terms = ap (λ (ts : List Issuing). terms_by ts 0) terms ∙ st.own_terms ∙ ap some (sym is.own_terms);
+      issuer = is.issuer ∙ st.issuer ∙ sym is.own_terms;
+      in_time = omega (arith, time_snoc h e, st.in_time, is.time);
+      spent = λ id live.
+          let ends : has_ended (h ++ e ∷ []) new.time id ≡ has_ended h old.time id =
+          ap₂ (λ (ts : List Issuing) (t : ℕ). unwrap_or (option_map (λ x. leb (series_end x (epoch_of id)) t) (terms_by ts (issuer_of id))) false) terms is.time in
+          ap (list_any (λ p. p.id == id)) accepts ∙ list_any-append (λ p. p.id == id) (accepted h) (c.piece ∷ [])
+          ∙ ap₂ (λ (x y : Bool). x || y) (st.spent id (sym ends ∙ live)) (or_end (eqb c.piece.id id)) ∙ sym (is.spent id);
+      again = λ t text target sign later.
+          ap (λ (o : Option House). position (is_repeat (unwrap_or (option_map (λ x. x.keep) o) 0) t text target sign) (h ++ e ∷ [])) same.house
+          ∙ again_more st q c a taken.sign is t text target sign (omega (arith, later, is.time));
+      issued = λ s. own_count_snoc h old c.text q.target a s ∙ ap₂ (λ (m n : ℕ). m + n) (st.issued s) (change_counted h old c.text q.target c.piece a s most taken.piece ready.change) ∙ sym (is.issued s);
+      most = is.most ∙ st.most ∙ ap (λ (l : Limits). l.series) (sym is.limits);
+      redeemed = λ s. ap (λ (ps : List Scrip). values (of_series s ps)) accepts ∙ values_more s (accepted h) (c.piece ∷ [])
+          ∙ ap₂ (λ (m n : ℕ). m + n) (st.redeemed s) (one_value (series_of c.piece.id) s c.piece.value c.piece refl refl) ∙ sym (is.redeemed s);
+      worth = λ s. ap (λ (ps : List Scrip). values (of_series s ps)) (own_out_snoc [] h e) ∙ values_more s (own_out h) (option_to_list (change_piece h e))
+          ∙ ap₂ (λ (m n : ℕ). m + n) (st.worth s) (change_worthy h old c.text q.target c.piece a s most taken.piece ready.change) ∙ sym (is.worth s);
+      takings = omega (arith, sum_by-append price_paid h (e ∷ []), st.takings, is.takings, taken.price);
+      counted = omega (arith, length-append h (e ∷ []), st.counted, is.counted);
+      sized = omega (arith, size_snoc h e, st.sized, ready.payload, is.sized);
+      limits = rw is.limits st.limits;
+      lawful = rw is.limits (taken_lawful h old.time old.limits q e st.lawful st.in_time st.limits.journal_most takes);
+    }
+  where
+    some : Issuing → Option Issuing
+    some t = Some t

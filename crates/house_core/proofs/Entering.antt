@@ -1,0 +1,140 @@
+-- Books before and after an acceptance was entered, by what the calls on the way say.
+use Rattle.std.proofs.Common.{◌≡◌, ℕ, ◌+◌, ◌-◌, ◌*◌, ◌<◌, ◌≤◌, ◌^◌, Bool, true, false, cond, List, [], ◌∷◌, ◌++◌, length, filter, find, All, Option, Some, None, refl, sym, ap, subst, ◌∙◌, arith, eqb, ltb}
+use Rattle.std.specs.Prelude.{◌&&◌, ◌||◌, ◌==◌, min, option_map, IsTrue}
+use Rattle.std.specs.List.{list_any}
+use Rattle.std.proofs.lemmas.Bool.{lt-ltb, cases_lt}
+use Rattle.std.proofs.lemmas.List.Elements.{All-head, All-tail, All-push, All-weaker, All-filter, filter_passes}
+use Rattle.scrip_form.specs.Identities.{series_of}
+use Rattle.scrip_form.specs.Issuing.{Issuing, series_at}
+use Rattle.scrip_form.specs.Scrip.{Scrip, IsPiece, scrip_body}
+use Rattle.scrip_certs.specs.Digests.{certificate}
+use Rattle.mc_records.specs.declared.limits.Limits.{Limits}
+use Rattle.mc_records.specs.Requests.{Asked}
+use Rattle.kept_replies.specs.declared.deed.KeptEntry.{KeptEntry}
+use Rattle.kept_replies.specs.Requests.{is_same_request}
+use Rattle.kept_replies.specs.Kept.{KeptReply, KeptView, is_in_time, found, has_request, has_number, inserted}
+use Rattle.kept_replies.proofs.InsertLaws.{inserted_last}
+use Rattle.change_issue.specs.Registers.{Register, count_in, issued_in, redeemed_in}
+use Rattle.change_issue.specs.IssuedPieces.{issued_piece}
+use Rattle.house_core.specs.declared.verdict.Acceptance.{Acceptance}
+use Rattle.house_core.specs.Spent.{SpentView, is_marked}
+use Rattle.house_core.specs.Books.{BooksView, AreSound, HasChange, IsEntered, series_now, kept_entry, certified_change, at_series, change_count, change_worth}
+
+-- ---- a later time
+
+-- letting go what is over leaves the books sound
+pub sound_later : (b : BooksView) (t : ℕ) (kept : KeptView) → AreSound b → kept.keep ≡ b.kept.keep → kept.replies ≡ filter (is_in_time b.kept.keep t) b.kept.replies → AreSound (record b { time = t; kept = kept })
+sound_later b t kept sound keep replies = record {
+  terms = sound.terms;
+  limits = sound.limits;
+  counted = sound.counted;
+  sized = sound.sized;
+  keeps = subst (λ (n : ℕ). 0 < n) (sym keep) sound.keeps;
+  numbers = subst (All (λ r. r.entry.number < b.count)) (sym replies) (All-filter (is_in_time b.kept.keep t) (λ r. r.entry.number < b.count) b.kept.replies sound.numbers);
+  in_time = subst (λ (n : ℕ). All (λ r. IsTrue (is_in_time n t r)) kept.replies) (sym keep) (subst (All (λ r. IsTrue (is_in_time b.kept.keep t r))) (sym replies) (filter_passes (is_in_time b.kept.keep t) b.kept.replies));
+  redeemed = sound.redeemed;
+  takings = sound.takings;
+}
+
+-- ---- the new reply
+
+pub no_request : (keep now : ℕ) (q : Asked) (rs : List KeptReply) → All (λ r. IsTrue (is_in_time keep now r)) rs
+    → option_map (λ r. r.entry) (find (λ r. is_same_request r.asked q && is_in_time keep now r) rs) ≡ None → has_request rs q ≡ false
+no_request keep now q [] all none = refl
+no_request keep now q (r ∷ rs) all none =
+    go (is_same_request r.asked q) (is_in_time keep now r) (All-head (λ x. IsTrue (is_in_time keep now x)) r rs all) (no_request keep now q rs (All-tail (λ x. IsTrue (is_in_time keep now x)) r rs all)) none
+  where
+    test : KeptReply → Bool
+    test x = is_same_request x.asked q && is_in_time keep now x
+
+    go : (same kept : Bool) → IsTrue kept → (option_map (λ x. x.entry) (find test rs) ≡ None → has_request rs q ≡ false)
+        → option_map (λ x. x.entry) (cond (same && kept) (Some r) (find test rs)) ≡ None → (same || has_request rs q) ≡ false
+    go true true is more e = absurd cc
+    go true false is more e = absurd cc
+    go false true is more e = more e
+    go false false is more e = more e
+
+pub no_number : (n : ℕ) (rs : List KeptReply) → All (λ r. r.entry.number < n) rs → has_number rs n ≡ false
+no_number n [] all = refl
+no_number n (r ∷ rs) all =
+    let below : r.entry.number < n = All-head (λ x. x.entry.number < n) r rs all in
+    let more : has_number rs n ≡ false = no_number n rs (All-tail (λ x. x.entry.number < n) r rs all) in
+    let other : eqb r.entry.number n ≡ false = grind (arith, below) in
+    rw (other, more) refl
+
+-- what is kept of the change
+pub change_is : (old : BooksView) (paid : Scrip) (price : ℕ) (change : Option ℕ) (piece : Option Scrip) (made : Option (Scrip × List ℕ)) → old.own.terms ≡ old.own_terms
+    → piece ≡ option_map (λ id. issued_piece old.own.terms old.time old.name (paid.value - price) id (Some paid.cust) paid.props) change
+    → made ≡ option_map (λ p. (p, certificate old.own_terms (scrip_body p) p.id)) piece
+    → made ≡ option_map (certified_change old paid price) change
+change_is old paid price change piece made same is_piece is_made =
+    is_made ∙ ap certify is_piece ∙ ap (λ (t : Issuing). certify (option_map (λ id. issued_piece t old.time old.name (paid.value - price) id (Some paid.cust) paid.props) change)) same ∙ go change
+  where
+    certify : Option Scrip → Option (Scrip × List ℕ)
+    certify o = option_map (λ p. (p, certificate old.own_terms (scrip_body p) p.id)) o
+
+    go : (o : Option ℕ) → certify (option_map (λ id. issued_piece old.own_terms old.time old.name (paid.value - price) id (Some paid.cust) paid.props) o) ≡ option_map (certified_change old paid price) o
+    go None = refl
+    go (Some id) = refl
+
+pub entered : (old : BooksView) (spent : SpentView) (kept : KeptView) (own : Register) (takings size : ℕ) (q : Asked) (paid : Scrip) (a : Acceptance) (piece : Option Scrip) (made : Option (Scrip × List ℕ)) → AreSound old
+    → ((k : ℕ) → is_marked spent k ≡ (is_marked old.spent k || (paid.id == k)))
+    → kept.keep ≡ old.kept.keep
+    → kept.replies ≡ inserted (record { asked = q; entry = record { number = old.count; moment = old.time; price = a.price; change = made; secret = a.secret; deed = a.deed } }) old.kept.replies
+    → piece ≡ option_map (λ id. issued_piece old.own.terms old.time old.name (paid.value - a.price) id (Some paid.cust) paid.props) a.change
+    → made ≡ option_map (λ p. (p, certificate old.own_terms (scrip_body p) p.id)) piece
+    → own.terms ≡ old.own.terms → own.most ≡ old.own.most
+    → ((s : ℕ) → count_in own s ≡ count_in old.own s + at_series (series_now old) (change_count a.change) s)
+    → ((s : ℕ) → issued_in own s ≡ issued_in old.own s + at_series (series_now old) (change_worth a.price paid.value a.change) s)
+    → ((s : ℕ) → redeemed_in own s ≡ redeemed_in old.own s + at_series (series_of paid.id) paid.value s)
+    → takings ≡ old.takings + min a.price paid.value → size ≡ old.size + a.payload + 5
+    → IsEntered old (record old { spent = spent; kept = kept; own = own; takings = takings; count = old.count + 1; size = size }) q paid a
+entered old spent kept own takings size q paid a piece made sound marks keep replies is_piece is_made terms most count worth redeemed took grown =
+    let change = change_is old paid a.price a.change piece made sound.terms is_piece is_made in
+    let reply : Option (Scrip × List ℕ) → KeptReply = λ c. record { asked = q; entry = record { number = old.count; moment = old.time; price = a.price; change = c; secret = a.secret; deed = a.deed } } in
+    record {
+      name = refl;
+      clear = refl;
+      terms = refl;
+      own_terms = refl;
+      time = refl;
+      limits = refl;
+      spent = marks;
+      keep = keep;
+      replies = replies ∙ inserted_last (reply made) old.kept.replies sound.numbers ∙ ap (λ (c : Option (Scrip × List ℕ)). old.kept.replies ++ reply c ∷ []) change;
+      issuer = terms;
+      most = most;
+      issued = count;
+      worth = worth;
+      redeemed = redeemed;
+      takings = took;
+      counted = refl;
+      sized = grown;
+    }
+
+-- ---- the books stay sound
+
+pub at_most : (series n s : ℕ) → at_series series n s ≤ n
+at_most series n s = go (eqb series s)
+  where
+    go : (b : Bool) → cond b n 0 ≤ n
+    go true = omega arith
+    go false = omega arith
+
+pub sound_entered : (old new : BooksView) (q : Asked) (paid : Scrip) (a : Acceptance) → AreSound old → IsPiece paid → old.size + a.payload + 5 ≤ old.limits.journal → IsEntered old new q paid a → AreSound new
+sound_entered old new q paid a sound piece fits e = record {
+  terms = e.issuer ∙ sound.terms ∙ sym e.own_terms;
+  limits = rw e.limits sound.limits;
+  counted = omega (arith, e.counted, e.sized, sound.counted);
+  sized = omega (arith, e.sized, fits, sound.limits.journal_most);
+  keeps = subst (λ (n : ℕ). 0 < n) (sym e.keep) sound.keeps;
+  numbers = rw (e.replies, e.counted) (All-push (λ r. r.entry.number < old.count + 1) old.kept.replies last
+      (All-weaker (λ r. r.entry.number < old.count) (λ r. r.entry.number < old.count + 1) (λ r lt. omega (arith, lt)) old.kept.replies sound.numbers) (omega arith));
+  in_time = rw (e.replies, e.keep, e.time) (All-push (λ r. IsTrue (is_in_time old.kept.keep old.time r)) old.kept.replies last sound.in_time
+      (let live : old.time < old.time + old.kept.keep = omega (arith, sound.keeps) in lt-ltb old.time (old.time + old.kept.keep) live));
+  redeemed = λ s. omega (arith, e.redeemed s, sound.redeemed s, e.counted, at_most (series_of paid.id) paid.value s, piece.most);
+  takings = omega (arith, e.takings, sound.takings, e.counted, piece.most);
+}
+  where
+    last : KeptReply
+    last = record { asked = q; entry = kept_entry old paid a }

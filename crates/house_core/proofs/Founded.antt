@@ -1,0 +1,96 @@
+-- The books of a house that was just founded stand for its one entry.
+use Rattle.std.proofs.Common.{◌≡◌, ℕ, ◌+◌, ◌≤◌, Bool, List, [], ◌∷◌, length, Option, Some, None, refl, sym, ap, subst, ◌∙◌, arith, eqb}
+use Rattle.std.specs.Prelude.{cond, find, option_map}
+use Rattle.std.proofs.lemmas.Bool.{eq-eqb}
+use Rattle.scrip_form.specs.Issuing.{Issuing}
+use Rattle.mc_records.specs.declared.limits.Limits.{Limits}
+use Rattle.mc_records.specs.Limits.{AreInRange}
+use Rattle.mc_records.specs.Entry.{House, HouseFits, SiteFits, Entry, Site, AddTerms, Goods, Accept, Mint, Account, Deposit, Withdraw, Draw, Licence, Stock, Got, Pend, Done, Refused, moment_of}
+use Rattle.mc_records.specs.Sizes.{size}
+use Rattle.kept_replies.specs.Kept.{KeptReply}
+use Rattle.ledger_model.specs.Histories.{History}
+use Rattle.ledger_model.specs.Houses.{site_kind, terms_by}
+use Rattle.ledger_model.specs.Lawful.{MayFollow}
+use Rattle.house_core.specs.Learning.{MayLearn, ByTrade}
+use Rattle.house_core.specs.Books.{BooksView}
+use Rattle.house_core.specs.Founding.{AreOf, AreFounded, FoundsHouse}
+use Rattle.house_core.specs.Stands.{Stands}
+
+-- a vendor's house has its ranges
+pub house_fits : (limits : Limits) (m kind : ℕ) (name : List ℕ) (h : House) → FoundsHouse (Site m kind name (Some h)) → MayFollow limits [] (Site m kind name (Some h)) → HouseFits 0 h
+house_fits limits m kind name h fits may = subst (λ (k : ℕ). SiteFits k (Some h)) may.allowed.1 fits.house
+
+own_found : (t : Issuing) → t.issuer ≤ 0 → terms_by (t ∷ []) 0 ≡ Some t
+own_found t le = rw (eq-eqb t.issuer 0 (omega (arith, le))) refl
+
+of_site : (b : BooksView) (limits : Limits) (m kind : ℕ) (name : List ℕ) (h : House) → AreOf b limits (Site m kind name (Some h)) → FoundsHouse (Site m kind name (Some h)) → AreInRange limits
+    → MayFollow limits [] (Site m kind name (Some h)) → Stands b (Site m kind name (Some h) ∷ [])
+of_site b limits m kind name h is fits range may =
+    let house = house_fits limits m kind name h fits may in
+    record {
+      name = sym is.name;
+      clear = sym is.clear;
+      keep = sym is.keep;
+      terms = sym is.terms;
+      own_terms = own_found h.terms house.terms.issuer.1 ∙ ap some (sym is.own_terms);
+      issuer = is.issuer ∙ sym is.own_terms;
+      in_time = omega (arith, is.time);
+      spent = λ id live. sym (is.spent id);
+      again = λ t text target sign later. rw is.replies refl;
+      issued = λ s. sym (is.issued s);
+      most = is.most ∙ ap (λ (l : Limits). l.series) (sym is.limits);
+      redeemed = λ s. sym (is.redeemed s);
+      worth = λ s. sym (is.worth s);
+      takings = sym is.takings;
+      counted = sym is.counted;
+      sized = omega (arith, is.sized);
+      limits = rw is.limits range;
+      lawful = rw is.limits (may, tt);
+    }
+  where
+    some : Issuing → Option Issuing
+    some t = Some t
+
+pub stands_founded : (b : BooksView) (limits : Limits) (e : Entry) → AreOf b limits e → FoundsHouse e → AreInRange limits → MayFollow limits [] e → Stands b (e ∷ [])
+stands_founded b limits (Site m kind name (Some h)) is fits range may = of_site b limits m kind name h is fits range may
+stands_founded b limits (Site m kind name None) is fits range may = absurd fits
+stands_founded b limits (AddTerms m terms) is fits range may = absurd fits
+stands_founded b limits (Goods m target price k contents) is fits range may = absurd fits
+stands_founded b limits (Accept m scrip target sign price change deed) is fits range may = absurd fits
+stands_founded b limits (Mint m reference count value first) is fits range may = absurd fits
+stands_founded b limits (Account m name key) is fits range may = absurd fits
+stands_founded b limits (Deposit m name amount reference) is fits range may = absurd fits
+stands_founded b limits (Withdraw m name amount reference) is fits range may = absurd fits
+stands_founded b limits (Draw m target sign drawn) is fits range may = absurd fits
+stands_founded b limits (Licence m vendor terms) is fits range may = absurd fits
+stands_founded b limits (Stock m vendor pieces) is fits range may = absurd fits
+stands_founded b limits (Got m pieces) is fits range may = absurd fits
+stands_founded b limits (Pend m ask peer target scrip secret) is fits range may = absurd fits
+stands_founded b limits (Done m n price change got) is fits range may = absurd fits
+stands_founded b limits (Refused m n refusal) is fits range may = absurd fits
+
+-- ---- the trade learns the entry
+
+abbrev some : ℕ → Option ℕ
+some n = Some n
+
+some_is : (a b : ℕ) → some a ≡ some b → a ≡ b
+some_is a b e = cc
+
+pub learns_site : (limits : Limits) (kind : ℕ) (e : Entry) → FoundsHouse e → MayFollow limits [] e → site_kind (e ∷ []) ≡ Some kind → MayLearn limits kind 0 [] e
+learns_site limits kind (Site m k name (Some h)) fits may same = record { counted = refl; in_order = may.in_order; by_house = (refl, some_is k kind same) }
+learns_site limits kind (Site m k name None) fits may same = absurd fits
+learns_site limits kind (AddTerms m terms) fits may same = absurd fits
+learns_site limits kind (Goods m target price k contents) fits may same = absurd fits
+learns_site limits kind (Accept m scrip target sign price change deed) fits may same = absurd fits
+learns_site limits kind (Mint m reference count value first) fits may same = absurd fits
+learns_site limits kind (Account m name key) fits may same = absurd fits
+learns_site limits kind (Deposit m name amount reference) fits may same = absurd fits
+learns_site limits kind (Withdraw m name amount reference) fits may same = absurd fits
+learns_site limits kind (Draw m target sign drawn) fits may same = absurd fits
+learns_site limits kind (Licence m vendor terms) fits may same = absurd fits
+learns_site limits kind (Stock m vendor pieces) fits may same = absurd fits
+learns_site limits kind (Got m pieces) fits may same = absurd fits
+learns_site limits kind (Pend m ask peer target scrip secret) fits may same = absurd fits
+learns_site limits kind (Done m n price change got) fits may same = absurd fits
+learns_site limits kind (Refused m n refusal) fits may same = absurd fits

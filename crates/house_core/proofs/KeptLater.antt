@@ -1,0 +1,113 @@
+-- What is kept still stands at a later house time.
+use Rattle.std.proofs.Common.{◌≡◌, ℕ, ◌+◌, ◌<◌, ◌≤◌, Bool, true, false, cond, List, [], ◌∷◌, length, get_or, filter, find, All, IfSome, Option, Some, None, refl, sym, ap, subst, ◌∙◌, arith, ltb, leb}
+use Rattle.std.specs.Prelude.{◌&&◌, IsNone, ◌↔◌, option_map, position, max, unwrap_or}
+use Rattle.std.proofs.lemmas.Bool.{and_parts, ltb-true, lt-ltb, leb-false}
+use Rattle.std.proofs.lemmas.List.Elements.{All-filter}
+use Rattle.mc_records.specs.Requests.{Asked}
+use Rattle.kept_replies.specs.declared.deed.Deed.{Deed}
+use Rattle.kept_replies.specs.declared.deed.Deed.TheVariants as kept
+use Rattle.kept_replies.specs.declared.deed.KeptEntry.{KeptEntry}
+use Rattle.kept_replies.specs.Requests.{is_same_request}
+use Rattle.kept_replies.specs.Kept.{KeptReply, KeptView, is_in_time, found}
+use Rattle.scrip_form.specs.Identities.{issuer_of, epoch_of}
+use Rattle.scrip_form.specs.Issuing.{Issuing, series_end}
+use Rattle.ledger_model.specs.Histories.{History}
+use Rattle.ledger_model.specs.Houses.{terms_in}
+use Rattle.house_core.specs.Books.{BooksView}
+use Rattle.house_core.specs.declared.bench.Bench.{Bench}
+use Rattle.house_core.specs.Trade.{Replaces, LiesBehind, IsKeptFrom, IsHeld}
+use Rattle.house_core.specs.Stands.{Stands, has_ended, scrip_request}
+use Rattle.house_core.specs.Bench.{IsInForceFor, Holds, HasContents}
+
+-- ---- replies
+
+-- a filter that keeps what a test finds
+pub find_filter : {X : Type 0} (p q : X → Bool) → ((x : X) → p x ≡ true → q x ≡ true) → (xs : List X) → find p (filter q xs) ≡ find p xs
+find_filter p q keeps [] = refl
+find_filter {X = X} p q keeps (y ∷ ys) = go (p y) (q y) (keeps y) refl (find_filter p q keeps ys)
+  where
+    go : (a b : Bool) → (a ≡ true → b ≡ true) → p y ≡ a → find p (filter q ys) ≡ find p ys → find p (cond b (y ∷ filter q ys) (filter q ys)) ≡ cond a (Some y) (find p ys)
+    go true true k is ih = rw is refl
+    go true false k is ih = let never : false ≡ true = k refl in absurd cc
+    go false true k is ih = rw is ih
+    go false false k is ih = ih
+
+-- what is in time later is in time now
+in_time_before : (keep now t : ℕ) (r : KeptReply) → now ≤ t → is_in_time keep t r ≡ true → is_in_time keep now r ≡ true
+in_time_before keep now t r le is = let before = ltb-true t (r.entry.moment + keep) is in lt-ltb now (r.entry.moment + keep) (omega (arith, before))
+
+-- letting go what is over changes nothing that is found from then on
+pub found_later : (old new : KeptView) (now t : ℕ) (q : Asked) → new.keep ≡ old.keep → new.replies ≡ filter (is_in_time old.keep now) old.replies → now ≤ t → found new t q ≡ found old t q
+found_later old new now t q keep replies le =
+    let test : ℕ → KeptReply → Bool = λ k r. is_same_request r.asked q && is_in_time k t r in
+    let entry : Option KeptReply → Option KeptEntry = option_map (λ r. r.entry) in
+    ap (λ (k : ℕ). entry (find (test k) new.replies)) keep
+    ∙ ap (λ (rs : List KeptReply). entry (find (test old.keep) rs)) replies
+    ∙ ap entry (find_filter (test old.keep) (is_in_time old.keep now) (λ r passes. in_time_before old.keep now t r le (and_parts (is_same_request r.asked q) (is_in_time old.keep t r) passes).1) old.replies)
+
+-- ---- contents
+
+-- what is held for a reply that is kept is still held
+still_held : (old new : ℕ → Type 0) (h : History) (from : Option ℕ) (number : ℕ) → ((n : ℕ) → IsKeptFrom h from n → old n → new n) → ((m : ℕ) → number < m → LiesBehind from m)
+    → (d : Deed) → IsHeld (λ n. (m : ℕ) → Replaces h n m → number < m) d → IsHeld old d → IsHeld new d
+still_held old new h from number keeps behind (kept.Goods n) later held = keeps n (λ m replaces. behind m (later m replaces)) held
+still_held old new h from number keeps behind (kept.Sale piece cert secret stock) later held = tt
+still_held old new h from number keeps behind (kept.Credit balance) later held = tt
+still_held old new h from number keeps behind (kept.Draw piece cert secret) later held = tt
+
+-- a number above one that is kept lies behind the first
+lies_behind : (from : Option ℕ) (rs : List KeptReply) (k : ℕ) (d : KeptReply) → k < length rs → IfSome from (λ n. All (λ r. n ≤ r.entry.number) rs) → (from ≡ None → rs ≡ [])
+    → (m : ℕ) → (get_or rs k d).entry.number < m → LiesBehind from m
+lies_behind None rs k d lt least none m above = let empty : length rs ≡ 0 = ap length (none refl) in absurd (omega (arith, empty, lt))
+lies_behind (Some n) rs k d lt least none m above = let first = least k d lt in omega (arith, first, above)
+
+pub all_held : (old new : ℕ → Type 0) (h : History) (from : Option ℕ) (rs : List KeptReply) → ((n : ℕ) → IsKeptFrom h from n → old n → new n)
+    → IfSome from (λ n. All (λ r. n ≤ r.entry.number) rs) → (from ≡ None → rs ≡ [])
+    → All (IsInForceFor h) rs → All (λ r. IsHeld old r.entry.deed) rs → All (λ r. IsHeld new r.entry.deed) rs
+all_held old new h from rs keeps least none in_force held k d lt =
+    still_held old new h from (get_or rs k d).entry.number keeps (λ m above. lies_behind from rs k d lt least none m above) (get_or rs k d).entry.deed (in_force k d lt) (held k d lt)
+
+-- ---- the books
+
+-- a series that has not ended later has not ended now
+live_before : (h : History) (t u id : ℕ) → t ≤ u → has_ended h u id ≡ false → has_ended h t id ≡ false
+live_before h t u id le = by_terms (terms_in h (issuer_of id))
+  where
+    by_terms : (o : Option Issuing) → unwrap_or (option_map (λ x. leb (series_end x (epoch_of id)) u) o) false ≡ false
+        → unwrap_or (option_map (λ x. leb (series_end x (epoch_of id)) t) o) false ≡ false
+    by_terms None live = refl
+    by_terms (Some x) live = let above : u < series_end x (epoch_of id) = leb-false (series_end x (epoch_of id)) u live in grind (arith, above, le)
+
+pub stands_later : {b : BooksView} {h : History} → Stands b h → (t : ℕ) (kept : KeptView) → b.time ≤ t → kept.keep ≡ b.kept.keep → kept.replies ≡ filter (is_in_time b.kept.keep t) b.kept.replies
+    → Stands (record b { time = t; kept = kept }) h
+stands_later {b = b} {h = h} st t kept le keep replies = record {
+  name = st.name;
+  clear = st.clear;
+  keep = st.keep ∙ sym keep;
+  terms = st.terms;
+  own_terms = st.own_terms;
+  issuer = st.issuer;
+  in_time = omega (arith, st.in_time, le);
+  spent = λ id live. st.spent id (live_before h b.time t id le live);
+  again = λ u text target sign later. st.again u text target sign (omega (arith, later, le)) ∙ ap (option_map (λ (e : KeptEntry). e.number)) (sym (found_later b.kept kept t u (scrip_request text target sign) keep replies later));
+  issued = st.issued;
+  most = st.most;
+  redeemed = st.redeemed;
+  worth = st.worth;
+  takings = st.takings;
+  counted = st.counted;
+  sized = st.sized;
+  limits = st.limits;
+  lawful = st.lawful;
+}
+
+pub contents_later : {T : Type 0} (holds : T → ℕ → Type 0) (b c : Bench T) (h : History) (t : ℕ) (from : Option ℕ)
+    → HasContents holds b h → c.books.kept.replies ≡ filter (is_in_time b.books.kept.keep t) b.books.kept.replies
+    → IfSome from (λ n. All (λ r. n ≤ r.entry.number) c.books.kept.replies) → (from ≡ None → c.books.kept.replies ≡ [])
+    → ((n : ℕ) → IsKeptFrom h from n → holds b.trade n → holds c.trade n) → HasContents holds c h
+contents_later {T = T} holds b c h t from has replies least none keeps =
+    let of_rest : (P : KeptReply → Type 0) → All P b.books.kept.replies → All P c.books.kept.replies =
+    λ P all. subst (All P) (sym replies) (All-filter (is_in_time b.books.kept.keep t) P b.books.kept.replies all) in
+    let in_force = of_rest (IsInForceFor h) has.in_force in
+    let held = of_rest (λ r. IsHeld (holds b.trade) r.entry.deed) has.held in
+    record { in_force = in_force; held = all_held (holds b.trade) (holds c.trade) h from c.books.kept.replies keeps least none in_force held }

@@ -1,0 +1,165 @@
+-- The stages of the table over a history are those over what a house keeps of it.
+use Rattle.std.proofs.Common.{◌≡◌, ℕ, ◌+◌, ◌*◌, ◌<◌, ◌≤◌, ◌^◌, Bool, true, false, not, cond, List, [], ◌∷◌, length, Option, Some, None, Result, Ok, Err, refl, sym, ap, ap₂, subst, ◌∙◌, arith, leb, ltb, eqb, bytes_eq}
+use Rattle.std.specs.Prelude.{◌&&◌, is_none, nat_lt, option_map, unwrap_or, position}
+use Rattle.std.proofs.lemmas.Bool.{eqb-true}
+use Rattle.scrip_form.specs.Identities.{issuer_of, epoch_of}
+use Rattle.scrip_form.specs.Issuing.{Issuing, epoch, series_at, series_end}
+use Rattle.scrip_form.specs.Scrip.{Certified, scrip_body}
+use Rattle.scrip_form.specs.Reading.{scrip_of}
+use Rattle.scrip_certs.specs.Digests.{request_signature}
+use Rattle.mc_records.specs.declared.limits.Limits.{Limits}
+use Rattle.mc_records.specs.declared.refusal.Refusal.{Refusal}
+use Rattle.mc_records.specs.declared.refusal.Refusal.TheVariants.{NoScrip, BadScrip, WrongVendor, UnknownIssuer, ExpiryMismatch, BadCertificate, Expired, Spent, NeedSignature, BadSignature}
+use Rattle.mc_records.specs.Entry.{Entry, Accept, payload}
+use Rattle.mc_records.specs.Requests.{Asked}
+use Rattle.kept_replies.specs.declared.deed.KeptEntry.{KeptEntry}
+use Rattle.kept_replies.specs.Kept.{found}
+use Rattle.change_issue.specs.Registers.{count_in}
+use Rattle.ledger_model.specs.Histories.{History}
+use Rattle.ledger_model.specs.Houses.{site_name, keeping, all_terms, terms_by, terms_in, certificate_in, own_series}
+use Rattle.ledger_model.specs.Pieces.{is_spent, own_count}
+use Rattle.ledger_model.specs.Lines.{Stop, Refuse, Repeat, ◌>>=◌, given, refused_if, again_if}
+use Rattle.ledger_model.specs.Stages.{is_repeat, is_right, genuine_by, spendable_by, Offer, next_by, needed, fitted_by}
+use Rattle.ledger_model.specs.Answer.{repeated, genuine, spendable, offer, next_own, fitted, taken, lines, Answer, Refused, answered, answer}
+use Rattle.ledger_model.specs.Slow.{after_repeat, after_read}
+use Rattle.ledger_model.proofs.TableLaws.{line_ok, refused_ok, given_ok}
+use Rattle.house_core.specs.Books.{BooksView}
+use Rattle.house_core.specs.Spent.{is_marked}
+use Rattle.house_core.specs.Stands.{Stands, has_ended, scrip_request}
+
+-- ---- 22 to 25
+
+abbrev pub genuine_in : BooksView → Certified → Result (List ℕ) Stop
+genuine_in b c = genuine_by b.name (λ series. 1) b.terms c
+
+genuine_stands : {b : BooksView} {h : History} → Stands b h → (c : Certified) → genuine h c ≡ genuine_in b c
+genuine_stands st c = ap₂ (λ (n : List ℕ) (ts : List Issuing). genuine_by n (λ series. 1) ts c) st.name st.terms
+
+not_false : (b : Bool) → not b ≡ false → b ≡ true
+not_false true e = refl
+not_false false e = absurd cc
+
+-- the series of a genuine piece has ended where the piece has
+genuine_ends : (h : History) (t : ℕ) (c : Certified) (secret : List ℕ) → genuine h c ≡ Ok secret → has_ended h t c.piece.id ≡ leb c.piece.expires t
+genuine_ends h t c secret e =
+    let v = line_ok (refused_if (not (bytes_eq c.piece.vendor (site_name h))) WrongVendor) _ secret e in
+    let own = line_ok (given (terms_in h (issuer_of c.piece.id)) UnknownIssuer) _ secret v.2 in
+    let customers = line_ok (given (terms_in h (issuer_of c.piece.cust)) UnknownIssuer) _ secret own.2 in
+    let end = series_end own.0 (epoch_of c.piece.id) in
+    let ends = line_ok (refused_if (not (eqb c.piece.expires end)) (ExpiryMismatch c.piece.expires end)) _ secret customers.2 in
+    let is : c.piece.expires ≡ end = eqb-true _ _ (not_false _ (refused_ok _ _ ends.0 ends.1)) in
+    ap (λ (o : Option Issuing). unwrap_or (option_map (λ x. leb (series_end x (epoch_of c.piece.id)) t) o) false) (given_ok (terms_in h (issuer_of c.piece.id)) UnknownIssuer own.0 own.1)
+    ∙ ap (λ (n : ℕ). leb n t) (sym is)
+
+-- ---- 26 to 29
+
+abbrev rest_spendable : Bool → Bool → List ℕ → List ℕ → Option (List ℕ) → Certified → Result (Option (List ℕ)) Stop
+rest_spendable clear spent secret target sign c =
+    refused_if spent Spent >>= λ _. refused_if (is_none sign && not clear) NeedSignature
+    >>= λ _. refused_if (not (is_right sign (request_signature c.text target secret))) BadSignature
+    >>= λ _. Ok (option_map (λ _. request_signature c.text target secret) sign)
+
+-- that a piece was accepted counts only where it has not ended
+spent_counts : (clear x y : Bool) (t : ℕ) (secret target : List ℕ) (sign : Option (List ℕ)) (c : Certified) → (leb c.piece.expires t ≡ false → x ≡ y)
+    → spendable_by clear x t secret target sign c ≡ spendable_by clear y t secret target sign c
+spent_counts clear x y t secret target sign c same = go (leb c.piece.expires t) same
+  where
+    go : (b : Bool) → (b ≡ false → x ≡ y)
+        → (refused_if b (Expired c.piece.expires t) >>= λ _. rest_spendable clear x secret target sign c)
+        ≡ (refused_if b (Expired c.piece.expires t) >>= λ _. rest_spendable clear y secret target sign c)
+    go true same = refl
+    go false same = ap (λ (s : Bool). rest_spendable clear s secret target sign c) (same refl)
+
+abbrev pub spendable_in : BooksView → List ℕ → Asked → Certified → Result (Option (List ℕ)) Stop
+spendable_in b secret q c = spendable_by b.clear (is_marked b.spent c.piece.id) b.time secret q.target q.sign c
+
+spendable_stands : {b : BooksView} {h : History} → Stands b h → (secret : List ℕ) (q : Asked) (c : Certified) → genuine h c ≡ Ok secret
+    → spendable h b.time secret q c ≡ spendable_in b secret q c
+spendable_stands {b = b} {h = h} st secret q c is =
+    ap (λ (clear : Bool). spendable_by clear (is_spent h c.piece.id) b.time secret q.target q.sign c) st.clear
+    ∙ spent_counts b.clear (is_spent h c.piece.id) (is_marked b.spent c.piece.id) b.time secret q.target q.sign c
+    (λ live. st.spent c.piece.id (genuine_ends h b.time c secret is ∙ live))
+
+-- ---- 32, 33
+
+abbrev pub change_in : BooksView → ℕ → ℕ → Result (Option ℕ) Stop
+change_in b price value = needed (nat_lt price value) (next_by b.own.most (series_at b.own.terms b.time) (count_in b.own (series_at b.own.terms b.time)))
+
+-- the terms of an issuer are of it
+terms_are_of : (terms : List Issuing) (issuer : ℕ) (t : Issuing) → terms_by terms issuer ≡ Some t → t.issuer ≡ issuer
+terms_are_of [] issuer t e = absurd cc
+terms_are_of (x ∷ xs) issuer t e = go (eqb x.issuer issuer) refl (terms_are_of xs issuer t) e
+  where
+    go : (b : Bool) → eqb x.issuer issuer ≡ b → (terms_by xs issuer ≡ Some t → t.issuer ≡ issuer) → cond b (Some x) (terms_by xs issuer) ≡ Some t → t.issuer ≡ issuer
+    go true is more f = let same : x ≡ t = cc in ap (λ (y : Issuing). y.issuer) (sym same) ∙ eqb-true x.issuer issuer is
+    go false is more f = more f
+
+series_stands : {b : BooksView} {h : History} → Stands b h → (t : ℕ) → own_series h t ≡ series_at b.own.terms t
+series_stands {b = b} {h = h} st t =
+    let zero : b.own_terms.issuer ≡ 0 = terms_are_of (all_terms h) 0 b.own_terms st.own_terms in
+    ap (λ (o : Option Issuing). unwrap_or (option_map (λ x. epoch x t) o) 0) st.own_terms ∙ omega (arith, zero) ∙ ap (λ (x : Issuing). series_at x t) (sym st.issuer)
+
+change_stands : {b : BooksView} {h : History} → Stands b h → (price value : ℕ) → needed (nat_lt price value) (next_own h b.time b.limits) ≡ change_in b price value
+change_stands {b = b} {h = h} st price value =
+    rw (series_stands st b.time, st.issued (series_at b.own.terms b.time), st.most) refl
+
+fitted_stands : {b : BooksView} {h : History} → Stands b h → (e : Entry) → fitted h b.limits e ≡ fitted_by b.limits.journal b.size 0 e
+fitted_stands {b = b} {h = h} st e = ap (λ (n : ℕ). fitted_by b.limits.journal n 0 e) st.sized
+
+-- ---- 30 to 33
+
+-- an offer at the same time, limits and value
+pub offered_at : (h : History) (t u : ℕ) (limits others : Limits) (target : List ℕ) (value worth : ℕ) (o : Offer) → u ≡ t → others ≡ limits → worth ≡ value
+    → Ok o ≡ offer h u others target worth → Ok o ≡ offer h t limits target value
+offered_at h t u limits others target value worth o time limit same e =
+    e ∙ ap (λ (x : ℕ). offer h x others target worth) time ∙ ap (λ (l : Limits). offer h t l target worth) limit ∙ ap (λ (n : ℕ). offer h t limits target n) same
+
+pub no_change : {b : BooksView} {h : History} → Stands b h → (q : Asked) (c : Certified) (sign : Option (List ℕ)) (o : Offer) (s : Stop)
+    → Ok o ≡ offer h b.time b.limits q.target c.piece.value → Err s ≡ change_in b o.price c.piece.value → Err s ≡ taken h b.time b.limits q c sign
+no_change st q c sign o s offered full = rw (← offered, change_stands st o.price c.piece.value, ← full) refl
+
+pub fits : {b : BooksView} {h : History} → Stands b h → (q : Asked) (c : Certified) (sign : Option (List ℕ)) (o : Offer) (change : Option ℕ) (r : Result Entry Stop)
+    → Ok o ≡ offer h b.time b.limits q.target c.piece.value → Ok change ≡ change_in b o.price c.piece.value
+    → r ≡ fitted_by b.limits.journal b.size 0 (Accept b.time c.text q.target sign o.price change o.deed) → r ≡ taken h b.time b.limits q c sign
+fits st q c sign o change r offered changed is = rw (← offered, change_stands st o.price c.piece.value, ← changed, fitted_stands st (Accept _ c.text q.target sign o.price change o.deed)) is
+
+-- ---- from 22 on
+
+pub not_spendable : {b : BooksView} {h : History} → Stands b h → (q : Asked) (c : Certified) (secret : List ℕ) (s : Stop)
+    → Ok secret ≡ genuine_in b c → Err s ≡ spendable_in b secret q c → Err s ≡ after_repeat h b.time b.limits q c
+not_spendable {h = h} st q c secret s is refused =
+    let genuine_is : genuine h c ≡ Ok secret = genuine_stands st c ∙ sym is in
+    rw (genuine_is, spendable_stands st secret q c genuine_is, ← refused) refl
+
+pub takes : {b : BooksView} {h : History} → Stands b h → (q : Asked) (c : Certified) (secret : List ℕ) (sign : Option (List ℕ)) (r : Result Entry Stop)
+    → Ok secret ≡ genuine_in b c → Ok sign ≡ spendable_in b secret q c → r ≡ taken h b.time b.limits q c sign → r ≡ after_repeat h b.time b.limits q c
+takes {h = h} st q c secret sign r is may e =
+    let genuine_is : genuine h c ≡ Ok secret = genuine_stands st c ∙ sym is in
+    rw (genuine_is, spendable_stands st secret q c genuine_is, ← may) e
+
+-- ---- repeats
+
+abbrev pub kept_number : BooksView → Asked → Certified → Option ℕ
+kept_number b q c = option_map (λ e. e.number) (found b.kept b.time (scrip_request c.text q.target q.sign))
+
+-- the number that a search for the request with its text gives
+pub number_at : (b : BooksView) (q asked : Asked) (c : Certified) (r : Option ℕ) → asked ≡ scrip_request c.text q.target q.sign
+    → r ≡ option_map (λ e. e.number) (found b.kept b.time asked) → r ≡ kept_number b q c
+number_at b q asked c r same e = e ∙ ap (λ (p : Asked). option_map (λ e. e.number) (found b.kept b.time p)) same
+
+again_is : {b : BooksView} {h : History} → Stands b h → (q : Asked) (c : Certified) → repeated h b.time c q ≡ kept_number b q c
+again_is {b = b} st q c = st.again b.time c.text q.target q.sign (omega arith)
+
+pub comes_again : {b : BooksView} {h : History} → Stands b h → (q : Asked) (c : Certified) (n : ℕ) → Some n ≡ kept_number b q c → Err (Repeat n) ≡ after_read h b.time b.limits q c
+comes_again st q c n is = rw (again_is st q c, ← is) refl
+
+pub is_new : {b : BooksView} {h : History} → Stands b h → (q : Asked) (c : Certified) (r : Result Entry Stop) → None ≡ kept_number b q c
+    → r ≡ after_repeat h b.time b.limits q c → r ≡ after_read h b.time b.limits q c
+is_new st q c r none e = rw (again_is st q c, ← none) e
+
+-- ---- the whole table
+
+pub answer_read : (h : History) (t : ℕ) (limits : Limits) (q : Asked) (c : Certified) (r : Result Entry Stop) → q.scrip ≡ Some c.text → scrip_of c.text ≡ Ok (c.piece, c.cert)
+    → r ≡ after_read h t limits q c → answered r ≡ answer h t limits q
+unfolding answer
+answer_read h t limits q c r asked read e = rw (asked, read) (ap answered e)

@@ -1,0 +1,45 @@
+use Rattle.std.proofs.Common.{◌≡◌, refl, sym, ap, subst, ◌∙◌, Some, Ok, Err}
+use Rattle.scrip_form.specs.Reading.{scrip_of}
+use Rattle.mc_records.specs.declared.refusal.Refusal.{Refusal}
+use Rattle.mc_records.specs.declared.refusal.Refusal.TheVariants.{NoScrip, BadScrip}
+use Rattle.mc_records.specs.Requests.{asked_of}
+use Rattle.ledger_model.specs.Answer as answers
+use Rattle.ledger_model.specs.Answer.{Answer, answer}
+use Rattle.house_core.specs.declared.verdict.BenchFault.TheVariants as faults
+use Rattle.house_core.specs.Bench.{Accepts, house_time, limits_of}
+use Rattle.house_core.specs.Verdicts.{accept_entry}
+use Rattle.house_core.proofs.Tabled.{answer_read}
+use Rattle.house_core.proofs.Accepting.{none_seen, no_scrip, bad_scrip, refuses, makes_none}
+use Rattle.house_core.proofs.bench.Bench.accept.Goals as goal
+
+pub returns-in_default-clause-exact : goal.returns-in_default-clause-exact
+returns-in_default-clause-exact g c h st =
+    refuses g.T.Trade.stands g.T.Trade.site c.args.self.now h (asked_of c.args.q.now) NoScrip st
+    (no_scrip h (house_time c.args.self.now) (limits_of c.args.self.now) (asked_of c.args.q.now) (none_seen c.args.q.now.scrip c.in_default.not-Some))
+
+pub returns-in-Err-clause-exact : goal.returns-in-Err-clause-exact
+returns-in-Err-clause-exact g c h st =
+    let asked : (asked_of c.args.q.now).scrip ≡ Some c.in-Some.text.now = rw c.in-Some.is refl in
+    rw c.bad_scrip.ensures (refuses g.T.Trade.stands g.T.Trade.site c.args.self.now h (asked_of c.args.q.now) (BadScrip c.in-Err.fault.place) st
+    (bad_scrip h (house_time c.args.self.now) (limits_of c.args.self.now) (asked_of c.args.q.now) c.in-Some.text.now c.in-Err.fault.place asked c.in-Err.ensures.same))
+
+pub returns-in-Err-weigh-clause-exact : goal.returns-in-Err-weigh-clause-exact
+returns-in-Err-weigh-clause-exact g c h st =
+    let asked : (asked_of c.args.q.now).scrip ≡ Some c.in-Ok.scrip.text = rw (c.in-Some.is, c.in-Ok.ensures.found.0) refl in
+    let read : scrip_of c.in-Ok.scrip.text ≡ Ok (c.in-Ok.scrip.piece, c.in-Ok.scrip.cert) = rw c.in-Ok.ensures.found.0 c.in-Ok.ensures.same in
+    rw c.stopped_with.ensures (makes_none g.T.Trade.stands g.T.Trade.site c.args.self.now h (asked_of c.args.q.now) c.in-Err-weigh.stopped st
+    (answer_read h _ _ (asked_of c.args.q.now) c.in-Ok.scrip _ asked read (c.in-Err-weigh.ensures.lines h st.books st.trade st.of_kind)))
+
+pub returns-in-Ok-take-clause-exact : goal.returns-in-Ok-take-clause-exact
+returns-in-Ok-take-clause-exact g c h st =
+    let asked : (asked_of c.args.q.now).scrip ≡ Some c.in-Ok.scrip.text = rw (c.in-Some.is, c.in-Ok.ensures.found.0) refl in
+    let read : scrip_of c.in-Ok.scrip.text ≡ Ok (c.in-Ok.scrip.piece, c.in-Ok.scrip.cert) = rw c.in-Ok.ensures.found.0 c.in-Ok.ensures.same in
+    let is = answer_read h _ _ (asked_of c.args.q.now) c.in-Ok.scrip _ asked read (c.in-Ok-weigh.ensures.lines h st.books st.trade st.of_kind) in
+    subst (λ (a : Answer). Accepts g.T.Trade.stands g.T.Trade.site c.take.new.self h a (Ok c.in-Ok-take.number)) is (c.in-Ok-take.ensures.exact h st (sym is))
+
+pub returns-in-Err-take-clause-exact : goal.returns-in-Err-take-clause-exact
+returns-in-Err-take-clause-exact g c h st =
+    let asked : (asked_of c.args.q.now).scrip ≡ Some c.in-Ok.scrip.text = rw (c.in-Some.is, c.in-Ok.ensures.found.0) refl in
+    let read : scrip_of c.in-Ok.scrip.text ≡ Ok (c.in-Ok.scrip.piece, c.in-Ok.scrip.cert) = rw c.in-Ok.ensures.found.0 c.in-Ok.ensures.same in
+    let is = answer_read h _ _ (asked_of c.args.q.now) c.in-Ok.scrip _ asked read (c.in-Ok-weigh.ensures.lines h st.books st.trade st.of_kind) in
+    subst (λ (a : Answer). Accepts g.T.Trade.stands g.T.Trade.site c.take.new.self h a (Err faults.NoMemory)) is (c.in-Err-take.ensures.exact h st (sym is))

@@ -1,0 +1,15 @@
+use Rattle.std.proofs.Common.{◌≡◌, [], ◌∷◌, Some}
+use Rattle.mc_records.specs.Views.{entry}
+use Rattle.ledger_model.specs.Houses.{site_kind}
+use Rattle.house_core.proofs.Founded.{stands_founded, learns_site}
+use Rattle.house_core.proofs.bench.Bench.new.Goals as goal
+
+pub returns-in-Ok-learn-clause-holds : goal.returns-in-Ok-learn-clause-holds
+returns-in-Ok-learn-clause-holds g c =
+    let e = entry c.args.site.now in
+    let kind : site_kind (e ∷ []) ≡ Some (g.T.Trade.site c.reserve.new.self) = rw c.in-Ok.ensures.site c.requires.kind in
+    record {
+      books = stands_founded c.in_ok-books.books c.args.limits e c.in_ok-books.ensures c.requires.site c.requires.limits c.requires.first;
+      trade = c.in-Ok-learn.ensures.learned c.args.limits [] (c.in-Ok.ensures.same [] c.requires.trade) (learns_site c.args.limits (g.T.Trade.site c.reserve.new.self) e c.requires.site c.requires.first kind);
+      of_kind = rw c.in-Ok-learn.ensures.site kind;
+    }

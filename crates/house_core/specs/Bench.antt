@@ -1,0 +1,60 @@
+-- A house without a journal, and its history.
+use Rattle.std.specs.Prelude.{◌≡◌, ℕ, ◌<◌, [], ◌∷◌, ◌++◌, length, All, Some, Result, Ok, Err}
+use Rattle.mc_base.specs.declared.no_memory.NoMemory.{NoMemory}
+use Rattle.mc_records.specs.Entry.{Entry}
+use Rattle.mc_records.specs.declared.limits.Limits.{Limits}
+use Rattle.kept_replies.specs.Kept.{KeptReply}
+use Rattle.ledger_model.specs.Histories.{History}
+use Rattle.ledger_model.specs.Houses.{site_kind}
+use Rattle.ledger_model.specs.Answer.{Answer, Refused, Again, Take}
+use Rattle.house_core.specs.declared.bench.Bench.{Bench}
+use Rattle.house_core.specs.declared.verdict.Stopped.{Stopped}
+use Rattle.house_core.specs.declared.verdict.Stopped.TheVariants as stops
+use Rattle.house_core.specs.declared.verdict.BenchFault.{BenchFault}
+use Rattle.house_core.specs.declared.verdict.BenchFault.TheVariants as faults
+use Rattle.house_core.specs.Stands.{Stands}
+use Rattle.house_core.specs.Trade.{IsHeld, Replaces}
+
+abbrev pub house_time : {T : Type 0} → Bench T → ℕ
+house_time b = b.books.time
+
+abbrev pub limits_of : {T : Type 0} → Bench T → Limits
+limits_of b = b.books.limits
+
+-- Entries that replace the goods which a reply brings come after the entry of the reply.
+abbrev pub IsInForceFor : History → KeptReply → Type 0
+IsInForceFor h r = IsHeld (λ n. (m : ℕ) → Replaces h n m → r.entry.number < m) r.entry.deed
+
+-- The books and the trade stand for the history, which is of the trade's kind of site.
+pub record Holds {T : Type 0} (stands : T → History → Type 0) (site : T → ℕ) (b : Bench T) (h : History) : Type 0 where
+  pub books : Stands b.books h
+  pub trade : stands b.trade h
+  pub of_kind : site_kind h ≡ Some (site b.trade)
+
+-- The trade has what the kept replies bring, and no earlier entry replaces it.
+pub record HasContents {T : Type 0} (holds : T → ℕ → Type 0) (b : Bench T) (h : History) : Type 0 where
+  pub in_force : All (IsInForceFor h) b.books.kept.replies
+  pub held : All (λ r. IsHeld (holds b.trade) r.entry.deed) b.books.kept.replies
+
+-- ---- what comes of a request
+
+-- of a request that the answer takes: its entry is entered under the next number, or want of memory
+-- leaves the house as it was
+abbrev pub Takes : {T : Type 0} → (T → History → Type 0) → (T → ℕ) → Bench T → History → Entry → Result ℕ NoMemory → Type 0
+Takes stands site b h e (Ok n) = (n ≡ length h) × Holds stands site b (h ++ e ∷ [])
+Takes stands site b h e (Err fault) = Holds stands site b h
+
+-- Of a request with this answer: its entry is entered under the next number, or there is no memory for
+-- it; a refusal and the number of a request that comes again are those of the answer, and leave the house
+-- as it was.
+abbrev pub Accepts : {T : Type 0} → (T → History → Type 0) → (T → ℕ) → Bench T → History → Answer → Result ℕ BenchFault → Type 0
+Accepts stands site b h (Take e) (Ok n) = (n ≡ length h) × Holds stands site b (h ++ e ∷ [])
+Accepts stands site b h (Take e) (Err faults.NoMemory) = Holds stands site b h
+Accepts stands site b h (Refused f) (Err (faults.Refused g)) = (g ≡ f) × Holds stands site b h
+Accepts stands site b h (Again m) (Ok n) = (n ≡ m) × Holds stands site b h
+Accepts stands site b h _ _ = ⊥
+
+-- what is answered to a request that makes no entry
+abbrev pub stopped_with : Stopped → Result ℕ BenchFault
+stopped_with (stops.Refused f) = Err (faults.Refused f)
+stopped_with (stops.Again n) = Ok n

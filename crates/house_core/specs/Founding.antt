@@ -1,0 +1,38 @@
+-- The books of a house that was just founded.
+use Rattle.std.specs.Prelude.{◌≡◌, ℕ, ◌+◌, Bool, false, List, [], ◌∷◌, length, Some}
+use Rattle.mc_records.specs.declared.limits.Limits.{Limits}
+use Rattle.mc_records.specs.Entry.{House, Entry, Site, Fits, payload}
+use Rattle.change_issue.specs.Registers.{count_in, issued_in, redeemed_in}
+use Rattle.house_core.specs.Spent.{is_marked}
+use Rattle.house_core.specs.Books.{BooksView}
+
+-- the books hold nothing but what a Site entry of this moment, name and house, with a payload of so many
+-- bytes, founds
+pub record AreFounded (b : BooksView) (m : ℕ) (site : List ℕ) (h : House) (l : Limits) (len : ℕ) : Type 0 where
+  pub name : b.name ≡ site
+  pub clear : b.clear ≡ h.clear
+  pub terms : b.terms ≡ h.terms ∷ []
+  pub own_terms : b.own_terms ≡ h.terms
+  pub time : b.time ≡ m
+  pub spent : (id : ℕ) → is_marked b.spent id ≡ false
+  pub keep : b.kept.keep ≡ h.keep
+  pub replies : b.kept.replies ≡ []
+  pub issuer : b.own.terms ≡ h.terms
+  pub most : b.own.most ≡ l.series
+  pub issued : (s : ℕ) → count_in b.own s ≡ 0
+  pub worth : (s : ℕ) → issued_in b.own s ≡ 0
+  pub redeemed : (s : ℕ) → redeemed_in b.own s ≡ 0
+  pub takings : b.takings ≡ 0
+  pub counted : b.count ≡ 1
+  pub sized : b.size ≡ len + 14
+  pub limits : b.limits ≡ l
+
+-- the books are those that an entry founds
+abbrev pub AreOf : BooksView → Limits → Entry → Type 0
+AreOf b limits (Site m kind name (Some h)) = AreFounded b m name h limits (length (payload (Site m kind name (Some h))))
+AreOf b limits _ = ⊥
+
+-- a Site entry of a house, with a payload
+abbrev pub FoundsHouse : Entry → Type 0
+FoundsHouse (Site m kind name (Some h)) = Fits (Site m kind name (Some h))
+FoundsHouse _ = ⊥

@@ -1,0 +1,54 @@
+-- What a house says of a request, as the ledger's answer to it.
+use Rattle.std.specs.Prelude.{◌≡◌, ℕ, ◌+◌, ◌≤◌, List, length, Result, Ok, Err}
+use Rattle.scrip_form.specs.Scrip.{Certified}
+use Rattle.mc_records.specs.declared.refusal.Refusal.{Refusal}
+use Rattle.mc_records.specs.Entry.{Entry, Accept, payload}
+use Rattle.ledger_model.specs.Lines.{Stop, Refuse, Repeat}
+use Rattle.ledger_model.specs.Answer as answers
+use Rattle.house_core.specs.declared.verdict.Verdict.{Verdict}
+use Rattle.house_core.specs.declared.verdict.Verdict.TheVariants as verdicts
+use Rattle.house_core.specs.declared.verdict.Stopped.{Stopped}
+use Rattle.house_core.specs.declared.verdict.Stopped.TheVariants as stops
+use Rattle.house_core.specs.declared.verdict.Acceptance.{Acceptance}
+use Rattle.house_core.specs.Views.{entry_deed}
+use Rattle.house_core.specs.Books.{BooksView, HasChange}
+
+-- ---- verdicts
+
+-- an answer without its entry
+pub data Judged : Type 0 where
+  IsRefused : Refusal → Judged
+  IsAgain : (number : ℕ) → Judged
+  IsTaken : Judged
+
+abbrev pub judged : answers.Answer → Judged
+judged (answers.Refused refusal) = IsRefused refusal
+judged (answers.Again number) = IsAgain number
+judged (answers.Take e) = IsTaken
+
+abbrev pub judged_of : Verdict → Judged
+judged_of (verdicts.Refused refusal) = IsRefused refusal
+judged_of (verdicts.Again number) = IsAgain number
+judged_of verdicts.Take = IsTaken
+
+-- ---- entries
+
+-- the entry of an acceptance
+abbrev pub accept_entry : ℕ → List ℕ → List ℕ → Acceptance → Entry
+accept_entry moment text target a = Accept moment text target a.sign a.price a.change (entry_deed a.deed)
+
+-- An acceptance that may be entered: there is change where there has to be, the length is that of the
+-- payload of its entry, and the entry fits.
+pub record IsReady (b : BooksView) (c : Certified) (target : List ℕ) (a : Acceptance) : Type 0 where
+  pub change : HasChange b a.price c.piece.value a.change
+  pub payload : a.payload ≡ length (payload (accept_entry b.time c.text target a))
+  pub fits : b.size + a.payload + 5 ≤ b.limits.journal
+
+abbrev pub stop_of : Stopped → Stop
+stop_of (stops.Refused refusal) = Refuse refusal
+stop_of (stops.Again number) = Repeat number
+
+-- what was weighed, as a table that ran through or stopped
+abbrev pub weighed : (Acceptance → Entry) → Result Acceptance Stopped → Result Entry Stop
+weighed view (Ok a) = Ok (view a)
+weighed view (Err stopped) = Err (stop_of stopped)

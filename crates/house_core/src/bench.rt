@@ -1,0 +1,214 @@
+ghost use Rattle.std.specs.Prelude.{◌≡◌, ℕ, [], ◌∷◌, max, None, Some, Ok, IfOk};
+ghost use Rattle.mc_records.specs.Limits.{AreInRange};
+ghost use Rattle.mc_records.specs.Entry.{moment_of};
+ghost use Rattle.ledger_model.specs.Houses.{site_kind};
+ghost use Rattle.ledger_model.specs.Lawful.{MayFollow};
+ghost use Rattle.house_core.specs.Founding.{FoundsHouse};
+ghost use Rattle.scrip_form.specs.Reading.{scrip_of};
+ghost use Rattle.mc_records.specs.declared.refusal.Refusal.TheVariants.{BadScrip};
+ghost use Rattle.mc_records.specs.Requests.{asked_of, seen};
+ghost use Rattle.mc_records.specs.Views.{deed_of, entry};
+ghost use Rattle.kept_replies.specs.Kept.{found};
+ghost use Rattle.ledger_model.specs.Histories.{History};
+ghost use Rattle.ledger_model.specs.Answer as model;
+ghost use Rattle.house_core.specs.Bench.{Holds, HasContents, Takes, Accepts, stopped_with, house_time, limits_of};
+ghost use Rattle.house_core.specs.Views.{entry_deed};
+ghost use Rattle.house_core.specs.Stands.{scrip_request};
+ghost use Rattle.house_core.specs.Verdicts.{judged, judged_of, accept_entry, IsReady};
+
+use crate::books::Books;
+use crate::founding::{found_books, payload_len};
+use crate::offer::Unlawful;
+use crate::trade::Trade;
+use crate::verdict::{Acceptance, BenchFault, Stopped, Verdict};
+use crate::weigh::{request_with, weigh};
+use kept_replies::Deed;
+use mc_base::{Moment, NoMemory};
+use mc_records::{Limits, PieceList, Record, RecordDeed, Refusal, Request};
+use scrip_form::{FormFault, ScripRef, read_scrip};
+use std::alloc::Global;
+
+/// A house without a journal: its books and the trade that it carries.
+#[derive(Drop)]
+pub struct Bench<T> {
+    books: Books,
+    trade: T,
+}
+
+impl<T: Trade> Bench<T> {
+    /// The house that a Site entry founds, with a trade that has learned nothing yet. The house time is the
+    /// entry's moment.
+    pub fn new(
+        alloc: Global,
+        site: &Record<'_>,
+        limits: Limits,
+        mut trade: T,
+    ) -> Result<Bench<T>, NoMemory>
+        requires limits { AreInRange limits }
+        requires site { FoundsHouse (entry site.now) }
+        requires first { MayFollow limits [] (entry site.now) }
+        requires kind { site_kind (entry site.now ∷ []) ≡ Some (T.site trade) }
+        requires trade { T.stands trade [] }
+        ensures holds { IfOk result (λ b. Holds T.stands T.site b (entry site.now ∷ [])) }
+        ensures time { IfOk result (λ b. house_time b ≡ moment_of (entry site.now)) }
+        ensures limits { IfOk result (λ b. limits_of b ≡ limits) }
+    {
+        let bytes = payload_len(alloc, site)?;
+        let books = found_books(alloc, site, limits, bytes)?;
+        match trade.reserve(site) {
+            Ok(()) => (),
+            Err(NoMemory) => return Err(NoMemory),
+        }
+        match trade.learn(0, site) {
+            Ok(()) => Ok(Bench { books, trade }),
+            Err(Unlawful) => Err(NoMemory),
+        }
+    }
+
+    /// Its trade.
+    pub fn trade(&self) -> &T
+        ensures { (h : History) → Holds T.stands T.site self.now h → T.stands result.now h }
+    {
+        &self.trade
+    }
+
+    /// What the house says of a request at the house time: the ledger's answer without its entry. It
+    /// takes no memory.
+    #[tactic(auto, unfolding(ledger_model::specs::Answer::answer))]
+    pub fn judge(&self, q: &Request<'_>) -> Verdict
+        ensures { (h : History) → Holds T.stands T.site self.now h
+            → judged_of result ≡ judged (model.answer h (house_time self.now) (limits_of self.now) (asked_of q.now)) }
+    {
+        let Some(text) = q.scrip else {
+            return Verdict::Refused(Refusal::NoScrip);
+        };
+        let scrip = match read_scrip(text) {
+            Ok(scrip) => scrip,
+            Err(fault) => return Verdict::Refused(bad_scrip(fault)),
+        };
+        match weigh(&self.books, &self.trade, q, &scrip) {
+            Ok(_) => Verdict::Take,
+            Err(Stopped::Refused(refusal)) => Verdict::Refused(refusal),
+            Err(Stopped::Again(number)) => Verdict::Again(number),
+        }
+    }
+
+    /// Raises the house time to a reading of the clock where that is later, and answers it. Replies whose
+    /// keeping time is over are let go, and so may be contents that no kept reply brings. It takes no
+    /// memory.
+    pub fn raise(&mut self, reading: Moment) -> Moment
+        ensures time { result ≡ max (house_time self.old) reading }
+        ensures raised { house_time self.new ≡ max (house_time self.old) reading }
+        ensures limits { limits_of self.new ≡ limits_of self.old }
+        ensures same { (h : History) → Holds T.stands T.site self.old h → Holds T.stands T.site self.new h }
+        ensures contents { (h : History) → Holds T.stands T.site self.old h → HasContents T.holds self.old h → HasContents T.holds self.new h }
+    {
+        let time = self.books.raise(reading);
+        self.trade.forget(self.books.first_kept());
+        time
+    }
+    /// Accepts a request at the house time: enters its entry, and answers the entry's number, from 0. Where
+    /// the request comes again it enters nothing, and answers the number of the entry that it repeats.
+    pub fn accept(&mut self, q: &Request<'_>) -> Result<u64, BenchFault>
+        ensures time { house_time self.new ≡ house_time self.old }
+        ensures limits { limits_of self.new ≡ limits_of self.old }
+        ensures exact { (h : History) → Holds T.stands T.site self.old h
+            → Accepts T.stands T.site self.new h (model.answer h (house_time self.old) (limits_of self.old) (asked_of q.now)) result }
+    {
+        let Some(text) = q.scrip else {
+            return Err(BenchFault::Refused(Refusal::NoScrip));
+        };
+        let scrip = match read_scrip(text) {
+            Ok(scrip) => scrip,
+            Err(fault) => return Err(BenchFault::Refused(bad_scrip(fault))),
+        };
+        let acceptance = match weigh(&self.books, &self.trade, q, &scrip) {
+            Ok(acceptance) => acceptance,
+            Err(stopped) => return stopped_with(stopped),
+        };
+        match self.take(q, &scrip, &acceptance) {
+            Ok(number) => Ok(number),
+            Err(NoMemory) => Err(BenchFault::NoMemory),
+        }
+    }
+
+    /// Enters the entry of an acceptance, with room for it made first, and answers its number.
+    fn take(
+        &mut self,
+        q: &Request<'_>,
+        scrip: &ScripRef<'_>,
+        acceptance: &Acceptance,
+    ) -> Result<u64, NoMemory>
+        requires read { scrip_of scrip.now.text ≡ Ok (scrip.now.piece, scrip.now.cert) }
+        requires new { found self.old.books.kept self.old.books.time (scrip_request scrip.now.text q.now.target.now (seen q.now.sign)) ≡ None }
+        requires ready { IsReady self.old.books scrip.now q.now.target.now acceptance.now }
+        ensures time { house_time self.new ≡ house_time self.old }
+        ensures limits { limits_of self.new ≡ limits_of self.old }
+        ensures exact { (h : History) → Holds T.stands T.site self.old h
+            → model.answer h (house_time self.old) (limits_of self.old) (asked_of q.now) ≡ model.Take (accept_entry (house_time self.old) scrip.now.text q.now.target.now acceptance.now)
+            → Takes T.stands T.site self.new h (accept_entry (house_time self.old) scrip.now.text q.now.target.now acceptance.now) result }
+    {
+        let request = request_with(q, scrip);
+        let number = self.books.count();
+        // The check lets a record go only where the types of its parts are named.
+        let _pieces: Option<PieceList<'_>> = None;
+        let record = Record::Accept {
+            moment: self.books.time(),
+            scrip: scrip.text(),
+            target: q.target,
+            sign: acceptance.sign,
+            price: acceptance.price,
+            change: acceptance.change,
+            deed: record_deed(&acceptance.deed),
+        };
+        match self.trade.reserve(&record) {
+            Ok(()) => (),
+            Err(NoMemory) => return Err(NoMemory),
+        }
+        let paid = scrip.piece();
+        match self.books.reserve(&request, paid.id()) {
+            Ok(()) => (),
+            Err(NoMemory) => return Err(NoMemory),
+        }
+        match self.trade.learn(number, &record) {
+            Ok(()) => (),
+            Err(Unlawful) => return Err(NoMemory),
+        }
+        self.books.enter(&request, &paid, acceptance);
+        Ok(number)
+    }
+}
+
+fn bad_scrip(fault: FormFault) -> Refusal
+    ensures { result ≡ BadScrip fault.place }
+{
+    Refusal::BadScrip(fault.place as u64)
+}
+
+/// What comes of a request that makes no entry.
+fn stopped_with(stopped: Stopped) -> Result<u64, BenchFault>
+    ensures { result ≡ stopped_with stopped }
+{
+    match stopped {
+        Stopped::Refused(refusal) => Err(BenchFault::Refused(refusal)),
+        Stopped::Again(number) => Ok(number),
+    }
+}
+
+/// A kept deed as that of the entry.
+fn record_deed(deed: &Deed) -> RecordDeed
+    ensures { deed_of result ≡ entry_deed deed.now }
+{
+    match deed {
+        Deed::Goods { .. } => RecordDeed::Goods,
+        Deed::Sale { piece, stock, .. } => RecordDeed::Sale {
+            stock: *stock,
+            id: piece.id(),
+        },
+        Deed::Credit { balance } => RecordDeed::Credit { balance: *balance },
+        Deed::Draw { piece, .. } => RecordDeed::Sale {
+            stock: false,
+            id: piece.id(),
+        },
+    }
+}

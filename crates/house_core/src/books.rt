@@ -1,0 +1,236 @@
+ghost use Rattle.std.specs.Prelude.{◌≡◌, ◌+◌, ◌-◌, ◌≤◌, ◌<◌, Some, None, option_map, filter, max, All, IfSome, IsNone, ◌↔◌, ◌^◌, [], IfOk, OnOk};
+ghost use Rattle.mc_records.specs.Limits.{AreInRange};
+ghost use Rattle.mc_records.specs.Views.{house_of};
+ghost use Rattle.house_core.specs.Founding.{AreFounded};
+ghost use Rattle.mc_records.specs.Requests.{asked_of};
+ghost use Rattle.kept_replies.specs.Kept.{found, is_in_time};
+ghost use Rattle.house_core.specs.Spent.{is_marked};
+ghost use Rattle.house_core.specs.Books.{AreSound, HasRoom, HasChange, IsEntered, IsAsBefore};
+
+use crate::money::{certified_if, redeem};
+use crate::spent::Spent;
+use crate::verdict::Acceptance;
+use change_issue::Issuer;
+use kept_replies::{Kept, KeptEntry};
+use mc_base::{Moment, NoMemory, Total};
+use mc_records::{Limits, Request, SiteTerms};
+use scrip_form::{Id, Name, Piece, Terms};
+use std::alloc::Global;
+use std::marker::Model;
+
+/// What a house keeps in place of its history, beside its trade. Contracts see it as the record
+/// `BooksView`.
+#[derive(Drop)]
+pub struct Books {
+    name: Name,
+    /// It takes requests without a signature.
+    clear: bool,
+    /// The terms of all issuers whose scrip it takes.
+    terms: Vec<Terms>,
+    /// Those of the house itself.
+    own_terms: Terms,
+    /// The house time, which never goes back.
+    time: Moment,
+    spent: Spent,
+    kept: Kept,
+    /// What it hands out in its own series, and redeems.
+    own: Issuer,
+    /// What the accepted pieces were paid for.
+    takings: Total,
+    /// How many entries there are.
+    count: u64,
+    /// How many bytes a journal of the entries has.
+    size: u64,
+    limits: Limits,
+}
+
+impl Model for Books {
+    ghost use Rattle.house_core.specs.Books.{BooksView, AreSound};
+
+    ghost Value = { BooksView };
+
+    ghost view = { λ b. record { name = b.name; clear = b.clear; terms = b.terms.items; own_terms = b.own_terms; time = b.time; spent = b.spent; kept = b.kept; own = b.own; takings = b.takings; count = b.count; size = b.size; limits = b.limits } };
+
+    ghost invariant = { λ b. AreSound (record { name = b.name; clear = b.clear; terms = b.terms.items; own_terms = b.own_terms; time = b.time; spent = b.spent; kept = b.kept; own = b.own; takings = b.takings; count = b.count; size = b.size; limits = b.limits }) };
+}
+
+impl Books {
+    /// The books of a house that is founded so, by an entry of so many bytes of payload.
+    pub(crate) fn found(
+        alloc: Global,
+        moment: Moment,
+        name: Name,
+        house: &SiteTerms,
+        limits: Limits,
+        payload: u64,
+    ) -> Result<Books, NoMemory>
+        requires limits { AreInRange limits }
+        requires keeps { 0 < house.now.keep }
+        requires short { payload < 2 ^ 32 }
+        ensures { IfOk result (λ b. AreFounded b moment name (house_of house.now) limits payload) }
+    {
+        let mut terms = Vec::with_capacity(alloc, 1)?;
+        terms.push_reserved(house.terms);
+        Ok(Books {
+            name,
+            clear: house.clear,
+            terms,
+            own_terms: house.terms,
+            time: moment,
+            spent: Spent::new(alloc),
+            kept: Kept::new(alloc, house.keep),
+            own: Issuer::new(alloc, house.terms, limits),
+            takings: Total::zero(),
+            count: 1,
+            size: payload + 14,
+            limits,
+        })
+    }
+
+    pub(crate) fn name(&self) -> &[u8]
+        ensures { result.now ≡ self.now.name }
+    {
+        self.name.bytes()
+    }
+
+    pub(crate) fn is_clear(&self) -> bool
+        ensures { result ≡ self.now.clear }
+    {
+        self.clear
+    }
+
+    pub(crate) fn terms(&self) -> &[Terms]
+        ensures { result.now ≡ self.now.terms }
+    {
+        &self.terms
+    }
+
+    pub(crate) fn time(&self) -> Moment
+        ensures { result ≡ self.now.time }
+    {
+        self.time
+    }
+
+    pub(crate) fn limits(&self) -> Limits
+        ensures limits { result ≡ self.now.limits }
+        ensures sound { AreSound self.now }
+    {
+        self.limits
+    }
+
+    pub(crate) fn own(&self) -> &Issuer
+        ensures { result.now ≡ self.now.own }
+    {
+        &self.own
+    }
+
+    pub(crate) fn count(&self) -> u64
+        ensures { result ≡ self.now.count }
+    {
+        self.count
+    }
+
+    pub(crate) fn size(&self) -> u64
+        ensures { result ≡ self.now.size }
+    {
+        self.size
+    }
+
+    /// Whether an identity was accepted.
+    pub(crate) fn has_spent(&self, id: Id) -> bool
+        ensures { result ≡ is_marked self.now.spent id }
+    {
+        self.spent.has(id)
+    }
+
+    /// The number of the entry of the same request, within the keeping time.
+    pub(crate) fn repeated(&self, q: &Request<'_>) -> Option<u64>
+        ensures { result ≡ option_map (λ e. e.number) (found self.now.kept self.now.time (asked_of q.now)) }
+    {
+        match self.kept.find(self.time, q) {
+            Some(entry) => Some(number_of(entry)),
+            None => None,
+        }
+    }
+
+    /// The least number of an entry whose reply is kept.
+    pub(crate) fn first_kept(&self) -> Option<u64>
+        ensures least { IfSome result (λ n. All (λ r. n ≤ r.entry.number) self.now.kept.replies) }
+        ensures none { IsNone result ↔ (self.now.kept.replies ≡ []) }
+    {
+        self.kept.first()
+    }
+
+    /// Raises the house time to a reading where that is later, and answers it. Replies whose keeping time
+    /// is over are let go.
+    pub(crate) fn raise(&mut self, reading: Moment) -> Moment
+        ensures time { result ≡ max self.old.time reading }
+        ensures rest { self.new ≡ record self.old { time = max self.old.time reading; kept = self.new.kept } }
+        ensures keep { self.new.kept.keep ≡ self.old.kept.keep }
+        ensures replies { self.new.kept.replies ≡ filter (is_in_time self.old.kept.keep (max self.old.time reading)) self.old.kept.replies }
+    {
+        let time = later(self.time, reading);
+        self.time = time;
+        self.kept.forget(time);
+        time
+    }
+
+    /// Makes room to enter a request with a piece of this identity at the house time. All that is kept
+    /// stays as it is, after an `Err` too.
+    pub(crate) fn reserve(&mut self, q: &Request<'_>, id: Id) -> Result<(), NoMemory>
+        ensures same { IsAsBefore self.old self.new }
+        ensures room { OnOk result (HasRoom self.new (asked_of q.now) id) }
+    {
+        let series = u32::from(self.own_terms.issuer()) * (1 << 24)
+            + self.own_terms.epoch_of(self.time);
+        self.spent.reserve()?;
+        self.kept.reserve(q)?;
+        self.own.reserve(id.series())?;
+        self.own.reserve(series)
+    }
+
+    /// Enters a request that is accepted with a piece, for which there is room. It takes no memory.
+    pub(crate) fn enter(&mut self, q: &Request<'_>, paid: &Piece, a: &Acceptance)
+        requires room { HasRoom self.old (asked_of q.now) paid.now.id }
+        requires fresh { found self.old.kept self.old.time (asked_of q.now) ≡ None }
+        requires change { HasChange self.old a.now.price paid.now.value a.now.change }
+        requires fits { self.old.size + a.now.payload + 5 ≤ self.old.limits.journal }
+        ensures { IsEntered self.old self.new (asked_of q.now) paid.now a.now }
+    {
+        let piece = redeem(
+            &mut self.own,
+            &mut self.takings,
+            self.time,
+            self.name,
+            paid,
+            a.price,
+            a.change,
+        );
+        let change = certified_if(&self.own_terms, piece);
+        let entry = KeptEntry {
+            number: self.count,
+            moment: self.time,
+            price: a.price,
+            change,
+            secret: a.secret,
+            deed: a.deed,
+        };
+        self.kept.keep(q, entry);
+        self.spent.mark(paid.id());
+        self.count += 1;
+        self.size += a.payload + 5;
+    }
+}
+
+/// The later of two moments.
+fn later(a: Moment, b: Moment) -> Moment
+    ensures { result ≡ max a b }
+{
+    if a.seconds() < b.seconds() { b } else { a }
+}
+
+fn number_of(entry: &KeptEntry) -> u64
+    ensures { result ≡ entry.now.number }
+{
+    entry.number
+}

@@ -1,0 +1,56 @@
+//! What a Site entry founds.
+
+ghost use Rattle.std.specs.Prelude.{◌≡◌, ◌<◌, ◌^◌, [], length, IfOk};
+ghost use Rattle.mc_records.specs.Entry.{Fits, payload};
+ghost use Rattle.mc_records.specs.Limits.{AreInRange};
+ghost use Rattle.mc_records.specs.Views.{entry};
+ghost use Rattle.ledger_model.specs.Lawful.{MayFollow};
+ghost use Rattle.house_core.specs.Founding.{AreOf, FoundsHouse};
+
+use crate::books::Books;
+use mc_base::NoMemory;
+use mc_records::{Limits, PieceList, Record, payloads_are_short, write_record};
+use scrip_form::Name;
+use std::alloc::Global;
+
+/// The length of the payload of an entry, which is written to find it.
+pub(crate) fn payload_len(alloc: Global, r: &Record<'_>) -> Result<u64, NoMemory>
+    requires { Fits (entry r.now) }
+    ensures len { IfOk result (λ len. len ≡ length (payload (entry r.now))) }
+    ensures short { length (payload (entry r.now)) < 131066 }
+{
+    payloads_are_short();
+    let mut bytes = Vec::new(alloc);
+    write_record(r, &mut bytes)?;
+    Ok(bytes.len() as u64)
+}
+
+/// The books of the house that a Site entry founds, by an entry of so many bytes of payload.
+pub(crate) fn found_books(
+    alloc: Global,
+    site: &Record<'_>,
+    limits: Limits,
+    bytes: u64,
+) -> Result<Books, NoMemory>
+    requires limits { AreInRange limits }
+    requires site { FoundsHouse (entry site.now) }
+    requires first { MayFollow limits [] (entry site.now) }
+    requires len { bytes ≡ length (payload (entry site.now)) }
+    requires short { bytes < 2 ^ 32 }
+    ensures { IfOk result (λ b. AreOf b limits (entry site.now)) }
+{
+    // The check lets a record go only where the types of its parts are named.
+    let _pieces: Option<PieceList<'_>> = None;
+    match site {
+        Record::Site {
+            moment,
+            name,
+            house: Some(house),
+            ..
+        } => {
+            let name = Name::new(name).unwrap();
+            Books::found(alloc, *moment, name, house, limits, bytes)
+        }
+        _ => unreachable!(),
+    }
+}

@@ -1,0 +1,84 @@
+//! The money of an accepted piece, and its change.
+
+ghost use Rattle.std.specs.Prelude.{◌≡◌, ◌+◌, ◌-◌, ◌≤◌, ◌<◌, ◌^◌, ℕ, Some, option_map, min, MatchOption, IsTrue};
+ghost use Rattle.scrip_form.specs.Identities.{series_of};
+ghost use Rattle.scrip_form.specs.Issuing.{series_at};
+ghost use Rattle.scrip_form.specs.Scrip.{scrip_body};
+ghost use Rattle.scrip_certs.specs.Digests as digests;
+ghost use Rattle.change_issue.specs.Registers.{has_room, count_in, issued_in, redeemed_in, next_in};
+ghost use Rattle.change_issue.specs.IssuedPieces.{issued_piece};
+ghost use Rattle.house_core.specs.Books.{at_series, change_count, change_worth};
+
+use change_issue::Issuer;
+use mc_base::{Amount, Coin, Moment, Total};
+use scrip_certs::certificate;
+use scrip_form::{Id, Name, Piece, Terms, write_scrip};
+
+/// A piece of the house's own with its certificate under these terms.
+fn certified(terms: &Terms, piece: Piece) -> (Piece, [u8; 16])
+    ensures { result ≡ (piece, digests.certificate terms.now (scrip_body piece) piece.id) }
+{
+    let mut out = [0; 512];
+    let len = write_scrip(&piece, &[0; 16], &mut out);
+    let cert = certificate(terms, &out[..len - 32], piece.id());
+    (piece, cert)
+}
+
+/// A piece that may be there, likewise.
+pub(crate) fn certified_if(terms: &Terms, piece: Option<Piece>) -> Option<(Piece, [u8; 16])>
+    ensures { result ≡ option_map (λ p. (p, digests.certificate terms.now (scrip_body p) p.id)) piece }
+{
+    match piece {
+        Some(piece) => Some(certified(terms, piece)),
+        None => None,
+    }
+}
+
+/// The coin of a piece in two: what is paid at this price, and the rest.
+fn parted(coin: Coin, price: u64) -> (Coin, Coin)
+    ensures paid { result.0 ≡ min price coin }
+    ensures rest { result.1 ≡ coin - price }
+{
+    let value = coin.amount().get();
+    let part = Amount::new(price.min(value)).unwrap();
+    match coin.split(part) {
+        Ok(parts) => parts,
+        Err(_) => unreachable!(),
+    }
+}
+
+/// Redeems a piece: its value goes into the takings as far as the price, and the rest is handed out as
+/// change, where there is an identity for it. It takes no memory.
+pub(crate) fn redeem(
+    own: &mut Issuer,
+    takings: &mut Total,
+    time: Moment,
+    vendor: Name,
+    paid: &Piece,
+    price: u64,
+    change: Option<Id>,
+) -> Option<Piece>
+    requires redeemed_room { IsTrue (has_room own.old (series_of paid.now.id)) }
+    requires change_room { IsTrue (has_room own.old (series_at own.old.terms time)) }
+    requires change { MatchOption change (paid.now.value ≤ price) (λ id. (price < paid.now.value) × (count_in own.old (series_at own.old.terms time) < own.old.most) × (id ≡ next_in own.old (series_at own.old.terms time))) }
+    requires redeemed_small { redeemed_in own.old (series_of paid.now.id) < 2 ^ 120 }
+    requires takings_small { takings.old < 2 ^ 120 }
+    ensures piece { result ≡ option_map (λ id. issued_piece own.old.terms time vendor (paid.now.value - price) id (Some paid.now.cust) paid.now.props) change }
+    ensures count { (s : ℕ) → count_in own.new s ≡ count_in own.old s + at_series (series_at own.old.terms time) (change_count change) s }
+    ensures worth { (s : ℕ) → issued_in own.new s ≡ issued_in own.old s + at_series (series_at own.old.terms time) (change_worth price paid.now.value change) s }
+    ensures redeemed { (s : ℕ) → redeemed_in own.new s ≡ redeemed_in own.old s + at_series (series_of paid.now.id) paid.now.value s }
+    ensures takings { takings.new ≡ takings.old + min price paid.now.value }
+    ensures terms { own.new.terms ≡ own.old.terms }
+    ensures most { own.new.most ≡ own.old.most }
+{
+    let coin = own.redeem(paid.id(), paid.value());
+    let (part, rest) = parted(coin, price);
+    takings.put(part);
+    match change {
+        Some(_) => Some(own.issue(time, vendor, rest, Some(paid.cust()), paid.props())),
+        None => {
+            rest.end();
+            None
+        }
+    }
+}

@@ -1,0 +1,122 @@
+//! The stages of the answer to a scrip request, each over what it asks.
+
+ghost use Rattle.std.specs.Prelude.{◌≡◌, ◌+◌, ◌<◌, ◌≤◌, ◌==◌, ℕ, nat_lt, find, length, option_map, IfOk, IfSome, MatchOption, OnOk};
+ghost use Rattle.scrip_form.specs.Issuing.{series_at};
+ghost use Rattle.mc_records.specs.Entry.{IsKey};
+ghost use Rattle.mc_records.specs.Entry as entries;
+ghost use Rattle.mc_records.specs.Requests.{seen};
+ghost use Rattle.change_issue.specs.Registers.{count_in, next_in};
+ghost use Rattle.ledger_model.specs.Houses.{terms_by};
+ghost use Rattle.ledger_model.specs.Stages.{genuine_by, spendable_by, next_by, needed, fitted_by};
+ghost use Rattle.ledger_model.specs.Slow.{told};
+
+use change_issue::Issuer;
+use mc_base::Moment;
+use mc_records::{Refusal, Request};
+use scrip_certs::{certificate, customer_secret, hex_of, sign_request};
+use scrip_form::{Id, ScripRef, Terms};
+
+/// The terms of an issuer; None exactly where there are none.
+pub(crate) fn terms_of(terms: &[Terms], issuer: u8) -> Option<&Terms>
+    ensures { option_map (λ t. t.now) result ≡ terms_by terms.now issuer }
+{
+    terms.iter().find(|t| t.issuer() == issuer)
+}
+
+/// The secret of a piece's customer; refused where the vendor, an issuer, the end of the series or the
+/// certificate is not right.
+pub(crate) fn genuine(
+    name: &[u8],
+    terms: &[Terms],
+    scrip: &ScripRef<'_>,
+) -> Result<[u8; 16], Refusal>
+    ensures { told (λ s. s) result ≡ genuine_by name.now (λ series. 1) terms.now scrip.now }
+{
+    let piece = scrip.piece();
+    if piece.vendor().bytes() != name {
+        return Err(Refusal::WrongVendor);
+    }
+    let (issuer, epoch, _) = piece.id().parts();
+    let Some(own) = terms_of(terms, issuer) else {
+        return Err(Refusal::UnknownIssuer);
+    };
+    let (customer, _, _) = piece.cust().parts();
+    let Some(customers) = terms_of(terms, customer) else {
+        return Err(Refusal::UnknownIssuer);
+    };
+    let end = own.series_end(epoch);
+    if piece.expires() != end {
+        return Err(Refusal::ExpiryMismatch(piece.expires(), end));
+    }
+    let right = certificate(own, scrip.body(), piece.id());
+    if scrip.cert().as_slice() != right.as_slice() {
+        return Err(Refusal::BadCertificate);
+    }
+    Ok(customer_secret(customers, piece.cust()))
+}
+
+/// The signature of a request whose piece may be spent by it, where it has one; refused where the piece
+/// is expired or was accepted, or the signature is missing where there must be one, or not right.
+pub(crate) fn spendable(
+    clear: bool,
+    spent: bool,
+    time: Moment,
+    secret: &[u8; 16],
+    q: &Request<'_>,
+    scrip: &ScripRef<'_>,
+) -> Result<Option<[u8; 16]>, Refusal>
+    ensures lines { told (λ s. s) result ≡ spendable_by clear spent time secret.now q.now.target.now (seen q.now.sign) scrip.now }
+    ensures sign { IfOk result (λ s. IfSome s IsKey) }
+{
+    let piece = scrip.piece();
+    if piece.expires() <= time.seconds() {
+        return Err(Refusal::Expired(piece.expires(), time.seconds()));
+    }
+    if spent {
+        return Err(Refusal::Spent);
+    }
+    let Some(sign) = q.sign else {
+        return if clear {
+            Ok(None)
+        } else {
+            Err(Refusal::NeedSignature)
+        };
+    };
+    let right = sign_request(scrip.text(), q.target, secret);
+    if sign == hex_of(&right).as_slice() {
+        Ok(Some(right))
+    } else {
+        Err(Refusal::BadSignature)
+    }
+}
+
+/// The identity of the change of a value, where it is above the price; refused where the series of the
+/// moment is full.
+pub(crate) fn change(
+    own: &Issuer,
+    time: Moment,
+    price: u64,
+    value: u64,
+) -> Result<Option<Id>, Refusal>
+    ensures lines { told (λ id. id) result ≡ needed (nat_lt price value) (next_by own.now.most (series_at own.now.terms time) (count_in own.now (series_at own.now.terms time))) }
+    ensures next { IfOk result (λ c. MatchOption c (value ≤ price) (λ id. (price < value) × (count_in own.now (series_at own.now.terms time) < own.now.most) × (id ≡ next_in own.now (series_at own.now.terms time)))) }
+{
+    if value <= price {
+        return Ok(None);
+    }
+    match own.next(time) {
+        Ok(id) => Ok(Some(id)),
+        Err(full) => Err(Refusal::SeriesFull(u64::from(full.series))),
+    }
+}
+
+/// Refused where an entry of so many bytes of payload would pass the limit of the journal.
+pub(crate) fn fitted(limit: u64, size: u64, payload: u64) -> Result<(), Refusal>
+    ensures lines { (e : entries.Entry) → payload ≡ length (entries.payload e) → told (λ u. e) result ≡ fitted_by limit size 0 e }
+    ensures room { OnOk result (size + payload + 5 ≤ limit) }
+{
+    if limit < size || limit - size < 5 || limit - size - 5 < payload {
+        return Err(Refusal::JournalFull(size, payload));
+    }
+    Ok(())
+}

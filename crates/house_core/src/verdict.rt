@@ -1,0 +1,41 @@
+use kept_replies::Deed;
+use mc_records::Refusal;
+use scrip_form::Id;
+
+/// What a house says of a request, before it enters anything.
+#[derive(Drop)]
+pub enum Verdict {
+    /// It is refused.
+    Refused(Refusal),
+    /// It was accepted within the keeping time, by the entry of this number, from 0.
+    Again(u64),
+    /// It is to be accepted.
+    Take,
+}
+
+/// Why a request was not accepted.
+#[derive(Drop)]
+pub enum BenchFault {
+    Refused(Refusal),
+    /// Memory was refused.
+    NoMemory,
+}
+
+/// Why a request with a scrip text makes no entry.
+#[derive(Drop)]
+pub(crate) enum Stopped {
+    Refused(Refusal),
+    Again(u64),
+}
+
+/// What an entry for a piece says beside the moment, the scrip text and the target, with the secret of
+/// the piece's customer and the length of the payload.
+#[derive(Drop)]
+pub(crate) struct Acceptance {
+    pub(crate) secret: [u8; 16],
+    pub(crate) sign: Option<[u8; 16]>,
+    pub(crate) price: u64,
+    pub(crate) change: Option<Id>,
+    pub(crate) deed: Deed,
+    pub(crate) payload: u64,
+}

@@ -1,0 +1,114 @@
+//! The answer to a request with a scrip text that was read, a stage after the other.
+
+ghost use Rattle.std.specs.Prelude.{◌≡◌, Some, None, IfSome, IfOk, OnOk};
+ghost use Rattle.mc_records.specs.Entry.{IsKey};
+ghost use Rattle.mc_records.specs.Requests.{asked_of, seen};
+ghost use Rattle.kept_replies.specs.Kept.{found};
+ghost use Rattle.ledger_model.specs.Histories.{History};
+ghost use Rattle.ledger_model.specs.Houses.{site_kind};
+ghost use Rattle.ledger_model.specs.Answer as model;
+ghost use Rattle.ledger_model.specs.Slow.{told, after_read, after_repeat};
+ghost use Rattle.house_core.specs.Stands.{Stands, scrip_request};
+ghost use Rattle.house_core.specs.Verdicts.{accept_entry, weighed, IsReady};
+
+use crate::books::Books;
+use crate::lengths::accept_len;
+use crate::stages::{change, fitted, genuine, spendable};
+use crate::trade::Trade;
+use crate::verdict::{Acceptance, Stopped};
+use mc_records::{Refusal, Request};
+use scrip_form::ScripRef;
+
+/// The request with the scrip text that was read of it.
+pub(crate) fn request_with<'a>(q: &Request<'a>, scrip: &ScripRef<'a>) -> Request<'a>
+    ensures { asked_of result ≡ scrip_request scrip.now.text q.now.target.now (seen q.now.sign) }
+{
+    Request {
+        target: q.target,
+        scrip: Some(scrip.text()),
+        sign: q.sign,
+    }
+}
+
+/// What is given for a piece that may be spent; refused where the trade refuses it, the series of the
+/// change is full, or the entry does not fit.
+fn taken<T: Trade>(
+    books: &Books,
+    trade: &T,
+    q: &Request<'_>,
+    scrip: &ScripRef<'_>,
+    secret: &[u8; 16],
+    sign: &Option<[u8; 16]>,
+) -> Result<Acceptance, Refusal>
+    requires { IfSome sign.now IsKey }
+    ensures ready { IfOk result (IsReady books.now scrip.now q.now.target.now) }
+    ensures lines { (h : History) → Stands books.now h → T.stands trade.now h → site_kind h ≡ Some (T.site trade.now)
+        → told (accept_entry books.now.time scrip.now.text q.now.target.now) result ≡ model.taken h books.now.time books.now.limits (asked_of q.now) scrip.now sign.now }
+{
+    let value = scrip.piece().value();
+    let offer = match trade.offer(books.time(), books.limits(), q.target, value) {
+        Ok(offer) => offer,
+        Err(refusal) => return Err(refusal),
+    };
+    let change = match change(books.own(), books.time(), offer.price, value.get()) {
+        Ok(change) => change,
+        Err(refusal) => return Err(refusal),
+    };
+    let payload = accept_len(scrip, q.target, sign, &change, &offer.deed);
+    match fitted(books.limits().journal, books.size(), payload) {
+        Ok(()) => Ok(Acceptance {
+            secret: *secret,
+            sign: *sign,
+            price: offer.price,
+            change,
+            deed: offer.deed,
+            payload,
+        }),
+        Err(refusal) => Err(refusal),
+    }
+}
+
+/// What is given for a piece that no request brought before.
+fn weigh_new<T: Trade>(
+    books: &Books,
+    trade: &T,
+    q: &Request<'_>,
+    scrip: &ScripRef<'_>,
+) -> Result<Acceptance, Refusal>
+    ensures ready { IfOk result (IsReady books.now scrip.now q.now.target.now) }
+    ensures lines { (h : History) → Stands books.now h → T.stands trade.now h → site_kind h ≡ Some (T.site trade.now)
+        → told (accept_entry books.now.time scrip.now.text q.now.target.now) result ≡ after_repeat h books.now.time books.now.limits (asked_of q.now) scrip.now }
+{
+    let secret = match genuine(books.name(), books.terms(), scrip) {
+        Ok(secret) => secret,
+        Err(refusal) => return Err(refusal),
+    };
+    let spent = books.has_spent(scrip.piece().id());
+    let sign = match spendable(books.is_clear(), spent, books.time(), &secret, q, scrip) {
+        Ok(sign) => sign,
+        Err(refusal) => return Err(refusal),
+    };
+    taken(books, trade, q, scrip, &secret, &sign)
+}
+
+/// What is given for a piece, or why nothing is: the number of an entry where the request comes again.
+pub(crate) fn weigh<T: Trade>(
+    books: &Books,
+    trade: &T,
+    q: &Request<'_>,
+    scrip: &ScripRef<'_>,
+) -> Result<Acceptance, Stopped>
+    ensures new { OnOk result (found books.now.kept books.now.time (scrip_request scrip.now.text q.now.target.now (seen q.now.sign)) ≡ None) }
+    ensures ready { IfOk result (IsReady books.now scrip.now q.now.target.now) }
+    ensures lines { (h : History) → Stands books.now h → T.stands trade.now h → site_kind h ≡ Some (T.site trade.now)
+        → weighed (accept_entry books.now.time scrip.now.text q.now.target.now) result ≡ after_read h books.now.time books.now.limits (asked_of q.now) scrip.now }
+{
+    match books.repeated(&request_with(q, scrip)) {
+        Some(number) => return Err(Stopped::Again(number)),
+        None => (),
+    }
+    match weigh_new(books, trade, q, scrip) {
+        Ok(acceptance) => Ok(acceptance),
+        Err(refusal) => Err(Stopped::Refused(refusal)),
+    }
+}
