@@ -15,7 +15,7 @@ use Rattle.ledger_model.specs.Histories.{History}
 use Rattle.ledger_model.specs.Houses.{terms_in}
 use Rattle.house_core.specs.Books.{BooksView}
 use Rattle.house_core.specs.declared.bench.Bench.{Bench}
-use Rattle.house_core.specs.Trade.{Replaces, LiesBehind, IsKeptFrom, IsHeld}
+use Rattle.house_core.specs.Trade.{Replaces, LiesBehind, IsKeptFrom, OfGoods}
 use Rattle.house_core.specs.Stands.{Stands, has_ended, scrip_request}
 use Rattle.house_core.specs.Bench.{IsInForceFor, Holds, HasContents}
 
@@ -49,7 +49,7 @@ found_later old new now t q keep replies le =
 
 -- what is held for a reply that is kept is still held
 still_held : (old new : ℕ → Type 0) (h : History) (from : Option ℕ) (number : ℕ) → ((n : ℕ) → IsKeptFrom h from n → old n → new n) → ((m : ℕ) → number < m → LiesBehind from m)
-    → (d : Deed) → IsHeld (λ n. (m : ℕ) → Replaces h n m → number < m) d → IsHeld old d → IsHeld new d
+    → (d : Deed) → OfGoods (λ n. (m : ℕ) → Replaces h n m → number < m) d → OfGoods old d → OfGoods new d
 still_held old new h from number keeps behind (kept.Goods n) later held = keeps n (λ m replaces. behind m (later m replaces)) held
 still_held old new h from number keeps behind (kept.Sale piece cert secret stock) later held = tt
 still_held old new h from number keeps behind (kept.Credit balance) later held = tt
@@ -63,7 +63,7 @@ lies_behind (Some n) rs k d lt least none m above = let first = least k d lt in 
 
 pub all_held : (old new : ℕ → Type 0) (h : History) (from : Option ℕ) (rs : List KeptReply) → ((n : ℕ) → IsKeptFrom h from n → old n → new n)
     → IfSome from (λ n. All (λ r. n ≤ r.entry.number) rs) → (from ≡ None → rs ≡ [])
-    → All (IsInForceFor h) rs → All (λ r. IsHeld old r.entry.deed) rs → All (λ r. IsHeld new r.entry.deed) rs
+    → All (IsInForceFor h) rs → All (λ r. OfGoods old r.entry.deed) rs → All (λ r. OfGoods new r.entry.deed) rs
 all_held old new h from rs keeps least none in_force held k d lt =
     still_held old new h from (get_or rs k d).entry.number keeps (λ m above. lies_behind from rs k d lt least none m above) (get_or rs k d).entry.deed (in_force k d lt) (held k d lt)
 
@@ -109,5 +109,5 @@ contents_later {T = T} holds b c h t from has replies least none keeps =
     let of_rest : (P : KeptReply → Type 0) → All P b.books.kept.replies → All P c.books.kept.replies =
     λ P all. subst (All P) (sym replies) (All-filter (is_in_time b.books.kept.keep t) P b.books.kept.replies all) in
     let in_force = of_rest (IsInForceFor h) has.in_force in
-    let held = of_rest (λ r. IsHeld (holds b.trade) r.entry.deed) has.held in
+    let held = of_rest (λ r. OfGoods (holds b.trade) r.entry.deed) has.held in
     record { in_force = in_force; held = all_held (holds b.trade) (holds c.trade) h from c.books.kept.replies keeps least none in_force held }

@@ -13,7 +13,7 @@ use Rattle.house_core.specs.declared.verdict.Stopped.TheVariants as stops
 use Rattle.house_core.specs.declared.verdict.BenchFault.{BenchFault}
 use Rattle.house_core.specs.declared.verdict.BenchFault.TheVariants as faults
 use Rattle.house_core.specs.Stands.{Stands}
-use Rattle.house_core.specs.Trade.{IsHeld, Replaces}
+use Rattle.house_core.specs.Trade.{OfGoods, Replaces}
 
 abbrev pub house_time : {T : Type 0} → Bench T → ℕ
 house_time b = b.books.time
@@ -23,7 +23,7 @@ limits_of b = b.books.limits
 
 -- Entries that replace the goods which a reply brings come after the entry of the reply.
 abbrev pub IsInForceFor : History → KeptReply → Type 0
-IsInForceFor h r = IsHeld (λ n. (m : ℕ) → Replaces h n m → r.entry.number < m) r.entry.deed
+IsInForceFor h r = OfGoods (λ n. (m : ℕ) → Replaces h n m → r.entry.number < m) r.entry.deed
 
 -- The books and the trade stand for the history, which is of the trade's kind of site.
 pub record Holds {T : Type 0} (stands : T → History → Type 0) (site : T → ℕ) (b : Bench T) (h : History) : Type 0 where
@@ -34,7 +34,7 @@ pub record Holds {T : Type 0} (stands : T → History → Type 0) (site : T → 
 -- The trade has what the kept replies bring, and no earlier entry replaces it.
 pub record HasContents {T : Type 0} (holds : T → ℕ → Type 0) (b : Bench T) (h : History) : Type 0 where
   pub in_force : All (IsInForceFor h) b.books.kept.replies
-  pub held : All (λ r. IsHeld (holds b.trade) r.entry.deed) b.books.kept.replies
+  pub held : All (λ r. OfGoods (holds b.trade) r.entry.deed) b.books.kept.replies
 
 -- ---- what comes of a request
 
