@@ -23,4 +23,4 @@ pub use law::entries_follow_in_parts;
 pub use offer::{Body, DrawAsk, Offer, SiteKind, Unlawful};
 pub use spent::Spent;
 pub use trade::Trade;
-pub use verdict::{BenchFault, Verdict};
+pub use verdict::{BenchFault, EnterFault, Verdict};
