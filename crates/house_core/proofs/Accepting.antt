@@ -1,37 +1,33 @@
 -- What comes of a request, from the answer to it.
-use Rattle.std.proofs.Common.{◌≡◌, ℕ, ◌≤◌, Bool, false, List, [], ◌∷◌, ◌++◌, length, filter, Option, Some, None, Result, Ok, Err, refl, sym, ap, subst, ◌∙◌, arith}
-use Rattle.std.specs.Prelude.{option_map, position}
+use Rattle.std.proofs.Common.{◌≡◌, ℕ, false, List, [], ◌∷◌, ◌++◌, length, Option, Some, None, Ok, Err, refl, sym, ap, ap₂, subst, ◌∙◌, arith}
+use Rattle.std.specs.Prelude.{option_map}
 use Rattle.std.specs.Borrow.{Bor}
+use Rattle.scrip_form.specs.Identities.{numbered}
+use Rattle.change_issue.specs.Registers.{count_in}
 use Rattle.scrip_form.specs.Issuing.{Issuing}
-use Rattle.scrip_form.specs.Scrip.{Scrip, Certified}
+use Rattle.scrip_form.specs.Scrip.{Certified}
 use Rattle.scrip_form.specs.Reading.{scrip_of}
 use Rattle.mc_records.specs.declared.limits.Limits.{Limits}
-use Rattle.mc_records.specs.Limits.{AreInRange}
 use Rattle.mc_records.specs.declared.refusal.Refusal.{Refusal}
 use Rattle.mc_records.specs.declared.refusal.Refusal.TheVariants.{NoScrip, BadScrip}
-use Rattle.mc_records.specs.Entry.{Entry, Accept, payload}
+use Rattle.mc_records.specs.Entry.{Entry, Site, AddTerms, Goods, Accept, Mint, Account, Deposit, Withdraw, Draw, Licence, Stock, Got, Pend, Done, Refused, payload}
 use Rattle.mc_records.specs.Requests.{Asked, seen}
-use Rattle.mc_records.specs.Sizes.{size}
 use Rattle.kept_replies.specs.declared.deed.KeptEntry.{KeptEntry}
-use Rattle.kept_replies.specs.Kept.{KeptReply, KeptView, is_in_time, found}
-use Rattle.ledger_model.specs.Histories.{History, time}
+use Rattle.kept_replies.specs.Kept.{found}
+use Rattle.ledger_model.specs.Histories.{History}
 use Rattle.ledger_model.specs.Answer as answers
 use Rattle.ledger_model.specs.Answer.{Answer, answer, answered}
-use Rattle.ledger_model.specs.Slow.{after_read}
-use Rattle.ledger_model.specs.Lawful.{IsLawful, MayFollow}
 use Rattle.ledger_model.proofs.FollowLaws.{may_follow}
 use Rattle.house_core.specs.declared.bench.Bench.{Bench}
 use Rattle.house_core.specs.declared.verdict.Acceptance.{Acceptance}
 use Rattle.house_core.specs.declared.verdict.Stopped.{Stopped}
 use Rattle.house_core.specs.declared.verdict.Stopped.TheVariants as stops
-use Rattle.house_core.specs.declared.verdict.BenchFault.{BenchFault}
 use Rattle.house_core.specs.declared.verdict.BenchFault.TheVariants as faults
 use Rattle.house_core.specs.Learning.{MayLearn}
-use Rattle.house_core.specs.Books.{BooksView, HasChange, IsEntered, IsAsBefore, series_now}
+use Rattle.house_core.specs.Books.{BooksView, HasChange, GoesOn, IsEntered, IsAsBefore, series_now}
 use Rattle.house_core.specs.Stands.{Stands, has_ended, scrip_request}
 use Rattle.house_core.specs.Verdicts.{accept_entry, stop_of, IsReady}
 use Rattle.house_core.specs.Bench.{Holds, Accepts, house_time, limits_of, stopped_with}
-use Rattle.house_core.proofs.Tabled.{answer_read}
 use Rattle.house_core.proofs.Entered.{stands_entered}
 
 -- ---- refusals and repeats
@@ -116,3 +112,25 @@ stands_taken {old = old} {mid = mid} {new = new} {h = h} st before q c a read re
     let later : answer h mid.time mid.limits q ≡ answers.Take (accept_entry mid.time c.text q.target a) = rw (before.time, before.limits) takes in
     subst (λ (t : ℕ). Stands new (h ++ accept_entry t c.text q.target a ∷ [])) before.time
     (stands_entered (stands_as_before st before) q c a read (ready_as_before before c q.target a ready) later is)
+
+-- ---- an entry that accepts nothing
+
+pub goes_as_before : {old new : BooksView} → IsAsBefore old new → (e : Entry) → GoesOn old e → GoesOn new e
+goes_as_before is (Site m kind name house) goes = tt
+goes_as_before is (AddTerms m terms) goes = tt
+goes_as_before is (Goods m target price k contents) goes = tt
+goes_as_before is (Accept m scrip target sign price change deed) goes = tt
+goes_as_before {old = old} {new = new} is (Mint m reference count value first) goes =
+    let series : series_now new ≡ series_now old = rw (is.issuer, is.time) refl in
+    let stand : count_in new.own (series_now new) ≡ count_in old.own (series_now old) = ap (count_in new.own) series ∙ is.issued (series_now old) in
+    (goes.0 ∙ sym (ap₂ numbered series stand), omega (arith, goes.1, stand, is.most))
+goes_as_before is (Account m name key) goes = tt
+goes_as_before is (Deposit m name amount reference) goes = tt
+goes_as_before is (Withdraw m name amount reference) goes = tt
+goes_as_before is (Draw m target sign drawn) goes = tt
+goes_as_before is (Licence m vendor terms) goes = tt
+goes_as_before is (Stock m vendor pieces) goes = tt
+goes_as_before is (Got m pieces) goes = tt
+goes_as_before is (Pend m ask peer target scrip secret) goes = tt
+goes_as_before is (Done m n price change got) goes = tt
+goes_as_before is (Refused m n refusal) goes = tt

@@ -1,6 +1,6 @@
 -- What the books keep after an acceptance was entered says what the longer history says.
-use Rattle.std.proofs.Common.{◌≡◌, ℕ, ◌+◌, ◌-◌, ◌*◌, ◌/◌, ◌<◌, ◌≤◌, ◌^◌, Bool, true, false, not, cond, List, [], ◌∷◌, ◌++◌, length, filter, find, All, Option, Some, None, Result, Ok, Err, refl, sym, ap, ap₂, subst, ◌∙◌, arith, eqb, ltb, leb, inl, inr, append-nil, length-append}
-use Rattle.std.specs.Prelude.{◌&&◌, ◌||◌, ◌==◌, min, max, option_map, option_to_list, unwrap_or, position, count_by, sum_by, bytes_eq, filter_map}
+use Rattle.std.proofs.Common.{◌≡◌, ℕ, ◌+◌, ◌-◌, ◌<◌, ◌≤◌, ◌^◌, Bool, true, false, not, cond, List, [], ◌∷◌, ◌++◌, length, filter, find, Option, Some, None, Result, Ok, refl, sym, ap, ap₂, ◌∙◌, arith, eqb, ltb, leb, inl, inr, append-nil, length-append}
+use Rattle.std.specs.Prelude.{◌&&◌, ◌||◌, ◌==◌, max, option_map, option_to_list, unwrap_or, position, count_by, bytes_eq}
 use Rattle.std.specs.Option.{option_or}
 use Rattle.std.specs.List.{list_any, cons_option, position_or_len}
 use Rattle.std.specs.Result.{result_ok}
@@ -9,36 +9,32 @@ use Rattle.std.proofs.lemmas.List.Elements.{filter-append, filter_map-append}
 use Rattle.std.proofs.lemmas.List.Folds.{find-append, list_any-append, position_or_len_push}
 use Rattle.std.proofs.lemmas.List.Sums.{sum_by-append}
 use Rattle.hex.specs.Hex.{encode_lower}
-use Rattle.scrip_form.specs.Identities.{issuer_of, epoch_of, series_of, numbered}
+use Rattle.scrip_form.specs.Identities.{issuer_of, epoch_of, series_of}
 use Rattle.scrip_form.specs.Issuing.{Issuing, series_end}
 use Rattle.scrip_form.specs.Scrip.{Scrip, Certified}
 use Rattle.scrip_form.specs.Reading.{scrip_of}
 use Rattle.mc_records.specs.declared.limits.Limits.{Limits}
 use Rattle.mc_records.specs.declared.refusal.Refusal.TheVariants.{TooLittle, NoSuchGoods}
-use Rattle.mc_records.specs.Limits.{AreInRange}
-use Rattle.mc_records.specs.Entry.{House, Entry, Site, AddTerms, Goods, Accept, Mint, Account, Deposit, Withdraw, Draw, Licence, Stock, Got, Pend, Done, Refused, goods_deed, moment_of, payload}
+use Rattle.mc_records.specs.Entry.{House, Entry, Site, AddTerms, Goods, Accept, Mint, Account, Deposit, Withdraw, Draw, Licence, Stock, Got, Pend, Done, Refused, goods_deed, moment_of}
 use Rattle.mc_records.specs.Requests.{Asked}
-use Rattle.mc_records.specs.Sizes.{size}
-use Rattle.kept_replies.specs.declared.deed.KeptEntry.{KeptEntry}
 use Rattle.kept_replies.specs.Requests.{is_same_text, is_same_request}
-use Rattle.kept_replies.specs.Kept.{KeptReply, KeptView, is_in_time, found}
-use Rattle.change_issue.specs.Registers.{count_in, issued_in, redeemed_in, next_in}
+use Rattle.kept_replies.specs.Kept.{KeptReply, is_in_time, found}
+use Rattle.change_issue.specs.Registers.{count_in, next_in}
 use Rattle.ledger_model.specs.Histories.{History, time}
-use Rattle.ledger_model.specs.Houses.{site_name, site_kind, house, keeping, is_clear, is_vendor, terms_of, all_terms, terms_by, terms_in}
+use Rattle.ledger_model.specs.Houses.{site_name, site_kind, house, keeping, is_vendor, terms_of, all_terms, terms_by}
 use Rattle.ledger_model.specs.Goods.{price_in}
-use Rattle.ledger_model.specs.Pieces.{piece_of, accepted_piece, accepted, is_spent, change_from, change_piece, own_out_from, own_out, minted, own_count}
-use Rattle.ledger_model.specs.Sums.{price_paid, takings, values}
-use Rattle.ledger_model.specs.Lines.{Stop, given, refused_if, ◌>>=◌}
+use Rattle.ledger_model.specs.Pieces.{piece_of, accepted, change_from, change_piece, own_out, minted, own_count}
+use Rattle.ledger_model.specs.Sums.{price_paid, values}
+use Rattle.ledger_model.specs.Lines.{given, refused_if, ◌>>=◌}
 use Rattle.ledger_model.specs.Stages.{Offer, is_repeat, is_same_sign, shelf_by}
 use Rattle.ledger_model.specs.Answer.{offer, desk_offer, answer, Take}
 use Rattle.ledger_model.specs.Lawful.{IsLawful}
-use Rattle.ledger_model.proofs.TableLaws.{line_ok, refused_ok, ok_is, Through, answer_through}
+use Rattle.ledger_model.proofs.TableLaws.{line_ok, refused_ok, ok_is, answer_through}
 use Rattle.ledger_model.proofs.AcceptLaws.{accepted_snoc}
 use Rattle.ledger_model.proofs.SerialLaws.{own_out_snoc, minted_snoc, count-append}
 use Rattle.ledger_model.proofs.FollowLaws.{same_request, taken_lawful, size_snoc}
 use Rattle.house_core.specs.declared.verdict.Acceptance.{Acceptance}
 use Rattle.house_core.specs.Views.{entry_deed}
-use Rattle.house_core.specs.Spent.{is_marked}
 use Rattle.house_core.specs.Books.{BooksView, HasChange, IsEntered, series_now, kept_entry, at_series, change_count, change_worth}
 use Rattle.house_core.specs.Stands.{Stands, has_ended, scrip_request, of_series}
 use Rattle.house_core.specs.Verdicts.{accept_entry, IsReady}
@@ -46,12 +42,12 @@ use Rattle.house_core.proofs.Entering.{at_most}
 
 -- ---- what the first entry founds
 
-record SameHouse (h k : History) : Type 0 where
+pub record SameHouse (h k : History) : Type 0 where
   pub name : site_name k ≡ site_name h
   pub house : house k ≡ house h
   pub kind : site_kind k ≡ site_kind h
 
-same_house : (limits : Limits) (h : History) (e : Entry) → IsLawful limits h → SameHouse h (h ++ e ∷ [])
+pub same_house : (limits : Limits) (h : History) (e : Entry) → IsLawful limits h → SameHouse h (h ++ e ∷ [])
 same_house limits [] e lawful = absurd lawful
 same_house limits (Site m k name house ∷ xs) e lawful = record { name = refl; house = refl; kind = refl }
 same_house limits (AddTerms m terms ∷ xs) e lawful = record { name = refl; house = refl; kind = refl }
@@ -74,7 +70,7 @@ kind_stays limits h e lawful = (same_house limits h e lawful).kind
 
 -- ---- the time
 
-time_snoc : (h : History) (e : Entry) → time (h ++ e ∷ []) ≡ max (time h) (moment_of e)
+pub time_snoc : (h : History) (e : Entry) → time (h ++ e ∷ []) ≡ max (time h) (moment_of e)
 time_snoc [] e = omega arith
 time_snoc (x ∷ xs) e = omega (arith, time_snoc xs e)
 
@@ -88,7 +84,7 @@ place_within p (x ∷ xs) = go (p x) (place_within p xs)
     go true le = omega arith
     go false le = omega (arith, le)
 
-position_snoc : (p : Entry → Bool) (h : History) (e : Entry) → position p (h ++ e ∷ []) ≡ option_or (position p h) (cond (p e) (Some (length h)) None)
+pub position_snoc : (p : Entry → Bool) (h : History) (e : Entry) → position p (h ++ e ∷ []) ≡ option_or (position p h) (cond (p e) (Some (length h)) None)
 position_snoc p h e = elim (cases_lt (position_or_len p h) (length h)) [
   | inl lt ↦ here lt
   | inr ge ↦ let same : position_or_len p h ≡ length h = omega (arith, ge, place_within p h) in at_end (p e) refl same
@@ -136,7 +132,7 @@ number_or (Some x) false r = refl
 
 -- ---- sums and counts at one more piece
 
-or_end : (b : Bool) → (b || false) ≡ b
+pub or_end : (b : Bool) → (b || false) ≡ b
 or_end true = refl
 or_end false = refl
 
@@ -153,14 +149,14 @@ one_count series s p is = let one : count_by (λ x. series_of x.id == s) (p ∷ 
 zero_at : (series s : ℕ) → at_series series 0 s ≡ 0
 zero_at series s = omega (arith, at_most series 0 s)
 
-values_more : (s : ℕ) (ps qs : List Scrip) → values (of_series s (ps ++ qs)) ≡ values (of_series s ps) + values (of_series s qs)
+pub values_more : (s : ℕ) (ps qs : List Scrip) → values (of_series s (ps ++ qs)) ≡ values (of_series s ps) + values (of_series s qs)
 values_more s ps qs =
     let test : Scrip → Bool = λ p. series_of p.id == s in
     ap values (filter-append test ps qs) ∙ sum_by-append (λ (p : Scrip). p.value) (filter test ps) (filter test qs)
 
 -- ---- what an offer costs
 
-offer_below : (h : History) (t : ℕ) (limits : Limits) (target : List ℕ) (value : ℕ) (o : Offer) → offer h t limits target value ≡ Ok o → o.price ≤ value
+pub offer_below : (h : History) (t : ℕ) (limits : Limits) (target : List ℕ) (value : ℕ) (o : Offer) → offer h t limits target value ≡ Ok o → o.price ≤ value
 offer_below h t limits target value o e = by_kind (is_vendor h) e
   where
     on_shelf : shelf_by (price_in h target) value ≡ Ok o → o.price ≤ value

@@ -1,24 +1,22 @@
 -- Books before and after an acceptance was entered, by what the calls on the way say.
-use Rattle.std.proofs.Common.{◌≡◌, ℕ, ◌+◌, ◌-◌, ◌*◌, ◌<◌, ◌≤◌, ◌^◌, Bool, true, false, cond, List, [], ◌∷◌, ◌++◌, length, filter, find, All, Option, Some, None, refl, sym, ap, subst, ◌∙◌, arith, eqb, ltb}
+use Rattle.std.proofs.Common.{◌≡◌, ℕ, ◌+◌, ◌-◌, ◌<◌, ◌≤◌, Bool, true, false, cond, List, [], ◌∷◌, ◌++◌, filter, find, All, Option, Some, None, refl, sym, ap, subst, ◌∙◌, arith, eqb}
 use Rattle.std.specs.Prelude.{◌&&◌, ◌||◌, ◌==◌, min, option_map, IsTrue}
-use Rattle.std.specs.List.{list_any}
-use Rattle.std.proofs.lemmas.Bool.{lt-ltb, cases_lt}
+use Rattle.std.proofs.lemmas.Bool.{lt-ltb}
 use Rattle.std.proofs.lemmas.List.Elements.{All-head, All-tail, All-push, All-weaker, All-filter, filter_passes}
 use Rattle.scrip_form.specs.Identities.{series_of}
-use Rattle.scrip_form.specs.Issuing.{Issuing, series_at}
+use Rattle.scrip_form.specs.Issuing.{Issuing}
 use Rattle.scrip_form.specs.Scrip.{Scrip, IsPiece, scrip_body}
 use Rattle.scrip_certs.specs.Digests.{certificate}
 use Rattle.mc_records.specs.declared.limits.Limits.{Limits}
 use Rattle.mc_records.specs.Requests.{Asked}
-use Rattle.kept_replies.specs.declared.deed.KeptEntry.{KeptEntry}
 use Rattle.kept_replies.specs.Requests.{is_same_request}
-use Rattle.kept_replies.specs.Kept.{KeptReply, KeptView, is_in_time, found, has_request, has_number, inserted}
+use Rattle.kept_replies.specs.Kept.{KeptReply, KeptView, is_in_time, has_request, has_number, inserted}
 use Rattle.kept_replies.proofs.InsertLaws.{inserted_last}
 use Rattle.change_issue.specs.Registers.{Register, count_in, issued_in, redeemed_in}
 use Rattle.change_issue.specs.IssuedPieces.{issued_piece}
 use Rattle.house_core.specs.declared.verdict.Acceptance.{Acceptance}
 use Rattle.house_core.specs.Spent.{SpentView, is_marked}
-use Rattle.house_core.specs.Books.{BooksView, AreSound, HasChange, IsEntered, series_now, kept_entry, certified_change, at_series, change_count, change_worth}
+use Rattle.house_core.specs.Books.{BooksView, AreSound, IsEntered, series_now, kept_entry, certified_change, at_series, change_count, change_worth}
 
 -- ---- a later time
 
@@ -27,6 +25,7 @@ pub sound_later : (b : BooksView) (t : ℕ) (kept : KeptView) → AreSound b →
 sound_later b t kept sound keep replies = record {
   terms = sound.terms;
   limits = sound.limits;
+  most = sound.most;
   counted = sound.counted;
   sized = sound.sized;
   keeps = subst (λ (n : ℕ). 0 < n) (sym keep) sound.keeps;
@@ -125,6 +124,7 @@ pub sound_entered : (old new : BooksView) (q : Asked) (paid : Scrip) (a : Accept
 sound_entered old new q paid a sound piece fits e = record {
   terms = e.issuer ∙ sound.terms ∙ sym e.own_terms;
   limits = rw e.limits sound.limits;
+  most = e.most ∙ sound.most ∙ ap (λ (l : Limits). l.series) (sym e.limits);
   counted = omega (arith, e.counted, e.sized, sound.counted);
   sized = omega (arith, e.sized, fits, sound.limits.journal_most);
   keeps = subst (λ (n : ℕ). 0 < n) (sym e.keep) sound.keeps;

@@ -1,19 +1,15 @@
 -- The books of a house that was just founded stand for its one entry.
-use Rattle.std.proofs.Common.{◌≡◌, ℕ, ◌+◌, ◌≤◌, Bool, List, [], ◌∷◌, length, Option, Some, None, refl, sym, ap, subst, ◌∙◌, arith, eqb}
-use Rattle.std.specs.Prelude.{cond, find, option_map}
+use Rattle.std.proofs.Common.{◌≡◌, ℕ, ◌≤◌, List, [], ◌∷◌, Option, Some, None, refl, sym, ap, subst, ◌∙◌, arith}
 use Rattle.std.proofs.lemmas.Bool.{eq-eqb}
 use Rattle.scrip_form.specs.Issuing.{Issuing}
 use Rattle.mc_records.specs.declared.limits.Limits.{Limits}
 use Rattle.mc_records.specs.Limits.{AreInRange}
-use Rattle.mc_records.specs.Entry.{House, HouseFits, SiteFits, Entry, Site, AddTerms, Goods, Accept, Mint, Account, Deposit, Withdraw, Draw, Licence, Stock, Got, Pend, Done, Refused, moment_of}
-use Rattle.mc_records.specs.Sizes.{size}
-use Rattle.kept_replies.specs.Kept.{KeptReply}
-use Rattle.ledger_model.specs.Histories.{History}
+use Rattle.mc_records.specs.Entry.{House, HouseFits, SiteFits, Entry, Site, AddTerms, Goods, Accept, Mint, Account, Deposit, Withdraw, Draw, Licence, Stock, Got, Pend, Done, Refused}
 use Rattle.ledger_model.specs.Houses.{site_kind, terms_by}
 use Rattle.ledger_model.specs.Lawful.{MayFollow}
-use Rattle.house_core.specs.Learning.{MayLearn, ByTrade}
+use Rattle.house_core.specs.Learning.{MayLearn}
 use Rattle.house_core.specs.Books.{BooksView}
-use Rattle.house_core.specs.Founding.{AreOf, AreFounded, FoundsHouse}
+use Rattle.house_core.specs.Founding.{AreOf, FoundsHouse}
 use Rattle.house_core.specs.Stands.{Stands}
 
 -- a vendor's house has its ranges

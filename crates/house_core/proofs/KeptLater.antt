@@ -1,6 +1,6 @@
 -- What is kept still stands at a later house time.
-use Rattle.std.proofs.Common.{◌≡◌, ℕ, ◌+◌, ◌<◌, ◌≤◌, Bool, true, false, cond, List, [], ◌∷◌, length, get_or, filter, find, All, IfSome, Option, Some, None, refl, sym, ap, subst, ◌∙◌, arith, ltb, leb}
-use Rattle.std.specs.Prelude.{◌&&◌, IsNone, ◌↔◌, option_map, position, max, unwrap_or}
+use Rattle.std.proofs.Common.{◌≡◌, ℕ, ◌+◌, ◌<◌, ◌≤◌, Bool, true, false, cond, List, [], ◌∷◌, length, get_or, filter, find, All, IfSome, Option, Some, None, refl, sym, ap, subst, ◌∙◌, arith, leb}
+use Rattle.std.specs.Prelude.{◌&&◌, option_map, unwrap_or}
 use Rattle.std.proofs.lemmas.Bool.{and_parts, ltb-true, lt-ltb, leb-false}
 use Rattle.std.proofs.lemmas.List.Elements.{All-filter}
 use Rattle.mc_records.specs.Requests.{Asked}
@@ -17,7 +17,7 @@ use Rattle.house_core.specs.Books.{BooksView}
 use Rattle.house_core.specs.declared.bench.Bench.{Bench}
 use Rattle.house_core.specs.Trade.{Replaces, LiesBehind, IsKeptFrom, OfGoods}
 use Rattle.house_core.specs.Stands.{Stands, has_ended, scrip_request}
-use Rattle.house_core.specs.Bench.{IsInForceFor, Holds, HasContents}
+use Rattle.house_core.specs.Bench.{IsInForceFor, HasContents}
 
 -- ---- replies
 

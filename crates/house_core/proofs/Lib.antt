@@ -6,3 +6,4 @@ pub mod Entering
 pub mod Entered
 pub mod Accepting
 pub mod Founded
+pub mod Noted

@@ -1,26 +1,24 @@
 -- The stages of the table over a history are those over what a house keeps of it.
-use Rattle.std.proofs.Common.{◌≡◌, ℕ, ◌+◌, ◌*◌, ◌<◌, ◌≤◌, ◌^◌, Bool, true, false, not, cond, List, [], ◌∷◌, length, Option, Some, None, Result, Ok, Err, refl, sym, ap, ap₂, subst, ◌∙◌, arith, leb, ltb, eqb, bytes_eq}
-use Rattle.std.specs.Prelude.{◌&&◌, is_none, nat_lt, option_map, unwrap_or, position}
+use Rattle.std.proofs.Common.{◌≡◌, ℕ, Bool, true, false, not, cond, List, [], ◌∷◌, Option, Some, None, Result, Ok, Err, refl, sym, ap, ap₂, ◌∙◌, arith, leb, eqb, bytes_eq}
+use Rattle.std.specs.Prelude.{◌&&◌, is_none, nat_lt, option_map, unwrap_or}
 use Rattle.std.proofs.lemmas.Bool.{eqb-true}
 use Rattle.scrip_form.specs.Identities.{issuer_of, epoch_of}
 use Rattle.scrip_form.specs.Issuing.{Issuing, epoch, series_at, series_end}
-use Rattle.scrip_form.specs.Scrip.{Certified, scrip_body}
+use Rattle.scrip_form.specs.Scrip.{Certified}
 use Rattle.scrip_form.specs.Reading.{scrip_of}
 use Rattle.scrip_certs.specs.Digests.{request_signature}
 use Rattle.mc_records.specs.declared.limits.Limits.{Limits}
-use Rattle.mc_records.specs.declared.refusal.Refusal.{Refusal}
-use Rattle.mc_records.specs.declared.refusal.Refusal.TheVariants.{NoScrip, BadScrip, WrongVendor, UnknownIssuer, ExpiryMismatch, BadCertificate, Expired, Spent, NeedSignature, BadSignature}
-use Rattle.mc_records.specs.Entry.{Entry, Accept, payload}
+use Rattle.mc_records.specs.declared.refusal.Refusal.TheVariants.{WrongVendor, UnknownIssuer, ExpiryMismatch, Expired, Spent, NeedSignature, BadSignature}
+use Rattle.mc_records.specs.Entry.{Entry, Accept}
 use Rattle.mc_records.specs.Requests.{Asked}
-use Rattle.kept_replies.specs.declared.deed.KeptEntry.{KeptEntry}
 use Rattle.kept_replies.specs.Kept.{found}
 use Rattle.change_issue.specs.Registers.{count_in}
 use Rattle.ledger_model.specs.Histories.{History}
-use Rattle.ledger_model.specs.Houses.{site_name, keeping, all_terms, terms_by, terms_in, certificate_in, own_series}
-use Rattle.ledger_model.specs.Pieces.{is_spent, own_count}
-use Rattle.ledger_model.specs.Lines.{Stop, Refuse, Repeat, ◌>>=◌, given, refused_if, again_if}
-use Rattle.ledger_model.specs.Stages.{is_repeat, is_right, genuine_by, spendable_by, Offer, next_by, needed, fitted_by}
-use Rattle.ledger_model.specs.Answer.{repeated, genuine, spendable, offer, next_own, fitted, taken, lines, Answer, Refused, answered, answer}
+use Rattle.ledger_model.specs.Houses.{site_name, all_terms, terms_by, terms_in, own_series}
+use Rattle.ledger_model.specs.Pieces.{is_spent}
+use Rattle.ledger_model.specs.Lines.{Stop, Repeat, ◌>>=◌, given, refused_if}
+use Rattle.ledger_model.specs.Stages.{is_right, genuine_by, spendable_by, Offer, next_by, needed, fitted_by}
+use Rattle.ledger_model.specs.Answer.{repeated, genuine, spendable, offer, next_own, fitted, taken, answered, answer}
 use Rattle.ledger_model.specs.Slow.{after_repeat, after_read}
 use Rattle.ledger_model.proofs.TableLaws.{line_ok, refused_ok, given_ok}
 use Rattle.house_core.specs.Books.{BooksView}
@@ -94,7 +92,7 @@ terms_are_of (x ∷ xs) issuer t e = go (eqb x.issuer issuer) refl (terms_are_of
     go true is more f = let same : x ≡ t = cc in ap (λ (y : Issuing). y.issuer) (sym same) ∙ eqb-true x.issuer issuer is
     go false is more f = more f
 
-series_stands : {b : BooksView} {h : History} → Stands b h → (t : ℕ) → own_series h t ≡ series_at b.own.terms t
+pub series_stands : {b : BooksView} {h : History} → Stands b h → (t : ℕ) → own_series h t ≡ series_at b.own.terms t
 series_stands {b = b} {h = h} st t =
     let zero : b.own_terms.issuer ≡ 0 = terms_are_of (all_terms h) 0 b.own_terms st.own_terms in
     ap (λ (o : Option Issuing). unwrap_or (option_map (λ x. epoch x t) o) 0) st.own_terms ∙ omega (arith, zero) ∙ ap (λ (x : Issuing). series_at x t) (sym st.issuer)

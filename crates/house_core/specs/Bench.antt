@@ -6,10 +6,14 @@ use Rattle.mc_records.specs.declared.limits.Limits.{Limits}
 use Rattle.kept_replies.specs.Kept.{KeptReply}
 use Rattle.ledger_model.specs.Histories.{History}
 use Rattle.ledger_model.specs.Houses.{site_kind}
-use Rattle.ledger_model.specs.Answer.{Answer, Refused, Again, Take}
+use Rattle.ledger_model.specs.Lines.{Refuse}
+use Rattle.ledger_model.specs.Answer.{fitted, Answer, Refused, Again, Take}
+use Rattle.ledger_model.specs.Lawful.{MayFollow}
 use Rattle.house_core.specs.declared.bench.Bench.{Bench}
 use Rattle.house_core.specs.declared.verdict.Stopped.{Stopped}
 use Rattle.house_core.specs.declared.verdict.Stopped.TheVariants as stops
+use Rattle.house_core.specs.declared.verdict.EnterFault.{EnterFault}
+use Rattle.house_core.specs.declared.verdict.EnterFault.TheVariants as enters
 use Rattle.house_core.specs.declared.verdict.BenchFault.{BenchFault}
 use Rattle.house_core.specs.declared.verdict.BenchFault.TheVariants as faults
 use Rattle.house_core.specs.Stands.{Stands}
@@ -58,3 +62,11 @@ Accepts stands site b h _ _ = ⊥
 abbrev pub stopped_with : Stopped → Result ℕ BenchFault
 stopped_with (stops.Refused f) = Err (faults.Refused f)
 stopped_with (stops.Again n) = Ok n
+
+-- Of an entry by a command: it may follow, and is entered under the next number; or it may not follow,
+-- does not fit, or there is no memory for it, and the house stays as it was.
+abbrev pub Enters : {T : Type 0} → (T → History → Type 0) → (T → ℕ) → Bench T → Limits → History → Entry → Result ℕ EnterFault → Type 0
+Enters stands site b limits h e (Ok n) = MayFollow limits h e × (n ≡ length h) × Holds stands site b (h ++ e ∷ [])
+Enters stands site b limits h e (Err enters.Unlawful) = (MayFollow limits h e → ⊥) × Holds stands site b h
+Enters stands site b limits h e (Err (enters.Refused f)) = (fitted h limits e ≡ Err (Refuse f)) × Holds stands site b h
+Enters stands site b limits h e (Err enters.NoMemory) = Holds stands site b h

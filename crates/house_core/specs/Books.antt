@@ -6,22 +6,25 @@ use Rattle.scrip_form.specs.Scrip.{Scrip, scrip_body}
 use Rattle.scrip_certs.specs.Digests.{certificate}
 use Rattle.mc_records.specs.declared.limits.Limits.{Limits}
 use Rattle.mc_records.specs.Limits.{AreInRange}
+use Rattle.mc_records.specs.Entry.{Entry, AddTerms, Mint}
 use Rattle.mc_records.specs.Requests.{Asked}
+use Rattle.ledger_model.specs.Houses.{all_terms}
 use Rattle.kept_replies.specs.declared.deed.KeptEntry.{KeptEntry}
 use Rattle.kept_replies.specs.Requests.{text_size}
-use Rattle.kept_replies.specs.Kept.{KeptReply, KeptView, is_in_time}
+use Rattle.kept_replies.specs.Kept.{KeptView, is_in_time}
 use Rattle.change_issue.specs.Registers.{Register, has_room, count_in, issued_in, redeemed_in, next_in}
 use Rattle.change_issue.specs.IssuedPieces.{issued_piece}
 use Rattle.house_core.specs.declared.verdict.Acceptance.{Acceptance}
 use Rattle.house_core.specs.Spent.{SpentView, is_marked}
 
--- The name, whether requests need no signature, the terms of all issuers and those of the house itself,
--- the house time; the identities that were accepted, the first replies, what was handed out in the
+-- The name, whether requests need no signature, the terms of all issuers, how many more there is room
+-- for, and the terms of the house itself; the house time; the identities that were accepted, the first replies, what was handed out in the
 -- house's own series, the takings; the number of entries and the bytes of their journal; the limits.
 pub record BooksView : Type 0 where
   pub name : List ℕ
   pub clear : Bool
   pub terms : List Issuing
+  pub terms_room : ℕ
   pub own_terms : Issuing
   pub time : ℕ
   pub spent : SpentView
@@ -40,6 +43,7 @@ series_now b = series_at b.own.terms b.time
 pub record AreSound (b : BooksView) : Type 0 where
   pub terms : b.own.terms ≡ b.own_terms
   pub limits : AreInRange b.limits
+  pub most : b.own.most ≡ b.limits.series
   pub counted : b.count ≤ b.size
   pub sized : b.size ≤ 2 ^ 40
   pub keeps : 0 < b.kept.keep
@@ -132,3 +136,40 @@ pub record IsAsBefore (old new : BooksView) : Type 0 where
   pub takings : new.takings ≡ old.takings
   pub counted : new.count ≡ old.count
   pub sized : new.size ≡ old.size
+
+-- ---- an entry that accepts nothing
+
+-- how many pieces of a series an entry mints
+abbrev pub minted_count : Entry → ℕ → ℕ
+minted_count (Mint m reference count value first) s = at_series (series_of first) count s
+minted_count _ s = 0
+
+-- there is room to enter such an entry
+abbrev pub HasRoomFor : BooksView → Entry → Type 0
+HasRoomFor b (AddTerms m terms) = 0 < b.terms_room
+HasRoomFor b (Mint m reference count value first) = IsTrue (has_room b.own (series_of first))
+HasRoomFor b _ = Unit {0}
+
+-- minted pieces go on with the serials of the house time's series, and fit the limit of it
+abbrev pub GoesOn : BooksView → Entry → Type 0
+GoesOn b (Mint m reference count value first) = (first ≡ next_in b.own (series_now b)) × (count_in b.own (series_now b) + count ≤ b.own.most)
+GoesOn b _ = Unit {0}
+
+-- the books before and after an entry that accepts nothing, with a payload of so many bytes, was entered
+pub record IsNoted (old new : BooksView) (e : Entry) (bytes : ℕ) : Type 0 where
+  pub name : new.name ≡ old.name
+  pub clear : new.clear ≡ old.clear
+  pub terms : new.terms ≡ old.terms ++ all_terms (e ∷ [])
+  pub own_terms : new.own_terms ≡ old.own_terms
+  pub time : new.time ≡ old.time
+  pub limits : new.limits ≡ old.limits
+  pub spent : new.spent ≡ old.spent
+  pub kept : new.kept ≡ old.kept
+  pub issuer : new.own.terms ≡ old.own.terms
+  pub most : new.own.most ≡ old.own.most
+  pub issued : (s : ℕ) → count_in new.own s ≡ count_in old.own s + minted_count e s
+  pub worth : (s : ℕ) → issued_in new.own s ≡ issued_in old.own s
+  pub redeemed : (s : ℕ) → redeemed_in new.own s ≡ redeemed_in old.own s
+  pub takings : new.takings ≡ old.takings
+  pub counted : new.count ≡ old.count + 1
+  pub sized : new.size ≡ old.size + bytes + 5

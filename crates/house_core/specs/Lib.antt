@@ -4,6 +4,7 @@ pub mod Learning
 pub mod Spent
 pub mod Books
 pub mod Founding
+pub mod Noting
 pub mod Stands
 pub mod Verdicts
 pub mod Bench

@@ -1,6 +1,7 @@
 ghost use Rattle.std.specs.Prelude.{◌≡◌, ℕ, [], ◌∷◌, max, None, Some, Ok, IfOk};
 ghost use Rattle.mc_records.specs.Limits.{AreInRange};
-ghost use Rattle.mc_records.specs.Entry.{moment_of};
+ghost use Rattle.mc_records.specs.Entry.{Fits, moment_of};
+ghost use Rattle.house_core.specs.Noting.{IsCommand};
 ghost use Rattle.ledger_model.specs.Houses.{site_kind};
 ghost use Rattle.ledger_model.specs.Lawful.{MayFollow};
 ghost use Rattle.house_core.specs.Founding.{FoundsHouse};
@@ -11,7 +12,7 @@ ghost use Rattle.mc_records.specs.Views.{deed_of, entry};
 ghost use Rattle.kept_replies.specs.Kept.{found};
 ghost use Rattle.ledger_model.specs.Histories.{History};
 ghost use Rattle.ledger_model.specs.Answer as model;
-ghost use Rattle.house_core.specs.Bench.{Holds, HasContents, Takes, Accepts, stopped_with, house_time, limits_of};
+ghost use Rattle.house_core.specs.Bench.{Holds, HasContents, Takes, Accepts, Enters, stopped_with, house_time, limits_of};
 ghost use Rattle.house_core.specs.Views.{entry_deed};
 ghost use Rattle.house_core.specs.Stands.{scrip_request};
 ghost use Rattle.house_core.specs.Verdicts.{judged, judged_of, accept_entry, IsReady};
@@ -19,8 +20,9 @@ ghost use Rattle.house_core.specs.Verdicts.{judged, judged_of, accept_entry, IsR
 use crate::books::Books;
 use crate::founding::{found_books, payload_len};
 use crate::offer::Unlawful;
+use crate::stages::fitted;
 use crate::trade::Trade;
-use crate::verdict::{Acceptance, BenchFault, Stopped, Verdict};
+use crate::verdict::{Acceptance, BenchFault, EnterFault, Stopped, Verdict};
 use crate::weigh::{request_with, weigh};
 use kept_replies::Deed;
 use mc_base::{Moment, NoMemory};
@@ -130,6 +132,44 @@ impl<T: Trade> Bench<T> {
             Ok(number) => Ok(number),
             Err(NoMemory) => Err(BenchFault::NoMemory),
         }
+    }
+
+    /// Enters an entry of the house time by a command of the house's keeper, and answers its number, from
+    /// 0. After an `Err` the house is as it was.
+    pub fn enter(&mut self, r: &Record<'_>) -> Result<u64, EnterFault>
+        requires fits { Fits (entry r.now) }
+        requires command { IsCommand (entry r.now) }
+        requires time { moment_of (entry r.now) ≡ house_time self.old }
+        ensures time { house_time self.new ≡ house_time self.old }
+        ensures limits { limits_of self.new ≡ limits_of self.old }
+        ensures exact { (h : History) → Holds T.stands T.site self.old h → Enters T.stands T.site self.new (limits_of self.old) h (entry r.now) result }
+    {
+        let bytes = match payload_len(self.books.alloc(), r) {
+            Ok(bytes) => bytes,
+            Err(NoMemory) => return Err(EnterFault::NoMemory),
+        };
+        match fitted(self.books.limits().journal, self.books.size(), bytes) {
+            Ok(()) => (),
+            Err(refusal) => return Err(EnterFault::Refused(refusal)),
+        }
+        if !self.books.goes_on(r) {
+            return Err(EnterFault::Unlawful);
+        }
+        match self.trade.reserve(r) {
+            Ok(()) => (),
+            Err(NoMemory) => return Err(EnterFault::NoMemory),
+        }
+        match self.books.reserve_for(r) {
+            Ok(()) => (),
+            Err(NoMemory) => return Err(EnterFault::NoMemory),
+        }
+        let number = self.books.count();
+        match self.trade.learn(number, r) {
+            Ok(()) => (),
+            Err(Unlawful) => return Err(EnterFault::Unlawful),
+        }
+        self.books.note(r, bytes);
+        Ok(number)
     }
 
     /// Enters the entry of an acceptance, with room for it made first, and answers its number.

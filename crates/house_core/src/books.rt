@@ -1,11 +1,13 @@
-ghost use Rattle.std.specs.Prelude.{◌≡◌, ◌+◌, ◌-◌, ◌≤◌, ◌<◌, Some, None, option_map, filter, max, All, IfSome, IsNone, ◌↔◌, ◌^◌, [], IfOk, OnOk};
+ghost use Rattle.std.specs.Prelude.{◌≡◌, ◌+◌, ◌-◌, ◌≤◌, ◌<◌, Some, None, option_map, filter, max, All, IfSome, IsNone, ◌↔◌, ◌^◌, [], IsTrue, IfOk, OnOk};
 ghost use Rattle.mc_records.specs.Limits.{AreInRange};
-ghost use Rattle.mc_records.specs.Views.{house_of};
+ghost use Rattle.mc_records.specs.Views.{house_of, entry};
+ghost use Rattle.mc_records.specs.Entry.{Fits};
+ghost use Rattle.house_core.specs.Noting.{IsNoSite};
 ghost use Rattle.house_core.specs.Founding.{AreFounded};
 ghost use Rattle.mc_records.specs.Requests.{asked_of};
 ghost use Rattle.kept_replies.specs.Kept.{found, is_in_time};
 ghost use Rattle.house_core.specs.Spent.{is_marked};
-ghost use Rattle.house_core.specs.Books.{AreSound, HasRoom, HasChange, IsEntered, IsAsBefore};
+ghost use Rattle.house_core.specs.Books.{AreSound, HasRoom, HasChange, HasRoomFor, GoesOn, IsEntered, IsNoted, IsAsBefore, series_now};
 
 use crate::money::{certified_if, redeem};
 use crate::spent::Spent;
@@ -13,7 +15,7 @@ use crate::verdict::Acceptance;
 use change_issue::Issuer;
 use kept_replies::{Kept, KeptEntry};
 use mc_base::{Moment, NoMemory, Total};
-use mc_records::{Limits, Request, SiteTerms};
+use mc_records::{Limits, PieceList, Record, Request, SiteTerms};
 use scrip_form::{Id, Name, Piece, Terms};
 use std::alloc::Global;
 use std::marker::Model;
@@ -45,13 +47,14 @@ pub struct Books {
 }
 
 impl Model for Books {
+    ghost use Rattle.std.specs.Prelude.{◌-◌, vec_len, vec_capacity};
     ghost use Rattle.house_core.specs.Books.{BooksView, AreSound};
 
     ghost Value = { BooksView };
 
-    ghost view = { λ b. record { name = b.name; clear = b.clear; terms = b.terms.items; own_terms = b.own_terms; time = b.time; spent = b.spent; kept = b.kept; own = b.own; takings = b.takings; count = b.count; size = b.size; limits = b.limits } };
+    ghost view = { λ b. record { name = b.name; clear = b.clear; terms = b.terms.items; terms_room = vec_capacity b.terms - vec_len b.terms; own_terms = b.own_terms; time = b.time; spent = b.spent; kept = b.kept; own = b.own; takings = b.takings; count = b.count; size = b.size; limits = b.limits } };
 
-    ghost invariant = { λ b. AreSound (record { name = b.name; clear = b.clear; terms = b.terms.items; own_terms = b.own_terms; time = b.time; spent = b.spent; kept = b.kept; own = b.own; takings = b.takings; count = b.count; size = b.size; limits = b.limits }) };
+    ghost invariant = { λ b. AreSound (record { name = b.name; clear = b.clear; terms = b.terms.items; terms_room = vec_capacity b.terms - vec_len b.terms; own_terms = b.own_terms; time = b.time; spent = b.spent; kept = b.kept; own = b.own; takings = b.takings; count = b.count; size = b.size; limits = b.limits }) };
 }
 
 impl Books {
@@ -116,6 +119,11 @@ impl Books {
         ensures sound { AreSound self.now }
     {
         self.limits
+    }
+
+    /// Where its memory comes from.
+    pub(crate) fn alloc(&self) -> Global {
+        *self.terms.allocator()
     }
 
     pub(crate) fn own(&self) -> &Issuer
@@ -187,6 +195,69 @@ impl Books {
         self.kept.reserve(q)?;
         self.own.reserve(id.series())?;
         self.own.reserve(series)
+    }
+
+    /// Whether the pieces that an entry mints go on with the serials of the house time's series and fit the
+    /// limit of it; of other entries it asks nothing.
+    pub(crate) fn goes_on(&self, r: &Record<'_>) -> bool
+        requires { Fits (entry r.now) }
+        ensures { IsTrue result ↔ GoesOn self.now (entry r.now) }
+    {
+        let _pieces: Option<PieceList<'_>> = None;
+        match r {
+            Record::Mint { count, first, .. } => {
+                let series = self.series_now();
+                let stand = self.own.count(series);
+                let (_, _, serial) = first.parts();
+                first.series() == series
+                    && u64::from(serial) == stand
+                    && stand <= self.limits.series
+                    && u64::from(*count) <= self.limits.series - stand
+            }
+            _ => true,
+        }
+    }
+
+    /// Makes room to enter an entry that accepts nothing. All that is kept stays as it is, after an `Err`
+    /// too.
+    pub(crate) fn reserve_for(&mut self, r: &Record<'_>) -> Result<(), NoMemory>
+        ensures same { IsAsBefore self.old self.new }
+        ensures room { OnOk result (HasRoomFor self.new (entry r.now)) }
+    {
+        match r {
+            Record::Terms { .. } => {
+                self.terms.reserve(1)?;
+                Ok(())
+            }
+            Record::Mint { first, .. } => self.own.reserve(first.series()),
+            _ => Ok(()),
+        }
+    }
+
+    /// Enters an entry that accepts nothing, with a payload of so many bytes, for which there is room. It
+    /// takes no memory.
+    pub(crate) fn note(&mut self, r: &Record<'_>, bytes: u64)
+        requires room { HasRoomFor self.old (entry r.now) }
+        requires goes_on { GoesOn self.old (entry r.now) }
+        requires payload { Fits (entry r.now) }
+        requires site { IsNoSite (entry r.now) }
+        requires fits { self.old.size + bytes + 5 ≤ self.old.limits.journal }
+        ensures { IsNoted self.old self.new (entry r.now) bytes }
+    {
+        match r {
+            Record::Terms { terms, .. } => self.terms.push_reserved(*terms),
+            Record::Mint { count, first, .. } => self.own.count_on(*first, u32::from(*count)),
+            _ => (),
+        }
+        self.count += 1;
+        self.size += bytes + 5;
+    }
+
+    /// The series that the house hands out at the house time.
+    fn series_now(&self) -> u32
+        ensures { result ≡ series_now self.now }
+    {
+        u32::from(self.own_terms.issuer()) * (1 << 24) + self.own_terms.epoch_of(self.time)
     }
 
     /// Enters a request that is accepted with a piece, for which there is room. It takes no memory.

@@ -27,4 +27,4 @@ pub use law::{contents_stay, entries_follow_in_parts, goods_in_force_are_kept};
 pub use offer::{Body, DrawAsk, Offer, SiteKind, Unlawful};
 pub use spent::Spent;
 pub use trade::Trade;
-pub use verdict::{BenchFault, Verdict};
+pub use verdict::{BenchFault, EnterFault, Verdict};

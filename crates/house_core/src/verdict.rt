@@ -21,6 +21,17 @@ pub enum BenchFault {
     NoMemory,
 }
 
+/// Why an entry was not entered.
+#[derive(Drop)]
+pub enum EnterFault {
+    /// It may not follow the entries before it.
+    Unlawful,
+    /// It does not fit the limit of the journal.
+    Refused(Refusal),
+    /// Memory was refused.
+    NoMemory,
+}
+
 /// Why a request with a scrip text makes no entry.
 #[derive(Drop)]
 pub(crate) enum Stopped {

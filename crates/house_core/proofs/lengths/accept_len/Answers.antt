@@ -1,4 +1,4 @@
-use Rattle.std.proofs.Common.{◌≡◌, ◌≤◌, length, ap, arith}
+use Rattle.std.proofs.Common.{length, ap, arith}
 use Rattle.scrip_form.proofs.Laws.{text_is_short}
 use Rattle.house_core.proofs.lengths.accept_len.Goals as goal
 

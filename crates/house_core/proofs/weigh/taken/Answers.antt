@@ -1,4 +1,4 @@
-use Rattle.std.proofs.Common.{◌≡◌, ◌≤◌, ◌+◌, refl, ◌∙◌, Ok, Err}
+use Rattle.std.proofs.Common.{◌≡◌, refl, ◌∙◌, Ok, Err}
 use Rattle.mc_records.specs.Entry.{Accept}
 use Rattle.mc_records.specs.Requests.{asked_of}
 use Rattle.ledger_model.specs.Lines.{Refuse}

@@ -1,13 +1,10 @@
-use Rattle.std.proofs.Common.{◌≡◌, refl, sym, ap, subst, ◌∙◌, Some, Ok, Err}
+use Rattle.std.proofs.Common.{◌≡◌, refl, sym, subst, Some, Ok, Err}
 use Rattle.scrip_form.specs.Reading.{scrip_of}
-use Rattle.mc_records.specs.declared.refusal.Refusal.{Refusal}
 use Rattle.mc_records.specs.declared.refusal.Refusal.TheVariants.{NoScrip, BadScrip}
 use Rattle.mc_records.specs.Requests.{asked_of}
-use Rattle.ledger_model.specs.Answer as answers
-use Rattle.ledger_model.specs.Answer.{Answer, answer}
+use Rattle.ledger_model.specs.Answer.{Answer}
 use Rattle.house_core.specs.declared.verdict.BenchFault.TheVariants as faults
 use Rattle.house_core.specs.Bench.{Accepts, house_time, limits_of}
-use Rattle.house_core.specs.Verdicts.{accept_entry}
 use Rattle.house_core.proofs.Tabled.{answer_read}
 use Rattle.house_core.proofs.Accepting.{none_seen, no_scrip, bad_scrip, refuses, makes_none}
 use Rattle.house_core.proofs.bench.Bench.accept.Goals as goal

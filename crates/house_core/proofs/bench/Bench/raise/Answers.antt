@@ -1,4 +1,4 @@
-use Rattle.std.proofs.Common.{◌≡◌, ◌≤◌, refl, sym, ap, ◌∙◌, arith, Some, subst}
+use Rattle.std.proofs.Common.{◌≤◌, refl, sym, arith, subst}
 use Rattle.std.specs.Prelude.{max}
 use Rattle.house_core.specs.Books.{BooksView}
 use Rattle.house_core.specs.Stands.{Stands}

@@ -1,4 +1,5 @@
-use Rattle.std.proofs.Common.{◌≡◌, ℕ, ◌+◌, ◌≤◌, Option, None, refl, sym, subst, ap, ◌∙◌, arith}
+use Rattle.std.proofs.Common.{◌≡◌, ◌+◌, ◌≤◌, None, sym, subst, arith}
+use Rattle.std.specs.Prelude.{◌-◌, vec_len, vec_capacity}
 use Rattle.mc_records.specs.Requests.{asked_of}
 use Rattle.kept_replies.specs.Kept.{found}
 use Rattle.house_core.specs.Books.{BooksView, IsEntered}
@@ -29,6 +30,7 @@ returns c =
       name = c.self.inside.name;
       clear = c.self.inside.clear;
       terms = c.self.inside.terms.items;
+      terms_room = vec_capacity c.self.inside.terms - vec_len c.self.inside.terms;
       own_terms = c.self.inside.own_terms;
       time = c.self.inside.time;
       spent = c.self.inside.spent;

@@ -1,4 +1,3 @@
-use Rattle.house_core.specs.Books.{BooksView}
 use Rattle.house_core.proofs.Entering.{sound_later}
 use Rattle.house_core.proofs.books.Books.raise.Goals as goal
 
