@@ -4,6 +4,7 @@ use crate::house::{Both, ask, enter, founded};
 use crate::texts::*;
 use mc_records::{Limits, Request};
 use std::alloc::Global;
+use std::process::Abort;
 use std::test::Fail;
 
 /// A reading, a target, a scrip text, a signature and what is said.
@@ -95,14 +96,26 @@ fn the_house_time_never_falls(rt: HostRuntime) -> Result<(), Fail> {
     let mut both = news(rt.alloc(), SITE, Limits::FULL)?;
     let rows: [Row; 2] = [
         (1_011_712, PAGE_1, None, None, b"20 NoScrip"),
-        (1_000_000, PAGE_1, Some(P1), None, b"26 Expired 1011712 1011712"),
+        (
+            1_000_000,
+            PAGE_1,
+            Some(P1),
+            None,
+            b"26 Expired 1011712 1011712",
+        ),
     ];
     says(&rt, rt.alloc(), &mut both, &rows)?;
     let mut both = news(rt.alloc(), SITE, Limits::FULL)?;
     let rows: [Row; 3] = [
         (1_011_711, PAGE_1, Some(P1), None, b"take"),
         (1_011_800, PAGE_1, Some(P1), None, b"again 3"),
-        (1_011_800, b"/news/2", Some(P1), None, b"26 Expired 1011712 1011800"),
+        (
+            1_011_800,
+            b"/news/2",
+            Some(P1),
+            None,
+            b"26 Expired 1011712 1011800",
+        ),
     ];
     says(&rt, rt.alloc(), &mut both, &rows)
 }
@@ -111,8 +124,20 @@ fn the_house_time_never_falls(rt: HostRuntime) -> Result<(), Fail> {
 fn a_house_without_the_flag_wants_the_right_signature(rt: HostRuntime) -> Result<(), Fail> {
     let mut both = news(rt.alloc(), SITE_SIGNED, Limits::FULL)?;
     let rows: [Row; 5] = [
-        (1_000_000, PAGE_1, Some(P1), Some(SIGN_2), b"29 BadSignature"),
-        (1_000_000, b"/news/2", Some(P1), Some(SIGN_1), b"29 BadSignature"),
+        (
+            1_000_000,
+            PAGE_1,
+            Some(P1),
+            Some(SIGN_2),
+            b"29 BadSignature",
+        ),
+        (
+            1_000_000,
+            b"/news/2",
+            Some(P1),
+            Some(SIGN_1),
+            b"29 BadSignature",
+        ),
         (1_000_000, PAGE_1, Some(P1), None, b"28 NeedSignature"),
         (1_000_000, PAGE_1, Some(P1), Some(SIGN_1), b"take"),
         (1_000_000, PAGE_1, Some(P1), Some(SIGN_1), b"again 3"),
@@ -126,7 +151,13 @@ fn what_is_not_genuine_is_refused(rt: HostRuntime) -> Result<(), Fail> {
     let rows: [Row; 5] = [
         (1_000_000, PAGE_1, Some(ELSEWHERE), None, b"22 WrongVendor"),
         (1_000_000, PAGE_1, Some(UNKNOWN), None, b"23 UnknownIssuer"),
-        (1_000_000, PAGE_1, Some(MISFIT), None, b"24 ExpiryMismatch 1011713 1011712"),
+        (
+            1_000_000,
+            PAGE_1,
+            Some(MISFIT),
+            None,
+            b"24 ExpiryMismatch 1011713 1011712",
+        ),
         (1_000_000, PAGE_1, Some(FORGED), None, b"25 BadCertificate"),
         (1_000_000, PAGE_1, Some(b"MS1|news"), None, b"21 BadScrip 8"),
     ];
