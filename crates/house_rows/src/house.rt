@@ -1,8 +1,12 @@
 //! The house of the worked examples, beside its history.
 
-ghost use Rattle.std.specs.Prelude.{◌≡◌, IfOk};
+ghost use Rattle.std.specs.Prelude.{◌≡◌, [], ◌∷◌, IfSome, Some};
+ghost use Rattle.mc_records.specs.declared.limits.Limits.{Limits as Bounds};
 ghost use Rattle.mc_records.specs.Entry.{Fits};
 ghost use Rattle.mc_records.specs.Limits.{AreInRange};
+ghost use Rattle.ledger_model.specs.Houses.{site_kind};
+ghost use Rattle.ledger_model.specs.Lawful.{MayFollow};
+ghost use Rattle.house_core.specs.Founding.{FoundsHouse};
 ghost use Rattle.mc_records.specs.Views.{entry as entry_of};
 
 use house_core::{Bench, BenchFault, EnterFault, Verdict};
@@ -22,41 +26,43 @@ pub(crate) struct Both {
     pub(crate) limits: Limits,
 }
 
+/// The Site entry of a vendor, of which these bytes are the payload.
+fn vendor_site(payload: &[u8]) -> Option<Record<'_>>
+    ensures founds { IfSome result (λ r. FoundsHouse (entry_of r)) }
+    ensures kind { IfSome result (λ r. site_kind (entry_of r ∷ []) ≡ Some 0) }
+    ensures first { IfSome result (λ r. (l : Bounds) → MayFollow l [] (entry_of r)) }
+    ensures fits { IfSome result (λ r. Fits (entry_of r)) }
+{
+    match read_record(payload) {
+        Ok(record) => match record {
+            Record::Site {
+                kind: 0,
+                house: Some(_),
+                ..
+            } => Some(record),
+            _ => None,
+        },
+        Err(_) => None,
+    }
+}
+
 /// The house of a Site entry, given by its payload in hex digits.
 pub(crate) fn founded(alloc: Global, site: &str, limits: Limits) -> Result<Both, Fail>
     requires { AreInRange limits }
 {
-    // The check lets a record go only where the types of its parts are named.
-    let _parts: Option<(PieceList<'_>, Moment, Id, Terms)> = None;
     let payload = hex::decode(alloc, site)?;
-    let Ok(record) = read_record(&payload) else {
-        return Err("a payload")?;
+    let Some(site) = vendor_site(&payload) else {
+        return Err("a vendor's site")?;
     };
     let mut history = History::new(alloc);
-    history.push(alloc, &record)?;
-    match record {
-        Record::Site {
-            moment,
-            kind: 0,
-            name,
-            house: Some(house),
-        } => {
-            let site = Record::Site {
-                moment,
-                kind: 0,
-                name,
-                house: Some(house),
-            };
-            match Bench::new(alloc, &site, limits, Shelf::new(alloc)) {
-                Ok(bench) => Ok(Both {
-                    bench,
-                    history,
-                    limits,
-                }),
-                Err(NoMemory) => Err("memory")?,
-            }
-        }
-        _ => Err("a vendor's site")?,
+    history.push(alloc, &site)?;
+    match Bench::new(alloc, &site, limits, Shelf::new(alloc)) {
+        Ok(bench) => Ok(Both {
+            bench,
+            history,
+            limits,
+        }),
+        Err(NoMemory) => Err("memory")?,
     }
 }
 

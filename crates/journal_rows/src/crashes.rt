@@ -12,7 +12,7 @@ fn a_crash_leaves_what_was_entered(rt: HostRuntime) -> Result<(), Fail> {
     for call in 0..12 {
         for choice in [0, 1, 2, 3, 4, 7, 100, 255, 1000] {
             let failing = stage(alloc, b"old contents", &[call])?;
-            let (stage, receipts, came) = run(alloc, failing, Limits::FULL, 2)?;
+            let (stage, receipts, came) = run(alloc, failing, Limits::FULL, 2);
             let (reading, stage) = read(alloc, stage.crash(choice)?);
             match came {
                 Came::Nowhere => {
@@ -44,7 +44,7 @@ fn a_crash_leaves_what_was_entered(rt: HostRuntime) -> Result<(), Fail> {
 #[test]
 fn a_reading_whose_disk_fails_stays_failed(rt: HostRuntime) -> Result<(), Fail> {
     let alloc = rt.alloc();
-    let (whole, _, _) = run(alloc, stage(alloc, b"", &[])?, Limits::FULL, 2)?;
+    let (whole, _, _) = run(alloc, stage(alloc, b"", &[])?, Limits::FULL, 2);
     for call in 0..2 {
         let (reading, _) = read(alloc, stage(alloc, whole.contents(), &[call])?);
         assert_eq!(rt; (reading.entries, reading.end), (0, End::Failed));

@@ -32,7 +32,7 @@ fn a_journal_of_one_entry_has_40_bytes(rt: HostRuntime) -> Result<(), Fail> {
         b"what stood there before, and more than 40 bytes",
         &[],
     )?;
-    let (stage, receipts, came) = run(alloc, before, Limits::FULL, 1)?;
+    let (stage, receipts, came) = run(alloc, before, Limits::FULL, 1);
     assert_eq!(rt; stage.contents(), ONE);
     assert_eq!(rt; (receipts, came), (1, Came::Through(40)));
     assert_eq!(rt; read(alloc, stage).0, found(1, 8, End::Closed));
@@ -43,7 +43,7 @@ fn a_journal_of_one_entry_has_40_bytes(rt: HostRuntime) -> Result<(), Fail> {
 #[test]
 fn an_entry_behind_a_closed_gate_does_not_count(rt: HostRuntime) -> Result<(), Fail> {
     let alloc = rt.alloc();
-    let (stage, receipts, came) = run(alloc, stage(alloc, b"", &[5])?, Limits::FULL, 1)?;
+    let (stage, receipts, came) = run(alloc, stage(alloc, b"", &[5])?, Limits::FULL, 1);
     assert_eq!(rt; (receipts, came), (0, Came::Opening));
     assert_eq!(rt; stage.contents().len(), 40);
     assert_eq!(rt; stage.contents()[8], 0);
@@ -55,7 +55,7 @@ fn an_entry_behind_a_closed_gate_does_not_count(rt: HostRuntime) -> Result<(), F
 #[test]
 fn a_sync_that_fails_halts_the_staging(rt: HostRuntime) -> Result<(), Fail> {
     let alloc = rt.alloc();
-    let (stage, receipts, came) = run(alloc, stage(alloc, b"", &[4])?, Limits::FULL, 1)?;
+    let (stage, receipts, came) = run(alloc, stage(alloc, b"", &[4])?, Limits::FULL, 1);
     assert_eq!(rt; (receipts, came), (0, Came::Staging));
     assert_eq!(rt; read(alloc, stage).0, found(0, 0, End::Closed));
     Ok(())
@@ -95,7 +95,8 @@ fn a_full_journal_is_as_it_was(rt: HostRuntime) -> Result<(), Fail> {
     let alloc = rt.alloc();
     for (journal, entries) in [(64, 1), (70, 1), (71, 2), (101, 2), (102, 3)] {
         let limits = Limits { journal, series: 1 };
-        let (stage, receipts, came) = run(alloc, stage(alloc, b"", &[])?, limits, 4)?;
+        assert!(rt; limits.are_in_range());
+        let (stage, receipts, came) = run(alloc, stage(alloc, b"", &[])?, limits, 4);
         assert_eq!(rt; (receipts, came), (entries, Came::Full));
         assert_eq!(rt; read(alloc, stage).0.entries, entries);
     }

@@ -83,9 +83,10 @@ impl<D: Disk> Replay<D> {
     }
 
     /// The entry that was read last, which lies in the buffer up to the next call of
-    /// [`Replay::next_record`]; None where that call gave none.
+    /// [`Replay::next_record`]; None where that call gave none. Its values are in the ranges of its kind.
     pub fn record(&self) -> Option<Record<'_>>
         ensures value { (e : Entry) → Fits e → self.now.last ≡ payload e → option_map entry result ≡ Some e }
+        ensures fits { IfSome result (λ r. Fits (entry r)) }
         ensures none { self.now.last ≡ [] → result ≡ None }
     {
         let from = self.start - self.last;
