@@ -2,6 +2,7 @@ pub mod PartLaws
 pub mod Tabled
 pub mod KeptLater
 pub mod Entering
+pub mod Replied
 pub mod Entered
 pub mod Accepting
 pub mod Founded
