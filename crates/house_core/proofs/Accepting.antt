@@ -66,6 +66,7 @@ stands_as_before {old = old} {new = new} {h = h} st is = record {
   in_time = omega (arith, st.in_time, is.time);
   spent = λ id live. st.spent id (subst (λ (t : ℕ). has_ended h t id ≡ false) is.time live) ∙ sym (is.spent id);
   again = λ t text target sign later. st.again t text target sign (omega (arith, later, is.time)) ∙ same_found t (scrip_request text target sign);
+  replies = rw is.replies st.replies;
   issued = λ s. st.issued s ∙ sym (is.issued s);
   most = is.most ∙ st.most ∙ ap (λ (l : Limits). l.series) (sym is.limits);
   redeemed = λ s. st.redeemed s ∙ sym (is.redeemed s);
@@ -85,6 +86,7 @@ stands_as_before {old = old} {new = new} {h = h} st is = record {
 
 ready_as_before : {old new : BooksView} → IsAsBefore old new → (c : Certified) (target : List ℕ) (a : Acceptance) → IsReady old c target a → IsReady new c target a
 ready_as_before {old = old} {new = new} is c target a ready = record {
+  secret = rw (is.name, is.terms) ready.secret;
   change = by_change a.change ready.change;
   payload = subst (λ (t : ℕ). a.payload ≡ length (payload (accept_entry t c.text target a))) (sym is.time) ready.payload;
   fits = omega (arith, ready.fits, is.sized, ap (λ (l : Limits). l.journal) is.limits);

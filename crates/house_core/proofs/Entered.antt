@@ -5,7 +5,7 @@ use Rattle.std.specs.Option.{option_or}
 use Rattle.std.specs.List.{list_any, cons_option, position_or_len}
 use Rattle.std.specs.Result.{result_ok}
 use Rattle.std.proofs.lemmas.Bool.{ltb-false, lt-ltb, le-ltb, eq-eqb, cases_lt}
-use Rattle.std.proofs.lemmas.List.Elements.{filter-append, filter_map-append}
+use Rattle.std.proofs.lemmas.List.Elements.{filter-append, filter_map-append, All-push, All-weaker}
 use Rattle.std.proofs.lemmas.List.Folds.{find-append, list_any-append, position_or_len_push}
 use Rattle.std.proofs.lemmas.List.Sums.{sum_by-append}
 use Rattle.hex.specs.Hex.{encode_lower}
@@ -36,8 +36,10 @@ use Rattle.ledger_model.proofs.FollowLaws.{same_request, taken_lawful, size_snoc
 use Rattle.house_core.specs.declared.verdict.Acceptance.{Acceptance}
 use Rattle.house_core.specs.Views.{entry_deed}
 use Rattle.house_core.specs.Books.{BooksView, HasChange, IsEntered, series_now, kept_entry, at_series, change_count, change_worth}
-use Rattle.house_core.specs.Stands.{Stands, has_ended, scrip_request, of_series}
+use Rattle.house_core.specs.Stands.{Stands, IsReply, has_ended, scrip_request, of_series}
 use Rattle.house_core.specs.Verdicts.{accept_entry, IsReady}
+use Rattle.std.proofs.Common.{All, subst}
+use Rattle.house_core.proofs.Replied.{reply_kept, reply_new}
 use Rattle.house_core.proofs.Entering.{at_most}
 
 -- ---- what the first entry founds
@@ -311,6 +313,9 @@ stands_entered {old = old} {new = new} {h = h} st q c a read ready takes is =
       again = λ t text target sign later.
           ap (λ (o : Option House). position (is_repeat (unwrap_or (option_map (λ x. x.keep) o) 0) t text target sign) (h ++ e ∷ [])) same.house
           ∙ again_more st q c a taken.sign is t text target sign (omega (arith, later, is.time));
+      replies = subst (All (IsReply (h ++ e ∷ []))) (sym is.replies)
+          (All-push (IsReply (h ++ e ∷ [])) old.kept.replies (record { asked = scrip_request c.text q.target q.sign; entry = kept_entry old c.piece a })
+          (All-weaker (IsReply h) (IsReply (h ++ e ∷ [])) (λ r. reply_kept h e r) old.kept.replies st.replies) (reply_new st q c a taken.piece ready is.short most));
       issued = λ s. own_count_snoc h old c.text q.target a s ∙ ap₂ (λ (m n : ℕ). m + n) (st.issued s) (change_counted h old c.text q.target c.piece a s most taken.piece ready.change) ∙ sym (is.issued s);
       most = is.most ∙ st.most ∙ ap (λ (l : Limits). l.series) (sym is.limits);
       redeemed = λ s. ap (λ (ps : List Scrip). values (of_series s ps)) accepts ∙ values_more s (accepted h) (c.piece ∷ [])

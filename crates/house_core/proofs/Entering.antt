@@ -1,10 +1,10 @@
 -- Books before and after an acceptance was entered, by what the calls on the way say.
-use Rattle.std.proofs.Common.{◌≡◌, ℕ, ◌+◌, ◌-◌, ◌<◌, ◌≤◌, Bool, true, false, cond, List, [], ◌∷◌, ◌++◌, filter, find, All, Option, Some, None, refl, sym, ap, subst, ◌∙◌, arith, eqb}
+use Rattle.std.proofs.Common.{◌^◌, ◌≡◌, ℕ, ◌+◌, ◌-◌, ◌<◌, ◌≤◌, Bool, true, false, cond, List, [], ◌∷◌, ◌++◌, filter, find, All, Option, Some, None, refl, sym, ap, subst, ◌∙◌, arith, eqb}
 use Rattle.std.specs.Prelude.{◌&&◌, ◌||◌, ◌==◌, min, option_map, IsTrue}
 use Rattle.std.proofs.lemmas.Bool.{lt-ltb}
 use Rattle.std.proofs.lemmas.List.Elements.{All-head, All-tail, All-push, All-weaker, All-filter, filter_passes}
 use Rattle.scrip_form.specs.Identities.{series_of}
-use Rattle.scrip_form.specs.Issuing.{Issuing}
+use Rattle.scrip_form.specs.Issuing.{Issuing, epoch}
 use Rattle.scrip_form.specs.Scrip.{Scrip, IsPiece, scrip_body}
 use Rattle.scrip_certs.specs.Digests.{certificate}
 use Rattle.mc_records.specs.declared.limits.Limits.{Limits}
@@ -76,7 +76,7 @@ change_is old paid price change piece made same is_piece is_made =
     go None = refl
     go (Some id) = refl
 
-pub entered : (old : BooksView) (spent : SpentView) (kept : KeptView) (own : Register) (takings size : ℕ) (q : Asked) (paid : Scrip) (a : Acceptance) (piece : Option Scrip) (made : Option (Scrip × List ℕ)) → AreSound old
+pub entered : (old : BooksView) (spent : SpentView) (kept : KeptView) (own : Register) (takings size : ℕ) (q : Asked) (paid : Scrip) (a : Acceptance) (piece : Option Scrip) (made : Option (Scrip × List ℕ)) → AreSound old → epoch old.own_terms old.time < 2 ^ 24
     → ((k : ℕ) → is_marked spent k ≡ (is_marked old.spent k || (paid.id == k)))
     → kept.keep ≡ old.kept.keep
     → kept.replies ≡ inserted (record { asked = q; entry = record { number = old.count; moment = old.time; price = a.price; change = made; secret = a.secret; deed = a.deed } }) old.kept.replies
@@ -88,7 +88,7 @@ pub entered : (old : BooksView) (spent : SpentView) (kept : KeptView) (own : Reg
     → ((s : ℕ) → redeemed_in own s ≡ redeemed_in old.own s + at_series (series_of paid.id) paid.value s)
     → takings ≡ old.takings + min a.price paid.value → size ≡ old.size + a.payload + 5
     → IsEntered old (record old { spent = spent; kept = kept; own = own; takings = takings; count = old.count + 1; size = size }) q paid a
-entered old spent kept own takings size q paid a piece made sound marks keep replies is_piece is_made terms most count worth redeemed took grown =
+entered old spent kept own takings size q paid a piece made sound short marks keep replies is_piece is_made terms most count worth redeemed took grown =
     let change = change_is old paid a.price a.change piece made sound.terms is_piece is_made in
     let reply : Option (Scrip × List ℕ) → KeptReply = λ c. record { asked = q; entry = record { number = old.count; moment = old.time; price = a.price; change = c; secret = a.secret; deed = a.deed } } in
     record {
@@ -98,6 +98,7 @@ entered old spent kept own takings size q paid a piece made sound marks keep rep
       own_terms = refl;
       time = refl;
       limits = refl;
+      short = short;
       spent = marks;
       keep = keep;
       replies = replies ∙ inserted_last (reply made) old.kept.replies sound.numbers ∙ ap (λ (c : Option (Scrip × List ℕ)). old.kept.replies ++ reply c ∷ []) change;

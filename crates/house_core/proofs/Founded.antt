@@ -10,7 +10,8 @@ use Rattle.ledger_model.specs.Lawful.{MayFollow}
 use Rattle.house_core.specs.Learning.{MayLearn}
 use Rattle.house_core.specs.Books.{BooksView}
 use Rattle.house_core.specs.Founding.{AreOf, FoundsHouse}
-use Rattle.house_core.specs.Stands.{Stands}
+use Rattle.std.proofs.lemmas.List.Elements.{All-nil}
+use Rattle.house_core.specs.Stands.{Stands, IsReply}
 
 -- a vendor's house has its ranges
 pub house_fits : (limits : Limits) (m kind : ℕ) (name : List ℕ) (h : House) → FoundsHouse (Site m kind name (Some h)) → MayFollow limits [] (Site m kind name (Some h)) → HouseFits 0 h
@@ -33,6 +34,7 @@ of_site b limits m kind name h is fits range may =
       in_time = omega (arith, is.time);
       spent = λ id live. sym (is.spent id);
       again = λ t text target sign later. rw is.replies refl;
+      replies = rw is.replies (All-nil (IsReply (Site m kind name (Some h) ∷ [])));
       issued = λ s. sym (is.issued s);
       most = is.most ∙ ap (λ (l : Limits). l.series) (sym is.limits);
       redeemed = λ s. sym (is.redeemed s);

@@ -3,6 +3,7 @@ pub mod KeptLaws
 pub mod Tabled
 pub mod KeptLater
 pub mod Entering
+pub mod Replied
 pub mod Entered
 pub mod Accepting
 pub mod Founded

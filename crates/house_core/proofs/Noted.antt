@@ -4,7 +4,7 @@ use Rattle.std.specs.Prelude.{◌==◌, option_map, option_to_list, unwrap_or, p
 use Rattle.std.specs.Option.{option_or}
 use Rattle.std.specs.List.{list_any, cons_option}
 use Rattle.std.proofs.lemmas.Bool.{eqb-true}
-use Rattle.std.proofs.lemmas.List.Elements.{filter_map-append}
+use Rattle.std.proofs.lemmas.List.Elements.{filter_map-append, All-weaker}
 use Rattle.std.proofs.lemmas.List.Folds.{find-append}
 use Rattle.std.proofs.lemmas.List.Sums.{sum_by-append}
 use Rattle.scrip_form.specs.Identities.{issuer_of, epoch_of, series_of, numbered}
@@ -28,8 +28,10 @@ use Rattle.house_core.specs.Learning.{ByHouse, ByTrade}
 use Rattle.house_core.specs.Noting.{IsCommand}
 use Rattle.house_core.specs.Spent.{SpentView, is_marked}
 use Rattle.house_core.specs.Books.{BooksView, IsNoted, GoesOn, series_now, at_series, minted_count}
-use Rattle.house_core.specs.Stands.{Stands, has_ended, scrip_request, of_series}
+use Rattle.house_core.specs.Stands.{Stands, IsReply, has_ended, scrip_request, of_series}
 use Rattle.house_core.proofs.Tabled.{series_stands}
+use Rattle.house_core.proofs.Replied.{reply_kept}
+use Rattle.std.proofs.Common.{All}
 use Rattle.house_core.proofs.Entering.{at_most}
 use Rattle.house_core.proofs.Entered.{same_house, time_snoc, position_snoc}
 
@@ -232,6 +234,7 @@ stands_noted {old = old} {new = new} {h = h} st e bytes command at goes may len 
           ∙ or_none (position (is_repeat (keeping h) t text target sign) h)
           ∙ st.again t text target sign (omega (arith, later, is.time))
           ∙ ap (λ (k : KeptView). option_map (λ (x : KeptEntry). x.number) (found k t (scrip_request text target sign))) (sym is.kept);
+      replies = subst (λ (k : KeptView). All (IsReply (h ++ e ∷ [])) k.replies) (sym is.kept) (All-weaker (IsReply h) (IsReply (h ++ e ∷ [])) (λ r. reply_kept h e r) old.kept.replies st.replies);
       issued = λ s. own_count_more h old e s command goes most ∙ ap (λ (n : ℕ). n + minted_count e s) (st.issued s) ∙ sym (is.issued s);
       most = is.most ∙ st.most ∙ ap (λ (l : Limits). l.series) (sym is.limits);
       redeemed = λ s. ap (λ (ps : List Scrip). values (of_series s ps)) accepts ∙ st.redeemed s ∙ sym (is.redeemed s);

@@ -30,7 +30,7 @@ use Rattle.house_core.specs.Stands.{Stands, has_ended, scrip_request}
 abbrev pub genuine_in : BooksView → Certified → Result (List ℕ) Stop
 genuine_in b c = genuine_by b.name (λ series. 1) b.terms c
 
-genuine_stands : {b : BooksView} {h : History} → Stands b h → (c : Certified) → genuine h c ≡ genuine_in b c
+pub genuine_stands : {b : BooksView} {h : History} → Stands b h → (c : Certified) → genuine h c ≡ genuine_in b c
 genuine_stands st c = ap₂ (λ (n : List ℕ) (ts : List Issuing). genuine_by n (λ series. 1) ts c) st.name st.terms
 
 not_false : (b : Bool) → not b ≡ false → b ≡ true
@@ -84,7 +84,7 @@ abbrev pub change_in : BooksView → ℕ → ℕ → Result (Option ℕ) Stop
 change_in b price value = needed (nat_lt price value) (next_by b.own.most (series_at b.own.terms b.time) (count_in b.own (series_at b.own.terms b.time)))
 
 -- the terms of an issuer are of it
-terms_are_of : (terms : List Issuing) (issuer : ℕ) (t : Issuing) → terms_by terms issuer ≡ Some t → t.issuer ≡ issuer
+pub terms_are_of : (terms : List Issuing) (issuer : ℕ) (t : Issuing) → terms_by terms issuer ≡ Some t → t.issuer ≡ issuer
 terms_are_of [] issuer t e = absurd cc
 terms_are_of (x ∷ xs) issuer t e = go (eqb x.issuer issuer) refl (terms_are_of xs issuer t) e
   where

@@ -1,7 +1,7 @@
 -- What a house keeps in place of its history, without how it is stored.
 use Rattle.std.specs.Prelude.{◌≡◌, ℕ, ◌+◌, ◌-◌, ◌*◌, ◌<◌, ◌≤◌, ◌^◌, ◌==◌, ◌||◌, Bool, min, List, [], ◌∷◌, ◌++◌, All, IsTrue, Option, Some, None, option_map, MatchOption, if◌then◌else◌}
 use Rattle.scrip_form.specs.Identities.{series_of}
-use Rattle.scrip_form.specs.Issuing.{Issuing, series_at}
+use Rattle.scrip_form.specs.Issuing.{Issuing, epoch, series_at}
 use Rattle.scrip_form.specs.Scrip.{Scrip, scrip_body}
 use Rattle.scrip_certs.specs.Digests.{certificate}
 use Rattle.mc_records.specs.declared.limits.Limits.{Limits}
@@ -105,6 +105,7 @@ pub record IsEntered (old new : BooksView) (q : Asked) (paid : Scrip) (a : Accep
   pub own_terms : new.own_terms ≡ old.own_terms
   pub time : new.time ≡ old.time
   pub limits : new.limits ≡ old.limits
+  pub short : epoch old.own_terms old.time < 2 ^ 24
   pub spent : (id : ℕ) → is_marked new.spent id ≡ (is_marked old.spent id || (paid.id == id))
   pub keep : new.kept.keep ≡ old.kept.keep
   pub replies : new.kept.replies ≡ old.kept.replies ++ record { asked = q; entry = kept_entry old paid a } ∷ []

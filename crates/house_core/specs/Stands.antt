@@ -1,19 +1,21 @@
 -- What a house keeps says what its history says, part by part.
-use Rattle.std.specs.Prelude.{◌≡◌, ℕ, ◌≤◌, ◌==◌, nat_le, Bool, false, List, filter, length, Option, Some, option_map, unwrap_or, position}
+use Rattle.std.specs.Prelude.{◌≡◌, ℕ, ◌≤◌, ◌==◌, nat_le, Bool, false, List, filter, length, Option, Some, option_map, unwrap_or, position, ◌<◌, take, All}
 use Rattle.scrip_form.specs.Identities.{issuer_of, epoch_of, series_of}
 use Rattle.scrip_form.specs.Issuing.{series_end}
-use Rattle.scrip_form.specs.Scrip.{Scrip}
+use Rattle.scrip_form.specs.Scrip.{Scrip, scrip_text}
 use Rattle.mc_records.specs.Limits.{AreInRange}
 use Rattle.mc_records.specs.Requests.{Asked}
 use Rattle.mc_records.specs.Sizes.{size}
-use Rattle.kept_replies.specs.Kept.{found}
+use Rattle.kept_replies.specs.Kept.{KeptReply, found}
 use Rattle.change_issue.specs.Registers.{count_in, issued_in, redeemed_in}
 use Rattle.ledger_model.specs.Histories.{History, time}
 use Rattle.ledger_model.specs.Houses.{site_name, keeping, is_clear, all_terms, terms_in}
 use Rattle.ledger_model.specs.Pieces.{accepted, is_spent, own_out, own_count}
 use Rattle.ledger_model.specs.Sums.{values, takings}
 use Rattle.ledger_model.specs.Stages.{is_repeat}
+use Rattle.ledger_model.specs.Replies.{Contents, brought, taken_values, taken_reply, reply_of}
 use Rattle.ledger_model.specs.Lawful.{IsLawful}
+use Rattle.house_core.specs.Views.{entry_deed}
 use Rattle.house_core.specs.Books.{BooksView}
 use Rattle.house_core.specs.Spent.{is_marked}
 
@@ -25,6 +27,17 @@ has_ended h t id = unwrap_or (option_map (λ x. nat_le (series_end x (epoch_of i
 -- the request for a target with a scrip text, and with a signature or none
 abbrev pub scrip_request : List ℕ → List ℕ → Option (List ℕ) → Asked
 scrip_request text target sign = record { target = target; scrip = Some text; sign = sign }
+
+-- what the entry of a kept reply brought, after the entries before it
+abbrev pub brought_then : History → KeptReply → Contents
+brought_then h r = brought (take r.entry.number h) r.asked.target (entry_deed r.entry.deed)
+
+-- The first reply to the entry is made of what is kept of it, and of what the entry brought.
+pub record IsReply (h : History) (r : KeptReply) : Type 0 where
+  pub text : List ℕ
+  pub scrip : r.asked.scrip ≡ Some text
+  pub within : r.entry.number < length h
+  pub reply : reply_of h r.entry.number ≡ taken_reply (Some r.entry.secret) text r.asked.target (brought_then h r) (taken_values r.entry.moment (brought_then h r) r.entry.price (option_map (λ c. scrip_text c.0 c.1) r.entry.change))
 
 -- the pieces of a series
 abbrev pub of_series : ℕ → List Scrip → List Scrip
@@ -47,6 +60,8 @@ pub record Stands (b : BooksView) (h : History) : Type 0 where
   -- the entry that a request repeats, at the house time and later
   pub again : (t : ℕ) (text target : List ℕ) (sign : Option (List ℕ)) → b.time ≤ t
       → position (is_repeat (keeping h) t text target sign) h ≡ option_map (λ e. e.number) (found b.kept t (scrip_request text target sign))
+  -- what the replies are made of
+  pub replies : All (IsReply h) b.kept.replies
   -- how many pieces of each series were handed out, by which the next one is numbered
   pub issued : (series : ℕ) → own_count h series ≡ count_in b.own series
   pub most : b.own.most ≡ b.limits.series

@@ -4,6 +4,7 @@ use Rattle.scrip_form.specs.Scrip.{Certified}
 use Rattle.mc_records.specs.declared.refusal.Refusal.{Refusal}
 use Rattle.mc_records.specs.Entry.{Entry, Accept, payload}
 use Rattle.ledger_model.specs.Lines.{Stop, Refuse, Repeat}
+use Rattle.ledger_model.specs.Stages.{genuine_by}
 use Rattle.ledger_model.specs.Answer as answers
 use Rattle.house_core.specs.declared.verdict.Verdict.{Verdict}
 use Rattle.house_core.specs.declared.verdict.Verdict.TheVariants as verdicts
@@ -37,9 +38,10 @@ judged_of verdicts.Take = IsTaken
 abbrev pub accept_entry : ℕ → List ℕ → List ℕ → Acceptance → Entry
 accept_entry moment text target a = Accept moment text target a.sign a.price a.change (entry_deed a.deed)
 
--- An acceptance that may be entered: there is change where there has to be, the length is that of the
--- payload of its entry, and the entry fits.
+-- An acceptance that may be entered: the secret is that of the customer of a genuine piece, there is
+-- change where there has to be, the length is that of the payload of its entry, and the entry fits.
 pub record IsReady (b : BooksView) (c : Certified) (target : List ℕ) (a : Acceptance) : Type 0 where
+  pub secret : genuine_by b.name (λ series. 1) b.terms c ≡ Ok a.secret
   pub change : HasChange b a.price c.piece.value a.change
   pub payload : a.payload ≡ length (payload (accept_entry b.time c.text target a))
   pub fits : b.size + a.payload + 5 ≤ b.limits.journal

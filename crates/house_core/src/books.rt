@@ -1,4 +1,5 @@
 ghost use Rattle.std.specs.Prelude.{◌≡◌, ◌+◌, ◌-◌, ◌≤◌, ◌<◌, Some, None, option_map, filter, max, All, IfSome, IsNone, ◌↔◌, ◌^◌, [], IsTrue, IfOk, OnOk};
+ghost use Rattle.scrip_form.specs.Issuing.{epoch};
 ghost use Rattle.mc_records.specs.Limits.{AreInRange};
 ghost use Rattle.mc_records.specs.Views.{house_of, entry};
 ghost use Rattle.mc_records.specs.Entry.{Fits};
@@ -255,7 +256,8 @@ impl Books {
 
     /// The series that the house hands out at the house time.
     fn series_now(&self) -> u32
-        ensures { result ≡ series_now self.now }
+        ensures series { result ≡ series_now self.now }
+        ensures short { epoch self.now.own_terms self.now.time < 2 ^ 24 }
     {
         u32::from(self.own_terms.issuer()) * (1 << 24) + self.own_terms.epoch_of(self.time)
     }
@@ -268,6 +270,7 @@ impl Books {
         requires fits { self.old.size + a.now.payload + 5 ≤ self.old.limits.journal }
         ensures { IsEntered self.old self.new (asked_of q.now) paid.now a.now }
     {
+        let _series = self.series_now();
         let piece = redeem(
             &mut self.own,
             &mut self.takings,

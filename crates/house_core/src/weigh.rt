@@ -1,6 +1,7 @@
 //! The answer to a request with a scrip text that was read, a stage after the other.
 
-ghost use Rattle.std.specs.Prelude.{◌≡◌, Some, None, IfSome, IfOk, OnOk};
+ghost use Rattle.std.specs.Prelude.{◌≡◌, Some, None, Ok, IfSome, IfOk, OnOk};
+ghost use Rattle.ledger_model.specs.Stages.{genuine_by};
 ghost use Rattle.mc_records.specs.Entry.{IsKey};
 ghost use Rattle.mc_records.specs.Requests.{asked_of, seen};
 ghost use Rattle.kept_replies.specs.Kept.{found};
@@ -40,7 +41,8 @@ fn taken<T: Trade>(
     secret: &[u8; 16],
     sign: &Option<[u8; 16]>,
 ) -> Result<Acceptance, Refusal>
-    requires { IfSome sign.now IsKey }
+    requires sign { IfSome sign.now IsKey }
+    requires secret { genuine_by books.now.name (λ series. 1) books.now.terms scrip.now ≡ Ok secret.now }
     ensures ready { IfOk result (IsReady books.now scrip.now q.now.target.now) }
     ensures lines { (h : History) → Stands books.now h → T.stands trade.now h → site_kind h ≡ Some (T.site trade.now)
         → told (accept_entry books.now.time scrip.now.text q.now.target.now) result ≡ model.taken h books.now.time books.now.limits (asked_of q.now) scrip.now sign.now }

@@ -24,6 +24,7 @@ returns-in-Ok-fitted-clause-ready g c =
     let value : c.value-value.result ≡ c.args.scrip.now.piece.value = rw (c.value-value.ensures.value, c.piece.ensures) refl in
     let got : c.get.result ≡ c.args.scrip.now.piece.value = c.get.ensures.units ∙ value in
     record {
+      secret = c.requires.secret;
       change = rw (← c.own.ensures, ← c.time-2.ensures, ← got) c.in-Ok-change.ensures.next;
       payload = c.accept_len-payload.ensures c.args.books.now.time c.in-Ok.offer.price;
       fits = rw (← c.limits-2.ensures.limits, ← c.size.ensures) c.in-Ok-fitted.ensures.room;

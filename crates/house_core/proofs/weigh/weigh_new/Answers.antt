@@ -1,4 +1,4 @@
-use Rattle.std.proofs.Common.{◌≡◌, refl, Ok, Err}
+use Rattle.std.proofs.Common.{sym, ◌≡◌, refl, Ok, Err}
 use Rattle.mc_records.specs.Requests.{asked_of}
 use Rattle.ledger_model.specs.Lines.{Refuse}
 use Rattle.house_core.specs.Spent.{is_marked}
@@ -20,3 +20,8 @@ returns-clause-lines g c h st trade kind =
     let may : Ok c.in-Ok-spendable.sign ≡ spendable_in c.args.books.now c.in-Ok.secret (asked_of c.args.q.now) c.args.scrip.now =
     rw (← spent, ← c.is_clear.ensures, ← c.time.ensures) c.in-Ok-spendable.ensures.lines in
     takes st (asked_of c.args.q.now) c.args.scrip.now c.in-Ok.secret c.in-Ok-spendable.sign _ is may (c.taken.ensures.lines h st trade kind)
+
+pub taken-requires-clause-secret : goal.taken-requires-clause-secret
+taken-requires-clause-secret g c =
+    let is : Ok c.in-Ok.secret ≡ genuine_in c.args.books.now c.args.scrip.now = rw (← c.name.ensures, ← c.terms.ensures) c.in-Ok.ensures in
+    sym is

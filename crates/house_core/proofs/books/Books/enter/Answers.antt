@@ -1,4 +1,5 @@
-use Rattle.std.proofs.Common.{◌≡◌, ◌+◌, ◌≤◌, None, sym, subst, arith}
+use Rattle.scrip_form.specs.Issuing.{epoch}
+use Rattle.std.proofs.Common.{◌<◌, ◌^◌, ◌≡◌, ◌+◌, ◌≤◌, None, sym, subst, arith}
 use Rattle.std.specs.Prelude.{◌-◌, vec_len, vec_capacity}
 use Rattle.mc_records.specs.Requests.{asked_of}
 use Rattle.kept_replies.specs.Kept.{found}
@@ -16,15 +17,17 @@ keep-requires-clause-new_number c = no_number c.self.inside.count c.self.inside.
 
 pub invariant_of-self : goal.invariant_of-self
 invariant_of-self c =
+    let short : epoch c.self.inside.own_terms c.self.inside.time < 2 ^ 24 = subst (λ (b : BooksView). epoch b.own_terms b.time < 2 ^ 24) (sym c.self.view_is) c.series_now-series.ensures.short in
     let size : c.self.inside.size + (c.args.a.now.payload + 5) ≡ c.self.inside.size + c.args.a.now.payload + 5 = omega arith in
     let fits = subst (λ (b : BooksView). b.size + c.args.a.now.payload + 5 ≤ b.limits.journal) (sym c.self.view_is) c.requires.fits in
     sound_entered _ _ (asked_of c.args.q.now) c.args.paid.now c.args.a.now c.self.invariant c.id.ensures.piece fits
-    (entered _ c.mark.new.self c.keep.new.self c.redeem-piece.new.own c.redeem-piece.new.takings _ (asked_of c.args.q.now) c.args.paid.now c.args.a.now c.redeem-piece.result c.certified_if-change.result c.self.invariant
+    (entered _ c.mark.new.self c.keep.new.self c.redeem-piece.new.own c.redeem-piece.new.takings _ (asked_of c.args.q.now) c.args.paid.now c.args.a.now c.redeem-piece.result c.certified_if-change.result c.self.invariant short
     (rw c.id.ensures.id at c.mark.ensures) c.keep.ensures.keep c.keep.ensures.replies c.redeem-piece.ensures.piece c.certified_if-change.ensures c.redeem-piece.ensures.terms c.redeem-piece.ensures.most
     c.redeem-piece.ensures.count c.redeem-piece.ensures.worth c.redeem-piece.ensures.redeemed c.redeem-piece.ensures.takings size)
 
 pub returns : goal.returns
 returns c =
+    let short : epoch c.self.inside.own_terms c.self.inside.time < 2 ^ 24 = subst (λ (b : BooksView). epoch b.own_terms b.time < 2 ^ 24) (sym c.self.view_is) c.series_now-series.ensures.short in
     let size : c.self.inside.size + (c.args.a.now.payload + 5) ≡ c.self.inside.size + c.args.a.now.payload + 5 = omega arith in
     let old : BooksView = record {
       name = c.self.inside.name;
@@ -43,6 +46,6 @@ returns c =
     } in
     let new : BooksView = record old { spent = c.mark.new.self; kept = c.keep.new.self; own = c.redeem-piece.new.own; takings = c.redeem-piece.new.takings; count = c.self.inside.count + 1; size = c.self.inside.size + (c.args.a.now.payload + 5) } in
     subst (λ (b : BooksView). IsEntered b new (asked_of c.args.q.now) c.args.paid.now c.args.a.now) c.self.view_is
-    (entered old c.mark.new.self c.keep.new.self c.redeem-piece.new.own c.redeem-piece.new.takings _ (asked_of c.args.q.now) c.args.paid.now c.args.a.now c.redeem-piece.result c.certified_if-change.result c.self.invariant
+    (entered old c.mark.new.self c.keep.new.self c.redeem-piece.new.own c.redeem-piece.new.takings _ (asked_of c.args.q.now) c.args.paid.now c.args.a.now c.redeem-piece.result c.certified_if-change.result c.self.invariant short
     (rw c.id.ensures.id at c.mark.ensures) c.keep.ensures.keep c.keep.ensures.replies c.redeem-piece.ensures.piece c.certified_if-change.ensures c.redeem-piece.ensures.terms c.redeem-piece.ensures.most
     c.redeem-piece.ensures.count c.redeem-piece.ensures.worth c.redeem-piece.ensures.redeemed c.redeem-piece.ensures.takings size)

@@ -1,0 +1,110 @@
+-- Kept replies, after one more entry.
+use Rattle.std.proofs.Common.{◌≡◌, ℕ, ◌-◌, ◌<◌, ◌≤◌, ◌^◌, not, List, [], ◌∷◌, ◌++◌, length, take, Option, Some, None, Ok, refl, sym, ap, ◌∙◌, arith, eqb, bytes_eq, length-append}
+use Rattle.std.specs.Prelude.{option_map, option_and_then, unwrap_or}
+use Rattle.std.proofs.lemmas.List.{take-append-le, take_all}
+use Rattle.scrip_form.specs.Identities.{issuer_of, epoch_of}
+use Rattle.scrip_form.specs.Issuing.{Issuing, epoch, series_at, series_end}
+use Rattle.scrip_form.specs.Scrip.{Scrip, Certified, scrip_body, scrip_text}
+use Rattle.scrip_certs.specs.Digests.{certificate}
+use Rattle.mc_records.specs.declared.refusal.Refusal.TheVariants.{WrongVendor, UnknownIssuer, ExpiryMismatch, BadCertificate}
+use Rattle.mc_records.specs.Entry.{Entry, Accept}
+use Rattle.mc_records.specs.Requests.{Asked}
+use Rattle.kept_replies.specs.Kept.{KeptReply}
+use Rattle.change_issue.specs.Registers.{count_in, next_in}
+use Rattle.ledger_model.specs.Histories.{History}
+use Rattle.ledger_model.specs.Houses.{site_name, all_terms, terms_in, certificate_in, secret_in, secret_of}
+use Rattle.ledger_model.specs.Pieces.{piece_of, change_from, change_piece}
+use Rattle.ledger_model.specs.Lines.{given, refused_if}
+use Rattle.ledger_model.specs.Answer.{genuine}
+use Rattle.ledger_model.specs.Replies.{Contents, brought, own_text, secret_for, taken_values, taken_reply, reply_of}
+use Rattle.ledger_model.proofs.TableLaws.{line_ok, given_ok, ok_is}
+use Rattle.ledger_model.proofs.ReplyLaws.{own_reply, reply_stays}
+use Rattle.house_core.specs.declared.verdict.Acceptance.{Acceptance}
+use Rattle.house_core.specs.Views.{entry_deed}
+use Rattle.house_core.specs.Books.{BooksView, HasChange, series_now, kept_entry, change_made, certified_change}
+use Rattle.house_core.specs.Stands.{Stands, IsReply, brought_then, scrip_request}
+use Rattle.house_core.specs.Verdicts.{accept_entry, IsReady}
+use Rattle.house_core.proofs.Tabled.{genuine_stands, terms_are_of}
+
+-- ---- a reply that was kept
+
+-- later entries leave a reply as it is
+pub reply_kept : (h : History) (e : Entry) (r : KeptReply) → IsReply h r → IsReply (h ++ e ∷ []) r
+reply_kept h e r is =
+    let n = r.entry.number in
+    let below : n ≤ length h = omega (arith, is.within) in
+    let then' : brought_then (h ++ e ∷ []) r ≡ brought_then h r = ap (λ (f : History). brought f r.asked.target (entry_deed r.entry.deed)) (take-append-le n h (e ∷ []) below) in
+    record {
+      text = is.text;
+      scrip = is.scrip;
+      within = omega (arith, is.within, length-append h (e ∷ []));
+      reply = reply_stays h (e ∷ []) n is.within ∙ is.reply
+          ∙ ap (λ (x : Contents). taken_reply (Some r.entry.secret) is.text r.asked.target x (taken_values r.entry.moment x r.entry.price (option_map (λ c. scrip_text c.0 c.1) r.entry.change))) (sym then');
+    }
+
+-- ---- a new reply
+
+abbrev some : List ℕ → Option (List ℕ)
+some s = Some s
+
+-- the secret of the customer of a genuine piece
+secret_is : (h : History) (c : Certified) (secret : List ℕ) → piece_of c.text ≡ Some c.piece → genuine h c ≡ Ok secret → secret_for h c.text ≡ Some secret
+secret_is h c secret piece e =
+    let v = line_ok (refused_if (not (bytes_eq c.piece.vendor (site_name h))) WrongVendor) _ secret e in
+    let own = line_ok (given (terms_in h (issuer_of c.piece.id)) UnknownIssuer) _ secret v.2 in
+    let customers = line_ok (given (terms_in h (issuer_of c.piece.cust)) UnknownIssuer) _ secret own.2 in
+    let end = series_end own.0 (epoch_of c.piece.id) in
+    let ends = line_ok (refused_if (not (eqb c.piece.expires end)) (ExpiryMismatch c.piece.expires end)) _ secret customers.2 in
+    let proved = line_ok (refused_if (not (bytes_eq c.cert (certificate_in 1 own.0 (scrip_body c.piece) c.piece.id))) BadCertificate) _ secret ends.2 in
+    let is : secret_in 1 customers.0 c.piece.cust ≡ secret = ok_is (secret_in 1 customers.0 c.piece.cust) secret proved.2 in
+    let terms : terms_in h (issuer_of c.piece.cust) ≡ Some customers.0 = given_ok (terms_in h (issuer_of c.piece.cust)) UnknownIssuer customers.0 customers.1 in
+    ap (λ (o : Option Scrip). option_and_then (λ p. secret_of h p.cust) o) piece ∙ ap (λ (o : Option Issuing). option_map (λ t. secret_in 1 t c.piece.cust) o) terms ∙ ap (λ (s : List ℕ). Some s) is
+
+-- the change of an entry is the one that was made
+change_is : {b : BooksView} {h : History} → Stands b h → (paid : Scrip) (price id : ℕ) → epoch b.own_terms b.time < 2 ^ 24 → count_in b.own (series_now b) < 2 ^ 32 → id ≡ next_in b.own (series_now b)
+    → change_from h paid price id ≡ change_made b paid price id
+change_is {b = b} {h = h} st paid price id short below is =
+    let own : b.own_terms.issuer ≡ 0 = terms_are_of (all_terms h) 0 b.own_terms st.own_terms in
+    let series : series_now b ≡ epoch b.own_terms b.time = ap (λ (t : Issuing). series_at t b.time) st.issuer ∙ omega (arith, own) in
+    let at : epoch_of id ≡ epoch b.own_terms b.time = omega (arith, is, series, short, below) in
+    let ends : unwrap_or (option_map (λ t. series_end t (epoch_of id)) (terms_in h 0)) 0 ≡ series_end b.own_terms (epoch b.own_terms b.time) =
+    ap (λ (o : Option Issuing). unwrap_or (option_map (λ t. series_end t (epoch_of id)) o) 0) st.own_terms ∙ ap (series_end b.own_terms) at in
+    λ i. record { vendor = st.name i; value = paid.value - price; id = id; cust = paid.cust; expires = ends i; props = paid.props }
+
+changes_are : {b : BooksView} {h : History} → Stands b h → (c : Certified) (target : List ℕ) (a : Acceptance) → piece_of c.text ≡ Some c.piece → epoch b.own_terms b.time < 2 ^ 24 → b.own.most ≤ 2 ^ 32
+    → HasChange b a.price c.piece.value a.change
+    → option_map (own_text h) (change_piece h (accept_entry b.time c.text target a)) ≡ option_map (λ x. scrip_text x.0 x.1) (option_map (certified_change b c.piece a.price) a.change)
+changes_are {b = b} {h = h} st c target a piece short most has = go a.change has
+  where
+    go : (o : Option ℕ) → HasChange b a.price c.piece.value o
+        → option_map (own_text h) (change_piece h (Accept b.time c.text target a.sign a.price o (entry_deed a.deed))) ≡ option_map (λ x. scrip_text x.0 x.1) (option_map (certified_change b c.piece a.price) o)
+    go None has = refl
+    go (Some id) has =
+        let made = change_made b c.piece a.price id in
+        let same : change_from h c.piece a.price id ≡ made = change_is st c.piece a.price id short (omega (arith, most, has.1)) has.2 in
+        let text : own_text h made ≡ scrip_text made (certificate b.own_terms (scrip_body made) id) =
+        ap (λ (o : Option Issuing). scrip_text made (unwrap_or (option_map (λ t. certificate t (scrip_body made) id) o) [])) st.own_terms in
+        ap (λ (o : Option Scrip). option_map (own_text h) (option_map (λ p. change_from h p a.price id) o)) piece
+        ∙ ap (λ (p : Scrip). some (own_text h p)) same ∙ ap some text
+
+-- the reply to a new entry
+pub reply_new : {b : BooksView} {h : History} → Stands b h → (q : Asked) (c : Certified) (a : Acceptance) → piece_of c.text ≡ Some c.piece → IsReady b c q.target a → epoch b.own_terms b.time < 2 ^ 24 → b.own.most ≤ 2 ^ 32
+    → IsReply (h ++ accept_entry b.time c.text q.target a ∷ []) (record { asked = scrip_request c.text q.target q.sign; entry = kept_entry b c.piece a })
+reply_new {b = b} {h = h} st q c a piece ready short most =
+    let e = accept_entry b.time c.text q.target a in
+    let longer = h ++ e ∷ [] in
+    let deed = entry_deed a.deed in
+    let change = option_map (λ x. scrip_text x.0 x.1) (option_map (certified_change b c.piece a.price) a.change) in
+    let secret : secret_for h c.text ≡ Some a.secret = secret_is h c a.secret piece (genuine_stands st c ∙ ready.secret) in
+    let changes = changes_are st c q.target a piece short most ready.change in
+    let front : h ≡ take b.count longer = sym (ap (λ (n : ℕ). take n longer) (sym st.counted) ∙ take-append-le (length h) h (e ∷ []) (omega arith) ∙ take_all (length h) h (omega arith)) in
+    let said : Option (List ℕ) → Option (List ℕ) → History → List ℕ = λ s o f. taken_reply s c.text q.target (brought f q.target deed) (taken_values b.time (brought f q.target deed) a.price o) in
+    record {
+      text = c.text;
+      scrip = refl;
+      within = omega (arith, st.counted, length-append h (e ∷ []));
+      reply = ap (reply_of longer) (sym st.counted) ∙ own_reply h [] e
+          ∙ ap (λ (s : Option (List ℕ)). said s (option_map (own_text h) (change_piece h e)) h) secret
+          ∙ ap (λ (o : Option (List ℕ)). said (Some a.secret) o h) changes
+          ∙ ap (λ (f : History). said (Some a.secret) change f) front;
+    }
