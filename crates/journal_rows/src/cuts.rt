@@ -61,7 +61,8 @@ fn written_again(
             let mut payload = Vec::new(alloc);
             write_record(&record, &mut payload)?;
             book.push(1)?;
-            book.extend_from_slice(&(payload.len() as u32).to_be_bytes())?;
+            let len = payload.len().min(131_065) as u32;
+            book.extend_from_slice(&len.to_be_bytes())?;
             book.extend_from_slice(&payload)?;
         }
     }
