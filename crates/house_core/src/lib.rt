@@ -1,7 +1,9 @@
 //! A house: a site that takes scrip and gives something for it. Here is what every house asks of the
-//! trade that it carries, whether it sells goods or scrip, and what it keeps beside it.
+//! trade that it carries, whether it sells goods or scrip, and the house itself: what it keeps beside
+//! its trade, what it says of a request, and how it takes an entry.
 //!
-//! A trade takes memory in `reserve` alone.
+//! `Bench::new`, `Bench::accept` and `Bench::enter` take memory, and so may a trade where it is asked to
+//! reserve. No other call of this crate does.
 #![tactic(auto)]
 
 mod bench;
