@@ -7,3 +7,4 @@ pub mod Entered
 pub mod Accepting
 pub mod Founded
 pub mod Noted
+pub mod Contents

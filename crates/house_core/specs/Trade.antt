@@ -1,5 +1,5 @@
 -- What a history says of a trade.
-use Rattle.std.specs.Prelude.{◌≡◌, ℕ, ◌<◌, true, List, ◌++◌, codes, decimal, Option, Some, None, option_map, unwrap_or, slice_get}
+use Rattle.std.specs.Prelude.{◌≡◌, ℕ, ◌<◌, true, List, ◌++◌, length, codes, decimal, Option, Some, None, option_map, unwrap_or, slice_get}
 use Rattle.kept_replies.specs.declared.deed.Deed.{Deed}
 use Rattle.kept_replies.specs.declared.deed.Deed.TheVariants as kept
 use Rattle.ledger_model.specs.Histories.{History}
@@ -35,6 +35,10 @@ pub record Replaces (h : History) (n m : ℕ) : Type 0 where
   pub target : List ℕ
   pub replaced : option_map (is_goods_of target) (slice_get h n) ≡ Some true
   pub replacing : option_map (is_goods_of target) (slice_get h m) ≡ Some true
+
+-- what a kept deed names is in force: goods of an entry that is there, which no entry replaces
+abbrev pub IsInForce : History → Deed → Type 0
+IsInForce h d = IsHeld (λ n. (n < length h) × ((m : ℕ) → Replaces h n m → ⊥)) d
 
 -- A number lies behind the first one whose reply is kept. Behind none there is nothing.
 abbrev pub LiesBehind : Option ℕ → ℕ → Type 0

@@ -8,7 +8,7 @@ ghost use Rattle.ledger_model.specs.Answer as answers;
 ghost use Rattle.ledger_model.specs.Replies.{brought, price_asked};
 ghost use Rattle.ledger_model.specs.Slow.{told};
 ghost use Rattle.house_core.specs.Views.{kind_number, entry_deed, offer_of, contents_of};
-ghost use Rattle.house_core.specs.Trade.{draw_asked, brought_by, IsHeld, IsKeptFrom};
+ghost use Rattle.house_core.specs.Trade.{draw_asked, brought_by, IsHeld, IsInForce, IsKeptFrom};
 ghost use Rattle.house_core.specs.Learning.{ByTrade, MayLearn, IsGoods};
 
 use crate::offer::{Body, DrawAsk, Offer, SiteKind, Unlawful};
@@ -57,7 +57,9 @@ pub trait Trade: Drop {
         // What the deed names is what the entry brings.
         ensures brings { (h : History) → stands self.now h → site_kind h ≡ Some (site self.now)
             → IfOk result (λ o. brought_by h o.deed ≡ brought h target.now (entry_deed o.deed)) }
-        ensures held { IfOk result (λ o. IsHeld (holds self.now) o.deed) };
+        ensures held { IfOk result (λ o. IsHeld (holds self.now) o.deed) }
+        // No entry replaces what the deed names.
+        ensures in_force { (h : History) → stands self.now h → site_kind h ≡ Some (site self.now) → IfOk result (λ o. IsInForce h o.deed) };
 
     /// The draw that a target asks for, with what is known of its account; None where it asks for none.
     fn draw(&self, target: &[u8]) -> Option<DrawAsk>

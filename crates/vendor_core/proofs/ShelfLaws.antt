@@ -1,3 +1,9 @@
+use Rattle.std.proofs.Common.{subst, true, false, cond}
+use Rattle.std.proofs.lemmas.Option.{slice_get_within}
+use Rattle.kept_replies.specs.declared.deed.Deed.TheVariants as kept
+use Rattle.house_core.specs.Trade.{IsInForce}
+use Rattle.vendor_core.specs.Wares.{IsReplacement, goods_entry}
+use Rattle.vendor_core.proofs.WareLaws.{on_sale_is}
 -- What a shelf stands for at one more entry, and what it answers.
 use Rattle.std.proofs.Common.{◌≡◌, ℕ, ◌+◌, ◌-◌, ◌≤◌, true, false, List, [], ◌∷◌, ◌++◌, length, map, filter, filter_map, find, Option, Some, None, option_map, unwrap_or, is_some, IsNone, refl, sym, ap, subst, ◌∙◌, All, slice_get, arith, append-nil}
 use Rattle.std.specs.Prelude.{bytes_eq, ◌==◌}
@@ -151,3 +157,11 @@ article_is m (Some b) e a is ready = let same : b ≡ a = cc in let same_entry :
 pub reference_is : (o : Option (Vec ℕ)) (reference : List ℕ) (v : Vec ℕ) → o ≡ Some v → option_map (λ r. r.items) o ≡ Some reference → v.items ≡ reference
 reference_is None reference v is ready = absurd cc
 reference_is (Some b) reference v is ready = let same : b ≡ v = cc in let same_bytes : b.items ≡ reference = cc in ap (λ (w : Vec ℕ). w.items) (sym same) ∙ same_bytes
+
+-- no entry replaces the ware on sale at a target
+pub sold_in_force : (wares : List Ware) (issuers : List ℕ) (references : List (Vec ℕ)) (bytes : ℕ) (h : History) (target : List ℕ) (w : Ware) → Shows wares issuers references bytes h → find (is_on_sale target) wares ≡ Some w
+    → IsInForce h (kept.Goods w.number)
+sold_in_force wares issuers references bytes h target w s found =
+    let of : IsWareOf h w = find_all (IsWareOf h) (is_on_sale target) wares w s.of_entries found in
+    let on = on_sale_is w.replaced (bytes_eq w.article.target.items target) (find_passes (is_on_sale target) wares w found) in
+    (slice_get_within h w.number (goods_entry of.moment w.article) of.entry, subst (IsReplacement h w.number) on.0 of.replaced)

@@ -113,7 +113,7 @@ ware_stays h e w quiet of =
 pub wares_quiet : (h : History) (e : Entry) (wares : List Ware) → IsQuiet e → All (IsWareOf h) wares → All (IsWareOf (h ++ e ∷ [])) wares
 wares_quiet h e wares quiet all = All-weaker (IsWareOf h) (IsWareOf (h ++ e ∷ [])) (λ w of. ware_stays h e w (λ _. quiet w.article.target.items) of) wares all
 
-on_sale_is : (o : Option ℕ) (b : Bool) → (is_none o && b) ≡ true → (o ≡ None) × (b ≡ true)
+pub on_sale_is : (o : Option ℕ) (b : Bool) → (is_none o && b) ≡ true → (o ≡ None) × (b ≡ true)
 on_sale_is None b e = (refl, e)
 on_sale_is (Some n) b e = absurd (false≢true e)
 
