@@ -92,3 +92,7 @@ learns_site limits kind (Got m pieces) fits may same = absurd fits
 learns_site limits kind (Pend m ask peer target scrip secret) fits may same = absurd fits
 learns_site limits kind (Done m n price change got) fits may same = absurd fits
 learns_site limits kind (Refused m n refusal) fits may same = absurd fits
+
+pub none_kept : (b : BooksView) (limits : Limits) (e : Entry) → AreOf b limits e → b.kept.replies ≡ []
+none_kept b limits (Site m kind name (Some h)) is = is.replies
+none_kept b limits e is = absurd is

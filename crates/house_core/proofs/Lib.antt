@@ -8,3 +8,4 @@ pub mod Entered
 pub mod Accepting
 pub mod Founded
 pub mod Noted
+pub mod Contents

@@ -58,6 +58,11 @@ Accepts stands site b h (Refused f) (Err (faults.Refused g)) = (g ≡ f) × Hold
 Accepts stands site b h (Again m) (Ok n) = (n ≡ m) × Holds stands site b h
 Accepts stands site b h _ _ = ⊥
 
+-- the contents that kept replies bring are there, after a request with this answer too
+abbrev pub KeepsContents : {T : Type 0} → (T → ℕ → Type 0) → Bench T → History → Answer → Result ℕ BenchFault → Type 0
+KeepsContents holds b h (Take e) (Ok n) = HasContents holds b (h ++ e ∷ [])
+KeepsContents holds b h _ _ = HasContents holds b h
+
 -- what is answered to a request that makes no entry
 abbrev pub stopped_with : Stopped → Result ℕ BenchFault
 stopped_with (stops.Refused f) = Err (faults.Refused f)

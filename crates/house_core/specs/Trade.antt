@@ -1,5 +1,5 @@
 -- What a history says of a trade.
-use Rattle.std.specs.Prelude.{◌≡◌, ℕ, ◌<◌, true, List, ◌++◌, codes, decimal, Option, Some, None, option_map, option_and_then, slice_get}
+use Rattle.std.specs.Prelude.{◌≡◌, ℕ, ◌<◌, true, List, ◌++◌, length, codes, decimal, Option, Some, None, option_map, option_and_then, slice_get}
 use Rattle.kept_replies.specs.declared.deed.Deed.{Deed}
 use Rattle.kept_replies.specs.declared.deed.Deed.TheVariants as kept
 use Rattle.mc_records.specs.Entry.{Entry, Goods}
@@ -45,6 +45,10 @@ pub record Replaces (h : History) (n m : ℕ) : Type 0 where
 -- no entry replaces the goods of entry n
 abbrev pub IsInForce : History → ℕ → Type 0
 IsInForce h n = (m : ℕ) → Replaces h n m → ⊥
+
+-- what a kept deed names is goods of an entry that is there, which no entry replaces
+abbrev pub NamesInForce : History → Deed → Type 0
+NamesInForce h d = OfGoods (λ n. (n < length h) × IsInForce h n) d
 
 -- A number lies behind the first one whose reply is kept. Where no reply is kept, none does.
 abbrev pub LiesBehind : Option ℕ → ℕ → Type 0

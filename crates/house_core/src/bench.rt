@@ -1,4 +1,4 @@
-ghost use Rattle.std.specs.Prelude.{◌≡◌, ℕ, [], ◌∷◌, max, None, Some, Ok, IfOk};
+ghost use Rattle.std.specs.Prelude.{◌≡◌, ℕ, [], ◌∷◌, ◌++◌, MatchResult, max, None, Some, Ok, IfOk};
 ghost use Rattle.mc_records.specs.Limits.{AreInRange};
 ghost use Rattle.mc_records.specs.Entry.{Fits, moment_of};
 ghost use Rattle.house_core.specs.Noting.{IsCommand};
@@ -12,9 +12,10 @@ ghost use Rattle.mc_records.specs.Views.{deed_of, entry};
 ghost use Rattle.kept_replies.specs.Kept.{found};
 ghost use Rattle.ledger_model.specs.Histories.{History};
 ghost use Rattle.ledger_model.specs.Answer as model;
-ghost use Rattle.house_core.specs.Bench.{Holds, HasContents, Takes, Accepts, Enters, stopped_with, house_time, limits_of};
+ghost use Rattle.house_core.specs.Bench.{Holds, HasContents, Takes, Accepts, KeepsContents, Enters, stopped_with, house_time, limits_of};
 ghost use Rattle.house_core.specs.Views.{entry_deed};
 ghost use Rattle.house_core.specs.Stands.{scrip_request};
+ghost use Rattle.house_core.specs.Trade.{OfGoods, NamesInForce};
 ghost use Rattle.house_core.specs.Verdicts.{judged, judged_of, accept_entry, IsReady};
 
 use crate::books::Books;
@@ -52,6 +53,7 @@ impl<T: Trade> Bench<T> {
         requires kind { site_kind (entry site.now ∷ []) ≡ Some (T.site trade) }
         requires trade { T.stands trade [] }
         ensures holds { IfOk result (λ b. Holds T.stands T.site b (entry site.now ∷ [])) }
+        ensures contents { IfOk result (λ b. HasContents T.holds b (entry site.now ∷ [])) }
         ensures time { IfOk result (λ b. house_time b ≡ moment_of (entry site.now)) }
         ensures limits { IfOk result (λ b. limits_of b ≡ limits) }
     {
@@ -116,6 +118,7 @@ impl<T: Trade> Bench<T> {
         ensures limits { limits_of self.new ≡ limits_of self.old }
         ensures exact { (h : History) → Holds T.stands T.site self.old h
             → Accepts T.stands T.site self.new h (model.answer h (house_time self.old) (limits_of self.old) (asked_of q.now)) result }
+        ensures contents { (h : History) → Holds T.stands T.site self.old h → HasContents T.holds self.old h → KeepsContents T.holds self.new h (model.answer h (house_time self.old) (limits_of self.old) (asked_of q.now)) result }
     {
         let Some(text) = q.scrip else {
             return Err(BenchFault::Refused(Refusal::NoScrip));
@@ -143,6 +146,8 @@ impl<T: Trade> Bench<T> {
         ensures time { house_time self.new ≡ house_time self.old }
         ensures limits { limits_of self.new ≡ limits_of self.old }
         ensures exact { (h : History) → Holds T.stands T.site self.old h → Enters T.stands T.site self.new (limits_of self.old) h (entry r.now) result }
+        ensures contents { (h : History) → Holds T.stands T.site self.old h → HasContents T.holds self.old h
+            → MatchResult result (λ n. HasContents T.holds self.new (h ++ entry r.now ∷ [])) (λ f. HasContents T.holds self.new h) }
     {
         let bytes = match payload_len(self.books.alloc(), r) {
             Ok(bytes) => bytes,
@@ -181,12 +186,15 @@ impl<T: Trade> Bench<T> {
     ) -> Result<u64, NoMemory>
         requires read { scrip_of scrip.now.text ≡ Ok (scrip.now.piece, scrip.now.cert) }
         requires new { found self.old.books.kept self.old.books.time (scrip_request scrip.now.text q.now.target.now (seen q.now.sign)) ≡ None }
+        requires held { OfGoods (T.holds self.old.trade) acceptance.now.deed }
         requires ready { IsReady self.old.books scrip.now q.now.target.now acceptance.now }
         ensures time { house_time self.new ≡ house_time self.old }
         ensures limits { limits_of self.new ≡ limits_of self.old }
         ensures exact { (h : History) → Holds T.stands T.site self.old h
             → model.answer h (house_time self.old) (limits_of self.old) (asked_of q.now) ≡ model.Take (accept_entry (house_time self.old) scrip.now.text q.now.target.now acceptance.now)
             → Takes T.stands T.site self.new h (accept_entry (house_time self.old) scrip.now.text q.now.target.now acceptance.now) result }
+        ensures contents { (h : History) → Holds T.stands T.site self.old h → HasContents T.holds self.old h → NamesInForce h acceptance.now.deed
+            → MatchResult result (λ n. HasContents T.holds self.new (h ++ accept_entry (house_time self.old) scrip.now.text q.now.target.now acceptance.now ∷ [])) (λ f. HasContents T.holds self.new h) }
     {
         let request = request_with(q, scrip);
         let number = self.books.count();

@@ -9,6 +9,7 @@ ghost use Rattle.ledger_model.specs.Histories.{History};
 ghost use Rattle.ledger_model.specs.Houses.{site_kind};
 ghost use Rattle.ledger_model.specs.Answer as model;
 ghost use Rattle.ledger_model.specs.Slow.{told, after_read, after_repeat};
+ghost use Rattle.house_core.specs.Trade.{OfGoods, NamesInForce};
 ghost use Rattle.house_core.specs.Stands.{Stands, scrip_request};
 ghost use Rattle.house_core.specs.Verdicts.{accept_entry, weighed, IsReady};
 
@@ -44,6 +45,8 @@ fn taken<T: Trade>(
     requires sign { IfSome sign.now IsKey }
     requires secret { genuine_by books.now.name (λ series. 1) books.now.terms scrip.now ≡ Ok secret.now }
     ensures ready { IfOk result (IsReady books.now scrip.now q.now.target.now) }
+    ensures held { IfOk result (λ a. OfGoods (T.holds trade.now) a.deed) }
+    ensures in_force { (h : History) → T.stands trade.now h → site_kind h ≡ Some (T.site trade.now) → IfOk result (λ a. NamesInForce h a.deed) }
     ensures lines { (h : History) → Stands books.now h → T.stands trade.now h → site_kind h ≡ Some (T.site trade.now)
         → told (accept_entry books.now.time scrip.now.text q.now.target.now) result ≡ model.taken h books.now.time books.now.limits (asked_of q.now) scrip.now sign.now }
 {
@@ -78,6 +81,8 @@ fn weigh_new<T: Trade>(
     scrip: &ScripRef<'_>,
 ) -> Result<Acceptance, Refusal>
     ensures ready { IfOk result (IsReady books.now scrip.now q.now.target.now) }
+    ensures held { IfOk result (λ a. OfGoods (T.holds trade.now) a.deed) }
+    ensures in_force { (h : History) → T.stands trade.now h → site_kind h ≡ Some (T.site trade.now) → IfOk result (λ a. NamesInForce h a.deed) }
     ensures lines { (h : History) → Stands books.now h → T.stands trade.now h → site_kind h ≡ Some (T.site trade.now)
         → told (accept_entry books.now.time scrip.now.text q.now.target.now) result ≡ after_repeat h books.now.time books.now.limits (asked_of q.now) scrip.now }
 {
@@ -102,6 +107,8 @@ pub(crate) fn weigh<T: Trade>(
 ) -> Result<Acceptance, Stopped>
     ensures new { OnOk result (found books.now.kept books.now.time (scrip_request scrip.now.text q.now.target.now (seen q.now.sign)) ≡ None) }
     ensures ready { IfOk result (IsReady books.now scrip.now q.now.target.now) }
+    ensures held { IfOk result (λ a. OfGoods (T.holds trade.now) a.deed) }
+    ensures in_force { (h : History) → T.stands trade.now h → site_kind h ≡ Some (T.site trade.now) → IfOk result (λ a. NamesInForce h a.deed) }
     ensures lines { (h : History) → Stands books.now h → T.stands trade.now h → site_kind h ≡ Some (T.site trade.now)
         → weighed (accept_entry books.now.time scrip.now.text q.now.target.now) result ≡ after_read h books.now.time books.now.limits (asked_of q.now) scrip.now }
 {

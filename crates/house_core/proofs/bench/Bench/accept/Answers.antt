@@ -1,3 +1,5 @@
+use Rattle.house_core.specs.Bench.{KeepsContents}
+use Rattle.house_core.proofs.Contents.{keeps_all}
 use Rattle.std.proofs.Common.{◌≡◌, refl, sym, subst, Some, Ok, Err}
 use Rattle.scrip_form.specs.Reading.{scrip_of}
 use Rattle.mc_records.specs.declared.refusal.Refusal.TheVariants.{NoScrip, BadScrip}
@@ -40,3 +42,17 @@ returns-in-Err-take-clause-exact g c h st =
     let read : scrip_of c.in-Ok.scrip.text ≡ Ok (c.in-Ok.scrip.piece, c.in-Ok.scrip.cert) = rw c.in-Ok.ensures.found.0 c.in-Ok.ensures.same in
     let is = answer_read h _ _ (asked_of c.args.q.now) c.in-Ok.scrip _ asked read (c.in-Ok-weigh.ensures.lines h st.books st.trade st.of_kind) in
     subst (λ (a : Answer). Accepts g.T.Trade.stands g.T.Trade.site c.take.new.self h a (Err faults.NoMemory)) is (c.in-Err-take.ensures.exact h st (sym is))
+
+pub returns-in-Err-weigh-clause-contents : goal.returns-in-Err-weigh-clause-contents
+returns-in-Err-weigh-clause-contents g c h st has =
+    let asked : (asked_of c.args.q.now).scrip ≡ Some c.in-Ok.scrip.text = rw (c.in-Some.is, c.in-Ok.ensures.found.0) refl in
+    let read : scrip_of c.in-Ok.scrip.text ≡ Ok (c.in-Ok.scrip.piece, c.in-Ok.scrip.cert) = rw c.in-Ok.ensures.found.0 c.in-Ok.ensures.same in
+    rw c.stopped_with.ensures (keeps_all g.T.Trade.holds c.args.self.now h (asked_of c.args.q.now) c.in-Err-weigh.stopped has
+    (answer_read h _ _ (asked_of c.args.q.now) c.in-Ok.scrip _ asked read (c.in-Err-weigh.ensures.lines h st.books st.trade st.of_kind)))
+
+pub returns-in-Ok-take-clause-contents : goal.returns-in-Ok-take-clause-contents
+returns-in-Ok-take-clause-contents g c h st has =
+    let asked : (asked_of c.args.q.now).scrip ≡ Some c.in-Ok.scrip.text = rw (c.in-Some.is, c.in-Ok.ensures.found.0) refl in
+    let read : scrip_of c.in-Ok.scrip.text ≡ Ok (c.in-Ok.scrip.piece, c.in-Ok.scrip.cert) = rw c.in-Ok.ensures.found.0 c.in-Ok.ensures.same in
+    let is = answer_read h _ _ (asked_of c.args.q.now) c.in-Ok.scrip _ asked read (c.in-Ok-weigh.ensures.lines h st.books st.trade st.of_kind) in
+    subst (λ (a : Answer). KeepsContents g.T.Trade.holds c.take.new.self h a (Ok c.in-Ok-take.number)) is (c.in-Ok-take.ensures.contents h st has (c.in-Ok-weigh.ensures.in_force h st.trade st.of_kind))

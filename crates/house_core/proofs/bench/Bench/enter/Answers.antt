@@ -1,3 +1,7 @@
+use Rattle.kept_replies.specs.Kept.{KeptView}
+use Rattle.house_core.specs.declared.bench.Bench.{Bench}
+use Rattle.house_core.proofs.Contents.{contents_noted}
+use Rattle.std.proofs.Common.{ap}
 use Rattle.std.proofs.Common.{◌≡◌, ◌≤◌, refl, sym, ◌∙◌, arith, Some}
 use Rattle.mc_records.specs.Entry.{moment_of}
 use Rattle.mc_records.specs.Views.{entry}
@@ -68,3 +72,9 @@ returns-clause-exact g c h st =
         of_kind = kind_stays b.limits h e st.books.lawful ∙ rw c.in-Ok-learn.ensures.site of;
       },
     )
+
+pub returns-clause-contents : goal.returns-clause-contents
+returns-clause-contents g c h st has =
+    let after : Bench g.row.T.Denot = record { books = c.note.new.self; trade = c.learn.new.self } in
+    contents_noted g.T.Trade.holds c.args.self.now after h (entry c.args.r.now) has st.books.replies
+    (ap (λ (k : KeptView). k.replies) c.note.ensures.kept ∙ c.in-Ok-reserve_for.ensures.same.replies) (λ n held. c.in-Ok-learn.ensures.held n (c.in-Ok-reserve.ensures.held n held))

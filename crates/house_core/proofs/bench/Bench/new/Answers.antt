@@ -1,3 +1,6 @@
+use Rattle.house_core.specs.declared.bench.Bench.{Bench}
+use Rattle.house_core.proofs.Contents.{contents_of_none}
+use Rattle.house_core.proofs.Founded.{none_kept}
 use Rattle.std.proofs.Common.{◌≡◌, [], ◌∷◌, Some}
 use Rattle.mc_records.specs.Views.{entry}
 use Rattle.ledger_model.specs.Houses.{site_kind}
@@ -13,3 +16,8 @@ returns-in-Ok-learn-clause-holds g c =
       trade = c.in-Ok-learn.ensures.learned c.args.limits [] (c.in-Ok.ensures.same [] c.requires.trade) (learns_site c.args.limits (g.T.Trade.site c.reserve.new.self) e c.requires.site c.requires.first kind);
       of_kind = rw c.in-Ok-learn.ensures.site kind;
     }
+
+pub returns-in-Ok-learn-clause-contents : goal.returns-in-Ok-learn-clause-contents
+returns-in-Ok-learn-clause-contents g c =
+    let made : Bench g.row.T.Denot = record { books = c.in_ok-books.books; trade = c.learn.new.self } in
+    contents_of_none g.T.Trade.holds made (entry c.args.site.now ∷ []) (none_kept c.in_ok-books.books c.args.limits (entry c.args.site.now) c.in_ok-books.ensures)

@@ -1,3 +1,8 @@
+use Rattle.std.proofs.Common.{List, ap}
+use Rattle.kept_replies.specs.Kept.{KeptReply}
+use Rattle.house_core.specs.declared.bench.Bench.{Bench}
+use Rattle.house_core.specs.Books.{kept_entry}
+use Rattle.house_core.proofs.Contents.{contents_taken}
 use Rattle.std.proofs.Common.{◌≡◌, [], ◌∷◌, ◌++◌, refl, sym, subst, ◌∙◌}
 use Rattle.scrip_form.specs.Scrip.{Scrip}
 use Rattle.mc_records.specs.Entry.{Entry, Accept}
@@ -41,3 +46,12 @@ returns-clause-exact g c h st takes =
         of_kind = kind_stays b.limits h (accept_entry b.time text target a) st.books.lawful ∙ rw (c.in-Ok-learn.ensures.site, c.in-Ok.ensures.site) st.of_kind;
       },
     )
+
+pub returns-clause-contents : goal.returns-clause-contents
+returns-clause-contents g c h st has in_force =
+    let b = c.args.self.now.books in
+    let a = c.args.acceptance.now in
+    let after : Bench g.row.T.Denot = record { books = c.enter.new.self; trade = c.learn.new.self } in
+    let r : KeptReply = record { asked = asked_of c.request_with-request.result; entry = kept_entry c.reserve-2.new.self c.piece-paid.result a } in
+    contents_taken g.T.Trade.holds c.args.self.now after h (accept_entry b.time c.args.scrip.now.text c.args.q.now.target.now a) r has (λ target. refl)
+    (c.enter.ensures.replies ∙ ap (λ (rs : List KeptReply). rs ++ r ∷ []) c.in-Ok-reserve.ensures.same.replies) (λ n held. c.in-Ok-learn.ensures.held n (c.in-Ok.ensures.held n held)) c.requires.held in_force

@@ -1,0 +1,149 @@
+-- The contents that kept replies bring, after one more entry.
+use Rattle.std.proofs.Common.{◌≡◌, ℕ, zero, suc, ◌<◌, ◌≤◌, true, false, List, [], ◌∷◌, ◌++◌, length, All, Some, None, refl, sym, ap, subst, ◌∙◌, arith, inl, inr}
+use Rattle.std.specs.Prelude.{option_map, slice_get}
+use Rattle.std.proofs.lemmas.Bool.{cases_lt}
+use Rattle.std.proofs.lemmas.List.Elements.{All-nil, All-push, All-weaker}
+use Rattle.mc_records.specs.Entry.{Entry}
+use Rattle.kept_replies.specs.declared.deed.Deed.{Deed}
+use Rattle.kept_replies.specs.declared.deed.Deed.TheVariants as kept
+use Rattle.kept_replies.specs.Kept.{KeptReply}
+use Rattle.ledger_model.specs.Histories.{History}
+use Rattle.ledger_model.specs.Goods.{is_goods_of}
+use Rattle.house_core.specs.declared.bench.Bench.{Bench}
+use Rattle.house_core.specs.Trade.{Replaces, OfGoods, NamesInForce}
+use Rattle.house_core.specs.declared.verdict.Stopped.{Stopped}
+use Rattle.house_core.specs.declared.verdict.Stopped.TheVariants as stops
+use Rattle.house_core.specs.declared.verdict.BenchFault.TheVariants as faults
+use Rattle.std.proofs.Common.{Ok, Err, get_or}
+use Rattle.house_core.specs.Stands.{IsReply}
+use Rattle.mc_records.specs.Requests.{Asked}
+use Rattle.ledger_model.specs.Answer.{Answer, answer, answered}
+use Rattle.house_core.specs.Verdicts.{stop_of}
+use Rattle.house_core.specs.Bench.{IsInForceFor, HasContents, KeepsContents, house_time, limits_of, stopped_with}
+
+get_before : (h : History) (e : Entry) (n : ℕ) → n < length h → slice_get (h ++ e ∷ []) n ≡ slice_get h n
+get_before [] e n lt = absurd (omega arith)
+get_before (x ∷ xs) e zero lt = refl
+get_before (x ∷ xs) e (suc n) lt = get_before xs e n (omega (arith, lt))
+
+get_at : (h : History) (e : Entry) → slice_get (h ++ e ∷ []) (length h) ≡ Some e
+get_at [] e = refl
+get_at (x ∷ xs) e = get_at xs e
+
+get_after : (h : History) (e : Entry) (n : ℕ) → length h < n → slice_get (h ++ e ∷ []) n ≡ None
+get_after [] e zero lt = absurd (omega arith)
+get_after [] e (suc n) lt = refl
+get_after (x ∷ xs) e zero lt = absurd (omega arith)
+get_after (x ∷ xs) e (suc n) lt = get_after xs e n (omega (arith, lt))
+
+-- an entry that puts no goods leaves what replaces what
+goods_before : (h : History) (e : Entry) (target : List ℕ) (n : ℕ) → is_goods_of target e ≡ false → option_map (is_goods_of target) (slice_get (h ++ e ∷ []) n) ≡ Some true → n < length h
+goods_before h e target n quiet is = elim (cases_lt n (length h)) [
+  | inl lt ↦ lt
+  | inr ge ↦ elim (cases_lt (length h) n) [
+    | inl above ↦ absurd (let none = ap (option_map (is_goods_of target)) (get_after h e n above) in cc)
+    | inr le ↦ absurd (let at : slice_get (h ++ e ∷ []) n ≡ Some e = ap (slice_get (h ++ e ∷ [])) (omega (arith, ge, le)) ∙ get_at h e in
+        let now : option_map (is_goods_of target) (slice_get (h ++ e ∷ []) n) ≡ Some (is_goods_of target e) = ap (option_map (is_goods_of target)) at in cc)
+  ]
+]
+
+replaces_before : (h : History) (e : Entry) (n m : ℕ) → ((target : List ℕ) → is_goods_of target e ≡ false) → Replaces (h ++ e ∷ []) n m → Replaces h n m
+replaces_before h e n m quiet r =
+    let n_in = goods_before h e r.target n (quiet r.target) r.replaced in
+    let m_in = goods_before h e r.target m (quiet r.target) r.replacing in
+    record {
+      later = r.later;
+      target = r.target;
+      replaced = ap (option_map (is_goods_of r.target)) (sym (get_before h e n n_in)) ∙ r.replaced;
+      replacing = ap (option_map (is_goods_of r.target)) (sym (get_before h e m m_in)) ∙ r.replacing;
+    }
+
+still_in_force : (h : History) (e : Entry) (number : ℕ) → ((target : List ℕ) → is_goods_of target e ≡ false) → (d : Deed) → OfGoods (λ n. (m : ℕ) → Replaces h n m → number < m) d
+    → OfGoods (λ n. (m : ℕ) → Replaces (h ++ e ∷ []) n m → number < m) d
+still_in_force h e number quiet (kept.Goods n) later = λ m r. later m (replaces_before h e n m quiet r)
+still_in_force h e number quiet (kept.Sale piece cert secret stock) later = tt
+still_in_force h e number quiet (kept.Credit balance) later = tt
+still_in_force h e number quiet (kept.Draw piece cert secret) later = tt
+
+new_in_force : (h : History) (e : Entry) (number : ℕ) → ((target : List ℕ) → is_goods_of target e ≡ false) → (d : Deed) → NamesInForce h d → OfGoods (λ n. (m : ℕ) → Replaces (h ++ e ∷ []) n m → number < m) d
+new_in_force h e number quiet (kept.Goods n) in_force = λ m r. absurd (in_force.1 m (replaces_before h e n m quiet r))
+new_in_force h e number quiet (kept.Sale piece cert secret stock) in_force = tt
+new_in_force h e number quiet (kept.Credit balance) in_force = tt
+new_in_force h e number quiet (kept.Draw piece cert secret) in_force = tt
+
+held_by : (old new : ℕ → Type 0) → ((n : ℕ) → old n → new n) → (d : Deed) → OfGoods old d → OfGoods new d
+held_by old new keeps (kept.Goods n) held = keeps n held
+held_by old new keeps (kept.Sale piece cert secret stock) held = tt
+held_by old new keeps (kept.Credit balance) held = tt
+held_by old new keeps (kept.Draw piece cert secret) held = tt
+
+-- the kept replies are the same, and the trade holds what it held
+pub contents_as_before : {T : Type 0} (holds : T → ℕ → Type 0) (b c : Bench T) (h : History) → HasContents holds b h → c.books.kept.replies ≡ b.books.kept.replies
+    → ((n : ℕ) → holds b.trade n → holds c.trade n) → HasContents holds c h
+contents_as_before holds b c h has same keeps = record {
+  in_force = subst (All (IsInForceFor h)) (sym same) has.in_force;
+  held = subst (All (λ r. OfGoods (holds c.trade) r.entry.deed)) (sym same)
+      (All-weaker (λ r. OfGoods (holds b.trade) r.entry.deed) (λ r. OfGoods (holds c.trade) r.entry.deed) (λ r. held_by (holds b.trade) (holds c.trade) keeps r.entry.deed) b.books.kept.replies has.held);
+}
+
+-- there is one reply more, of an entry that puts no goods
+pub contents_taken : {T : Type 0} (holds : T → ℕ → Type 0) (b c : Bench T) (h : History) (e : Entry) (r : KeptReply) → HasContents holds b h → ((target : List ℕ) → is_goods_of target e ≡ false)
+    → c.books.kept.replies ≡ b.books.kept.replies ++ r ∷ [] → ((n : ℕ) → holds b.trade n → holds c.trade n) → OfGoods (holds b.trade) r.entry.deed → NamesInForce h r.entry.deed
+    → HasContents holds c (h ++ e ∷ [])
+contents_taken holds b c h e r has quiet more keeps held in_force =
+    let later = All-weaker (IsInForceFor h) (IsInForceFor (h ++ e ∷ [])) (λ x. still_in_force h e x.entry.number quiet x.entry.deed) b.books.kept.replies has.in_force in
+    let still = All-weaker (λ x. OfGoods (holds b.trade) x.entry.deed) (λ x. OfGoods (holds c.trade) x.entry.deed) (λ x. held_by (holds b.trade) (holds c.trade) keeps x.entry.deed) b.books.kept.replies has.held in
+    record {
+      in_force = subst (All (IsInForceFor (h ++ e ∷ []))) (sym more) (All-push (IsInForceFor (h ++ e ∷ [])) b.books.kept.replies r later (new_in_force h e r.entry.number quiet r.entry.deed in_force));
+      held = subst (All (λ x. OfGoods (holds c.trade) x.entry.deed)) (sym more) (All-push (λ x. OfGoods (holds c.trade) x.entry.deed) b.books.kept.replies r still (held_by (holds b.trade) (holds c.trade) keeps r.entry.deed held));
+    }
+
+-- a request that makes no entry
+pub keeps_all : {T : Type 0} (holds : T → ℕ → Type 0) (b : Bench T) (h : History) (q : Asked) (s : Stopped) → HasContents holds b h
+    → answered (Err (stop_of s)) ≡ answer h (house_time b) (limits_of b) q → KeepsContents holds b h (answer h (house_time b) (limits_of b) q) (stopped_with s)
+keeps_all holds b h q (stops.Refused f) has e = subst (λ (a : Answer). KeepsContents holds b h a (Err (faults.Refused f))) e has
+keeps_all holds b h q (stops.Again n) has e = subst (λ (a : Answer). KeepsContents holds b h a (Ok n)) e has
+
+-- ---- an entry that accepts nothing
+
+place_before : (h : History) (e : Entry) (target : List ℕ) (n : ℕ) → option_map (is_goods_of target) (slice_get (h ++ e ∷ []) n) ≡ Some true → n ≤ length h
+place_before h e target n is = elim (cases_lt (length h) n) [
+  | inl above ↦ absurd (let none = ap (option_map (is_goods_of target)) (get_after h e n above) in cc)
+  | inr le ↦ le
+]
+
+-- an entry may put other goods, but not before the entry of a reply that is kept
+later_by : (h : History) (e : Entry) (number n m : ℕ) → number < length h → ((k : ℕ) → Replaces h n k → number < k) → Replaces (h ++ e ∷ []) n m → number < m
+later_by h e number n m within later r =
+    let m_in = place_before h e r.target m r.replacing in
+    elim (cases_lt m (length h)) [
+      | inl lt ↦ later m (record {
+        later = r.later;
+        target = r.target;
+        replaced = ap (option_map (is_goods_of r.target)) (sym (get_before h e n (omega (arith, lt, r.later)))) ∙ r.replaced;
+        replacing = ap (option_map (is_goods_of r.target)) (sym (get_before h e m lt)) ∙ r.replacing;
+      })
+      | inr ge ↦ omega (arith, ge, within)
+    ]
+
+in_force_by : (h : History) (e : Entry) (number : ℕ) → number < length h → (d : Deed) → OfGoods (λ n. (m : ℕ) → Replaces h n m → number < m) d → OfGoods (λ n. (m : ℕ) → Replaces (h ++ e ∷ []) n m → number < m) d
+in_force_by h e number within (kept.Goods n) later = λ m r. later_by h e number n m within later r
+in_force_by h e number within (kept.Sale piece cert secret stock) later = tt
+in_force_by h e number within (kept.Credit balance) later = tt
+in_force_by h e number within (kept.Draw piece cert secret) later = tt
+
+pub contents_noted : {T : Type 0} (holds : T → ℕ → Type 0) (b c : Bench T) (h : History) (e : Entry) → HasContents holds b h → All (IsReply h) b.books.kept.replies → c.books.kept.replies ≡ b.books.kept.replies
+    → ((n : ℕ) → holds b.trade n → holds c.trade n) → HasContents holds c (h ++ e ∷ [])
+contents_noted holds b c h e has replies same keeps =
+    let still = contents_as_before holds b c h has same keeps in
+    record {
+      in_force = subst (All (IsInForceFor (h ++ e ∷ []))) (sym same)
+          (λ k d lt. in_force_by h e (get_or b.books.kept.replies k d).entry.number (replies k d lt).within (get_or b.books.kept.replies k d).entry.deed (has.in_force k d lt));
+      held = still.held;
+    }
+
+pub contents_of_none : {T : Type 0} (holds : T → ℕ → Type 0) (b : Bench T) (h : History) → b.books.kept.replies ≡ [] → HasContents holds b h
+contents_of_none holds b h none = record {
+  in_force = subst (All (IsInForceFor h)) (sym none) (All-nil (IsInForceFor h));
+  held = subst (All (λ r. OfGoods (holds b.trade) r.entry.deed)) (sym none) (All-nil (λ r. OfGoods (holds b.trade) r.entry.deed));
+}
