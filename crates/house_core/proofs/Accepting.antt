@@ -1,6 +1,9 @@
 -- What comes of a request, from the answer to it.
-use Rattle.std.proofs.Common.{◌≡◌, ℕ, false, List, [], ◌∷◌, ◌++◌, length, Option, Some, None, Ok, Err, refl, sym, ap, ap₂, subst, ◌∙◌, arith}
-use Rattle.std.specs.Prelude.{option_map}
+use Rattle.std.proofs.Common.{◌≡◌, ℕ, Bool, true, false, cond, List, [], ◌∷◌, ◌++◌, length, Option, Some, None, Ok, Err, refl, sym, ap, ap₂, subst, ◌∙◌, arith, find}
+use Rattle.std.specs.Prelude.{◌&&◌, ◌||◌, ◌==◌, option_map, IsTrue, IfOk, IfErr}
+use Rattle.std.specs.List.{list_any}
+use Rattle.std.proofs.lemmas.Bool.{eq-eqb}
+use Rattle.std.proofs.lemmas.List.Folds.{list_any-append}
 use Rattle.std.specs.Borrow.{Bor}
 use Rattle.scrip_form.specs.Identities.{numbered}
 use Rattle.change_issue.specs.Registers.{count_in}
@@ -13,7 +16,8 @@ use Rattle.mc_records.specs.declared.refusal.Refusal.TheVariants.{NoScrip, BadSc
 use Rattle.mc_records.specs.Entry.{Entry, Site, AddTerms, Goods, Accept, Mint, Account, Deposit, Withdraw, Draw, Licence, Stock, Got, Pend, Done, Refused, payload}
 use Rattle.mc_records.specs.Requests.{Asked, seen}
 use Rattle.kept_replies.specs.declared.deed.KeptEntry.{KeptEntry}
-use Rattle.kept_replies.specs.Kept.{found}
+use Rattle.kept_replies.specs.Requests.{is_same_request}
+use Rattle.kept_replies.specs.Kept.{KeptReply, KeptView, found, has_number, is_in_time}
 use Rattle.ledger_model.specs.Histories.{History}
 use Rattle.ledger_model.specs.Answer as answers
 use Rattle.ledger_model.specs.Answer.{Answer, answer, answered}
@@ -24,10 +28,11 @@ use Rattle.house_core.specs.declared.verdict.Stopped.{Stopped}
 use Rattle.house_core.specs.declared.verdict.Stopped.TheVariants as stops
 use Rattle.house_core.specs.declared.verdict.BenchFault.TheVariants as faults
 use Rattle.house_core.specs.Learning.{MayLearn}
+use Rattle.house_core.specs.Trade.{BringsFor}
 use Rattle.house_core.specs.Books.{BooksView, HasChange, GoesOn, IsEntered, IsAsBefore, series_now}
 use Rattle.house_core.specs.Stands.{Stands, has_ended, scrip_request}
-use Rattle.house_core.specs.Verdicts.{accept_entry, stop_of, IsReady}
-use Rattle.house_core.specs.Bench.{Holds, Accepts, house_time, limits_of, stopped_with}
+use Rattle.house_core.specs.Verdicts.{accept_entry, stop_of, IsReady, RepeatsKept, StopIsOfSite}
+use Rattle.house_core.specs.Bench.{Holds, Accepts, KeepsReply, FaultIsOfSite, house_time, limits_of, stopped_with}
 use Rattle.house_core.proofs.Entered.{stands_entered}
 
 -- ---- refusals and repeats
@@ -52,6 +57,45 @@ pub makes_none : {T : Type 0} (stands : T → History → Type 0) (site : T → 
     → answered (Err (stop_of s)) ≡ answer h (house_time b) (limits_of b) q → Accepts stands site b h (answer h (house_time b) (limits_of b) q) (stopped_with s)
 makes_none stands site b h q (stops.Refused f) st e = subst (λ (a : Answer). Accepts stands site b h a (Err (faults.Refused f))) e (refl, st)
 makes_none stands site b h q (stops.Again n) st e = subst (λ (a : Answer). Accepts stands site b h a (Ok n)) e (refl, st)
+
+-- ---- replies that are kept
+
+or_last : (a b : Bool) → b ≡ true → (a || b) ≡ true
+or_last true b is = refl
+or_last false b is = is
+
+-- the number of a reply that was found is kept
+pub found_number : (kept : KeptView) (t : ℕ) (q : Asked) (n : ℕ) → Some n ≡ option_map (λ (e : KeptEntry). e.number) (found kept t q) → IsTrue (has_number kept.replies n)
+found_number kept t q n e = among kept.replies e
+  where
+    number : Option KeptReply → Option ℕ
+    number o = option_map (λ (x : KeptEntry). x.number) (option_map (λ (r : KeptReply). r.entry) o)
+
+    asks : KeptReply → Bool
+    asks r = is_same_request r.asked q && is_in_time kept.keep t r
+
+    among : (rs : List KeptReply) → Some n ≡ number (find asks rs) → list_any (λ r. r.entry.number == n) rs ≡ true
+    among [] f = absurd cc
+    among (r ∷ rs) f = go (asks r) (among rs) f
+      where
+        go : (b : Bool) → (Some n ≡ number (find asks rs) → list_any (λ x. x.entry.number == n) rs ≡ true) → Some n ≡ number (cond b (Some r) (find asks rs))
+            → ((r.entry.number == n) || list_any (λ x. x.entry.number == n) rs) ≡ true
+        go true more g = let is : r.entry.number ≡ n = cc in rw (eq-eqb r.entry.number n is) refl
+        go false more g = or_last (r.entry.number == n) (list_any (λ x. x.entry.number == n) rs) (more g)
+
+-- the number of the last reply is kept
+pub last_number : (rs : List KeptReply) (r : KeptReply) (n : ℕ) → r.entry.number ≡ n → IsTrue (has_number (rs ++ r ∷ []) n)
+last_number rs r n is =
+    let one : list_any (λ (x : KeptReply). x.entry.number == n) (r ∷ []) ≡ true = rw (eq-eqb r.entry.number n is) refl in
+    list_any-append (λ (x : KeptReply). x.entry.number == n) rs (r ∷ []) ∙ or_last (has_number rs n) _ one
+
+pub stopped_kept : {T : Type 0} (b : Bench T) (s : Stopped) → RepeatsKept b.books s → IfOk (stopped_with s) (KeepsReply b)
+stopped_kept b (stops.Refused f) is = tt
+stopped_kept b (stops.Again n) is = is
+
+pub stopped_site : (s : Stopped) → StopIsOfSite s → IfErr (stopped_with s) FaultIsOfSite
+stopped_site (stops.Refused f) is = is
+stopped_site (stops.Again n) is = tt
 
 -- ---- room that was made
 
@@ -108,12 +152,12 @@ may_learn {b = b} {h = h} st kind q text a takes =
     record { counted = sym st.counted; in_order = may.in_order; by_house = may.allowed }
 
 pub stands_taken : {old mid new : BooksView} {h : History} → Stands old h → IsAsBefore old mid → (q : Asked) (c : Certified) (a : Acceptance) → scrip_of c.text ≡ Ok (c.piece, c.cert)
-    → IsReady old c q.target a → answer h old.time old.limits q ≡ answers.Take (accept_entry old.time c.text q.target a)
+    → IsReady old c q.target a → BringsFor h q.target a.deed → answer h old.time old.limits q ≡ answers.Take (accept_entry old.time c.text q.target a)
     → IsEntered mid new (scrip_request c.text q.target q.sign) c.piece a → Stands new (h ++ accept_entry old.time c.text q.target a ∷ [])
-stands_taken {old = old} {mid = mid} {new = new} {h = h} st before q c a read ready takes is =
+stands_taken {old = old} {mid = mid} {new = new} {h = h} st before q c a read ready brings takes is =
     let later : answer h mid.time mid.limits q ≡ answers.Take (accept_entry mid.time c.text q.target a) = rw (before.time, before.limits) takes in
     subst (λ (t : ℕ). Stands new (h ++ accept_entry t c.text q.target a ∷ [])) before.time
-    (stands_entered (stands_as_before st before) q c a read (ready_as_before before c q.target a ready) later is)
+    (stands_entered (stands_as_before st before) q c a read (ready_as_before before c q.target a ready) brings later is)
 
 -- ---- an entry that accepts nothing
 

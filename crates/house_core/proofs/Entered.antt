@@ -35,6 +35,7 @@ use Rattle.ledger_model.proofs.SerialLaws.{own_out_snoc, minted_snoc, count-appe
 use Rattle.ledger_model.proofs.FollowLaws.{same_request, taken_lawful, size_snoc}
 use Rattle.house_core.specs.declared.verdict.Acceptance.{Acceptance}
 use Rattle.house_core.specs.Views.{entry_deed}
+use Rattle.house_core.specs.Trade.{BringsFor}
 use Rattle.house_core.specs.Books.{BooksView, HasChange, IsEntered, series_now, kept_entry, at_series, change_count, change_worth}
 use Rattle.house_core.specs.Stands.{Stands, IsReply, has_ended, scrip_request, of_series}
 use Rattle.house_core.specs.Verdicts.{accept_entry, IsReady}
@@ -288,9 +289,9 @@ again_more {old = old} {new = new} {h = h} st q c a same is t text target sign l
     ∙ kept
 
 pub stands_entered : {old new : BooksView} {h : History} → Stands old h → (q : Asked) (c : Certified) (a : Acceptance) → scrip_of c.text ≡ Ok (c.piece, c.cert)
-    → IsReady old c q.target a → answer h old.time old.limits q ≡ Take (accept_entry old.time c.text q.target a)
+    → IsReady old c q.target a → BringsFor h q.target a.deed → answer h old.time old.limits q ≡ Take (accept_entry old.time c.text q.target a)
     → IsEntered old new (scrip_request c.text q.target q.sign) c.piece a → Stands new (h ++ accept_entry old.time c.text q.target a ∷ [])
-stands_entered {old = old} {new = new} {h = h} st q c a read ready takes is =
+stands_entered {old = old} {new = new} {h = h} st q c a read ready brings takes is =
     let e = accept_entry old.time c.text q.target a in
     let taken = is_taken h old.time old.limits q c a read takes in
     let same = same_house old.limits h e st.lawful in
@@ -315,7 +316,7 @@ stands_entered {old = old} {new = new} {h = h} st q c a read ready takes is =
           ∙ again_more st q c a taken.sign is t text target sign (omega (arith, later, is.time));
       replies = subst (All (IsReply (h ++ e ∷ []))) (sym is.replies)
           (All-push (IsReply (h ++ e ∷ [])) old.kept.replies (record { asked = scrip_request c.text q.target q.sign; entry = kept_entry old c.piece a })
-          (All-weaker (IsReply h) (IsReply (h ++ e ∷ [])) (λ r. reply_kept h e r) old.kept.replies st.replies) (reply_new st q c a taken.piece ready is.short most));
+          (All-weaker (IsReply h) (IsReply (h ++ e ∷ [])) (λ r. reply_kept h e r) old.kept.replies st.replies) (reply_new st q c a taken.piece ready is.short most brings));
       issued = λ s. own_count_snoc h old c.text q.target a s ∙ ap₂ (λ (m n : ℕ). m + n) (st.issued s) (change_counted h old c.text q.target c.piece a s most taken.piece ready.change) ∙ sym (is.issued s);
       most = is.most ∙ st.most ∙ ap (λ (l : Limits). l.series) (sym is.limits);
       redeemed = λ s. ap (λ (ps : List Scrip). values (of_series s ps)) accepts ∙ values_more s (accepted h) (c.piece ∷ [])

@@ -7,7 +7,7 @@ use Rattle.mc_records.specs.Limits.{AreInRange}
 use Rattle.mc_records.specs.Entry.{House, HouseFits, SiteFits, Entry, Site, AddTerms, Goods, Accept, Mint, Account, Deposit, Withdraw, Draw, Licence, Stock, Got, Pend, Done, Refused}
 use Rattle.ledger_model.specs.Houses.{site_kind, terms_by}
 use Rattle.ledger_model.specs.Lawful.{MayFollow}
-use Rattle.house_core.specs.Learning.{MayLearn}
+use Rattle.house_core.specs.Learning.{MayLearn, GoodsFit}
 use Rattle.house_core.specs.Books.{BooksView}
 use Rattle.house_core.specs.Founding.{AreOf, FoundsHouse}
 use Rattle.std.proofs.lemmas.List.Elements.{All-nil}
@@ -96,3 +96,8 @@ learns_site limits kind (Refused m n refusal) fits may same = absurd fits
 pub none_kept : (b : BooksView) (limits : Limits) (e : Entry) → AreOf b limits e → b.kept.replies ≡ []
 none_kept b limits (Site m kind name (Some h)) is = is.replies
 none_kept b limits e is = absurd is
+
+-- it puts no goods on sale
+pub founds_fit : (e : Entry) → FoundsHouse e → GoodsFit e
+founds_fit (Goods m target price k contents) founds = absurd founds
+founds_fit _ founds = tt

@@ -9,3 +9,15 @@ pub mod Accepting
 pub mod Founded
 pub mod Noted
 pub mod Contents
+pub mod WentLemmas
+pub mod LinkCalls
+pub mod ServingLemmas
+pub mod TurnLemmas
+pub mod SendLemmas
+pub mod Refused
+pub mod FirstReply
+pub mod Said
+pub mod ItemLemmas
+pub mod TurnsLemmas
+pub mod LinksLemmas
+pub mod ReplyingLemmas

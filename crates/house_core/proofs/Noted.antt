@@ -11,7 +11,7 @@ use Rattle.scrip_form.specs.Identities.{issuer_of, epoch_of, series_of, numbered
 use Rattle.scrip_form.specs.Issuing.{Issuing, series_at, series_end}
 use Rattle.scrip_form.specs.Scrip.{Scrip}
 use Rattle.mc_records.specs.declared.limits.Limits.{Limits}
-use Rattle.mc_records.specs.Entry.{House, Entry, Site, AddTerms, Goods, Accept, Mint, Account, Deposit, Withdraw, Draw, Licence, Stock, Got, Pend, Done, Refused, moment_of, payload}
+use Rattle.mc_records.specs.Entry.{House, Entry, Site, AddTerms, Goods, Accept, Mint, Account, Deposit, Withdraw, Draw, Licence, Stock, Got, Pend, Done, Refused, Fits, moment_of, payload}
 use Rattle.kept_replies.specs.declared.deed.KeptEntry.{KeptEntry}
 use Rattle.kept_replies.specs.Kept.{KeptView, found}
 use Rattle.change_issue.specs.Registers.{Register, count_in, next_in}
@@ -24,7 +24,7 @@ use Rattle.ledger_model.specs.Lawful.{MayFollow, IsAllowed}
 use Rattle.ledger_model.proofs.AcceptLaws.{accepted_snoc}
 use Rattle.ledger_model.proofs.SerialLaws.{own_out_snoc, minted_snoc, count-append, count-cons}
 use Rattle.ledger_model.proofs.FollowLaws.{longer_lawful, size_snoc}
-use Rattle.house_core.specs.Learning.{ByHouse, ByTrade}
+use Rattle.house_core.specs.Learning.{ByHouse, ByTrade, GoodsFit}
 use Rattle.house_core.specs.Noting.{IsCommand}
 use Rattle.house_core.specs.Spent.{SpentView, is_marked}
 use Rattle.house_core.specs.Books.{BooksView, IsNoted, GoesOn, series_now, at_series, minted_count}
@@ -189,6 +189,12 @@ halves passes limits kind h (Got m pieces) same is a = absurd a
 halves passes limits kind h (Pend m ask peer target scrip secret) same is a = absurd a
 halves passes limits kind h (Done m n price change got) same is a = absurd a
 halves passes limits kind h (Refused m n refusal) same is a = absurd a
+
+-- ---- the goods
+
+pub goods_fit : (e : Entry) → Fits e → GoodsFit e
+goods_fit (Goods m target price k contents) fits = (fits.kind, fits.contents)
+goods_fit _ fits = tt
 
 -- ---- the books
 

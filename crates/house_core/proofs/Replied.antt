@@ -22,9 +22,11 @@ use Rattle.ledger_model.proofs.ReplyLaws.{own_reply, reply_stays}
 use Rattle.house_core.specs.declared.verdict.Acceptance.{Acceptance}
 use Rattle.house_core.specs.Views.{entry_deed}
 use Rattle.house_core.specs.Books.{BooksView, HasChange, series_now, kept_entry, change_made, certified_change}
+use Rattle.house_core.specs.Trade.{BringsFor}
 use Rattle.house_core.specs.Stands.{Stands, IsReply, brought_then, scrip_request}
 use Rattle.house_core.specs.Verdicts.{accept_entry, IsReady}
 use Rattle.house_core.proofs.Tabled.{genuine_stands, terms_are_of}
+use Rattle.house_core.proofs.KeptLaws.{contents_stay}
 
 -- ---- a reply that was kept
 
@@ -35,6 +37,7 @@ reply_kept h e r is =
     let below : n ≤ length h = omega (arith, is.within) in
     let then' : brought_then (h ++ e ∷ []) r ≡ brought_then h r = ap (λ (f : History). brought f r.asked.target (entry_deed r.entry.deed)) (take-append-le n h (e ∷ []) below) in
     record {
+      brings = contents_stay h (e ∷ []) r.entry.deed (brought_then h r) is.brings ∙ ap (λ (x : Contents). Some x) (sym then');
       text = is.text;
       scrip = is.scrip;
       within = omega (arith, is.within, length-append h (e ∷ []));
@@ -89,8 +92,8 @@ changes_are {b = b} {h = h} st c target a piece short most has = go a.change has
 
 -- the reply to a new entry
 pub reply_new : {b : BooksView} {h : History} → Stands b h → (q : Asked) (c : Certified) (a : Acceptance) → piece_of c.text ≡ Some c.piece → IsReady b c q.target a → epoch b.own_terms b.time < 2 ^ 24 → b.own.most ≤ 2 ^ 32
-    → IsReply (h ++ accept_entry b.time c.text q.target a ∷ []) (record { asked = scrip_request c.text q.target q.sign; entry = kept_entry b c.piece a })
-reply_new {b = b} {h = h} st q c a piece ready short most =
+    → BringsFor h q.target a.deed → IsReply (h ++ accept_entry b.time c.text q.target a ∷ []) (record { asked = scrip_request c.text q.target q.sign; entry = kept_entry b c.piece a })
+reply_new {b = b} {h = h} st q c a piece ready short most brings =
     let e = accept_entry b.time c.text q.target a in
     let longer = h ++ e ∷ [] in
     let deed = entry_deed a.deed in
@@ -100,6 +103,7 @@ reply_new {b = b} {h = h} st q c a piece ready short most =
     let front : h ≡ take b.count longer = sym (ap (λ (n : ℕ). take n longer) (sym st.counted) ∙ take-append-le (length h) h (e ∷ []) (omega arith) ∙ take_all (length h) h (omega arith)) in
     let said : Option (List ℕ) → Option (List ℕ) → History → List ℕ = λ s o f. taken_reply s c.text q.target (brought f q.target deed) (taken_values b.time (brought f q.target deed) a.price o) in
     record {
+      brings = contents_stay h (e ∷ []) a.deed (brought h q.target deed) brings ∙ ap (λ (f : History). Some (brought f q.target deed)) front;
       text = c.text;
       scrip = refl;
       within = omega (arith, st.counted, length-append h (e ∷ []));

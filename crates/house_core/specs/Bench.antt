@@ -1,9 +1,9 @@
 -- A house without a journal, and its history.
-use Rattle.std.specs.Prelude.{◌≡◌, ℕ, ◌<◌, [], ◌∷◌, ◌++◌, length, All, Some, Result, Ok, Err}
+use Rattle.std.specs.Prelude.{◌≡◌, ℕ, ◌<◌, [], ◌∷◌, ◌++◌, length, All, IsTrue, Some, Result, Ok, Err}
 use Rattle.mc_base.specs.declared.no_memory.NoMemory.{NoMemory}
 use Rattle.mc_records.specs.Entry.{Entry}
 use Rattle.mc_records.specs.declared.limits.Limits.{Limits}
-use Rattle.kept_replies.specs.Kept.{KeptReply}
+use Rattle.kept_replies.specs.Kept.{KeptReply, has_number}
 use Rattle.ledger_model.specs.Histories.{History}
 use Rattle.ledger_model.specs.Houses.{site_kind}
 use Rattle.ledger_model.specs.Lines.{Refuse}
@@ -18,6 +18,8 @@ use Rattle.house_core.specs.declared.verdict.BenchFault.{BenchFault}
 use Rattle.house_core.specs.declared.verdict.BenchFault.TheVariants as faults
 use Rattle.house_core.specs.Stands.{Stands}
 use Rattle.house_core.specs.Trade.{OfGoods, Replaces}
+use Rattle.house_core.specs.Replying.{IsOfSite}
+use Rattle.house_core.specs.Session.{State}
 
 abbrev pub house_time : {T : Type 0} → Bench T → ℕ
 house_time b = b.books.time
@@ -39,6 +41,30 @@ pub record Holds {T : Type 0} (stands : T → History → Type 0) (site : T → 
 pub record HasContents {T : Type 0} (holds : T → ℕ → Type 0) (b : Bench T) (h : History) : Type 0 where
   pub in_force : All (IsInForceFor h) b.books.kept.replies
   pub held : All (λ r. OfGoods (holds b.trade) r.entry.deed) b.books.kept.replies
+
+-- the house stands for the history, and can reply as it says
+pub record IsHouse {T : Type 0} (stands : T → History → Type 0) (site : T → ℕ) (holds : T → ℕ → Type 0) (b : Bench T) (h : History) : Type 0 where
+  pub stands' : Holds stands site b h
+  pub contents : HasContents holds b h
+
+-- the reply of the entry of this number is kept
+abbrev pub KeepsReply : {T : Type 0} → Bench T → ℕ → Type 0
+KeepsReply b n = IsTrue (has_number b.books.kept.replies n)
+
+-- ---- from state to state
+
+abbrev pub state_of : {T : Type 0} → History → Bench T → State
+state_of h b = record { history = h; time = house_time b }
+
+-- the house stands for a history now, to whose state the relation leads
+pub record Came {T : Type 0} (stands : T → History → Type 0) (site : T → ℕ) (holds : T → ℕ → Type 0) (Leads : State → Type 0) (b : Bench T) : Type 0 where
+  pub history : History
+  pub house : IsHouse stands site holds b history
+  pub leads : Leads (state_of history b)
+
+-- from the state of each history that the house stood for, to that of one that it stands for now
+abbrev pub Went : {T : Type 0} → (T → History → Type 0) → (T → ℕ) → (T → ℕ → Type 0) → (State → State → Type 0) → Bench T → Bench T → Type 0
+Went stands site holds Leads a b = (h : History) → IsHouse stands site holds a h → Came stands site holds (Leads (state_of h a)) b
 
 -- ---- what comes of a request
 
@@ -62,6 +88,11 @@ Accepts stands site b h _ _ = ⊥
 abbrev pub KeepsContents : {T : Type 0} → (T → ℕ → Type 0) → Bench T → History → Answer → Result ℕ BenchFault → Type 0
 KeepsContents holds b h (Take e) (Ok n) = HasContents holds b (h ++ e ∷ [])
 KeepsContents holds b h _ _ = HasContents holds b h
+
+-- a refusal of a request is one that a site replies with
+abbrev pub FaultIsOfSite : BenchFault → Type 0
+FaultIsOfSite (faults.Refused f) = IsOfSite f
+FaultIsOfSite faults.NoMemory = Unit {0}
 
 -- what is answered to a request that makes no entry
 abbrev pub stopped_with : Stopped → Result ℕ BenchFault

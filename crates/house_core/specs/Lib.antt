@@ -7,4 +7,8 @@ pub mod Founding
 pub mod Noting
 pub mod Stands
 pub mod Verdicts
+pub mod Replying
+pub mod Session
 pub mod Bench
+pub mod Course
+pub mod Turns

@@ -18,6 +18,7 @@ use Rattle.ledger_model.specs.Lawful.{IsLawful}
 use Rattle.house_core.specs.Views.{entry_deed}
 use Rattle.house_core.specs.Books.{BooksView}
 use Rattle.house_core.specs.Spent.{is_marked}
+use Rattle.house_core.specs.Trade.{brought_by}
 
 -- Whether the series of an identity has ended at a time, by the terms of its issuer. Without terms it has
 -- not.
@@ -32,8 +33,10 @@ scrip_request text target sign = record { target = target; scrip = Some text; si
 abbrev pub brought_then : History → KeptReply → Contents
 brought_then h r = brought (take r.entry.number h) r.asked.target (entry_deed r.entry.deed)
 
--- The first reply to the entry is made of what is kept of it, and of what the entry brought.
+-- The first reply to the entry is made of what is kept of it, and of what the entry brought, which is
+-- what the kept deed brings.
 pub record IsReply (h : History) (r : KeptReply) : Type 0 where
+  pub brings : brought_by h r.entry.deed ≡ Some (brought_then h r)
   pub text : List ℕ
   pub scrip : r.asked.scrip ≡ Some text
   pub within : r.entry.number < length h

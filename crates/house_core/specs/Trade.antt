@@ -5,8 +5,9 @@ use Rattle.kept_replies.specs.declared.deed.Deed.TheVariants as kept
 use Rattle.mc_records.specs.Entry.{Entry, Goods}
 use Rattle.ledger_model.specs.Histories.{History}
 use Rattle.ledger_model.specs.Goods.{is_goods_of}
-use Rattle.ledger_model.specs.Replies.{Contents, no_contents}
+use Rattle.ledger_model.specs.Replies.{Contents, brought, no_contents}
 use Rattle.house_core.specs.declared.offer.DrawAsk.{DrawAsk}
+use Rattle.house_core.specs.Views.{entry_deed}
 
 -- ---- what is asked and brought
 
@@ -27,6 +28,10 @@ brought_by h (kept.Goods number) = option_and_then contents_in (slice_get h numb
 brought_by h (kept.Sale piece cert secret stock) = Some no_contents
 brought_by h (kept.Credit balance) = Some (record { kind = 1; bytes = decimal balance ++ codes "\n" })
 brought_by h (kept.Draw piece cert secret) = Some no_contents
+
+-- a kept deed brings what the entry's deed brings where this target is asked for
+abbrev pub BringsFor : History → List ℕ → Deed → Type 0
+BringsFor h target d = brought_by h d ≡ Some (brought h target (entry_deed d))
 
 -- ---- goods that are kept
 

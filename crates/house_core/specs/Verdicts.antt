@@ -1,8 +1,9 @@
 -- What a house says of a request, as the ledger's answer to it.
-use Rattle.std.specs.Prelude.{◌≡◌, ℕ, ◌+◌, ◌≤◌, List, length, Result, Ok, Err}
+use Rattle.std.specs.Prelude.{◌≡◌, ℕ, ◌+◌, ◌≤◌, List, length, IsTrue, Result, Ok, Err}
 use Rattle.scrip_form.specs.Scrip.{Certified}
 use Rattle.mc_records.specs.declared.refusal.Refusal.{Refusal}
 use Rattle.mc_records.specs.Entry.{Entry, Accept, payload}
+use Rattle.kept_replies.specs.Kept.{has_number}
 use Rattle.ledger_model.specs.Lines.{Stop, Refuse, Repeat}
 use Rattle.ledger_model.specs.Stages.{genuine_by}
 use Rattle.ledger_model.specs.Answer as answers
@@ -13,6 +14,7 @@ use Rattle.house_core.specs.declared.verdict.Stopped.TheVariants as stops
 use Rattle.house_core.specs.declared.verdict.Acceptance.{Acceptance}
 use Rattle.house_core.specs.Views.{entry_deed}
 use Rattle.house_core.specs.Books.{BooksView, HasChange}
+use Rattle.house_core.specs.Replying.{IsOfSite}
 
 -- ---- verdicts
 
@@ -49,6 +51,16 @@ pub record IsReady (b : BooksView) (c : Certified) (target : List ℕ) (a : Acce
 abbrev pub stop_of : Stopped → Stop
 stop_of (stops.Refused refusal) = Refuse refusal
 stop_of (stops.Again number) = Repeat number
+
+-- the reply of an entry that a request repeats is kept
+abbrev pub RepeatsKept : BooksView → Stopped → Type 0
+RepeatsKept b (stops.Refused refusal) = Unit {0}
+RepeatsKept b (stops.Again number) = IsTrue (has_number b.kept.replies number)
+
+-- a refusal is one that a site replies with
+abbrev pub StopIsOfSite : Stopped → Type 0
+StopIsOfSite (stops.Refused refusal) = IsOfSite refusal
+StopIsOfSite (stops.Again number) = Unit {0}
 
 -- what was weighed, as a table that ran through or stopped
 abbrev pub weighed : (Acceptance → Entry) → Result Acceptance Stopped → Result Entry Stop

@@ -1,4 +1,4 @@
-ghost use Rattle.std.specs.Prelude.{◌≡◌, ℕ, [], ◌∷◌, ◌++◌, MatchResult, max, None, Some, Ok, IfOk};
+ghost use Rattle.std.specs.Prelude.{◌≡◌, ℕ, [], ◌∷◌, ◌++◌, MatchResult, max, None, Some, Ok, IfOk, IfErr};
 ghost use Rattle.mc_records.specs.Limits.{AreInRange};
 ghost use Rattle.mc_records.specs.Entry.{Fits, moment_of};
 ghost use Rattle.house_core.specs.Noting.{IsCommand};
@@ -12,10 +12,11 @@ ghost use Rattle.mc_records.specs.Views.{deed_of, entry};
 ghost use Rattle.kept_replies.specs.Kept.{found};
 ghost use Rattle.ledger_model.specs.Histories.{History};
 ghost use Rattle.ledger_model.specs.Answer as model;
-ghost use Rattle.house_core.specs.Bench.{Holds, HasContents, Takes, Accepts, KeepsContents, Enters, stopped_with, house_time, limits_of};
+ghost use Rattle.house_core.specs.Bench.{Holds, HasContents, KeepsReply, Takes, Accepts, KeepsContents, FaultIsOfSite, Enters, stopped_with, house_time, limits_of};
 ghost use Rattle.house_core.specs.Views.{entry_deed};
 ghost use Rattle.house_core.specs.Stands.{scrip_request};
-ghost use Rattle.house_core.specs.Trade.{OfGoods, NamesInForce};
+ghost use Rattle.house_core.specs.Trade.{OfGoods, NamesInForce, BringsFor};
+ghost use Rattle.house_core.specs.Replying.{IsOfSite};
 ghost use Rattle.house_core.specs.Verdicts.{judged, judged_of, accept_entry, IsReady};
 
 use crate::books::Books;
@@ -34,8 +35,8 @@ use std::alloc::Global;
 /// A house without a journal: its books and the trade that it carries.
 #[derive(Drop)]
 pub struct Bench<T> {
-    books: Books,
-    trade: T,
+    pub(crate) books: Books,
+    pub(crate) trade: T,
 }
 
 impl<T: Trade> Bench<T> {
@@ -76,6 +77,11 @@ impl<T: Trade> Bench<T> {
         &self.trade
     }
 
+    /// Where its memory comes from.
+    pub(crate) fn alloc(&self) -> Global {
+        self.books.alloc()
+    }
+
     /// What the house says of a request at the house time: the ledger's answer without its entry. It
     /// takes no memory.
     #[tactic(auto, unfolding(ledger_model::specs::Answer::answer))]
@@ -113,7 +119,10 @@ impl<T: Trade> Bench<T> {
     }
     /// Accepts a request at the house time: enters its entry, and answers the entry's number, from 0. Where
     /// the request comes again it enters nothing, and answers the number of the entry that it repeats.
+    /// The reply of the entry is kept.
     pub fn accept(&mut self, q: &Request<'_>) -> Result<u64, BenchFault>
+        ensures kept { IfOk result (KeepsReply self.new) }
+        ensures site { IfErr result FaultIsOfSite }
         ensures time { house_time self.new ≡ house_time self.old }
         ensures limits { limits_of self.new ≡ limits_of self.old }
         ensures exact { (h : History) → Holds T.stands T.site self.old h
@@ -188,6 +197,8 @@ impl<T: Trade> Bench<T> {
         requires new { found self.old.books.kept self.old.books.time (scrip_request scrip.now.text q.now.target.now (seen q.now.sign)) ≡ None }
         requires held { OfGoods (T.holds self.old.trade) acceptance.now.deed }
         requires ready { IsReady self.old.books scrip.now q.now.target.now acceptance.now }
+        requires brings { (h : History) → T.stands self.old.trade h → site_kind h ≡ Some (T.site self.old.trade) → BringsFor h q.now.target.now acceptance.now.deed }
+        ensures kept { IfOk result (KeepsReply self.new) }
         ensures time { house_time self.new ≡ house_time self.old }
         ensures limits { limits_of self.new ≡ limits_of self.old }
         ensures exact { (h : History) → Holds T.stands T.site self.old h
@@ -228,7 +239,8 @@ impl<T: Trade> Bench<T> {
 }
 
 fn bad_scrip(fault: FormFault) -> Refusal
-    ensures { result ≡ BadScrip fault.place }
+    ensures same { result ≡ BadScrip fault.place }
+    ensures site { IsOfSite result }
 {
     Refusal::BadScrip(fault.place as u64)
 }

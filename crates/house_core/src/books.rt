@@ -1,4 +1,4 @@
-ghost use Rattle.std.specs.Prelude.{◌≡◌, ◌+◌, ◌-◌, ◌≤◌, ◌<◌, Some, None, option_map, filter, max, All, IfSome, IsNone, ◌↔◌, ◌^◌, [], IsTrue, IfOk, OnOk};
+ghost use Rattle.std.specs.Prelude.{◌≡◌, ◌+◌, ◌-◌, ◌≤◌, ◌<◌, Some, None, option_map, filter, max, All, IfSome, IsNone, ◌↔◌, ◌^◌, [], IsTrue, IsFalse, IfOk, OnOk};
 ghost use Rattle.scrip_form.specs.Issuing.{epoch};
 ghost use Rattle.mc_records.specs.Limits.{AreInRange};
 ghost use Rattle.mc_records.specs.Views.{house_of, entry};
@@ -6,7 +6,7 @@ ghost use Rattle.mc_records.specs.Entry.{Fits};
 ghost use Rattle.house_core.specs.Noting.{IsNoSite};
 ghost use Rattle.house_core.specs.Founding.{AreFounded};
 ghost use Rattle.mc_records.specs.Requests.{asked_of};
-ghost use Rattle.kept_replies.specs.Kept.{found, is_in_time};
+ghost use Rattle.kept_replies.specs.Kept.{found, has_number, is_in_time, reply_of, with_number};
 ghost use Rattle.house_core.specs.Spent.{is_marked};
 ghost use Rattle.house_core.specs.Books.{AreSound, HasRoom, HasChange, HasRoomFor, GoesOn, IsEntered, IsNoted, IsAsBefore, series_now};
 
@@ -160,6 +160,14 @@ impl Books {
             Some(entry) => Some(number_of(entry)),
             None => None,
         }
+    }
+
+    /// The request and what is kept of the entry of this number.
+    pub(crate) fn kept(&self, number: u64) -> Option<(Request<'_>, &KeptEntry)>
+        ensures reply { option_map reply_of result ≡ with_number self.now.kept.replies number }
+        ensures none { IsNone result ↔ IsFalse (has_number self.now.kept.replies number) }
+    {
+        self.kept.entry(number)
     }
 
     /// The least number of an entry whose reply is kept.

@@ -6,6 +6,7 @@
 //! reserve. No other call of this crate does.
 #![tactic(auto)]
 
+mod answering;
 mod bench;
 mod body;
 mod books;
@@ -14,19 +15,26 @@ mod law;
 mod lengths;
 mod money;
 mod offer;
+mod reply;
+mod serving;
+mod signing;
 mod spent;
 mod stages;
 #[cfg(test)]
 mod tests;
 mod trade;
+mod turn;
 mod verdict;
 mod weigh;
+mod whole;
 
 pub use bench::Bench;
 pub use body::body_of_deed;
 pub use books::Books;
 pub use law::{contents_stay, entries_follow_in_parts, goods_in_force_are_kept};
 pub use offer::{Body, DrawAsk, Offer, SiteKind, Unlawful};
+pub use serving::{BenchEnd, Clock, serve_bench, serve_bench_by};
 pub use spent::Spent;
 pub use trade::Trade;
 pub use verdict::{BenchFault, EnterFault, Verdict};
+pub use whole::reply_to_link;

@@ -1,6 +1,6 @@
 //! The stages of the answer to a scrip request, each over what it asks.
 
-ghost use Rattle.std.specs.Prelude.{◌≡◌, ◌+◌, ◌<◌, ◌≤◌, ◌==◌, ℕ, nat_lt, find, length, option_map, IfOk, IfSome, MatchOption, OnOk};
+ghost use Rattle.std.specs.Prelude.{◌≡◌, ◌+◌, ◌<◌, ◌≤◌, ◌==◌, ℕ, nat_lt, find, length, option_map, IfOk, IfErr, IfSome, MatchOption, OnOk};
 ghost use Rattle.scrip_form.specs.Issuing.{series_at};
 ghost use Rattle.mc_records.specs.Entry.{IsKey};
 ghost use Rattle.mc_records.specs.Entry as entries;
@@ -9,6 +9,7 @@ ghost use Rattle.change_issue.specs.Registers.{count_in, next_in};
 ghost use Rattle.ledger_model.specs.Houses.{terms_by};
 ghost use Rattle.ledger_model.specs.Stages.{genuine_by, spendable_by, next_by, needed, fitted_by};
 ghost use Rattle.ledger_model.specs.Slow.{told};
+ghost use Rattle.house_core.specs.Replying.{IsOfSite};
 
 use change_issue::Issuer;
 use mc_base::Moment;
@@ -30,7 +31,8 @@ pub(crate) fn genuine(
     terms: &[Terms],
     scrip: &ScripRef<'_>,
 ) -> Result<[u8; 16], Refusal>
-    ensures { told (λ s. s) result ≡ genuine_by name.now (λ series. 1) terms.now scrip.now }
+    ensures lines { told (λ s. s) result ≡ genuine_by name.now (λ series. 1) terms.now scrip.now }
+    ensures site { IfErr result IsOfSite }
 {
     let piece = scrip.piece();
     if piece.vendor().bytes() != name {
@@ -67,6 +69,7 @@ pub(crate) fn spendable(
 ) -> Result<Option<[u8; 16]>, Refusal>
     ensures lines { told (λ s. s) result ≡ spendable_by clear spent time secret.now q.now.target.now (seen q.now.sign) scrip.now }
     ensures sign { IfOk result (λ s. IfSome s IsKey) }
+    ensures site { IfErr result IsOfSite }
 {
     let piece = scrip.piece();
     if piece.expires() <= time.seconds() {
@@ -99,6 +102,7 @@ pub(crate) fn change(
     value: u64,
 ) -> Result<Option<Id>, Refusal>
     ensures lines { told (λ id. id) result ≡ needed (nat_lt price value) (next_by own.now.most (series_at own.now.terms time) (count_in own.now (series_at own.now.terms time))) }
+    ensures site { IfErr result IsOfSite }
     ensures next { IfOk result (λ c. MatchOption c (value ≤ price) (λ id. (price < value) × (count_in own.now (series_at own.now.terms time) < own.now.most) × (id ≡ next_in own.now (series_at own.now.terms time)))) }
 {
     if value <= price {
@@ -114,6 +118,7 @@ pub(crate) fn change(
 pub(crate) fn fitted(limit: u64, size: u64, payload: u64) -> Result<(), Refusal>
     ensures lines { (e : entries.Entry) → payload ≡ length (entries.payload e) → told (λ u. e) result ≡ fitted_by limit size 0 e }
     ensures room { OnOk result (size + payload + 5 ≤ limit) }
+    ensures site { IfErr result IsOfSite }
 {
     if limit < size || limit - size < 5 || limit - size - 5 < payload {
         return Err(Refusal::JournalFull(size, payload));

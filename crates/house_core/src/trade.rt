@@ -1,4 +1,4 @@
-ghost use Rattle.std.specs.Prelude.{◌≡◌, ℕ, ◌↔◌, [], ◌∷◌, ◌++◌, Some, IfOk, IsOk, OnOk, OnErr};
+ghost use Rattle.std.specs.Prelude.{◌≡◌, ℕ, ◌↔◌, [], ◌∷◌, ◌++◌, Some, IfOk, IfErr, IsOk, OnOk, OnErr};
 ghost use Rattle.mc_records.specs.declared.limits.Limits.{Limits as Bounds};
 ghost use Rattle.mc_records.specs.Entry.{Entry};
 ghost use Rattle.mc_records.specs.Views.{entry};
@@ -9,7 +9,8 @@ ghost use Rattle.ledger_model.specs.Replies.{brought, price_asked};
 ghost use Rattle.ledger_model.specs.Slow.{told};
 ghost use Rattle.house_core.specs.Views.{kind_number, entry_deed, offer_of, contents_of};
 ghost use Rattle.house_core.specs.Trade.{draw_asked, brought_by, OfGoods, IsInForce, IsKeptFrom};
-ghost use Rattle.house_core.specs.Learning.{ByTrade, MayLearn, IsGoods};
+ghost use Rattle.house_core.specs.Learning.{ByTrade, GoodsFit, MayLearn, IsGoods};
+ghost use Rattle.house_core.specs.Replying.{AreContents, IsOfSite};
 
 use crate::offer::{Body, DrawAsk, Offer, SiteKind, Unlawful};
 use kept_replies::Deed;
@@ -54,6 +55,7 @@ pub trait Trade: Drop {
         // The price and the deed of the entry, or the refusal, are the ledger's.
         ensures offer { (h : History) → stands self.now h → site_kind h ≡ Some (site self.now)
             → told offer_of result ≡ answers.offer h time limits target.now value }
+        ensures site { IfErr result IsOfSite }
         // What the kept deed names is what the entry's deed brings, and what is in force.
         ensures brings { (h : History) → stands self.now h → site_kind h ≡ Some (site self.now)
             → IfOk result (λ o. brought_by h o.deed ≡ Some (brought h target.now (entry_deed o.deed))) }
@@ -74,7 +76,8 @@ pub trait Trade: Drop {
     /// Learns the next entry, of which the house has told its half of what makes it lawful. `Err` comes
     /// exactly where the trade's half does not hold, and leaves the trade standing for what it stood for.
     fn learn(&mut self, number: u64, r: &Record<'_>) -> Result<(), Unlawful>
-        requires { has_room self.old (entry r.now) }
+        requires room { has_room self.old (entry r.now) }
+        requires fits { GoodsFit (entry r.now) }
         ensures site { site self.new ≡ site self.old }
         ensures held { (n : ℕ) → holds self.old n → holds self.new n }
         ensures learned { OnOk result ((limits : Bounds) (h : History) → stands self.old h
@@ -88,7 +91,8 @@ pub trait Trade: Drop {
     /// What a reply with this deed brings, where the trade holds the goods that the deed names. `room` is
     /// for contents that are made of the deed itself.
     fn body<'a>(&'a self, deed: &Deed, room: &'a mut [u8; 512]) -> Body<'a>
-        ensures { (h : History) → stands self.now h → site_kind h ≡ Some (site self.now)
+        ensures range { AreContents result }
+        ensures brought { (h : History) → stands self.now h → site_kind h ≡ Some (site self.now)
             → OfGoods (holds self.now) deed.now → brought_by h deed.now ≡ Some (contents_of result) };
 
     /// Lets contents go that no reply of an entry from this number on brings, and that are not in force.

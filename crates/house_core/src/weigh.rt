@@ -1,6 +1,6 @@
 //! The answer to a request with a scrip text that was read, a stage after the other.
 
-ghost use Rattle.std.specs.Prelude.{◌≡◌, Some, None, Ok, IfSome, IfOk, OnOk};
+ghost use Rattle.std.specs.Prelude.{◌≡◌, Some, None, Ok, IfSome, IfOk, IfErr, OnOk};
 ghost use Rattle.ledger_model.specs.Stages.{genuine_by};
 ghost use Rattle.mc_records.specs.Entry.{IsKey};
 ghost use Rattle.mc_records.specs.Requests.{asked_of, seen};
@@ -9,9 +9,10 @@ ghost use Rattle.ledger_model.specs.Histories.{History};
 ghost use Rattle.ledger_model.specs.Houses.{site_kind};
 ghost use Rattle.ledger_model.specs.Answer as model;
 ghost use Rattle.ledger_model.specs.Slow.{told, after_read, after_repeat};
-ghost use Rattle.house_core.specs.Trade.{OfGoods, NamesInForce};
+ghost use Rattle.house_core.specs.Trade.{OfGoods, NamesInForce, BringsFor};
 ghost use Rattle.house_core.specs.Stands.{Stands, scrip_request};
-ghost use Rattle.house_core.specs.Verdicts.{accept_entry, weighed, IsReady};
+ghost use Rattle.house_core.specs.Replying.{IsOfSite};
+ghost use Rattle.house_core.specs.Verdicts.{accept_entry, weighed, IsReady, RepeatsKept, StopIsOfSite};
 
 use crate::books::Books;
 use crate::lengths::accept_len;
@@ -47,6 +48,8 @@ fn taken<T: Trade>(
     ensures ready { IfOk result (IsReady books.now scrip.now q.now.target.now) }
     ensures held { IfOk result (λ a. OfGoods (T.holds trade.now) a.deed) }
     ensures in_force { (h : History) → T.stands trade.now h → site_kind h ≡ Some (T.site trade.now) → IfOk result (λ a. NamesInForce h a.deed) }
+    ensures brings { (h : History) → T.stands trade.now h → site_kind h ≡ Some (T.site trade.now) → IfOk result (λ a. BringsFor h q.now.target.now a.deed) }
+    ensures site { IfErr result IsOfSite }
     ensures lines { (h : History) → Stands books.now h → T.stands trade.now h → site_kind h ≡ Some (T.site trade.now)
         → told (accept_entry books.now.time scrip.now.text q.now.target.now) result ≡ model.taken h books.now.time books.now.limits (asked_of q.now) scrip.now sign.now }
 {
@@ -83,6 +86,8 @@ fn weigh_new<T: Trade>(
     ensures ready { IfOk result (IsReady books.now scrip.now q.now.target.now) }
     ensures held { IfOk result (λ a. OfGoods (T.holds trade.now) a.deed) }
     ensures in_force { (h : History) → T.stands trade.now h → site_kind h ≡ Some (T.site trade.now) → IfOk result (λ a. NamesInForce h a.deed) }
+    ensures brings { (h : History) → T.stands trade.now h → site_kind h ≡ Some (T.site trade.now) → IfOk result (λ a. BringsFor h q.now.target.now a.deed) }
+    ensures site { IfErr result IsOfSite }
     ensures lines { (h : History) → Stands books.now h → T.stands trade.now h → site_kind h ≡ Some (T.site trade.now)
         → told (accept_entry books.now.time scrip.now.text q.now.target.now) result ≡ after_repeat h books.now.time books.now.limits (asked_of q.now) scrip.now }
 {
@@ -109,6 +114,9 @@ pub(crate) fn weigh<T: Trade>(
     ensures ready { IfOk result (IsReady books.now scrip.now q.now.target.now) }
     ensures held { IfOk result (λ a. OfGoods (T.holds trade.now) a.deed) }
     ensures in_force { (h : History) → T.stands trade.now h → site_kind h ≡ Some (T.site trade.now) → IfOk result (λ a. NamesInForce h a.deed) }
+    ensures brings { (h : History) → T.stands trade.now h → site_kind h ≡ Some (T.site trade.now) → IfOk result (λ a. BringsFor h q.now.target.now a.deed) }
+    ensures site { IfErr result StopIsOfSite }
+    ensures again { IfErr result (RepeatsKept books.now) }
     ensures lines { (h : History) → Stands books.now h → T.stands trade.now h → site_kind h ≡ Some (T.site trade.now)
         → weighed (accept_entry books.now.time scrip.now.text q.now.target.now) result ≡ after_read h books.now.time books.now.limits (asked_of q.now) scrip.now }
 {

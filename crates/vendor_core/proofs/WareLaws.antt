@@ -13,8 +13,7 @@ use Rattle.ledger_model.specs.Histories.{History}
 use Rattle.ledger_model.specs.Goods.{is_goods_of, goods_in}
 use Rattle.house_core.specs.Trade.{Replaces, IsInForce, LiesBehind, IsKeptFrom}
 use Rattle.vendor_core.specs.declared.ware.Article.{Article}
-use Rattle.vendor_core.specs.declared.ware.Ware.{Ware}
-use Rattle.vendor_core.specs.Wares.{goods_entry, Sold, sold_by_entry, sold_by, is_on_sale, taken_off, may_be_brought, is_needed, IsReplacement, IsWareOf}
+use Rattle.vendor_core.specs.Wares.{WareView, new_ware, goods_entry, Sold, sold_by_entry, sold_by, is_on_sale, taken_off, may_be_brought, is_needed, IsReplacement, IsWareOf}
 use Rattle.vendor_core.specs.Shelf.{HasNumber}
 use Rattle.vendor_core.proofs.ListLemmas.{find_none_map, find_same_map, find_filter, any_map, any_agree, get_stays, get_end}
 use Rattle.vendor_core.proofs.GoodsLaws.{IsQuiet, bytes_same, bytes_eq_turned, goods_snoc}
@@ -101,7 +100,7 @@ replacement_comes h e moment n a within is put none = (
 -- ---- wares at one more entry
 
 -- a ware stays where the entry puts no goods at its target, or it was replaced before
-ware_stays : (h : History) (e : Entry) (w : Ware) → (w.replaced ≡ None → is_goods_of w.article.target.items e ≡ false) → IsWareOf h w → IsWareOf (h ++ e ∷ []) w
+ware_stays : (h : History) (e : Entry) (w : WareView) → (w.replaced ≡ None → is_goods_of w.article.target.items e ≡ false) → IsWareOf h w → IsWareOf (h ++ e ∷ []) w
 ware_stays h e w quiet of =
     let within : w.number < length h = slice_get_within h w.number (goods_entry of.moment w.article) of.entry in
     record {
@@ -110,7 +109,7 @@ ware_stays h e w quiet of =
       replaced = replacement_stays h e of.moment w.number w.article w.replaced within of.entry quiet of.replaced;
     }
 
-pub wares_quiet : (h : History) (e : Entry) (wares : List Ware) → IsQuiet e → All (IsWareOf h) wares → All (IsWareOf (h ++ e ∷ [])) wares
+pub wares_quiet : (h : History) (e : Entry) (wares : List WareView) → IsQuiet e → All (IsWareOf h) wares → All (IsWareOf (h ++ e ∷ [])) wares
 wares_quiet h e wares quiet all = All-weaker (IsWareOf h) (IsWareOf (h ++ e ∷ [])) (λ w of. ware_stays h e w (λ _. quiet w.article.target.items) of) wares all
 
 on_sale_is : (o : Option ℕ) (b : Bool) → (is_none o && b) ≡ true → (o ≡ None) × (b ≡ true)
@@ -121,7 +120,7 @@ off_sale_is : (o : Option ℕ) (b : Bool) → (is_none o && b) ≡ false → o �
 off_sale_is None b e none = e
 off_sale_is (Some n) b e none = absurd cc
 
-ware_taken_off : (h : History) (m price kind : ℕ) (target contents : List ℕ) (w : Ware) → IsWareOf h w → IsWareOf (h ++ Goods m target price kind contents ∷ []) (taken_off target (length h) w)
+ware_taken_off : (h : History) (m price kind : ℕ) (target contents : List ℕ) (w : WareView) → IsWareOf h w → IsWareOf (h ++ Goods m target price kind contents ∷ []) (taken_off target (length h) w)
 ware_taken_off h m price kind target contents w of = go (is_on_sale target w) refl
   where
     e : Entry
@@ -144,10 +143,6 @@ ware_taken_off h m price kind target contents w of = go (is_on_sale target w) re
         }
     go false is = ware_stays h (Goods m target price kind contents) w (λ none. turned ∙ off_sale_is w.replaced (bytes_eq w.article.target.items target) is none) of
 
--- the ware of a new entry
-abbrev pub new_ware : ℕ → Article → Ware
-new_ware number a = record { number = number; article = a; replaced = None }
-
 new_ware_is : (h : History) (moment : ℕ) (a : Article) → IsWareOf (h ++ goods_entry moment a ∷ []) (new_ware (length h) a)
 new_ware_is h moment a = record {
   moment = moment;
@@ -157,10 +152,10 @@ new_ware_is h moment a = record {
 }
 
 -- the wares after a Goods entry of this number
-abbrev pub wares_with : ℕ → Article → List Ware → List Ware
+abbrev pub wares_with : ℕ → Article → List WareView → List WareView
 wares_with number a wares = map (taken_off a.target.items number) wares ++ new_ware number a ∷ []
 
-pub wares_goods : (h : History) (moment : ℕ) (a : Article) (wares : List Ware) → All (IsWareOf h) wares → All (IsWareOf (h ++ goods_entry moment a ∷ [])) (wares_with (length h) a wares)
+pub wares_goods : (h : History) (moment : ℕ) (a : Article) (wares : List WareView) → All (IsWareOf h) wares → All (IsWareOf (h ++ goods_entry moment a ∷ [])) (wares_with (length h) a wares)
 wares_goods h moment a wares all =
     All-push (IsWareOf (h ++ goods_entry moment a ∷ [])) (map (taken_off a.target.items (length h)) wares) (new_ware (length h) a)
     (All-map (IsWareOf (h ++ goods_entry moment a ∷ [])) (taken_off a.target.items (length h)) wares
@@ -169,14 +164,14 @@ wares_goods h moment a wares all =
 
 -- ---- what is on sale
 
-off_here : (target : List ℕ) (number : ℕ) (w : Ware) → is_on_sale target (taken_off target number w) ≡ false
+off_here : (target : List ℕ) (number : ℕ) (w : WareView) → is_on_sale target (taken_off target number w) ≡ false
 off_here target number w = go (is_on_sale target w) refl
   where
     go : (b : Bool) → is_on_sale target w ≡ b → is_on_sale target (cond b (record w { replaced = Some number }) w) ≡ false
     go true is = refl
     go false is = is
 
-off_elsewhere : (target at : List ℕ) (number : ℕ) (w : Ware) → bytes_eq at target ≡ false → is_on_sale target (taken_off at number w) ≡ is_on_sale target w
+off_elsewhere : (target at : List ℕ) (number : ℕ) (w : WareView) → bytes_eq at target ≡ false → is_on_sale target (taken_off at number w) ≡ is_on_sale target w
 off_elsewhere target at number w other = go (is_on_sale at w) refl
   where
     go : (b : Bool) → is_on_sale at w ≡ b → is_on_sale target (cond b (record w { replaced = Some number }) w) ≡ is_on_sale target w
@@ -186,14 +181,14 @@ off_elsewhere target at number w other = go (is_on_sale at w) refl
         sym (and_right (is_none w.replaced) (bytes_eq w.article.target.items target) off)
     go false is = refl
 
-sold_same : (at : List ℕ) (number : ℕ) (w : Ware) → sold_by (taken_off at number w) ≡ sold_by w
+sold_same : (at : List ℕ) (number : ℕ) (w : WareView) → sold_by (taken_off at number w) ≡ sold_by w
 sold_same at number w = go (is_on_sale at w)
   where
     go : (b : Bool) → sold_by (cond b (record w { replaced = Some number }) w) ≡ sold_by w
     go true = refl
     go false = refl
 
-number_same : (at : List ℕ) (number : ℕ) (w : Ware) → (taken_off at number w).number ≡ w.number
+number_same : (at : List ℕ) (number : ℕ) (w : WareView) → (taken_off at number w).number ≡ w.number
 number_same at number w = go (is_on_sale at w)
   where
     go : (b : Bool) → (cond b (record w { replaced = Some number }) w).number ≡ w.number
@@ -201,20 +196,20 @@ number_same at number w = go (is_on_sale at w)
     go false = refl
 
 -- what a target sells, by the history and by the wares
-abbrev pub SellsAlike : History → List Ware → List ℕ → Type 0
+abbrev pub SellsAlike : History → List WareView → List ℕ → Type 0
 SellsAlike h wares target = option_map sold_by_entry (goods_in h target) ≡ option_map sold_by (find (is_on_sale target) wares)
 
-pub sells_quiet : (h : History) (e : Entry) (wares : List Ware) → IsQuiet e → (target : List ℕ) → SellsAlike h wares target → SellsAlike (h ++ e ∷ []) wares target
+pub sells_quiet : (h : History) (e : Entry) (wares : List WareView) → IsQuiet e → (target : List ℕ) → SellsAlike h wares target → SellsAlike (h ++ e ∷ []) wares target
 sells_quiet h e wares quiet target alike = ap (option_map sold_by_entry) (goods_snoc h e target ∙ ap (λ (b : Bool). cond b (Some e) (goods_in h target)) (quiet target)) ∙ alike
 
 or_none : {X Y : Type 0} (f : X → Y) (o : Option X) → option_map f (option_or o None) ≡ option_map f o
 or_none f None = refl
 or_none f (Some x) = refl
 
-pub sells_goods : (h : History) (moment number : ℕ) (a : Article) (wares : List Ware) (target : List ℕ) → SellsAlike h wares target → SellsAlike (h ++ goods_entry moment a ∷ []) (wares_with number a wares) target
+pub sells_goods : (h : History) (moment number : ℕ) (a : Article) (wares : List WareView) (target : List ℕ) → SellsAlike h wares target → SellsAlike (h ++ goods_entry moment a ∷ []) (wares_with number a wares) target
 sells_goods h moment number a wares target alike = go (bytes_eq a.target.items target) refl
   where
-    see : Option Ware → Option Sold
+    see : Option WareView → Option Sold
     see = option_map sold_by
 
     goods : (b : Bool) → bytes_eq a.target.items target ≡ b → goods_in (h ++ goods_entry moment a ∷ []) target ≡ cond b (Some (goods_entry moment a)) (goods_in h target)
@@ -231,7 +226,7 @@ sells_goods h moment number a wares target alike = go (bytes_eq a.target.items t
         let same : a.target.items ≡ target = (bytes_eq-Decides a.target.items target).0 is in
         let none : find (is_on_sale target) (map (taken_off a.target.items number) wares) ≡ None =
         find_none_map (taken_off a.target.items number) (is_on_sale target) (λ w. ap (λ (t : List ℕ). is_on_sale t (taken_off a.target.items number w)) (sym same) ∙ off_here a.target.items number w) wares in
-        ap (option_map sold_by_entry) (goods true is) ∙ sym (ap (option_map sold_by) (found true is ∙ ap (λ (o : Option Ware). option_or o (Some (new_ware number a))) none))
+        ap (option_map sold_by_entry) (goods true is) ∙ sym (ap (option_map sold_by) (found true is ∙ ap (λ (o : Option WareView). option_or o (Some (new_ware number a))) none))
     go false is =
         ap (option_map sold_by_entry) (goods false is) ∙ alike
         ∙ sym (find_same_map sold_by (taken_off a.target.items number) (is_on_sale target) (λ w. off_elsewhere target a.target.items number w is) (sold_same a.target.items number) wares)
@@ -240,14 +235,14 @@ sells_goods h moment number a wares target alike = go (bytes_eq a.target.items t
 
 -- ---- numbers
 
-pub has_more : (wares : List Ware) (number n : ℕ) (a : Article) → HasNumber wares n → HasNumber (wares_with number a wares) n
+pub has_more : (wares : List WareView) (number n : ℕ) (a : Article) → HasNumber wares n → HasNumber (wares_with number a wares) n
 has_more wares number n a has =
     list_any-append (λ w. w.number == n) (map (taken_off a.target.items number) wares) (new_ware number a ∷ [])
     ∙ or_left (list_any (λ w. w.number == n) (map (taken_off a.target.items number) wares)) (list_any (λ w. w.number == n) (new_ware number a ∷ []))
     (any_map (taken_off a.target.items number) (λ w. w.number == n) wares
     ∙ any_agree (λ w. (taken_off a.target.items number w).number == n) (λ w. w.number == n) (λ w. ap (λ (k : ℕ). k == n) (number_same a.target.items number w)) wares ∙ has)
 
-pub has_new : (wares : List Ware) (number : ℕ) (a : Article) → HasNumber (wares_with number a wares) number
+pub has_new : (wares : List WareView) (number : ℕ) (a : Article) → HasNumber (wares_with number a wares) number
 has_new wares number a =
     list_any-append (λ w. w.number == number) (map (taken_off a.target.items number) wares) (new_ware number a ∷ [])
     ∙ or_right (list_any (λ w. w.number == number) (map (taken_off a.target.items number) wares)) (list_any (λ w. w.number == number) (new_ware number a ∷ []))
@@ -255,13 +250,13 @@ has_new wares number a =
 
 -- ---- what is needed
 
-pub on_sale_in_force : (h : History) (target : List ℕ) (w : Ware) → IsWareOf h w → is_on_sale target w ≡ true → IsInForce h w.number
+pub on_sale_in_force : (h : History) (target : List ℕ) (w : WareView) → IsWareOf h w → is_on_sale target w ≡ true → IsInForce h w.number
 on_sale_in_force h target w of on = subst (IsReplacement h w.number) (on_sale_is w.replaced (bytes_eq w.article.target.items target) on).0 of.replaced
 
-on_sale_needed : (from : Option ℕ) (target : List ℕ) (w : Ware) → is_on_sale target w ≡ true → is_needed from w ≡ true
+on_sale_needed : (from : Option ℕ) (target : List ℕ) (w : WareView) → is_on_sale target w ≡ true → is_needed from w ≡ true
 on_sale_needed from target w on = ap (may_be_brought from) (on_sale_is w.replaced (bytes_eq w.article.target.items target) on).0
 
-pub sells_needed : (h : History) (from : Option ℕ) (wares : List Ware) (target : List ℕ) → SellsAlike h wares target → SellsAlike h (filter (is_needed from) wares) target
+pub sells_needed : (h : History) (from : Option ℕ) (wares : List WareView) (target : List ℕ) → SellsAlike h wares target → SellsAlike h (filter (is_needed from) wares) target
 sells_needed h from wares target alike = alike ∙ sym (ap (option_map sold_by) (find_filter (is_on_sale target) (is_needed from) (on_sale_needed from target) wares))
 
 behind_is : (from : Option ℕ) (m : ℕ) → LiesBehind from m → may_be_brought from (Some m) ≡ true
@@ -282,7 +277,7 @@ needed_kept h from n None none is = λ m rep. absurd (none m rep)
 needed_kept h None n (Some m) first is = absurd (false≢true is)
 needed_kept h (Some k) n (Some m) first is = λ j rep. let least : m ≤ j = first.1 j rep in let lies : k < m = ltb-true k m is in omega arith
 
-pub has_kept : (h : History) (from : Option ℕ) (n : ℕ) (wares : List Ware) → All (IsWareOf h) wares → IsKeptFrom h from n → HasNumber wares n → HasNumber (filter (is_needed from) wares) n
+pub has_kept : (h : History) (from : Option ℕ) (n : ℕ) (wares : List WareView) → All (IsWareOf h) wares → IsKeptFrom h from n → HasNumber wares n → HasNumber (filter (is_needed from) wares) n
 has_kept h from n [] all kept has = has
 has_kept h from n (w ∷ ws) all kept has = go (w.number == n) (is_needed from w) refl refl has (has_kept h from n ws (All-tail (IsWareOf h) w ws all) kept)
   where
@@ -299,7 +294,7 @@ has_kept h from n (w ∷ ws) all kept has = go (w.number == n) (is_needed from w
     go false true is need has ih = or_right (w.number == n) (list_any (λ v. v.number == n) (filter (is_needed from) ws)) (ih has)
     go false false is need has ih = ih has
 
-pub kept_has : (h : History) (from : Option ℕ) (n : ℕ) (wares : List Ware) → All (IsWareOf h) wares → HasNumber (filter (is_needed from) wares) n → IsKeptFrom h from n
+pub kept_has : (h : History) (from : Option ℕ) (n : ℕ) (wares : List WareView) → All (IsWareOf h) wares → HasNumber (filter (is_needed from) wares) n → IsKeptFrom h from n
 kept_has h from n [] all has = absurd (false≢true has)
 kept_has h from n (w ∷ ws) all has = go (w.number == n) (is_needed from w) refl refl has (kept_has h from n ws (All-tail (IsWareOf h) w ws all))
   where

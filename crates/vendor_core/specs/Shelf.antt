@@ -8,13 +8,12 @@ use Rattle.ledger_model.specs.Houses.{all_terms}
 use Rattle.ledger_model.specs.Goods as goods
 use Rattle.ledger_model.specs.Goods.{goods_in}
 use Rattle.ledger_model.specs.Pieces.{reference_of}
-use Rattle.vendor_core.specs.declared.ware.Ware.{Ware}
 use Rattle.vendor_core.specs.declared.shelf.Shelf.{Shelf}
-use Rattle.vendor_core.specs.Wares.{goods_entry, sold_by_entry, sold_by, is_on_sale, IsWareOf}
+use Rattle.vendor_core.specs.Wares.{WareView, goods_entry, sold_by_entry, sold_by, is_on_sale, IsWareOf}
 
 -- Wares, issuers, references and bytes of contents are what a history says of them. Of goods that
 -- were replaced some may be missing.
-pub record Shows (wares : List Ware) (issuers : List ℕ) (references : List (Vec ℕ)) (bytes : ℕ) (h : History) : Type 0 where
+pub record Shows (wares : List WareView) (issuers : List ℕ) (references : List (Vec ℕ)) (bytes : ℕ) (h : History) : Type 0 where
   pub of_entries : All (IsWareOf h) wares
   pub on_sale : (target : List ℕ) → option_map sold_by_entry (goods_in h target) ≡ option_map sold_by (find (is_on_sale target) wares)
   pub all_issuers : map (λ t. t.issuer) (all_terms h) ≡ issuers
@@ -26,7 +25,7 @@ abbrev pub Stands : Shelf → History → Type 0
 Stands s h = Shows s.wares.items s.issuers.items s.references.items s.in_force h
 
 -- the ware of the entry of this number is there
-abbrev pub HasNumber : List Ware → ℕ → Type 0
+abbrev pub HasNumber : List WareView → ℕ → Type 0
 HasNumber wares number = IsTrue (list_any (λ w. w.number == number) wares)
 
 -- a shelf has the contents of the Goods entry of this number

@@ -1,12 +1,31 @@
 -- The wares of a shelf.
-use Rattle.std.specs.Prelude.{◌≡◌, ℕ, ◌≤◌, Bool, true, false, ◌&&◌, nat_lt, if◌then◌else◌, is_none, bytes_eq, List, length, Option, Some, None, slice_get}
+use Rattle.std.specs.Prelude.{◌≡◌, ℕ, ◌<◌, ◌≤◌, Bool, true, false, ◌&&◌, nat_lt, if◌then◌else◌, is_none, bytes_eq, List, length, Option, Some, None, slice_get}
 use Rattle.mc_records.specs.Entry.{Entry, Goods}
 use Rattle.ledger_model.specs.Histories.{History}
 use Rattle.ledger_model.specs.Goods.{goods_price}
 use Rattle.ledger_model.specs.Replies.{Contents, goods_brought}
 use Rattle.house_core.specs.Trade.{Replaces, IsInForce}
 use Rattle.vendor_core.specs.declared.ware.Article.{Article}
-use Rattle.vendor_core.specs.declared.ware.Ware.{Ware}
+
+-- ---- wares
+
+-- the kind of an article is below 3, and it has at most 65,536 bytes of contents
+pub record IsInRange (a : Article) : Type 0 where
+  pub kind : a.kind < 3
+  pub short : length a.contents.items ≤ 65536
+
+-- The number of a Goods entry, its article, and the number of the first later entry that put goods at
+-- its target, where one did.
+pub record WareView : Type 0 where
+  pub number : ℕ
+  pub article : Article
+  pub replaced : Option ℕ
+
+-- the ware of a new entry
+abbrev pub new_ware : ℕ → Article → WareView
+new_ware number a = record { number = number; article = a; replaced = None }
+
+-- ---- what they sell
 
 -- the entry of an article at a moment
 abbrev pub goods_entry : ℕ → Article → Entry
@@ -22,20 +41,20 @@ abbrev pub sold_by_entry : Entry → Sold
 sold_by_entry e = record { price = goods_price e; brings = goods_brought e }
 
 -- what a ware sells
-abbrev pub sold_by : Ware → Sold
+abbrev pub sold_by : WareView → Sold
 sold_by w = record { price = w.article.price; brings = record { kind = w.article.kind; bytes = w.article.contents.items } }
 
 -- whether a ware is what a target sells: no later goods have replaced it
-abbrev pub is_on_sale : List ℕ → Ware → Bool
+abbrev pub is_on_sale : List ℕ → WareView → Bool
 is_on_sale target w = is_none w.replaced && bytes_eq w.article.target.items target
 
 -- how many bytes of contents a ware has, where there is one
-abbrev pub bytes_of_ware : Option Ware → ℕ
+abbrev pub bytes_of_ware : Option WareView → ℕ
 bytes_of_ware None = 0
 bytes_of_ware (Some w) = length w.article.contents.items
 
 -- a ware after the entry of this number put goods at a target
-abbrev pub taken_off : List ℕ → ℕ → Ware → Ware
+abbrev pub taken_off : List ℕ → ℕ → WareView → WareView
 taken_off target number w = if is_on_sale target w then record w { replaced = Some number } else w
 
 -- Whether goods are needed: those that nothing replaced, and those that the reply of an entry from a
@@ -46,7 +65,7 @@ may_be_brought None (Some m) = false
 may_be_brought (Some from) (Some m) = nat_lt from m
 
 -- whether a ware is needed
-abbrev pub is_needed : Option ℕ → Ware → Bool
+abbrev pub is_needed : Option ℕ → WareView → Bool
 is_needed from w = may_be_brought from w.replaced
 
 -- the number of the first entry that replaces the goods of entry n, or None where none does
@@ -55,7 +74,7 @@ IsReplacement h n None = IsInForce h n
 IsReplacement h n (Some m) = Replaces h n m × ((k : ℕ) → Replaces h n k → m ≤ k)
 
 -- a ware is of the Goods entry of its number
-pub record IsWareOf (h : History) (w : Ware) : Type 0 where
+pub record IsWareOf (h : History) (w : WareView) : Type 0 where
   pub moment : ℕ
   pub entry : slice_get h w.number ≡ Some (goods_entry moment w.article)
   pub replaced : IsReplacement h w.number w.replaced

@@ -1,4 +1,4 @@
-ghost use Rattle.std.specs.Prelude.{◌≡◌, ℕ, ◌↔◌, ◌<◌, ◌≤◌, ◌^◌, [], ◌∷◌, ◌++◌, Some, option_map, MatchOption, IsSome, IsOk, OnOk, OnErr, length, vec_len, vec_capacity};
+ghost use Rattle.std.specs.Prelude.{◌≡◌, ℕ, ◌↔◌, ◌<◌, ◌≤◌, ◌^◌, [], ◌∷◌, ◌++◌, Some, option_map, MatchOption, IsSome, IfSome, IsOk, OnOk, OnErr, length, vec_len, vec_capacity};
 ghost use Rattle.mc_records.specs.Entry.{Goods};
 ghost use Rattle.ledger_model.specs.Histories.{History};
 ghost use Rattle.ledger_model.specs.Goods as goods;
@@ -34,7 +34,7 @@ pub struct Shelf {
 }
 
 impl Shelf {
-    ghost use Rattle.vendor_core.specs.Wares.{goods_entry};
+    ghost use Rattle.vendor_core.specs.Wares.{goods_entry, IsInRange};
     ghost use Rattle.vendor_core.specs.Shelf.{Stands, Holds};
 
     /// The shelf of an empty history. It takes no memory.
@@ -74,6 +74,7 @@ impl Shelf {
     fn learn_goods(&mut self, number: u64, target: &[u8], contents: &[u8]) -> Result<(), Unlawful>
         requires place { vec_len self.old.wares < vec_capacity self.old.wares }
         requires ready { IsSome self.old.next_article }
+        requires range { IfSome self.old.next_article IsInRange }
         ensures held { (n : ℕ) → Holds self.old n → Holds self.new n }
         ensures goods { OnOk result (Holds self.new number) }
         ensures learned { OnOk result ((h : History) (m price kind : ℕ) → Stands self.old h → number ≡ length h
@@ -113,7 +114,7 @@ impl Trade for Shelf {
 
     fn price(&self, target: &[u8]) -> Option<u64> {
         match ware_on_sale(&self.wares, target) {
-            Some(ware) => Some(ware.article.price),
+            Some(ware) => Some(ware.price()),
             None => None,
         }
     }
@@ -128,13 +129,15 @@ impl Trade for Shelf {
         let Some(ware) = ware_on_sale(&self.wares, target) else {
             return Err(Refusal::NoSuchGoods);
         };
-        let price = ware.article.price;
+        let price = ware.price();
         if value.get() < price {
             return Err(Refusal::TooLittle(price));
         }
         Ok(Offer {
             price,
-            deed: Deed::Goods { goods: ware.number },
+            deed: Deed::Goods {
+                goods: ware.number(),
+            },
         })
     }
 
@@ -205,10 +208,7 @@ impl Trade for Shelf {
             return body_of_deed(deed, room);
         };
         match ware_of_number(&self.wares, goods) {
-            Some(ware) => Body {
-                kind: ware.article.kind,
-                bytes: &ware.article.contents,
-            },
+            Some(ware) => ware.body(),
             None => body_of_deed(deed, room),
         }
     }

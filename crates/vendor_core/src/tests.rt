@@ -1,3 +1,6 @@
+ghost use Rattle.mc_records.specs.Views.{entry};
+ghost use Rattle.house_core.specs.Learning.{GoodsFit};
+
 use super::*;
 use house_core::{SiteKind, Trade, Unlawful};
 use kept_replies::Deed;
@@ -52,6 +55,9 @@ fn learn(shelf: &mut Shelf, number: u64, line: Line<'_>) -> Result<bool, Fail> {
             learn_record(shelf, number, &Record::Terms { moment, terms })
         }
         Line::Goods(target, price, kind, contents) => {
+            if kind > 2 || contents.len() > 65_536 {
+                return Err(Fail::from("goods"));
+            }
             let goods = Record::Goods {
                 moment,
                 target,
@@ -82,7 +88,9 @@ fn learn(shelf: &mut Shelf, number: u64, line: Line<'_>) -> Result<bool, Fail> {
     }
 }
 
-fn learn_record(shelf: &mut Shelf, number: u64, r: &Record<'_>) -> Result<bool, Fail> {
+fn learn_record(shelf: &mut Shelf, number: u64, r: &Record<'_>) -> Result<bool, Fail>
+    requires { GoodsFit (entry r.now) }
+{
     match shelf.reserve(r) {
         Ok(()) => (),
         Err(_) => return Err(Fail::from("memory")),

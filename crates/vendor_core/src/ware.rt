@@ -1,9 +1,13 @@
-ghost use Rattle.std.specs.Prelude.{◌≡◌, ℕ, IfOk};
+ghost use Rattle.std.specs.Prelude.{◌≡◌, ℕ, IfOk, length};
 ghost use Rattle.mc_records.specs.Entry.{Goods};
-ghost use Rattle.vendor_core.specs.Wares.{goods_entry, is_on_sale, taken_off, is_needed};
+ghost use Rattle.house_core.specs.Views.{contents_of};
+ghost use Rattle.house_core.specs.Replying.{AreContents};
+ghost use Rattle.vendor_core.specs.Wares.{goods_entry, new_ware, sold_by, is_on_sale, taken_off, is_needed, IsInRange};
 
+use house_core::Body;
 use mc_base::NoMemory;
 use std::alloc::Global;
+use std::marker::Model;
 
 /// What a Goods entry puts on sale.
 #[derive(Drop)]
@@ -35,15 +39,69 @@ impl Article {
 }
 
 /// The article of the Goods entry of a number, and the number of the first later entry that put goods
-/// at its target, where one did.
+/// at its target, where one did. The article is one that a reply may bring.
 #[derive(Drop)]
 pub(crate) struct Ware {
-    pub(crate) number: u64,
-    pub(crate) article: Article,
-    pub(crate) replaced: Option<u64>,
+    number: u64,
+    article: Article,
+    replaced: Option<u64>,
+}
+
+impl Model for Ware {
+    ghost use Rattle.vendor_core.specs.Wares.{WareView, IsInRange};
+
+    ghost Value = { WareView };
+
+    ghost view = { λ w. record { number = w.number; article = w.article; replaced = w.replaced } };
+
+    ghost invariant = { λ w. IsInRange w.article };
 }
 
 impl Ware {
+    /// The ware of a new entry, which nothing replaced.
+    pub(crate) fn new(number: u64, article: Article) -> Ware
+        requires { IsInRange article }
+        ensures { result ≡ new_ware number article }
+    {
+        Ware {
+            number,
+            article,
+            replaced: None,
+        }
+    }
+
+    /// The number of its entry.
+    pub(crate) fn number(&self) -> u64
+        ensures { result ≡ self.now.number }
+    {
+        self.number
+    }
+
+    /// Its price.
+    pub(crate) fn price(&self) -> u64
+        ensures { result ≡ self.now.article.price }
+    {
+        self.article.price
+    }
+
+    /// How many bytes of contents it has.
+    pub(crate) fn size(&self) -> u64
+        ensures { result ≡ length self.now.article.contents.items }
+    {
+        self.article.contents.len() as u64
+    }
+
+    /// What a reply that sold it brings.
+    pub(crate) fn body(&self) -> Body<'_>
+        ensures range { AreContents result }
+        ensures brings { contents_of result ≡ (sold_by self.now).brings }
+    {
+        Body {
+            kind: self.article.kind,
+            bytes: &self.article.contents,
+        }
+    }
+
     /// Whether it is what a target sells now.
     pub(crate) fn is_on_sale(&self, target: &[u8]) -> bool
         ensures { result ≡ is_on_sale target.now self.now }

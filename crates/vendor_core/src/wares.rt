@@ -1,7 +1,7 @@
 ghost use Rattle.std.specs.Prelude.{◌≡◌, ◌==◌, ◌<◌, ◌++◌, ◌∷◌, [], vec_len, vec_capacity, filter, find, map, bytes_eq};
 ghost use Rattle.std.specs.Option.{option_copied};
 ghost use Rattle.std.specs.List.{list_any};
-ghost use Rattle.vendor_core.specs.Wares.{is_on_sale, is_needed, taken_off, bytes_of_ware};
+ghost use Rattle.vendor_core.specs.Wares.{new_ware, is_on_sale, is_needed, taken_off, bytes_of_ware, IsInRange};
 
 use crate::ware::{Article, Ware};
 
@@ -17,7 +17,7 @@ pub(crate) fn bytes_on_sale(wares: &[Ware], target: &[u8]) -> u64
     ensures { result ≡ bytes_of_ware (find (is_on_sale target.now) wares.now) }
 {
     match ware_on_sale(wares, target) {
-        Some(ware) => ware.article.contents.len() as u64,
+        Some(ware) => ware.size(),
         None => 0,
     }
 }
@@ -26,20 +26,17 @@ pub(crate) fn bytes_on_sale(wares: &[Ware], target: &[u8]) -> u64
 pub(crate) fn ware_of_number(wares: &[Ware], number: u64) -> Option<&Ware>
     ensures { option_copied result ≡ find (λ w. w.number == number) wares.now }
 {
-    wares.iter().find(|ware| ware.number == number)
+    wares.iter().find(|ware| ware.number() == number)
 }
 
 /// Puts the article of the entry of a number on sale, and takes off what its target sold.
 pub(crate) fn put_on_sale(wares: &mut Vec<Ware>, number: u64, article: Article)
-    requires { vec_len wares.old < vec_capacity wares.old }
-    ensures { wares.new.items ≡ map (taken_off article.target.items number) wares.old.items ++ record { number = number; article = article; replaced = None } ∷ [] }
+    requires place { vec_len wares.old < vec_capacity wares.old }
+    requires range { IsInRange article }
+    ensures { wares.new.items ≡ map (taken_off article.target.items number) wares.old.items ++ new_ware number article ∷ [] }
 {
     take_off(wares, &article.target, number);
-    wares.push_reserved(Ware {
-        number,
-        article,
-        replaced: None,
-    });
+    wares.push_reserved(Ware::new(number, article));
 }
 
 /// Takes what a target sells off sale, as the entry of this number does.

@@ -1,3 +1,4 @@
+use Rattle.house_core.proofs.Accepting.{found_number}
 use Rattle.std.proofs.Common.{◌≡◌, Some, None}
 use Rattle.mc_records.specs.Requests.{asked_of}
 use Rattle.house_core.proofs.Tabled.{kept_number, number_at, comes_again, is_new}
@@ -17,3 +18,6 @@ pub returns-in-Err-clause-lines : goal.returns-in-Err-clause-lines
 returns-in-Err-clause-lines g c h st trade kind =
     let none : None ≡ kept_number c.args.books.now (asked_of c.args.q.now) c.args.scrip.now = number_at c.args.books.now (asked_of c.args.q.now) (asked_of c.request_with.result) c.args.scrip.now None c.request_with.ensures c.in-None.ensures in
     is_new st (asked_of c.args.q.now) c.args.scrip.now _ none (c.in-Err.ensures.lines h st trade kind)
+
+pub returns-in-Some-clause-again : goal.returns-in-Some-clause-again
+returns-in-Some-clause-again g c = found_number c.args.books.now.kept c.args.books.now.time (asked_of c.request_with.result) c.in-Some.number c.in-Some.ensures

@@ -1,3 +1,4 @@
+use Rattle.house_core.proofs.Accepting.{stopped_kept, stopped_site}
 use Rattle.house_core.specs.Bench.{KeepsContents}
 use Rattle.house_core.proofs.Contents.{keeps_all}
 use Rattle.std.proofs.Common.{◌≡◌, refl, sym, subst, Some, Ok, Err}
@@ -19,7 +20,7 @@ returns-in_default-clause-exact g c h st =
 pub returns-in-Err-clause-exact : goal.returns-in-Err-clause-exact
 returns-in-Err-clause-exact g c h st =
     let asked : (asked_of c.args.q.now).scrip ≡ Some c.in-Some.text.now = rw c.in-Some.is refl in
-    rw c.bad_scrip.ensures (refuses g.T.Trade.stands g.T.Trade.site c.args.self.now h (asked_of c.args.q.now) (BadScrip c.in-Err.fault.place) st
+    rw c.bad_scrip.ensures.same (refuses g.T.Trade.stands g.T.Trade.site c.args.self.now h (asked_of c.args.q.now) (BadScrip c.in-Err.fault.place) st
     (bad_scrip h (house_time c.args.self.now) (limits_of c.args.self.now) (asked_of c.args.q.now) c.in-Some.text.now c.in-Err.fault.place asked c.in-Err.ensures.same))
 
 pub returns-in-Err-weigh-clause-exact : goal.returns-in-Err-weigh-clause-exact
@@ -56,3 +57,9 @@ returns-in-Ok-take-clause-contents g c h st has =
     let read : scrip_of c.in-Ok.scrip.text ≡ Ok (c.in-Ok.scrip.piece, c.in-Ok.scrip.cert) = rw c.in-Ok.ensures.found.0 c.in-Ok.ensures.same in
     let is = answer_read h _ _ (asked_of c.args.q.now) c.in-Ok.scrip _ asked read (c.in-Ok-weigh.ensures.lines h st.books st.trade st.of_kind) in
     subst (λ (a : Answer). KeepsContents g.T.Trade.holds c.take.new.self h a (Ok c.in-Ok-take.number)) is (c.in-Ok-take.ensures.contents h st has (c.in-Ok-weigh.ensures.in_force h st.trade st.of_kind))
+
+pub returns-in-Err-weigh-clause-kept : goal.returns-in-Err-weigh-clause-kept
+returns-in-Err-weigh-clause-kept g c = rw c.stopped_with.ensures (stopped_kept c.args.self.now c.in-Err-weigh.stopped c.in-Err-weigh.ensures.again)
+
+pub returns-in-Err-weigh-clause-site : goal.returns-in-Err-weigh-clause-site
+returns-in-Err-weigh-clause-site g c = rw c.stopped_with.ensures (stopped_site c.in-Err-weigh.stopped c.in-Err-weigh.ensures.site)

@@ -1,3 +1,4 @@
+use Rattle.house_core.proofs.Noted.{goods_fit}
 use Rattle.kept_replies.specs.Kept.{KeptView}
 use Rattle.house_core.specs.declared.bench.Bench.{Bench}
 use Rattle.house_core.proofs.Contents.{contents_noted}
@@ -78,3 +79,6 @@ returns-clause-contents g c h st has =
     let after : Bench g.row.T.Denot = record { books = c.note.new.self; trade = c.learn.new.self } in
     contents_noted g.T.Trade.holds c.args.self.now after h (entry c.args.r.now) has st.books.replies
     (ap (λ (k : KeptView). k.replies) c.note.ensures.kept ∙ c.in-Ok-reserve_for.ensures.same.replies) (λ n held. c.in-Ok-learn.ensures.held n (c.in-Ok-reserve.ensures.held n held))
+
+pub learn-requires-clause-fits : goal.learn-requires-clause-fits
+learn-requires-clause-fits g c = goods_fit (entry c.args.r.now) c.requires.fits

@@ -1,3 +1,4 @@
+use Rattle.house_core.proofs.Founded.{founds_fit}
 use Rattle.house_core.specs.declared.bench.Bench.{Bench}
 use Rattle.house_core.proofs.Contents.{contents_of_none}
 use Rattle.house_core.proofs.Founded.{none_kept}
@@ -21,3 +22,6 @@ pub returns-in-Ok-learn-clause-contents : goal.returns-in-Ok-learn-clause-conten
 returns-in-Ok-learn-clause-contents g c =
     let made : Bench g.row.T.Denot = record { books = c.in_ok-books.books; trade = c.learn.new.self } in
     contents_of_none g.T.Trade.holds made (entry c.args.site.now ∷ []) (none_kept c.in_ok-books.books c.args.limits (entry c.args.site.now) c.in_ok-books.ensures)
+
+pub learn-requires-clause-fits : goal.learn-requires-clause-fits
+learn-requires-clause-fits g c = founds_fit (entry c.args.site.now) c.requires.site

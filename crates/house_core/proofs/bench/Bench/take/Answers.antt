@@ -1,3 +1,6 @@
+use Rattle.house_core.proofs.Accepting.{last_number}
+use Rattle.std.specs.Prelude.{IsTrue}
+use Rattle.kept_replies.specs.Kept.{has_number}
 use Rattle.std.proofs.Common.{List, ap}
 use Rattle.kept_replies.specs.Kept.{KeptReply}
 use Rattle.house_core.specs.declared.bench.Bench.{Bench}
@@ -40,7 +43,7 @@ returns-clause-exact g c h st takes =
     let entered = subst (λ (p : Scrip). IsEntered c.reserve-2.new.self c.enter.new.self (asked_of c.request_with-request.result) p a) c.piece-paid.ensures c.enter.ensures in (
       c.count-number.ensures ∙ sym st.books.counted,
       record {
-        books = stands_taken st.books c.in-Ok-reserve.ensures.same (asked_of c.args.q.now) c.args.scrip.now a c.requires.read c.requires.ready takes
+        books = stands_taken st.books c.in-Ok-reserve.ensures.same (asked_of c.args.q.now) c.args.scrip.now a c.requires.read c.requires.ready (c.requires.brings h st.trade st.of_kind) takes
             (subst (λ (p : Asked). IsEntered c.reserve-2.new.self c.enter.new.self p c.args.scrip.now.piece a) c.request_with-request.ensures entered);
         trade = subst (λ (e : Entry). g.T.Trade.stands c.learn.new.self (h ++ e ∷ [])) is (c.in-Ok-learn.ensures.learned b.limits h (c.in-Ok.ensures.same h st.trade) may);
         of_kind = kind_stays b.limits h (accept_entry b.time text target a) st.books.lawful ∙ rw (c.in-Ok-learn.ensures.site, c.in-Ok.ensures.site) st.of_kind;
@@ -55,3 +58,9 @@ returns-clause-contents g c h st has in_force =
     let r : KeptReply = record { asked = asked_of c.request_with-request.result; entry = kept_entry c.reserve-2.new.self c.piece-paid.result a } in
     contents_taken g.T.Trade.holds c.args.self.now after h (accept_entry b.time c.args.scrip.now.text c.args.q.now.target.now a) r has (λ target. refl)
     (c.enter.ensures.replies ∙ ap (λ (rs : List KeptReply). rs ++ r ∷ []) c.in-Ok-reserve.ensures.same.replies) (λ n held. c.in-Ok-learn.ensures.held n (c.in-Ok.ensures.held n held)) c.requires.held in_force
+
+pub returns-clause-kept : goal.returns-clause-kept
+returns-clause-kept g c =
+    let r : KeptReply = record { asked = asked_of c.request_with-request.result; entry = kept_entry c.reserve-2.new.self c.piece-paid.result c.args.acceptance.now } in
+    let number : c.reserve-2.new.self.count ≡ c.count-number.result = c.in-Ok-reserve.ensures.same.counted ∙ sym c.count-number.ensures in
+    subst (λ (rs : List KeptReply). IsTrue (has_number rs c.count-number.result)) (sym c.enter.ensures.replies) (last_number c.reserve-2.new.self.kept.replies r c.count-number.result number)

@@ -1,7 +1,9 @@
-use Rattle.std.proofs.Common.{◌≡◌, [], ◌∷◌, ◌++◌, sym, ap, ◌∙◌}
+use Rattle.std.proofs.Common.{◌≡◌, Option, [], ◌∷◌, ◌++◌, sym, ap, subst, ◌∙◌}
+use Rattle.std.specs.Prelude.{IfSome}
+use Rattle.vendor_core.specs.declared.ware.Article.{Article}
 use Rattle.mc_records.specs.Entry.{Entry, Goods}
 use Rattle.ledger_model.specs.Goods.{in_force}
-use Rattle.vendor_core.specs.Wares.{goods_entry}
+use Rattle.vendor_core.specs.Wares.{goods_entry, IsInRange}
 use Rattle.vendor_core.proofs.WareLaws.{has_more}
 use Rattle.vendor_core.proofs.ShelfLaws.{goods_learned, article_is}
 use Rattle.vendor_core.proofs.shelf.Shelf.learn_goods.Goals as goal
@@ -15,3 +17,6 @@ returns-clause-learned c h m price kind stands is ready =
     article_is m _ _ c.unwrap-article.result (sym c.take.ensures.value ∙ c.unwrap-article.ensures) ready in
     let bytes : c.in-Some.bytes ≡ in_force (h ++ goods_entry m c.unwrap-article.result ∷ []) = (c.in-Some.ensures h m price kind stands).1 ∙ ap (λ (e : Entry). in_force (h ++ e ∷ [])) (sym same) in
     rw (c.put_on_sale.ensures, ← same) (goods_learned _ _ _ _ c.in-Some.bytes c.args.number h m c.unwrap-article.result is bytes stands)
+
+pub put_on_sale-requires-clause-range : goal.put_on_sale-requires-clause-range
+put_on_sale-requires-clause-range c = subst (λ (o : Option Article). IfSome o IsInRange) (sym c.take.ensures.value ∙ c.unwrap-article.ensures) c.requires.range

@@ -3,12 +3,12 @@ use Rattle.std.specs.Prelude.{◌==◌}
 use Rattle.vendor_core.proofs.ShelfLaws.{ware_is_brought, none_is_held}
 use Rattle.vendor_core.proofs.shelf.ShelfTrade.body.Goals as goal
 
-pub returns-in-Some : goal.returns-in-Some
-returns-in-Some c h stands kind held =
+pub returns-in-Some-clause-brought : goal.returns-in-Some-clause-brought
+returns-in-Some-clause-brought c h stands kind held =
     let found : find (λ w. w.number == c.in-Goods.goods) c.args.self.now.wares.items ≡ Some c.in-Some.ware.now = sym (c.in-Some.ensures ∙ ap (find (λ w. w.number == c.in-Goods.goods)) c.deref.ensures.value) in
-    rw (c.in-Goods.is, c.deref-in-Some.ensures.value) (ware_is_brought _ _ _ _ h c.in-Goods.goods c.in-Some.ware.now stands found)
+    rw (c.in-Goods.is, c.body.ensures.brings) (ware_is_brought _ _ _ _ h c.in-Goods.goods c.in-Some.ware.now stands found)
 
-pub returns-in-None : goal.returns-in-None
-returns-in-None c h stands kind held =
+pub returns-in-None-clause-brought : goal.returns-in-None-clause-brought
+returns-in-None-clause-brought c h stands kind held =
     let none : find (λ w. w.number == c.in-Goods.goods) c.args.self.now.wares.items ≡ None = sym (c.in-None.ensures ∙ ap (find (λ w. w.number == c.in-Goods.goods)) c.deref.ensures.value) in
     absurd (none_is_held c.args.self.now.wares.items c.in-Goods.goods none (rw c.in-Goods.is at held))

@@ -6,13 +6,13 @@ use Rattle.vendor_core.proofs.shelf.ShelfTrade.offer.Goals as goal
 pub returns-clause-brings : goal.returns-clause-brings
 returns-clause-brings c h stands kind =
     let found : find (is_on_sale c.args.target.now) c.args.self.now.wares.items ≡ Some c.in-Some.ware.now = sym (c.in-Some.ensures ∙ ap (find (is_on_sale c.args.target.now)) c.deref.ensures.value) in
-    sold_is_brought _ _ _ _ h c.args.target.now c.in-Some.ware.now stands found
+    rw c.number.ensures (sold_is_brought _ _ _ _ h c.args.target.now c.in-Some.ware.now stands found)
 
 pub returns-clause-in_force : goal.returns-clause-in_force
 returns-clause-in_force c h stands kind =
     let found : find (is_on_sale c.args.target.now) c.args.self.now.wares.items ≡ Some c.in-Some.ware.now = sym (c.in-Some.ensures ∙ ap (find (is_on_sale c.args.target.now)) c.deref.ensures.value) in
-    sold_is_in_force _ _ _ _ h c.args.target.now c.in-Some.ware.now stands found
+    rw c.number.ensures (sold_is_in_force _ _ _ _ h c.args.target.now c.in-Some.ware.now stands found)
 
 pub returns-clause-held : goal.returns-clause-held
 returns-clause-held c =
-    sold_is_held c.args.self.now.wares.items c.args.target.now c.in-Some.ware.now (sym (c.in-Some.ensures ∙ ap (find (is_on_sale c.args.target.now)) c.deref.ensures.value))
+    rw c.number.ensures (sold_is_held c.args.self.now.wares.items c.args.target.now c.in-Some.ware.now (sym (c.in-Some.ensures ∙ ap (find (is_on_sale c.args.target.now)) c.deref.ensures.value)))

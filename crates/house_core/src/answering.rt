@@ -1,0 +1,115 @@
+//! What a house says to a request, and its reply.
+
+ghost use Rattle.std.specs.Prelude.{◌≡◌, IfOk, IfErr};
+ghost use Rattle.mc_records.specs.Requests.{asked_of, seen};
+ghost use Rattle.ledger_model.specs.Histories.{History};
+ghost use Rattle.ledger_model.specs.Answer.{answer};
+ghost use Rattle.ledger_model.specs.Replies as ledger;
+ghost use Rattle.millicent_http.specs.HeadRefusals.{as_refusal};
+ghost use Rattle.house_core.specs.Bench.{Holds, IsHouse, KeepsReply, Went, house_time, limits_of, state_of};
+ghost use Rattle.house_core.specs.Replying.{IsOfSite};
+ghost use Rattle.house_core.specs.Session.{raised, Says, said_reply};
+
+use crate::bench::Bench;
+use crate::reply::{Reply, refusal_head};
+use crate::signing::{customer_of, is_signed, signed_refusal, taken_reply};
+use crate::trade::Trade;
+use crate::verdict::BenchFault;
+use mc_base::Moment;
+use mc_records::{Refusal, Request};
+use millicent_http::HeadRefusal;
+
+impl<T: Trade> Bench<T> {
+    /// What is said to a request at a reading of the clock, to which the house time is raised: the number
+    /// of the entry whose first reply it gets, or the refusal. Want of memory is refusal 90.
+    pub(crate) fn answer(&mut self, reading: Moment, q: &Request<'_>) -> Result<u64, Refusal>
+        ensures limits { limits_of self.new ≡ limits_of self.old }
+        ensures kept { IfOk result (KeepsReply self.new) }
+        ensures site { IfErr result IsOfSite }
+        ensures went { Went T.stands T.site T.holds (λ s t. Says (answer (raised s reading).history (raised s reading).time (limits_of self.old) (asked_of q.now)) result (raised s reading) t) self.old self.new }
+    {
+        self.raise(reading);
+        match self.accept(q) {
+            Ok(number) => Ok(number),
+            Err(BenchFault::Refused(refusal)) => Err(refusal),
+            Err(BenchFault::NoMemory) => Err(Refusal::NoMemory),
+        }
+    }
+
+    /// The reply to a request to which this is said. `room` is for contents that are made for the reply.
+    pub(crate) fn reply<'a>(
+        &'a self,
+        q: &Request<'_>,
+        said: &Result<u64, Refusal>,
+        room: &'a mut [u8; 512],
+    ) -> Reply<'a>
+        requires kept { IfOk said.now (KeepsReply self.now) }
+        requires site { IfErr said.now IsOfSite }
+        ensures { (h : History) → IsHouse T.stands T.site T.holds self.now h → result ≡ said_reply (state_of h self.now) (asked_of q.now) said.now }
+    {
+        let number = match said {
+            Ok(number) => *number,
+            Err(refusal) => return self.refusal_reply(q, refusal),
+        };
+        self.first_reply(number, room)
+    }
+
+    /// The reply to a head that is refused, at a reading of the clock, to which the house time is raised.
+    #[tactic(auto, unfolding(ledger_model::specs::Replies::head_refusal))]
+    pub(crate) fn refuse_head(&mut self, reading: Moment, head: HeadRefusal) -> Reply<'static>
+        ensures limits { limits_of self.new ≡ limits_of self.old }
+        ensures reply { result ≡ ledger.head_refusal (house_time self.new) (as_refusal head) }
+        ensures went { Went T.stands T.site T.holds (λ s t. t ≡ raised s reading) self.old self.new }
+    {
+        let time = self.raise(reading);
+        Reply::of(&refusal_head(time, &Refusal::from(head), None), b"")
+    }
+
+    /// The first reply to the entry of a number, whose reply is kept.
+    fn first_reply<'a>(&'a self, number: u64, room: &'a mut [u8; 512]) -> Reply<'a>
+        requires kept { KeepsReply self.now number }
+        ensures { (h : History) → IsHouse T.stands T.site T.holds self.now h → result ≡ ledger.reply_of h number }
+    {
+        let Some((q, entry)) = self.books.kept(number) else {
+            unreachable!();
+        };
+        let body = self.trade.body(&entry.deed, room);
+        taken_reply(&q, entry, &body)
+    }
+
+    /// The reply to a request that is refused at the house time.
+    fn refusal_reply(&self, q: &Request<'_>, refusal: &Refusal) -> Reply<'static>
+        requires { IsOfSite refusal.now }
+        ensures { (h : History) → Holds T.stands T.site self.now h → result ≡ ledger.refusal_of h (house_time self.now) (asked_of q.now) refusal.now }
+    {
+        let time = self.books.time();
+        let price = self.price_told(q.target, refusal);
+        match self.secret_when(q, refusal) {
+            Some(secret) => signed_refusal(time, q, refusal, price, &secret),
+            None => Reply::of(&refusal_head(time, refusal, price), b""),
+        }
+    }
+
+    /// The price that the reply to a refusal tells: that of the target where there was no scrip, or the
+    /// one that the piece is below.
+    fn price_told(&self, target: &[u8], refusal: &Refusal) -> Option<u64>
+        ensures { (h : History) → Holds T.stands T.site self.now h → result ≡ ledger.price_told h target.now refusal.now }
+    {
+        match refusal {
+            Refusal::NoScrip => self.trade.price(target),
+            Refusal::TooLittle(price) => Some(*price),
+            _ => None,
+        }
+    }
+
+    /// The secret under which the reply to a refusal is signed, where it is signed.
+    fn secret_when(&self, q: &Request<'_>, refusal: &Refusal) -> Option<[u8; 16]>
+        ensures { (h : History) → Holds T.stands T.site self.now h → result ≡ ledger.secret_when (ledger.is_signed refusal.now) h (seen q.now.scrip) }
+    {
+        if is_signed(refusal) {
+            customer_of(self.books.terms(), q)
+        } else {
+            None
+        }
+    }
+}

@@ -1,0 +1,94 @@
+ghost use Rattle.std.specs.Prelude.{◌≡◌, ◌<◌, ◌++◌, ℕ, [], length, take, IsTrue, OnOk, OnErr};
+ghost use Rattle.mc_outside.specs.LinkView.{told, Failed};
+ghost use Rattle.mc_records.specs.Replies.{reply_head};
+ghost use Rattle.ledger_model.specs.Replies.{refused_values};
+ghost use Rattle.millicent_http.specs.ReplyHeads.{IsReplyHead, reply_of};
+ghost use Rattle.house_core.specs.Replying.{IsOfSite};
+
+use mc_base::{Moment, NoMemory};
+use mc_fields::put;
+use mc_outside::{Link, LinkFault};
+use mc_records::Refusal;
+use millicent_http::{ReplyHead, send_all, write_reply_head};
+use std::marker::Model;
+
+/// How many bytes of a reply leave in one call.
+const PAGE: usize = 4096;
+
+/// A reply: a page with its head and as much of the contents as fits, and the rest of the contents.
+/// Contracts see it as its bytes.
+#[derive(Drop)]
+pub(crate) struct Reply<'a> {
+    page: [u8; 4096],
+    len: usize,
+    rest: &'a [u8],
+}
+
+impl<'a> Model for Reply<'a> {
+    ghost use Rattle.std.specs.Prelude.{ℕ, ◌≤◌, ◌++◌, List, length, take};
+
+    ghost Value = { List ℕ };
+
+    ghost view = { λ r. take r.len r.page ++ r.rest.now };
+
+    ghost invariant = { λ r. r.len ≤ length r.page };
+}
+
+impl<'a> Reply<'a> {
+    /// The reply of this head, with its contents.
+    pub(crate) fn of(head: &ReplyHead<'_>, contents: &'a [u8]) -> Reply<'a>
+        requires { IsReplyHead head.now }
+        ensures { result ≡ reply_head (reply_of head.now) ++ contents.entry.now }
+    {
+        let mut bytes = [0; 2048];
+        let head = write_reply_head(head, &mut bytes);
+        let mut page = [0; PAGE];
+        let len = put(&mut page, 0, &bytes[..head]);
+        let front = contents.len().min(PAGE - len);
+        let len = put(&mut page, len, &contents[..front]);
+        Reply {
+            page,
+            len,
+            rest: &contents[front..],
+        }
+    }
+
+    /// Appends the reply. An `Err` leaves a part of it.
+    pub(crate) fn append_to(&self, out: &mut Vec<u8>) -> Result<(), NoMemory>
+        ensures { OnOk result (out.new.items ≡ out.old.items ++ self.now) }
+    {
+        out.extend_from_slice(&self.page[..self.len])?;
+        out.extend_from_slice(self.rest)?;
+        Ok(())
+    }
+
+    /// Sends the reply: in one call of the link where it fits a page and the link takes it whole. At an
+    /// `Err` a first part of it was sent, and not the whole.
+    pub(crate) fn send<K: Link>(&self, k: &mut K) -> Result<(), LinkFault>
+        requires { IsTrue (K.link k.old).stands }
+        ensures moved { K.link_moved k.old k.new }
+        ensures sent { OnOk result (K.link k.new ≡ told self.now (K.link k.old)) }
+        ensures fault { OnErr result ((n : ℕ) × (n < length self.now) × Failed (told (take n self.now) (K.link k.old)) (K.link k.new)) }
+    {
+        send_all(k, &self.page[..self.len])?;
+        send_all(k, self.rest)
+    }
+}
+
+/// The reply to a refusal, which is signed where there is a signature.
+pub(crate) fn refusal_head(time: Moment, refusal: &Refusal, price: Option<u64>) -> ReplyHead<'_>
+    requires { IsOfSite refusal.now }
+    ensures values { reply_of result ≡ refused_values time refusal.now price }
+    ensures head { IsReplyHead result }
+{
+    ReplyHead {
+        status: refusal.status(),
+        date: time,
+        kind: None,
+        length: 0,
+        refusal: Some(refusal),
+        price,
+        change: None,
+        sign: None,
+    }
+}

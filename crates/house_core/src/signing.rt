@@ -1,0 +1,116 @@
+//! Replies that are signed under the secret of a customer.
+
+ghost use Rattle.std.specs.Prelude.{◌≡◌, ◌≤◌, [], length, option_map, option_and_then, unwrap_or, Some, IfSome};
+ghost use Rattle.scrip_form.specs.Scrip.{scrip_text};
+ghost use Rattle.scrip_certs.specs.Digests.{reply_signature};
+ghost use Rattle.mc_records.specs.Requests.{seen};
+ghost use Rattle.mc_records.specs.Replies.{reply_head, reply_text};
+ghost use Rattle.ledger_model.specs.Histories.{History};
+ghost use Rattle.ledger_model.specs.Houses.{all_terms};
+ghost use Rattle.ledger_model.specs.Replies as ledger;
+ghost use Rattle.millicent_http.specs.ReplyHeads.{IsReplyHead, reply_of};
+ghost use Rattle.house_core.specs.Views.{contents_of};
+ghost use Rattle.house_core.specs.Replying.{AreContents, IsOfSite};
+
+use crate::offer::Body;
+use crate::reply::{Reply, refusal_head};
+use crate::stages::terms_of;
+use kept_replies::KeptEntry;
+use mc_base::Moment;
+use mc_records::{Refusal, Request};
+use millicent_http::{ReplyHead, write_reply_text};
+use scrip_certs::{customer_secret, sign_reply};
+use scrip_form::{Terms, read_scrip, write_scrip};
+
+/// The first reply to a request, from what is kept of its entry and what the entry brought.
+pub(crate) fn taken_reply<'a>(q: &Request<'_>, entry: &KeptEntry, body: &Body<'a>) -> Reply<'a>
+    requires { AreContents body.now }
+    ensures { result ≡ ledger.taken_reply (Some entry.now.secret) (unwrap_or (seen q.now.scrip) []) q.now.target.now (contents_of body.now)
+        (ledger.taken_values entry.now.moment (contents_of body.now) entry.now.price (option_map (λ c. scrip_text c.0 c.1) entry.now.change)) }
+{
+    match entry.change {
+        Some(change) => {
+            let (piece, cert) = change;
+            let mut text = [0; 512];
+            let len = write_scrip(&piece, &cert, &mut text);
+            give(q, entry, body, Some(&text[..len]))
+        }
+        None => give(q, entry, body, None),
+    }
+}
+
+/// The first reply, with this change.
+fn give<'a>(q: &Request<'_>, entry: &KeptEntry, body: &Body<'a>, change: Option<&[u8]>) -> Reply<'a>
+    requires contents { AreContents body.now }
+    requires change { IfSome change (λ text. length text.now ≤ 293) }
+    ensures { result ≡ ledger.taken_reply (Some entry.now.secret) (unwrap_or (seen q.now.scrip) []) q.now.target.now (contents_of body.now)
+        (ledger.taken_values entry.now.moment (contents_of body.now) entry.now.price (seen change.entry)) }
+{
+    let mut head = ReplyHead {
+        status: 200,
+        date: entry.moment,
+        kind: Some(body.kind),
+        length: body.bytes.len() as u32,
+        refusal: None,
+        price: Some(entry.price),
+        change,
+        sign: None,
+    };
+    head.sign = Some(sign(q, &head, body.bytes, &entry.secret));
+    Reply::of(&head, body.bytes)
+}
+
+/// The reply to a refusal, signed under this secret.
+pub(crate) fn signed_refusal(
+    time: Moment,
+    q: &Request<'_>,
+    refusal: &Refusal,
+    price: Option<u64>,
+    secret: &[u8; 16],
+) -> Reply<'static>
+    requires { IsOfSite refusal.now }
+    ensures { result ≡ reply_head (ledger.signed (Some secret.now) (unwrap_or (seen q.now.scrip) []) q.now.target.now [] (ledger.refused_values time refusal.now price)) }
+{
+    let mut head = refusal_head(time, refusal, price);
+    head.sign = Some(sign(q, &head, b"", secret));
+    Reply::of(&head, b"")
+}
+
+/// The signature of a reply to a request.
+fn sign(q: &Request<'_>, head: &ReplyHead<'_>, contents: &[u8], secret: &[u8; 16]) -> [u8; 16]
+    requires { IsReplyHead head.now }
+    ensures { result ≡ reply_signature (unwrap_or (seen q.now.scrip) []) q.now.target.now (reply_text (reply_of head.now)) contents.now secret.now }
+{
+    let mut text = [0; 1024];
+    let len = write_reply_text(head, &mut text);
+    sign_reply(
+        q.scrip.unwrap_or(b""),
+        q.target,
+        &text[..len],
+        contents,
+        secret,
+    )
+}
+
+/// Whether the reply to a refusal is signed for the customer: the piece was found genuine before it.
+pub(crate) fn is_signed(refusal: &Refusal) -> bool
+    ensures { result ≡ ledger.is_signed refusal.now }
+{
+    let number = refusal.number();
+    (26 <= number && number <= 33) || (40 <= number && number <= 45)
+}
+
+/// The secret of the customer of a request's piece. None where the request has no scrip text, or there
+/// are no terms of the customer's issuer.
+pub(crate) fn customer_of(terms: &[Terms], q: &Request<'_>) -> Option<[u8; 16]>
+    ensures { (h : History) → all_terms h ≡ terms.now → result ≡ option_and_then (ledger.secret_for h) (seen q.now.scrip) }
+{
+    let text = q.scrip?;
+    let Ok(scrip) = read_scrip(text) else {
+        return None;
+    };
+    let cust = scrip.piece().cust();
+    let (issuer, _, _) = cust.parts();
+    let own = terms_of(terms, issuer)?;
+    Some(customer_secret(own, cust))
+}
