@@ -1,10 +1,3 @@
-pub mod HistoryLemmas
 pub mod WordLaws
 pub mod OpeningLemmas
-pub mod SizeLemmas
-pub mod LedgerLemmas
-pub mod JudgeLemmas
-pub mod SendLemmas
-pub mod TurnLemmas
-pub mod ServingLemmas
-pub mod ReplyingLemmas
+pub mod CourseLemmas

@@ -9,7 +9,6 @@ use Rattle.mc_fields.proofs.Formats.{done_is}
 use Rattle.mc_fields.proofs.HexField.{hex_reads}
 use Rattle.mc_fields.proofs.NumberField.{number_reads}
 use Rattle.mc_top.specs.Words.{Shop, AreWordsOf}
-use Rattle.mc_top.specs.Opening.{IsOfRange}
 
 -- the bytes of some digits are one list
 same_secret : (a b : List ℕ) → IsCert a → IsCert b → encode_lower a ≡ encode_lower b → a ≡ b
@@ -30,10 +29,6 @@ one_shop words a b fa fb =
     let price : decimal a.price ≡ decimal b.price = cc in
     let secret : encode_lower a.secret ≡ encode_lower b.secret = cc in
     let contents : a.contents ≡ b.contents = cc in
-    let p = same_number a.price b.price fa.price fb.price price in
-    let s = same_secret a.secret b.secret fa.secret fb.secret secret in
+    let p = same_number a.price b.price fa.shop'.price fb.shop'.price price in
+    let s = same_secret a.secret b.secret fa.shop'.secret fb.shop'.secret secret in
     λ i. record { name = name i; target = target i; price = p i; secret = s i; contents = contents i }
-
--- the ranges of a shop that has words
-pub range_of_words : (words : List (List ℕ)) (shop : Shop) → AreWordsOf words shop → IsOfRange shop
-range_of_words words shop is = record { name = is.name.short; target = is.target.short; contents = is.contents; secret = is.secret.0 }

@@ -1,12 +1,6 @@
 pub mod Words
 pub mod Seven
 pub mod Opening
-pub mod Opened
-pub mod Entries
-pub mod Told
-pub mod Gifts
 pub mod Session
 pub mod Statuses
 pub mod Course
-pub mod Turns
-pub mod Stops

@@ -1,4 +1,4 @@
--- The words of `vendor once`, and the house that they give.
+-- The words of `vendor once`, and the shop that they give.
 use Rattle.std.specs.Prelude.{◌≡◌, ℕ, ◌≤◌, ◌^◌, List, [], ◌∷◌, length, codes, decimal}
 use Rattle.hex.specs.Hex.{encode_lower}
 use Rattle.mc_fields.specs.Texts.{IsNumber}
@@ -15,14 +15,18 @@ pub record Shop : Type 0 where
   pub secret : List ℕ
   pub contents : List ℕ
 
--- the words are `vendor once NAME TARGET PRICE SECRET CONTENTS` of this shop
-pub record AreWordsOf (words : List (List ℕ)) (shop : Shop) : Type 0 where
-  pub spelled : words ≡ codes "vendor" ∷ codes "once" ∷ shop.name ∷ shop.target ∷ decimal shop.price ∷ encode_lower shop.secret ∷ shop.contents ∷ []
+-- the ranges of a shop
+pub record IsShop (shop : Shop) : Type 0 where
   pub name : IsName shop.name
   pub target : IsTarget shop.target
   pub price : IsNumber (2 ^ 40) shop.price
   pub secret : IsCert shop.secret
   pub contents : length shop.contents ≤ 65536
+
+-- the words are `vendor once NAME TARGET PRICE SECRET CONTENTS` of this shop
+pub record AreWordsOf (words : List (List ℕ)) (shop : Shop) : Type 0 where
+  pub spelled : words ≡ codes "vendor" ∷ codes "once" ∷ shop.name ∷ shop.target ∷ decimal shop.price ∷ encode_lower shop.secret ∷ shop.contents ∷ []
+  pub shop' : IsShop shop
 
 -- the words are of no shop
 abbrev pub AreBadWords : List (List ℕ) → Type 0

@@ -1,14 +1,8 @@
 //! The top of the program: what its words mean, and what it does over the outside.
 #![tactic(auto)]
 
-mod books;
-mod history;
-mod judge;
 mod law;
 mod program;
-mod reply;
-mod serving;
-mod session;
 mod shop;
 mod status;
 mod whole_link;

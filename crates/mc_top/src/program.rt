@@ -1,17 +1,14 @@
 ghost use Rattle.std.specs.Prelude.{◌≡◌, ◌⊎◌, ◌↔◌, ◌<◌, map, length, string_bytes, codes, OnOk, IfErr};
 ghost use Rattle.mc_top.specs.Statuses.{number_of, line_of};
 ghost use Rattle.mc_top.specs.Words.{Shop, AreWordsOf, AreBadWords};
-ghost use Rattle.mc_top.specs.Course.{IsDone, IsBroken, IsSaid};
-ghost use Rattle.mc_top.specs.Opening.{IsOfRange};
-ghost use Rattle.mc_top.specs.Stops.{Stopped};
+ghost use Rattle.mc_top.specs.Course.{IsDone, IsBroken, IsSaid, EndsOnce};
 
-use crate::books::Books;
-use crate::serving::serve_standing;
 use crate::shop::Shop;
 use crate::status::Status;
 use crate::words::shop_of;
+use house_core::{BenchEnd, Clock, serve_bench_by};
+use mc_base::{Moment, NoMemory};
 use mc_outside::{Disk, Link, Outside};
-use millicent_http::HeadReader;
 use std::alloc::Global;
 
 /// How the program ended: its status, and the outside and the books that it was given.
@@ -28,9 +25,10 @@ pub struct Ran<O, D> {
 ///
 /// 0: at most one link was taken; each head on it was answered as the session of the shop has it,
 /// however the link cut its bytes, unless a call of the link failed, which ends it. 2: the words are of
-/// no command, or there are books; no link was asked for. 5: memory was refused, before a link was asked
-/// for; no later call takes any. 6: `next_link` failed. With 2, 5 and 6 a line says so; where it can't be
-/// said, the status stays. The outside and the books are handed back; no call touches a disk.
+/// no command, or there are books; no link was asked for. 5: memory was refused before a link was asked
+/// for; memory that is refused later, to accept a request, is a reply with refusal 90 (`500`), and the
+/// link goes on. 6: `next_link` failed. With 2, 5 and 6 a line says so; where it can't be said, the
+/// status stays. The outside and the books are handed back; no call touches a disk.
 pub fn run<O: Outside, D: Disk>(alloc: Global, words: &[String], out: O, books: Vec<D>) -> Ran<O, D>
     ensures moved { O.link_moved out result.out }
     ensures books { result.books ≡ books }
@@ -65,38 +63,23 @@ fn obey<K: Link>(alloc: Global, words: &[String], k: &mut K) -> u8
     };
     match serve_once(alloc, &shop, k) {
         Ok(()) => Status::Done.number(),
-        Err(Stop::NoMemory) => end(k, Status::NoMemory),
-        Err(Stop::LinkFault) => end(k, Status::LinkFault),
+        Err(BenchEnd::NoMemory) => end(k, Status::NoMemory),
+        Err(BenchEnd::Link) => end(k, Status::LinkFault),
     }
 }
 
-/// Why no link was served.
-#[derive(Clone, Copy)]
-enum Stop {
-    NoMemory,
-    LinkFault,
-}
-
-/// Takes one link, where one comes, and serves it.
-fn serve_once<K: Link>(alloc: Global, shop: &Shop<'_>, k: &mut K) -> Result<(), Stop>
-    requires { IsOfRange shop.now }
+/// Opens the shop, takes one link, where one comes, and serves it. The clock stands at 0.
+fn serve_once<K: Link>(alloc: Global, shop: &Shop<'_>, k: &mut K) -> Result<(), BenchEnd>
     ensures moved { K.link_moved k.old k.new }
-    ensures done { OnOk result (IsDone shop.now (K.link k.old) (K.link k.new)) }
-    ensures stopped { IfErr result (λ stop. Stopped stop (K.link k.old) (K.link k.new)) }
+    ensures ended { EndsOnce result shop.now (K.link k.old) (K.link k.new) }
 {
-    let Ok(mut books) = Books::open(alloc) else {
-        return Err(Stop::NoMemory);
+    let mut bench = match shop.open(alloc) {
+        Ok(bench) => bench,
+        Err(NoMemory) => return Err(BenchEnd::NoMemory),
     };
-    let Ok(mut reader) = HeadReader::new(alloc) else {
-        return Err(Stop::NoMemory);
-    };
-    match k.next_link() {
-        Ok(true) => {
-            serve_standing(shop, &mut books, &mut reader, k);
-            Ok(())
-        }
-        Ok(false) => Ok(()),
-        Err(_) => Err(Stop::LinkFault),
+    match serve_bench_by(&mut bench, k, 1, &Clock::At(Moment::clamped(0))) {
+        Ok(_) => Ok(()),
+        Err(end) => Err(end),
     }
 }
 

@@ -1,17 +1,21 @@
-ghost use Rattle.std.specs.Prelude.{◌≡◌, ◌≤◌, ◌<◌, [], ◌∷◌, length, take, option_map};
-ghost use Rattle.scrip_form.specs.Identities.{issuer_of};
+ghost use Rattle.std.specs.Prelude.{◌≡◌, ◌^◌, ◌≤◌, ◌++◌, ◌∷◌, [], length, IfOk, OnOk};
+ghost use Rattle.mc_fields.specs.Texts.{IsNumber};
+ghost use Rattle.scrip_form.specs.Texts.{IsName, IsTarget};
 ghost use Rattle.scrip_form.specs.Scrip.{IsCert};
-ghost use Rattle.scrip_certs.specs.Digests.{customer_secret};
+ghost use Rattle.mc_records.specs.Entry.{Fits, moment_of};
+ghost use Rattle.mc_records.specs.Views.{entry};
+ghost use Rattle.house_core.specs.Noting.{IsCommand};
+ghost use Rattle.ledger_model.specs.Histories.{History};
 ghost use Rattle.mc_top.specs.Words.{terms_of};
-ghost use Rattle.ledger_model.specs.Houses.{terms_by};
-ghost use Rattle.ledger_model.specs.Pieces.{change_from};
-ghost use Rattle.ledger_model.specs.Replies.{own_text};
-ghost use Rattle.mc_top.specs.Opening.{opening};
+ghost use Rattle.mc_top.specs.Opening.{founding, opening, IsOpen, MayEnter};
 
-use mc_base::Amount;
-use scrip_certs::{certificate, customer_secret};
-use scrip_form::{Id, Name, Piece, Secrets, Target, Terms, write_scrip};
+use house_core::{Bench, EnterFault};
+use mc_base::{Amount, Moment, NoMemory};
+use mc_records::{Limits, PieceList, Record, SiteTerms};
+use scrip_form::{Name, Secrets, Target, Terms};
+use std::alloc::Global;
 use std::marker::Model;
+use vendor_core::Shelf;
 
 /// The period of the shop's series, in seconds.
 const PERIOD: u32 = 4096;
@@ -19,133 +23,133 @@ const PERIOD: u32 = 4096;
 /// How long a series stays good after its period, in seconds.
 const LIFE: u32 = 8192;
 
-/// A shop that sells one thing for scrip of its own issuer 0 and of issuer 1.
+/// How long a request gets its first reply again, in seconds.
+const KEEP: u32 = 600;
+
+/// The kind of the contents that are sold: bytes of no type of their own.
+const KIND: u8 = 0;
+
+/// A shop that sells one thing for scrip of its own issuer 0 and of issuer 1. Contracts see it as its
+/// texts.
 #[derive(Drop)]
 pub(crate) struct Shop<'a> {
     name: Name,
     target: Target,
     price: Amount,
-    secret: [u8; 16],
-    own: Terms,
-    licensed: Terms,
+    secrets: Secrets,
     contents: &'a [u8],
 }
 
 impl<'a> Model for Shop<'a> {
-    ghost use Rattle.std.specs.Prelude.{◌≡◌, ◌≤◌, ◌<◌, length};
-    ghost use Rattle.mc_top.specs.Words.{Shop as Sold, terms_of};
-    ghost use Rattle.mc_top.specs.Opened.{IsOpened};
+    ghost use Rattle.std.specs.Prelude.{◌≡◌, ◌∷◌, [], slice_index_or};
+    ghost use Rattle.mc_top.specs.Words.{Shop as Sold, IsShop};
 
     ghost Value = { Sold };
 
-    ghost view = { λ s. record { name = s.name; target = s.target; price = s.price; secret = s.secret; contents = s.contents.now } };
+    ghost view = { λ s. record { name = s.name; target = s.target; price = s.price; secret = slice_index_or s.secrets 0 []; contents = s.contents.now } };
 
-    ghost invariant = { λ s. IsOpened (record { name = s.name; target = s.target; price = s.price; secret = s.secret; contents = s.contents.now }) s.own s.licensed };
+    ghost invariant = { λ s. (s.secrets ≡ slice_index_or s.secrets 0 [] ∷ []) × IsShop (record { name = s.name; target = s.target; price = s.price; secret = slice_index_or s.secrets 0 []; contents = s.contents.now }) };
 }
 
 impl<'a> Shop<'a> {
-    /// Opens the shop of these words.
-    pub(crate) fn open(
+    /// The shop of these texts.
+    pub(crate) fn new(
         name: Name,
         target: Target,
         price: Amount,
         secret: [u8; 16],
         contents: &'a [u8],
     ) -> Shop<'a>
-        requires price { 0 < price }
+        requires name { IsName name }
+        requires target { IsTarget target }
+        requires price { IsNumber (2 ^ 40) price }
         requires contents { length contents.now ≤ 65536 }
-        ensures shop { result ≡ record { name = name; target = target; price = price; secret = secret; contents = contents.entry.now } }
-        ensures secret { IsCert secret }
+        ensures { result ≡ record { name = name; target = target; price = price; secret = secret; contents = contents.entry.now } }
     {
-        let secrets = one_secret(&secret);
-        let own = Terms::new(0, PERIOD, LIFE, secrets, secrets).unwrap();
-        let licensed = Terms::new(1, PERIOD, LIFE, secrets, secrets).unwrap();
         Shop {
             name,
             target,
             price,
-            secret,
-            own,
-            licensed,
+            secrets: one_secret(&secret),
             contents,
         }
     }
 }
 
 impl Shop<'_> {
-    pub(crate) fn target(&self) -> &[u8]
-        ensures { result.now ≡ self.now.target }
+    /// Opens the shop: a house with its terms and its goods, at the moment 0.
+    pub(crate) fn open(&self, alloc: Global) -> Result<Bench<Shelf>, NoMemory>
+        ensures { IfOk result (λ b. IsOpen b (opening self.now)) }
     {
-        self.target.bytes()
+        // The check lets a record go only where the types of its parts are named.
+        let _pieces: Option<PieceList<'_>> = None;
+        let goods = Record::Goods {
+            moment: start(),
+            target: self.target.bytes(),
+            price: self.price.get(),
+            kind: KIND,
+            contents: self.contents,
+        };
+        let licence = Record::Terms {
+            moment: start(),
+            terms: self.terms(1),
+        };
+        let mut bench = self.found(alloc)?;
+        enter(&mut bench, &licence)?;
+        enter(&mut bench, &goods)?;
+        Ok(bench)
     }
 
-    pub(crate) fn price(&self) -> u64
-        ensures price { result ≡ self.now.price }
-        ensures some { 0 < self.now.price }
+    /// The house that the shop is founded as.
+    fn found(&self, alloc: Global) -> Result<Bench<Shelf>, NoMemory>
+        ensures { IfOk result (λ b. IsOpen b (founding self.now ∷ [])) }
     {
-        self.price.get()
+        // The check lets a record go only where the types of its parts are named.
+        let _pieces: Option<PieceList<'_>> = None;
+        let site = Record::Site {
+            moment: start(),
+            kind: 0,
+            name: self.name.bytes(),
+            house: Some(SiteTerms {
+                keep: KEEP,
+                fee: 0,
+                clear: true,
+                terms: self.terms(0),
+            }),
+        };
+        Bench::new(alloc, &site, Limits::FULL, Shelf::new(alloc))
     }
 
-    pub(crate) fn contents(&self) -> &[u8]
-        ensures contents { result.now ≡ self.now.contents }
-        ensures short { length self.now.contents ≤ 65536 }
+    /// The terms of an issuer.
+    fn terms(&self, issuer: u8) -> Terms
+        requires { issuer ≤ 1 }
+        ensures { result ≡ terms_of self.now issuer }
     {
-        self.contents
+        Terms::new(issuer, PERIOD, LIFE, self.secrets, self.secrets).unwrap()
     }
+}
 
-    pub(crate) fn name(&self) -> &[u8]
-        ensures { result.now ≡ self.now.name }
-    {
-        self.name.bytes()
+/// Enters an entry that may follow and fits, so that only memory can be refused.
+fn enter(bench: &mut Bench<Shelf>, r: &Record<'_>) -> Result<(), NoMemory>
+    requires fits { Fits (entry r.now) }
+    requires command { IsCommand (entry r.now) }
+    requires time { moment_of (entry r.now) ≡ 0 }
+    requires may { (h : History) × IsOpen bench.old h × MayEnter h (entry r.now) }
+    ensures { OnOk result ((h : History) → IsOpen bench.old h → IsOpen bench.new (h ++ entry r.now ∷ [])) }
+{
+    match bench.enter(r) {
+        Ok(_) => Ok(()),
+        Err(EnterFault::NoMemory) => Err(NoMemory),
+        Err(EnterFault::Unlawful) => unreachable!(),
+        Err(EnterFault::Refused(_)) => unreachable!(),
     }
+}
 
-    /// The terms of the shop itself.
-    pub(crate) fn own_terms(&self) -> &Terms
-        ensures { result.now ≡ terms_of self.now 0 }
-    {
-        &self.own
-    }
-
-    /// The terms of an issuer; None exactly where the shop has none for it.
-    pub(crate) fn terms(&self, issuer: u8) -> Option<&Terms>
-        ensures { option_map (λ t. t.now) result ≡ terms_by (terms_of self.now 0 ∷ terms_of self.now 1 ∷ []) issuer }
-    {
-        match issuer {
-            0 => Some(&self.own),
-            1 => Some(&self.licensed),
-            _ => None,
-        }
-    }
-
-    /// The secret of a customer. All terms of the shop have one secret, so that his issuer's need no
-    /// look-up.
-    pub(crate) fn customer_secret(&self, cust: Id) -> [u8; 16]
-        ensures { result ≡ customer_secret (terms_of self.now (issuer_of cust)) cust }
-    {
-        customer_secret(&self.own, cust)
-    }
-
-    /// Writes the scrip text of a piece's change to the front of the buffer, and answers its length.
-    pub(crate) fn write_change(&self, paid: &Piece, id: Id, out: &mut [u8; 512]) -> usize
-        requires { self.now.price < paid.now.value }
-        ensures short { result ≤ 293 }
-        ensures text { take result out.new ≡ own_text (opening self.now) (change_from (opening self.now) paid.now self.now.price id) }
-    {
-        let change = self.change(paid, id);
-        let len = write_scrip(&change, &[0; 16], out);
-        let cert = certificate(&self.own, &out[..len - 32], id);
-        write_scrip(&change, &cert, out)
-    }
-
-    fn change(&self, paid: &Piece, id: Id) -> Piece
-        requires { self.now.price < paid.now.value }
-        ensures { result ≡ change_from (opening self.now) paid.now self.now.price id }
-    {
-        let (_, epoch, _) = id.parts();
-        let value = Amount::new(paid.value().get() - self.price()).unwrap();
-        let expires = self.own.series_end(epoch);
-        Piece::new(self.name, value, id, paid.cust(), expires, paid.props()).unwrap()
-    }
+/// The moment 0, at which a shop opens.
+fn start() -> Moment
+    ensures { result ≡ 0 }
+{
+    Moment::clamped(0)
 }
 
 /// The one secret of a shop, as the list of its secrets.

@@ -1,18 +1,21 @@
-ghost use Rattle.std.specs.Prelude.{◌≡◌, ◌≢◌, ◌⊎◌, ◌↔◌, [], map, string_bytes};
+ghost use Rattle.std.specs.Prelude.{◌≡◌, ◌≢◌, ◌⊎◌, ◌↔◌, [], map, string_bytes, OnOk};
 ghost use Rattle.mc_top.specs.Words.{Shop, AreWordsOf, AreBadWords};
 ghost use Rattle.mc_top.specs.Session.{IsSession};
 
-use crate::session::reply_to_all;
+use crate::shop::Shop;
 use crate::status::Status;
 use crate::words::shop_of;
+use house_core::reply_to_link;
+use mc_base::{Moment, NoMemory};
 use std::alloc::Global;
 
 /// `vendor once` over a whole link whose bytes are all there: the replies that [`run`](crate::run) sends,
 /// at the end of an empty `reply`, and the status.
 ///
 /// 0: the reply is the session of the link, from no history on. 2: the words, those after the
-/// program's name, are not `vendor once NAME TARGET PRICE SECRET CONTENTS`. 5: memory was refused.
-/// With 2 and 5 the reply stays empty.
+/// program's name, are not `vendor once NAME TARGET PRICE SECRET CONTENTS`. 5: memory was refused, to
+/// open the shop or to put the replies together; memory that is refused to accept a request is a reply
+/// with refusal 90 (`500`), and the session goes on. With 2 and 5 the reply stays empty.
 pub fn once(alloc: Global, words: &[String], link: &[u8], reply: &mut Vec<u8>) -> u8
     requires { reply.old.items ≡ [] }
     ensures statuses { (result ≡ 0) ⊎ ((result ≡ 2) ⊎ (result ≡ 5)) }
@@ -30,4 +33,18 @@ pub fn once(alloc: Global, words: &[String], link: &[u8], reply: &mut Vec<u8>) -
             Status::NoMemory.number()
         }
     }
+}
+
+/// Appends the replies of the shop to a whole link. An `Err` leaves a part of them.
+fn reply_to_all(
+    alloc: Global,
+    shop: &Shop<'_>,
+    link: &[u8],
+    out: &mut Vec<u8>,
+) -> Result<(), NoMemory>
+    requires { out.old.items ≡ [] }
+    ensures { OnOk result (IsSession shop.now link.now out.new.items) }
+{
+    let mut bench = shop.open(alloc)?;
+    reply_to_link(&mut bench, link, Moment::clamped(0), out)
 }

@@ -1,7 +1,6 @@
 ghost use Rattle.std.specs.Prelude.{◌≡◌, ◌≢◌, map, length, string_bytes, IfSome, IsNone};
 ghost use Rattle.mc_top.specs.Words.{AreWordsOf, AreBadWords};
 ghost use Rattle.mc_top.specs.Seven.{words_in};
-ghost use Rattle.mc_top.specs.Opening.{IsOfRange};
 
 use crate::shop::Shop;
 use mc_base::Amount;
@@ -16,7 +15,6 @@ const MOST_CONTENTS: usize = 65536;
 /// they are of no shop.
 pub(crate) fn shop_of(words: &[String]) -> Option<Shop<'_>>
     ensures shop { IfSome result (λ shop. AreWordsOf (map string_bytes words.now) shop) }
-    ensures range { IfSome result IsOfRange }
     ensures none { IsNone result → AreBadWords (map string_bytes words.now) }
 {
     shop_from(seven_of(words)?)
@@ -54,7 +52,6 @@ fn seven_of(words: &[String]) -> Option<Seven<'_>>
 
 fn shop_from(words: Seven<'_>) -> Option<Shop<'_>>
     ensures shop { IfSome result (λ shop. AreWordsOf (words_in words.entry) shop) }
-    ensures range { IfSome result IsOfRange }
     ensures none { IsNone result → AreBadWords (words_in words.entry) }
 {
     if words.role != b"vendor".as_slice() || words.command != b"once".as_slice() {
@@ -67,5 +64,5 @@ fn shop_from(words: Seven<'_>) -> Option<Shop<'_>>
     let target = Target::new(words.target)?;
     let price = Amount::new(number_of(Amount::MOST, words.price)?)?;
     let secret = of_hex(words.secret)?;
-    Some(Shop::open(name, target, price, secret, words.contents))
+    Some(Shop::new(name, target, price, secret, words.contents))
 }

@@ -69,14 +69,13 @@ fn no_link_is_no_fault(rt: HostRuntime) -> Result<(), Fail> {
     Ok(())
 }
 
-// Calls 0 to 6 are `next_link`, two pieces, the head and the contents of the reply, the link's end, and
-// one that is not made.
+// Calls 0 to 5 are `next_link`, two pieces, the reply, the link's end, and one that is not made.
 #[test]
 fn a_fault_ends_the_link_and_only_next_link_the_program(rt: HostRuntime) -> Result<(), Fail> {
     let alloc = rt.alloc();
     let words = right_words(alloc)?;
     let (_, link, wanted) = row(0);
-    for call in 0..7 {
+    for call in 0..6 {
         let stage = stage(alloc, pieces(alloc, link, 100, 1000)?, &[call])?;
         let (status, stage) = ran(alloc, &words, stage);
         let sent = stage.sent(0).unwrap_or(b"");
@@ -90,7 +89,7 @@ fn a_fault_ends_the_link_and_only_next_link_the_program(rt: HostRuntime) -> Resu
                 assert_eq!(rt; status, 0);
                 assert_eq!(rt; stage.said(), b"".as_slice());
                 assert!(rt; wanted.starts_with(sent));
-                assert_eq!(rt; sent == wanted, call > 4);
+                assert_eq!(rt; sent == wanted, call > 3);
             }
         }
     }
