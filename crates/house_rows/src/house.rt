@@ -1,15 +1,18 @@
 //! The house of the worked examples, beside its history.
 
-ghost use Rattle.std.specs.Prelude.{◌≡◌, [], ◌∷◌, IfSome, Some};
+ghost use Rattle.std.specs.Prelude.{◌≡◌, [], ◌∷◌, IfOk, IfSome, Some};
 ghost use Rattle.mc_records.specs.declared.limits.Limits.{Limits as Bounds};
-ghost use Rattle.mc_records.specs.Entry.{Fits};
+ghost use Rattle.mc_records.specs.Entry.{Fits, moment_of};
 ghost use Rattle.mc_records.specs.Limits.{AreInRange};
+ghost use Rattle.ledger_model.specs.Histories.{History as Entries};
 ghost use Rattle.ledger_model.specs.Houses.{site_kind};
 ghost use Rattle.ledger_model.specs.Lawful.{MayFollow};
+ghost use Rattle.house_core.specs.Bench.{IsHouse, house_time};
 ghost use Rattle.house_core.specs.Founding.{FoundsHouse};
+ghost use Rattle.house_core.specs.Noting.{IsCommand};
 ghost use Rattle.mc_records.specs.Views.{entry as entry_of};
 
-use house_core::{Bench, BenchFault, EnterFault, Verdict};
+use house_core::{Bench, BenchFault, EnterFault, Trade, Verdict};
 use ledger_model::{History, ModelAnswer, slow_answer};
 use mc_base::{Moment, NoMemory};
 use mc_records::{Limits, PieceList, Record, Refusal, Request, put_refusal_text, read_record};
@@ -27,7 +30,7 @@ pub(crate) struct Both {
 }
 
 /// The Site entry of a vendor, of which these bytes are the payload.
-fn vendor_site(payload: &[u8]) -> Option<Record<'_>>
+pub(crate) fn vendor_site(payload: &[u8]) -> Option<Record<'_>>
     ensures founds { IfSome result (λ r. FoundsHouse (entry_of r)) }
     ensures kind { IfSome result (λ r. site_kind (entry_of r ∷ []) ≡ Some 0) }
     ensures first { IfSome result (λ r. (l : Bounds) → MayFollow l [] (entry_of r)) }
@@ -145,22 +148,25 @@ fn push(alloc: Global, history: &mut History, payload: &[u8]) -> Result<(), Fail
 
 /// Enters the entry of a payload in hex digits, terms or goods, at its moment. Answers its number.
 pub(crate) fn enter(alloc: Global, both: &mut Both, digits: &str) -> Result<u64, Fail> {
+    let payload = hex::decode(alloc, digits)?;
+    let number = enter_payload(&mut both.bench, &payload)?;
+    push(alloc, &mut both.history, &payload)?;
+    Ok(number)
+}
+
+/// Enters the entry of a payload, terms or goods, at its moment. Answers its number.
+pub(crate) fn enter_payload<T: Trade>(bench: &mut Bench<T>, payload: &[u8]) -> Result<u64, Fail>
+    ensures house { (h : Entries) → IsHouse T.stands T.site T.holds bench.old h → IfOk result (λ n. (g : Entries) × IsHouse T.stands T.site T.holds bench.new g) }
+{
     // The check lets a record go only where the types of its parts are named.
     let _parts: Option<(PieceList<'_>, Moment, Id, Terms)> = None;
-    let payload = hex::decode(alloc, digits)?;
-    let Ok(record) = read_record(&payload) else {
+    let Ok(record) = read_record(payload) else {
         return Err("a payload")?;
     };
-    let entered = match record {
+    match record {
         Record::Terms { moment, terms } => {
-            let time = both.bench.raise(moment);
-            if time != moment {
-                return Err("a moment of the past")?;
-            }
-            both.bench.enter(&Record::Terms {
-                moment: time,
-                terms,
-            })
+            let moment = raise_to(bench, moment)?;
+            enter_record(bench, &Record::Terms { moment, terms })
         }
         Record::Goods {
             moment,
@@ -169,25 +175,44 @@ pub(crate) fn enter(alloc: Global, both: &mut Both, digits: &str) -> Result<u64,
             kind,
             contents,
         } => {
-            let time = both.bench.raise(moment);
-            if time != moment {
-                return Err("a moment of the past")?;
-            }
-            both.bench.enter(&Record::Goods {
-                moment: time,
-                target,
-                price,
-                kind,
-                contents,
-            })
+            let moment = raise_to(bench, moment)?;
+            enter_record(
+                bench,
+                &Record::Goods {
+                    moment,
+                    target,
+                    price,
+                    kind,
+                    contents,
+                },
+            )
         }
-        _ => return Err("terms or goods")?,
-    };
-    match entered {
-        Ok(number) => {
-            push(alloc, &mut both.history, &payload)?;
-            Ok(number)
-        }
+        _ => Err("terms or goods")?,
+    }
+}
+
+/// Raises the house time to a moment that is not of the past, and answers it.
+fn raise_to<T: Trade>(bench: &mut Bench<T>, moment: Moment) -> Result<Moment, Fail>
+    ensures time { IfOk result (λ t. t ≡ house_time bench.new) }
+    ensures house { (h : Entries) → IsHouse T.stands T.site T.holds bench.old h → IsHouse T.stands T.site T.holds bench.new h }
+{
+    let time = bench.raise(moment);
+    if time == moment {
+        Ok(time)
+    } else {
+        Err("a moment of the past")?
+    }
+}
+
+/// Enters an entry of the house time.
+fn enter_record<T: Trade>(bench: &mut Bench<T>, r: &Record<'_>) -> Result<u64, Fail>
+    requires fits { Fits (entry_of r.now) }
+    requires command { IsCommand (entry_of r.now) }
+    requires time { moment_of (entry_of r.now) ≡ house_time bench.old }
+    ensures house { (h : Entries) → IsHouse T.stands T.site T.holds bench.old h → IfOk result (λ n. (g : Entries) × IsHouse T.stands T.site T.holds bench.new g) }
+{
+    match bench.enter(r) {
+        Ok(number) => Ok(number),
         Err(EnterFault::Unlawful) => Err("an unlawful entry")?,
         Err(EnterFault::Refused(_)) => Err("a refused entry")?,
         Err(EnterFault::NoMemory) => Err("memory")?,

@@ -1,5 +1,5 @@
-//! A house in memory with a vendor's shelf: the worked examples, and a generated run beside the ledger's
-//! slow evaluators.
+//! A house in memory with a vendor's shelf: the worked examples, a generated run beside the ledger's slow
+//! evaluators, and links that are served over a stage.
 #![tactic(auto)]
 
 #[cfg(test)]
@@ -8,5 +8,7 @@ mod generated;
 mod house;
 #[cfg(test)]
 mod rows;
+#[cfg(test)]
+mod serving;
 #[cfg(test)]
 mod texts;
