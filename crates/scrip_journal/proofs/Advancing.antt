@@ -30,6 +30,12 @@ relast view a h last r = record {
   synced = r.synced;
 }
 
+-- what has ended gives no place
+pub no_place : (e : Ending) (place : ℕ) → answer_of e ≡ Ok (Some place) → ⊥
+no_place Closed place is = cc
+no_place (Spoiled at) place is = cc
+no_place Failed place is = cc
+
 module _ {D : Type 0} (view : D → DiskView) (moved : D → D → Type 0) (old b : Reading D) (last : List ℕ) (on : old.ended ≡ None) (goes : moved old.disk b.disk) (ahead : ReadAhead view (record old { last = last }) b) where
   not_again : (given : Given) (new : Reading D) (e : Ending) → old.ended ≡ Some e → (given ≡ answer_of e) × (new ≡ old)
   not_again given new e is = absurd (cc (sym on ∙ is))
@@ -41,6 +47,8 @@ module _ {D : Type 0} (view : D → DiskView) (moved : D → D → Type 0) (old 
     again = not_again (Ok (Some gate)) _;
     ended = ahead.same.ended ∙ on;
     limit = ahead.same.limit;
+    rises = λ place is. (omega (arith, ahead.same.gate), omega (arith, frame.within));
+    has_payload = λ place is. (frame.next, frame.fits, took.1 frame);
     cause = λ _. faults;
     reads = λ h r.
         (took.0 ∙ ahead.same.gate, frame.next, frame.fits, took.1 frame, next_reading view b h (still_reading view (record old { last = last }) h (relast view old h last r) b ahead) _ n frame (ahead.same.ended ∙ on) refl);
@@ -79,6 +87,8 @@ module _ {D : Type 0} (view : D → DiskView) (moved : D → D → Type 0) (old 
         again = not_again (answer_of e) _;
         ended = ended_so e;
         limit = ahead.same.limit;
+        rises = λ place is. absurd (no_place e place is);
+        has_payload = λ place is. absurd (no_place e place is);
         cause = λ _. caused e faults;
         reads = reads_no_more e ends;
       }))

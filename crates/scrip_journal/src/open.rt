@@ -2,7 +2,7 @@
 
 ghost use Rattle.std.specs.Prelude.{◌≡◌, [], List, ℕ, IfOk, IfErr, OnOk, Some, None};
 ghost use Rattle.mc_outside.specs.Bytes.{Rose};
-ghost use Rattle.mc_outside.specs.DiskView.{OnlyRead};
+ghost use Rattle.mc_outside.specs.DiskView.{OnlyRead, IsSynced};
 ghost use Rattle.mc_records.specs.Limits.{AreInRange};
 ghost use Rattle.scrip_journal.specs.States.{IsReading};
 ghost use Rattle.scrip_journal.specs.Opens.{open_disk, MatchOpenFault, OpensBy};
@@ -20,7 +20,7 @@ use std::alloc::Global;
 /// that what is read will last.
 ///
 /// `NotJournal` comes exactly where the disk's first eight bytes aren't the header, `Disk` only where
-/// the disk failed. Nothing is written.
+/// the disk failed. Nothing is written. A disk that is no journal is synced, too.
 pub fn open_journal<D: Disk>(
     alloc: Global,
     disk: D,
@@ -36,6 +36,7 @@ pub fn open_journal<D: Disk>(
         (λ d. (D.disk d).faults ≡ (D.disk disk).faults)
         (λ d. Rose (D.disk disk).faults (D.disk d).faults)
         (λ d. d ≡ disk)) }
+    ensures synced { IfErr result (λ f. MatchOpenFault f (λ d. IsSynced (D.disk d)) (λ d. Unit {0}) (λ d. Unit {0})) }
     ensures same_count { OnOk result ((D.disk (open_disk result)).faults ≡ (D.disk disk).faults) }
 {
     let mut disk = disk;
