@@ -1,6 +1,6 @@
 -- What comes of a request, from the answer to it.
-use Rattle.std.proofs.Common.{◌≡◌, ℕ, Bool, true, false, cond, List, [], ◌∷◌, ◌++◌, length, Option, Some, None, Ok, Err, refl, sym, ap, ap₂, subst, ◌∙◌, arith, find}
-use Rattle.std.specs.Prelude.{◌&&◌, ◌||◌, ◌==◌, option_map, IsTrue, IfOk, IfErr}
+use Rattle.std.proofs.Common.{◌≡◌, ◌≤◌, ◌^◌, ℕ, Bool, true, false, cond, List, [], ◌∷◌, ◌++◌, length, Option, Some, None, Ok, Err, refl, sym, ap, ap₂, subst, ◌∙◌, arith, find}
+use Rattle.std.specs.Prelude.{◌&&◌, ◌||◌, ◌==◌, option_map, IsTrue, IfOk, IfErr, IsOk, OnOk, Result}
 use Rattle.std.specs.List.{list_any}
 use Rattle.std.proofs.lemmas.Bool.{eq-eqb}
 use Rattle.std.proofs.lemmas.List.Folds.{list_any-append}
@@ -21,7 +21,6 @@ use Rattle.kept_replies.specs.Kept.{KeptReply, KeptView, found, has_number, is_i
 use Rattle.ledger_model.specs.Histories.{History}
 use Rattle.ledger_model.specs.Answer as answers
 use Rattle.ledger_model.specs.Answer.{Answer, answer, answered}
-use Rattle.ledger_model.proofs.FollowLaws.{may_follow}
 use Rattle.house_core.specs.declared.bench.Bench.{Bench}
 use Rattle.house_core.specs.declared.verdict.Acceptance.{Acceptance}
 use Rattle.house_core.specs.declared.verdict.Stopped.{Stopped}
@@ -32,8 +31,8 @@ use Rattle.house_core.specs.Trade.{BringsFor}
 use Rattle.house_core.specs.Books.{BooksView, HasChange, GoesOn, IsEntered, IsAsBefore, series_now}
 use Rattle.house_core.specs.Stands.{Stands, has_ended, scrip_request}
 use Rattle.house_core.specs.Verdicts.{accept_entry, stop_of, IsReady, RepeatsKept, StopIsOfSite}
-use Rattle.house_core.specs.Bench.{Holds, Accepts, KeepsReply, FaultIsOfSite, house_time, limits_of, stopped_with}
-use Rattle.house_core.proofs.Entered.{stands_entered}
+use Rattle.house_core.specs.Bench.{Holds, IsRoomed, Accepts, KeepsReply, FaultIsOfSite, house_time, limits_of, stopped_with}
+use Rattle.house_core.proofs.Entered.{stands_entered, takes_follow}
 
 -- ---- refusals and repeats
 
@@ -128,12 +127,12 @@ stands_as_before {old = old} {new = new} {h = h} st is = record {
     same_found : (t : ℕ) (q : Asked) → option_map (λ (e : KeptEntry). e.number) (found old.kept t q) ≡ option_map (λ e. e.number) (found new.kept t q)
     same_found t q = rw (is.keep, is.replies) refl
 
-ready_as_before : {old new : BooksView} → IsAsBefore old new → (c : Certified) (target : List ℕ) (a : Acceptance) → IsReady old c target a → IsReady new c target a
+pub ready_as_before : {old new : BooksView} → IsAsBefore old new → (c : Certified) (target : List ℕ) (a : Acceptance) → IsReady old c target a → IsReady new c target a
 ready_as_before {old = old} {new = new} is c target a ready = record {
   secret = rw (is.name, is.terms) ready.secret;
   change = by_change a.change ready.change;
   payload = subst (λ (t : ℕ). a.payload ≡ length (payload (accept_entry t c.text target a))) (sym is.time) ready.payload;
-  fits = omega (arith, ready.fits, is.sized, ap (λ (l : Limits). l.journal) is.limits);
+  fits = omega (arith, ready.fits, is.sized);
 }
   where
     series : series_now new ≡ series_now old
@@ -145,19 +144,21 @@ ready_as_before {old = old} {new = new} is c target a ready = record {
 
 -- ---- the new entry
 
-pub may_learn : {b : BooksView} {h : History} → Stands b h → (kind : ℕ) (q : Asked) (text : List ℕ) (a : Acceptance) → answer h b.time b.limits q ≡ answers.Take (accept_entry b.time text q.target a)
-    → MayLearn b.limits kind b.count h (accept_entry b.time text q.target a)
-may_learn {b = b} {h = h} st kind q text a takes =
-    let may = may_follow h b.time b.limits q (accept_entry b.time text q.target a) st.in_time st.limits.journal_most takes in
+pub may_learn : {b : BooksView} {h : History} → Stands b h → (kind : ℕ) (limits : Limits) (q : Asked) (text : List ℕ) (a : Acceptance) → limits.series ≡ b.limits.series → limits.journal ≤ 2 ^ 40
+    → answer h b.time limits q ≡ answers.Take (accept_entry b.time text q.target a) → MayLearn b.limits kind b.count h (accept_entry b.time text q.target a)
+may_learn {b = b} {h = h} st kind limits q text a series most takes =
+    let may = takes_follow st limits q text a series most takes in
     record { counted = sym st.counted; in_order = may.in_order; by_house = may.allowed }
 
 pub stands_taken : {old mid new : BooksView} {h : History} → Stands old h → IsAsBefore old mid → (q : Asked) (c : Certified) (a : Acceptance) → scrip_of c.text ≡ Ok (c.piece, c.cert)
-    → IsReady old c q.target a → BringsFor h q.target a.deed → answer h old.time old.limits q ≡ answers.Take (accept_entry old.time c.text q.target a)
+    → IsReady old c q.target a → BringsFor h q.target a.deed → (limits : Limits) → limits.series ≡ old.limits.series → limits.journal ≤ 2 ^ 40
+    → answer h old.time limits q ≡ answers.Take (accept_entry old.time c.text q.target a)
     → IsEntered mid new (scrip_request c.text q.target q.sign) c.piece a → Stands new (h ++ accept_entry old.time c.text q.target a ∷ [])
-stands_taken {old = old} {mid = mid} {new = new} {h = h} st before q c a read ready brings takes is =
-    let later : answer h mid.time mid.limits q ≡ answers.Take (accept_entry mid.time c.text q.target a) = rw (before.time, before.limits) takes in
+stands_taken {old = old} {mid = mid} {new = new} {h = h} st before q c a read ready brings limits series most takes is =
+    let later : answer h mid.time limits q ≡ answers.Take (accept_entry mid.time c.text q.target a) = rw before.time takes in
+    let same : limits.series ≡ mid.limits.series = series ∙ ap (λ (l : Limits). l.series) (sym before.limits) in
     subst (λ (t : ℕ). Stands new (h ++ accept_entry t c.text q.target a ∷ [])) before.time
-    (stands_entered (stands_as_before st before) q c a read (ready_as_before before c q.target a ready) brings later is)
+    (stands_entered (stands_as_before st before) q c a read (ready_as_before before c q.target a ready) brings limits same most later is)
 
 -- ---- an entry that accepts nothing
 
@@ -180,3 +181,34 @@ goes_as_before is (Got m pieces) goes = tt
 goes_as_before is (Pend m ask peer target scrip secret) goes = tt
 goes_as_before is (Done m n price change got) goes = tt
 goes_as_before is (Refused m n refusal) goes = tt
+
+-- ---- what is learned
+
+pub as_it_was : (b : BooksView) → IsAsBefore b b
+as_it_was b = record {
+  name = refl;
+  clear = refl;
+  terms = refl;
+  own_terms = refl;
+  time = refl;
+  limits = refl;
+  spent = λ id. refl;
+  keep = refl;
+  replies = refl;
+  issuer = refl;
+  most = refl;
+  issued = λ s. refl;
+  worth = λ s. refl;
+  redeemed = λ s. refl;
+  takings = refl;
+  counted = refl;
+  sized = refl;
+}
+
+pub on_is_ok : {T E : Type 0} (r : Result T E) (P : Type 0) → IsOk r → OnOk r P → P
+on_is_ok (Ok x) P is p = p
+on_is_ok (Err e) P is p = absurd (cc is)
+
+-- a house where room was made stands for what it stood for
+pub holds_roomed : {T : Type 0} (stands : T → History → Type 0) (site : T → ℕ) (holds : T → ℕ → Type 0) (old new : Bench T) (h : History) → IsRoomed stands site holds old new → Holds stands site old h → Holds stands site new h
+holds_roomed stands site holds old new h is st = record { books = stands_as_before st.books is.books; trade = is.stands' h st.trade; of_kind = rw is.site' st.of_kind }

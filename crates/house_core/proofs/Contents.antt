@@ -19,7 +19,7 @@ use Rattle.house_core.specs.Stands.{IsReply}
 use Rattle.mc_records.specs.Requests.{Asked}
 use Rattle.ledger_model.specs.Answer.{Answer, answer, answered}
 use Rattle.house_core.specs.Verdicts.{stop_of}
-use Rattle.house_core.specs.Bench.{IsInForceFor, HasContents, KeepsContents, house_time, limits_of, stopped_with}
+use Rattle.house_core.specs.Bench.{IsInForceFor, IsRoomed, HasContents, KeepsContents, house_time, limits_of, stopped_with}
 
 get_before : (h : History) (e : Entry) (n : ℕ) → n < length h → slice_get (h ++ e ∷ []) n ≡ slice_get h n
 get_before [] e n lt = absurd (omega arith)
@@ -71,7 +71,7 @@ new_in_force h e number quiet (kept.Sale piece cert secret stock) in_force = tt
 new_in_force h e number quiet (kept.Credit balance) in_force = tt
 new_in_force h e number quiet (kept.Draw piece cert secret) in_force = tt
 
-held_by : (old new : ℕ → Type 0) → ((n : ℕ) → old n → new n) → (d : Deed) → OfGoods old d → OfGoods new d
+pub held_by : (old new : ℕ → Type 0) → ((n : ℕ) → old n → new n) → (d : Deed) → OfGoods old d → OfGoods new d
 held_by old new keeps (kept.Goods n) held = keeps n held
 held_by old new keeps (kept.Sale piece cert secret stock) held = tt
 held_by old new keeps (kept.Credit balance) held = tt
@@ -147,3 +147,7 @@ contents_of_none holds b h none = record {
   in_force = subst (All (IsInForceFor h)) (sym none) (All-nil (IsInForceFor h));
   held = subst (All (λ r. OfGoods (holds b.trade) r.entry.deed)) (sym none) (All-nil (λ r. OfGoods (holds b.trade) r.entry.deed));
 }
+
+-- and so is a house where room was made
+pub contents_roomed : {T : Type 0} (stands : T → History → Type 0) (site : T → ℕ) (holds : T → ℕ → Type 0) (b c : Bench T) (h : History) → IsRoomed stands site holds b c → HasContents holds b h → HasContents holds c h
+contents_roomed stands site holds b c h is has = contents_as_before holds b c h has is.books.replies is.held

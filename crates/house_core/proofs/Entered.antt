@@ -28,11 +28,11 @@ use Rattle.ledger_model.specs.Sums.{price_paid, values}
 use Rattle.ledger_model.specs.Lines.{given, refused_if, ◌>>=◌}
 use Rattle.ledger_model.specs.Stages.{Offer, is_repeat, is_same_sign, shelf_by}
 use Rattle.ledger_model.specs.Answer.{offer, desk_offer, answer, Take}
-use Rattle.ledger_model.specs.Lawful.{IsLawful}
+use Rattle.ledger_model.specs.Lawful.{IsLawful, MayFollow, IsAllowed, request_of}
 use Rattle.ledger_model.proofs.TableLaws.{line_ok, refused_ok, ok_is, answer_through}
 use Rattle.ledger_model.proofs.AcceptLaws.{accepted_snoc}
 use Rattle.ledger_model.proofs.SerialLaws.{own_out_snoc, minted_snoc, count-append}
-use Rattle.ledger_model.proofs.FollowLaws.{same_request, taken_lawful, size_snoc}
+use Rattle.ledger_model.proofs.FollowLaws.{same_request, may_follow, longer_lawful, size_snoc}
 use Rattle.house_core.specs.declared.verdict.Acceptance.{Acceptance}
 use Rattle.house_core.specs.Views.{entry_deed}
 use Rattle.house_core.specs.Trade.{BringsFor}
@@ -288,12 +288,43 @@ again_more {old = old} {new = new} {h = h} st q c a same is t text target sign l
     ∙ ap number (sym (find-append asks old.kept.replies (r ∷ [])))
     ∙ kept
 
+-- what the books' own limits allow is what limits of the same series allow
+pub same_series : (limits own : Limits) (h : History) (e : Entry) → limits.series ≡ own.series → MayFollow limits h e → MayFollow own h e
+same_series limits own h e same may = record { in_order = may.in_order; allowed = allowed e may.allowed }
+  where
+    bounds : ℕ → Limits
+    bounds series = record { journal = 2 ^ 40; series = series }
+
+    allowed : (x : Entry) → IsAllowed limits h x → IsAllowed own h x
+    allowed (Site m kind name house) a = a
+    allowed (AddTerms m terms) a = a
+    allowed (Goods m target price kind contents) a = a
+    allowed (Accept m scrip target sign price change deed) a = ap (λ (n : ℕ). answer h m (bounds n) (request_of scrip target sign)) (sym same) ∙ a
+    allowed (Mint m reference count value first) a = (a.0, a.1, a.2, omega (arith, a.3, same))
+    allowed (Account m name key) a = a
+    allowed (Deposit m name amount reference) a = a
+    allowed (Withdraw m name amount reference) a = a
+    allowed (Draw m target sign drawn) a = a
+    allowed (Licence m vendor terms) a = a
+    allowed (Stock m vendor pieces) a = a
+    allowed (Got m pieces) a = a
+    allowed (Pend m ask peer target scrip secret) a = a
+    allowed (Done m n price change got) a = a
+    allowed (Refused m n refusal) a = a
+
+-- the entry that the answer takes may follow
+pub takes_follow : {b : BooksView} {h : History} → Stands b h → (limits : Limits) (q : Asked) (text : List ℕ) (a : Acceptance) → limits.series ≡ b.limits.series → limits.journal ≤ 2 ^ 40
+    → answer h b.time limits q ≡ Take (accept_entry b.time text q.target a) → MayFollow b.limits h (accept_entry b.time text q.target a)
+takes_follow {b = b} {h = h} st limits q text a series most takes =
+    let e = accept_entry b.time text q.target a in
+    same_series limits b.limits h e series (may_follow h b.time limits q e st.in_time most takes)
+
 pub stands_entered : {old new : BooksView} {h : History} → Stands old h → (q : Asked) (c : Certified) (a : Acceptance) → scrip_of c.text ≡ Ok (c.piece, c.cert)
-    → IsReady old c q.target a → BringsFor h q.target a.deed → answer h old.time old.limits q ≡ Take (accept_entry old.time c.text q.target a)
+    → IsReady old c q.target a → BringsFor h q.target a.deed → (limits : Limits) → limits.series ≡ old.limits.series → limits.journal ≤ 2 ^ 40 → answer h old.time limits q ≡ Take (accept_entry old.time c.text q.target a)
     → IsEntered old new (scrip_request c.text q.target q.sign) c.piece a → Stands new (h ++ accept_entry old.time c.text q.target a ∷ [])
-stands_entered {old = old} {new = new} {h = h} st q c a read ready brings takes is =
+stands_entered {old = old} {new = new} {h = h} st q c a read ready brings limits series bound takes is =
     let e = accept_entry old.time c.text q.target a in
-    let taken = is_taken h old.time old.limits q c a read takes in
+    let taken = is_taken h old.time limits q c a read takes in
     let same = same_house old.limits h e st.lawful in
     let terms = all_terms_stay h old c.text q.target a in
     let most : old.own.most ≤ 2 ^ 32 = omega (arith, st.most, st.limits.series_most) in
@@ -327,7 +358,7 @@ stands_entered {old = old} {new = new} {h = h} st q c a read ready brings takes 
       counted = omega (arith, length-append h (e ∷ []), st.counted, is.counted);
       sized = omega (arith, size_snoc h e, st.sized, ready.payload, is.sized);
       limits = rw is.limits st.limits;
-      lawful = rw is.limits (taken_lawful h old.time old.limits q e st.lawful st.in_time st.limits.journal_most takes);
+      lawful = rw is.limits (longer_lawful old.limits h e st.lawful (takes_follow st limits q c.text a series bound takes));
     }
   where
     some : Issuing → Option Issuing

@@ -121,13 +121,13 @@ at_most series n s = go (eqb series s)
     go true = omega arith
     go false = omega arith
 
-pub sound_entered : (old new : BooksView) (q : Asked) (paid : Scrip) (a : Acceptance) → AreSound old → IsPiece paid → old.size + a.payload + 5 ≤ old.limits.journal → IsEntered old new q paid a → AreSound new
+pub sound_entered : (old new : BooksView) (q : Asked) (paid : Scrip) (a : Acceptance) → AreSound old → IsPiece paid → old.size + a.payload + 5 ≤ 2 ^ 40 → IsEntered old new q paid a → AreSound new
 sound_entered old new q paid a sound piece fits e = record {
   terms = e.issuer ∙ sound.terms ∙ sym e.own_terms;
   limits = rw e.limits sound.limits;
   most = e.most ∙ sound.most ∙ ap (λ (l : Limits). l.series) (sym e.limits);
   counted = omega (arith, e.counted, e.sized, sound.counted);
-  sized = omega (arith, e.sized, fits, sound.limits.journal_most);
+  sized = omega (arith, e.sized, fits);
   keeps = subst (λ (n : ℕ). 0 < n) (sym e.keep) sound.keeps;
   numbers = rw (e.replies, e.counted) (All-push (λ r. r.entry.number < old.count + 1) old.kept.replies last
       (All-weaker (λ r. r.entry.number < old.count) (λ r. r.entry.number < old.count + 1) (λ r lt. omega (arith, lt)) old.kept.replies sound.numbers) (omega arith));

@@ -9,6 +9,7 @@ pub mod Accepting
 pub mod Founded
 pub mod Noted
 pub mod Contents
+pub mod Replayed
 pub mod WentLemmas
 pub mod LinkCalls
 pub mod ServingLemmas
@@ -21,3 +22,6 @@ pub mod ItemLemmas
 pub mod TurnsLemmas
 pub mod LinksLemmas
 pub mod ReplyingLemmas
+pub mod HouseDisk
+pub mod OpeningLemmas
+pub mod FoundLemmas

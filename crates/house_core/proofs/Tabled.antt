@@ -97,12 +97,12 @@ series_stands {b = b} {h = h} st t =
     let zero : b.own_terms.issuer ≡ 0 = terms_are_of (all_terms h) 0 b.own_terms st.own_terms in
     ap (λ (o : Option Issuing). unwrap_or (option_map (λ x. epoch x t) o) 0) st.own_terms ∙ omega (arith, zero) ∙ ap (λ (x : Issuing). series_at x t) (sym st.issuer)
 
-change_stands : {b : BooksView} {h : History} → Stands b h → (price value : ℕ) → needed (nat_lt price value) (next_own h b.time b.limits) ≡ change_in b price value
-change_stands {b = b} {h = h} st price value =
-    rw (series_stands st b.time, st.issued (series_at b.own.terms b.time), st.most) refl
+change_stands : {b : BooksView} {h : History} → Stands b h → (limits : Limits) → limits.series ≡ b.limits.series → (price value : ℕ) → needed (nat_lt price value) (next_own h b.time limits) ≡ change_in b price value
+change_stands {b = b} {h = h} st limits same price value =
+    rw (series_stands st b.time, st.issued (series_at b.own.terms b.time), st.most, same) refl
 
-fitted_stands : {b : BooksView} {h : History} → Stands b h → (e : Entry) → fitted h b.limits e ≡ fitted_by b.limits.journal b.size 0 e
-fitted_stands {b = b} {h = h} st e = ap (λ (n : ℕ). fitted_by b.limits.journal n 0 e) st.sized
+fitted_stands : {b : BooksView} {h : History} → Stands b h → (limits : Limits) (e : Entry) → fitted h limits e ≡ fitted_by limits.journal b.size 0 e
+fitted_stands {b = b} {h = h} st limits e = ap (λ (n : ℕ). fitted_by limits.journal n 0 e) st.sized
 
 -- ---- 30 to 33
 
@@ -112,26 +112,27 @@ pub offered_at : (h : History) (t u : ℕ) (limits others : Limits) (target : Li
 offered_at h t u limits others target value worth o time limit same e =
     e ∙ ap (λ (x : ℕ). offer h x others target worth) time ∙ ap (λ (l : Limits). offer h t l target worth) limit ∙ ap (λ (n : ℕ). offer h t limits target n) same
 
-pub no_change : {b : BooksView} {h : History} → Stands b h → (q : Asked) (c : Certified) (sign : Option (List ℕ)) (o : Offer) (s : Stop)
-    → Ok o ≡ offer h b.time b.limits q.target c.piece.value → Err s ≡ change_in b o.price c.piece.value → Err s ≡ taken h b.time b.limits q c sign
-no_change st q c sign o s offered full = rw (← offered, change_stands st o.price c.piece.value, ← full) refl
+pub no_change : {b : BooksView} {h : History} → Stands b h → (limits : Limits) → limits.series ≡ b.limits.series → (q : Asked) (c : Certified) (sign : Option (List ℕ)) (o : Offer) (s : Stop)
+    → Ok o ≡ offer h b.time limits q.target c.piece.value → Err s ≡ change_in b o.price c.piece.value → Err s ≡ taken h b.time limits q c sign
+no_change st limits same q c sign o s offered full = rw (← offered, change_stands st limits same o.price c.piece.value, ← full) refl
 
-pub fits : {b : BooksView} {h : History} → Stands b h → (q : Asked) (c : Certified) (sign : Option (List ℕ)) (o : Offer) (change : Option ℕ) (r : Result Entry Stop)
-    → Ok o ≡ offer h b.time b.limits q.target c.piece.value → Ok change ≡ change_in b o.price c.piece.value
-    → r ≡ fitted_by b.limits.journal b.size 0 (Accept b.time c.text q.target sign o.price change o.deed) → r ≡ taken h b.time b.limits q c sign
-fits st q c sign o change r offered changed is = rw (← offered, change_stands st o.price c.piece.value, ← changed, fitted_stands st (Accept _ c.text q.target sign o.price change o.deed)) is
+pub fits : {b : BooksView} {h : History} → Stands b h → (limits : Limits) → limits.series ≡ b.limits.series → (q : Asked) (c : Certified) (sign : Option (List ℕ)) (o : Offer) (change : Option ℕ) (r : Result Entry Stop)
+    → Ok o ≡ offer h b.time limits q.target c.piece.value → Ok change ≡ change_in b o.price c.piece.value
+    → r ≡ fitted_by limits.journal b.size 0 (Accept b.time c.text q.target sign o.price change o.deed) → r ≡ taken h b.time limits q c sign
+fits st limits same q c sign o change r offered changed is =
+    rw (← offered, change_stands st limits same o.price c.piece.value, ← changed, fitted_stands st limits (Accept _ c.text q.target sign o.price change o.deed)) is
 
 -- ---- from 22 on
 
-pub not_spendable : {b : BooksView} {h : History} → Stands b h → (q : Asked) (c : Certified) (secret : List ℕ) (s : Stop)
-    → Ok secret ≡ genuine_in b c → Err s ≡ spendable_in b secret q c → Err s ≡ after_repeat h b.time b.limits q c
-not_spendable {h = h} st q c secret s is refused =
+pub not_spendable : {b : BooksView} {h : History} → Stands b h → (limits : Limits) (q : Asked) (c : Certified) (secret : List ℕ) (s : Stop)
+    → Ok secret ≡ genuine_in b c → Err s ≡ spendable_in b secret q c → Err s ≡ after_repeat h b.time limits q c
+not_spendable {h = h} st limits q c secret s is refused =
     let genuine_is : genuine h c ≡ Ok secret = genuine_stands st c ∙ sym is in
     rw (genuine_is, spendable_stands st secret q c genuine_is, ← refused) refl
 
-pub takes : {b : BooksView} {h : History} → Stands b h → (q : Asked) (c : Certified) (secret : List ℕ) (sign : Option (List ℕ)) (r : Result Entry Stop)
-    → Ok secret ≡ genuine_in b c → Ok sign ≡ spendable_in b secret q c → r ≡ taken h b.time b.limits q c sign → r ≡ after_repeat h b.time b.limits q c
-takes {h = h} st q c secret sign r is may e =
+pub takes : {b : BooksView} {h : History} → Stands b h → (limits : Limits) (q : Asked) (c : Certified) (secret : List ℕ) (sign : Option (List ℕ)) (r : Result Entry Stop)
+    → Ok secret ≡ genuine_in b c → Ok sign ≡ spendable_in b secret q c → r ≡ taken h b.time limits q c sign → r ≡ after_repeat h b.time limits q c
+takes {h = h} st limits q c secret sign r is may e =
     let genuine_is : genuine h c ≡ Ok secret = genuine_stands st c ∙ sym is in
     rw (genuine_is, spendable_stands st secret q c genuine_is, ← may) e
 
@@ -148,12 +149,12 @@ number_at b q asked c r same e = e ∙ ap (λ (p : Asked). option_map (λ e. e.n
 again_is : {b : BooksView} {h : History} → Stands b h → (q : Asked) (c : Certified) → repeated h b.time c q ≡ kept_number b q c
 again_is {b = b} st q c = st.again b.time c.text q.target q.sign (omega arith)
 
-pub comes_again : {b : BooksView} {h : History} → Stands b h → (q : Asked) (c : Certified) (n : ℕ) → Some n ≡ kept_number b q c → Err (Repeat n) ≡ after_read h b.time b.limits q c
-comes_again st q c n is = rw (again_is st q c, ← is) refl
+pub comes_again : {b : BooksView} {h : History} → Stands b h → (limits : Limits) (q : Asked) (c : Certified) (n : ℕ) → Some n ≡ kept_number b q c → Err (Repeat n) ≡ after_read h b.time limits q c
+comes_again st limits q c n is = rw (again_is st q c, ← is) refl
 
-pub is_new : {b : BooksView} {h : History} → Stands b h → (q : Asked) (c : Certified) (r : Result Entry Stop) → None ≡ kept_number b q c
-    → r ≡ after_repeat h b.time b.limits q c → r ≡ after_read h b.time b.limits q c
-is_new st q c r none e = rw (again_is st q c, ← none) e
+pub is_new : {b : BooksView} {h : History} → Stands b h → (limits : Limits) (q : Asked) (c : Certified) (r : Result Entry Stop) → None ≡ kept_number b q c
+    → r ≡ after_repeat h b.time limits q c → r ≡ after_read h b.time limits q c
+is_new st limits q c r none e = rw (again_is st q c, ← none) e
 
 -- ---- the whole table
 
@@ -161,3 +162,8 @@ pub answer_read : (h : History) (t : ℕ) (limits : Limits) (q : Asked) (c : Cer
     → r ≡ after_read h t limits q c → answered r ≡ answer h t limits q
 unfolding answer
 answer_read h t limits q c r asked read e = rw (asked, read) (ap answered e)
+
+-- the same where the limits are spelled in another way
+pub answer_under : (h : History) (t : ℕ) (limits own : Limits) (q : Asked) (c : Certified) (r : Result Entry Stop) → limits ≡ own → q.scrip ≡ Some c.text → scrip_of c.text ≡ Ok (c.piece, c.cert)
+    → r ≡ after_read h t limits q c → answered r ≡ answer h t own q
+answer_under h t limits own q c r same asked read e = answer_read h t limits q c r asked read e ∙ ap (λ (l : Limits). answer h t l q) same

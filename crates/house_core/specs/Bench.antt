@@ -1,7 +1,7 @@
 -- A house without a journal, and its history.
 use Rattle.std.specs.Prelude.{◌≡◌, ℕ, ◌<◌, [], ◌∷◌, ◌++◌, length, All, IsTrue, Some, Result, Ok, Err}
 use Rattle.mc_base.specs.declared.no_memory.NoMemory.{NoMemory}
-use Rattle.mc_records.specs.Entry.{Entry}
+use Rattle.mc_records.specs.Entry.{Entry, moment_of}
 use Rattle.mc_records.specs.declared.limits.Limits.{Limits}
 use Rattle.kept_replies.specs.Kept.{KeptReply, has_number}
 use Rattle.ledger_model.specs.Histories.{History}
@@ -14,9 +14,12 @@ use Rattle.house_core.specs.declared.verdict.Stopped.{Stopped}
 use Rattle.house_core.specs.declared.verdict.Stopped.TheVariants as stops
 use Rattle.house_core.specs.declared.verdict.EnterFault.{EnterFault}
 use Rattle.house_core.specs.declared.verdict.EnterFault.TheVariants as enters
+use Rattle.house_core.specs.declared.replaying.ReplayEnd.{ReplayEnd}
+use Rattle.house_core.specs.declared.replaying.ReplayEnd.TheVariants as ends
 use Rattle.house_core.specs.declared.verdict.BenchFault.{BenchFault}
 use Rattle.house_core.specs.declared.verdict.BenchFault.TheVariants as faults
 use Rattle.house_core.specs.Stands.{Stands}
+use Rattle.house_core.specs.Books.{IsAsBefore}
 use Rattle.house_core.specs.Trade.{OfGoods, Replaces}
 use Rattle.house_core.specs.Replying.{IsOfSite}
 use Rattle.house_core.specs.Session.{State}
@@ -50,6 +53,14 @@ pub record IsHouse {T : Type 0} (stands : T → History → Type 0) (site : T �
 -- the reply of the entry of this number is kept
 abbrev pub KeepsReply : {T : Type 0} → Bench T → ℕ → Type 0
 KeepsReply b n = IsTrue (has_number b.books.kept.replies n)
+
+-- Room was made in the books and in the trade: the house stands for what it stood for, and has what it
+-- had.
+pub record IsRoomed {T : Type 0} (stands : T → History → Type 0) (site : T → ℕ) (holds : T → ℕ → Type 0) (old new : Bench T) : Type 0 where
+  pub books : IsAsBefore old.books new.books
+  pub site' : site new.trade ≡ site old.trade
+  pub stands' : (h : History) → stands old.trade h → stands new.trade h
+  pub held : (n : ℕ) → holds old.trade n → holds new.trade n
 
 -- ---- from state to state
 
@@ -106,3 +117,17 @@ Enters stands site b limits h e (Ok n) = MayFollow limits h e × (n ≡ length h
 Enters stands site b limits h e (Err enters.Unlawful) = (MayFollow limits h e → ⊥) × Holds stands site b h
 Enters stands site b limits h e (Err (enters.Refused f)) = (fitted h limits e ≡ Err (Refuse f)) × Holds stands site b h
 Enters stands site b limits h e (Err enters.NoMemory) = Holds stands site b h
+
+-- Of an entry that accepts nothing and fits: it may follow, and is entered under the next number; or it
+-- may not follow, or there is no memory for it, and the house stays as it was.
+abbrev pub Follows : {T : Type 0} → (T → History → Type 0) → (T → ℕ) → Bench T → Limits → History → Entry → Result ℕ ReplayEnd → Type 0
+Follows stands site b limits h e (Ok n) = MayFollow limits h e × (n ≡ length h) × Holds stands site b (h ++ e ∷ [])
+Follows stands site b limits h e (Err ends.Unlawful) = (MayFollow limits h e → ⊥) × Holds stands site b h
+Follows stands site b limits h e (Err ends.NoMemory) = Holds stands site b h
+
+-- Of the next entry of a history: it may follow, and the house stands for the history with it, at its
+-- moment; or it may not follow; or there is no memory for it.
+abbrev pub Replays : {T : Type 0} → (T → History → Type 0) → (T → ℕ) → Bench T → Limits → History → Entry → Result (Unit {0}) ReplayEnd → Type 0
+Replays stands site b limits h e (Ok u) = MayFollow limits h e × Holds stands site b (h ++ e ∷ []) × (house_time b ≡ moment_of e)
+Replays stands site b limits h e (Err ends.Unlawful) = MayFollow limits h e → ⊥
+Replays stands site b limits h e (Err ends.NoMemory) = Unit {0}

@@ -10,5 +10,8 @@ pub mod Verdicts
 pub mod Replying
 pub mod Session
 pub mod Bench
+pub mod House
+pub mod Opening
+pub mod Found
 pub mod Course
 pub mod Turns

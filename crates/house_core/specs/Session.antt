@@ -1,5 +1,5 @@
 -- What an item does at a house, and the replies to the items of a link.
-use Rattle.std.specs.Prelude.{◌≡◌, ◌⊎◌, ℕ, max, List, [], ◌∷◌, ◌++◌, length, All, Result, Ok, Err}
+use Rattle.std.specs.Prelude.{◌≡◌, ◌⊎◌, ℕ, max, List, [], ◌∷◌, ◌++◌, length, All, Option, Some, None, Result, Ok, Err}
 use Rattle.mc_records.specs.declared.limits.Limits.{Limits}
 use Rattle.mc_records.specs.declared.refusal.Refusal.{Refusal}
 use Rattle.mc_records.specs.declared.refusal.Refusal.TheVariants.{NoMemory}
@@ -78,3 +78,8 @@ Says _ _ s t = ⊥
 abbrev pub said_reply : State → Asked → Result ℕ Refusal → List ℕ
 said_reply t q (Ok number) = reply_of t.history number
 said_reply t q (Err f) = refusal_of t.history t.time q f
+
+-- the reply to a refusal at a time: that of a request, or of a head that is no request
+abbrev pub refused_reply : History → ℕ → Option Asked → Refusal → List ℕ
+refused_reply h t (Some q) f = refusal_of h t q f
+refused_reply h t None f = head_refusal t f

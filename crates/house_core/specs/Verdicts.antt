@@ -1,8 +1,8 @@
 -- What a house says of a request, as the ledger's answer to it.
-use Rattle.std.specs.Prelude.{◌≡◌, ℕ, ◌+◌, ◌≤◌, List, length, IsTrue, Result, Ok, Err}
+use Rattle.std.specs.Prelude.{◌≡◌, ℕ, ◌+◌, ◌≤◌, ◌^◌, List, Option, length, IsTrue, Result, Ok, Err}
 use Rattle.scrip_form.specs.Scrip.{Certified}
 use Rattle.mc_records.specs.declared.refusal.Refusal.{Refusal}
-use Rattle.mc_records.specs.Entry.{Entry, Accept, payload}
+use Rattle.mc_records.specs.Entry.{Deed, Entry, Accept, payload}
 use Rattle.kept_replies.specs.Kept.{has_number}
 use Rattle.ledger_model.specs.Lines.{Stop, Refuse, Repeat}
 use Rattle.ledger_model.specs.Stages.{genuine_by}
@@ -41,12 +41,20 @@ abbrev pub accept_entry : ℕ → List ℕ → List ℕ → Acceptance → Entry
 accept_entry moment text target a = Accept moment text target a.sign a.price a.change (entry_deed a.deed)
 
 -- An acceptance that may be entered: the secret is that of the customer of a genuine piece, there is
--- change where there has to be, the length is that of the payload of its entry, and the entry fits.
+-- change where there has to be, the length is that of the payload of its entry, and the entry fits the
+-- greatest journal.
 pub record IsReady (b : BooksView) (c : Certified) (target : List ℕ) (a : Acceptance) : Type 0 where
   pub secret : genuine_by b.name (λ series. 1) b.terms c ≡ Ok a.secret
   pub change : HasChange b a.price c.piece.value a.change
   pub payload : a.payload ≡ length (payload (accept_entry b.time c.text target a))
-  pub fits : b.size + a.payload + 5 ≤ b.limits.journal
+  pub fits : b.size + a.payload + 5 ≤ 2 ^ 40
+
+-- an entry says what an acceptance says: this signature, price, change and deed
+pub record IsSaid (a : Acceptance) (signed : Option (List ℕ)) (asked : ℕ) (handed : Option ℕ) (sold : Deed) : Type 0 where
+  pub sign : a.sign ≡ signed
+  pub price : a.price ≡ asked
+  pub change : a.change ≡ handed
+  pub deed : entry_deed a.deed ≡ sold
 
 abbrev pub stop_of : Stopped → Stop
 stop_of (stops.Refused refusal) = Refuse refusal

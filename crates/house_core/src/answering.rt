@@ -1,6 +1,6 @@
 //! What a house says to a request, and its reply.
 
-ghost use Rattle.std.specs.Prelude.{◌≡◌, IfOk, IfErr};
+ghost use Rattle.std.specs.Prelude.{◌≡◌, ◌↔◌, IsTrue, IfOk, IfErr, option_map};
 ghost use Rattle.mc_records.specs.Requests.{asked_of, seen};
 ghost use Rattle.ledger_model.specs.Histories.{History};
 ghost use Rattle.ledger_model.specs.Answer.{answer};
@@ -8,7 +8,7 @@ ghost use Rattle.ledger_model.specs.Replies as ledger;
 ghost use Rattle.millicent_http.specs.HeadRefusals.{as_refusal};
 ghost use Rattle.house_core.specs.Bench.{Holds, IsHouse, KeepsReply, Went, house_time, limits_of, state_of};
 ghost use Rattle.house_core.specs.Replying.{IsOfSite};
-ghost use Rattle.house_core.specs.Session.{raised, Says, said_reply};
+ghost use Rattle.house_core.specs.Session.{raised, Says, said_reply, refused_reply};
 
 use crate::bench::Bench;
 use crate::reply::{Reply, refusal_head};
@@ -65,8 +65,15 @@ impl<T: Trade> Bench<T> {
         Reply::of(&refusal_head(time, &Refusal::from(head), None), b"")
     }
 
+    /// Whether the reply of the entry of this number is kept.
+    pub(crate) fn keeps(&self, number: u64) -> bool
+        ensures { IsTrue result ↔ KeepsReply self.now number }
+    {
+        self.books.kept(number).is_some()
+    }
+
     /// The first reply to the entry of a number, whose reply is kept.
-    fn first_reply<'a>(&'a self, number: u64, room: &'a mut [u8; 512]) -> Reply<'a>
+    pub(crate) fn first_reply<'a>(&'a self, number: u64, room: &'a mut [u8; 512]) -> Reply<'a>
         requires kept { KeepsReply self.now number }
         ensures { (h : History) → IsHouse T.stands T.site T.holds self.now h → result ≡ ledger.reply_of h number }
     {
@@ -87,6 +94,18 @@ impl<T: Trade> Bench<T> {
         match self.secret_when(q, refusal) {
             Some(secret) => signed_refusal(time, q, refusal, price, &secret),
             None => Reply::of(&refusal_head(time, refusal, price), b""),
+        }
+    }
+
+    /// The reply to a refusal at the house time: that of a request, or of a head that is no request.
+    #[tactic(auto, unfolding(ledger_model::specs::Replies::head_refusal))]
+    pub(crate) fn refused_reply(&self, q: Option<&Request<'_>>, refusal: &Refusal) -> Reply<'static>
+        requires { IsOfSite refusal.now }
+        ensures { (h : History) → Holds T.stands T.site self.now h → result ≡ refused_reply h (house_time self.now) (option_map (λ q. asked_of q.now) q.entry) refusal.now }
+    {
+        match q {
+            Some(q) => self.refusal_reply(q, refusal),
+            None => Reply::of(&refusal_head(self.books.time(), refusal, None), b""),
         }
     }
 

@@ -1,27 +1,33 @@
-ghost use Rattle.std.specs.Prelude.{◌≡◌, ℕ, [], ◌∷◌, ◌++◌, MatchResult, max, None, Some, Ok, IfOk, IfErr};
+ghost use Rattle.std.specs.Prelude.{◌≡◌, ◌+◌, ◌≤◌, ◌^◌, ℕ, Err, [], ◌∷◌, ◌++◌, MatchResult, OnOk, length, max, None, Some, Ok, IfOk, IfErr};
+ghost use Rattle.mc_records.specs.declared.limits.Limits.{Limits as Bounds};
 ghost use Rattle.mc_records.specs.Limits.{AreInRange};
-ghost use Rattle.mc_records.specs.Entry.{Fits, moment_of};
+ghost use Rattle.mc_records.specs.Entry.{Fits, moment_of, payload};
 ghost use Rattle.house_core.specs.Noting.{IsCommand};
 ghost use Rattle.ledger_model.specs.Houses.{site_kind};
 ghost use Rattle.ledger_model.specs.Lawful.{MayFollow};
 ghost use Rattle.house_core.specs.Founding.{FoundsHouse};
 ghost use Rattle.scrip_form.specs.Reading.{scrip_of};
+ghost use Rattle.scrip_form.specs.Texts.{IsTarget};
 ghost use Rattle.mc_records.specs.declared.refusal.Refusal.TheVariants.{BadScrip};
 ghost use Rattle.mc_records.specs.Requests.{asked_of, seen};
 ghost use Rattle.mc_records.specs.Views.{deed_of, entry};
 ghost use Rattle.kept_replies.specs.Kept.{found};
 ghost use Rattle.ledger_model.specs.Histories.{History};
 ghost use Rattle.ledger_model.specs.Answer as model;
-ghost use Rattle.house_core.specs.Bench.{Holds, HasContents, KeepsReply, Takes, Accepts, KeepsContents, FaultIsOfSite, Enters, stopped_with, house_time, limits_of};
+ghost use Rattle.house_core.specs.Bench.{Holds, HasContents, IsRoomed, KeepsReply, Takes, Accepts, KeepsContents, FaultIsOfSite, Enters, Follows, stopped_with, house_time, limits_of};
+ghost use Rattle.house_core.specs.Books.{HasRoom, HasRoomFor, GoesOn};
 ghost use Rattle.house_core.specs.Views.{entry_deed};
 ghost use Rattle.house_core.specs.Stands.{scrip_request};
 ghost use Rattle.house_core.specs.Trade.{OfGoods, NamesInForce, BringsFor};
 ghost use Rattle.house_core.specs.Replying.{IsOfSite};
+ghost use Rattle.house_core.specs.declared.verdict.Verdict.TheVariants as verdicts;
 ghost use Rattle.house_core.specs.Verdicts.{judged, judged_of, accept_entry, IsReady};
 
 use crate::books::Books;
 use crate::founding::{found_books, payload_len};
 use crate::offer::Unlawful;
+use crate::ranges::acceptance_fits;
+use crate::replaying::ReplayEnd;
 use crate::stages::fitted;
 use crate::trade::Trade;
 use crate::verdict::{Acceptance, BenchFault, EnterFault, Stopped, Verdict};
@@ -86,7 +92,8 @@ impl<T: Trade> Bench<T> {
     /// takes no memory.
     #[tactic(auto, unfolding(ledger_model::specs::Answer::answer))]
     pub fn judge(&self, q: &Request<'_>) -> Verdict
-        ensures { (h : History) → Holds T.stands T.site self.now h
+        ensures kept { (n : ℕ) → result ≡ verdicts.Again n → KeepsReply self.now n }
+        ensures exact { (h : History) → Holds T.stands T.site self.now h
             → judged_of result ≡ judged (model.answer h (house_time self.now) (limits_of self.now) (asked_of q.now)) }
     {
         let Some(text) = q.scrip else {
@@ -96,7 +103,7 @@ impl<T: Trade> Bench<T> {
             Ok(scrip) => scrip,
             Err(fault) => return Verdict::Refused(bad_scrip(fault)),
         };
-        match weigh(&self.books, &self.trade, q, &scrip) {
+        match weigh(&self.books, self.books.limits(), &self.trade, q, &scrip) {
             Ok(_) => Verdict::Take,
             Err(Stopped::Refused(refusal)) => Verdict::Refused(refusal),
             Err(Stopped::Again(number)) => Verdict::Again(number),
@@ -136,7 +143,7 @@ impl<T: Trade> Bench<T> {
             Ok(scrip) => scrip,
             Err(fault) => return Err(BenchFault::Refused(bad_scrip(fault))),
         };
-        let acceptance = match weigh(&self.books, &self.trade, q, &scrip) {
+        let acceptance = match weigh(&self.books, self.books.limits(), &self.trade, q, &scrip) {
             Ok(acceptance) => acceptance,
             Err(stopped) => return stopped_with(stopped),
         };
@@ -158,6 +165,31 @@ impl<T: Trade> Bench<T> {
         ensures contents { (h : History) → Holds T.stands T.site self.old h → HasContents T.holds self.old h
             → MatchResult result (λ n. HasContents T.holds self.new (h ++ entry r.now ∷ [])) (λ f. HasContents T.holds self.new h) }
     {
+        let bytes = match self.make_room_for(r) {
+            Ok(bytes) => bytes,
+            Err(fault) => return Err(fault),
+        };
+        match self.note(r, bytes) {
+            Ok(number) => Ok(number),
+            Err(Unlawful) => Err(EnterFault::Unlawful),
+        }
+    }
+
+    /// Makes room to enter an entry of the house time by a command of the house's keeper, and answers how
+    /// many bytes its payload has. The house stays as it is, after an `Err` too.
+    pub(crate) fn make_room_for(&mut self, r: &Record<'_>) -> Result<u64, EnterFault>
+        requires fits { Fits (entry r.now) }
+        requires command { IsCommand (entry r.now) }
+        requires time { moment_of (entry r.now) ≡ house_time self.old }
+        ensures same { IsRoomed T.stands T.site T.holds self.old self.new }
+        ensures len { IfOk result (λ n. n ≡ length (payload (entry r.now))) }
+        ensures fits { IfOk result (λ n. self.new.books.size + n + 5 ≤ self.new.books.limits.journal) }
+        ensures room { IfOk result (λ n. self.new.books.size + n + 5 ≤ 2 ^ 40) }
+        ensures goes_on { OnOk result (GoesOn self.new.books (entry r.now)) }
+        ensures trade { OnOk result (T.has_room self.new.trade (entry r.now)) }
+        ensures books { OnOk result (HasRoomFor self.new.books (entry r.now)) }
+        ensures fault { (h : History) → Holds T.stands T.site self.old h → IfErr result (λ f. Enters T.stands T.site self.new (limits_of self.old) h (entry r.now) (Err f)) }
+    {
         let bytes = match payload_len(self.books.alloc(), r) {
             Ok(bytes) => bytes,
             Err(NoMemory) => return Err(EnterFault::NoMemory),
@@ -166,28 +198,70 @@ impl<T: Trade> Bench<T> {
             Ok(()) => (),
             Err(refusal) => return Err(EnterFault::Refused(refusal)),
         }
+        match self.room_for(r) {
+            Ok(()) => Ok(bytes),
+            Err(ReplayEnd::Unlawful) => Err(EnterFault::Unlawful),
+            Err(ReplayEnd::NoMemory) => Err(EnterFault::NoMemory),
+        }
+    }
+
+    /// Makes room in the trade and in the books to enter an entry of the house time that accepts nothing.
+    /// `Unlawful` comes only where the entry may not follow. The house stays as it is, after an `Err` too.
+    pub(crate) fn room_for(&mut self, r: &Record<'_>) -> Result<(), ReplayEnd>
+        requires fits { Fits (entry r.now) }
+        requires command { IsCommand (entry r.now) }
+        requires time { moment_of (entry r.now) ≡ house_time self.old }
+        ensures same { IsRoomed T.stands T.site T.holds self.old self.new }
+        ensures goes_on { OnOk result (GoesOn self.new.books (entry r.now)) }
+        ensures trade { OnOk result (T.has_room self.new.trade (entry r.now)) }
+        ensures books { OnOk result (HasRoomFor self.new.books (entry r.now)) }
+        ensures end { (h : History) → Holds T.stands T.site self.old h → IfErr result (λ f. Follows T.stands T.site self.new (limits_of self.old) h (entry r.now) (Err f)) }
+    {
         if !self.books.goes_on(r) {
-            return Err(EnterFault::Unlawful);
+            return Err(ReplayEnd::Unlawful);
         }
         match self.trade.reserve(r) {
             Ok(()) => (),
-            Err(NoMemory) => return Err(EnterFault::NoMemory),
+            Err(NoMemory) => return Err(ReplayEnd::NoMemory),
         }
         match self.books.reserve_for(r) {
-            Ok(()) => (),
-            Err(NoMemory) => return Err(EnterFault::NoMemory),
+            Ok(()) => Ok(()),
+            Err(NoMemory) => Err(ReplayEnd::NoMemory),
         }
+    }
+
+    /// Enters such an entry, for which there is room, with a payload of so many bytes, and answers its
+    /// number. `Err` comes where the trade's half of what makes it lawful does not hold, and leaves the
+    /// house as it was. It takes no memory.
+    pub(crate) fn note(&mut self, r: &Record<'_>, bytes: u64) -> Result<u64, Unlawful>
+        requires fits { Fits (entry r.now) }
+        requires command { IsCommand (entry r.now) }
+        requires time { moment_of (entry r.now) ≡ house_time self.old }
+        requires len { bytes ≡ length (payload (entry r.now)) }
+        requires room { self.old.books.size + bytes + 5 ≤ 2 ^ 40 }
+        requires goes_on { GoesOn self.old.books (entry r.now) }
+        requires trade { T.has_room self.old.trade (entry r.now) }
+        requires books { HasRoomFor self.old.books (entry r.now) }
+        ensures time { house_time self.new ≡ house_time self.old }
+        ensures limits { limits_of self.new ≡ limits_of self.old }
+        ensures exact { (h : History) → Holds T.stands T.site self.old h
+            → MatchResult result
+            (λ n. MayFollow (limits_of self.old) h (entry r.now) × (n ≡ length h) × Holds T.stands T.site self.new (h ++ entry r.now ∷ []))
+            (λ f. (MayFollow (limits_of self.old) h (entry r.now) → ⊥) × Holds T.stands T.site self.new h) }
+        ensures contents { (h : History) → Holds T.stands T.site self.old h → HasContents T.holds self.old h
+            → MatchResult result (λ n. HasContents T.holds self.new (h ++ entry r.now ∷ [])) (λ f. HasContents T.holds self.new h) }
+    {
         let number = self.books.count();
         match self.trade.learn(number, r) {
             Ok(()) => (),
-            Err(Unlawful) => return Err(EnterFault::Unlawful),
+            Err(Unlawful) => return Err(Unlawful),
         }
         self.books.note(r, bytes);
         Ok(number)
     }
 
     /// Enters the entry of an acceptance, with room for it made first, and answers its number.
-    fn take(
+    pub(crate) fn take(
         &mut self,
         q: &Request<'_>,
         scrip: &ScripRef<'_>,
@@ -201,44 +275,99 @@ impl<T: Trade> Bench<T> {
         ensures kept { IfOk result (KeepsReply self.new) }
         ensures time { house_time self.new ≡ house_time self.old }
         ensures limits { limits_of self.new ≡ limits_of self.old }
-        ensures exact { (h : History) → Holds T.stands T.site self.old h
-            → model.answer h (house_time self.old) (limits_of self.old) (asked_of q.now) ≡ model.Take (accept_entry (house_time self.old) scrip.now.text q.now.target.now acceptance.now)
+        ensures exact { (limits : Bounds) (h : History) → Holds T.stands T.site self.old h → limits.series ≡ (limits_of self.old).series → limits.journal ≤ 2 ^ 40
+            → model.answer h (house_time self.old) limits (asked_of q.now) ≡ model.Take (accept_entry (house_time self.old) scrip.now.text q.now.target.now acceptance.now)
             → Takes T.stands T.site self.new h (accept_entry (house_time self.old) scrip.now.text q.now.target.now acceptance.now) result }
         ensures contents { (h : History) → Holds T.stands T.site self.old h → HasContents T.holds self.old h → NamesInForce h acceptance.now.deed
             → MatchResult result (λ n. HasContents T.holds self.new (h ++ accept_entry (house_time self.old) scrip.now.text q.now.target.now acceptance.now ∷ [])) (λ f. HasContents T.holds self.new h) }
     {
+        match self.make_room(q, scrip, acceptance) {
+            Ok(()) => (),
+            Err(NoMemory) => return Err(NoMemory),
+        }
+        Ok(self.settle(q, scrip, acceptance))
+    }
+
+    /// Makes room to enter the entry of an acceptance, in the trade and in the books. The house stays as it
+    /// is, after an `Err` too.
+    pub(crate) fn make_room(
+        &mut self,
+        q: &Request<'_>,
+        scrip: &ScripRef<'_>,
+        acceptance: &Acceptance,
+    ) -> Result<(), NoMemory>
+        ensures same { IsRoomed T.stands T.site T.holds self.old self.new }
+        ensures trade { OnOk result (T.has_room self.new.trade (accept_entry (house_time self.old) scrip.now.text q.now.target.now acceptance.now)) }
+        ensures books { OnOk result (HasRoom self.new.books (scrip_request scrip.now.text q.now.target.now (seen q.now.sign)) scrip.now.piece.id) }
+    {
         let request = request_with(q, scrip);
-        let number = self.books.count();
         // The check lets a record go only where the types of its parts are named.
         let _pieces: Option<PieceList<'_>> = None;
-        let record = Record::Accept {
-            moment: self.books.time(),
-            scrip: scrip.text(),
-            target: q.target,
-            sign: acceptance.sign,
-            price: acceptance.price,
-            change: acceptance.change,
-            deed: record_deed(&acceptance.deed),
-        };
+        let record = entry_of(self.books.time(), q, scrip, acceptance);
         match self.trade.reserve(&record) {
             Ok(()) => (),
             Err(NoMemory) => return Err(NoMemory),
         }
-        let paid = scrip.piece();
-        match self.books.reserve(&request, paid.id()) {
-            Ok(()) => (),
-            Err(NoMemory) => return Err(NoMemory),
-        }
-        match self.trade.learn(number, &record) {
-            Ok(()) => (),
-            Err(Unlawful) => return Err(NoMemory),
-        }
-        self.books.enter(&request, &paid, acceptance);
-        Ok(number)
+        self.books.reserve(&request, scrip.piece().id())
+    }
+
+    /// Enters the entry of an acceptance, for which there is room, and answers its number. It takes no
+    /// memory.
+    pub(crate) fn settle(
+        &mut self,
+        q: &Request<'_>,
+        scrip: &ScripRef<'_>,
+        acceptance: &Acceptance,
+    ) -> u64
+        requires read { scrip_of scrip.now.text ≡ Ok (scrip.now.piece, scrip.now.cert) }
+        requires new { found self.old.books.kept self.old.books.time (scrip_request scrip.now.text q.now.target.now (seen q.now.sign)) ≡ None }
+        requires held { OfGoods (T.holds self.old.trade) acceptance.now.deed }
+        requires ready { IsReady self.old.books scrip.now q.now.target.now acceptance.now }
+        requires trade { T.has_room self.old.trade (accept_entry (house_time self.old) scrip.now.text q.now.target.now acceptance.now) }
+        requires books { HasRoom self.old.books (scrip_request scrip.now.text q.now.target.now (seen q.now.sign)) scrip.now.piece.id }
+        ensures kept { KeepsReply self.new result }
+        ensures time { house_time self.new ≡ house_time self.old }
+        ensures limits { limits_of self.new ≡ limits_of self.old }
+        ensures exact { (limits : Bounds) (h : History) → Holds T.stands T.site self.old h → BringsFor h q.now.target.now acceptance.now.deed
+            → limits.series ≡ (limits_of self.old).series → limits.journal ≤ 2 ^ 40
+            → model.answer h (house_time self.old) limits (asked_of q.now) ≡ model.Take (accept_entry (house_time self.old) scrip.now.text q.now.target.now acceptance.now)
+            → (result ≡ length h) × Holds T.stands T.site self.new (h ++ accept_entry (house_time self.old) scrip.now.text q.now.target.now acceptance.now ∷ []) }
+        ensures contents { (h : History) → Holds T.stands T.site self.old h → HasContents T.holds self.old h → NamesInForce h acceptance.now.deed
+            → HasContents T.holds self.new (h ++ accept_entry (house_time self.old) scrip.now.text q.now.target.now acceptance.now ∷ []) }
+    {
+        let request = request_with(q, scrip);
+        let number = self.books.count();
+        let _pieces: Option<PieceList<'_>> = None;
+        let record = entry_of(self.books.time(), q, scrip, acceptance);
+        let _learned = self.trade.learn(number, &record);
+        self.books.enter(&request, &scrip.piece(), acceptance);
+        number
     }
 }
 
-fn bad_scrip(fault: FormFault) -> Refusal
+/// The entry of an acceptance at the house time.
+pub(crate) fn entry_of<'a>(
+    time: Moment,
+    q: &Request<'a>,
+    scrip: &ScripRef<'a>,
+    acceptance: &Acceptance,
+) -> Record<'a>
+    ensures same { entry result ≡ accept_entry time scrip.now.text q.now.target.now acceptance.now }
+    ensures fits { IsTarget q.now.target.now → Fits (entry result) }
+{
+    acceptance_fits(time, scrip, q.target, acceptance);
+    Record::Accept {
+        moment: time,
+        scrip: scrip.text(),
+        target: q.target,
+        sign: acceptance.sign,
+        price: acceptance.price,
+        change: acceptance.change,
+        deed: record_deed(&acceptance.deed),
+    }
+}
+
+pub(crate) fn bad_scrip(fault: FormFault) -> Refusal
     ensures same { result ≡ BadScrip fault.place }
     ensures site { IsOfSite result }
 {
@@ -256,7 +385,7 @@ fn stopped_with(stopped: Stopped) -> Result<u64, BenchFault>
 }
 
 /// A kept deed as that of the entry.
-fn record_deed(deed: &Deed) -> RecordDeed
+pub(crate) fn record_deed(deed: &Deed) -> RecordDeed
     ensures { deed_of result ≡ entry_deed deed.now }
 {
     match deed {

@@ -250,7 +250,7 @@ impl Books {
         requires goes_on { GoesOn self.old (entry r.now) }
         requires payload { Fits (entry r.now) }
         requires site { IsNoSite (entry r.now) }
-        requires fits { self.old.size + bytes + 5 ≤ self.old.limits.journal }
+        requires fits { self.old.size + bytes + 5 ≤ 2 ^ 40 }
         ensures { IsNoted self.old self.new (entry r.now) bytes }
     {
         match r {
@@ -275,7 +275,7 @@ impl Books {
         requires room { HasRoom self.old (asked_of q.now) paid.now.id }
         requires fresh { found self.old.kept self.old.time (asked_of q.now) ≡ None }
         requires change { HasChange self.old a.now.price paid.now.value a.now.change }
-        requires fits { self.old.size + a.now.payload + 5 ≤ self.old.limits.journal }
+        requires fits { self.old.size + a.now.payload + 5 ≤ 2 ^ 40 }
         ensures { IsEntered self.old self.new (asked_of q.now) paid.now a.now }
     {
         let _series = self.series_now();

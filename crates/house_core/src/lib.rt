@@ -1,22 +1,30 @@
 //! A house: a site that takes scrip and gives something for it. Here is what every house asks of the
 //! trade that it carries, whether it sells goods or scrip, and the house itself: what it keeps beside
-//! its trade, what it says of a request, and how it takes an entry.
+//! its trade, what it says of a request, and how it takes an entry, in memory or over a journal.
 //!
-//! `Bench::new`, `Bench::accept` and `Bench::enter` take memory, and so may a trade where it is asked to
-//! reserve. No other call of this crate does.
+//! `Bench::new` and the calls `accept` and `enter` of a bench and of a house take memory, and so may a
+//! trade where it is asked to reserve. No other call of this crate does.
 #![tactic(auto)]
 
 mod answering;
 mod bench;
 mod body;
 mod books;
+mod found;
 mod founding;
+mod house;
 mod law;
 mod lengths;
 mod money;
 mod offer;
+mod opening;
+mod outcome;
+mod ranges;
+mod replaying;
 mod reply;
+mod sending;
 mod serving;
+mod settled;
 mod signing;
 mod spent;
 mod stages;
@@ -31,9 +39,15 @@ mod whole;
 pub use bench::Bench;
 pub use body::body_of_deed;
 pub use books::Books;
+pub use found::found_house;
+pub use house::House;
 pub use law::{contents_stay, entries_follow_in_parts, goods_in_force_are_kept};
 pub use offer::{Body, DrawAsk, Offer, SiteKind, Unlawful};
+pub use opening::open_house;
+pub use outcome::Outcome;
+pub use sending::{send_again, send_refusal, send_settled};
 pub use serving::{BenchEnd, Clock, serve_bench, serve_bench_by};
+pub use settled::{Settled, drop_settled};
 pub use spent::Spent;
 pub use trade::Trade;
 pub use verdict::{BenchFault, EnterFault, Verdict};

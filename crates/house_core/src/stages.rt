@@ -1,6 +1,6 @@
 //! The stages of the answer to a scrip request, each over what it asks.
 
-ghost use Rattle.std.specs.Prelude.{◌≡◌, ◌+◌, ◌<◌, ◌≤◌, ◌==◌, ℕ, nat_lt, find, length, option_map, IfOk, IfErr, IfSome, MatchOption, OnOk};
+ghost use Rattle.std.specs.Prelude.{◌≡◌, ◌+◌, ◌<◌, ◌≤◌, ◌==◌, ℕ, nat_lt, find, length, option_map, IfOk, IfErr, IfSome, MatchOption, OnOk, OnErr};
 ghost use Rattle.scrip_form.specs.Issuing.{series_at};
 ghost use Rattle.mc_records.specs.Entry.{IsKey};
 ghost use Rattle.mc_records.specs.Entry as entries;
@@ -118,6 +118,7 @@ pub(crate) fn change(
 pub(crate) fn fitted(limit: u64, size: u64, payload: u64) -> Result<(), Refusal>
     ensures lines { (e : entries.Entry) → payload ≡ length (entries.payload e) → told (λ u. e) result ≡ fitted_by limit size 0 e }
     ensures room { OnOk result (size + payload + 5 ≤ limit) }
+    ensures full { OnErr result (limit < size + payload + 5) }
     ensures site { IfErr result IsOfSite }
 {
     if limit < size || limit - size < 5 || limit - size - 5 < payload {

@@ -1,6 +1,6 @@
 //! The answer to a request with a scrip text that was read, a stage after the other.
 
-ghost use Rattle.std.specs.Prelude.{◌≡◌, Some, None, Ok, IfSome, IfOk, IfErr, OnOk};
+ghost use Rattle.std.specs.Prelude.{◌≡◌, ◌+◌, ◌≤◌, ◌^◌, Some, None, Ok, IfSome, IfOk, IfErr, OnOk};
 ghost use Rattle.ledger_model.specs.Stages.{genuine_by};
 ghost use Rattle.mc_records.specs.Entry.{IsKey};
 ghost use Rattle.mc_records.specs.Requests.{asked_of, seen};
@@ -19,7 +19,7 @@ use crate::lengths::accept_len;
 use crate::stages::{change, fitted, genuine, spendable};
 use crate::trade::Trade;
 use crate::verdict::{Acceptance, Stopped};
-use mc_records::{Refusal, Request};
+use mc_records::{Limits, Refusal, Request};
 use scrip_form::ScripRef;
 
 /// The request with the scrip text that was read of it.
@@ -37,24 +37,28 @@ pub(crate) fn request_with<'a>(q: &Request<'a>, scrip: &ScripRef<'a>) -> Request
 /// change is full, or the entry does not fit.
 fn taken<T: Trade>(
     books: &Books,
+    limits: Limits,
     trade: &T,
     q: &Request<'_>,
     scrip: &ScripRef<'_>,
     secret: &[u8; 16],
     sign: &Option<[u8; 16]>,
 ) -> Result<Acceptance, Refusal>
+    requires series { limits.series ≡ books.now.limits.series }
+    requires journal { limits.journal ≤ 2 ^ 40 }
     requires sign { IfSome sign.now IsKey }
     requires secret { genuine_by books.now.name (λ series. 1) books.now.terms scrip.now ≡ Ok secret.now }
     ensures ready { IfOk result (IsReady books.now scrip.now q.now.target.now) }
+    ensures room { IfOk result (λ a. books.now.size + a.payload + 5 ≤ limits.journal) }
     ensures held { IfOk result (λ a. OfGoods (T.holds trade.now) a.deed) }
     ensures in_force { (h : History) → T.stands trade.now h → site_kind h ≡ Some (T.site trade.now) → IfOk result (λ a. NamesInForce h a.deed) }
     ensures brings { (h : History) → T.stands trade.now h → site_kind h ≡ Some (T.site trade.now) → IfOk result (λ a. BringsFor h q.now.target.now a.deed) }
     ensures site { IfErr result IsOfSite }
     ensures lines { (h : History) → Stands books.now h → T.stands trade.now h → site_kind h ≡ Some (T.site trade.now)
-        → told (accept_entry books.now.time scrip.now.text q.now.target.now) result ≡ model.taken h books.now.time books.now.limits (asked_of q.now) scrip.now sign.now }
+        → told (accept_entry books.now.time scrip.now.text q.now.target.now) result ≡ model.taken h books.now.time limits (asked_of q.now) scrip.now sign.now }
 {
     let value = scrip.piece().value();
-    let offer = match trade.offer(books.time(), books.limits(), q.target, value) {
+    let offer = match trade.offer(books.time(), limits, q.target, value) {
         Ok(offer) => offer,
         Err(refusal) => return Err(refusal),
     };
@@ -63,7 +67,7 @@ fn taken<T: Trade>(
         Err(refusal) => return Err(refusal),
     };
     let payload = accept_len(scrip, q.target, sign, &change, &offer.deed);
-    match fitted(books.limits().journal, books.size(), payload) {
+    match fitted(limits.journal, books.size(), payload) {
         Ok(()) => Ok(Acceptance {
             secret: *secret,
             sign: *sign,
@@ -79,17 +83,21 @@ fn taken<T: Trade>(
 /// What is given for a piece that no request brought before.
 fn weigh_new<T: Trade>(
     books: &Books,
+    limits: Limits,
     trade: &T,
     q: &Request<'_>,
     scrip: &ScripRef<'_>,
 ) -> Result<Acceptance, Refusal>
+    requires series { limits.series ≡ books.now.limits.series }
+    requires journal { limits.journal ≤ 2 ^ 40 }
     ensures ready { IfOk result (IsReady books.now scrip.now q.now.target.now) }
+    ensures room { IfOk result (λ a. books.now.size + a.payload + 5 ≤ limits.journal) }
     ensures held { IfOk result (λ a. OfGoods (T.holds trade.now) a.deed) }
     ensures in_force { (h : History) → T.stands trade.now h → site_kind h ≡ Some (T.site trade.now) → IfOk result (λ a. NamesInForce h a.deed) }
     ensures brings { (h : History) → T.stands trade.now h → site_kind h ≡ Some (T.site trade.now) → IfOk result (λ a. BringsFor h q.now.target.now a.deed) }
     ensures site { IfErr result IsOfSite }
     ensures lines { (h : History) → Stands books.now h → T.stands trade.now h → site_kind h ≡ Some (T.site trade.now)
-        → told (accept_entry books.now.time scrip.now.text q.now.target.now) result ≡ after_repeat h books.now.time books.now.limits (asked_of q.now) scrip.now }
+        → told (accept_entry books.now.time scrip.now.text q.now.target.now) result ≡ after_repeat h books.now.time limits (asked_of q.now) scrip.now }
 {
     let secret = match genuine(books.name(), books.terms(), scrip) {
         Ok(secret) => secret,
@@ -100,31 +108,36 @@ fn weigh_new<T: Trade>(
         Ok(sign) => sign,
         Err(refusal) => return Err(refusal),
     };
-    taken(books, trade, q, scrip, &secret, &sign)
+    taken(books, limits, trade, q, scrip, &secret, &sign)
 }
 
-/// What is given for a piece, or why nothing is: the number of an entry where the request comes again.
+/// What is given for a piece under some limits, or why nothing is: the number of an entry where the
+/// request comes again.
 pub(crate) fn weigh<T: Trade>(
     books: &Books,
+    limits: Limits,
     trade: &T,
     q: &Request<'_>,
     scrip: &ScripRef<'_>,
 ) -> Result<Acceptance, Stopped>
+    requires series { limits.series ≡ books.now.limits.series }
+    requires journal { limits.journal ≤ 2 ^ 40 }
     ensures new { OnOk result (found books.now.kept books.now.time (scrip_request scrip.now.text q.now.target.now (seen q.now.sign)) ≡ None) }
     ensures ready { IfOk result (IsReady books.now scrip.now q.now.target.now) }
+    ensures room { IfOk result (λ a. books.now.size + a.payload + 5 ≤ limits.journal) }
     ensures held { IfOk result (λ a. OfGoods (T.holds trade.now) a.deed) }
     ensures in_force { (h : History) → T.stands trade.now h → site_kind h ≡ Some (T.site trade.now) → IfOk result (λ a. NamesInForce h a.deed) }
     ensures brings { (h : History) → T.stands trade.now h → site_kind h ≡ Some (T.site trade.now) → IfOk result (λ a. BringsFor h q.now.target.now a.deed) }
     ensures site { IfErr result StopIsOfSite }
     ensures again { IfErr result (RepeatsKept books.now) }
     ensures lines { (h : History) → Stands books.now h → T.stands trade.now h → site_kind h ≡ Some (T.site trade.now)
-        → weighed (accept_entry books.now.time scrip.now.text q.now.target.now) result ≡ after_read h books.now.time books.now.limits (asked_of q.now) scrip.now }
+        → weighed (accept_entry books.now.time scrip.now.text q.now.target.now) result ≡ after_read h books.now.time limits (asked_of q.now) scrip.now }
 {
     match books.repeated(&request_with(q, scrip)) {
         Some(number) => return Err(Stopped::Again(number)),
         None => (),
     }
-    match weigh_new(books, trade, q, scrip) {
+    match weigh_new(books, limits, trade, q, scrip) {
         Ok(acceptance) => Ok(acceptance),
         Err(refusal) => Err(Stopped::Refused(refusal)),
     }

@@ -1,4 +1,4 @@
-use Rattle.std.proofs.Common.{◌≡◌, refl, ◌∙◌, Ok, Err}
+use Rattle.std.proofs.Common.{◌≡◌, arith, refl, ◌∙◌, Ok, Err}
 use Rattle.mc_records.specs.Entry.{Accept}
 use Rattle.mc_records.specs.Requests.{asked_of}
 use Rattle.ledger_model.specs.Lines.{Refuse}
@@ -12,12 +12,12 @@ pub returns-in-Err-change-clause-lines : goal.returns-in-Err-change-clause-lines
 returns-in-Err-change-clause-lines g c h st trade kind =
     let value : c.value-value.result ≡ c.args.scrip.now.piece.value = rw (c.value-value.ensures.value, c.piece.ensures) refl in
     let got : c.get.result ≡ c.args.scrip.now.piece.value = c.get.ensures.units ∙ value in
-    let offered : Ok (offer_of c.in-Ok.offer) ≡ offer h c.args.books.now.time c.args.books.now.limits c.args.q.now.target.now c.args.scrip.now.piece.value =
-    offered_at h c.args.books.now.time c.time.result c.args.books.now.limits c.limits.result c.args.q.now.target.now c.args.scrip.now.piece.value c.value-value.result (offer_of c.in-Ok.offer) c.time.ensures c.limits.ensures.limits value
+    let offered : Ok (offer_of c.in-Ok.offer) ≡ offer h c.args.books.now.time c.args.limits c.args.q.now.target.now c.args.scrip.now.piece.value =
+    offered_at h c.args.books.now.time c.time.result c.args.limits c.args.limits c.args.q.now.target.now c.args.scrip.now.piece.value c.value-value.result (offer_of c.in-Ok.offer) c.time.ensures refl value
     (c.in-Ok.ensures.offer h trade kind) in
     let full : Err (Refuse c.in-Err-change.refusal) ≡ change_in c.args.books.now c.in-Ok.offer.price c.args.scrip.now.piece.value =
     rw (← c.own.ensures, ← c.time-2.ensures, ← got) c.in-Err-change.ensures.lines in
-    no_change st (asked_of c.args.q.now) c.args.scrip.now c.args.sign.now (offer_of c.in-Ok.offer) (Refuse c.in-Err-change.refusal) offered full
+    no_change st c.args.limits c.requires.series (asked_of c.args.q.now) c.args.scrip.now c.args.sign.now (offer_of c.in-Ok.offer) (Refuse c.in-Err-change.refusal) offered full
 
 pub returns-in-Ok-fitted-clause-ready : goal.returns-in-Ok-fitted-clause-ready
 returns-in-Ok-fitted-clause-ready g c =
@@ -27,7 +27,7 @@ returns-in-Ok-fitted-clause-ready g c =
       secret = c.requires.secret;
       change = rw (← c.own.ensures, ← c.time-2.ensures, ← got) c.in-Ok-change.ensures.next;
       payload = c.accept_len-payload.ensures c.args.books.now.time c.in-Ok.offer.price;
-      fits = rw (← c.limits-2.ensures.limits, ← c.size.ensures) c.in-Ok-fitted.ensures.room;
+      fits = omega (arith, c.in-Ok-fitted.ensures.room, c.size.ensures, c.requires.journal);
     }
 
 pub returns-in-Ok-fitted-clause-lines : goal.returns-in-Ok-fitted-clause-lines
@@ -35,25 +35,25 @@ returns-in-Ok-fitted-clause-lines g c h st trade kind =
     let value : c.value-value.result ≡ c.args.scrip.now.piece.value = rw (c.value-value.ensures.value, c.piece.ensures) refl in
     let got : c.get.result ≡ c.args.scrip.now.piece.value = c.get.ensures.units ∙ value in
     let e = Accept c.args.books.now.time c.args.scrip.now.text c.args.q.now.target.now c.args.sign.now c.in-Ok.offer.price c.in-Ok-change.change (entry_deed c.in-Ok.offer.deed) in
-    let offered : Ok (offer_of c.in-Ok.offer) ≡ offer h c.args.books.now.time c.args.books.now.limits c.args.q.now.target.now c.args.scrip.now.piece.value =
-    offered_at h c.args.books.now.time c.time.result c.args.books.now.limits c.limits.result c.args.q.now.target.now c.args.scrip.now.piece.value c.value-value.result (offer_of c.in-Ok.offer) c.time.ensures c.limits.ensures.limits value
+    let offered : Ok (offer_of c.in-Ok.offer) ≡ offer h c.args.books.now.time c.args.limits c.args.q.now.target.now c.args.scrip.now.piece.value =
+    offered_at h c.args.books.now.time c.time.result c.args.limits c.args.limits c.args.q.now.target.now c.args.scrip.now.piece.value c.value-value.result (offer_of c.in-Ok.offer) c.time.ensures refl value
     (c.in-Ok.ensures.offer h trade kind) in
     let changed : Ok c.in-Ok-change.change ≡ change_in c.args.books.now c.in-Ok.offer.price c.args.scrip.now.piece.value =
     rw (← c.own.ensures, ← c.time-2.ensures, ← got) c.in-Ok-change.ensures.lines in
-    let is : Ok e ≡ fitted_by c.args.books.now.limits.journal c.args.books.now.size 0 e =
-    rw (← c.limits-2.ensures.limits, ← c.size.ensures) (c.in-Ok-fitted.ensures.lines e (c.accept_len-payload.ensures c.args.books.now.time c.in-Ok.offer.price)) in
-    fits st (asked_of c.args.q.now) c.args.scrip.now c.args.sign.now (offer_of c.in-Ok.offer) c.in-Ok-change.change (Ok e) offered changed is
+    let is : Ok e ≡ fitted_by c.args.limits.journal c.args.books.now.size 0 e =
+    rw (← c.size.ensures) (c.in-Ok-fitted.ensures.lines e (c.accept_len-payload.ensures c.args.books.now.time c.in-Ok.offer.price)) in
+    fits st c.args.limits c.requires.series (asked_of c.args.q.now) c.args.scrip.now c.args.sign.now (offer_of c.in-Ok.offer) c.in-Ok-change.change (Ok e) offered changed is
 
 pub returns-in-Err-fitted-clause-lines : goal.returns-in-Err-fitted-clause-lines
 returns-in-Err-fitted-clause-lines g c h st trade kind =
     let value : c.value-value.result ≡ c.args.scrip.now.piece.value = rw (c.value-value.ensures.value, c.piece.ensures) refl in
     let got : c.get.result ≡ c.args.scrip.now.piece.value = c.get.ensures.units ∙ value in
     let e = Accept c.args.books.now.time c.args.scrip.now.text c.args.q.now.target.now c.args.sign.now c.in-Ok.offer.price c.in-Ok-change.change (entry_deed c.in-Ok.offer.deed) in
-    let offered : Ok (offer_of c.in-Ok.offer) ≡ offer h c.args.books.now.time c.args.books.now.limits c.args.q.now.target.now c.args.scrip.now.piece.value =
-    offered_at h c.args.books.now.time c.time.result c.args.books.now.limits c.limits.result c.args.q.now.target.now c.args.scrip.now.piece.value c.value-value.result (offer_of c.in-Ok.offer) c.time.ensures c.limits.ensures.limits value
+    let offered : Ok (offer_of c.in-Ok.offer) ≡ offer h c.args.books.now.time c.args.limits c.args.q.now.target.now c.args.scrip.now.piece.value =
+    offered_at h c.args.books.now.time c.time.result c.args.limits c.args.limits c.args.q.now.target.now c.args.scrip.now.piece.value c.value-value.result (offer_of c.in-Ok.offer) c.time.ensures refl value
     (c.in-Ok.ensures.offer h trade kind) in
     let changed : Ok c.in-Ok-change.change ≡ change_in c.args.books.now c.in-Ok.offer.price c.args.scrip.now.piece.value =
     rw (← c.own.ensures, ← c.time-2.ensures, ← got) c.in-Ok-change.ensures.lines in
-    let full : Err (Refuse c.in-Err-fitted.refusal) ≡ fitted_by c.args.books.now.limits.journal c.args.books.now.size 0 e =
-    rw (← c.limits-2.ensures.limits, ← c.size.ensures) (c.in-Err-fitted.ensures.lines e (c.accept_len-payload.ensures c.args.books.now.time c.in-Ok.offer.price)) in
-    fits st (asked_of c.args.q.now) c.args.scrip.now c.args.sign.now (offer_of c.in-Ok.offer) c.in-Ok-change.change (Err (Refuse c.in-Err-fitted.refusal)) offered changed full
+    let full : Err (Refuse c.in-Err-fitted.refusal) ≡ fitted_by c.args.limits.journal c.args.books.now.size 0 e =
+    rw (← c.size.ensures) (c.in-Err-fitted.ensures.lines e (c.accept_len-payload.ensures c.args.books.now.time c.in-Ok.offer.price)) in
+    fits st c.args.limits c.requires.series (asked_of c.args.q.now) c.args.scrip.now c.args.sign.now (offer_of c.in-Ok.offer) c.in-Ok-change.change (Err (Refuse c.in-Err-fitted.refusal)) offered changed full

@@ -8,7 +8,7 @@ use Rattle.mc_records.specs.Requests.{asked_of}
 use Rattle.ledger_model.specs.Answer.{Answer}
 use Rattle.house_core.specs.declared.verdict.BenchFault.TheVariants as faults
 use Rattle.house_core.specs.Bench.{Accepts, house_time, limits_of}
-use Rattle.house_core.proofs.Tabled.{answer_read}
+use Rattle.house_core.proofs.Tabled.{answer_under}
 use Rattle.house_core.proofs.Accepting.{none_seen, no_scrip, bad_scrip, refuses, makes_none}
 use Rattle.house_core.proofs.bench.Bench.accept.Goals as goal
 
@@ -28,34 +28,34 @@ returns-in-Err-weigh-clause-exact g c h st =
     let asked : (asked_of c.args.q.now).scrip ≡ Some c.in-Ok.scrip.text = rw (c.in-Some.is, c.in-Ok.ensures.found.0) refl in
     let read : scrip_of c.in-Ok.scrip.text ≡ Ok (c.in-Ok.scrip.piece, c.in-Ok.scrip.cert) = rw c.in-Ok.ensures.found.0 c.in-Ok.ensures.same in
     rw c.stopped_with.ensures (makes_none g.T.Trade.stands g.T.Trade.site c.args.self.now h (asked_of c.args.q.now) c.in-Err-weigh.stopped st
-    (answer_read h _ _ (asked_of c.args.q.now) c.in-Ok.scrip _ asked read (c.in-Err-weigh.ensures.lines h st.books st.trade st.of_kind)))
+    (answer_under h _ c.limits.result _ (asked_of c.args.q.now) c.in-Ok.scrip _ c.limits.ensures.limits asked read (c.in-Err-weigh.ensures.lines h st.books st.trade st.of_kind)))
 
 pub returns-in-Ok-take-clause-exact : goal.returns-in-Ok-take-clause-exact
 returns-in-Ok-take-clause-exact g c h st =
     let asked : (asked_of c.args.q.now).scrip ≡ Some c.in-Ok.scrip.text = rw (c.in-Some.is, c.in-Ok.ensures.found.0) refl in
     let read : scrip_of c.in-Ok.scrip.text ≡ Ok (c.in-Ok.scrip.piece, c.in-Ok.scrip.cert) = rw c.in-Ok.ensures.found.0 c.in-Ok.ensures.same in
-    let is = answer_read h _ _ (asked_of c.args.q.now) c.in-Ok.scrip _ asked read (c.in-Ok-weigh.ensures.lines h st.books st.trade st.of_kind) in
-    subst (λ (a : Answer). Accepts g.T.Trade.stands g.T.Trade.site c.take.new.self h a (Ok c.in-Ok-take.number)) is (c.in-Ok-take.ensures.exact h st (sym is))
+    let is = answer_under h _ c.limits.result _ (asked_of c.args.q.now) c.in-Ok.scrip _ c.limits.ensures.limits asked read (c.in-Ok-weigh.ensures.lines h st.books st.trade st.of_kind) in
+    subst (λ (a : Answer). Accepts g.T.Trade.stands g.T.Trade.site c.take.new.self h a (Ok c.in-Ok-take.number)) is (c.in-Ok-take.ensures.exact (limits_of c.args.self.now) h st refl c.limits.ensures.sound.limits.journal_most (sym is))
 
 pub returns-in-Err-take-clause-exact : goal.returns-in-Err-take-clause-exact
 returns-in-Err-take-clause-exact g c h st =
     let asked : (asked_of c.args.q.now).scrip ≡ Some c.in-Ok.scrip.text = rw (c.in-Some.is, c.in-Ok.ensures.found.0) refl in
     let read : scrip_of c.in-Ok.scrip.text ≡ Ok (c.in-Ok.scrip.piece, c.in-Ok.scrip.cert) = rw c.in-Ok.ensures.found.0 c.in-Ok.ensures.same in
-    let is = answer_read h _ _ (asked_of c.args.q.now) c.in-Ok.scrip _ asked read (c.in-Ok-weigh.ensures.lines h st.books st.trade st.of_kind) in
-    subst (λ (a : Answer). Accepts g.T.Trade.stands g.T.Trade.site c.take.new.self h a (Err faults.NoMemory)) is (c.in-Err-take.ensures.exact h st (sym is))
+    let is = answer_under h _ c.limits.result _ (asked_of c.args.q.now) c.in-Ok.scrip _ c.limits.ensures.limits asked read (c.in-Ok-weigh.ensures.lines h st.books st.trade st.of_kind) in
+    subst (λ (a : Answer). Accepts g.T.Trade.stands g.T.Trade.site c.take.new.self h a (Err faults.NoMemory)) is (c.in-Err-take.ensures.exact (limits_of c.args.self.now) h st refl c.limits.ensures.sound.limits.journal_most (sym is))
 
 pub returns-in-Err-weigh-clause-contents : goal.returns-in-Err-weigh-clause-contents
 returns-in-Err-weigh-clause-contents g c h st has =
     let asked : (asked_of c.args.q.now).scrip ≡ Some c.in-Ok.scrip.text = rw (c.in-Some.is, c.in-Ok.ensures.found.0) refl in
     let read : scrip_of c.in-Ok.scrip.text ≡ Ok (c.in-Ok.scrip.piece, c.in-Ok.scrip.cert) = rw c.in-Ok.ensures.found.0 c.in-Ok.ensures.same in
     rw c.stopped_with.ensures (keeps_all g.T.Trade.holds c.args.self.now h (asked_of c.args.q.now) c.in-Err-weigh.stopped has
-    (answer_read h _ _ (asked_of c.args.q.now) c.in-Ok.scrip _ asked read (c.in-Err-weigh.ensures.lines h st.books st.trade st.of_kind)))
+    (answer_under h _ c.limits.result _ (asked_of c.args.q.now) c.in-Ok.scrip _ c.limits.ensures.limits asked read (c.in-Err-weigh.ensures.lines h st.books st.trade st.of_kind)))
 
 pub returns-in-Ok-take-clause-contents : goal.returns-in-Ok-take-clause-contents
 returns-in-Ok-take-clause-contents g c h st has =
     let asked : (asked_of c.args.q.now).scrip ≡ Some c.in-Ok.scrip.text = rw (c.in-Some.is, c.in-Ok.ensures.found.0) refl in
     let read : scrip_of c.in-Ok.scrip.text ≡ Ok (c.in-Ok.scrip.piece, c.in-Ok.scrip.cert) = rw c.in-Ok.ensures.found.0 c.in-Ok.ensures.same in
-    let is = answer_read h _ _ (asked_of c.args.q.now) c.in-Ok.scrip _ asked read (c.in-Ok-weigh.ensures.lines h st.books st.trade st.of_kind) in
+    let is = answer_under h _ c.limits.result _ (asked_of c.args.q.now) c.in-Ok.scrip _ c.limits.ensures.limits asked read (c.in-Ok-weigh.ensures.lines h st.books st.trade st.of_kind) in
     subst (λ (a : Answer). KeepsContents g.T.Trade.holds c.take.new.self h a (Ok c.in-Ok-take.number)) is (c.in-Ok-take.ensures.contents h st has (c.in-Ok-weigh.ensures.in_force h st.trade st.of_kind))
 
 pub returns-in-Err-weigh-clause-kept : goal.returns-in-Err-weigh-clause-kept

@@ -19,7 +19,7 @@ pub invariant_of-self : goal.invariant_of-self
 invariant_of-self c =
     let short : epoch c.self.inside.own_terms c.self.inside.time < 2 ^ 24 = subst (λ (b : BooksView). epoch b.own_terms b.time < 2 ^ 24) (sym c.self.view_is) c.series_now-series.ensures.short in
     let size : c.self.inside.size + (c.args.a.now.payload + 5) ≡ c.self.inside.size + c.args.a.now.payload + 5 = omega arith in
-    let fits = subst (λ (b : BooksView). b.size + c.args.a.now.payload + 5 ≤ b.limits.journal) (sym c.self.view_is) c.requires.fits in
+    let fits = subst (λ (b : BooksView). b.size + c.args.a.now.payload + 5 ≤ 2 ^ 40) (sym c.self.view_is) c.requires.fits in
     sound_entered _ _ (asked_of c.args.q.now) c.args.paid.now c.args.a.now c.self.invariant c.id.ensures.piece fits
     (entered _ c.mark.new.self c.keep.new.self c.redeem-piece.new.own c.redeem-piece.new.takings _ (asked_of c.args.q.now) c.args.paid.now c.args.a.now c.redeem-piece.result c.certified_if-change.result c.self.invariant short
     (rw c.id.ensures.id at c.mark.ensures) c.keep.ensures.keep c.keep.ensures.replies c.redeem-piece.ensures.piece c.certified_if-change.ensures c.redeem-piece.ensures.terms c.redeem-piece.ensures.most

@@ -1,0 +1,27 @@
+use Rattle.std.proofs.Common.{◌≡◌}
+use Rattle.house_core.specs.Bench.{limits_of}
+use Rattle.house_core.proofs.Accepting.{holds_roomed}
+use Rattle.house_core.proofs.Contents.{contents_roomed}
+use Rattle.house_core.proofs.bench.Bench.follow.Goals as goal
+
+pub returns-in-Ok-note-clause-exact : goal.returns-in-Ok-note-clause-exact
+returns-in-Ok-note-clause-exact g c h st =
+    let same = c.in-Ok.ensures.same in
+    let limits : limits_of c.room_for.new.self ≡ limits_of c.args.self.now = same.books.limits in
+    rw limits at (c.in-Ok-note.ensures.exact h (holds_roomed g.T.Trade.stands g.T.Trade.site g.T.Trade.holds _ _ h same st))
+
+pub returns-in-Err-note-clause-exact : goal.returns-in-Err-note-clause-exact
+returns-in-Err-note-clause-exact g c h st =
+    let same = c.in-Ok.ensures.same in
+    let limits : limits_of c.room_for.new.self ≡ limits_of c.args.self.now = same.books.limits in
+    rw limits at (c.in-Err-note.ensures.exact h (holds_roomed g.T.Trade.stands g.T.Trade.site g.T.Trade.holds _ _ h same st))
+
+pub returns-in-Ok-note-clause-contents : goal.returns-in-Ok-note-clause-contents
+returns-in-Ok-note-clause-contents g c h st has =
+    let same = c.in-Ok.ensures.same in
+    c.in-Ok-note.ensures.contents h (holds_roomed g.T.Trade.stands g.T.Trade.site g.T.Trade.holds _ _ h same st) (contents_roomed g.T.Trade.stands g.T.Trade.site g.T.Trade.holds _ _ h same has)
+
+pub returns-in-Err-note-clause-contents : goal.returns-in-Err-note-clause-contents
+returns-in-Err-note-clause-contents g c h st has =
+    let same = c.in-Ok.ensures.same in
+    c.in-Err-note.ensures.contents h (holds_roomed g.T.Trade.stands g.T.Trade.site g.T.Trade.holds _ _ h same st) (contents_roomed g.T.Trade.stands g.T.Trade.site g.T.Trade.holds _ _ h same has)

@@ -1,0 +1,32 @@
+use Rattle.std.proofs.Common.{[], List, ℕ, Option, Ok, inl, ap, ◌∙◌, subst}
+use Rattle.scrip_journal.specs.Layout.{Stands, IsSpoiled}
+use Rattle.scrip_journal.specs.Replays.{ReadsOn}
+use Rattle.scrip_journal.proofs.Unique.{not_both}
+use Rattle.house_core.proofs.OpeningLemmas.{bytes_told}
+use Rattle.house_core.proofs.FoundLemmas.{no_more, cleared}
+use Rattle.house_core.proofs.found.empty_book.Goals as goal
+
+pub returns-in-Ok-None-clause-exact : goal.returns-in-Ok-None-clause-exact
+returns-in-Ok-None-clause-exact g c x told =
+    let r = c.in-Ok.ensures.opened x told in
+    let here = c.in-Ok.ensures.read.contents ∙ told in
+    let reads = subst (λ (o : Option ℕ). ReadsOn g.D.Disk.disk [] r.bytes c.in-Ok.replay.gate (Ok o) c.next_record.new.self) c.in-Ok-None.field-0-is (c.in-Ok-None.ensures.reads [] r) in
+    (c.finish.ensures.journal [] reads.1, inl (subst (Stands []) (bytes_told g.D.Disk.disk c.in-Ok.replay [] x r here) reads.0))
+
+pub returns-in-Ok-Some-clause-exact : goal.returns-in-Ok-Some-clause-exact
+returns-in-Ok-Some-clause-exact g c x told =
+    let r = c.in-Ok.ensures.opened x told in
+    let here = c.next_record.ensures.only_read.contents ∙ (c.in-Ok.ensures.read.contents ∙ told) in
+    let reads = subst (λ (o : Option ℕ). ReadsOn g.D.Disk.disk [] r.bytes c.in-Ok.replay.gate (Ok o) c.next_record.new.self) c.in-Ok-Some.field-0-is (c.in-Ok-Some.ensures.reads [] r) in
+    cleared g.D.Disk.disk x c.empty_small-in-Ok-Some.result (no_more g.D.Disk.disk c.next_record.new.self reads.1 x reads.4 here)
+    (c.empty_small-in-Ok-Some.ensures.exact x (ap (λ (d : g.row.D.Denot). (g.D.Disk.disk d).contents) c.close.ensures ∙ here))
+
+pub returns-in-Err-BadRecord-clause-exact : goal.returns-in-Err-BadRecord-clause-exact
+returns-in-Err-BadRecord-clause-exact g c x told =
+    let r = c.in-Ok.ensures.opened x told in
+    let at = c.in-Ok.ensures.read.contents ∙ told in
+    let here = c.next_record.ensures.only_read.contents ∙ at in
+    let reads = rw c.in-Err-BadRecord.field-0-is at c.in-Err-BadRecord.ensures.reads [] r in
+    let spoiled = subst (λ (bytes : List ℕ). IsSpoiled [] bytes c.in-Err-BadRecord.field-0-0) (bytes_told g.D.Disk.disk c.in-Ok.replay [] x r at) reads.0 in
+    cleared g.D.Disk.disk x c.empty_small-in-Err-BadRecord.result (not_both [] [] x c.in-Err-BadRecord.field-0-0 spoiled)
+    (c.empty_small-in-Err-BadRecord.ensures.exact x (ap (λ (d : g.row.D.Denot). (g.D.Disk.disk d).contents) c.close-in-Err-BadRecord.ensures ∙ here))

@@ -1,0 +1,10 @@
+use Rattle.house_core.proofs.HouseDisk.{ran_written}
+use Rattle.house_core.proofs.house.write_entry.Goals as goal
+
+pub returns-in-Ok-open_gate-clause-ran : goal.returns-in-Ok-open_gate-clause-ran
+returns-in-Ok-open_gate-clause-ran g c h is =
+    ran_written _ _ _ h _ (g.met.D.Disk.disk_goes _ _ c.in-Ok.ensures.moved) (c.in-Ok.ensures.ran h is) (c.in-Ok-open_gate.ensures.ran h _ (c.in-Ok.ensures.staged h is))
+
+pub returns-in-Err-open_gate-clause-ran : goal.returns-in-Err-open_gate-clause-ran
+returns-in-Err-open_gate-clause-ran g c h is =
+    ran_written _ _ _ h _ (g.met.D.Disk.disk_goes _ _ c.in-Ok.ensures.moved) (c.in-Ok.ensures.ran h is) (c.in-Err-open_gate.ensures.ran h _ (c.in-Ok.ensures.staged h is))

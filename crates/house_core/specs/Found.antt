@@ -1,0 +1,95 @@
+-- What founding the book of a house answers, and what a crash in it leaves.
+use Rattle.std.specs.Prelude.{◌≡◌, ◌⊎◌, ℕ, ◌<◌, ◌≤◌, List, [], ◌∷◌, length, Result, Ok, Err}
+use Rattle.mc_outside.specs.DiskView.{DiskView, OnlyRead}
+use Rattle.mc_records.specs.declared.limits.Limits.{Limits}
+use Rattle.mc_records.specs.Entry.{Entry, moment_of}
+use Rattle.ledger_model.specs.Histories.{History}
+use Rattle.mc_outside.specs.Bytes.{Rose}
+use Rattle.scrip_journal.specs.Layout as layout
+use Rattle.scrip_journal.specs.States.{AtRest, IsJournal}
+use Rattle.scrip_journal.specs.declared.fault.HouseFault.{HouseFault}
+use Rattle.scrip_journal.specs.declared.fault.HouseFault.TheVariants.{NotEmpty, Disk, NoMemory}
+use Rattle.house_core.specs.declared.house.House.{House}
+use Rattle.house_core.specs.Bench.{house_time, limits_of}
+use Rattle.house_core.specs.House.{StandsFor}
+use Rattle.house_core.specs.Opening.{fault_disk}
+
+-- The disk may be founded on: its bytes stand for no entries, or are nine at most.
+abbrev pub IsFree : List ℕ → Type 0
+IsFree bytes = layout.Stands [] bytes ⊎ (length bytes ≤ 9)
+
+-- The disk has so many bytes, more than nine, which don't stand for no entries.
+pub record IsTaken (bytes : List ℕ) (count : ℕ) : Type 0 where
+  pub count_is : count ≡ length bytes
+  pub many : 9 < count
+  pub other : layout.Stands [] bytes → ⊥
+
+-- The house stands for this entry alone, at its moment, on a disk that was free.
+pub record FoundedFor {D T : Type 0} (view : D → DiskView) (stands : T → History → Type 0) (site : T → ℕ) (holds : T → ℕ → Type 0) (limits : Limits) (e : Entry) (bytes : List ℕ) (x : House D T) : Type 0 where
+  pub free : IsFree bytes
+  pub house : StandsFor view stands site holds x (e ∷ [])
+  pub time' : house_time x.bench ≡ moment_of e
+  pub limits' : limits_of x.bench ≡ limits
+
+-- what is answered by the bytes of the disk
+abbrev pub FoundsHouseBy : {D T : Type 0} → (D → DiskView) → (T → History → Type 0) → (T → ℕ) → (T → ℕ → Type 0) → Limits → Entry → List ℕ → Result (House D T) (HouseFault D) → Type 0
+FoundsHouseBy view stands site holds limits e bytes (Ok x) = FoundedFor view stands site holds limits e bytes x
+FoundsHouseBy view stands site holds limits e bytes (Err (NotEmpty d count)) = IsTaken bytes count
+FoundsHouseBy view stands site holds limits e bytes (Err (Disk d)) = Unit {0}
+FoundsHouseBy view stands site holds limits e bytes (Err (NoMemory d)) = Unit {0}
+FoundsHouseBy view stands site holds limits e bytes (Err _) = ⊥
+
+-- the count of faults rose where the disk failed, and stayed else
+abbrev pub CountsBy : {D A : Type 0} → Result A (HouseFault D) → ℕ → ℕ → Type 0
+CountsBy (Err (Disk d)) before after = Rose before after
+CountsBy _ before after = after ≡ before
+
+-- nothing is written where the disk is taken or memory is refused
+abbrev pub ReadsOnly : {D A : Type 0} → (D → DiskView) → D → Result A (HouseFault D) → Type 0
+ReadsOnly view disk (Err (NotEmpty d count)) = OnlyRead (view disk) (view d)
+ReadsOnly view disk (Err (NoMemory d)) = OnlyRead (view disk) (view d)
+ReadsOnly view disk _ = Unit {0}
+
+-- A crash pair whose image has at most nine bytes, or is one that a crash before could have left, with
+-- nothing sent.
+abbrev pub ShortQuiet : DiskView → List ℕ → List ℕ → Type 0
+ShortQuiet before c s = ((length c ≤ 9) ⊎ before.leaves c) × (s ≡ before.aside)
+
+-- the same, or an image that stands for no entries or for this one alone
+abbrev pub FoundQuiet : DiskView → Entry → List ℕ → List ℕ → Type 0
+FoundQuiet before e c s = (((length c ≤ 9) ⊎ before.leaves c) ⊎ (layout.Stands [] c ⊎ layout.Stands (e ∷ []) c)) × (s ≡ before.aside)
+
+-- ---- its steps
+
+-- the disk that comes back, whatever is answered
+abbrev pub book_disk : {D : Type 0} → Result (AtRest D) (HouseFault D) → D
+book_disk (Ok j) = j.disk
+book_disk (Err f) = fault_disk f
+
+-- a disk of nine bytes at most is a journal without entries now; another is told to have more
+abbrev pub ClearsSmall : {D : Type 0} → (D → DiskView) → List ℕ → Result (AtRest D) (HouseFault D) → Type 0
+ClearsSmall view bytes (Ok j) = IsJournal view j [] × (length bytes ≤ 9)
+ClearsSmall view bytes (Err (NotEmpty d count)) = (count ≡ length bytes) × (9 < count)
+ClearsSmall view bytes (Err (Disk d)) = Unit {0}
+ClearsSmall view bytes (Err (NoMemory d)) = Unit {0}
+ClearsSmall view bytes (Err _) = ⊥
+
+-- a free disk is a journal without entries now; another is told to be taken
+abbrev pub ClearsFree : {D : Type 0} → (D → DiskView) → List ℕ → Result (AtRest D) (HouseFault D) → Type 0
+ClearsFree view bytes (Ok j) = IsJournal view j [] × IsFree bytes
+ClearsFree view bytes (Err (NotEmpty d count)) = IsTaken bytes count
+ClearsFree view bytes (Err (Disk d)) = Unit {0}
+ClearsFree view bytes (Err (NoMemory d)) = Unit {0}
+ClearsFree view bytes (Err _) = ⊥
+
+-- the entry stands in the journal, or the disk failed
+abbrev pub EntersSite : {D T : Type 0} → (D → DiskView) → (T → History → Type 0) → (T → ℕ) → (T → ℕ → Type 0) → Entry → Result (House D T) (HouseFault D) → Type 0
+EntersSite view stands site holds e (Ok x) = StandsFor view stands site holds x (e ∷ [])
+EntersSite view stands site holds e (Err (Disk d)) = Unit {0}
+EntersSite view stands site holds e (Err _) = ⊥
+
+-- no fault that leaves the disk unwritten
+abbrev pub IsOfWriting : {D A : Type 0} → Result A (HouseFault D) → Type 0
+IsOfWriting (Err (NotEmpty d count)) = ⊥
+IsOfWriting (Err (NoMemory d)) = ⊥
+IsOfWriting _ = Unit {0}

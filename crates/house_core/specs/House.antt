@@ -1,0 +1,119 @@
+-- A house over a journal.
+use Rattle.std.proofs.Common.{◌∙◌}
+use Rattle.std.specs.Prelude.{◌≡◌, refl, ℕ, List, [], ◌∷◌, ◌++◌, length, Result, Ok, Err}
+use Rattle.mc_outside.specs.Bytes.{Rose}
+use Rattle.mc_outside.specs.DiskView.{DiskView}
+use Rattle.mc_records.specs.declared.limits.Limits.{Limits}
+use Rattle.mc_records.specs.Entry.{Entry}
+use Rattle.mc_records.specs.declared.refusal.Refusal.{Refusal}
+use Rattle.ledger_model.specs.Histories.{History}
+use Rattle.ledger_model.specs.Lines.{Refuse}
+use Rattle.ledger_model.specs.Answer as answers
+use Rattle.ledger_model.specs.Answer.{Answer, fitted}
+use Rattle.scrip_journal.specs.States.{AtRest, IsJournal}
+use Rattle.scrip_journal.specs.Rests.{RestsAs, rests_none, rests_then}
+use Rattle.scrip_journal.specs.Exits.{StandsQuiet, EitherQuiet}
+use Rattle.scrip_journal.specs.declared.journal.StageFault.{StageFault}
+use Rattle.scrip_journal.specs.declared.journal.StageFault.TheVariants.{Full, Disk}
+use Rattle.house_core.specs.declared.verdict.Stopped.{Stopped}
+use Rattle.house_core.specs.declared.verdict.Stopped.TheVariants as stops
+use Rattle.house_core.specs.declared.house.House.{House}
+use Rattle.house_core.specs.declared.settled.Settled.{Settled}
+use Rattle.house_core.specs.declared.outcome.Outcome.{Outcome}
+use Rattle.house_core.specs.declared.outcome.Outcome.TheVariants.{Done, Refused, NoMemory, Halted}
+use Rattle.house_core.specs.Bench.{IsHouse, KeepsReply, house_time, limits_of}
+
+-- The journal and the bench stand for the history, and the journal has the house's limit.
+pub record StandsFor {D T : Type 0} (view : D → DiskView) (stands : T → History → Type 0) (site : T → ℕ) (holds : T → ℕ → Type 0) (x : House D T) (h : History) : Type 0 where
+  pub journal : IsJournal view x.journal h
+  pub house : IsHouse stands site holds x.bench h
+  pub limit : x.journal.limit ≡ (limits_of x.bench).journal
+
+-- ---- what an entry that was written left
+
+-- the disk that comes back from writing an entry, whatever is answered
+abbrev pub written_disk : {D : Type 0} → Result (AtRest D × ℕ) (StageFault D) → D
+written_disk (Ok w) = w.0.disk
+written_disk (Err (Full j)) = j.disk
+written_disk (Err (Disk d)) = d
+
+-- ---- what comes of a call
+
+-- the disk that comes back, whatever the outcome
+abbrev pub outcome_disk : {D T A : Type 0} → Outcome D T A → D
+outcome_disk (Done x a) = x.journal.disk
+outcome_disk (Refused x f) = x.journal.disk
+outcome_disk (NoMemory x) = x.journal.disk
+outcome_disk (Halted d) = d
+
+-- P of the house that comes back, where one does
+abbrev pub OfHouse : {D T A : Type 0} → (House D T → Type 0) → Outcome D T A → Type 0
+OfHouse P (Done x a) = P x
+OfHouse P (Refused x f) = P x
+OfHouse P (NoMemory x) = P x
+OfHouse P (Halted d) = Unit {0}
+
+-- P of the refusal, where there is one
+abbrev pub IfRefused : {D T A : Type 0} → (Refusal → Type 0) → Outcome D T A → Type 0
+IfRefused P (Done x a) = Unit {0}
+IfRefused P (Refused x f) = P f
+IfRefused P (NoMemory x) = Unit {0}
+IfRefused P (Halted d) = Unit {0}
+
+-- the house has the time and the limits of this one
+pub record KeepsTime {D T : Type 0} (old new : House D T) : Type 0 where
+  pub time : house_time new.bench ≡ house_time old.bench
+  pub limits : limits_of new.bench ≡ limits_of old.bench
+
+-- the house stands for the history, and its disk was not touched
+pub record IsAsItWas {D T : Type 0} (view : D → DiskView) (stands : T → History → Type 0) (site : T → ℕ) (holds : T → ℕ → Type 0) (disk : D) (x : House D T) (h : History) : Type 0 where
+  pub stands' : StandsFor view stands site holds x h
+  pub disk' : x.journal.disk ≡ disk
+
+-- The entry is on the disk and is entered under the next number.
+pub record HasEntered {D T : Type 0} (view : D → DiskView) (stands : T → History → Type 0) (site : T → ℕ) (holds : T → ℕ → Type 0) (x : House D T) (h : History) (e : Entry) (number : ℕ) : Type 0 where
+  pub stands' : StandsFor view stands site holds x (h ++ e ∷ [])
+  pub number' : number ≡ length h
+
+-- Of a request with this answer: its entry is on the disk and entered, and its reply is kept; or memory
+-- was refused for it, or the disk failed; a refusal is that of the answer. A request that comes again is not for this call: it
+-- is refused, and the house stays as it was.
+abbrev pub Accepted : {D T : Type 0} → (D → DiskView) → (T → History → Type 0) → (T → ℕ) → (T → ℕ → Type 0) → D → History → Answer → Outcome D T Settled → Type 0
+Accepted view stands site holds disk h (answers.Take e) (Done x s) = HasEntered view stands site holds x h e s.receipt × KeepsReply x.bench s.receipt
+Accepted view stands site holds disk h (answers.Take e) (NoMemory x) = IsAsItWas view stands site holds disk x h
+Accepted view stands site holds disk h (answers.Take e) (Halted d) = Rose (view disk).faults (view d).faults
+Accepted view stands site holds disk h (answers.Refused f) (Refused x g) = (g ≡ f) × IsAsItWas view stands site holds disk x h
+Accepted view stands site holds disk h (answers.Again n) (Refused x g) = IsAsItWas view stands site holds disk x h
+Accepted view stands site holds disk h _ _ = ⊥
+
+-- of an entry by a command, likewise
+abbrev pub Entered : {D T : Type 0} → (D → DiskView) → (T → History → Type 0) → (T → ℕ) → (T → ℕ → Type 0) → Limits → D → History → Entry → Outcome D T ℕ → Type 0
+Entered view stands site holds limits disk h e (Done x n) = HasEntered view stands site holds x h e n
+Entered view stands site holds limits disk h e (Refused x f) = (fitted h limits e ≡ Err (Refuse f)) × IsAsItWas view stands site holds disk x h
+Entered view stands site holds limits disk h e (NoMemory x) = IsAsItWas view stands site holds disk x h
+Entered view stands site holds limits disk h e (Halted d) = Rose (view disk).faults (view d).faults
+
+-- The crash pairs of a call: with the new entry or without it where one was written, else with the
+-- entries as they were; and nothing was sent.
+abbrev pub Leaves : {D T A : Type 0} → Answer → Outcome D T A → History → List ℕ → List ℕ → List ℕ → Type 0
+Leaves (answers.Take e) (Done x a) h aside c s = EitherQuiet h e aside c s
+Leaves (answers.Take e) (Halted d) h aside c s = EitherQuiet h e aside c s
+Leaves _ _ h aside c s = StandsQuiet h aside c s
+
+-- a refusal is that of what stopped a request, where it is refused
+abbrev pub Refuses : Refusal → Stopped → Type 0
+Refuses f (stops.Refused g) = f ≡ g
+Refuses f (stops.Again n) = Unit {0}
+
+-- ---- while links work
+
+-- only the disk of the journal may have changed
+pub record HouseRests {D T : Type 0} (old new : House D T) : Type 0 where
+  pub journal : RestsAs old.journal new.journal
+  pub bench : new.bench ≡ old.bench
+
+pub house_rests_none : {D T : Type 0} (a : House D T) → HouseRests a a
+house_rests_none a = record { journal = rests_none a.journal; bench = refl }
+
+pub house_rests_then : {D T : Type 0} (a b c : House D T) → HouseRests a b → HouseRests b c → HouseRests a c
+house_rests_then a b c m n = record { journal = rests_then a.journal b.journal c.journal m.journal n.journal; bench = n.bench ∙ m.bench }

@@ -1,0 +1,181 @@
+-- What opening a book as a house answers.
+use Rattle.std.specs.Prelude.{◌≡◌, ◌≢◌, ◌⊎◌, ℕ, ◌+◌, ◌≤◌, ◌<◌, ◌^◌, true, false, Bool, List, [], ◌∷◌, ◌++◌, Some, None, Result, Ok, Err}
+use Rattle.std.specs.List.{AllByRecursion}
+use Rattle.mc_outside.specs.Bytes.{BeginsWith, Rose}
+use Rattle.mc_outside.specs.DiskView.{DiskView, OnlyRead}
+use Rattle.mc_records.specs.declared.limits.Limits.{Limits}
+use Rattle.mc_records.specs.Entry.{Entry, Site, Fits}
+use Rattle.mc_records.specs.Sizes.{size}
+use Rattle.ledger_model.specs.Histories.{History, time}
+use Rattle.ledger_model.specs.Houses.{site_kind}
+use Rattle.ledger_model.specs.Lawful.{MayFollow, AllFollow}
+use Rattle.scrip_journal.specs.Layout as layout
+use Rattle.scrip_journal.specs.Layout.{header, body, IsSpoiled}
+use Rattle.scrip_journal.specs.States.{Reading, IsReading}
+use Rattle.scrip_journal.specs.declared.ending.Ending.TheVariants.{Closed}
+use Rattle.scrip_journal.specs.declared.fault.HouseFault.{HouseFault}
+use Rattle.scrip_journal.specs.declared.fault.HouseFault.TheVariants.{NotJournal, BadRecord, Unlawful, WrongKind, NotEmpty, Disk, NoMemory}
+use Rattle.house_core.specs.declared.bench.Bench.{Bench}
+use Rattle.house_core.specs.declared.house.House.{House}
+use Rattle.house_core.specs.declared.opening.Halt.{Halt}
+use Rattle.house_core.specs.declared.opening.Halt.TheVariants as halts
+use Rattle.house_core.specs.Bench.{IsHouse, house_time, limits_of}
+use Rattle.house_core.specs.House.{StandsFor}
+
+-- the disk of a fault
+abbrev pub fault_disk : {D : Type 0} → HouseFault D → D
+fault_disk (NotJournal d) = d
+fault_disk (BadRecord d place) = d
+fault_disk (Unlawful d place) = d
+fault_disk (WrongKind d) = d
+fault_disk (NotEmpty d count) = d
+fault_disk (Disk d) = d
+fault_disk (NoMemory d) = d
+
+-- the disk that comes back, whatever is answered
+abbrev pub house_disk : {D T : Type 0} → Result (House D T) (HouseFault D) → D
+house_disk (Ok x) = x.journal.disk
+house_disk (Err f) = fault_disk f
+
+-- The count of faults rose where the disk failed, and stayed else. No book that is opened is told to
+-- have bytes already.
+abbrev pub CountedBy : {D T : Type 0} → Result (House D T) (HouseFault D) → ℕ → ℕ → Type 0
+CountedBy (Err (Disk d)) before after = Rose before after
+CountedBy (Err (NotEmpty d count)) before after = ⊥
+CountedBy _ before after = after ≡ before
+
+-- ---- what a book is
+
+-- the first entry, where there is one, founds a site of this kind
+abbrev pub IsOfKind : ℕ → History → Type 0
+IsOfKind kind [] = Unit {0}
+IsOfKind kind (e ∷ es) = site_kind (e ∷ es) ≡ Some kind
+
+-- an entry that founds a site of another kind
+abbrev pub IsOfOtherKind : ℕ → Entry → Type 0
+IsOfOtherKind kind (Site m other name house) = other ≢ kind
+IsOfOtherKind kind _ = ⊥
+
+-- the bytes begin with the header and these entries, each behind an open gate
+pub record BeginsWithEntries (h : History) (bytes : List ℕ) : Type 0 where
+  pub fits : AllByRecursion Fits h
+  pub most : size h ≤ 2 ^ 40
+  pub begins : BeginsWith (body h) bytes
+
+-- Behind entries that may follow one another the bytes can't stand, from this place on.
+pub record SpoilsAt (limits : Limits) (kind : ℕ) (bytes : List ℕ) (place : ℕ) : Type 0 where
+  pub before : History
+  pub follow : AllFollow limits [] before
+  pub of_kind : IsOfKind kind before
+  pub spoiled : IsSpoiled before bytes place
+
+-- Behind entries that may follow one another comes one at this place that may not follow them.
+pub record BreaksAt (limits : Limits) (kind : ℕ) (bytes : List ℕ) (place : ℕ) : Type 0 where
+  pub before : History
+  pub next : Entry
+  pub follow : AllFollow limits [] before
+  pub of_kind : IsOfKind kind before
+  pub begins : BeginsWithEntries (before ++ next ∷ []) bytes
+  pub place_is : place + 1 ≡ size before
+  pub breaks : MayFollow limits before next → ⊥
+
+-- The first entry that may not follow is behind the gate at this place. A book without entries breaks at
+-- its only gate.
+abbrev pub IsUnlawfulAt : Limits → ℕ → List ℕ → ℕ → Type 0
+IsUnlawfulAt limits kind bytes place = (layout.Stands [] bytes × (place ≡ 8)) ⊎ BreaksAt limits kind bytes place
+
+-- the book is that of a site of another kind
+pub record IsOfOther (kind : ℕ) (bytes : List ℕ) : Type 0 where
+  pub first : Entry
+  pub other : IsOfOtherKind kind first
+  pub begins : BeginsWithEntries (first ∷ []) bytes
+
+-- The bytes stand for a history, and the house for it too, at the time of the history.
+pub record OpenedFor {D T : Type 0} (view : D → DiskView) (stands : T → History → Type 0) (site : T → ℕ) (holds : T → ℕ → Type 0) (limits : Limits) (bytes : List ℕ) (x : House D T) : Type 0 where
+  pub history : History
+  pub of_bytes : layout.Stands history bytes
+  pub house : StandsFor view stands site holds x history
+  pub time' : house_time x.bench ≡ time history
+  pub limits' : limits_of x.bench ≡ limits
+
+-- what is answered by the bytes of the disk, at a trade with this kind of site
+abbrev pub OpensHouse : {D T : Type 0} → (D → DiskView) → (T → History → Type 0) → (T → ℕ) → (T → ℕ → Type 0) → Limits → ℕ → List ℕ → Result (House D T) (HouseFault D) → Type 0
+OpensHouse view stands site holds limits kind bytes (Ok x) = OpenedFor view stands site holds limits bytes x
+OpensHouse view stands site holds limits kind bytes (Err (NotJournal d)) = BeginsWith header bytes → ⊥
+OpensHouse view stands site holds limits kind bytes (Err (BadRecord d place)) = SpoilsAt limits kind bytes place
+OpensHouse view stands site holds limits kind bytes (Err (Unlawful d place)) = IsUnlawfulAt limits kind bytes place
+OpensHouse view stands site holds limits kind bytes (Err (WrongKind d)) = IsOfOther kind bytes
+OpensHouse view stands site holds limits kind bytes (Err (NotEmpty d count)) = ⊥
+OpensHouse view stands site holds limits kind bytes (Err (Disk d)) = Unit {0}
+OpensHouse view stands site holds limits kind bytes (Err (NoMemory d)) = Unit {0}
+
+-- ---- its steps
+
+-- the reading went on, and may still do so
+pub record ReadOn {D : Type 0} (view : D → DiskView) (moved : D → D → Type 0) (old new : Reading D) : Type 0 where
+  pub disk_moved : moved old.disk new.disk
+  pub only_read : OnlyRead (view old.disk) (view new.disk)
+  pub limit : new.limit ≡ old.limit
+
+-- The entries that were read are of a site of this kind, and the house stands for them at their time.
+pub record Learned {D T : Type 0} (view : D → DiskView) (stands : T → History → Type 0) (site : T → ℕ) (holds : T → ℕ → Type 0) (kind : ℕ) (r : Reading D) (b : Bench T) (h : History) : Type 0 where
+  pub reading : IsReading view r h
+  pub house : IsHouse stands site holds b h
+  pub of_kind : site_kind h ≡ Some kind
+  pub time' : house_time b ≡ time h
+
+-- the house stands for entries that were read
+abbrev pub LearnedSome : {D T : Type 0} → (D → DiskView) → (T → History → Type 0) → (T → ℕ) → (T → ℕ → Type 0) → ℕ → Reading D → Bench T → Type 0
+LearnedSome view stands site holds kind r b = (h : History) × Learned view stands site holds kind r b h
+
+-- the house stands for the entries of the bytes
+abbrev pub LearnedAll : {D T : Type 0} → (D → DiskView) → (T → History → Type 0) → (T → ℕ) → (T → ℕ → Type 0) → ℕ → List ℕ → Reading D → Bench T → Type 0
+LearnedAll view stands site holds kind bytes r b = (h : History) × layout.Stands h bytes × Learned view stands site holds kind r b h
+
+-- why a book was not learned, by its bytes
+abbrev pub HaltsBy : Limits → ℕ → List ℕ → Halt → Type 0
+HaltsBy limits kind bytes (halts.BadRecord place) = SpoilsAt limits kind bytes place
+HaltsBy limits kind bytes (halts.Unlawful place) = IsUnlawfulAt limits kind bytes place
+HaltsBy limits kind bytes halts.WrongKind = IsOfOther kind bytes
+HaltsBy limits kind bytes halts.Disk = Unit {0}
+HaltsBy limits kind bytes halts.NoMemory = Unit {0}
+
+-- the count of faults rose where the disk failed, and stayed else
+abbrev pub HaltCounts : {A : Type 0} → Result A Halt → ℕ → ℕ → Type 0
+HaltCounts (Err halts.Disk) before after = Rose before after
+HaltCounts _ before after = after ≡ before
+
+-- the fault with the disk that comes back
+abbrev pub fault_with : {D : Type 0} → D → Halt → HouseFault D
+fault_with d (halts.BadRecord place) = BadRecord d place
+fault_with d (halts.Unlawful place) = Unlawful d place
+fault_with d halts.WrongKind = WrongKind d
+fault_with d halts.Disk = Disk d
+fault_with d halts.NoMemory = NoMemory d
+
+-- the house of its first entry
+pub record IsFoundedBy {T : Type 0} (stands : T → History → Type 0) (site : T → ℕ) (holds : T → ℕ → Type 0) (limits : Limits) (kind : ℕ) (e : Entry) (b : Bench T) : Type 0 where
+  pub house : IsHouse stands site holds b (e ∷ [])
+  pub of_kind : site_kind (e ∷ []) ≡ Some kind
+  pub time' : house_time b ≡ time (e ∷ [])
+
+-- what comes of the first entry
+abbrev pub FoundsBy : {T : Type 0} → (T → History → Type 0) → (T → ℕ) → (T → ℕ → Type 0) → Limits → ℕ → Entry → Result (Bench T) Halt → Type 0
+FoundsBy stands site holds limits kind e (Ok b) = IsFoundedBy stands site holds limits kind e b
+FoundsBy stands site holds limits kind e (Err (halts.BadRecord place)) = ⊥
+FoundsBy stands site holds limits kind e (Err (halts.Unlawful place)) = (place ≡ 8) × (MayFollow limits [] e → ⊥)
+FoundsBy stands site holds limits kind e (Err halts.WrongKind) = IsOfOtherKind kind e
+FoundsBy stands site holds limits kind e (Err halts.Disk) = ⊥
+FoundsBy stands site holds limits kind e (Err halts.NoMemory) = Unit {0}
+
+-- what comes of the next entry: it is learned, or there is none, or the book is halted
+abbrev pub LearnsNext : {D T : Type 0} → (D → DiskView) → (T → History → Type 0) → (T → ℕ) → (T → ℕ → Type 0) → Limits → ℕ → List ℕ → Reading D → Bench T → Result Bool Halt → Type 0
+LearnsNext view stands site holds limits kind bytes r b (Ok true) = LearnedSome view stands site holds kind r b
+LearnsNext view stands site holds limits kind bytes r b (Ok false) = LearnedAll view stands site holds kind bytes r b
+LearnsNext view stands site holds limits kind bytes r b (Err halt) = HaltsBy limits kind bytes halt
+
+-- Where an entry was learned the next gate came further, and where there is none the reading ended.
+abbrev pub GoesFurther : {D : Type 0} → Reading D → Result Bool Halt → Reading D → Type 0
+GoesFurther old (Ok true) new = (old.gate < new.gate) × (new.gate < 2 ^ 40) × (new.ended ≡ None)
+GoesFurther old (Ok false) new = new.ended ≡ Some Closed
+GoesFurther old (Err halt) new = Unit {0}

@@ -1,0 +1,256 @@
+//! A house over a journal: what is accepted is on the disk before its reply can begin.
+
+ghost use Rattle.std.specs.Prelude.{◌≡◌, ◌<◌, ◌≤◌, ◌+◌, ◌∷◌, ◌++◌, [], ℕ, List, length, max, IfOk, IfErr, None, Some, Ok};
+ghost use Rattle.mc_outside.specs.Bytes.{Rose};
+ghost use Rattle.mc_outside.specs.DiskView.{Ran};
+ghost use Rattle.scrip_form.specs.Reading.{scrip_of};
+ghost use Rattle.scrip_form.specs.Texts.{IsTarget};
+ghost use Rattle.mc_records.specs.Entry.{Entry, Fits, moment_of};
+ghost use Rattle.mc_records.specs.Requests.{asked_of, seen};
+ghost use Rattle.mc_records.specs.Sizes.{size, entry_size};
+ghost use Rattle.mc_records.specs.Views.{entry};
+ghost use Rattle.kept_replies.specs.Kept.{found};
+ghost use Rattle.ledger_model.specs.Histories.{History};
+ghost use Rattle.ledger_model.specs.Answer as model;
+ghost use Rattle.ledger_model.specs.Lawful.{MayFollow};
+ghost use Rattle.house_core.specs.Noting.{IsCommand};
+ghost use Rattle.scrip_journal.specs.States.{IsJournal};
+ghost use Rattle.scrip_journal.specs.Exits.{EitherQuiet, MatchStageFault};
+ghost use Rattle.house_core.specs.Bench.{IsHouse, KeepsReply, house_time, limits_of};
+ghost use Rattle.house_core.specs.Stands.{scrip_request};
+ghost use Rattle.house_core.specs.Trade.{OfGoods, NamesInForce, BringsFor};
+ghost use Rattle.house_core.specs.Replying.{IsOfSite};
+ghost use Rattle.house_core.specs.declared.verdict.Verdict.TheVariants as verdicts;
+ghost use Rattle.house_core.specs.Verdicts.{judged, judged_of, accept_entry, IsReady, StopIsOfSite};
+ghost use Rattle.house_core.specs.House.{StandsFor, KeepsTime, OfHouse, IfRefused, Accepted, Entered, Leaves, Refuses, written_disk, outcome_disk};
+
+use crate::bench::{Bench, bad_scrip, entry_of};
+use crate::outcome::Outcome;
+use crate::settled::Settled;
+use crate::trade::Trade;
+use crate::verdict::{Acceptance, EnterFault, Stopped, Verdict};
+use crate::weigh::weigh;
+use mc_base::{Moment, NoMemory};
+use mc_outside::Disk;
+use mc_records::{Limits, PieceList, Record, Refusal, Request};
+use scrip_form::{ScripRef, read_scrip};
+use scrip_journal::{Journal, Receipt, StageFault};
+
+/// A house over a journal that it owns and never lends. It is handed back by each call that writes an
+/// entry, unless the disk fails in that call.
+pub struct House<D, T> {
+    pub(crate) journal: Journal<D>,
+    pub(crate) bench: Bench<T>,
+}
+
+impl<D: Disk, T: Trade> House<D, T> {
+    /// The house of a journal and of the bench that was made of its entries.
+    pub fn new(journal: Journal<D>, bench: Bench<T>) -> House<D, T>
+        ensures stands { (h : History) → IsJournal D.disk journal h → IsHouse T.stands T.site T.holds bench h → journal.limit ≡ (limits_of bench).journal
+            → StandsFor D.disk T.stands T.site T.holds result h }
+        ensures disk { result.journal.disk ≡ journal.disk }
+        ensures time { house_time result.bench ≡ house_time bench }
+        ensures limits { limits_of result.bench ≡ limits_of bench }
+    {
+        House { journal, bench }
+    }
+
+    /// The house time.
+    pub fn time(&self) -> Moment
+        ensures { result ≡ house_time self.now.bench }
+    {
+        self.bench.books.time()
+    }
+
+    /// The limits of its journal and its series.
+    pub fn limits(&self) -> Limits
+        ensures { result ≡ limits_of self.now.bench }
+    {
+        self.bench.books.limits()
+    }
+
+    /// Its trade.
+    pub fn trade(&self) -> &T
+        ensures { (h : History) → StandsFor D.disk T.stands T.site T.holds self.now h → T.stands result.now h }
+    {
+        self.bench.trade()
+    }
+
+    /// What the house says of a request at the house time: the ledger's answer without its entry. It
+    /// takes no memory.
+    pub fn judge(&self, q: &Request<'_>) -> Verdict
+        ensures kept { (n : ℕ) → result ≡ verdicts.Again n → KeepsReply self.now.bench n }
+        ensures exact { (h : History) → StandsFor D.disk T.stands T.site T.holds self.now h
+            → judged_of result ≡ judged (model.answer h (house_time self.now.bench) (limits_of self.now.bench) (asked_of q.now)) }
+    {
+        self.bench.judge(q)
+    }
+
+    /// Raises the house time to a reading of the clock where that is later, and answers it. The disk is
+    /// not touched. It takes no memory.
+    pub fn raise(&mut self, reading: Moment) -> Moment
+        ensures time { result ≡ max (house_time self.old.bench) reading }
+        ensures raised { house_time self.new.bench ≡ max (house_time self.old.bench) reading }
+        ensures limits { limits_of self.new.bench ≡ limits_of self.old.bench }
+        ensures journal { self.new.journal ≡ self.old.journal }
+        ensures same { (h : History) → StandsFor D.disk T.stands T.site T.holds self.old h → StandsFor D.disk T.stands T.site T.holds self.new h }
+    {
+        self.bench.raise(reading)
+    }
+
+    /// Accepts a request at the house time: its entry is on the disk behind an open gate, and then it is
+    /// entered. All memory is taken before anything is written. A request that comes again is not for
+    /// this call: `judge` tells it, and here it is refused as one whose piece is spent.
+    pub fn accept(self, q: &Request<'_>) -> Outcome<D, T, Settled>
+        requires target { IsTarget q.now.target.now }
+        ensures moved { D.disk_moved self.journal.disk (outcome_disk result) }
+        ensures keeps { OfHouse (KeepsTime self) result }
+        ensures site { IfRefused IsOfSite result }
+        ensures exact { (h : History) → StandsFor D.disk T.stands T.site T.holds self h
+            → Accepted D.disk T.stands T.site T.holds self.journal.disk h (model.answer h (house_time self.bench) (limits_of self.bench) (asked_of q.now)) result }
+        ensures ran { (h : History) → StandsFor D.disk T.stands T.site T.holds self h
+            → Ran (D.disk self.journal.disk) (D.disk (outcome_disk result)) (Leaves (model.answer h (house_time self.bench) (limits_of self.bench) (asked_of q.now)) result h (D.disk self.journal.disk).aside) }
+    {
+        let House { journal, bench } = self;
+        let Some(text) = q.scrip else {
+            return Outcome::Refused(House { journal, bench }, Refusal::NoScrip);
+        };
+        let scrip = match read_scrip(text) {
+            Ok(scrip) => scrip,
+            Err(fault) => return Outcome::Refused(House { journal, bench }, bad_scrip(fault)),
+        };
+        match weigh(&bench.books, bench.books.limits(), &bench.trade, q, &scrip) {
+            Ok(acceptance) => House { journal, bench }.take(q, &scrip, &acceptance),
+            Err(stopped) => Outcome::Refused(House { journal, bench }, refusal_of(stopped)),
+        }
+    }
+
+    /// Takes a request that was weighed: makes room for its entry, writes it and enters it.
+    fn take(
+        self,
+        q: &Request<'_>,
+        scrip: &ScripRef<'_>,
+        acceptance: &Acceptance,
+    ) -> Outcome<D, T, Settled>
+        requires target { IsTarget q.now.target.now }
+        requires read { scrip_of scrip.now.text ≡ Ok (scrip.now.piece, scrip.now.cert) }
+        requires new { found self.bench.books.kept self.bench.books.time (scrip_request scrip.now.text q.now.target.now (seen q.now.sign)) ≡ None }
+        requires held { OfGoods (T.holds self.bench.trade) acceptance.now.deed }
+        requires ready { IsReady self.bench.books scrip.now q.now.target.now acceptance.now }
+        requires room { self.bench.books.size + acceptance.now.payload + 5 ≤ self.bench.books.limits.journal }
+        ensures moved { D.disk_moved self.journal.disk (outcome_disk result) }
+        ensures keeps { OfHouse (KeepsTime self) result }
+        ensures site { IfRefused IsOfSite result }
+        ensures exact { (h : History) → StandsFor D.disk T.stands T.site T.holds self h → NamesInForce h acceptance.now.deed → BringsFor h q.now.target.now acceptance.now.deed
+            → model.answer h (house_time self.bench) (limits_of self.bench) (asked_of q.now) ≡ model.Take (accept_entry (house_time self.bench) scrip.now.text q.now.target.now acceptance.now)
+            → Accepted D.disk T.stands T.site T.holds self.journal.disk h (model.Take (accept_entry (house_time self.bench) scrip.now.text q.now.target.now acceptance.now)) result }
+        ensures ran { (h : History) → StandsFor D.disk T.stands T.site T.holds self h
+            → Ran (D.disk self.journal.disk) (D.disk (outcome_disk result)) (Leaves (model.Take (accept_entry (house_time self.bench) scrip.now.text q.now.target.now acceptance.now)) result h (D.disk self.journal.disk).aside) }
+    {
+        let House { journal, bench } = self;
+        let mut bench = bench;
+        match bench.make_room(q, scrip, acceptance) {
+            Ok(()) => (),
+            Err(NoMemory) => return Outcome::NoMemory(House { journal, bench }),
+        }
+        // The check lets a record go only where the types of its parts are named.
+        let _pieces: Option<PieceList<'_>> = None;
+        let record = entry_of(bench.books.time(), q, scrip, acceptance);
+        match write_entry(journal, &record) {
+            Ok((journal, receipt)) => {
+                let _number = bench.settle(q, scrip, acceptance);
+                Outcome::Done(House { journal, bench }, Settled { receipt })
+            }
+            Err(StageFault::Full(journal)) => {
+                let full = Refusal::JournalFull(bench.books.size(), acceptance.payload);
+                Outcome::Refused(House { journal, bench }, full)
+            }
+            Err(StageFault::Disk(halted)) => Outcome::Halted(halted),
+        }
+    }
+
+    /// Enters an entry of the house time by a command of the house's keeper, which may follow the entries
+    /// before it: it is on the disk behind an open gate, and then it is entered. All memory is taken before
+    /// anything is written. It is refused only where the journal has no room for it.
+    pub fn enter(self, r: &Record<'_>) -> Outcome<D, T, Receipt>
+        requires fits { Fits (entry r.now) }
+        requires command { IsCommand (entry r.now) }
+        requires time { moment_of (entry r.now) ≡ house_time self.bench }
+        ensures moved { D.disk_moved self.journal.disk (outcome_disk result) }
+        ensures keeps { OfHouse (KeepsTime self) result }
+        ensures exact { (h : History) → StandsFor D.disk T.stands T.site T.holds self h → MayFollow (limits_of self.bench) h (entry r.now)
+            → Entered D.disk T.stands T.site T.holds (limits_of self.bench) self.journal.disk h (entry r.now) result }
+        ensures ran { (h : History) → StandsFor D.disk T.stands T.site T.holds self h
+            → Ran (D.disk self.journal.disk) (D.disk (outcome_disk result)) (Leaves (model.Take (entry r.now)) result h (D.disk self.journal.disk).aside) }
+    {
+        let House { journal, bench } = self;
+        let mut bench = bench;
+        let bytes = match bench.make_room_for(r) {
+            Ok(bytes) => bytes,
+            Err(EnterFault::Refused(refusal)) => {
+                return Outcome::Refused(House { journal, bench }, refusal);
+            }
+            Err(_) => return Outcome::NoMemory(House { journal, bench }),
+        };
+        match write_entry(journal, r) {
+            Ok((journal, receipt)) => {
+                let _noted = bench.note(r, bytes);
+                Outcome::Done(House { journal, bench }, receipt)
+            }
+            Err(StageFault::Full(journal)) => {
+                let full = Refusal::JournalFull(bench.books.size(), bytes);
+                Outcome::Refused(House { journal, bench }, full)
+            }
+            Err(StageFault::Disk(halted)) => Outcome::Halted(halted),
+        }
+    }
+
+    /// The disk, as it is.
+    pub fn close(self) -> D
+        ensures { result ≡ self.journal.disk }
+    {
+        let House { journal, bench: _ } = self;
+        journal.close()
+    }
+}
+
+/// The refusal of a request that makes no entry. One that comes again is refused as one whose piece is
+/// spent.
+fn refusal_of(stopped: Stopped) -> Refusal
+    requires { StopIsOfSite stopped }
+    ensures site { IsOfSite result }
+    ensures same { Refuses result stopped }
+{
+    match stopped {
+        Stopped::Refused(refusal) => refusal,
+        Stopped::Again(_) => Refusal::Spent,
+    }
+}
+
+/// Writes an entry behind the closed gate, and opens the gate. It takes no memory. `Full` comes only
+/// where the journal would pass its limit, and hands it back unchanged; `Disk` only where the disk failed.
+pub(crate) fn write_entry<D: Disk>(
+    journal: Journal<D>,
+    r: &Record<'_>,
+) -> Result<(Journal<D>, Receipt), StageFault<D>>
+    requires { Fits (entry r.now) }
+    ensures moved { D.disk_moved journal.disk (written_disk result) }
+    ensures written { IfOk result (λ w. (h : List Entry) → IsJournal D.disk journal h → IsJournal D.disk w.0 (h ++ entry r.now ∷ []) × (w.1 ≡ length h)) }
+    ensures limit { IfOk result (λ w. w.0.limit ≡ journal.limit) }
+    ensures ran { (h : List Entry) → IsJournal D.disk journal h
+        → Ran (D.disk journal.disk) (D.disk (written_disk result)) (EitherQuiet h (entry r.now) (D.disk journal.disk).aside) }
+    ensures full { (h : List Entry) → IsJournal D.disk journal h
+        → IfErr result (λ f. MatchStageFault f (λ j. journal.limit < size h + entry_size h (entry r.now)) (λ d. Unit {0})) }
+    ensures fault { IfErr result (λ f. MatchStageFault f
+        (λ j. j ≡ journal)
+        (λ d. Rose (D.disk journal.disk).faults (D.disk d).faults)) }
+{
+    let staged = match journal.stage(r) {
+        Ok(staged) => staged,
+        Err(fault) => return Err(fault),
+    };
+    match staged.open_gate() {
+        Ok(opened) => Ok(opened),
+        Err(halted) => Err(StageFault::Disk(halted)),
+    }
+}

@@ -1,0 +1,64 @@
+//! The parts of an Accept entry are in their ranges. Each function reads a part, and does no more.
+
+ghost use Rattle.std.specs.Prelude.{length, IfSome};
+ghost use Rattle.scrip_form.specs.Scrip.{IsScripText};
+ghost use Rattle.scrip_form.specs.Texts.{IsTarget};
+ghost use Rattle.mc_records.specs.Entry.{Fits, IsKey, IsLong, DeedFits};
+ghost use Rattle.house_core.specs.Views.{entry_deed};
+ghost use Rattle.house_core.specs.Verdicts.{accept_entry};
+
+use crate::verdict::Acceptance;
+use kept_replies::Deed;
+use mc_base::Moment;
+use scrip_form::{Id, ScripRef};
+
+/// The entry of an acceptance for a target that may be asked for has a payload.
+pub(crate) fn acceptance_fits(time: Moment, scrip: &ScripRef<'_>, target: &[u8], a: &Acceptance)
+    ensures { IsTarget target.now → Fits (accept_entry time scrip.now.text target.now a.now) }
+{
+    let _seconds = time.seconds();
+    let _text = scrip.text();
+    let _price = a.price;
+    keys(&a.sign);
+    longs(&a.change);
+    deeds(&a.deed);
+}
+
+/// A signature that may be there has 16 bytes.
+fn keys(sign: &Option<[u8; 16]>)
+    ensures { IfSome sign.now IsKey }
+{
+    match sign {
+        Some(sign) => {
+            let _first = sign[0];
+        }
+        None => (),
+    }
+}
+
+/// An identity that may be there has 8 bytes.
+fn longs(change: &Option<Id>)
+    ensures { IfSome change.now IsLong }
+{
+    match change {
+        Some(id) => {
+            let _number = id.number();
+        }
+        None => (),
+    }
+}
+
+/// The numbers of a deed have 8 bytes.
+fn deeds(deed: &Deed)
+    ensures { DeedFits (entry_deed deed.now) }
+{
+    match deed {
+        Deed::Goods { .. } => (),
+        Deed::Sale { piece, .. } | Deed::Draw { piece, .. } => {
+            let _number = piece.id().number();
+        }
+        Deed::Credit { balance } => {
+            let _balance = *balance;
+        }
+    }
+}

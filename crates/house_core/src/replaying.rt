@@ -1,0 +1,272 @@
+//! How a house takes the entries of a history as they are read from a journal.
+
+ghost use Rattle.std.specs.Prelude.{◌≡◌, ◌+◌, ◌≤◌, ◌^◌, ◌↔◌, [], ◌∷◌, ◌++◌, length, option_map, IsTrue, IfOk, MatchResult};
+ghost use Rattle.mc_records.specs.Entry.{Fits, Accept, moment_of, payload};
+ghost use Rattle.mc_records.specs.Views.{deed_of, entry};
+ghost use Rattle.mc_records.specs.Requests.{asked_of};
+ghost use Rattle.mc_records.specs.Sizes.{size, entry_size};
+ghost use Rattle.ledger_model.specs.Histories.{History, time};
+ghost use Rattle.ledger_model.specs.Lawful.{unbounded};
+ghost use Rattle.hex.specs.Hex.{encode_lower};
+ghost use Rattle.house_core.specs.Stands.{scrip_request};
+ghost use Rattle.house_core.specs.Verdicts.{IsSaid};
+ghost use Rattle.house_core.specs.Noting.{IsCommand};
+ghost use Rattle.house_core.specs.Bench.{Holds, HasContents, Follows, Replays, house_time, limits_of};
+
+use crate::bench::{Bench, record_deed};
+use crate::founding::payload_len;
+use crate::offer::Unlawful;
+use crate::stages::fitted;
+use crate::trade::Trade;
+use crate::verdict::Acceptance;
+use crate::weigh::weigh;
+use mc_base::{Moment, NoMemory};
+use mc_records::{Limits, Record, RecordDeed, Request};
+use scrip_certs::hex_of;
+use scrip_form::{Id, read_scrip};
+
+/// Why an entry of a history was not learned.
+#[derive(Drop)]
+pub(crate) enum ReplayEnd {
+    /// It may not follow the entries before it.
+    Unlawful,
+    /// Memory was refused.
+    NoMemory,
+}
+
+impl<T: Trade> Bench<T> {
+    /// Enters an entry that accepts nothing, of the house time and with a payload of so many bytes, and
+    /// answers its number. After an `Err` the house is as it was.
+    pub(crate) fn follow(&mut self, r: &Record<'_>, bytes: u64) -> Result<u64, ReplayEnd>
+        requires fits { Fits (entry r.now) }
+        requires command { IsCommand (entry r.now) }
+        requires time { moment_of (entry r.now) ≡ house_time self.old }
+        requires len { bytes ≡ length (payload (entry r.now)) }
+        requires room { self.old.books.size + bytes + 5 ≤ 2 ^ 40 }
+        ensures time { house_time self.new ≡ house_time self.old }
+        ensures limits { limits_of self.new ≡ limits_of self.old }
+        ensures exact { (h : History) → Holds T.stands T.site self.old h → Follows T.stands T.site self.new (limits_of self.old) h (entry r.now) result }
+        ensures contents { (h : History) → Holds T.stands T.site self.old h → HasContents T.holds self.old h
+            → MatchResult result (λ n. HasContents T.holds self.new (h ++ entry r.now ∷ [])) (λ f. HasContents T.holds self.new h) }
+    {
+        match self.room_for(r) {
+            Ok(()) => (),
+            Err(end) => return Err(end),
+        }
+        match self.note(r, bytes) {
+            Ok(number) => Ok(number),
+            Err(Unlawful) => Err(ReplayEnd::Unlawful),
+        }
+    }
+
+    /// Learns the next entry of a history, as it is read from a journal. The house time is raised to the
+    /// entry's moment. `Err` has `Unlawful` exactly where the entry may not follow those before it. The
+    /// house's own limit of the journal is not asked: a book above it is lawful. After an `Err` nothing is
+    /// said of the house.
+    pub(crate) fn replay(&mut self, r: &Record<'_>) -> Result<(), ReplayEnd>
+        requires fits { Fits (entry r.now) }
+        ensures limits { limits_of self.new ≡ limits_of self.old }
+        ensures exact { (h : History) → Holds T.stands T.site self.old h → house_time self.old ≡ time h → size h + entry_size h (entry r.now) ≤ 2 ^ 40
+            → Replays T.stands T.site self.new (limits_of self.old) h (entry r.now) result }
+        ensures contents { (h : History) → Holds T.stands T.site self.old h → HasContents T.holds self.old h
+            → IfOk result (λ u. HasContents T.holds self.new (h ++ entry r.now ∷ [])) }
+    {
+        let moment = moment_in(r);
+        if moment.seconds() < self.books.time().seconds() {
+            return Err(ReplayEnd::Unlawful);
+        }
+        self.raise(moment);
+        match r {
+            Record::Site { .. } => Err(ReplayEnd::Unlawful),
+            Record::Draw { .. } => Err(ReplayEnd::Unlawful),
+            Record::Accept {
+                scrip,
+                target,
+                sign,
+                price,
+                change,
+                deed,
+                ..
+            } => self.replay_accept(scrip, target, sign, *price, *change, deed),
+            _ => self.replay_command(r),
+        }
+    }
+
+    /// Learns the next entry of a history, which accepts nothing and is of the house time.
+    fn replay_command(&mut self, r: &Record<'_>) -> Result<(), ReplayEnd>
+        requires fits { Fits (entry r.now) }
+        requires command { IsCommand (entry r.now) }
+        requires time { moment_of (entry r.now) ≡ house_time self.old }
+        ensures limits { limits_of self.new ≡ limits_of self.old }
+        ensures exact { (h : History) → Holds T.stands T.site self.old h → size h + entry_size h (entry r.now) ≤ 2 ^ 40
+            → Replays T.stands T.site self.new (limits_of self.old) h (entry r.now) result }
+        ensures contents { (h : History) → Holds T.stands T.site self.old h → HasContents T.holds self.old h
+            → IfOk result (λ u. HasContents T.holds self.new (h ++ entry r.now ∷ [])) }
+    {
+        let bytes = match payload_len(self.books.alloc(), r) {
+            Ok(bytes) => bytes,
+            Err(NoMemory) => return Err(ReplayEnd::NoMemory),
+        };
+        match fitted(1 << 40, self.books.size(), bytes) {
+            Ok(()) => (),
+            Err(_) => return Err(ReplayEnd::Unlawful),
+        }
+        match self.follow(r, bytes) {
+            Ok(_) => Ok(()),
+            Err(end) => Err(end),
+        }
+    }
+
+    /// Learns the next entry of a history, which accepts a piece at the house time. It may follow where it
+    /// is what the house says to its request.
+    fn replay_accept(
+        &mut self,
+        scrip: &[u8],
+        target: &[u8],
+        sign: &Option<[u8; 16]>,
+        price: u64,
+        change: Option<Id>,
+        deed: &RecordDeed,
+    ) -> Result<(), ReplayEnd>
+        ensures limits { limits_of self.new ≡ limits_of self.old }
+        ensures exact { (h : History) → Holds T.stands T.site self.old h
+            → Replays T.stands T.site self.new (limits_of self.old) h (Accept (house_time self.old) scrip.now target.now sign.now price change (deed_of deed.now)) result }
+        ensures contents { (h : History) → Holds T.stands T.site self.old h → HasContents T.holds self.old h
+            → IfOk result (λ u. HasContents T.holds self.new (h ++ Accept (house_time self.old) scrip.now target.now sign.now price change (deed_of deed.now) ∷ [])) }
+    {
+        let digits = digits_of(sign);
+        let q = request_for(scrip, target, &digits);
+        let read = match read_scrip(scrip) {
+            Ok(read) => read,
+            Err(_) => return Err(ReplayEnd::Unlawful),
+        };
+        let limits = unbounded_of(self.books.limits());
+        let acceptance = match weigh(&self.books, limits, &self.trade, &q, &read) {
+            Ok(acceptance) => acceptance,
+            Err(_) => return Err(ReplayEnd::Unlawful),
+        };
+        if !is_said(&acceptance, sign, price, &change, deed) {
+            return Err(ReplayEnd::Unlawful);
+        }
+        match self.take(&q, &read, &acceptance) {
+            Ok(_) => Ok(()),
+            Err(NoMemory) => Err(ReplayEnd::NoMemory),
+        }
+    }
+}
+
+/// The moment of an entry.
+fn moment_in(r: &Record<'_>) -> Moment
+    ensures { result ≡ moment_of (entry r.now) }
+{
+    match r {
+        Record::Site { moment, .. }
+        | Record::Terms { moment, .. }
+        | Record::Goods { moment, .. }
+        | Record::Accept { moment, .. }
+        | Record::Mint { moment, .. }
+        | Record::Account { moment, .. }
+        | Record::Deposit { moment, .. }
+        | Record::Withdraw { moment, .. }
+        | Record::Draw { moment, .. }
+        | Record::Licence { moment, .. }
+        | Record::Stock { moment, .. }
+        | Record::Got { moment, .. }
+        | Record::Pend { moment, .. }
+        | Record::Done { moment, .. }
+        | Record::Refused { moment, .. } => *moment,
+    }
+}
+
+/// The limits with the greatest journal, on which what is lawful depends.
+fn unbounded_of(limits: Limits) -> Limits
+    ensures { result ≡ unbounded limits }
+{
+    Limits {
+        journal: 1 << 40,
+        series: limits.series,
+    }
+}
+
+/// The digits of a signature, where there is one.
+fn digits_of(sign: &Option<[u8; 16]>) -> Option<[u8; 32]>
+    ensures { result ≡ option_map encode_lower sign.now }
+{
+    match sign {
+        Some(sign) => Some(hex_of(sign)),
+        None => None,
+    }
+}
+
+/// The request for a target with a scrip text, and with a signature of these digits or none.
+fn request_for<'a>(scrip: &'a [u8], target: &'a [u8], digits: &'a Option<[u8; 32]>) -> Request<'a>
+    ensures { asked_of result ≡ scrip_request scrip.now target.now digits.now }
+{
+    match digits {
+        Some(digits) => Request {
+            target,
+            scrip: Some(scrip),
+            sign: Some(digits),
+        },
+        None => Request {
+            target,
+            scrip: Some(scrip),
+            sign: None,
+        },
+    }
+}
+
+/// Whether an entry says what an acceptance says: the signature, the price, the change and the deed.
+fn is_said(
+    a: &Acceptance,
+    sign: &Option<[u8; 16]>,
+    price: u64,
+    change: &Option<Id>,
+    deed: &RecordDeed,
+) -> bool
+    ensures { IsTrue result ↔ IsSaid a.now sign.now price change.now (deed_of deed.now) }
+{
+    is_same_sign(&a.sign, sign)
+        && a.price == price
+        && is_same_change(&a.change, change)
+        && is_same_deed(&record_deed(&a.deed), deed)
+}
+
+fn is_same_sign(a: &Option<[u8; 16]>, b: &Option<[u8; 16]>) -> bool
+    ensures { IsTrue result ↔ (a.now ≡ b.now) }
+{
+    match (a, b) {
+        (Some(a), Some(b)) => a.as_slice() == b.as_slice(),
+        (None, None) => true,
+        _ => false,
+    }
+}
+
+fn is_same_change(a: &Option<Id>, b: &Option<Id>) -> bool
+    ensures { IsTrue result ↔ (a.now ≡ b.now) }
+{
+    match (a, b) {
+        (Some(a), Some(b)) => a.number() == b.number(),
+        (None, None) => true,
+        _ => false,
+    }
+}
+
+fn is_same_deed(a: &RecordDeed, b: &RecordDeed) -> bool
+    ensures { IsTrue result ↔ (deed_of a.now ≡ deed_of b.now) }
+{
+    match (a, b) {
+        (RecordDeed::Goods, RecordDeed::Goods) => true,
+        (
+            RecordDeed::Sale { stock, id },
+            RecordDeed::Sale {
+                stock: other,
+                id: piece,
+            },
+        ) => { *stock == *other && id.number() == piece.number() }
+        (RecordDeed::Credit { balance }, RecordDeed::Credit { balance: other }) => {
+            *balance == *other
+        }
+        _ => false,
+    }
+}

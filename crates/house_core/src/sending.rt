@@ -1,0 +1,125 @@
+//! A house passes the calls of Link on to its disk, where that is an Outside, and sends its replies so.
+
+ghost use Rattle.std.specs.Prelude.{◌≡◌, ◌<◌, ℕ, length, take, IsTrue, OnOk, OnErr, option_map};
+ghost use Rattle.mc_outside.specs.LinkView.{told, Failed};
+ghost use Rattle.mc_records.specs.Requests.{asked_of};
+ghost use Rattle.ledger_model.specs.Histories.{History};
+ghost use Rattle.ledger_model.specs.Replies as ledger;
+ghost use Rattle.house_core.specs.Bench.{KeepsReply, house_time};
+ghost use Rattle.house_core.specs.House.{StandsFor, HouseRests};
+ghost use Rattle.house_core.specs.Replying.{IsOfSite};
+ghost use Rattle.house_core.specs.Session.{refused_reply};
+
+use crate::house::House;
+use crate::settled::{Settled, drop_settled};
+use crate::trade::Trade;
+use mc_base::Moment;
+use mc_outside::{Link, LinkFault, Outside};
+use mc_records::{Refusal, Request};
+
+impl<O: Outside, T: Trade> Link for House<O, T> {
+    ghost use Rattle.house_core.specs.House.{HouseRests, house_rests_none, house_rests_then};
+
+    ghost link = { λ j. O.link j.journal.disk };
+
+    ghost link_moved = { λ j k. O.link_moved j.journal.disk k.journal.disk × HouseRests j k };
+
+    ghost is_link = { λ a. O.is_link a.journal.disk };
+
+    ghost link_stays = { λ a. (O.link_stays a.journal.disk, house_rests_none a) };
+
+    ghost link_goes_on = { λ a b c m n. (O.link_goes_on a.journal.disk b.journal.disk c.journal.disk m.0 n.0, house_rests_then a b c m.1 n.1) };
+
+    ghost link_goes = { λ a b m. O.link_goes a.journal.disk b.journal.disk m.0 };
+
+    fn next_link(&mut self) -> Result<bool, LinkFault> {
+        self.journal.next_link()
+    }
+
+    fn recv(&mut self, buf: &mut [u8]) -> Result<usize, LinkFault> {
+        self.journal.recv(buf)
+    }
+
+    fn send(&mut self, bytes: &[u8]) -> Result<usize, LinkFault> {
+        self.journal.send(bytes)
+    }
+
+    fn end_link(&mut self) {
+        self.journal.end_link()
+    }
+
+    fn say(&mut self, bytes: &[u8]) -> Result<(), LinkFault> {
+        self.journal.say(bytes)
+    }
+
+    fn now(&mut self) -> Moment {
+        self.journal.now()
+    }
+}
+
+/// Sends the reply of an acceptance on the link that stands, and spends what says that it is on the
+/// disk. At an `Err` a first part of the reply was sent, and not the whole. It takes no memory.
+pub fn send_settled<O: Outside, T: Trade>(
+    house: &mut House<O, T>,
+    s: Settled,
+) -> Result<(), LinkFault>
+    requires { IsTrue (O.link house.old.journal.disk).stands }
+    ensures moved { O.link_moved house.old.journal.disk house.new.journal.disk }
+    ensures rests { HouseRests house.old house.new }
+    ensures stands { (h : History) → StandsFor O.disk T.stands T.site T.holds house.old h → StandsFor O.disk T.stands T.site T.holds house.new h }
+    ensures sent { OnOk result ((h : History) → StandsFor O.disk T.stands T.site T.holds house.old h → KeepsReply house.old.bench s.receipt
+        → O.link house.new.journal.disk ≡ told (ledger.reply_of h s.receipt) (O.link house.old.journal.disk)) }
+    ensures fault { OnErr result ((h : History) → StandsFor O.disk T.stands T.site T.holds house.old h → KeepsReply house.old.bench s.receipt
+        → (n : ℕ) × (n < length (ledger.reply_of h s.receipt)) × Failed (told (take n (ledger.reply_of h s.receipt)) (O.link house.old.journal.disk)) (O.link house.new.journal.disk)) }
+{
+    let number = s.number();
+    drop_settled(s);
+    send_again(house, number)
+}
+
+/// Sends the first reply to the entry of a number on the link that stands. Where that reply is not kept
+/// any more nothing is sent. At an `Err` a first part of it was sent, and not the whole. It takes no
+/// memory.
+pub fn send_again<O: Outside, T: Trade>(
+    house: &mut House<O, T>,
+    number: u64,
+) -> Result<(), LinkFault>
+    requires { IsTrue (O.link house.old.journal.disk).stands }
+    ensures moved { O.link_moved house.old.journal.disk house.new.journal.disk }
+    ensures rests { HouseRests house.old house.new }
+    ensures stands { (h : History) → StandsFor O.disk T.stands T.site T.holds house.old h → StandsFor O.disk T.stands T.site T.holds house.new h }
+    ensures sent { OnOk result ((h : History) → StandsFor O.disk T.stands T.site T.holds house.old h → KeepsReply house.old.bench number
+        → O.link house.new.journal.disk ≡ told (ledger.reply_of h number) (O.link house.old.journal.disk)) }
+    ensures fault { OnErr result ((h : History) → StandsFor O.disk T.stands T.site T.holds house.old h → KeepsReply house.old.bench number
+        → (n : ℕ) × (n < length (ledger.reply_of h number)) × Failed (told (take n (ledger.reply_of h number)) (O.link house.old.journal.disk)) (O.link house.new.journal.disk)) }
+{
+    if !house.bench.keeps(number) {
+        return Ok(());
+    }
+    let mut room = [0; 512];
+    let reply = house.bench.first_reply(number, &mut room);
+    reply.send(&mut house.journal)
+}
+
+/// Sends the reply to a refusal at the house time on the link that stands: that of a request, or of a
+/// head that is no request. At an `Err` a first part of it was sent, and not the whole. It takes no
+/// memory.
+pub fn send_refusal<O: Outside, T: Trade>(
+    house: &mut House<O, T>,
+    q: Option<&Request<'_>>,
+    refusal: &Refusal,
+) -> Result<(), LinkFault>
+    requires link { IsTrue (O.link house.old.journal.disk).stands }
+    requires site { IsOfSite refusal.now }
+    ensures moved { O.link_moved house.old.journal.disk house.new.journal.disk }
+    ensures rests { HouseRests house.old house.new }
+    ensures stands { (h : History) → StandsFor O.disk T.stands T.site T.holds house.old h → StandsFor O.disk T.stands T.site T.holds house.new h }
+    ensures sent { OnOk result ((h : History) → StandsFor O.disk T.stands T.site T.holds house.old h
+        → O.link house.new.journal.disk ≡ told (refused_reply h (house_time house.old.bench) (option_map (λ q. asked_of q.now) q.entry) refusal.now) (O.link house.old.journal.disk)) }
+    ensures fault { OnErr result ((h : History) → StandsFor O.disk T.stands T.site T.holds house.old h
+        → (n : ℕ) × (n < length (refused_reply h (house_time house.old.bench) (option_map (λ q. asked_of q.now) q.entry) refusal.now))
+        × Failed (told (take n (refused_reply h (house_time house.old.bench) (option_map (λ q. asked_of q.now) q.entry) refusal.now)) (O.link house.old.journal.disk)) (O.link house.new.journal.disk)) }
+{
+    let reply = house.bench.refused_reply(q, refusal);
+    reply.send(&mut house.journal)
+}

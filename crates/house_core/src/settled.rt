@@ -1,0 +1,26 @@
+//! What says that a request was accepted.
+
+ghost use Rattle.std.specs.Prelude.{◌≡◌};
+
+use scrip_journal::Receipt;
+
+/// What says that a request was accepted, and that its entry is on the disk behind an open gate. It is
+/// not let go by itself: it has to be spent, by sending its reply, or by [`drop_settled`] where no reply
+/// can be sent. Only `House::accept` makes one, from a [`Receipt`].
+pub struct Settled {
+    pub(crate) receipt: Receipt,
+}
+
+impl Settled {
+    /// The number of the entry, from 0.
+    pub fn number(&self) -> u64
+        ensures { result ≡ self.now.receipt }
+    {
+        self.receipt.number()
+    }
+}
+
+/// Lets it go without sending a reply. The entry stands; a request that comes again gets its reply.
+pub fn drop_settled(s: Settled) {
+    let Settled { receipt: _ } = s;
+}
