@@ -1,11 +1,16 @@
-//! A house in memory with a vendor's shelf: the worked examples, a generated run beside the ledger's slow
-//! evaluators, and links that are served over a stage.
+//! A house with a vendor's shelf, in memory: the worked examples, a generated run beside the ledger's slow
+//! evaluators, and links that are served over a stage. And over a journal on a stage, whose disk fails and
+//! crashes.
 #![tactic(auto)]
 
 #[cfg(test)]
 mod generated;
 #[cfg(test)]
 mod house;
+#[cfg(test)]
+mod housed;
+#[cfg(test)]
+mod journal;
 #[cfg(test)]
 mod rows;
 #[cfg(test)]

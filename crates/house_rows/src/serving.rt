@@ -29,7 +29,7 @@ const UNPAID: &[u8] = b"GET /news/1 HTTP/1.1\r\nHost: news.example\r\n\r\n";
 const READINGS: [u64; 5] = [1_000_000, 1_000_300, 1_000_599, 1_000_600, 1_000_000];
 
 /// The first reply to the paid request, at 1000000.
-const FIRST: &[u8] =
+pub(crate) const FIRST: &[u8] =
     b"HTTP/1.1 200 OK\r\nDate: Mon, 12 Jan 1970 13:46:40 GMT\r\nCache-Control: no-store\r\nContent-Type: text/plain; charset=utf-8\r\nContent-Length: 14\r\nMillicent-Price: 25\r\nMillicent-Change: MS1|news.example|75|000000f400000000|010000f400000000|1011712||7c084bf00357976f20f2b924dfe6766a\r\nMillicent-Sign: 6d04ea69e9d75ecd8309b26b44acffc7\r\n\r\nGood morning.\n";
 
 /// The reply to the bad method, at 1000300.
@@ -37,7 +37,7 @@ const BAD_METHOD: &[u8] =
     b"HTTP/1.1 405 Method Not Allowed\r\nDate: Mon, 12 Jan 1970 13:51:40 GMT\r\nCache-Control: no-store\r\nAllow: GET\r\nContent-Length: 0\r\nMillicent-Refusal: 15 BadMethod\r\nMillicent-Price: -\r\nMillicent-Change: -\r\nMillicent-Sign: -\r\n\r\n";
 
 /// The reply to the paid request at 1000600, after the keeping time.
-const SPENT: &[u8] =
+pub(crate) const SPENT: &[u8] =
     b"HTTP/1.1 409 Conflict\r\nDate: Mon, 12 Jan 1970 13:56:40 GMT\r\nCache-Control: no-store\r\nContent-Length: 0\r\nMillicent-Refusal: 27 Spent\r\nMillicent-Price: -\r\nMillicent-Change: -\r\nMillicent-Sign: 9c62643d6767f66a55dd60d0d8595fe3\r\n\r\n";
 
 /// The reply to the request with no scrip, at 1000600.
