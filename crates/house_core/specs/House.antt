@@ -1,7 +1,7 @@
 -- A house over a journal.
 use Rattle.std.proofs.Common.{◌∙◌}
 use Rattle.std.specs.Prelude.{◌≡◌, refl, ℕ, List, [], ◌∷◌, ◌++◌, length, Result, Ok, Err}
-use Rattle.mc_outside.specs.Bytes.{Rose}
+use Rattle.mc_outside.specs.Bytes.{Rose, BeginsWith}
 use Rattle.mc_outside.specs.DiskView.{DiskView}
 use Rattle.mc_records.specs.declared.limits.Limits.{Limits}
 use Rattle.mc_records.specs.Entry.{Entry}
@@ -10,6 +10,7 @@ use Rattle.ledger_model.specs.Histories.{History}
 use Rattle.ledger_model.specs.Lines.{Refuse}
 use Rattle.ledger_model.specs.Answer as answers
 use Rattle.ledger_model.specs.Answer.{Answer, fitted}
+use Rattle.scrip_journal.specs.Layout.{Stands}
 use Rattle.scrip_journal.specs.States.{AtRest, IsJournal}
 use Rattle.scrip_journal.specs.Rests.{RestsAs, rests_none, rests_then}
 use Rattle.scrip_journal.specs.Exits.{StandsQuiet, EitherQuiet}
@@ -99,6 +100,11 @@ abbrev pub Leaves : {D T A : Type 0} → Answer → Outcome D T A → History �
 Leaves (answers.Take e) (Done x a) h aside c s = EitherQuiet h e aside c s
 Leaves (answers.Take e) (Halted d) h aside c s = EitherQuiet h e aside c s
 Leaves _ _ h aside c s = StandsQuiet h aside c s
+
+-- A crash pair while the house sends: the image stands for its entries, and by then the bytes sent went on
+-- from those sent before to those sent after, so that nothing is said of an entry that is not there.
+abbrev pub SendsOn : History → List ℕ → List ℕ → List ℕ → List ℕ → Type 0
+SendsOn h before after c s = Stands h c × (BeginsWith before s × BeginsWith s after)
 
 -- a refusal is that of what stopped a request, where it is refused
 abbrev pub Refuses : Refusal → Stopped → Type 0

@@ -1,12 +1,13 @@
 //! A house passes the calls of Link on to its disk, where that is an Outside, and sends its replies so.
 
 ghost use Rattle.std.specs.Prelude.{◌≡◌, ◌<◌, ℕ, length, take, IsTrue, OnOk, OnErr, option_map};
+ghost use Rattle.mc_outside.specs.DiskView.{Ran};
 ghost use Rattle.mc_outside.specs.LinkView.{told, Failed};
 ghost use Rattle.mc_records.specs.Requests.{asked_of};
 ghost use Rattle.ledger_model.specs.Histories.{History};
 ghost use Rattle.ledger_model.specs.Replies as ledger;
 ghost use Rattle.house_core.specs.Bench.{KeepsReply, house_time};
-ghost use Rattle.house_core.specs.House.{StandsFor, HouseRests};
+ghost use Rattle.house_core.specs.House.{StandsFor, HouseRests, SendsOn};
 ghost use Rattle.house_core.specs.Replying.{IsOfSite};
 ghost use Rattle.house_core.specs.Session.{refused_reply};
 
@@ -67,6 +68,8 @@ pub fn send_settled<O: Outside, T: Trade>(
     ensures moved { O.link_moved house.old.journal.disk house.new.journal.disk }
     ensures rests { HouseRests house.old house.new }
     ensures stands { (h : History) → StandsFor O.disk T.stands T.site T.holds house.old h → StandsFor O.disk T.stands T.site T.holds house.new h }
+    ensures ran { (h : History) → StandsFor O.disk T.stands T.site T.holds house.old h
+        → Ran (O.disk house.old.journal.disk) (O.disk house.new.journal.disk) (SendsOn h (O.disk house.old.journal.disk).aside (O.disk house.new.journal.disk).aside) }
     ensures sent { OnOk result ((h : History) → StandsFor O.disk T.stands T.site T.holds house.old h → KeepsReply house.old.bench s.receipt
         → O.link house.new.journal.disk ≡ told (ledger.reply_of h s.receipt) (O.link house.old.journal.disk)) }
     ensures fault { OnErr result ((h : History) → StandsFor O.disk T.stands T.site T.holds house.old h → KeepsReply house.old.bench s.receipt
@@ -88,6 +91,8 @@ pub fn send_again<O: Outside, T: Trade>(
     ensures moved { O.link_moved house.old.journal.disk house.new.journal.disk }
     ensures rests { HouseRests house.old house.new }
     ensures stands { (h : History) → StandsFor O.disk T.stands T.site T.holds house.old h → StandsFor O.disk T.stands T.site T.holds house.new h }
+    ensures ran { (h : History) → StandsFor O.disk T.stands T.site T.holds house.old h
+        → Ran (O.disk house.old.journal.disk) (O.disk house.new.journal.disk) (SendsOn h (O.disk house.old.journal.disk).aside (O.disk house.new.journal.disk).aside) }
     ensures sent { OnOk result ((h : History) → StandsFor O.disk T.stands T.site T.holds house.old h → KeepsReply house.old.bench number
         → O.link house.new.journal.disk ≡ told (ledger.reply_of h number) (O.link house.old.journal.disk)) }
     ensures fault { OnErr result ((h : History) → StandsFor O.disk T.stands T.site T.holds house.old h → KeepsReply house.old.bench number
@@ -114,6 +119,8 @@ pub fn send_refusal<O: Outside, T: Trade>(
     ensures moved { O.link_moved house.old.journal.disk house.new.journal.disk }
     ensures rests { HouseRests house.old house.new }
     ensures stands { (h : History) → StandsFor O.disk T.stands T.site T.holds house.old h → StandsFor O.disk T.stands T.site T.holds house.new h }
+    ensures ran { (h : History) → StandsFor O.disk T.stands T.site T.holds house.old h
+        → Ran (O.disk house.old.journal.disk) (O.disk house.new.journal.disk) (SendsOn h (O.disk house.old.journal.disk).aside (O.disk house.new.journal.disk).aside) }
     ensures sent { OnOk result ((h : History) → StandsFor O.disk T.stands T.site T.holds house.old h
         → O.link house.new.journal.disk ≡ told (refused_reply h (house_time house.old.bench) (option_map (λ q. asked_of q.now) q.entry) refusal.now) (O.link house.old.journal.disk)) }
     ensures fault { OnErr result ((h : History) → StandsFor O.disk T.stands T.site T.holds house.old h
