@@ -25,6 +25,11 @@ pub(crate) type Housed = House<Stage, Shelf>;
 
 /// A stage with an empty disk, three links without bytes, and disk calls of these numbers that fail.
 pub(crate) fn stage(alloc: Global, failing: &[u32]) -> Result<Stage, Fail> {
+    stage_of(alloc, b"", failing)
+}
+
+/// The same with these contents.
+pub(crate) fn stage_of(alloc: Global, contents: &[u8], failing: &[u32]) -> Result<Stage, Fail> {
     let mut links = Vec::new(alloc);
     for _ in 0..3 {
         links.push(Vec::new(alloc))?;
@@ -33,7 +38,8 @@ pub(crate) fn stage(alloc: Global, failing: &[u32]) -> Result<Stage, Fail> {
         disk: List::of(Vec::from_slice(alloc, failing)?),
         link: List::of(Vec::new(alloc)),
     };
-    Ok(Stage::new(alloc, Vec::new(alloc), links, Vec::new(alloc), failing)?)
+    let contents = Vec::from_slice(alloc, contents)?;
+    Ok(Stage::new(alloc, contents, links, Vec::new(alloc), failing)?)
 }
 
 /// The house that sells the page at 25 and knows issuer 1, founded on the disk of the stage. That takes the

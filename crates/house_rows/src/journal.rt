@@ -22,13 +22,13 @@ use std::test::Fail;
 
 /// What a house says of a request, with the number of the entry or of the refusal.
 #[derive(Clone, Copy, Debug, PartialEq, Eq)]
-enum Judged {
+pub(crate) enum Judged {
     Take,
     Again(u64),
     Refused(u16),
 }
 
-fn said(verdict: Verdict) -> Judged {
+pub(crate) fn said(verdict: Verdict) -> Judged {
     match verdict {
         Verdict::Take => Judged::Take,
         Verdict::Again(number) => Judged::Again(number),
@@ -38,7 +38,7 @@ fn said(verdict: Verdict) -> Judged {
 
 /// What came of a request, with the number of the entry or of the refusal.
 #[derive(Clone, Copy, Debug, PartialEq, Eq)]
-enum Came {
+pub(crate) enum Came {
     /// It is accepted, and its reply was sent.
     Done(u64),
     /// It is accepted, and its reply was not sent.
@@ -68,7 +68,7 @@ fn reply<O: Outside, T: Trade>(house: &mut House<O, T>, s: Settled) -> Result<()
 }
 
 /// Sends the first reply to an entry on the next link.
-fn reply_again<O: Outside, T: Trade>(
+pub(crate) fn reply_again<O: Outside, T: Trade>(
     house: &mut House<O, T>,
     number: u64,
 ) -> Result<(), LinkFault> {
@@ -132,7 +132,7 @@ fn replied(house: Housed, s: Settled) -> (Housed, Came) {
 }
 
 /// Pays for a target by the first piece, as [`buy`].
-fn pay(house: Housed, target: &[u8]) -> Result<(Came, Stage), Fail> {
+pub(crate) fn pay(house: Housed, target: &[u8]) -> Result<(Came, Stage), Fail> {
     let Some(target) = Target::new(target) else {
         let _stage = house.close();
         return Err("a target")?;
@@ -148,7 +148,7 @@ fn a_target(bytes: &[u8]) -> Result<Target, Fail> {
 }
 
 /// The request that pays for a target by the first piece.
-fn paid(target: &[u8]) -> Request<'_>
+pub(crate) fn paid(target: &[u8]) -> Request<'_>
     ensures { result.target.now ≡ target.now }
 {
     Request {
@@ -158,10 +158,10 @@ fn paid(target: &[u8]) -> Request<'_>
     }
 }
 
-const PAGE_1: &[u8] = b"/news/1";
+pub(crate) const PAGE_1: &[u8] = b"/news/1";
 
 /// The payloads of the house's entries, one behind another, with that of the acceptance or without it.
-fn payloads(alloc: Global, accepted: bool) -> Result<Vec<u8>, Fail> {
+pub(crate) fn payloads(alloc: Global, accepted: bool) -> Result<Vec<u8>, Fail> {
     let mut digits = Vec::new(alloc);
     for payload in [SITE, TERMS, PAGE] {
         digits.extend_from_slice(payload.as_bytes())?;

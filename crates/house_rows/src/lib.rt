@@ -1,6 +1,6 @@
 //! A house with a vendor's shelf, in memory: the worked examples, a generated run beside the ledger's slow
 //! evaluators, and links that are served over a stage. And over a journal on a stage, whose disk fails and
-//! crashes.
+//! crashes, and from which the house is opened again.
 #![tactic(auto)]
 
 #[cfg(test)]
@@ -11,6 +11,8 @@ mod house;
 mod housed;
 #[cfg(test)]
 mod journal;
+#[cfg(test)]
+mod opened;
 #[cfg(test)]
 mod rows;
 #[cfg(test)]
