@@ -1,8 +1,10 @@
 -- The reply to a request that is refused.
-use Rattle.std.proofs.Common.{◌≡◌, ℕ, List, [], Option, ap₂, unwrap_or}
+use Rattle.std.proofs.Common.{◌≡◌, ℕ, List, [], ◌++◌, refl, ap, ap₂, ◌∙◌, Option, None, unwrap_or}
+use Rattle.std.proofs.lemmas.List.{append-nil}
 use Rattle.mc_records.specs.declared.refusal.Refusal.{Refusal}
 use Rattle.mc_records.specs.Requests.{Asked}
-use Rattle.mc_records.specs.Replies.{reply_head}
+use Rattle.mc_records.specs.declared.refusal.Refusal.TheVariants.{DiskFault}
+use Rattle.mc_records.specs.Replies.{Reply, reply_head}
 use Rattle.ledger_model.specs.Histories.{History}
 use Rattle.ledger_model.specs.Replies.{is_signed, secret_when, price_told, signed, refused_values, refusal_of}
 
@@ -13,3 +15,8 @@ pub refusal_is : (h : History) (t : ℕ) (q : Asked) (f : Refusal) (secret : Opt
 unfolding refusal_of
 refusal_is h t q f secret price s p =
     ap₂ (λ (o : Option (List ℕ)) (n : Option ℕ). reply_head (signed o (unwrap_or q.scrip []) q.target [] (refused_values t f n))) s p
+
+-- That the disk failed is told without a signature, and by no history.
+pub disk_fault_is : (t : ℕ) (values : Reply) (reply : List ℕ) → values ≡ refused_values t DiskFault None → reply ≡ reply_head values ++ [] → (a : History × Asked) → reply ≡ refusal_of a.0 t a.1 DiskFault
+disk_fault_is t values reply same is a =
+    is ∙ append-nil (reply_head values) ∙ ap (λ (v : Reply). reply_head v) same ∙ refusal_is a.0 t a.1 DiskFault None None refl refl

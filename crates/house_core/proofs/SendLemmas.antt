@@ -27,3 +27,13 @@ pub fault_both : {T E : Type 0} (r : Result T E) (v u w : LinkView) (a b all : L
     → OnErr r ((n : ℕ) × (n < length all) × Failed (told (take n all) v) w)
 fault_both (Ok x) v u w a b all is e f = f
 fault_both (Err x) v u w a b all is e f = subst (λ (l : List ℕ). (n : ℕ) × (n < length l) × Failed (told (take n l) v) w) is (fault_in_second v u w a b f.0 e f.1 f.2)
+
+-- what was sent, or a first part of it, by another name
+pub sent_as : {A T E : Type 0} (r : Result T E) (v w : LinkView) (x : List ℕ) (reply : A → List ℕ) → ((a : A) → x ≡ reply a) → OnOk r (w ≡ told x v) → OnOk r ((a : A) → w ≡ told (reply a) v)
+sent_as (Ok y) v w x reply same s = λ a. subst (λ (l : List ℕ). w ≡ told l v) (same a) s
+sent_as (Err y) v w x reply same s = s
+
+pub fault_as : {A T E : Type 0} (r : Result T E) (v w : LinkView) (x : List ℕ) (reply : A → List ℕ) → ((a : A) → x ≡ reply a) → OnErr r ((n : ℕ) × (n < length x) × Failed (told (take n x) v) w)
+    → OnErr r ((a : A) → (n : ℕ) × (n < length (reply a)) × Failed (told (take n (reply a)) v) w)
+fault_as (Ok y) v w x reply same f = f
+fault_as (Err y) v w x reply same f = λ a. subst (λ (l : List ℕ). (n : ℕ) × (n < length l) × Failed (told (take n l) v) w) (same a) f

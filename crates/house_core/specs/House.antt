@@ -61,6 +61,11 @@ IfRefused P (Refused x f) = P f
 IfRefused P (NoMemory x) = Unit {0}
 IfRefused P (Halted d) = Unit {0}
 
+-- the count of the disk's faults rose where the house halted, and stayed else
+abbrev pub CountsFaults : {D T A : Type 0} → Outcome D T A → ℕ → ℕ → Type 0
+CountsFaults (Halted d) before after = Rose before after
+CountsFaults _ before after = after ≡ before
+
 -- the house has the time and the limits of this one
 pub record KeepsTime {D T : Type 0} (old new : House D T) : Type 0 where
   pub time : house_time new.bench ≡ house_time old.bench

@@ -13,5 +13,3 @@ pub mod Bench
 pub mod House
 pub mod Opening
 pub mod Found
-pub mod Course
-pub mod Turns

@@ -1,5 +1,5 @@
--- What an item does at a house, and the replies to the items of a link.
-use Rattle.std.specs.Prelude.{◌≡◌, ◌⊎◌, ℕ, max, List, [], ◌∷◌, ◌++◌, length, All, Option, Some, None, Result, Ok, Err}
+-- What an item does at a house.
+use Rattle.std.specs.Prelude.{◌≡◌, ◌⊎◌, ℕ, max, List, [], ◌∷◌, ◌++◌, length, Option, Some, None, Result, Ok, Err}
 use Rattle.mc_records.specs.declared.limits.Limits.{Limits}
 use Rattle.mc_records.specs.declared.refusal.Refusal.{Refusal}
 use Rattle.mc_records.specs.declared.refusal.Refusal.TheVariants.{NoMemory}
@@ -9,7 +9,7 @@ use Rattle.ledger_model.specs.Histories.{History}
 use Rattle.ledger_model.specs.Answer as answers
 use Rattle.ledger_model.specs.Answer.{Answer, answer}
 use Rattle.ledger_model.specs.Replies.{reply_of, refusal_of, head_refusal}
-use Rattle.millicent_http.specs.Items.{Item, request, refused, Heads}
+use Rattle.millicent_http.specs.Items.{Item, request, refused}
 
 -- ---- states
 
@@ -45,23 +45,6 @@ GivesItem limits s (refused f closes) reply t = (reply ≡ head_refusal s.time f
 -- an item at a reading of the clock, to which the house time is raised
 abbrev pub Step : Limits → State → ℕ → Item → List ℕ → State → Type 0
 Step limits s reading item reply t = GivesItem limits (raised s reading) item reply t
-
--- ---- the items of a link
-
--- the replies to some items, joined, and the state after them, at one reading of the clock for each
-abbrev pub Run : Limits → State → List Item → List ℕ → List ℕ → State → Type 0
-Run limits s [] [] replies t = (replies ≡ []) × (t ≡ s)
-Run limits s (item ∷ items) (reading ∷ readings) replies t =
-    (first : List ℕ) × (rest : List ℕ) × (u : State) × Step limits s reading item first u × Run limits u items readings rest t × (replies ≡ first ++ rest)
-Run limits s _ _ replies t = ⊥
-
--- these are the replies to the items of a link with these bytes, where the clock stands at a moment
-pub record IsSession (limits : Limits) (moment : ℕ) (link : List ℕ) (s : State) (replies : List ℕ) (t : State) : Type 0 where
-  pub items : List Item
-  pub heads : Heads link items
-  pub readings : List ℕ
-  pub same : All (λ reading. reading ≡ moment) readings
-  pub ran : Run limits s items readings replies t
 
 -- ---- what is said to a request
 

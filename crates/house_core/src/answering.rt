@@ -22,7 +22,7 @@ use millicent_http::HeadRefusal;
 impl<T: Trade> Bench<T> {
     /// What is said to a request at a reading of the clock, to which the house time is raised: the number
     /// of the entry whose first reply it gets, or the refusal. Want of memory is refusal 90.
-    pub(crate) fn answer(&mut self, reading: Moment, q: &Request<'_>) -> Result<u64, Refusal>
+    pub fn answer(&mut self, reading: Moment, q: &Request<'_>) -> Result<u64, Refusal>
         ensures limits { limits_of self.new ≡ limits_of self.old }
         ensures kept { IfOk result (KeepsReply self.new) }
         ensures site { IfErr result IsOfSite }
@@ -37,7 +37,7 @@ impl<T: Trade> Bench<T> {
     }
 
     /// The reply to a request to which this is said. `room` is for contents that are made for the reply.
-    pub(crate) fn reply<'a>(
+    pub fn reply<'a>(
         &'a self,
         q: &Request<'_>,
         said: &Result<u64, Refusal>,
@@ -56,7 +56,7 @@ impl<T: Trade> Bench<T> {
 
     /// The reply to a head that is refused, at a reading of the clock, to which the house time is raised.
     #[tactic(auto, unfolding(ledger_model::specs::Replies::head_refusal))]
-    pub(crate) fn refuse_head(&mut self, reading: Moment, head: HeadRefusal) -> Reply<'static>
+    pub fn refuse_head(&mut self, reading: Moment, head: HeadRefusal) -> Reply<'static>
         ensures limits { limits_of self.new ≡ limits_of self.old }
         ensures reply { result ≡ ledger.head_refusal (house_time self.new) (as_refusal head) }
         ensures went { Went T.stands T.site T.holds (λ s t. t ≡ raised s reading) self.old self.new }

@@ -84,7 +84,7 @@ impl<T: Trade> Bench<T> {
     }
 
     /// Where its memory comes from.
-    pub(crate) fn alloc(&self) -> Global {
+    pub fn alloc(&self) -> Global {
         self.books.alloc()
     }
 

@@ -1,6 +1,6 @@
 //! A house over a journal: what is accepted is on the disk before its reply can begin.
 
-ghost use Rattle.std.specs.Prelude.{◌≡◌, ◌<◌, ◌≤◌, ◌+◌, ◌∷◌, ◌++◌, [], ℕ, List, length, max, IfOk, IfErr, None, Some, Ok};
+ghost use Rattle.std.specs.Prelude.{◌≡◌, ◌<◌, ◌≤◌, ◌+◌, ◌∷◌, ◌++◌, [], ℕ, List, length, max, IfOk, IfErr, OnOk, None, Some, Ok};
 ghost use Rattle.mc_outside.specs.Bytes.{Rose};
 ghost use Rattle.mc_outside.specs.DiskView.{Ran};
 ghost use Rattle.scrip_form.specs.Reading.{scrip_of};
@@ -22,7 +22,7 @@ ghost use Rattle.house_core.specs.Trade.{OfGoods, NamesInForce, BringsFor};
 ghost use Rattle.house_core.specs.Replying.{IsOfSite};
 ghost use Rattle.house_core.specs.declared.verdict.Verdict.TheVariants as verdicts;
 ghost use Rattle.house_core.specs.Verdicts.{judged, judged_of, accept_entry, IsReady, StopIsOfSite};
-ghost use Rattle.house_core.specs.House.{StandsFor, KeepsTime, OfHouse, IfRefused, Accepted, Entered, Leaves, Refuses, written_disk, outcome_disk};
+ghost use Rattle.house_core.specs.House.{StandsFor, KeepsTime, OfHouse, IfRefused, CountsFaults, Accepted, Entered, Leaves, Refuses, written_disk, outcome_disk};
 
 use crate::bench::{Bench, bad_scrip, entry_of};
 use crate::outcome::Outcome;
@@ -35,6 +35,7 @@ use mc_outside::Disk;
 use mc_records::{Limits, PieceList, Record, Refusal, Request};
 use scrip_form::{ScripRef, read_scrip};
 use scrip_journal::{Journal, Receipt, StageFault};
+use std::alloc::Global;
 
 /// A house over a journal that it owns and never lends. It is handed back by each call that writes an
 /// entry, unless the disk fails in that call.
@@ -76,6 +77,11 @@ impl<D: Disk, T: Trade> House<D, T> {
         self.bench.trade()
     }
 
+    /// Where its memory comes from.
+    pub fn alloc(&self) -> Global {
+        self.bench.alloc()
+    }
+
     /// What the house says of a request at the house time: the ledger's answer without its entry. It
     /// takes no memory.
     pub fn judge(&self, q: &Request<'_>) -> Verdict
@@ -105,6 +111,7 @@ impl<D: Disk, T: Trade> House<D, T> {
         requires target { IsTarget q.now.target.now }
         ensures moved { D.disk_moved self.journal.disk (outcome_disk result) }
         ensures keeps { OfHouse (KeepsTime self) result }
+        ensures counts { CountsFaults result (D.disk self.journal.disk).faults (D.disk (outcome_disk result)).faults }
         ensures site { IfRefused IsOfSite result }
         ensures exact { (h : History) → StandsFor D.disk T.stands T.site T.holds self h
             → Accepted D.disk T.stands T.site T.holds self.journal.disk h (model.answer h (house_time self.bench) (limits_of self.bench) (asked_of q.now)) result }
@@ -140,6 +147,7 @@ impl<D: Disk, T: Trade> House<D, T> {
         requires room { self.bench.books.size + acceptance.now.payload + 5 ≤ self.bench.books.limits.journal }
         ensures moved { D.disk_moved self.journal.disk (outcome_disk result) }
         ensures keeps { OfHouse (KeepsTime self) result }
+        ensures counts { CountsFaults result (D.disk self.journal.disk).faults (D.disk (outcome_disk result)).faults }
         ensures site { IfRefused IsOfSite result }
         ensures exact { (h : History) → StandsFor D.disk T.stands T.site T.holds self h → NamesInForce h acceptance.now.deed → BringsFor h q.now.target.now acceptance.now.deed
             → model.answer h (house_time self.bench) (limits_of self.bench) (asked_of q.now) ≡ model.Take (accept_entry (house_time self.bench) scrip.now.text q.now.target.now acceptance.now)
@@ -176,9 +184,11 @@ impl<D: Disk, T: Trade> House<D, T> {
         requires fits { Fits (entry r.now) }
         requires command { IsCommand (entry r.now) }
         requires time { moment_of (entry r.now) ≡ house_time self.bench }
+        requires may { (h : History) → StandsFor D.disk T.stands T.site T.holds self h → MayFollow (limits_of self.bench) h (entry r.now) }
         ensures moved { D.disk_moved self.journal.disk (outcome_disk result) }
         ensures keeps { OfHouse (KeepsTime self) result }
-        ensures exact { (h : History) → StandsFor D.disk T.stands T.site T.holds self h → MayFollow (limits_of self.bench) h (entry r.now)
+        ensures counts { CountsFaults result (D.disk self.journal.disk).faults (D.disk (outcome_disk result)).faults }
+        ensures exact { (h : History) → StandsFor D.disk T.stands T.site T.holds self h
             → Entered D.disk T.stands T.site T.holds (limits_of self.bench) self.journal.disk h (entry r.now) result }
         ensures ran { (h : History) → StandsFor D.disk T.stands T.site T.holds self h
             → Ran (D.disk self.journal.disk) (D.disk (outcome_disk result)) (Leaves (model.Take (entry r.now)) result h (D.disk self.journal.disk).aside) }
@@ -244,6 +254,7 @@ pub(crate) fn write_entry<D: Disk>(
     ensures fault { IfErr result (λ f. MatchStageFault f
         (λ j. j ≡ journal)
         (λ d. Rose (D.disk journal.disk).faults (D.disk d).faults)) }
+    ensures same_count { OnOk result ((D.disk (written_disk result)).faults ≡ (D.disk journal.disk).faults) }
 {
     let staged = match journal.stage(r) {
         Ok(staged) => staged,

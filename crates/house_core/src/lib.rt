@@ -2,8 +2,9 @@
 //! trade that it carries, whether it sells goods or scrip, and the house itself: what it keeps beside
 //! its trade, what it says of a request, and how it takes an entry, in memory or over a journal.
 //!
-//! `Bench::new` and the calls `accept` and `enter` of a bench and of a house take memory, and so may a
-//! trade where it is asked to reserve. No other call of this crate does.
+//! Founding and opening a house take memory, as `Bench::new` does, and so do the calls `accept`, `answer`
+//! and `enter` of a bench or of a house, `Reply::append_to`, and `reserve` of the spent identities and of
+//! a trade. No other call of this crate does.
 #![tactic(auto)]
 
 mod answering;
@@ -23,7 +24,6 @@ mod ranges;
 mod replaying;
 mod reply;
 mod sending;
-mod serving;
 mod settled;
 mod signing;
 mod spent;
@@ -31,10 +31,8 @@ mod stages;
 #[cfg(test)]
 mod tests;
 mod trade;
-mod turn;
 mod verdict;
 mod weigh;
-mod whole;
 
 pub use bench::Bench;
 pub use body::body_of_deed;
@@ -45,10 +43,9 @@ pub use law::{contents_stay, entries_follow_in_parts, goods_in_force_are_kept};
 pub use offer::{Body, DrawAsk, Offer, SiteKind, Unlawful};
 pub use opening::open_house;
 pub use outcome::Outcome;
-pub use sending::{send_again, send_refusal, send_settled};
-pub use serving::{BenchEnd, Clock, serve_bench, serve_bench_by};
+pub use reply::Reply;
+pub use sending::{send_again, send_disk_fault, send_refusal, send_settled};
 pub use settled::{Settled, drop_settled};
 pub use spent::Spent;
 pub use trade::Trade;
 pub use verdict::{BenchFault, EnterFault, Verdict};
-pub use whole::reply_to_link;

@@ -18,7 +18,7 @@ const PAGE: usize = 4096;
 /// A reply: a page with its head and as much of the contents as fits, and the rest of the contents.
 /// Contracts see it as its bytes.
 #[derive(Drop)]
-pub(crate) struct Reply<'a> {
+pub struct Reply<'a> {
     page: [u8; 4096],
     len: usize,
     rest: &'a [u8],
@@ -54,7 +54,7 @@ impl<'a> Reply<'a> {
     }
 
     /// Appends the reply. An `Err` leaves a part of it.
-    pub(crate) fn append_to(&self, out: &mut Vec<u8>) -> Result<(), NoMemory>
+    pub fn append_to(&self, out: &mut Vec<u8>) -> Result<(), NoMemory>
         ensures { OnOk result (out.new.items ≡ out.old.items ++ self.now) }
     {
         out.extend_from_slice(&self.page[..self.len])?;
@@ -64,9 +64,10 @@ impl<'a> Reply<'a> {
 
     /// Sends the reply: in one call of the link where it fits a page and the link takes it whole. At an
     /// `Err` a first part of it was sent, and not the whole.
-    pub(crate) fn send<K: Link>(&self, k: &mut K) -> Result<(), LinkFault>
+    pub fn send<K: Link>(&self, k: &mut K) -> Result<(), LinkFault>
         requires { IsTrue (K.link k.old).stands }
         ensures moved { K.link_moved k.old k.new }
+        ensures standing { (K.link k.new).stands ≡ (K.link k.old).stands }
         ensures sent { OnOk result (K.link k.new ≡ told self.now (K.link k.old)) }
         ensures fault { OnErr result ((n : ℕ) × (n < length self.now) × Failed (told (take n self.now) (K.link k.old)) (K.link k.new)) }
     {

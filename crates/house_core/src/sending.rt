@@ -3,7 +3,8 @@
 ghost use Rattle.std.specs.Prelude.{◌≡◌, ◌<◌, ℕ, length, take, IsTrue, OnOk, OnErr, option_map};
 ghost use Rattle.mc_outside.specs.DiskView.{Ran};
 ghost use Rattle.mc_outside.specs.LinkView.{told, Failed};
-ghost use Rattle.mc_records.specs.Requests.{asked_of};
+ghost use Rattle.mc_records.specs.declared.refusal.Refusal.TheVariants as refusals;
+ghost use Rattle.mc_records.specs.Requests.{Asked, asked_of};
 ghost use Rattle.ledger_model.specs.Histories.{History};
 ghost use Rattle.ledger_model.specs.Replies as ledger;
 ghost use Rattle.house_core.specs.Bench.{KeepsReply, house_time};
@@ -12,11 +13,13 @@ ghost use Rattle.house_core.specs.Replying.{IsOfSite};
 ghost use Rattle.house_core.specs.Session.{refused_reply};
 
 use crate::house::House;
+use crate::reply::{Reply, refusal_head};
 use crate::settled::{Settled, drop_settled};
 use crate::trade::Trade;
 use mc_base::Moment;
 use mc_outside::{Link, LinkFault, Outside};
 use mc_records::{Refusal, Request};
+use scrip_journal::Halted;
 
 impl<O: Outside, T: Trade> Link for House<O, T> {
     ghost use Rattle.house_core.specs.House.{HouseRests, house_rests_none, house_rests_then};
@@ -66,6 +69,7 @@ pub fn send_settled<O: Outside, T: Trade>(
 ) -> Result<(), LinkFault>
     requires { IsTrue (O.link house.old.journal.disk).stands }
     ensures moved { O.link_moved house.old.journal.disk house.new.journal.disk }
+    ensures standing { (O.link house.new.journal.disk).stands ≡ (O.link house.old.journal.disk).stands }
     ensures rests { HouseRests house.old house.new }
     ensures stands { (h : History) → StandsFor O.disk T.stands T.site T.holds house.old h → StandsFor O.disk T.stands T.site T.holds house.new h }
     ensures ran { (h : History) → StandsFor O.disk T.stands T.site T.holds house.old h
@@ -89,6 +93,7 @@ pub fn send_again<O: Outside, T: Trade>(
 ) -> Result<(), LinkFault>
     requires { IsTrue (O.link house.old.journal.disk).stands }
     ensures moved { O.link_moved house.old.journal.disk house.new.journal.disk }
+    ensures standing { (O.link house.new.journal.disk).stands ≡ (O.link house.old.journal.disk).stands }
     ensures rests { HouseRests house.old house.new }
     ensures stands { (h : History) → StandsFor O.disk T.stands T.site T.holds house.old h → StandsFor O.disk T.stands T.site T.holds house.new h }
     ensures ran { (h : History) → StandsFor O.disk T.stands T.site T.holds house.old h
@@ -117,6 +122,7 @@ pub fn send_refusal<O: Outside, T: Trade>(
     requires link { IsTrue (O.link house.old.journal.disk).stands }
     requires site { IsOfSite refusal.now }
     ensures moved { O.link_moved house.old.journal.disk house.new.journal.disk }
+    ensures standing { (O.link house.new.journal.disk).stands ≡ (O.link house.old.journal.disk).stands }
     ensures rests { HouseRests house.old house.new }
     ensures stands { (h : History) → StandsFor O.disk T.stands T.site T.holds house.old h → StandsFor O.disk T.stands T.site T.holds house.new h }
     ensures ran { (h : History) → StandsFor O.disk T.stands T.site T.holds house.old h
@@ -129,4 +135,18 @@ pub fn send_refusal<O: Outside, T: Trade>(
 {
     let reply = house.bench.refused_reply(q, refusal);
     reply.send(&mut house.journal)
+}
+
+/// Sends the refusal that tells a request that the disk failed, on the link that stands, at a house time.
+/// At an `Err` a first part of it was sent, and not the whole. It takes no memory.
+pub fn send_disk_fault<O: Outside>(halted: &mut Halted<O>, time: Moment) -> Result<(), LinkFault>
+    requires { IsTrue (O.link halted.old).stands }
+    ensures moved { O.link_moved halted.old halted.new }
+    ensures standing { (O.link halted.new).stands ≡ (O.link halted.old).stands }
+    ensures sent { OnOk result ((a : History × Asked) → O.link halted.new ≡ told (ledger.refusal_of a.0 time a.1 refusals.DiskFault) (O.link halted.old)) }
+    ensures fault { OnErr result ((a : History × Asked)
+        → (n : ℕ) × (n < length (ledger.refusal_of a.0 time a.1 refusals.DiskFault)) × Failed (told (take n (ledger.refusal_of a.0 time a.1 refusals.DiskFault)) (O.link halted.old)) (O.link halted.new)) }
+{
+    let reply = Reply::of(&refusal_head(time, &Refusal::DiskFault, None), b"");
+    reply.send(halted)
 }

@@ -39,7 +39,7 @@ pub(crate) fn said(verdict: Verdict) -> Judged {
 /// What came of a request, with the number of the entry or of the refusal.
 #[derive(Clone, Copy, Debug, PartialEq, Eq)]
 pub(crate) enum Came {
-    /// It is accepted, and its reply was sent.
+    /// It is accepted, and its reply was sent; of an entry by a command: it is entered.
     Done(u64),
     /// It is accepted, and its reply was not sent.
     Unsent,
@@ -160,14 +160,11 @@ pub(crate) fn paid(target: &[u8]) -> Request<'_>
 
 pub(crate) const PAGE_1: &[u8] = b"/news/1";
 
-/// The payloads of the house's entries, one behind another, with that of the acceptance or without it.
-pub(crate) fn payloads(alloc: Global, accepted: bool) -> Result<Vec<u8>, Fail> {
+/// The payloads of the house's entries, one behind another, and this one in hex digits behind them.
+pub(crate) fn payloads(alloc: Global, last: &str) -> Result<Vec<u8>, Fail> {
     let mut digits = Vec::new(alloc);
-    for payload in [SITE, TERMS, PAGE] {
+    for payload in [SITE, TERMS, PAGE, last] {
         digits.extend_from_slice(payload.as_bytes())?;
-    }
-    if accepted {
-        digits.extend_from_slice(ACCEPTED.as_bytes())?;
     }
     Ok(hex::decode(alloc, &digits)?)
 }
@@ -185,7 +182,7 @@ fn a_request_is_accepted_onto_the_disk_and_replied_to(rt: HostRuntime) -> Result
     assert!(rt; stage.sent(1).is_none());
     assert_eq!(rt; stage.contents(), wanted.as_slice());
     let read = entries(alloc, stage)?;
-    assert_eq!(rt; read.as_slice(), payloads(alloc, true)?.as_slice());
+    assert_eq!(rt; read.as_slice(), payloads(alloc, ACCEPTED)?.as_slice());
     Ok(())
 }
 
@@ -231,8 +228,9 @@ fn a_house_tells_its_time_its_limits_and_its_trade(rt: HostRuntime) -> Result<()
     assert_eq!(rt; (house.limits().journal, house.limits().series), (4_000, 3));
     assert_eq!(rt; house.trade().price(PAGE_1), Some(25));
     assert_eq!(rt; house.trade().price(b"/news/2"), None);
-    let read = entries(alloc, house.close())?;
-    assert_eq!(rt; read.as_slice(), payloads(alloc, false)?.as_slice());
+    let own = house.alloc();
+    let read = entries(own, house.close())?;
+    assert_eq!(rt; read.as_slice(), payloads(alloc, "")?.as_slice());
     Ok(())
 }
 
@@ -244,7 +242,7 @@ fn a_disk_that_fails_leaves_the_entries_with_the_new_one_or_without_it(
     rt: HostRuntime,
 ) -> Result<(), Fail> {
     let alloc = rt.alloc();
-    let (before, after) = (payloads(alloc, false)?, payloads(alloc, true)?);
+    let (before, after) = (payloads(alloc, "")?, payloads(alloc, ACCEPTED)?);
     for call in 15..19 {
         for choice in [0, 1, 2, 3, 100, 128, 255, 1000] {
             let failing = stage(alloc, &[call, call.saturating_add(1)])?;
@@ -265,7 +263,7 @@ fn a_disk_that_fails_leaves_the_entries_with_the_new_one_or_without_it(
 #[test]
 fn what_is_done_lasts(rt: HostRuntime) -> Result<(), Fail> {
     let alloc = rt.alloc();
-    let wanted = payloads(alloc, true)?;
+    let wanted = payloads(alloc, ACCEPTED)?;
     for choice in [0, 1, 2, 3, 100, 128, 255, 1000] {
         // The request made four calls of the disk: the next one is the 19th.
         let (came, mut stage) = pay(news(alloc, stage(alloc, &[19])?, Limits::FULL)?, PAGE_1)?;

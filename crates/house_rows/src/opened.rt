@@ -85,7 +85,7 @@ fn found(alloc: Global, stage: Stage) -> Result<(Begun, Stage), Fail> {
 
 /// The journal of entries with these payloads, in hex digits: each stands behind an open gate and its
 /// length, and a closed gate behind the last.
-fn book_of(alloc: Global, payloads: &[&str]) -> Result<Vec<u8>, Fail> {
+pub(crate) fn book_of(alloc: Global, payloads: &[&str]) -> Result<Vec<u8>, Fail> {
     let mut book = Vec::from_slice(alloc, b"MCJRNL1\n")?;
     for digits in payloads {
         let payload = hex::decode(alloc, *digits)?;
@@ -138,7 +138,7 @@ fn a_book_opens_as_the_house_that_wrote_it(rt: HostRuntime) -> Result<(), Fail> 
 #[test]
 fn a_crashed_book_opens_and_the_request_gets_its_first_reply(rt: HostRuntime) -> Result<(), Fail> {
     let alloc = rt.alloc();
-    let wanted = payloads(alloc, true)?;
+    let wanted = payloads(alloc, ACCEPTED)?;
     for call in 15..19 {
         for choice in [0, 1, 128] {
             let house = news(alloc, stage(alloc, &[call])?, Limits::FULL)?;

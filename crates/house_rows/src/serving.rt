@@ -5,7 +5,8 @@ ghost use Rattle.std.specs.Prelude.{◌≡◌, ◌<◌, []};
 
 use crate::house::{enter_payload, vendor_site};
 use crate::texts::{PAGE, SITE, TERMS};
-use house_core::{Bench, BenchEnd, Trade, serve_bench};
+use house_core::{Bench, Trade};
+use house_serving::{BenchEnd, serve_bench};
 use mc_base::List;
 use mc_outside::Link;
 use mc_records::{Limits, PieceList};

@@ -2,17 +2,17 @@
 use Rattle.std.specs.Prelude.{◌≡◌, ◌⊎◌, ℕ, List, ◌++◌, option_map, Result, Ok, Err}
 use Rattle.mc_outside.specs.Bytes.{Rose, Told, AddsPart}
 use Rattle.mc_outside.specs.LinkView.{LinkView}
-use Rattle.house_core.specs.declared.serving.Clock.TheVariants.{At}
-use Rattle.house_core.specs.declared.serving.BenchEnd.{BenchEnd}
-use Rattle.house_core.specs.declared.serving.BenchEnd.TheVariants as ends
-use Rattle.house_core.specs.Session.{State}
-use Rattle.house_core.specs.Course.{ServedAll, NoLink}
+use Rattle.house_serving.specs.declared.serving.Clock.TheVariants.{At}
+use Rattle.house_serving.specs.declared.serving.BenchEnd.{BenchEnd}
+use Rattle.house_serving.specs.declared.serving.BenchEnd.TheVariants as ends
+use Rattle.house_serving.specs.Steps.{Did}
+use Rattle.house_serving.specs.Course.{ServedAll, NoLink}
 use Rattle.mc_top.specs.Words.{Shop}
 use Rattle.mc_top.specs.Opening.{opened, full}
 
 -- One link was served, or none came: from the opening of the shop on, each reading of the clock is 0.
 abbrev pub IsDone : Shop → LinkView → LinkView → Type 0
-IsDone shop before after = (n : ℕ) × (t : State) × ServedAll full (At 0) 1 n (opened shop) before t after
+IsDone shop before after = (n : ℕ) × (steps : List Did) × ServedAll full (At 0) 1 n steps (opened shop) before after
 
 -- how `vendor once` served its link, or why it took none
 abbrev pub EndsOnce : Result (Unit {0}) BenchEnd → Shop → LinkView → LinkView → Type 0
@@ -28,7 +28,3 @@ pub record SaidInPart (line : List ℕ) (before after : LinkView) : Type 0 where
 
 abbrev pub IsSaid : List ℕ → LinkView → LinkView → Type 0
 IsSaid line before after = (after ≡ record before { said = option_map (λ s. s ++ line) before.said }) ⊎ SaidInPart line before after
-
--- `next_link` failed, and then a line was said
-abbrev pub IsBroken : List ℕ → LinkView → LinkView → Type 0
-IsBroken line before after = (failed : LinkView) × NoLink before failed × IsSaid line failed after

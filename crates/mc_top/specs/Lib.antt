@@ -1,6 +1,13 @@
 pub mod Words
-pub mod Seven
+pub mod WordLists
+pub mod Commands
+pub mod Places
+pub mod Founding
 pub mod Opening
 pub mod Session
 pub mod Statuses
 pub mod Course
+pub mod Endings
+pub mod Serving
+pub mod Init
+pub mod Programs

@@ -1,7 +1,8 @@
 ghost use Rattle.std.specs.Prelude.{◌≡◌, ℕ, List};
-ghost use Rattle.mc_top.specs.Words.{Shop, AreWordsOf};
+ghost use Rattle.mc_top.specs.declared.command.Command.{Command};
+ghost use Rattle.mc_top.specs.Commands.{AreWords};
 
-/// The words are of one shop.
-pub fn words_are_of_one_shop()
-    ensures { (words : List (List ℕ)) (a b : Shop) → AreWordsOf words a → AreWordsOf words b → a ≡ b }
+/// The words are of one command at most.
+pub fn words_are_of_one_command()
+    ensures { (words : List (List ℕ)) (a b : Command) → AreWords words a → AreWords words b → a ≡ b }
 {}

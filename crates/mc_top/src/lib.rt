@@ -1,13 +1,21 @@
 //! The top of the program: what its words mean, and what it does over the outside.
 #![tactic(auto)]
 
+mod command;
+mod founder;
+mod init;
 mod law;
+mod naming;
 mod program;
+mod server;
+mod serving;
 mod shop;
 mod status;
 mod whole_link;
 mod words;
 
-pub use law::words_are_of_one_shop;
+pub use command::Places;
+pub use law::words_are_of_one_command;
+pub use naming::places;
 pub use program::{Ran, run};
 pub use whole_link::once;

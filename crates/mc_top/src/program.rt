@@ -1,12 +1,18 @@
-ghost use Rattle.std.specs.Prelude.{◌≡◌, ◌⊎◌, ◌↔◌, ◌<◌, map, length, string_bytes, codes, OnOk, IfErr};
-ghost use Rattle.mc_top.specs.Statuses.{number_of, line_of};
-ghost use Rattle.mc_top.specs.Words.{Shop, AreWordsOf, AreBadWords};
-ghost use Rattle.mc_top.specs.Course.{IsDone, IsBroken, IsSaid, EndsOnce};
+ghost use Rattle.std.specs.Prelude.{◌≡◌, ◌⊎◌, ◌↔◌, ◌<◌, map, length, string_bytes, codes};
+ghost use Rattle.mc_outside.specs.DiskView.{LinkKeeps};
+ghost use Rattle.mc_top.specs.declared.command.Command.{Command as Commanded};
+ghost use Rattle.mc_top.specs.Commands.{AreWords, AreNoWords};
+ghost use Rattle.mc_top.specs.Course.{IsSaid, EndsOnce};
+ghost use Rattle.mc_top.specs.Programs.{Obeys, Ends, RunsAs};
+ghost use Rattle.mc_top.specs.Statuses.{number_of};
 
+use crate::command::Command;
+use crate::init::found_book;
+use crate::serving::serve_book;
 use crate::shop::Shop;
 use crate::status::Status;
-use crate::words::shop_of;
-use house_core::{BenchEnd, Clock, serve_bench_by};
+use crate::words::command_of;
+use house_serving::{BenchEnd, Clock, serve_bench_by};
 use mc_base::{Moment, NoMemory};
 use mc_outside::{Disk, Link, Outside};
 use std::alloc::Global;
@@ -20,51 +26,56 @@ pub struct Ran<O, D> {
 }
 
 /// The program: does what the words, those after its name, say, over the outside `out`. `books` are the
-/// books that the words name; today's command, `vendor once NAME TARGET PRICE SECRET CONTENTS`, names
-/// none.
+/// books of other houses that the words name; no command of today names any.
 ///
-/// 0: at most one link was taken; each head on it was answered as the session of the shop has it,
-/// however the link cut its bytes, unless a call of the link failed, which ends it. 2: the words are of
-/// no command, or there are books; no link was asked for. 5: memory was refused before a link was asked
-/// for; memory that is refused later, to accept a request, is a reply with refusal 90 (`500`), and the
-/// link goes on. 6: `next_link` failed. With 2, 5 and 6 a line says so; where it can't be said, the
-/// status stays. The outside and the books are handed back; no call touches a disk.
+/// `vendor once NAME TARGET PRICE SECRET CONTENTS` serves one link by a house in memory, and touches no
+/// disk. `vendor init BOOK NAME PERIOD LIFE SCRIP CUSTOMER [--keep S] [--clear]` founds a vendor in the
+/// book on the outside's disk. `vendor serve BOOK LISTEN LINKS` serves so many links by the house of that
+/// book, or all that come.
+///
+/// 0: it is done. 2: the words are of no command, or there are books; nothing was touched but what is said.
+/// 3: the book that is to be served is no journal, or has bytes that can't stand, or an entry that may not
+/// follow. 4: the disk failed. 5: memory was refused before anything was done; memory that is refused
+/// later, to accept a request, is a reply with refusal 90 (`500`), and the link goes on. 6: `next_link`
+/// failed. 7: a refusal is told: that the book to be founded has bytes already, or that the book to be
+/// served is of a site of another kind. A line says how it ended; where it can't be said, the status stays.
+/// The outside and the books are handed back.
 pub fn run<O: Outside, D: Disk>(alloc: Global, words: &[String], out: O, books: Vec<D>) -> Ran<O, D>
-    ensures moved { O.link_moved out result.out }
     ensures books { result.books ≡ books }
-    ensures statuses { (result.status ≡ 0) ⊎ ((result.status ≡ 2) ⊎ ((result.status ≡ 5) ⊎ (result.status ≡ 6))) }
-    ensures words { (result.status ≡ 2) ↔ (AreBadWords (map string_bytes words.now) ⊎ (0 < length books.items)) }
-    ensures served { result.status ≡ 0 → (shop : Shop) × AreWordsOf (map string_bytes words.now) shop × IsDone shop (O.link out) (O.link result.out) }
-    ensures bad_words { result.status ≡ 2 → IsSaid (codes "bad words\n") (O.link out) (O.link result.out) }
-    ensures starved { result.status ≡ 5 → IsSaid (codes "no memory\n") (O.link out) (O.link result.out) }
-    ensures broken { result.status ≡ 6 → IsBroken (codes "link fault\n") (O.link out) (O.link result.out) }
+    ensures words { (result.status ≡ 2) ↔ (AreNoWords (map string_bytes words.now) ⊎ (0 < length books.items)) }
+    ensures bad_words { result.status ≡ 2 → IsSaid (codes "bad words\n") (O.link out) (O.link result.out) × LinkKeeps (O.disk out) (O.disk result.out) }
+    ensures obeyed { (command : Commanded) → AreWords (map string_bytes words.now) command → length books.items ≡ 0 → RunsAs O.link O.disk command out result.status result.out }
 {
-    let mut out = out;
     if !books.is_empty() {
-        let status = end(&mut out, Status::BadWords);
+        let (out, status) = end(out, Status::BadWords);
         return Ran { status, out, books };
     }
-    let status = obey(alloc, words, &mut out);
+    let Some(command) = command_of(words) else {
+        let (out, status) = end(out, Status::BadWords);
+        return Ran { status, out, books };
+    };
+    let (out, status) = obey(alloc, &command, out);
+    let (out, status) = end(out, status);
     Ran { status, out, books }
 }
 
-/// Does what the words say, and answers the status.
-fn obey<K: Link>(alloc: Global, words: &[String], k: &mut K) -> u8
-    ensures moved { K.link_moved k.old k.new }
-    ensures statuses { (result ≡ 0) ⊎ ((result ≡ 2) ⊎ ((result ≡ 5) ⊎ (result ≡ 6))) }
-    ensures words { (result ≡ 2) ↔ AreBadWords (map string_bytes words.now) }
-    ensures served { result ≡ 0 → (shop : Shop) × AreWordsOf (map string_bytes words.now) shop × IsDone shop (K.link k.old) (K.link k.new) }
-    ensures bad_words { result ≡ 2 → IsSaid (codes "bad words\n") (K.link k.old) (K.link k.new) }
-    ensures starved { result ≡ 5 → IsSaid (codes "no memory\n") (K.link k.old) (K.link k.new) }
-    ensures broken { result ≡ 6 → IsBroken (codes "link fault\n") (K.link k.old) (K.link k.new) }
+/// Does what a command says, and tells how it ended.
+fn obey<O: Outside>(alloc: Global, command: &Command<'_>, out: O) -> (O, Status)
+    ensures obeyed { Obeys O.link O.disk command.now out result.1 result.0 }
+    ensures words { number_of result.1 ≡ 2 → ⊥ }
 {
-    let Some(shop) = shop_of(words) else {
-        return end(k, Status::BadWords);
-    };
-    match serve_once(alloc, &shop, k) {
-        Ok(()) => Status::Done.number(),
-        Err(BenchEnd::NoMemory) => end(k, Status::NoMemory),
-        Err(BenchEnd::Link) => end(k, Status::LinkFault),
+    match command {
+        Command::Once(shop) => {
+            let mut out = out;
+            let status = match serve_once(alloc, shop, &mut out) {
+                Ok(()) => Status::Done,
+                Err(BenchEnd::NoMemory) => Status::NoMemory,
+                Err(BenchEnd::Link) => Status::LinkFault,
+            };
+            (out, status)
+        }
+        Command::Init(founder) => found_book(alloc, founder, out),
+        Command::Serve(server) => serve_book(alloc, server.links(), out),
     }
 }
 
@@ -83,12 +94,15 @@ fn serve_once<K: Link>(alloc: Global, shop: &Shop<'_>, k: &mut K) -> Result<(), 
     }
 }
 
-/// Says the line of a status, and answers its number.
-fn end<K: Link>(k: &mut K, status: Status) -> u8
-    ensures moved { K.link_moved k.old k.new }
-    ensures number { result ≡ number_of status }
-    ensures said { IsSaid (line_of status) (K.link k.old) (K.link k.new) }
+/// Says the line of a status, where it has one, and answers its number.
+fn end<O: Outside>(out: O, status: Status) -> (O, u8)
+    ensures ends { Ends O.link O.disk status out result.0 result.1 }
 {
-    let _ = k.say(status.line());
-    status.number()
+    let mut out = out;
+    let mut line = [0; 256];
+    let len = status.put_line(&mut line);
+    if len > 0 {
+        let _ = out.say(&line[..len]);
+    }
+    (out, status.number())
 }

@@ -1,13 +1,30 @@
-ghost use Rattle.std.specs.Prelude.{◌≡◌};
+ghost use Rattle.std.specs.Prelude.{◌≡◌, ◌+◌, ◌≤◌, ◌++◌, length, take, codes, decimal};
+ghost use Rattle.mc_top.specs.declared.status.Status.TheVariants.{Refused};
 ghost use Rattle.mc_top.specs.Statuses.{number_of, line_of};
 
+use mc_fields::{put, put_number};
+use mc_records::{Refusal, put_refusal_text};
+use scrip_form::Name;
+
 /// How the program ends.
-#[derive(Clone, Copy, Debug, PartialEq, Eq)]
+#[derive(Clone, Copy)]
 pub(crate) enum Status {
+    /// The one link of a shop was served, or none came.
     Done,
+    /// So many links were served.
+    Served(u32),
+    /// A site of this name was founded.
+    Founded(Name),
     BadWords,
+    NotJournal,
+    /// The bytes of the book can't stand from this place on.
+    BadEntry(u64),
+    /// The entry behind the gate at this place may not follow those before it.
+    UnlawfulEntry(u64),
+    DiskFault,
     NoMemory,
     LinkFault,
+    Refused(Refusal),
 }
 
 impl Status {
@@ -15,22 +32,62 @@ impl Status {
         ensures { result ≡ number_of self }
     {
         match self {
-            Status::Done => 0,
+            Status::Done | Status::Served(_) | Status::Founded(_) => 0,
             Status::BadWords => 2,
+            Status::NotJournal | Status::BadEntry(_) | Status::UnlawfulEntry(_) => 3,
+            Status::DiskFault => 4,
             Status::NoMemory => 5,
             Status::LinkFault => 6,
+            Status::Refused(_) => 7,
         }
     }
 
-    /// The line that is said.
-    pub(crate) fn line(self) -> &'static [u8]
-        ensures { result.now ≡ line_of self }
+    /// Writes the line that is said to the front of the buffer, and answers its length.
+    pub(crate) fn put_line(&self, out: &mut [u8; 256]) -> usize
+        ensures within { result ≤ 256 }
+        ensures line { take result out.new ≡ line_of self.now }
     {
         match self {
-            Status::Done => b"",
-            Status::BadWords => b"bad words\n",
-            Status::NoMemory => b"no memory\n",
-            Status::LinkFault => b"link fault\n",
+            Status::Done => 0,
+            Status::Served(links) => put_numbered(out, b"served ", u64::from(*links)),
+            Status::Founded(name) => put_named(out, name),
+            Status::BadWords => put(out, 0, b"bad words\n"),
+            Status::NotJournal => put(out, 0, b"not a journal\n"),
+            Status::BadEntry(place) => put_numbered(out, b"bad entry at ", *place),
+            Status::UnlawfulEntry(place) => put_numbered(out, b"unlawful entry at ", *place),
+            Status::DiskFault => put(out, 0, b"disk fault\n"),
+            Status::NoMemory => put(out, 0, b"no memory\n"),
+            Status::LinkFault => put(out, 0, b"link fault\n"),
+            Status::Refused(refusal) => put_refused(out, refusal),
         }
     }
+}
+
+/// Words and a number.
+fn put_numbered(out: &mut [u8; 256], words: &[u8], number: u64) -> usize
+    requires { length words.now ≤ 100 }
+    ensures within { result ≤ 256 }
+    ensures line { take result out.new ≡ words.now ++ decimal number ++ codes "\n" }
+{
+    let at = put(out, 0, words);
+    let at = put_number(out, at, number);
+    put(out, at, b"\n")
+}
+
+fn put_named(out: &mut [u8; 256], name: &Name) -> usize
+    ensures within { result ≤ 256 }
+    ensures line { take result out.new ≡ codes "founded " ++ name.now ++ codes "\n" }
+{
+    let at = put(out, 0, b"founded ");
+    let at = put(out, at, name.bytes());
+    put(out, at, b"\n")
+}
+
+fn put_refused(out: &mut [u8; 256], refusal: &Refusal) -> usize
+    ensures within { result ≤ 256 }
+    ensures line { take result out.new ≡ line_of (Refused refusal.now) }
+{
+    let at = put(out, 0, b"refused ");
+    let at = put_refusal_text(out, at, refusal);
+    put(out, at, b"\n")
 }

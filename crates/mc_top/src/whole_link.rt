@@ -5,7 +5,7 @@ ghost use Rattle.mc_top.specs.Session.{IsSession};
 use crate::shop::Shop;
 use crate::status::Status;
 use crate::words::shop_of;
-use house_core::reply_to_link;
+use house_serving::reply_to_link;
 use mc_base::{Moment, NoMemory};
 use std::alloc::Global;
 

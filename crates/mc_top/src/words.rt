@@ -1,15 +1,48 @@
-ghost use Rattle.std.specs.Prelude.{◌≡◌, ◌≢◌, map, length, string_bytes, IfSome, IsNone};
-ghost use Rattle.mc_top.specs.Words.{AreWordsOf, AreBadWords};
-ghost use Rattle.mc_top.specs.Seven.{words_in};
+ghost use Rattle.std.specs.Prelude.{◌≡◌, ◌≢◌, ◌↔◌, map, length, string_bytes, IfSome, IsNone, IsTrue};
+ghost use Rattle.mc_top.specs.Words.{AreWordsOf, AreBadWords, IsPlace};
+ghost use Rattle.mc_top.specs.Commands.{AreWords, AreNoWords};
+ghost use Rattle.mc_top.specs.WordLists.{once_words};
 
+mod init;
+mod options;
+mod secrets;
+mod serve;
+
+use crate::command::Command;
 use crate::shop::Shop;
+use init::founder_of;
 use mc_base::Amount;
 use mc_fields::number_of;
 use scrip_certs::of_hex;
 use scrip_form::{Name, Target};
+use serve::server_of;
 
 /// The most bytes of the contents that are sold.
 const MOST_CONTENTS: usize = 65536;
+
+/// The most bytes of a word that names a book or a place to listen at.
+const MOST_PLACE: usize = 255;
+
+/// The command that the words are of; None exactly where they are of none.
+pub(crate) fn command_of(words: &[String]) -> Option<Command<'_>>
+    ensures command { IfSome result (λ c. AreWords (map string_bytes words.now) c) }
+    ensures none { IsNone result → AreNoWords (map string_bytes words.now) }
+{
+    if let Some(shop) = shop_of(words) {
+        return Some(Command::Once(shop));
+    }
+    if let Some(founder) = founder_of(words) {
+        return Some(Command::Init(founder));
+    }
+    Some(Command::Serve(server_of(words)?))
+}
+
+/// Whether the word can name a book or a place to listen at.
+fn is_place(word: &[u8]) -> bool
+    ensures { IsTrue result ↔ IsPlace word.now }
+{
+    !word.is_empty() && word.len() <= MOST_PLACE
+}
 
 /// The shop that the words `vendor once NAME TARGET PRICE SECRET CONTENTS` give; None exactly where
 /// they are of no shop.
@@ -17,12 +50,12 @@ pub(crate) fn shop_of(words: &[String]) -> Option<Shop<'_>>
     ensures shop { IfSome result (λ shop. AreWordsOf (map string_bytes words.now) shop) }
     ensures none { IsNone result → AreBadWords (map string_bytes words.now) }
 {
-    shop_from(seven_of(words)?)
+    shop_from(once_words_of(words)?)
 }
 
-/// The words as bytes.
+/// The words of `vendor once` as bytes.
 #[derive(Clone, Copy)]
-struct Seven<'a> {
+struct OnceWords<'a> {
     role: &'a [u8],
     command: &'a [u8],
     name: &'a [u8],
@@ -32,12 +65,12 @@ struct Seven<'a> {
     contents: &'a [u8],
 }
 
-fn seven_of(words: &[String]) -> Option<Seven<'_>>
-    ensures words { IfSome result (λ s. map string_bytes words.now ≡ words_in s) }
+fn once_words_of(words: &[String]) -> Option<OnceWords<'_>>
+    ensures words { IfSome result (λ w. map string_bytes words.now ≡ once_words w) }
     ensures none { IsNone result → length words.now ≢ 7 }
 {
     match words {
-        [role, command, name, target, price, secret, contents] => Some(Seven {
+        [role, command, name, target, price, secret, contents] => Some(OnceWords {
             role: role.as_bytes(),
             command: command.as_bytes(),
             name: name.as_bytes(),
@@ -50,9 +83,9 @@ fn seven_of(words: &[String]) -> Option<Seven<'_>>
     }
 }
 
-fn shop_from(words: Seven<'_>) -> Option<Shop<'_>>
-    ensures shop { IfSome result (λ shop. AreWordsOf (words_in words.entry) shop) }
-    ensures none { IsNone result → AreBadWords (words_in words.entry) }
+fn shop_from(words: OnceWords<'_>) -> Option<Shop<'_>>
+    ensures shop { IfSome result (λ shop. AreWordsOf (once_words words.entry) shop) }
+    ensures none { IsNone result → AreBadWords (once_words words.entry) }
 {
     if words.role != b"vendor".as_slice() || words.command != b"once".as_slice() {
         return None;

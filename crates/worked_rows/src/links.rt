@@ -16,6 +16,33 @@ pub(crate) fn words(alloc: Global, all: &[&str]) -> Result<Vec<String>, AllocErr
     Ok(words)
 }
 
+/// The words with one more behind them, or several.
+pub(crate) fn longer(
+    alloc: Global,
+    front: &[&str],
+    more: &[&str],
+) -> Result<Vec<String>, AllocError> {
+    let mut all = words(alloc, front)?;
+    for word in more {
+        all.push(String::from_str(alloc, word)?)?;
+    }
+    Ok(all)
+}
+
+/// The words with another one at this place.
+pub(crate) fn with_word(
+    alloc: Global,
+    front: &[&str],
+    at: usize,
+    other: &str,
+) -> Result<Vec<String>, AllocError> {
+    let mut all = Vec::new(alloc);
+    for (i, word) in front.iter().enumerate() {
+        all.push(String::from_str(alloc, if i == at { other } else { word })?)?;
+    }
+    Ok(all)
+}
+
 /// The words of the shop of the rows.
 pub(crate) fn right_words(alloc: Global) -> Result<Vec<String>, AllocError> {
     let secret = "55555555555555555555555555555555";

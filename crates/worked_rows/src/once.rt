@@ -2,7 +2,7 @@
 
 use crate::links::{right_words, words};
 use crate::rows::ROWS;
-use mc_top::{once, words_are_of_one_shop};
+use mc_top::{once, words_are_of_one_command};
 use std::test::Fail;
 
 #[test]
@@ -14,7 +14,7 @@ fn links_get_their_replies(rt: HostRuntime) -> Result<(), Fail> {
         assert_eq!(rt; once(alloc, &words, link, &mut reply), 0);
         assert_eq!(rt; reply.as_slice(), *wanted, "{name}");
     }
-    words_are_of_one_shop();
+    words_are_of_one_command();
     Ok(())
 }
 

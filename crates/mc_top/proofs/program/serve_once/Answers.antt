@@ -1,7 +1,6 @@
 use Rattle.std.proofs.Common.{Ok, Err}
-use Rattle.house_core.specs.declared.serving.Clock.TheVariants.{At}
-use Rattle.house_core.specs.Bench.{state_of}
-use Rattle.house_core.specs.Course.{Served}
+use Rattle.house_serving.specs.declared.serving.Clock.TheVariants.{At}
+use Rattle.house_serving.specs.Course.{Served}
 use Rattle.mc_top.specs.Opening.{opening}
 use Rattle.mc_top.proofs.CourseLemmas.{at_opening, ended_early}
 use Rattle.mc_top.proofs.program.serve_once.Goals as goal
@@ -13,9 +12,8 @@ returns-in-Ok-serve_bench_by-clause-ended g c =
     let n = c.in-Ok-serve_bench_by.field-0 in
     let before = g.K.Link.link c.args.k.now in
     let after = g.K.Link.link c.serve_bench_by.new.k in
-    let came = c.in-Ok-serve_bench_by.ensures.served h is.house in
-    let t = state_of came.history c.serve_bench_by.new.bench in
-    (n, t, at_opening (λ limits moment s. Served limits (At moment) 1 (Ok n) s before t after) h _ _ _ is.limits c.clamped.ensures is.time came.leads)
+    let by = (c.in-Ok-serve_bench_by.ensures.served h is.house).leads in
+    (n, by.0, at_opening (λ limits moment s. Served limits (At moment) 1 (Ok n) by.0 s before after) h _ _ _ is.limits c.clamped.ensures is.time by.2)
 
 pub returns-clause-ended : goal.returns-clause-ended
 returns-clause-ended g c =
@@ -24,6 +22,5 @@ returns-clause-ended g c =
     let end = c.in-Err-serve_bench_by.end in
     let before = g.K.Link.link c.args.k.now in
     let after = g.K.Link.link c.serve_bench_by.new.k in
-    let came = c.in-Err-serve_bench_by.ensures.served h is.house in
-    let t = state_of came.history c.serve_bench_by.new.bench in
-    ended_early end c.args.shop.now t before after (at_opening (λ limits moment s. Served limits (At moment) 1 (Err end) s before t after) h _ _ _ is.limits c.clamped.ensures is.time came.leads)
+    let by = (c.in-Err-serve_bench_by.ensures.served h is.house).leads in
+    ended_early end c.args.shop.now by.0 before after (at_opening (λ limits moment s. Served limits (At moment) 1 (Err end) by.0 s before after) h _ _ _ is.limits c.clamped.ensures is.time by.2)

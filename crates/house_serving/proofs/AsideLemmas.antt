@@ -1,0 +1,63 @@
+-- What was sent over all links, by what becomes of the links.
+use Rattle.std.proofs.Common.{◌≡◌, ℕ, List, [], ◌∷◌, ◌++◌, refl, sym, ap, ◌∙◌, Option, Some, None}
+use Rattle.std.specs.Prelude.{IsSome, IsTrue, option_map}
+use Rattle.mc_outside.specs.LinkView.{Session, LinkView, IsLink, on_last, hear, ended, fresh, all_sent, heard, told, finished, next_taken}
+use Rattle.mc_outside.proofs.Sessions.{aside_grows}
+
+pub some_of : {A : Type 0} (o : Option A) → IsSome o → (x : A) × (o ≡ Some x)
+some_of None is = absurd (cc is)
+some_of (Some x) is = (x, refl)
+
+-- where the links tell what was sent, they tell it after, and no more was sent
+abbrev pub SentNoMore : LinkView → LinkView → Type 0
+SentNoMore v w = (ss : List Session) → v.sessions ≡ Some ss → (ts : List Session) × (w.sessions ≡ Some ts) × (all_sent ts ≡ all_sent ss)
+
+pub no_more_then : (u v w : LinkView) → SentNoMore u v → SentNoMore v w → SentNoMore u w
+no_more_then u v w first second = λ ss e. let one = first ss e in let two = second one.0 one.1 in (two.0, two.1, two.2 ∙ one.2)
+
+-- the links taken stay as they were
+pub no_more_still : (v w : LinkView) → w.sessions ≡ v.sessions → SentNoMore v w
+no_more_still v w same = λ ss e. (ss, same ∙ e, refl)
+
+maps_no_more : (f : Session → Session) → ((s : Session) → (f s).sent ≡ s.sent) → (ss : List Session) → all_sent (on_last f ss) ≡ all_sent ss
+maps_no_more f same [] = refl
+maps_no_more f same (s ∷ []) = ap (λ (l : List ℕ). l ++ []) (same s)
+maps_no_more f same (s ∷ t ∷ ss) = ap (λ (l : List ℕ). s.sent ++ l) (maps_no_more f same (t ∷ ss))
+
+on_last_no_more : (f : Session → Session) (v w : LinkView) → ((s : Session) → (f s).sent ≡ s.sent) → w.sessions ≡ option_map (on_last f) v.sessions → SentNoMore v w
+on_last_no_more f v w same is = λ ss e. (on_last f ss, is ∙ ap (λ (o : Option (List Session)). option_map (on_last f) o) e, maps_no_more f same ss)
+
+-- more was received
+pub no_more_heard : (v w : LinkView) (x : List ℕ) → w.sessions ≡ (heard x v).sessions → SentNoMore v w
+no_more_heard v w x is = on_last_no_more (hear x) v w (λ s. refl) is
+
+-- the link was read to its end
+pub no_more_finished : (v w : LinkView) → w.sessions ≡ (finished v).sessions → SentNoMore v w
+no_more_finished v w is = on_last_no_more ended v w (λ s. refl) is
+
+fresh_no_more : (ss : List Session) → all_sent (ss ++ fresh ∷ []) ≡ all_sent ss
+fresh_no_more [] = refl
+fresh_no_more (s ∷ ss) = ap (λ (l : List ℕ). s.sent ++ l) (fresh_no_more ss)
+
+-- the next link was taken
+pub no_more_taken : (v w : LinkView) → w ≡ next_taken v → SentNoMore v w
+no_more_taken v w is = λ ss e.
+    (ss ++ fresh ∷ [], ap (λ (u : LinkView). u.sessions) is ∙ ap (λ (o : Option (List Session)). option_map (λ l. l ++ fresh ∷ []) o) e, fresh_no_more ss)
+
+-- ---- the bytes sent so far
+
+-- they are those of all links
+abbrev pub TellsAside : {O : Type 0} → (O → LinkView) → (O → List ℕ) → Type 0
+TellsAside {O} link aside = (o : O) (ss : List Session) → (link o).sessions ≡ Some ss → aside o ≡ all_sent ss
+
+pub aside_still : {O : Type 0} (link : O → LinkView) (aside : O → List ℕ) (a b : O) → TellsAside link aside → IsSome (link a).sessions → SentNoMore (link a) (link b) → aside b ≡ aside a
+aside_still link aside a b tells told' same =
+    let some = some_of (link a).sessions told' in
+    let after = same some.0 some.1 in
+    tells b after.0 after.1 ∙ after.2 ∙ sym (tells a some.0 some.1)
+
+pub aside_sent : {O : Type 0} (link : O → LinkView) (aside : O → List ℕ) (a b : O) (x : List ℕ) → TellsAside link aside → IsSome (link a).sessions → IsLink (link a) → IsTrue (link a).stands
+    → (link b).sessions ≡ (told x (link a)).sessions → aside b ≡ aside a ++ x
+aside_sent link aside a b x tells told' is stands sent =
+    let some = some_of (link a).sessions told' in
+    aside_grows (link a) (link b) (aside a) (aside b) some.0 x is stands some.1 sent (tells a) (tells b)

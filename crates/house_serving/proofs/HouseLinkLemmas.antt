@@ -1,0 +1,257 @@
+-- Links that a house over a journal serves.
+use Rattle.std.proofs.Common.{◌≡◌, inl, inr, ℕ, ◌<◌, suc, false, List, [], ◌++◌, refl, sym, ap, ◌∙◌, subst, arith, Result, Ok, Err}
+use Rattle.std.specs.Prelude.{Bool, IsSome, IsTrue}
+use Rattle.std.proofs.lemmas.List.{append-nil}
+use Rattle.mc_outside.specs.Bytes.{BeginsWith}
+use Rattle.mc_outside.specs.DiskView.{DiskView, IsDisk, LinkKeeps}
+use Rattle.mc_outside.specs.LinkView.{LinkView, LinkGoes, next_taken, none_left}
+use Rattle.mc_outside.proofs.Runs.{ran_then, ran_link}
+use Rattle.mc_records.specs.declared.limits.Limits.{Limits}
+use Rattle.mc_records.specs.Entry.{Entry}
+use Rattle.ledger_model.specs.Histories.{History}
+use Rattle.millicent_http.specs.Held.{Held, nothing_held}
+use Rattle.millicent_http.proofs.ReadLemmas.{read_more, read_item}
+use Rattle.house_core.specs.declared.bench.Bench.{Bench}
+use Rattle.house_core.specs.declared.house.House.{House}
+use Rattle.house_core.specs.Bench.{house_time, limits_of, state_of}
+use Rattle.house_core.specs.House.{StandsFor}
+use Rattle.house_core.specs.Session.{State}
+use Rattle.house_serving.specs.declared.serving.Clock.TheVariants.{OfLinks}
+use Rattle.house_serving.specs.declared.turn.Turn.{Turn}
+use Rattle.house_serving.specs.declared.turn.Turn.TheVariants as turns
+use Rattle.house_serving.specs.declared.links.ServeOut.TheVariants as outs
+use Rattle.house_serving.specs.Steps.{Did, sent_of, state_after}
+use Rattle.house_serving.specs.Course.{HadLinks, NoLink}
+use Rattle.house_serving.specs.Orders.{WentBy, InOrderOrDoubt, HaltedBy}
+use Rattle.house_serving.specs.Doubts.{IsDoubted, DoubtTurn, DoubtLink}
+use Rattle.house_serving.specs.Links.{TurnsHouse, EndsTurns, ServesLink, ServesLinks}
+use Rattle.house_serving.proofs.LinkCalls.{heard_on}
+use Rattle.house_serving.proofs.ServingLemmas.{IsServing, serving_starts, serving_goes_on, serving_ended}
+use Rattle.house_serving.proofs.LinksLemmas.{had_link, links_start, links_go_on}
+use Rattle.house_serving.proofs.AsideLemmas.{TellsAside, SentNoMore, no_more_still, no_more_taken, aside_still}
+use Rattle.house_serving.proofs.OrderLemmas.{begins_longer, begins_then, house_keeps, went_nowhere, went_on, went_quiet, halted_later}
+use Rattle.house_serving.proofs.HouseTurnLemmas.{ReadOn}
+
+-- the state that a house is in after its steps
+went_at : {O T : Type 0} (link : O → LinkView) (disk : O → DiskView) (stands : T → History → Type 0) (site : T → ℕ) (holds : T → ℕ → Type 0) (a : O) (s : State) (xs : List Did) (x : House O T) → WentBy link disk stands site holds a s xs x
+    → state_of (state_after s xs).history x.bench ≡ state_after s xs
+went_at link disk stands site holds a s xs x went = ap (λ (t : ℕ). record { history = (state_after s xs).history; time = t }) went.time
+
+-- links did what sends nothing, after some steps
+pub went_still : {O T : Type 0} (link : O → LinkView) (disk : O → DiskView) (stands : T → History → Type 0) (site : T → ℕ) (holds : T → ℕ → Type 0) (a : O) (s : State) (xs : List Did) (x y : House O T) → ReadOn link disk x y
+    → SentNoMore (link x.journal.disk) (link y.journal.disk) → WentBy link disk stands site holds a s xs x → WentBy link disk stands site holds a s xs y
+went_still {T = T} link disk stands site holds a s xs x y on same went =
+    subst (λ (l : List Did). WentBy link disk stands site holds a s l y) (append-nil xs)
+    (went_on link disk stands site holds a s xs [] x y went
+    (went_quiet link disk stands site holds x y (state_after s xs) on.tells went.house (ap (λ (b : Bench T). house_time b) on.rests.bench ∙ went.time) on.keeps on.goes
+    (house_keeps disk stands site holds x y (state_after s xs).history went.house on.keeps on.rests) same))
+
+-- the same where the disk failed
+pub halted_still : {O : Type 0} (link : O → LinkView) (disk : O → DiskView) (a c d : O) (s : State) (xs : List Did) (e : Entry) (said : List ℕ) → TellsAside link (λ o. (disk o).aside) → LinkKeeps (disk c) (disk d) → LinkGoes (link c) (link d)
+    → SentNoMore (link c) (link d) → HaltedBy link disk a s xs e said c → HaltedBy link disk a s xs e said d
+halted_still link disk a c d s xs e said tells keeps goes same halted =
+    let quiet : IsSome (link a).sessions → (disk d).aside ≡ (disk c).aside = λ told'. aside_still link (λ o. (disk o).aside) c d tells (subst (λ (b : Bool). IsTrue b) (sym halted.tells) told') same in
+    let all : IsSome (link a).sessions → (disk d).aside ≡ (disk a).aside ++ sent_of xs ++ said = λ told'. quiet told' ∙ halted.aside told' in
+    record {
+      tells = goes.tells ∙ halted.tells;
+      leaves = λ i l. halted.leaves i ((keeps.leaves i).0 l);
+      aside = all;
+      ran = λ told'. ran_then (disk a) (disk c) (disk d) (InOrderOrDoubt s (disk a).aside xs e said) (halted.ran told')
+          (ran_link (disk c) (disk d) (InOrderOrDoubt s (disk a).aside xs e said) keeps (λ i y l from upto. inr (
+            halted.leaves i l,
+            (
+              begins_then (disk a).aside ((disk a).aside ++ sent_of xs ++ said) y (begins_longer (disk a).aside ((disk a).aside ++ sent_of xs) said (sent_of xs, refl)) (subst (λ (z : List ℕ). BeginsWith z y) (halted.aside told') from),
+              subst (λ (z : List ℕ). BeginsWith y z) (all told') upto,
+            ),
+          )));
+    }
+
+-- ---- the turns of a link
+
+-- by these turns a house came so far on a link
+abbrev pub ServingHouse : {O T : Type 0} → (O → LinkView) → (O → DiskView) → (T → History → Type 0) → (T → ℕ) → (T → ℕ → Type 0) → Limits → O → State → House O T → Held → Type 0
+ServingHouse link disk stands site holds limits a s x k =
+    (steps : List Did) × WentBy link disk stands site holds a s steps x × IsServing limits OfLinks steps s (link a) k (link x.journal.disk)
+
+pub house_starts : {O T : Type 0} (link : O → LinkView) (disk : O → DiskView) (stands : T → History → Type 0) (site : T → ℕ) (holds : T → ℕ → Type 0) (x : House O T) (h : History) (k : Held) → IsDisk (disk x.journal.disk) → k ≡ nothing_held
+    → StandsFor disk stands site holds x h → ServingHouse link disk stands site holds (limits_of x.bench) x.journal.disk (state_of h x.bench) x k
+house_starts link disk stands site holds x h k is empty st = (
+  [],
+  went_nowhere link disk stands site holds x (state_of h x.bench) is st refl,
+  serving_starts (limits_of x.bench) OfLinks (state_of h x.bench) k (link x.journal.disk) empty,
+)
+
+-- the next turn, from the state that the house is in
+turn_from : {O T : Type 0} (link : O → LinkView) (disk : O → DiskView) (stands : T → History → Type 0) (site : T → ℕ) (holds : T → ℕ → Type 0) (limits : Limits) (a : O) (s : State) (xs : List Did) (x : House O T) (k m : Held)
+    (r : Result (House O T × Turn) O) → WentBy link disk stands site holds a s xs x → limits_of x.bench ≡ limits
+    → ((h : History) → StandsFor disk stands site holds x h → TurnsHouse link disk stands site holds (limits_of x.bench) x.journal.disk (state_of h x.bench) k m r)
+    → TurnsHouse link disk stands site holds limits x.journal.disk (state_after s xs) k m r
+turn_from link disk stands site holds limits a s xs x k m r went same turned =
+    subst (λ (t : State). TurnsHouse link disk stands site holds limits x.journal.disk t k m r) (went_at link disk stands site holds a s xs x went)
+    (subst (λ (l : Limits). TurnsHouse link disk stands site holds l x.journal.disk (state_of (state_after s xs).history x.bench) k m r) same (turned (state_after s xs).history went.house))
+
+pub house_goes_on : {O T : Type 0} (link : O → LinkView) (disk : O → DiskView) (stands : T → History → Type 0) (site : T → ℕ) (holds : T → ℕ → Type 0) (limits : Limits) (a : O) (s : State) (x y : House O T) (k m : Held)
+    → limits_of x.bench ≡ limits → ServingHouse link disk stands site holds limits a s x k
+    → ((h : History) → StandsFor disk stands site holds x h → TurnsHouse link disk stands site holds (limits_of x.bench) x.journal.disk (state_of h x.bench) k m (Ok (y, turns.GoOn)))
+    → ServingHouse link disk stands site holds limits a s y m
+house_goes_on link disk stands site holds limits a s x y k m same so turned =
+    let xs : List Did = so.0 in
+    let next = turn_from link disk stands site holds limits a s xs x k m (Ok (y, turns.GoOn)) so.1 same turned in (
+      xs ++ next.0,
+      went_on link disk stands site holds a s xs next.0 x y so.1 next.1,
+      serving_goes_on limits OfLinks xs next.0 s (link a) k m (link x.journal.disk) (link y.journal.disk) so.2 next.2,
+    )
+
+pub house_ends : {O T : Type 0} (link : O → LinkView) (disk : O → DiskView) (stands : T → History → Type 0) (site : T → ℕ) (holds : T → ℕ → Type 0) (limits : Limits) (a : O) (s : State) (x y : House O T) (k m : Held) (turn : Turn)
+    → limits_of x.bench ≡ limits → (turn ≡ turns.GoOn → ⊥) → ServingHouse link disk stands site holds limits a s x k
+    → ((h : History) → StandsFor disk stands site holds x h → TurnsHouse link disk stands site holds (limits_of x.bench) x.journal.disk (state_of h x.bench) k m (Ok (y, turn)))
+    → EndsTurns link disk stands site holds limits a s (Ok (y, turn))
+house_ends link disk stands site holds limits a s x y k m turn same last so turned =
+    let xs : List Did = so.0 in
+    let next = turn_from link disk stands site holds limits a s xs x k m (Ok (y, turn)) so.1 same turned in (
+      xs ++ next.0,
+      went_on link disk stands site holds a s xs next.0 x y so.1 next.1,
+      serving_ended limits OfLinks turn xs next.0 s (link a) k m (link x.journal.disk) (link y.journal.disk) last so.2 next.2,
+    )
+
+-- a request whose entry is in doubt, after some items
+doubt_link : (limits : Limits) (xs : List Did) (s : State) (before now : LinkView) (k : Held) (e : Entry) (said : List ℕ) (after : LinkView) → IsServing limits OfLinks xs s before k now
+    → DoubtTurn limits (state_after s xs) k now e said after → DoubtLink limits xs s before e said after
+doubt_link limits xs s before now k e said after so doubt = record {
+  got = so.got ++ doubt.more;
+  front = so.items;
+  q = doubt.q;
+  closes = doubt.closes;
+  first = record {
+    held = doubt.new.bytes;
+    read = read_item (so.got ++ doubt.more) (k.bytes ++ doubt.more) doubt.new.bytes so.items _ (read_more so.got doubt.more k.bytes so.items so.read) doubt.took.next;
+    open' = so.opens;
+    few = omega (arith, so.len, so.few);
+  };
+  between = now.readings;
+  replied = so.replied;
+  doubted = subst (λ (v : LinkView). IsDoubted limits doubt.q (state_after s xs) e said v after) (heard_on before now so.got doubt.more (sent_of xs) now.readings so.link) doubt.doubted;
+}
+
+pub house_halts : {O T : Type 0} (link : O → LinkView) (disk : O → DiskView) (stands : T → History → Type 0) (site : T → ℕ) (holds : T → ℕ → Type 0) (limits : Limits) (a : O) (s : State) (x : House O T) (k m : Held) (d : O)
+    → limits_of x.bench ≡ limits → ServingHouse link disk stands site holds limits a s x k
+    → ((h : History) → StandsFor disk stands site holds x h → TurnsHouse link disk stands site holds (limits_of x.bench) x.journal.disk (state_of h x.bench) k m (Err d))
+    → EndsTurns {O = O} {T = T} link disk stands site holds limits a s (Err d)
+house_halts link disk stands site holds limits a s x k m d same so turned =
+    let xs : List Did = so.0 in
+    let next = turn_from link disk stands site holds limits a s xs x k m (Err d) so.1 same turned in (
+      xs ++ [],
+      next.0,
+      next.1,
+      halted_later link disk stands site holds a s xs [] x next.0 next.1 d so.1 next.2,
+      subst (λ (l : List Did). DoubtLink limits l s (link a) next.0 next.1 (link d)) (sym (append-nil xs)) (doubt_link limits xs s (link a) (link x.journal.disk) k next.0 next.1 (link d) so.2 next.3),
+    )
+
+-- ---- a link
+
+-- a link was ended by its last turn
+pub link_served : {O T : Type 0} (link : O → LinkView) (disk : O → DiskView) (stands : T → History → Type 0) (site : T → ℕ) (holds : T → ℕ → Type 0) (limits : Limits) (a : O) (s : State) (x y : House O T) (turn : Turn) → ReadOn link disk x y
+    → link y.journal.disk ≡ record (link x.journal.disk) { stands = false } → EndsTurns link disk stands site holds limits a s (Ok (x, turn)) → ServesLink link disk stands site holds limits a s (Ok y)
+link_served link disk stands site holds limits a s x y turn on is ended = (
+  ended.0,
+  went_still link disk stands site holds a s ended.0 x y on (no_more_still (link x.journal.disk) (link y.journal.disk) (ap (λ (v : LinkView). v.sessions) is)) ended.1,
+  had_link limits OfLinks turn ended.0 s (link a) (link x.journal.disk) (link y.journal.disk) is ended.2,
+)
+
+pub link_halted : {O T : Type 0} (link : O → LinkView) (disk : O → DiskView) (stands : T → History → Type 0) (site : T → ℕ) (holds : T → ℕ → Type 0) (limits : Limits) (a : O) (s : State) (c d : O) → TellsAside link (λ o. (disk o).aside)
+    → LinkKeeps (disk c) (disk d) → LinkGoes (link c) (link d) → link d ≡ record (link c) { stands = false } → EndsTurns {O = O} {T = T} link disk stands site holds limits a s (Err c) → ServesLink {O = O} {T = T} link disk stands site holds limits a s (Err d)
+link_halted link disk stands site holds limits a s c d tells keeps goes is ended = (
+  ended.0,
+  ended.1,
+  ended.2,
+  link c,
+  halted_still link disk a c d s ended.0 ended.1 ended.2 tells keeps goes (no_more_still (link c) (link d) (ap (λ (v : LinkView). v.sessions) is)) ended.3,
+  ended.4,
+  is,
+)
+
+-- ---- links one after another
+
+abbrev pub LinkedHouse : {O T : Type 0} → (O → LinkView) → (O → DiskView) → (T → History → Type 0) → (T → ℕ) → (T → ℕ → Type 0) → Limits → ℕ → O → State → House O T → Type 0
+LinkedHouse link disk stands site holds limits n a s x =
+    (steps : List Did) × WentBy link disk stands site holds a s steps x × HadLinks limits OfLinks n steps s (link a) (link x.journal.disk)
+
+pub linked_starts : {O T : Type 0} (link : O → LinkView) (disk : O → DiskView) (stands : T → History → Type 0) (site : T → ℕ) (holds : T → ℕ → Type 0) (limits : Limits) (x : House O T) (h : History) → IsDisk (disk x.journal.disk) → StandsFor disk stands site holds x h
+    → LinkedHouse link disk stands site holds limits 0 x.journal.disk (state_of h x.bench) x
+linked_starts link disk stands site holds limits x h is st = (
+  [],
+  went_nowhere link disk stands site holds x (state_of h x.bench) is st refl,
+  links_start limits OfLinks (state_of h x.bench) (link x.journal.disk),
+)
+
+-- the link that was taken was served, from the state that the house is in
+link_from : {O T : Type 0} (link : O → LinkView) (disk : O → DiskView) (stands : T → History → Type 0) (site : T → ℕ) (holds : T → ℕ → Type 0) (limits : Limits) (a : O) (s : State) (xs : List Did) (y : House O T) (r : Result (House O T) O)
+    → WentBy link disk stands site holds a s xs y → limits_of y.bench ≡ limits
+    → ((h : History) → StandsFor disk stands site holds y h → ServesLink link disk stands site holds (limits_of y.bench) y.journal.disk (state_of h y.bench) r)
+    → ServesLink link disk stands site holds limits y.journal.disk (state_after s xs) r
+link_from link disk stands site holds limits a s xs y r went same served =
+    subst (λ (t : State). ServesLink link disk stands site holds limits y.journal.disk t r) (went_at link disk stands site holds a s xs y went)
+    (subst (λ (l : Limits). ServesLink link disk stands site holds l y.journal.disk (state_of (state_after s xs).history y.bench) r) same (served (state_after s xs).history went.house))
+
+pub linked_goes_on : {O T : Type 0} (link : O → LinkView) (disk : O → DiskView) (stands : T → History → Type 0) (site : T → ℕ) (holds : T → ℕ → Type 0) (limits : Limits) (n m : ℕ) (a : O) (s : State) (x y z : House O T) → m ≡ suc n → ReadOn link disk x y
+    → link y.journal.disk ≡ next_taken (link x.journal.disk) → limits_of y.bench ≡ limits → LinkedHouse link disk stands site holds limits n a s x
+    → ((h : History) → StandsFor disk stands site holds y h → ServesLink link disk stands site holds (limits_of y.bench) y.journal.disk (state_of h y.bench) (Ok z))
+    → LinkedHouse link disk stands site holds limits m a s z
+linked_goes_on link disk stands site holds limits n m a s x y z more on taken same so served =
+    let xs : List Did = so.0 in
+    let went = went_still link disk stands site holds a s xs x y on (no_more_taken (link x.journal.disk) (link y.journal.disk) taken) so.1 in
+    let had = link_from link disk stands site holds limits a s xs y (Ok z) went same served in (
+      xs ++ had.0,
+      went_on link disk stands site holds a s xs had.0 y z went had.1,
+      links_go_on limits OfLinks n m xs had.0 s (link a) (link x.journal.disk) (link y.journal.disk) (link z.journal.disk) more taken so.2 had.2,
+    )
+
+-- as many links as were asked for
+pub linked_house_all : {O T : Type 0} (link : O → LinkView) (disk : O → DiskView) (stands : T → History → Type 0) (site : T → ℕ) (holds : T → ℕ → Type 0) (limits : Limits) (links n : ℕ) (a : O) (s : State) (x : House O T) → n ≡ links
+    → LinkedHouse link disk stands site holds limits n a s x → ServesLinks link disk stands site holds limits links a s (outs.Done x n)
+linked_house_all link disk stands site holds limits links n a s x all so = (so.0, so.1, inl (all, so.2))
+
+-- all that came
+pub linked_house_over : {O T : Type 0} (link : O → LinkView) (disk : O → DiskView) (stands : T → History → Type 0) (site : T → ℕ) (holds : T → ℕ → Type 0) (limits : Limits) (links n : ℕ) (a : O) (s : State) (x y : House O T) → n < links → ReadOn link disk x y
+    → link y.journal.disk ≡ none_left (link x.journal.disk) → LinkedHouse link disk stands site holds limits n a s x → ServesLinks link disk stands site holds limits links a s (outs.Done y n)
+linked_house_over link disk stands site holds limits links n a s x y few on over so = (
+  so.0,
+  went_still link disk stands site holds a s so.0 x y on (no_more_still (link x.journal.disk) (link y.journal.disk) (ap (λ (v : LinkView). v.sessions) over)) so.1,
+  inr (few, (link x.journal.disk, so.2, over)),
+)
+
+-- the next one could not be taken
+pub linked_house_broke : {O T : Type 0} (link : O → LinkView) (disk : O → DiskView) (stands : T → History → Type 0) (site : T → ℕ) (holds : T → ℕ → Type 0) (limits : Limits) (links n : ℕ) (a : O) (s : State) (x y : House O T) → n < links → ReadOn link disk x y
+    → NoLink (link x.journal.disk) (link y.journal.disk) → LinkedHouse link disk stands site holds limits n a s x → ServesLinks link disk stands site holds limits links a s (outs.Link y)
+linked_house_broke link disk stands site holds limits links n a s x y few on fault so = (
+  so.0,
+  went_still link disk stands site holds a s so.0 x y on (no_more_still (link x.journal.disk) (link y.journal.disk) (ap (λ (v : LinkView). v.sessions) fault.same)) so.1,
+  record { n = n; few = few; between = link x.journal.disk; links_had = so.2; fault = fault },
+)
+
+-- the disk failed on the next one
+pub linked_house_halts : {O T : Type 0} (link : O → LinkView) (disk : O → DiskView) (stands : T → History → Type 0) (site : T → ℕ) (holds : T → ℕ → Type 0) (limits : Limits) (links n : ℕ) (a : O) (s : State) (x y : House O T) (d : O) → n < links → ReadOn link disk x y
+    → link y.journal.disk ≡ next_taken (link x.journal.disk) → limits_of y.bench ≡ limits → LinkedHouse link disk stands site holds limits n a s x
+    → ((h : History) → StandsFor disk stands site holds y h → ServesLink link disk stands site holds (limits_of y.bench) y.journal.disk (state_of h y.bench) (Err d))
+    → ServesLinks {O = O} {T = T} link disk stands site holds limits links a s (outs.Halted d)
+linked_house_halts link disk stands site holds limits links n a s x y d few on taken same so served =
+    let xs : List Did = so.0 in
+    let went = went_still link disk stands site holds a s xs x y on (no_more_taken (link x.journal.disk) (link y.journal.disk) taken) so.1 in
+    let had = link_from link disk stands site holds limits a s xs y (Err d) went same served in (
+      xs ++ had.0,
+      had.1,
+      had.2,
+      halted_later link disk stands site holds a s xs had.0 y had.1 had.2 d went had.4,
+      record {
+        n = n;
+        few = few;
+        front = xs;
+        last = had.0;
+        steps_are = refl;
+        between = link x.journal.disk;
+        links_had = so.2;
+        stopped = had.3;
+        last_link = subst (λ (v : LinkView). DoubtLink limits had.0 (state_after s xs) v had.1 had.2 had.3) taken had.5;
+        ended = had.6;
+      },
+    )

@@ -1,0 +1,447 @@
+-- One turn of a house over a journal.
+use Rattle.std.proofs.Common.{◌≡◌, inl, inr, ℕ, ◌+◌, ◌<◌, Bool, List, [], ◌∷◌, length, take, refl, sym, ap, ap₂, ◌∙◌, subst, arith, Option, Result, Ok, Err}
+use Rattle.std.specs.Prelude.{OnOk, OnErr, IfOk, IsTrue, max}
+use Rattle.mc_outside.specs.declared.link.LinkFault.{LinkFault}
+use Rattle.mc_outside.specs.DiskView.{DiskView, IsDisk, LinkKeeps, Ran}
+use Rattle.mc_outside.specs.LinkView.{LinkView, IsLink, LinkGoes, heard, told, Failed}
+use Rattle.mc_records.specs.declared.limits.Limits.{Limits}
+use Rattle.mc_records.specs.declared.refusal.Refusal.{Refusal}
+use Rattle.mc_records.specs.declared.refusal.Refusal.TheVariants as refusals
+use Rattle.mc_records.specs.Entry.{Entry}
+use Rattle.mc_records.specs.declared.request.Request.{Request}
+use Rattle.mc_records.specs.Requests.{Asked, asked_of}
+use Rattle.scrip_form.specs.Texts.{IsTarget}
+use Rattle.ledger_model.specs.Histories.{History}
+use Rattle.ledger_model.specs.Answer as answers
+use Rattle.ledger_model.specs.Answer.{Answer, answer}
+use Rattle.ledger_model.specs.Replies.{reply_of, refusal_of, head_refusal}
+use Rattle.millicent_http.specs.declared.item.After.{After}
+use Rattle.millicent_http.specs.declared.item.After.TheVariants as afters
+use Rattle.millicent_http.specs.declared.item.HeadRefusal.{HeadRefusal}
+use Rattle.millicent_http.specs.declared.item.HeadOut.{HeadOut}
+use Rattle.millicent_http.specs.declared.item.HeadOut.TheVariants as outs
+use Rattle.millicent_http.specs.HeadRefusals.{as_refusal}
+use Rattle.millicent_http.specs.Held.{Held}
+use Rattle.millicent_http.specs.Takes.{Took, TookItem, with_more}
+use Rattle.millicent_http.specs.Items.{Item, request, refused}
+use Rattle.millicent_http.proofs.JudgeLemmas.{asks_a_target}
+use Rattle.scrip_journal.specs.Exits.{EitherQuiet}
+use Rattle.house_core.specs.declared.bench.Bench.{Bench}
+use Rattle.house_core.specs.declared.house.House.{House}
+use Rattle.house_core.specs.declared.settled.Settled.{Settled}
+use Rattle.house_core.specs.declared.outcome.Outcome.TheVariants as outcomes
+use Rattle.house_core.specs.declared.verdict.Verdict.{Verdict}
+use Rattle.house_core.specs.declared.verdict.Verdict.TheVariants as verdicts
+use Rattle.house_core.specs.Verdicts.{judged, judged_of}
+use Rattle.house_core.specs.Bench.{KeepsReply, house_time, limits_of, state_of}
+use Rattle.house_core.specs.House.{StandsFor, HouseRests, HasEntered, IsAsItWas, Accepted, Leaves}
+use Rattle.house_core.specs.Session.{State, Gives, entered, raised}
+use Rattle.house_serving.specs.declared.serving.Clock.TheVariants.{OfLinks}
+use Rattle.house_serving.specs.declared.turn.Turn.{Turn}
+use Rattle.house_serving.specs.declared.turn.Turn.TheVariants.{GoOn, Last, End, NotReceived, NotSent}
+use Rattle.house_serving.specs.Steps.{Did}
+use Rattle.house_serving.specs.Course.{AreRead, with_readings}
+use Rattle.house_serving.specs.Turns.{Sent, AnsweredItem, Turned, turn_after}
+use Rattle.house_serving.specs.Orders.{WentBy, HaltedBy}
+use Rattle.house_serving.specs.Doubts.{Sends, IsDoubted}
+use Rattle.house_serving.specs.Links.{RepliesTo, AnswersRequest, RefusesHead, TurnsHouse}
+use Rattle.house_serving.proofs.AsideLemmas.{TellsAside, SentNoMore, no_more_still, no_more_then, no_more_heard, no_more_finished}
+use Rattle.house_serving.proofs.TurnLemmas.{leads_so, item_turned}
+use Rattle.house_serving.proofs.ItemLemmas.{item_answered, sent_so}
+use Rattle.house_serving.proofs.OrderLemmas.{house_keeps, went_on, went_quiet, went_sent, went_written, went_from, halted_told, halted_later, halted_from}
+
+-- ---- sending
+
+-- the refusal of a request that the disk failed was sent, or a first part of it
+pub sends_so : (reply : List ℕ) (r : Result (Unit {0}) LinkFault) (v w : LinkView) → OnOk r (w ≡ told reply v) → OnErr r ((n : ℕ) × (n < length reply) × Failed (told (take n reply) v) w)
+    → (said : List ℕ) × Sends reply said v w
+sends_so reply (Ok u) v w sent fault = (reply, inl (refl, sent))
+sends_so reply (Err e) v w sent fault = (take fault.0 reply, inr (fault.0, fault.1, refl, fault.2))
+
+sent_sessions : (after : After) (reply part : List ℕ) (turn : Turn) (v w : LinkView) → Sent after reply turn part v w → w.sessions ≡ (told part v).sessions
+sent_sessions after reply part GoOn v w sent = ap (λ (u : LinkView). u.sessions) sent.2
+sent_sessions after reply part Last v w sent = ap (λ (u : LinkView). u.sessions) sent.2
+sent_sessions after reply part End v w sent = absurd sent
+sent_sessions after reply part NotReceived v w sent = absurd sent
+sent_sessions after reply part NotSent v w sent = ap (λ (u : LinkView). u.sessions) sent.3.same
+
+said_sessions : (reply said : List ℕ) (v w : LinkView) → Sends reply said v w → w.sessions ≡ (told said v).sessions
+said_sessions reply said v w (inl sent) = ap (λ (u : LinkView). u.sessions) sent.1 ∙ ap (λ (l : List ℕ). (told l v).sessions) (sym sent.0)
+said_sessions reply said v w (inr fault) = ap (λ (u : LinkView). u.sessions) fault.3.same
+
+-- what follows of an answer
+told_so : {A E : Type 0} (r : Result A E) (P Q : Type 0) → (P → Q) → OnOk r P → OnOk r Q
+told_so (Ok x) P Q so p = so p
+told_so (Err e) P Q so p = p
+
+failed_so : {A E : Type 0} (r : Result A E) (P Q : Type 0) → (P → Q) → OnErr r P → OnErr r Q
+failed_so (Ok x) P Q so p = p
+failed_so (Err e) P Q so p = so p
+
+-- sending reads no clock
+said_readings : (reply said : List ℕ) (v w : LinkView) → Sends reply said v w → w.readings ≡ v.readings
+said_readings reply said v w (inl sent) = ap (λ (u : LinkView). u.readings) sent.1
+said_readings reply said v w (inr fault) = ap (λ (u : LinkView). u.readings) fault.3.same
+
+-- ---- what an outcome says of the answer
+
+done_is : {D T : Type 0} (view : D → DiskView) (stands : T → History → Type 0) (site : T → ℕ) (holds : T → ℕ → Type 0) (d : D) (h : History) (a : Answer) (x : House D T) (s : Settled) (u v : DiskView) (aside : List ℕ)
+    → Accepted view stands site holds d h a (outcomes.Done x s) → Ran u v (Leaves {D = D} {T = T} {A = Settled} a (outcomes.Done x s) h aside)
+    → (e : Entry) × (a ≡ answers.Take e) × HasEntered view stands site holds x h e s.receipt × KeepsReply x.bench s.receipt × Ran u v (EitherQuiet h e aside)
+done_is view stands site holds d h (answers.Take e) x s u v aside accepted ran = (e, refl, accepted.0, accepted.1, ran)
+done_is view stands site holds d h (answers.Refused f) x s u v aside accepted ran = absurd accepted
+done_is view stands site holds d h (answers.Again n) x s u v aside accepted ran = absurd accepted
+
+refused_is : {D T : Type 0} (view : D → DiskView) (stands : T → History → Type 0) (site : T → ℕ) (holds : T → ℕ → Type 0) (d : D) (h : History) (a : Answer) (x : House D T) (f : Refusal)
+    → ((n : ℕ) → a ≡ answers.Again n → ⊥) → Accepted view stands site holds d h a (outcomes.Refused x f) → (a ≡ answers.Refused f) × IsAsItWas view stands site holds d x h
+refused_is view stands site holds d h (answers.Take e) x f new accepted = absurd accepted
+refused_is view stands site holds d h (answers.Refused g) x f new accepted = (ap (λ (r : Refusal). answers.Refused r) (sym accepted.0), accepted.1)
+refused_is view stands site holds d h (answers.Again n) x f new accepted = absurd (new n refl)
+
+starved_is : {D T : Type 0} (view : D → DiskView) (stands : T → History → Type 0) (site : T → ℕ) (holds : T → ℕ → Type 0) (d : D) (h : History) (a : Answer) (x : House D T)
+    → Accepted view stands site holds d h a (outcomes.NoMemory x) → (e : Entry) × (a ≡ answers.Take e) × IsAsItWas view stands site holds d x h
+starved_is view stands site holds d h (answers.Take e) x accepted = (e, refl, accepted)
+starved_is view stands site holds d h (answers.Refused f) x accepted = absurd accepted
+starved_is view stands site holds d h (answers.Again n) x accepted = absurd accepted
+
+halted_is : {D T : Type 0} (view : D → DiskView) (stands : T → History → Type 0) (site : T → ℕ) (holds : T → ℕ → Type 0) (d e' : D) (h : History) (a : Answer) (u v : DiskView) (aside : List ℕ)
+    → Accepted view stands site holds d h a (outcomes.Halted e') → Ran u v (Leaves {D = D} {T = T} {A = Settled} a (outcomes.Halted e') h aside) → (e : Entry) × (a ≡ answers.Take e) × Ran u v (EitherQuiet h e aside)
+halted_is view stands site holds d e' h (answers.Take e) u v aside accepted ran = (e, refl, ran)
+halted_is view stands site holds d e' h (answers.Refused f) u v aside accepted ran = absurd accepted
+halted_is view stands site holds d e' h (answers.Again n) u v aside accepted ran = absurd accepted
+
+-- ---- the reply to a request at the house time
+
+-- A reply was sent from one house to the next, whose bench is the same.
+pub record SentOn {O T : Type 0} (link : O → LinkView) (disk : O → DiskView) (y z : House O T) : Type 0 where
+  pub tells : TellsAside link (λ o. (disk o).aside)
+  pub is_link : IsLink (link y.journal.disk)
+  pub standing : IsTrue (link y.journal.disk).stands
+  pub keeps : LinkKeeps (disk y.journal.disk) (disk z.journal.disk)
+  pub goes : LinkGoes (link y.journal.disk) (link z.journal.disk)
+  pub rests : HouseRests y z
+
+-- nothing new is entered: the reply is the first one of an entry, or a refusal
+pub replied_old : {O T : Type 0} (link : O → LinkView) (disk : O → DiskView) (stands : T → History → Type 0) (site : T → ℕ) (holds : T → ℕ → Type 0) (limits : Limits) (q : Asked) (after : After) (y z : House O T) (s : State)
+    (reply : List ℕ) (r : Result (Unit {0}) LinkFault) → SentOn link disk y z → StandsFor disk stands site holds y s.history → house_time y.bench ≡ s.time
+    → Gives s q (answer s.history s.time limits q) reply s
+    → OnOk r (link z.journal.disk ≡ told reply (link y.journal.disk)) → OnErr r ((n : ℕ) × (n < length reply) × Failed (told (take n reply) (link y.journal.disk)) (link z.journal.disk))
+    → RepliesTo link disk stands site holds limits q after y.journal.disk s (Ok (z, turn_after r after))
+replied_old {T = T} link disk stands site holds limits q after y z s reply r on st time gives sent fault =
+    let was = sent_so after reply r (link y.journal.disk) (link z.journal.disk) sent fault in
+    let step : Did = record { sent = was.0; after = s } in (
+      step,
+      reply,
+      went_sent link disk stands site holds y z s step on.tells on.is_link on.standing st (house_keeps disk stands site holds y z s.history st on.keeps on.rests)
+          (ap (λ (b : Bench T). house_time b) on.rests.bench ∙ time) on.keeps on.goes (sent_sessions after reply was.0 (turn_after r after) (link y.journal.disk) (link z.journal.disk) was.1),
+      gives,
+      was.1,
+    )
+
+-- the entry of the request was written and entered, and its first reply was sent
+pub replied_new : {O T : Type 0} (link : O → LinkView) (disk : O → DiskView) (stands : T → History → Type 0) (site : T → ℕ) (holds : T → ℕ → Type 0) (limits : Limits) (q : Asked) (after : After) (a : O) (y z : House O T) (s : State)
+    (settled : Settled) (r : Result (Unit {0}) LinkFault) → SentOn link disk y z → house_time y.bench ≡ s.time → (disk y.journal.disk).aside ≡ (disk a).aside → link y.journal.disk ≡ link a
+    → Accepted disk stands site holds a s.history (answer s.history s.time limits q) (outcomes.Done y settled)
+    → Ran (disk a) (disk y.journal.disk) (Leaves {D = O} {T = T} {A = Settled} (answer s.history s.time limits q) (outcomes.Done y settled) s.history (disk a).aside)
+    → OnOk r ((h : History) → StandsFor disk stands site holds y h → KeepsReply y.bench settled.receipt → link z.journal.disk ≡ told (reply_of h settled.receipt) (link y.journal.disk))
+    → OnErr r ((h : History) → StandsFor disk stands site holds y h → KeepsReply y.bench settled.receipt
+    → (n : ℕ) × (n < length (reply_of h settled.receipt)) × Failed (told (take n (reply_of h settled.receipt)) (link y.journal.disk)) (link z.journal.disk))
+    → RepliesTo link disk stands site holds limits q after a s (Ok (z, turn_after r after))
+replied_new {T = T} link disk stands site holds limits q after a y z s settled r on time quiet same accepted ran sent fault =
+    let is = done_is disk stands site holds a s.history (answer s.history s.time limits q) y settled (disk a) (disk y.journal.disk) (disk a).aside accepted ran in
+    let e : Entry = is.0 in
+    let t : State = entered s e in
+    let st : StandsFor disk stands site holds y t.history = is.2.stands' in
+    let reply : List ℕ = reply_of t.history settled.receipt in
+    let was = sent_so after reply r (link y.journal.disk) (link z.journal.disk) (told_so r _ _ (λ f. f t.history st is.3) sent) (failed_so r _ _ (λ f. f t.history st is.3) fault) in
+    let step : Did = record { sent = was.0; after = t } in (
+      step,
+      reply,
+      went_written link disk stands site holds a y z s e step on.tells refl is.4 quiet same on.is_link on.standing st (house_keeps disk stands site holds y z t.history st on.keeps on.rests)
+          (ap (λ (b : Bench T). house_time b) on.rests.bench ∙ time) on.keeps on.goes (sent_sessions after reply was.0 (turn_after r after) (link y.journal.disk) (link z.journal.disk) was.1),
+      subst (λ (b : Answer). Gives s q b reply t) (sym is.1) (inl (ap (λ (n : ℕ). reply_of t.history n) is.2.number', refl)),
+      subst (λ (v : LinkView). Sent after reply (turn_after r after) was.0 v (link z.journal.disk)) same was.1,
+    )
+
+-- the request is refused
+pub replied_refused : {O T : Type 0} (link : O → LinkView) (disk : O → DiskView) (stands : T → History → Type 0) (site : T → ℕ) (holds : T → ℕ → Type 0) (limits : Limits) (q : Asked) (after : After) (a : O) (y z : House O T) (s : State)
+    (f : Refusal) (r : Result (Unit {0}) LinkFault) → SentOn link disk y z → house_time y.bench ≡ s.time → ((n : ℕ) → answer s.history s.time limits q ≡ answers.Again n → ⊥)
+    → Accepted disk stands site holds a s.history (answer s.history s.time limits q) (outcomes.Refused y f)
+    → OnOk r ((h : History) → StandsFor disk stands site holds y h → link z.journal.disk ≡ told (refusal_of h (house_time y.bench) q f) (link y.journal.disk))
+    → OnErr r ((h : History) → StandsFor disk stands site holds y h
+    → (n : ℕ) × (n < length (refusal_of h (house_time y.bench) q f)) × Failed (told (take n (refusal_of h (house_time y.bench) q f)) (link y.journal.disk)) (link z.journal.disk))
+    → RepliesTo link disk stands site holds limits q after a s (Ok (z, turn_after r after))
+replied_refused {O = O} link disk stands site holds limits q after a y z s f r on time new accepted sent fault =
+    let is = refused_is disk stands site holds a s.history (answer s.history s.time limits q) y f new accepted in
+    let reply : List ℕ = refusal_of s.history (house_time y.bench) q f in
+    subst (λ (d : O). RepliesTo link disk stands site holds limits q after d s (Ok (z, turn_after r after))) is.1.disk'
+    (replied_old link disk stands site holds limits q after y z s reply r on is.1.stands' time
+    (subst (λ (b : Answer). Gives s q b reply s) (sym is.0) (ap (λ (t : ℕ). refusal_of s.history t q f) time, refl))
+    (told_so r _ _ (λ g. g s.history is.1.stands') sent) (failed_so r _ _ (λ g. g s.history is.1.stands') fault))
+
+-- memory was refused for the request
+pub replied_starved : {O T : Type 0} (link : O → LinkView) (disk : O → DiskView) (stands : T → History → Type 0) (site : T → ℕ) (holds : T → ℕ → Type 0) (limits : Limits) (q : Asked) (after : After) (a : O) (y z : House O T) (s : State)
+    (r : Result (Unit {0}) LinkFault) → SentOn link disk y z → house_time y.bench ≡ s.time
+    → Accepted disk stands site holds a s.history (answer s.history s.time limits q) (outcomes.NoMemory y)
+    → OnOk r ((h : History) → StandsFor disk stands site holds y h → link z.journal.disk ≡ told (refusal_of h (house_time y.bench) q refusals.NoMemory) (link y.journal.disk))
+    → OnErr r ((h : History) → StandsFor disk stands site holds y h
+    → (n : ℕ) × (n < length (refusal_of h (house_time y.bench) q refusals.NoMemory)) × Failed (told (take n (refusal_of h (house_time y.bench) q refusals.NoMemory)) (link y.journal.disk)) (link z.journal.disk))
+    → RepliesTo link disk stands site holds limits q after a s (Ok (z, turn_after r after))
+replied_starved {O = O} link disk stands site holds limits q after a y z s r on time accepted sent fault =
+    let is = starved_is disk stands site holds a s.history (answer s.history s.time limits q) y accepted in
+    let reply : List ℕ = refusal_of s.history (house_time y.bench) q refusals.NoMemory in
+    subst (λ (d : O). RepliesTo link disk stands site holds limits q after d s (Ok (z, turn_after r after))) is.2.disk'
+    (replied_old link disk stands site holds limits q after y z s reply r on is.2.stands' time
+    (subst (λ (b : Answer). Gives s q b reply s) (sym is.1) (inr (ap (λ (t : ℕ). refusal_of s.history t q refusals.NoMemory) time, refl)))
+    (told_so r _ _ (λ g. g s.history is.2.stands') sent) (failed_so r _ _ (λ g. g s.history is.2.stands') fault))
+
+-- the request comes again, and gets the first reply of its entry
+pub replied_again : {O T : Type 0} (link : O → LinkView) (disk : O → DiskView) (stands : T → History → Type 0) (site : T → ℕ) (holds : T → ℕ → Type 0) (limits : Limits) (q : Asked) (after : After) (y z : House O T) (s : State)
+    (number : ℕ) (r : Result (Unit {0}) LinkFault) → SentOn link disk y z → StandsFor disk stands site holds y s.history → house_time y.bench ≡ s.time → answer s.history s.time limits q ≡ answers.Again number → KeepsReply y.bench number
+    → OnOk r ((h : History) → StandsFor disk stands site holds y h → KeepsReply y.bench number → link z.journal.disk ≡ told (reply_of h number) (link y.journal.disk))
+    → OnErr r ((h : History) → StandsFor disk stands site holds y h → KeepsReply y.bench number
+    → (n : ℕ) × (n < length (reply_of h number)) × Failed (told (take n (reply_of h number)) (link y.journal.disk)) (link z.journal.disk))
+    → RepliesTo link disk stands site holds limits q after y.journal.disk s (Ok (z, turn_after r after))
+replied_again link disk stands site holds limits q after y z s number r on st time again keeps sent fault =
+    let reply : List ℕ = reply_of s.history number in
+    replied_old link disk stands site holds limits q after y z s reply r on st time
+    (subst (λ (b : Answer). Gives s q b reply s) (sym again) (refl, refl))
+    (told_so r _ _ (λ g. g s.history st keeps) sent) (failed_so r _ _ (λ g. g s.history st keeps) fault)
+
+-- the disk failed while the entry of the request was written, and it was told so
+pub replied_halted : {O T : Type 0} (link : O → LinkView) (disk : O → DiskView) (stands : T → History → Type 0) (site : T → ℕ) (holds : T → ℕ → Type 0) (limits : Limits) (q : Asked) (after : After) (a b c : O) (s : State)
+    (r : Result (Unit {0}) LinkFault) → TellsAside link (λ o. (disk o).aside) → IsDisk (disk b) → IsLink (link b) → IsTrue (link b).stands → (disk b).aside ≡ (disk a).aside → link b ≡ link a → LinkKeeps (disk b) (disk c) → LinkGoes (link b) (link c)
+    → Accepted {D = O} {T = T} disk stands site holds a s.history (answer s.history s.time limits q) (outcomes.Halted b)
+    → Ran (disk a) (disk b) (Leaves {D = O} {T = T} {A = Settled} (answer s.history s.time limits q) (outcomes.Halted b) s.history (disk a).aside)
+    → OnOk r ((x : History × Asked) → link c ≡ told (refusal_of x.0 s.time x.1 refusals.DiskFault) (link b))
+    → OnErr r ((x : History × Asked) → (n : ℕ) × (n < length (refusal_of x.0 s.time x.1 refusals.DiskFault)) × Failed (told (take n (refusal_of x.0 s.time x.1 refusals.DiskFault)) (link b)) (link c))
+    → RepliesTo {O = O} {T = T} link disk stands site holds limits q after a s (Err c)
+replied_halted link disk stands site holds limits q after a b c s r tells is is_link on quiet same keeps goes accepted ran sent fault =
+    let taken = halted_is disk stands site holds a b s.history (answer s.history s.time limits q) (disk a) (disk b) (disk a).aside accepted ran in
+    let reply : List ℕ = refusal_of s.history s.time q refusals.DiskFault in
+    let was = sends_so reply r (link b) (link c) (told_so r _ _ (λ g. g (s.history, q)) sent) (failed_so r _ _ (λ g. g (s.history, q)) fault) in (
+      taken.0,
+      was.0,
+      halted_told link disk a b c s taken.0 was.0 tells is taken.2 quiet same is_link on keeps goes (said_sessions reply was.0 (link b) (link c) was.1),
+      taken.1,
+      subst (λ (v : LinkView). Sends reply was.0 v (link c)) same was.1,
+    )
+
+-- ---- the verdict
+
+pub again_is : (a : Answer) (n : ℕ) → judged_of (verdicts.Again n) ≡ judged a → a ≡ answers.Again n
+again_is (answers.Take e) n is = absurd (cc is)
+again_is (answers.Refused f) n is = absurd (cc is)
+again_is (answers.Again m) n is = cc is
+
+pub not_again : (a : Answer) (v : Verdict) → ((n : ℕ) → v ≡ verdicts.Again n → ⊥) → judged_of v ≡ judged a → (n : ℕ) → a ≡ answers.Again n → ⊥
+not_again a verdicts.Take new is n again = absurd (cc (is, ap judged again))
+not_again a (verdicts.Refused f) new is n again = absurd (cc (is, ap judged again))
+not_again a (verdicts.Again m) new is n again = new m refl
+
+-- ---- an item, at a reading of the clock
+
+-- A house was raised to a reading of the clock.
+pub record RaisedBy {O T : Type 0} (link : O → LinkView) (disk : O → DiskView) (stands : T → History → Type 0) (site : T → ℕ) (holds : T → ℕ → Type 0) (x y : House O T) (reading : ℕ) : Type 0 where
+  pub tells : TellsAside link (λ o. (disk o).aside)
+  pub keeps : LinkKeeps (disk x.journal.disk) (disk y.journal.disk)
+  pub goes : LinkGoes (link x.journal.disk) (link y.journal.disk)
+  pub stands' : (h : History) → StandsFor disk stands site holds x h → StandsFor disk stands site holds y h
+  pub time : house_time y.bench ≡ max (house_time x.bench) reading
+  pub limits : limits_of y.bench ≡ limits_of x.bench
+  pub rest : link y.journal.disk ≡ with_readings (link y.journal.disk).readings (link x.journal.disk)
+  pub read : AreRead OfLinks (reading ∷ []) (link x.journal.disk).readings (link y.journal.disk).readings
+
+-- nothing was sent while it was raised
+raised_quiet : {O T : Type 0} (link : O → LinkView) (disk : O → DiskView) (stands : T → History → Type 0) (site : T → ℕ) (holds : T → ℕ → Type 0) (x y : House O T) (reading : ℕ) (h : History)
+    → RaisedBy link disk stands site holds x y reading → StandsFor disk stands site holds x h → WentBy link disk stands site holds x.journal.disk (state_of h y.bench) [] y
+raised_quiet link disk stands site holds x y reading h up st =
+    went_quiet link disk stands site holds x y (state_of h y.bench) up.tells st refl up.keeps up.goes (up.stands' h st)
+    (no_more_still (link x.journal.disk) (link y.journal.disk) (ap (λ (v : LinkView). v.sessions) up.rest))
+
+-- a step after it, as a step from before
+raised_went : {O T : Type 0} (link : O → LinkView) (disk : O → DiskView) (stands : T → History → Type 0) (site : T → ℕ) (holds : T → ℕ → Type 0) (x y z : House O T) (reading : ℕ) (h : History) (step : Did)
+    → RaisedBy link disk stands site holds x y reading → StandsFor disk stands site holds x h → WentBy link disk stands site holds y.journal.disk (state_of h y.bench) (step ∷ []) z
+    → WentBy link disk stands site holds x.journal.disk (state_of h x.bench) (step ∷ []) z
+raised_went link disk stands site holds x y z reading h step up st went =
+    went_from link disk stands site holds x.journal.disk (state_of h x.bench) (state_of h y.bench) step [] z refl
+    (went_on link disk stands site holds x.journal.disk (state_of h y.bench) [] (step ∷ []) y z (raised_quiet link disk stands site holds x y reading h up st) went)
+
+-- the state at the reading
+raised_is : {O T : Type 0} (link : O → LinkView) (disk : O → DiskView) (stands : T → History → Type 0) (site : T → ℕ) (holds : T → ℕ → Type 0) (x y : House O T) (reading : ℕ) (h : History) → RaisedBy link disk stands site holds x y reading
+    → state_of h y.bench ≡ raised (state_of h x.bench) reading
+raised_is link disk stands site holds x y reading h up = ap (λ (t : ℕ). record { history = h; time = t }) up.time
+
+-- a request was answered
+pub request_answered : {O T : Type 0} (link : O → LinkView) (disk : O → DiskView) (stands : T → History → Type 0) (site : T → ℕ) (holds : T → ℕ → Type 0) (q : Asked) (after : After) (x y : House O T) (reading : ℕ) (h : History)
+    (r : Result (House O T × Turn) O) → RaisedBy link disk stands site holds x y reading → StandsFor disk stands site holds x h
+    → RepliesTo link disk stands site holds (limits_of y.bench) q after y.journal.disk (state_of h y.bench) r
+    → AnswersRequest link disk stands site holds (limits_of x.bench) q after x.journal.disk (state_of h x.bench) r
+request_answered link disk stands site holds q after x y reading h (Ok r) up st replied =
+    let step : Did = replied.0 in
+    let at : State = raised (state_of h x.bench) reading in
+    let here : Answer = answer h (house_time y.bench) (limits_of y.bench) q in
+    let there : Answer = answer at.history at.time (limits_of x.bench) q in
+    let same : here ≡ there = ap₂ (λ (t : ℕ) (l : Limits). answer h t l q) up.time up.limits in (
+      step,
+      raised_went link disk stands site holds x y r.0 reading h step up st replied.2,
+      λ closes. item_answered (limits_of x.bench) OfLinks (request q closes) after r.1 (state_of h x.bench) step.after (link x.journal.disk) (link y.journal.disk) (link r.0.journal.disk) reading replied.1 step.sent up.read up.rest
+          (subst (λ (s : State). Gives s q there replied.1 step.after) (raised_is link disk stands site holds x y reading h up) (subst (λ (a : Answer). Gives (state_of h y.bench) q a replied.1 step.after) same replied.3)) replied.4,
+    )
+request_answered link disk stands site holds q after x y reading h (Err d) up st replied =
+    let e : Entry = replied.0 in
+    let said : List ℕ = replied.1 in
+    let mid : LinkView = link y.journal.disk in
+    let readings : (link d).readings ≡ mid.readings = said_readings (refusal_of h (house_time y.bench) q refusals.DiskFault) said mid (link d) replied.4 in (
+      e,
+      said,
+      halted_from link disk x.journal.disk (state_of h x.bench) (state_of h y.bench) [] e said d refl
+          (halted_later link disk stands site holds x.journal.disk (state_of h y.bench) [] [] y e said d (raised_quiet link disk stands site holds x y reading h up st) replied.2),
+      record {
+        reading = reading;
+        read = subst (λ (o : Option (List ℕ)). AreRead OfLinks (reading ∷ []) (link x.journal.disk).readings o) (sym readings) up.read;
+        takes = ap₂ (λ (t : ℕ) (l : Limits). answer h t l q) (sym up.time) (sym up.limits) ∙ replied.3;
+        sent = subst (λ (t : ℕ). Sends (refusal_of h t q refusals.DiskFault) said (with_readings (link d).readings (link x.journal.disk)) (link d)) up.time
+            (subst (λ (v : LinkView). Sends (refusal_of h (house_time y.bench) q refusals.DiskFault) said v (link d)) (up.rest ∙ ap (λ (o : Option (List ℕ)). with_readings o (link x.journal.disk)) (sym readings)) replied.4);
+      },
+    )
+
+-- a head was refused
+pub head_answered : {O T : Type 0} (link : O → LinkView) (disk : O → DiskView) (stands : T → History → Type 0) (site : T → ℕ) (holds : T → ℕ → Type 0) (f : Refusal) (after : After) (x y z : House O T) (reading : ℕ) (h : History)
+    (r : Result (Unit {0}) LinkFault) → RaisedBy link disk stands site holds x y reading → SentOn link disk y z → StandsFor disk stands site holds x h
+    → OnOk r ((h : History) → StandsFor disk stands site holds y h → link z.journal.disk ≡ told (head_refusal (house_time y.bench) f) (link y.journal.disk))
+    → OnErr r ((h : History) → StandsFor disk stands site holds y h
+    → (n : ℕ) × (n < length (head_refusal (house_time y.bench) f)) × Failed (told (take n (head_refusal (house_time y.bench) f)) (link y.journal.disk)) (link z.journal.disk))
+    → RefusesHead link disk stands site holds (limits_of x.bench) f after x.journal.disk (state_of h x.bench) (z, turn_after r after)
+head_answered {T = T} link disk stands site holds f after x y z reading h r up on st sent fault =
+    let st' : StandsFor disk stands site holds y h = up.stands' h st in
+    let reply : List ℕ = head_refusal (house_time y.bench) f in
+    let was = sent_so after reply r (link y.journal.disk) (link z.journal.disk) (told_so r _ _ (λ g. g h st') sent) (failed_so r _ _ (λ g. g h st') fault) in
+    let t : State = state_of h y.bench in
+    let step : Did = record { sent = was.0; after = t } in (
+      step,
+      raised_went link disk stands site holds x y z reading h step up st
+          (went_sent link disk stands site holds y z t step on.tells on.is_link on.standing st' (house_keeps disk stands site holds y z h st' on.keeps on.rests)
+          (ap (λ (b : Bench T). house_time b) on.rests.bench) on.keeps on.goes (sent_sessions after reply was.0 (turn_after r after) (link y.journal.disk) (link z.journal.disk) was.1)),
+      λ closes. item_answered (limits_of x.bench) OfLinks (refused f closes) after (turn_after r after) (state_of h x.bench) t (link x.journal.disk) (link y.journal.disk) (link z.journal.disk) reading reply was.0 up.read up.rest
+          (ap (λ (n : ℕ). head_refusal n f) up.time, raised_is link disk stands site holds x y reading h up) was.1,
+    )
+
+-- ---- a turn
+
+-- the house as a reader of heads left it
+pub record ReadOn {O T : Type 0} (link : O → LinkView) (disk : O → DiskView) (x y : House O T) : Type 0 where
+  pub tells : TellsAside link (λ o. (disk o).aside)
+  pub keeps : LinkKeeps (disk x.journal.disk) (disk y.journal.disk)
+  pub goes : LinkGoes (link x.journal.disk) (link y.journal.disk)
+  pub rests : HouseRests x y
+
+read_quiet : {O T : Type 0} (link : O → LinkView) (disk : O → DiskView) (stands : T → History → Type 0) (site : T → ℕ) (holds : T → ℕ → Type 0) (x y : House O T) (h : History) → ReadOn link disk x y → StandsFor disk stands site holds x h
+    → SentNoMore (link x.journal.disk) (link y.journal.disk) → WentBy link disk stands site holds x.journal.disk (state_of h x.bench) [] y
+read_quiet {T = T} link disk stands site holds x y h on st same =
+    went_quiet link disk stands site holds x y (state_of h x.bench) on.tells st (ap (λ (b : Bench T). house_time b) on.rests.bench) on.keeps on.goes (house_keeps disk stands site holds x y h st on.keeps on.rests) same
+
+pub read_stands : {O T : Type 0} (link : O → LinkView) (disk : O → DiskView) (stands : T → History → Type 0) (site : T → ℕ) (holds : T → ℕ → Type 0) (x y : House O T) (h : History) → ReadOn link disk x y → StandsFor disk stands site holds x h
+    → StandsFor disk stands site holds y h
+read_stands link disk stands site holds x y h on st = house_keeps disk stands site holds x y h st on.keeps on.rests
+
+-- an item that was taken was answered
+item_turns : {O T : Type 0} (link : O → LinkView) (disk : O → DiskView) (stands : T → History → Type 0) (site : T → ℕ) (holds : T → ℕ → Type 0) (item : Bool → Item) (after : After) (x y z : House O T) (h : History) (old new : Held) (turn : Turn) (more : List ℕ) (closing : Bool)
+    → ReadOn link disk x y → StandsFor disk stands site holds x h → TookItem (with_more old more).bytes old.given (item closing) after new → link y.journal.disk ≡ heard more (link x.journal.disk)
+    → ((step : Did) × WentBy link disk stands site holds y.journal.disk (state_of h y.bench) (step ∷ []) z × ((closes : Bool) → AnsweredItem (limits_of y.bench) OfLinks (item closes) after turn step (state_of h y.bench) (link y.journal.disk) (link z.journal.disk)))
+    → (steps : List Did) × WentBy link disk stands site holds x.journal.disk (state_of h x.bench) steps z × Turned (limits_of x.bench) OfLinks turn steps (state_of h x.bench) old (link x.journal.disk) new (link z.journal.disk)
+item_turns {T = T} link disk stands site holds item after x y z h old new turn more closing on st took came did =
+    let step : Did = did.0 in
+    let from : WentBy link disk stands site holds y.journal.disk (state_of h x.bench) (step ∷ []) z = subst (λ (b : Bench T). WentBy link disk stands site holds y.journal.disk (state_of h b) (step ∷ []) z) on.rests.bench did.1 in
+    let answered : AnsweredItem (limits_of x.bench) OfLinks (item closing) after turn step (state_of h x.bench) (link y.journal.disk) (link z.journal.disk) =
+    subst (λ (b : Bench T). AnsweredItem (limits_of b) OfLinks (item closing) after turn step (state_of h b) (link y.journal.disk) (link z.journal.disk)) on.rests.bench (did.2 closing) in (
+      step ∷ [],
+      went_on link disk stands site holds x.journal.disk (state_of h x.bench) [] (step ∷ []) y z
+          (read_quiet link disk stands site holds x y h on st (no_more_heard (link x.journal.disk) (link y.journal.disk) more (ap (λ (v : LinkView). v.sessions) came))) from,
+      item_turned (limits_of x.bench) OfLinks turn step (state_of h x.bench) old (link x.journal.disk) (link y.journal.disk) more (item closing) after new (link z.journal.disk) took came answered,
+    )
+
+pub head_turns : {O T : Type 0} (link : O → LinkView) (disk : O → DiskView) (stands : T → History → Type 0) (site : T → ℕ) (holds : T → ℕ → Type 0) (q : Request) (after : After) (x y : House O T) (h : History) (old new : Held) (out : HeadOut)
+    (r : Result (House O T × Turn) O) → Took old (link x.journal.disk) out new (link y.journal.disk) → out ≡ outs.Head q after → ReadOn link disk x y → StandsFor disk stands site holds x h
+    → AnswersRequest link disk stands site holds (limits_of y.bench) (asked_of q) after y.journal.disk (state_of h y.bench) r
+    → TurnsHouse link disk stands site holds (limits_of x.bench) x.journal.disk (state_of h x.bench) old new r
+head_turns link disk stands site holds q after x y h old new out (Ok r) took is on st did =
+    let leads = leads_so old (link x.journal.disk) out (outs.Head q after) new (link y.journal.disk) took is in
+    item_turns link disk stands site holds (request (asked_of q)) after x y r.0 h old new r.1 took.got leads.0.0 on st leads.0.1 leads.1 did
+head_turns {T = T} link disk stands site holds q after x y h old new out (Err d) took is on st did =
+    let leads = leads_so old (link x.journal.disk) out (outs.Head q after) new (link y.journal.disk) took is in
+    let e : Entry = did.0 in
+    let said : List ℕ = did.1 in
+    let halted : HaltedBy link disk y.journal.disk (state_of h x.bench) [] e said d = subst (λ (b : Bench T). HaltedBy link disk y.journal.disk (state_of h b) [] e said d) on.rests.bench did.2 in
+    let doubted : IsDoubted (limits_of x.bench) (asked_of q) (state_of h x.bench) e said (link y.journal.disk) (link d) =
+    subst (λ (b : Bench T). IsDoubted (limits_of b) (asked_of q) (state_of h b) e said (link y.journal.disk) (link d)) on.rests.bench did.3 in (
+      e,
+      said,
+      halted_later link disk stands site holds x.journal.disk (state_of h x.bench) [] [] y e said d
+          (read_quiet link disk stands site holds x y h on st (no_more_heard (link x.journal.disk) (link y.journal.disk) took.got (ap (λ (v : LinkView). v.sessions) leads.1))) halted,
+      record {
+        more = took.got;
+        q = asked_of q;
+        closes = leads.0.0;
+        after = after;
+        new = new;
+        took = leads.0.1;
+        doubted = subst (λ (v : LinkView). IsDoubted (limits_of x.bench) (asked_of q) (state_of h x.bench) e said v (link d)) leads.1 doubted;
+      },
+    )
+
+pub refused_turns : {O T : Type 0} (link : O → LinkView) (disk : O → DiskView) (stands : T → History → Type 0) (site : T → ℕ) (holds : T → ℕ → Type 0) (f : HeadRefusal) (after : After) (x y : House O T) (h : History) (old new : Held) (out : HeadOut)
+    (r : House O T × Turn) → Took old (link x.journal.disk) out new (link y.journal.disk) → out ≡ outs.Refused f after → ReadOn link disk x y → StandsFor disk stands site holds x h
+    → RefusesHead link disk stands site holds (limits_of y.bench) (as_refusal f) after y.journal.disk (state_of h y.bench) r
+    → TurnsHouse link disk stands site holds (limits_of x.bench) x.journal.disk (state_of h x.bench) old new (Ok r)
+refused_turns link disk stands site holds f after x y h old new out r took is on st did =
+    let leads = leads_so old (link x.journal.disk) out (outs.Refused f after) new (link y.journal.disk) took is in
+    item_turns link disk stands site holds (refused (as_refusal f)) after x y r.0 h old new r.1 took.got leads.0.0 on st leads.0.1 leads.1 did
+
+pub end_turns : {O T : Type 0} (link : O → LinkView) (disk : O → DiskView) (stands : T → History → Type 0) (site : T → ℕ) (holds : T → ℕ → Type 0) (x y : House O T) (h : History) (old new : Held) (out : HeadOut)
+    → Took old (link x.journal.disk) out new (link y.journal.disk) → out ≡ outs.End → ReadOn link disk x y → StandsFor disk stands site holds x h
+    → TurnsHouse link disk stands site holds (limits_of x.bench) x.journal.disk (state_of h x.bench) old new (Ok (y, End))
+end_turns link disk stands site holds x y h old new out took is on st =
+    let leads = leads_so old (link x.journal.disk) out outs.End new (link y.journal.disk) took is in
+    let same : SentNoMore (link x.journal.disk) (link y.journal.disk) =
+    no_more_then (link x.journal.disk) (heard took.got (link x.journal.disk)) (link y.journal.disk)
+    (no_more_heard (link x.journal.disk) (heard took.got (link x.journal.disk)) took.got refl)
+    (no_more_finished (heard took.got (link x.journal.disk)) (link y.journal.disk) (ap (λ (v : LinkView). v.sessions) leads.2)) in
+    ([], read_quiet link disk stands site holds x y h on st same, record { none_done = refl; more = took.got; none = leads.1; then' = leads.2 })
+
+pub fault_turns : {O T : Type 0} (link : O → LinkView) (disk : O → DiskView) (stands : T → History → Type 0) (site : T → ℕ) (holds : T → ℕ → Type 0) (x y : House O T) (h : History) (old new : Held) (out : HeadOut)
+    → Took old (link x.journal.disk) out new (link y.journal.disk) → out ≡ outs.Fault → ReadOn link disk x y → StandsFor disk stands site holds x h
+    → TurnsHouse link disk stands site holds (limits_of x.bench) x.journal.disk (state_of h x.bench) old new (Ok (y, NotReceived))
+fault_turns link disk stands site holds x y h old new out took is on st =
+    let leads = leads_so old (link x.journal.disk) out outs.Fault new (link y.journal.disk) took is in
+    let same : SentNoMore (link x.journal.disk) (link y.journal.disk) = no_more_heard (link x.journal.disk) (link y.journal.disk) took.got (ap (λ (v : LinkView). v.sessions) leads.2.same) in
+    ([], read_quiet link disk stands site holds x y h on st same, record { none_done = refl; more = took.got; none = leads.1; then' = leads.2 })
+
+item_given : (bytes : List ℕ) (old : Held) (item : Item) (after : After) (new : Held) → TookItem bytes old.given item after new → (after ≡ afters.Close → ⊥) → (new.given ≡ old.given + 1) × (old.given < 1000)
+item_given bytes old item after new took open' =
+    let last : new.given ≡ 1000 → ⊥ = λ e. open' (took.after_is.1 (inr e)) in
+    (omega (arith, took.given_is, last), omega (arith, took.given_is, last))
+
+-- a request asks a target
+pub head_target : (old : Held) (before mid : LinkView) (q : Request) (after : After) (new : Held) (out : HeadOut) → Took old before out new mid → out ≡ outs.Head q after → IsTarget q.target.now
+head_target old before mid q after new out took is =
+    let leads = leads_so old before out (outs.Head q after) new mid took is in
+    asks_a_target _ new.bytes (asked_of q) leads.0.0 leads.0.1.next
+
+-- after an item that lets the link go on, another may come
+pub head_given : (old : Held) (before mid : LinkView) (q : Request) (after : After) (new : Held) (out : HeadOut) → Took old before out new mid → out ≡ outs.Head q after → (after ≡ afters.Close → ⊥)
+    → (new.given ≡ old.given + 1) × (old.given < 1000)
+head_given old before mid q after new out took is open' =
+    let leads = leads_so old before out (outs.Head q after) new mid took is in
+    item_given _ (with_more old took.got) _ after new leads.0.1 open'
+
+pub refused_given : (old : Held) (before mid : LinkView) (f : HeadRefusal) (after : After) (new : Held) (out : HeadOut) → Took old before out new mid → out ≡ outs.Refused f after → (after ≡ afters.Close → ⊥)
+    → (new.given ≡ old.given + 1) × (old.given < 1000)
+refused_given old before mid f after new out took is open' =
+    let leads = leads_so old before out (outs.Refused f after) new mid took is in
+    item_given _ (with_more old took.got) _ after new leads.0.1 open'
+
+-- the same, where the turn is part of an answer
+pub given_if : {A E : Type 0} (r : Result (A × Turn) E) (Q Closes : Type 0) → IfOk r (λ x. x.1 ≡ GoOn → Closes → ⊥) → ((Closes → ⊥) → Q) → IfOk r (λ x. x.1 ≡ GoOn → Q)
+given_if (Ok x) Q Closes open' so = λ goes. so (open' goes)
+given_if (Err e) Q Closes open' so = tt

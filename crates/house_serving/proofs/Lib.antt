@@ -1,0 +1,14 @@
+pub mod StepLemmas
+pub mod WentLemmas
+pub mod LinkCalls
+pub mod ServingLemmas
+pub mod TurnLemmas
+pub mod ItemLemmas
+pub mod TurnsLemmas
+pub mod LinksLemmas
+pub mod ReplyingLemmas
+pub mod AsideLemmas
+pub mod OrderLemmas
+pub mod CauseLemmas
+pub mod HouseTurnLemmas
+pub mod HouseLinkLemmas

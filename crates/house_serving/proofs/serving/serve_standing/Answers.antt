@@ -1,0 +1,19 @@
+use Rattle.std.proofs.Common.{List}
+use Rattle.house_core.specs.Bench.{limits_of}
+use Rattle.house_core.specs.Session.{State}
+use Rattle.house_serving.specs.Steps.{Did}
+use Rattle.house_serving.specs.Course.{HadLink}
+use Rattle.house_serving.specs.Turns.{Ended}
+use Rattle.house_serving.proofs.LinksLemmas.{had_link}
+use Rattle.house_serving.proofs.WentLemmas.{stepped_so}
+use Rattle.house_serving.proofs.serving.serve_standing.Goals as goal
+
+pub returns-clause-course : goal.returns-clause-course
+returns-clause-course g c =
+    let limits = limits_of c.args.bench.now in
+    let before = g.K.Link.link c.args.k.now in
+    let served = g.K.Link.link c.serve_turns.new.k in
+    let after = g.K.Link.link c.end_link.new.self in
+    stepped_so g.T.Trade.stands g.T.Trade.site g.T.Trade.holds (λ (steps : List Did) (s : State). Ended limits c.args.clock.now c.serve_turns.result steps s before served)
+    (λ (steps : List Did) (s : State). HadLink limits c.args.clock.now steps s before after) c.args.bench.now c.serve_turns.new.bench
+    (λ (steps : List Did) (s : State). had_link limits c.args.clock.now c.serve_turns.result steps s before served after c.end_link.ensures.ended) c.serve_turns.ensures.ended

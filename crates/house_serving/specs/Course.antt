@@ -1,0 +1,123 @@
+-- How serving links goes, as what becomes of the links.
+use Rattle.std.specs.Prelude.{◌≡◌, ◌⊎◌, ℕ, zero, suc, ◌<◌, true, false, List, [], ◌∷◌, ◌++◌, length, take, All, Option, Some, Result, Ok, Err}
+use Rattle.mc_outside.specs.Bytes.{Rose}
+use Rattle.mc_outside.specs.LinkView.{LinkView, next_taken, none_left, heard, told, finished, Failed}
+use Rattle.mc_records.specs.declared.limits.Limits.{Limits}
+use Rattle.millicent_http.specs.Items.{Item, closes, Heads}
+use Rattle.millicent_http.specs.Reads.{HaveRead, NoneCloses}
+use Rattle.house_serving.specs.declared.serving.Clock.{Clock}
+use Rattle.house_serving.specs.declared.serving.Clock.TheVariants.{OfLinks, At}
+use Rattle.house_serving.specs.declared.serving.BenchEnd.{BenchEnd}
+use Rattle.house_serving.specs.declared.serving.BenchEnd.TheVariants as ends
+use Rattle.house_core.specs.Session.{State}
+use Rattle.house_serving.specs.Steps.{Did, sent_of, state_after, Run}
+
+-- ---- the clock
+
+-- These readings were read between two moments of the links. Where the clock is that of the links, and
+-- they tell their readings, they are the last ones; a clock that stands reads nothing of the links.
+abbrev pub AreRead : Clock → List ℕ → Option (List ℕ) → Option (List ℕ) → Type 0
+AreRead OfLinks readings before after = (rs : List ℕ) → after ≡ Some rs → (qs : List ℕ) × (before ≡ Some qs) × (rs ≡ qs ++ readings)
+AreRead (At moment) readings before after = (after ≡ before) × All (λ reading. reading ≡ moment) readings
+
+-- the links, with these readings of the clock
+abbrev pub with_readings : Option (List ℕ) → LinkView → LinkView
+with_readings readings v = record v { readings = readings }
+
+-- these steps answered some items, at readings of the clock
+pub record Replied (limits : Limits) (clock : Clock) (items : List Item) (steps : List Did) (s : State) (before after : Option (List ℕ)) : Type 0 where
+  pub readings : List ℕ
+  pub read : AreRead clock readings before after
+  pub ran : Run limits s items readings steps
+
+-- ---- one link
+
+-- the last of these items closes the link, or is the 1,000th
+abbrev pub EndLink : List Item → Type 0
+EndLink items = (length items ≡ 1000) ⊎ ((front : List Item) × (last : Item) × (items ≡ front ++ last ∷ []) × (closes last ≡ true))
+
+-- these are the first items on a link with these bytes, and one more
+pub record AreFirst (got : List ℕ) (front : List Item) (last : Item) : Type 0 where
+  pub held : List ℕ
+  pub read : HaveRead got (front ++ last ∷ []) held
+  pub open' : NoneCloses front
+  pub few : length front < 1000
+
+-- Every item of what was received was answered, and the link was read to its end, or to an item that
+-- ends it.
+pub record IsServed (limits : Limits) (clock : Clock) (steps : List Did) (s : State) (before after : LinkView) : Type 0 where
+  pub got : List ℕ
+  pub items : List Item
+  pub heads : Heads got items
+  pub replied : Replied limits clock items steps s before.readings after.readings
+  pub read : LinkView
+  pub to_end : (read ≡ finished (heard got before)) ⊎ ((read ≡ heard got before) × EndLink items)
+  pub sent : after ≡ with_readings after.readings (told (sent_of steps) read)
+
+-- A `recv` failed when every item of what was received was answered.
+pub record BrokeReceiving (limits : Limits) (clock : Clock) (steps : List Did) (s : State) (before after : LinkView) : Type 0 where
+  pub got : List ℕ
+  pub items : List Item
+  pub heads : Heads got items
+  pub replied : Replied limits clock items steps s before.readings after.readings
+  pub fault : Failed (with_readings after.readings (told (sent_of steps) (heard got before))) after
+
+-- A `send` failed: the replies to the first items were sent whole, and of the last one's a proper first
+-- part.
+pub record BrokeSending (limits : Limits) (clock : Clock) (steps : List Did) (s : State) (before after : LinkView) : Type 0 where
+  pub got : List ℕ
+  pub front : List Item
+  pub last : Item
+  pub first : AreFirst got front last
+  pub done : List Did
+  pub between : Option (List ℕ)
+  pub replied : Replied limits clock front done s before.readings between
+  pub reply : List ℕ
+  pub step : Did
+  pub replied_last : Replied limits clock (last ∷ []) (record { sent = reply; after = step.after } ∷ []) (state_after s done) between after.readings
+  pub n : ℕ
+  pub part : n < length reply
+  pub sent : step.sent ≡ take n reply
+  pub steps_are : steps ≡ done ++ step ∷ []
+  pub fault : Failed (with_readings after.readings (told (sent_of steps) (heard got before))) after
+
+-- What becomes of a link that was taken: it is served whole, or up to a fault of one of its calls, and
+-- then ended.
+pub record HadLink (limits : Limits) (clock : Clock) (steps : List Did) (s : State) (before after : LinkView) : Type 0 where
+  pub served : LinkView
+  pub course : IsServed limits clock steps s before served ⊎ (BrokeReceiving limits clock steps s before served ⊎ BrokeSending limits clock steps s before served)
+  pub ended : after ≡ record served { stands = false }
+
+-- ---- links one after another
+
+-- so many links were taken, one after another
+abbrev pub HadLinks : Limits → Clock → ℕ → List Did → State → LinkView → LinkView → Type 0
+HadLinks limits clock zero steps s before after = (steps ≡ []) × (after ≡ before)
+HadLinks limits clock (suc n) steps s before after =
+    (front : List Did) × (last : List Did) × (between : LinkView) × (steps ≡ front ++ last)
+    × HadLinks limits clock n front s before between × HadLink limits clock last (state_after s front) (next_taken between) after
+
+-- `next_link` failed
+pub record NoLink (before after : LinkView) : Type 0 where
+  pub same : after ≡ record before { stands = false; faults = after.faults }
+  pub rose : Rose before.faults after.faults
+
+-- so many links were served: as many as were asked for, or all that came
+abbrev pub ServedAll : Limits → Clock → ℕ → ℕ → List Did → State → LinkView → LinkView → Type 0
+ServedAll limits clock links n steps s before after =
+    ((n ≡ links) × HadLinks limits clock n steps s before after)
+    ⊎ ((n < links) × ((between : LinkView) × HadLinks limits clock n steps s before between × (after ≡ none_left between)))
+
+-- some links were served, fewer than were asked for, and then none could be taken
+pub record ServedSome (limits : Limits) (clock : Clock) (links : ℕ) (steps : List Did) (s : State) (before after : LinkView) : Type 0 where
+  pub n : ℕ
+  pub few : n < links
+  pub between : LinkView
+  pub links_had : HadLinks limits clock n steps s before between
+  pub fault : NoLink between after
+
+-- How serving links ended. Memory is refused before the first link alone.
+abbrev pub Served : Limits → Clock → ℕ → Result ℕ BenchEnd → List Did → State → LinkView → LinkView → Type 0
+Served limits clock links (Ok n) steps s before after = ServedAll limits clock links n steps s before after
+Served limits clock links (Err ends.NoMemory) steps s before after = (steps ≡ []) × (after ≡ before)
+Served limits clock links (Err ends.Link) steps s before after = ServedSome limits clock links steps s before after

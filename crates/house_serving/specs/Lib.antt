@@ -1,0 +1,6 @@
+pub mod Steps
+pub mod Course
+pub mod Turns
+pub mod Orders
+pub mod Doubts
+pub mod Links

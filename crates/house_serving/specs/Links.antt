@@ -1,0 +1,109 @@
+-- What comes of serving links by a house over a journal.
+use Rattle.std.specs.Prelude.{◌≡◌, ◌≤◌, ℕ, Bool, false, List, [], ◌∷◌, Result, Ok, Err}
+use Rattle.mc_outside.specs.Bytes.{Rose}
+use Rattle.mc_outside.specs.DiskView.{DiskView}
+use Rattle.mc_outside.specs.LinkView.{LinkView}
+use Rattle.mc_records.specs.declared.limits.Limits.{Limits}
+use Rattle.mc_records.specs.declared.refusal.Refusal.{Refusal}
+use Rattle.mc_records.specs.declared.refusal.Refusal.TheVariants.{DiskFault}
+use Rattle.mc_records.specs.Entry.{Entry}
+use Rattle.mc_records.specs.Requests.{Asked}
+use Rattle.ledger_model.specs.Histories.{History}
+use Rattle.ledger_model.specs.Answer.{answer, Take}
+use Rattle.ledger_model.specs.Replies.{refusal_of}
+use Rattle.millicent_http.specs.declared.item.After.{After}
+use Rattle.millicent_http.specs.Items.{request, refused}
+use Rattle.millicent_http.specs.Held.{Held}
+use Rattle.house_core.specs.declared.house.House.{House}
+use Rattle.house_core.specs.Session.{State, Gives}
+use Rattle.house_serving.specs.declared.serving.Clock.TheVariants.{OfLinks}
+use Rattle.house_serving.specs.declared.turn.Turn.{Turn}
+use Rattle.house_serving.specs.declared.links.ServeOut.{ServeOut}
+use Rattle.house_serving.specs.declared.links.ServeOut.TheVariants.{Done, Link, NoMemory, Halted}
+use Rattle.house_serving.specs.Steps.{Did}
+use Rattle.house_serving.specs.Course.{HadLink, ServedAll, ServedSome}
+use Rattle.house_serving.specs.Turns.{Sent, AnsweredItem, Turned, Ended}
+use Rattle.house_serving.specs.Orders.{WentBy, HaltedBy}
+use Rattle.house_serving.specs.Doubts.{Sends, IsDoubted, DoubtTurn, DoubtLink, DoubtLinks}
+
+-- the outside that comes back, whatever is answered
+abbrev pub served_outside : {O T : Type 0} → ServeOut O T → O
+served_outside (Done x n) = x.journal.disk
+served_outside (Link x) = x.journal.disk
+served_outside (NoMemory x) = x.journal.disk
+served_outside (Halted d) = d
+
+-- Links were served from this state on, at the readings of the links' clock: so many, or all that came;
+-- or up to a failing `next_link`; or none for want of memory; or up to a request whose entry is in doubt
+-- since the disk failed.
+abbrev pub ServesLinks : {O T : Type 0} → (O → LinkView) → (O → DiskView) → (T → History → Type 0) → (T → ℕ) → (T → ℕ → Type 0) → Limits → ℕ → O → State → ServeOut O T → Type 0
+ServesLinks link disk stands site holds limits links a s (Done x n) =
+    (steps : List Did) × WentBy link disk stands site holds a s steps x × ServedAll limits OfLinks links n steps s (link a) (link x.journal.disk)
+ServesLinks link disk stands site holds limits links a s (Link x) =
+    (steps : List Did) × WentBy link disk stands site holds a s steps x × ServedSome limits OfLinks links steps s (link a) (link x.journal.disk)
+ServesLinks link disk stands site holds limits links a s (NoMemory x) = WentBy link disk stands site holds a s [] x × (x.journal.disk ≡ a)
+ServesLinks link disk stands site holds limits links a s (Halted d) =
+    (steps : List Did) × (e : Entry) × (said : List ℕ) × HaltedBy link disk a s steps e said d × DoubtLinks limits links steps s (link a) e said (link d)
+
+-- The disk did not fail, and the count of the links' faults did not fall.
+pub record KeptCounts {O : Type 0} (link : O → LinkView) (disk : O → DiskView) (a b : O) : Type 0 where
+  pub disk' : (disk b).faults ≡ (disk a).faults
+  pub link' : (link a).faults ≤ (link b).faults
+
+-- Each fault that is answered has its cause: the count of the disk's faults rose where the house halted, and
+-- that of the links' where a link could not be taken; in any other answer the disk did not fail.
+abbrev pub HaveCauses : {O T : Type 0} → (O → LinkView) → (O → DiskView) → O → ServeOut O T → Type 0
+HaveCauses link disk a (Done x n) = KeptCounts link disk a x.journal.disk
+HaveCauses link disk a (Link x) = KeptCounts link disk a x.journal.disk × Rose (link a).faults (link x.journal.disk).faults
+HaveCauses link disk a (NoMemory x) = x.journal.disk ≡ a
+HaveCauses link disk a (Halted d) = Rose (disk a).faults (disk d).faults
+
+-- ---- its parts
+
+-- the same of a part of serving, that halts at an Err
+abbrev pub PartCauses : {O T A : Type 0} → (O → LinkView) → (O → DiskView) → O → (A → House O T) → Result A O → Type 0
+PartCauses link disk a house (Ok x) = KeptCounts link disk a (house x).journal.disk
+PartCauses link disk a house (Err d) = Rose (disk a).faults (disk d).faults
+
+-- A request was replied to at the house time: by its first reply or by its refusal, which was sent, or not
+-- the whole of it. Or the disk failed while its entry was written, and it was told so.
+abbrev pub RepliesTo : {O T : Type 0} → (O → LinkView) → (O → DiskView) → (T → History → Type 0) → (T → ℕ) → (T → ℕ → Type 0) → Limits → Asked → After → O → State → Result (House O T × Turn) O → Type 0
+RepliesTo link disk stands site holds limits q after a s (Ok r) =
+    (step : Did) × (reply : List ℕ) × WentBy link disk stands site holds a s (step ∷ []) r.0 × Gives s q (answer s.history s.time limits q) reply step.after
+    × Sent after reply r.1 step.sent (link a) (link r.0.journal.disk)
+RepliesTo link disk stands site holds limits q after a s (Err d) =
+    (e : Entry) × (said : List ℕ) × HaltedBy link disk a s [] e said d × (answer s.history s.time limits q ≡ Take e)
+    × Sends (refusal_of s.history s.time q DiskFault) said (link a) (link d)
+
+-- one request that was taken
+abbrev pub AnswersRequest : {O T : Type 0} → (O → LinkView) → (O → DiskView) → (T → History → Type 0) → (T → ℕ) → (T → ℕ → Type 0) → Limits → Asked → After → O → State → Result (House O T × Turn) O → Type 0
+AnswersRequest link disk stands site holds limits q after a s (Ok r) =
+    (step : Did) × WentBy link disk stands site holds a s (step ∷ []) r.0 × ((closes : Bool) → AnsweredItem limits OfLinks (request q closes) after r.1 step s (link a) (link r.0.journal.disk))
+AnswersRequest link disk stands site holds limits q after a s (Err d) =
+    (e : Entry) × (said : List ℕ) × HaltedBy link disk a s [] e said d × IsDoubted limits q s e said (link a) (link d)
+
+-- one head that was refused
+abbrev pub RefusesHead : {O T : Type 0} → (O → LinkView) → (O → DiskView) → (T → History → Type 0) → (T → ℕ) → (T → ℕ → Type 0) → Limits → Refusal → After → O → State → House O T × Turn → Type 0
+RefusesHead link disk stands site holds limits f after a s r =
+    (step : Did) × WentBy link disk stands site holds a s (step ∷ []) r.0 × ((closes : Bool) → AnsweredItem limits OfLinks (refused f closes) after r.1 step s (link a) (link r.0.journal.disk))
+
+-- one turn
+abbrev pub TurnsHouse : {O T : Type 0} → (O → LinkView) → (O → DiskView) → (T → History → Type 0) → (T → ℕ) → (T → ℕ → Type 0) → Limits → O → State → Held → Held → Result (House O T × Turn) O → Type 0
+TurnsHouse link disk stands site holds limits a s old new (Ok r) =
+    (steps : List Did) × WentBy link disk stands site holds a s steps r.0 × Turned limits OfLinks r.1 steps s old (link a) new (link r.0.journal.disk)
+TurnsHouse link disk stands site holds limits a s old new (Err d) =
+    (e : Entry) × (said : List ℕ) × HaltedBy link disk a s [] e said d × DoubtTurn limits s old (link a) e said (link d)
+
+-- the turns of a link
+abbrev pub EndsTurns : {O T : Type 0} → (O → LinkView) → (O → DiskView) → (T → History → Type 0) → (T → ℕ) → (T → ℕ → Type 0) → Limits → O → State → Result (House O T × Turn) O → Type 0
+EndsTurns link disk stands site holds limits a s (Ok r) =
+    (steps : List Did) × WentBy link disk stands site holds a s steps r.0 × Ended limits OfLinks r.1 steps s (link a) (link r.0.journal.disk)
+EndsTurns link disk stands site holds limits a s (Err d) =
+    (steps : List Did) × (e : Entry) × (said : List ℕ) × HaltedBy link disk a s steps e said d × DoubtLink limits steps s (link a) e said (link d)
+
+-- a link
+abbrev pub ServesLink : {O T : Type 0} → (O → LinkView) → (O → DiskView) → (T → History → Type 0) → (T → ℕ) → (T → ℕ → Type 0) → Limits → O → State → Result (House O T) O → Type 0
+ServesLink link disk stands site holds limits a s (Ok x) =
+    (steps : List Did) × WentBy link disk stands site holds a s steps x × HadLink limits OfLinks steps s (link a) (link x.journal.disk)
+ServesLink link disk stands site holds limits a s (Err d) =
+    (steps : List Did) × (e : Entry) × (said : List ℕ) × (stopped : LinkView) × HaltedBy link disk a s steps e said d × DoubtLink limits steps s (link a) e said stopped × (link d ≡ record stopped { stands = false })

@@ -1,0 +1,69 @@
+-- One turn of serving a link: the next item is answered, or there is none.
+use Rattle.std.specs.Prelude.{◌≡◌, ℕ, ◌<◌, List, [], ◌∷◌, ◌++◌, length, take, Result, Ok, Err}
+use Rattle.mc_outside.specs.declared.link.LinkFault.{LinkFault}
+use Rattle.mc_outside.specs.LinkView.{LinkView, heard, told, finished, Failed}
+use Rattle.mc_records.specs.declared.limits.Limits.{Limits}
+use Rattle.millicent_http.specs.declared.item.After.{After}
+use Rattle.millicent_http.specs.declared.item.After.TheVariants.{Close}
+use Rattle.millicent_http.specs.declared.item.After.TheVariants as afters
+use Rattle.millicent_http.specs.Items.{Item, EndsNoItem}
+use Rattle.millicent_http.specs.Held.{Held}
+use Rattle.millicent_http.specs.Takes.{TookItem}
+use Rattle.house_serving.specs.declared.serving.Clock.{Clock}
+use Rattle.house_serving.specs.declared.turn.Turn.{Turn}
+use Rattle.house_serving.specs.declared.turn.Turn.TheVariants.{GoOn, Last, End, NotReceived, NotSent}
+use Rattle.house_core.specs.Session.{State}
+use Rattle.house_serving.specs.Steps.{Did}
+use Rattle.house_serving.specs.Course.{with_readings, Replied, IsServed, BrokeReceiving, BrokeSending}
+
+-- how sending a reply went, of which so much was sent
+abbrev pub Sent : After → List ℕ → Turn → List ℕ → LinkView → LinkView → Type 0
+Sent after reply GoOn part before link = (after ≡ Close → ⊥) × (part ≡ reply) × (link ≡ told part before)
+Sent after reply Last part before link = (after ≡ Close) × (part ≡ reply) × (link ≡ told part before)
+Sent after reply End part before link = ⊥
+Sent after reply NotReceived part before link = ⊥
+Sent after reply NotSent part before link = (n : ℕ) × (n < length reply) × (part ≡ take n reply) × Failed (told part before) link
+
+-- the turn of an item whose reply was sent with this result
+abbrev pub turn_after : Result (Unit {0}) LinkFault → After → Turn
+turn_after (Ok u) afters.GoOn = GoOn
+turn_after (Ok u) afters.Close = Last
+turn_after (Err fault) after = NotSent
+
+-- an item that was taken was answered by this step, and its reply was sent, or not the whole of it
+pub record AnsweredItem (limits : Limits) (clock : Clock) (item : Item) (after : After) (turn : Turn) (step : Did) (s : State) (before link : LinkView) : Type 0 where
+  pub reply : List ℕ
+  pub replied : Replied limits clock (item ∷ []) (record { sent = reply; after = step.after } ∷ []) s before.readings link.readings
+  pub sent : Sent after reply turn step.sent (with_readings link.readings before) link
+
+-- from this state, these bytes held and this link on, an item was taken and answered
+pub record Answered (limits : Limits) (clock : Clock) (turn : Turn) (steps : List Did) (s : State) (old : Held) (before : LinkView) (new : Held) (link : LinkView) : Type 0 where
+  pub more : List ℕ
+  pub item : Item
+  pub after : After
+  pub took : TookItem (old.bytes ++ more) old.given item after new
+  pub step : Did
+  pub one : steps ≡ step ∷ []
+  pub answered : AnsweredItem limits clock item after turn step s (heard more before) link
+
+-- what was received ended no item
+pub record Waited (steps : List Did) (old : Held) (before : LinkView) (Then : LinkView → LinkView → Type 0) (link : LinkView) : Type 0 where
+  pub none_done : steps ≡ []
+  pub more : List ℕ
+  pub none : EndsNoItem (old.bytes ++ more)
+  pub then' : Then (heard more before) link
+
+abbrev pub Turned : Limits → Clock → Turn → List Did → State → Held → LinkView → Held → LinkView → Type 0
+Turned limits clock GoOn steps s old before new link = Answered limits clock GoOn steps s old before new link
+Turned limits clock Last steps s old before new link = Answered limits clock Last steps s old before new link
+Turned limits clock End steps s old before new link = Waited steps old before (λ v w. w ≡ finished v) link
+Turned limits clock NotReceived steps s old before new link = Waited steps old before Failed link
+Turned limits clock NotSent steps s old before new link = Answered limits clock NotSent steps s old before new link
+
+-- how the last turn ended the link
+abbrev pub Ended : Limits → Clock → Turn → List Did → State → LinkView → LinkView → Type 0
+Ended limits clock GoOn steps s before after = ⊥
+Ended limits clock Last steps s before after = IsServed limits clock steps s before after
+Ended limits clock End steps s before after = IsServed limits clock steps s before after
+Ended limits clock NotReceived steps s before after = BrokeReceiving limits clock steps s before after
+Ended limits clock NotSent steps s before after = BrokeSending limits clock steps s before after

@@ -1,0 +1,165 @@
+//! One turn of serving a link by a house over a journal.
+
+ghost use Rattle.std.specs.Prelude.{◌≡◌, ◌<◌, ◌+◌, [], ◌∷◌, ℕ, max, IsTrue, IfOk};
+ghost use Rattle.mc_records.specs.Requests.{asked_of};
+ghost use Rattle.scrip_form.specs.Texts.{IsTarget};
+ghost use Rattle.ledger_model.specs.Histories.{History};
+ghost use Rattle.ledger_model.specs.Answer.{answer, Again};
+ghost use Rattle.millicent_http.specs.declared.item.After.TheVariants.{Close};
+ghost use Rattle.millicent_http.specs.HeadRefusals.{as_refusal};
+ghost use Rattle.house_core.specs.Bench.{house_time, limits_of, state_of};
+ghost use Rattle.house_core.specs.House.{StandsFor};
+ghost use Rattle.house_serving.specs.declared.serving.Clock.TheVariants.{OfLinks};
+ghost use Rattle.house_serving.specs.declared.turn.Turn.TheVariants.{GoOn};
+ghost use Rattle.house_serving.specs.Course.{AreRead, with_readings};
+ghost use Rattle.house_serving.specs.Links.{KeptCounts, PartCauses, RepliesTo, AnswersRequest, RefusesHead, TurnsHouse};
+
+use crate::turn::{Turn, turn_of};
+use house_core::{
+    House, Outcome, Trade, Verdict, send_again, send_disk_fault, send_refusal, send_settled,
+};
+use mc_base::Moment;
+use mc_outside::{Link, Outside};
+use mc_records::{Refusal, Request};
+use millicent_http::{After, HeadOut, HeadReader, HeadRefusal};
+use scrip_journal::Halted;
+
+/// Answers the next item of the standing link.
+pub(crate) fn take_turn<O: Outside, T: Trade>(
+    house: House<O, T>,
+    reader: &mut HeadReader,
+) -> Result<(House<O, T>, Turn), Halted<O>>
+    requires stands { IsTrue (O.link house.journal.disk).stands }
+    ensures causes { PartCauses O.link O.disk house.journal.disk (λ r. r.0) result }
+    ensures limits { IfOk result (λ r. limits_of r.0.bench ≡ limits_of house.bench) }
+    ensures stands { IfOk result (λ r. r.1 ≡ GoOn → IsTrue (O.link r.0.journal.disk).stands) }
+    ensures given { IfOk result (λ r. r.1 ≡ GoOn → (reader.new.given ≡ reader.old.given + 1) × (reader.old.given < 1000)) }
+    ensures turned { (h : History) → StandsFor O.disk T.stands T.site T.holds house h
+        → TurnsHouse O.link O.disk T.stands T.site T.holds (limits_of house.bench) house.journal.disk (state_of h house.bench) reader.old reader.new result }
+{
+    let mut house = house;
+    match reader.take(&mut house) {
+        HeadOut::Head(q, after) => answer_request(house, &q, after),
+        HeadOut::Refused(head, after) => Ok(answer_refused(house, head, after)),
+        HeadOut::End => Ok((house, Turn::End)),
+        HeadOut::Fault => Ok((house, Turn::NotReceived)),
+    }
+}
+
+/// Answers a request at a reading of the clock.
+fn answer_request<O: Outside, T: Trade>(
+    house: House<O, T>,
+    q: &Request<'_>,
+    after: After,
+) -> Result<(House<O, T>, Turn), Halted<O>>
+    requires stands { IsTrue (O.link house.journal.disk).stands }
+    requires target { IsTarget q.now.target.now }
+    ensures causes { PartCauses O.link O.disk house.journal.disk (λ r. r.0) result }
+    ensures limits { IfOk result (λ r. limits_of r.0.bench ≡ limits_of house.bench) }
+    ensures stands { IfOk result (λ r. r.1 ≡ GoOn → IsTrue (O.link r.0.journal.disk).stands) }
+    ensures open { IfOk result (λ r. r.1 ≡ GoOn → after ≡ Close → ⊥) }
+    ensures answered { (h : History) → StandsFor O.disk T.stands T.site T.holds house h
+        → AnswersRequest O.link O.disk T.stands T.site T.holds (limits_of house.bench) (asked_of q.now) after house.journal.disk (state_of h house.bench) result }
+{
+    let mut house = house;
+    let _reading = raise_by_clock(&mut house);
+    reply_to(house, q, after)
+}
+
+/// Answers a head that is refused, at a reading of the clock.
+fn answer_refused<O: Outside, T: Trade>(
+    house: House<O, T>,
+    head: HeadRefusal,
+    after: After,
+) -> (House<O, T>, Turn)
+    requires stands { IsTrue (O.link house.journal.disk).stands }
+    ensures counts { KeptCounts O.link O.disk house.journal.disk result.0.journal.disk }
+    ensures limits { limits_of result.0.bench ≡ limits_of house.bench }
+    ensures stands { result.1 ≡ GoOn → IsTrue (O.link result.0.journal.disk).stands }
+    ensures open { result.1 ≡ GoOn → after ≡ Close → ⊥ }
+    ensures answered { (h : History) → StandsFor O.disk T.stands T.site T.holds house h
+        → RefusesHead O.link O.disk T.stands T.site T.holds (limits_of house.bench) (as_refusal head) after house.journal.disk (state_of h house.bench) result }
+{
+    let mut house = house;
+    let _reading = raise_by_clock(&mut house);
+    let sent = send_refusal(&mut house, None, &Refusal::from(head));
+    (house, turn_of(sent, after))
+}
+
+/// Raises the house time to the reading of the clock, and answers the reading.
+fn raise_by_clock<O: Outside, T: Trade>(house: &mut House<O, T>) -> Moment
+    ensures moved { O.link_moved house.old.journal.disk house.new.journal.disk }
+    ensures stands { (h : History) → StandsFor O.disk T.stands T.site T.holds house.old h → StandsFor O.disk T.stands T.site T.holds house.new h }
+    ensures time { house_time house.new.bench ≡ max (house_time house.old.bench) result }
+    ensures limits { limits_of house.new.bench ≡ limits_of house.old.bench }
+    ensures rest { O.link house.new.journal.disk ≡ with_readings (O.link house.new.journal.disk).readings (O.link house.old.journal.disk) }
+    ensures read { AreRead OfLinks (result ∷ []) (O.link house.old.journal.disk).readings (O.link house.new.journal.disk).readings }
+{
+    let reading = house.now();
+    let _time = house.raise(reading);
+    reading
+}
+
+/// Replies to a request at the house time.
+fn reply_to<O: Outside, T: Trade>(
+    house: House<O, T>,
+    q: &Request<'_>,
+    after: After,
+) -> Result<(House<O, T>, Turn), Halted<O>>
+    requires stands { IsTrue (O.link house.journal.disk).stands }
+    requires target { IsTarget q.now.target.now }
+    ensures causes { PartCauses O.link O.disk house.journal.disk (λ r. r.0) result }
+    ensures limits { IfOk result (λ r. limits_of r.0.bench ≡ limits_of house.bench) }
+    ensures stands { IfOk result (λ r. r.1 ≡ GoOn → IsTrue (O.link r.0.journal.disk).stands) }
+    ensures open { IfOk result (λ r. r.1 ≡ GoOn → after ≡ Close → ⊥) }
+    ensures replied { (h : History) → StandsFor O.disk T.stands T.site T.holds house h
+        → RepliesTo O.link O.disk T.stands T.site T.holds (limits_of house.bench) (asked_of q.now) after house.journal.disk (state_of h house.bench) result }
+{
+    if let Verdict::Again(number) = house.judge(q) {
+        let mut house = house;
+        let sent = send_again(&mut house, number);
+        return Ok((house, turn_of(sent, after)));
+    }
+    reply_to_new(house, q, after)
+}
+
+/// Replies to a request that does not come again.
+fn reply_to_new<O: Outside, T: Trade>(
+    house: House<O, T>,
+    q: &Request<'_>,
+    after: After,
+) -> Result<(House<O, T>, Turn), Halted<O>>
+    requires stands { IsTrue (O.link house.journal.disk).stands }
+    requires target { IsTarget q.now.target.now }
+    ensures causes { PartCauses O.link O.disk house.journal.disk (λ r. r.0) result }
+    ensures limits { IfOk result (λ r. limits_of r.0.bench ≡ limits_of house.bench) }
+    ensures stands { IfOk result (λ r. r.1 ≡ GoOn → IsTrue (O.link r.0.journal.disk).stands) }
+    ensures open { IfOk result (λ r. r.1 ≡ GoOn → after ≡ Close → ⊥) }
+    ensures replied { (h : History) → StandsFor O.disk T.stands T.site T.holds house h
+        → ((n : ℕ) → answer h (house_time house.bench) (limits_of house.bench) (asked_of q.now) ≡ Again n → ⊥)
+        → RepliesTo O.link O.disk T.stands T.site T.holds (limits_of house.bench) (asked_of q.now) after house.journal.disk (state_of h house.bench) result }
+{
+    let time = house.time();
+    match house.accept(q) {
+        Outcome::Done(house, settled) => {
+            let mut house = house;
+            let sent = send_settled(&mut house, settled);
+            Ok((house, turn_of(sent, after)))
+        }
+        Outcome::Refused(house, refusal) => {
+            let mut house = house;
+            let sent = send_refusal(&mut house, Some(q), &refusal);
+            Ok((house, turn_of(sent, after)))
+        }
+        Outcome::NoMemory(house) => {
+            let mut house = house;
+            let sent = send_refusal(&mut house, Some(q), &Refusal::NoMemory);
+            Ok((house, turn_of(sent, after)))
+        }
+        Outcome::Halted(halted) => {
+            let mut halted = halted;
+            let _told = send_disk_fault(&mut halted, time);
+            Err(halted)
+        }
+    }
+}

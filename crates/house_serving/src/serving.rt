@@ -1,0 +1,117 @@
+//! Serving links, one after another.
+
+ghost use Rattle.std.specs.Prelude.{◌≡◌, IsTrue};
+ghost use Rattle.ledger_model.specs.Histories.{History};
+ghost use Rattle.millicent_http.specs.Held.{nothing_held};
+ghost use Rattle.house_core.specs.Bench.{IsHouse, Went, limits_of};
+ghost use Rattle.house_serving.specs.Steps.{BySteps};
+ghost use Rattle.house_serving.specs.Course.{HadLink, Served};
+ghost use Rattle.house_serving.specs.Turns.{Ended};
+
+use crate::turn::{Turn, serve_next};
+use house_core::{Bench, Trade};
+use mc_base::Moment;
+use mc_outside::Link;
+use millicent_http::HeadReader;
+
+/// The clock that a house is served by.
+#[derive(Clone, Copy, Debug, PartialEq, Eq)]
+pub enum Clock {
+    /// That of the links: it is read once for each item.
+    OfLinks,
+    /// It stands at a moment.
+    At(Moment),
+}
+
+/// Why fewer links were served than were asked for, though more may come.
+#[derive(Clone, Copy, Debug, PartialEq, Eq)]
+pub enum BenchEnd {
+    /// Memory was refused, before the first link.
+    NoMemory,
+    /// The next link could not be taken.
+    Link,
+}
+
+/// Serves so many links, one after another, or all that come, and answers how many it served. Each item
+/// on a link is answered at a reading of the links' clock, however the link cuts its bytes; a link that
+/// fails is ended, and the next one is taken.
+pub fn serve_bench<K: Link, T: Trade>(
+    bench: &mut Bench<T>,
+    k: &mut K,
+    links: u32,
+) -> Result<u32, BenchEnd>
+    requires house { (h : History) × IsHouse T.stands T.site T.holds bench.old h }
+    ensures moved { K.link_moved k.old k.new }
+    ensures limits { limits_of bench.new ≡ limits_of bench.old }
+    ensures served { Went T.stands T.site T.holds (BySteps (λ steps s. Served (limits_of bench.old) Clock.OfLinks links result steps s (K.link k.old) (K.link k.new))) bench.old bench.new }
+{
+    serve_bench_by(bench, k, links, &Clock::OfLinks)
+}
+
+/// As [`serve_bench`], by a clock that is given.
+pub fn serve_bench_by<K: Link, T: Trade>(
+    bench: &mut Bench<T>,
+    k: &mut K,
+    links: u32,
+    clock: &Clock,
+) -> Result<u32, BenchEnd>
+    requires house { (h : History) × IsHouse T.stands T.site T.holds bench.old h }
+    ensures moved { K.link_moved k.old k.new }
+    ensures limits { limits_of bench.new ≡ limits_of bench.old }
+    ensures served { Went T.stands T.site T.holds (BySteps (λ steps s. Served (limits_of bench.old) clock.now links result steps s (K.link k.old) (K.link k.new))) bench.old bench.new }
+{
+    let Ok(mut reader) = HeadReader::new(bench.alloc()) else {
+        return Err(BenchEnd::NoMemory);
+    };
+    let mut served = 0;
+    'links: while served < links {
+        match k.next_link() {
+            Ok(true) => serve_standing(bench, &mut reader, k, clock),
+            Ok(false) => return Ok(served),
+            Err(_) => return Err(BenchEnd::Link),
+        }
+        served += 1;
+    }
+    Ok(served)
+}
+
+/// Serves the standing link and ends it: answers each item, up to one that ends the link, to the link's
+/// end, or to a fault of the link.
+fn serve_standing<K: Link, T: Trade>(
+    bench: &mut Bench<T>,
+    reader: &mut HeadReader,
+    k: &mut K,
+    clock: &Clock,
+)
+    requires stands { IsTrue (K.link k.old).stands }
+    requires house { (h : History) × IsHouse T.stands T.site T.holds bench.old h }
+    ensures moved { K.link_moved k.old k.new }
+    ensures limits { limits_of bench.new ≡ limits_of bench.old }
+    ensures course { Went T.stands T.site T.holds (BySteps (λ steps s. HadLink (limits_of bench.old) clock.now steps s (K.link k.old) (K.link k.new))) bench.old bench.new }
+{
+    reader.restart();
+    serve_turns(bench, reader, k, clock);
+    k.end_link();
+}
+
+/// Takes turns until one ends the link.
+fn serve_turns<K: Link, T: Trade>(
+    bench: &mut Bench<T>,
+    reader: &mut HeadReader,
+    k: &mut K,
+    clock: &Clock,
+) -> Turn
+    requires stands { IsTrue (K.link k.old).stands }
+    requires empty { reader.old ≡ nothing_held }
+    requires house { (h : History) × IsHouse T.stands T.site T.holds bench.old h }
+    ensures moved { K.link_moved k.old k.new }
+    ensures limits { limits_of bench.new ≡ limits_of bench.old }
+    ensures ended { Went T.stands T.site T.holds (BySteps (λ steps s. Ended (limits_of bench.old) clock.now result steps s (K.link k.old) (K.link k.new))) bench.old bench.new }
+{
+    'turns: loop {
+        match serve_next(bench, reader, k, clock) {
+            Turn::GoOn => {}
+            turn => return turn,
+        }
+    }
+}

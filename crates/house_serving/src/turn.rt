@@ -1,0 +1,124 @@
+//! One turn of serving a link.
+
+ghost use Rattle.std.specs.Prelude.{◌≡◌, Bool, ℕ, List, [], ◌∷◌, IsTrue};
+ghost use Rattle.mc_records.specs.Requests.{asked_of};
+ghost use Rattle.millicent_http.specs.declared.item.After.TheVariants.{Close};
+ghost use Rattle.millicent_http.specs.HeadRefusals.{as_refusal};
+ghost use Rattle.millicent_http.specs.Items.{request, refused};
+ghost use Rattle.house_core.specs.Bench.{Went, limits_of};
+ghost use Rattle.house_serving.specs.declared.turn.Turn.TheVariants.{GoOn};
+ghost use Rattle.house_serving.specs.Course.{AreRead, with_readings};
+ghost use Rattle.house_serving.specs.Steps.{Did, BySteps};
+ghost use Rattle.house_core.specs.Session.{State};
+ghost use Rattle.house_serving.specs.Turns.{Sent, AnsweredItem, Turned, turn_after};
+
+use crate::serving::Clock;
+use house_core::{Bench, Reply, Trade};
+use mc_base::Moment;
+use mc_outside::{Link, LinkFault};
+use mc_records::Request;
+use millicent_http::{After, HeadOut, HeadReader, HeadRefusal};
+
+/// How one turn of serving a link ended.
+#[derive(Clone, Copy)]
+pub(crate) enum Turn {
+    /// The next item may follow.
+    GoOn,
+    /// The item ends the link.
+    Last,
+    /// The link was read to its end.
+    End,
+    NotReceived,
+    NotSent,
+}
+
+/// Answers the next item of the standing link.
+pub(crate) fn serve_next<K: Link, T: Trade>(
+    bench: &mut Bench<T>,
+    reader: &mut HeadReader,
+    k: &mut K,
+    clock: &Clock,
+) -> Turn
+    requires stands { IsTrue (K.link k.old).stands }
+    ensures moved { K.link_moved k.old k.new }
+    ensures limits { limits_of bench.new ≡ limits_of bench.old }
+    ensures turned { Went T.stands T.site T.holds (BySteps (λ steps s. Turned (limits_of bench.old) clock.now result steps s reader.old (K.link k.old) reader.new (K.link k.new))) bench.old bench.new }
+{
+    match reader.take(k) {
+        HeadOut::Head(q, after) => serve_request(bench, &q, after, k, clock),
+        HeadOut::Refused(head, after) => serve_refused(bench, head, after, k, clock),
+        HeadOut::End => Turn::End,
+        HeadOut::Fault => Turn::NotReceived,
+    }
+}
+
+/// Answers a request.
+fn serve_request<K: Link, T: Trade>(
+    bench: &mut Bench<T>,
+    q: &Request<'_>,
+    after: After,
+    k: &mut K,
+    clock: &Clock,
+) -> Turn
+    requires stands { IsTrue (K.link k.old).stands }
+    ensures moved { K.link_moved k.old k.new }
+    ensures limits { limits_of bench.new ≡ limits_of bench.old }
+    ensures answered { Went T.stands T.site T.holds (λ s t. (step : Did) × (t ≡ step.after) × ((closes : Bool) → AnsweredItem (limits_of bench.old) clock.now (request (asked_of q.now) closes) after result step s (K.link k.old) (K.link k.new))) bench.old bench.new }
+{
+    let reading = read_clock(k, clock);
+    let said = bench.answer(reading, q);
+    let mut room = [0; 512];
+    send(&bench.reply(q, &said, &mut room), after, k)
+}
+
+/// Answers a head that is refused.
+fn serve_refused<K: Link, T: Trade>(
+    bench: &mut Bench<T>,
+    head: HeadRefusal,
+    after: After,
+    k: &mut K,
+    clock: &Clock,
+) -> Turn
+    requires stands { IsTrue (K.link k.old).stands }
+    ensures moved { K.link_moved k.old k.new }
+    ensures limits { limits_of bench.new ≡ limits_of bench.old }
+    ensures answered { Went T.stands T.site T.holds (λ s t. (step : Did) × (t ≡ step.after) × ((closes : Bool) → AnsweredItem (limits_of bench.old) clock.now (refused (as_refusal head) closes) after result step s (K.link k.old) (K.link k.new))) bench.old bench.new }
+{
+    let reading = read_clock(k, clock);
+    send(&bench.refuse_head(reading, head), after, k)
+}
+
+/// The reading of the clock.
+fn read_clock<K: Link>(k: &mut K, clock: &Clock) -> Moment
+    ensures moved { K.link_moved k.old k.new }
+    ensures rest { K.link k.new ≡ with_readings (K.link k.new).readings (K.link k.old) }
+    ensures read { AreRead clock.now (result ∷ []) (K.link k.old).readings (K.link k.new).readings }
+{
+    match clock {
+        Clock::OfLinks => k.now(),
+        Clock::At(moment) => *moment,
+    }
+}
+
+/// Sends a reply; after it the link goes on or is ended.
+fn send<K: Link>(reply: &Reply<'_>, after: After, k: &mut K) -> Turn
+    requires { IsTrue (K.link k.old).stands }
+    ensures moved { K.link_moved k.old k.new }
+    ensures sent { (part : List ℕ) × Sent after reply.now result part (K.link k.old) (K.link k.new) }
+{
+    turn_of(reply.send(k), after)
+}
+
+/// How a turn ended whose reply was sent with this result.
+pub(crate) fn turn_of(sent: Result<(), LinkFault>, after: After) -> Turn
+    ensures turn { result ≡ turn_after sent after }
+    ensures open { result ≡ GoOn → after ≡ Close → ⊥ }
+{
+    match sent {
+        Ok(()) => match after {
+            After::GoOn => Turn::GoOn,
+            After::Close => Turn::Last,
+        },
+        Err(LinkFault) => Turn::NotSent,
+    }
+}

@@ -1,0 +1,60 @@
+//! Replies to a link whose bytes are all there.
+
+ghost use Rattle.std.specs.Prelude.{◌≡◌, ◌++◌, [], ℕ, List, OnOk};
+ghost use Rattle.millicent_http.specs.Takes.{item_of};
+ghost use Rattle.house_core.specs.Bench.{Went, limits_of};
+ghost use Rattle.house_core.specs.Session.{Step};
+ghost use Rattle.house_serving.specs.Steps.{BySteps, IsSession, sent_of};
+
+use house_core::{Bench, Trade};
+use mc_base::{Moment, NoMemory};
+use millicent_http::{ItemRef, next_item};
+
+/// The most items of a link.
+const MOST_ITEMS: u32 = 1000;
+
+/// Appends the replies to a link whose bytes are all there, by a clock that stands at a moment: those
+/// that [`serve_bench_by`](crate::serve_bench_by) sends on it. An `Err` leaves a part of them.
+pub fn reply_to_link<T: Trade>(
+    bench: &mut Bench<T>,
+    link: &[u8],
+    moment: Moment,
+    out: &mut Vec<u8>,
+) -> Result<(), NoMemory>
+    requires { out.old.items ≡ [] }
+    ensures limits { limits_of bench.new ≡ limits_of bench.old }
+    ensures replied { OnOk result (Went T.stands T.site T.holds (BySteps (λ steps s. (out.new.items ≡ sent_of steps) × IsSession (limits_of bench.old) moment link.now s steps)) bench.old bench.new) }
+{
+    let mut rest = link;
+    for _ in 0..MOST_ITEMS {
+        let Some((item, tail)) = next_item(rest) else {
+            return Ok(());
+        };
+        reply_to(bench, moment, &item, out)?;
+        if item.closes() {
+            return Ok(());
+        }
+        rest = tail;
+    }
+    Ok(())
+}
+
+/// Appends the reply to one item at a moment.
+fn reply_to<T: Trade>(
+    bench: &mut Bench<T>,
+    moment: Moment,
+    item: &ItemRef<'_>,
+    out: &mut Vec<u8>,
+) -> Result<(), NoMemory>
+    ensures limits { limits_of bench.new ≡ limits_of bench.old }
+    ensures stepped { OnOk result (Went T.stands T.site T.holds (λ s t. (reply : List ℕ) × Step (limits_of bench.old) s moment (item_of item.now) reply t × (out.new.items ≡ out.old.items ++ reply)) bench.old bench.new) }
+{
+    match item {
+        ItemRef::Request(q, _) => {
+            let said = bench.answer(moment, q);
+            let mut room = [0; 512];
+            bench.reply(q, &said, &mut room).append_to(out)
+        }
+        ItemRef::Refused(head, _) => bench.refuse_head(moment, *head).append_to(out),
+    }
+}

@@ -1,0 +1,73 @@
+-- How founding a vendor in a book ends.
+use Rattle.std.proofs.Common.{◌≡◌, inl, inr, ⊎_elim, ℕ, ◌+◌, ◌≤◌, ◌^◌, List, [], ◌∷◌, ◌++◌, length, refl, ap, ◌∙◌, subst, arith, length-append, Err}
+use Rattle.std.specs.Prelude.{IsSome}
+use Rattle.mc_outside.specs.Bytes.{BeginsWith}
+use Rattle.mc_outside.specs.DiskView.{DiskView, LinkKeeps, Ran}
+use Rattle.mc_outside.specs.LinkView.{LinkView}
+use Rattle.mc_outside.proofs.Runs.{ran_then, ran_weaker, ran_link}
+use Rattle.mc_records.specs.Entry.{Entry, Fits}
+use Rattle.mc_records.specs.Sizes.{entry_size}
+use Rattle.mc_records.proofs.PayloadSizes.{payload_is_short}
+use Rattle.mc_records.specs.declared.limits.Limits.{Limits}
+use Rattle.ledger_model.specs.Histories.{History}
+use Rattle.ledger_model.specs.Lawful.{IsLawful}
+use Rattle.scrip_journal.specs.declared.fault.HouseFault.{HouseFault}
+use Rattle.scrip_journal.specs.declared.fault.HouseFault.TheVariants as faults
+use Rattle.house_core.specs.declared.house.House.{House}
+use Rattle.house_core.specs.Found.{FoundedFor, FoundsHouseBy, FoundQuiet, ReadsOnly}
+use Rattle.house_core.specs.Opening.{fault_disk}
+use Rattle.house_serving.specs.Course.{with_readings}
+use Rattle.house_serving.proofs.AsideLemmas.{TellsAside, no_more_still, aside_still}
+use Rattle.vendor_core.specs.declared.shelf.Shelf.{Shelf}
+use Rattle.mc_top.specs.Opening.{full}
+use Rattle.mc_top.specs.Words.{Founder}
+use Rattle.mc_top.specs.Founding.{site_of}
+use Rattle.mc_top.specs.Endings.{fault_status}
+use Rattle.mc_top.specs.Init.{FoundsBy}
+use Rattle.mc_top.specs.Serving.{StandsLawful}
+use Rattle.mc_top.proofs.ServedLemmas.{stands_lawful}
+
+-- any entry that fits has room as the first
+pub first_has_room : (e : Entry) → Fits e → 9 + entry_size [] e ≤ 2 ^ 40
+first_has_room e fits = omega (arith, payload_is_short e fits)
+
+-- nothing before and nothing after
+none_between : (x y : List ℕ) → BeginsWith x y → BeginsWith y x → y ≡ x
+none_between x y p q =
+    let longer : length y ≡ length x + length p.0 = ap length p.1 ∙ length-append x p.0 in
+    let shorter : length x ≡ length y + length q.0 = ap length q.1 ∙ length-append y q.0 in
+    p.1 ∙ nothing_more x p.0 (omega (arith, longer, shorter))
+  where
+    nothing_more : (x r : List ℕ) → length r ≡ 0 → x ++ r ≡ x
+    nothing_more [] [] is = refl
+    nothing_more [] (n ∷ r) is = absurd (cc is)
+    nothing_more (n ∷ x) r is = ap (λ (l : List ℕ). n ∷ l) (nothing_more x r is)
+
+-- the clock was read, and then the book was founded
+pub found_pairs : {O : Type 0} (link : O → LinkView) (disk : O → DiskView) (a m b : O) (e : Entry) → TellsAside link (λ o. (disk o).aside) → LinkKeeps (disk a) (disk m) → link m ≡ with_readings (link m).readings (link a) → IsSome (link a).sessions
+    → Ran (disk m) (disk b) (FoundQuiet (disk m) e) → Ran (disk a) (disk b) (FoundQuiet (disk a) e)
+found_pairs link disk a m b e tells keeps rest told' ran =
+    let same : (disk m).aside ≡ (disk a).aside = aside_still link (λ o. (disk o).aside) a m tells told' (no_more_still (link a) (link m) (ap (λ (v : LinkView). v.sessions) rest)) in
+    ran_then (disk a) (disk m) (disk b) (FoundQuiet (disk a) e)
+    (ran_link (disk a) (disk m) (FoundQuiet (disk a) e) keeps (λ i x l from upto. (inl (inr l), none_between (disk a).aside x from (subst (λ (z : List ℕ). BeginsWith x z) same upto))))
+    (ran_weaker (disk m) (disk b) _ _ ran (λ i x quiet. (
+      ⊎_elim (λ short. inl (⊎_elim (λ few. inl few) (λ l. inr ((keeps.leaves i).0 l)) short)) (λ stood. inr stood) quiet.0,
+      quiet.1 ∙ same,
+    )))
+
+-- the disk stands for the Site entry
+pub founded_for : {O : Type 0} (disk : O → DiskView) (stands : Shelf → History → Type 0) (site : Shelf → ℕ) (holds : Shelf → ℕ → Type 0) (e : Entry) (bytes : List ℕ) (x : House O Shelf) → FoundedFor disk stands site holds full e bytes x
+    → StandsLawful (disk x.journal.disk) (e ∷ [])
+founded_for disk stands site holds e bytes x at =
+    stands_lawful disk stands site holds x (e ∷ []) at.house (subst (λ (l : Limits). IsLawful l (e ∷ [])) at.limits' at.house.house.stands'.books.lawful)
+
+-- nothing was founded
+pub not_founded : {O : Type 0} (disk : O → DiskView) (stands : Shelf → History → Type 0) (site : Shelf → ℕ) (holds : Shelf → ℕ → Type 0) (founder : Founder) (moment : ℕ) (bytes : List ℕ) (a m : O) (fault : HouseFault O) → LinkKeeps (disk a) (disk m)
+    → FoundsHouseBy {D = O} {T = Shelf} disk stands site holds full (site_of founder moment) bytes (Err fault) → ReadsOnly {D = O} {A = House O Shelf} disk m (Err fault) → FoundsBy (disk a) founder bytes moment (fault_status fault) (disk (fault_disk fault))
+not_founded disk stands site holds founder moment bytes a m (faults.NotEmpty d size) keeps by read = (size, refl, by, read.contents ∙ keeps.contents)
+not_founded disk stands site holds founder moment bytes a m (faults.NoMemory d) keeps by read = read.contents ∙ keeps.contents
+not_founded disk stands site holds founder moment bytes a m (faults.Disk d) keeps by read = tt
+not_founded disk stands site holds founder moment bytes a m (faults.NotJournal d) keeps by read = absurd by
+not_founded disk stands site holds founder moment bytes a m (faults.BadRecord d place) keeps by read = absurd by
+not_founded disk stands site holds founder moment bytes a m (faults.Unlawful d place) keeps by read = absurd by
+not_founded disk stands site holds founder moment bytes a m (faults.WrongKind d) keeps by read = absurd by

@@ -1,0 +1,55 @@
+use Rattle.std.proofs.Common.{◌≡◌, ◌∙◌, ◌∷◌, [], sym, ap, subst, Some, Ok, Err}
+use Rattle.mc_outside.specs.LinkView.{LinkView}
+use Rattle.mc_records.specs.Entry.{Entry}
+use Rattle.mc_outside.specs.DiskView.{Ran}
+use Rattle.house_core.specs.Found.{FoundsHouseBy, FoundQuiet}
+use Rattle.house_core.specs.Opening.{fault_disk}
+use Rattle.vendor_core.specs.declared.shelf.Shelf.{Shelf}
+use Rattle.vendor_core.specs.Shelf.{Stands, Holds}
+use Rattle.house_serving.specs.declared.serving.Clock.TheVariants.{OfLinks}
+use Rattle.house_serving.specs.Course.{AreRead, with_readings}
+use Rattle.mc_top.specs.Founding.{site_of}
+use Rattle.mc_top.specs.declared.status.Status.{Status}
+use Rattle.mc_top.specs.Opening.{full}
+use Rattle.mc_top.specs.Init.{FoundAt, FoundsBy}
+use Rattle.mc_top.proofs.InitLemmas.{first_has_room, found_pairs, founded_for, not_founded}
+use Rattle.mc_top.proofs.init.found_book.Goals as goal
+
+pub found_house-requires-clause-room : goal.found_house-requires-clause-room
+found_house-requires-clause-room g c = rw c.site-site.ensures.site (first_has_room (site_of c.args.founder.now c.now-moment.result) c.site-site.ensures.fits)
+
+pub returns-in-Ok-clause-founded : goal.returns-in-Ok-clause-founded
+returns-in-Ok-clause-founded g c x told =
+    let m = c.now-moment.new.self in
+    let b = c.in-Ok.house.journal.disk in
+    let keeps = g.met.O.Outside.link_keeps _ _ c.now-moment.ensures.moved in
+    let at : (g.O.Disk.disk m).contents ≡ Some x = keeps.contents ∙ told in
+    let same : g.O.Link.link b ≡ g.O.Link.link m = g.met.O.Outside.disk_keeps _ _ c.in-Ok.ensures.moved in
+    let e : Entry = site_of c.args.founder.now c.now-moment.result in
+    let by = subst (λ (f : Entry). FoundsHouseBy {D = g.row.O.Denot} {T = Shelf} g.O.Disk.disk Stands (λ s. 0) Holds full f x (Ok c.in-Ok.house)) c.site-site.ensures.site (c.in-Ok.ensures.exact x at) in
+    let found : FoundAt g.O.Link.link g.O.Disk.disk c.args.founder.now c.args.out b c.now-moment.result = record {
+      read = subst (λ (v : LinkView). AreRead OfLinks (c.now-moment.result ∷ []) (g.O.Link.link c.args.out).readings v.readings) (sym same) c.now-moment.ensures.read;
+      rest = subst (λ (v : LinkView). v ≡ with_readings v.readings (g.O.Link.link c.args.out)) (sym same) c.now-moment.ensures.rest;
+      pairs = λ told'. found_pairs g.O.Link.link g.O.Disk.disk c.args.out m b e g.met.O.Outside.sent_aside keeps c.now-moment.ensures.rest told' (subst (λ (f : Entry). Ran (g.O.Disk.disk m) (g.O.Disk.disk b) (FoundQuiet (g.O.Disk.disk m) f)) c.site-site.ensures.site (c.in-Ok.ensures.ran x at));
+    } in
+    rw c.close.ensures (c.now-moment.result, found, (c.name.ensures, by.free, founded_for g.O.Disk.disk Stands (λ s. 0) Holds e x c.in-Ok.house by))
+
+pub returns-in-Err-clause-founded : goal.returns-in-Err-clause-founded
+returns-in-Err-clause-founded g c x told =
+    let m = c.now-moment.new.self in
+    let b = c.not_opened.result.0 in
+    let keeps = g.met.O.Outside.link_keeps _ _ c.now-moment.ensures.moved in
+    let at : (g.O.Disk.disk m).contents ≡ Some x = keeps.contents ∙ told in
+    let e : Entry = site_of c.args.founder.now c.now-moment.result in
+    let same : g.O.Link.link b ≡ g.O.Link.link m = ap (λ d. g.O.Link.link d) c.not_opened.ensures.disk ∙ g.met.O.Outside.disk_keeps _ _ c.in-Err.ensures.moved in
+    let found : FoundAt g.O.Link.link g.O.Disk.disk c.args.founder.now c.args.out b c.now-moment.result = record {
+      read = subst (λ (v : LinkView). AreRead OfLinks (c.now-moment.result ∷ []) (g.O.Link.link c.args.out).readings v.readings) (sym same) c.now-moment.ensures.read;
+      rest = subst (λ (v : LinkView). v ≡ with_readings v.readings (g.O.Link.link c.args.out)) (sym same) c.now-moment.ensures.rest;
+      pairs = λ told'. found_pairs g.O.Link.link g.O.Disk.disk c.args.out m b e g.met.O.Outside.sent_aside keeps c.now-moment.ensures.rest told' (subst (λ (d : g.row.O.Denot). Ran (g.O.Disk.disk m) (g.O.Disk.disk d) (FoundQuiet (g.O.Disk.disk m) e)) (sym c.not_opened.ensures.disk)
+          (subst (λ (f : Entry). Ran (g.O.Disk.disk m) (g.O.Disk.disk (fault_disk c.in-Err.fault)) (FoundQuiet (g.O.Disk.disk m) f)) c.site-site.ensures.site (c.in-Err.ensures.ran x at)));
+    } in (
+      c.now-moment.result,
+      found,
+      subst (λ (d : g.row.O.Denot). FoundsBy (g.O.Disk.disk c.args.out) c.args.founder.now x c.now-moment.result c.not_opened.result.1 (g.O.Disk.disk d)) (sym c.not_opened.ensures.disk)
+          (subst (λ (s : Status). FoundsBy (g.O.Disk.disk c.args.out) c.args.founder.now x c.now-moment.result s (g.O.Disk.disk (fault_disk c.in-Err.fault))) (sym c.not_opened.ensures.status) (not_founded g.O.Disk.disk Stands (λ s. 0) Holds c.args.founder.now c.now-moment.result x c.args.out m c.in-Err.fault keeps (subst (λ (f : Entry). FoundsHouseBy {D = g.row.O.Denot} {T = Shelf} g.O.Disk.disk Stands (λ s. 0) Holds full f x (Err c.in-Err.fault)) c.site-site.ensures.site (c.in-Err.ensures.exact x at)) c.in-Err.ensures.read)),
+    )

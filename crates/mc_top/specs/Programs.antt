@@ -1,0 +1,40 @@
+-- What the program does by its words.
+use Rattle.std.specs.Prelude.{◌≡◌, ℕ, List, Some}
+use Rattle.mc_outside.specs.DiskView.{DiskView, LinkKeeps}
+use Rattle.mc_outside.specs.LinkView.{LinkView}
+use Rattle.house_serving.specs.Course.{NoLink}
+use Rattle.mc_top.specs.declared.command.Command.{Command}
+use Rattle.mc_top.specs.declared.command.Command.TheVariants as commands
+use Rattle.mc_top.specs.declared.status.Status.{Status}
+use Rattle.mc_top.specs.declared.status.Status.TheVariants as ends
+use Rattle.mc_top.specs.Words.{Shop}
+use Rattle.mc_top.specs.Course.{IsDone, IsSaid}
+use Rattle.mc_top.specs.Statuses.{number_of, line_of}
+use Rattle.mc_top.specs.Serving.{ServesBook, ServeCauses}
+use Rattle.mc_top.specs.Init.{FoundsBook, InitCauses}
+
+-- how a shop served its one link, or why it took none
+abbrev pub ServesOnce : Shop → LinkView → Status → LinkView → Type 0
+ServesOnce shop before ends.Done after = IsDone shop before after
+ServesOnce shop before ends.NoMemory after = after ≡ before
+ServesOnce shop before ends.LinkFault after = NoLink before after
+ServesOnce shop before _ after = ⊥
+
+-- What a command does, up to the line that is said. What is said of a book holds where its disk tells its
+-- bytes; the causes of faults hold of every outside.
+abbrev pub Obeys : {O : Type 0} → (O → LinkView) → (O → DiskView) → Command → O → Status → O → Type 0
+Obeys link disk (commands.Once shop) a status b = ServesOnce shop (link a) status (link b) × LinkKeeps (disk a) (disk b)
+Obeys link disk (commands.Init founder) a status b =
+    InitCauses disk a status b × ((bytes : List ℕ) → (disk a).contents ≡ Some bytes → FoundsBook link disk founder bytes a status b)
+Obeys link disk (commands.Serve server) a status b =
+    ServeCauses link disk a status b × ((bytes : List ℕ) → (disk a).contents ≡ Some bytes → ServesBook link disk server.links bytes a status b)
+
+-- then the line of the status was said, or saying it failed; that leaves the disk
+pub record Ends {O : Type 0} (link : O → LinkView) (disk : O → DiskView) (status : Status) (b c : O) (number : ℕ) : Type 0 where
+  pub number' : number ≡ number_of status
+  pub said : IsSaid (line_of status) (link b) (link c)
+  pub keeps : LinkKeeps (disk b) (disk c)
+
+-- what the program does by a command
+abbrev pub RunsAs : {O : Type 0} → (O → LinkView) → (O → DiskView) → Command → O → ℕ → O → Type 0
+RunsAs {O} link disk command a number c = (b : O) × (status : Status) × Obeys link disk command a status b × Ends link disk status b c number

@@ -1,0 +1,86 @@
+-- What `vendor serve` does with the book on a disk, up to the line that it says.
+use Rattle.std.specs.Prelude.{◌≡◌, ◌⊎◌, ℕ, List, [], ◌∷◌, ◌++◌, Some, IsSome}
+use Rattle.mc_outside.specs.Bytes.{Rose, BeginsWith}
+use Rattle.mc_outside.specs.DiskView.{DiskView, OnlyRead, Ran}
+use Rattle.mc_outside.specs.LinkView.{LinkView}
+use Rattle.mc_records.specs.Entry.{Entry}
+use Rattle.mc_records.specs.declared.refusal.Refusal.TheVariants as refusals
+use Rattle.ledger_model.specs.Histories.{History, time}
+use Rattle.ledger_model.specs.Lawful.{IsLawful}
+use Rattle.ledger_model.specs.Laws.{AreDistinct}
+use Rattle.ledger_model.specs.Pieces.{accepted}
+use Rattle.scrip_journal.specs.Layout.{header, Stands}
+use Rattle.house_core.specs.Opening.{SpoilsAt, IsUnlawfulAt, IsOfOther}
+use Rattle.house_core.specs.Session.{State}
+use Rattle.house_serving.specs.declared.serving.Clock.TheVariants.{OfLinks}
+use Rattle.house_serving.specs.Steps.{Did, state_after}
+use Rattle.house_serving.specs.Course.{ServedAll, ServedSome}
+use Rattle.house_serving.specs.Orders.{InOrder, InOrderOrDoubt}
+use Rattle.house_serving.specs.Doubts.{DoubtLinks}
+use Rattle.mc_top.specs.declared.status.Status.{Status}
+use Rattle.mc_top.specs.declared.status.Status.TheVariants as ends
+use Rattle.mc_top.specs.Opening.{full}
+
+-- the bytes of the book stood for the history of this state, at its time
+pub record Stood (bytes : List ℕ) (s : State) : Type 0 where
+  pub stands : Stands s.history bytes
+  pub time' : s.time ≡ time s.history
+
+-- The disk tells bytes that stand for a lawful history, in which no identity was accepted twice.
+pub record StandsLawful (d : DiskView) (h : History) : Type 0 where
+  pub bytes : List ℕ
+  pub told : d.contents ≡ Some bytes
+  pub stands : Stands h bytes
+  pub lawful : IsLawful full h
+  pub once : AreDistinct (accepted h)
+
+-- a crash pair: of before, with nothing sent, or in the order of these steps
+abbrev pub ServePair : DiskView → State → List Did → List ℕ → List ℕ → Type 0
+ServePair before s steps image sent = (before.leaves image × (sent ≡ before.aside)) ⊎ InOrder s before.aside steps image sent
+
+abbrev pub HaltPair : DiskView → State → List Did → Entry → List ℕ → List ℕ → List ℕ → Type 0
+HaltPair before s steps e said image sent = (before.leaves image × (sent ≡ before.aside)) ⊎ InOrderOrDoubt s before.aside steps e said image sent
+
+-- From the history that the book stood for these steps led to the one that the disk stands for, and each
+-- crash pair is in order.
+pub record ServedFrom {O : Type 0} (link : O → LinkView) (disk : O → DiskView) (bytes : List ℕ) (a b : O) (s : State) (steps : List Did) : Type 0 where
+  pub stood : Stood bytes s
+  pub left : StandsLawful (disk b) (state_after s steps).history
+  pub pairs : IsSome (link a).sessions → Ran (disk a) (disk b) (ServePair (disk a) s steps)
+
+-- The disk failed while this entry was written, which may follow: each image that a crash may leave stands for
+-- the history with it or without it.
+pub record HaltedFrom {O : Type 0} (link : O → LinkView) (disk : O → DiskView) (bytes : List ℕ) (a b : O) (s : State) (steps : List Did) (e : Entry) (said : List ℕ) : Type 0 where
+  pub stood : Stood bytes s
+  pub leaves : (image : List ℕ) → (disk b).leaves image → Stands (state_after s steps).history image ⊎ Stands ((state_after s steps).history ++ e ∷ []) image
+  pub lawful : IsLawful full ((state_after s steps).history ++ e ∷ [])
+  pub once : AreDistinct (accepted ((state_after s steps).history ++ e ∷ []))
+  pub pairs : IsSome (link a).sessions → Ran (disk a) (disk b) (HaltPair (disk a) s steps e said)
+
+-- no link was taken, and the book was only read
+pub record Unserved {O : Type 0} (link : O → LinkView) (disk : O → DiskView) (a b : O) : Type 0 where
+  pub link' : link b ≡ link a
+  pub read : OnlyRead (disk a) (disk b)
+
+-- how serving so many links ended, on an outside whose disk had these bytes
+abbrev pub ServesBook : {O : Type 0} → (O → LinkView) → (O → DiskView) → ℕ → List ℕ → O → Status → O → Type 0
+ServesBook link disk links bytes a (ends.Served n) b =
+    (s : State) × (steps : List Did) × ServedFrom link disk bytes a b s steps × ServedAll full OfLinks links n steps s (link a) (link b)
+ServesBook link disk links bytes a ends.LinkFault b =
+    (s : State) × (steps : List Did) × ServedFrom link disk bytes a b s steps × ServedSome full OfLinks links steps s (link a) (link b)
+ServesBook link disk links bytes a ends.DiskFault b =
+    Unserved link disk a b
+    ⊎ ((s : State) × (steps : List Did) × (e : Entry) × (said : List ℕ) × HaltedFrom link disk bytes a b s steps e said × DoubtLinks full links steps s (link a) e said (link b))
+ServesBook link disk links bytes a ends.NoMemory b = Unserved link disk a b
+ServesBook link disk links bytes a ends.NotJournal b = (BeginsWith header bytes → ⊥) × Unserved link disk a b
+ServesBook link disk links bytes a (ends.BadEntry place) b = SpoilsAt full 0 bytes place × Unserved link disk a b
+ServesBook link disk links bytes a (ends.UnlawfulEntry place) b = IsUnlawfulAt full 0 bytes place × Unserved link disk a b
+ServesBook link disk links bytes a (ends.Refused f) b = (f ≡ refusals.WrongKind) × IsOfOther 0 bytes × Unserved link disk a b
+ServesBook link disk links bytes a _ b = ⊥
+
+-- The count of the disk's faults rose where the disk failed, and that of the links' where no further link
+-- could be taken; else the disk did not fail.
+abbrev pub ServeCauses : {O : Type 0} → (O → LinkView) → (O → DiskView) → O → Status → O → Type 0
+ServeCauses link disk a ends.DiskFault b = Rose (disk a).faults (disk b).faults
+ServeCauses link disk a ends.LinkFault b = ((disk b).faults ≡ (disk a).faults) × Rose (link a).faults (link b).faults
+ServeCauses link disk a _ b = (disk b).faults ≡ (disk a).faults

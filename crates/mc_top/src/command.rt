@@ -1,0 +1,31 @@
+use crate::founder::Founder;
+use crate::server::Server;
+use crate::shop::Shop;
+use mc_base::List;
+
+/// What the words say to do.
+#[derive(Drop)]
+pub(crate) enum Command<'a> {
+    /// Sells one thing over one link, with no book.
+    Once(Shop<'a>),
+    /// Founds a vendor in a book.
+    Init(Founder<'a>),
+    /// Serves the vendor of a book.
+    Serve(Server<'a>),
+}
+
+/// The places that the words name, for the program to open before it does what they say. A place is the
+/// bytes of its word.
+#[derive(Debug, Drop)]
+pub struct Places {
+    /// The book of the house that the command works on.
+    pub site: Option<List<u8>>,
+    /// Whether the command founds that book, so that a file that is missing is made.
+    pub founds: bool,
+    /// The books of other houses.
+    pub books: List<List<u8>>,
+    /// Where the links come.
+    pub listen: Option<List<u8>>,
+    /// Where a link goes.
+    pub connect: Option<List<u8>>,
+}

@@ -1,0 +1,12 @@
+//! A house over a journal that serves links, on a stage: the worked examples, links that come short or
+//! fail, and a disk that fails while an entry is written.
+#![tactic(auto)]
+
+#[cfg(test)]
+mod books;
+#[cfg(test)]
+mod faults;
+#[cfg(test)]
+mod links;
+#[cfg(test)]
+mod texts;
