@@ -1,28 +1,37 @@
-//! The program `millicent`: its words, its standard streams and the machine's clock, handed to the
-//! library `mc_top`, which answers the status.
+//! The program `millicent`: its words, a book, links and the machine's clock, handed to the library
+//! `mc_top`, which answers the status.
 #![tactic(auto)]
 
 ghost use Rattle.std.specs.Prelude.{◌≡◌};
 
-mod no_disk;
+mod book;
+mod faults;
+mod listener;
+mod site;
+mod source;
 mod streams;
 
-use mc_outside::Link;
-use mc_top::run;
-use no_disk::NoDisk;
+use book::Book;
+use listener::listen;
+use mc_base::{List, NoMemory};
+use mc_top::{Places, places, run};
+use site::Site;
 use std::alloc::{AllocError, Global};
+use std::fs::File;
+use std::io::Write;
 use std::process::ExitCode;
 use std::{env, io};
 use streams::Streams;
 
 fn main(rt: HostRuntime) -> ExitCode {
     let alloc = rt.alloc();
-    let mut streams = Streams::new(rt.stdin(), rt.stdout(), &rt);
-    let books: Vec<NoDisk> = Vec::new(alloc);
     ExitCode::from(match words(alloc, &rt) {
-        Ok(words) => run(alloc, &words, streams, books).status,
-        Err(NoWords::Memory) => end(&mut streams, b"no memory\n", 5),
-        Err(NoWords::Bad) => end(&mut streams, b"bad words\n", 2),
+        Ok(words) => match places(alloc, &words) {
+            Ok(places) => start(&rt, &words, &places),
+            Err(NoMemory) => end(&rt, b"no memory\n", 5),
+        },
+        Err(NoWords::Memory) => end(&rt, b"no memory\n", 5),
+        Err(NoWords::Bad) => end(&rt, b"bad words\n", 2),
     })
 }
 
@@ -54,10 +63,53 @@ fn words(alloc: Global, rt: &HostRuntime) -> Result<Vec<String>, NoWords> {
     Ok(args.skip(1).collect(alloc)?)
 }
 
+/// Opens what the words name, does what they say, and answers the status. A book that is missing is made
+/// only where the command founds it. Where no place to listen at is named, standard input and output are
+/// the one link.
+fn start(rt: &HostRuntime, words: &[String], places: &Places) -> u8 {
+    let Ok(others) = open_all(rt, places.books.slice()) else {
+        return end(rt, b"no memory\n", 5);
+    };
+    let book = match &places.site {
+        Some(path) => book_at(rt, path.slice(), places.founds),
+        None => Book::none(),
+    };
+    match &places.listen {
+        Some(address) => {
+            let source = listen(rt, text(address.slice()), rt);
+            let out = Site::new(book, source, rt.stdout(), rt);
+            run(rt.alloc(), words, out, others).status
+        }
+        None => {
+            let source = Streams::new(rt.stdin(), rt.stdout());
+            let out = Site::new(book, source, rt.stdout(), rt);
+            run(rt.alloc(), words, out, others).status
+        }
+    }
+}
+
+/// The books at these paths, none of which is made.
+fn open_all(rt: &HostRuntime, paths: &[List<u8>]) -> Result<Vec<Book<File>>, AllocError> {
+    let mut books = Vec::new(rt.alloc());
+    for path in paths {
+        books.push(book_at(rt, path.slice(), false))?;
+    }
+    Ok(books)
+}
+
+fn book_at(rt: &HostRuntime, path: &[u8], create: bool) -> Book<File> {
+    Book::open(rt, text(path), create)
+}
+
+/// The text of a word. Words are UTF-8; other bytes are no path and no address, as no text is.
+fn text(word: &[u8]) -> &str {
+    str::from_utf8(word).unwrap_or("")
+}
+
 /// Says a line, and answers the status.
-fn end<K: Link>(k: &mut K, line: &[u8], status: u8) -> u8
+fn end(rt: &HostRuntime, line: &[u8], status: u8) -> u8
     ensures { result ≡ status }
 {
-    let _ = k.say(line);
+    let _ = rt.stdout().write_all(line);
     status
 }

@@ -1,0 +1,207 @@
+ghost use Rattle.std.specs.Prelude.{◌≡◌, ◌≤◌, length, IfOk};
+ghost use Rattle.millicent.specs.Counts.{book_counts};
+
+use crate::faults::counted;
+use mc_outside::{Disk, DiskFault};
+use std::fs::{File, Files, OpenFile, OpenOptions};
+use std::io;
+use std::io::ErrorKind;
+use std::os::fd::AsRawFd;
+use std::os::unix::fs::{FileExt, OpenOptionsExt};
+use std::path::Path;
+
+/// A disk over one open file, or over none: then each call fails. It tells nothing of the bytes: that the
+/// system keeps them is trusted.
+#[derive(Drop)]
+pub struct Book<F> {
+    file: Option<F>,
+    faults: u64,
+}
+
+impl<F> Book<F> {
+    /// A disk whose every call fails, and is counted.
+    pub fn none() -> Book<F>
+        ensures { result.faults ≡ 0 }
+    {
+        Book {
+            file: None,
+            faults: 0,
+        }
+    }
+
+    fn opened(&self) -> io::Result<&F> {
+        match &self.file {
+            Some(file) => Ok(file),
+            None => Err(ErrorKind::NotFound.into()),
+        }
+    }
+}
+
+impl Book<File> {
+    /// The book at this path, for this process alone: the file's lock is taken, and lasts as long as the
+    /// file is open, so a kill ends it too. Where there is no file one is made, if `create` says so. A file
+    /// that can't be opened, is not a regular one, or is locked by another process, is a book of none.
+    pub fn open<R: Files<File = File>>(rt: &R, path: &str, create: bool) -> Book<File>
+        ensures { result.faults ≡ 0 }
+    {
+        Book {
+            file: open_locked(rt, path, create).ok(),
+            faults: 0,
+        }
+    }
+}
+
+/// Opens the file, makes it where `create` says so, and takes its lock. It has secrets, so only its owner may
+/// read one that is made.
+fn open_locked<R: Files<File = File>>(rt: &R, path: &str, create: bool) -> io::Result<File> {
+    let file = OpenOptions::new()
+        .read(true)
+        .write(true)
+        .create(create)
+        .mode(0o600)
+        .open(rt, path)?;
+    // What is said where standard output was closed must not land in the book.
+    if file.as_raw_fd() <= 2 || !file.metadata()?.is_file() {
+        return Err(ErrorKind::Unsupported.into());
+    }
+    file.try_lock()?;
+    if create {
+        sync_folder(rt, path)?;
+    }
+    Ok(file)
+}
+
+/// Makes the name of a file that may be new last: a sync of the file does not.
+fn sync_folder<R: Files<File = File>>(rt: &R, path: &str) -> io::Result<()> {
+    let folder = match Path::new(path).parent() {
+        Some(folder) if !folder.as_str().is_empty() => folder.as_str(),
+        _ => ".",
+    };
+    File::open(rt, folder)?.sync_all()
+}
+
+impl<F: OpenFile + FileExt> Book<F> {
+    fn length(&self) -> io::Result<u64> {
+        Ok(self.opened()?.metadata()?.len())
+    }
+
+    fn read_there(&self, at: u64, buf: &mut [u8]) -> io::Result<usize>
+        ensures { IfOk result (λ n. n ≤ length buf.old) }
+    {
+        self.opened()?.read_at(buf, at)
+    }
+
+    fn write_there(&self, at: u64, bytes: &[u8]) -> io::Result<()> {
+        self.opened()?.write_all_at(bytes, at)
+    }
+
+    /// Sets the length only where the file is longer, so it never grows.
+    fn shorten(&self, size: u64) -> io::Result<()> {
+        if self.length()? <= size {
+            return Ok(());
+        }
+        self.opened()?.set_len(size)
+    }
+
+    /// `sync_data` (`fdatasync`) makes the bytes last and what is needed to read them, so the length too,
+    /// whether it grew or was cut; `sync_all` would write the times as well.
+    fn settle(&self) -> io::Result<()> {
+        self.opened()?.sync_data()
+    }
+}
+
+impl<F: OpenFile + FileExt> Disk for Book<F> {
+    ghost use Rattle.mc_outside.specs.Silent.{silent_disk, SilentDiskMoved, silent_is_disk, silent_disk_none, silent_disk_then, silent_disk_goes};
+
+    ghost disk = { λ b. silent_disk (book_counts b) };
+
+    ghost disk_moved = { λ a b. SilentDiskMoved (book_counts a) (book_counts b) };
+
+    ghost is_disk = { λ b. silent_is_disk (book_counts b) };
+
+    ghost disk_stays = { λ a. silent_disk_none _ };
+
+    ghost disk_goes_on = { λ a b c m n. silent_disk_then _ _ _ m n };
+
+    ghost disk_goes = { λ a b m. silent_disk_goes _ _ m };
+
+    fn size(&mut self) -> Result<u64, DiskFault> {
+        let answer = self.length();
+        counted(&mut self.faults, answer, DiskFault)
+    }
+
+    fn read(&mut self, at: u64, buf: &mut [u8]) -> Result<usize, DiskFault> {
+        let answer = self.read_there(at, buf);
+        counted(&mut self.faults, answer, DiskFault)
+    }
+
+    fn write_at(&mut self, at: u64, bytes: &[u8]) -> Result<(), DiskFault> {
+        let answer = self.write_there(at, bytes);
+        counted(&mut self.faults, answer, DiskFault)
+    }
+
+    fn cut(&mut self, size: u64) -> Result<(), DiskFault> {
+        let answer = self.shorten(size);
+        counted(&mut self.faults, answer, DiskFault)
+    }
+
+    fn sync(&mut self) -> Result<(), DiskFault> {
+        let answer = self.settle();
+        counted(&mut self.faults, answer, DiskFault)
+    }
+}
+
+#[cfg(test)]
+mod tests {
+    use super::*;
+    use std::fs;
+    use std::os::unix::fs::MetadataExt;
+    use std::test::Fail;
+
+    const PATH: &str = "a.book";
+
+    #[test]
+    fn a_book_over_a_file(rt: HostRuntime) -> Result<(), Fail> {
+        let _ = fs::remove_file(&rt, PATH);
+        assert_eq!(rt; Book::open(&rt, PATH, false).size(), Err(DiskFault));
+        assert!(rt; !fs::exists(&rt, PATH)?);
+        let mut book = Book::open(&rt, PATH, true);
+        assert_eq!(rt; book.write_at(3, b"abc"), Ok(()));
+        assert_eq!(rt; book.size(), Ok(6));
+        let mut buf = [7; 5];
+        assert_eq!(rt; book.read(2, &mut buf), Ok(4));
+        assert_eq!(rt; buf, *b"\0abc\x07");
+        assert_eq!(rt; book.read(6, &mut buf), Ok(0));
+        assert_eq!(rt; book.cut(7), Ok(()));
+        assert_eq!(rt; book.size(), Ok(6));
+        assert_eq!(rt; book.cut(5), Ok(()));
+        assert_eq!(rt; book.sync(), Ok(()));
+        assert_eq!(rt; fs::read(&rt, PATH)?.as_slice(), b"\0\0\0ab".as_slice());
+        assert_eq!(rt; fs::metadata(&rt, PATH)?.mode() & 0o777, 0o600);
+        assert_eq!(rt; book.faults, 0);
+        drop(book);
+        fs::remove_file(&rt, PATH)?;
+        Ok(())
+    }
+
+    #[test]
+    fn a_locked_book_fails(rt: HostRuntime) -> Result<(), Fail> {
+        let path = "locked.book";
+        let mut first = Book::open(&rt, path, true);
+        let mut second = Book::open(&rt, path, true);
+        let mut buf = [0; 4];
+        assert_eq!(rt; second.size(), Err(DiskFault));
+        assert_eq!(rt; second.read(0, &mut buf), Err(DiskFault));
+        assert_eq!(rt; second.write_at(0, b"abc"), Err(DiskFault));
+        assert_eq!(rt; second.cut(0), Err(DiskFault));
+        assert_eq!(rt; second.sync(), Err(DiskFault));
+        assert_eq!(rt; second.faults, 5);
+        assert_eq!(rt; first.size(), Ok(0));
+        drop(first);
+        assert_eq!(rt; Book::open(&rt, path, false).size(), Ok(0));
+        fs::remove_file(&rt, path)?;
+        assert_eq!(rt; Book::open(&rt, ".", true).size(), Err(DiskFault));
+        assert_eq!(rt; Book::open(&rt, "", true).size(), Err(DiskFault));
+        Ok(())
+    }
+}

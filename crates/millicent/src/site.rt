@@ -1,0 +1,236 @@
+ghost use Rattle.std.specs.Prelude.{◌≡◌, false};
+ghost use Rattle.millicent.specs.Counts.{site_counts};
+
+use crate::book::Book;
+use crate::faults::counted;
+use crate::source::Source;
+use mc_base::Moment;
+use mc_outside::{Disk, DiskFault, Link, LinkFault, Outside};
+use std::fs::OpenFile;
+use std::io::{ErrorKind, Write};
+use std::os::unix::fs::FileExt;
+use std::rt::Clock;
+use std::time::{SystemTime, UNIX_EPOCH};
+
+/// The outside of the program: a book, links from a source, a writer for what is said, and a clock. It
+/// tells nothing of the bytes.
+#[derive(Drop)]
+pub struct Site<F, S, W, C> {
+    book: Book<F>,
+    source: S,
+    output: W,
+    clock: C,
+    stands: bool,
+    at_end: bool,
+    over: bool,
+    link_faults: u64,
+}
+
+impl<F, S: Source, W: Write, C: Clock> Site<F, S, W, C> {
+    pub fn new(book: Book<F>, source: S, output: W, clock: C) -> Site<F, S, W, C>
+        ensures book { result.book ≡ book }
+        ensures fresh { (result.stands ≡ false) × (result.over ≡ false) × (result.link_faults ≡ 0) }
+    {
+        Site {
+            book,
+            source,
+            output,
+            clock,
+            stands: false,
+            at_end: false,
+            over: false,
+            link_faults: 0,
+        }
+    }
+}
+
+impl<F: OpenFile + FileExt, S: Source, W: Write, C: Clock> Disk for Site<F, S, W, C> {
+    ghost use Rattle.mc_outside.specs.Silent.{silent_disk, SilentDiskMoved, silent_is_disk, silent_disk_none, silent_disk_then, silent_disk_goes};
+
+    ghost disk = { λ s. silent_disk (site_counts s) };
+
+    ghost disk_moved = { λ a b. SilentDiskMoved (site_counts a) (site_counts b) };
+
+    ghost is_disk = { λ s. silent_is_disk (site_counts s) };
+
+    ghost disk_stays = { λ a. silent_disk_none _ };
+
+    ghost disk_goes_on = { λ a b c m n. silent_disk_then _ _ _ m n };
+
+    ghost disk_goes = { λ a b m. silent_disk_goes _ _ m };
+
+    fn size(&mut self) -> Result<u64, DiskFault> {
+        self.book.size()
+    }
+
+    fn read(&mut self, at: u64, buf: &mut [u8]) -> Result<usize, DiskFault> {
+        self.book.read(at, buf)
+    }
+
+    fn write_at(&mut self, at: u64, bytes: &[u8]) -> Result<(), DiskFault> {
+        self.book.write_at(at, bytes)
+    }
+
+    fn cut(&mut self, size: u64) -> Result<(), DiskFault> {
+        self.book.cut(size)
+    }
+
+    fn sync(&mut self) -> Result<(), DiskFault> {
+        self.book.sync()
+    }
+}
+
+impl<F: OpenFile + FileExt, S: Source, W: Write, C: Clock> Link for Site<F, S, W, C> {
+    ghost use Rattle.mc_outside.specs.Silent.{silent_link, SilentLinkMoved, silent_is_link, silent_link_none, silent_link_then, silent_link_goes};
+
+    ghost link = { λ s. silent_link (site_counts s) };
+
+    ghost link_moved = { λ a b. SilentLinkMoved (site_counts a) (site_counts b) };
+
+    ghost is_link = { λ s. silent_is_link (site_counts s) };
+
+    ghost link_stays = { λ a. silent_link_none _ };
+
+    ghost link_goes_on = { λ a b c m n. silent_link_then _ _ _ m n };
+
+    ghost link_goes = { λ a b m. silent_link_goes _ _ m };
+
+    fn next_link(&mut self) -> Result<bool, LinkFault> {
+        self.stands = false;
+        if self.over {
+            return Ok(false);
+        }
+        let answer = self.source.next();
+        let more = counted(&mut self.link_faults, answer, LinkFault)?;
+        self.stands = more;
+        self.over = !more;
+        self.at_end = self.at_end && !more;
+        Ok(more)
+    }
+
+    fn recv(&mut self, buf: &mut [u8]) -> Result<usize, LinkFault> {
+        if self.at_end || buf.is_empty() {
+            return Ok(0);
+        }
+        let answer = self.source.recv(buf);
+        let n = counted(&mut self.link_faults, answer, LinkFault)?;
+        self.at_end = n == 0;
+        Ok(n)
+    }
+
+    fn send(&mut self, bytes: &[u8]) -> Result<usize, LinkFault> {
+        let answer = match self.source.send(bytes) {
+            Ok(0) if !bytes.is_empty() => Err(ErrorKind::WriteZero.into()),
+            answer => answer,
+        };
+        counted(&mut self.link_faults, answer, LinkFault)
+    }
+
+    fn end_link(&mut self) {
+        self.source.end();
+        self.stands = false;
+    }
+
+    fn say(&mut self, bytes: &[u8]) -> Result<(), LinkFault> {
+        let answer = self.output.write_all(bytes);
+        counted(&mut self.link_faults, answer, LinkFault)
+    }
+
+    fn now(&mut self) -> Moment {
+        let seconds = match SystemTime::now(&self.clock) {
+            Ok(time) => match time.duration_since(UNIX_EPOCH) {
+                Ok(since) => since.as_secs(),
+                Err(_) => 0,
+            },
+            Err(_) => 0,
+        };
+        Moment::clamped(seconds)
+    }
+}
+
+impl<F: OpenFile + FileExt, S: Source, W: Write, C: Clock> Outside for Site<F, S, W, C> {
+    ghost use Rattle.mc_outside.specs.Silent.{silent_link_keeps, silent_sent};
+
+    ghost link_keeps = { λ a b m. silent_link_keeps _ _ m };
+
+    ghost disk_keeps = { λ a b m. m.links };
+
+    ghost sent_aside = { λ a ss e. silent_sent (site_counts a) ss e };
+}
+
+#[cfg(test)]
+mod tests {
+    use super::*;
+    use crate::listener::{Listener, listen};
+    use crate::streams::Streams;
+    use std::fs::File;
+    use std::io::Read;
+    use std::net::{Shutdown, TcpListener, TcpStream};
+    use std::test::Fail;
+
+    #[test]
+    fn a_link_over_streams(rt: HostRuntime) -> Result<(), Fail> {
+        let source = Streams::new(b"in".as_slice(), Vec::new(rt.alloc()));
+        let book: Book<File> = Book::none();
+        let mut site = Site::new(book, source, Vec::new(rt.alloc()), &rt);
+        assert_eq!(rt; site.next_link(), Ok(true));
+        let mut buf = [0; 8];
+        assert_eq!(rt; site.recv(&mut buf), Ok(2));
+        assert_eq!(rt; &buf[..2], b"in".as_slice());
+        assert_eq!(rt; site.recv(&mut buf), Ok(0));
+        assert_eq!(rt; site.send(b"out"), Ok(3));
+        assert_eq!(rt; site.next_link(), Ok(false));
+        assert_eq!(rt; site.next_link(), Ok(false));
+        assert_eq!(rt; site.say(b"said"), Ok(()));
+        assert_eq!(rt; site.output.as_slice(), b"said".as_slice());
+        assert!(rt; site.now().seconds() > 1_700_000_000);
+        assert_eq!(rt; site.link_faults, 0);
+        assert_eq!(rt; site.sync(), Err(DiskFault));
+        assert_eq!(rt; site.link_faults, 0);
+        Ok(())
+    }
+
+    #[test]
+    fn links_over_connections(rt: HostRuntime) -> Result<(), Fail> {
+        let listener = TcpListener::bind(&rt, "127.0.0.1:0")?;
+        let address = listener.local_addr()?;
+        let book: Book<File> = Book::none();
+        let source = Listener::over(Some(listener), &rt);
+        let mut site = Site::new(book, source, Vec::new(rt.alloc()), &rt);
+        let mut peer = TcpStream::connect(&rt, address)?;
+        peer.write_all(b"in")?;
+        assert_eq!(rt; site.next_link(), Ok(true));
+        let mut buf = [0; 8];
+        assert_eq!(rt; site.recv(&mut buf), Ok(2));
+        assert_eq!(rt; &buf[..2], b"in".as_slice());
+        assert_eq!(rt; site.send(b"out"), Ok(3));
+        peer.shutdown(Shutdown::Write)?;
+        assert_eq!(rt; site.recv(&mut buf), Ok(0));
+        let mut other = TcpStream::connect(&rt, address)?;
+        other.write_all(b"more than is read")?;
+        assert_eq!(rt; site.next_link(), Ok(true));
+        assert_eq!(rt; peer.read(&mut buf)?, 3);
+        assert_eq!(rt; peer.read(&mut buf)?, 0);
+        assert_eq!(rt; site.recv(&mut buf[..4]), Ok(4));
+        assert_eq!(rt; site.send(b"last"), Ok(4));
+        site.end_link();
+        assert_eq!(rt; other.read(&mut buf)?, 4);
+        assert_eq!(rt; &buf[..4], b"last".as_slice());
+        assert_eq!(rt; other.read(&mut buf)?, 0);
+        assert_eq!(rt; site.link_faults, 0);
+        Ok(())
+    }
+
+    #[test]
+    fn no_listener_no_links(rt: HostRuntime) -> Result<(), Fail> {
+        let book: Book<File> = Book::none();
+        let source = listen(&rt, "no address", &rt);
+        let mut site = Site::new(book, source, Vec::new(rt.alloc()), &rt);
+        assert_eq!(rt; site.next_link(), Err(LinkFault));
+        assert_eq!(rt; site.next_link(), Err(LinkFault));
+        assert_eq!(rt; site.link_faults, 2);
+        assert_eq!(rt; site.say(b"said"), Ok(()));
+        assert_eq!(rt; site.output.as_slice(), b"said".as_slice());
+        Ok(())
+    }
+}
