@@ -5,3 +5,4 @@ pub mod CourseLemmas
 pub mod LawfulRuns
 pub mod ServedLemmas
 pub mod InitLemmas
+pub mod OpenLaws

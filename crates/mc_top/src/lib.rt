@@ -15,7 +15,7 @@ mod whole_link;
 mod words;
 
 pub use command::Places;
-pub use law::words_are_of_one_command;
+pub use law::{lawful_books_are_opened, words_are_of_one_command};
 pub use naming::places;
 pub use program::{Ran, run};
 pub use whole_link::once;
