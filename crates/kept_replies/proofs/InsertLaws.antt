@@ -1,12 +1,21 @@
 -- A reply that is put among others by its number.
-use Rattle.std.proofs.Common.{◌≡◌, subst, ℕ, zero, suc, ◌<◌, ◌≤◌, Bool, true, false, cond, ltb, eqb, List, [], ◌∷◌, ◌++◌, get_or, take, drop, filter, All, refl, ap, ◌∙◌, arith}
+use Rattle.std.proofs.Common.{◌≡◌, subst, ℕ, ◌<◌, Bool, true, false, cond, not, ltb, eqb, List, [], ◌∷◌, ◌++◌, get_or, drop, filter, All, Option, Some, None, IfSome, MatchOption, inl, inr, refl, sym, ap, ◌∙◌, arith}
+use Rattle.std.specs.Bool.{then_some}
 use Rattle.std.specs.List.{AllByRecursion, insert}
-use Rattle.std.specs.List.Sorted.{IsPartitionPoint}
-use Rattle.std.proofs.lemmas.List.Elements.{recursion_from_All}
-use Rattle.std.proofs.lemmas.List.Folds.{list_any_none}
-use Rattle.std.proofs.lemmas.Bool.{ltb-true, ltb-false, lt-ltb, le-ltb, eqb-false, ne_eqb, or_parts}
-use Rattle.kept_replies.specs.Kept.{KeptReply, AreRising, IsBelowAll, has_number, inserted}
-use Rattle.kept_replies.proofs.ReplyLaws.{number, AreRising-filter}
+use Rattle.std.specs.List.Sorted.{IsPartitionPoint, IsPermutation}
+use Rattle.std.proofs.lemmas.List.Elements.{recursion_from_All, All-append, All-cons, All-filter, All-weaker}
+use Rattle.std.proofs.lemmas.List.Folds.{list_any_none, list_any_at}
+use Rattle.std.proofs.lemmas.List.Sorted.{list_any-IsPermutation}
+use Rattle.std.proofs.lemmas.Option.{MatchOption-from_none}
+use Rattle.std.proofs.lemmas.Bool.{ltb-true, lt-ltb, le-ltb, eqb-false, ne_eqb, or_parts, or_left, or_right, cases_lt, both_ways, false_from_ne_true}
+use Rattle.mc_records.specs.Requests.{Asked}
+use Rattle.kept_replies.specs.declared.index.Mark.{Mark}
+use Rattle.kept_replies.specs.Requests.{is_same_request}
+use Rattle.kept_replies.specs.Kept.{KeptReply, AreRising, IsBelowAll, has_request, has_number, is_in_time, inserted}
+use Rattle.kept_replies.specs.Index.{is_mark_of}
+use Rattle.kept_replies.specs.Store.{HaveOneNumber, AreToOwnRequests, has_mark}
+use Rattle.kept_replies.proofs.SearchLaws.{front_is, rest_is}
+use Rattle.kept_replies.proofs.ReplyLaws.{number, AreRising-filter, request_is, request_is_own}
 
 -- the tests of the numbers below a number, and above it
 abbrev below : ℕ → KeptReply → Bool
@@ -50,37 +59,25 @@ AreRising-inserted new rs all =
 
 -- ---- where it is put
 
-front : (n at : ℕ) (rs : List KeptReply) → IsPartitionPoint (λ r. below n r ≡ true) (λ r. below n r ≡ false) rs at → take at rs ≡ filter (below n) rs
-front n zero [] point = refl
-front n (suc at) [] point = refl
-front n zero (r ∷ rs) point =
-    let more = front n zero rs (λ k d lo hi. absurd (omega (arith, hi)), λ k d lo hi. point.1 (suc k) d (omega arith) (omega (arith, hi))) in
-    rw (point.1 zero r (omega arith) (omega arith)) more
-front n (suc at) (r ∷ rs) point =
-    let more = front n at rs (λ k d lo hi. point.0 (suc k) d (omega arith) (omega (arith, hi)), λ k d lo hi. point.1 (suc k) d (omega (arith, lo)) (omega (arith, hi))) in
-    rw (point.0 zero r (omega arith) (omega arith)) (ap (λ (t : List KeptReply). r ∷ t) more)
-
-back : (n at : ℕ) (rs : List KeptReply) → IsPartitionPoint (λ r. below n r ≡ true) (λ r. below n r ≡ false) rs at → has_number rs n ≡ false → drop at rs ≡ filter (above n) rs
-back n zero [] point new = refl
-back n (suc at) [] point new = refl
-back n zero (r ∷ rs) point new =
+-- where a number is not kept, the replies not below it are those above it
+not_below : (n : ℕ) (rs : List KeptReply) → has_number rs n ≡ false → filter (λ r. not (below n r)) rs ≡ filter (above n) rs
+not_below n [] new = refl
+not_below n (r ∷ rs) new =
     let other = or_parts (eqb (number r) n) (has_number rs n) new in
-    let more = back n zero rs (λ k d lo hi. absurd (omega (arith, hi)), λ k d lo hi. point.1 (suc k) d (omega arith) (omega (arith, hi))) other.1 in
-    let le : n ≤ number r = ltb-false (number r) n (point.1 zero r (omega arith) (omega arith)) in
-    let lt : n < number r = omega (arith, le, eqb-false (number r) n other.0) in
-    rw (lt-ltb n (number r) lt) (ap (λ (t : List KeptReply). r ∷ t) more)
-back n (suc at) (r ∷ rs) point new =
-    let other = or_parts (eqb (number r) n) (has_number rs n) new in
-    let more = back n at rs (λ k d lo hi. point.0 (suc k) d (omega arith) (omega (arith, hi)), λ k d lo hi. point.1 (suc k) d (omega (arith, lo)) (omega (arith, hi))) other.1 in
-    let lt : number r < n = ltb-true (number r) n (point.0 zero r (omega arith) (omega arith)) in
-    rw (le-ltb n (number r) (omega (arith, lt))) more
+    let more = not_below n rs other.1 in
+    elim (cases_lt (number r) n) [
+      | inl lt ↦ rw (lt-ltb (number r) n lt, le-ltb n (number r) (omega (arith, lt))) more
+      | inr le ↦
+          let lt : n < number r = omega (arith, le, eqb-false (number r) n other.0) in
+          rw (le-ltb (number r) n le, lt-ltb n (number r) lt) (ap (λ (t : List KeptReply). r ∷ t) more)
+    ]
 
 -- put at the first reply whose number is not below its own, a new number stands in its place
 pub insert_is : (new : KeptReply) (rs : List KeptReply) (at : ℕ) → IsPartitionPoint (λ r. below (number new) r ≡ true) (λ r. below (number new) r ≡ false) rs at
     → has_number rs (number new) ≡ false → insert rs at new ≡ inserted new rs
 insert_is new rs at point fresh =
-    ap (λ (t : List KeptReply). t ++ new ∷ drop at rs) (front (number new) at rs point)
-    ∙ ap (λ (t : List KeptReply). filter (below (number new)) rs ++ new ∷ t) (back (number new) at rs point fresh)
+    ap (λ (t : List KeptReply). t ++ new ∷ drop at rs) (front_is (below (number new)) rs at point)
+    ∙ ap (λ (t : List KeptReply). filter (below (number new)) rs ++ new ∷ t) (rest_is (below (number new)) rs at point ∙ not_below (number new) rs fresh)
 
 -- the same by what the calls on the way say: what was searched are the old replies, and what was put
 -- there is the new one
@@ -91,6 +88,58 @@ kept_so searched old items stored new at same is point fresh put =
     let there : IsPartitionPoint (λ r. below (number new) r ≡ true) (λ r. below (number new) r ≡ false) old at =
     subst (λ (rs : List KeptReply). IsPartitionPoint (λ r. below (number new) r ≡ true) (λ r. below (number new) r ≡ false) rs at) same point in
     put ∙ ap (λ (r : KeptReply). insert old at r) is ∙ insert_is new old at there fresh
+
+-- ---- what holds of the replies with the new one among them
+
+all-inserted : (P : KeptReply → Type 0) (new : KeptReply) (rs : List KeptReply) → P new → All P rs → All P (inserted new rs)
+all-inserted P new rs first all =
+    All-append P (filter (below (number new)) rs) (new ∷ filter (above (number new)) rs) (All-filter (below (number new)) P rs all)
+    (All-cons P new (filter (above (number new)) rs) first (All-filter (above (number new)) P rs all))
+
+-- none of the replies is to the request
+not_asked : (q : Asked) (rs : List KeptReply) → has_request rs q ≡ false → All (λ r. is_same_request r.asked q ≡ false) rs
+not_asked q rs new k d lt = false_from_ne_true (is_same_request (get_or rs k d).asked q) (λ same. both_ways (has_request rs q) new (list_any_at (λ r. is_same_request r.asked q) rs k d lt same))
+
+-- each is still to a request of its own, where the new one is to a new request
+pub own-inserted : (new : KeptReply) (rs : List KeptReply) → has_request rs new.asked ≡ false → AreToOwnRequests rs → AreToOwnRequests (inserted new rs)
+own-inserted new rs fresh own =
+    all-inserted (λ r. All (HaveOneNumber r) (inserted new rs)) new rs
+    (all-inserted (HaveOneNumber new) new rs (λ same. refl) (All-weaker other (HaveOneNumber new) from_new rs new_request))
+    (λ k d lt. all-inserted (HaveOneNumber (get_or rs k d)) new rs (to_new (get_or rs k d) (new_request k d lt)) (own k d lt))
+  where
+    other : KeptReply → Type 0
+    other r = is_same_request r.asked new.asked ≡ false
+
+    new_request : All other rs
+    new_request = not_asked new.asked rs fresh
+
+    from_new : (r : KeptReply) → other r → HaveOneNumber new r
+    from_new r other_one same = absurd (both_ways (is_same_request r.asked new.asked) other_one (rw (request_is new.asked r.asked same) (request_is_own r.asked)))
+
+    to_new : (r : KeptReply) → other r → HaveOneNumber r new
+    to_new r other_one same = absurd (both_ways (is_same_request r.asked new.asked) other_one same)
+
+-- each still has its mark among the marks with that of the new one
+pub marked-inserted : (new : KeptReply) (rs : List KeptReply) (mark : Mark) (old marks : List Mark) → is_mark_of new mark ≡ true → IsPermutation (mark ∷ old) marks
+    → All (λ r. has_mark old r ≡ true) rs → All (λ r. has_mark marks r ≡ true) (inserted new rs)
+marked-inserted new rs mark old marks is_its with_it marked =
+    all-inserted (λ r. has_mark marks r ≡ true) new rs
+    (among new ∙ or_left (is_mark_of new mark) (has_mark old new) is_its)
+    (All-weaker (λ r. has_mark old r ≡ true) (λ r. has_mark marks r ≡ true) (λ r has. among r ∙ or_right (is_mark_of r mark) (has_mark old r) has) rs marked)
+  where
+    among : (r : KeptReply) → has_mark marks r ≡ has_mark (mark ∷ old) r
+    among r = sym (list_any-IsPermutation (is_mark_of r) (mark ∷ old) marks with_it)
+
+-- all are still in time at the moment at which all were, where it is left since the new one is, too
+pub in_time-inserted : (keep : ℕ) (at left : Option ℕ) (new : KeptReply) (rs : List KeptReply)
+    → MatchOption at (left ≡ None) (λ t. left ≡ then_some (is_in_time keep t new) t)
+    → IfSome at (λ t. All (λ r. is_in_time keep t r ≡ true) rs) → IfSome left (λ t. All (λ r. is_in_time keep t r ≡ true) (inserted new rs))
+in_time-inserted keep None left new rs is all = MatchOption-from_none left (λ t. All (λ r. is_in_time keep t r ≡ true) (inserted new rs)) is
+in_time-inserted keep (Some t) left new rs is all = rw is (go (is_in_time keep t new) refl)
+  where
+    go : (b : Bool) → is_in_time keep t new ≡ b → IfSome (then_some b t) (λ u. All (λ r. is_in_time keep u r ≡ true) (inserted new rs))
+    go true first = all-inserted (λ r. is_in_time keep t r ≡ true) new rs first all
+    go false late = tt
 
 -- ---- a number above all
 

@@ -1,3 +1,6 @@
+pub mod SearchLaws
 pub mod TextLaws
+pub mod IndexLaws
 pub mod ReplyLaws
 pub mod InsertLaws
+pub mod FoundLaws

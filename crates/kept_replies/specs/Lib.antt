@@ -1,3 +1,4 @@
 pub mod Requests
 pub mod Kept
+pub mod Index
 pub mod Store

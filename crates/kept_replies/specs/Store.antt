@@ -1,6 +1,12 @@
 -- How the program stores what is kept. No clause of a public call cites this.
-use Rattle.std.specs.Prelude.{ℕ, ◌+◌, ◌≤◌, nat_lt, if◌then◌else◌, List, [], slice_range, Option, Some, None, option_map, IfSome}
+use Rattle.std.specs.Prelude.{◌≡◌, ℕ, ◌+◌, ◌≤◌, Bool, false, ◌&&◌, nat_lt, if◌then◌else◌, List, [], slice_range, All, IsTrue, Option, Some, None, option_map, IfSome}
+use Rattle.std.specs.List.{list_any}
+use Rattle.mc_records.specs.Requests.{Asked}
+use Rattle.kept_replies.specs.declared.index.Mark.{Mark}
 use Rattle.kept_replies.specs.declared.texts.Span.{Span}
+use Rattle.kept_replies.specs.Requests.{is_same_request}
+use Rattle.kept_replies.specs.Kept.{KeptReply, KeptView, AreRising, is_in_time, with_number}
+use Rattle.kept_replies.specs.Index.{is_mark_of}
 
 -- the bytes of a text that may be there
 abbrev pub bytes_of_text : Option (List ℕ) → List ℕ
@@ -25,7 +31,40 @@ pub record AreWithin (size : ℕ) (a : Span) (b c : Option Span) : Type 0 where
   pub scrip : IfSome b (IsWithin size)
   pub sign : IfSome c (IsWithin size)
 
--- the room of so many replies in so many places, with a buffer that may hold so many bytes: none
--- without a free place, and else one more than these bytes
-abbrev pub room_in : ℕ → ℕ → ℕ → ℕ
-room_in count places bytes = if nat_lt count places then bytes + 1 else 0
+-- ---- replies
+
+-- two replies have one number where they are to the same request
+abbrev pub HaveOneNumber : KeptReply → KeptReply → Type 0
+HaveOneNumber r o = IsTrue (is_same_request r.asked o.asked) → r.entry.number ≡ o.entry.number
+
+-- each of some replies is to a request of its own
+abbrev pub AreToOwnRequests : List KeptReply → Type 0
+AreToOwnRequests replies = All (λ r. All (HaveOneNumber r) replies) replies
+
+-- whether a reply has its mark among these
+abbrev pub has_mark : List Mark → KeptReply → Bool
+has_mark marks r = list_any (is_mark_of r) marks
+
+-- What holds of what is stored: the numbers rise, each reply is to a request of its own and has its
+-- mark, all are in time at the moment that is noted, and the buffer for the next reply is empty.
+pub record IsStored (keep : ℕ) (replies : List KeptReply) (marks : List Mark) (none_over_at : Option ℕ) (spare : List ℕ) : Type 0 where
+  pub rising : AreRising replies
+  pub own : AreToOwnRequests replies
+  pub marked : All (λ r. IsTrue (has_mark marks r)) replies
+  pub in_time : IfSome none_over_at (λ at. All (λ r. IsTrue (is_in_time keep at r)) replies)
+  pub empty : spare ≡ []
+
+-- the room of so many replies and marks, each in so many places, with a buffer that may hold so many
+-- bytes: none unless both have a free place, and else one more than these bytes
+abbrev pub room_in : ℕ → ℕ → ℕ → ℕ → ℕ → ℕ
+room_in replies reply_places marks mark_places bytes =
+    if nat_lt replies reply_places && nat_lt marks mark_places then bytes + 1 else 0
+
+-- whether a reply that may be there is to this request, and in time
+abbrev pub is_found : ℕ → ℕ → Asked → Option KeptReply → Bool
+is_found keep now q None = false
+is_found keep now q (Some r) = is_same_request r.asked q && is_in_time keep now r
+
+-- whether the reply of this number is
+abbrev pub is_repeat : KeptView → ℕ → Asked → ℕ → Bool
+is_repeat kept now q number = is_found kept.keep now q (with_number kept.replies number)

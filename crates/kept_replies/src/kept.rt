@@ -1,9 +1,11 @@
 ghost use Rattle.std.specs.Prelude.{◌≡◌, ◌<◌, ◌≤◌, ◌↔◌, [], All, IsFalse, IsNone, IfSome, IfOk, OnOk, filter, option_map, option_copied};
 ghost use Rattle.mc_records.specs.Requests.{asked_of};
 ghost use Rattle.kept_replies.specs.Requests.{text_size, is_same_request};
+ghost use Rattle.kept_replies.specs.Store.{is_repeat};
 ghost use Rattle.kept_replies.specs.Kept.{AreRising, has_request, has_number, is_in_time, found, NoneInTime, with_number, first_number, inserted, reply_of};
 
 use crate::KeptEntry;
+use crate::index::{Index, Mark, is_in_time, tag_of};
 use crate::texts::Texts;
 use mc_base::{Moment, NoMemory};
 use mc_records::Request;
@@ -54,32 +56,39 @@ impl Reply {
     fn is_in_time(&self, keep: u32, now: Moment) -> bool
         ensures { result ≡ is_in_time keep now self.now }
     {
-        now.seconds() < self.entry.moment.seconds() + u64::from(keep)
+        is_in_time(self.entry.moment, keep, now)
     }
 }
 
 /// The first replies that a house keeps, for its keeping time, so that a request which comes again
-/// gets its reply again. Contracts see the keeping time in seconds, the replies in the order of their
-/// numbers, which rise, and the room that was made for one more: a request may be kept where its
-/// texts have fewer bytes together than the room.
+/// gets its reply again. A request is compared only with the replies whose scrip texts end as its own,
+/// and a number is found by halving, so that neither takes long where many are kept. Contracts see the
+/// keeping time in seconds, the replies in the order of their numbers, which rise, and the room that
+/// was made for one more: a request may be kept where its texts have fewer bytes together than the
+/// room.
 #[derive(Drop)]
 pub struct Kept {
     keep: u32,
+    /// In the order of their numbers.
     replies: Vec<Reply>,
+    /// The marks of the replies.
+    index: Index,
+    /// A moment at which all replies are in time: up to it there is nothing to forget.
+    none_over_at: Option<Moment>,
     /// Empty, for the texts of the next reply.
     spare: Vec<u8>,
 }
 
 impl Model for Kept {
-    ghost use Rattle.std.specs.Prelude.{◌≡◌, [], vec_len, vec_capacity};
-    ghost use Rattle.kept_replies.specs.Kept.{KeptView, AreRising};
-    ghost use Rattle.kept_replies.specs.Store.{room_in};
+    ghost use Rattle.std.specs.Prelude.{length, vec_len, vec_capacity};
+    ghost use Rattle.kept_replies.specs.Kept.{KeptView};
+    ghost use Rattle.kept_replies.specs.Store.{IsStored, room_in};
 
     ghost Value = { KeptView };
 
-    ghost view = { λ k. record { keep = k.keep; replies = k.replies.items; room = room_in (vec_len k.replies) (vec_capacity k.replies) (vec_capacity k.spare) } };
+    ghost view = { λ k. record { keep = k.keep; replies = k.replies.items; room = room_in (vec_len k.replies) (vec_capacity k.replies) (length k.index.marks) k.index.places (vec_capacity k.spare) } };
 
-    ghost invariant = { λ k. AreRising k.replies.items × (k.spare.items ≡ []) };
+    ghost invariant = { λ k. IsStored k.keep k.replies.items k.index.marks k.none_over_at k.spare.items };
 }
 
 impl Kept {
@@ -92,6 +101,8 @@ impl Kept {
         Kept {
             keep,
             replies: Vec::new(alloc),
+            index: Index::new(alloc),
+            none_over_at: None,
             spare: Vec::new(alloc),
         }
     }
@@ -105,6 +116,7 @@ impl Kept {
         ensures rising { AreRising self.new.replies }
     {
         self.replies.reserve(1)?;
+        self.index.reserve()?;
         let size = text_size_of(q)?;
         if self.spare.capacity() != size {
             let alloc = *self.spare.allocator();
@@ -120,10 +132,9 @@ impl Kept {
         ensures none { IsNone result ↔ NoneInTime self.now now (asked_of q.now) }
         ensures rising { AreRising self.now.replies }
     {
-        let reply = self
-            .replies
-            .iter()
-            .find(|r| r.is_of(q) && r.is_in_time(self.keep, now))?;
+        let marks = self.index.of(tag_of(q));
+        let mark = marks.iter().find(|m| self.is_repeat(m.number, now, q))?;
+        let reply = self.reply(mark.number)?;
         Some(reply.entry())
     }
 
@@ -140,6 +151,15 @@ impl Kept {
         let number = e.number;
         let alloc = *self.spare.allocator();
         let buffer = mem::replace(&mut self.spare, Vec::new(alloc));
+        self.index.put(Mark {
+            tag: tag_of(q),
+            moment: e.moment,
+            number,
+        });
+        let keep = self.keep;
+        self.none_over_at = self
+            .none_over_at
+            .filter(|at| is_in_time(e.moment, keep, *at));
         let reply = Reply {
             texts: Texts::of(buffer, q),
             entry: e,
@@ -158,8 +178,16 @@ impl Kept {
         ensures replies { self.new.replies ≡ filter (is_in_time self.old.keep now) self.old.replies }
         ensures rising { AreRising self.new.replies }
     {
+        if self
+            .none_over_at
+            .is_some_and(|at| now.seconds() <= at.seconds())
+        {
+            return;
+        }
         let keep = self.keep;
         self.replies.retain(|r| r.is_in_time(keep, now));
+        self.index.forget(keep, now);
+        self.none_over_at = Some(now);
     }
 
     /// The least number that is kept; None exactly where nothing is kept.
@@ -191,7 +219,19 @@ impl Kept {
         ensures reply { option_copied result ≡ with_number self.now.replies number }
         ensures rising { AreRising self.now.replies }
     {
-        self.replies.iter().find(|r| r.number() == number)
+        let at = self.replies.partition_point(|r| r.number() < number);
+        let reply = self.replies.get(at)?;
+        (reply.number() == number).then_some(reply)
+    }
+
+    /// Whether the reply of this number is to this request, and in time.
+    fn is_repeat(&self, number: u64, now: Moment, q: &Request<'_>) -> bool
+        ensures { result ≡ is_repeat self.now now (asked_of q.now) number }
+    {
+        match self.reply(number) {
+            Some(reply) => reply.is_of(q) && reply.is_in_time(self.keep, now),
+            None => false,
+        }
     }
 }
 

@@ -4,6 +4,7 @@
 #![tactic(auto)]
 
 mod deed;
+mod index;
 mod kept;
 #[cfg(test)]
 mod tests;

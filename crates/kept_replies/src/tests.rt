@@ -208,3 +208,70 @@ fn an_entry_is_handed_out_whole(rt: HostRuntime) -> Result<(), Fail> {
     assert!(rt; matches!(e.deed, Deed::Credit { balance: 77 }));
     Ok(())
 }
+
+/// A request that pays with this scrip text.
+fn paid(scrip: &'static [u8]) -> Request<'static> {
+    Request {
+        target: b"/news/1",
+        scrip: Some(scrip),
+        sign: None,
+    }
+}
+
+/// Whether each of five replies, which are put in with their numbers out of order, is found until it
+/// is forgotten, and then is found no more. They differ in their scrip texts alone; the first is of
+/// moment 1,000, and each other one of the next second.
+fn each_is_found_until_forgotten(alloc: Global, scrips: [&'static [u8]; 5]) -> Result<bool, Fail> {
+    let mut kept = Kept::new(alloc, 600);
+    let replies: [(u64, u64); 5] = [(8, 1_000), (3, 1_001), (9, 1_002), (1, 1_003), (5, 1_004)];
+    for (scrip, (number, seconds)) in scrips.iter().zip(replies.iter()) {
+        if !put(&mut kept, &paid(scrip), *number, *seconds)? {
+            return Ok(false);
+        }
+    }
+    for (seconds, numbers) in [
+        (1_000, [Some(8), Some(3), Some(9), Some(1), Some(5)]),
+        (1_599, [Some(8), Some(3), Some(9), Some(1), Some(5)]),
+        (1_600, [None, Some(3), Some(9), Some(1), Some(5)]),
+        (1_603, [None, None, None, None, Some(5)]),
+        (1_604, [None, None, None, None, None]),
+    ] {
+        kept.forget(moment(seconds)?);
+        for (scrip, number) in scrips.iter().zip(numbers.iter()) {
+            if number_found(&kept, 1_000, &paid(scrip))? != *number {
+                return Ok(false);
+            }
+        }
+    }
+    Ok(true)
+}
+
+// The last eight bytes differ, by which replies are looked for.
+#[test]
+fn replies_to_scrip_of_many_certificates_are_found(rt: HostRuntime) -> Result<(), Fail> {
+    let scrips: [&'static [u8]; 5] = [
+        b"MS1|news.example|100|010000f400000000|010000f400000000|1011712||911c8fce21a4a87ccf2a21161783c88a",
+        b"MS1|news.example|90|010000f400000001|010000f400000001|1011712||40ce1db760a2469106708290aef51a1f",
+        b"MS1|news.example|80|010000f400000002|010000f400000002|1011712||f6f17a9748b085010f90568d0c399f05",
+        b"MS1|news.example|70|010000f400000003|010000f400000003|1011712||56deac56fe6ca9d023387ecbe10f6f5d",
+        b"MS1|news.example|60|010000f400000004|010000f400000004|1011712||2e9f587a291db9c2d7fd860143cba28a",
+    ];
+    assert!(rt; each_is_found_until_forgotten(rt.alloc(), scrips)?);
+    Ok(())
+}
+
+// The last eight bytes are the same, or there are fewer.
+#[test]
+fn replies_to_scrip_of_one_end_are_told_apart(rt: HostRuntime) -> Result<(), Fail> {
+    let long: [&'static [u8]; 5] = [
+        b"first 0c399f05",
+        b"second 0c399f05",
+        b"third 0c399f05",
+        b" 0c399f05",
+        b"0c399f05",
+    ];
+    let short: [&'static [u8]; 5] = [b"c399f05", b"399f05", b"99f05", b"f05", b""];
+    assert!(rt; each_is_found_until_forgotten(rt.alloc(), long)?);
+    assert!(rt; each_is_found_until_forgotten(rt.alloc(), short)?);
+    Ok(())
+}

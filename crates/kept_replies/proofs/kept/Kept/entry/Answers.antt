@@ -1,6 +1,6 @@
 use Rattle.std.proofs.Common.{◌≡◌, true, false, eqb, is_some, ap, sym, ◌∙◌}
 use Rattle.kept_replies.specs.Kept.{has_number}
-use Rattle.kept_replies.proofs.ReplyLaws.{is_some-find}
+use Rattle.kept_replies.proofs.SearchLaws.{is_some-find}
 use Rattle.kept_replies.proofs.kept.Kept.entry.Goals as goal
 
 pub returns-in-Some-clause-none : goal.returns-in-Some-clause-none
