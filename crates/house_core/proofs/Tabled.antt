@@ -1,29 +1,34 @@
 -- The stages of the table over a history are those over what a house keeps of it.
-use Rattle.std.proofs.Common.{◌≡◌, ℕ, Bool, true, false, not, cond, List, [], ◌∷◌, Option, Some, None, Result, Ok, Err, refl, sym, ap, ap₂, ◌∙◌, arith, leb, eqb, bytes_eq}
-use Rattle.std.specs.Prelude.{◌&&◌, is_none, nat_lt, option_map, unwrap_or}
-use Rattle.std.proofs.lemmas.Bool.{eqb-true}
+use Rattle.std.proofs.Common.{◌≡◌, ℕ, zero, suc, ◌+◌, ◌<◌, ◌≤◌, Bool, true, false, not, cond, List, [], ◌∷◌, length, Option, Some, None, Result, Ok, Err, refl, sym, ap, ap₂, subst, ◌∙◌, arith, leb, ltb, eqb, bytes_eq, slice_get}
+use Rattle.std.specs.Prelude.{◌&&◌, is_none, nat_lt, option_map, unwrap_or, position, MatchResult}
+use Rattle.std.specs.List.{position_or_len}
+use Rattle.std.proofs.lemmas.Bool.{eqb-true, ltb-false}
 use Rattle.scrip_form.specs.Identities.{issuer_of, epoch_of}
 use Rattle.scrip_form.specs.Issuing.{Issuing, epoch, series_at, series_end}
 use Rattle.scrip_form.specs.Scrip.{Certified}
 use Rattle.scrip_form.specs.Reading.{scrip_of}
 use Rattle.scrip_certs.specs.Digests.{request_signature}
 use Rattle.mc_records.specs.declared.limits.Limits.{Limits}
-use Rattle.mc_records.specs.declared.refusal.Refusal.TheVariants.{WrongVendor, UnknownIssuer, ExpiryMismatch, Expired, Spent, NeedSignature, BadSignature}
+use Rattle.mc_records.specs.declared.refusal.Refusal.{Refusal}
+use Rattle.mc_records.specs.declared.refusal.Refusal.TheVariants.{SeriesFull, WrongVendor, UnknownIssuer, ExpiryMismatch, Expired, Spent, NeedSignature, BadSignature}
 use Rattle.mc_records.specs.Entry.{Entry, Accept}
 use Rattle.mc_records.specs.Requests.{Asked}
 use Rattle.kept_replies.specs.Kept.{found}
-use Rattle.change_issue.specs.Registers.{count_in}
+use Rattle.change_issue.specs.Registers.{count_in, next_in}
 use Rattle.ledger_model.specs.Histories.{History}
-use Rattle.ledger_model.specs.Houses.{site_name, all_terms, terms_by, terms_in, own_series}
+use Rattle.ledger_model.specs.Houses.{site_name, keeping, all_terms, terms_by, terms_in, own_series}
 use Rattle.ledger_model.specs.Pieces.{is_spent}
 use Rattle.ledger_model.specs.Lines.{Stop, Repeat, ◌>>=◌, given, refused_if}
-use Rattle.ledger_model.specs.Stages.{is_right, genuine_by, spendable_by, Offer, next_by, needed, fitted_by}
-use Rattle.ledger_model.specs.Answer.{repeated, genuine, spendable, offer, next_own, fitted, taken, answered, answer}
+use Rattle.ledger_model.specs.Stages.{is_repeat, is_right, genuine_by, spendable_by, Offer, next_by, needed, fitted_by}
+use Rattle.ledger_model.specs.Answer.{repeated, genuine, spendable, offer, next_own, fitted, taken, Answer, Refused, Again, Take, answered, answer}
 use Rattle.ledger_model.specs.Slow.{after_repeat, after_read}
 use Rattle.ledger_model.proofs.TableLaws.{line_ok, refused_ok, given_ok}
-use Rattle.house_core.specs.Books.{BooksView}
+use Rattle.ledger_model.proofs.RepeatLaws.{again_is_same}
+use Rattle.house_core.specs.Books.{BooksView, series_now}
+use Rattle.house_core.specs.House.{HasRun}
 use Rattle.house_core.specs.Spent.{is_marked}
 use Rattle.house_core.specs.Stands.{Stands, has_ended, scrip_request}
+use Rattle.house_core.specs.Verdicts.{repeat_of}
 
 -- ---- 22 to 25
 
@@ -97,6 +102,13 @@ series_stands {b = b} {h = h} st t =
     let zero : b.own_terms.issuer ≡ 0 = terms_are_of (all_terms h) 0 b.own_terms st.own_terms in
     ap (λ (o : Option Issuing). unwrap_or (option_map (λ x. epoch x t) o) 0) st.own_terms ∙ omega (arith, zero) ∙ ap (λ (x : Issuing). series_at x t) (sym st.issuer)
 
+-- the next pieces of the house's own series
+pub run_stands : {b : BooksView} {h : History} → Stands b h → (count : ℕ) (r : Result ℕ Refusal)
+    → MatchResult r (λ id. (id ≡ next_in b.own (series_now b)) × (count_in b.own (series_now b) + count ≤ b.own.most)) (λ f. (f ≡ SeriesFull (series_now b)) × (b.own.most < count_in b.own (series_now b) + count))
+    → HasRun h b.time b.limits count r
+run_stands {b = b} {h = h} st count (Ok id) m = rw (series_stands st b.time, st.issued (series_now b), ← st.most) m
+run_stands {b = b} {h = h} st count (Err f) m = rw (series_stands st b.time, st.issued (series_now b), ← st.most) m
+
 change_stands : {b : BooksView} {h : History} → Stands b h → (limits : Limits) → limits.series ≡ b.limits.series → (price value : ℕ) → needed (nat_lt price value) (next_own h b.time limits) ≡ change_in b price value
 change_stands {b = b} {h = h} st limits same price value =
     rw (series_stands st b.time, st.issued (series_at b.own.terms b.time), st.most, same) refl
@@ -167,3 +179,46 @@ answer_read h t limits q c r asked read e = rw (asked, read) (ap answered e)
 pub answer_under : (h : History) (t : ℕ) (limits own : Limits) (q : Asked) (c : Certified) (r : Result Entry Stop) → limits ≡ own → q.scrip ≡ Some c.text → scrip_of c.text ≡ Ok (c.piece, c.cert)
     → r ≡ after_read h t limits q c → answered r ≡ answer h t own q
 answer_under h t limits own q c r same asked read e = answer_read h t limits q c r asked read e ∙ ap (λ (l : Limits). answer h t l q) same
+
+-- ---- the number that a request comes again with
+
+-- where no entry passes, none does at any place
+none_passes : (test : Entry → Bool) (h : History) (n : ℕ) → length h ≤ position_or_len test h → option_map test (slice_get h n) ≡ Some true → ⊥
+none_passes test [] n le is = absurd cc
+none_passes test (x ∷ xs) n le is = go (test x) refl n (none_passes test xs) le is
+  where
+    go : (b : Bool) → test x ≡ b → (n : ℕ) → ((m : ℕ) → length xs ≤ position_or_len test xs → option_map test (slice_get xs m) ≡ Some true → ⊥)
+        → suc (length xs) ≤ cond (not b) (1 + position_or_len test xs) 0 → option_map test (slice_get (x ∷ xs) n) ≡ Some true → ⊥
+    go true at n more le is = absurd (omega (arith, le))
+    go false at zero more le is = absurd (cc (at, is))
+    go false at (suc n) more le is = more n (omega (arith, le)) is
+
+not_found : (test : Entry → Bool) (h : History) → position test h ≡ None → length h ≤ position_or_len test h
+not_found test h is = go (ltb (position_or_len test h) (length h)) refl is
+  where
+    some : ℕ → Option ℕ
+    some n = Some n
+
+    go : (b : Bool) → ltb (position_or_len test h) (length h) ≡ b → cond b (some (position_or_len test h)) None ≡ None → length h ≤ position_or_len test h
+    go true lt e = absurd cc
+    go false lt e = ltb-false _ _ lt
+
+not_again : (a : Answer) → ((n : ℕ) → a ≡ Again n → ⊥) → None ≡ repeat_of a
+not_again (Refused f) not = refl
+not_again (Again n) not = absurd (not n refl)
+not_again (Take e) not = refl
+
+-- what is kept of a request tells whether it comes again
+pub repeat_kept : {b : BooksView} {h : History} → Stands b h → (limits : Limits) (q : Asked) (c : Certified) → q.scrip ≡ Some c.text → scrip_of c.text ≡ Ok (c.piece, c.cert)
+    → kept_number b q c ≡ repeat_of (answer h b.time limits q)
+repeat_kept {b = b} {h = h} st limits q c asked read = by_kept (kept_number b q c) refl
+  where
+    by_kept : (o : Option ℕ) → kept_number b q c ≡ o → o ≡ repeat_of (answer h b.time limits q)
+    by_kept (Some n) is = ap repeat_of (answer_read h b.time limits q c (Err (Repeat n)) asked read (comes_again st limits q c n (sym is)))
+    by_kept None is = not_again (answer h b.time limits q) λ n e.
+        let r = again_is_same h b.time limits q n e in
+        let same : r.0 ≡ c.text = cc (r.1, asked) in
+        let passes : option_map (is_repeat (keeping h) b.time c.text q.target q.sign) (slice_get h n) ≡ Some true =
+        subst (λ (text : List ℕ). option_map (is_repeat (keeping h) b.time text q.target q.sign) (slice_get h n) ≡ Some true) same r.2 in
+        let test = is_repeat (keeping h) b.time c.text q.target q.sign in
+        none_passes test h n (not_found test h (again_is st q c ∙ is)) passes

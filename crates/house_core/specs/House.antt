@@ -1,13 +1,16 @@
 -- A house over a journal.
 use Rattle.std.proofs.Common.{◌∙◌}
-use Rattle.std.specs.Prelude.{◌≡◌, refl, ℕ, List, [], ◌∷◌, ◌++◌, length, Result, Ok, Err}
+use Rattle.std.specs.Prelude.{◌≡◌, refl, ℕ, ◌+◌, ◌<◌, ◌≤◌, List, [], ◌∷◌, ◌++◌, length, Result, Ok, Err}
 use Rattle.mc_outside.specs.Bytes.{Rose, BeginsWith}
 use Rattle.mc_outside.specs.DiskView.{DiskView}
 use Rattle.mc_records.specs.declared.limits.Limits.{Limits}
 use Rattle.mc_records.specs.Entry.{Entry}
 use Rattle.mc_records.specs.declared.refusal.Refusal.{Refusal}
+use Rattle.mc_records.specs.declared.refusal.Refusal.TheVariants.{SeriesFull}
 use Rattle.ledger_model.specs.Histories.{History}
+use Rattle.ledger_model.specs.Houses.{own_series}
 use Rattle.ledger_model.specs.Lines.{Refuse}
+use Rattle.ledger_model.specs.Pieces.{own_count, next_identity}
 use Rattle.ledger_model.specs.Answer as answers
 use Rattle.ledger_model.specs.Answer.{Answer, fitted}
 use Rattle.scrip_journal.specs.Layout.{Stands}
@@ -29,6 +32,14 @@ pub record StandsFor {D T : Type 0} (view : D → DiskView) (stands : T → Hist
   pub journal : IsJournal view x.journal h
   pub house : IsHouse stands site holds x.bench h
   pub limit : x.journal.limit ≡ (limits_of x.bench).journal
+
+-- ---- what it can mint
+
+-- The next pieces of the house's own series of a time, so many of them, fit the limit of a series, and the
+-- first has this identity; or they don't, and the refusal tells the series.
+abbrev pub HasRun : History → ℕ → Limits → ℕ → Result ℕ Refusal → Type 0
+HasRun h t limits count (Ok first) = (first ≡ next_identity h (own_series h t)) × (own_count h (own_series h t) + count ≤ limits.series)
+HasRun h t limits count (Err f) = (f ≡ SeriesFull (own_series h t)) × (limits.series < own_count h (own_series h t) + count)
 
 -- ---- what an entry that was written left
 

@@ -1,5 +1,5 @@
 -- What a house says of a request, as the ledger's answer to it.
-use Rattle.std.specs.Prelude.{◌≡◌, ℕ, ◌+◌, ◌≤◌, ◌^◌, List, Option, length, IsTrue, Result, Ok, Err}
+use Rattle.std.specs.Prelude.{◌≡◌, ℕ, ◌+◌, ◌≤◌, ◌^◌, List, Option, Some, None, length, IsTrue, Result, Ok, Err}
 use Rattle.scrip_form.specs.Scrip.{Certified}
 use Rattle.mc_records.specs.declared.refusal.Refusal.{Refusal}
 use Rattle.mc_records.specs.Entry.{Deed, Entry, Accept, payload}
@@ -33,6 +33,12 @@ abbrev pub judged_of : Verdict → Judged
 judged_of (verdicts.Refused refusal) = IsRefused refusal
 judged_of (verdicts.Again number) = IsAgain number
 judged_of verdicts.Take = IsTaken
+
+-- the number of the entry whose reply comes again
+abbrev pub repeat_of : answers.Answer → Option ℕ
+repeat_of (answers.Refused refusal) = None
+repeat_of (answers.Again number) = Some number
+repeat_of (answers.Take e) = None
 
 -- ---- entries
 

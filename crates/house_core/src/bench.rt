@@ -1,4 +1,4 @@
-ghost use Rattle.std.specs.Prelude.{◌≡◌, ◌+◌, ◌≤◌, ◌^◌, ℕ, Err, [], ◌∷◌, ◌++◌, MatchResult, OnOk, length, max, None, Some, Ok, IfOk, IfErr};
+ghost use Rattle.std.specs.Prelude.{◌≡◌, ◌+◌, ◌≤◌, ◌^◌, ℕ, Err, [], ◌∷◌, ◌++◌, MatchResult, OnOk, length, max, None, Some, Ok, IfOk, IfErr, IfSome};
 ghost use Rattle.mc_records.specs.declared.limits.Limits.{Limits as Bounds};
 ghost use Rattle.mc_records.specs.Limits.{AreInRange};
 ghost use Rattle.mc_records.specs.Entry.{Fits, moment_of, payload};
@@ -21,7 +21,7 @@ ghost use Rattle.house_core.specs.Stands.{scrip_request};
 ghost use Rattle.house_core.specs.Trade.{OfGoods, NamesInForce, BringsFor};
 ghost use Rattle.house_core.specs.Replying.{IsOfSite};
 ghost use Rattle.house_core.specs.declared.verdict.Verdict.TheVariants as verdicts;
-ghost use Rattle.house_core.specs.Verdicts.{judged, judged_of, accept_entry, IsReady};
+ghost use Rattle.house_core.specs.Verdicts.{judged, judged_of, repeat_of, accept_entry, IsReady};
 
 use crate::books::Books;
 use crate::founding::{found_books, payload_len};
@@ -110,6 +110,22 @@ impl<T: Trade> Bench<T> {
         }
     }
 
+    /// The number of the entry whose first reply a request gets, where it comes again at the house time.
+    /// It takes no memory.
+    pub fn repeated(&self, q: &Request<'_>) -> Option<u64>
+        ensures kept { IfSome result (KeepsReply self.now) }
+        ensures exact { (h : History) → Holds T.stands T.site self.now h
+            → result ≡ repeat_of (model.answer h (house_time self.now) (limits_of self.now) (asked_of q.now)) }
+    {
+        let Some(text) = q.scrip else {
+            return None;
+        };
+        match read_scrip(text) {
+            Ok(scrip) => self.books.repeated(&request_with(q, &scrip)),
+            Err(_) => None,
+        }
+    }
+
     /// Raises the house time to a reading of the clock where that is later, and answers it. Replies whose
     /// keeping time is over are let go, and so may be contents that no kept reply brings. It takes no
     /// memory.
@@ -124,6 +140,7 @@ impl<T: Trade> Bench<T> {
         self.trade.forget(self.books.first_kept());
         time
     }
+
     /// Accepts a request at the house time: enters its entry, and answers the entry's number, from 0. Where
     /// the request comes again it enters nothing, and answers the number of the entry that it repeats.
     /// The reply of the entry is kept.

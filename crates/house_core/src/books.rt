@@ -1,6 +1,8 @@
-ghost use Rattle.std.specs.Prelude.{◌≡◌, ◌+◌, ◌-◌, ◌≤◌, ◌<◌, Some, None, option_map, filter, max, All, IfSome, IsNone, ◌↔◌, ◌^◌, [], IsTrue, IsFalse, IfOk, OnOk};
+ghost use Rattle.std.specs.Prelude.{◌≡◌, ◌+◌, ◌-◌, ◌≤◌, ◌<◌, Some, None, option_map, filter, max, All, IfSome, IsNone, ◌↔◌, ◌^◌, [], IsTrue, IsFalse, IfOk, MatchResult, OnOk};
 ghost use Rattle.scrip_form.specs.Issuing.{epoch};
+ghost use Rattle.mc_records.specs.declared.refusal.Refusal.TheVariants.{SeriesFull};
 ghost use Rattle.mc_records.specs.Limits.{AreInRange};
+ghost use Rattle.change_issue.specs.Registers.{count_in, next_in};
 ghost use Rattle.mc_records.specs.Views.{house_of, entry};
 ghost use Rattle.mc_records.specs.Entry.{Fits};
 ghost use Rattle.house_core.specs.Noting.{IsNoSite};
@@ -16,7 +18,7 @@ use crate::verdict::Acceptance;
 use change_issue::Issuer;
 use kept_replies::{Kept, KeptEntry};
 use mc_base::{Moment, NoMemory, Total};
-use mc_records::{Limits, PieceList, Record, Request, SiteTerms};
+use mc_records::{Limits, PieceList, Record, Refusal, Request, SiteTerms};
 use scrip_form::{Id, Name, Piece, Terms};
 use std::alloc::Global;
 use std::marker::Model;
@@ -95,6 +97,18 @@ impl Books {
         ensures { result.now ≡ self.now.name }
     {
         self.name.bytes()
+    }
+
+    pub(crate) fn site_name(&self) -> Name
+        ensures { result ≡ self.now.name }
+    {
+        self.name
+    }
+
+    pub(crate) fn own_terms(&self) -> Terms
+        ensures { result ≡ self.now.own_terms }
+    {
+        self.own_terms
     }
 
     pub(crate) fn is_clear(&self) -> bool
@@ -224,6 +238,22 @@ impl Books {
                     && u64::from(*count) <= self.limits.series - stand
             }
             _ => true,
+        }
+    }
+
+    /// The identity of the first of so many next pieces of the house time's series; refused where the limit
+    /// of a series leaves no room for so many.
+    pub(crate) fn next_run(&self, count: u16) -> Result<Id, Refusal>
+        requires { 0 < count }
+        ensures { MatchResult result
+            (λ id. (id ≡ next_in self.now.own (series_now self.now)) × (count_in self.now.own (series_now self.now) + count ≤ self.now.own.most))
+            (λ f. (f ≡ SeriesFull (series_now self.now)) × (self.now.own.most < count_in self.now.own (series_now self.now) + count)) }
+    {
+        let series = self.series_now();
+        let stand = self.own.count(series);
+        match self.own.next(self.time) {
+            Ok(first) if u64::from(count) <= self.limits.series - stand => Ok(first),
+            _ => Err(Refusal::SeriesFull(u64::from(series))),
         }
     }
 

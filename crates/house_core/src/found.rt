@@ -1,6 +1,6 @@
 //! Founding the book of a house.
 
-ghost use Rattle.std.specs.Prelude.{◌≡◌, ◌+◌, ◌≤◌, [], ◌∷◌, List, ℕ, IfOk, OnErr, Some};
+ghost use Rattle.std.specs.Prelude.{◌≡◌, ◌+◌, ◌≤◌, [], ◌∷◌, List, ℕ, IfOk, Some};
 ghost use Rattle.mc_outside.specs.DiskView.{Ran, IsSynced};
 ghost use Rattle.mc_records.specs.Entry.{Fits};
 ghost use Rattle.mc_records.specs.Limits.{AreInRange};
@@ -53,7 +53,7 @@ pub fn found_house<D: Disk, T: Trade>(
     ensures exact { (x : List ℕ) → (D.disk disk).contents ≡ Some x → FoundsHouseBy D.disk T.stands T.site T.holds limits (entry site.now) x result }
     ensures ran { (x : List ℕ) → (D.disk disk).contents ≡ Some x → Ran (D.disk disk) (D.disk (house_disk result)) (FoundQuiet (D.disk disk) (entry site.now)) }
     ensures read { ReadsOnly D.disk disk result }
-    ensures fault { OnErr result (CountsBy result (D.disk disk).faults (D.disk (house_disk result)).faults) }
+    ensures fault { CountsBy result (D.disk disk).faults (D.disk (house_disk result)).faults }
 {
     let bench = match Bench::new(alloc, site, limits, trade) {
         Ok(bench) => bench,
@@ -130,7 +130,7 @@ fn enter_site<D: Disk, T: Trade>(
     ensures time { IfOk result (λ h. house_time h.bench ≡ house_time bench) }
     ensures limits { IfOk result (λ h. limits_of h.bench ≡ limits_of bench) }
     ensures ran { IsJournal D.disk journal [] → Ran (D.disk journal.disk) (D.disk (house_disk result)) (EitherQuiet [] (entry site.now) (D.disk journal.disk).aside) }
-    ensures fault { OnErr result (CountsBy result (D.disk journal.disk).faults (D.disk (house_disk result)).faults) }
+    ensures fault { CountsBy result (D.disk journal.disk).faults (D.disk (house_disk result)).faults }
 {
     match write_entry(journal, site) {
         Ok((journal, _)) => Ok(House::new(journal, bench)),

@@ -1,6 +1,6 @@
 //! A house over a journal: what is accepted is on the disk before its reply can begin.
 
-ghost use Rattle.std.specs.Prelude.{◌≡◌, ◌<◌, ◌≤◌, ◌+◌, ◌∷◌, ◌++◌, [], ℕ, List, length, max, IfOk, IfErr, OnOk, None, Some, Ok};
+ghost use Rattle.std.specs.Prelude.{◌≡◌, ◌<◌, ◌≤◌, ◌+◌, ◌∷◌, ◌++◌, [], ℕ, List, length, max, IfOk, IfErr, IfSome, MatchResult, OnOk, None, Some, Ok};
 ghost use Rattle.mc_outside.specs.Bytes.{Rose};
 ghost use Rattle.mc_outside.specs.DiskView.{Ran};
 ghost use Rattle.scrip_form.specs.Reading.{scrip_of};
@@ -12,6 +12,7 @@ ghost use Rattle.mc_records.specs.Views.{entry};
 ghost use Rattle.kept_replies.specs.Kept.{found};
 ghost use Rattle.ledger_model.specs.Histories.{History};
 ghost use Rattle.ledger_model.specs.Answer as model;
+ghost use Rattle.ledger_model.specs.Houses.{site_name, terms_in};
 ghost use Rattle.ledger_model.specs.Lawful.{MayFollow};
 ghost use Rattle.house_core.specs.Noting.{IsCommand};
 ghost use Rattle.scrip_journal.specs.States.{IsJournal};
@@ -21,19 +22,20 @@ ghost use Rattle.house_core.specs.Stands.{scrip_request};
 ghost use Rattle.house_core.specs.Trade.{OfGoods, NamesInForce, BringsFor};
 ghost use Rattle.house_core.specs.Replying.{IsOfSite};
 ghost use Rattle.house_core.specs.declared.verdict.Verdict.TheVariants as verdicts;
-ghost use Rattle.house_core.specs.Verdicts.{judged, judged_of, accept_entry, IsReady, StopIsOfSite};
-ghost use Rattle.house_core.specs.House.{StandsFor, KeepsTime, OfHouse, IfRefused, CountsFaults, Accepted, Entered, Leaves, Refuses, written_disk, outcome_disk};
+ghost use Rattle.house_core.specs.Verdicts.{judged, judged_of, repeat_of, accept_entry, IsReady, StopIsOfSite};
+ghost use Rattle.house_core.specs.House.{StandsFor, HasRun, KeepsTime, OfHouse, IfRefused, CountsFaults, Accepted, Entered, Leaves, Refuses, written_disk, outcome_disk};
 
 use crate::bench::{Bench, bad_scrip, entry_of};
 use crate::outcome::Outcome;
 use crate::settled::Settled;
+use crate::stages::terms_of;
 use crate::trade::Trade;
 use crate::verdict::{Acceptance, EnterFault, Stopped, Verdict};
 use crate::weigh::weigh;
 use mc_base::{Moment, NoMemory};
 use mc_outside::Disk;
 use mc_records::{Limits, PieceList, Record, Refusal, Request};
-use scrip_form::{ScripRef, read_scrip};
+use scrip_form::{Id, Name, ScripRef, Terms, read_scrip};
 use scrip_journal::{Journal, Receipt, StageFault};
 use std::alloc::Global;
 
@@ -70,6 +72,36 @@ impl<D: Disk, T: Trade> House<D, T> {
         self.bench.books.limits()
     }
 
+    /// Its name.
+    pub fn name(&self) -> Name
+        ensures { (h : History) → StandsFor D.disk T.stands T.site T.holds self.now h → result ≡ site_name h }
+    {
+        self.bench.books.site_name()
+    }
+
+    /// The terms of an issuer; None exactly where it takes no scrip of that issuer.
+    pub fn terms(&self, issuer: u8) -> Option<Terms>
+        ensures { (h : History) → StandsFor D.disk T.stands T.site T.holds self.now h → result ≡ terms_in h issuer }
+    {
+        terms_of(self.bench.books.terms(), issuer).copied()
+    }
+
+    /// Its own terms, in whose series it hands out and mints.
+    pub fn own_terms(&self) -> Terms
+        ensures { (h : History) → StandsFor D.disk T.stands T.site T.holds self.now h → terms_in h 0 ≡ Some result }
+    {
+        self.bench.books.own_terms()
+    }
+
+    /// The identity of the first of so many next pieces of its own series of the house time; refused with 32
+    /// exactly where the limit of a series leaves no room for so many.
+    pub fn next_run(&self, count: u16) -> Result<Id, Refusal>
+        requires { 0 < count }
+        ensures { (h : History) → StandsFor D.disk T.stands T.site T.holds self.now h → HasRun h (house_time self.now.bench) (limits_of self.now.bench) count result }
+    {
+        self.bench.books.next_run(count)
+    }
+
     /// Its trade.
     pub fn trade(&self) -> &T
         ensures { (h : History) → StandsFor D.disk T.stands T.site T.holds self.now h → T.stands result.now h }
@@ -92,6 +124,16 @@ impl<D: Disk, T: Trade> House<D, T> {
         self.bench.judge(q)
     }
 
+    /// The number of the entry whose first reply a request gets, where it comes again at the house time.
+    /// It takes no memory.
+    pub fn repeated(&self, q: &Request<'_>) -> Option<u64>
+        ensures kept { IfSome result (KeepsReply self.now.bench) }
+        ensures exact { (h : History) → StandsFor D.disk T.stands T.site T.holds self.now h
+            → result ≡ repeat_of (model.answer h (house_time self.now.bench) (limits_of self.now.bench) (asked_of q.now)) }
+    {
+        self.bench.repeated(q)
+    }
+
     /// Raises the house time to a reading of the clock where that is later, and answers it. The disk is
     /// not touched. It takes no memory.
     pub fn raise(&mut self, reading: Moment) -> Moment
@@ -106,7 +148,7 @@ impl<D: Disk, T: Trade> House<D, T> {
 
     /// Accepts a request at the house time: its entry is on the disk behind an open gate, and then it is
     /// entered. All memory is taken before anything is written. A request that comes again is not for
-    /// this call: `judge` tells it, and here it is refused as one whose piece is spent.
+    /// this call: `repeated` tells it, and here it is refused as one whose piece is spent.
     pub fn accept(self, q: &Request<'_>) -> Outcome<D, T, Settled>
         requires target { IsTarget q.now.target.now }
         ensures moved { D.disk_moved self.journal.disk (outcome_disk result) }

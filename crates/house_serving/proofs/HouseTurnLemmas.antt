@@ -1,5 +1,5 @@
 -- One turn of a house over a journal.
-use Rattle.std.proofs.Common.{◌≡◌, inl, inr, ℕ, ◌+◌, ◌<◌, Bool, List, [], ◌∷◌, length, take, refl, sym, ap, ap₂, ◌∙◌, subst, arith, Option, Result, Ok, Err}
+use Rattle.std.proofs.Common.{◌≡◌, inl, inr, ℕ, ◌+◌, ◌<◌, Bool, List, [], ◌∷◌, length, take, refl, sym, ap, ap₂, ◌∙◌, subst, arith, Option, Some, None, Result, Ok, Err}
 use Rattle.std.specs.Prelude.{OnOk, OnErr, IfOk, IsTrue, max}
 use Rattle.mc_outside.specs.declared.link.LinkFault.{LinkFault}
 use Rattle.mc_outside.specs.DiskView.{DiskView, IsDisk, LinkKeeps, Ran}
@@ -30,9 +30,7 @@ use Rattle.house_core.specs.declared.bench.Bench.{Bench}
 use Rattle.house_core.specs.declared.house.House.{House}
 use Rattle.house_core.specs.declared.settled.Settled.{Settled}
 use Rattle.house_core.specs.declared.outcome.Outcome.TheVariants as outcomes
-use Rattle.house_core.specs.declared.verdict.Verdict.{Verdict}
-use Rattle.house_core.specs.declared.verdict.Verdict.TheVariants as verdicts
-use Rattle.house_core.specs.Verdicts.{judged, judged_of}
+use Rattle.house_core.specs.Verdicts.{repeat_of}
 use Rattle.house_core.specs.Bench.{KeepsReply, house_time, limits_of, state_of}
 use Rattle.house_core.specs.House.{StandsFor, HouseRests, HasEntered, IsAsItWas, Accepted, Leaves}
 use Rattle.house_core.specs.Session.{State, Gives, entered, raised}
@@ -227,17 +225,15 @@ replied_halted link disk stands site holds limits q after a b c s r tells is is_
       subst (λ (v : LinkView). Sends reply was.0 v (link c)) same was.1,
     )
 
--- ---- the verdict
+-- ---- whether it comes again
 
-pub again_is : (a : Answer) (n : ℕ) → judged_of (verdicts.Again n) ≡ judged a → a ≡ answers.Again n
-again_is (answers.Take e) n is = absurd (cc is)
-again_is (answers.Refused f) n is = absurd (cc is)
+pub again_is : (a : Answer) (n : ℕ) → Some n ≡ repeat_of a → a ≡ answers.Again n
+again_is (answers.Refused f) n is = absurd cc
 again_is (answers.Again m) n is = cc is
+again_is (answers.Take e) n is = absurd cc
 
-pub not_again : (a : Answer) (v : Verdict) → ((n : ℕ) → v ≡ verdicts.Again n → ⊥) → judged_of v ≡ judged a → (n : ℕ) → a ≡ answers.Again n → ⊥
-not_again a verdicts.Take new is n again = absurd (cc (is, ap judged again))
-not_again a (verdicts.Refused f) new is n again = absurd (cc (is, ap judged again))
-not_again a (verdicts.Again m) new is n again = new m refl
+pub not_again : (a : Answer) → None ≡ repeat_of a → (n : ℕ) → a ≡ answers.Again n → ⊥
+not_again a none n again = absurd (cc (none, ap repeat_of again))
 
 -- ---- an item, at a reading of the clock
 

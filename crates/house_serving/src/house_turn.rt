@@ -15,9 +15,7 @@ ghost use Rattle.house_serving.specs.Course.{AreRead, with_readings};
 ghost use Rattle.house_serving.specs.Links.{KeptCounts, PartCauses, RepliesTo, AnswersRequest, RefusesHead, TurnsHouse};
 
 use crate::turn::{Turn, turn_of};
-use house_core::{
-    House, Outcome, Trade, Verdict, send_again, send_disk_fault, send_refusal, send_settled,
-};
+use house_core::{House, Outcome, Trade, send_again, send_disk_fault, send_refusal, send_settled};
 use mc_base::Moment;
 use mc_outside::{Link, Outside};
 use mc_records::{Refusal, Request};
@@ -86,8 +84,9 @@ fn answer_refused<O: Outside, T: Trade>(
     (house, turn_of(sent, after))
 }
 
-/// Raises the house time to the reading of the clock, and answers the reading.
-fn raise_by_clock<O: Outside, T: Trade>(house: &mut House<O, T>) -> Moment
+/// Raises the house time to the reading of the clock, which is read once, and answers the reading. It takes no
+/// memory.
+pub fn raise_by_clock<O: Outside, T: Trade>(house: &mut House<O, T>) -> Moment
     ensures moved { O.link_moved house.old.journal.disk house.new.journal.disk }
     ensures stands { (h : History) → StandsFor O.disk T.stands T.site T.holds house.old h → StandsFor O.disk T.stands T.site T.holds house.new h }
     ensures time { house_time house.new.bench ≡ max (house_time house.old.bench) result }
@@ -115,12 +114,14 @@ fn reply_to<O: Outside, T: Trade>(
     ensures replied { (h : History) → StandsFor O.disk T.stands T.site T.holds house h
         → RepliesTo O.link O.disk T.stands T.site T.holds (limits_of house.bench) (asked_of q.now) after house.journal.disk (state_of h house.bench) result }
 {
-    if let Verdict::Again(number) = house.judge(q) {
-        let mut house = house;
-        let sent = send_again(&mut house, number);
-        return Ok((house, turn_of(sent, after)));
+    match house.repeated(q) {
+        Some(number) => {
+            let mut house = house;
+            let sent = send_again(&mut house, number);
+            Ok((house, turn_of(sent, after)))
+        }
+        None => reply_to_new(house, q, after),
     }
-    reply_to_new(house, q, after)
 }
 
 /// Replies to a request that does not come again.

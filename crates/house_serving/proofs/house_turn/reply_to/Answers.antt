@@ -6,8 +6,8 @@ use Rattle.house_serving.specs.Links.{RepliesTo}
 use Rattle.house_serving.proofs.HouseTurnLemmas.{SentOn, replied_again, again_is, not_again}
 use Rattle.house_serving.proofs.house_turn.reply_to.Goals as goal
 
-pub returns-in-Again-clause-replied : goal.returns-in-Again-clause-replied
-returns-in-Again-clause-replied g c h st =
+pub returns-in-Some-clause-replied : goal.returns-in-Some-clause-replied
+returns-in-Some-clause-replied g c h st =
     let y = c.args.house in
     let z = c.send_again-sent.new.house in
     let on : SentOn g.O.Link.link g.O.Disk.disk y z = record {
@@ -19,9 +19,8 @@ returns-in-Again-clause-replied g c h st =
       rests = c.send_again-sent.ensures.rests;
     } in
     subst (λ (t : Turn). RepliesTo g.O.Link.link g.O.Disk.disk g.T.Trade.stands g.T.Trade.site g.T.Trade.holds (limits_of y.bench) (asked_of c.args.q.now) c.args.after y.journal.disk (state_of h y.bench) (Ok (z, t))) (sym c.turn_of.ensures.turn)
-    (replied_again g.O.Link.link g.O.Disk.disk g.T.Trade.stands g.T.Trade.site g.T.Trade.holds (limits_of y.bench) (asked_of c.args.q.now) c.args.after y z (state_of h y.bench) c.in-Again.number c.send_again-sent.result on st refl
-    (again_is _ c.in-Again.number (c.in-Again.ensures.exact h st)) (c.in-Again.ensures.kept c.in-Again.number refl) c.send_again-sent.ensures.sent c.send_again-sent.ensures.fault)
+    (replied_again g.O.Link.link g.O.Disk.disk g.T.Trade.stands g.T.Trade.site g.T.Trade.holds (limits_of y.bench) (asked_of c.args.q.now) c.args.after y z (state_of h y.bench) c.in-Some.number c.send_again-sent.result on st refl
+    (again_is _ c.in-Some.number (c.in-Some.ensures.exact h st)) c.in-Some.ensures.kept c.send_again-sent.ensures.sent c.send_again-sent.ensures.fault)
 
-pub returns-clause-replied : goal.returns-clause-replied
-returns-clause-replied g c h st =
-    c.reply_to_new.ensures.replied h st (λ n again. not_again _ c.judge.result c.in_default.not-Again (c.judge.ensures.exact h st) n again)
+pub returns-in-None-clause-replied : goal.returns-in-None-clause-replied
+returns-in-None-clause-replied g c h st = c.reply_to_new.ensures.replied h st (not_again _ (c.in-None.ensures.exact h st))
