@@ -1,2 +1,4 @@
 pub mod Wares
 pub mod Shelf
+pub mod Lines
+pub mod Desk

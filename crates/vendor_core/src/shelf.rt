@@ -1,12 +1,13 @@
-ghost use Rattle.std.specs.Prelude.{◌≡◌, ℕ, ◌↔◌, ◌<◌, ◌≤◌, ◌^◌, [], ◌∷◌, ◌++◌, Some, option_map, MatchOption, IsSome, IfSome, IsOk, OnOk, OnErr, length, vec_len, vec_capacity};
-ghost use Rattle.mc_records.specs.Entry.{Goods};
+ghost use Rattle.std.specs.Prelude.{◌≡◌, ℕ, ◌↔◌, ◌<◌, ◌≤◌, ◌^◌, [], ◌∷◌, ◌++◌, Some, option_map, IsSome, IfSome, IsFalse, IsOk, OnOk, OnErr, length, vec_len, vec_capacity};
+ghost use Rattle.mc_records.specs.Entry.{Goods, Mint};
 ghost use Rattle.ledger_model.specs.Histories.{History};
 ghost use Rattle.ledger_model.specs.Goods as goods;
+ghost use Rattle.ledger_model.specs.Pieces.{has_reference};
+ghost use Rattle.house_core.specs.Replying.{AreContents};
 
+use crate::minted::{Minted, Minting, minted_under};
 use crate::ware::{Article, Ware};
-use crate::wares::{
-    bytes_on_sale, has_reference, keep_needed, put_on_sale, ware_of_number, ware_on_sale,
-};
+use crate::wares::{bytes_on_sale, keep_needed, put_on_sale, ware_of_number, ware_on_sale};
 use house_core::{Body, DrawAsk, Offer, SiteKind, Trade, Unlawful, body_of_deed};
 use kept_replies::Deed;
 use mc_base::{Amount, Moment, NoMemory};
@@ -14,16 +15,16 @@ use mc_records::{Limits, Record, Refusal};
 use std::alloc::Global;
 
 /// The most bytes of contents that a vendor may have on sale.
-const MOST_IN_FORCE: u64 = 1 << 26;
+pub(crate) const MOST_IN_FORCE: u64 = 1 << 26;
 
-/// The trade of a vendor: its goods by their targets, the issuers whose scrip it takes, and the
-/// references of its mints. It owns the contents of its goods. Those that were replaced stay until
+/// The trade of a vendor: its goods by their targets, the issuers whose scrip it takes, and what it minted
+/// by the references. It owns the contents of its goods. Those that were replaced stay until
 /// `forget` lets them go.
 #[derive(Drop)]
 pub struct Shelf {
     wares: Vec<Ware>,
     issuers: Vec<u8>,
-    references: Vec<Vec<u8>>,
+    mints: Vec<Minted>,
     /// How many bytes of contents are on sale.
     in_force: u64,
     /// What the next Goods entry puts on sale.
@@ -35,7 +36,7 @@ pub struct Shelf {
 
 impl Shelf {
     ghost use Rattle.vendor_core.specs.Wares.{goods_entry, IsInRange};
-    ghost use Rattle.vendor_core.specs.Shelf.{Stands, Holds};
+    ghost use Rattle.vendor_core.specs.Shelf.{Stands, Holds, HasRoomForMint, IsMinting, AreGoods};
 
     /// The shelf of an empty history. It takes no memory.
     pub fn new(alloc: Global) -> Shelf
@@ -44,7 +45,7 @@ impl Shelf {
         Shelf {
             wares: Vec::new(alloc),
             issuers: Vec::new(alloc),
-            references: Vec::new(alloc),
+            mints: Vec::new(alloc),
             in_force: 0,
             next_article: None,
             next_reference: None,
@@ -52,21 +53,35 @@ impl Shelf {
         }
     }
 
-    /// How many bytes of contents are on sale once a target sells these; None exactly where they are more
-    /// than may be.
-    fn in_force_with(&self, target: &[u8], contents: &[u8]) -> Option<u64>
-        ensures { (h : History) (m price kind : ℕ) → Stands self.now h
-            → MatchOption result (2 ^ 26 < goods.in_force (h ++ Goods m target.now price kind contents.now ∷ []))
-            (λ bytes. (bytes ≤ 2 ^ 26) × (bytes ≡ goods.in_force (h ++ Goods m target.now price kind contents.now ∷ []))) }
+    /// How many bytes of contents are on sale once a target sells these.
+    pub(crate) fn in_force_with(&self, target: &[u8], contents: &[u8]) -> u64
+        requires { length contents.now ≤ 65536 }
+        ensures { (h : History) (m price kind : ℕ) → Stands self.now h → result ≡ goods.in_force (h ++ Goods m target.now price kind contents.now ∷ []) }
     {
         let others = self
             .in_force
             .saturating_sub(bytes_on_sale(&self.wares, target));
-        let bytes = contents.len() as u64;
-        if bytes <= MOST_IN_FORCE && others <= MOST_IN_FORCE - bytes {
-            Some(others + bytes)
-        } else {
-            None
+        others.saturating_add(contents.len() as u64)
+    }
+
+    /// The goods on sale at a target, of which the shelf has the contents.
+    pub(crate) fn goods(&self, target: &[u8]) -> Option<Body<'_>>
+        ensures range { IfSome result AreContents }
+        ensures goods { (h : History) → Stands self.now h → AreGoods h target.now result }
+    {
+        match ware_on_sale(&self.wares, target) {
+            Some(ware) => Some(ware.body()),
+            None => None,
+        }
+    }
+
+    /// What was minted under a reference; None exactly where the reference is new.
+    pub(crate) fn minted(&self, reference: &[u8]) -> Option<Minting>
+        ensures { (h : History) → Stands self.now h → IsMinting h reference.now result }
+    {
+        match minted_under(&self.mints, reference) {
+            Some(minted) => Some(minted.minting),
+            None => None,
         }
     }
 
@@ -75,6 +90,7 @@ impl Shelf {
         requires place { vec_len self.old.wares < vec_capacity self.old.wares }
         requires ready { IsSome self.old.next_article }
         requires range { IfSome self.old.next_article IsInRange }
+        requires short { length contents.now ≤ 65536 }
         ensures held { (n : ℕ) → Holds self.old n → Holds self.new n }
         ensures goods { OnOk result (Holds self.new number) }
         ensures learned { OnOk result ((h : History) (m price kind : ℕ) → Stands self.old h → number ≡ length h
@@ -84,12 +100,30 @@ impl Shelf {
             → IsOk result ↔ (goods.in_force (h ++ Goods m target.now price kind contents.now ∷ []) ≤ 2 ^ 26) }
         ensures same { OnErr result ((h : History) → Stands self.old h → Stands self.new h) }
     {
-        let Some(bytes) = self.in_force_with(target, contents) else {
+        let bytes = self.in_force_with(target, contents);
+        if bytes > MOST_IN_FORCE {
             return Err(Unlawful);
-        };
+        }
         let article = self.next_article.take().unwrap();
         put_on_sale(&mut self.wares, number, article);
         self.in_force = bytes;
+        Ok(())
+    }
+
+    /// Learns a Mint entry, for which there is room.
+    fn learn_mint(&mut self, reference: &[u8], minting: Minting) -> Result<(), Unlawful>
+        requires room { HasRoomForMint self.old reference.now }
+        ensures held { (n : ℕ) → Holds self.old n → Holds self.new n }
+        ensures learned { OnOk result ((h : History) (m : ℕ) → Stands self.old h → minting.number ≡ length h
+            → Stands self.new (h ++ Mint m reference.now minting.count minting.value minting.first ∷ [])) }
+        ensures exact { (h : History) → Stands self.old h → IsOk result ↔ IsFalse (has_reference h reference.now) }
+        ensures same { OnErr result ((h : History) → Stands self.old h → Stands self.new h) }
+    {
+        if minted_under(&self.mints, reference).is_some() {
+            return Err(Unlawful);
+        }
+        let reference = self.next_reference.take().unwrap();
+        self.mints.push_reserved(Minted { reference, minting });
         Ok(())
     }
 }
@@ -161,7 +195,7 @@ impl Trade for Shelf {
                 )?);
             }
             Record::Mint { reference, .. } => {
-                self.references.reserve(1)?;
+                self.mints.reserve(1)?;
                 self.next_reference = Some(Vec::from_slice(self.alloc, reference)?);
             }
             _ => (),
@@ -190,13 +224,20 @@ impl Trade for Shelf {
                 contents,
                 ..
             } => self.learn_goods(number, target, contents),
-            Record::Mint { reference, .. } => {
-                if has_reference(&self.references, reference) {
-                    return Err(Unlawful);
-                }
-                let reference = self.next_reference.take().unwrap();
-                self.references.push_reserved(reference);
-                Ok(())
+            Record::Mint {
+                reference,
+                count,
+                value,
+                first,
+                ..
+            } => {
+                let minting = Minting {
+                    number,
+                    count,
+                    value,
+                    first,
+                };
+                self.learn_mint(reference, minting)
             }
             Record::Accept { .. } | Record::Draw { .. } => Ok(()),
             _ => Err(Unlawful),

@@ -1,6 +1,5 @@
 ghost use Rattle.std.specs.Prelude.{◌≡◌, ◌==◌, ◌<◌, ◌++◌, ◌∷◌, [], vec_len, vec_capacity, filter, find, map, bytes_eq};
 ghost use Rattle.std.specs.Option.{option_copied};
-ghost use Rattle.std.specs.List.{list_any};
 ghost use Rattle.vendor_core.specs.Wares.{new_ware, is_on_sale, is_needed, taken_off, bytes_of_ware, IsInRange};
 
 use crate::ware::{Article, Ware};
@@ -53,11 +52,4 @@ pub(crate) fn keep_needed(wares: &mut Vec<Ware>, kept_from: Option<u64>)
     ensures { wares.new.items ≡ filter (is_needed kept_from) wares.old.items }
 {
     wares.retain(|ware| ware.is_needed(kept_from));
-}
-
-/// Whether a reference stands among some.
-pub(crate) fn has_reference(references: &[Vec<u8>], reference: &[u8]) -> bool
-    ensures { result ≡ list_any (λ r. bytes_eq r.items reference.now) references.now }
-{
-    references.iter().any(|r| r.as_slice() == reference)
 }

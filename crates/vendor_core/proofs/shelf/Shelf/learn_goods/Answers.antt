@@ -1,4 +1,4 @@
-use Rattle.std.proofs.Common.{◌≡◌, Option, [], ◌∷◌, ◌++◌, sym, ap, subst, ◌∙◌}
+use Rattle.std.proofs.Common.{◌≡◌, Option, [], ◌∷◌, ◌++◌, sym, ap, subst, ◌∙◌, arith}
 use Rattle.std.specs.Prelude.{IfSome}
 use Rattle.vendor_core.specs.declared.ware.Article.{Article}
 use Rattle.mc_records.specs.Entry.{Entry, Goods}
@@ -15,8 +15,8 @@ pub returns-clause-learned : goal.returns-clause-learned
 returns-clause-learned c h m price kind stands is ready =
     let same : goods_entry m c.unwrap-article.result ≡ Goods m c.args.target.now price kind c.args.contents.now =
     article_is m _ _ c.unwrap-article.result (sym c.take.ensures.value ∙ c.unwrap-article.ensures) ready in
-    let bytes : c.in-Some.bytes ≡ in_force (h ++ goods_entry m c.unwrap-article.result ∷ []) = (c.in-Some.ensures h m price kind stands).1 ∙ ap (λ (e : Entry). in_force (h ++ e ∷ [])) (sym same) in
-    rw (c.put_on_sale.ensures, ← same) (goods_learned _ _ _ _ c.in-Some.bytes c.args.number h m c.unwrap-article.result is bytes stands)
+    let bytes : c.in_force_with-bytes.result ≡ in_force (h ++ goods_entry m c.unwrap-article.result ∷ []) = c.in_force_with-bytes.ensures h m price kind stands ∙ ap (λ (e : Entry). in_force (h ++ e ∷ [])) (sym same) in
+    rw (c.put_on_sale.ensures, ← same) (goods_learned _ _ _ _ c.in_force_with-bytes.result c.args.number h m c.unwrap-article.result is bytes (omega arith) stands)
 
 pub put_on_sale-requires-clause-range : goal.put_on_sale-requires-clause-range
 put_on_sale-requires-clause-range c = subst (λ (o : Option Article). IfSome o IsInRange) (sym c.take.ensures.value ∙ c.unwrap-article.ensures) c.requires.range

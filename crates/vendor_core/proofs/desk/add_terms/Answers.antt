@@ -1,0 +1,32 @@
+use Rattle.std.proofs.Common.{◌≡◌, ℕ, None, Some, sym, ap, ◌∙◌, refl}
+use Rattle.mc_records.specs.Entry.{Entry, AddTerms}
+use Rattle.mc_records.specs.Views.{entry}
+use Rattle.ledger_model.specs.Houses.{terms_in}
+use Rattle.house_core.specs.Bench.{house_time, limits_of}
+use Rattle.house_core.specs.declared.outcome.Outcome.TheVariants.{Done}
+use Rattle.vendor_core.specs.Shelf.{Stands, Holds}
+use Rattle.vendor_core.specs.Desk.{Add, terms_task, TellsAdded}
+use Rattle.vendor_core.proofs.DeskLemmas.{enters, refuses, stays, same_licensed, other_licensed, new_licensed, tells_last}
+use Rattle.vendor_core.proofs.desk.add_terms.Goals as goal
+
+pub returns-then-are_same-clause-exact : goal.returns-then-are_same-clause-exact
+returns-then-are_same-clause-exact g c h st =
+    let standing : terms_in h c.args.terms.now.issuer ≡ Some c.in-Some.standing = rw c.issuer.ensures at (sym (c.in-Some.ensures h st)) in
+    stays g.D.Disk.disk Stands (λ s. 0) Holds _ TellsAdded (limits_of c.args.house.bench) c.args.house h (g.met.D.Disk.is_disk _) st _
+    (same_licensed (house_time c.args.house.bench) c.args.terms.now c.in-Some.standing _ standing (sym c.if-are_same.ensures)) refl
+
+pub returns-else-are_same-clause-exact : goal.returns-else-are_same-clause-exact
+returns-else-are_same-clause-exact g c h st =
+    let standing : terms_in h c.args.terms.now.issuer ≡ Some c.in-Some.standing = rw c.issuer.ensures at (sym (c.in-Some.ensures h st)) in
+    refuses g.D.Disk.disk Stands (λ s. 0) Holds _ TellsAdded (limits_of c.args.house.bench) c.args.house h (g.met.D.Disk.is_disk _) st _
+    (other_licensed (house_time c.args.house.bench) c.args.terms.now c.in-Some.standing _ _ standing (sym c.if-are_same.ensures) (c.from.ensures ∙ c.issuer-else-are_same.ensures))
+
+pub returns-in-Done-clause-exact : goal.returns-in-Done-clause-exact
+returns-in-Done-clause-exact g c h st =
+    let t = house_time c.args.house.bench in
+    let e = entry c.terms_record-record.result in
+    let same : e ≡ AddTerms t c.args.terms.now = c.terms_record-record.ensures.entry ∙ ap (λ (m : ℕ). AddTerms m c.args.terms.now) c.time.ensures in
+    let none : terms_in h c.args.terms.now.issuer ≡ None = rw c.issuer.ensures at (sym (c.in_default.ensures h st)) in
+    let asks : Add e ≡ terms_task h t c.args.terms.now = ap (λ (x : Entry). Add x) same ∙ new_licensed t c.args.terms.now _ none in
+    enters g.D.Disk.disk Stands (λ s. 0) Holds (λ task. task ≡ terms_task h t c.args.terms.now) TellsAdded (limits_of c.args.house.bench) (λ n. Some n)
+    c.args.house.journal.disk h e (Done c.in-Done.house c.in-Done.receipt) asks (λ done. tells_last h e) (c.in-Done.ensures.exact h st) (c.in-Done.ensures.ran h st)
