@@ -32,7 +32,7 @@ pub first_has_room : (e : Entry) → Fits e → 9 + entry_size [] e ≤ 2 ^ 40
 first_has_room e fits = omega (arith, payload_is_short e fits)
 
 -- nothing before and nothing after
-none_between : (x y : List ℕ) → BeginsWith x y → BeginsWith y x → y ≡ x
+pub none_between : (x y : List ℕ) → BeginsWith x y → BeginsWith y x → y ≡ x
 none_between x y p q =
     let longer : length y ≡ length x + length p.0 = ap length p.1 ∙ length-append x p.0 in
     let shorter : length x ≡ length y + length q.0 = ap length q.1 ∙ length-append y q.0 in

@@ -6,3 +6,7 @@ pub mod LawfulRuns
 pub mod ServedLemmas
 pub mod InitLemmas
 pub mod OpenLaws
+pub mod InputLemmas
+pub mod LineLemmas
+pub mod DeskLemmas
+pub mod CompleteLemmas

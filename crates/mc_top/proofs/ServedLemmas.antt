@@ -1,5 +1,5 @@
 -- How serving the vendor of a book ends.
-use Rattle.std.proofs.Common.{◌≡◌, ◌⊎◌, inl, inr, ℕ, List, sym, ap, ◌∙◌, subst, arith}
+use Rattle.std.proofs.Common.{◌≡◌, ◌⊎◌, inl, inr, ℕ, List, refl, sym, ap, ◌∙◌, subst, arith, Err}
 use Rattle.std.specs.Prelude.{IsSome}
 use Rattle.mc_outside.specs.Bytes.{Rose}
 use Rattle.mc_outside.specs.DiskView.{DiskView, OnlyRead, Ran}
@@ -13,7 +13,9 @@ use Rattle.ledger_model.proofs.AcceptLaws.{accepted_once}
 use Rattle.house_core.specs.declared.house.House.{House}
 use Rattle.house_core.specs.Bench.{limits_of, state_of}
 use Rattle.house_core.specs.House.{StandsFor}
-use Rattle.house_core.specs.Opening.{OpenedFor}
+use Rattle.scrip_journal.specs.declared.fault.HouseFault.{HouseFault}
+use Rattle.scrip_journal.specs.declared.fault.HouseFault.TheVariants as faults
+use Rattle.house_core.specs.Opening.{OpenedFor, OpensHouse, fault_disk}
 use Rattle.house_core.specs.Session.{State}
 use Rattle.house_serving.specs.declared.links.ServeOut.{ServeOut}
 use Rattle.house_serving.specs.declared.links.ServeOut.TheVariants as outs
@@ -25,14 +27,14 @@ use Rattle.house_serving.specs.Orders.{InOrder, MovedBy, WentBy, InOrderOrDoubt}
 use Rattle.house_serving.specs.Links.{ServesLinks, HaveCauses, served_outside}
 use Rattle.vendor_core.specs.declared.shelf.Shelf.{Shelf}
 use Rattle.mc_top.specs.Opening.{full}
-use Rattle.mc_top.specs.Endings.{served_status}
-use Rattle.mc_top.specs.Serving.{StandsLawful, ServePair, HaltPair, ServedFrom, Unserved, ServesBook, ServeCauses}
+use Rattle.mc_top.specs.Endings.{served_status, fault_status}
+use Rattle.mc_top.specs.Serving.{StandsLawful, ServePair, HaltPair, ServedFrom, Unserved, NotOpened, ServesLinksOf, BookCauses}
 use Rattle.mc_top.proofs.LawfulRuns.{IsSound, all_sound, links_sound, doubt_sound}
 
 -- ---- counts
 
 pub serve_causes : {O T : Type 0} (link : O → LinkView) (disk : O → DiskView) (a b : O) (out : ServeOut O T) → (disk b).faults ≡ (disk a).faults → link b ≡ link a → HaveCauses link disk b out
-    → ServeCauses link disk a (served_status out) (served_outside out)
+    → BookCauses link disk a (served_status out) (served_outside out)
 serve_causes link disk a b (outs.Done x n) same links kept = kept.disk' ∙ same
 serve_causes link disk a b (outs.Link x) same links kept = (kept.0.disk' ∙ same, subst (λ (v : LinkView). Rose v.faults (link x.journal.disk).faults) links kept.1)
 serve_causes link disk a b (outs.NoMemory x) same links kept = ap (λ d. (disk d).faults) kept ∙ same
@@ -78,11 +80,22 @@ served_from link disk stands site holds bytes a x y steps at read same went lawf
   pairs = λ told'. read_then_moved (disk a) (disk x.journal.disk) (disk y.journal.disk) (state_of at.history x.bench) steps read (went.moved (subst (λ (v : LinkView). IsSome v.sessions) (sym same) told'));
 }
 
+-- why a book was not opened
+pub not_opened : {O : Type 0} (link : O → LinkView) (disk : O → DiskView) (stands : Shelf → History → Type 0) (site : Shelf → ℕ) (holds : Shelf → ℕ → Type 0) (bytes : List ℕ) (a : O) (fault : HouseFault O)
+    → OpensHouse {D = O} {T = Shelf} disk stands site holds full 0 bytes (Err fault) → link (fault_disk fault) ≡ link a → OnlyRead (disk a) (disk (fault_disk fault)) → NotOpened link disk bytes a (fault_status fault) (fault_disk fault)
+not_opened link disk stands site holds bytes a (faults.NotJournal d) by same read = (by, record { link' = same; read = read })
+not_opened link disk stands site holds bytes a (faults.BadRecord d place) by same read = (by, record { link' = same; read = read })
+not_opened link disk stands site holds bytes a (faults.Unlawful d place) by same read = (by, record { link' = same; read = read })
+not_opened link disk stands site holds bytes a (faults.WrongKind d) by same read = (refl, by, record { link' = same; read = read })
+not_opened link disk stands site holds bytes a (faults.NotEmpty d size) by same read = absurd by
+not_opened link disk stands site holds bytes a (faults.Disk d) by same read = record { link' = same; read = read }
+not_opened link disk stands site holds bytes a (faults.NoMemory d) by same read = record { link' = same; read = read }
+
 -- the book of the house that was opened is served
 pub serves_book : {O : Type 0} (link : O → LinkView) (disk : O → DiskView) (stands : Shelf → History → Type 0) (site : Shelf → ℕ) (holds : Shelf → ℕ → Type 0) (links : ℕ) (bytes : List ℕ) (a : O) (x : House O Shelf) (out : ServeOut O Shelf)
     (at : OpenedFor disk stands site holds full bytes x) → OnlyRead (disk a) (disk x.journal.disk) → link x.journal.disk ≡ link a
     → ((h : History) → StandsFor disk stands site holds x h → ServesLinks link disk stands site holds (limits_of x.bench) links x.journal.disk (state_of h x.bench) out)
-    → ServesBook link disk links bytes a (served_status out) (served_outside out)
+    → ServesLinksOf link disk links bytes a (served_status out) (served_outside out)
 serves_book link disk stands site holds links bytes a x (outs.Done y n) at read same served =
     let s : State = state_of at.history x.bench in
     let by = served at.history at.house in
@@ -106,8 +119,7 @@ serves_book link disk stands site holds links bytes a x (outs.Halted d) at read 
     let halted = by.3 in
     let doubt = subst (λ (v : LinkView). DoubtLinks full links by.0 s v by.1 by.2 (link d)) same
     (subst (λ (l : Limits). DoubtLinks l links by.0 s (link x.journal.disk) by.1 by.2 (link d)) at.limits' by.4) in
-    let sound = doubt_sound full links by.0 s (link a) by.1 by.2 (link d) (omega arith) (opened_sound disk stands site holds bytes x at) doubt in
-    inr (
+    let sound = doubt_sound full links by.0 s (link a) by.1 by.2 (link d) (omega arith) (opened_sound disk stands site holds bytes x at) doubt in (
       s,
       by.0,
       by.1,

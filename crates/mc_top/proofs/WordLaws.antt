@@ -1,12 +1,16 @@
 -- The words of a command are of no other.
-use Rattle.std.proofs.Common.{◌≡◌, ℕ, true, false, List, Option, Some, None, refl, sym, ap, ◌∙◌, arith}
-use Rattle.std.specs.Prelude.{Bool, IfSome, decimal}
+use Rattle.std.proofs.Common.{◌≡◌, ℕ, true, false, List, [], ◌∷◌, Option, Some, None, refl, sym, ap, ◌∙◌, arith}
+use Rattle.std.specs.Prelude.{Bool, IfSome, decimal, slice_index}
 use Rattle.std.proofs.lemmas.Fmt.{decimal_injective}
 use Rattle.hex.specs.Hex.{encode_lower}
+use Rattle.scrip_form.specs.Issuing.{Issuing}
+use Rattle.mc_top.specs.declared.order.Order.{Order}
+use Rattle.mc_top.specs.declared.order.Order.TheVariants.{Goods, Price, Licence, Mint}
 use Rattle.mc_top.specs.declared.command.Command.{Command}
-use Rattle.mc_top.specs.declared.command.Command.TheVariants.{Once, Init, Serve}
-use Rattle.mc_top.specs.Words.{Shop, AreWordsOf, Founder, IsKeepingTime, option_words, joined, AreInitWords, Server, AreServeWords}
-use Rattle.mc_top.specs.Commands.{AreWords}
+use Rattle.mc_top.specs.declared.command.Command.TheVariants.{Once, Init, Serve, Desk}
+use Rattle.mc_top.specs.Words.{Shop, AreWordsOf, AreTermsWords, Founder, IsKeepingTime, option_words, joined, AreInitWords, Server, AreServeWords, Listing, IsKind, kind_words, AreGoodsWords, Pricing, ArePriceWords, Licensing, licensed_terms, AreLicenceWords, Minting, AreMintWords}
+use Rattle.mc_top.specs.Founding.{own_terms}
+use Rattle.mc_top.specs.Commands.{AreOrderWords, AreWords}
 use Rattle.mc_top.proofs.SecretLemmas.{same_secret, same_secrets}
 
 one_shop : (words : List (List ℕ)) (a b : Shop) → AreWordsOf words a → AreWordsOf words b → a ≡ b
@@ -47,6 +51,24 @@ same_options (Some k) (Some l) true false fk fl e = absurd cc
 same_options (Some k) (Some l) false true fk fl e = absurd cc
 same_options (Some k) (Some l) false false fk fl e = (ap Some (same_time k l fk fl (let d : decimal k ≡ decimal l = cc in d)), refl)
 
+-- ---- terms
+
+abbrev spelled_terms : Issuing → List (List ℕ)
+spelled_terms t = decimal t.period ∷ decimal t.life ∷ joined t.scrip ∷ joined t.customer ∷ []
+
+one_terms : (words : List (List ℕ)) (a b : Issuing) → AreTermsWords words a → AreTermsWords words b → a.issuer ≡ b.issuer → a ≡ b
+one_terms words a b fa fb issuer =
+    let e = sym fa.spelled ∙ fb.spelled in
+    let periods : decimal a.period ≡ decimal b.period = cc in
+    let lives : decimal a.life ≡ decimal b.life = cc in
+    let scrips : joined a.scrip ≡ joined b.scrip = cc in
+    let customers : joined a.customer ≡ joined b.customer = cc in
+    let period = decimal_injective a.period b.period (omega (arith, fa.period.most)) (omega (arith, fb.period.most)) periods in
+    let life = decimal_injective a.life b.life (omega (arith, fa.period.short)) (omega (arith, fb.period.short)) lives in
+    let scrip = same_secrets a.scrip b.scrip fa.scrip.secrets' fb.scrip.secrets' scrips in
+    let customer = same_secrets a.customer b.customer fa.customer.secrets' fb.customer.secrets' customers in
+    λ i. record { issuer = issuer i; period = period i; life = life i; scrip = scrip i; customer = customer i }
+
 -- ---- founders and servers
 
 one_founder : (words : List (List ℕ)) (a b : Founder) → AreInitWords words a → AreInitWords words b → a ≡ b
@@ -54,17 +76,15 @@ one_founder words a b fa fb =
     let e = sym fa.spelled ∙ fb.spelled in
     let book : a.book ≡ b.book = cc in
     let name : a.name ≡ b.name = cc in
-    let periods : decimal a.period ≡ decimal b.period = cc in
-    let lives : decimal a.life ≡ decimal b.life = cc in
-    let scrips : joined a.scrip ≡ joined b.scrip = cc in
-    let customers : joined a.customer ≡ joined b.customer = cc in
+    let four : spelled_terms (own_terms a) ≡ spelled_terms (own_terms b) = cc in
     let options : option_words a.keep a.clear ≡ option_words b.keep b.clear = cc in
-    let period = decimal_injective a.period b.period (omega (arith, fa.founder'.period.most)) (omega (arith, fb.founder'.period.most)) periods in
-    let life = decimal_injective a.life b.life (omega (arith, fa.founder'.period.short)) (omega (arith, fb.founder'.period.short)) lives in
-    let scrip = same_secrets a.scrip b.scrip fa.founder'.scrip.secrets' fb.founder'.scrip.secrets' scrips in
-    let customer = same_secrets a.customer b.customer fa.founder'.customer.secrets' fb.founder'.customer.secrets' customers in
+    let words_a : AreTermsWords (spelled_terms (own_terms a)) (own_terms a) =
+    record { spelled = refl; period = fa.founder'.period; scrip = fa.founder'.scrip; customer = fa.founder'.customer } in
+    let words_b : AreTermsWords (spelled_terms (own_terms a)) (own_terms b) =
+    record { spelled = four; period = fb.founder'.period; scrip = fb.founder'.scrip; customer = fb.founder'.customer } in
+    let t = one_terms (spelled_terms (own_terms a)) (own_terms a) (own_terms b) words_a words_b refl in
     let o = same_options a.keep b.keep a.clear b.clear fa.founder'.keep fb.founder'.keep options in
-    λ i. record { book = book i; name = name i; period = period i; life = life i; scrip = scrip i; customer = customer i; keep = o.0 i; clear = o.1 i }
+    λ i. record { book = book i; name = name i; period = (t i).period; life = (t i).life; scrip = (t i).scrip; customer = (t i).customer; keep = o.0 i; clear = o.1 i }
 
 one_server : (words : List (List ℕ)) (a b : Server) → AreServeWords words a → AreServeWords words b → a ≡ b
 one_server words a b fa fb =
@@ -75,15 +95,93 @@ one_server words a b fa fb =
     let n = decimal_injective a.links b.links (omega (arith, fa.server'.links.within)) (omega (arith, fb.server'.links.within)) links in
     λ i. record { book = book i; listen = listen i; links = n i }
 
--- ---- the second word tells the commands apart
+-- ---- telling commands apart
+
+-- the first letter of the second word, which is another one for each command
+abbrev letter : List (List ℕ) → ℕ
+letter [] = 0
+letter (role ∷ []) = 0
+letter (role ∷ command ∷ words) = slice_index command 0
+
+-- ---- orders
+
+same_kind : (k l : Option ℕ) → IfSome k IsKind → IfSome l IsKind → kind_words k ≡ kind_words l → k ≡ l
+same_kind None None fk fl e = refl
+same_kind None (Some l) fk fl e = absurd cc
+same_kind (Some k) None fk fl e = absurd cc
+same_kind (Some k) (Some l) fk fl e = ap Some (decimal_injective k l (omega (arith, fk)) (omega (arith, fl)) (let d : decimal k ≡ decimal l = cc in d))
+
+one_listing : (words : List (List ℕ)) (a b : Listing) → AreGoodsWords words a → AreGoodsWords words b → a ≡ b
+one_listing words a b fa fb =
+    let e = sym fa.spelled ∙ fb.spelled in
+    let book : a.book ≡ b.book = cc in
+    let target : a.target ≡ b.target = cc in
+    let price : decimal a.price ≡ decimal b.price = cc in
+    let kind : kind_words a.kind ≡ kind_words b.kind = cc in
+    let p = decimal_injective a.price b.price (omega (arith, fa.listing'.price.within)) (omega (arith, fb.listing'.price.within)) price in
+    let k = same_kind a.kind b.kind fa.listing'.kind fb.listing'.kind kind in
+    λ i. record { book = book i; target = target i; price = p i; kind = k i }
+
+one_pricing : (words : List (List ℕ)) (a b : Pricing) → ArePriceWords words a → ArePriceWords words b → a ≡ b
+one_pricing words a b fa fb =
+    let e = sym fa.spelled ∙ fb.spelled in
+    let book : a.book ≡ b.book = cc in
+    let target : a.target ≡ b.target = cc in
+    let price : decimal a.price ≡ decimal b.price = cc in
+    let p = decimal_injective a.price b.price (omega (arith, fa.pricing'.price.within)) (omega (arith, fb.pricing'.price.within)) price in
+    λ i. record { book = book i; target = target i; price = p i }
+
+one_licensing : (words : List (List ℕ)) (a b : Licensing) → AreLicenceWords words a → AreLicenceWords words b → a ≡ b
+one_licensing words a b fa fb =
+    let e = sym fa.spelled ∙ fb.spelled in
+    let book : a.book ≡ b.book = cc in
+    let issuers : decimal a.issuer ≡ decimal b.issuer = cc in
+    let issuer = decimal_injective a.issuer b.issuer (omega (arith, fa.licensing'.issuer.within)) (omega (arith, fb.licensing'.issuer.within)) issuers in
+    let four : spelled_terms (licensed_terms a) ≡ spelled_terms (licensed_terms b) = cc in
+    let words_a : AreTermsWords (spelled_terms (licensed_terms a)) (licensed_terms a) =
+    record { spelled = refl; period = fa.licensing'.period; scrip = fa.licensing'.scrip; customer = fa.licensing'.customer } in
+    let words_b : AreTermsWords (spelled_terms (licensed_terms a)) (licensed_terms b) =
+    record { spelled = four; period = fb.licensing'.period; scrip = fb.licensing'.scrip; customer = fb.licensing'.customer } in
+    let t = one_terms (spelled_terms (licensed_terms a)) (licensed_terms a) (licensed_terms b) words_a words_b issuer in
+    λ i. record { book = book i; issuer = (t i).issuer; period = (t i).period; life = (t i).life; scrip = (t i).scrip; customer = (t i).customer }
+
+one_minting : (words : List (List ℕ)) (a b : Minting) → AreMintWords words a → AreMintWords words b → a ≡ b
+one_minting words a b fa fb =
+    let e = sym fa.spelled ∙ fb.spelled in
+    let book : a.book ≡ b.book = cc in
+    let counts : decimal a.count ≡ decimal b.count = cc in
+    let values : decimal a.value ≡ decimal b.value = cc in
+    let reference : a.reference ≡ b.reference = cc in
+    let count = decimal_injective a.count b.count (omega (arith, fa.minting'.count.within)) (omega (arith, fb.minting'.count.within)) counts in
+    let value = decimal_injective a.value b.value (omega (arith, fa.minting'.value.within)) (omega (arith, fb.minting'.value.within)) values in
+    λ i. record { book = book i; count = count i; value = value i; reference = reference i }
+
+one_order : (words : List (List ℕ)) (a b : Order) → AreOrderWords words a → AreOrderWords words b → a ≡ b
+one_order words (Goods a) (Goods b) fa fb = ap Goods (one_listing words a b fa fb)
+one_order words (Price a) (Price b) fa fb = ap Price (one_pricing words a b fa fb)
+one_order words (Licence a) (Licence b) fa fb = ap Licence (one_licensing words a b fa fb)
+one_order words (Mint a) (Mint b) fa fb = ap Mint (one_minting words a b fa fb)
+one_order words a b fa fb = absurd (omega (arith, ap letter (sym fa.spelled ∙ fb.spelled)))
+
+-- ---- commands
+
+abbrev IsDesk : Command → Type 0
+IsDesk (Desk order) = Unit {0}
+IsDesk _ = ⊥
+
+-- the words of an order are of no command but a keeper's
+desk_alone : (words : List (List ℕ)) (order : Order) (c : Command) → AreOrderWords words order → AreWords words c → IsDesk c
+desk_alone words order (Desk other) fo fc = tt
+desk_alone words (Goods order) c fo fc = absurd (omega (arith, ap letter (sym fo.spelled ∙ fc.spelled)))
+desk_alone words (Price order) c fo fc = absurd (omega (arith, ap letter (sym fo.spelled ∙ fc.spelled)))
+desk_alone words (Licence order) c fo fc = absurd (omega (arith, ap letter (sym fo.spelled ∙ fc.spelled)))
+desk_alone words (Mint order) c fo fc = absurd (omega (arith, ap letter (sym fo.spelled ∙ fc.spelled)))
 
 pub one_command : (words : List (List ℕ)) (a b : Command) → AreWords words a → AreWords words b → a ≡ b
 one_command words (Once a) (Once b) fa fb = ap Once (one_shop words a b fa fb)
-one_command words (Once a) (Init b) fa fb = absurd (let e = sym fa.spelled ∙ fb.spelled in cc)
-one_command words (Once a) (Serve b) fa fb = absurd (let e = sym fa.spelled ∙ fb.spelled in cc)
-one_command words (Init a) (Once b) fa fb = absurd (let e = sym fa.spelled ∙ fb.spelled in cc)
 one_command words (Init a) (Init b) fa fb = ap Init (one_founder words a b fa fb)
-one_command words (Init a) (Serve b) fa fb = absurd (let e = sym fa.spelled ∙ fb.spelled in cc)
-one_command words (Serve a) (Once b) fa fb = absurd (let e = sym fa.spelled ∙ fb.spelled in cc)
-one_command words (Serve a) (Init b) fa fb = absurd (let e = sym fa.spelled ∙ fb.spelled in cc)
 one_command words (Serve a) (Serve b) fa fb = ap Serve (one_server words a b fa fb)
+one_command words (Desk a) (Desk b) fa fb = ap Desk (one_order words a b fa fb)
+one_command words (Desk a) b fa fb = absurd (desk_alone words a b fa fb)
+one_command words a (Desk b) fa fb = absurd (desk_alone words b a fb fa)
+one_command words a b fa fb = absurd (omega (arith, ap letter (sym fa.spelled ∙ fb.spelled)))

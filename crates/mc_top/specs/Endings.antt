@@ -1,7 +1,10 @@
 -- The statuses of what houses answer.
+use Rattle.std.specs.Prelude.{ℕ, List}
 use Rattle.scrip_journal.specs.declared.fault.HouseFault.{HouseFault}
 use Rattle.scrip_journal.specs.declared.fault.HouseFault.TheVariants as faults
 use Rattle.mc_records.specs.declared.refusal.Refusal.TheVariants as refusals
+use Rattle.house_core.specs.declared.outcome.Outcome.{Outcome}
+use Rattle.house_core.specs.declared.outcome.Outcome.TheVariants as outcomes
 use Rattle.house_serving.specs.declared.links.ServeOut.{ServeOut}
 use Rattle.house_serving.specs.declared.links.ServeOut.TheVariants as outs
 use Rattle.mc_top.specs.declared.status.Status.{Status}
@@ -23,3 +26,10 @@ fault_status (faults.WrongKind d) = ends.Refused refusals.WrongKind
 fault_status (faults.NotEmpty d size) = ends.Refused (refusals.NotEmpty size)
 fault_status (faults.Disk d) = ends.DiskFault
 fault_status (faults.NoMemory d) = ends.NoMemory
+
+-- of an order to a book that was opened, with this line where it was done
+abbrev pub outcome_status : {D T A : Type 0} → Outcome D T A → List ℕ → Status
+outcome_status (outcomes.Done x a) line = ends.Did line
+outcome_status (outcomes.Refused x f) line = ends.Refused f
+outcome_status (outcomes.NoMemory x) line = ends.NoMemory
+outcome_status (outcomes.Halted d) line = ends.DiskFault

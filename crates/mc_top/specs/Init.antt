@@ -32,8 +32,7 @@ FoundsBy before founder bytes moment _ after = ⊥
 abbrev pub FoundsBook : {O : Type 0} → (O → LinkView) → (O → DiskView) → Founder → List ℕ → O → Status → O → Type 0
 FoundsBook link disk founder bytes a status b = (moment : ℕ) × FoundAt link disk founder a b moment × FoundsBy (disk a) founder bytes moment status (disk b)
 
--- the count of the disk's faults rose where the disk failed, and stayed where nothing was founded
+-- the count of the disk's faults rose where the disk failed, and stayed else
 abbrev pub InitCauses : {O : Type 0} → (O → DiskView) → O → Status → O → Type 0
-InitCauses disk a (ends.Founded name) b = Unit {0}
 InitCauses disk a ends.DiskFault b = Rose (disk a).faults (disk b).faults
 InitCauses disk a _ b = (disk b).faults ≡ (disk a).faults

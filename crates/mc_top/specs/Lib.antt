@@ -10,4 +10,6 @@ pub mod Course
 pub mod Endings
 pub mod Serving
 pub mod Init
+pub mod Inputs
+pub mod Desk
 pub mod Programs

@@ -1,5 +1,5 @@
 -- What the program does by its words.
-use Rattle.std.specs.Prelude.{◌≡◌, ℕ, List, Some}
+use Rattle.std.specs.Prelude.{◌≡◌, ◌⊎◌, ℕ, List, Some}
 use Rattle.mc_outside.specs.DiskView.{DiskView, LinkKeeps}
 use Rattle.mc_outside.specs.LinkView.{LinkView}
 use Rattle.house_serving.specs.Course.{NoLink}
@@ -10,8 +10,9 @@ use Rattle.mc_top.specs.declared.status.Status.TheVariants as ends
 use Rattle.mc_top.specs.Words.{Shop}
 use Rattle.mc_top.specs.Course.{IsDone, IsSaid}
 use Rattle.mc_top.specs.Statuses.{number_of, line_of}
-use Rattle.mc_top.specs.Serving.{ServesBook, ServeCauses}
+use Rattle.mc_top.specs.Serving.{ServesBook, BookCauses}
 use Rattle.mc_top.specs.Init.{FoundsBook, InitCauses}
+use Rattle.mc_top.specs.Desk.{KeepsBook}
 
 -- how a shop served its one link, or why it took none
 abbrev pub ServesOnce : Shop → LinkView → Status → LinkView → Type 0
@@ -27,7 +28,9 @@ Obeys link disk (commands.Once shop) a status b = ServesOnce shop (link a) statu
 Obeys link disk (commands.Init founder) a status b =
     InitCauses disk a status b × ((bytes : List ℕ) → (disk a).contents ≡ Some bytes → FoundsBook link disk founder bytes a status b)
 Obeys link disk (commands.Serve server) a status b =
-    ServeCauses link disk a status b × ((bytes : List ℕ) → (disk a).contents ≡ Some bytes → ServesBook link disk server.links bytes a status b)
+    BookCauses link disk a status b × ((bytes : List ℕ) → (disk a).contents ≡ Some bytes → ServesBook link disk server.links bytes a status b)
+Obeys link disk (commands.Desk order) a status b =
+    BookCauses link disk a status b × ((bytes : List ℕ) → (disk a).contents ≡ Some bytes → KeepsBook link disk order bytes a status b)
 
 -- then the line of the status was said, or saying it failed; that leaves the disk
 pub record Ends {O : Type 0} (link : O → LinkView) (disk : O → DiskView) (status : Status) (b c : O) (number : ℕ) : Type 0 where
@@ -38,3 +41,11 @@ pub record Ends {O : Type 0} (link : O → LinkView) (disk : O → DiskView) (st
 -- what the program does by a command
 abbrev pub RunsAs : {O : Type 0} → (O → LinkView) → (O → DiskView) → Command → O → ℕ → O → Type 0
 RunsAs {O} link disk command a number c = (b : O) × (status : Status) × Obeys link disk command a status b × Ends link disk status b c number
+
+-- the statuses of a command whose book stands for a lawful history of a vendor, where no call failed: it is
+-- done, memory was refused, or a refusal is told
+abbrev pub EndsWell : Command → ℕ → Type 0
+EndsWell (commands.Once shop) number = (number ≡ 0) ⊎ (number ≡ 5)
+EndsWell (commands.Init founder) number = (number ≡ 0) ⊎ ((number ≡ 5) ⊎ (number ≡ 7))
+EndsWell (commands.Serve server) number = (number ≡ 0) ⊎ (number ≡ 5)
+EndsWell (commands.Desk order) number = (number ≡ 0) ⊎ ((number ≡ 5) ⊎ (number ≡ 7))

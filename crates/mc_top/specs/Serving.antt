@@ -62,25 +62,35 @@ pub record Unserved {O : Type 0} (link : O → LinkView) (disk : O → DiskView)
   pub link' : link b ≡ link a
   pub read : OnlyRead (disk a) (disk b)
 
+-- why a book was not opened: by its bytes, or since the disk failed or memory was refused; then it was only
+-- read, and no link was taken
+abbrev pub NotOpened : {O : Type 0} → (O → LinkView) → (O → DiskView) → List ℕ → O → Status → O → Type 0
+NotOpened link disk bytes a ends.DiskFault b = Unserved link disk a b
+NotOpened link disk bytes a ends.NoMemory b = Unserved link disk a b
+NotOpened link disk bytes a ends.NotJournal b = (BeginsWith header bytes → ⊥) × Unserved link disk a b
+NotOpened link disk bytes a (ends.BadEntry place) b = SpoilsAt full 0 bytes place × Unserved link disk a b
+NotOpened link disk bytes a (ends.UnlawfulEntry place) b = IsUnlawfulAt full 0 bytes place × Unserved link disk a b
+NotOpened link disk bytes a (ends.Refused f) b = (f ≡ refusals.WrongKind) × IsOfOther 0 bytes × Unserved link disk a b
+NotOpened link disk bytes a _ b = ⊥
+
+-- how the links of a book that was opened were served
+abbrev pub ServesLinksOf : {O : Type 0} → (O → LinkView) → (O → DiskView) → ℕ → List ℕ → O → Status → O → Type 0
+ServesLinksOf link disk links bytes a (ends.Served n) b =
+    (s : State) × (steps : List Did) × ServedFrom link disk bytes a b s steps × ServedAll full OfLinks links n steps s (link a) (link b)
+ServesLinksOf link disk links bytes a ends.LinkFault b =
+    (s : State) × (steps : List Did) × ServedFrom link disk bytes a b s steps × ServedSome full OfLinks links steps s (link a) (link b)
+ServesLinksOf link disk links bytes a ends.DiskFault b =
+    (s : State) × (steps : List Did) × (e : Entry) × (said : List ℕ) × HaltedFrom link disk bytes a b s steps e said × DoubtLinks full links steps s (link a) e said (link b)
+ServesLinksOf link disk links bytes a ends.NoMemory b = Unserved link disk a b
+ServesLinksOf link disk links bytes a _ b = ⊥
+
 -- how serving so many links ended, on an outside whose disk had these bytes
 abbrev pub ServesBook : {O : Type 0} → (O → LinkView) → (O → DiskView) → ℕ → List ℕ → O → Status → O → Type 0
-ServesBook link disk links bytes a (ends.Served n) b =
-    (s : State) × (steps : List Did) × ServedFrom link disk bytes a b s steps × ServedAll full OfLinks links n steps s (link a) (link b)
-ServesBook link disk links bytes a ends.LinkFault b =
-    (s : State) × (steps : List Did) × ServedFrom link disk bytes a b s steps × ServedSome full OfLinks links steps s (link a) (link b)
-ServesBook link disk links bytes a ends.DiskFault b =
-    Unserved link disk a b
-    ⊎ ((s : State) × (steps : List Did) × (e : Entry) × (said : List ℕ) × HaltedFrom link disk bytes a b s steps e said × DoubtLinks full links steps s (link a) e said (link b))
-ServesBook link disk links bytes a ends.NoMemory b = Unserved link disk a b
-ServesBook link disk links bytes a ends.NotJournal b = (BeginsWith header bytes → ⊥) × Unserved link disk a b
-ServesBook link disk links bytes a (ends.BadEntry place) b = SpoilsAt full 0 bytes place × Unserved link disk a b
-ServesBook link disk links bytes a (ends.UnlawfulEntry place) b = IsUnlawfulAt full 0 bytes place × Unserved link disk a b
-ServesBook link disk links bytes a (ends.Refused f) b = (f ≡ refusals.WrongKind) × IsOfOther 0 bytes × Unserved link disk a b
-ServesBook link disk links bytes a _ b = ⊥
+ServesBook link disk links bytes a status b = NotOpened link disk bytes a status b ⊎ ServesLinksOf link disk links bytes a status b
 
--- The count of the disk's faults rose where the disk failed, and that of the links' where no further link
--- could be taken; else the disk did not fail.
-abbrev pub ServeCauses : {O : Type 0} → (O → LinkView) → (O → DiskView) → O → Status → O → Type 0
-ServeCauses link disk a ends.DiskFault b = Rose (disk a).faults (disk b).faults
-ServeCauses link disk a ends.LinkFault b = ((disk b).faults ≡ (disk a).faults) × Rose (link a).faults (link b).faults
-ServeCauses link disk a _ b = (disk b).faults ≡ (disk a).faults
+-- Of a command over a book that stands: the count of the disk's faults rose where the disk failed, and that of
+-- the links' where a link failed that the command needs; else the disk did not fail.
+abbrev pub BookCauses : {O : Type 0} → (O → LinkView) → (O → DiskView) → O → Status → O → Type 0
+BookCauses link disk a ends.DiskFault b = Rose (disk a).faults (disk b).faults
+BookCauses link disk a ends.LinkFault b = ((disk b).faults ≡ (disk a).faults) × Rose (link a).faults (link b).faults
+BookCauses link disk a _ b = (disk b).faults ≡ (disk a).faults

@@ -56,6 +56,13 @@ pub record IsSecretList (secrets : List (List ℕ)) : Type 0 where
 abbrev pub joined : List (List ℕ) → List ℕ
 joined secrets = join_with_byte 44 (map encode_lower secrets)
 
+-- the words `PERIOD LIFE SCRIP CUSTOMER` of these terms, whoever the issuer is
+pub record AreTermsWords (words : List (List ℕ)) (terms : Issuing) : Type 0 where
+  pub spelled : words ≡ decimal terms.period ∷ decimal terms.life ∷ joined terms.scrip ∷ joined terms.customer ∷ []
+  pub period : HasPeriod terms.period terms.life
+  pub scrip : IsSecretList terms.scrip
+  pub customer : IsSecretList terms.customer
+
 -- what a vendor is founded with: its book, its name, the period and the life of its series, its secrets
 -- of scrip and of customers, its keeping time where the words say one, and whether it takes requests
 -- without a signature
@@ -118,3 +125,109 @@ pub record IsServer (server : Server) : Type 0 where
 pub record AreServeWords (words : List (List ℕ)) (server : Server) : Type 0 where
   pub spelled : words ≡ codes "vendor" ∷ codes "serve" ∷ server.book ∷ server.listen ∷ decimal server.links ∷ []
   pub server' : IsServer server
+
+-- ---- `vendor goods BOOK TARGET PRICE [--kind K]`
+
+-- what is put on sale: the book of the vendor, the target and the price of the goods, and the kind of
+-- their contents where the words say one
+pub record Listing : Type 0 where
+  pub book : List ℕ
+  pub target : List ℕ
+  pub price : ℕ
+  pub kind : Option ℕ
+
+-- the kinds of contents are 0, 1 and 2
+abbrev pub IsKind : ℕ → Type 0
+IsKind kind = kind < 3
+
+-- the ranges of a listing
+pub record IsListing (listing : Listing) : Type 0 where
+  pub book : IsPlace listing.book
+  pub target : IsTarget listing.target
+  pub price : IsNumber (2 ^ 40) listing.price
+  pub kind : IfSome listing.kind IsKind
+
+-- the option `[--kind K]`
+abbrev pub kind_words : Option ℕ → List (List ℕ)
+kind_words None = []
+kind_words (Some kind) = codes "--kind" ∷ decimal kind ∷ []
+
+-- the words are `vendor goods BOOK TARGET PRICE` of this listing, and its option
+pub record AreGoodsWords (words : List (List ℕ)) (listing : Listing) : Type 0 where
+  pub spelled : words ≡ codes "vendor" ∷ codes "goods" ∷ listing.book ∷ listing.target ∷ decimal listing.price ∷ kind_words listing.kind
+  pub listing' : IsListing listing
+
+-- ---- `vendor price BOOK TARGET PRICE`
+
+-- what is sold at another price: the book of the vendor, the target of the goods, and the price
+pub record Pricing : Type 0 where
+  pub book : List ℕ
+  pub target : List ℕ
+  pub price : ℕ
+
+-- the ranges of a pricing
+pub record IsPricing (pricing : Pricing) : Type 0 where
+  pub book : IsPlace pricing.book
+  pub target : IsTarget pricing.target
+  pub price : IsNumber (2 ^ 40) pricing.price
+
+-- the words `BOOK TARGET PRICE` of this pricing
+pub record AreOfferWords (words : List (List ℕ)) (pricing : Pricing) : Type 0 where
+  pub spelled : words ≡ pricing.book ∷ pricing.target ∷ decimal pricing.price ∷ []
+  pub pricing' : IsPricing pricing
+
+-- the words are `vendor price BOOK TARGET PRICE` of this pricing
+pub record ArePriceWords (words : List (List ℕ)) (pricing : Pricing) : Type 0 where
+  pub spelled : words ≡ codes "vendor" ∷ codes "price" ∷ pricing.book ∷ pricing.target ∷ decimal pricing.price ∷ []
+  pub pricing' : IsPricing pricing
+
+-- ---- `vendor licence BOOK ISSUER PERIOD LIFE SCRIP CUSTOMER`
+
+-- what another house may issue: the book of the vendor, and the terms under which scrip of the vendor is
+-- made by an issuer of this number
+pub record Licensing : Type 0 where
+  pub book : List ℕ
+  pub issuer : ℕ
+  pub period : ℕ
+  pub life : ℕ
+  pub scrip : List (List ℕ)
+  pub customer : List (List ℕ)
+
+-- the ranges of a licensing
+pub record IsLicensing (licensing : Licensing) : Type 0 where
+  pub book : IsPlace licensing.book
+  pub issuer : IsNumber 255 licensing.issuer
+  pub period : HasPeriod licensing.period licensing.life
+  pub scrip : IsSecretList licensing.scrip
+  pub customer : IsSecretList licensing.customer
+
+-- the terms that a licensing gives
+abbrev pub licensed_terms : Licensing → Issuing
+licensed_terms licensing = record { issuer = licensing.issuer; period = licensing.period; life = licensing.life; scrip = licensing.scrip; customer = licensing.customer }
+
+-- the words are `vendor licence BOOK ISSUER PERIOD LIFE SCRIP CUSTOMER` of this licensing
+pub record AreLicenceWords (words : List (List ℕ)) (licensing : Licensing) : Type 0 where
+  pub spelled : words ≡ codes "vendor" ∷ codes "licence" ∷ licensing.book ∷ decimal licensing.issuer ∷ decimal licensing.period ∷ decimal licensing.life ∷ joined licensing.scrip ∷ joined licensing.customer ∷ []
+  pub licensing' : IsLicensing licensing
+
+-- ---- `vendor mint BOOK COUNT VALUE REFERENCE`
+
+-- what is minted: the book of the vendor, how many pieces, the value of each, and the reference by which
+-- they are known
+pub record Minting : Type 0 where
+  pub book : List ℕ
+  pub count : ℕ
+  pub value : ℕ
+  pub reference : List ℕ
+
+-- the ranges of a minting
+pub record IsMinting (minting : Minting) : Type 0 where
+  pub book : IsPlace minting.book
+  pub count : IsNumber 256 minting.count
+  pub value : IsNumber (2 ^ 40) minting.value
+  pub reference : IsName minting.reference
+
+-- the words are `vendor mint BOOK COUNT VALUE REFERENCE` of this minting
+pub record AreMintWords (words : List (List ℕ)) (minting : Minting) : Type 0 where
+  pub spelled : words ≡ codes "vendor" ∷ codes "mint" ∷ minting.book ∷ decimal minting.count ∷ decimal minting.value ∷ minting.reference ∷ []
+  pub minting' : IsMinting minting

@@ -27,6 +27,13 @@ pub fn places(alloc: Global, words: &[String]) -> Result<Places, NoMemory>
             listen: Some(list_of(alloc, server.listen())?),
             connect: None,
         }),
+        Some(Command::Desk(order)) => Ok(Places {
+            site: Some(list_of(alloc, order.book())?),
+            founds: false,
+            books,
+            listen: None,
+            connect: None,
+        }),
         Some(Command::Once(_)) | None => Ok(Places {
             site: None,
             founds: false,

@@ -1,12 +1,18 @@
-ghost use Rattle.std.specs.Prelude.{◌≡◌, ◌⊎◌, ◌↔◌, ◌<◌, map, length, string_bytes, codes};
+ghost use Rattle.std.specs.Prelude.{◌≡◌, ◌⊎◌, ◌↔◌, ◌<◌, ℕ, List, Some, map, length, string_bytes, codes};
+ghost use Rattle.mc_outside.specs.Bytes.{Rose};
 ghost use Rattle.mc_outside.specs.DiskView.{LinkKeeps};
+ghost use Rattle.ledger_model.specs.Histories.{History};
+ghost use Rattle.ledger_model.specs.Lawful.{IsLawful};
+ghost use Rattle.scrip_journal.specs.Layout.{Stands};
 ghost use Rattle.mc_top.specs.declared.command.Command.{Command as Commanded};
 ghost use Rattle.mc_top.specs.Commands.{AreWords, AreNoWords};
 ghost use Rattle.mc_top.specs.Course.{IsSaid, EndsOnce};
-ghost use Rattle.mc_top.specs.Programs.{Obeys, Ends, RunsAs};
+ghost use Rattle.mc_top.specs.Opening.{full};
+ghost use Rattle.mc_top.specs.Programs.{Obeys, Ends, RunsAs, EndsWell};
 ghost use Rattle.mc_top.specs.Statuses.{number_of};
 
 use crate::command::Command;
+use crate::desk::keep_book;
 use crate::init::found_book;
 use crate::serving::serve_book;
 use crate::shop::Shop;
@@ -31,20 +37,25 @@ pub struct Ran<O, D> {
 /// `vendor once NAME TARGET PRICE SECRET CONTENTS` serves one link by a house in memory, and touches no
 /// disk. `vendor init BOOK NAME PERIOD LIFE SCRIP CUSTOMER [--keep S] [--clear]` founds a vendor in the
 /// book on the outside's disk. `vendor serve BOOK LISTEN LINKS` serves so many links by the house of that
-/// book, or all that come.
+/// book, or all that come. `vendor goods`, `vendor price`, `vendor licence` and `vendor mint` enter into that
+/// book what its keeper says, at the reading of the clock; the contents of goods come on one link.
 ///
 /// 0: it is done. 2: the words are of no command, or there are books; nothing was touched but what is said.
-/// 3: the book that is to be served is no journal, or has bytes that can't stand, or an entry that may not
-/// follow. 4: the disk failed. 5: memory was refused before anything was done; memory that is refused
-/// later, to accept a request, is a reply with refusal 90 (`500`), and the link goes on. 6: `next_link`
-/// failed. 7: a refusal is told: that the book to be founded has bytes already, or that the book to be
-/// served is of a site of another kind. A line says how it ended; where it can't be said, the status stays.
-/// The outside and the books are handed back.
+/// 3: the book that is opened is no journal, or has bytes that can't stand, or an entry that may not follow.
+/// 4: the disk failed. 5: memory was refused before anything was done; memory that is refused later, to
+/// accept a request, is a reply with refusal 90 (`500`), and the link goes on. 6: `next_link` failed, or
+/// receiving the contents of goods. 7: a refusal is told: that the book to be founded has bytes already (50),
+/// that the book that is opened is of a site of another kind (52), or what `set_goods`, `set_price`,
+/// `add_terms` or `mint` refuses. Lines say how it ended; where they can't be said, the status stays. The
+/// outside and the books are handed back.
 pub fn run<O: Outside, D: Disk>(alloc: Global, words: &[String], out: O, books: Vec<D>) -> Ran<O, D>
     ensures books { result.books ≡ books }
     ensures words { (result.status ≡ 2) ↔ (AreNoWords (map string_bytes words.now) ⊎ (0 < length books.items)) }
     ensures bad_words { result.status ≡ 2 → IsSaid (codes "bad words\n") (O.link out) (O.link result.out) × LinkKeeps (O.disk out) (O.disk result.out) }
     ensures obeyed { (command : Commanded) → AreWords (map string_bytes words.now) command → length books.items ≡ 0 → RunsAs O.link O.disk command out result.status result.out }
+    ensures complete { (command : Commanded) (h : History) (bytes : List ℕ) → AreWords (map string_bytes words.now) command → length books.items ≡ 0
+        → (O.disk out).contents ≡ Some bytes → Stands h bytes → IsLawful full h
+        → (Rose (O.disk out).faults (O.disk result.out).faults → ⊥) → (Rose (O.link out).faults (O.link result.out).faults → ⊥) → EndsWell command result.status }
 {
     if !books.is_empty() {
         let (out, status) = end(out, Status::BadWords);
@@ -76,6 +87,7 @@ fn obey<O: Outside>(alloc: Global, command: &Command<'_>, out: O) -> (O, Status)
         }
         Command::Init(founder) => found_book(alloc, founder, out),
         Command::Serve(server) => serve_book(alloc, server.links(), out),
+        Command::Desk(order) => keep_book(alloc, order, out),
     }
 }
 
@@ -98,11 +110,19 @@ fn serve_once<K: Link>(alloc: Global, shop: &Shop<'_>, k: &mut K) -> Result<(), 
 fn end<O: Outside>(out: O, status: Status) -> (O, u8)
     ensures ends { Ends O.link O.disk status out result.0 result.1 }
 {
-    let mut out = out;
-    let mut line = [0; 256];
-    let len = status.put_line(&mut line);
-    if len > 0 {
-        let _ = out.say(&line[..len]);
-    }
+    let mut room = [0; 256];
+    let out = say(out, status.line(&mut room));
     (out, status.number())
+}
+
+/// Says a line, where there is one; that may fail.
+fn say<O: Outside>(out: O, line: &[u8]) -> O
+    ensures said { IsSaid line.now (O.link out) (O.link result) }
+    ensures keeps { LinkKeeps (O.disk out) (O.disk result) }
+{
+    let mut out = out;
+    if !line.is_empty() {
+        let _ = out.say(line);
+    }
+    out
 }

@@ -1,13 +1,14 @@
 ghost use Rattle.std.specs.Prelude.{◌≡◌, ◌+◌, ◌≤◌, ◌++◌, length, take, codes, decimal};
 ghost use Rattle.mc_top.specs.declared.status.Status.TheVariants.{Refused};
-ghost use Rattle.mc_top.specs.Statuses.{number_of, line_of};
+ghost use Rattle.mc_top.specs.Statuses.{number_of, line_of, IsMade};
 
+use mc_base::List;
 use mc_fields::{put, put_number};
 use mc_records::{Refusal, put_refusal_text};
 use scrip_form::Name;
 
 /// How the program ends.
-#[derive(Clone, Copy)]
+#[derive(Drop)]
 pub(crate) enum Status {
     /// The one link of a shop was served, or none came.
     Done,
@@ -15,6 +16,8 @@ pub(crate) enum Status {
     Served(u32),
     /// A site of this name was founded.
     Founded(Name),
+    /// What the keeper of a book has said was done. This is said of it.
+    Did(List<u8>),
     BadWords,
     NotJournal,
     /// The bytes of the book can't stand from this place on.
@@ -28,11 +31,11 @@ pub(crate) enum Status {
 }
 
 impl Status {
-    pub(crate) fn number(self) -> u8
-        ensures { result ≡ number_of self }
+    pub(crate) fn number(&self) -> u8
+        ensures { result ≡ number_of self.now }
     {
         match self {
-            Status::Done | Status::Served(_) | Status::Founded(_) => 0,
+            Status::Done | Status::Served(_) | Status::Founded(_) | Status::Did(_) => 0,
             Status::BadWords => 2,
             Status::NotJournal | Status::BadEntry(_) | Status::UnlawfulEntry(_) => 3,
             Status::DiskFault => 4,
@@ -42,13 +45,24 @@ impl Status {
         }
     }
 
-    /// Writes the line that is said to the front of the buffer, and answers its length.
-    pub(crate) fn put_line(&self, out: &mut [u8; 256]) -> usize
+    /// The line that is said. `room` is for one that is made here.
+    pub(crate) fn line<'a>(&'a self, room: &'a mut [u8; 256]) -> &'a [u8]
+        ensures { result.now ≡ line_of self.now }
+    {
+        if let Status::Did(line) = self {
+            return line.slice();
+        }
+        let len = self.put_line(room);
+        &room[..len]
+    }
+
+    /// Writes the line of a status that brings none to the front of the buffer, and answers its length.
+    fn put_line(&self, out: &mut [u8; 256]) -> usize
         ensures within { result ≤ 256 }
-        ensures line { take result out.new ≡ line_of self.now }
+        ensures line { IsMade self.now → take result out.new ≡ line_of self.now }
     {
         match self {
-            Status::Done => 0,
+            Status::Done | Status::Did(_) => 0,
             Status::Served(links) => put_numbered(out, b"served ", u64::from(*links)),
             Status::Founded(name) => put_named(out, name),
             Status::BadWords => put(out, 0, b"bad words\n"),

@@ -3,22 +3,29 @@ ghost use Rattle.mc_top.specs.Words.{AreWordsOf, AreBadWords, IsPlace};
 ghost use Rattle.mc_top.specs.Commands.{AreWords, AreNoWords};
 ghost use Rattle.mc_top.specs.WordLists.{once_words};
 
+mod goods;
 mod init;
+mod kind;
+mod licence;
+mod mint;
+mod number;
 mod options;
+mod order;
 mod secrets;
 mod serve;
+mod terms;
 
 use crate::command::Command;
 use crate::shop::Shop;
 use init::founder_of;
-use mc_base::Amount;
-use mc_fields::number_of;
+use number::amount_of;
+use order::order_of;
 use scrip_certs::of_hex;
 use scrip_form::{Name, Target};
 use serve::server_of;
 
-/// The most bytes of the contents that are sold.
-const MOST_CONTENTS: usize = 65536;
+/// The most bytes of the contents that are sold for one target.
+pub(crate) const MOST_CONTENTS: usize = 65536;
 
 /// The most bytes of a word that names a book or a place to listen at.
 const MOST_PLACE: usize = 255;
@@ -34,7 +41,10 @@ pub(crate) fn command_of(words: &[String]) -> Option<Command<'_>>
     if let Some(founder) = founder_of(words) {
         return Some(Command::Init(founder));
     }
-    Some(Command::Serve(server_of(words)?))
+    if let Some(server) = server_of(words) {
+        return Some(Command::Serve(server));
+    }
+    Some(Command::Desk(order_of(words)?))
 }
 
 /// Whether the word can name a book or a place to listen at.
@@ -95,7 +105,7 @@ fn shop_from(words: OnceWords<'_>) -> Option<Shop<'_>>
     }
     let name = Name::new(words.name)?;
     let target = Target::new(words.target)?;
-    let price = Amount::new(number_of(Amount::MOST, words.price)?)?;
+    let price = amount_of(words.price)?;
     let secret = of_hex(words.secret)?;
     Some(Shop::new(name, target, price, secret, words.contents))
 }

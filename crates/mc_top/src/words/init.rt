@@ -1,16 +1,12 @@
-ghost use Rattle.std.specs.Prelude.{◌≡◌, ◌≤◌, ◌^◌, ◌<◌, ℕ, map, length, string_bytes, IfSome, IsNone, decimal};
+ghost use Rattle.std.specs.Prelude.{◌≡◌, ◌<◌, map, length, string_bytes, IfSome, IsNone};
 ghost use Rattle.mc_top.specs.Words.{Founder as Founding, AreInitWords};
 ghost use Rattle.mc_top.specs.WordLists.{init_words};
 
 use crate::founder::Founder;
 use crate::words::is_place;
 use crate::words::options::options_of;
-use crate::words::secrets::secrets_of;
-use mc_fields::number_of;
-use scrip_form::{Name, Terms};
-
-/// The greatest period and the greatest life of terms, in seconds.
-const MOST_SECONDS: u64 = 1 << 24;
+use crate::words::terms::{TermsWords, terms_of, terms_words_of};
+use scrip_form::Name;
 
 /// The founder that the words `vendor init BOOK NAME PERIOD LIFE SCRIP CUSTOMER [--keep S] [--clear]`
 /// give; None exactly where they are of no founder.
@@ -28,10 +24,7 @@ struct InitWords<'a> {
     command: &'a [u8],
     book: &'a [u8],
     name: &'a [u8],
-    period: &'a [u8],
-    life: &'a [u8],
-    scrip: &'a [u8],
-    customer: &'a [u8],
+    terms: TermsWords<'a>,
     options: &'a [String],
 }
 
@@ -39,30 +32,18 @@ fn init_words_of(words: &[String]) -> Option<InitWords<'_>>
     ensures words { IfSome result (λ w. map string_bytes words.now ≡ init_words w) }
     ensures none { IsNone result → length words.now < 8 }
 {
-    match words {
-        [
-            role,
-            command,
-            book,
-            name,
-            period,
-            life,
-            scrip,
-            customer,
-            options @ ..,
-        ] => Some(InitWords {
-            role: role.as_bytes(),
-            command: command.as_bytes(),
-            book: book.as_bytes(),
-            name: name.as_bytes(),
-            period: period.as_bytes(),
-            life: life.as_bytes(),
-            scrip: scrip.as_bytes(),
-            customer: customer.as_bytes(),
-            options,
-        }),
-        _ => None,
-    }
+    let [role, command, book, name, behind @ ..] = words else {
+        return None;
+    };
+    let (terms, options) = terms_words_of(behind)?;
+    Some(InitWords {
+        role: role.as_bytes(),
+        command: command.as_bytes(),
+        book: book.as_bytes(),
+        name: name.as_bytes(),
+        terms,
+        options,
+    })
 }
 
 fn founder_from(words: InitWords<'_>) -> Option<Founder<'_>>
@@ -76,24 +57,7 @@ fn founder_from(words: InitWords<'_>) -> Option<Founder<'_>>
         return None;
     }
     let name = Name::new(words.name)?;
-    let period = number_of(MOST_SECONDS, words.period)?;
-    let life = number_or_zero(MOST_SECONDS, words.life)?;
-    let scrip = secrets_of(words.scrip)?;
-    let customer = secrets_of(words.customer)?;
-    let terms = Terms::new(0, period as u32, life as u32, scrip, customer)?;
+    let terms = terms_of(0, words.terms)?;
     let options = options_of(words.options)?;
     Some(Founder::new(words.book, name, terms, options.keep, options.clear))
-}
-
-/// The number from 0 to `most` that the bytes spell whole, in decimal and without a leading zero; None
-/// exactly where they spell none.
-fn number_or_zero(most: u64, bytes: &[u8]) -> Option<u64>
-    requires { most ≤ 2 ^ 60 }
-    ensures number { IfSome result (λ n. (n ≤ most) × (bytes.now ≡ decimal n)) }
-    ensures none { IsNone result → (n : ℕ) → n ≤ most → bytes.now ≡ decimal n → ⊥ }
-{
-    if bytes == b"0".as_slice() {
-        return Some(0);
-    }
-    number_of(most, bytes)
 }

@@ -1,7 +1,8 @@
 use Rattle.std.proofs.Common.{subst}
 use Rattle.mc_top.specs.declared.command.Command.{Command}
-use Rattle.mc_top.specs.Programs.{Obeys}
+use Rattle.mc_top.specs.Programs.{Obeys, RunsAs}
 use Rattle.mc_top.proofs.WordLaws.{one_command}
+use Rattle.mc_top.proofs.CompleteLemmas.{ends_well}
 use Rattle.mc_top.proofs.program.run.Goals as goal
 
 pub returns-clause-obeyed : goal.returns-clause-obeyed
@@ -11,3 +12,8 @@ returns-clause-obeyed g c command words none = (
   subst (λ (x : Command). Obeys g.O.Link.link g.O.Disk.disk x c.args.out c.obey-out.result.1 c.obey-out.result.0) (one_command _ _ command c.in-Some.ensures.command words) c.obey-out.ensures.obeyed,
   c.end-out-2.ensures.ends,
 )
+
+pub returns-clause-complete : goal.returns-clause-complete
+returns-clause-complete g c command h bytes words none told st lawful no_disk no_link =
+    let runs : RunsAs g.O.Link.link g.O.Disk.disk command c.args.out c.end-out-2.result.1 c.end-out-2.result.0 = returns-clause-obeyed g c command words none in
+    ends_well g.O.Link.link g.O.Disk.disk command h bytes c.args.out c.end-out-2.result.0 c.end-out-2.result.1 told st lawful no_disk no_link runs

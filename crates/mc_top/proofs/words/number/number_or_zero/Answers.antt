@@ -2,7 +2,7 @@ use Rattle.std.proofs.Common.{◌≡◌, ℕ, zero, suc, ◌≤◌, List, [], �
 use Rattle.std.specs.Prelude.{◌≢◌, decimal}
 use Rattle.std.proofs.lemmas.Fmt.{decimal_digit}
 use Rattle.mc_fields.specs.Texts.{IsNumber}
-use Rattle.mc_top.proofs.words.init.number_or_zero.Goals as goal
+use Rattle.mc_top.proofs.words.number.number_or_zero.Goals as goal
 
 neither : (most : ℕ) (bytes : List ℕ) → bytes ≢ 48 ∷ [] → ((n : ℕ) → IsNumber most n → bytes ≡ decimal n → ⊥) → (n : ℕ) → n ≤ most → bytes ≡ decimal n → ⊥
 neither most bytes other none zero le e = other (e ∙ decimal_digit 0 (omega arith))

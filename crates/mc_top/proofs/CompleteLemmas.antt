@@ -1,0 +1,142 @@
+-- A command whose book stands for a lawful history, where no call failed, does what it says, or wants memory, or
+-- tells a refusal.
+use Rattle.std.proofs.Common.{◌≡◌, ◌⊎◌, inl, inr, ℕ, List, refl, sym, ap, subst, arith, Some}
+use Rattle.mc_outside.specs.Bytes.{Rose}
+use Rattle.mc_outside.specs.DiskView.{DiskView}
+use Rattle.mc_outside.specs.LinkView.{LinkView}
+use Rattle.ledger_model.specs.Histories.{History}
+use Rattle.ledger_model.specs.Lawful.{IsLawful}
+use Rattle.scrip_journal.specs.Layout.{Stands}
+use Rattle.vendor_core.specs.Desk.{Task}
+use Rattle.mc_top.specs.declared.command.Command.{Command}
+use Rattle.mc_top.specs.declared.command.Command.TheVariants as commands
+use Rattle.mc_top.specs.declared.order.Order.{Order}
+use Rattle.mc_top.specs.declared.status.Status.{Status}
+use Rattle.mc_top.specs.declared.status.Status.TheVariants as ends
+use Rattle.mc_top.specs.Opening.{full}
+use Rattle.mc_top.specs.Words.{Shop, Founder}
+use Rattle.mc_top.specs.Course.{IsSaid}
+use Rattle.mc_top.specs.Statuses.{number_of}
+use Rattle.mc_top.specs.Serving.{NotOpened, ServesLinksOf, BookCauses}
+use Rattle.mc_top.specs.Init.{FoundsBook, InitCauses}
+use Rattle.mc_top.specs.Desk.{LosesInput, DidBy, KeepsBook}
+use Rattle.mc_top.specs.Programs.{ServesOnce, Obeys, Ends, RunsAs, EndsWell}
+use Rattle.mc_top.proofs.OpenLaws.{begins_with_header, not_spoiled, not_unlawful, not_of_other}
+
+-- a call that failed is seen at the end
+rose_at_end : (a b c : ℕ) (line : List ℕ) (v w : LinkView) → b ≡ v.faults → c ≡ w.faults → IsSaid line v w → Rose a b → Rose a c
+rose_at_end a b c line v w is_b is_c (inl said) rose = let same : w.faults ≡ v.faults = ap (λ (u : LinkView). u.faults) said in omega (arith, rose, is_b, is_c, same)
+rose_at_end a b c line v w is_b is_c (inr part) rose = omega (arith, rose, is_b, is_c, part.rose)
+
+-- what did not come of a book that stands
+record Calm {O : Type 0} (link : O → LinkView) (disk : O → DiskView) (a b : O) : Type 0 where
+  disk' : Rose (disk a).faults (disk b).faults → ⊥
+  link' : Rose (link a).faults (link b).faults → ⊥
+
+is_calm : {O : Type 0} (link : O → LinkView) (disk : O → DiskView) (a b c : O) (status : Status) (number : ℕ) → Ends link disk status b c number
+    → (Rose (disk a).faults (disk c).faults → ⊥) → (Rose (link a).faults (link c).faults → ⊥) → Calm link disk a b
+is_calm link disk a b c status number ends no_disk no_link = record {
+  disk' = λ rose. no_disk (subst (λ (n : ℕ). Rose (disk a).faults n) (sym ends.keeps.faults) rose);
+  link' = λ rose. no_link (rose_at_end (link a).faults (link b).faults (link c).faults _ (link b) (link c) refl refl ends.said rose);
+}
+
+-- it was opened, unless memory was refused
+only_memory : {O : Type 0} (link : O → LinkView) (disk : O → DiskView) (h : History) (bytes : List ℕ) (a b : O) (status : Status) → Stands h bytes → IsLawful full h → Calm link disk a b
+    → BookCauses link disk a status b → NotOpened link disk bytes a status b → number_of status ≡ 5
+only_memory link disk h bytes a b ends.Done st lawful calm causes not = absurd not
+only_memory link disk h bytes a b (ends.Served n) st lawful calm causes not = absurd not
+only_memory link disk h bytes a b (ends.Founded name) st lawful calm causes not = absurd not
+only_memory link disk h bytes a b (ends.Did line) st lawful calm causes not = absurd not
+only_memory link disk h bytes a b ends.BadWords st lawful calm causes not = absurd not
+only_memory link disk h bytes a b ends.NotJournal st lawful calm causes not = absurd (not.0 (begins_with_header h bytes st))
+only_memory link disk h bytes a b (ends.BadEntry place) st lawful calm causes not = absurd (not_spoiled h bytes place st not.0)
+only_memory link disk h bytes a b (ends.UnlawfulEntry place) st lawful calm causes not = absurd (not_unlawful h bytes place st lawful not.0)
+only_memory link disk h bytes a b ends.DiskFault st lawful calm causes not = absurd (calm.disk' causes)
+only_memory link disk h bytes a b ends.NoMemory st lawful calm causes not = refl
+only_memory link disk h bytes a b ends.LinkFault st lawful calm causes not = absurd not
+only_memory link disk h bytes a b (ends.Refused f) st lawful calm causes not = absurd (not_of_other h bytes st lawful not.1)
+
+once_well : (shop : Shop) (v w : LinkView) (status : Status) → (Rose v.faults w.faults → ⊥) → ServesOnce shop v status w → (number_of status ≡ 0) ⊎ (number_of status ≡ 5)
+once_well shop v w ends.Done calm served = inl refl
+once_well shop v w (ends.Served n) calm served = inl refl
+once_well shop v w (ends.Founded name) calm served = inl refl
+once_well shop v w (ends.Did line) calm served = inl refl
+once_well shop v w ends.NoMemory calm served = inr refl
+once_well shop v w ends.LinkFault calm served = absurd (calm served.rose)
+once_well shop v w ends.BadWords calm served = absurd served
+once_well shop v w ends.NotJournal calm served = absurd served
+once_well shop v w (ends.BadEntry place) calm served = absurd served
+once_well shop v w (ends.UnlawfulEntry place) calm served = absurd served
+once_well shop v w ends.DiskFault calm served = absurd served
+once_well shop v w (ends.Refused f) calm served = absurd served
+
+init_well : {O : Type 0} (link : O → LinkView) (disk : O → DiskView) (founder : Founder) (bytes : List ℕ) (a b : O) (status : Status) → Calm link disk a b → InitCauses disk a status b → FoundsBook link disk founder bytes a status b
+    → (number_of status ≡ 0) ⊎ ((number_of status ≡ 5) ⊎ (number_of status ≡ 7))
+init_well link disk founder bytes a b ends.Done calm causes found = inl refl
+init_well link disk founder bytes a b (ends.Served n) calm causes found = inl refl
+init_well link disk founder bytes a b (ends.Founded name) calm causes found = inl refl
+init_well link disk founder bytes a b (ends.Did line) calm causes found = inl refl
+init_well link disk founder bytes a b ends.NoMemory calm causes found = inr (inl refl)
+init_well link disk founder bytes a b (ends.Refused f) calm causes found = inr (inr refl)
+init_well link disk founder bytes a b ends.DiskFault calm causes found = absurd (calm.disk' causes)
+init_well link disk founder bytes a b ends.LinkFault calm causes found = absurd found.2
+init_well link disk founder bytes a b ends.BadWords calm causes found = absurd found.2
+init_well link disk founder bytes a b ends.NotJournal calm causes found = absurd found.2
+init_well link disk founder bytes a b (ends.BadEntry place) calm causes found = absurd found.2
+init_well link disk founder bytes a b (ends.UnlawfulEntry place) calm causes found = absurd found.2
+
+links_well : {O : Type 0} (link : O → LinkView) (disk : O → DiskView) (links : ℕ) (bytes : List ℕ) (a b : O) (status : Status) → Calm link disk a b → BookCauses link disk a status b → ServesLinksOf link disk links bytes a status b
+    → (number_of status ≡ 0) ⊎ (number_of status ≡ 5)
+links_well link disk links bytes a b ends.Done calm causes served = inl refl
+links_well link disk links bytes a b (ends.Served n) calm causes served = inl refl
+links_well link disk links bytes a b (ends.Founded name) calm causes served = inl refl
+links_well link disk links bytes a b (ends.Did line) calm causes served = inl refl
+links_well link disk links bytes a b ends.NoMemory calm causes served = inr refl
+links_well link disk links bytes a b ends.DiskFault calm causes served = absurd (calm.disk' causes)
+links_well link disk links bytes a b ends.LinkFault calm causes served = absurd (calm.link' causes.1)
+links_well link disk links bytes a b ends.BadWords calm causes served = absurd served
+links_well link disk links bytes a b ends.NotJournal calm causes served = absurd served
+links_well link disk links bytes a b (ends.BadEntry place) calm causes served = absurd served
+links_well link disk links bytes a b (ends.UnlawfulEntry place) calm causes served = absurd served
+links_well link disk links bytes a b (ends.Refused f) calm causes served = absurd served
+
+did_well : {O : Type 0} (link : O → LinkView) (disk : O → DiskView) (order : Order) (h : History) (task : Task) (a b : O) (status : Status) → Calm link disk a b → BookCauses link disk a status b → DidBy (disk b) order h task status
+    → (number_of status ≡ 0) ⊎ ((number_of status ≡ 5) ⊎ (number_of status ≡ 7))
+did_well link disk order h task a b ends.Done calm causes did = inl refl
+did_well link disk order h task a b (ends.Served n) calm causes did = inl refl
+did_well link disk order h task a b (ends.Founded name) calm causes did = inl refl
+did_well link disk order h task a b (ends.Did line) calm causes did = inl refl
+did_well link disk order h task a b ends.NoMemory calm causes did = inr (inl refl)
+did_well link disk order h task a b (ends.Refused f) calm causes did = inr (inr refl)
+did_well link disk order h task a b ends.DiskFault calm causes did = absurd (calm.disk' causes)
+did_well link disk order h task a b ends.LinkFault calm causes did = absurd did
+did_well link disk order h task a b ends.BadWords calm causes did = absurd did
+did_well link disk order h task a b ends.NotJournal calm causes did = absurd did
+did_well link disk order h task a b (ends.BadEntry place) calm causes did = absurd did
+did_well link disk order h task a b (ends.UnlawfulEntry place) calm causes did = absurd did
+
+desk_well : {O : Type 0} (link : O → LinkView) (disk : O → DiskView) (order : Order) (h : History) (bytes : List ℕ) (a b : O) (status : Status) → Stands h bytes → IsLawful full h → Calm link disk a b → BookCauses link disk a status b
+    → KeepsBook link disk order bytes a status b → (number_of status ≡ 0) ⊎ ((number_of status ≡ 5) ⊎ (number_of status ≡ 7))
+desk_well link disk order h bytes a b status st lawful calm causes (inl not) = inr (inl (only_memory link disk h bytes a b status st lawful calm causes not))
+desk_well link disk order h bytes a b status st lawful calm causes (inr (inr kept)) = did_well link disk order kept.history kept.task a b status calm causes kept.did
+desk_well link disk order h bytes a b status st lawful calm causes (inr (inl unread)) = go unread.lost
+  where
+    go : ((status ≡ ends.LinkFault) × LosesInput order (link a) (link b)) ⊎ ((status ≡ ends.NoMemory) × (link b ≡ link a)) → (number_of status ≡ 0) ⊎ ((number_of status ≡ 5) ⊎ (number_of status ≡ 7))
+    go (inl (is, lost)) = absurd (calm.link' (subst (λ (s : Status). BookCauses link disk a s b) is causes).1)
+    go (inr (is, same)) = inr (inl (ap number_of is))
+
+-- what the program ended with, over such a book
+pub ends_well : {O : Type 0} (link : O → LinkView) (disk : O → DiskView) (command : Command) (h : History) (bytes : List ℕ) (a c : O) (number : ℕ) → (disk a).contents ≡ Some bytes → Stands h bytes → IsLawful full h
+    → (Rose (disk a).faults (disk c).faults → ⊥) → (Rose (link a).faults (link c).faults → ⊥) → RunsAs link disk command a number c → EndsWell command number
+ends_well {O = O} link disk command h bytes a c number told st lawful no_disk no_link (b, status, obeys, ends) =
+    subst (EndsWell command) (sym ends.number') (by_command command obeys (is_calm link disk a b c status number ends no_disk no_link))
+  where
+    by_command : (command : Command) → Obeys link disk command a status b → Calm link disk a b → EndsWell command (number_of status)
+    by_command (commands.Once shop) obeys calm = once_well shop (link a) (link b) status calm.link' obeys.0
+    by_command (commands.Init founder) obeys calm = init_well link disk founder bytes a b status calm obeys.0 (obeys.1 bytes told)
+    by_command (commands.Serve server) obeys calm = go (obeys.1 bytes told)
+      where
+        go : NotOpened link disk bytes a status b ⊎ ServesLinksOf link disk server.links bytes a status b → (number_of status ≡ 0) ⊎ (number_of status ≡ 5)
+        go (inl not) = inr (only_memory link disk h bytes a b status st lawful calm obeys.0 not)
+        go (inr served) = links_well link disk server.links bytes a b status calm obeys.0 served
+    by_command (commands.Desk order) obeys calm = desk_well link disk order h bytes a b status st lawful calm obeys.0 (obeys.1 bytes told)

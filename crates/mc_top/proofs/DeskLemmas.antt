@@ -1,0 +1,294 @@
+-- What becomes of a book by an order of its keeper.
+use Rattle.std.proofs.Common.{◌≡◌, ◌⊎◌, inl, inr, ⊎_elim, ℕ, List, [], ◌∷◌, ◌++◌, max, refl, sym, ap, ◌∙◌, subst, Err}
+use Rattle.std.specs.Prelude.{IsSome}
+use Rattle.mc_outside.specs.Bytes.{BeginsWith, Rose}
+use Rattle.mc_outside.specs.DiskView.{DiskView, IsDisk, LinkKeeps, OnlyRead, Ran}
+use Rattle.mc_outside.specs.LinkView.{LinkView, heard, next_taken}
+use Rattle.mc_outside.proofs.Runs.{ran_then, ran_weaker, ran_link, ran_now}
+use Rattle.mc_records.specs.declared.limits.Limits.{Limits}
+use Rattle.mc_records.specs.declared.refusal.Refusal.{Refusal}
+use Rattle.ledger_model.specs.Histories.{History, time}
+use Rattle.ledger_model.specs.Lawful.{IsLawful}
+use Rattle.ledger_model.specs.Lines as lines
+use Rattle.ledger_model.specs.Answer.{fitted}
+use Rattle.scrip_journal.specs.Layout.{Stands}
+use Rattle.house_core.specs.declared.house.House.{House}
+use Rattle.house_core.specs.declared.outcome.Outcome.{Outcome}
+use Rattle.house_core.specs.declared.outcome.Outcome.TheVariants as outcomes
+use Rattle.house_core.specs.Bench.{house_time, limits_of}
+use Rattle.house_core.specs.House.{StandsFor, HouseRests, house_rests_none, KeepsTime, OfHouse, CountsFaults, outcome_disk}
+use Rattle.house_core.specs.Opening.{OpenedFor}
+use Rattle.house_serving.specs.declared.serving.Clock.TheVariants.{OfLinks}
+use Rattle.house_serving.specs.Course.{AreRead, with_readings}
+use Rattle.house_serving.proofs.AsideLemmas.{TellsAside, SentNoMore, no_more_then, no_more_still, no_more_heard, no_more_finished, no_more_taken, aside_still}
+use Rattle.house_serving.proofs.OrderLemmas.{house_keeps}
+use Rattle.vendor_core.specs.declared.shelf.Shelf.{Shelf}
+use Rattle.vendor_core.specs.Shelf.{Stands as ShelfStands, Holds}
+use Rattle.ledger_model.specs.Houses.{terms_in}
+use Rattle.vendor_core.specs.Desk.{Task, Add, Stays, Refuse, IsMintTask, IsMintAt, mint_lines, Does, LeavesBy, Performs}
+use Rattle.mc_top.specs.Words.{Listing}
+use Rattle.mc_top.specs.declared.order.Order.{Order}
+use Rattle.mc_top.specs.declared.order.Order.TheVariants as orders
+use Rattle.mc_top.specs.declared.status.Status.{Status}
+use Rattle.mc_top.specs.declared.status.Status.TheVariants as ends
+use Rattle.mc_top.specs.Inputs.{IsInput, LostInput}
+use Rattle.mc_top.specs.Opening.{full}
+use Rattle.mc_top.specs.Endings.{outcome_status}
+use Rattle.mc_top.specs.Serving.{StandsLawful, BookCauses}
+use Rattle.mc_top.specs.Desk.{TakesInput, Asks, after, IsLine, IsDoable, DidBy, KeepPair, Kept, Opened, LosesInput, Unread}
+use Rattle.mc_top.proofs.InitLemmas.{none_between}
+use Rattle.mc_top.proofs.ServedLemmas.{stands_lawful}
+
+-- the house of a vendor stands for a history
+abbrev pub Vendor : {O : Type 0} → (O → DiskView) → House O Shelf → History → Type 0
+Vendor disk x h = StandsFor disk ShelfStands (λ s. 0) Holds x h
+
+lawful_in : {O : Type 0} (disk : O → DiskView) (x : House O Shelf) (h : History) → limits_of x.bench ≡ full → Vendor disk x h → StandsLawful (disk x.journal.disk) h
+lawful_in disk x h limits st = stands_lawful disk ShelfStands (λ s. 0) Holds x h st (subst (λ (l : Limits). IsLawful l h) limits st.house.stands'.books.lawful)
+
+-- ---- up to the task
+
+-- a crash pair of before
+abbrev pub BeforePair : DiskView → List ℕ → List ℕ → Type 0
+BeforePair d image sent = d.leaves image × (sent ≡ d.aside)
+
+-- Links worked on the outside of a house, which sent nothing: the house is what it was, but for its time.
+pub record Worked {O : Type 0} (link : O → LinkView) (disk : O → DiskView) (x y : House O Shelf) : Type 0 where
+  pub quiet : SentNoMore (link x.journal.disk) (link y.journal.disk)
+  pub keeps : LinkKeeps (disk x.journal.disk) (disk y.journal.disk)
+  pub stands' : (h : History) → Vendor disk x h → Vendor disk y h
+  pub limits' : limits_of y.bench ≡ limits_of x.bench
+
+pub worked_then : {O : Type 0} (link : O → LinkView) (disk : O → DiskView) (x y z : House O Shelf) → Worked link disk x y → LinkKeeps (disk x.journal.disk) (disk z.journal.disk) → Worked link disk y z → Worked link disk x z
+worked_then link disk x y z a keeps b = record {
+  quiet = no_more_then (link x.journal.disk) (link y.journal.disk) (link z.journal.disk) a.quiet b.quiet;
+  keeps = keeps;
+  stands' = λ h st. b.stands' h (a.stands' h st);
+  limits' = b.limits' ∙ a.limits';
+}
+
+-- the crash pairs of it are of before
+worked_pairs : {O : Type 0} (link : O → LinkView) (disk : O → DiskView) (x y : House O Shelf) → TellsAside link (λ o. (disk o).aside) → Worked link disk x y → IsSome (link x.journal.disk).sessions
+    → Ran (disk x.journal.disk) (disk y.journal.disk) (BeforePair (disk x.journal.disk)) × ((disk y.journal.disk).aside ≡ (disk x.journal.disk).aside)
+worked_pairs link disk x y tells worked told' =
+    let same : (disk y.journal.disk).aside ≡ (disk x.journal.disk).aside = aside_still link (λ o. (disk o).aside) x.journal.disk y.journal.disk tells told' worked.quiet in (
+      ran_link (disk x.journal.disk) (disk y.journal.disk) (BeforePair (disk x.journal.disk)) worked.keeps
+          (λ i s l from upto. (l, none_between (disk x.journal.disk).aside s from (subst (λ (z : List ℕ). BeginsWith s z) same upto))),
+      same,
+    )
+
+-- The house of a book, with its order's input and the reading of the clock.
+pub record Ready {O : Type 0} (link : O → LinkView) (disk : O → DiskView) (order : Order) (bytes input : List ℕ) (a : O) (y : House O Shelf) : Type 0 where
+  pub history : History
+  pub of_bytes : Stands history bytes
+  pub house : Vendor disk y history
+  pub limits' : limits_of y.bench ≡ full
+  pub taken : LinkView
+  pub takes : TakesInput order (link a) input taken
+  pub moment : ℕ
+  pub read : AreRead OfLinks (moment ∷ []) taken.readings (link y.journal.disk).readings
+  pub rest : link y.journal.disk ≡ with_readings (link y.journal.disk).readings taken
+  pub time' : house_time y.bench ≡ max (time history) moment
+  pub pairs : IsSome (link a).sessions → Ran (disk a) (disk y.journal.disk) (BeforePair (disk a)) × ((disk y.journal.disk).aside ≡ (disk a).aside)
+
+-- the pairs from the outside that was handed in on
+pub before_pairs : {O : Type 0} (link : O → LinkView) (disk : O → DiskView) (a : O) (x y : House O Shelf) → TellsAside link (λ o. (disk o).aside) → OnlyRead (disk a) (disk x.journal.disk) → link x.journal.disk ≡ link a → Worked link disk x y → IsSome (link a).sessions
+    → Ran (disk a) (disk y.journal.disk) (BeforePair (disk a)) × ((disk y.journal.disk).aside ≡ (disk a).aside)
+before_pairs link disk a x y tells read same worked told' =
+    let pairs = worked_pairs link disk x y tells worked (subst (λ (v : LinkView). IsSome v.sessions) (sym same) told') in (
+      ran_then (disk a) (disk x.journal.disk) (disk y.journal.disk) (BeforePair (disk a)) read.ran
+          (ran_weaker (disk x.journal.disk) (disk y.journal.disk) _ _ pairs.0 (λ i s p. (read.leaves i p.0, p.1 ∙ read.aside))),
+      pairs.1 ∙ read.aside,
+    )
+
+pub ready : {O : Type 0} (link : O → LinkView) (disk : O → DiskView) (order : Order) (bytes input : List ℕ) (a : O) (x m y : House O Shelf) (moment : ℕ) → TellsAside link (λ o. (disk o).aside)
+    → OpenedFor disk ShelfStands (λ s. 0) Holds full bytes x → OnlyRead (disk a) (disk x.journal.disk) → link x.journal.disk ≡ link a
+    → TakesInput order (link x.journal.disk) input (link m.journal.disk) → house_time m.bench ≡ house_time x.bench
+    → Worked link disk x y → AreRead OfLinks (moment ∷ []) (link m.journal.disk).readings (link y.journal.disk).readings → link y.journal.disk ≡ with_readings (link y.journal.disk).readings (link m.journal.disk)
+    → house_time y.bench ≡ max (house_time m.bench) moment → Ready link disk order bytes input a y
+ready link disk order bytes input a x m y moment tells at read_only same takes kept_time worked read rest raised = record {
+  history = at.history;
+  of_bytes = at.of_bytes;
+  house = worked.stands' at.history at.house;
+  limits' = worked.limits' ∙ at.limits';
+  taken = link m.journal.disk;
+  takes = subst (λ (v : LinkView). TakesInput order v input (link m.journal.disk)) same takes;
+  moment = moment;
+  read = read;
+  rest = rest;
+  time' = raised ∙ ap (λ (n : ℕ). max n moment) (kept_time ∙ at.time');
+  pairs = before_pairs link disk a x y tells read_only same worked;
+}
+
+-- the clock alone was read
+pub by_clock : {O : Type 0} (link : O → LinkView) (disk : O → DiskView) (x y : House O Shelf) → LinkKeeps (disk x.journal.disk) (disk y.journal.disk) → link y.journal.disk ≡ with_readings (link y.journal.disk).readings (link x.journal.disk)
+    → ((h : History) → Vendor disk x h → Vendor disk y h) → limits_of y.bench ≡ limits_of x.bench → Worked link disk x y
+by_clock link disk x y keeps rest stands limits = record {
+  quiet = no_more_still (link x.journal.disk) (link y.journal.disk) (ap (λ (v : LinkView). v.sessions) rest);
+  keeps = keeps;
+  stands' = stands;
+  limits' = limits;
+}
+
+-- an order that takes no link was ready at the reading of the clock
+pub ready_at_once : {O : Type 0} (link : O → LinkView) (disk : O → DiskView) (order : Order) (bytes : List ℕ) (a : O) (x y : House O Shelf) (moment : ℕ) → TellsAside link (λ o. (disk o).aside)
+    → Opened link disk bytes a x → TakesInput order (link x.journal.disk) [] (link x.journal.disk) → LinkKeeps (disk x.journal.disk) (disk y.journal.disk)
+    → ((h : History) → Vendor disk x h → Vendor disk y h) → limits_of y.bench ≡ limits_of x.bench → AreRead OfLinks (moment ∷ []) (link x.journal.disk).readings (link y.journal.disk).readings → link y.journal.disk ≡ with_readings (link y.journal.disk).readings (link x.journal.disk)
+    → house_time y.bench ≡ max (house_time x.bench) moment → Ready link disk order bytes [] a y
+ready_at_once link disk order bytes a x y moment tells at takes keeps stands limits read rest raised =
+    ready link disk order bytes [] a x x y moment tells at.house at.read at.link' takes refl (by_clock link disk x y keeps rest stands limits) read rest raised
+
+pub history_is : {O : Type 0} (link : O → LinkView) (disk : O → DiskView) (order : Order) (bytes : List ℕ) (a : O) (x y : House O Shelf) (moment : ℕ) (tells : TellsAside link (λ o. (disk o).aside))
+    (at : Opened link disk bytes a x) (takes : TakesInput order (link x.journal.disk) [] (link x.journal.disk)) (keeps : LinkKeeps (disk x.journal.disk) (disk y.journal.disk))
+    (stands : (h : History) → Vendor disk x h → Vendor disk y h) (limits : limits_of y.bench ≡ limits_of x.bench) (read : AreRead OfLinks (moment ∷ []) (link x.journal.disk).readings (link y.journal.disk).readings) (rest : link y.journal.disk ≡ with_readings (link y.journal.disk).readings (link x.journal.disk))
+    (raised : house_time y.bench ≡ max (house_time x.bench) moment) → (ready_at_once link disk order bytes a x y moment tells at takes keeps stands limits read rest raised).history ≡ at.house.history
+unfolding ready_at_once ready
+history_is link disk order bytes a x y moment tells at takes keeps stands limits read rest raised = refl
+
+-- ---- without the input
+
+-- what receiving an input leaves of what was sent
+pub lost_quiet : (u v : LinkView) → LostInput u v → SentNoMore u v
+lost_quiet u v (inl none) = no_more_still u v (ap (λ (x : LinkView). x.sessions) none.same)
+lost_quiet u v (inr (got, failed)) =
+    no_more_then u (next_taken u) v (no_more_taken u (next_taken u) refl) (no_more_heard (next_taken u) v got (ap (λ (x : LinkView). x.sessions) failed.same))
+
+pub input_quiet : (most : ℕ) (u v : LinkView) (input : List ℕ) → IsInput most u input v → SentNoMore u v
+input_quiet most u v input (inl none) = no_more_still u v (ap (λ (x : LinkView). x.sessions) none.1)
+input_quiet most u v input (inr (inl whole)) =
+    no_more_then u (next_taken u) v (no_more_taken u (next_taken u) refl)
+    (no_more_then (next_taken u) (heard input (next_taken u)) v (no_more_heard (next_taken u) (heard input (next_taken u)) input refl)
+    (no_more_finished (heard input (next_taken u)) v (ap (λ (x : LinkView). x.sessions) whole.1)))
+input_quiet most u v input (inr (inr long)) =
+    no_more_then u (next_taken u) v (no_more_taken u (next_taken u) refl) (no_more_heard (next_taken u) v input (ap (λ (x : LinkView). x.sessions) long.1))
+
+-- links worked on the outside of a house
+pub by_links : {O : Type 0} (link : O → LinkView) (disk : O → DiskView) (x y : House O Shelf) → SentNoMore (link x.journal.disk) (link y.journal.disk) → LinkKeeps (disk x.journal.disk) (disk y.journal.disk) → HouseRests x y → Worked link disk x y
+by_links link disk x y quiet keeps rests = record {
+  quiet = quiet;
+  keeps = keeps;
+  stands' = λ h st. house_keeps disk ShelfStands (λ s. 0) Holds x y h st keeps rests;
+  limits' = ap limits_of rests.bench;
+}
+
+-- goods were ready once their contents were read, and the clock
+pub ready_by : {O : Type 0} (link : O → LinkView) (disk : O → DiskView) (l : Listing) (bytes input : List ℕ) (a : O) (x m y : House O Shelf) (moment : ℕ) → TellsAside link (λ o. (disk o).aside)
+    → Opened link disk bytes a x → IsInput 65536 (link x.journal.disk) input (link m.journal.disk) → LinkKeeps (disk x.journal.disk) (disk m.journal.disk) → HouseRests x m → LinkKeeps (disk x.journal.disk) (disk y.journal.disk) → LinkKeeps (disk m.journal.disk) (disk y.journal.disk)
+    → ((h : History) → Vendor disk m h → Vendor disk y h) → limits_of y.bench ≡ limits_of m.bench → AreRead OfLinks (moment ∷ []) (link m.journal.disk).readings (link y.journal.disk).readings → link y.journal.disk ≡ with_readings (link y.journal.disk).readings (link m.journal.disk)
+    → house_time y.bench ≡ max (house_time m.bench) moment → Ready link disk (orders.Goods l) bytes input a y
+ready_by link disk l bytes input a x m y moment tells at takes kept_so_far rests kept_both kept_then stands limits read rest raised =
+    ready link disk (orders.Goods l) bytes input a x m y moment tells at.house at.read at.link' takes (ap house_time rests.bench)
+    (worked_then link disk x m y (by_links link disk x m (input_quiet 65536 (link x.journal.disk) (link m.journal.disk) input takes) kept_so_far rests) kept_both (by_clock link disk m y kept_then rest stands limits)) read rest raised
+
+-- nothing was done to the book
+pub unread : {O : Type 0} (link : O → LinkView) (disk : O → DiskView) (order : Order) (bytes : List ℕ) (a : O) (x y : House O Shelf) (status : Status) → TellsAside link (λ o. (disk o).aside) → Opened link disk bytes a x → Worked link disk x y
+    → ((status ≡ ends.LinkFault) × LosesInput order (link x.journal.disk) (link y.journal.disk)) ⊎ ((status ≡ ends.NoMemory) × (link y.journal.disk ≡ link x.journal.disk)) → Unread link disk order bytes a status y.journal.disk
+unread link disk order bytes a x y status tells at worked lost = record {
+  history = at.house.history;
+  stands = at.house.of_bytes;
+  left = lawful_in disk y at.house.history (worked.limits' ∙ at.house.limits') (worked.stands' at.house.history at.house.house);
+  pairs = λ told'. ran_weaker (disk a) (disk y.journal.disk) _ _ (before_pairs link disk a x y tells at.read at.link' worked told').0 (λ i s p. (inl p.0, p.1));
+  lost = ⊎_elim
+      (λ l. inl (l.0, subst (λ (v : LinkView). LosesInput order v (link y.journal.disk)) at.link' l.1))
+      (λ l. inr (l.0, l.1 ∙ at.link')) lost;
+}
+
+-- memory was refused before anything was done
+pub unread_at_once : {O : Type 0} (link : O → LinkView) (disk : O → DiskView) (order : Order) (bytes : List ℕ) (a : O) (x : House O Shelf) → TellsAside link (λ o. (disk o).aside) → LinkKeeps (disk x.journal.disk) (disk x.journal.disk) → Opened link disk bytes a x
+    → Unread link disk order bytes a ends.NoMemory x.journal.disk
+unread_at_once link disk order bytes a x tells keeps at =
+    unread link disk order bytes a x x ends.NoMemory tells at (by_links link disk x x (no_more_still (link x.journal.disk) (link x.journal.disk) refl) keeps (house_rests_none x)) (inr (refl, refl))
+
+-- ---- the task
+
+-- how the disk is left, by what was done
+did : {O A : Type 0} (disk : O → DiskView) (order : Order) (line : List ℕ) (Told : Task → History → A → Type 0) (y : House O Shelf) (h : History) (task : Task) (out : Outcome O Shelf A) → limits_of y.bench ≡ full
+    → ((o : O) → IsDisk (disk o)) → ((answer : A) → IsDoable task → Told task (after task h) answer → IsLine order h task line) → OfHouse (KeepsTime y) out
+    → Does disk ShelfStands (λ s. 0) Holds Told (limits_of y.bench) y.journal.disk h task out → Ran (disk y.journal.disk) (disk (outcome_disk out)) (LeavesBy task out h (disk y.journal.disk).aside)
+    → DidBy (disk (outcome_disk out)) order h task (outcome_status out line)
+did disk order line Told y h (Add e) (outcomes.Done x n) limits is_disk says keeps does ran = (tt, says n tt does.1, lawful_in disk x (h ++ e ∷ []) (keeps.limits ∙ limits) does.0)
+did disk order line Told y h (Add e) (outcomes.Refused x f) limits is_disk says keeps does ran =
+    (subst (λ (l : Limits). fitted h l e ≡ Err (lines.Refuse f)) limits does.0, lawful_in disk x h (keeps.limits ∙ limits) does.1.stands')
+did disk order line Told y h (Add e) (outcomes.NoMemory x) limits is_disk says keeps does ran = lawful_in disk x h (keeps.limits ∙ limits) does.stands'
+did disk order line Told y h (Add e) (outcomes.Halted d) limits is_disk says keeps does ran = λ image l. (ran_now (disk y.journal.disk) (disk d) _ (is_disk d) ran image l).0
+did disk order line Told y h Stays (outcomes.Done x n) limits is_disk says keeps does ran = (tt, says n tt does.1, lawful_in disk x h (keeps.limits ∙ limits) does.0.stands')
+did disk order line Told y h Stays (outcomes.Refused x f) limits is_disk says keeps does ran = absurd does
+did disk order line Told y h Stays (outcomes.NoMemory x) limits is_disk says keeps does ran = lawful_in disk x h (keeps.limits ∙ limits) does.stands'
+did disk order line Told y h Stays (outcomes.Halted d) limits is_disk says keeps does ran = absurd does
+did disk order line Told y h (Refuse g) (outcomes.Done x n) limits is_disk says keeps does ran = absurd does
+did disk order line Told y h (Refuse g) (outcomes.Refused x f) limits is_disk says keeps does ran = (does.0, lawful_in disk x h (keeps.limits ∙ limits) does.1.stands')
+did disk order line Told y h (Refuse g) (outcomes.NoMemory x) limits is_disk says keeps does ran = absurd does
+did disk order line Told y h (Refuse g) (outcomes.Halted d) limits is_disk says keeps does ran = absurd does
+
+-- the crash pairs of a task
+leaves_pair : {O A : Type 0} (before : DiskView) (task : Task) (out : Outcome O Shelf A) (h : History) (aside image sent : List ℕ) → aside ≡ before.aside → LeavesBy task out h aside image sent → KeepPair before task h image sent
+leaves_pair before (Add e) (outcomes.Done x n) h aside image sent same p = (inr p.0, p.1 ∙ same)
+leaves_pair before (Add e) (outcomes.Refused x f) h aside image sent same p = (inr (inl p.0), p.1 ∙ same)
+leaves_pair before (Add e) (outcomes.NoMemory x) h aside image sent same p = (inr (inl p.0), p.1 ∙ same)
+leaves_pair before (Add e) (outcomes.Halted d) h aside image sent same p = (inr p.0, p.1 ∙ same)
+leaves_pair before Stays out h aside image sent same p = (inr (inl p.0), p.1 ∙ same)
+leaves_pair before (Refuse f) out h aside image sent same p = (inr (inl p.0), p.1 ∙ same)
+
+-- an order that the book's house was ready for
+pub kept : {O A : Type 0} (link : O → LinkView) (disk : O → DiskView) (order : Order) (bytes input line : List ℕ) (Told : Task → History → A → Type 0) (a : O) (y : House O Shelf) (out : Outcome O Shelf A) (Asked : History → Task → Type 0)
+    (at : Ready link disk order bytes input a y) → ((o : O) → IsDisk (disk o)) → link (outcome_disk out) ≡ link y.journal.disk
+    → ((task : Task) → Asked at.history task → Asks order input at.history (house_time y.bench) task)
+    → ((task : Task) (answer : A) → Asked at.history task → IsDoable task → Told task (after task at.history) answer → IsLine order at.history task line) → OfHouse (KeepsTime y) out
+    → Performs disk ShelfStands (λ s. 0) Holds (Asked at.history) Told (limits_of y.bench) y.journal.disk at.history out
+    → Kept link disk order bytes a (outcome_status out line) (outcome_disk out)
+kept link disk order bytes input line Told a y out Asked at is_disk same asks says keeps does = record {
+  history = at.history;
+  stands = at.of_bytes;
+  input = input;
+  taken = at.taken;
+  takes = at.takes;
+  moment = at.moment;
+  read = subst (λ (v : LinkView). AreRead OfLinks (at.moment ∷ []) at.taken.readings v.readings) (sym same) at.read;
+  rest = subst (λ (v : LinkView). v ≡ with_readings v.readings at.taken) (sym same) at.rest;
+  task = does.task;
+  asks = subst (λ (t : ℕ). Asks order input at.history t does.task) at.time' (asks does.task does.asks);
+  did = did disk order line Told y at.history does.task out at.limits' is_disk (λ answer doable told'. says does.task answer does.asks doable told') keeps does.does does.ran;
+  pairs = λ told'. let before = at.pairs told' in
+      ran_then (disk a) (disk y.journal.disk) (disk (outcome_disk out)) (KeepPair (disk a) does.task at.history)
+      (ran_weaker (disk a) (disk y.journal.disk) _ _ before.0 (λ i s p. (inl p.0, p.1)))
+      (ran_weaker (disk y.journal.disk) (disk (outcome_disk out)) _ _ does.ran (λ i s p. leaves_pair (disk a) does.task out at.history (disk y.journal.disk).aside i s before.1 p));
+}
+
+-- a task that is refused before the house is asked
+pub kept_refused : {O : Type 0} (link : O → LinkView) (disk : O → DiskView) (order : Order) (bytes input : List ℕ) (a : O) (y : House O Shelf) (f : Refusal) (at : Ready link disk order bytes input a y)
+    → Asks order input at.history (max (time at.history) at.moment) (Refuse f) → Kept link disk order bytes a (ends.Refused f) y.journal.disk
+kept_refused link disk order bytes input a y f at asks = record {
+  history = at.history;
+  stands = at.of_bytes;
+  input = input;
+  taken = at.taken;
+  takes = at.takes;
+  moment = at.moment;
+  read = at.read;
+  rest = at.rest;
+  task = Refuse f;
+  asks = asks;
+  did = (refl, lawful_in disk y at.history at.limits' at.house);
+  pairs = λ told'. ran_weaker (disk a) (disk y.journal.disk) _ _ (at.pairs told').0 (λ i s p. (inl p.0, p.1));
+}
+
+-- ---- counts
+
+pub kept_causes : {O A : Type 0} (link : O → LinkView) (disk : O → DiskView) (a y : O) (out : Outcome O Shelf A) (line : List ℕ) → (disk y).faults ≡ (disk a).faults → CountsFaults out (disk y).faults (disk (outcome_disk out)).faults
+    → BookCauses link disk a (outcome_status out line) (outcome_disk out)
+kept_causes link disk a y (outcomes.Done x n) line same counts = counts ∙ same
+kept_causes link disk a y (outcomes.Refused x f) line same counts = counts ∙ same
+kept_causes link disk a y (outcomes.NoMemory x) line same counts = counts ∙ same
+kept_causes link disk a y (outcomes.Halted d) line same counts = subst (λ (n : ℕ). Rose n (disk d).faults) same counts
+
+-- ---- mints
+
+-- the task of a mint, and its lines, by the numbers of the words
+pub mint_task_at : (h : History) (t : ℕ) (limits : Limits) (reference named : List ℕ) (count so_many value worth : ℕ) (task : Task) → limits ≡ full → reference ≡ named → count ≡ so_many → value ≡ worth
+    → IsMintTask h t limits reference count value task → IsMintTask h t full named so_many worth task
+mint_task_at h t limits reference named count so_many value worth task is_full is_named is_many is_worth is = rw (← is_full, ← is_named, ← is_many, ← is_worth) is
+
+pub mint_line_at : (g : History) (reference named : List ℕ) (count so_many value worth number : ℕ) (out line : List ℕ) → reference ≡ named → count ≡ so_many → value ≡ worth → line ≡ out
+    → IsMintAt g reference count value number × (out ≡ mint_lines (terms_in g 0) g number) → (n : ℕ) × IsMintAt g named so_many worth n × (line ≡ mint_lines (terms_in g 0) g n)
+mint_line_at g reference named count so_many value worth number out line is_named is_many is_worth same tells =
+    (number, rw (← is_named, ← is_many, ← is_worth) tells.0, same ∙ tells.1)

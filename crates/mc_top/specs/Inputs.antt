@@ -1,0 +1,27 @@
+-- What is read of an operator's input.
+use Rattle.std.specs.Prelude.{◌≡◌, ◌⊎◌, ℕ, ◌+◌, ◌<◌, ◌≤◌, List, [], length}
+use Rattle.mc_outside.specs.LinkView.{LinkView, next_taken, none_left, heard, finished, Failed}
+use Rattle.house_serving.specs.Course.{NoLink}
+use Rattle.mc_top.specs.declared.input.InputFault.{InputFault}
+use Rattle.mc_top.specs.declared.input.InputFault.TheVariants as faults
+
+-- The input is what was received on the next link up to its end, or, where more than so many bytes come, one
+-- byte more than these. Where no link comes it is empty.
+abbrev pub IsInput : ℕ → LinkView → List ℕ → LinkView → Type 0
+IsInput most before input after =
+    ((input ≡ []) × (after ≡ none_left before))
+    ⊎ (((length input ≤ most) × (after ≡ finished (heard input (next_taken before))))
+    ⊎ ((length input ≡ most + 1) × (after ≡ heard input (next_taken before))))
+
+-- so many bytes were received into a buffer of a size: it is full, or the link was read to its end
+abbrev pub Receives : ℕ → LinkView → ℕ → List ℕ → LinkView → Type 0
+Receives size before n got after = ((n ≡ size) × (after ≡ heard got before)) ⊎ ((n < size) × (after ≡ finished (heard got before)))
+
+-- the link could not be taken, or receiving failed after some bytes
+abbrev pub LostInput : LinkView → LinkView → Type 0
+LostInput before after = NoLink before after ⊎ ((got : List ℕ) × Failed (heard got (next_taken before)) after)
+
+-- why no input was read: memory was refused before the link was taken, or the link failed
+abbrev pub InputFailed : InputFault → LinkView → LinkView → Type 0
+InputFailed faults.NoMemory before after = after ≡ before
+InputFailed faults.Link before after = LostInput before after
