@@ -259,7 +259,7 @@ fn enter_record(
     }
 }
 
-fn let_go(house: Housed) {
+pub(crate) fn let_go(house: Housed) {
     let _stage = house.close();
 }
 

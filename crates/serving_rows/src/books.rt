@@ -1,6 +1,6 @@
 //! Books on a stage, links, and a house of them that serves.
 
-use crate::texts::{BOOK, FRONT, PAID};
+use crate::texts::{BOOK, ENTRY_60, FRONT, PAID};
 use house_core::{House, open_house};
 use house_serving::{ServeOut, serve_links};
 use mc_base::List;
@@ -33,6 +33,15 @@ pub(crate) fn after(alloc: Global) -> Result<Vec<u8>, Fail> {
     Ok(hex::decode(alloc, BOOK)?)
 }
 
+/// The book with the entries of both paid requests.
+pub(crate) fn after_both(alloc: Global) -> Result<Vec<u8>, Fail> {
+    let mut book = after(alloc)?;
+    let _gate = book.pop();
+    book.extend_from_slice(&hex::decode(alloc, ENTRY_60)?)?;
+    book.push(0)?;
+    Ok(book)
+}
+
 /// The calls of a stage that fail, and the readings of its clock.
 #[derive(Clone, Copy)]
 pub(crate) struct Plan<'a> {
@@ -50,10 +59,20 @@ pub(crate) const CALM: Plan<'static> = Plan {
 
 /// A stage with these contents and two links, each the paid request in one piece.
 pub(crate) fn stage(alloc: Global, contents: &[u8], plan: &Plan<'_>) -> Result<Stage, Fail> {
+    stage_of(alloc, contents, &[PAID, PAID], plan)
+}
+
+/// A stage with these contents and links, each in one piece.
+pub(crate) fn stage_of(
+    alloc: Global,
+    contents: &[u8],
+    heads: &[&[u8]],
+    plan: &Plan<'_>,
+) -> Result<Stage, Fail> {
     let mut links = Vec::new(alloc);
-    for _ in 0..2 {
+    for head in heads {
         let mut pieces = Vec::new(alloc);
-        pieces.push(Vec::from_slice(alloc, PAID)?)?;
+        pieces.push(Vec::from_slice(alloc, head)?)?;
         links.push(pieces)?;
     }
     let readings = Vec::from_slice(alloc, plan.readings)?;
@@ -67,11 +86,24 @@ pub(crate) fn stage(alloc: Global, contents: &[u8], plan: &Plan<'_>) -> Result<S
 
 /// Opens the book on the stage and serves so many links. Answers how that ended, and the stage.
 pub(crate) fn serve(alloc: Global, stage: Stage, links: u32) -> Result<(Ended, Stage), Fail> {
-    Ok(closed(serve_links(opened(alloc, stage)?, links)))
+    serve_within(alloc, stage, Limits::FULL, links)
 }
 
-fn opened(alloc: Global, stage: Stage) -> Result<House<Stage, Shelf>, Fail> {
-    match open_house(alloc, stage, Limits::FULL, Shelf::new(alloc)) {
+/// The same within these limits.
+pub(crate) fn serve_within(
+    alloc: Global,
+    stage: Stage,
+    limits: Limits,
+    links: u32,
+) -> Result<(Ended, Stage), Fail> {
+    Ok(closed(serve_links(opened(alloc, stage, limits)?, links)))
+}
+
+fn opened(alloc: Global, stage: Stage, limits: Limits) -> Result<House<Stage, Shelf>, Fail> {
+    if !limits.are_in_range() {
+        return Err("limits")?;
+    }
+    match open_house(alloc, stage, limits, Shelf::new(alloc)) {
         Ok(house) => Ok(house),
         Err(fault) => Err(lacking(fault))?,
     }

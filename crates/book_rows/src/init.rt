@@ -1,7 +1,7 @@
 //! `vendor init` over a stage: books that are founded, disks that are not free, disks that fail, bad words.
 
-use crate::books::{CALM, ran_over, stage_of};
-use crate::links::{longer, ran, with_word, words};
+use crate::books::{CALM, book_of, ran, ran_over};
+use crate::texts::{SIGNED_SITE, SITE};
 use mc_outside::Disk;
 use mc_stage::Stage;
 use std::alloc::Global;
@@ -28,38 +28,30 @@ const INIT: [&str; 9] = [
     "--clear",
 ];
 
-/// The book that they found at 1000000, by another program: header, open gate, length, payload and closed
-/// gate, in hex digits.
-const FOUNDED: &str =
-    "4d434a524e4c310a01000000510100000000000f424000000c6e6577732e6578616d706c6500000258000000000000000001010000001000000020000111111111111111111111111111111111012222222222222222222222222222222200";
-
-/// The book of the same vendor that takes signed requests alone.
-const SIGNED: &str =
-    "4d434a524e4c310a01000000510100000000000f424000000c6e6577732e6578616d706c6500000258000000000000000000010000001000000020000111111111111111111111111111111111012222222222222222222222222222222200";
-
-/// That of a vendor that keeps its replies for a day.
+/// The book of a vendor that keeps its replies for a day, by another program, up to its closed gate: header,
+/// open gate, length and payload, in hex digits.
 const DAY: &str =
-    "4d434a524e4c310a01000000510100000000000f424000000c6e6577732e6578616d706c6500015180000000000000000000010000001000000020000111111111111111111111111111111111012222222222222222222222222222222200";
+    "4d434a524e4c310a01000000510100000000000f424000000c6e6577732e6578616d706c65000151800000000000000000000100000010000000200001111111111111111111111111111111110122222222222222222222222222222222";
 
 /// That of the vendor that keeps them for a minute, at 0.
 const MINUTE: &str =
-    "4d434a524e4c310a010000005101000000000000000000000c6e6577732e6578616d706c650000003c000000000000000001010000001000000020000111111111111111111111111111111111012222222222222222222222222222222200";
+    "4d434a524e4c310a010000005101000000000000000000000c6e6577732e6578616d706c650000003c0000000000000000010100000010000000200001111111111111111111111111111111110122222222222222222222222222222222";
 
 /// That of the vendor at the last moment.
 const LAST: &str =
-    "4d434a524e4c310a01000000510100000007ffffffff00000c6e6577732e6578616d706c6500000258000000000000000001010000001000000020000111111111111111111111111111111111012222222222222222222222222222222200";
+    "4d434a524e4c310a01000000510100000007ffffffff00000c6e6577732e6578616d706c65000002580000000000000000010100000010000000200001111111111111111111111111111111110122222222222222222222222222222222";
 
 /// That of a vendor `a` with two secrets for scrip.
 const SMALL: &str =
-    "4d434a524e4c310a01000000560100000000000f424000000161000002580000000000000000000100000008000000000002555555555555555555555555555555550123456789abcdef0123456789abcdef015555555555555555555555555555555500";
+    "4d434a524e4c310a01000000560100000000000f424000000161000002580000000000000000000100000008000000000002555555555555555555555555555555550123456789abcdef0123456789abcdef0155555555555555555555555555555555";
 
 #[test]
 fn a_book_is_founded_as_the_options_say(rt: HostRuntime) -> Result<(), Fail> {
     let alloc = rt.alloc();
     let rows: [(&[&str], u64, &str); 6] = [
-        (&["--clear"], 1_000_000, FOUNDED),
-        (&["--keep", "600", "--clear"], 1_000_000, FOUNDED),
-        (&[], 1_000_000, SIGNED),
+        (&["--clear"], 1_000_000, SITE),
+        (&["--keep", "600", "--clear"], 1_000_000, SITE),
+        (&[], 1_000_000, SIGNED_SITE),
         (&["--keep", "86400"], 1_000_000, DAY),
         (&["--keep", "60", "--clear"], 0, MINUTE),
         (&["--clear"], u64::MAX, LAST),
@@ -68,11 +60,11 @@ fn a_book_is_founded_as_the_options_say(rt: HostRuntime) -> Result<(), Fail> {
         let readings = [reading];
         let mut plan = CALM;
         plan.readings = &readings;
-        let stage = stage_of(alloc, b"", &plan)?;
-        let (status, stage) = ran(alloc, &longer(alloc, &INIT[..8], options)?, stage);
+        let all = [&INIT[..8], options].concat(alloc)?;
+        let (status, stage) = ran_over(alloc, &all, b"", &plan)?;
         assert_eq!(rt; status, 0);
         assert_eq!(rt; stage.said(), b"founded news.example\n".as_slice());
-        let wanted = hex::decode(alloc, wanted)?;
+        let wanted = book_of(alloc, &[wanted])?;
         assert_eq!(rt; stage.contents(), wanted.as_slice());
     }
     Ok(())
@@ -85,7 +77,7 @@ fn a_book_is_founded_of_the_name_and_terms(rt: HostRuntime) -> Result<(), Fail> 
     let (status, stage) = ran_over(alloc, &all, b"", &CALM)?;
     assert_eq!(rt; status, 0);
     assert_eq!(rt; stage.said(), b"founded a\n".as_slice());
-    let wanted = hex::decode(alloc, SMALL)?;
+    let wanted = book_of(alloc, &[SMALL])?;
     assert_eq!(rt; stage.contents(), wanted.as_slice());
     Ok(())
 }
@@ -93,7 +85,7 @@ fn a_book_is_founded_of_the_name_and_terms(rt: HostRuntime) -> Result<(), Fail> 
 #[test]
 fn a_disk_that_stands_for_nothing_is_founded(rt: HostRuntime) -> Result<(), Fail> {
     let alloc = rt.alloc();
-    let wanted = hex::decode(alloc, FOUNDED)?;
+    let wanted = book_of(alloc, &[SITE])?;
     let rows: [&[u8]; 6] = [
         b"",
         b"nine byte",
@@ -114,8 +106,8 @@ fn a_disk_that_stands_for_nothing_is_founded(rt: HostRuntime) -> Result<(), Fail
 #[test]
 fn a_disk_that_holds_something_is_left_as_it_is(rt: HostRuntime) -> Result<(), Fail> {
     let alloc = rt.alloc();
-    let founded = hex::decode(alloc, FOUNDED)?;
-    let signed = hex::decode(alloc, SIGNED)?;
+    let founded = book_of(alloc, &[SITE])?;
+    let signed = book_of(alloc, &[SIGNED_SITE])?;
     let rows: [(&[u8], &[u8]); 5] = [
         (&founded, b"refused 50 NotEmpty 95\n"),
         (&signed, b"refused 50 NotEmpty 95\n"),
@@ -146,7 +138,7 @@ fn failing_from(alloc: Global, call: u32) -> Result<(u8, Stage), Fail> {
 #[test]
 fn a_disk_that_fails_is_told_and_can_be_founded_again(rt: HostRuntime) -> Result<(), Fail> {
     let alloc = rt.alloc();
-    let wanted = hex::decode(alloc, FOUNDED)?;
+    let wanted = book_of(alloc, &[SITE])?;
     for call in 0_u32..11 {
         for choice in [0, 1, 5, 128] {
             let (status, mut left) = failing_from(alloc, call)?;
@@ -155,7 +147,7 @@ fn a_disk_that_fails_is_told_and_can_be_founded_again(rt: HostRuntime) -> Result
             assert!(rt; left.size().is_err());
             // The choice 128 puts the byte of an open gate at 8, and 5 puts another one there.
             let stands = call == 10 || (call == 9 && (choice == 0 || choice == 128));
-            let (status, stage) = ran(alloc, &words(alloc, &INIT)?, left.crash(choice)?);
+            let (status, stage) = ran(alloc, &INIT, left.crash(choice)?)?;
             assert_eq!(rt; status, if stands { 7 } else { 0 });
             let line: &[u8] = if stands {
                 b"refused 50 NotEmpty 95\n"
@@ -172,7 +164,7 @@ fn a_disk_that_fails_is_told_and_can_be_founded_again(rt: HostRuntime) -> Result
 #[test]
 fn a_line_that_cannot_be_said_does_not_change_how_it_ends(rt: HostRuntime) -> Result<(), Fail> {
     let alloc = rt.alloc();
-    let founded = hex::decode(alloc, FOUNDED)?;
+    let founded = book_of(alloc, &[SITE])?;
     let mut plan = CALM;
     plan.link = &[0];
     let rows: [(&[u8], u8); 2] = [(b"", 0), (&founded, 7)];
@@ -200,9 +192,12 @@ fn bad_words_touch_no_disk(rt: HostRuntime) -> Result<(), Fail> {
     let mut plan = CALM;
     plan.disk = &[0];
     for (at, word) in rows {
+        let mut all = Vec::new(alloc);
+        for (i, right) in INIT.iter().enumerate() {
+            all.push(if i == at { word } else { *right })?;
+        }
         for contents in [b"".as_slice(), b"nine byte"] {
-            let stage = stage_of(alloc, contents, &plan)?;
-            let (status, mut stage) = ran(alloc, &with_word(alloc, &INIT, at, word)?, stage);
+            let (status, mut stage) = ran_over(alloc, &all, contents, &plan)?;
             assert_eq!(rt; status, 2);
             assert_eq!(rt; stage.said(), b"bad words\n".as_slice());
             assert_eq!(rt; stage.contents(), contents);

@@ -1,8 +1,7 @@
 //! `vendor serve` over a stage: links that are served, books that are not opened, disks and links that fail.
 
-use crate::books::{CALM, Plan, book_before, ran_over, spoiled, stage_of};
-use crate::links::words;
-use crate::texts::{BOOK, BROKER, DOUBT, FIRST, PAID, SPENT, UNKNOWN, WALLET};
+use crate::books::{CALM, Plan, book_after, book_before, ran_over, spoiled, stage_of, words};
+use crate::texts::{BROKER, DOUBT, FIRST, PAID, SPENT, UNKNOWN, WALLET};
 use mc_outside::{Disk, Link};
 use mc_top::run;
 use std::alloc::Global;
@@ -30,7 +29,7 @@ fn a_request_is_entered_and_one_that_comes_again_gets_the_first_reply(
     assert_eq!(rt; stage.sent(0), Some(FIRST));
     assert_eq!(rt; stage.sent(1), Some(FIRST));
     assert!(rt; stage.sent(2).is_none());
-    let after = hex::decode(alloc, BOOK)?;
+    let after = book_after(alloc)?;
     assert_eq!(rt; stage.contents(), after.as_slice());
     Ok(())
 }
@@ -39,7 +38,7 @@ fn a_request_is_entered_and_one_that_comes_again_gets_the_first_reply(
 fn as_many_links_are_served_as_the_words_say_or_come(rt: HostRuntime) -> Result<(), Fail> {
     let alloc = rt.alloc();
     let before = book_before(alloc)?;
-    let after = hex::decode(alloc, BOOK)?;
+    let after = book_after(alloc)?;
     let rows: [(&str, &[u8], bool); 4] = [
         ("1", b"served 1\n", true),
         ("2", b"served 2\n", false),
@@ -67,7 +66,7 @@ fn as_many_links_are_served_as_the_words_say_or_come(rt: HostRuntime) -> Result<
 fn a_reply_is_repeated_for_its_keeping_time(rt: HostRuntime) -> Result<(), Fail> {
     let alloc = rt.alloc();
     let before = book_before(alloc)?;
-    let after = hex::decode(alloc, BOOK)?;
+    let after = book_after(alloc)?;
     for (second, wanted) in [(1_000_599, FIRST), (1_000_600, SPENT)] {
         for (contents, first) in [(&before, 1_000_000), (&after, 1_000_599)] {
             let readings = [first, second];
@@ -123,7 +122,7 @@ fn is_unserved(alloc: Global, contents: &[u8], wanted: u8, line: &[u8]) -> Resul
 #[test]
 fn books_that_are_none_of_a_vendor_are_told_apart(rt: HostRuntime) -> Result<(), Fail> {
     let alloc = rt.alloc();
-    let book = hex::decode(alloc, BOOK)?;
+    let book = book_after(alloc)?;
     let broker = hex::decode(alloc, BROKER)?;
     let wallet = hex::decode(alloc, WALLET)?;
     let site = book.get(..94).unwrap_or(b"");
@@ -153,7 +152,7 @@ fn books_that_are_none_of_a_vendor_are_told_apart(rt: HostRuntime) -> Result<(),
 #[test]
 fn a_book_that_is_cut_is_bad_from_there_on(rt: HostRuntime) -> Result<(), Fail> {
     let alloc = rt.alloc();
-    let book = hex::decode(alloc, BOOK)?;
+    let book = book_after(alloc)?;
     for cut in [8, 9, 12, 13, 50, 93, 94, 95, 152, 202, 203, 341, 342] {
         let line = format!(in alloc; "bad entry at {cut}\n")?;
         let part = book.get(..cut).unwrap_or(b"");
@@ -168,7 +167,7 @@ fn a_book_that_is_cut_is_bad_from_there_on(rt: HostRuntime) -> Result<(), Fail> 
 #[test]
 fn a_byte_that_cannot_stand_is_told_by_its_place(rt: HostRuntime) -> Result<(), Fail> {
     let alloc = rt.alloc();
-    let book = hex::decode(alloc, BOOK)?;
+    let book = book_after(alloc)?;
     let rows: [(usize, u8, &[u8]); 10] = [
         (9, 1, b"bad entry at 9\n"),
         (13, 0, b"bad entry at 13\n"),
@@ -214,7 +213,7 @@ fn a_disk_that_fails_is_told_and_the_repeat_gets_the_first_reply(
 ) -> Result<(), Fail> {
     let alloc = rt.alloc();
     let before = book_before(alloc)?;
-    let after = hex::decode(alloc, BOOK)?;
+    let after = book_after(alloc)?;
     for call in 2_u32..6 {
         for choice in [0, 1, 5, 128] {
             let calls = [call, call.saturating_add(1)];
@@ -249,7 +248,7 @@ fn a_disk_that_fails_is_told_and_the_repeat_gets_the_first_reply(
 fn a_link_that_cannot_be_taken_ends_the_serving(rt: HostRuntime) -> Result<(), Fail> {
     let alloc = rt.alloc();
     let before = book_before(alloc)?;
-    let after = hex::decode(alloc, BOOK)?;
+    let after = book_after(alloc)?;
     let rows: [(u32, Option<&[u8]>, &[u8]); 2] = [(0, None, &before), (4, Some(FIRST), &after)];
     for (call, wanted, contents) in rows {
         let calls = [call];
@@ -270,7 +269,7 @@ fn a_link_that_cannot_be_taken_ends_the_serving(rt: HostRuntime) -> Result<(), F
 fn other_calls_of_links_that_fail_do_not_change_how_it_ends(rt: HostRuntime) -> Result<(), Fail> {
     let alloc = rt.alloc();
     let before = book_before(alloc)?;
-    let after = hex::decode(alloc, BOOK)?;
+    let after = book_after(alloc)?;
     let served = b"served 2\n".as_slice();
     let rows: [(u32, &[u8], &[u8], &[u8]); 7] = [
         (1, b"", FIRST, served),
