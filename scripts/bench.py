@@ -1,8 +1,8 @@
 #!/usr/bin/env python3
 """How many payments and repeats a second a shop's program answers over loopback. Before each payment a plain
 loop writes and syncs an entry of the same size in a file beside the book, so that both meet the same load of
-the machine. The argument is how many payments there are of each kind. Each one of the keeping time makes every
-later request a little slower, so rates are told with how many replies are kept."""
+the machine. The argument is how many payments there are of each kind. Rates of repeats are told with how many
+replies are kept."""
 import os
 import statistics
 import sys

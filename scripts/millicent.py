@@ -100,6 +100,14 @@ def goods_entry(moment, target, price, kind, contents):
     return b"\x03" + number(moment, 8) + text(target) + tail
 
 
+def mint_entry(moment, reference, count, value, first):
+    return b"\x05" + number(moment, 8) + text(reference) + number(count, 2) + number(value, 8) + first
+
+
+def moment_of(entry):
+    return int.from_bytes(entry[1:9], "big")
+
+
 HEADER = b"MCJRNL1\n"
 
 
@@ -132,7 +140,7 @@ def accepted(entry):
     price = int.from_bytes(take(8), "big")
     change = take(8) if take(1) == b"\1" else None
     assert entry[0] == 4 and rest == b"\0", "no accepted request for goods"
-    return int.from_bytes(entry[1:9], "big"), piece, target, sign, price, change
+    return moment_of(entry), piece, target, sign, price, change
 
 
 def self_test():

@@ -8,7 +8,7 @@ from shop import PRICE, TARGET, Shop
 
 def main():
     with Shop() as shop:
-        piece, secret = shop.fresh(PRICE + 75)
+        piece, secret = shop.minted(PRICE + 75, "pay")
         sign = request_sign(piece, TARGET, secret).hex()
         url = "http://%s:%d%s" % (*shop.address, TARGET.decode())
         words = ["curl", "-s", "-i", "-H", "Millicent-Scrip: " + piece.decode(), "-H", "Millicent-Sign: " + sign, url]

@@ -70,8 +70,14 @@ class Link:
         return self.receive()
 
 
+def words_of(terms):
+    """The words of a command that give these terms: period, life, secrets of scrip, secrets of customers."""
+    secrets = (",".join(s.hex() for s in each) for each in (terms.scrip, terms.customer))
+    return [str(terms.period), str(terms.life), *secrets]
+
+
 class Shop:
-    """Founds the book by the program, and puts a licence and goods into it, for which no command is used."""
+    """A vendor of one page, founded and kept by the program, that takes scrip of its own and of one licence."""
 
     def __init__(self, keep=600):
         self.folder = tempfile.TemporaryDirectory(prefix="millicent-")
@@ -80,15 +86,16 @@ class Shop:
         self.address = ("127.0.0.1", free_port())
         self.serials = itertools.count()
         self.server = None
-        terms = [s[0].hex() for s in (self.own.scrip, self.own.customer)]
-        words = [PROGRAM, "vendor", "init", self.book, NAME.decode(), "4096", "8192", *terms, "--keep", str(keep), "--clear"]
-        subprocess.run(words, check=True, stdout=subprocess.DEVNULL)
-        (site,), _ = millicent.entries_of(self.bytes())
-        moment = int.from_bytes(site[1:9], "big")
-        assert site == millicent.site_entry(moment, NAME, self.own, keep, clear=True), "the founded book is another"
-        licence, goods = millicent.terms_entry(moment, self.licensed), millicent.goods_entry(moment, TARGET, PRICE, 1, CONTENTS)
-        with open(self.book, "wb") as f:
-            f.write(millicent.book([site, licence, goods]))
+        self.entered = []
+        name, target, licence = NAME.decode(), TARGET.decode(), words_of(self.licensed)
+        said = [
+            self.enter(lambda moment: millicent.site_entry(moment, NAME, self.own, keep, clear=True),
+                       "init", name, *words_of(self.own), "--keep", str(keep), "--clear"),
+            self.enter(lambda moment: millicent.terms_entry(moment, self.licensed), "licence", "1", *licence),
+            self.enter(lambda moment: millicent.goods_entry(moment, TARGET, PRICE, 1, CONTENTS),
+                       "goods", target, str(PRICE), "--kind", "1", contents=CONTENTS)]
+        lines = "founded %s" % name, "licence %s 1 %s" % (name, " ".join(licence)), "goods %s %d" % (target, PRICE)
+        assert said == ["%s\n" % line for line in lines], "the program said %r" % said
 
     def __enter__(self):
         return self
@@ -102,8 +109,31 @@ class Shop:
         with open(self.book, "rb") as f:
             return f.read()
 
+    def enter(self, entry, command, *words, contents=b""):
+        """Has the program do a keeper's command to the book, which is not served then, and answers what it
+        says. The book then has the entries that were expected: this one, by its moment, behind those before."""
+        words = [PROGRAM, "vendor", command, self.book, *words]
+        said = subprocess.run(words, check=True, input=contents, stdout=subprocess.PIPE).stdout.decode()
+        self.entered.append(entry)
+        entries, _ = millicent.entries_of(self.bytes())
+        assert len(entries) == len(self.entered), "the book has %d entries" % len(entries)
+        for e, expected in zip(entries, self.entered):
+            assert e == expected(millicent.moment_of(e)), "the book has another entry: %r" % e
+        return said
+
+    def minted(self, value, reference):
+        """The first piece of the vendor's own series, and its customer secret."""
+        def ident(moment):
+            return millicent.identity(0, self.own.epoch(moment), 0)
+        line = self.enter(lambda moment: millicent.mint_entry(moment, reference.encode(), 1, value, ident(moment)),
+                          "mint", "1", str(value), reference)
+        first = bytes.fromhex(line.split("|")[3])
+        piece, secret = millicent.scrip(self.own, NAME, value, first), millicent.customer_secret(self.own, first)
+        assert line == "%s %s\n" % (piece.decode(), secret.hex()), "the program said %r" % line
+        return piece, secret
+
     def fresh(self, value):
-        """A piece that was never paid with, and its customer secret."""
+        """A piece of the licence that was never paid with, and its customer secret."""
         ident = millicent.identity(1, self.licensed.epoch(int(time.time())), next(self.serials))
         return millicent.scrip(self.licensed, NAME, value, ident), millicent.customer_secret(self.licensed, ident)
 
