@@ -1,6 +1,6 @@
 -- A command whose book stands for a lawful history, where no call failed, does what it says, or wants memory, or
 -- tells a refusal.
-use Rattle.std.proofs.Common.{◌≡◌, ◌⊎◌, inl, inr, ℕ, List, refl, sym, ap, subst, arith, Some}
+use Rattle.std.proofs.Common.{◌≡◌, ◌∙◌, ◌≤◌, ◌⊎◌, inl, inr, ℕ, List, Bool, true, false, refl, sym, ap, subst, arith, Some}
 use Rattle.mc_outside.specs.Bytes.{Rose}
 use Rattle.mc_outside.specs.DiskView.{DiskView}
 use Rattle.mc_outside.specs.LinkView.{LinkView}
@@ -11,22 +11,28 @@ use Rattle.vendor_core.specs.Desk.{Task}
 use Rattle.mc_top.specs.declared.command.Command.{Command}
 use Rattle.mc_top.specs.declared.command.Command.TheVariants as commands
 use Rattle.mc_top.specs.declared.order.Order.{Order}
+use Rattle.mc_top.specs.declared.order.Order.TheVariants as orders
 use Rattle.mc_top.specs.declared.status.Status.{Status}
 use Rattle.mc_top.specs.declared.status.Status.TheVariants as ends
 use Rattle.mc_top.specs.Opening.{full}
 use Rattle.mc_top.specs.Words.{Shop, Founder}
-use Rattle.mc_top.specs.Course.{IsSaid}
-use Rattle.mc_top.specs.Statuses.{number_of}
+use Rattle.mc_top.specs.Course.{Says}
+use Rattle.mc_top.specs.Statuses.{number_of, line_of}
 use Rattle.mc_top.specs.Serving.{NotOpened, ServesLinksOf, BookCauses}
 use Rattle.mc_top.specs.Init.{FoundsBook, InitCauses}
-use Rattle.mc_top.specs.Desk.{LosesInput, DidBy, KeepsBook}
-use Rattle.mc_top.specs.Programs.{ServesOnce, Obeys, Ends, RunsAs, EndsWell}
+use Rattle.mc_top.specs.Desk.{TakesInput, LosesInput, DidBy, KeepsBook}
+use Rattle.mc_top.specs.Programs.{ServesOnce, Obeys, Ends, RunsAs, EndsWell, answered}
 use Rattle.mc_top.proofs.OpenLaws.{begins_with_header, not_spoiled, not_unlawful, not_of_other}
 
 -- a call that failed is seen at the end
-rose_at_end : (a b c : ℕ) (line : List ℕ) (v w : LinkView) → b ≡ v.faults → c ≡ w.faults → IsSaid line v w → Rose a b → Rose a c
-rose_at_end a b c line v w is_b is_c (inl said) rose = let same : w.faults ≡ v.faults = ap (λ (u : LinkView). u.faults) said in omega (arith, rose, is_b, is_c, same)
-rose_at_end a b c line v w is_b is_c (inr part) rose = omega (arith, rose, is_b, is_c, part.rose)
+rose_at_end : (a b c : ℕ) (line : List ℕ) (v w : LinkView) (whole : Bool) → b ≡ v.faults → c ≡ w.faults → Says line whole v w → Rose a b → Rose a c
+rose_at_end a b c line v w true is_b is_c said rose = let same : w.faults ≡ v.faults = ap (λ (u : LinkView). u.faults) said in omega (arith, rose, is_b, is_c, same)
+rose_at_end a b c line v w false is_b is_c part rose = omega (arith, rose, is_b, is_c, part.rose)
+
+-- where no call failed, the line was said, and the number is the status's
+number_stays : (line : List ℕ) (v w : LinkView) (whole : Bool) (n : ℕ) → (Rose v.faults w.faults → ⊥) → Says line whole v w → answered whole n ≡ n
+number_stays line v w true n calm said = refl
+number_stays line v w false n calm part = absurd (calm part.rose)
 
 -- what did not come of a book that stands
 record Calm {O : Type 0} (link : O → LinkView) (disk : O → DiskView) (a b : O) : Type 0 where
@@ -37,8 +43,78 @@ is_calm : {O : Type 0} (link : O → LinkView) (disk : O → DiskView) (a b c : 
     → (Rose (disk a).faults (disk c).faults → ⊥) → (Rose (link a).faults (link c).faults → ⊥) → Calm link disk a b
 is_calm link disk a b c status number ends no_disk no_link = record {
   disk' = λ rose. no_disk (subst (λ (n : ℕ). Rose (disk a).faults n) (sym ends.keeps.faults) rose);
-  link' = λ rose. no_link (rose_at_end (link a).faults (link b).faults (link c).faults _ (link b) (link c) refl refl ends.said rose);
+  link' = λ rose. no_link (rose_at_end (link a).faults (link b).faults (link c).faults _ (link b) (link c) ends.whole refl refl ends.said rose);
 }
+
+-- ---- the count of the links' faults did not fall
+
+same_count : (v w : LinkView) → w ≡ v → v.faults ≤ w.faults
+same_count v w same = let is : w.faults ≡ v.faults = ap (λ (u : LinkView). u.faults) same in omega (arith, is)
+
+unopened_grew : {O : Type 0} (link : O → LinkView) (disk : O → DiskView) (bytes : List ℕ) (a b : O) (status : Status) → NotOpened link disk bytes a status b → (link a).faults ≤ (link b).faults
+unopened_grew link disk bytes a b ends.Done not = absurd not
+unopened_grew link disk bytes a b (ends.Served n) not = absurd not
+unopened_grew link disk bytes a b (ends.Founded name) not = absurd not
+unopened_grew link disk bytes a b (ends.Did line) not = absurd not
+unopened_grew link disk bytes a b ends.BadWords not = absurd not
+unopened_grew link disk bytes a b ends.NotJournal not = same_count (link a) (link b) not.1.link'
+unopened_grew link disk bytes a b (ends.BadEntry place) not = same_count (link a) (link b) not.1.link'
+unopened_grew link disk bytes a b (ends.UnlawfulEntry place) not = same_count (link a) (link b) not.1.link'
+unopened_grew link disk bytes a b ends.DiskFault not = same_count (link a) (link b) not.link'
+unopened_grew link disk bytes a b ends.NoMemory not = same_count (link a) (link b) not.link'
+unopened_grew link disk bytes a b ends.LinkFault not = absurd not
+unopened_grew link disk bytes a b (ends.Refused f) not = same_count (link a) (link b) not.2.link'
+
+served_grew : {O : Type 0} (link : O → LinkView) (disk : O → DiskView) (links : ℕ) (bytes : List ℕ) (a b : O) (status : Status) → Calm link disk a b → BookCauses link disk a status b → ServesLinksOf link disk links bytes a status b
+    → (link a).faults ≤ (link b).faults
+served_grew link disk links bytes a b ends.Done calm causes served = absurd served
+served_grew link disk links bytes a b (ends.Served n) calm causes served = causes.1
+served_grew link disk links bytes a b (ends.Founded name) calm causes served = absurd served
+served_grew link disk links bytes a b (ends.Did line) calm causes served = absurd served
+served_grew link disk links bytes a b ends.BadWords calm causes served = absurd served
+served_grew link disk links bytes a b ends.NotJournal calm causes served = absurd served
+served_grew link disk links bytes a b (ends.BadEntry place) calm causes served = absurd served
+served_grew link disk links bytes a b (ends.UnlawfulEntry place) calm causes served = absurd served
+served_grew link disk links bytes a b ends.DiskFault calm causes served = absurd (calm.disk' causes)
+served_grew link disk links bytes a b ends.NoMemory calm causes served = same_count (link a) (link b) served.link'
+served_grew link disk links bytes a b ends.LinkFault calm causes served = absurd (calm.link' causes.1)
+served_grew link disk links bytes a b (ends.Refused f) calm causes served = absurd served
+
+input_kept : (order : Order) (v : LinkView) (input : List ℕ) (w : LinkView) → TakesInput order v input w → w.faults ≡ v.faults
+input_kept (orders.Goods l) v input w (inl is) = ap (λ (u : LinkView). u.faults) is.1
+input_kept (orders.Goods l) v input w (inr (inl is)) = ap (λ (u : LinkView). u.faults) is.1
+input_kept (orders.Goods l) v input w (inr (inr is)) = ap (λ (u : LinkView). u.faults) is.1
+input_kept (orders.Price l) v input w is = ap (λ (u : LinkView). u.faults) is.1
+input_kept (orders.Licence l) v input w is = ap (λ (u : LinkView). u.faults) is.1
+input_kept (orders.Mint l) v input w is = ap (λ (u : LinkView). u.faults) is.1
+
+kept_grew : {O : Type 0} (link : O → LinkView) (disk : O → DiskView) (order : Order) (bytes : List ℕ) (a b : O) (status : Status) → Calm link disk a b → BookCauses link disk a status b → KeepsBook link disk order bytes a status b
+    → (link a).faults ≤ (link b).faults
+kept_grew link disk order bytes a b status calm causes (inl not) = unopened_grew link disk bytes a b status not
+kept_grew link disk order bytes a b status calm causes (inr (inr kept)) =
+    let taken : kept.taken.faults ≡ (link a).faults = input_kept order (link a) kept.input kept.taken kept.takes in
+    let is : (link b).faults ≡ kept.taken.faults = ap (λ (u : LinkView). u.faults) kept.rest in
+    omega (arith, taken, is)
+kept_grew link disk order bytes a b status calm causes (inr (inl unread)) = go unread.lost
+  where
+    go : ((status ≡ ends.LinkFault) × LosesInput order (link a) (link b)) ⊎ ((status ≡ ends.NoMemory) × (link b ≡ link a)) → (link a).faults ≤ (link b).faults
+    go (inl (is, lost)) = absurd (calm.link' (subst (λ (s : Status). BookCauses link disk a s b) is causes).1)
+    go (inr (is, same)) = same_count (link a) (link b) same
+
+-- whatever the command is, over an outside whose disk had these bytes
+grew : {O : Type 0} (link : O → LinkView) (disk : O → DiskView) (command : Command) (bytes : List ℕ) (a b : O) (status : Status) → (disk a).contents ≡ Some bytes → Calm link disk a b → Obeys link disk command a status b
+    → (link a).faults ≤ (link b).faults
+grew link disk (commands.Once shop) bytes a b status told calm obeys = obeys.2
+grew link disk (commands.Init founder) bytes a b status told calm obeys =
+    let is : (link b).faults ≡ (link a).faults = ap (λ (u : LinkView). u.faults) (obeys.1 bytes told).1.rest in omega (arith, is)
+grew link disk (commands.Serve server) bytes a b status told calm obeys = go (obeys.1 bytes told)
+  where
+    go : NotOpened link disk bytes a status b ⊎ ServesLinksOf link disk server.links bytes a status b → (link a).faults ≤ (link b).faults
+    go (inl not) = unopened_grew link disk bytes a b status not
+    go (inr served) = served_grew link disk server.links bytes a b status calm obeys.0 served
+grew link disk (commands.Desk order) bytes a b status told calm obeys = kept_grew link disk order bytes a b status calm obeys.0 (obeys.1 bytes told)
+
+-- ---- how it ends
 
 -- it was opened, unless memory was refused
 only_memory : {O : Type 0} (link : O → LinkView) (disk : O → DiskView) (h : History) (bytes : List ℕ) (a b : O) (status : Status) → Stands h bytes → IsLawful full h → Calm link disk a b
@@ -129,8 +205,14 @@ desk_well link disk order h bytes a b status st lawful calm causes (inr (inl unr
 pub ends_well : {O : Type 0} (link : O → LinkView) (disk : O → DiskView) (command : Command) (h : History) (bytes : List ℕ) (a c : O) (number : ℕ) → (disk a).contents ≡ Some bytes → Stands h bytes → IsLawful full h
     → (Rose (disk a).faults (disk c).faults → ⊥) → (Rose (link a).faults (link c).faults → ⊥) → RunsAs link disk command a number c → EndsWell command number
 ends_well {O = O} link disk command h bytes a c number told st lawful no_disk no_link (b, status, obeys, ends) =
-    subst (EndsWell command) (sym ends.number') (by_command command obeys (is_calm link disk a b c status number ends no_disk no_link))
+    subst (EndsWell command) (sym (ends.number' ∙ number_stays (line_of status) (link b) (link c) ends.whole (number_of status) no_more ends.said)) (by_command command obeys calm)
   where
+    calm : Calm link disk a b
+    calm = is_calm link disk a b c status number ends no_disk no_link
+
+    no_more : Rose (link b).faults (link c).faults → ⊥
+    no_more rose = let grown : (link a).faults ≤ (link b).faults = grew link disk command bytes a b status told calm obeys in no_link (omega (arith, grown, rose))
+
     by_command : (command : Command) → Obeys link disk command a status b → Calm link disk a b → EndsWell command (number_of status)
     by_command (commands.Once shop) obeys calm = once_well shop (link a) (link b) status calm.link' obeys.0
     by_command (commands.Init founder) obeys calm = init_well link disk founder bytes a b status calm obeys.0 (obeys.1 bytes told)

@@ -1,5 +1,5 @@
 -- How serving the vendor of a book ends.
-use Rattle.std.proofs.Common.{◌≡◌, ◌⊎◌, inl, inr, ℕ, List, refl, sym, ap, ◌∙◌, subst, arith, Err}
+use Rattle.std.proofs.Common.{◌≤◌, ◌≡◌, ◌⊎◌, inl, inr, ℕ, List, refl, sym, ap, ◌∙◌, subst, arith, Err}
 use Rattle.std.specs.Prelude.{IsSome}
 use Rattle.mc_outside.specs.Bytes.{Rose}
 use Rattle.mc_outside.specs.DiskView.{DiskView, OnlyRead, Ran}
@@ -35,7 +35,7 @@ use Rattle.mc_top.proofs.LawfulRuns.{IsSound, all_sound, links_sound, doubt_soun
 
 pub serve_causes : {O T : Type 0} (link : O → LinkView) (disk : O → DiskView) (a b : O) (out : ServeOut O T) → (disk b).faults ≡ (disk a).faults → link b ≡ link a → HaveCauses link disk b out
     → BookCauses link disk a (served_status out) (served_outside out)
-serve_causes link disk a b (outs.Done x n) same links kept = kept.disk' ∙ same
+serve_causes link disk a b (outs.Done x n) same links kept = (kept.disk' ∙ same, subst (λ (v : LinkView). v.faults ≤ (link x.journal.disk).faults) links kept.link')
 serve_causes link disk a b (outs.Link x) same links kept = (kept.0.disk' ∙ same, subst (λ (v : LinkView). Rose v.faults (link x.journal.disk).faults) links kept.1)
 serve_causes link disk a b (outs.NoMemory x) same links kept = ap (λ d. (disk d).faults) kept ∙ same
 serve_causes link disk a b (outs.Halted d) same links kept = subst (λ (n : ℕ). Rose n (disk d).faults) same kept

@@ -1,5 +1,5 @@
 -- What the program does by its words.
-use Rattle.std.specs.Prelude.{◌≡◌, ◌⊎◌, ℕ, List, Some}
+use Rattle.std.specs.Prelude.{◌≡◌, ◌⊎◌, ◌≤◌, ℕ, zero, suc, List, Bool, true, false, Some}
 use Rattle.mc_outside.specs.DiskView.{DiskView, LinkKeeps}
 use Rattle.mc_outside.specs.LinkView.{LinkView}
 use Rattle.house_serving.specs.Course.{NoLink}
@@ -8,7 +8,7 @@ use Rattle.mc_top.specs.declared.command.Command.TheVariants as commands
 use Rattle.mc_top.specs.declared.status.Status.{Status}
 use Rattle.mc_top.specs.declared.status.Status.TheVariants as ends
 use Rattle.mc_top.specs.Words.{Shop}
-use Rattle.mc_top.specs.Course.{IsDone, IsSaid}
+use Rattle.mc_top.specs.Course.{IsDone, Says}
 use Rattle.mc_top.specs.Statuses.{number_of, line_of}
 use Rattle.mc_top.specs.Serving.{ServesBook, BookCauses}
 use Rattle.mc_top.specs.Init.{FoundsBook, InitCauses}
@@ -24,7 +24,7 @@ ServesOnce shop before _ after = ⊥
 -- What a command does, up to the line that is said. What is said of a book holds where its disk tells its
 -- bytes; the causes of faults hold of every outside.
 abbrev pub Obeys : {O : Type 0} → (O → LinkView) → (O → DiskView) → Command → O → Status → O → Type 0
-Obeys link disk (commands.Once shop) a status b = ServesOnce shop (link a) status (link b) × LinkKeeps (disk a) (disk b)
+Obeys link disk (commands.Once shop) a status b = ServesOnce shop (link a) status (link b) × LinkKeeps (disk a) (disk b) × ((link a).faults ≤ (link b).faults)
 Obeys link disk (commands.Init founder) a status b =
     InitCauses disk a status b × ((bytes : List ℕ) → (disk a).contents ≡ Some bytes → FoundsBook link disk founder bytes a status b)
 Obeys link disk (commands.Serve server) a status b =
@@ -32,10 +32,18 @@ Obeys link disk (commands.Serve server) a status b =
 Obeys link disk (commands.Desk order) a status b =
     BookCauses link disk a status b × ((bytes : List ℕ) → (disk a).contents ≡ Some bytes → KeepsBook link disk order bytes a status b)
 
--- then the line of the status was said, or saying it failed; that leaves the disk
+-- the number that is answered where the line was said; where it was not, a number other than 0 stays, and 6 takes the
+-- place of 0, so that nothing is told to be done whose line is lost
+abbrev pub answered : Bool → ℕ → ℕ
+answered true n = n
+answered false zero = 6
+answered false (suc n) = suc n
+
+-- Then the line of the status was said, or saying it failed, and the number tells which. That leaves the disk.
 pub record Ends {O : Type 0} (link : O → LinkView) (disk : O → DiskView) (status : Status) (b c : O) (number : ℕ) : Type 0 where
-  pub number' : number ≡ number_of status
-  pub said : IsSaid (line_of status) (link b) (link c)
+  pub whole : Bool
+  pub said : Says (line_of status) whole (link b) (link c)
+  pub number' : number ≡ answered whole (number_of status)
   pub keeps : LinkKeeps (disk b) (disk c)
 
 -- what the program does by a command

@@ -1,5 +1,5 @@
 -- What `vendor serve` does with the book on a disk, up to the line that it says.
-use Rattle.std.specs.Prelude.{◌≡◌, ◌⊎◌, ℕ, List, [], ◌∷◌, ◌++◌, Some, IsSome}
+use Rattle.std.specs.Prelude.{◌≤◌, ◌≡◌, ◌⊎◌, ℕ, List, [], ◌∷◌, ◌++◌, Some, IsSome}
 use Rattle.mc_outside.specs.Bytes.{Rose, BeginsWith}
 use Rattle.mc_outside.specs.DiskView.{DiskView, OnlyRead, Ran}
 use Rattle.mc_outside.specs.LinkView.{LinkView}
@@ -89,8 +89,10 @@ abbrev pub ServesBook : {O : Type 0} → (O → LinkView) → (O → DiskView) �
 ServesBook link disk links bytes a status b = NotOpened link disk bytes a status b ⊎ ServesLinksOf link disk links bytes a status b
 
 -- Of a command over a book that stands: the count of the disk's faults rose where the disk failed, and that of
--- the links' where a link failed that the command needs; else the disk did not fail.
+-- the links' where a link failed that the command needs; else the disk did not fail. Where links were served the
+-- count of their faults did not fall.
 abbrev pub BookCauses : {O : Type 0} → (O → LinkView) → (O → DiskView) → O → Status → O → Type 0
+BookCauses link disk a (ends.Served n) b = ((disk b).faults ≡ (disk a).faults) × ((link a).faults ≤ (link b).faults)
 BookCauses link disk a ends.DiskFault b = Rose (disk a).faults (disk b).faults
 BookCauses link disk a ends.LinkFault b = ((disk b).faults ≡ (disk a).faults) × Rose (link a).faults (link b).faults
 BookCauses link disk a _ b = (disk b).faults ≡ (disk a).faults

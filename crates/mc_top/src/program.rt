@@ -1,4 +1,4 @@
-ghost use Rattle.std.specs.Prelude.{◌≡◌, ◌⊎◌, ◌↔◌, ◌<◌, ℕ, List, Some, map, length, string_bytes, codes};
+ghost use Rattle.std.specs.Prelude.{◌≡◌, ◌⊎◌, ◌↔◌, ◌<◌, ◌≤◌, ℕ, List, Some, map, length, string_bytes, codes};
 ghost use Rattle.mc_outside.specs.Bytes.{Rose};
 ghost use Rattle.mc_outside.specs.DiskView.{LinkKeeps};
 ghost use Rattle.ledger_model.specs.Histories.{History};
@@ -6,8 +6,9 @@ ghost use Rattle.ledger_model.specs.Lawful.{IsLawful};
 ghost use Rattle.scrip_journal.specs.Layout.{Stands};
 ghost use Rattle.mc_top.specs.declared.command.Command.{Command as Commanded};
 ghost use Rattle.mc_top.specs.Commands.{AreWords, AreNoWords};
-ghost use Rattle.mc_top.specs.Course.{IsSaid, EndsOnce};
+ghost use Rattle.mc_top.specs.Course.{IsSaid, Says, EndsOnce};
 ghost use Rattle.mc_top.specs.Opening.{full};
+ghost use Rattle.mc_top.specs.Programs as programs;
 ghost use Rattle.mc_top.specs.Programs.{Obeys, Ends, RunsAs, EndsWell};
 ghost use Rattle.mc_top.specs.Statuses.{number_of};
 
@@ -44,7 +45,7 @@ pub struct Ran<O, D> {
 /// 3: the book that is opened is no journal, or has bytes that can't stand, or an entry that may not follow.
 /// 4: the disk failed. 5: memory was refused before anything was done; memory that is refused later, to
 /// accept a request, is a reply with refusal 90 (`500`), and the link goes on. 6: `next_link` failed, or
-/// receiving the contents of goods. 7: a refusal is told: that the book to be founded has bytes already (50),
+/// receiving the contents of goods, or saying the line of what is done. 7: a refusal is told: that the book to be founded has bytes already (50),
 /// that the book that is opened is of a site of another kind (52), or what `set_goods`, `set_price`,
 /// `add_terms` or `mint` refuses. Lines say how it ended; where they can't be said, the status stays. The
 /// outside and the books are handed back.
@@ -95,6 +96,7 @@ fn obey<O: Outside>(alloc: Global, command: &Command<'_>, out: O) -> (O, Status)
 fn serve_once<K: Link>(alloc: Global, shop: &Shop<'_>, k: &mut K) -> Result<(), BenchEnd>
     ensures moved { K.link_moved k.old k.new }
     ensures ended { EndsOnce result shop.now (K.link k.old) (K.link k.new) }
+    ensures grown { (K.link k.old).faults ≤ (K.link k.new).faults }
 {
     let mut bench = match shop.open(alloc) {
         Ok(bench) => bench,
@@ -106,23 +108,37 @@ fn serve_once<K: Link>(alloc: Global, shop: &Shop<'_>, k: &mut K) -> Result<(), 
     }
 }
 
-/// Says the line of a status, where it has one, and answers its number.
+/// Says the line of a status, where it has one, and answers its number; 6 in the place of 0 where the line
+/// could not be said.
 fn end<O: Outside>(out: O, status: Status) -> (O, u8)
     ensures ends { Ends O.link O.disk status out result.0 result.1 }
+    ensures number { (result.1 ≡ 2) ↔ (number_of status ≡ 2) }
 {
     let mut room = [0; 256];
-    let out = say(out, status.line(&mut room));
-    (out, status.number())
+    let (out, is_said) = say(out, status.line(&mut room));
+    (out, answered(is_said, status.number()))
 }
 
-/// Says a line, where there is one; that may fail.
-fn say<O: Outside>(out: O, line: &[u8]) -> O
-    ensures said { IsSaid line.now (O.link out) (O.link result) }
-    ensures keeps { LinkKeeps (O.disk out) (O.disk result) }
+/// The number that is answered where a line was said, or could not be said.
+fn answered(is_said: bool, number: u8) -> u8
+    ensures number { result ≡ programs.answered is_said number }
+    ensures other { (result ≡ 2) ↔ (number ≡ 2) }
+{
+    match number {
+        0 if !is_said => Status::LinkFault.number(),
+        _ => number,
+    }
+}
+
+/// Says a line, where there is one, and answers whether it was said whole.
+fn say<O: Outside>(out: O, line: &[u8]) -> (O, bool)
+    ensures said { Says line.now result.1 (O.link out) (O.link result.0) }
+    ensures keeps { LinkKeeps (O.disk out) (O.disk result.0) }
 {
     let mut out = out;
-    if !line.is_empty() {
-        let _ = out.say(line);
+    if line.is_empty() {
+        return (out, true);
     }
-    out
+    let is_said = out.say(line).is_ok();
+    (out, is_said)
 }

@@ -24,3 +24,9 @@ returns-clause-ended g c =
     let after = g.K.Link.link c.serve_bench_by.new.k in
     let by = (c.in-Err-serve_bench_by.ensures.served h is.house).leads in
     ended_early end c.args.shop.now by.0 before after (at_opening (λ limits moment s. Served limits (At moment) 1 (Err end) by.0 s before after) h _ _ _ is.limits c.clamped.ensures is.time by.2)
+
+pub returns-in-Ok-serve_bench_by-clause-grown : goal.returns-in-Ok-serve_bench_by-clause-grown
+returns-in-Ok-serve_bench_by-clause-grown g c = (g.met.K.Link.link_goes _ _ c.serve_bench_by.ensures.moved).faults
+
+pub returns-clause-grown : goal.returns-clause-grown
+returns-clause-grown g c = (g.met.K.Link.link_goes _ _ c.serve_bench_by.ensures.moved).faults
