@@ -7,8 +7,6 @@
 mod issuer;
 mod series_full;
 mod sheet;
-#[cfg(test)]
-mod tests;
 
 pub use issuer::Issuer;
 pub use series_full::SeriesFull;

@@ -28,8 +28,6 @@ mod settled;
 mod signing;
 mod spent;
 mod stages;
-#[cfg(test)]
-mod tests;
 mod trade;
 mod verdict;
 mod weigh;

@@ -6,8 +6,6 @@
 mod deed;
 mod index;
 mod kept;
-#[cfg(test)]
-mod tests;
 mod texts;
 
 pub use deed::{Deed, KeptEntry};

@@ -7,8 +7,6 @@ mod coin;
 mod list;
 mod moment;
 mod no_memory;
-#[cfg(test)]
-mod tests;
 mod total;
 
 pub use amount::Amount;

@@ -16,8 +16,6 @@ mod literal;
 mod number;
 mod room;
 mod stuck;
-#[cfg(test)]
-mod tests;
 mod text;
 mod writing;
 

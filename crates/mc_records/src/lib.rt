@@ -20,8 +20,6 @@ mod record;
 mod refusal;
 mod refusal_text;
 mod request;
-#[cfg(test)]
-mod tests;
 mod writing;
 
 pub use appending::write_record;

@@ -2,6 +2,5 @@ pub mod Elements
 pub mod Images
 pub mod Links
 pub mod Plays
-pub mod Stores
 pub mod Calls
 pub mod LinkCalls

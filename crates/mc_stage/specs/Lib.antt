@@ -5,4 +5,3 @@ pub mod Tale
 pub mod Script
 pub mod Tape
 pub mod Stage
-pub mod Stores

@@ -8,7 +8,5 @@ mod pieces;
 mod plan;
 mod stage;
 mod tape;
-#[cfg(test)]
-mod tests;
 
 pub use stage::{Failing, Stage};

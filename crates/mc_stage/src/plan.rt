@@ -36,4 +36,11 @@ impl Plan {
         self.calls = number.saturating_add(1);
         self.listed.slice().iter().any(|n| u64::from(*n) == number)
     }
+
+    /// How many calls were made, up to 2^64 - 1.
+    pub(crate) fn calls(&self) -> u64
+        ensures { result ≡ self.now.calls }
+    {
+        self.calls
+    }
 }

@@ -96,7 +96,7 @@ fn filled(alloc: Global, choice: u64, bytes: &[u8], marks: &[bool]) -> Result<Ve
 impl Stage {
     ghost use Rattle.std.specs.Prelude.{[], None, Some, false, true, slice_get, option_map, map, reverse};
     ghost use Rattle.mc_stage.specs.Stage.{tale_of, script_of};
-    ghost use Rattle.mc_stage.specs.Model.{Tale, model, untouched};
+    ghost use Rattle.mc_stage.specs.Model.{Tale, model, untouched, link_of};
     ghost use Rattle.mc_stage.specs.Image.{chosen};
 
     /// A stage with these contents, which count as synced. Each link is a list of pieces; one
@@ -226,6 +226,25 @@ impl Stage {
         ensures { result.now ≡ (model (tale_of self.now)).contents }
     {
         self.tape.bytes()
+    }
+
+    /// Whether a link stands, on which bytes can be received and sent.
+    #[tactic(auto, using(crate::proofs::Links::taken_where_sent, crate::proofs::Links::none_where_unsent))]
+    pub fn stands(&self) -> bool
+        ensures { result ≡ (link_of (tale_of self.now)).stands }
+    {
+        match self.tape.sent(0) {
+            Some(_) => self.stands,
+            None => false,
+        }
+    }
+
+    /// How many calls of the disk were made that can fail, and how many of links, each up to 2^64 - 1.
+    pub fn calls(&self) -> (u64, u64)
+        ensures disk { result.0 ≡ (script_of self.now).disk.calls }
+        ensures link { result.1 ≡ (script_of self.now).link.calls }
+    {
+        (self.disk_plan.calls(), self.link_plan.calls())
     }
 
     /// How many calls failed since memory was refused, up to 2^32 - 1.

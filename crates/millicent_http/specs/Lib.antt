@@ -8,4 +8,3 @@ pub mod Awaits
 pub mod Reads
 pub mod Occurs
 pub mod ReplyHeads
-pub mod Untold

@@ -22,6 +22,3 @@ pub use reply_head::write_reply_head;
 pub use reply_text::write_reply_text;
 pub use send::send_all;
 pub use whole::next_item;
-
-#[cfg(test)]
-mod tests;

@@ -12,8 +12,6 @@
 mod certificates;
 mod hex_text;
 mod signatures;
-#[cfg(test)]
-mod tests;
 
 pub use certificates::{certificate, customer_secret};
 pub use hex_text::{hex_of, of_hex};

@@ -20,8 +20,6 @@ mod secrets;
 mod small_text;
 mod target;
 mod terms;
-#[cfg(test)]
-mod tests;
 mod write;
 
 pub use id::Id;

@@ -6,8 +6,6 @@ mod desk;
 mod lines;
 mod minted;
 mod shelf;
-#[cfg(test)]
-mod tests;
 mod ware;
 mod wares;
 

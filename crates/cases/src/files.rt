@@ -1,0 +1,153 @@
+//! Files of cases, line by line.
+
+use crate::fault::Fault;
+use crate::show::Lines;
+use crate::state::State;
+use crate::tokens::{number, tokens};
+use crate::{
+    digest_verbs, form_verbs, head_verbs, issue_verbs, journal_verbs, keeper_verbs, ledger_verbs,
+    payload_verbs, program_verbs, setting_verbs, stage_verbs,
+};
+
+/// How far a file was read.
+#[derive(Clone, Copy)]
+pub(crate) struct Progress {
+    /// The number of the line that is read, from 1.
+    pub(crate) line: u64,
+    cases: u64,
+    /// Whether the last line was read.
+    has_ended: bool,
+}
+
+impl Progress {
+    pub(crate) fn new() -> Progress {
+        Progress {
+            line: 0,
+            cases: 0,
+            has_ended: false,
+        }
+    }
+
+    /// Does the lines of a file, and sees that it ends as it has to.
+    pub(crate) fn read(
+        &mut self,
+        state: &mut State,
+        text: &[u8],
+        out: &mut Lines,
+    ) -> Result<(), Fault> {
+        for line in text.split(|byte| *byte == b'\n') {
+            self.line = self.line.saturating_add(1);
+            if line.is_empty() || line.starts_with(b"#") {
+                continue;
+            }
+            if self.has_ended {
+                return Err(Fault::End);
+            }
+            self.obey(state, line, out)?;
+        }
+        if self.has_ended {
+            Ok(())
+        } else {
+            Err(Fault::End)
+        }
+    }
+
+    fn obey(&mut self, state: &mut State, line: &[u8], out: &mut Lines) -> Result<(), Fault> {
+        if let Some(what) = line.strip_prefix(b"case ") {
+            self.cases = self.cases.saturating_add(1);
+            state.forget();
+            out.start("case");
+            out.word(what);
+            out.end();
+            return Ok(());
+        }
+        let words = tokens(state.alloc, line)?;
+        let Some((verb, args)) = words.split_first() else {
+            return Err(Fault::Verb);
+        };
+        if *verb == b"end".as_slice() {
+            return self.finish(args);
+        }
+        act(state, verb, args, out)
+    }
+
+    /// The last line, which has the number of cases.
+    fn finish(&mut self, args: &[&[u8]]) -> Result<(), Fault> {
+        let [cases] = *args else {
+            return Err(Fault::Arguments);
+        };
+        if number(cases)? != self.cases {
+            return Err(Fault::End);
+        }
+        self.has_ended = true;
+        Ok(())
+    }
+}
+
+/// Does what a line says.
+fn act(state: &mut State, verb: &[u8], args: &[&[u8]], out: &mut Lines) -> Result<(), Fault> {
+    if let Some(done) = on_stage(state, verb, args, out) {
+        return done;
+    }
+    if let Some(done) = on_book(state, verb, args, out) {
+        return done;
+    }
+    match on_values(state, verb, args, out) {
+        Some(done) => done,
+        None => Err(Fault::Verb),
+    }
+}
+
+/// The verbs that make a stage and use it.
+fn on_stage(
+    state: &mut State,
+    verb: &[u8],
+    args: &[&[u8]],
+    out: &mut Lines,
+) -> Option<Result<(), Fault>> {
+    if let Some(done) = setting_verbs::set(state, verb, args, out) {
+        return Some(done);
+    }
+    if let Some(done) = program_verbs::act(state, verb, args, out) {
+        return Some(done);
+    }
+    if let Some(done) = head_verbs::act(state, verb, args, out) {
+        return Some(done);
+    }
+    stage_verbs::call(state, verb, args, out)
+}
+
+/// The verbs on journals, on what they say, and on what is entered.
+fn on_book(
+    state: &mut State,
+    verb: &[u8],
+    args: &[&[u8]],
+    out: &mut Lines,
+) -> Option<Result<(), Fault>> {
+    if let Some(done) = journal_verbs::act(state, verb, args, out) {
+        return Some(done);
+    }
+    if let Some(done) = keeper_verbs::enter(state, verb, args, out) {
+        return Some(done);
+    }
+    ledger_verbs::ask(state, verb, args, out)
+}
+
+/// The verbs on texts, payloads, digests, series and replies.
+fn on_values(
+    state: &mut State,
+    verb: &[u8],
+    args: &[&[u8]],
+    out: &mut Lines,
+) -> Option<Result<(), Fault>> {
+    if let Some(done) = form_verbs::read(state, verb, args, out) {
+        return Some(done);
+    }
+    if let Some(done) = payload_verbs::read(state, verb, args, out) {
+        return Some(done);
+    }
+    if let Some(done) = digest_verbs::make(state, verb, args, out) {
+        return Some(done);
+    }
+    issue_verbs::keep_books(state, verb, args, out)
+}

@@ -1,0 +1,145 @@
+//! Lines that read and write journals.
+
+use crate::fault::Fault;
+use crate::show::Lines;
+use crate::state::State;
+use mc_records::{Limits, PieceList, read_record, write_record};
+use mc_stage::Stage;
+use scrip_journal::{
+    Journal, OpenFault, Replay, ReplayFault, StageFault, found_journal, open_journal,
+};
+use std::alloc::Global;
+
+/// The verbs of this module; None where the verb is none of them.
+pub(crate) fn act(
+    state: &mut State,
+    verb: &[u8],
+    args: &[&[u8]],
+    out: &mut Lines,
+) -> Option<Result<(), Fault>> {
+    Some(match verb {
+        b"found" => found(state, args, out),
+        b"replay" => replay(state, out),
+        _ => return None,
+    })
+}
+
+fn found(state: &mut State, args: &[&[u8]], out: &mut Lines) -> Result<(), Fault> {
+    let mut payloads = Vec::new(state.alloc);
+    for token in args {
+        payloads.push(state.names.bytes(token)?)?;
+    }
+    let stage = state.make_stage()?;
+    let limits = state.limits;
+    if !limits.are_in_range() {
+        return Err(Fault::Value);
+    }
+    let stage = match found_journal(state.alloc, stage, limits) {
+        Ok(journal) => enter_all(journal, &payloads, out),
+        Err(OpenFault::NotJournal(stage)) => told(stage, "not a journal", out),
+        Err(OpenFault::Disk(stage)) => told(stage, "disk fault", out),
+        Err(OpenFault::NoMemory(stage)) => told(stage, "no memory", out),
+    };
+    state.show_stage(stage, out)
+}
+
+/// The stage, of which a line is printed.
+fn told(stage: Stage, line: &str, out: &mut Lines) -> Stage {
+    out.line(line);
+    stage
+}
+
+/// Enters payloads, up to one that fails, and prints what came of each.
+fn enter_all(journal: Journal<Stage>, payloads: &[Vec<u8>], out: &mut Lines) -> Stage {
+    let mut journal = journal;
+    for payload in payloads {
+        match enter(journal, payload) {
+            Entered::Receipt(after, number) => {
+                journal = after;
+                out.counted("receipt", number);
+            }
+            Entered::Ended(stage, why) => return told(stage, why, out),
+            Entered::Fault(stage, place) => {
+                out.counted("fault", place);
+                return stage;
+            }
+        }
+    }
+    out.counted("size", journal.size());
+    journal.close()
+}
+
+/// What came of an entry.
+enum Entered {
+    Receipt(Journal<Stage>, u64),
+    Ended(Stage, &'static str),
+    /// It is no payload from this place on.
+    Fault(Stage, u64),
+}
+
+fn enter(journal: Journal<Stage>, payload: &[u8]) -> Entered {
+    // The check lets a record go only where the types of its parts are named.
+    let _pieces: Option<PieceList<'_>> = None;
+    let record = match read_record(payload) {
+        Ok(record) => record,
+        Err(fault) => return Entered::Fault(journal.close(), fault.place as u64),
+    };
+    match journal.stage(&record) {
+        Ok(staged) => match staged.open_gate() {
+            Ok((journal, receipt)) => Entered::Receipt(journal, receipt.number()),
+            Err(halted) => Entered::Ended(halted.close(), "halted opening"),
+        },
+        Err(StageFault::Full(journal)) => Entered::Ended(journal.close(), "full"),
+        Err(StageFault::Disk(halted)) => Entered::Ended(halted.close(), "halted staging"),
+    }
+}
+
+fn replay(state: &mut State, out: &mut Lines) -> Result<(), Fault> {
+    let stage = state.make_stage()?;
+    let stage = match open_journal(state.alloc, stage, Limits::FULL) {
+        Ok(replay) => read_all(state.alloc, replay, out),
+        Err(OpenFault::NotJournal(stage)) => told(stage, "not a journal", out),
+        Err(OpenFault::Disk(stage)) => told(stage, "disk fault", out),
+        Err(OpenFault::NoMemory(stage)) => told(stage, "no memory", out),
+    };
+    state.show_stage(stage, out)
+}
+
+fn read_all(alloc: Global, replay: Replay<Stage>, out: &mut Lines) -> Stage {
+    let mut replay = replay;
+    for _ in 0..u64::MAX {
+        if !read_one(alloc, &mut replay, out) {
+            break;
+        }
+    }
+    replay.close()
+}
+
+/// Reads and prints the next entry, or how the journal ends. Whether there was an entry.
+fn read_one(alloc: Global, replay: &mut Replay<Stage>, out: &mut Lines) -> bool {
+    match replay.next_record() {
+        Ok(Some(gate)) => {
+            out.start("entry");
+            out.number(gate);
+            show_last(alloc, replay, out);
+            return true;
+        }
+        Ok(None) => out.line("closed"),
+        Err(ReplayFault::BadRecord { place }) => out.counted("bad entry at", place),
+        Err(ReplayFault::Disk) => out.line("disk fault"),
+    }
+    false
+}
+
+/// Prints the length and the digest of the payload of the last entry, as it is written again.
+fn show_last(alloc: Global, replay: &Replay<Stage>, out: &mut Lines) {
+    let mut payload = Vec::new(alloc);
+    let is_written = match replay.record() {
+        Some(record) => write_record(&record, &mut payload).is_ok(),
+        None => false,
+    };
+    if is_written {
+        out.digest(&payload);
+    }
+    out.end();
+}

@@ -1,0 +1,157 @@
+//! Lines that ask what the entries of the book say.
+
+ghost use Rattle.mc_records.specs.Limits.{AreInRange};
+
+use crate::asked::Asked;
+use crate::fault::Fault;
+use crate::program_verbs::unopened;
+use crate::show::Lines;
+use crate::state::State;
+use crate::tokens::number;
+use house_core::{Verdict, open_house};
+use ledger_model::{History, ModelAnswer, slow_answer, slow_lawful};
+use mc_base::{List, Moment};
+use mc_records::{Limits, MOST_REFUSAL_BYTES, Refusal, Request, put_refusal_text};
+use mc_stage::{Failing, Stage};
+use scrip_journal::{OpenFault, Replay, open_journal};
+use std::alloc::Global;
+use vendor_core::Shelf;
+
+/// The verbs of this module; None where the verb is none of them.
+pub(crate) fn ask(
+    state: &mut State,
+    verb: &[u8],
+    args: &[&[u8]],
+    out: &mut Lines,
+) -> Option<Result<(), Fault>> {
+    Some(match verb {
+        b"answer" => answer(state, args, out),
+        b"lawful" if args.is_empty() => lawful(state, out),
+        _ => return None,
+    })
+}
+
+fn answer(state: &mut State, args: &[&[u8]], out: &mut Lines) -> Result<(), Fault> {
+    let [time, target, scrip, sign] = *args else {
+        return Err(Fault::Arguments);
+    };
+    let time = Moment::clamped(number(time)?);
+    let asked = Asked::of(state, target, scrip, sign)?;
+    let request = asked.request();
+    let limits = state.limits;
+    if !limits.are_in_range() {
+        return Err(Fault::Value);
+    }
+    let history = history(state)?;
+    let told = slow_answer(state.alloc, &history, time, limits, &request)?;
+    show_ledger(&told, out);
+    match judged(state.alloc, stage_of_book(state)?, limits, time, &request) {
+        Some(verdict) => show_house(&verdict, out),
+        None => out.line("house closed"),
+    }
+    Ok(())
+}
+
+fn lawful(state: &mut State, out: &mut Lines) -> Result<(), Fault> {
+    let limits = state.limits;
+    if !limits.are_in_range() {
+        return Err(Fault::Value);
+    }
+    let history = history(state)?;
+    match slow_lawful(state.alloc, &history, limits)? {
+        Some(number) => out.counted("unlawful", number as u64),
+        None => out.line("lawful"),
+    }
+    Ok(())
+}
+
+/// A stage that has the book, and no more.
+fn stage_of_book(state: &State) -> Result<Stage, Fault> {
+    let alloc = state.alloc;
+    let contents = Vec::from_slice(alloc, &state.setting.book)?;
+    let failing = Failing {
+        disk: List::of(Vec::new(alloc)),
+        link: List::of(Vec::new(alloc)),
+    };
+    Ok(Stage::new(alloc, contents, Vec::new(alloc), Vec::new(alloc), failing)?)
+}
+
+/// The entries of the book.
+fn history(state: &State) -> Result<History, Fault> {
+    match open_journal(state.alloc, stage_of_book(state)?, Limits::FULL) {
+        Ok(replay) => {
+            let mut replay = replay;
+            let history = read_all(state.alloc, &mut replay);
+            let _stage = replay.close();
+            history
+        }
+        Err(OpenFault::NoMemory(_)) => Err(Fault::NoMemory),
+        Err(OpenFault::NotJournal(_) | OpenFault::Disk(_)) => { Err(Fault::Book) }
+    }
+}
+
+fn read_all(alloc: Global, replay: &mut Replay<Stage>) -> Result<History, Fault> {
+    let mut history = History::new(alloc);
+    for _ in 0..u64::MAX {
+        match replay.next_record() {
+            Ok(Some(_)) => {}
+            Ok(None) => break,
+            Err(_) => return Err(Fault::Book),
+        }
+        let Some(record) = replay.record() else {
+            return Err(Fault::Book);
+        };
+        history.push(alloc, &record)?;
+    }
+    Ok(history)
+}
+
+/// What a house that opens the book says of a request at this time; None where it is not opened.
+fn judged(
+    alloc: Global,
+    stage: Stage,
+    limits: Limits,
+    time: Moment,
+    request: &Request<'_>,
+) -> Option<Verdict>
+    requires { AreInRange limits }
+{
+    match open_house(alloc, stage, limits, Shelf::new(alloc)) {
+        Ok(house) => {
+            let mut house = house;
+            let _time = house.raise(time);
+            let verdict = house.judge(request);
+            let _stage = house.close();
+            Some(verdict)
+        }
+        Err(fault) => {
+            let _unopened = unopened(fault);
+            None
+        }
+    }
+}
+
+fn show_ledger(told: &ModelAnswer, out: &mut Lines) {
+    match told {
+        ModelAnswer::Refused(refusal) => show_refusal("ledger refused", refusal, out),
+        ModelAnswer::Again(number) => out.counted("ledger again", *number),
+        ModelAnswer::Take(payload) => out.given("ledger take", payload.slice()),
+    }
+}
+
+fn show_house(verdict: &Verdict, out: &mut Lines) {
+    match verdict {
+        Verdict::Refused(refusal) => show_refusal("house refused", refusal, out),
+        Verdict::Again(number) => out.counted("house again", *number),
+        Verdict::Take => out.line("house take"),
+    }
+}
+
+/// Prints a line that ends with the text of a refusal.
+pub(crate) fn show_refusal(verb: &str, refusal: &Refusal, out: &mut Lines) {
+    let mut room = [0; MOST_REFUSAL_BYTES];
+    let end = put_refusal_text(&mut room, 0, refusal);
+    out.start(verb);
+    out.word(room.get(..end).unwrap_or(b""));
+    out.end()
+}

@@ -1,0 +1,153 @@
+//! What the lines of a case have said so far, and the stage that they make.
+
+use crate::fault::Fault;
+use crate::names::Names;
+use crate::show::Lines;
+use change_issue::Issuer;
+use kept_replies::Kept;
+use mc_base::List;
+use mc_records::Limits;
+use mc_stage::{Failing, Stage};
+use scrip_form::Terms;
+use std::alloc::Global;
+use std::mem;
+
+/// What the next stage has.
+#[derive(Drop)]
+pub(crate) struct Setting {
+    pub(crate) book: Vec<u8>,
+    pub(crate) links: Vec<Vec<Vec<u8>>>,
+    pub(crate) readings: Vec<u64>,
+    pub(crate) failing_disk: Vec<u32>,
+    pub(crate) failing_link: Vec<u32>,
+    pub(crate) books: u32,
+}
+
+impl Setting {
+    fn new(alloc: Global) -> Setting {
+        Setting {
+            book: Vec::new(alloc),
+            links: Vec::new(alloc),
+            readings: Vec::new(alloc),
+            failing_disk: Vec::new(alloc),
+            failing_link: Vec::new(alloc),
+            books: 0,
+        }
+    }
+}
+
+/// What the lines of a case have said so far.
+#[derive(Drop)]
+pub(crate) struct State {
+    pub(crate) alloc: Global,
+    pub(crate) names: Names,
+    pub(crate) setting: Setting,
+    pub(crate) limits: Limits,
+    /// The last stage.
+    pub(crate) stage: Option<Stage>,
+    /// Whether calls by hand go on with it.
+    pub(crate) is_called: bool,
+    pub(crate) terms: Option<Terms>,
+    pub(crate) issuer: Option<Issuer>,
+    pub(crate) kept: Option<Kept>,
+}
+
+impl State {
+    pub(crate) fn new(alloc: Global) -> State {
+        State {
+            alloc,
+            names: Names::new(alloc),
+            setting: Setting::new(alloc),
+            limits: Limits::FULL,
+            stage: None,
+            is_called: false,
+            terms: None,
+            issuer: None,
+            kept: None,
+        }
+    }
+
+    /// Forgets all but the names, as each case begins.
+    pub(crate) fn forget(&mut self) {
+        self.setting = Setting::new(self.alloc);
+        self.limits = Limits::FULL;
+        self.stage = None;
+        self.is_called = false;
+        self.terms = None;
+        self.issuer = None;
+        self.kept = None;
+    }
+
+    /// The stage that the lines say. Its links and failing calls are for it alone.
+    pub(crate) fn make_stage(&mut self) -> Result<Stage, Fault> {
+        let alloc = self.alloc;
+        let contents = Vec::from_slice(alloc, &self.setting.book)?;
+        let readings = Vec::from_slice(alloc, &self.setting.readings)?;
+        let links = mem::replace(&mut self.setting.links, Vec::new(alloc));
+        let failing = Failing {
+            disk: List::of(mem::replace(&mut self.setting.failing_disk, Vec::new(alloc))),
+            link: List::of(mem::replace(&mut self.setting.failing_link, Vec::new(alloc))),
+        };
+        Ok(Stage::new(alloc, contents, links, readings, failing)?)
+    }
+
+    /// The bytes of the first link.
+    pub(crate) fn whole_link(&self) -> Result<Vec<u8>, Fault> {
+        let mut whole = Vec::new(self.alloc);
+        if let Some(link) = self.setting.links.first() {
+            for piece in link {
+                whole.extend_from_slice(piece)?;
+            }
+        }
+        Ok(whole)
+    }
+
+    /// Prints the lines of a stage, whose disk is the next book.
+    pub(crate) fn show_stage(&mut self, stage: Stage, out: &mut Lines) -> Result<(), Fault> {
+        if !stage.said().is_empty() {
+            out.given("said", stage.said());
+        }
+        for link in 0..usize::MAX {
+            match stage.sent(link) {
+                Some(sent) => out.given("sent", sent),
+                None => break,
+            }
+        }
+        show_book("book", &self.setting.book, stage.contents(), out);
+        let (disk, link) = stage.calls();
+        out.start("calls");
+        out.number(disk);
+        out.number(link);
+        out.end();
+        self.setting.book = Vec::from_slice(self.alloc, stage.contents())?;
+        self.setting.books = 0;
+        self.stage = Some(stage);
+        self.is_called = false;
+        Ok(())
+    }
+}
+
+/// Prints the bytes of a disk: how many of the bytes before stand in front, and what follows.
+pub(crate) fn show_book(verb: &str, before: &[u8], after: &[u8], out: &mut Lines) {
+    if before == after {
+        return out.said(verb, "same");
+    }
+    let kept = common(before, after);
+    let (_, rest) = after.split_at(kept.min(after.len()));
+    out.start(verb);
+    out.number(kept as u64);
+    out.bytes(rest);
+    out.end()
+}
+
+/// How many bytes both have in front.
+fn common(a: &[u8], b: &[u8]) -> usize {
+    let mut count = 0_usize;
+    for (x, y) in a.iter().zip(b.iter()) {
+        if x != y {
+            break;
+        }
+        count = count.saturating_add(1);
+    }
+    count
+}

@@ -1,5 +1,0 @@
-mod crashes;
-mod links;
-mod silent;
-mod starving;
-mod stores;

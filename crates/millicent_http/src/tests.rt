@@ -1,3 +1,0 @@
-mod heads;
-mod pieces;
-mod replies;

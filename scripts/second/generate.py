@@ -1,0 +1,493 @@
+"""Writes the generated files of cases, `crates/cases/data/generated_*.cases`. They are the same at each run."""
+import hashlib
+import os
+
+from bytes_text import bytes_of, words_of
+
+DATA = os.path.join(os.path.dirname(os.path.abspath(__file__)), "../../crates/cases/data")
+CHOICES = (0, 1, 5, 128)
+NOW = 1000000
+PERIOD, LIFE = 4096, 8192
+
+
+class Numbers:
+    """Numbers that follow one another without a pattern that a case could show."""
+
+    def __init__(self, seed):
+        self.state = seed
+
+    def below(self, limit):
+        self.state = (self.state * 6364136223846793005 + 1442695040888963407) % 2**64
+        return (self.state >> 33) % limit
+
+    def of(self, items):
+        return items[self.below(len(items))]
+
+    def between(self, least, most):
+        return least + self.below(most - least + 1)
+
+
+class Cases:
+    """The lines of a file."""
+
+    def __init__(self, comment):
+        self.lines, self.count = ["# " + line for line in comment.split("\n")], 0
+
+    def group(self, comment):
+        self.lines += ["", *("# " + line for line in comment.split("\n"))]
+
+    def case(self, name, *lines):
+        self.lines += ["case " + name, *lines]
+        self.count += 1
+
+    def let(self, name, spelled):
+        NAMES[name] = bytes_of(spelled, NAMES)
+        self.lines.append("let %s %s" % (name, spelled))
+
+    def write(self, name):
+        with open(os.path.join(DATA, "generated_%s.cases" % name), "w") as f:
+            f.write("\n".join([*self.lines, "end %d" % self.count]) + "\n")
+
+
+def shared_names():
+    """The names of `names.cases`, with their bytes."""
+    names = {}
+    with open(os.path.join(DATA, "names.cases")) as f:
+        for line in f:
+            if line.startswith("let "):
+                _, name, spelled = words_of(line.strip())
+                names[name] = bytes_of(spelled, names)
+    return names
+
+
+NAMES = shared_names()
+
+
+def length(spelled):
+    return len(bytes_of(spelled, NAMES))
+
+
+def raised(name):
+    """The bytes of this name with each of them in turn raised by one."""
+    data = NAMES[name]
+    for at, byte in enumerate(data):
+        front, behind = ["$%s[:%d]" % (name, at)] * (at > 0), ["$%s[%d:]" % (name, at + 1)] * (at + 1 < len(data))
+        yield "+".join([*front, "x%02x" % ((byte + 1) % 256), *behind])
+
+
+def cut(name):
+    """The bytes of this name, cut at every place."""
+    return ["$%s[:%d]" % (name, at) for at in range(length("$" + name))]
+
+
+def pieces(numbers, name, most):
+    """The bytes of this name in pieces of at most so many, some of them empty."""
+    size, cuts = length("$" + name), [0]
+    while cuts[-1] < size and len(cuts) < 24:
+        cuts.append(min(size, cuts[-1] + numbers.below(most + 1)))
+    return " ".join("$%s[%d:%s]" % (name, start, end) for start, end in zip(cuts, [*cuts[1:], ""]))
+
+
+# Scrip, entries and heads, in bytes and as they are spelled.
+
+
+def md5(data):
+    return hashlib.md5(data).hexdigest()
+
+
+def digits(number, size):
+    return "x%0*x" % (2 * size, number)
+
+
+def string(text):
+    return 'x%04x+"%s"' % (len(text), text)
+
+
+class Issuer:
+    """Terms: the number, and the bytes that fill the secrets for scrip and for customers."""
+
+    def __init__(self, number, scrip, customer, period=PERIOD, life=LIFE):
+        self.number, self.scrip, self.customer, self.period, self.life = number, scrip, customer, period, life
+
+    def epoch(self, moment):
+        return moment // self.period
+
+    def end(self, epoch):
+        return (epoch + 1) * self.period + self.life
+
+    def identity(self, moment, serial):
+        return self.number << 56 | self.epoch(moment) << 32 | serial
+
+    def secret_of(self, secrets, identity):
+        return bytes([secrets[(identity >> 32) % 2**24 % len(secrets)]]) * 16
+
+    def customer_secret(self, cust):
+        return hashlib.md5(cust.to_bytes(8, "big") + self.secret_of(self.customer, cust)).digest()
+
+    def scrip_text(self, vendor, value, identity, cust, props="", expires=None):
+        end = self.end((identity >> 32) % 2**24) if expires is None else expires
+        body = "MS1|%s|%d|%016x|%016x|%d|%s|" % (vendor, value, identity, cust, end, props)
+        return body + md5(body.encode() + self.secret_of(self.scrip, identity))
+
+    def spelled(self):
+        lists = ["x%02x" % len(secrets) + "".join("+x%02x*16" % byte for byte in secrets)
+                 for secrets in (self.scrip, self.customer)]
+        return "x01%02x+%s+%s+%s" % (self.number, digits(self.period, 4), digits(self.life, 4), "+".join(lists))
+
+
+def signature(scrip, target, secret):
+    return md5(("%s\nGET %s\n" % (scrip, target)).encode() + secret)
+
+
+# The house of the worked examples, and further issuers: one with two secrets, one with another period.
+OWN = Issuer(0, [0x11], [0x22])
+ONE = Issuer(1, [0x33], [0x44])
+TWO = Issuer(2, [0x55, 0x56], [0x66, 0x67, 0x68])
+NINE = Issuer(9, [0x99], [0x9a], 2048, 0)
+STRANGE = Issuer(7, [0x77], [0x78])
+
+
+def faults():
+    out = Cases("Each call of the disk fails in turn, for each command, and then the disk crashes and the book is\n"
+                "served; and each call of the links.")
+    orders = [
+        ("init", "", (), "run vendor init b news.example 4096 8192 $ones $twos --clear", 10, 1),
+        ("goods", "$licensed", ('link "Good " "morning.\\n"',), "run vendor goods b /news/1 25 --kind 1", 6, 5),
+        ("price", "$shop", (), "run vendor price b /news/1 24", 6, 1),
+        ("licence", "$shop", (), "run vendor licence b 2 4096 8192 $fives $threes", 6, 1),
+        ("mint", "$shop", (), "run vendor mint b 2 50 m1", 6, 1),
+        ("serve, a paid request", "$shop", ("link $pays",), "run vendor serve b l 1", 6, 5),
+        ("serve, a repeat", "$paid_shop", ("link $pays",), "run vendor serve b l 1", 2, 5),
+        ("serve, a refused request", "$paid_shop", ("link $pays2",), "run vendor serve b l 1", 2, 5),
+        ("serve, two requests on a link", "$shop", ("link $pays+$pays60",), "run vendor serve b l 1", 10, 6),
+    ]
+    again = ("link $pays", "link $pays60", "run vendor serve b l 2")
+    for name, book, links, words, disk, link in orders:
+        out.group("%s: disk calls." % name)
+        before = ["book " + book] if book else []
+        for call in range(disk + 1):
+            for choice in CHOICES:
+                out.case("%s: disk call %d, crash %d" % (name, call, choice), *before, *links, "clock 1000000",
+                         "fail disk %d" % call, words, "crash %d" % choice, *again)
+        out.group("%s: link calls." % name)
+        for call in range(link + 1):
+            out.case("%s: link call %d" % (name, call), *before, *links, "clock 1000000", "fail link %d" % call, words,
+                     *again)
+    out.group("Several calls fail, of the disk and of the links.")
+    numbers = Numbers(1)
+    for round in range(60):
+        name, book, links, words, disk, link = numbers.of(orders)
+        listed = lambda most: " ".join(str(n) for n in sorted({numbers.below(most) for _ in range(3)}))
+        out.case("%s, %d" % (name, round), *(["book " + book] if book else []), *links, *links, "clock 1000000 1000900",
+                 "fail disk " + listed(disk + 3), "fail link " + listed(link + 3), words,
+                 "crash %d" % numbers.of((0, 1, 2, 3, 7, 64, 128, 255, 256, 12345)), *again)
+    out.write("faults")
+
+
+def bytes_and_bounds():
+    out = Cases("Each byte raised by one, and cut at every place: scrip texts, payloads, books, heads. And lengths at\n"
+                "their bounds.")
+    for name in ("p1", "q60"):
+        out.case("scrip %s, each byte raised by one" % name, *("scrip " + spelled for spelled in raised(name)))
+        out.case("scrip %s, cut at every place" % name, *("scrip " + spelled for spelled in cut(name)))
+    for name in ("terms", "page2", "minted", "evening", "sold_exact"):
+        out.case("payload %s, each byte raised by one" % name, *("payload " + spelled for spelled in raised(name)))
+        out.case("payload %s, cut at every place" % name, *("payload " + spelled for spelled in cut(name)))
+    out.group("Numbers of a payload at every power of two.")
+    for start, size, name in [
+            (1, 8, "site"), (24, 4, "site"), (28, 8, "site"), (39, 4, "site"), (43, 4, "site"), (18, 8, "page"),
+            (27, 4, "page"), (13, 2, "minted"), (15, 8, "minted"), (23, 8, "minted")]:
+        out.case("%s, the %d bytes at %d" % (name, size, start), *(
+            "payload $%s[:%d]+%s+$%s[%d:]" % (name, start, digits(n, size), name, start + size)
+            for power in range(8 * size) for n in (2**power - 1, 2**power)))
+    out.group("The book of a vendor after one payment, with each byte raised by one, is served. A request follows\n"
+              "that pays 60.")
+    for at, spelled in enumerate(raised("paid_shop")):
+        out.case("byte %d" % at, "book " + spelled, "link $pays60", "clock 1000000", "serve 1")
+    out.group("Another book, with pieces that were minted, likewise, and cut at every place.")
+    out.let("other", "$front+$in_site+$in_minted+$in_page2+$shut")
+    for at, spelled in enumerate(raised("other")):
+        out.case("byte %d" % at, "book " + spelled, "link $get2+$scrip+$minted1+$ee", "clock 1000000", "serve 1")
+    for at, spelled in enumerate(cut("other")):
+        out.case("cut at %d" % at, "book " + spelled, "serve 0")
+    out.group("Heads with each byte raised by one, and cut at every place.")
+    heads = [("a paid request",
+              '"GET /a HTTP/1.1\\r\\nHost: n\\r\\nMillicent-Scrip: MS1|x\\r\\nMillicent-Sign: 0a\\r\\n\\r\\n"'),
+             ("a head that closes", '"GET /a HTTP/1.0\\nConnection: x, close\\nContent-Length: 0\\n\\n"'),
+             ("a refused head", '"PUT * HTTP/1.1\\r\\nHost: a:1\\r\\nTransfer-Encoding: x\\r\\n\\r\\n"')]
+    for name, spelled in heads:
+        out.let("h", spelled)
+        out.case(name + ", each byte raised by one", *("link %s+$h" % one for one in raised("h")), "heads")
+        out.case(name + ", cut at every place", *("link " + one for one in cut("h")), "heads")
+        out.case(name + ", cut, and then whole", *(
+            line for one in cut("h")[::3] for line in ("link %s+$h" % one, "whole", "heads")))
+    out.group("Each byte as a byte of a method, a target, a field's name, a field's value and a host.")
+    for name, front, behind in [
+            ("method", "G", "T /a HTTP/1.1\\r\\nHost: n\\r\\n\\r\\n"),
+            ("target", "GET /a", "b HTTP/1.1\\r\\nHost: n\\r\\n\\r\\n"),
+            ("name", "GET /a HTTP/1.1\\r\\nHost: n\\r\\nX", "Y: z\\r\\n\\r\\n"),
+            ("value", "GET /a HTTP/1.1\\r\\nHost: n\\r\\nMillicent-Sign: s", "s\\r\\n\\r\\n"),
+            ("host", "GET /a HTTP/1.1\\r\\nHost: n", "n\\r\\n\\r\\n")]:
+        out.let("f", '"%s"' % front)
+        out.let("h", '"%s"' % behind)
+        out.case("each byte in a " + name, *("link $f+x%02x+$h" % byte for byte in range(256)), "heads")
+    out.case("each byte in a name", *("name x61%02x" % byte for byte in range(256)))
+    out.case("each byte first in a name", *("name x%02x61" % byte for byte in range(256)))
+    out.case("each byte in props", *("props x%02x" % byte for byte in range(256)))
+    out.case("each byte in a target", *("target x2f%02x" % byte for byte in range(256)))
+    out.group("Lengths of targets, names and references at their bounds.")
+    for size in (1, 2, 511, 512, 513):
+        target = '"/"*%d' % size
+        out.case("a target of %d bytes" % size, "book $licensed", 'link "hi"', "clock 1000000",
+                 "run vendor goods b %s 25" % target,
+                 'link "GET "+%s+" HTTP/1.1\\r\\nHost: n\\r\\n"+$scrip+$p1+$ee' % target, "run vendor serve b l 1",
+                 "run vendor price b %s 26" % target, "answer 1000000 %s $second -" % (target if size < 513 else '"/"'))
+    for size in (1, 2, 62, 63, 64):
+        out.case("a name of %d bytes" % size, "clock 1000000",
+                 'run vendor init b "n"*%d 4096 8192 $ones $twos --clear' % size,
+                 "run vendor mint b 1 50 m1", "link $unpaid", "run vendor serve b l 1")
+        out.case("a reference of %d bytes" % size, "book $shop", "clock 1000000", *(
+            'run vendor mint b %d 50 "r"*%d' % (count, size) for count in (2, 2, 3)))
+    for value in (0, 1, 2**32, 2**40 - 1, 2**40, 2**40 + 1):
+        out.case("a value of %d" % value, "book $shop", "clock 1000000", "run vendor mint b 1 %d m1" % value,
+                 "run vendor price b /news/1 %d" % value, "link $unpaid", "run vendor serve b l 1")
+    for count in (0, 1, 2, 255, 256, 257):
+        out.case("a mint of %d pieces" % count, "book $shop", "clock 1000000", "run vendor mint b %d 1 m1" % count,
+                 "run vendor mint b 1 1 m2")
+    for keep in (59, 60, 61, 86399, 86400, 86401):
+        out.case("a keeping time of %d" % keep, "clock 1000000",
+                 "run vendor init b news.example 4096 8192 $ones $twos --keep %d --clear" % keep, 'link "hi"',
+                 "run vendor goods b /news/1 25", "run vendor licence b 1 4096 8192 $threes $fours",
+                 *("link $pays",) * 3, "clock 1000000 %d %d" % (NOW + keep - 1, NOW + keep), "run vendor serve b l 3")
+    out.write("bytes")
+
+
+REQUESTS = ["pays", "pays_curl", "pays_exact", "pays_short", "pays60", "pays_minted", "pays_signed", "pays2",
+            "missigned", "head1", "unpaid"]
+
+
+def links():
+    out = Cases("Links that are put together of worked requests and of fronts of them, and cut in pieces; and runs of\n"
+                "several servings of one book, by clocks that go forth and back.")
+    numbers = Numbers(1995)
+    shop = "vendor once news.example /news/1 25 $fives hi"
+    out.group("By vendor once.")
+    for round in range(180):
+        parts = []
+        for _ in range(numbers.between(1, 5)):
+            part = "$l%d" % numbers.below(33)
+            parts.append(part + ("[:%d]" % numbers.below(length(part)) if numbers.below(7) == 0 else ""))
+        out.let("g", "+".join(parts))
+        fails = ["fail link %d" % numbers.below(16)] if numbers.below(5) == 0 else []
+        out.case("link %d" % round, "link " + pieces(numbers, "g", 160), "once " + shop, *fails, "run " + shop)
+    out.group("By vendor serve, over the book of a vendor.")
+    books = ["$shop", "$shop", "$paid_shop", "$paid_twice", "$signed_shop",
+             "$front+$in_site+$in_minted+$in_page+$in_terms+$shut"]
+    for round in range(150):
+        time = NOW + numbers.of((0, 0, 0, 500, 11000))
+        lines = ["book " + numbers.of(books)]
+        for _ in range(numbers.between(1, 4)):
+            count = numbers.between(1, 3)
+            for _ in range(count):
+                heads = ["$" + numbers.of(REQUESTS) for _ in range(numbers.below(4))]
+                if numbers.below(8) == 0:
+                    heads.append("$pays[:%d]" % numbers.below(100))
+                whole = "+".join(heads) or '""'
+                if numbers.below(3) == 0:
+                    NAMES["g"] = bytes_of(whole, NAMES)
+                    lines += ["let g " + whole, "link " + pieces(numbers, "g", 120)]
+                else:
+                    lines.append("link " + whole)
+            readings = []
+            for _ in range(numbers.between(1, 5)):
+                time += numbers.of((0, 1, 100, 299, 300, 599, 600, 4096))
+                readings.append(time - numbers.of((0, 0, 0, 1, 600, 1000000)))
+            lines.append("clock " + " ".join(map(str, readings)))
+            if numbers.below(10) == 0:
+                lines.append("fail link %d" % numbers.below(10))
+            lines.append("run vendor serve b l %d" % numbers.of((1, 2, 3, count)))
+        out.case("serving %d" % round, *lines)
+    out.write("links")
+
+
+class History:
+    """A lawful history of a vendor, as it is spelled, with what a next entry depends on."""
+
+    def __init__(self, clear, keep, time):
+        self.time, self.keep, self.clear = time, keep, clear
+        self.issuers, self.goods, self.counts, self.spent, self.sold, self.entries = {0: OWN}, {}, {}, set(), [], []
+        self.add(1, "x00", string("news.example"), digits(keep, 4), digits(0, 8), digits(clear, 1), OWN.spelled())
+
+    def add(self, kind, *fields):
+        self.entries.append("+".join(["x%02x" % kind, digits(self.time, 8), *fields]))
+
+    def terms(self, issuer):
+        self.issuers[issuer.number] = issuer
+        self.add(2, issuer.spelled())
+
+    def put(self, target, price, contents):
+        self.goods[target] = price
+        self.add(3, string(target), digits(price, 8), "x00", digits(len(contents), 4), '"%s"' % contents)
+
+    def next(self, count=1):
+        epoch = OWN.epoch(self.time)
+        serial = self.counts.get(epoch, 0)
+        self.counts[epoch] = serial + count
+        return OWN.identity(self.time, serial)
+
+    def mint(self, reference, count, value):
+        first = self.next(count)
+        self.add(5, string(reference), digits(count, 2), digits(value, 8), digits(first, 8))
+        return first
+
+    def sell(self, piece, target, sign):
+        """Accepts a piece, which has to be good: a name, the text, the value, the identity, the customer's secret."""
+        name, text, value, identity, _ = piece
+        price = self.goods[target]
+        self.spent.add(identity)
+        flag = ["x01", "x" + sign] if sign else ["x00"]
+        change = ["x01", digits(self.next(), 8)] if value > price else ["x00"]
+        self.sold.append((self.time, name, target, sign))
+        self.add(4, digits(len(text), 2), "$" + name, string(target), *flag, digits(price, 8), *change, "x00")
+
+
+def answers():
+    out = Cases("Requests to books of a vendor with several issuers, minted pieces, sales, signatures: the answers of\n"
+                "the ledger and of a house, over times, targets and limits.")
+    pool = []
+
+    def piece(name, issuer, value, identity, cust, props="", vendor="news.example", expires=None, spoil=False):
+        text = issuer.scrip_text(vendor, value, identity, cust, props, expires)
+        if spoil:
+            text = text[:-1] + ("0" if text[-1] != "0" else "1")
+        out.let(name, '"%s"' % text)
+        home = {0: OWN, 1: ONE, 2: TWO, 9: NINE}.get(cust >> 56)
+        return name, text, value, identity, home.customer_secret(cust) if home else bytes(16)
+
+    out.group("Pieces: good ones, minted ones, and ones that no house takes.")
+    numbers = Numbers(7)
+    for number in range(44):
+        issuer = (ONE, ONE, TWO, NINE)[number % 4]
+        moment = NOW + (0, 0, 4096, 100000)[number // 4 % 4]
+        identity = issuer.identity(moment, number)
+        cust = identity if number % 3 else OWN.identity(NOW, 100 + number)
+        pool.append(piece("s%d" % number, issuer, numbers.of((1, 7, 24, 25, 26, 60, 100, 1000, 2**40)), identity, cust,
+                          numbers.of(("", "", "a=1", "x.y,z-0"))))
+    minted = [piece("m%d" % serial, OWN, 50, identity, identity)
+              for serial in range(6) for identity in [OWN.identity(NOW, serial)]]
+    bad = [piece("b0", ONE, 100, ONE.identity(NOW, 90), ONE.identity(NOW, 90), spoil=True),
+           piece("b1", ONE, 100, ONE.identity(NOW, 91), ONE.identity(NOW, 91), vendor="shop.example"),
+           piece("b2", ONE, 100, ONE.identity(NOW, 92), ONE.identity(NOW, 92), expires=1011713),
+           piece("b3", STRANGE, 100, STRANGE.identity(NOW, 93), STRANGE.identity(NOW, 93)),
+           piece("b4", ONE, 100, ONE.identity(NOW, 94), STRANGE.identity(NOW, 94)),
+           piece("b5", TWO, 100, TWO.identity(NOW + 8192, 95), TWO.identity(NOW + 4096, 96)),
+           piece("b6", ONE, 100, ONE.identity(NOW - 20000, 97), ONE.identity(NOW, 98))]
+    targets = ["/news/1", "/news/2", "/x", "/" + "y" * 30]
+    numbers = Numbers(44)
+    for round in range(70):
+        h = History(numbers.below(4) > 0, numbers.of((60, 600, 600, 86400)), NOW)
+        h.put("/news/1", 25, "Good morning.")
+        h.terms(ONE)
+        if numbers.below(2):
+            h.terms(TWO)
+        if numbers.below(2):
+            h.terms(NINE)
+        if numbers.below(2):
+            h.mint("m1", numbers.between(1, 6), 50)
+        for step in range(numbers.below(8)):
+            h.time += numbers.of((0, 0, 0, 1, 100, 599, 600, 4096))
+            deed = numbers.below(6)
+            if deed == 0:
+                h.put(numbers.of(targets[:3]), numbers.of((1, 24, 25, 60, 1000)), numbers.of(("", "hi", "other")))
+            elif deed == 1:
+                h.mint("r%d" % step, numbers.between(1, 3), numbers.of((1, 50, 2**40)))
+            else:
+                target = numbers.of([t for t in h.goods])
+                good = [p for p in pool if p[2] >= h.goods[target] and p[3] not in h.spent and p[3] >> 56 in h.issuers
+                        and (int(p[1].split("|")[5]) > h.time)]
+                if good:
+                    p = numbers.of(good)
+                    sign = signature(p[1], target, p[4]) if not h.clear or numbers.below(2) else None
+                    h.sell(p, target, sign)
+        book = "+".join(["$front", *("x01%08x+%s" % (length(s), s) for s in h.entries), "$shut"])
+        lines = ["book " + book, "lawful"]
+        size = 9 + sum(5 + length(s) for s in h.entries)
+        for ask in range(14):
+            if ask == 8:
+                lines.append("limits %d %d" % (numbers.of((2**40, 2**40, size, size + 125 + numbers.below(30))),
+                                               max([1, *h.counts.values()]) + numbers.of((0, 0, 0, 1, 2**31))))
+            time = h.time + numbers.of((0, 0, 0, 0, 0, 0, 1, 60, 600, 4096, 11711, 11712, 86400, 200000))
+            if h.sold and numbers.below(3) == 0:
+                moment, name, target, sign = numbers.of(h.sold)
+                time = max(h.time, moment + numbers.of((0, h.keep - 1, h.keep)))
+                if numbers.below(5) == 0:
+                    sign = numbers.of((None, sign, "0" * 32))
+                if numbers.below(6) == 0:
+                    target = numbers.of(targets)
+            else:
+                open_to = [p for p in pool if p[3] not in h.spent and p[3] >> 56 in h.issuers] or pool
+                p = numbers.of(numbers.of((open_to, open_to, open_to, open_to, open_to, pool, minted, bad)))
+                name, target = p[0], numbers.of(targets[:1] * 6 + targets)
+                right = signature(p[1], target, p[4])
+                wrong = signature(p[1], "/news/9", p[4])
+                sign = numbers.of((right, right if not h.clear else None, None, None, right, wrong, ""))
+                if numbers.below(25) == 0:
+                    name = None
+            text = "$" + name if name else "-"
+            if name and numbers.below(25) == 0:
+                text += "[:%d]" % numbers.below(length(text))
+            lines.append('answer %d "%s" %s %s' % (time, target, text, "-" if sign is None else '"%s"' % sign))
+        out.case("book %d, of %d entries" % (round, len(h.entries)), *lines)
+    out.write("answers")
+
+
+def operators():
+    out = Cases("Orders of a keeper one after another over one book, with repeats, other values under one reference\n"
+                "and taken issuers; and then the book is served.")
+    numbers = Numbers(65536)
+    out.let("all", '"x"*65536')
+    short = ['"hi"', '"Good " "morning.\\n"', '""', "x00ff0a0d", None]
+    long = ["$all", "$all[:60000] $all[60000:]", '$all+"x"', '$all "" "x"']
+    targets = ["/news/1", "/news/1", "/news/2", "/~a?b=c", "/"]
+    secrets = ["$threes", "$fours", "$mixed", "$fives"]
+    serving = ("link $pays+$unpaid", "link $pays60+$pays_exact", "link $pays_minted",
+               "link $get2+$scrip+$p1+$ee+$get2+$e")
+    for round in range(90):
+        time = NOW
+        lines = ["clock %d" % time, "run vendor init b news.example 4096 8192 $ones $twos"
+                 + numbers.of((" --clear", " --clear", "", " --keep 60 --clear"))]
+        if numbers.below(4):
+            lines.append("run vendor licence b 1 4096 8192 $threes $fours")
+        for _ in range(numbers.between(3, 9)):
+            if numbers.below(3) == 0:
+                time += numbers.of((1, 100, 600, 4096))
+                lines.append("clock %d" % (time - numbers.of((0, 0, 500))))
+            order = numbers.below(10)
+            if order < 4:
+                brought = numbers.of(short + long if round % 10 == 0 else short)
+                lines += ["link " + brought] if brought else []
+                lines.append("run vendor goods b %s %d%s" % (numbers.of(targets), numbers.of((1, 24, 25, 30, 2**40)),
+                                                             numbers.of(("", " --kind 0", " --kind 1", " --kind 2"))))
+            elif order < 6:
+                lines.append("run vendor price b %s %d" % (numbers.of(targets), numbers.of((1, 24, 25, 26, 2**40))))
+            elif order < 7:
+                lines.append("run vendor licence b %d %d %d %s %s" % (
+                    numbers.of((1, 1, 2, 255)), numbers.of((4096, 4096, 4096, 2048)), numbers.of((8192, 8192, 0)),
+                    numbers.of(secrets), numbers.of(secrets)))
+            else:
+                lines.append("run vendor mint b %d %d %s" % (
+                    numbers.of((1, 2, 2, 3)), numbers.of((50, 50, 50, 7)), numbers.of(("m1", "m1", "m2", "may.1"))))
+        if numbers.below(6) == 0:
+            lines += ["fail disk %d" % numbers.below(7), "run vendor mint b 2 50 last",
+                      "crash %d" % numbers.of((0, 1, 2, 128))]
+        lines += [*serving, "clock %d" % time, "run vendor serve b l 4", "replay"]
+        out.case("orders %d" % round, *lines)
+    out.write("operators")
+
+
+if __name__ == "__main__":
+    faults()
+    bytes_and_bounds()
+    links()
+    answers()
+    operators()

@@ -1,0 +1,171 @@
+"""A house over a book, or in memory: how it opens, is founded, serves links and enters what a keeper orders."""
+from types import SimpleNamespace
+
+from forms import Terms
+from heads import HeadReader
+from journal import BadEntry, Halted, NotJournal, Replay, found
+from ledger import FULL, History, answer, is_refusal, journal_full, may_follow, refusal_of, reply_of
+from payloads import GOODS, SITE, TERMS, entry_of
+from refusals import refused
+from stage import DiskFault, LinkFault
+
+PAGE = 4_096
+
+
+class Ends(Exception):
+    """The program ends with a status other than 0, and a line."""
+
+    def __init__(self, status, line):
+        super().__init__(status, line)
+        self.status, self.line = status, line + b"\n"
+
+    @classmethod
+    def disk_fault(cls):
+        return cls(4, b"disk fault")
+
+    @classmethod
+    def link_fault(cls):
+        return cls(6, b"link fault")
+
+    @classmethod
+    def refused(cls, refusal):
+        return cls(7, b"refused " + refusal.text().encode())
+
+
+class House:
+    """A history with its time, and where it stands on a disk its journal."""
+
+    def __init__(self, history, stage, limits, journal, has_clock=True):
+        self.history, self.stage, self.limits, self.journal = history, stage, limits, journal
+        self.time, self.has_clock = history.time, has_clock
+
+    def raise_time(self):
+        """Reads the clock once."""
+        if self.has_clock:
+            self.time = max(self.time, self.stage.now())
+
+    def enter(self, entry):
+        """Adds the entry of a keeper's order."""
+        full = journal_full(self.history.size, self.limits, entry)
+        if full:
+            raise Ends.refused(full)
+        try:
+            self.journal.add(entry.payload)
+        except Halted:
+            raise Ends.disk_fault()
+        self.history.push(entry)
+
+    def serve(self, links):
+        """Serves links one after another; answers how many."""
+        for served in range(links):
+            try:
+                if not self.stage.next_link():
+                    return served
+            except LinkFault:
+                raise Ends.link_fault()
+            self.serve_link()
+            self.stage.end_link()
+        return links
+
+    def serve_link(self):
+        """Answers the items of the link that stands, up to its end or the first fault."""
+        reader = HeadReader()
+        try:
+            while item := reader.take(self.stage):
+                self.raise_time()
+                self.reply_to(item)
+                if item.closes:
+                    return
+        except LinkFault:
+            return
+
+    def reply_to(self, item):
+        if item.refusal is not None:
+            return self.send(refusal_of(self.history, self.time, None, refused(item.refusal)))
+        given = answer(self.history, self.time, self.limits, item.request)
+        if is_refusal(given):
+            return self.send(refusal_of(self.history, self.time, item.request, given))
+        if isinstance(given, int):
+            return self.send(reply_of(self.history, given))
+        self.accept(given)
+
+    def accept(self, entry):
+        """Adds the entry of a request and sends its first reply; a disk that fails ends the serving."""
+        try:
+            if self.journal:
+                self.journal.add(entry.payload)
+        except Halted:
+            try:
+                self.send(refusal_of(self.history, self.time, None, refused(91)))
+            except LinkFault:
+                pass
+            self.stage.end_link()
+            raise Ends.disk_fault()
+        self.history.push(entry)
+        self.send(reply_of(self.history, len(self.history.entries) - 1))
+
+    def send(self, reply):
+        """Sends the head and what fits one page with it, and then all that is left."""
+        self.stage.send(reply[:PAGE])
+        if len(reply) > PAGE:
+            self.stage.send(reply[PAGE:])
+
+
+def opened(stage, limits):
+    """The house of a book."""
+    history = History()
+    try:
+        replay = Replay(stage)
+        gate = 8
+        while read := replay.next():
+            gate, entry = read
+            if not history.entries and entry.kind == SITE and entry.site != 0:
+                raise Ends.refused(refused(52))
+            if not may_follow(history, entry, limits.series):
+                raise unlawful(gate)
+            history.push(entry)
+    except NotJournal:
+        raise Ends(3, b"not a journal")
+    except BadEntry as bad:
+        raise Ends(3, b"bad entry at %d" % bad.place)
+    except DiskFault:
+        raise Ends.disk_fault()
+    if not history.entries:
+        raise unlawful(gate)
+    return House(history, stage, limits, replay.finish())
+
+
+def unlawful(gate):
+    return Ends(3, b"unlawful entry at %d" % gate)
+
+
+def free_journal(stage):
+    """The empty journal of a disk that stands for nothing, founded where it has no header."""
+    try:
+        replay = Replay(stage)
+        if replay.next() is None:
+            return replay.finish()
+    except (NotJournal, BadEntry):
+        pass
+    size = stage.size()
+    if size > 9:
+        raise Ends.refused(refused(50, size))
+    return found(stage)
+
+
+def founded(stage, site):
+    """Founds a house: the entry of its site stands in an empty journal."""
+    try:
+        free_journal(stage).add(site.payload)
+    except (DiskFault, Halted):
+        raise Ends.disk_fault()
+
+
+def bench(order, stage):
+    """The house in memory of `vendor once`."""
+    own, licensed = (Terms(i, 4096, 8192, (order.secret,), (order.secret,)) for i in (0, 1))
+    house = SimpleNamespace(keep=600, fee=0, clear=True, terms=own)
+    entries = [
+        entry_of(SITE, 0, site=0, name=order.name, house=house), entry_of(TERMS, 0, terms=licensed),
+        entry_of(GOODS, 0, target=order.target, price=order.price, goods=0, contents=order.contents)]
+    return House(History(entries), stage, FULL, None, has_clock=False)

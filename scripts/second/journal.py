@@ -1,0 +1,114 @@
+"""The journal of a book: it is founded, read, and entries are added in two steps each."""
+from forms import Fault
+from payloads import read_entry
+from stage import DiskFault
+
+HEADER = b"MCJRNL1\n"
+BUFFER = 131_072
+MOST_LENGTH = 131_066
+MOST_JOURNAL = 2**40
+
+
+class NotJournal(Exception):
+    """The book does not begin with the header."""
+
+
+class BadEntry(Exception):
+    """From a place on the bytes can't stand."""
+
+    def __init__(self, place):
+        super().__init__(place)
+        self.place = place
+
+
+class Halted(Exception):
+    """The disk failed while an entry was staged, or while its gate was opened."""
+
+    def __init__(self, step):
+        super().__init__(step)
+        self.step = step
+
+
+class Journal:
+    """A journal to which entries are added."""
+
+    def __init__(self, stage, size=len(HEADER) + 1):
+        self.stage, self.size = stage, size
+
+    def is_full(self, payload, limit):
+        return self.size + 5 + len(payload) > limit
+
+    def add(self, payload):
+        """Writes an entry behind the closed gate, and then opens that."""
+        try:
+            self.stage.write(self.size, len(payload).to_bytes(4, "big") + payload + b"\0")
+            self.stage.sync()
+        except DiskFault:
+            raise Halted("staging")
+        try:
+            self.stage.write(self.size - 1, b"\1")
+            self.stage.sync()
+        except DiskFault:
+            raise Halted("opening")
+        self.size += 5 + len(payload)
+
+
+def found(stage):
+    """An empty journal in place of what the disk has."""
+    stage.cut(0)
+    stage.write(0, HEADER + b"\0")
+    stage.sync()
+    return Journal(stage)
+
+
+class Replay:
+    """A journal that is read: it is synced, and each byte is read once."""
+
+    def __init__(self, stage):
+        self.stage, self.held, self.at = stage, b"", 0
+        stage.sync()
+        if self.peek(len(HEADER)) != HEADER:
+            raise NotJournal
+        self.drop(len(HEADER))
+
+    def peek(self, count):
+        """The next bytes, or fewer where the book ends before."""
+        while len(self.held) < count:
+            more = self.stage.read(self.at + len(self.held), BUFFER - len(self.held))
+            if not more:
+                break
+            self.held += more
+        return self.held[:count]
+
+    def drop(self, count):
+        self.held, self.at = self.held[count:], self.at + count
+
+    def need(self, count):
+        """The next bytes, all of which have to be there."""
+        data = self.peek(count)
+        if len(data) < count:
+            raise BadEntry(self.at + len(data))
+        return data
+
+    def next(self):
+        """The place of the next gate and the entry behind it; None at a closed gate."""
+        gate = self.at
+        if self.need(1) != b"\1":
+            return None
+        self.drop(1)
+        place = self.at
+        length = int.from_bytes(self.need(4), "big")
+        if length >= MOST_LENGTH or place + 4 + length + 1 > MOST_JOURNAL:
+            raise BadEntry(place)
+        self.drop(4)
+        payload = self.need(length)
+        try:
+            entry = read_entry(payload)
+        except Fault as fault:
+            raise BadEntry(place + 4 + fault.place)
+        self.drop(length)
+        return gate, entry
+
+    def finish(self):
+        """The journal, after its closed gate was read."""
+        return Journal(self.stage, self.at + 1)

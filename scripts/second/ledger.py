@@ -1,0 +1,281 @@
+"""The history of a house, its answer to a request, which entries may follow, and its replies."""
+from dataclasses import dataclass
+from email.utils import formatdate
+from types import SimpleNamespace
+
+from forms import Fault, epoch_of, id_of, issuer_of, read_scrip, reply_signature, request_signature, series_of
+from payloads import ACCEPT, DEPOSIT, GOODS, MINT, SITE, TERMS, WITHDRAW, entry_of
+from refusals import Refusal, refused
+
+MOST_CONTENTS = 2**26
+REASONS = {
+    200: "OK", 400: "Bad Request", 402: "Payment Required", 403: "Forbidden", 404: "Not Found",
+    405: "Method Not Allowed", 409: "Conflict", 410: "Gone", 413: "Content Too Large",
+    431: "Request Header Fields Too Large", 500: "Internal Server Error", 503: "Service Unavailable",
+}
+KINDS = ("application/octet-stream", "text/plain; charset=utf-8", "text/html; charset=utf-8")
+
+
+@dataclass(frozen=True)
+class Request:
+    """What a head asks for."""
+    target: bytes
+    scrip: bytes
+    sign: bytes
+
+
+@dataclass(frozen=True)
+class Limits:
+    """The most bytes of a journal, and the most pieces of a series."""
+    journal: int = 2**40
+    series: int = 2**32
+
+
+FULL = Limits()
+
+
+class History:
+    """The entries of a house, oldest first, with what its definitions look up in them."""
+
+    def __init__(self, entries=()):
+        self.entries, self.time, self.size = [], 0, 9
+        self.terms, self.goods, self.in_force = {}, {}, 0
+        self.spent, self.accepts, self.counts, self.references = set(), {}, {}, {}
+        self.goods_before = {}
+        for entry in entries:
+            self.push(entry)
+
+    @property
+    def site(self):
+        """The first entry, where it founds a site."""
+        return self.entries[0] if self.entries and self.entries[0].kind == SITE else None
+
+    @property
+    def house(self):
+        """What a vendor or a broker was founded with."""
+        return self.site.house if self.site else None
+
+    @property
+    def is_vendor(self):
+        return self.site is not None and self.site.site == 0
+
+    def push(self, entry):
+        number = len(self.entries)
+        self.entries.append(entry)
+        self.time = max(self.time, entry.moment)
+        self.size += len(entry.payload) + 5
+        if entry.kind == SITE and entry.house or entry.kind == TERMS:
+            terms = entry.terms if entry.kind == TERMS else entry.house.terms
+            self.terms.setdefault(terms.issuer, terms)
+        elif entry.kind == GOODS:
+            self.in_force = self.in_force_with(entry.target, entry.contents)
+            self.goods[entry.target] = entry
+        elif entry.kind == ACCEPT:
+            self.push_accept(number, entry)
+        elif entry.kind == MINT:
+            for ident in range(entry.first, entry.first + entry.count):
+                self.count_piece(ident)
+        if entry.kind in (MINT, DEPOSIT, WITHDRAW):
+            self.references.setdefault(entry.reference, entry)
+
+    def push_accept(self, number, entry):
+        self.spent.add(read_scrip(entry.scrip).id)
+        self.accepts.setdefault((entry.scrip, entry.target, entry.sign), []).append(number)
+        self.goods_before[number] = self.goods.get(entry.target)
+        if entry.change is not None:
+            self.count_piece(entry.change)
+
+    def count_piece(self, ident):
+        self.counts[series_of(ident)] = self.counts.get(series_of(ident), 0) + 1
+
+    def in_force_with(self, target, contents):
+        """How many bytes of contents are in force with these for the target."""
+        old = self.goods.get(target)
+        return self.in_force - (len(old.contents) if old else 0) + len(contents)
+
+    def own_series(self, time):
+        return self.terms[0].series(time)
+
+    def next_identity(self, time):
+        """The next identity of the own series of a time."""
+        return id_of(0, self.terms[0].epoch(time), self.counts.get(self.own_series(time), 0))
+
+    def room(self, time, limits):
+        """How many more pieces the own series of a time may have."""
+        return limits.series - self.counts.get(self.own_series(time), 0)
+
+    def repeat_of(self, request, time):
+        """The number of the entry whose first reply a request gets again."""
+        sign = signature_of(request.sign)
+        if sign is False or self.house is None:
+            return None
+        for number in self.accepts.get((request.scrip, request.target, sign), ()):
+            if time < self.entries[number].moment + self.house.keep:
+                return number
+        return None
+
+
+def signature_of(text):
+    """The signature that 32 digits spell; None where there is no text, False where it spells none."""
+    if text is None:
+        return None
+    digits = len(text) == 32 and all(byte in b"0123456789abcdef" for byte in text)
+    return bytes.fromhex(text.decode()) if digits else False
+
+
+def answer(history, time, limits, request):
+    """A Refusal, the number of the entry that comes again, or the entry that is taken."""
+    if request.scrip is None:
+        return refused(20)
+    try:
+        piece = read_scrip(request.scrip)
+    except Fault as fault:
+        return refused(21, fault.place)
+    number = history.repeat_of(request, time)
+    if number is not None:
+        return number
+    return (genuine(history, piece) or spendable(history, time, request, piece)
+            or offered(history, time, limits, request, piece) or fitted(history, time, limits, request, piece))
+
+
+def genuine(history, piece):
+    """Refusals 22 to 25."""
+    if history.site is None or piece.vendor != history.site.name:
+        return refused(22)
+    if not {issuer_of(piece.id), issuer_of(piece.cust)} <= history.terms.keys():
+        return refused(23)
+    terms = history.terms[issuer_of(piece.id)]
+    end = terms.end(epoch_of(piece.id))
+    if piece.expires != end:
+        return refused(24, piece.expires, end)
+    if piece.cert != terms.certificate(piece.body, piece.id):
+        return refused(25)
+    return None
+
+
+def spendable(history, time, request, piece):
+    """Refusals 26 to 29."""
+    if time >= piece.expires:
+        return refused(26, piece.expires, time)
+    if piece.id in history.spent:
+        return refused(27)
+    if request.sign is None:
+        return None if history.house.clear else refused(28)
+    right = request_signature(request.scrip, request.target, secret_of(history, piece))
+    return None if request.sign == right.hex().encode() else refused(29)
+
+
+def offered(history, time, limits, request, piece):
+    """Refusals 30 to 32."""
+    goods = goods_at(history, request.target)
+    if goods is None:
+        return refused(30)
+    if piece.value < goods.price:
+        return refused(31, goods.price)
+    if piece.value > goods.price and history.room(time, limits) <= 0:
+        return refused(32, history.own_series(time))
+    return None
+
+
+def fitted(history, time, limits, request, piece):
+    """The entry of a request that nothing else refuses, or refusal 33."""
+    price = goods_at(history, request.target).price
+    entry = entry_of(
+        ACCEPT, time, scrip=request.scrip, target=request.target, sign=signature_of(request.sign), price=price,
+        change=history.next_identity(time) if piece.value > price else None, deed=(0,))
+    return journal_full(history.size, limits, entry) or entry
+
+
+def journal_full(size, limits, entry):
+    """Refusal 33, where the entry would pass the limit of the journal."""
+    length = len(entry.payload)
+    return refused(33, size, length) if size + 5 + length > limits.journal else None
+
+
+def goods_at(history, target):
+    """The goods in force at a vendor; a broker has none yet."""
+    return history.goods.get(target) if history.is_vendor else None
+
+
+def secret_of(history, piece):
+    return history.terms[issuer_of(piece.cust)].secret(piece.cust)
+
+
+def may_follow(history, entry, series):
+    """Whether an entry is lawful behind those of a lawful history."""
+    if entry.kind == SITE:
+        return not history.entries and entry.site == 0
+    if not history.is_vendor or entry.moment < history.time:
+        return False
+    if entry.kind == TERMS:
+        return entry.terms.issuer not in history.terms
+    if entry.kind == GOODS:
+        return history.in_force_with(entry.target, entry.contents) <= MOST_CONTENTS
+    limits = Limits(series=series)
+    if entry.kind == ACCEPT:
+        sign = None if entry.sign is None else entry.sign.hex().encode()
+        given = answer(history, entry.moment, limits, Request(entry.target, entry.scrip, sign))
+        return isinstance(given, SimpleNamespace) and given.payload == entry.payload
+    if entry.kind == MINT:
+        fits = entry.count <= history.room(entry.moment, limits)
+        return entry.reference not in history.references and fits and entry.first == history.next_identity(entry.moment)
+    return False
+
+
+def first_unlawful(entries, series):
+    """The number of the first entry that may not follow those before it, 0 where there is none; else None."""
+    history = History()
+    for number, entry in enumerate(entries):
+        if not may_follow(history, entry, series):
+            return number
+        history.push(entry)
+    return None if entries else 0
+
+
+def reply_bytes(status, date, kind, refusal, price, change, sign, contents):
+    """A whole reply. The refusal, the price and the change are texts, `-` where there is none."""
+    lines = ["HTTP/1.1 %d %s" % (status, REASONS[status]), "Date: " + formatdate(date, usegmt=True)]
+    lines += ["Cache-Control: no-store"]
+    lines += ["Content-Type: " + KINDS[kind]] if status == 200 else []
+    lines += ["Allow: GET"] if status == 405 else []
+    lines += ["Content-Length: %d" % len(contents)]
+    lines += ["Millicent-Refusal: " + refusal] if status != 200 else []
+    lines += ["Millicent-Price: " + price, "Millicent-Change: " + change, "Millicent-Sign: " + sign, "", ""]
+    return "\r\n".join(lines).encode() + contents
+
+
+def signed(history, request, status, refusal, price, change, contents):
+    """The digits of a reply's signature."""
+    head = ("%d %s %s %s\n" % (status, refusal, price, change)).encode()
+    secret = secret_of(history, read_scrip(request.scrip))
+    return reply_signature(request.scrip, request.target, head, contents, secret).hex()
+
+
+def reply_of(history, number):
+    """The first reply of an Accept entry."""
+    entry = history.entries[number]
+    piece, goods = read_scrip(entry.scrip), history.goods_before[number]
+    change = "-"
+    if entry.change is not None:
+        rest = piece.value - entry.price
+        change = history.terms[0].scrip_text(history.site.name, rest, entry.change, piece.cust, piece.props).decode()
+    price = str(entry.price)
+    sign = signed(history, Request(entry.target, entry.scrip, None), 200, "-", price, change, goods.contents)
+    return reply_bytes(200, entry.moment, goods.goods, "-", price, change, sign, goods.contents)
+
+
+def refusal_of(history, time, request, refusal):
+    """The reply of a refusal; the request is None where a head was refused or nothing is told of it."""
+    price = "-"
+    if request and refusal.number == 20 and goods_at(history, request.target):
+        price = str(goods_at(history, request.target).price)
+    elif refusal.number == 31:
+        price = str(refusal.kept[0])
+    sign = "-"
+    if 26 <= refusal.number <= 45:
+        sign = signed(history, request, refusal.status, refusal.text(), price, "-", b"")
+    return reply_bytes(refusal.status, time, None, refusal.text(), price, "-", sign, b"")
+
+
+def is_refusal(given):
+    return isinstance(given, Refusal)

@@ -1,0 +1,172 @@
+"""The verbs on terms, signatures, an issuer's series, and kept replies."""
+from bytes_text import CaseError, shown
+from forms import (
+    MOMENTS, MOST_VALUE, Terms, are_terms, id_of, id_text, reply_signature, request_signature, series_of)
+from setting import U32, data, maybe_data, maybe_number, number, of_length, up_to
+
+moment = up_to(MOMENTS - 1)
+
+
+def do_terms(setting, words):
+    issuer, period, life, *joined = setting.arguments(words, number, number, number, data, data)
+    lists = (tuple(secrets[i:i + 16] for i in range(0, len(secrets), 16)) for secrets in joined)
+    terms = Terms(issuer, period, life, *lists)
+    are_some = issuer <= 255 and are_terms(terms) and not any(len(secrets) % 16 for secrets in joined)
+    setting.terms = terms if are_some else None
+    return [] if setting.terms else ["terms no"]
+
+
+def terms_of(setting):
+    if setting.terms is None:
+        raise CaseError("there are no terms")
+    return setting.terms
+
+
+def do_series(setting, words):
+    at, = setting.arguments(words, moment)
+    epoch = terms_of(setting).epoch(at)
+    return ["series %d %d" % (epoch, setting.terms.end(epoch))]
+
+
+def do_certificate(setting, words):
+    body, ident = setting.arguments(words, data, number)
+    return ["certificate " + terms_of(setting).certificate(body, ident).hex()]
+
+
+def do_secret(setting, words):
+    cust, = setting.arguments(words, number)
+    return ["secret " + terms_of(setting).secret(cust).hex()]
+
+
+def do_signed(setting, words):
+    return ["signed " + request_signature(*setting.arguments(words, data, data, of_length(16))).hex()]
+
+
+def do_replied(setting, words):
+    return ["replied " + reply_signature(*setting.arguments(words, data, data, data, data, of_length(16))).hex()]
+
+
+class Issuer:
+    """How many pieces stand in each series, and what was issued and redeemed."""
+
+    def __init__(self, terms, limit):
+        self.terms, self.limit = terms, limit
+        self.pieces, self.issued, self.redeemed = {}, {}, {}
+
+    def next(self, at):
+        """The next identity; None where the series is full."""
+        count = self.pieces.get(self.terms.series(at), 0)
+        return id_of(self.terms.issuer, self.terms.epoch(at), count) if count < self.limit else None
+
+
+def add(sums, series, more):
+    sums[series] = sums.get(series, 0) + more
+
+
+def do_issuer(setting, words):
+    limit, = setting.arguments(words, up_to(2**32))
+    setting.issuer = Issuer(terms_of(setting), limit)
+
+
+def issuer_set(setting):
+    if setting.issuer is None:
+        raise CaseError("there is no issuer")
+    return setting.issuer
+
+
+def do_next(setting, words):
+    at, = setting.arguments(words, moment)
+    ident = issuer_set(setting).next(at)
+    return [full(setting, at) if ident is None else "next " + id_text(ident)]
+
+
+def full(setting, at):
+    return "full %d" % setting.issuer.terms.series(at)
+
+
+def do_issue(setting, words):
+    at, value, cust = setting.arguments(words, moment, up_to(MOST_VALUE), maybe_number)
+    issuer = issuer_set(setting)
+    ident = issuer.next(at)
+    if ident is None:
+        return [full(setting, at)]
+    add(issuer.pieces, series_of(ident), 1)
+    add(issuer.issued, series_of(ident), value)
+    end = issuer.terms.end(issuer.terms.epoch(at))
+    props = b"" if cust is None else b"a=1"
+    return ["issue %s %s %d %s" % (id_text(ident), id_text(ident if cust is None else cust), end, shown(props))]
+
+
+def do_redeem(setting, words):
+    ident, value = setting.arguments(words, number, up_to(MOST_VALUE))
+    add(issuer_set(setting).redeemed, series_of(ident), value)
+    return ["redeem %d" % value]
+
+
+def do_count(setting, words):
+    series, = setting.arguments(words, up_to(U32))
+    issuer = issuer_set(setting)
+    return ["count %d %d %d" % tuple(s.get(series, 0) for s in (issuer.pieces, issuer.issued, issuer.redeemed))]
+
+
+class Kept:
+    """Kept replies: by number the moment and the request."""
+
+    def __init__(self, keep):
+        self.keep, self.replies = keep, {}
+
+    def find(self, at, request):
+        return next((n for n, (m, r) in self.replies.items() if r == request and at < m + self.keep), None)
+
+    def forget(self, at):
+        self.replies = {n: (m, r) for n, (m, r) in self.replies.items() if at < m + self.keep}
+
+
+def do_kept(setting, words):
+    setting.kept = Kept(*setting.arguments(words, up_to(U32)))
+
+
+def kept_set(setting):
+    if setting.kept is None:
+        raise CaseError("no replies are kept")
+    return setting.kept
+
+
+def do_keep(setting, words):
+    of, at, *request = setting.arguments(words, number, moment, data, maybe_data, maybe_data)
+    kept = kept_set(setting)
+    if of in kept.replies or any(r == request for _, r in kept.replies.values()):
+        return ["keep no"]
+    kept.replies[of] = (at, request)
+    return ["keep yes"]
+
+
+def told(verb, value):
+    return ["%s %s" % (verb, "none" if value is None else value)]
+
+
+def do_find(setting, words):
+    at, *request = setting.arguments(words, moment, data, maybe_data, maybe_data)
+    return told("find", kept_set(setting).find(at, request))
+
+
+def do_forget(setting, words):
+    at, = setting.arguments(words, moment)
+    kept_set(setting).forget(at)
+    return told("forget", min(setting.kept.replies, default=None))
+
+
+def do_held(setting, words):
+    of, = setting.arguments(words, number)
+    if of not in kept_set(setting).replies:
+        return ["held none"]
+    at, request = setting.kept.replies[of]
+    return ["held %s %d 25" % (" ".join(map(shown, request)), at)]
+
+
+VERBS = {
+    "terms": do_terms, "series": do_series, "certificate": do_certificate, "secret": do_secret, "signed": do_signed,
+    "replied": do_replied, "issuer": do_issuer, "next": do_next, "issue": do_issue, "redeem": do_redeem,
+    "count": do_count, "kept": do_kept, "keep": do_keep, "find": do_find, "forget": do_forget,
+    "held": do_held,
+}

@@ -1,0 +1,83 @@
+"""What a case has set so far, and how the arguments of its lines are read."""
+from bytes_text import CaseError, bytes_of, shown
+from ledger import FULL
+from stage import Stage
+
+U32, U64 = 2**32 - 1, 2**64 - 1
+
+
+class Setting:
+    """The next stage, the last one, limits, terms, an issuer and kept replies."""
+
+    def __init__(self, names):
+        self.names = names
+        self.book, self.links, self.clock = b"", [], []
+        self.failing, self.books = {"disk": [], "link": []}, 0
+        self.last, self.hand = None, None
+        self.limits, self.terms, self.issuer, self.kept = FULL, None, None, None
+
+    def stage(self):
+        """A stage as the lines before it say; links, failing calls and books are then forgotten."""
+        self.last = Stage(self.book, self.links, self.clock, self.failing["disk"], self.failing["link"])
+        self.links, self.failing, self.books = [], {"disk": [], "link": []}, 0
+        return self.last
+
+    def ended(self, stage):
+        """The lines of a stage, whose disk is the next book."""
+        lines, change, calls = stage.lines()
+        self.book = bytes(stage.contents)
+        printed = ["%s %s" % (verb, shown(data)) for verb, data in lines]
+        return printed + [changed("book", change), "calls %d %d" % calls]
+
+    def first_link(self):
+        """The bytes of the first link."""
+        return b"".join(self.links[0]) if self.links else b""
+
+    def arguments(self, words, *kinds):
+        """The values of so many words, each read by its kind."""
+        if len(words) != len(kinds):
+            raise CaseError("%d arguments are wanted" % len(kinds))
+        return [kind(self, word) for kind, word in zip(kinds, words)]
+
+
+def changed(verb, change):
+    """The line of a book that may have changed."""
+    return verb + " same" if change is None else "%s %d %s" % (verb, change[0], shown(change[1]))
+
+
+def data(setting, word):
+    return bytes_of(word, setting.names)
+
+
+def maybe_data(setting, word):
+    return None if word == "-" else data(setting, word)
+
+
+def word_bytes(setting, word):
+    """A word that stands as it is, or as bytes."""
+    return data(setting, word) if word[0] in '"$' else word.encode("latin-1")
+
+
+def number(setting, word, most=U64):
+    if not (word.isascii() and word.isdigit()) or int(word) > most:
+        raise CaseError("no such number: %s" % word)
+    return int(word)
+
+
+def maybe_number(setting, word):
+    return None if word == "-" else number(setting, word)
+
+
+def up_to(most):
+    """Numbers up to a most."""
+    return lambda setting, word: number(setting, word, most)
+
+
+def of_length(length):
+    """Bytes of one length."""
+    def read(setting, word):
+        found = data(setting, word)
+        if len(found) != length:
+            raise CaseError("%d bytes are wanted" % length)
+        return found
+    return read
