@@ -52,7 +52,7 @@ def took(reply):
 def fresh(shop, count):
     """Signed requests that pay with new pieces."""
     pieces = [shop.fresh(100) for _ in range(count)]
-    return [millicent.request(p, TARGET, millicent.request_sign(p, TARGET, secret)) for p, secret in pieces]
+    return [millicent.request(p, TARGET, millicent.request_signature(p, TARGET, secret)) for p, secret in pieces]
 
 
 def pay_alone(shop, asked):

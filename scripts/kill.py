@@ -32,7 +32,7 @@ class Log:
     def fresh(self):
         """A request that pays with a new piece: with change or without, signed or not."""
         piece, secret = self.shop.fresh(random.choice((PRICE, PRICE + 1, 100, 10**9)))
-        sign = random.choice((None, millicent.request_sign(piece, TARGET, secret)))
+        sign = random.choice((None, millicent.request_signature(piece, TARGET, secret)))
         asked = millicent.request(piece, TARGET, sign)
         self.keys[asked] = piece, TARGET, sign
         return asked
@@ -68,23 +68,23 @@ class Log:
 
     def read_book(self):
         """Each accepted request with its price and change. None is there twice, and change has no gap."""
-        entries, _ = millicent.entries_of(self.shop.bytes())
-        accepts = [millicent.accepted(e) for e in entries[3:]]
-        identities = Counter(piece.split(b"|")[3] for _, piece, *_ in accepts)
+        accepts = millicent.entries_of(self.shop.bytes())[3:]
+        identities = Counter(a.scrip.split(b"|")[3] for a in accepts)
         for ident in (i for i, n in identities.items() if n > 1):
             self.wrong("identity %r was accepted twice" % ident)
         series = Counter()
-        for change in (a[-1] for a in accepts if a[-1]):
-            if int.from_bytes(change[4:], "big") != series[change[:4]]:
-                self.wrong("change %s has not the serial %d" % (change.hex(), series[change[:4]]))
-            series[change[:4]] += 1
-        return {tuple(key): tuple(gave) for _, *key, price, change in accepts for gave in [(price, change)]}
+        for change in (a.change for a in accepts if a.change is not None):
+            number, serial = change >> 32, change & 0xffffffff
+            if serial != series[number]:
+                self.wrong("change %016x has not the serial %d" % (change, series[number]))
+            series[number] += 1
+        return {(a.scrip, a.target, a.sign): (a.price, a.change) for a in accepts}
 
     def stands(self, book, asked):
         """Whether the book has this request with the price and the change of the reply that was read."""
         reply = millicent.Reply(self.paid[asked])
         change = reply.field(b"Change")
-        change = None if change == b"-" else bytes.fromhex(change.split(b"|")[3].decode())
+        change = None if change == b"-" else int(change.split(b"|")[3], 16)
         return book.get(self.keys[asked]) == (int(reply.field(b"Price")), change)
 
     def each(self, do, requests):

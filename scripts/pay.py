@@ -2,14 +2,14 @@
 """Pays for a page with curl, shows the change, and pays again with the same request."""
 import subprocess
 
-from millicent import Reply, reply_sign, request_sign
+from millicent import Reply, reply_sign, request_signature
 from shop import PRICE, TARGET, Shop
 
 
 def main():
     with Shop() as shop:
         piece, secret = shop.minted(PRICE + 75, "pay")
-        sign = request_sign(piece, TARGET, secret).hex()
+        sign = request_signature(piece, TARGET, secret).hex()
         url = "http://%s:%d%s" % (*shop.address, TARGET.decode())
         words = ["curl", "-s", "-i", "-H", "Millicent-Scrip: " + piece.decode(), "-H", "Millicent-Sign: " + sign, url]
         shop.start(links=3)

@@ -115,27 +115,27 @@ class Shop:
         words = [PROGRAM, "vendor", command, self.book, *words]
         said = subprocess.run(words, check=True, input=contents, stdout=subprocess.PIPE).stdout.decode()
         self.entered.append(entry)
-        entries, _ = millicent.entries_of(self.bytes())
+        entries = millicent.entries_of(self.bytes())
         assert len(entries) == len(self.entered), "the book has %d entries" % len(entries)
         for e, expected in zip(entries, self.entered):
-            assert e == expected(millicent.moment_of(e)), "the book has another entry: %r" % e
+            assert e.payload == expected(e.moment).payload, "the book has another entry: %r" % e.payload
         return said
 
     def minted(self, value, reference):
         """The first piece of the vendor's own series, and its customer secret."""
         def ident(moment):
-            return millicent.identity(0, self.own.epoch(moment), 0)
+            return millicent.id_of(0, self.own.epoch(moment), 0)
         line = self.enter(lambda moment: millicent.mint_entry(moment, reference.encode(), 1, value, ident(moment)),
                           "mint", "1", str(value), reference)
-        first = bytes.fromhex(line.split("|")[3])
-        piece, secret = millicent.scrip(self.own, NAME, value, first), millicent.customer_secret(self.own, first)
+        first = int(line.split("|")[3], 16)
+        piece, secret = millicent.scrip(self.own, NAME, value, first), self.own.secret(first)
         assert line == "%s %s\n" % (piece.decode(), secret.hex()), "the program said %r" % line
         return piece, secret
 
     def fresh(self, value):
         """A piece of the licence that was never paid with, and its customer secret."""
-        ident = millicent.identity(1, self.licensed.epoch(int(time.time())), next(self.serials))
-        return millicent.scrip(self.licensed, NAME, value, ident), millicent.customer_secret(self.licensed, ident)
+        ident = millicent.id_of(1, self.licensed.epoch(int(time.time())), next(self.serials))
+        return millicent.scrip(self.licensed, NAME, value, ident), self.licensed.secret(ident)
 
     def launch(self, links=LINKS):
         words = [PROGRAM, "vendor", "serve", self.book, "%s:%d" % self.address, str(links)]
