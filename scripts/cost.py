@@ -1,12 +1,12 @@
 #!/usr/bin/env python3
 """Runs the gate and measures what each crate costs, in processor seconds; writes docs/COSTS.md.
 
-    scripts/cost.py            runs rt ci, and writes the table
+    scripts/cost.py            runs rt ci --anew, which keeps to nothing of earlier runs, and writes the table
     scripts/cost.py rt ci x    runs another command, and prints the table alone
 
-Measure on a machine that does nothing else and has kept nothing of earlier runs (rt ci --anew proves all again). The
-checks of a crate are told apart by where they run: its library (or program), its tests, and its edits, which the gate
-tries in folders of their own. A check that is shorter than half a second may be missed."""
+Measure on a machine that does nothing else. The checks of a crate are told apart by where they run: its library (or
+program), its tests, and its edits, which the gate tries in folders of their own. A check that is shorter than half a
+second may be missed."""
 import collections
 import os
 import pathlib
@@ -103,8 +103,8 @@ def text(table, seen, wall):
     lines = [
         "# What the gate costs",
         "",
-        "Written by `scripts/cost.py`, which ran `rt ci` and looked at its checks; not by hand. Processor seconds, but for",
-        "memory, which is the most of one check in MB.",
+        "Written by `scripts/cost.py`, which ran `rt ci --anew` and looked at its checks; not by hand. Processor seconds,",
+        "but for memory, which is the most of one check in MB.",
         "",
         "| Crate | Library | Tests | Edits | Sum | MB |",
         "|---|---|---|---|---|---|",
@@ -115,15 +115,16 @@ def text(table, seen, wall):
     lines += [
         f"| all, minutes | {of[0]:.0f} | {of[1]:.0f} | {of[2]:.0f} | {total:.0f} | |",
         "",
-        f"The longest chain takes {seconds / 60:.0f} minutes: {', '.join(names)}. The run took {wall / 60:.0f} minutes on",
-        f"{os.cpu_count()} processors, with {version}.",
+        f"The longest chain takes {seconds / 60:.0f} minutes:",
+        f"{', '.join(names)}.",
+        f"The run took {wall / 60:.0f} minutes on {os.cpu_count()} processors, with {version}.",
         "",
     ]
     return "\n".join(lines)
 
 
 def main():
-    command = sys.argv[1:] or ["rt", "ci"]
+    command = sys.argv[1:] or ["rt", "ci", "--anew"]
     status, seen, wall = measured(command)
     table = rows(seen)
     page = text(table, seen, wall)

@@ -9,6 +9,7 @@ from journal import BadEntry, Halted, NotJournal, Replay, found
 from ledger import History, Limits, Request, answer, first_unlawful, is_refusal
 from payloads import read_entry
 from program import BadWords, add_terms, bench, mint_pieces, parsed, places, put_goods, run, set_price
+from refusals import refused
 from setting import U32, changed, data, maybe_data, number, up_to, word_bytes
 from stage import DiskFault, LinkFault, Stage, change_of
 
@@ -123,6 +124,18 @@ def do_mint(setting, words):
     return kept_by(setting, "mint", time, lambda house: mint_pieces(house, order))
 
 
+def do_coming(setting, words):
+    time, = setting.arguments(words, number)
+    return kept_by(setting, "coming", time, coming)
+
+
+def coming(house):
+    """The identity of the next piece of the house's own."""
+    if not house.history.room(house.time, house.limits):
+        raise Ends.refused(refused(32, house.history.own_series(house.time)))
+    return house.history.next_identity(house.time)
+
+
 def kept_by(setting, verb, time, enter):
     """The lines of a keeper's call of the house of the book."""
     stage = setting.stage()
@@ -131,9 +144,10 @@ def kept_by(setting, verb, time, enter):
     except Ends:
         return [verb + " closed"] + setting.ended(stage)
     house.time = max(house.time, min(time, MOMENTS - 1))
-    told, came = b"", "done"
+    told = b""
     try:
         told = enter(house)
+        came = "%016x" % told if verb == "coming" else "done"
     except Ends as end:
         came = "halted" if end.status == 4 else end.line.decode().rstrip("\n")
     lines = ["lines " + shown(told)] if verb == "mint" else []
@@ -306,7 +320,7 @@ def end_by_hand(setting, words):
 VERBS = {
     "book": set_book, "link": set_link, "clock": set_clock, "fail": set_fail, "books": set_books, "limits": set_limits,
     "run": do_run, "serve": do_serve, "found": do_found, "goods": do_goods, "price": do_price, "licence": do_licence,
-    "mint": do_mint, "replay": do_replay, "heads": do_heads, "whole": do_whole, "crash": do_crash, "once": do_once,
+    "mint": do_mint, "coming": do_coming, "replay": do_replay, "heads": do_heads, "whole": do_whole, "crash": do_crash, "once": do_once,
     "places": do_places, "answer": do_answer, "lawful": do_lawful,
     "write": by_hand("write", done(Stage.write), number, data), "cut": by_hand("cut", done(Stage.cut), number),
     "sync": by_hand("sync", done(Stage.sync)), "size": by_hand("size", Stage.size),

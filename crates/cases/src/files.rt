@@ -1,13 +1,7 @@
 //! Files of cases, line by line.
 
-use crate::fault::Fault;
-use crate::show::Lines;
-use crate::state::State;
-use crate::tokens::{number, tokens};
-use crate::{
-    digest_verbs, form_verbs, head_verbs, issue_verbs, journal_verbs, keeper_verbs, ledger_verbs,
-    payload_verbs, program_verbs, setting_verbs, stage_verbs,
-};
+use crate::{keeper_verbs, ledger_verbs, program_verbs};
+use case_lines::{Fault, Lines, State, number, tokens};
 
 /// How far a file was read.
 #[derive(Clone, Copy)]
@@ -86,68 +80,27 @@ impl Progress {
 
 /// Does what a line says.
 fn act(state: &mut State, verb: &[u8], args: &[&[u8]], out: &mut Lines) -> Result<(), Fault> {
-    if let Some(done) = on_stage(state, verb, args, out) {
+    if let Some(done) = case_lines::act(state, verb, args, out) {
         return done;
     }
-    if let Some(done) = on_book(state, verb, args, out) {
-        return done;
-    }
-    match on_values(state, verb, args, out) {
+    match on_houses(state, verb, args, out) {
         Some(done) => done,
         None => Err(Fault::Verb),
     }
 }
 
-/// The verbs that make a stage and use it.
-fn on_stage(
+/// The verbs that run the program or a house.
+fn on_houses(
     state: &mut State,
     verb: &[u8],
     args: &[&[u8]],
     out: &mut Lines,
 ) -> Option<Result<(), Fault>> {
-    if let Some(done) = setting_verbs::set(state, verb, args, out) {
-        return Some(done);
-    }
     if let Some(done) = program_verbs::act(state, verb, args, out) {
-        return Some(done);
-    }
-    if let Some(done) = head_verbs::act(state, verb, args, out) {
-        return Some(done);
-    }
-    stage_verbs::call(state, verb, args, out)
-}
-
-/// The verbs on journals, on what they say, and on what is entered.
-fn on_book(
-    state: &mut State,
-    verb: &[u8],
-    args: &[&[u8]],
-    out: &mut Lines,
-) -> Option<Result<(), Fault>> {
-    if let Some(done) = journal_verbs::act(state, verb, args, out) {
         return Some(done);
     }
     if let Some(done) = keeper_verbs::enter(state, verb, args, out) {
         return Some(done);
     }
     ledger_verbs::ask(state, verb, args, out)
-}
-
-/// The verbs on texts, payloads, digests, series and replies.
-fn on_values(
-    state: &mut State,
-    verb: &[u8],
-    args: &[&[u8]],
-    out: &mut Lines,
-) -> Option<Result<(), Fault>> {
-    if let Some(done) = form_verbs::read(state, verb, args, out) {
-        return Some(done);
-    }
-    if let Some(done) = payload_verbs::read(state, verb, args, out) {
-        return Some(done);
-    }
-    if let Some(done) = digest_verbs::make(state, verb, args, out) {
-        return Some(done);
-    }
-    issue_verbs::keep_books(state, verb, args, out)
 }

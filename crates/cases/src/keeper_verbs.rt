@@ -2,18 +2,14 @@
 
 ghost use Rattle.std.specs.Prelude.{◌<◌, ◌≤◌, IfOk, length};
 
-use crate::digest_verbs::terms;
-use crate::fault::Fault;
 use crate::ledger_verbs::show_refusal;
 use crate::program_verbs::unopened;
-use crate::show::Lines;
-use crate::state::State;
-use crate::tokens::number;
+use case_lines::{Fault, Lines, State, number, terms};
 use house_core::{House, Outcome, open_house};
 use mc_base::{Amount, Moment};
 use mc_records::Refusal;
 use mc_stage::Stage;
-use scrip_form::{Name, Target};
+use scrip_form::{Id, Name, Target};
 use vendor_core::{Shelf, add_terms, mint, set_goods, set_price};
 
 /// The verbs of this module; None where the verb is none of them.
@@ -28,6 +24,7 @@ pub(crate) fn enter(
         b"price" => price(state, args, out),
         b"licence" => licence(state, args, out),
         b"mint" => minted(state, args, out),
+        b"coming" => coming(state, args, out),
         _ => return None,
     })
 }
@@ -55,11 +52,11 @@ fn came_of<A: Drop>(outcome: Outcome<Stage, Shelf, A>) -> (Entered, Stage) {
 /// Opens the book as a house at this time, within the limits.
 fn opened(state: &mut State, time: &[u8]) -> Result<Result<Opened, Stage>, Fault> {
     let time = Moment::clamped(number(time)?);
-    let stage = state.make_stage()?;
     let limits = state.limits;
     if !limits.are_in_range() {
         return Err(Fault::Value);
     }
+    let stage = state.make_stage()?;
     Ok(
         match open_house(state.alloc, stage, limits, Shelf::new(state.alloc)) {
             Ok(house) => {
@@ -181,5 +178,32 @@ fn minted(state: &mut State, args: &[&[u8]], out: &mut Lines) -> Result<(), Faul
             show(state, "mint", done, out)
         }
         Err(stage) => show_closed(state, "mint", stage, out),
+    }
+}
+
+/// The identity of the next piece of the house's own.
+fn coming(state: &mut State, args: &[&[u8]], out: &mut Lines) -> Result<(), Fault> {
+    let [time] = *args else {
+        return Err(Fault::Arguments);
+    };
+    match opened(state, time)? {
+        Ok(house) => {
+            let next = house.next();
+            let stage = house.close();
+            show_coming(next, out);
+            state.show_stage(stage, out)
+        }
+        Err(stage) => show_closed(state, "coming", stage, out),
+    }
+}
+
+fn show_coming(next: Result<Id, Refusal>, out: &mut Lines) {
+    match next {
+        Ok(id) => {
+            out.start("coming");
+            out.identity(id);
+            out.end()
+        }
+        Err(refusal) => show_refusal("coming refused", &refusal, out),
     }
 }

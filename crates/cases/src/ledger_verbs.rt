@@ -2,12 +2,8 @@
 
 ghost use Rattle.mc_records.specs.Limits.{AreInRange};
 
-use crate::asked::Asked;
-use crate::fault::Fault;
 use crate::program_verbs::unopened;
-use crate::show::Lines;
-use crate::state::State;
-use crate::tokens::number;
+use case_lines::{Asked, Fault, Lines, State, number};
 use house_core::{Verdict, open_house};
 use ledger_model::{History, ModelAnswer, slow_answer, slow_lawful};
 use mc_base::{List, Moment};
@@ -85,8 +81,15 @@ fn history(state: &State) -> Result<History, Fault> {
             let _stage = replay.close();
             history
         }
-        Err(OpenFault::NoMemory(_)) => Err(Fault::NoMemory),
-        Err(OpenFault::NotJournal(_) | OpenFault::Disk(_)) => { Err(Fault::Book) }
+        Err(fault) => Err(unread(fault)),
+    }
+}
+
+/// Why a book has no entries to read.
+fn unread(fault: OpenFault<Stage>) -> Fault {
+    match fault {
+        OpenFault::NoMemory(_) => Fault::NoMemory,
+        OpenFault::NotJournal(_) | OpenFault::Disk(_) => Fault::Book,
     }
 }
 
@@ -101,7 +104,7 @@ fn read_all(alloc: Global, replay: &mut Replay<Stage>) -> Result<History, Fault>
         let Some(record) = replay.record() else {
             return Err(Fault::Book);
         };
-        history.push(alloc, &record)?;
+        history.push(&record)?;
     }
     Ok(history)
 }

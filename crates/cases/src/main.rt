@@ -4,57 +4,67 @@
 //! program with status 1, and so does a file that cannot be read or does not end with its count of cases.
 #![tactic(auto)]
 
-mod asked;
-mod digest_verbs;
-mod fault;
 mod files;
-mod form_verbs;
-mod head_verbs;
-mod issue_verbs;
-mod journal_verbs;
 mod keeper_verbs;
 mod ledger_verbs;
-mod names;
-mod payload_verbs;
 mod program_verbs;
-mod refusals;
-mod setting_verbs;
-mod show;
-mod stage_verbs;
-mod state;
-mod tokens;
 
-use fault::Fault;
+use case_lines::{Fault, Lines, State};
 use files::Progress;
-use show::Lines;
-use state::State;
 use std::io::Write;
 use std::process::ExitCode;
 use std::{env, fs, io};
 
 fn main(rt: HostRuntime) -> io::Result<ExitCode> {
-    let alloc = rt.alloc();
-    let mut state = State::new(alloc);
-    let mut files = 0_u64;
-    for path in env::args(&rt)?.skip(1) {
-        files = files.saturating_add(1);
-        let text = fs::read(&rt, path.as_str())?;
-        let mut out = Lines::new(alloc);
-        let mut progress = Progress::new();
-        let done = progress.read(&mut state, &text, &mut out);
-        rt.stdout().write_all(out.text())?;
-        let why = match done {
-            Ok(()) if out.is_whole() => continue,
-            Ok(()) => Fault::NoMemory.text(),
-            Err(fault) => fault.text(),
-        };
-        let line = progress.line;
-        println!(rt; "{path}:{line}: {why}")?;
-        return Ok(ExitCode::FAILURE);
-    }
-    if files == 0 {
+    let mut state = State::new(rt.alloc());
+    let files = run_all(&rt, &mut state)?;
+    if files == Some(0) {
         println!(rt; "no files")?;
-        return Ok(ExitCode::FAILURE);
     }
-    Ok(ExitCode::SUCCESS)
+    Ok(match files {
+        Some(files) if files > 0 => ExitCode::SUCCESS,
+        _ => ExitCode::FAILURE,
+    })
+}
+
+/// Runs the files that the words name, and tells how many; None where one is not done.
+fn run_all(rt: &HostRuntime, state: &mut State) -> io::Result<Option<u64>> {
+    let mut files = 0_u64;
+    for path in env::args(rt)?.skip(1) {
+        if !run_file(rt, state, path.as_str())? {
+            return Ok(None);
+        }
+        files = files.saturating_add(1);
+    }
+    Ok(Some(files))
+}
+
+/// Runs a file, and prints what came out. Where it is not done that is told with its line, and it is false.
+fn run_file(rt: &HostRuntime, state: &mut State, path: &str) -> io::Result<bool> {
+    let text = fs::read(rt, path)?;
+    let mut out = Lines::new(rt.alloc());
+    let mut progress = Progress::new();
+    let done = progress.read(state, &text, &mut out);
+    rt.stdout().write_all(out.text())?;
+    match fault_of(done, out.is_whole()) {
+        Some(fault) => {
+            tell(rt, path, progress.line, fault)?;
+            Ok(false)
+        }
+        None => Ok(true),
+    }
+}
+
+/// Why a file is not done. Where what is printed is not whole, memory was refused.
+fn fault_of(done: Result<(), Fault>, is_whole: bool) -> Option<Fault> {
+    match done {
+        Ok(()) if is_whole => None,
+        Ok(()) => Some(Fault::NoMemory),
+        Err(fault) => Some(fault),
+    }
+}
+
+fn tell(rt: &HostRuntime, path: &str, line: u64, fault: Fault) -> io::Result<()> {
+    let why = fault.text();
+    println!(rt; "{path}:{line}: {why}")
 }

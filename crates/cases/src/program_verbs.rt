@@ -1,9 +1,6 @@
 //! Lines that run the program over a stage, or a house that serves, and those that read words.
 
-use crate::fault::Fault;
-use crate::show::Lines;
-use crate::state::{State, show_book};
-use crate::tokens::{number, small};
+use case_lines::{Fault, Lines, State, number, show_book, small};
 use house_core::open_house;
 use house_serving::{ServeOut, serve_links};
 use mc_base::List;
@@ -85,11 +82,11 @@ fn serve(state: &mut State, args: &[&[u8]], out: &mut Lines) -> Result<(), Fault
         return Err(Fault::Arguments);
     };
     let links = small(links)?;
-    let stage = state.make_stage()?;
     let limits = state.limits;
     if !limits.are_in_range() {
         return Err(Fault::Value);
     }
+    let stage = state.make_stage()?;
     let (end, stage) = match open_house(state.alloc, stage, limits, Shelf::new(state.alloc)) {
         Ok(house) => served(serve_links(house, links)),
         Err(fault) => unopened(fault),
@@ -128,10 +125,13 @@ fn crash(state: &mut State, args: &[&[u8]], out: &mut Lines) -> Result<(), Fault
     let Some(stage) = state.stage.take() else {
         return Err(Fault::Missing);
     };
-    let before = Vec::from_slice(state.alloc, stage.contents())?;
+    let before = Vec::from_slice(state.alloc, stage.contents());
     let left = stage.crash(choice)?;
-    show_book("crash", &before, left.contents(), out);
-    state.setting.book = Vec::from_slice(state.alloc, left.contents())?;
+    let after = Vec::from_slice(state.alloc, left.contents());
+    drop(left);
+    let (before, after) = (before?, after?);
+    show_book("crash", &before, &after, out);
+    state.setting.book = after;
     Ok(())
 }
 

@@ -7,7 +7,7 @@ use Rattle.std.proofs.lemmas.List.Folds.{list_any-append}
 use Rattle.std.specs.Borrow.{Bor}
 use Rattle.scrip_form.specs.Identities.{numbered}
 use Rattle.change_issue.specs.Registers.{count_in}
-use Rattle.scrip_form.specs.Issuing.{Issuing}
+use Rattle.scrip_form.specs.Issuing.{Issuing, series_at}
 use Rattle.scrip_form.specs.Scrip.{Certified}
 use Rattle.scrip_form.specs.Reading.{scrip_of}
 use Rattle.mc_records.specs.declared.limits.Limits.{Limits}
@@ -168,8 +168,8 @@ goes_as_before is (AddTerms m terms) goes = tt
 goes_as_before is (Goods m target price k contents) goes = tt
 goes_as_before is (Accept m scrip target sign price change deed) goes = tt
 goes_as_before {old = old} {new = new} is (Mint m reference count value first) goes =
-    let series : series_now new ≡ series_now old = rw (is.issuer, is.time) refl in
-    let stand : count_in new.own (series_now new) ≡ count_in old.own (series_now old) = ap (count_in new.own) series ∙ is.issued (series_now old) in
+    let series : series_at new.own.terms m ≡ series_at old.own.terms m = ap (λ (t : Issuing). series_at t m) is.issuer in
+    let stand : count_in new.own (series_at new.own.terms m) ≡ count_in old.own (series_at old.own.terms m) = ap (count_in new.own) series ∙ is.issued (series_at old.own.terms m) in
     (goes.0 ∙ sym (ap₂ numbered series stand), omega (arith, goes.1, stand, is.most))
 goes_as_before is (Account m name key) goes = tt
 goes_as_before is (Deposit m name amount reference) goes = tt

@@ -7,7 +7,8 @@ use Rattle.mc_records.specs.Limits.{AreInRange}
 use Rattle.mc_records.specs.Entry.{House, HouseFits, SiteFits, Entry, Site, AddTerms, Goods, Accept, Mint, Account, Deposit, Withdraw, Draw, Licence, Stock, Got, Pend, Done, Refused}
 use Rattle.ledger_model.specs.Houses.{site_kind, terms_by}
 use Rattle.ledger_model.specs.Lawful.{MayFollow}
-use Rattle.house_core.specs.Learning.{MayLearn, GoodsFit}
+use Rattle.ledger_model.specs.Histories.{History}
+use Rattle.house_core.specs.Learning.{ByTrade, MayLearn, GoodsFit}
 use Rattle.house_core.specs.Books.{BooksView}
 use Rattle.house_core.specs.Founding.{AreOf, FoundsHouse}
 use Rattle.std.proofs.lemmas.List.Elements.{All-nil}
@@ -77,21 +78,12 @@ some_is a b e = cc
 
 pub learns_site : (limits : Limits) (kind : ℕ) (e : Entry) → FoundsHouse e → MayFollow limits [] e → site_kind (e ∷ []) ≡ Some kind → MayLearn limits kind 0 [] e
 learns_site limits kind (Site m k name (Some h)) fits may same = record { counted = refl; in_order = may.in_order; by_house = (refl, some_is k kind same) }
-learns_site limits kind (Site m k name None) fits may same = absurd fits
-learns_site limits kind (AddTerms m terms) fits may same = absurd fits
-learns_site limits kind (Goods m target price k contents) fits may same = absurd fits
-learns_site limits kind (Accept m scrip target sign price change deed) fits may same = absurd fits
-learns_site limits kind (Mint m reference count value first) fits may same = absurd fits
-learns_site limits kind (Account m name key) fits may same = absurd fits
-learns_site limits kind (Deposit m name amount reference) fits may same = absurd fits
-learns_site limits kind (Withdraw m name amount reference) fits may same = absurd fits
-learns_site limits kind (Draw m target sign drawn) fits may same = absurd fits
-learns_site limits kind (Licence m vendor terms) fits may same = absurd fits
-learns_site limits kind (Stock m vendor pieces) fits may same = absurd fits
-learns_site limits kind (Got m pieces) fits may same = absurd fits
-learns_site limits kind (Pend m ask peer target scrip secret) fits may same = absurd fits
-learns_site limits kind (Done m n price change got) fits may same = absurd fits
-learns_site limits kind (Refused m n refusal) fits may same = absurd fits
+learns_site limits kind e fits may same = absurd fits
+
+-- no trade refuses it
+pub founds_by_trade : (passes : History → Entry → Type 0) (kind : ℕ) (e : Entry) → FoundsHouse e → ByTrade passes kind [] e
+founds_by_trade passes kind (Site m k name (Some h)) founds = tt
+founds_by_trade passes kind e founds = absurd founds
 
 pub none_kept : (b : BooksView) (limits : Limits) (e : Entry) → AreOf b limits e → b.kept.replies ≡ []
 none_kept b limits (Site m kind name (Some h)) is = is.replies

@@ -8,16 +8,19 @@ use Rattle.mc_records.specs.Entry.{Entry, payload}
 use Rattle.mc_records.specs.Sizes.{size, entry_size}
 use Rattle.scrip_journal.specs.States.{AtRest, IsJournal}
 use Rattle.scrip_journal.specs.Rests.{journal_leaves}
-use Rattle.scrip_journal.specs.Exits.{StandsQuiet, EitherQuiet}
+use Rattle.scrip_journal.specs.Exits.{staged_disk, StandsQuiet, EitherQuiet}
+use Rattle.scrip_journal.specs.declared.journal.StageFault.{StageFault}
+use Rattle.scrip_journal.specs.declared.journal.StageFault.TheVariants.{Full, Disk}
 use Rattle.mc_records.specs.declared.limits.Limits.{Limits}
 use Rattle.ledger_model.specs.Histories.{History}
+use Rattle.house_core.specs.declared.bench.Bench.{Bench}
 use Rattle.house_core.specs.declared.house.House.{House}
 use Rattle.house_core.specs.declared.verdict.Acceptance.{Acceptance}
 use Rattle.house_core.specs.Books.{BooksView}
 use Rattle.house_core.specs.Stands.{Stands}
 use Rattle.house_core.specs.Verdicts.{accept_entry, stop_of, IsReady}
 use Rattle.house_core.specs.Bench.{Holds, HasContents, IsRoomed, limits_of}
-use Rattle.house_core.specs.House.{StandsFor, IsAsItWas, HasEntered, Accepted, Leaves, Refuses}
+use Rattle.house_core.specs.House.{StandsFor, IsAsItWas, HasEntered, Accepted, Leaves, Refuses, written_disk}
 use Rattle.house_core.specs.declared.outcome.Outcome.TheVariants.{Refused}
 use Rattle.house_core.specs.declared.verdict.Stopped.{Stopped}
 use Rattle.house_core.specs.declared.verdict.Stopped.TheVariants as stops
@@ -33,6 +36,12 @@ ran_written a b d h e goes first then' =
     ran_then a b d (EitherQuiet h e a.aside) (ran_weaker a b (StandsQuiet h a.aside) (EitherQuiet h e a.aside) first (λ c s quiet. (inl quiet.0, quiet.1)))
     (subst (λ (x : List ℕ). Ran b d (EitherQuiet h e x)) goes.aside then')
 
+-- it was not staged
+pub ran_unstaged : {D : Type 0} (view : D → DiskView) (a : DiskView) (h : List Entry) (e : Entry) (aside : List ℕ) (f : StageFault D)
+    → Ran a (view (staged_disk (Err f))) (StandsQuiet h aside) → Ran a (view (written_disk (Err f))) (EitherQuiet h e aside)
+ran_unstaged view a h e aside (Full j) ran = ran_weaker a (view j.disk) _ _ ran (λ c s quiet. (inl quiet.0, quiet.1))
+ran_unstaged view a h e aside (Disk d) ran = ran_weaker a (view d) _ _ ran (λ c s quiet. (inl quiet.0, quiet.1))
+
 -- nothing was written
 pub ran_nothing : {D : Type 0} (view : D → DiskView) (j : AtRest D) (d : D) (h : List Entry) → IsDisk (view j.disk) → IsJournal view j h → d ≡ j.disk → Ran (view j.disk) (view d) (StandsQuiet h (view j.disk).aside)
 ran_nothing {D = D} view j d h disk is same =
@@ -40,6 +49,15 @@ ran_nothing {D = D} view j d h disk is same =
     (ran_none (view j.disk) (StandsQuiet h (view j.disk).aside) disk (λ c leaves. (journal_leaves view j h is c leaves, refl)))
 
 -- ---- the house
+
+-- the bench is another one that stands for the history, too
+pub stands_with : {D T : Type 0} (view : D → DiskView) (stands : T → History → Type 0) (site : T → ℕ) (holds : T → ℕ → Type 0) (x : House D T) (b : Bench T) (h : History)
+    → StandsFor view stands site holds x h → Holds stands site b h → HasContents holds b h → limits_of b ≡ limits_of x.bench → StandsFor {D = D} {T = T} view stands site holds (record { journal = x.journal; bench = b }) h
+stands_with view stands site holds x b h st has contents limits = record {
+  journal = st.journal;
+  house = record { stands' = has; contents = contents };
+  limit = st.limit ∙ ap (λ (l : Limits). l.journal) (sym limits);
+}
 
 -- room was made
 pub stands_roomed : {D T : Type 0} (view : D → DiskView) (stands : T → History → Type 0) (site : T → ℕ) (holds : T → ℕ → Type 0) (x y : House D T) (h : History)
@@ -61,20 +79,17 @@ as_roomed {D = D} view stands site holds x y h same roomed st = record {
 }
 
 -- an entry was written and entered
-pub has_entered : {D T : Type 0} (view : D → DiskView) (stands : T → History → Type 0) (site : T → ℕ) (holds : T → ℕ → Type 0) (x y : House D T) (h : History) (e f : Entry) (number receipt : ℕ) → f ≡ e
-    → StandsFor view stands site holds x h → IsJournal view y.journal (h ++ f ∷ []) × (receipt ≡ length h) → y.journal.limit ≡ x.journal.limit → limits_of y.bench ≡ limits_of x.bench
-    → (number ≡ length h) × Holds stands site y.bench (h ++ e ∷ []) → HasContents holds y.bench (h ++ e ∷ []) → HasEntered view stands site holds y h e receipt × (receipt ≡ number)
-has_entered view stands site holds x y h e f number receipt same st written limit limits entered contents = (
-  record {
-    stands' = record {
-      journal = subst (λ (g : Entry). IsJournal view y.journal (h ++ g ∷ [])) same written.0;
-      house = record { stands' = entered.1; contents = contents };
-      limit = limit ∙ st.limit ∙ ap (λ (l : Limits). l.journal) (sym limits);
-    };
-    number' = written.1;
-  },
-  written.1 ∙ sym entered.0,
-)
+pub has_entered : {D T : Type 0} (view : D → DiskView) (stands : T → History → Type 0) (site : T → ℕ) (holds : T → ℕ → Type 0) (x y : House D T) (h : History) (e f : Entry) (number : ℕ) → f ≡ e
+    → StandsFor view stands site holds x h → IsJournal view y.journal (h ++ f ∷ []) → y.journal.limit ≡ x.journal.limit → limits_of y.bench ≡ limits_of x.bench
+    → number ≡ length h → Holds stands site y.bench (h ++ e ∷ []) → HasContents holds y.bench (h ++ e ∷ []) → HasEntered view stands site holds y h e number
+has_entered view stands site holds x y h e f number same st written limit limits counted entered contents = record {
+  stands' = record {
+    journal = subst (λ (g : Entry). IsJournal view y.journal (h ++ g ∷ [])) same written;
+    house = record { stands' = entered; contents = contents };
+    limit = limit ∙ st.limit ∙ ap (λ (l : Limits). l.journal) (sym limits);
+  };
+  number' = counted;
+}
 
 -- the entry of an acceptance that has room fits the journal
 pub not_full : (b : BooksView) (h : History) (c : Certified) (target : List ℕ) (a : Acceptance) (limit : ℕ) (f : Entry) → Stands b h → IsReady b c target a
@@ -94,7 +109,7 @@ pub not_accepted : {D T : Type 0} (view : D → DiskView) (stands : T → Histor
 not_accepted view stands site holds x h a (stops.Refused g) f same e st =
     subst (λ (b : Answer). Accepted view stands site holds x.journal.disk h b (Refused x f)) e (same, as_it_stood view stands site holds x h st)
 not_accepted view stands site holds x h a (stops.Again n) f same e st =
-    subst (λ (b : Answer). Accepted view stands site holds x.journal.disk h b (Refused x f)) e (as_it_stood view stands site holds x h st)
+    subst (λ (b : Answer). Accepted view stands site holds x.journal.disk h b (Refused x f)) e (same, as_it_stood view stands site holds x h st)
 
 pub ran_refused : {D T : Type 0} (A : Type 0) (u v : DiskView) (a : Answer) (x : House D T) (f : Refusal) (h : History) (aside : List ℕ) → Ran u v (StandsQuiet h aside) → Ran u v (Leaves {D = D} {T = T} {A = A} a (Refused x f) h aside)
 ran_refused A u v (answers.Refused g) x f h aside ran = ran

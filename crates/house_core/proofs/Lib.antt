@@ -15,5 +15,6 @@ pub mod Refused
 pub mod FirstReply
 pub mod Said
 pub mod HouseDisk
+pub mod Beginnings
 pub mod OpeningLemmas
 pub mod FoundLemmas

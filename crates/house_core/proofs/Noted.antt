@@ -27,7 +27,7 @@ use Rattle.ledger_model.proofs.FollowLaws.{longer_lawful, size_snoc}
 use Rattle.house_core.specs.Learning.{ByHouse, ByTrade, GoodsFit}
 use Rattle.house_core.specs.Noting.{IsCommand}
 use Rattle.house_core.specs.Spent.{SpentView, is_marked}
-use Rattle.house_core.specs.Books.{BooksView, IsNoted, GoesOn, series_now, at_series, minted_count}
+use Rattle.house_core.specs.Books.{BooksView, IsNoted, GoesOn, at_series, minted_count}
 use Rattle.house_core.specs.Stands.{Stands, IsReply, has_ended, scrip_request, of_series}
 use Rattle.house_core.proofs.Tabled.{series_stands}
 use Rattle.house_core.proofs.Replied.{reply_kept}
@@ -97,7 +97,7 @@ minted_counted h b (Site m kind name house) s is on most = absurd is
 minted_counted h b (AddTerms m terms) s is on most = refl
 minted_counted h b (Goods m target price k contents) s is on most = refl
 minted_counted h b (Accept m scrip target sign price change deed) s is on most = absurd is
-minted_counted h b (Mint m reference count value first) s is on most = minted_by h value (series_now b) (count_in b.own (series_now b)) count first s on.0 (omega (arith, on.1, most))
+minted_counted h b (Mint m reference count value first) s is on most = minted_by h value (series_at b.own.terms m) (count_in b.own (series_at b.own.terms m)) count first s on.0 (omega (arith, on.1, most))
 minted_counted h b (Account m name key) s is on most = refl
 minted_counted h b (Deposit m name amount reference) s is on most = refl
 minted_counted h b (Withdraw m name amount reference) s is on most = refl
@@ -126,26 +126,26 @@ own_count_more h b e s is on most =
 
 -- ---- the halves of what makes it lawful
 
-pub house_half : {b : BooksView} {h : History} → Stands b h → (kind : ℕ) (e : Entry) → IsCommand e → moment_of e ≡ b.time → GoesOn b e ↔ ByHouse b.limits kind h e
-house_half st kind (Site m k name house) is at = absurd is
-house_half st kind (AddTerms m terms) is at = (λ g. g, λ g. g)
-house_half st kind (Goods m target price k contents) is at = (λ g. g, λ g. g)
-house_half st kind (Accept m scrip target sign price change deed) is at = absurd is
-house_half {b = b} {h = h} st kind (Mint m reference count value first) is at =
-    let series : own_series h m ≡ series_now b = series_stands st m ∙ ap (series_at b.own.terms) at in
-    let stand : own_count h (own_series h m) ≡ count_in b.own (series_now b) = ap (own_count h) series ∙ st.issued (series_now b) in
-    let next : next_identity h (own_series h m) ≡ next_in b.own (series_now b) = ap₂ numbered series stand in
+pub house_half : {b : BooksView} {h : History} → Stands b h → (kind : ℕ) (e : Entry) → IsCommand e → GoesOn b e ↔ ByHouse b.limits kind h e
+house_half st kind (Site m k name house) is = absurd is
+house_half st kind (AddTerms m terms) is = (λ g. g, λ g. g)
+house_half st kind (Goods m target price k contents) is = (λ g. g, λ g. g)
+house_half st kind (Accept m scrip target sign price change deed) is = absurd is
+house_half {b = b} {h = h} st kind (Mint m reference count value first) is =
+    let series : own_series h m ≡ series_at b.own.terms m = series_stands st m in
+    let stand : own_count h (own_series h m) ≡ count_in b.own (series_at b.own.terms m) = ap (own_count h) series ∙ st.issued (series_at b.own.terms m) in
+    let next : next_identity h (own_series h m) ≡ next_in b.own (series_at b.own.terms m) = ap₂ numbered series stand in
     (λ g. (g.0 ∙ sym next, omega (arith, g.1, stand, st.most)), λ f. (f.0 ∙ next, omega (arith, f.1, stand, st.most)))
-house_half st kind (Account m name key) is at = (λ g. g, λ g. g)
-house_half st kind (Deposit m name amount reference) is at = (λ g. g, λ g. g)
-house_half st kind (Withdraw m name amount reference) is at = (λ g. g, λ g. g)
-house_half st kind (Draw m target sign drawn) is at = absurd is
-house_half st kind (Licence m vendor terms) is at = (λ g. g, λ g. g)
-house_half st kind (Stock m vendor pieces) is at = (λ g. g, λ g. g)
-house_half st kind (Got m pieces) is at = (λ g. g, λ g. g)
-house_half st kind (Pend m ask peer target scrip secret) is at = (λ g. g, λ g. g)
-house_half st kind (Done m n price change got) is at = (λ g. g, λ g. g)
-house_half st kind (Refused m n refusal) is at = (λ g. g, λ g. g)
+house_half st kind (Account m name key) is = (λ g. g, λ g. g)
+house_half st kind (Deposit m name amount reference) is = (λ g. g, λ g. g)
+house_half st kind (Withdraw m name amount reference) is = (λ g. g, λ g. g)
+house_half st kind (Draw m target sign drawn) is = absurd is
+house_half st kind (Licence m vendor terms) is = (λ g. g, λ g. g)
+house_half st kind (Stock m vendor pieces) is = (λ g. g, λ g. g)
+house_half st kind (Got m pieces) is = (λ g. g, λ g. g)
+house_half st kind (Pend m ask peer target scrip secret) is = (λ g. g, λ g. g)
+house_half st kind (Done m n price change got) is = (λ g. g, λ g. g)
+house_half st kind (Refused m n refusal) is = (λ g. g, λ g. g)
 
 vendor_by : (h : History) (kind : ℕ) → site_kind h ≡ Some kind → is_vendor h ≡ eqb kind 0
 vendor_by h kind same = ap (λ (k : Option ℕ). unwrap_or (option_map (λ n. n == 0) k) false) same
@@ -208,7 +208,7 @@ live_by : (o more : Option Issuing) (id t : ℕ) → unwrap_or (option_map (λ x
 live_by None more id t live = refl
 live_by (Some x) more id t live = live
 
-pub stands_noted : {old new : BooksView} {h : History} → Stands old h → (e : Entry) (bytes : ℕ) → IsCommand e → moment_of e ≡ old.time → GoesOn old e → MayFollow old.limits h e → bytes ≡ length (payload e)
+pub stands_noted : {old new : BooksView} {h : History} → Stands old h → (e : Entry) (bytes : ℕ) → IsCommand e → moment_of e ≤ old.time → GoesOn old e → MayFollow old.limits h e → bytes ≡ length (payload e)
     → IsNoted old new e bytes → Stands new (h ++ e ∷ [])
 stands_noted {old = old} {new = new} {h = h} st e bytes command at goes may len is =
     let same = same_house old.limits h e st.lawful in

@@ -24,7 +24,8 @@ use Rattle.house_core.specs.declared.bench.Bench.{Bench}
 use Rattle.house_core.specs.Bench.{HasContents, Replays, limits_of}
 use Rattle.house_core.specs.declared.opening.Halt.{Halt}
 use Rattle.house_core.specs.declared.opening.Halt.TheVariants as halts
-use Rattle.house_core.specs.Opening.{IsOfKind, BeginsWithEntries, SpoilsAt, IsUnlawfulAt, HaltsBy, FoundsBy, ReadOn, Learned, LearnedSome, LearnedAll}
+use Rattle.house_core.specs.Opening.{IsOfKind, IsOfOtherKind, BeginsWithEntries, SpoilsAt, IsUnlawfulAt, HaltsBy, FoundsBy, ReadOn, Learned, LearnedSome, LearnedAll}
+use Rattle.house_core.proofs.Beginnings.{first_tells, kind_tells, empty_tells}
 use Rattle.house_core.proofs.Entered.{kind_stays, time_snoc}
 
 abbrev some : {A : Type 0} → A → Option A
@@ -88,15 +89,19 @@ module _ {D T : Type 0} (view : D → DiskView) (stands : T → History → Type
   )
 
   pub breaks_here : (place : ℕ) (f : Entry) → OnlyRead (view old.disk) (view new.disk) → place ≡ old.gate → IsReading view new (h ++ f ∷ []) → (MayFollow (limits_of b) h f → ⊥) → IsUnlawfulAt (limits_of b) kind x place
-  breaks_here place f read at is breaks = inr (record {
-    before = h;
-    next = f;
-    follow = all_follow (limits_of b) h l.house.stands'.books.lawful;
-    of_kind = kind_of_first kind h l.of_kind;
-    begins = begins_so view new (h ++ f ∷ []) x is (read.contents ∙ told);
-    place_is = omega (arith, at, l.reading.gate_is);
-    breaks = breaks;
-  })
+  breaks_here place f read at is breaks =
+      let begins = begins_so view new (h ++ f ∷ []) x is (read.contents ∙ told) in (
+        λ other. kind_tells kind (h ++ f ∷ []) x (kind_stays (limits_of b) h f l.house.stands'.books.lawful ∙ l.of_kind) begins other,
+        inr (record {
+          before = h;
+          next = f;
+          follow = all_follow (limits_of b) h l.house.stands'.books.lawful;
+          of_kind = kind_of_first kind h l.of_kind;
+          begins = begins;
+          place_is = omega (arith, at, l.reading.gate_is);
+          breaks = breaks;
+        }),
+      )
 
 -- one stretch of a reading after another
 pub read_on_then : {D : Type 0} (view : D → DiskView) (moved : D → D → Type 0) (a b c : Reading D) → moved a.disk c.disk → ReadOn view moved a b → ReadOn view moved b c → ReadOn view moved a c
@@ -106,7 +111,9 @@ read_on_then view moved a b c goes m n = record { disk_moved = goes; only_read =
 
 module _ {D : Type 0} (view : D → DiskView) (limits : Limits) (kind : ℕ) (x : List ℕ) (old new : Reading D) (told : (view old.disk).contents ≡ Some x) (r : IsReading view old []) where
   pub no_entries : ReadsOn view [] r.bytes old.gate (Ok None) new → IsUnlawfulAt limits kind x 8
-  no_entries reads = inl (subst (layout.Stands []) (bytes_told view old [] x r told) reads.0, refl)
+  no_entries reads =
+      let stands : layout.Stands [] x = subst (layout.Stands []) (bytes_told view old [] x r told) reads.0 in
+      (λ other. empty_tells kind x stands other, inl (stands, refl))
 
   pub spoils_first : (place : ℕ) → ReadsOn view [] r.bytes old.gate (Err (BadRecord place)) new → SpoilsAt limits kind x place
   spoils_first place reads = record {
@@ -121,35 +128,33 @@ module _ {D T : Type 0} (view : D → DiskView) (stands : T → History → Type
   pub first_learned : (result : Result (Bench T) Halt) → FoundsBy stands site holds limits kind e result → MatchResult result (LearnedSome view stands site holds kind new) (HaltsBy limits kind x)
   first_learned (Ok b) founds = (e ∷ [], record { reading = is; house = founds.house; of_kind = founds.of_kind; time' = founds.time' })
   first_learned (Err (halts.BadRecord place)) founds = absurd founds
-  first_learned (Err (halts.Unlawful place)) founds = inr (record {
-    before = [];
-    next = e;
-    follow = tt;
-    of_kind = tt;
-    begins = begins_so view new (e ∷ []) x is (read.contents ∙ told);
-    place_is = omega (arith, founds.0);
-    breaks = founds.1;
-  })
+  first_learned (Err (halts.Unlawful place)) founds =
+      let begins = begins_so view new (e ∷ []) x is (read.contents ∙ told) in (
+        λ other. first_tells kind e [] x begins founds.2 other,
+        inr (record {
+          before = [];
+          next = e;
+          follow = tt;
+          of_kind = tt;
+          begins = begins;
+          place_is = omega (arith, founds.0);
+          breaks = founds.1;
+        }),
+      )
   first_learned (Err halts.WrongKind) founds = record { first = e; other = founds; begins = begins_so view new (e ∷ []) x is (read.contents ∙ told) }
   first_learned (Err halts.Disk) founds = absurd founds
   first_learned (Err halts.NoMemory) founds = tt
 
--- no entry but a Site entry comes first
-pub no_other_first : (limits : Limits) (r : Record) → ((m kind : ℕ) (name : Bor (List ℕ)) (house : Option SiteTerms) → r ≡ records.Site m kind name house → ⊥) → MayFollow limits [] (entry r) → ⊥
-no_other_first limits (records.Site m kind name house) other may = other m kind name house refl
-no_other_first limits (records.Terms m terms) other may = absurd (cc may.allowed.0)
-no_other_first limits (records.Goods m target price kind contents) other may = absurd (cc may.allowed.0)
-no_other_first limits (records.Accept m scrip target sign price change deed) other may =
-    let t = accept_through limits [] m scrip.now target.now sign price change (deed_of deed) may.allowed in
-    absurd (cc t.is_offered)
-no_other_first limits (records.Mint m reference count value first) other may = absurd (cc may.allowed.0)
-no_other_first limits (records.Account m name key) other may = may.allowed
-no_other_first limits (records.Deposit m name amount reference) other may = may.allowed
-no_other_first limits (records.Withdraw m name amount reference) other may = may.allowed
-no_other_first limits (records.Draw m target sign drawn) other may = may.allowed
-no_other_first limits (records.Licence m vendor terms) other may = may.allowed
-no_other_first limits (records.Stock m vendor pieces) other may = may.allowed
-no_other_first limits (records.Got m pieces) other may = may.allowed
-no_other_first limits (records.Pend m ask peer target scrip secret) other may = may.allowed
-no_other_first limits (records.Done m number price change got) other may = may.allowed
-no_other_first limits (records.Refused m number refusal) other may = may.allowed
+-- no entry but a Site entry comes first, or is of a kind of site
+pub no_other_first : (limits : Limits) (kind : ℕ) (r : Record) → ((m k : ℕ) (name : Bor (List ℕ)) (house : Option SiteTerms) → r ≡ records.Site m k name house → ⊥) → (MayFollow limits [] (entry r) → ⊥) × (IsOfOtherKind kind (entry r) → ⊥)
+no_other_first limits kind (records.Site m k name house) other = absurd (other m k name house refl)
+no_other_first limits kind (records.Terms m terms) other = (λ may. absurd (cc may.allowed.0), λ o. o)
+no_other_first limits kind (records.Goods m target price k contents) other = (λ may. absurd (cc may.allowed.0), λ o. o)
+no_other_first limits kind (records.Accept m scrip target sign price change deed) other = (
+  λ may.
+      let t = accept_through limits [] m scrip.now target.now sign price change (deed_of deed) may.allowed in
+      absurd (cc t.is_offered),
+  λ o. o,
+)
+no_other_first limits kind (records.Mint m reference count value first) other = (λ may. absurd (cc may.allowed.0), λ o. o)
+no_other_first limits kind r other = (λ may. may.allowed, λ o. o)

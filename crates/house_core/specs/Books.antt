@@ -151,9 +151,9 @@ HasRoomFor b (AddTerms m terms) = 0 < b.terms_room
 HasRoomFor b (Mint m reference count value first) = IsTrue (has_room b.own (series_of first))
 HasRoomFor b _ = Unit {0}
 
--- minted pieces go on with the serials of the house time's series, and fit the limit of it
+-- minted pieces go on with the serials of the series of their moment, and fit the limit of it
 abbrev pub GoesOn : BooksView → Entry → Type 0
-GoesOn b (Mint m reference count value first) = (first ≡ next_in b.own (series_now b)) × (count_in b.own (series_now b) + count ≤ b.own.most)
+GoesOn b (Mint m reference count value first) = (first ≡ next_in b.own (series_at b.own.terms m)) × (count_in b.own (series_at b.own.terms m) + count ≤ b.own.most)
 GoesOn b _ = Unit {0}
 
 -- the books before and after an entry that accepts nothing, with a payload of so many bytes, was entered

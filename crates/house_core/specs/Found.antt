@@ -39,10 +39,14 @@ FoundsHouseBy view stands site holds limits e bytes (Err (Disk d)) = Unit {0}
 FoundsHouseBy view stands site holds limits e bytes (Err (NoMemory d)) = Unit {0}
 FoundsHouseBy view stands site holds limits e bytes (Err _) = ⊥
 
--- the count of faults rose where the disk failed, and stayed else
+-- The count of faults rose where the disk failed, and stayed else. No other fault comes but that the disk
+-- has bytes already and that memory is refused.
 abbrev pub CountsBy : {D A : Type 0} → Result A (HouseFault D) → ℕ → ℕ → Type 0
+CountsBy (Ok x) before after = after ≡ before
+CountsBy (Err (NotEmpty d count)) before after = after ≡ before
+CountsBy (Err (NoMemory d)) before after = after ≡ before
 CountsBy (Err (Disk d)) before after = Rose before after
-CountsBy _ before after = after ≡ before
+CountsBy (Err _) before after = ⊥
 
 -- nothing is written where the disk is taken or memory is refused
 abbrev pub ReadsOnly : {D A : Type 0} → (D → DiskView) → D → Result A (HouseFault D) → Type 0
@@ -55,9 +59,14 @@ ReadsOnly view disk _ = Unit {0}
 abbrev pub ShortQuiet : DiskView → List ℕ → List ℕ → Type 0
 ShortQuiet before c s = ((length c ≤ 9) ⊎ before.leaves c) × (s ≡ before.aside)
 
--- the same, or an image that stands for no entries or for this one alone
+-- an image of at most nine bytes, or one that a crash before could have left, or one that stands for no
+-- entries or for this one alone
+abbrev pub FoundImage : DiskView → Entry → List ℕ → Type 0
+FoundImage before e c = ((length c ≤ 9) ⊎ before.leaves c) ⊎ (layout.Stands [] c ⊎ layout.Stands (e ∷ []) c)
+
+-- a crash pair of such an image, with nothing sent
 abbrev pub FoundQuiet : DiskView → Entry → List ℕ → List ℕ → Type 0
-FoundQuiet before e c s = (((length c ≤ 9) ⊎ before.leaves c) ⊎ (layout.Stands [] c ⊎ layout.Stands (e ∷ []) c)) × (s ≡ before.aside)
+FoundQuiet before e c s = FoundImage before e c × (s ≡ before.aside)
 
 -- ---- its steps
 
@@ -82,7 +91,7 @@ ClearsFree view bytes (Err (Disk d)) = Unit {0}
 ClearsFree view bytes (Err (NoMemory d)) = Unit {0}
 ClearsFree view bytes (Err _) = ⊥
 
--- the entry stands in the journal, or the disk failed
+-- the entry stands in the journal, or the disk failed and no other fault came
 abbrev pub EntersSite : {D T : Type 0} → (D → DiskView) → (T → History → Type 0) → (T → ℕ) → (T → ℕ → Type 0) → Entry → Result (House D T) (HouseFault D) → Type 0
 EntersSite view stands site holds e (Ok x) = StandsFor view stands site holds x (e ∷ [])
 EntersSite view stands site holds e (Err (Disk d)) = Unit {0}

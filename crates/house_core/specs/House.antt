@@ -1,14 +1,15 @@
 -- A house over a journal.
 use Rattle.std.proofs.Common.{◌∙◌}
-use Rattle.std.specs.Prelude.{◌≡◌, refl, ℕ, ◌+◌, ◌<◌, ◌≤◌, List, [], ◌∷◌, ◌++◌, length, Result, Ok, Err}
+use Rattle.std.specs.Prelude.{◌≡◌, refl, ℕ, ◌+◌, ◌<◌, ◌≤◌, max, List, [], ◌∷◌, ◌++◌, length, Result, Ok, Err}
 use Rattle.mc_outside.specs.Bytes.{Rose, BeginsWith}
 use Rattle.mc_outside.specs.DiskView.{DiskView}
 use Rattle.mc_records.specs.declared.limits.Limits.{Limits}
 use Rattle.mc_records.specs.Entry.{Entry}
 use Rattle.mc_records.specs.declared.refusal.Refusal.{Refusal}
-use Rattle.mc_records.specs.declared.refusal.Refusal.TheVariants.{SeriesFull}
+use Rattle.mc_records.specs.declared.refusal.Refusal.TheVariants.{SeriesFull, Spent}
 use Rattle.ledger_model.specs.Histories.{History}
 use Rattle.ledger_model.specs.Houses.{own_series}
+use Rattle.ledger_model.specs.Lawful.{MayFollow}
 use Rattle.ledger_model.specs.Lines.{Refuse}
 use Rattle.ledger_model.specs.Pieces.{own_count, next_identity}
 use Rattle.ledger_model.specs.Answer as answers
@@ -25,7 +26,7 @@ use Rattle.house_core.specs.declared.house.House.{House}
 use Rattle.house_core.specs.declared.settled.Settled.{Settled}
 use Rattle.house_core.specs.declared.outcome.Outcome.{Outcome}
 use Rattle.house_core.specs.declared.outcome.Outcome.TheVariants.{Done, Refused, NoMemory, Halted}
-use Rattle.house_core.specs.Bench.{IsHouse, KeepsReply, house_time, limits_of}
+use Rattle.house_core.specs.Bench.{IsHouse, house_time, limits_of}
 
 -- The journal and the bench stand for the history, and the journal has the house's limit.
 pub record StandsFor {D T : Type 0} (view : D → DiskView) (stands : T → History → Type 0) (site : T → ℕ) (holds : T → ℕ → Type 0) (x : House D T) (h : History) : Type 0 where
@@ -72,6 +73,13 @@ IfRefused P (Refused x f) = P f
 IfRefused P (NoMemory x) = Unit {0}
 IfRefused P (Halted d) = Unit {0}
 
+-- P of the house and of what was answered, where it is done
+abbrev pub IfDone : {D T A : Type 0} → (House D T → A → Type 0) → Outcome D T A → Type 0
+IfDone P (Done x a) = P x a
+IfDone P (Refused x f) = Unit {0}
+IfDone P (NoMemory x) = Unit {0}
+IfDone P (Halted d) = Unit {0}
+
 -- the count of the disk's faults rose where the house halted, and stayed else
 abbrev pub CountsFaults : {D T A : Type 0} → Outcome D T A → ℕ → ℕ → Type 0
 CountsFaults (Halted d) before after = Rose before after
@@ -80,6 +88,11 @@ CountsFaults _ before after = after ≡ before
 -- the house has the time and the limits of this one
 pub record KeepsTime {D T : Type 0} (old new : House D T) : Type 0 where
   pub time : house_time new.bench ≡ house_time old.bench
+  pub limits : limits_of new.bench ≡ limits_of old.bench
+
+-- the same, but for the house time, which was raised to this moment where that is later
+pub record RaisedTo {D T : Type 0} (moment : ℕ) (old new : House D T) : Type 0 where
+  pub time : house_time new.bench ≡ max (house_time old.bench) moment
   pub limits : limits_of new.bench ≡ limits_of old.bench
 
 -- the house stands for the history, and its disk was not touched
@@ -92,23 +105,23 @@ pub record HasEntered {D T : Type 0} (view : D → DiskView) (stands : T → His
   pub stands' : StandsFor view stands site holds x (h ++ e ∷ [])
   pub number' : number ≡ length h
 
--- Of a request with this answer: its entry is on the disk and entered, and its reply is kept; or memory
--- was refused for it, or the disk failed; a refusal is that of the answer. A request that comes again is not for this call: it
--- is refused, and the house stays as it was.
+-- Of a request with this answer: its entry is on the disk and entered; or memory was refused for it, or
+-- the disk failed; a refusal is that of the answer. A request that comes again is not for this call: it is
+-- refused as one whose piece is spent, and the house stays as it was.
 abbrev pub Accepted : {D T : Type 0} → (D → DiskView) → (T → History → Type 0) → (T → ℕ) → (T → ℕ → Type 0) → D → History → Answer → Outcome D T Settled → Type 0
-Accepted view stands site holds disk h (answers.Take e) (Done x s) = HasEntered view stands site holds x h e s.receipt × KeepsReply x.bench s.receipt
+Accepted view stands site holds disk h (answers.Take e) (Done x s) = HasEntered view stands site holds x h e s.number
 Accepted view stands site holds disk h (answers.Take e) (NoMemory x) = IsAsItWas view stands site holds disk x h
 Accepted view stands site holds disk h (answers.Take e) (Halted d) = Rose (view disk).faults (view d).faults
 Accepted view stands site holds disk h (answers.Refused f) (Refused x g) = (g ≡ f) × IsAsItWas view stands site holds disk x h
-Accepted view stands site holds disk h (answers.Again n) (Refused x g) = IsAsItWas view stands site holds disk x h
+Accepted view stands site holds disk h (answers.Again n) (Refused x g) = (g ≡ Spent) × IsAsItWas view stands site holds disk x h
 Accepted view stands site holds disk h _ _ = ⊥
 
--- of an entry by a command, likewise
+-- Of an entry by a command, likewise. One that is in doubt since the disk failed may follow.
 abbrev pub Entered : {D T : Type 0} → (D → DiskView) → (T → History → Type 0) → (T → ℕ) → (T → ℕ → Type 0) → Limits → D → History → Entry → Outcome D T ℕ → Type 0
 Entered view stands site holds limits disk h e (Done x n) = HasEntered view stands site holds x h e n
 Entered view stands site holds limits disk h e (Refused x f) = (fitted h limits e ≡ Err (Refuse f)) × IsAsItWas view stands site holds disk x h
 Entered view stands site holds limits disk h e (NoMemory x) = IsAsItWas view stands site holds disk x h
-Entered view stands site holds limits disk h e (Halted d) = Rose (view disk).faults (view d).faults
+Entered view stands site holds limits disk h e (Halted d) = MayFollow limits h e × Rose (view disk).faults (view d).faults
 
 -- The crash pairs of a call: with the new entry or without it where one was written, else with the
 -- entries as they were; and nothing was sent.
@@ -122,10 +135,10 @@ Leaves _ _ h aside c s = StandsQuiet h aside c s
 abbrev pub SendsOn : History → List ℕ → List ℕ → List ℕ → List ℕ → Type 0
 SendsOn h before after c s = Stands h c × (BeginsWith before s × BeginsWith s after)
 
--- a refusal is that of what stopped a request, where it is refused
+-- a refusal is that of what stopped a request; one that comes again is refused as one whose piece is spent
 abbrev pub Refuses : Refusal → Stopped → Type 0
 Refuses f (stops.Refused g) = f ≡ g
-Refuses f (stops.Again n) = Unit {0}
+Refuses f (stops.Again n) = f ≡ Spent
 
 -- ---- while links work
 

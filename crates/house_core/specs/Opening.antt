@@ -79,16 +79,16 @@ pub record BreaksAt (limits : Limits) (kind : ℕ) (bytes : List ℕ) (place : �
   pub place_is : place + 1 ≡ size before
   pub breaks : MayFollow limits before next → ⊥
 
--- The first entry that may not follow is behind the gate at this place. A book without entries breaks at
--- its only gate.
-abbrev pub IsUnlawfulAt : Limits → ℕ → List ℕ → ℕ → Type 0
-IsUnlawfulAt limits kind bytes place = (layout.Stands [] bytes × (place ≡ 8)) ⊎ BreaksAt limits kind bytes place
-
 -- the book is that of a site of another kind
 pub record IsOfOther (kind : ℕ) (bytes : List ℕ) : Type 0 where
   pub first : Entry
   pub other : IsOfOtherKind kind first
   pub begins : BeginsWithEntries (first ∷ []) bytes
+
+-- The first entry that may not follow is behind the gate at this place, in a book that is of no site of
+-- another kind. A book without entries breaks at its only gate.
+abbrev pub IsUnlawfulAt : Limits → ℕ → List ℕ → ℕ → Type 0
+IsUnlawfulAt limits kind bytes place = (IsOfOther kind bytes → ⊥) × ((layout.Stands [] bytes × (place ≡ 8)) ⊎ BreaksAt limits kind bytes place)
 
 -- The bytes stand for a history, and the house for it too, at the time of the history.
 pub record OpenedFor {D T : Type 0} (view : D → DiskView) (stands : T → History → Type 0) (site : T → ℕ) (holds : T → ℕ → Type 0) (limits : Limits) (bytes : List ℕ) (x : House D T) : Type 0 where
@@ -163,7 +163,7 @@ pub record IsFoundedBy {T : Type 0} (stands : T → History → Type 0) (site : 
 abbrev pub FoundsBy : {T : Type 0} → (T → History → Type 0) → (T → ℕ) → (T → ℕ → Type 0) → Limits → ℕ → Entry → Result (Bench T) Halt → Type 0
 FoundsBy stands site holds limits kind e (Ok b) = IsFoundedBy stands site holds limits kind e b
 FoundsBy stands site holds limits kind e (Err (halts.BadRecord place)) = ⊥
-FoundsBy stands site holds limits kind e (Err (halts.Unlawful place)) = (place ≡ 8) × (MayFollow limits [] e → ⊥)
+FoundsBy stands site holds limits kind e (Err (halts.Unlawful place)) = (place ≡ 8) × (MayFollow limits [] e → ⊥) × (IsOfOtherKind kind e → ⊥)
 FoundsBy stands site holds limits kind e (Err halts.WrongKind) = IsOfOtherKind kind e
 FoundsBy stands site holds limits kind e (Err halts.Disk) = ⊥
 FoundsBy stands site holds limits kind e (Err halts.NoMemory) = Unit {0}

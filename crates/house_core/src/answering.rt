@@ -1,6 +1,6 @@
 //! What a house says to a request, and its reply.
 
-ghost use Rattle.std.specs.Prelude.{◌≡◌, ◌↔◌, IsTrue, IfOk, IfErr, option_map};
+ghost use Rattle.std.specs.Prelude.{◌≡◌, IfOk, IfErr, option_map};
 ghost use Rattle.mc_records.specs.Requests.{asked_of, seen};
 ghost use Rattle.ledger_model.specs.Histories.{History};
 ghost use Rattle.ledger_model.specs.Answer.{answer};
@@ -63,13 +63,6 @@ impl<T: Trade> Bench<T> {
     {
         let time = self.raise(reading);
         Reply::of(&refusal_head(time, &Refusal::from(head), None), b"")
-    }
-
-    /// Whether the reply of the entry of this number is kept.
-    pub(crate) fn keeps(&self, number: u64) -> bool
-        ensures { IsTrue result ↔ KeepsReply self.now number }
-    {
-        self.books.kept(number).is_some()
     }
 
     /// The first reply to the entry of a number, whose reply is kept.

@@ -12,7 +12,7 @@ ghost use Rattle.mc_records.specs.declared.refusal.Refusal.TheVariants.{BadScrip
 ghost use Rattle.mc_records.specs.Requests.{asked_of, seen};
 ghost use Rattle.mc_records.specs.Views.{deed_of, entry};
 ghost use Rattle.kept_replies.specs.Kept.{found};
-ghost use Rattle.ledger_model.specs.Histories.{History};
+ghost use Rattle.ledger_model.specs.Histories.{History, time};
 ghost use Rattle.ledger_model.specs.Answer as model;
 ghost use Rattle.house_core.specs.Bench.{Holds, HasContents, IsRoomed, KeepsReply, Takes, Accepts, KeepsContents, FaultIsOfSite, Enters, Follows, stopped_with, house_time, limits_of};
 ghost use Rattle.house_core.specs.Books.{HasRoom, HasRoomFor, GoesOn};
@@ -27,7 +27,7 @@ use crate::books::Books;
 use crate::founding::{found_books, payload_len};
 use crate::offer::Unlawful;
 use crate::ranges::acceptance_fits;
-use crate::replaying::ReplayEnd;
+use crate::replaying::{ReplayEnd, moment_in};
 use crate::stages::fitted;
 use crate::trade::Trade;
 use crate::verdict::{Acceptance, BenchFault, EnterFault, Stopped, Verdict};
@@ -72,7 +72,7 @@ impl<T: Trade> Bench<T> {
         }
         match trade.learn(0, site) {
             Ok(()) => Ok(Bench { books, trade }),
-            Err(Unlawful) => Err(NoMemory),
+            Err(Unlawful) => unreachable!(),
         }
     }
 
@@ -170,18 +170,20 @@ impl<T: Trade> Bench<T> {
         }
     }
 
-    /// Enters an entry of the house time by a command of the house's keeper, and answers its number, from
-    /// 0. After an `Err` the house is as it was.
+    /// Enters an entry by a command of the house's keeper, whose moment is not before the last entry's, and
+    /// answers its number, from 0. The house time is raised to that moment where it is later. After an
+    /// `Err` the house is as it was, but for that.
     pub fn enter(&mut self, r: &Record<'_>) -> Result<u64, EnterFault>
         requires fits { Fits (entry r.now) }
         requires command { IsCommand (entry r.now) }
-        requires time { moment_of (entry r.now) ≡ house_time self.old }
-        ensures time { house_time self.new ≡ house_time self.old }
+        requires order { (h : History) → Holds T.stands T.site self.old h → time h ≤ moment_of (entry r.now) }
+        ensures time { house_time self.new ≡ max (house_time self.old) (moment_of (entry r.now)) }
         ensures limits { limits_of self.new ≡ limits_of self.old }
         ensures exact { (h : History) → Holds T.stands T.site self.old h → Enters T.stands T.site self.new (limits_of self.old) h (entry r.now) result }
         ensures contents { (h : History) → Holds T.stands T.site self.old h → HasContents T.holds self.old h
             → MatchResult result (λ n. HasContents T.holds self.new (h ++ entry r.now ∷ [])) (λ f. HasContents T.holds self.new h) }
     {
+        self.raise(moment_in(r));
         let bytes = match self.make_room_for(r) {
             Ok(bytes) => bytes,
             Err(fault) => return Err(fault),
@@ -192,12 +194,11 @@ impl<T: Trade> Bench<T> {
         }
     }
 
-    /// Makes room to enter an entry of the house time by a command of the house's keeper, and answers how
-    /// many bytes its payload has. The house stays as it is, after an `Err` too.
+    /// Makes room to enter an entry by a command of the house's keeper, and answers how many bytes its
+    /// payload has. The house stays as it is, after an `Err` too.
     pub(crate) fn make_room_for(&mut self, r: &Record<'_>) -> Result<u64, EnterFault>
         requires fits { Fits (entry r.now) }
         requires command { IsCommand (entry r.now) }
-        requires time { moment_of (entry r.now) ≡ house_time self.old }
         ensures same { IsRoomed T.stands T.site T.holds self.old self.new }
         ensures len { IfOk result (λ n. n ≡ length (payload (entry r.now))) }
         ensures fits { IfOk result (λ n. self.new.books.size + n + 5 ≤ self.new.books.limits.journal) }
@@ -222,12 +223,11 @@ impl<T: Trade> Bench<T> {
         }
     }
 
-    /// Makes room in the trade and in the books to enter an entry of the house time that accepts nothing.
-    /// `Unlawful` comes only where the entry may not follow. The house stays as it is, after an `Err` too.
+    /// Makes room in the trade and in the books to enter an entry that accepts nothing. `Unlawful` comes only
+    /// where the entry may not follow. The house stays as it is, after an `Err` too.
     pub(crate) fn room_for(&mut self, r: &Record<'_>) -> Result<(), ReplayEnd>
         requires fits { Fits (entry r.now) }
         requires command { IsCommand (entry r.now) }
-        requires time { moment_of (entry r.now) ≡ house_time self.old }
         ensures same { IsRoomed T.stands T.site T.holds self.old self.new }
         ensures goes_on { OnOk result (GoesOn self.new.books (entry r.now)) }
         ensures trade { OnOk result (T.has_room self.new.trade (entry r.now)) }
@@ -248,12 +248,12 @@ impl<T: Trade> Bench<T> {
     }
 
     /// Enters such an entry, for which there is room, with a payload of so many bytes, and answers its
-    /// number. `Err` comes where the trade's half of what makes it lawful does not hold, and leaves the
-    /// house as it was. It takes no memory.
+    /// number. Its moment is neither after the house time nor before the last entry's. `Err` comes where the
+    /// trade's half of what makes it lawful does not hold, and leaves the house as it was. It takes no memory.
     pub(crate) fn note(&mut self, r: &Record<'_>, bytes: u64) -> Result<u64, Unlawful>
         requires fits { Fits (entry r.now) }
         requires command { IsCommand (entry r.now) }
-        requires time { moment_of (entry r.now) ≡ house_time self.old }
+        requires time { moment_of (entry r.now) ≤ house_time self.old }
         requires len { bytes ≡ length (payload (entry r.now)) }
         requires room { self.old.books.size + bytes + 5 ≤ 2 ^ 40 }
         requires goes_on { GoesOn self.old.books (entry r.now) }
@@ -261,7 +261,7 @@ impl<T: Trade> Bench<T> {
         requires books { HasRoomFor self.old.books (entry r.now) }
         ensures time { house_time self.new ≡ house_time self.old }
         ensures limits { limits_of self.new ≡ limits_of self.old }
-        ensures exact { (h : History) → Holds T.stands T.site self.old h
+        ensures exact { (h : History) → Holds T.stands T.site self.old h → time h ≤ moment_of (entry r.now)
             → MatchResult result
             (λ n. MayFollow (limits_of self.old) h (entry r.now) × (n ≡ length h) × Holds T.stands T.site self.new (h ++ entry r.now ∷ []))
             (λ f. (MayFollow (limits_of self.old) h (entry r.now) → ⊥) × Holds T.stands T.site self.new h) }

@@ -1,5 +1,5 @@
 ghost use Rattle.std.specs.Prelude.{◌≡◌, ◌+◌, ◌-◌, ◌≤◌, ◌<◌, Some, None, option_map, filter, max, All, IfSome, IsNone, ◌↔◌, ◌^◌, [], IsTrue, IsFalse, IfOk, MatchResult, OnOk};
-ghost use Rattle.scrip_form.specs.Issuing.{epoch};
+ghost use Rattle.scrip_form.specs.Issuing.{epoch, series_at};
 ghost use Rattle.mc_records.specs.declared.refusal.Refusal.TheVariants.{SeriesFull};
 ghost use Rattle.mc_records.specs.Limits.{AreInRange};
 ghost use Rattle.change_issue.specs.Registers.{count_in, next_in};
@@ -212,15 +212,14 @@ impl Books {
         ensures same { IsAsBefore self.old self.new }
         ensures room { OnOk result (HasRoom self.new (asked_of q.now) id) }
     {
-        let series = u32::from(self.own_terms.issuer()) * (1 << 24)
-            + self.own_terms.epoch_of(self.time);
+        let series = self.series_now();
         self.spent.reserve()?;
         self.kept.reserve(q)?;
         self.own.reserve(id.series())?;
         self.own.reserve(series)
     }
 
-    /// Whether the pieces that an entry mints go on with the serials of the house time's series and fit the
+    /// Whether the pieces that an entry mints go on with the serials of the series of its moment and fit the
     /// limit of it; of other entries it asks nothing.
     pub(crate) fn goes_on(&self, r: &Record<'_>) -> bool
         requires { Fits (entry r.now) }
@@ -228,8 +227,13 @@ impl Books {
     {
         let _pieces: Option<PieceList<'_>> = None;
         match r {
-            Record::Mint { count, first, .. } => {
-                let series = self.series_now();
+            Record::Mint {
+                moment,
+                count,
+                first,
+                ..
+            } => {
+                let series = self.series_at(*moment);
                 let stand = self.own.count(series);
                 let (_, _, serial) = first.parts();
                 first.series() == series
@@ -297,7 +301,15 @@ impl Books {
         ensures series { result ≡ series_now self.now }
         ensures short { epoch self.now.own_terms self.now.time < 2 ^ 24 }
     {
-        u32::from(self.own_terms.issuer()) * (1 << 24) + self.own_terms.epoch_of(self.time)
+        self.series_at(self.time)
+    }
+
+    /// The series that the house hands out at a moment.
+    fn series_at(&self, moment: Moment) -> u32
+        ensures series { result ≡ series_at self.now.own.terms moment }
+        ensures short { epoch self.now.own_terms moment < 2 ^ 24 }
+    {
+        u32::from(self.own_terms.issuer()) * (1 << 24) + self.own_terms.epoch_of(moment)
     }
 
     /// Enters a request that is accepted with a piece, for which there is room. It takes no memory.

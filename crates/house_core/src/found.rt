@@ -70,7 +70,7 @@ fn empty_book<D: Disk>(alloc: Global, disk: D, limits: Limits) -> Result<Journal
     requires limits { AreInRange limits }
     ensures moved { D.disk_moved disk (book_disk result) }
     ensures exact { (x : List ℕ) → (D.disk disk).contents ≡ Some x → ClearsFree D.disk x result }
-    ensures limit { IfOk result (λ j. j.limit ≡ limits.journal) }
+    ensures fresh { IfOk result (λ j. (j.size ≡ 9) × (j.limit ≡ limits.journal)) }
     ensures ran { (x : List ℕ) → (D.disk disk).contents ≡ Some x → Ran (D.disk disk) (D.disk (book_disk result)) (ShortQuiet (D.disk disk)) }
     ensures read { ReadsOnly D.disk disk result }
     ensures fault { CountsBy result (D.disk disk).faults (D.disk (book_disk result)).faults }
@@ -95,7 +95,7 @@ fn empty_small<D: Disk>(alloc: Global, disk: D, limits: Limits) -> Result<Journa
     requires limits { AreInRange limits }
     ensures moved { D.disk_moved disk (book_disk result) }
     ensures exact { (x : List ℕ) → (D.disk disk).contents ≡ Some x → ClearsSmall D.disk x result }
-    ensures limit { IfOk result (λ j. j.limit ≡ limits.journal) }
+    ensures fresh { IfOk result (λ j. (j.size ≡ 9) × (j.limit ≡ limits.journal)) }
     ensures ran { (x : List ℕ) → (D.disk disk).contents ≡ Some x → IsSynced (D.disk disk) → Ran (D.disk disk) (D.disk (book_disk result)) (ShortQuiet (D.disk disk)) }
     ensures read { ReadsOnly D.disk disk result }
     ensures fault { CountsBy result (D.disk disk).faults (D.disk (book_disk result)).faults }
@@ -110,7 +110,7 @@ fn empty_small<D: Disk>(alloc: Global, disk: D, limits: Limits) -> Result<Journa
     }
     match found_journal(alloc, disk, limits) {
         Ok(journal) => Ok(journal),
-        Err(OpenFault::NotJournal(disk)) => Err(HouseFault::NotJournal(disk)),
+        Err(OpenFault::NotJournal(_disk)) => unreachable!(),
         Err(OpenFault::Disk(disk)) => Err(HouseFault::Disk(disk)),
         Err(OpenFault::NoMemory(disk)) => Err(HouseFault::NoMemory(disk)),
     }
@@ -123,8 +123,10 @@ fn enter_site<D: Disk, T: Trade>(
     site: &Record<'_>,
 ) -> Result<House<D, T>, HouseFault<D>>
     requires fits { Fits (entry site.now) }
+    requires empty { journal.size ≡ 9 }
+    requires room { 9 + entry_size [] (entry site.now) ≤ journal.limit }
     ensures moved { D.disk_moved journal.disk (house_disk result) }
-    ensures exact { IsJournal D.disk journal [] → 9 + entry_size [] (entry site.now) ≤ journal.limit → IsHouse T.stands T.site T.holds bench (entry site.now ∷ []) → journal.limit ≡ (limits_of bench).journal
+    ensures exact { IsJournal D.disk journal [] → IsHouse T.stands T.site T.holds bench (entry site.now ∷ []) → journal.limit ≡ (limits_of bench).journal
         → EntersSite D.disk T.stands T.site T.holds (entry site.now) result }
     ensures wrote { IsOfWriting result }
     ensures time { IfOk result (λ h. house_time h.bench ≡ house_time bench) }
@@ -134,7 +136,7 @@ fn enter_site<D: Disk, T: Trade>(
 {
     match write_entry(journal, site) {
         Ok((journal, _)) => Ok(House::new(journal, bench)),
-        Err(StageFault::Full(journal)) => Err(HouseFault::Unlawful(journal.close(), 8)),
+        Err(StageFault::Full(_journal)) => unreachable!(),
         Err(StageFault::Disk(halted)) => Err(HouseFault::Disk(halted.close())),
     }
 }

@@ -23,10 +23,11 @@ ghost use Rattle.house_core.specs.Trade.{OfGoods, NamesInForce, BringsFor};
 ghost use Rattle.house_core.specs.Replying.{IsOfSite};
 ghost use Rattle.house_core.specs.declared.verdict.Verdict.TheVariants as verdicts;
 ghost use Rattle.house_core.specs.Verdicts.{judged, judged_of, repeat_of, accept_entry, IsReady, StopIsOfSite};
-ghost use Rattle.house_core.specs.House.{StandsFor, HasRun, KeepsTime, OfHouse, IfRefused, CountsFaults, Accepted, Entered, Leaves, Refuses, written_disk, outcome_disk};
+ghost use Rattle.house_core.specs.House.{StandsFor, HasRun, KeepsTime, RaisedTo, OfHouse, IfDone, IfRefused, CountsFaults, Accepted, Entered, Leaves, Refuses, written_disk, outcome_disk};
 
 use crate::bench::{Bench, bad_scrip, entry_of};
 use crate::outcome::Outcome;
+use crate::replaying::moment_in;
 use crate::settled::Settled;
 use crate::stages::terms_of;
 use crate::trade::Trade;
@@ -48,7 +49,7 @@ pub struct House<D, T> {
 
 impl<D: Disk, T: Trade> House<D, T> {
     /// The house of a journal and of the bench that was made of its entries.
-    pub fn new(journal: Journal<D>, bench: Bench<T>) -> House<D, T>
+    pub(crate) fn new(journal: Journal<D>, bench: Bench<T>) -> House<D, T>
         ensures stands { (h : History) → IsJournal D.disk journal h → IsHouse T.stands T.site T.holds bench h → journal.limit ≡ (limits_of bench).journal
             → StandsFor D.disk T.stands T.site T.holds result h }
         ensures disk { result.journal.disk ≡ journal.disk }
@@ -100,6 +101,14 @@ impl<D: Disk, T: Trade> House<D, T> {
         ensures { (h : History) → StandsFor D.disk T.stands T.site T.holds self.now h → HasRun h (house_time self.now.bench) (limits_of self.now.bench) count result }
     {
         self.bench.books.next_run(count)
+    }
+
+    /// The identity of the next piece of its own series of the house time; refused with 32 exactly where the
+    /// limit of a series leaves no room for one more.
+    pub fn next(&self) -> Result<Id, Refusal>
+        ensures { (h : History) → StandsFor D.disk T.stands T.site T.holds self.now h → HasRun h (house_time self.now.bench) (limits_of self.now.bench) 1 result }
+    {
+        self.next_run(1)
     }
 
     /// Its trade.
@@ -155,6 +164,7 @@ impl<D: Disk, T: Trade> House<D, T> {
         ensures keeps { OfHouse (KeepsTime self) result }
         ensures counts { CountsFaults result (D.disk self.journal.disk).faults (D.disk (outcome_disk result)).faults }
         ensures site { IfRefused IsOfSite result }
+        ensures kept { IfDone (λ x s. KeepsReply x.bench s.number) result }
         ensures exact { (h : History) → StandsFor D.disk T.stands T.site T.holds self h
             → Accepted D.disk T.stands T.site T.holds self.journal.disk h (model.answer h (house_time self.bench) (limits_of self.bench) (asked_of q.now)) result }
         ensures ran { (h : History) → StandsFor D.disk T.stands T.site T.holds self h
@@ -191,6 +201,7 @@ impl<D: Disk, T: Trade> House<D, T> {
         ensures keeps { OfHouse (KeepsTime self) result }
         ensures counts { CountsFaults result (D.disk self.journal.disk).faults (D.disk (outcome_disk result)).faults }
         ensures site { IfRefused IsOfSite result }
+        ensures kept { IfDone (λ x s. KeepsReply x.bench s.number) result }
         ensures exact { (h : History) → StandsFor D.disk T.stands T.site T.holds self h → NamesInForce h acceptance.now.deed → BringsFor h q.now.target.now acceptance.now.deed
             → model.answer h (house_time self.bench) (limits_of self.bench) (asked_of q.now) ≡ model.Take (accept_entry (house_time self.bench) scrip.now.text q.now.target.now acceptance.now)
             → Accepted D.disk T.stands T.site T.holds self.journal.disk h (model.Take (accept_entry (house_time self.bench) scrip.now.text q.now.target.now acceptance.now)) result }
@@ -208,8 +219,8 @@ impl<D: Disk, T: Trade> House<D, T> {
         let record = entry_of(bench.books.time(), q, scrip, acceptance);
         match write_entry(journal, &record) {
             Ok((journal, receipt)) => {
-                let _number = bench.settle(q, scrip, acceptance);
-                Outcome::Done(House { journal, bench }, Settled { receipt })
+                let number = bench.settle(q, scrip, acceptance);
+                Outcome::Done(House { journal, bench }, Settled { receipt, number })
             }
             Err(StageFault::Full(journal)) => {
                 let full = Refusal::JournalFull(bench.books.size(), acceptance.payload);
@@ -219,16 +230,16 @@ impl<D: Disk, T: Trade> House<D, T> {
         }
     }
 
-    /// Enters an entry of the house time by a command of the house's keeper, which may follow the entries
-    /// before it: it is on the disk behind an open gate, and then it is entered. All memory is taken before
-    /// anything is written. It is refused only where the journal has no room for it.
+    /// Enters an entry by a command of the house's keeper, which may follow the entries before it: it is on
+    /// the disk behind an open gate, and then it is entered. The house time is raised to its moment where
+    /// that is later. All memory is taken before anything is written. It is refused only where the journal
+    /// has no room for it.
     pub fn enter(self, r: &Record<'_>) -> Outcome<D, T, Receipt>
         requires fits { Fits (entry r.now) }
         requires command { IsCommand (entry r.now) }
-        requires time { moment_of (entry r.now) ≡ house_time self.bench }
         requires may { (h : History) → StandsFor D.disk T.stands T.site T.holds self h → MayFollow (limits_of self.bench) h (entry r.now) }
         ensures moved { D.disk_moved self.journal.disk (outcome_disk result) }
-        ensures keeps { OfHouse (KeepsTime self) result }
+        ensures keeps { OfHouse (RaisedTo (moment_of (entry r.now)) self) result }
         ensures counts { CountsFaults result (D.disk self.journal.disk).faults (D.disk (outcome_disk result)).faults }
         ensures exact { (h : History) → StandsFor D.disk T.stands T.site T.holds self h
             → Entered D.disk T.stands T.site T.holds (limits_of self.bench) self.journal.disk h (entry r.now) result }
@@ -237,6 +248,7 @@ impl<D: Disk, T: Trade> House<D, T> {
     {
         let House { journal, bench } = self;
         let mut bench = bench;
+        bench.raise(moment_in(r));
         let bytes = match bench.make_room_for(r) {
             Ok(bytes) => bytes,
             Err(EnterFault::Refused(refusal)) => {
@@ -291,7 +303,7 @@ pub(crate) fn write_entry<D: Disk>(
     ensures limit { IfOk result (λ w. w.0.limit ≡ journal.limit) }
     ensures ran { (h : List Entry) → IsJournal D.disk journal h
         → Ran (D.disk journal.disk) (D.disk (written_disk result)) (EitherQuiet h (entry r.now) (D.disk journal.disk).aside) }
-    ensures full { (h : List Entry) → IsJournal D.disk journal h
+    ensures full { (h : List Entry) → journal.size ≡ size h
         → IfErr result (λ f. MatchStageFault f (λ j. journal.limit < size h + entry_size h (entry r.now)) (λ d. Unit {0})) }
     ensures fault { IfErr result (λ f. MatchStageFault f
         (λ j. j ≡ journal)

@@ -37,7 +37,10 @@ pub use body::body_of_deed;
 pub use books::Books;
 pub use found::found_house;
 pub use house::House;
-pub use law::{contents_stay, entries_follow_in_parts, goods_in_force_are_kept};
+pub use law::{
+    books_of_another_kind_have_one_fault, contents_stay, entries_follow_in_parts,
+    goods_in_force_are_kept,
+};
 pub use offer::{Body, DrawAsk, Offer, SiteKind, Unlawful};
 pub use opening::open_house;
 pub use outcome::Outcome;

@@ -156,7 +156,7 @@ impl<T: Trade> Bench<T> {
 }
 
 /// The moment of an entry.
-fn moment_in(r: &Record<'_>) -> Moment
+pub(crate) fn moment_in(r: &Record<'_>) -> Moment
     ensures { result ≡ moment_of (entry r.now) }
 {
     match r {

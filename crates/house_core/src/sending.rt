@@ -61,51 +61,50 @@ impl<O: Outside, T: Trade> Link for House<O, T> {
     }
 }
 
-/// Sends the reply of an acceptance on the link that stands, and spends what says that it is on the
-/// disk. At an `Err` a first part of the reply was sent, and not the whole. It takes no memory.
+/// Sends the reply of an acceptance, which the house keeps since it accepted, on the link that stands, and
+/// spends what says that it is on the disk. At an `Err` a first part of the reply was sent, and not the
+/// whole. It takes no memory.
 pub fn send_settled<O: Outside, T: Trade>(
     house: &mut House<O, T>,
     s: Settled,
 ) -> Result<(), LinkFault>
-    requires { IsTrue (O.link house.old.journal.disk).stands }
+    requires link { IsTrue (O.link house.old.journal.disk).stands }
+    requires kept { KeepsReply house.old.bench s.number }
     ensures moved { O.link_moved house.old.journal.disk house.new.journal.disk }
     ensures standing { (O.link house.new.journal.disk).stands ≡ (O.link house.old.journal.disk).stands }
     ensures rests { HouseRests house.old house.new }
     ensures stands { (h : History) → StandsFor O.disk T.stands T.site T.holds house.old h → StandsFor O.disk T.stands T.site T.holds house.new h }
     ensures ran { (h : History) → StandsFor O.disk T.stands T.site T.holds house.old h
         → Ran (O.disk house.old.journal.disk) (O.disk house.new.journal.disk) (SendsOn h (O.disk house.old.journal.disk).aside (O.disk house.new.journal.disk).aside) }
-    ensures sent { OnOk result ((h : History) → StandsFor O.disk T.stands T.site T.holds house.old h → KeepsReply house.old.bench s.receipt
-        → O.link house.new.journal.disk ≡ told (ledger.reply_of h s.receipt) (O.link house.old.journal.disk)) }
-    ensures fault { OnErr result ((h : History) → StandsFor O.disk T.stands T.site T.holds house.old h → KeepsReply house.old.bench s.receipt
-        → (n : ℕ) × (n < length (ledger.reply_of h s.receipt)) × Failed (told (take n (ledger.reply_of h s.receipt)) (O.link house.old.journal.disk)) (O.link house.new.journal.disk)) }
+    ensures sent { OnOk result ((h : History) → StandsFor O.disk T.stands T.site T.holds house.old h
+        → O.link house.new.journal.disk ≡ told (ledger.reply_of h s.number) (O.link house.old.journal.disk)) }
+    ensures fault { OnErr result ((h : History) → StandsFor O.disk T.stands T.site T.holds house.old h
+        → (n : ℕ) × (n < length (ledger.reply_of h s.number)) × Failed (told (take n (ledger.reply_of h s.number)) (O.link house.old.journal.disk)) (O.link house.new.journal.disk)) }
 {
     let number = s.number();
     drop_settled(s);
     send_again(house, number)
 }
 
-/// Sends the first reply to the entry of a number on the link that stands. Where that reply is not kept
-/// any more nothing is sent. At an `Err` a first part of it was sent, and not the whole. It takes no
-/// memory.
+/// Sends the first reply to the entry of a number, which is kept, on the link that stands. At an `Err` a
+/// first part of it was sent, and not the whole. It takes no memory.
 pub fn send_again<O: Outside, T: Trade>(
     house: &mut House<O, T>,
     number: u64,
 ) -> Result<(), LinkFault>
-    requires { IsTrue (O.link house.old.journal.disk).stands }
+    requires link { IsTrue (O.link house.old.journal.disk).stands }
+    requires kept { KeepsReply house.old.bench number }
     ensures moved { O.link_moved house.old.journal.disk house.new.journal.disk }
     ensures standing { (O.link house.new.journal.disk).stands ≡ (O.link house.old.journal.disk).stands }
     ensures rests { HouseRests house.old house.new }
     ensures stands { (h : History) → StandsFor O.disk T.stands T.site T.holds house.old h → StandsFor O.disk T.stands T.site T.holds house.new h }
     ensures ran { (h : History) → StandsFor O.disk T.stands T.site T.holds house.old h
         → Ran (O.disk house.old.journal.disk) (O.disk house.new.journal.disk) (SendsOn h (O.disk house.old.journal.disk).aside (O.disk house.new.journal.disk).aside) }
-    ensures sent { OnOk result ((h : History) → StandsFor O.disk T.stands T.site T.holds house.old h → KeepsReply house.old.bench number
+    ensures sent { OnOk result ((h : History) → StandsFor O.disk T.stands T.site T.holds house.old h
         → O.link house.new.journal.disk ≡ told (ledger.reply_of h number) (O.link house.old.journal.disk)) }
-    ensures fault { OnErr result ((h : History) → StandsFor O.disk T.stands T.site T.holds house.old h → KeepsReply house.old.bench number
+    ensures fault { OnErr result ((h : History) → StandsFor O.disk T.stands T.site T.holds house.old h
         → (n : ℕ) × (n < length (ledger.reply_of h number)) × Failed (told (take n (ledger.reply_of h number)) (O.link house.old.journal.disk)) (O.link house.new.journal.disk)) }
 {
-    if !house.bench.keeps(number) {
-        return Ok(());
-    }
     let mut room = [0; 512];
     let reply = house.bench.first_reply(number, &mut room);
     reply.send(&mut house.journal)

@@ -9,18 +9,23 @@ use scrip_journal::Receipt;
 /// can be sent. Only `House::accept` makes one, from a [`Receipt`].
 pub struct Settled {
     pub(crate) receipt: Receipt,
+    /// The number under which the house keeps the entry's reply.
+    pub(crate) number: u64,
 }
 
 impl Settled {
     /// The number of the entry, from 0.
     pub fn number(&self) -> u64
-        ensures { result ≡ self.now.receipt }
+        ensures { result ≡ self.now.number }
     {
-        self.receipt.number()
+        self.number
     }
 }
 
 /// Lets it go without sending a reply. The entry stands; a request that comes again gets its reply.
 pub fn drop_settled(s: Settled) {
-    let Settled { receipt: _ } = s;
+    let Settled {
+        receipt: _,
+        number: _,
+    } = s;
 }

@@ -2,7 +2,7 @@
 use Rattle.std.proofs.Common.{◌≡◌, inl, inr, ℕ, ◌<◌, suc, false, List, [], ◌++◌, refl, sym, ap, ◌∙◌, subst, arith, Result, Ok, Err}
 use Rattle.std.specs.Prelude.{Bool, IsSome, IsTrue}
 use Rattle.std.proofs.lemmas.List.{append-nil}
-use Rattle.mc_outside.specs.Bytes.{BeginsWith}
+use Rattle.mc_outside.specs.Bytes.{BeginsWith, Rose}
 use Rattle.mc_outside.specs.DiskView.{DiskView, IsDisk, LinkKeeps}
 use Rattle.mc_outside.specs.LinkView.{LinkView, LinkGoes, next_taken, none_left}
 use Rattle.mc_outside.proofs.Runs.{ran_then, ran_link}
@@ -22,14 +22,14 @@ use Rattle.house_serving.specs.declared.turn.Turn.TheVariants as turns
 use Rattle.house_serving.specs.declared.links.ServeOut.TheVariants as outs
 use Rattle.house_serving.specs.Steps.{Did, sent_of, state_after}
 use Rattle.house_serving.specs.Course.{HadLinks, NoLink}
-use Rattle.house_serving.specs.Orders.{WentBy, InOrderOrDoubt, HaltedBy}
+use Rattle.house_serving.specs.Orders.{WentBy, InDoubt, HaltedBy}
 use Rattle.house_serving.specs.Doubts.{IsDoubted, DoubtTurn, DoubtLink}
 use Rattle.house_serving.specs.Links.{TurnsHouse, EndsTurns, ServesLink, ServesLinks}
 use Rattle.house_serving.proofs.LinkCalls.{heard_on}
 use Rattle.house_serving.proofs.ServingLemmas.{IsServing, serving_starts, serving_goes_on, serving_ended}
 use Rattle.house_serving.proofs.LinksLemmas.{had_link, links_start, links_go_on}
 use Rattle.house_serving.proofs.AsideLemmas.{TellsAside, SentNoMore, no_more_still, no_more_taken, aside_still}
-use Rattle.house_serving.proofs.OrderLemmas.{begins_longer, begins_then, house_keeps, went_nowhere, went_on, went_quiet, halted_later}
+use Rattle.house_serving.proofs.OrderLemmas.{begins_then, house_keeps, went_nowhere, went_on, went_quiet, halted_later}
 use Rattle.house_serving.proofs.HouseTurnLemmas.{ReadOn}
 
 -- the state that a house is in after its steps
@@ -51,19 +51,22 @@ pub halted_still : {O : Type 0} (link : O → LinkView) (disk : O → DiskView) 
     → SentNoMore (link c) (link d) → HaltedBy link disk a s xs e said c → HaltedBy link disk a s xs e said d
 halted_still link disk a c d s xs e said tells keeps goes same halted =
     let quiet : IsSome (link a).sessions → (disk d).aside ≡ (disk c).aside = λ told'. aside_still link (λ o. (disk o).aside) c d tells (subst (λ (b : Bool). IsTrue b) (sym halted.tells) told') same in
-    let all : IsSome (link a).sessions → (disk d).aside ≡ (disk a).aside ++ sent_of xs ++ said = λ told'. quiet told' ∙ halted.aside told' in
+    let before : List ℕ = (disk halted.taken).aside in
+    let all : IsSome (link a).sessions → (disk d).aside ≡ before ++ said = λ told'. quiet told' ∙ halted.aside told' in
     record {
+      taken = halted.taken;
       tells = goes.tells ∙ halted.tells;
+      quiet = halted.quiet;
+      until = halted.until;
+      rose = subst (λ (n : ℕ). Rose (disk halted.taken).faults n) (sym keeps.faults) halted.rose;
+      since = ran_then (disk halted.taken) (disk c) (disk d) (InDoubt (IsSome (link a).sessions) (state_after s xs).history before e said) halted.since
+          (ran_link (disk c) (disk d) (InDoubt (IsSome (link a).sessions) (state_after s xs).history before e said) keeps (λ i y l from upto. record {
+            stands = halted.leaves i l;
+            began = λ told'. begins_then before (before ++ said) y (said, refl) (subst (λ (z : List ℕ). BeginsWith z y) (halted.aside told') from);
+            part = λ told'. subst (λ (z : List ℕ). BeginsWith y z) (all told') upto;
+          }));
       leaves = λ i l. halted.leaves i ((keeps.leaves i).0 l);
       aside = all;
-      ran = λ told'. ran_then (disk a) (disk c) (disk d) (InOrderOrDoubt s (disk a).aside xs e said) (halted.ran told')
-          (ran_link (disk c) (disk d) (InOrderOrDoubt s (disk a).aside xs e said) keeps (λ i y l from upto. inr (
-            halted.leaves i l,
-            (
-              begins_then (disk a).aside ((disk a).aside ++ sent_of xs ++ said) y (begins_longer (disk a).aside ((disk a).aside ++ sent_of xs) said (sent_of xs, refl)) (subst (λ (z : List ℕ). BeginsWith z y) (halted.aside told') from),
-              subst (λ (z : List ℕ). BeginsWith y z) (all told') upto,
-            ),
-          )));
     }
 
 -- ---- the turns of a link

@@ -2,6 +2,7 @@
 use Rattle.std.proofs.Common.{◌≡◌, inl, inr, ℕ, ◌+◌, ◌<◌, Bool, List, [], ◌∷◌, length, take, refl, sym, ap, ap₂, ◌∙◌, subst, arith, Option, Some, None, Result, Ok, Err}
 use Rattle.std.specs.Prelude.{OnOk, OnErr, IfOk, IsTrue, max}
 use Rattle.mc_outside.specs.declared.link.LinkFault.{LinkFault}
+use Rattle.mc_outside.specs.Bytes.{Rose}
 use Rattle.mc_outside.specs.DiskView.{DiskView, IsDisk, LinkKeeps, Ran}
 use Rattle.mc_outside.specs.LinkView.{LinkView, IsLink, LinkGoes, heard, told, Failed}
 use Rattle.mc_records.specs.declared.limits.Limits.{Limits}
@@ -25,13 +26,14 @@ use Rattle.millicent_http.specs.Held.{Held}
 use Rattle.millicent_http.specs.Takes.{Took, TookItem, with_more}
 use Rattle.millicent_http.specs.Items.{Item, request, refused}
 use Rattle.millicent_http.proofs.JudgeLemmas.{asks_a_target}
+use Rattle.scrip_journal.specs.Layout.{Stands}
 use Rattle.scrip_journal.specs.Exits.{EitherQuiet}
 use Rattle.house_core.specs.declared.bench.Bench.{Bench}
 use Rattle.house_core.specs.declared.house.House.{House}
 use Rattle.house_core.specs.declared.settled.Settled.{Settled}
 use Rattle.house_core.specs.declared.outcome.Outcome.TheVariants as outcomes
 use Rattle.house_core.specs.Verdicts.{repeat_of}
-use Rattle.house_core.specs.Bench.{KeepsReply, house_time, limits_of, state_of}
+use Rattle.house_core.specs.Bench.{house_time, limits_of, state_of}
 use Rattle.house_core.specs.House.{StandsFor, HouseRests, HasEntered, IsAsItWas, Accepted, Leaves}
 use Rattle.house_core.specs.Session.{State, Gives, entered, raised}
 use Rattle.house_serving.specs.declared.serving.Clock.TheVariants.{OfLinks}
@@ -85,8 +87,8 @@ said_readings reply said v w (inr fault) = ap (λ (u : LinkView). u.readings) fa
 
 done_is : {D T : Type 0} (view : D → DiskView) (stands : T → History → Type 0) (site : T → ℕ) (holds : T → ℕ → Type 0) (d : D) (h : History) (a : Answer) (x : House D T) (s : Settled) (u v : DiskView) (aside : List ℕ)
     → Accepted view stands site holds d h a (outcomes.Done x s) → Ran u v (Leaves {D = D} {T = T} {A = Settled} a (outcomes.Done x s) h aside)
-    → (e : Entry) × (a ≡ answers.Take e) × HasEntered view stands site holds x h e s.receipt × KeepsReply x.bench s.receipt × Ran u v (EitherQuiet h e aside)
-done_is view stands site holds d h (answers.Take e) x s u v aside accepted ran = (e, refl, accepted.0, accepted.1, ran)
+    → (e : Entry) × (a ≡ answers.Take e) × HasEntered view stands site holds x h e s.number × Ran u v (EitherQuiet h e aside)
+done_is view stands site holds d h (answers.Take e) x s u v aside accepted ran = (e, refl, accepted, ran)
 done_is view stands site holds d h (answers.Refused f) x s u v aside accepted ran = absurd accepted
 done_is view stands site holds d h (answers.Again n) x s u v aside accepted ran = absurd accepted
 
@@ -103,8 +105,9 @@ starved_is view stands site holds d h (answers.Refused f) x accepted = absurd ac
 starved_is view stands site holds d h (answers.Again n) x accepted = absurd accepted
 
 halted_is : {D T : Type 0} (view : D → DiskView) (stands : T → History → Type 0) (site : T → ℕ) (holds : T → ℕ → Type 0) (d e' : D) (h : History) (a : Answer) (u v : DiskView) (aside : List ℕ)
-    → Accepted view stands site holds d h a (outcomes.Halted e') → Ran u v (Leaves {D = D} {T = T} {A = Settled} a (outcomes.Halted e') h aside) → (e : Entry) × (a ≡ answers.Take e) × Ran u v (EitherQuiet h e aside)
-halted_is view stands site holds d e' h (answers.Take e) u v aside accepted ran = (e, refl, ran)
+    → Accepted view stands site holds d h a (outcomes.Halted e') → Ran u v (Leaves {D = D} {T = T} {A = Settled} a (outcomes.Halted e') h aside)
+    → (e : Entry) × (a ≡ answers.Take e) × Ran u v (EitherQuiet h e aside) × Rose (view d).faults (view e').faults
+halted_is view stands site holds d e' h (answers.Take e) u v aside accepted ran = (e, refl, ran, accepted)
 halted_is view stands site holds d e' h (answers.Refused f) u v aside accepted ran = absurd accepted
 halted_is view stands site holds d e' h (answers.Again n) u v aside accepted ran = absurd accepted
 
@@ -138,24 +141,24 @@ replied_old {T = T} link disk stands site holds limits q after y z s reply r on 
 
 -- the entry of the request was written and entered, and its first reply was sent
 pub replied_new : {O T : Type 0} (link : O → LinkView) (disk : O → DiskView) (stands : T → History → Type 0) (site : T → ℕ) (holds : T → ℕ → Type 0) (limits : Limits) (q : Asked) (after : After) (a : O) (y z : House O T) (s : State)
-    (settled : Settled) (r : Result (Unit {0}) LinkFault) → SentOn link disk y z → house_time y.bench ≡ s.time → (disk y.journal.disk).aside ≡ (disk a).aside → link y.journal.disk ≡ link a
+    (settled : Settled) (r : Result (Unit {0}) LinkFault) → SentOn link disk y z → house_time y.bench ≡ s.time → (disk y.journal.disk).aside ≡ (disk a).aside → (disk y.journal.disk).faults ≡ (disk a).faults → link y.journal.disk ≡ link a
     → Accepted disk stands site holds a s.history (answer s.history s.time limits q) (outcomes.Done y settled)
     → Ran (disk a) (disk y.journal.disk) (Leaves {D = O} {T = T} {A = Settled} (answer s.history s.time limits q) (outcomes.Done y settled) s.history (disk a).aside)
-    → OnOk r ((h : History) → StandsFor disk stands site holds y h → KeepsReply y.bench settled.receipt → link z.journal.disk ≡ told (reply_of h settled.receipt) (link y.journal.disk))
-    → OnErr r ((h : History) → StandsFor disk stands site holds y h → KeepsReply y.bench settled.receipt
-    → (n : ℕ) × (n < length (reply_of h settled.receipt)) × Failed (told (take n (reply_of h settled.receipt)) (link y.journal.disk)) (link z.journal.disk))
+    → OnOk r ((h : History) → StandsFor disk stands site holds y h → link z.journal.disk ≡ told (reply_of h settled.number) (link y.journal.disk))
+    → OnErr r ((h : History) → StandsFor disk stands site holds y h
+    → (n : ℕ) × (n < length (reply_of h settled.number)) × Failed (told (take n (reply_of h settled.number)) (link y.journal.disk)) (link z.journal.disk))
     → RepliesTo link disk stands site holds limits q after a s (Ok (z, turn_after r after))
-replied_new {T = T} link disk stands site holds limits q after a y z s settled r on time quiet same accepted ran sent fault =
+replied_new {T = T} link disk stands site holds limits q after a y z s settled r on time quiet calm same accepted ran sent fault =
     let is = done_is disk stands site holds a s.history (answer s.history s.time limits q) y settled (disk a) (disk y.journal.disk) (disk a).aside accepted ran in
     let e : Entry = is.0 in
     let t : State = entered s e in
     let st : StandsFor disk stands site holds y t.history = is.2.stands' in
-    let reply : List ℕ = reply_of t.history settled.receipt in
-    let was = sent_so after reply r (link y.journal.disk) (link z.journal.disk) (told_so r _ _ (λ f. f t.history st is.3) sent) (failed_so r _ _ (λ f. f t.history st is.3) fault) in
+    let reply : List ℕ = reply_of t.history settled.number in
+    let was = sent_so after reply r (link y.journal.disk) (link z.journal.disk) (told_so r _ _ (λ f. f t.history st) sent) (failed_so r _ _ (λ f. f t.history st) fault) in
     let step : Did = record { sent = was.0; after = t } in (
       step,
       reply,
-      went_written link disk stands site holds a y z s e step on.tells refl is.4 quiet same on.is_link on.standing st (house_keeps disk stands site holds y z t.history st on.keeps on.rests)
+      went_written link disk stands site holds a y z s e step on.tells refl is.3 quiet calm same on.is_link on.standing st (house_keeps disk stands site holds y z t.history st on.keeps on.rests)
           (ap (λ (b : Bench T). house_time b) on.rests.bench ∙ time) on.keeps on.goes (sent_sessions after reply was.0 (turn_after r after) (link y.journal.disk) (link z.journal.disk) was.1),
       subst (λ (b : Answer). Gives s q b reply t) (sym is.1) (inl (ap (λ (n : ℕ). reply_of t.history n) is.2.number', refl)),
       subst (λ (v : LinkView). Sent after reply (turn_after r after) was.0 v (link z.journal.disk)) same was.1,
@@ -195,32 +198,32 @@ replied_starved {O = O} link disk stands site holds limits q after a y z s r on 
 
 -- the request comes again, and gets the first reply of its entry
 pub replied_again : {O T : Type 0} (link : O → LinkView) (disk : O → DiskView) (stands : T → History → Type 0) (site : T → ℕ) (holds : T → ℕ → Type 0) (limits : Limits) (q : Asked) (after : After) (y z : House O T) (s : State)
-    (number : ℕ) (r : Result (Unit {0}) LinkFault) → SentOn link disk y z → StandsFor disk stands site holds y s.history → house_time y.bench ≡ s.time → answer s.history s.time limits q ≡ answers.Again number → KeepsReply y.bench number
-    → OnOk r ((h : History) → StandsFor disk stands site holds y h → KeepsReply y.bench number → link z.journal.disk ≡ told (reply_of h number) (link y.journal.disk))
-    → OnErr r ((h : History) → StandsFor disk stands site holds y h → KeepsReply y.bench number
+    (number : ℕ) (r : Result (Unit {0}) LinkFault) → SentOn link disk y z → StandsFor disk stands site holds y s.history → house_time y.bench ≡ s.time → answer s.history s.time limits q ≡ answers.Again number
+    → OnOk r ((h : History) → StandsFor disk stands site holds y h → link z.journal.disk ≡ told (reply_of h number) (link y.journal.disk))
+    → OnErr r ((h : History) → StandsFor disk stands site holds y h
     → (n : ℕ) × (n < length (reply_of h number)) × Failed (told (take n (reply_of h number)) (link y.journal.disk)) (link z.journal.disk))
     → RepliesTo link disk stands site holds limits q after y.journal.disk s (Ok (z, turn_after r after))
-replied_again link disk stands site holds limits q after y z s number r on st time again keeps sent fault =
+replied_again link disk stands site holds limits q after y z s number r on st time again sent fault =
     let reply : List ℕ = reply_of s.history number in
     replied_old link disk stands site holds limits q after y z s reply r on st time
     (subst (λ (b : Answer). Gives s q b reply s) (sym again) (refl, refl))
-    (told_so r _ _ (λ g. g s.history st keeps) sent) (failed_so r _ _ (λ g. g s.history st keeps) fault)
+    (told_so r _ _ (λ g. g s.history st) sent) (failed_so r _ _ (λ g. g s.history st) fault)
 
 -- the disk failed while the entry of the request was written, and it was told so
 pub replied_halted : {O T : Type 0} (link : O → LinkView) (disk : O → DiskView) (stands : T → History → Type 0) (site : T → ℕ) (holds : T → ℕ → Type 0) (limits : Limits) (q : Asked) (after : After) (a b c : O) (s : State)
-    (r : Result (Unit {0}) LinkFault) → TellsAside link (λ o. (disk o).aside) → IsDisk (disk b) → IsLink (link b) → IsTrue (link b).stands → (disk b).aside ≡ (disk a).aside → link b ≡ link a → LinkKeeps (disk b) (disk c) → LinkGoes (link b) (link c)
+    (r : Result (Unit {0}) LinkFault) → TellsAside link (λ o. (disk o).aside) → IsDisk (disk a) → ((i : List ℕ) → (disk a).leaves i → Stands s.history i) → IsDisk (disk b) → IsLink (link b) → IsTrue (link b).stands → (disk b).aside ≡ (disk a).aside → link b ≡ link a → LinkKeeps (disk b) (disk c) → LinkGoes (link b) (link c)
     → Accepted {D = O} {T = T} disk stands site holds a s.history (answer s.history s.time limits q) (outcomes.Halted b)
     → Ran (disk a) (disk b) (Leaves {D = O} {T = T} {A = Settled} (answer s.history s.time limits q) (outcomes.Halted b) s.history (disk a).aside)
     → OnOk r ((x : History × Asked) → link c ≡ told (refusal_of x.0 s.time x.1 refusals.DiskFault) (link b))
     → OnErr r ((x : History × Asked) → (n : ℕ) × (n < length (refusal_of x.0 s.time x.1 refusals.DiskFault)) × Failed (told (take n (refusal_of x.0 s.time x.1 refusals.DiskFault)) (link b)) (link c))
     → RepliesTo {O = O} {T = T} link disk stands site holds limits q after a s (Err c)
-replied_halted link disk stands site holds limits q after a b c s r tells is is_link on quiet same keeps goes accepted ran sent fault =
+replied_halted link disk stands site holds limits q after a b c s r tells is_a stood is_b is_link on quiet same keeps goes accepted ran sent fault =
     let taken = halted_is disk stands site holds a b s.history (answer s.history s.time limits q) (disk a) (disk b) (disk a).aside accepted ran in
     let reply : List ℕ = refusal_of s.history s.time q refusals.DiskFault in
     let was = sends_so reply r (link b) (link c) (told_so r _ _ (λ g. g (s.history, q)) sent) (failed_so r _ _ (λ g. g (s.history, q)) fault) in (
       taken.0,
       was.0,
-      halted_told link disk a b c s taken.0 was.0 tells is taken.2 quiet same is_link on keeps goes (said_sessions reply was.0 (link b) (link c) was.1),
+      halted_told link disk a b c s taken.0 was.0 tells is_a stood is_b taken.2 quiet taken.3 same is_link on keeps goes (said_sessions reply was.0 (link b) (link c) was.1),
       taken.1,
       subst (λ (v : LinkView). Sends reply was.0 v (link c)) same was.1,
     )

@@ -1,7 +1,7 @@
 -- What comes of serving links by a house over a journal.
 use Rattle.std.specs.Prelude.{◌≡◌, ◌≤◌, ℕ, Bool, false, List, [], ◌∷◌, Result, Ok, Err}
 use Rattle.mc_outside.specs.Bytes.{Rose}
-use Rattle.mc_outside.specs.DiskView.{DiskView}
+use Rattle.mc_outside.specs.DiskView.{DiskView, LinkKeeps}
 use Rattle.mc_outside.specs.LinkView.{LinkView}
 use Rattle.mc_records.specs.declared.limits.Limits.{Limits}
 use Rattle.mc_records.specs.declared.refusal.Refusal.{Refusal}
@@ -21,7 +21,7 @@ use Rattle.house_serving.specs.declared.turn.Turn.{Turn}
 use Rattle.house_serving.specs.declared.links.ServeOut.{ServeOut}
 use Rattle.house_serving.specs.declared.links.ServeOut.TheVariants.{Done, Link, NoMemory, Halted}
 use Rattle.house_serving.specs.Steps.{Did}
-use Rattle.house_serving.specs.Course.{HadLink, ServedAll, ServedSome}
+use Rattle.house_serving.specs.Course.{HadLink, NoLink, ServedAll, ServedSome}
 use Rattle.house_serving.specs.Turns.{Sent, AnsweredItem, Turned, Ended}
 use Rattle.house_serving.specs.Orders.{WentBy, HaltedBy}
 use Rattle.house_serving.specs.Doubts.{Sends, IsDoubted, DoubtTurn, DoubtLink, DoubtLinks}
@@ -50,11 +50,18 @@ pub record KeptCounts {O : Type 0} (link : O → LinkView) (disk : O → DiskVie
   pub disk' : (disk b).faults ≡ (disk a).faults
   pub link' : (link a).faults ≤ (link b).faults
 
+-- `next_link` failed, after a moment up to which the disk did not fail.
+pub record TakesNoLink {O : Type 0} (link : O → LinkView) (disk : O → DiskView) (a b : O) : Type 0 where
+  pub before : O
+  pub counts : KeptCounts link disk a before
+  pub keeps : LinkKeeps (disk before) (disk b)
+  pub fault : NoLink (link before) (link b)
+
 -- Each fault that is answered has its cause: the count of the disk's faults rose where the house halted, and
--- that of the links' where a link could not be taken; in any other answer the disk did not fail.
+-- `next_link` failed where a link could not be taken; in any other answer the disk did not fail.
 abbrev pub HaveCauses : {O T : Type 0} → (O → LinkView) → (O → DiskView) → O → ServeOut O T → Type 0
 HaveCauses link disk a (Done x n) = KeptCounts link disk a x.journal.disk
-HaveCauses link disk a (Link x) = KeptCounts link disk a x.journal.disk × Rose (link a).faults (link x.journal.disk).faults
+HaveCauses link disk a (Link x) = TakesNoLink link disk a x.journal.disk
 HaveCauses link disk a (NoMemory x) = x.journal.disk ≡ a
 HaveCauses link disk a (Halted d) = Rose (disk a).faults (disk d).faults
 

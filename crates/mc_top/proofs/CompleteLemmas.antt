@@ -5,8 +5,10 @@ use Rattle.mc_outside.specs.Bytes.{Rose}
 use Rattle.mc_outside.specs.DiskView.{DiskView}
 use Rattle.mc_outside.specs.LinkView.{LinkView}
 use Rattle.ledger_model.specs.Histories.{History}
+use Rattle.ledger_model.specs.Houses.{site_kind}
 use Rattle.ledger_model.specs.Lawful.{IsLawful}
 use Rattle.scrip_journal.specs.Layout.{Stands}
+use Rattle.house_serving.specs.Links.{TakesNoLink}
 use Rattle.vendor_core.specs.Desk.{Task}
 use Rattle.mc_top.specs.declared.command.Command.{Command}
 use Rattle.mc_top.specs.declared.command.Command.TheVariants as commands
@@ -15,13 +17,13 @@ use Rattle.mc_top.specs.declared.order.Order.TheVariants as orders
 use Rattle.mc_top.specs.declared.status.Status.{Status}
 use Rattle.mc_top.specs.declared.status.Status.TheVariants as ends
 use Rattle.mc_top.specs.Opening.{full}
-use Rattle.mc_top.specs.Words.{Shop, Founder}
+use Rattle.mc_top.specs.Words.{Shop}
 use Rattle.mc_top.specs.Course.{Says}
 use Rattle.mc_top.specs.Statuses.{number_of, line_of}
-use Rattle.mc_top.specs.Serving.{NotOpened, ServesLinksOf, BookCauses}
-use Rattle.mc_top.specs.Init.{FoundsBook, InitCauses}
-use Rattle.mc_top.specs.Desk.{TakesInput, LosesInput, DidBy, KeepsBook}
-use Rattle.mc_top.specs.Programs.{ServesOnce, Obeys, Ends, RunsAs, EndsWell, answered}
+use Rattle.mc_top.specs.Serving.{NotOpened, ServesLinksOf, BookCauses, ServeCauses}
+use Rattle.mc_top.specs.Init.{FoundCauses}
+use Rattle.mc_top.specs.Desk.{TakesInput, LosesInput, DidBy, KeepsBook, KeepCauses}
+use Rattle.mc_top.specs.Programs.{ServesOnce, Obeys, Ends, RunsAs, HasVendor, HasBook, EndsWell, answered}
 use Rattle.mc_top.proofs.OpenLaws.{begins_with_header, not_spoiled, not_unlawful, not_of_other}
 
 -- a call that failed is seen at the end
@@ -65,7 +67,7 @@ unopened_grew link disk bytes a b ends.NoMemory not = same_count (link a) (link 
 unopened_grew link disk bytes a b ends.LinkFault not = absurd not
 unopened_grew link disk bytes a b (ends.Refused f) not = same_count (link a) (link b) not.2.link'
 
-served_grew : {O : Type 0} (link : O → LinkView) (disk : O → DiskView) (links : ℕ) (bytes : List ℕ) (a b : O) (status : Status) → Calm link disk a b → BookCauses link disk a status b → ServesLinksOf link disk links bytes a status b
+served_grew : {O : Type 0} (link : O → LinkView) (disk : O → DiskView) (links : ℕ) (bytes : List ℕ) (a b : O) (status : Status) → Calm link disk a b → ServeCauses link disk a status b → ServesLinksOf link disk links bytes a status b
     → (link a).faults ≤ (link b).faults
 served_grew link disk links bytes a b ends.Done calm causes served = absurd served
 served_grew link disk links bytes a b (ends.Served n) calm causes served = causes.1
@@ -88,7 +90,7 @@ input_kept (orders.Price l) v input w is = ap (λ (u : LinkView). u.faults) is.1
 input_kept (orders.Licence l) v input w is = ap (λ (u : LinkView). u.faults) is.1
 input_kept (orders.Mint l) v input w is = ap (λ (u : LinkView). u.faults) is.1
 
-kept_grew : {O : Type 0} (link : O → LinkView) (disk : O → DiskView) (order : Order) (bytes : List ℕ) (a b : O) (status : Status) → Calm link disk a b → BookCauses link disk a status b → KeepsBook link disk order bytes a status b
+kept_grew : {O : Type 0} (link : O → LinkView) (disk : O → DiskView) (order : Order) (bytes : List ℕ) (a b : O) (status : Status) → Calm link disk a b → KeepCauses link disk order a status b → KeepsBook link disk order bytes a status b
     → (link a).faults ≤ (link b).faults
 kept_grew link disk order bytes a b status calm causes (inl not) = unopened_grew link disk bytes a b status not
 kept_grew link disk order bytes a b status calm causes (inr (inr kept)) =
@@ -98,39 +100,38 @@ kept_grew link disk order bytes a b status calm causes (inr (inr kept)) =
 kept_grew link disk order bytes a b status calm causes (inr (inl unread)) = go unread.lost
   where
     go : ((status ≡ ends.LinkFault) × LosesInput order (link a) (link b)) ⊎ ((status ≡ ends.NoMemory) × (link b ≡ link a)) → (link a).faults ≤ (link b).faults
-    go (inl (is, lost)) = absurd (calm.link' (subst (λ (s : Status). BookCauses link disk a s b) is causes).1)
+    go (inl (is, lost)) = absurd (calm.link' (subst (λ (s : Status). KeepCauses link disk order a s b) is causes).1)
     go (inr (is, same)) = same_count (link a) (link b) same
 
--- whatever the command is, over an outside whose disk had these bytes
-grew : {O : Type 0} (link : O → LinkView) (disk : O → DiskView) (command : Command) (bytes : List ℕ) (a b : O) (status : Status) → (disk a).contents ≡ Some bytes → Calm link disk a b → Obeys link disk command a status b
+-- whatever the command is, where its book is there
+grew : {O : Type 0} (link : O → LinkView) (disk : O → DiskView) (command : Command) (a b : O) (status : Status) → HasBook (disk a) command → Calm link disk a b → Obeys link disk command a status b
     → (link a).faults ≤ (link b).faults
-grew link disk (commands.Once shop) bytes a b status told calm obeys = obeys.2
-grew link disk (commands.Init founder) bytes a b status told calm obeys =
-    let is : (link b).faults ≡ (link a).faults = ap (λ (u : LinkView). u.faults) (obeys.1 bytes told).1.rest in omega (arith, is)
-grew link disk (commands.Serve server) bytes a b status told calm obeys = go (obeys.1 bytes told)
+grew link disk (commands.Once shop) a b status has calm obeys = obeys.2
+grew link disk (commands.Init founder) a b status has calm obeys = omega (arith, obeys.0.1)
+grew link disk (commands.Serve server) a b status has calm obeys = go (obeys.1 has.bytes has.told)
   where
-    go : NotOpened link disk bytes a status b ⊎ ServesLinksOf link disk server.links bytes a status b → (link a).faults ≤ (link b).faults
-    go (inl not) = unopened_grew link disk bytes a b status not
-    go (inr served) = served_grew link disk server.links bytes a b status calm obeys.0 served
-grew link disk (commands.Desk order) bytes a b status told calm obeys = kept_grew link disk order bytes a b status calm obeys.0 (obeys.1 bytes told)
+    go : NotOpened link disk has.bytes a status b ⊎ ServesLinksOf link disk server.links has.bytes a status b → (link a).faults ≤ (link b).faults
+    go (inl not) = unopened_grew link disk has.bytes a b status not
+    go (inr served) = served_grew link disk server.links has.bytes a b status calm obeys.0 served
+grew link disk (commands.Desk order) a b status has calm obeys = kept_grew link disk order has.bytes a b status calm obeys.0 (obeys.1 has.bytes has.told)
 
 -- ---- how it ends
 
 -- it was opened, unless memory was refused
-only_memory : {O : Type 0} (link : O → LinkView) (disk : O → DiskView) (h : History) (bytes : List ℕ) (a b : O) (status : Status) → Stands h bytes → IsLawful full h → Calm link disk a b
-    → BookCauses link disk a status b → NotOpened link disk bytes a status b → number_of status ≡ 5
-only_memory link disk h bytes a b ends.Done st lawful calm causes not = absurd not
-only_memory link disk h bytes a b (ends.Served n) st lawful calm causes not = absurd not
-only_memory link disk h bytes a b (ends.Founded name) st lawful calm causes not = absurd not
-only_memory link disk h bytes a b (ends.Did line) st lawful calm causes not = absurd not
-only_memory link disk h bytes a b ends.BadWords st lawful calm causes not = absurd not
-only_memory link disk h bytes a b ends.NotJournal st lawful calm causes not = absurd (not.0 (begins_with_header h bytes st))
-only_memory link disk h bytes a b (ends.BadEntry place) st lawful calm causes not = absurd (not_spoiled h bytes place st not.0)
-only_memory link disk h bytes a b (ends.UnlawfulEntry place) st lawful calm causes not = absurd (not_unlawful h bytes place st lawful not.0)
-only_memory link disk h bytes a b ends.DiskFault st lawful calm causes not = absurd (calm.disk' causes)
-only_memory link disk h bytes a b ends.NoMemory st lawful calm causes not = refl
-only_memory link disk h bytes a b ends.LinkFault st lawful calm causes not = absurd not
-only_memory link disk h bytes a b (ends.Refused f) st lawful calm causes not = absurd (not_of_other h bytes st lawful not.1)
+only_memory : {O : Type 0} (link : O → LinkView) (disk : O → DiskView) (Lost : O → O → Type 0) (h : History) (bytes : List ℕ) (a b : O) (status : Status) → Stands h bytes → IsLawful full h → site_kind h ≡ Some 0 → Calm link disk a b
+    → BookCauses link disk Lost a status b → NotOpened link disk bytes a status b → number_of status ≡ 5
+only_memory link disk Lost h bytes a b ends.Done st lawful vendor calm causes not = absurd not
+only_memory link disk Lost h bytes a b (ends.Served n) st lawful vendor calm causes not = absurd not
+only_memory link disk Lost h bytes a b (ends.Founded name) st lawful vendor calm causes not = absurd not
+only_memory link disk Lost h bytes a b (ends.Did line) st lawful vendor calm causes not = absurd not
+only_memory link disk Lost h bytes a b ends.BadWords st lawful vendor calm causes not = absurd not
+only_memory link disk Lost h bytes a b ends.NotJournal st lawful vendor calm causes not = absurd (not.0 (begins_with_header h bytes st))
+only_memory link disk Lost h bytes a b (ends.BadEntry place) st lawful vendor calm causes not = absurd (not_spoiled h bytes place st not.0)
+only_memory link disk Lost h bytes a b (ends.UnlawfulEntry place) st lawful vendor calm causes not = absurd (not_unlawful h bytes place st lawful not.0)
+only_memory link disk Lost h bytes a b ends.DiskFault st lawful vendor calm causes not = absurd (calm.disk' causes)
+only_memory link disk Lost h bytes a b ends.NoMemory st lawful vendor calm causes not = refl
+only_memory link disk Lost h bytes a b ends.LinkFault st lawful vendor calm causes not = absurd not
+only_memory link disk Lost h bytes a b (ends.Refused f) st lawful vendor calm causes not = absurd (not_of_other h bytes st vendor not.1)
 
 once_well : (shop : Shop) (v w : LinkView) (status : Status) → (Rose v.faults w.faults → ⊥) → ServesOnce shop v status w → (number_of status ≡ 0) ⊎ (number_of status ≡ 5)
 once_well shop v w ends.Done calm served = inl refl
@@ -146,22 +147,21 @@ once_well shop v w (ends.UnlawfulEntry place) calm served = absurd served
 once_well shop v w ends.DiskFault calm served = absurd served
 once_well shop v w (ends.Refused f) calm served = absurd served
 
-init_well : {O : Type 0} (link : O → LinkView) (disk : O → DiskView) (founder : Founder) (bytes : List ℕ) (a b : O) (status : Status) → Calm link disk a b → InitCauses disk a status b → FoundsBook link disk founder bytes a status b
-    → (number_of status ≡ 0) ⊎ ((number_of status ≡ 5) ⊎ (number_of status ≡ 7))
-init_well link disk founder bytes a b ends.Done calm causes found = inl refl
-init_well link disk founder bytes a b (ends.Served n) calm causes found = inl refl
-init_well link disk founder bytes a b (ends.Founded name) calm causes found = inl refl
-init_well link disk founder bytes a b (ends.Did line) calm causes found = inl refl
-init_well link disk founder bytes a b ends.NoMemory calm causes found = inr (inl refl)
-init_well link disk founder bytes a b (ends.Refused f) calm causes found = inr (inr refl)
-init_well link disk founder bytes a b ends.DiskFault calm causes found = absurd (calm.disk' causes)
-init_well link disk founder bytes a b ends.LinkFault calm causes found = absurd found.2
-init_well link disk founder bytes a b ends.BadWords calm causes found = absurd found.2
-init_well link disk founder bytes a b ends.NotJournal calm causes found = absurd found.2
-init_well link disk founder bytes a b (ends.BadEntry place) calm causes found = absurd found.2
-init_well link disk founder bytes a b (ends.UnlawfulEntry place) calm causes found = absurd found.2
+init_well : {O : Type 0} (link : O → LinkView) (disk : O → DiskView) (a b : O) (status : Status) → Calm link disk a b → FoundCauses (disk a) status (disk b) → (number_of status ≡ 0) ⊎ ((number_of status ≡ 5) ⊎ (number_of status ≡ 7))
+init_well link disk a b (ends.Founded name) calm causes = inl refl
+init_well link disk a b ends.NoMemory calm causes = inr (inl refl)
+init_well link disk a b (ends.Refused f) calm causes = inr (inr refl)
+init_well link disk a b ends.DiskFault calm causes = absurd (calm.disk' causes)
+init_well link disk a b ends.Done calm causes = absurd causes
+init_well link disk a b (ends.Served n) calm causes = absurd causes
+init_well link disk a b (ends.Did line) calm causes = absurd causes
+init_well link disk a b ends.LinkFault calm causes = absurd causes
+init_well link disk a b ends.BadWords calm causes = absurd causes
+init_well link disk a b ends.NotJournal calm causes = absurd causes
+init_well link disk a b (ends.BadEntry place) calm causes = absurd causes
+init_well link disk a b (ends.UnlawfulEntry place) calm causes = absurd causes
 
-links_well : {O : Type 0} (link : O → LinkView) (disk : O → DiskView) (links : ℕ) (bytes : List ℕ) (a b : O) (status : Status) → Calm link disk a b → BookCauses link disk a status b → ServesLinksOf link disk links bytes a status b
+links_well : {O : Type 0} (link : O → LinkView) (disk : O → DiskView) (links : ℕ) (bytes : List ℕ) (a b : O) (status : Status) → Calm link disk a b → ServeCauses link disk a status b → ServesLinksOf link disk links bytes a status b
     → (number_of status ≡ 0) ⊎ (number_of status ≡ 5)
 links_well link disk links bytes a b ends.Done calm causes served = inl refl
 links_well link disk links bytes a b (ends.Served n) calm causes served = inl refl
@@ -176,7 +176,7 @@ links_well link disk links bytes a b (ends.BadEntry place) calm causes served = 
 links_well link disk links bytes a b (ends.UnlawfulEntry place) calm causes served = absurd served
 links_well link disk links bytes a b (ends.Refused f) calm causes served = absurd served
 
-did_well : {O : Type 0} (link : O → LinkView) (disk : O → DiskView) (order : Order) (h : History) (task : Task) (a b : O) (status : Status) → Calm link disk a b → BookCauses link disk a status b → DidBy (disk b) order h task status
+did_well : {O : Type 0} (link : O → LinkView) (disk : O → DiskView) (order : Order) (h : History) (task : Task) (a b : O) (status : Status) → Calm link disk a b → KeepCauses link disk order a status b → DidBy (disk b) order h task status
     → (number_of status ≡ 0) ⊎ ((number_of status ≡ 5) ⊎ (number_of status ≡ 7))
 did_well link disk order h task a b ends.Done calm causes did = inl refl
 did_well link disk order h task a b (ends.Served n) calm causes did = inl refl
@@ -191,34 +191,34 @@ did_well link disk order h task a b ends.NotJournal calm causes did = absurd did
 did_well link disk order h task a b (ends.BadEntry place) calm causes did = absurd did
 did_well link disk order h task a b (ends.UnlawfulEntry place) calm causes did = absurd did
 
-desk_well : {O : Type 0} (link : O → LinkView) (disk : O → DiskView) (order : Order) (h : History) (bytes : List ℕ) (a b : O) (status : Status) → Stands h bytes → IsLawful full h → Calm link disk a b → BookCauses link disk a status b
-    → KeepsBook link disk order bytes a status b → (number_of status ≡ 0) ⊎ ((number_of status ≡ 5) ⊎ (number_of status ≡ 7))
-desk_well link disk order h bytes a b status st lawful calm causes (inl not) = inr (inl (only_memory link disk h bytes a b status st lawful calm causes not))
-desk_well link disk order h bytes a b status st lawful calm causes (inr (inr kept)) = did_well link disk order kept.history kept.task a b status calm causes kept.did
-desk_well link disk order h bytes a b status st lawful calm causes (inr (inl unread)) = go unread.lost
+desk_well : {O : Type 0} (link : O → LinkView) (disk : O → DiskView) (order : Order) (a b : O) (status : Status) (has : HasVendor (disk a)) → Calm link disk a b → KeepCauses link disk order a status b
+    → KeepsBook link disk order has.bytes a status b → (number_of status ≡ 0) ⊎ ((number_of status ≡ 5) ⊎ (number_of status ≡ 7))
+desk_well link disk order a b status has calm causes (inl not) = inr (inl (only_memory link disk (λ x y. LosesInput order (link x) (link y)) has.history has.bytes a b status has.stands has.lawful has.vendor calm causes not))
+desk_well link disk order a b status has calm causes (inr (inr kept)) = did_well link disk order kept.history kept.task a b status calm causes kept.did
+desk_well link disk order a b status has calm causes (inr (inl unread)) = go unread.lost
   where
     go : ((status ≡ ends.LinkFault) × LosesInput order (link a) (link b)) ⊎ ((status ≡ ends.NoMemory) × (link b ≡ link a)) → (number_of status ≡ 0) ⊎ ((number_of status ≡ 5) ⊎ (number_of status ≡ 7))
-    go (inl (is, lost)) = absurd (calm.link' (subst (λ (s : Status). BookCauses link disk a s b) is causes).1)
+    go (inl (is, lost)) = absurd (calm.link' (subst (λ (s : Status). KeepCauses link disk order a s b) is causes).1)
     go (inr (is, same)) = inr (inl (ap number_of is))
 
--- what the program ended with, over such a book
-pub ends_well : {O : Type 0} (link : O → LinkView) (disk : O → DiskView) (command : Command) (h : History) (bytes : List ℕ) (a c : O) (number : ℕ) → (disk a).contents ≡ Some bytes → Stands h bytes → IsLawful full h
+-- what the program ended with, where the command's book is there
+pub ends_well : {O : Type 0} (link : O → LinkView) (disk : O → DiskView) (command : Command) (a c : O) (number : ℕ) → HasBook (disk a) command
     → (Rose (disk a).faults (disk c).faults → ⊥) → (Rose (link a).faults (link c).faults → ⊥) → RunsAs link disk command a number c → EndsWell command number
-ends_well {O = O} link disk command h bytes a c number told st lawful no_disk no_link (b, status, obeys, ends) =
-    subst (EndsWell command) (sym (ends.number' ∙ number_stays (line_of status) (link b) (link c) ends.whole (number_of status) no_more ends.said)) (by_command command obeys calm)
+ends_well {O = O} link disk command a c number has no_disk no_link (b, status, obeys, ends) =
+    subst (EndsWell command) (sym (ends.number' ∙ number_stays (line_of status) (link b) (link c) ends.whole (number_of status) no_more ends.said)) (by_command command has obeys calm)
   where
     calm : Calm link disk a b
     calm = is_calm link disk a b c status number ends no_disk no_link
 
     no_more : Rose (link b).faults (link c).faults → ⊥
-    no_more rose = let grown : (link a).faults ≤ (link b).faults = grew link disk command bytes a b status told calm obeys in no_link (omega (arith, grown, rose))
+    no_more rose = let grown : (link a).faults ≤ (link b).faults = grew link disk command a b status has calm obeys in no_link (omega (arith, grown, rose))
 
-    by_command : (command : Command) → Obeys link disk command a status b → Calm link disk a b → EndsWell command (number_of status)
-    by_command (commands.Once shop) obeys calm = once_well shop (link a) (link b) status calm.link' obeys.0
-    by_command (commands.Init founder) obeys calm = init_well link disk founder bytes a b status calm obeys.0 (obeys.1 bytes told)
-    by_command (commands.Serve server) obeys calm = go (obeys.1 bytes told)
+    by_command : (command : Command) → HasBook (disk a) command → Obeys link disk command a status b → Calm link disk a b → EndsWell command (number_of status)
+    by_command (commands.Once shop) has obeys calm = once_well shop (link a) (link b) status calm.link' obeys.0
+    by_command (commands.Init founder) has obeys calm = init_well link disk a b status calm obeys.0.0
+    by_command (commands.Serve server) has obeys calm = go (obeys.1 has.bytes has.told)
       where
-        go : NotOpened link disk bytes a status b ⊎ ServesLinksOf link disk server.links bytes a status b → (number_of status ≡ 0) ⊎ (number_of status ≡ 5)
-        go (inl not) = inr (only_memory link disk h bytes a b status st lawful calm obeys.0 not)
-        go (inr served) = links_well link disk server.links bytes a b status calm obeys.0 served
-    by_command (commands.Desk order) obeys calm = desk_well link disk order h bytes a b status st lawful calm obeys.0 (obeys.1 bytes told)
+        go : NotOpened link disk has.bytes a status b ⊎ ServesLinksOf link disk server.links has.bytes a status b → (number_of status ≡ 0) ⊎ (number_of status ≡ 5)
+        go (inl not) = inr (only_memory link disk (TakesNoLink link disk) has.history has.bytes a b status has.stands has.lawful has.vendor calm obeys.0 not)
+        go (inr served) = links_well link disk server.links has.bytes a b status calm obeys.0 served
+    by_command (commands.Desk order) has obeys calm = desk_well link disk order a b status has calm obeys.0 (obeys.1 has.bytes has.told)

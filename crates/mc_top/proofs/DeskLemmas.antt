@@ -1,5 +1,5 @@
 -- What becomes of a book by an order of its keeper.
-use Rattle.std.proofs.Common.{◌≡◌, ◌⊎◌, inl, inr, ⊎_elim, ℕ, List, [], ◌∷◌, ◌++◌, max, refl, sym, ap, ◌∙◌, subst, Err}
+use Rattle.std.proofs.Common.{◌≡◌, ◌⊎◌, inl, inr, ⊎_elim, ℕ, ◌≤◌, List, [], ◌∷◌, ◌++◌, max, refl, sym, ap, ◌∙◌, subst, Err}
 use Rattle.std.specs.Prelude.{IsSome}
 use Rattle.mc_outside.specs.Bytes.{BeginsWith, Rose}
 use Rattle.mc_outside.specs.DiskView.{DiskView, IsDisk, LinkKeeps, OnlyRead, Ran}
@@ -8,7 +8,9 @@ use Rattle.mc_outside.proofs.Runs.{ran_then, ran_weaker, ran_link, ran_now}
 use Rattle.mc_records.specs.declared.limits.Limits.{Limits}
 use Rattle.mc_records.specs.declared.refusal.Refusal.{Refusal}
 use Rattle.ledger_model.specs.Histories.{History, time}
-use Rattle.ledger_model.specs.Lawful.{IsLawful}
+use Rattle.ledger_model.specs.Lawful.{IsLawful, MayFollow}
+use Rattle.ledger_model.proofs.AcceptLaws.{accepted_once}
+use Rattle.ledger_model.proofs.FollowLaws.{longer_lawful}
 use Rattle.ledger_model.specs.Lines as lines
 use Rattle.ledger_model.specs.Answer.{fitted}
 use Rattle.scrip_journal.specs.Layout.{Stands}
@@ -34,8 +36,8 @@ use Rattle.mc_top.specs.declared.status.Status.TheVariants as ends
 use Rattle.mc_top.specs.Inputs.{IsInput, LostInput}
 use Rattle.mc_top.specs.Opening.{full}
 use Rattle.mc_top.specs.Endings.{outcome_status}
-use Rattle.mc_top.specs.Serving.{StandsLawful, BookCauses}
-use Rattle.mc_top.specs.Desk.{TakesInput, Asks, after, IsLine, IsDoable, DidBy, KeepPair, Kept, Opened, LosesInput, Unread}
+use Rattle.mc_top.specs.Serving.{StandsLawful, StandsEither}
+use Rattle.mc_top.specs.Desk.{TakesInput, Asks, after, IsLine, IsDoable, DidBy, KeepPair, KeepCauses, Kept, Opened, LosesInput, Unread}
 use Rattle.mc_top.proofs.InitLemmas.{none_between}
 use Rattle.mc_top.proofs.ServedLemmas.{stands_lawful}
 
@@ -48,9 +50,13 @@ lawful_in disk x h limits st = stands_lawful disk ShelfStands (λ s. 0) Holds x 
 
 -- ---- up to the task
 
--- a crash pair of before
-abbrev pub BeforePair : DiskView → List ℕ → List ℕ → Type 0
-BeforePair d image sent = d.leaves image × (sent ≡ d.aside)
+-- a crash pair of before; where what is sent is told, nothing was sent
+abbrev pub BeforePair : Type 0 → DiskView → List ℕ → List ℕ → Type 0
+BeforePair tells d image sent = d.leaves image × (tells → sent ≡ d.aside)
+
+-- what was sent is told
+abbrev pub Tells : {O : Type 0} → (O → LinkView) → O → Type 0
+Tells link a = IsSome (link a).sessions
 
 -- Links worked on the outside of a house, which sent nothing: the house is what it was, but for its time.
 pub record Worked {O : Type 0} (link : O → LinkView) (disk : O → DiskView) (x y : House O Shelf) : Type 0 where
@@ -68,12 +74,12 @@ worked_then link disk x y z a keeps b = record {
 }
 
 -- the crash pairs of it are of before
-worked_pairs : {O : Type 0} (link : O → LinkView) (disk : O → DiskView) (x y : House O Shelf) → TellsAside link (λ o. (disk o).aside) → Worked link disk x y → IsSome (link x.journal.disk).sessions
-    → Ran (disk x.journal.disk) (disk y.journal.disk) (BeforePair (disk x.journal.disk)) × ((disk y.journal.disk).aside ≡ (disk x.journal.disk).aside)
-worked_pairs link disk x y tells worked told' =
-    let same : (disk y.journal.disk).aside ≡ (disk x.journal.disk).aside = aside_still link (λ o. (disk o).aside) x.journal.disk y.journal.disk tells told' worked.quiet in (
-      ran_link (disk x.journal.disk) (disk y.journal.disk) (BeforePair (disk x.journal.disk)) worked.keeps
-          (λ i s l from upto. (l, none_between (disk x.journal.disk).aside s from (subst (λ (z : List ℕ). BeginsWith s z) same upto))),
+worked_pairs : {O : Type 0} (link : O → LinkView) (disk : O → DiskView) (x y : House O Shelf) → TellsAside link (λ o. (disk o).aside) → Worked link disk x y
+    → Ran (disk x.journal.disk) (disk y.journal.disk) (BeforePair (Tells link x.journal.disk) (disk x.journal.disk)) × (Tells link x.journal.disk → (disk y.journal.disk).aside ≡ (disk x.journal.disk).aside)
+worked_pairs link disk x y tells worked =
+    let same : Tells link x.journal.disk → (disk y.journal.disk).aside ≡ (disk x.journal.disk).aside = λ told'. aside_still link (λ o. (disk o).aside) x.journal.disk y.journal.disk tells told' worked.quiet in (
+      ran_link (disk x.journal.disk) (disk y.journal.disk) (BeforePair (Tells link x.journal.disk) (disk x.journal.disk)) worked.keeps
+          (λ i s l from upto. (l, λ told'. none_between (disk x.journal.disk).aside s from (subst (λ (z : List ℕ). BeginsWith s z) (same told') upto))),
       same,
     )
 
@@ -89,16 +95,18 @@ pub record Ready {O : Type 0} (link : O → LinkView) (disk : O → DiskView) (o
   pub read : AreRead OfLinks (moment ∷ []) taken.readings (link y.journal.disk).readings
   pub rest : link y.journal.disk ≡ with_readings (link y.journal.disk).readings taken
   pub time' : house_time y.bench ≡ max (time history) moment
-  pub pairs : IsSome (link a).sessions → Ran (disk a) (disk y.journal.disk) (BeforePair (disk a)) × ((disk y.journal.disk).aside ≡ (disk a).aside)
+  pub pairs : Ran (disk a) (disk y.journal.disk) (BeforePair (Tells link a) (disk a)) × (Tells link a → (disk y.journal.disk).aside ≡ (disk a).aside)
 
 -- the pairs from the outside that was handed in on
-pub before_pairs : {O : Type 0} (link : O → LinkView) (disk : O → DiskView) (a : O) (x y : House O Shelf) → TellsAside link (λ o. (disk o).aside) → OnlyRead (disk a) (disk x.journal.disk) → link x.journal.disk ≡ link a → Worked link disk x y → IsSome (link a).sessions
-    → Ran (disk a) (disk y.journal.disk) (BeforePair (disk a)) × ((disk y.journal.disk).aside ≡ (disk a).aside)
-before_pairs link disk a x y tells read same worked told' =
-    let pairs = worked_pairs link disk x y tells worked (subst (λ (v : LinkView). IsSome v.sessions) (sym same) told') in (
-      ran_then (disk a) (disk x.journal.disk) (disk y.journal.disk) (BeforePair (disk a)) read.ran
-          (ran_weaker (disk x.journal.disk) (disk y.journal.disk) _ _ pairs.0 (λ i s p. (read.leaves i p.0, p.1 ∙ read.aside))),
-      pairs.1 ∙ read.aside,
+pub before_pairs : {O : Type 0} (link : O → LinkView) (disk : O → DiskView) (a : O) (x y : House O Shelf) → TellsAside link (λ o. (disk o).aside) → OnlyRead (disk a) (disk x.journal.disk) → link x.journal.disk ≡ link a → Worked link disk x y
+    → Ran (disk a) (disk y.journal.disk) (BeforePair (Tells link a) (disk a)) × (Tells link a → (disk y.journal.disk).aside ≡ (disk a).aside)
+before_pairs link disk a x y tells read same worked =
+    let on : Tells link a → Tells link x.journal.disk = λ told'. subst (λ (v : LinkView). IsSome v.sessions) (sym same) told' in
+    let pairs = worked_pairs link disk x y tells worked in (
+      ran_then (disk a) (disk x.journal.disk) (disk y.journal.disk) (BeforePair (Tells link a) (disk a))
+          (ran_weaker (disk a) (disk x.journal.disk) _ _ read.ran (λ i s p. (p.0, λ told'. p.1)))
+          (ran_weaker (disk x.journal.disk) (disk y.journal.disk) _ _ pairs.0 (λ i s p. (read.leaves i p.0, λ told'. p.1 (on told') ∙ read.aside))),
+      λ told'. pairs.1 (on told') ∙ read.aside,
     )
 
 pub ready : {O : Type 0} (link : O → LinkView) (disk : O → DiskView) (order : Order) (bytes input : List ℕ) (a : O) (x m y : House O Shelf) (moment : ℕ) → TellsAside link (λ o. (disk o).aside)
@@ -187,7 +195,7 @@ unread link disk order bytes a x y status tells at worked lost = record {
   history = at.house.history;
   stands = at.house.of_bytes;
   left = lawful_in disk y at.house.history (worked.limits' ∙ at.house.limits') (worked.stands' at.house.history at.house.house);
-  pairs = λ told'. ran_weaker (disk a) (disk y.journal.disk) _ _ (before_pairs link disk a x y tells at.read at.link' worked told').0 (λ i s p. (inl p.0, p.1));
+  pairs = ran_weaker (disk a) (disk y.journal.disk) _ _ (before_pairs link disk a x y tells at.read at.link' worked).0 (λ i s p. (inl p.0, p.1));
   lost = ⊎_elim
       (λ l. inl (l.0, subst (λ (v : LinkView). LosesInput order v (link y.journal.disk)) at.link' l.1))
       (λ l. inr (l.0, l.1 ∙ at.link')) lost;
@@ -202,32 +210,34 @@ unread_at_once link disk order bytes a x tells keeps at =
 -- ---- the task
 
 -- how the disk is left, by what was done
-did : {O A : Type 0} (disk : O → DiskView) (order : Order) (line : List ℕ) (Told : Task → History → A → Type 0) (y : House O Shelf) (h : History) (task : Task) (out : Outcome O Shelf A) → limits_of y.bench ≡ full
+did : {O A : Type 0} (disk : O → DiskView) (order : Order) (line : List ℕ) (Told : Task → History → A → Type 0) (y : House O Shelf) (h : History) (task : Task) (out : Outcome O Shelf A) → limits_of y.bench ≡ full → IsLawful full h
     → ((o : O) → IsDisk (disk o)) → ((answer : A) → IsDoable task → Told task (after task h) answer → IsLine order h task line) → OfHouse (KeepsTime y) out
     → Does disk ShelfStands (λ s. 0) Holds Told (limits_of y.bench) y.journal.disk h task out → Ran (disk y.journal.disk) (disk (outcome_disk out)) (LeavesBy task out h (disk y.journal.disk).aside)
     → DidBy (disk (outcome_disk out)) order h task (outcome_status out line)
-did disk order line Told y h (Add e) (outcomes.Done x n) limits is_disk says keeps does ran = (tt, says n tt does.1, lawful_in disk x (h ++ e ∷ []) (keeps.limits ∙ limits) does.0)
-did disk order line Told y h (Add e) (outcomes.Refused x f) limits is_disk says keeps does ran =
+did disk order line Told y h (Add e) (outcomes.Done x n) limits lawful is_disk says keeps does ran = (tt, says n tt does.1, lawful_in disk x (h ++ e ∷ []) (keeps.limits ∙ limits) does.0)
+did disk order line Told y h (Add e) (outcomes.Refused x f) limits lawful is_disk says keeps does ran =
     (subst (λ (l : Limits). fitted h l e ≡ Err (lines.Refuse f)) limits does.0, lawful_in disk x h (keeps.limits ∙ limits) does.1.stands')
-did disk order line Told y h (Add e) (outcomes.NoMemory x) limits is_disk says keeps does ran = lawful_in disk x h (keeps.limits ∙ limits) does.stands'
-did disk order line Told y h (Add e) (outcomes.Halted d) limits is_disk says keeps does ran = λ image l. (ran_now (disk y.journal.disk) (disk d) _ (is_disk d) ran image l).0
-did disk order line Told y h Stays (outcomes.Done x n) limits is_disk says keeps does ran = (tt, says n tt does.1, lawful_in disk x h (keeps.limits ∙ limits) does.0.stands')
-did disk order line Told y h Stays (outcomes.Refused x f) limits is_disk says keeps does ran = absurd does
-did disk order line Told y h Stays (outcomes.NoMemory x) limits is_disk says keeps does ran = lawful_in disk x h (keeps.limits ∙ limits) does.stands'
-did disk order line Told y h Stays (outcomes.Halted d) limits is_disk says keeps does ran = absurd does
-did disk order line Told y h (Refuse g) (outcomes.Done x n) limits is_disk says keeps does ran = absurd does
-did disk order line Told y h (Refuse g) (outcomes.Refused x f) limits is_disk says keeps does ran = (does.0, lawful_in disk x h (keeps.limits ∙ limits) does.1.stands')
-did disk order line Told y h (Refuse g) (outcomes.NoMemory x) limits is_disk says keeps does ran = absurd does
-did disk order line Told y h (Refuse g) (outcomes.Halted d) limits is_disk says keeps does ran = absurd does
+did disk order line Told y h (Add e) (outcomes.NoMemory x) limits lawful is_disk says keeps does ran = lawful_in disk x h (keeps.limits ∙ limits) does.stands'
+did disk order line Told y h (Add e) (outcomes.Halted d) limits lawful is_disk says keeps does ran =
+    let more : IsLawful full (h ++ e ∷ []) = longer_lawful full h e lawful (subst (λ (l : Limits). MayFollow l h e) limits does.0) in
+    record { leaves = λ image l. (ran_now (disk y.journal.disk) (disk d) _ (is_disk d) ran image l).0; lawful = more; once = accepted_once full (h ++ e ∷ []) more }
+did disk order line Told y h Stays (outcomes.Done x n) limits lawful is_disk says keeps does ran = (tt, says n tt does.1, lawful_in disk x h (keeps.limits ∙ limits) does.0.stands')
+did disk order line Told y h Stays (outcomes.Refused x f) limits lawful is_disk says keeps does ran = absurd does
+did disk order line Told y h Stays (outcomes.NoMemory x) limits lawful is_disk says keeps does ran = lawful_in disk x h (keeps.limits ∙ limits) does.stands'
+did disk order line Told y h Stays (outcomes.Halted d) limits lawful is_disk says keeps does ran = absurd does
+did disk order line Told y h (Refuse g) (outcomes.Done x n) limits lawful is_disk says keeps does ran = absurd does
+did disk order line Told y h (Refuse g) (outcomes.Refused x f) limits lawful is_disk says keeps does ran = (does.0, lawful_in disk x h (keeps.limits ∙ limits) does.1.stands')
+did disk order line Told y h (Refuse g) (outcomes.NoMemory x) limits lawful is_disk says keeps does ran = absurd does
+did disk order line Told y h (Refuse g) (outcomes.Halted d) limits lawful is_disk says keeps does ran = absurd does
 
 -- the crash pairs of a task
-leaves_pair : {O A : Type 0} (before : DiskView) (task : Task) (out : Outcome O Shelf A) (h : History) (aside image sent : List ℕ) → aside ≡ before.aside → LeavesBy task out h aside image sent → KeepPair before task h image sent
-leaves_pair before (Add e) (outcomes.Done x n) h aside image sent same p = (inr p.0, p.1 ∙ same)
-leaves_pair before (Add e) (outcomes.Refused x f) h aside image sent same p = (inr (inl p.0), p.1 ∙ same)
-leaves_pair before (Add e) (outcomes.NoMemory x) h aside image sent same p = (inr (inl p.0), p.1 ∙ same)
-leaves_pair before (Add e) (outcomes.Halted d) h aside image sent same p = (inr p.0, p.1 ∙ same)
-leaves_pair before Stays out h aside image sent same p = (inr (inl p.0), p.1 ∙ same)
-leaves_pair before (Refuse f) out h aside image sent same p = (inr (inl p.0), p.1 ∙ same)
+leaves_pair : {O A : Type 0} (tells : Type 0) (before : DiskView) (task : Task) (out : Outcome O Shelf A) (h : History) (aside image sent : List ℕ) → (tells → aside ≡ before.aside) → LeavesBy task out h aside image sent → KeepPair tells before task h image sent
+leaves_pair tells before (Add e) (outcomes.Done x n) h aside image sent same p = (inr p.0, λ t. p.1 ∙ same t)
+leaves_pair tells before (Add e) (outcomes.Refused x f) h aside image sent same p = (inr (inl p.0), λ t. p.1 ∙ same t)
+leaves_pair tells before (Add e) (outcomes.NoMemory x) h aside image sent same p = (inr (inl p.0), λ t. p.1 ∙ same t)
+leaves_pair tells before (Add e) (outcomes.Halted d) h aside image sent same p = (inr p.0, λ t. p.1 ∙ same t)
+leaves_pair tells before Stays out h aside image sent same p = (inr (inl p.0), λ t. p.1 ∙ same t)
+leaves_pair tells before (Refuse f) out h aside image sent same p = (inr (inl p.0), λ t. p.1 ∙ same t)
 
 -- an order that the book's house was ready for
 pub kept : {O A : Type 0} (link : O → LinkView) (disk : O → DiskView) (order : Order) (bytes input line : List ℕ) (Told : Task → History → A → Type 0) (a : O) (y : House O Shelf) (out : Outcome O Shelf A) (Asked : History → Task → Type 0)
@@ -247,11 +257,10 @@ kept link disk order bytes input line Told a y out Asked at is_disk same asks sa
   rest = subst (λ (v : LinkView). v ≡ with_readings v.readings at.taken) (sym same) at.rest;
   task = does.task;
   asks = subst (λ (t : ℕ). Asks order input at.history t does.task) at.time' (asks does.task does.asks);
-  did = did disk order line Told y at.history does.task out at.limits' is_disk (λ answer doable told'. says does.task answer does.asks doable told') keeps does.does does.ran;
-  pairs = λ told'. let before = at.pairs told' in
-      ran_then (disk a) (disk y.journal.disk) (disk (outcome_disk out)) (KeepPair (disk a) does.task at.history)
-      (ran_weaker (disk a) (disk y.journal.disk) _ _ before.0 (λ i s p. (inl p.0, p.1)))
-      (ran_weaker (disk y.journal.disk) (disk (outcome_disk out)) _ _ does.ran (λ i s p. leaves_pair (disk a) does.task out at.history (disk y.journal.disk).aside i s before.1 p));
+  did = did disk order line Told y at.history does.task out at.limits' (subst (λ (l : Limits). IsLawful l at.history) at.limits' at.house.house.stands'.books.lawful) is_disk (λ answer doable told'. says does.task answer does.asks doable told') keeps does.does does.ran;
+  pairs = ran_then (disk a) (disk y.journal.disk) (disk (outcome_disk out)) (KeepPair (Tells link a) (disk a) does.task at.history)
+      (ran_weaker (disk a) (disk y.journal.disk) _ _ at.pairs.0 (λ i s p. (inl p.0, p.1)))
+      (ran_weaker (disk y.journal.disk) (disk (outcome_disk out)) _ _ does.ran (λ i s p. leaves_pair (Tells link a) (disk a) does.task out at.history (disk y.journal.disk).aside i s at.pairs.1 p));
 }
 
 -- a task that is refused before the house is asked
@@ -269,17 +278,41 @@ kept_refused link disk order bytes input a y f at asks = record {
   task = Refuse f;
   asks = asks;
   did = (refl, lawful_in disk y at.history at.limits' at.house);
-  pairs = λ told'. ran_weaker (disk a) (disk y.journal.disk) _ _ (at.pairs told').0 (λ i s p. (inl p.0, p.1));
+  pairs = ran_weaker (disk a) (disk y.journal.disk) _ _ at.pairs.0 (λ i s p. (inl p.0, p.1));
 }
 
--- ---- counts
+-- ---- causes
 
-pub kept_causes : {O A : Type 0} (link : O → LinkView) (disk : O → DiskView) (a y : O) (out : Outcome O Shelf A) (line : List ℕ) → (disk y).faults ≡ (disk a).faults → CountsFaults out (disk y).faults (disk (outcome_disk out)).faults
-    → BookCauses link disk a (outcome_status out line) (outcome_disk out)
-kept_causes link disk a y (outcomes.Done x n) line same counts = counts ∙ same
-kept_causes link disk a y (outcomes.Refused x f) line same counts = counts ∙ same
-kept_causes link disk a y (outcomes.NoMemory x) line same counts = counts ∙ same
-kept_causes link disk a y (outcomes.Halted d) line same counts = subst (λ (n : ℕ). Rose n (disk d).faults) same counts
+pub kept_causes : {O A : Type 0} (link : O → LinkView) (disk : O → DiskView) (order : Order) (a y : O) (out : Outcome O Shelf A) (line : List ℕ) → (disk y).faults ≡ (disk a).faults → CountsFaults out (disk y).faults (disk (outcome_disk out)).faults
+    → KeepCauses link disk order a (outcome_status out line) (outcome_disk out)
+kept_causes link disk order a y (outcomes.Done x n) line same counts = counts ∙ same
+kept_causes link disk order a y (outcomes.Refused x f) line same counts = counts ∙ same
+kept_causes link disk order a y (outcomes.NoMemory x) line same counts = counts ∙ same
+kept_causes link disk order a y (outcomes.Halted d) line same counts = subst (λ (n : ℕ). Rose n (disk d).faults) same counts
+
+-- an input that was lost, lost it by a link
+pub lost_rose : (u v : LinkView) → LostInput u v → Rose u.faults v.faults
+lost_rose u v (inl none) = none.rose
+lost_rose u v (inr (got, failed)) = failed.rose
+
+-- the causes from the outside on that was opened
+pub causes_opened : {O : Type 0} (link : O → LinkView) (disk : O → DiskView) (order : Order) (a x : O) (status : Status) (b : O) → (disk x).faults ≡ (disk a).faults → link x ≡ link a → KeepCauses link disk order x status b → KeepCauses link disk order a status b
+causes_opened link disk order a x ends.Done b same links causes = causes ∙ same
+causes_opened link disk order a x (ends.Served n) b same links causes = (causes.0 ∙ same, subst (λ (v : LinkView). v.faults ≤ (link b).faults) links causes.1)
+causes_opened link disk order a x (ends.Founded name) b same links causes = causes ∙ same
+causes_opened link disk order a x (ends.Did line) b same links causes = causes ∙ same
+causes_opened link disk order a x ends.BadWords b same links causes = causes ∙ same
+causes_opened link disk order a x ends.NotJournal b same links causes = causes ∙ same
+causes_opened link disk order a x (ends.BadEntry place) b same links causes = causes ∙ same
+causes_opened link disk order a x (ends.UnlawfulEntry place) b same links causes = causes ∙ same
+causes_opened link disk order a x ends.DiskFault b same links causes = subst (λ (n : ℕ). Rose n (disk b).faults) same causes
+causes_opened link disk order a x ends.NoMemory b same links causes = causes ∙ same
+causes_opened link disk order a x ends.LinkFault b same links causes = (
+  causes.0 ∙ same,
+  subst (λ (v : LinkView). Rose v.faults (link b).faults) links causes.1,
+  subst (λ (v : LinkView). LosesInput order v (link b)) links causes.2,
+)
+causes_opened link disk order a x (ends.Refused f) b same links causes = causes ∙ same
 
 -- ---- mints
 

@@ -14,7 +14,7 @@ use Rattle.ledger_model.specs.Lawful.{IsLawful}
 use Rattle.scrip_journal.specs.declared.fault.HouseFault.{HouseFault}
 use Rattle.scrip_journal.specs.declared.fault.HouseFault.TheVariants as faults
 use Rattle.house_core.specs.declared.house.House.{House}
-use Rattle.house_core.specs.Found.{FoundedFor, FoundsHouseBy, FoundQuiet, ReadsOnly}
+use Rattle.house_core.specs.Found.{FoundedFor, FoundsHouseBy, FoundQuiet, CountsBy, ReadsOnly}
 use Rattle.house_core.specs.Opening.{fault_disk}
 use Rattle.house_serving.specs.Course.{with_readings}
 use Rattle.house_serving.proofs.AsideLemmas.{TellsAside, no_more_still, aside_still}
@@ -23,7 +23,7 @@ use Rattle.mc_top.specs.Opening.{full}
 use Rattle.mc_top.specs.Words.{Founder}
 use Rattle.mc_top.specs.Founding.{site_of}
 use Rattle.mc_top.specs.Endings.{fault_status}
-use Rattle.mc_top.specs.Init.{FoundsBy}
+use Rattle.mc_top.specs.Init.{FoundPair, FoundsBy, FoundCauses}
 use Rattle.mc_top.specs.Serving.{StandsLawful}
 use Rattle.mc_top.proofs.ServedLemmas.{stands_lawful}
 
@@ -44,16 +44,26 @@ none_between x y p q =
     nothing_more (n ∷ x) r is = ap (λ (l : List ℕ). n ∷ l) (nothing_more x r is)
 
 -- the clock was read, and then the book was founded
-pub found_pairs : {O : Type 0} (link : O → LinkView) (disk : O → DiskView) (a m b : O) (e : Entry) → TellsAside link (λ o. (disk o).aside) → LinkKeeps (disk a) (disk m) → link m ≡ with_readings (link m).readings (link a) → IsSome (link a).sessions
-    → Ran (disk m) (disk b) (FoundQuiet (disk m) e) → Ran (disk a) (disk b) (FoundQuiet (disk a) e)
-found_pairs link disk a m b e tells keeps rest told' ran =
-    let same : (disk m).aside ≡ (disk a).aside = aside_still link (λ o. (disk o).aside) a m tells told' (no_more_still (link a) (link m) (ap (λ (v : LinkView). v.sessions) rest)) in
-    ran_then (disk a) (disk m) (disk b) (FoundQuiet (disk a) e)
-    (ran_link (disk a) (disk m) (FoundQuiet (disk a) e) keeps (λ i x l from upto. (inl (inr l), none_between (disk a).aside x from (subst (λ (z : List ℕ). BeginsWith x z) same upto))))
+pub found_pairs : {O : Type 0} (link : O → LinkView) (disk : O → DiskView) (a m b : O) (e : Entry) → TellsAside link (λ o. (disk o).aside) → LinkKeeps (disk a) (disk m) → link m ≡ with_readings (link m).readings (link a)
+    → Ran (disk m) (disk b) (FoundQuiet (disk m) e) → Ran (disk a) (disk b) (FoundPair (IsSome (link a).sessions) (disk a) e)
+found_pairs link disk a m b e tells keeps rest ran =
+    let same : IsSome (link a).sessions → (disk m).aside ≡ (disk a).aside = λ told'. aside_still link (λ o. (disk o).aside) a m tells told' (no_more_still (link a) (link m) (ap (λ (v : LinkView). v.sessions) rest)) in
+    ran_then (disk a) (disk m) (disk b) (FoundPair (IsSome (link a).sessions) (disk a) e)
+    (ran_link (disk a) (disk m) (FoundPair (IsSome (link a).sessions) (disk a) e) keeps (λ i x l from upto. (inl (inr l), λ told'. none_between (disk a).aside x from (subst (λ (z : List ℕ). BeginsWith x z) (same told') upto))))
     (ran_weaker (disk m) (disk b) _ _ ran (λ i x quiet. (
       ⊎_elim (λ short. inl (⊎_elim (λ few. inl few) (λ l. inr ((keeps.leaves i).0 l)) short)) (λ stood. inr stood) quiet.0,
-      quiet.1 ∙ same,
+      λ told'. quiet.1 ∙ same told',
     )))
+
+-- why it was not founded
+pub fault_causes : {O : Type 0} (A : Type 0) (disk : O → DiskView) (before : DiskView) (fault : HouseFault O) → CountsBy {D = O} {A = A} (Err fault) before.faults (disk (fault_disk fault)).faults → FoundCauses before (fault_status fault) (disk (fault_disk fault))
+fault_causes A disk before (faults.NotEmpty d size) counts = ((size, refl), counts)
+fault_causes A disk before (faults.NoMemory d) counts = counts
+fault_causes A disk before (faults.Disk d) counts = counts
+fault_causes A disk before (faults.NotJournal d) counts = absurd counts
+fault_causes A disk before (faults.BadRecord d place) counts = absurd counts
+fault_causes A disk before (faults.Unlawful d place) counts = absurd counts
+fault_causes A disk before (faults.WrongKind d) counts = absurd counts
 
 -- the disk stands for the Site entry
 pub founded_for : {O : Type 0} (disk : O → DiskView) (stands : Shelf → History → Type 0) (site : Shelf → ℕ) (holds : Shelf → ℕ → Type 0) (e : Entry) (bytes : List ℕ) (x : House O Shelf) → FoundedFor disk stands site holds full e bytes x

@@ -1,5 +1,5 @@
 -- How serving the vendor of a book ends.
-use Rattle.std.proofs.Common.{◌≤◌, ◌≡◌, ◌⊎◌, inl, inr, ℕ, List, refl, sym, ap, ◌∙◌, subst, arith, Err}
+use Rattle.std.proofs.Common.{◌≤◌, ◌≡◌, ◌⊎◌, inl, inr, ℕ, List, ◌++◌, refl, sym, ap, ◌∙◌, subst, arith, Err}
 use Rattle.std.specs.Prelude.{IsSome}
 use Rattle.mc_outside.specs.Bytes.{Rose}
 use Rattle.mc_outside.specs.DiskView.{DiskView, OnlyRead, Ran}
@@ -13,6 +13,7 @@ use Rattle.ledger_model.proofs.AcceptLaws.{accepted_once}
 use Rattle.house_core.specs.declared.house.House.{House}
 use Rattle.house_core.specs.Bench.{limits_of, state_of}
 use Rattle.house_core.specs.House.{StandsFor}
+use Rattle.scrip_journal.specs.Layout.{Stands}
 use Rattle.scrip_journal.specs.declared.fault.HouseFault.{HouseFault}
 use Rattle.scrip_journal.specs.declared.fault.HouseFault.TheVariants as faults
 use Rattle.house_core.specs.Opening.{OpenedFor, OpensHouse, fault_disk}
@@ -20,39 +21,38 @@ use Rattle.house_core.specs.Session.{State}
 use Rattle.house_serving.specs.declared.links.ServeOut.{ServeOut}
 use Rattle.house_serving.specs.declared.links.ServeOut.TheVariants as outs
 use Rattle.house_serving.specs.declared.serving.Clock.TheVariants.{OfLinks}
-use Rattle.house_serving.specs.Steps.{Did, state_after}
+use Rattle.house_serving.specs.Steps.{Did, sent_of, state_after}
 use Rattle.house_serving.specs.Course.{ServedAll, ServedSome}
 use Rattle.house_serving.specs.Doubts.{DoubtLinks}
-use Rattle.house_serving.specs.Orders.{InOrder, MovedBy, WentBy, InOrderOrDoubt}
+use Rattle.house_serving.specs.Orders.{InOrder, MovedBy, WentBy, InDoubt}
 use Rattle.house_serving.specs.Links.{ServesLinks, HaveCauses, served_outside}
 use Rattle.vendor_core.specs.declared.shelf.Shelf.{Shelf}
 use Rattle.mc_top.specs.Opening.{full}
 use Rattle.mc_top.specs.Endings.{served_status, fault_status}
-use Rattle.mc_top.specs.Serving.{StandsLawful, ServePair, HaltPair, ServedFrom, Unserved, NotOpened, ServesLinksOf, BookCauses}
+use Rattle.mc_top.specs.Serving.{StandsLawful, ServePair, ServedFrom, Unserved, NotOpened, ServesLinksOf, ServeCauses}
 use Rattle.mc_top.proofs.LawfulRuns.{IsSound, all_sound, links_sound, doubt_sound}
 
 -- ---- counts
 
 pub serve_causes : {O T : Type 0} (link : O → LinkView) (disk : O → DiskView) (a b : O) (out : ServeOut O T) → (disk b).faults ≡ (disk a).faults → link b ≡ link a → HaveCauses link disk b out
-    → BookCauses link disk a (served_status out) (served_outside out)
+    → ServeCauses link disk a (served_status out) (served_outside out)
 serve_causes link disk a b (outs.Done x n) same links kept = (kept.disk' ∙ same, subst (λ (v : LinkView). v.faults ≤ (link x.journal.disk).faults) links kept.link')
-serve_causes link disk a b (outs.Link x) same links kept = (kept.0.disk' ∙ same, subst (λ (v : LinkView). Rose v.faults (link x.journal.disk).faults) links kept.1)
+serve_causes link disk a b (outs.Link x) same links kept =
+    let grown : (link a).faults ≤ (link kept.before).faults = subst (λ (v : LinkView). v.faults ≤ (link kept.before).faults) links kept.counts.link' in (
+      kept.keeps.faults ∙ kept.counts.disk' ∙ same,
+      omega (arith, grown, kept.fault.rose),
+      record { before = kept.before; counts = record { disk' = kept.counts.disk' ∙ same; link' = grown }; keeps = kept.keeps; fault = kept.fault },
+    )
 serve_causes link disk a b (outs.NoMemory x) same links kept = ap (λ d. (disk d).faults) kept ∙ same
 serve_causes link disk a b (outs.Halted d) same links kept = subst (λ (n : ℕ). Rose n (disk d).faults) same kept
 
 -- ---- from the opened house on
 
 -- the book was only read, and then the house went by these steps
-pub read_then_moved : (a b c : DiskView) (s : State) (steps : List Did) → OnlyRead a b → MovedBy b c s steps → Ran a c (ServePair a s steps)
-read_then_moved a b c s steps read moved =
-    ran_then a b c (ServePair a s steps) (ran_weaker a b _ _ read.ran (λ i x p. inl p))
-    (subst (λ (l : List ℕ). Ran b c (λ i x. (a.leaves i × (x ≡ a.aside)) ⊎ InOrder s l steps i x)) read.aside (ran_weaker b c _ _ moved.ran (λ i x o. inr o)))
-
--- and then the disk failed
-pub read_then_halted : (a b c : DiskView) (s : State) (steps : List Did) (e : Entry) (said : List ℕ) → OnlyRead a b → Ran b c (InOrderOrDoubt s b.aside steps e said) → Ran a c (HaltPair a s steps e said)
-read_then_halted a b c s steps e said read ran =
-    ran_then a b c (HaltPair a s steps e said) (ran_weaker a b _ _ read.ran (λ i x p. inl p))
-    (subst (λ (l : List ℕ). Ran b c (λ i x. (a.leaves i × (x ≡ a.aside)) ⊎ InOrderOrDoubt s l steps e said i x)) read.aside (ran_weaker b c _ _ ran (λ i x o. inr o)))
+pub read_then_moved : (tells : Type 0) (a b c : DiskView) (s : State) (steps : List Did) → OnlyRead a b → MovedBy tells b c s steps → Ran a c (ServePair tells a s steps)
+read_then_moved tells a b c s steps read moved =
+    ran_then a b c (ServePair tells a s steps) (ran_weaker a b _ _ read.ran (λ i x p. inl p))
+    (subst (λ (l : List ℕ). Ran b c (λ i x. (a.leaves i × (x ≡ a.aside)) ⊎ InOrder tells s l steps i x)) read.aside (ran_weaker b c _ _ moved.ran (λ i x o. inr o)))
 
 -- the state of the house that was opened
 opened_sound : {O : Type 0} (disk : O → DiskView) (stands : Shelf → History → Type 0) (site : Shelf → ℕ) (holds : Shelf → ℕ → Type 0) (bytes : List ℕ) (x : House O Shelf) (at : OpenedFor disk stands site holds full bytes x)
@@ -69,6 +69,7 @@ stands_lawful disk stands site holds x h st lawful = record {
   stands = st.journal.stands;
   lawful = lawful;
   once = accepted_once full h lawful;
+  lasts = λ image left. subst (λ (x : List ℕ). Stands h x) (sym (st.journal.synced image left)) st.journal.stands;
 }
 
 served_from : {O : Type 0} (link : O → LinkView) (disk : O → DiskView) (stands : Shelf → History → Type 0) (site : Shelf → ℕ) (holds : Shelf → ℕ → Type 0) (bytes : List ℕ) (a : O) (x y : House O Shelf) (steps : List Did)
@@ -77,7 +78,8 @@ served_from : {O : Type 0} (link : O → LinkView) (disk : O → DiskView) (stan
 served_from link disk stands site holds bytes a x y steps at read same went lawful = record {
   stood = record { stands = at.of_bytes; time' = at.time' };
   left = stands_lawful disk stands site holds y (state_after (state_of at.history x.bench) steps).history went.house lawful;
-  pairs = λ told'. read_then_moved (disk a) (disk x.journal.disk) (disk y.journal.disk) (state_of at.history x.bench) steps read (went.moved (subst (λ (v : LinkView). IsSome v.sessions) (sym same) told'));
+  pairs = read_then_moved (IsSome (link a).sessions) (disk a) (disk x.journal.disk) (disk y.journal.disk) (state_of at.history x.bench) steps read
+      (subst (λ (v : LinkView). MovedBy (IsSome v.sessions) (disk x.journal.disk) (disk y.journal.disk) (state_of at.history x.bench) steps) same went.moved);
 }
 
 -- why a book was not opened
@@ -93,30 +95,33 @@ not_opened link disk stands site holds bytes a (faults.NoMemory d) by same read 
 
 -- the book of the house that was opened is served
 pub serves_book : {O : Type 0} (link : O → LinkView) (disk : O → DiskView) (stands : Shelf → History → Type 0) (site : Shelf → ℕ) (holds : Shelf → ℕ → Type 0) (links : ℕ) (bytes : List ℕ) (a : O) (x : House O Shelf) (out : ServeOut O Shelf)
-    (at : OpenedFor disk stands site holds full bytes x) → OnlyRead (disk a) (disk x.journal.disk) → link x.journal.disk ≡ link a
+    (at : OpenedFor disk stands site holds full bytes x) → OnlyRead (disk a) (disk x.journal.disk) → (disk x.journal.disk).faults ≡ (disk a).faults → link x.journal.disk ≡ link a
     → ((h : History) → StandsFor disk stands site holds x h → ServesLinks link disk stands site holds (limits_of x.bench) links x.journal.disk (state_of h x.bench) out)
     → ServesLinksOf link disk links bytes a (served_status out) (served_outside out)
-serves_book link disk stands site holds links bytes a x (outs.Done y n) at read same served =
+serves_book link disk stands site holds links bytes a x (outs.Done y n) at read calm same served =
     let s : State = state_of at.history x.bench in
     let by = served at.history at.house in
     let all = subst (λ (v : LinkView). ServedAll full OfLinks links n by.0 s v (link y.journal.disk)) same
     (subst (λ (l : Limits). ServedAll l OfLinks links n by.0 s (link x.journal.disk) (link y.journal.disk)) at.limits' by.2) in
     let sound = all_sound full links n by.0 s (link a) (link y.journal.disk) (omega arith) (opened_sound disk stands site holds bytes x at) all in
     (s, by.0, served_from link disk stands site holds bytes a x y by.0 at read same by.1 sound.lawful, all)
-serves_book link disk stands site holds links bytes a x (outs.Link y) at read same served =
+serves_book link disk stands site holds links bytes a x (outs.Link y) at read calm same served =
     let s : State = state_of at.history x.bench in
     let by = served at.history at.house in
     let some = subst (λ (v : LinkView). ServedSome full OfLinks links by.0 s v (link y.journal.disk)) same
     (subst (λ (l : Limits). ServedSome l OfLinks links by.0 s (link x.journal.disk) (link y.journal.disk)) at.limits' by.2) in
     let sound = links_sound full some.n by.0 s (link a) some.between (omega arith) (opened_sound disk stands site holds bytes x at) some.links_had in
     (s, by.0, served_from link disk stands site holds bytes a x y by.0 at read same by.1 sound.lawful, some)
-serves_book {O = O} link disk stands site holds links bytes a x (outs.NoMemory y) at read same served =
+serves_book {O = O} link disk stands site holds links bytes a x (outs.NoMemory y) at read calm same served =
     let by = served at.history at.house in
     subst (λ (d : O). Unserved link disk a d) (sym by.1) (record { link' = same; read = read })
-serves_book link disk stands site holds links bytes a x (outs.Halted d) at read same served =
+serves_book link disk stands site holds links bytes a x (outs.Halted d) at read calm same served =
     let s : State = state_of at.history x.bench in
     let by = served at.history at.house in
     let halted = by.3 in
+    let tells : Type 0 = IsSome (link a).sessions in
+    let until : MovedBy tells (disk x.journal.disk) (disk halted.taken) s by.0 =
+    subst (λ (v : LinkView). MovedBy (IsSome v.sessions) (disk x.journal.disk) (disk halted.taken) s by.0) same halted.until in
     let doubt = subst (λ (v : LinkView). DoubtLinks full links by.0 s v by.1 by.2 (link d)) same
     (subst (λ (l : Limits). DoubtLinks l links by.0 s (link x.journal.disk) by.1 by.2 (link d)) at.limits' by.4) in
     let sound = doubt_sound full links by.0 s (link a) by.1 by.2 (link d) (omega arith) (opened_sound disk stands site holds bytes x at) doubt in (
@@ -126,10 +131,13 @@ serves_book link disk stands site holds links bytes a x (outs.Halted d) at read 
       by.2,
       record {
         stood = record { stands = at.of_bytes; time' = at.time' };
-        leaves = halted.leaves;
-        lawful = sound.1;
-        once = accepted_once full _ sound.1;
-        pairs = λ told'. read_then_halted (disk a) (disk x.journal.disk) (disk d) s by.0 by.1 by.2 read (halted.ran (subst (λ (v : LinkView). IsSome v.sessions) (sym same) told'));
+        left = record { leaves = halted.leaves; lawful = sound.1; once = accepted_once full _ sound.1 };
+        taken = halted.taken;
+        quiet = halted.quiet ∙ calm;
+        aside = λ told'. until.aside told' ∙ ap (λ (l : List ℕ). l ++ sent_of by.0) read.aside;
+        until = read_then_moved tells (disk a) (disk x.journal.disk) (disk halted.taken) s by.0 read until;
+        rose = halted.rose;
+        since = subst (λ (v : LinkView). Ran (disk halted.taken) (disk d) (InDoubt (IsSome v.sessions) (state_after s by.0).history (disk halted.taken).aside by.1 by.2)) same halted.since;
       },
       doubt,
     )

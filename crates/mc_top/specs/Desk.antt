@@ -24,7 +24,7 @@ use Rattle.mc_top.specs.declared.status.Status.TheVariants as ends
 use Rattle.mc_top.specs.Words.{licensed_terms, joined}
 use Rattle.mc_top.specs.Opening.{full}
 use Rattle.mc_top.specs.Inputs.{IsInput, LostInput}
-use Rattle.mc_top.specs.Serving.{StandsLawful, NotOpened}
+use Rattle.mc_top.specs.Serving.{StandsLawful, StandsEither, NotOpened, BookCauses}
 
 -- ---- what an order asks for
 
@@ -83,10 +83,9 @@ abbrev pub IsDoable : Task → Type 0
 IsDoable (Refuse f) = ⊥
 IsDoable _ = Unit {0}
 
--- of a task whose entry is in doubt each image that a crash may leave stands for the history with it or
--- without it
+-- the entry of a task is in doubt
 abbrev pub LeavesEither : DiskView → History → Task → Type 0
-LeavesEither d h (Add e) = (image : List ℕ) → d.leaves image → Stands h image ⊎ Stands (h ++ e ∷ []) image
+LeavesEither d h (Add e) = StandsEither d h e
 LeavesEither d h _ = ⊥
 
 -- what the disk stands for, by how the order ended
@@ -97,9 +96,10 @@ DidBy d order h task ends.NoMemory = StandsLawful d h
 DidBy d order h task ends.DiskFault = LeavesEither d h task
 DidBy d order h task _ = ⊥
 
--- A crash pair: of before, or with the entries as they were, or with the one that is added; nothing was sent.
-abbrev pub KeepPair : DiskView → Task → History → List ℕ → List ℕ → Type 0
-KeepPair before task h image sent = (before.leaves image ⊎ (Stands h image ⊎ Stands (after task h) image)) × (sent ≡ before.aside)
+-- A crash pair: of before, or with the entries as they were, or with the one that is added. Where what is sent
+-- is told, nothing was sent.
+abbrev pub KeepPair : Type 0 → DiskView → Task → History → List ℕ → List ℕ → Type 0
+KeepPair tells before task h image sent = (before.leaves image ⊎ (Stands h image ⊎ Stands (after task h) image)) × (tells → sent ≡ before.aside)
 
 -- a house was made of the book's bytes, which were only read
 pub record Opened {O : Type 0} (link : O → LinkView) (disk : O → DiskView) (bytes : List ℕ) (a : O) (x : House O Shelf) : Type 0 where
@@ -121,14 +121,14 @@ pub record Kept {O : Type 0} (link : O → LinkView) (disk : O → DiskView) (or
   pub task : Task
   pub asks : Asks order input history (max (time history) moment) task
   pub did : DidBy (disk b) order history task status
-  pub pairs : IsSome (link a).sessions → Ran (disk a) (disk b) (KeepPair (disk a) task history)
+  pub pairs : Ran (disk a) (disk b) (KeepPair (IsSome (link a).sessions) (disk a) task history)
 
 -- The book stood for a history, and still does; the input was not read.
 pub record Unread {O : Type 0} (link : O → LinkView) (disk : O → DiskView) (order : Order) (bytes : List ℕ) (a : O) (status : Status) (b : O) : Type 0 where
   pub history : History
   pub stands : Stands history bytes
   pub left : StandsLawful (disk b) history
-  pub pairs : IsSome (link a).sessions → Ran (disk a) (disk b) (KeepPair (disk a) Stays history)
+  pub pairs : Ran (disk a) (disk b) (KeepPair (IsSome (link a).sessions) (disk a) Stays history)
   pub lost : ((status ≡ ends.LinkFault) × LosesInput order (link a) (link b)) ⊎ ((status ≡ ends.NoMemory) × (link b ≡ link a))
 
 -- what became of a book that was opened
@@ -138,3 +138,7 @@ KeepsOpened link disk order bytes a status b = Unread link disk order bytes a st
 -- how an order to a book ended, on an outside whose disk had these bytes
 abbrev pub KeepsBook : {O : Type 0} → (O → LinkView) → (O → DiskView) → Order → List ℕ → O → Status → O → Type 0
 KeepsBook link disk order bytes a status b = NotOpened link disk bytes a status b ⊎ KeepsOpened link disk order bytes a status b
+
+-- Each fault has its cause: where a link failed, the order's input was lost.
+abbrev pub KeepCauses : {O : Type 0} → (O → LinkView) → (O → DiskView) → Order → O → Status → O → Type 0
+KeepCauses link disk order a status b = BookCauses link disk (λ x y. LosesInput order (link x) (link y)) a status b

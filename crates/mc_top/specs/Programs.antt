@@ -2,17 +2,22 @@
 use Rattle.std.specs.Prelude.{◌≡◌, ◌⊎◌, ◌≤◌, ℕ, zero, suc, List, Bool, true, false, Some}
 use Rattle.mc_outside.specs.DiskView.{DiskView, LinkKeeps}
 use Rattle.mc_outside.specs.LinkView.{LinkView}
+use Rattle.ledger_model.specs.Histories.{History}
+use Rattle.ledger_model.specs.Houses.{site_kind}
+use Rattle.ledger_model.specs.Lawful.{IsLawful}
+use Rattle.scrip_journal.specs.Layout.{Stands}
 use Rattle.house_serving.specs.Course.{NoLink}
 use Rattle.mc_top.specs.declared.command.Command.{Command}
 use Rattle.mc_top.specs.declared.command.Command.TheVariants as commands
 use Rattle.mc_top.specs.declared.status.Status.{Status}
 use Rattle.mc_top.specs.declared.status.Status.TheVariants as ends
 use Rattle.mc_top.specs.Words.{Shop}
+use Rattle.mc_top.specs.Opening.{full}
 use Rattle.mc_top.specs.Course.{IsDone, Says}
 use Rattle.mc_top.specs.Statuses.{number_of, line_of}
-use Rattle.mc_top.specs.Serving.{ServesBook, BookCauses}
+use Rattle.mc_top.specs.Serving.{ServesBook, ServeCauses}
 use Rattle.mc_top.specs.Init.{FoundsBook, InitCauses}
-use Rattle.mc_top.specs.Desk.{KeepsBook}
+use Rattle.mc_top.specs.Desk.{KeepsBook, KeepCauses}
 
 -- how a shop served its one link, or why it took none
 abbrev pub ServesOnce : Shop → LinkView → Status → LinkView → Type 0
@@ -26,11 +31,11 @@ ServesOnce shop before _ after = ⊥
 abbrev pub Obeys : {O : Type 0} → (O → LinkView) → (O → DiskView) → Command → O → Status → O → Type 0
 Obeys link disk (commands.Once shop) a status b = ServesOnce shop (link a) status (link b) × LinkKeeps (disk a) (disk b) × ((link a).faults ≤ (link b).faults)
 Obeys link disk (commands.Init founder) a status b =
-    InitCauses disk a status b × ((bytes : List ℕ) → (disk a).contents ≡ Some bytes → FoundsBook link disk founder bytes a status b)
+    InitCauses link disk a status b × ((bytes : List ℕ) → (disk a).contents ≡ Some bytes → FoundsBook link disk founder bytes a status b)
 Obeys link disk (commands.Serve server) a status b =
-    BookCauses link disk a status b × ((bytes : List ℕ) → (disk a).contents ≡ Some bytes → ServesBook link disk server.links bytes a status b)
+    ServeCauses link disk a status b × ((bytes : List ℕ) → (disk a).contents ≡ Some bytes → ServesBook link disk server.links bytes a status b)
 Obeys link disk (commands.Desk order) a status b =
-    BookCauses link disk a status b × ((bytes : List ℕ) → (disk a).contents ≡ Some bytes → KeepsBook link disk order bytes a status b)
+    KeepCauses link disk order a status b × ((bytes : List ℕ) → (disk a).contents ≡ Some bytes → KeepsBook link disk order bytes a status b)
 
 -- the number that is answered where the line was said; where it was not, a number other than 0 stays, and 6 takes the
 -- place of 0, so that nothing is told to be done whose line is lost
@@ -50,8 +55,24 @@ pub record Ends {O : Type 0} (link : O → LinkView) (disk : O → DiskView) (st
 abbrev pub RunsAs : {O : Type 0} → (O → LinkView) → (O → DiskView) → Command → O → ℕ → O → Type 0
 RunsAs {O} link disk command a number c = (b : O) × (status : Status) × Obeys link disk command a status b × Ends link disk status b c number
 
--- the statuses of a command whose book stands for a lawful history of a vendor, where no call failed: it is
--- done, memory was refused, or a refusal is told
+-- The disk tells bytes that stand for a lawful history of a vendor.
+pub record HasVendor (d : DiskView) : Type 0 where
+  pub history : History
+  pub bytes : List ℕ
+  pub told : d.contents ≡ Some bytes
+  pub stands : Stands history bytes
+  pub lawful : IsLawful full history
+  pub vendor : site_kind history ≡ Some 0
+
+-- The book that a command opens is there. `vendor once` has none, and `vendor init` founds one on any disk.
+abbrev pub HasBook : DiskView → Command → Type 0
+HasBook d (commands.Once shop) = Unit {0}
+HasBook d (commands.Init founder) = Unit {0}
+HasBook d (commands.Serve server) = HasVendor d
+HasBook d (commands.Desk order) = HasVendor d
+
+-- the statuses of a command that has its book, where no call failed: it is done, memory was refused, or a
+-- refusal is told
 abbrev pub EndsWell : Command → ℕ → Type 0
 EndsWell (commands.Once shop) number = (number ≡ 0) ⊎ (number ≡ 5)
 EndsWell (commands.Init founder) number = (number ≡ 0) ⊎ ((number ≡ 5) ⊎ (number ≡ 7))

@@ -13,10 +13,11 @@ use Rattle.scrip_journal.specs.Layout.{header, Stands}
 use Rattle.house_core.specs.Opening.{SpoilsAt, IsUnlawfulAt, IsOfOther}
 use Rattle.house_core.specs.Session.{State}
 use Rattle.house_serving.specs.declared.serving.Clock.TheVariants.{OfLinks}
-use Rattle.house_serving.specs.Steps.{Did, state_after}
+use Rattle.house_serving.specs.Steps.{Did, sent_of, state_after}
 use Rattle.house_serving.specs.Course.{ServedAll, ServedSome}
-use Rattle.house_serving.specs.Orders.{InOrder, InOrderOrDoubt}
+use Rattle.house_serving.specs.Orders.{InOrder, IsEither, InDoubt}
 use Rattle.house_serving.specs.Doubts.{DoubtLinks}
+use Rattle.house_serving.specs.Links.{TakesNoLink}
 use Rattle.mc_top.specs.declared.status.Status.{Status}
 use Rattle.mc_top.specs.declared.status.Status.TheVariants as ends
 use Rattle.mc_top.specs.Opening.{full}
@@ -26,36 +27,46 @@ pub record Stood (bytes : List ℕ) (s : State) : Type 0 where
   pub stands : Stands s.history bytes
   pub time' : s.time ≡ time s.history
 
--- The disk tells bytes that stand for a lawful history, in which no identity was accepted twice.
+-- The disk tells bytes that stand for a lawful history, in which no identity was accepted twice, and so does
+-- each image that a crash may leave now.
 pub record StandsLawful (d : DiskView) (h : History) : Type 0 where
   pub bytes : List ℕ
   pub told : d.contents ≡ Some bytes
   pub stands : Stands h bytes
   pub lawful : IsLawful full h
   pub once : AreDistinct (accepted h)
+  pub lasts : (image : List ℕ) → d.leaves image → Stands h image
+
+-- Each image that a crash may leave stands for the history with the entry or without it. With it the history
+-- is lawful, and no identity was accepted twice in it.
+pub record StandsEither (d : DiskView) (h : History) (e : Entry) : Type 0 where
+  pub leaves : (image : List ℕ) → d.leaves image → IsEither h e image
+  pub lawful : IsLawful full (h ++ e ∷ [])
+  pub once : AreDistinct (accepted (h ++ e ∷ []))
 
 -- a crash pair: of before, with nothing sent, or in the order of these steps
-abbrev pub ServePair : DiskView → State → List Did → List ℕ → List ℕ → Type 0
-ServePair before s steps image sent = (before.leaves image × (sent ≡ before.aside)) ⊎ InOrder s before.aside steps image sent
-
-abbrev pub HaltPair : DiskView → State → List Did → Entry → List ℕ → List ℕ → List ℕ → Type 0
-HaltPair before s steps e said image sent = (before.leaves image × (sent ≡ before.aside)) ⊎ InOrderOrDoubt s before.aside steps e said image sent
+abbrev pub ServePair : Type 0 → DiskView → State → List Did → List ℕ → List ℕ → Type 0
+ServePair tells before s steps image sent = (before.leaves image × (sent ≡ before.aside)) ⊎ InOrder tells s before.aside steps image sent
 
 -- From the history that the book stood for these steps led to the one that the disk stands for, and each
 -- crash pair is in order.
 pub record ServedFrom {O : Type 0} (link : O → LinkView) (disk : O → DiskView) (bytes : List ℕ) (a b : O) (s : State) (steps : List Did) : Type 0 where
   pub stood : Stood bytes s
   pub left : StandsLawful (disk b) (state_after s steps).history
-  pub pairs : IsSome (link a).sessions → Ran (disk a) (disk b) (ServePair (disk a) s steps)
+  pub pairs : Ran (disk a) (disk b) (ServePair (IsSome (link a).sessions) (disk a) s steps)
 
--- The disk failed while this entry was written, which may follow: each image that a crash may leave stands for
--- the history with it or without it.
+-- After these steps a request was taken, and up to that moment the disk had not failed and each crash pair is
+-- in order. Then the disk failed while this entry was written, which may follow, and so much of the refusal
+-- was sent.
 pub record HaltedFrom {O : Type 0} (link : O → LinkView) (disk : O → DiskView) (bytes : List ℕ) (a b : O) (s : State) (steps : List Did) (e : Entry) (said : List ℕ) : Type 0 where
   pub stood : Stood bytes s
-  pub leaves : (image : List ℕ) → (disk b).leaves image → Stands (state_after s steps).history image ⊎ Stands ((state_after s steps).history ++ e ∷ []) image
-  pub lawful : IsLawful full ((state_after s steps).history ++ e ∷ [])
-  pub once : AreDistinct (accepted ((state_after s steps).history ++ e ∷ []))
-  pub pairs : IsSome (link a).sessions → Ran (disk a) (disk b) (HaltPair (disk a) s steps e said)
+  pub left : StandsEither (disk b) (state_after s steps).history e
+  pub taken : O
+  pub quiet : (disk taken).faults ≡ (disk a).faults
+  pub aside : IsSome (link a).sessions → (disk taken).aside ≡ (disk a).aside ++ sent_of steps
+  pub until : Ran (disk a) (disk taken) (ServePair (IsSome (link a).sessions) (disk a) s steps)
+  pub rose : Rose (disk taken).faults (disk b).faults
+  pub since : Ran (disk taken) (disk b) (InDoubt (IsSome (link a).sessions) (state_after s steps).history (disk taken).aside e said)
 
 -- no link was taken, and the book was only read
 pub record Unserved {O : Type 0} (link : O → LinkView) (disk : O → DiskView) (a b : O) : Type 0 where
@@ -88,11 +99,15 @@ ServesLinksOf link disk links bytes a _ b = ⊥
 abbrev pub ServesBook : {O : Type 0} → (O → LinkView) → (O → DiskView) → ℕ → List ℕ → O → Status → O → Type 0
 ServesBook link disk links bytes a status b = NotOpened link disk bytes a status b ⊎ ServesLinksOf link disk links bytes a status b
 
--- Of a command over a book that stands: the count of the disk's faults rose where the disk failed, and that of
--- the links' where a link failed that the command needs; else the disk did not fail. Where links were served the
--- count of their faults did not fall.
-abbrev pub BookCauses : {O : Type 0} → (O → LinkView) → (O → DiskView) → O → Status → O → Type 0
-BookCauses link disk a (ends.Served n) b = ((disk b).faults ≡ (disk a).faults) × ((link a).faults ≤ (link b).faults)
-BookCauses link disk a ends.DiskFault b = Rose (disk a).faults (disk b).faults
-BookCauses link disk a ends.LinkFault b = ((disk b).faults ≡ (disk a).faults) × Rose (link a).faults (link b).faults
-BookCauses link disk a _ b = (disk b).faults ≡ (disk a).faults
+-- Of a command over a book that stands: the count of the disk's faults rose where the disk failed, and else it
+-- is what it was. Where a link failed that the command needs, it is lost so. Where links were served the count
+-- of their faults did not fall.
+abbrev pub BookCauses : {O : Type 0} → (O → LinkView) → (O → DiskView) → (O → O → Type 0) → O → Status → O → Type 0
+BookCauses link disk Lost a (ends.Served n) b = ((disk b).faults ≡ (disk a).faults) × ((link a).faults ≤ (link b).faults)
+BookCauses link disk Lost a ends.DiskFault b = Rose (disk a).faults (disk b).faults
+BookCauses link disk Lost a ends.LinkFault b = ((disk b).faults ≡ (disk a).faults) × Rose (link a).faults (link b).faults × Lost a b
+BookCauses link disk Lost a _ b = (disk b).faults ≡ (disk a).faults
+
+-- of serving: `next_link` failed where a link was lost
+abbrev pub ServeCauses : {O : Type 0} → (O → LinkView) → (O → DiskView) → O → Status → O → Type 0
+ServeCauses link disk a status b = BookCauses link disk (TakesNoLink link disk) a status b

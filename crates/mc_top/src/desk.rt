@@ -3,9 +3,8 @@
 ghost use Rattle.std.specs.Prelude.{◌≡◌, List as Items, ℕ, Some};
 ghost use Rattle.house_core.specs.House.{outcome_disk};
 ghost use Rattle.mc_top.specs.declared.order.Order.TheVariants as orders;
-ghost use Rattle.mc_top.specs.Desk.{KeepsBook, KeepsOpened, Opened};
+ghost use Rattle.mc_top.specs.Desk.{KeepsBook, KeepsOpened, KeepCauses, Opened};
 ghost use Rattle.mc_top.specs.Endings.{outcome_status};
-ghost use Rattle.mc_top.specs.Serving.{BookCauses};
 ghost use Rattle.mc_top.specs.Statuses.{number_of};
 
 use crate::input::{InputFault, read_input};
@@ -26,7 +25,7 @@ use vendor_core::{Shelf, add_terms, mint, set_goods, set_price};
 /// back, and tells how it ended.
 pub(crate) fn keep_book<O: Outside>(alloc: Global, order: &Order<'_>, out: O) -> (O, Status)
     ensures words { number_of result.1 ≡ 2 → ⊥ }
-    ensures causes { BookCauses O.link O.disk out result.1 result.0 }
+    ensures causes { KeepCauses O.link O.disk order.now out result.1 result.0 }
     ensures kept { (x : Items ℕ) → (O.disk out).contents ≡ Some x → KeepsBook O.link O.disk order.now x out result.1 result.0 }
 {
     let house = match open_house(alloc, out, Limits::FULL, Shelf::new(alloc)) {
@@ -48,7 +47,7 @@ fn keep_goods<O: Outside>(
     house: House<O, Shelf>,
 ) -> (O, Status)
     ensures words { number_of result.1 ≡ 2 → ⊥ }
-    ensures causes { BookCauses O.link O.disk house.journal.disk result.1 result.0 }
+    ensures causes { KeepCauses O.link O.disk (orders.Goods listing.now) house.journal.disk result.1 result.0 }
     ensures kept { (a : O) (x : Items ℕ) → Opened O.link O.disk x a house → KeepsOpened O.link O.disk (orders.Goods listing.now) x a result.1 result.0 }
 {
     let Ok(line) = goods_line(alloc, listing.target(), listing.price()) else {
@@ -83,7 +82,7 @@ fn keep_price<O: Outside>(
     house: House<O, Shelf>,
 ) -> (O, Status)
     ensures words { number_of result.1 ≡ 2 → ⊥ }
-    ensures causes { BookCauses O.link O.disk house.journal.disk result.1 result.0 }
+    ensures causes { KeepCauses O.link O.disk (orders.Price pricing.now) house.journal.disk result.1 result.0 }
     ensures kept { (a : O) (x : Items ℕ) → Opened O.link O.disk x a house → KeepsOpened O.link O.disk (orders.Price pricing.now) x a result.1 result.0 }
 {
     let Ok(line) = goods_line(alloc, pricing.target(), pricing.price()) else {
@@ -101,7 +100,7 @@ fn keep_licence<O: Outside>(
     house: House<O, Shelf>,
 ) -> (O, Status)
     ensures words { number_of result.1 ≡ 2 → ⊥ }
-    ensures causes { BookCauses O.link O.disk house.journal.disk result.1 result.0 }
+    ensures causes { KeepCauses O.link O.disk (orders.Licence licensing.now) house.journal.disk result.1 result.0 }
     ensures kept { (a : O) (x : Items ℕ) → Opened O.link O.disk x a house → KeepsOpened O.link O.disk (orders.Licence licensing.now) x a result.1 result.0 }
 {
     let Ok(line) = licence_line(alloc, &house.name(), licensing.terms()) else {
@@ -119,7 +118,7 @@ fn keep_mint<O: Outside>(
     house: House<O, Shelf>,
 ) -> (O, Status)
     ensures words { number_of result.1 ≡ 2 → ⊥ }
-    ensures causes { BookCauses O.link O.disk house.journal.disk result.1 result.0 }
+    ensures causes { KeepCauses O.link O.disk (orders.Mint minting.now) house.journal.disk result.1 result.0 }
     ensures kept { (a : O) (x : Items ℕ) → Opened O.link O.disk x a house → KeepsOpened O.link O.disk (orders.Mint minting.now) x a result.1 result.0 }
 {
     let mut house = house;

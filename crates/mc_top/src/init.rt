@@ -17,7 +17,7 @@ use vendor_core::Shelf;
 /// back, and tells how it ended.
 pub(crate) fn found_book<O: Outside>(alloc: Global, founder: &Founder<'_>, out: O) -> (O, Status)
     ensures words { number_of result.1 ≡ 2 → ⊥ }
-    ensures causes { InitCauses O.disk out result.1 result.0 }
+    ensures causes { InitCauses O.link O.disk out result.1 result.0 }
     ensures founded { (x : List ℕ) → (O.disk out).contents ≡ Some x → FoundsBook O.link O.disk founder.now x out result.1 result.0 }
 {
     // The check lets a record go only where the types of its parts are named.

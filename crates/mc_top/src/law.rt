@@ -1,6 +1,7 @@
-ghost use Rattle.std.specs.Prelude.{◌≡◌, ℕ, List};
+ghost use Rattle.std.specs.Prelude.{◌≡◌, ℕ, List, Some};
 ghost use Rattle.mc_outside.specs.Bytes.{BeginsWith};
 ghost use Rattle.ledger_model.specs.Histories.{History};
+ghost use Rattle.ledger_model.specs.Houses.{site_kind};
 ghost use Rattle.ledger_model.specs.Lawful.{IsLawful};
 ghost use Rattle.scrip_journal.specs.Layout.{header, Stands};
 ghost use Rattle.house_core.specs.Opening.{SpoilsAt, IsUnlawfulAt, IsOfOther};
@@ -20,5 +21,5 @@ pub fn lawful_books_are_opened()
     ensures header { (h : History) (bytes : List ℕ) → Stands h bytes → BeginsWith header bytes }
     ensures whole { (h : History) (bytes : List ℕ) (place : ℕ) → Stands h bytes → SpoilsAt full 0 bytes place → ⊥ }
     ensures lawful { (h : History) (bytes : List ℕ) (place : ℕ) → Stands h bytes → IsLawful full h → IsUnlawfulAt full 0 bytes place → ⊥ }
-    ensures kind { (h : History) (bytes : List ℕ) → Stands h bytes → IsLawful full h → IsOfOther 0 bytes → ⊥ }
+    ensures kind { (h : History) (bytes : List ℕ) → Stands h bytes → site_kind h ≡ Some 0 → IsOfOther 0 bytes → ⊥ }
 {}

@@ -1,15 +1,11 @@
-ghost use Rattle.std.specs.Prelude.{◌≡◌, ◌⊎◌, ◌↔◌, ◌<◌, ◌≤◌, ℕ, List, Some, map, length, string_bytes, codes};
+ghost use Rattle.std.specs.Prelude.{◌≡◌, ◌⊎◌, ◌↔◌, ◌<◌, ◌≤◌, ℕ, List, map, length, string_bytes, codes};
 ghost use Rattle.mc_outside.specs.Bytes.{Rose};
 ghost use Rattle.mc_outside.specs.DiskView.{LinkKeeps};
-ghost use Rattle.ledger_model.specs.Histories.{History};
-ghost use Rattle.ledger_model.specs.Lawful.{IsLawful};
-ghost use Rattle.scrip_journal.specs.Layout.{Stands};
 ghost use Rattle.mc_top.specs.declared.command.Command.{Command as Commanded};
 ghost use Rattle.mc_top.specs.Commands.{AreWords, AreNoWords};
 ghost use Rattle.mc_top.specs.Course.{IsSaid, Says, EndsOnce};
-ghost use Rattle.mc_top.specs.Opening.{full};
 ghost use Rattle.mc_top.specs.Programs as programs;
-ghost use Rattle.mc_top.specs.Programs.{Obeys, Ends, RunsAs, EndsWell};
+ghost use Rattle.mc_top.specs.Programs.{Obeys, Ends, RunsAs, HasBook, EndsWell};
 ghost use Rattle.mc_top.specs.Statuses.{number_of};
 
 use crate::command::Command;
@@ -44,7 +40,7 @@ pub struct Ran<O, D> {
 /// 0: it is done. 2: the words are of no command, or there are books; nothing was touched but what is said.
 /// 3: the book that is opened is no journal, or has bytes that can't stand, or an entry that may not follow.
 /// 4: the disk failed. 5: memory was refused before anything was done; memory that is refused later, to
-/// accept a request, is a reply with refusal 90 (`500`), and the link goes on. 6: `next_link` failed, or
+/// accept a request, is a reply with refusal 90 (`503`), and the link goes on. 6: `next_link` failed, or
 /// receiving the contents of goods, or saying the line of what is done. 7: a refusal is told: that the book to be founded has bytes already (50),
 /// that the book that is opened is of a site of another kind (52), or what `set_goods`, `set_price`,
 /// `add_terms` or `mint` refuses. Lines say how it ended; where they can't be said, the status stays. The
@@ -54,8 +50,7 @@ pub fn run<O: Outside, D: Disk>(alloc: Global, words: &[String], out: O, books: 
     ensures words { (result.status ≡ 2) ↔ (AreNoWords (map string_bytes words.now) ⊎ (0 < length books.items)) }
     ensures bad_words { result.status ≡ 2 → IsSaid (codes "bad words\n") (O.link out) (O.link result.out) × LinkKeeps (O.disk out) (O.disk result.out) }
     ensures obeyed { (command : Commanded) → AreWords (map string_bytes words.now) command → length books.items ≡ 0 → RunsAs O.link O.disk command out result.status result.out }
-    ensures complete { (command : Commanded) (h : History) (bytes : List ℕ) → AreWords (map string_bytes words.now) command → length books.items ≡ 0
-        → (O.disk out).contents ≡ Some bytes → Stands h bytes → IsLawful full h
+    ensures complete { (command : Commanded) → AreWords (map string_bytes words.now) command → length books.items ≡ 0 → HasBook (O.disk out) command
         → (Rose (O.disk out).faults (O.disk result.out).faults → ⊥) → (Rose (O.link out).faults (O.link result.out).faults → ⊥) → EndsWell command result.status }
 {
     if !books.is_empty() {

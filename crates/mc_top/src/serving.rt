@@ -4,7 +4,7 @@ ghost use Rattle.std.specs.Prelude.{◌≡◌, List, ℕ, Some};
 ghost use Rattle.house_core.specs.Opening.{fault_disk};
 ghost use Rattle.house_serving.specs.Links.{served_outside};
 ghost use Rattle.mc_top.specs.Endings.{served_status, fault_status};
-ghost use Rattle.mc_top.specs.Serving.{ServesBook, BookCauses};
+ghost use Rattle.mc_top.specs.Serving.{ServesBook, ServeCauses};
 ghost use Rattle.mc_top.specs.Statuses.{number_of};
 
 use crate::status::Status;
@@ -20,7 +20,7 @@ use vendor_core::Shelf;
 /// back, and tells how it ended.
 pub(crate) fn serve_book<O: Outside>(alloc: Global, links: u32, out: O) -> (O, Status)
     ensures words { number_of result.1 ≡ 2 → ⊥ }
-    ensures causes { BookCauses O.link O.disk out result.1 result.0 }
+    ensures causes { ServeCauses O.link O.disk out result.1 result.0 }
     ensures served { (x : List ℕ) → (O.disk out).contents ≡ Some x → ServesBook O.link O.disk links x out result.1 result.0 }
 {
     match open_house(alloc, out, Limits::FULL, Shelf::new(alloc)) {

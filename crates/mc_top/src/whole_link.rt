@@ -15,7 +15,7 @@ use std::alloc::Global;
 /// 0: the reply is the session of the link, from no history on. 2: the words, those after the
 /// program's name, are not `vendor once NAME TARGET PRICE SECRET CONTENTS`. 5: memory was refused, to
 /// open the shop or to put the replies together; memory that is refused to accept a request is a reply
-/// with refusal 90 (`500`), and the session goes on. With 2 and 5 the reply stays empty.
+/// with refusal 90 (`503`), and the session goes on. With 2 and 5 the reply stays empty.
 pub fn once(alloc: Global, words: &[String], link: &[u8], reply: &mut Vec<u8>) -> u8
     requires { reply.old.items ≡ [] }
     ensures statuses { (result ≡ 0) ⊎ ((result ≡ 2) ⊎ (result ≡ 5)) }

@@ -4,11 +4,11 @@ ghost use Rattle.millicent.specs.Counts.{book_counts};
 use crate::faults::counted;
 use mc_outside::{Disk, DiskFault};
 use std::fs::{File, Files, OpenFile, OpenOptions};
-use std::io;
 use std::io::ErrorKind;
 use std::os::fd::AsRawFd;
-use std::os::unix::fs::{FileExt, OpenOptionsExt};
+use std::os::unix::fs::{FileExt, MetadataExt, OpenOptionsExt};
 use std::path::Path;
+use std::{fs, io};
 
 /// A disk over one open file, or over none: then each call fails. It tells nothing of the bytes: that the
 /// system keeps them is trusted.
@@ -16,6 +16,8 @@ use std::path::Path;
 pub struct Book<F> {
     file: Option<F>,
     faults: u64,
+    /// The file was made for it.
+    made: bool,
 }
 
 impl<F> Book<F> {
@@ -26,6 +28,7 @@ impl<F> Book<F> {
         Book {
             file: None,
             faults: 0,
+            made: false,
         }
     }
 
@@ -44,31 +47,96 @@ impl Book<File> {
     pub fn open<R: Files<File = File>>(rt: &R, path: &str, create: bool) -> Book<File>
         ensures { result.faults ≡ 0 }
     {
-        Book {
-            file: open_locked(rt, path, create).ok(),
-            faults: 0,
+        match file_at(rt, path, create) {
+            Ok((file, made)) => Book {
+                file: Some(file),
+                faults: 0,
+                made,
+            },
+            Err(_) => Book::none(),
         }
+    }
+
+    /// Takes the file away that was made for the book, where it has no bytes.
+    pub fn forget_if_empty<R: Files<File = File>>(&self, rt: &R, path: &str) {
+        if let Ok(0) = self.length()
+            && self.made
+        {
+            let _ = fs::remove_file(rt, path);
+        }
+    }
+
+    /// Whether others than the file's owner may read it or write to it.
+    pub fn is_open_to_others(&self) -> bool {
+        match self.mode() {
+            Ok(mode) => mode & 0o077 != 0,
+            Err(_) => false,
+        }
+    }
+
+    fn mode(&self) -> io::Result<u32> {
+        Ok(self.opened()?.metadata()?.mode())
     }
 }
 
-/// Opens the file, makes it where `create` says so, and takes its lock. It has secrets, so only its owner may
-/// read one that is made.
-fn open_locked<R: Files<File = File>>(rt: &R, path: &str, create: bool) -> io::Result<File> {
-    let file = OpenOptions::new()
-        .read(true)
-        .write(true)
-        .create(create)
-        .mode(0o600)
-        .open(rt, path)?;
-    // What is said where standard output was closed must not land in the book.
-    if file.as_raw_fd() <= 2 || !file.metadata()?.is_file() {
-        return Err(ErrorKind::Unsupported.into());
+/// The file at this path, locked, and whether it was made here. It has secrets, so only its owner may read one
+/// that is made; one that is made and can't be used is taken away again.
+fn file_at<R: Files<File = File>>(rt: &R, path: &str, create: bool) -> io::Result<(File, bool)> {
+    if create {
+        match new_file(rt, path) {
+            Ok(file) => {
+                file.try_lock()?;
+                return match named(rt, path, &file) {
+                    Ok(()) => Ok((file, true)),
+                    Err(e) => {
+                        let _ = fs::remove_file(rt, path);
+                        Err(e)
+                    }
+                };
+            }
+            Err(e) if e.kind() == ErrorKind::AlreadyExists => {}
+            Err(e) => return Err(e),
+        }
     }
+    let file = OpenOptions::new().read(true).write(true).open(rt, path)?;
     file.try_lock()?;
     if create {
-        sync_folder(rt, path)?;
+        named(rt, path, &file)?;
+    } else {
+        usable(rt, path, &file)?;
     }
-    Ok(file)
+    Ok((file, false))
+}
+
+/// A file that was not there.
+fn new_file<R: Files<File = File>>(rt: &R, path: &str) -> io::Result<File> {
+    OpenOptions::new()
+        .read(true)
+        .write(true)
+        .create_new(true)
+        .mode(0o600)
+        .open(rt, path)
+}
+
+/// Makes the name of a locked file last, where the file may be used.
+fn named<R: Files<File = File>>(rt: &R, path: &str, file: &File) -> io::Result<()> {
+    usable(rt, path, file)?;
+    sync_folder(rt, path)
+}
+
+/// A locked file may be used where it is a regular one, and the one that the path names: another process may
+/// have taken it away before.
+fn usable<R: Files<File = File>>(rt: &R, path: &str, file: &File) -> io::Result<()> {
+    let here = file.metadata()?;
+    // What is said where standard output was closed must not land in the book.
+    if file.as_raw_fd() <= 2 || !here.is_file() {
+        return Err(ErrorKind::Unsupported.into());
+    }
+    let there = fs::metadata(rt, path)?;
+    if here.ino() != there.ino() || here.dev() != there.dev() {
+        return Err(ErrorKind::NotFound.into());
+    }
+    Ok(())
 }
 
 /// Makes the name of a file that may be new last: a sync of the file does not.
@@ -154,8 +222,6 @@ impl<F: OpenFile + FileExt> Disk for Book<F> {
 #[cfg(test)]
 mod tests {
     use super::*;
-    use std::fs;
-    use std::os::unix::fs::MetadataExt;
     use std::test::Fail;
 
     const PATH: &str = "a.book";
@@ -179,8 +245,13 @@ mod tests {
         assert_eq!(rt; fs::read(&rt, PATH)?.as_slice(), b"\0\0\0ab".as_slice());
         assert_eq!(rt; fs::metadata(&rt, PATH)?.mode() & 0o777, 0o600);
         assert_eq!(rt; book.faults, 0);
+        assert!(rt; !book.is_open_to_others());
+        book.forget_if_empty(&rt, PATH);
+        assert!(rt; fs::exists(&rt, PATH)?);
+        assert_eq!(rt; book.cut(0), Ok(()));
+        book.forget_if_empty(&rt, PATH);
+        assert!(rt; !fs::exists(&rt, PATH)?);
         drop(book);
-        fs::remove_file(&rt, PATH)?;
         Ok(())
     }
 
@@ -198,7 +269,9 @@ mod tests {
         assert_eq!(rt; second.faults, 5);
         assert_eq!(rt; first.size(), Ok(0));
         drop(first);
-        assert_eq!(rt; Book::open(&rt, path, false).size(), Ok(0));
+        let again = Book::open(&rt, path, true);
+        again.forget_if_empty(&rt, path);
+        assert!(rt; fs::exists(&rt, path)?);
         fs::remove_file(&rt, path)?;
         assert_eq!(rt; Book::open(&rt, ".", true).size(), Err(DiskFault));
         assert_eq!(rt; Book::open(&rt, "", true).size(), Err(DiskFault));

@@ -1,7 +1,7 @@
 use crate::source::Source;
 use std::io;
 use std::io::{ErrorKind, Read, Write};
-use std::net::{Net, OpenListener, OpenStream, Shutdown, TcpListener};
+use std::net::{Net, OpenListener, OpenStream, Shutdown, SocketAddr, TcpListener};
 use std::rt::Clock;
 use std::time::{Duration, Instant};
 
@@ -29,6 +29,8 @@ const LAST_READS: u32 = 64;
 pub struct Listener<L, S, C> {
     listener: Option<L>,
     connection: Option<Connection<S>>,
+    /// The peer of the connection sent nothing in time, or took nothing.
+    failed: bool,
     clock: C,
 }
 
@@ -53,6 +55,7 @@ impl<L, S, C: Clock> Listener<L, S, C> {
         Listener {
             listener,
             connection: None,
+            failed: false,
             clock,
         }
     }
@@ -70,6 +73,16 @@ impl<L, S, C: Clock> Listener<L, S, C> {
     }
 }
 
+impl<L: OpenListener, S, C> Listener<L, S, C> {
+    /// The address that it listens at, where it does.
+    pub fn address(&self) -> Option<SocketAddr> {
+        match &self.listener {
+            Some(listener) => listener.local_addr().ok(),
+            None => None,
+        }
+    }
+}
+
 impl<L: OpenListener<Stream = S>, S: Read + Write + OpenStream + Drop, C: Clock> Source
     for Listener<L, S, C> {
     fn next(&mut self) -> io::Result<bool> {
@@ -80,20 +93,31 @@ impl<L: OpenListener<Stream = S>, S: Read + Write + OpenStream + Drop, C: Clock>
         let stream = accepted(listener)?;
         let since = Instant::now(&self.clock)?;
         self.connection = Some(Connection { stream, since });
+        self.failed = false;
         Ok(true)
     }
 
     fn recv(&mut self, buf: &mut [u8]) -> io::Result<usize> {
-        self.standing()?.read(buf)
+        let answer = match self.standing() {
+            Ok(stream) => stream.read(buf),
+            Err(e) => Err(e),
+        };
+        self.failed = answer.is_err();
+        answer
     }
 
     fn send(&mut self, bytes: &[u8]) -> io::Result<usize> {
-        self.standing()?.write(bytes)
+        let answer = match self.standing() {
+            Ok(stream) => stream.write(bytes),
+            Err(e) => Err(e),
+        };
+        self.failed = answer.is_err();
+        answer
     }
 
     fn end(&mut self) {
         if let Some(connection) = self.connection.take() {
-            part(connection.stream);
+            part(connection.stream, self.failed);
         }
     }
 }
@@ -122,10 +146,14 @@ fn ready<L: OpenListener<Stream = S>, S: OpenStream + Drop>(listener: &L) -> io:
 }
 
 /// Ends a connection. To close it while bytes of the peer are unread may take back what was sent and is
-/// still under way, so the peer is told of the end, and what it still sends is dropped.
-fn part<S: Read + OpenStream + Drop>(mut stream: S) {
+/// still under way, so the peer is told of the end, and what it still sends is dropped. A peer whose link
+/// failed is not waited for.
+fn part<S: Read + OpenStream + Drop>(mut stream: S, failed: bool) {
     let parting = Some(Duration::from_secs(PARTING));
-    if stream.shutdown(Shutdown::Write).is_err() || stream.set_read_timeout(parting).is_err() {
+    if stream.shutdown(Shutdown::Write).is_err()
+        || failed
+        || stream.set_read_timeout(parting).is_err()
+    {
         return;
     }
     let mut buf = [0; 4096];

@@ -19,6 +19,7 @@ use site::Site;
 use std::alloc::{AllocError, Global};
 use std::fs::File;
 use std::io::Write;
+use std::net::SocketAddr;
 use std::process::ExitCode;
 use std::{env, io};
 use streams::Streams;
@@ -77,14 +78,39 @@ fn start(rt: &HostRuntime, words: &[String], places: &Places) -> u8 {
     match &places.listen {
         Some(address) => {
             let source = listen(rt, text(address.slice()), rt);
+            tell_port(rt, text(address.slice()), source.address());
             let out = Site::new(book, source, rt.stdout(), rt);
             run(rt.alloc(), words, out, others).status
         }
         None => {
             let source = Streams::new(rt.stdin(), rt.stdout());
             let out = Site::new(book, source, rt.stdout(), rt);
-            run(rt.alloc(), words, out, others).status
+            let ran = run(rt.alloc(), words, out, others);
+            if let Some(path) = &places.site
+                && places.founds
+            {
+                leave(rt, text(path.slice()), ran.out.book());
+            }
+            ran.status
         }
+    }
+}
+
+/// Tells on standard error which port the system chose, where the words leave it that.
+fn tell_port(rt: &HostRuntime, address: &str, at: Option<SocketAddr>) {
+    if let Some(at) = at
+        && address.ends_with(":0")
+    {
+        let _ = eprintln!(rt; "listening at {at}");
+    }
+}
+
+/// Takes away the file of a book that was made and not founded, and tells on standard error where others may
+/// read one that has secrets.
+fn leave(rt: &HostRuntime, path: &str, book: &Book<File>) {
+    book.forget_if_empty(rt, path);
+    if book.is_open_to_others() {
+        let _ = eprintln!(rt; "others than its owner may read {path}, which has secrets");
     }
 }
 

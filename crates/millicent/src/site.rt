@@ -42,6 +42,11 @@ impl<F, S: Source, W: Write, C: Clock> Site<F, S, W, C> {
             link_faults: 0,
         }
     }
+
+    /// The book of it.
+    pub fn book(&self) -> &Book<F> {
+        &self.book
+    }
 }
 
 impl<F: OpenFile + FileExt, S: Source, W: Write, C: Clock> Disk for Site<F, S, W, C> {

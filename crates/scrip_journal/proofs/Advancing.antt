@@ -48,6 +48,7 @@ module _ {D : Type 0} (view : D → DiskView) (moved : D → D → Type 0) (old 
     ended = ahead.same.ended ∙ on;
     limit = ahead.same.limit;
     rises = λ place is. (omega (arith, ahead.same.gate), omega (arith, frame.within));
+    stays = λ is. absurd (cc is);
     has_payload = λ place is. (frame.next, frame.fits, took.1 frame);
     cause = λ _. faults;
     reads = λ h r.
@@ -88,6 +89,7 @@ module _ {D : Type 0} (view : D → DiskView) (moved : D → D → Type 0) (old 
         ended = ended_so e;
         limit = ahead.same.limit;
         rises = λ place is. absurd (no_place e place is);
+        stays = λ is. ahead.same.gate;
         has_payload = λ place is. absurd (no_place e place is);
         cause = λ _. caused e faults;
         reads = reads_no_more e ends;

@@ -42,7 +42,9 @@ pub record Advanced {D : Type 0} (view : D → DiskView) (moved : D → D → Ty
   pub limit : new.limit ≡ old.limit
   -- the next gate comes behind the entry that was read
   pub rises : (place : ℕ) → given ≡ Ok (Some place) → (old.gate < new.gate) × (new.gate < 2 ^ 40)
-  -- whose payload is the one that was read last
+  -- and stays where there is none
+  pub stays : given ≡ Ok None → new.gate ≡ old.gate
+  -- its payload is the one that was read last
   pub has_payload : (place : ℕ) → given ≡ Ok (Some place) → (e : Entry) × Fits e × (new.last ≡ payload e)
   pub cause : old.ended ≡ None → CausedBy given (view old.disk).faults (view new.disk).faults
   pub reads : (h : List Entry) (r : IsReading view old h) → ReadsOn view h r.bytes old.gate given new

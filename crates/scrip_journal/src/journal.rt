@@ -83,8 +83,7 @@ impl<D: Disk> Journal<D> {
         // Each crash pair of the call stands for the entries as they were, and nothing is sent.
         ensures ran { (h : List Entry) → IsJournal D.disk self h
             → Ran (D.disk self.disk) (D.disk (staged_disk result)) (StandsQuiet h (D.disk self.disk).aside) }
-        ensures full { (h : List Entry) → IsJournal D.disk self h
-            → IsFull result ↔ (self.limit < size h + entry_size h (entry r.now)) }
+        ensures full { (h : List Entry) → self.size ≡ size h → IsFull result ↔ (self.limit < size h + entry_size h (entry r.now)) }
         ensures fault { IfErr result (λ f. MatchStageFault f
             (λ j. j ≡ self)
             (λ d. Rose (D.disk self.disk).faults (D.disk d).faults)) }

@@ -153,6 +153,7 @@ impl<D: Disk> Replay<D> {
     pub fn finish(self) -> Journal<D>
         requires { self.ended ≡ Some Closed }
         ensures disk { (result.disk ≡ self.disk) × (result.limit ≡ self.limit) × (result.entries ≡ self.entries) }
+        ensures size { result.size ≡ self.gate + 1 }
         ensures journal { (h : List Entry) → IsReading D.disk self h → IsJournal D.disk result h }
     {
         let Replay {

@@ -19,12 +19,22 @@ use Rattle.ledger_model.specs.Answer as answers
 use Rattle.house_core.specs.declared.house.House.{House}
 use Rattle.house_core.specs.declared.outcome.Outcome.{Outcome}
 use Rattle.house_core.specs.declared.outcome.Outcome.TheVariants as outcomes
-use Rattle.house_core.specs.House.{StandsFor, HasRun, Entered, Leaves, outcome_disk}
+use Rattle.house_core.specs.Bench.{house_time}
+use Rattle.house_core.specs.House.{StandsFor, HasRun, KeepsTime, RaisedTo, OfHouse, Entered, Leaves, outcome_disk}
 use Rattle.house_core.proofs.HouseDisk.{ran_nothing, as_it_stood}
 use Rattle.vendor_core.specs.Desk.{Task, Add, Stays, Refuse, Performs, TellsLast, goods_entered, goods_task, repriced, price_task, are_same_terms, licensed, IsMintTask, TellsMint}
 use Rattle.vendor_core.specs.Lines.{piece_lines}
 use Rattle.vendor_core.proofs.GoodsLaws.{bytes_of, in_force_goods}
 use Rattle.vendor_core.proofs.LineLemmas.{lines_of_mint, terms_under_mint}
+
+-- ---- the house time
+
+-- an entry of the house time raises nothing
+pub kept_time : {D T A : Type 0} (house : House D T) (moment : ℕ) (out : Outcome D T A) → moment ≡ house_time house.bench → OfHouse (RaisedTo moment house) out → OfHouse (KeepsTime house) out
+kept_time house moment (outcomes.Done x a) at raised = record { time = omega (arith, raised.time, at); limits = raised.limits }
+kept_time house moment (outcomes.Refused x f) at raised = record { time = omega (arith, raised.time, at); limits = raised.limits }
+kept_time house moment (outcomes.NoMemory x) at raised = record { time = omega (arith, raised.time, at); limits = raised.limits }
+kept_time house moment (outcomes.Halted d) at raised = tt
 
 -- ---- what is done
 

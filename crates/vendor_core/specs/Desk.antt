@@ -12,6 +12,7 @@ use Rattle.ledger_model.specs.Histories.{History}
 use Rattle.ledger_model.specs.Houses.{terms_in, own_series}
 use Rattle.ledger_model.specs.Goods.{goods_in, goods_kind, goods_contents, in_force}
 use Rattle.ledger_model.specs.Pieces.{own_count, next_identity, has_reference, minted_pieces}
+use Rattle.ledger_model.specs.Lawful.{MayFollow}
 use Rattle.ledger_model.specs.Lines as lines
 use Rattle.ledger_model.specs.Answer.{fitted}
 use Rattle.scrip_journal.specs.Exits.{StandsQuiet, EitherQuiet}
@@ -86,12 +87,12 @@ IsMintTask h t limits reference count value (Refuse f) =
 
 -- What comes of a task over a history: an entry is on the disk and is entered; nothing was changed, where the
 -- same stands, where it is refused or does not fit the journal (33), or where memory was refused; or the disk
--- failed. `Told` holds of the task, of the history that stands then, and of what is answered.
+-- failed, and then the entry may follow. `Told` holds of the task, of the history that stands then, and of what is answered.
 abbrev pub Does : {D T A : Type 0} → (D → DiskView) → (T → History → Type 0) → (T → ℕ) → (T → ℕ → Type 0) → (Task → History → A → Type 0) → Limits → D → History → Task → Outcome D T A → Type 0
 Does view stands site holds Told limits disk h (Add e) (outcomes.Done x a) = StandsFor view stands site holds x (h ++ e ∷ []) × Told (Add e) (h ++ e ∷ []) a
 Does view stands site holds Told limits disk h (Add e) (outcomes.Refused x f) = (fitted h limits e ≡ Err (lines.Refuse f)) × IsAsItWas view stands site holds disk x h
 Does view stands site holds Told limits disk h (Add e) (outcomes.NoMemory x) = IsAsItWas view stands site holds disk x h
-Does view stands site holds Told limits disk h (Add e) (outcomes.Halted d) = Rose (view disk).faults (view d).faults
+Does view stands site holds Told limits disk h (Add e) (outcomes.Halted d) = MayFollow limits h e × Rose (view disk).faults (view d).faults
 Does view stands site holds Told limits disk h Stays (outcomes.Done x a) = IsAsItWas view stands site holds disk x h × Told Stays h a
 Does view stands site holds Told limits disk h Stays (outcomes.NoMemory x) = IsAsItWas view stands site holds disk x h
 Does view stands site holds Told limits disk h (Refuse f) (outcomes.Refused x g) = (g ≡ f) × IsAsItWas view stands site holds disk x h

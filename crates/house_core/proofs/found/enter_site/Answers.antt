@@ -5,23 +5,19 @@ use Rattle.house_core.proofs.FoundLemmas.{ran_at}
 use Rattle.house_core.proofs.found.enter_site.Goals as goal
 
 pub returns-in-Ok-clause-exact : goal.returns-in-Ok-clause-exact
-returns-in-Ok-clause-exact g c j room house limit = c.new.ensures.stands (entry c.args.site.now ∷ []) (c.in-Ok.ensures.written [] j).0 house (c.in-Ok.ensures.limit ∙ limit)
+returns-in-Ok-clause-exact g c j house limit = c.new.ensures.stands (entry c.args.site.now ∷ []) (c.in-Ok.ensures.written [] j).0 house (c.in-Ok.ensures.limit ∙ limit)
 
 pub returns-in-Ok-clause-ran : goal.returns-in-Ok-clause-ran
 returns-in-Ok-clause-ran g c j =
     ran_at g.D.Disk.disk (g.D.Disk.disk c.args.journal.disk) c.in-Ok.journal.disk c.new.result.journal.disk (EitherQuiet [] (entry c.args.site.now) (g.D.Disk.disk c.args.journal.disk).aside) c.new.ensures.disk (c.in-Ok.ensures.ran [] j)
 
-pub returns-in-Err-Full-clause-exact : goal.returns-in-Err-Full-clause-exact
-returns-in-Err-Full-clause-exact g c j room house limit =
-    let full = rw c.in-Err-Full.field-0-is at c.in-Err-Full.ensures.full [] j in
-    omega (arith, full, room)
-
-pub returns-in-Err-Full-clause-ran : goal.returns-in-Err-Full-clause-ran
-returns-in-Err-Full-clause-ran g c j =
-    let ran = rw c.in-Err-Full.field-0-is at c.in-Err-Full.ensures.ran [] j in
-    ran_at g.D.Disk.disk (g.D.Disk.disk c.args.journal.disk) c.in-Err-Full.journal.disk c.close.result (EitherQuiet [] (entry c.args.site.now) (g.D.Disk.disk c.args.journal.disk).aside) c.close.ensures ran
-
-pub returns-clause-ran : goal.returns-clause-ran
-returns-clause-ran g c j =
+pub returns-in-Err-Disk-clause-ran : goal.returns-in-Err-Disk-clause-ran
+returns-in-Err-Disk-clause-ran g c j =
     let ran = rw c.in-Err-Disk.field-0-is at c.in-Err-Disk.ensures.ran [] j in
-    ran_at g.D.Disk.disk (g.D.Disk.disk c.args.journal.disk) c.in-Err-Disk.halted c.close-in-Err-Disk.result (EitherQuiet [] (entry c.args.site.now) (g.D.Disk.disk c.args.journal.disk).aside) c.close-in-Err-Disk.ensures ran
+    ran_at g.D.Disk.disk (g.D.Disk.disk c.args.journal.disk) c.in-Err-Disk.halted c.close.result (EitherQuiet [] (entry c.args.site.now) (g.D.Disk.disk c.args.journal.disk).aside) c.close.ensures ran
+
+-- the journal has room for its first entry
+pub unreachable-requires : goal.unreachable-requires
+unreachable-requires g c =
+    let full = rw c.in-Err-Full.field-0-is at c.in-Err-Full.ensures.full [] c.requires.empty in
+    omega (arith, full, c.requires.room)

@@ -1,4 +1,5 @@
-use Rattle.house_core.proofs.HouseDisk.{ran_written}
+use Rattle.mc_records.specs.Views.{entry}
+use Rattle.house_core.proofs.HouseDisk.{ran_written, ran_unstaged}
 use Rattle.house_core.proofs.house.write_entry.Goals as goal
 
 pub returns-in-Ok-open_gate-clause-ran : goal.returns-in-Ok-open_gate-clause-ran
@@ -8,3 +9,6 @@ returns-in-Ok-open_gate-clause-ran g c h is =
 pub returns-in-Err-open_gate-clause-ran : goal.returns-in-Err-open_gate-clause-ran
 returns-in-Err-open_gate-clause-ran g c h is =
     ran_written _ _ _ h _ (g.met.D.Disk.disk_goes _ _ c.in-Ok.ensures.moved) (c.in-Ok.ensures.ran h is) (c.in-Err-open_gate.ensures.ran h _ (c.in-Ok.ensures.staged h is))
+
+pub returns-in-Err-clause-ran : goal.returns-in-Err-clause-ran
+returns-in-Err-clause-ran g c h is = ran_unstaged g.D.Disk.disk _ h (entry c.args.r.now) _ c.in-Err.fault (c.in-Err.ensures.ran h is)

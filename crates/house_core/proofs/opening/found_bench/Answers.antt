@@ -3,4 +3,6 @@ use Rattle.house_core.proofs.OpeningLemmas.{no_other_first}
 use Rattle.house_core.proofs.opening.found_bench.Goals as goal
 
 pub returns-in_default : goal.returns-in_default
-returns-in_default g c = record { limits = tt; exact = (refl, no_other_first c.args.limits c.args.site.now c.in_default.not-Site) }
+returns-in_default g c =
+    let none = no_other_first c.args.limits (g.T.Trade.site c.args.trade) c.args.site.now c.in_default.not-Site in
+    record { limits = tt; exact = (refl, none.0, none.1) }

@@ -5,6 +5,7 @@ use Rattle.mc_records.specs.Requests.{asked_of}
 use Rattle.house_core.specs.Bench.{limits_of, state_of}
 use Rattle.house_serving.specs.declared.turn.Turn.{Turn}
 use Rattle.house_serving.specs.Links.{RepliesTo}
+use Rattle.house_serving.proofs.OrderLemmas.{house_leaves}
 use Rattle.house_serving.proofs.HouseTurnLemmas.{SentOn, replied_new, replied_refused, replied_starved, replied_halted}
 use Rattle.house_serving.proofs.house_turn.reply_to_new.Goals as goal
 
@@ -24,7 +25,7 @@ returns-in-Done-clause-replied g c h st new =
     } in
     subst (λ (t : Turn). RepliesTo g.O.Link.link g.O.Disk.disk g.T.Trade.stands g.T.Trade.site g.T.Trade.holds (limits_of c.args.house.bench) (asked_of c.args.q.now) c.args.after a (state_of h c.args.house.bench) (Ok (z, t))) (sym c.turn_of.ensures.turn)
     (replied_new g.O.Link.link g.O.Disk.disk g.T.Trade.stands g.T.Trade.site g.T.Trade.holds (limits_of c.args.house.bench) (asked_of c.args.q.now) c.args.after a y z (state_of h c.args.house.bench) c.in-Done.settled c.send_settled-sent.result on
-    c.in-Done.ensures.keeps.time (g.met.O.Disk.disk_goes _ _ c.in-Done.ensures.moved).aside same (c.in-Done.ensures.exact h st) (c.in-Done.ensures.ran h st) c.send_settled-sent.ensures.sent c.send_settled-sent.ensures.fault)
+    c.in-Done.ensures.keeps.time (g.met.O.Disk.disk_goes _ _ c.in-Done.ensures.moved).aside c.in-Done.ensures.counts same (c.in-Done.ensures.exact h st) (c.in-Done.ensures.ran h st) c.send_settled-sent.ensures.sent c.send_settled-sent.ensures.fault)
 
 pub returns-in-Refused-clause-replied : goal.returns-in-Refused-clause-replied
 returns-in-Refused-clause-replied g c h st new =
@@ -69,5 +70,5 @@ returns-in-Halted-clause-replied g c h st new =
     let d = c.send_disk_fault-told.new.halted in
     let same = g.met.O.Outside.disk_keeps _ _ c.in-Halted.ensures.moved in
     replied_halted g.O.Link.link g.O.Disk.disk g.T.Trade.stands g.T.Trade.site g.T.Trade.holds (limits_of c.args.house.bench) (asked_of c.args.q.now) c.args.after a b d (state_of h c.args.house.bench) c.send_disk_fault-told.result
-    g.met.O.Outside.sent_aside (g.met.O.Disk.is_disk b) (g.met.O.Link.is_link b) (subst (λ (v : LinkView). IsTrue v.stands) (sym same) c.requires.stands) (g.met.O.Disk.disk_goes _ _ c.in-Halted.ensures.moved).aside same
+    g.met.O.Outside.sent_aside (g.met.O.Disk.is_disk a) (house_leaves g.O.Disk.disk g.T.Trade.stands g.T.Trade.site g.T.Trade.holds c.args.house h st) (g.met.O.Disk.is_disk b) (g.met.O.Link.is_link b) (subst (λ (v : LinkView). IsTrue v.stands) (sym same) c.requires.stands) (g.met.O.Disk.disk_goes _ _ c.in-Halted.ensures.moved).aside same
     (g.met.O.Outside.link_keeps _ _ c.send_disk_fault-told.ensures.moved) (g.met.O.Link.link_goes _ _ c.send_disk_fault-told.ensures.moved) (c.in-Halted.ensures.exact h st) (c.in-Halted.ensures.ran h st) (rw c.time-time.ensures at c.send_disk_fault-told.ensures.sent) (rw c.time-time.ensures at c.send_disk_fault-told.ensures.fault)

@@ -80,6 +80,14 @@ returns-in-Ok-false-clause-served g c h st =
     linked_house_over g.O.Link.link g.O.Disk.disk g.T.Trade.stands g.T.Trade.site g.T.Trade.holds (limits_of c.args.house.bench) c.args.links c.links.served c.args.house.journal.disk (state_of h c.args.house.bench) x y
     c.links-test.true on over (c.links.invariant.linked h st)
 
+pub returns-in-Err-clause-causes : goal.returns-in-Err-clause-causes
+returns-in-Err-clause-causes g c = record {
+  before = c.links.house.journal.disk;
+  counts = c.links.invariant.counts;
+  keeps = g.met.O.Outside.link_keeps _ _ c.next_link.ensures.moved.0;
+  fault = record { same = c.in-Err.ensures.failed; rose = c.in-Err.ensures.cause.rose };
+}
+
 pub returns-in-Err-clause-served : goal.returns-in-Err-clause-served
 returns-in-Err-clause-served g c h st =
     let x = c.links.house in

@@ -9,7 +9,7 @@ use Rattle.mc_top.specs.declared.status.Status.TheVariants as ends
 use Rattle.mc_top.specs.Inputs.{LostInput}
 use Rattle.mc_top.specs.Desk.{goods_line}
 use Rattle.house_serving.proofs.AsideLemmas.{no_more_still}
-use Rattle.mc_top.proofs.DeskLemmas.{Ready, kept, kept_refused, kept_causes, ready_by, by_links, unread, unread_at_once, lost_quiet}
+use Rattle.mc_top.proofs.DeskLemmas.{Ready, kept, kept_refused, kept_causes, ready_by, by_links, unread, unread_at_once, lost_quiet, lost_rose}
 use Rattle.mc_top.proofs.desk.keep_goods.Goals as goal
 
 pub returns-in_default-clause-kept : goal.returns-in_default-clause-kept
@@ -23,6 +23,12 @@ returns-in-Err-NoMemory-clause-kept g c a x at =
     rw c.close-in-Err-NoMemory.ensures
     (inl (unread g.O.Link.link g.O.Disk.disk (orders.Goods c.args.listing.now) x a c.args.house m ends.NoMemory g.met.O.Outside.sent_aside at
     (by_links g.O.Link.link g.O.Disk.disk c.args.house m (no_more_still (g.O.Link.link c.args.house.journal.disk) (g.O.Link.link m.journal.disk) (ap (λ (v : LinkView). v.sessions) same)) (g.met.O.Outside.link_keeps _ _ c.read_input.ensures.moved.0) c.read_input.ensures.moved.1) (inr (refl, same))))
+
+pub returns-in-Err-Link-clause-causes : goal.returns-in-Err-Link-clause-causes
+returns-in-Err-Link-clause-causes g c =
+    let m = c.read_input.new.k in
+    let lost : LostInput (g.O.Link.link c.args.house.journal.disk) (g.O.Link.link m.journal.disk) = rw c.in-Err-Link.field-0-is at c.in-Err-Link.ensures.fault in
+    rw c.close-in-Err-Link.ensures ((g.met.O.Outside.link_keeps _ _ c.read_input.ensures.moved.0).faults, lost_rose _ _ lost, lost)
 
 pub returns-in-Err-Link-clause-kept : goal.returns-in-Err-Link-clause-kept
 returns-in-Err-Link-clause-kept g c a x at =
@@ -49,7 +55,7 @@ returns-clause-causes g c =
     let m = c.read_input.new.k.journal.disk in
     let y = c.raise_by_clock-reading.new.house.journal.disk in
     rw (c.told.ensures.out, c.told.ensures.status)
-    (kept_causes g.O.Link.link g.O.Disk.disk c.args.house.journal.disk y c.set_goods.result c.in-Ok.line ((g.met.O.Outside.link_keeps _ _ c.raise_by_clock-reading.ensures.moved).faults ∙ (g.met.O.Outside.link_keeps _ _ c.read_input.ensures.moved.0).faults) c.set_goods.ensures.counts)
+    (kept_causes g.O.Link.link g.O.Disk.disk (orders.Goods c.args.listing.now) c.args.house.journal.disk y c.set_goods.result c.in-Ok.line ((g.met.O.Outside.link_keeps _ _ c.raise_by_clock-reading.ensures.moved).faults ∙ (g.met.O.Outside.link_keeps _ _ c.read_input.ensures.moved.0).faults) c.set_goods.ensures.counts)
 
 pub returns-clause-kept : goal.returns-clause-kept
 returns-clause-kept g c a x at =

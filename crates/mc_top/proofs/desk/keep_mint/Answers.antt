@@ -11,7 +11,7 @@ pub returns-clause-causes : goal.returns-clause-causes
 returns-clause-causes g c =
     let y = c.raise_by_clock-reading.new.house.journal.disk in
     rw (c.told.ensures.out, c.told.ensures.status)
-    (kept_causes g.O.Link.link g.O.Disk.disk c.args.house.journal.disk y c.mint-outcome.result c.of.result (g.met.O.Outside.link_keeps _ _ c.raise_by_clock-reading.ensures.moved).faults c.mint-outcome.ensures.counts)
+    (kept_causes g.O.Link.link g.O.Disk.disk (orders.Mint c.args.minting.now) c.args.house.journal.disk y c.mint-outcome.result c.of.result (g.met.O.Outside.link_keeps _ _ c.raise_by_clock-reading.ensures.moved).faults c.mint-outcome.ensures.counts)
 
 pub returns-clause-kept : goal.returns-clause-kept
 returns-clause-kept g c a x at =

@@ -15,7 +15,7 @@ pub returns-clause-causes : goal.returns-clause-causes
 returns-clause-causes g c =
     let y = c.raise_by_clock-reading.new.house.journal.disk in
     rw (c.told.ensures.out, c.told.ensures.status)
-    (kept_causes g.O.Link.link g.O.Disk.disk c.args.house.journal.disk y c.set_price.result c.in-Ok.line (g.met.O.Outside.link_keeps _ _ c.raise_by_clock-reading.ensures.moved).faults c.set_price.ensures.counts)
+    (kept_causes g.O.Link.link g.O.Disk.disk (orders.Price c.args.pricing.now) c.args.house.journal.disk y c.set_price.result c.in-Ok.line (g.met.O.Outside.link_keeps _ _ c.raise_by_clock-reading.ensures.moved).faults c.set_price.ensures.counts)
 
 pub returns-clause-kept : goal.returns-clause-kept
 returns-clause-kept g c a x at =

@@ -1,8 +1,9 @@
-use Rattle.std.proofs.Common.{◌≡◌, ◌∙◌, ◌∷◌, [], sym, ap, subst, Some, Ok, Err}
+use Rattle.std.proofs.Common.{◌≡◌, ℕ, ◌∙◌, ◌∷◌, [], sym, ap, subst, Some, Ok, Err}
 use Rattle.mc_outside.specs.LinkView.{LinkView}
 use Rattle.mc_records.specs.Entry.{Entry}
 use Rattle.mc_outside.specs.DiskView.{Ran}
-use Rattle.house_core.specs.Found.{FoundsHouseBy, FoundQuiet}
+use Rattle.house_core.specs.declared.house.House.{House}
+use Rattle.house_core.specs.Found.{FoundsHouseBy, FoundQuiet, CountsBy}
 use Rattle.house_core.specs.Opening.{fault_disk}
 use Rattle.vendor_core.specs.declared.shelf.Shelf.{Shelf}
 use Rattle.vendor_core.specs.Shelf.{Stands, Holds}
@@ -12,11 +13,27 @@ use Rattle.mc_top.specs.Founding.{site_of}
 use Rattle.mc_top.specs.declared.status.Status.{Status}
 use Rattle.mc_top.specs.Opening.{full}
 use Rattle.mc_top.specs.Init.{FoundAt, FoundsBy}
-use Rattle.mc_top.proofs.InitLemmas.{first_has_room, found_pairs, founded_for, not_founded}
+use Rattle.mc_top.proofs.InitLemmas.{first_has_room, found_pairs, fault_causes, founded_for, not_founded}
 use Rattle.mc_top.proofs.init.found_book.Goals as goal
 
 pub found_house-requires-clause-room : goal.found_house-requires-clause-room
 found_house-requires-clause-room g c = rw c.site-site.ensures.site (first_has_room (site_of c.args.founder.now c.now-moment.result) c.site-site.ensures.fits)
+
+pub returns-in-Ok-clause-causes : goal.returns-in-Ok-clause-causes
+returns-in-Ok-clause-causes g c =
+    let keeps = g.met.O.Outside.link_keeps _ _ c.now-moment.ensures.moved in
+    let same : g.O.Link.link c.in-Ok.house.journal.disk ≡ g.O.Link.link c.now-moment.new.self = g.met.O.Outside.disk_keeps _ _ c.in-Ok.ensures.moved in
+    rw c.close.ensures (c.in-Ok.ensures.fault ∙ keeps.faults, ap (λ (v : LinkView). v.faults) (same ∙ c.now-moment.ensures.rest))
+
+pub returns-in-Err-clause-causes : goal.returns-in-Err-clause-causes
+returns-in-Err-clause-causes g c =
+    let keeps = g.met.O.Outside.link_keeps _ _ c.now-moment.ensures.moved in
+    let same : g.O.Link.link (fault_disk c.in-Err.fault) ≡ g.O.Link.link c.now-moment.new.self = g.met.O.Outside.disk_keeps _ _ c.in-Err.ensures.moved in
+    rw (c.not_opened.ensures.disk, c.not_opened.ensures.status) (
+      fault_causes (House g.row.O.Denot Shelf) g.O.Disk.disk (g.O.Disk.disk c.args.out) c.in-Err.fault
+          (subst (λ (n : ℕ). CountsBy {D = g.row.O.Denot} {A = House g.row.O.Denot Shelf} (Err c.in-Err.fault) n (g.O.Disk.disk (fault_disk c.in-Err.fault)).faults) keeps.faults c.in-Err.ensures.fault),
+      ap (λ (v : LinkView). v.faults) (same ∙ c.now-moment.ensures.rest),
+    )
 
 pub returns-in-Ok-clause-founded : goal.returns-in-Ok-clause-founded
 returns-in-Ok-clause-founded g c x told =
@@ -30,7 +47,7 @@ returns-in-Ok-clause-founded g c x told =
     let found : FoundAt g.O.Link.link g.O.Disk.disk c.args.founder.now c.args.out b c.now-moment.result = record {
       read = subst (λ (v : LinkView). AreRead OfLinks (c.now-moment.result ∷ []) (g.O.Link.link c.args.out).readings v.readings) (sym same) c.now-moment.ensures.read;
       rest = subst (λ (v : LinkView). v ≡ with_readings v.readings (g.O.Link.link c.args.out)) (sym same) c.now-moment.ensures.rest;
-      pairs = λ told'. found_pairs g.O.Link.link g.O.Disk.disk c.args.out m b e g.met.O.Outside.sent_aside keeps c.now-moment.ensures.rest told' (subst (λ (f : Entry). Ran (g.O.Disk.disk m) (g.O.Disk.disk b) (FoundQuiet (g.O.Disk.disk m) f)) c.site-site.ensures.site (c.in-Ok.ensures.ran x at));
+      pairs = found_pairs g.O.Link.link g.O.Disk.disk c.args.out m b e g.met.O.Outside.sent_aside keeps c.now-moment.ensures.rest (subst (λ (f : Entry). Ran (g.O.Disk.disk m) (g.O.Disk.disk b) (FoundQuiet (g.O.Disk.disk m) f)) c.site-site.ensures.site (c.in-Ok.ensures.ran x at));
     } in
     rw c.close.ensures (c.now-moment.result, found, (c.name.ensures, by.free, founded_for g.O.Disk.disk Stands (λ s. 0) Holds e x c.in-Ok.house by))
 
@@ -45,7 +62,7 @@ returns-in-Err-clause-founded g c x told =
     let found : FoundAt g.O.Link.link g.O.Disk.disk c.args.founder.now c.args.out b c.now-moment.result = record {
       read = subst (λ (v : LinkView). AreRead OfLinks (c.now-moment.result ∷ []) (g.O.Link.link c.args.out).readings v.readings) (sym same) c.now-moment.ensures.read;
       rest = subst (λ (v : LinkView). v ≡ with_readings v.readings (g.O.Link.link c.args.out)) (sym same) c.now-moment.ensures.rest;
-      pairs = λ told'. found_pairs g.O.Link.link g.O.Disk.disk c.args.out m b e g.met.O.Outside.sent_aside keeps c.now-moment.ensures.rest told' (subst (λ (d : g.row.O.Denot). Ran (g.O.Disk.disk m) (g.O.Disk.disk d) (FoundQuiet (g.O.Disk.disk m) e)) (sym c.not_opened.ensures.disk)
+      pairs = found_pairs g.O.Link.link g.O.Disk.disk c.args.out m b e g.met.O.Outside.sent_aside keeps c.now-moment.ensures.rest (subst (λ (d : g.row.O.Denot). Ran (g.O.Disk.disk m) (g.O.Disk.disk d) (FoundQuiet (g.O.Disk.disk m) e)) (sym c.not_opened.ensures.disk)
           (subst (λ (f : Entry). Ran (g.O.Disk.disk m) (g.O.Disk.disk (fault_disk c.in-Err.fault)) (FoundQuiet (g.O.Disk.disk m) f)) c.site-site.ensures.site (c.in-Err.ensures.ran x at)));
     } in (
       c.now-moment.result,

@@ -14,6 +14,6 @@ returns-clause-obeyed g c command words none = (
 )
 
 pub returns-clause-complete : goal.returns-clause-complete
-returns-clause-complete g c command h bytes words none told st lawful no_disk no_link =
+returns-clause-complete g c command words none has no_disk no_link =
     let runs : RunsAs g.O.Link.link g.O.Disk.disk command c.args.out c.end-out-2.result.1 c.end-out-2.result.0 = returns-clause-obeyed g c command words none in
-    ends_well g.O.Link.link g.O.Disk.disk command h bytes c.args.out c.end-out-2.result.0 c.end-out-2.result.1 told st lawful no_disk no_link runs
+    ends_well g.O.Link.link g.O.Disk.disk command c.args.out c.end-out-2.result.0 c.end-out-2.result.1 has no_disk no_link runs

@@ -10,7 +10,7 @@ returns-in-Ok-clause-causes g c =
 pub returns-in-Ok-clause-served : goal.returns-in-Ok-clause-served
 returns-in-Ok-clause-served g c x told =
     rw (c.ended.ensures.out, c.ended.ensures.status)
-    (inr (serves_book g.O.Link.link g.O.Disk.disk _ _ _ c.args.links x c.args.out c.in-Ok.house c.serve_links.result (c.in-Ok.ensures.exact x told) c.in-Ok.ensures.read (g.met.O.Outside.disk_keeps _ _ c.in-Ok.ensures.moved) c.serve_links.ensures.served))
+    (inr (serves_book g.O.Link.link g.O.Disk.disk _ _ _ c.args.links x c.args.out c.in-Ok.house c.serve_links.result (c.in-Ok.ensures.exact x told) c.in-Ok.ensures.read c.in-Ok.ensures.fault (g.met.O.Outside.disk_keeps _ _ c.in-Ok.ensures.moved) c.serve_links.ensures.served))
 
 pub returns-in-Err-clause-served : goal.returns-in-Err-clause-served
 returns-in-Err-clause-served g c x told =

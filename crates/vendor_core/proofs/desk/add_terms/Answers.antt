@@ -1,5 +1,6 @@
-use Rattle.std.proofs.Common.{◌≡◌, ℕ, None, Some, sym, ap, ◌∙◌, refl}
-use Rattle.mc_records.specs.Entry.{Entry, AddTerms}
+use Rattle.std.proofs.Common.{◌≡◌, ℕ, arith, None, Some, sym, ap, ◌∙◌, refl}
+use Rattle.scrip_form.specs.Issuing.{Issuing}
+use Rattle.mc_records.specs.Entry.{Entry, AddTerms, moment_of}
 use Rattle.mc_records.specs.Views.{entry}
 use Rattle.ledger_model.specs.Houses.{terms_in}
 use Rattle.house_core.specs.Bench.{house_time, limits_of}
@@ -30,3 +31,25 @@ returns-in-Done-clause-exact g c h st =
     let asks : Add e ≡ terms_task h t c.args.terms.now = ap (λ (x : Entry). Add x) same ∙ new_licensed t c.args.terms.now _ none in
     enters g.D.Disk.disk Stands (λ s. 0) Holds (λ task. task ≡ terms_task h t c.args.terms.now) TellsAdded (limits_of c.args.house.bench) (λ n. Some n)
     c.args.house.journal.disk h e (Done c.in-Done.house c.in-Done.receipt) asks (λ done. tells_last h e) (c.in-Done.ensures.exact h st) (c.in-Done.ensures.ran h st)
+
+-- the entry is of the house time
+at_once : (e : Entry) (m t : ℕ) (terms : Issuing) → e ≡ AddTerms m terms → m ≡ t → moment_of e ≡ t
+at_once e m t terms is at = ap moment_of is ∙ at
+
+pub returns-in-Done-clause-keeps : goal.returns-in-Done-clause-keeps
+returns-in-Done-clause-keeps g c =
+    let raised = c.in-Done.ensures.keeps in
+    let at = at_once (entry c.terms_record-record.result) c.time.result (house_time c.args.house.bench) c.args.terms.now c.terms_record-record.ensures.entry c.time.ensures in
+    record { time = omega (arith, raised.time, at); limits = raised.limits }
+
+pub returns-in-Refused-clause-keeps : goal.returns-in-Refused-clause-keeps
+returns-in-Refused-clause-keeps g c =
+    let raised = c.in-Refused.ensures.keeps in
+    let at = at_once (entry c.terms_record-record.result) c.time.result (house_time c.args.house.bench) c.args.terms.now c.terms_record-record.ensures.entry c.time.ensures in
+    record { time = omega (arith, raised.time, at); limits = raised.limits }
+
+pub returns-in-NoMemory-clause-keeps : goal.returns-in-NoMemory-clause-keeps
+returns-in-NoMemory-clause-keeps g c =
+    let raised = c.in-NoMemory.ensures.keeps in
+    let at = at_once (entry c.terms_record-record.result) c.time.result (house_time c.args.house.bench) c.args.terms.now c.terms_record-record.ensures.entry c.time.ensures in
+    record { time = omega (arith, raised.time, at); limits = raised.limits }

@@ -4,7 +4,7 @@ use Rattle.ledger_model.specs.Goods.{in_force}
 use Rattle.house_core.specs.Bench.{house_time, limits_of}
 use Rattle.vendor_core.specs.Shelf.{Stands, Holds}
 use Rattle.vendor_core.specs.Desk.{Add, goods_task, TellsLast}
-use Rattle.vendor_core.proofs.DeskLemmas.{enters_last, refuses, goods_refused, goods_added}
+use Rattle.vendor_core.proofs.DeskLemmas.{kept_time, enters_last, refuses, goods_refused, goods_added}
 use Rattle.vendor_core.proofs.desk.set_goods.Goals as goal
 
 pub returns-then-bytes-gt-MOST_IN_FORCE-clause-exact :
@@ -15,6 +15,9 @@ returns-then-bytes-gt-MOST_IN_FORCE-clause-exact g c h st =
     rw c.bytes.ensures.value at (c.in_force_with-bytes.ensures h t c.args.price c.args.kind (c.trade.ensures h st)) in
     refuses g.D.Disk.disk Stands (λ s. 0) Holds _ TellsLast (limits_of c.args.house.bench) c.args.house h (g.met.D.Disk.is_disk _) st _
     (goods_refused _ _ _ bytes c.if-bytes-gt-MOST_IN_FORCE.true)
+
+pub returns-clause-keeps : goal.returns-clause-keeps
+returns-clause-keeps g c = kept_time c.args.house c.time.result c.enter.result c.time.ensures c.enter.ensures.keeps
 
 pub returns-clause-exact : goal.returns-clause-exact
 returns-clause-exact g c h st =

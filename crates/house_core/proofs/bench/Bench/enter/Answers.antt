@@ -1,27 +1,39 @@
-use Rattle.std.proofs.Common.{◌≡◌}
-use Rattle.house_core.specs.Bench.{limits_of}
+use Rattle.std.proofs.Common.{◌≡◌, ◌∙◌, Err, subst}
+use Rattle.mc_records.specs.declared.limits.Limits.{Limits}
+use Rattle.mc_records.specs.Views.{entry}
+use Rattle.house_core.specs.Bench.{Enters, limits_of}
 use Rattle.house_core.proofs.Accepting.{holds_roomed}
 use Rattle.house_core.proofs.Contents.{contents_roomed}
 use Rattle.house_core.proofs.bench.Bench.enter.Goals as goal
 
+pub returns-in-Err-clause-exact : goal.returns-in-Err-clause-exact
+returns-in-Err-clause-exact g c h st =
+    subst (λ (l : Limits). Enters g.T.Trade.stands g.T.Trade.site c.make_room_for.new.self l h (entry c.args.r.now) (Err c.in-Err.fault)) c.raise.ensures.limits (c.in-Err.ensures.fault h (c.raise.ensures.same h st))
+
+pub returns-in-Err-clause-contents : goal.returns-in-Err-clause-contents
+returns-in-Err-clause-contents g c h st has =
+    contents_roomed g.T.Trade.stands g.T.Trade.site g.T.Trade.holds _ _ h c.in-Err.ensures.same (c.raise.ensures.contents h st has)
+
 pub returns-in-Ok-note-clause-exact : goal.returns-in-Ok-note-clause-exact
 returns-in-Ok-note-clause-exact g c h st =
     let same = c.in-Ok.ensures.same in
-    let limits : limits_of c.make_room_for.new.self ≡ limits_of c.args.self.now = same.books.limits in
-    rw limits at (c.in-Ok-note.ensures.exact h (holds_roomed g.T.Trade.stands g.T.Trade.site g.T.Trade.holds _ _ h same st))
+    let limits : limits_of c.make_room_for.new.self ≡ limits_of c.args.self.now = same.books.limits ∙ c.raise.ensures.limits in
+    rw limits at (c.in-Ok-note.ensures.exact h (holds_roomed g.T.Trade.stands g.T.Trade.site g.T.Trade.holds _ _ h same (c.raise.ensures.same h st)) (c.requires.order h st))
 
 pub returns-in-Err-note-clause-exact : goal.returns-in-Err-note-clause-exact
 returns-in-Err-note-clause-exact g c h st =
     let same = c.in-Ok.ensures.same in
-    let limits : limits_of c.make_room_for.new.self ≡ limits_of c.args.self.now = same.books.limits in
-    rw limits at (c.in-Err-note.ensures.exact h (holds_roomed g.T.Trade.stands g.T.Trade.site g.T.Trade.holds _ _ h same st))
+    let limits : limits_of c.make_room_for.new.self ≡ limits_of c.args.self.now = same.books.limits ∙ c.raise.ensures.limits in
+    rw limits at (c.in-Err-note.ensures.exact h (holds_roomed g.T.Trade.stands g.T.Trade.site g.T.Trade.holds _ _ h same (c.raise.ensures.same h st)) (c.requires.order h st))
 
 pub returns-in-Ok-note-clause-contents : goal.returns-in-Ok-note-clause-contents
 returns-in-Ok-note-clause-contents g c h st has =
     let same = c.in-Ok.ensures.same in
-    c.in-Ok-note.ensures.contents h (holds_roomed g.T.Trade.stands g.T.Trade.site g.T.Trade.holds _ _ h same st) (contents_roomed g.T.Trade.stands g.T.Trade.site g.T.Trade.holds _ _ h same has)
+    c.in-Ok-note.ensures.contents h (holds_roomed g.T.Trade.stands g.T.Trade.site g.T.Trade.holds _ _ h same (c.raise.ensures.same h st))
+    (contents_roomed g.T.Trade.stands g.T.Trade.site g.T.Trade.holds _ _ h same (c.raise.ensures.contents h st has))
 
 pub returns-in-Err-note-clause-contents : goal.returns-in-Err-note-clause-contents
 returns-in-Err-note-clause-contents g c h st has =
     let same = c.in-Ok.ensures.same in
-    c.in-Err-note.ensures.contents h (holds_roomed g.T.Trade.stands g.T.Trade.site g.T.Trade.holds _ _ h same st) (contents_roomed g.T.Trade.stands g.T.Trade.site g.T.Trade.holds _ _ h same has)
+    c.in-Err-note.ensures.contents h (holds_roomed g.T.Trade.stands g.T.Trade.site g.T.Trade.holds _ _ h same (c.raise.ensures.same h st))
+    (contents_roomed g.T.Trade.stands g.T.Trade.site g.T.Trade.holds _ _ h same (c.raise.ensures.contents h st has))

@@ -1,4 +1,7 @@
-use Rattle.std.proofs.Common.{◌≡◌}
+use Rattle.std.proofs.Common.{◌≡◌, ◌≤◌, arith}
+use Rattle.mc_records.specs.Entry.{moment_of}
+use Rattle.mc_records.specs.Views.{entry}
+use Rattle.ledger_model.specs.Histories.{time}
 use Rattle.house_core.specs.Bench.{limits_of}
 use Rattle.house_core.proofs.Accepting.{holds_roomed}
 use Rattle.house_core.proofs.Contents.{contents_roomed}
@@ -8,13 +11,15 @@ pub returns-in-Ok-note-clause-exact : goal.returns-in-Ok-note-clause-exact
 returns-in-Ok-note-clause-exact g c h st =
     let same = c.in-Ok.ensures.same in
     let limits : limits_of c.room_for.new.self ≡ limits_of c.args.self.now = same.books.limits in
-    rw limits at (c.in-Ok-note.ensures.exact h (holds_roomed g.T.Trade.stands g.T.Trade.site g.T.Trade.holds _ _ h same st))
+    let order : time h ≤ moment_of (entry c.args.r.now) = omega (arith, st.books.in_time, c.requires.time) in
+    rw limits at (c.in-Ok-note.ensures.exact h (holds_roomed g.T.Trade.stands g.T.Trade.site g.T.Trade.holds _ _ h same st) order)
 
 pub returns-in-Err-note-clause-exact : goal.returns-in-Err-note-clause-exact
 returns-in-Err-note-clause-exact g c h st =
     let same = c.in-Ok.ensures.same in
     let limits : limits_of c.room_for.new.self ≡ limits_of c.args.self.now = same.books.limits in
-    rw limits at (c.in-Err-note.ensures.exact h (holds_roomed g.T.Trade.stands g.T.Trade.site g.T.Trade.holds _ _ h same st))
+    let order : time h ≤ moment_of (entry c.args.r.now) = omega (arith, st.books.in_time, c.requires.time) in
+    rw limits at (c.in-Err-note.ensures.exact h (holds_roomed g.T.Trade.stands g.T.Trade.site g.T.Trade.holds _ _ h same st) order)
 
 pub returns-in-Ok-note-clause-contents : goal.returns-in-Ok-note-clause-contents
 returns-in-Ok-note-clause-contents g c h st has =

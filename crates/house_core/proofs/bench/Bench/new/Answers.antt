@@ -5,11 +5,11 @@ use Rattle.house_core.proofs.Founded.{none_kept}
 use Rattle.std.proofs.Common.{◌≡◌, [], ◌∷◌, Some}
 use Rattle.mc_records.specs.Views.{entry}
 use Rattle.ledger_model.specs.Houses.{site_kind}
-use Rattle.house_core.proofs.Founded.{stands_founded, learns_site}
+use Rattle.house_core.proofs.Founded.{stands_founded, learns_site, founds_by_trade}
 use Rattle.house_core.proofs.bench.Bench.new.Goals as goal
 
-pub returns-in-Ok-learn-clause-holds : goal.returns-in-Ok-learn-clause-holds
-returns-in-Ok-learn-clause-holds g c =
+pub returns-clause-holds : goal.returns-clause-holds
+returns-clause-holds g c =
     let e = entry c.args.site.now in
     let kind : site_kind (e ∷ []) ≡ Some (g.T.Trade.site c.reserve.new.self) = rw c.in-Ok.ensures.site c.requires.kind in
     record {
@@ -18,10 +18,19 @@ returns-in-Ok-learn-clause-holds g c =
       of_kind = rw c.in-Ok-learn.ensures.site kind;
     }
 
-pub returns-in-Ok-learn-clause-contents : goal.returns-in-Ok-learn-clause-contents
-returns-in-Ok-learn-clause-contents g c =
+pub returns-clause-contents : goal.returns-clause-contents
+returns-clause-contents g c =
     let made : Bench g.row.T.Denot = record { books = c.in_ok-books.books; trade = c.learn.new.self } in
     contents_of_none g.T.Trade.holds made (entry c.args.site.now ∷ []) (none_kept c.in_ok-books.books c.args.limits (entry c.args.site.now) c.in_ok-books.ensures)
 
 pub learn-requires-clause-fits : goal.learn-requires-clause-fits
 learn-requires-clause-fits g c = founds_fit (entry c.args.site.now) c.requires.site
+
+-- the trade learns the Site entry
+pub unreachable-requires : goal.unreachable-requires
+unreachable-requires g c =
+    let e = entry c.args.site.now in
+    let kind : site_kind (e ∷ []) ≡ Some (g.T.Trade.site c.reserve.new.self) = rw c.in-Ok.ensures.site c.requires.kind in
+    let may = learns_site c.args.limits (g.T.Trade.site c.reserve.new.self) e c.requires.site c.requires.first kind in
+    let learned = (c.in-Err-learn.ensures.exact c.args.limits [] (c.in-Ok.ensures.same [] c.requires.trade) may).1 (founds_by_trade g.T.Trade.passes (g.T.Trade.site c.reserve.new.self) e c.requires.site) in
+    absurd (cc learned)

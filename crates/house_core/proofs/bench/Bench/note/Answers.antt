@@ -1,8 +1,6 @@
-use Rattle.std.proofs.Common.{◌≤◌, refl, sym, ap, ◌∙◌, arith}
-use Rattle.mc_records.specs.Entry.{moment_of}
+use Rattle.std.proofs.Common.{refl, sym, ap, ◌∙◌}
 use Rattle.mc_records.specs.Views.{entry}
 use Rattle.kept_replies.specs.Kept.{KeptView}
-use Rattle.ledger_model.specs.Histories.{time}
 use Rattle.ledger_model.specs.Lawful.{MayFollow}
 use Rattle.house_core.specs.declared.bench.Bench.{Bench}
 use Rattle.house_core.specs.Learning.{MayLearn}
@@ -12,13 +10,12 @@ use Rattle.house_core.proofs.Noted.{goods_fit, house_half, follows, halves, stan
 use Rattle.house_core.proofs.bench.Bench.note.Goals as goal
 
 pub returns-in-Err-clause-exact : goal.returns-in-Err-clause-exact
-returns-in-Err-clause-exact g c h st =
+returns-in-Err-clause-exact g c h st in_order =
     let e = entry c.args.r.now in
     let b = c.args.self.now.books in
     let kind = g.T.Trade.site c.args.self.now.trade in
-    let half = house_half st.books kind e c.requires.command c.requires.time in
+    let half = house_half st.books kind e c.requires.command in
     let counted = c.count-number.ensures ∙ sym st.books.counted in
-    let in_order : time h ≤ moment_of e = omega (arith, st.books.in_time, c.requires.time) in
     let may : MayLearn b.limits kind c.count-number.result h e = record { counted = counted; in_order = in_order; by_house = half.0 c.requires.goes_on } in (
       λ follows'.
           let ok = (c.in-Err.ensures.exact b.limits h st.trade may).1 (halves g.T.Trade.passes b.limits kind h e st.of_kind c.requires.command follows'.allowed).1 in
@@ -27,13 +24,12 @@ returns-in-Err-clause-exact g c h st =
     )
 
 pub returns-clause-exact : goal.returns-clause-exact
-returns-clause-exact g c h st =
+returns-clause-exact g c h st in_order =
     let e = entry c.args.r.now in
     let b = c.args.self.now.books in
     let kind = g.T.Trade.site c.args.self.now.trade in
-    let half = house_half st.books kind e c.requires.command c.requires.time in
+    let half = house_half st.books kind e c.requires.command in
     let counted = c.count-number.ensures ∙ sym st.books.counted in
-    let in_order : time h ≤ moment_of e = omega (arith, st.books.in_time, c.requires.time) in
     let may : MayLearn b.limits kind c.count-number.result h e = record { counted = counted; in_order = in_order; by_house = half.0 c.requires.goes_on } in
     let trades = (c.in-Ok.ensures.exact b.limits h st.trade may).0 refl in
     let follow : MayFollow b.limits h e = record { in_order = in_order; allowed = follows g.T.Trade.passes b.limits kind h e st.of_kind c.requires.command (half.0 c.requires.goes_on) trades } in (

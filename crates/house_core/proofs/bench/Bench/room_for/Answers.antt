@@ -7,7 +7,7 @@ pub returns-then-not-goes_on-clause-end : goal.returns-then-not-goes_on-clause-e
 returns-then-not-goes_on-clause-end g c h st = (
   λ may.
       let e = entry c.args.r.now in
-      let half = house_half st.books (g.T.Trade.site c.args.self.now.trade) e c.requires.command c.requires.time in
+      let half = house_half st.books (g.T.Trade.site c.args.self.now.trade) e c.requires.command in
       let goes = half.1 (halves g.T.Trade.passes c.args.self.now.books.limits (g.T.Trade.site c.args.self.now.trade) h e st.of_kind c.requires.command may.allowed).0 in
       let yes' = c.goes_on.ensures.1 goes in
       absurd (cc),

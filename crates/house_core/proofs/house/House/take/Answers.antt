@@ -7,7 +7,7 @@ use Rattle.mc_records.specs.Views.{entry}
 use Rattle.scrip_journal.specs.States.{AtRest}
 use Rattle.scrip_journal.specs.Exits.{EitherQuiet}
 use Rattle.house_core.specs.declared.house.House.{House}
-use Rattle.house_core.specs.Bench.{KeepsReply, house_time, limits_of}
+use Rattle.house_core.specs.Bench.{house_time, limits_of}
 use Rattle.house_core.specs.Verdicts.{accept_entry}
 use Rattle.house_core.proofs.Accepting.{holds_roomed}
 use Rattle.house_core.proofs.Contents.{contents_roomed}
@@ -35,9 +35,8 @@ returns-in-Ok-write_entry-clause-exact g c h st in_force brings takes =
     let entered = (rw time at (c.settle-number.ensures.exact (limits_of c.args.self.bench) h st' brings (ap (λ (l : Limits). l.series) (sym limits)) st.house.stands'.books.limits.journal_most)) takes in
     let contents = rw time at (c.settle-number.ensures.contents h st' (contents_roomed g.T.Trade.stands g.T.Trade.site g.T.Trade.holds _ _ h same st.house.contents) in_force) in
     let wrote = c.in-Ok-write_entry.ensures in
-    let both = has_entered g.D.Disk.disk g.T.Trade.stands g.T.Trade.site g.T.Trade.holds c.args.self after h (accept_entry (house_time c.args.self.bench) c.args.scrip.now.text c.args.q.now.target.now a) (entry c.entry_of-record.result)
-    c.settle-number.result c.in-Ok-write_entry.receipt is st (wrote.written h st.journal) wrote.limit (c.settle-number.ensures.limits ∙ limits) entered contents in
-    (both.0, subst (KeepsReply c.settle-number.new.self) (sym both.1) c.settle-number.ensures.kept)
+    has_entered g.D.Disk.disk g.T.Trade.stands g.T.Trade.site g.T.Trade.holds c.args.self after h (accept_entry (house_time c.args.self.bench) c.args.scrip.now.text c.args.q.now.target.now a) (entry c.entry_of-record.result)
+    c.settle-number.result is st (wrote.written h st.journal).0 wrote.limit (c.settle-number.ensures.limits ∙ limits) entered.0 entered.1 contents
 
 pub returns-in-Ok-write_entry-clause-ran : goal.returns-in-Ok-write_entry-clause-ran
 returns-in-Ok-write_entry-clause-ran g c h st =
@@ -50,7 +49,7 @@ pub returns-in-Err-Full-clause-exact : goal.returns-in-Err-Full-clause-exact
 returns-in-Err-Full-clause-exact g c h st in_force brings takes =
     let time : house_time c.make_room.new.self ≡ house_time c.args.self.bench = c.in-Ok.ensures.same.books.time in
     let is : entry c.entry_of-record.result ≡ accept_entry (house_time c.args.self.bench) c.args.scrip.now.text c.args.q.now.target.now c.args.acceptance.now = rw (c.entry_of-record.ensures.same, c.time.ensures, time) refl in
-    let full : c.args.self.journal.limit < size h + entry_size h (entry c.entry_of-record.result) = rw c.in-Err-Full.field-0-is at (c.in-Err-Full.ensures.full h st.journal) in
+    let full : c.args.self.journal.limit < size h + entry_size h (entry c.entry_of-record.result) = rw c.in-Err-Full.field-0-is at (c.in-Err-Full.ensures.full h st.journal.size_is) in
     not_full c.args.self.bench.books h c.args.scrip.now c.args.q.now.target.now c.args.acceptance.now c.args.self.journal.limit (entry c.entry_of-record.result) st.house.stands'.books c.requires.ready c.requires.room st.limit is full
 
 pub returns-in-Err-Full-clause-ran : goal.returns-in-Err-Full-clause-ran

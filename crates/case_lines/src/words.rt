@@ -6,7 +6,7 @@ use crate::fault::Fault;
 use std::alloc::Global;
 
 /// The words of a line, which blanks part; a blank between quotation marks parts none.
-pub(crate) fn tokens<'a>(alloc: Global, line: &'a [u8]) -> Result<Vec<&'a [u8]>, Fault> {
+pub fn tokens<'a>(alloc: Global, line: &'a [u8]) -> Result<Vec<&'a [u8]>, Fault> {
     let mut all = Vec::new(alloc);
     let mut rest = line;
     for _ in 0..line.len() {
@@ -40,7 +40,7 @@ fn end_of(line: &[u8]) -> usize
 }
 
 /// The number that a word spells.
-pub(crate) fn number(token: &[u8]) -> Result<u64, Fault> {
+pub fn number(token: &[u8]) -> Result<u64, Fault> {
     match str::from_utf8(token) {
         Ok(text) => match text.parse::<u64>() {
             Ok(n) => Ok(n),
@@ -60,7 +60,7 @@ pub(crate) fn numbers(alloc: Global, tokens: &[&[u8]]) -> Result<Vec<u64>, Fault
 }
 
 /// A number of at most 32 bits.
-pub(crate) fn small(token: &[u8]) -> Result<u32, Fault> {
+pub fn small(token: &[u8]) -> Result<u32, Fault> {
     match u32::try_from(number(token)?) {
         Ok(n) => Ok(n),
         Err(_) => Err(Fault::Number),

@@ -3,7 +3,7 @@
 ghost use Rattle.std.specs.Prelude.{◌<◌, ◌≤◌, length, IfOk};
 
 use crate::fault::Fault;
-use crate::tokens::number;
+use crate::words::number;
 use std::alloc::Global;
 
 /// Bytes that have a name.
@@ -15,7 +15,7 @@ struct Named {
 
 /// The names that bytes were given.
 #[derive(Drop)]
-pub(crate) struct Names {
+pub struct Names {
     alloc: Global,
     all: Vec<Named>,
 }
@@ -57,7 +57,7 @@ impl Names {
     }
 
     /// The bytes that a word spells, part by part.
-    pub(crate) fn bytes(&self, token: &[u8]) -> Result<Vec<u8>, Fault> {
+    pub fn bytes(&self, token: &[u8]) -> Result<Vec<u8>, Fault> {
         let mut all = Vec::new(self.alloc);
         let mut rest = token;
         for _ in 0..token.len() {
@@ -94,7 +94,7 @@ impl Names {
     }
 
     /// The words of a program.
-    pub(crate) fn words(&self, tokens: &[&[u8]]) -> Result<Vec<String>, Fault> {
+    pub fn words(&self, tokens: &[&[u8]]) -> Result<Vec<String>, Fault> {
         let mut all = Vec::new(self.alloc);
         for token in tokens {
             all.push(self.word(token)?)?;

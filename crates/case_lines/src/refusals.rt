@@ -3,7 +3,7 @@
 use crate::fault::Fault;
 use crate::show::Lines;
 use crate::state::State;
-use crate::tokens::number as number_of;
+use crate::words::number as number_of;
 use mc_records::{MOST_REFUSAL_BYTES, Refusal, put_refusal_text};
 use scrip_form::{Id, Name};
 

@@ -3,7 +3,7 @@
 use crate::fault::Fault;
 use crate::show::Lines;
 use crate::state::State;
-use crate::tokens::{number, small};
+use crate::words::{number, small};
 use mc_base::Moment;
 use scrip_certs::{certificate, customer_secret, sign_reply, sign_request};
 use scrip_form::{Id, Secrets, Terms};
@@ -65,7 +65,7 @@ fn key(bytes: &[u8]) -> Result<[u8; 16], Fault> {
 }
 
 /// The terms that the case set.
-pub(crate) fn terms(state: &State) -> Result<Terms, Fault> {
+pub fn terms(state: &State) -> Result<Terms, Fault> {
     match state.terms {
         Some(terms) => Ok(terms),
         None => Err(Fault::Missing),

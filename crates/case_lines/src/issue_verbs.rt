@@ -5,7 +5,7 @@ use crate::digest_verbs::terms;
 use crate::fault::Fault;
 use crate::show::Lines;
 use crate::state::State;
-use crate::tokens::{number, small};
+use crate::words::{number, small};
 use change_issue::{Issuer, SeriesFull};
 use kept_replies::{Deed, Kept, KeptEntry};
 use mc_base::{Amount, Coin, Moment, Total};
@@ -179,8 +179,8 @@ fn keep(state: &mut State, args: &[&[u8]], out: &mut Lines) -> Result<(), Fault>
     };
     let asked = Asked::of(state, target, scrip, sign)?;
     let e = KeptEntry {
-        number: crate::tokens::number(number)?,
-        moment: Moment::clamped(crate::tokens::number(moment)?),
+        number: crate::words::number(number)?,
+        moment: Moment::clamped(crate::words::number(moment)?),
         price: 25,
         change: None,
         secret: [7; 16],

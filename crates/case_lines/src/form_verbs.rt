@@ -3,7 +3,7 @@
 use crate::fault::Fault;
 use crate::show::Lines;
 use crate::state::State;
-use crate::tokens::number;
+use crate::words::number;
 use mc_base::{Amount, Coin, Moment, Total};
 use mc_fields::{Stuck, number_of, read_hex, read_literal, read_number};
 use scrip_certs::of_hex;

@@ -5,7 +5,7 @@ use std::alloc::{AllocError, AllocFailed};
 
 /// Why a line is not done.
 #[derive(Clone, Copy, Debug, PartialEq, Eq)]
-pub(crate) enum Fault {
+pub enum Fault {
     /// The line has no verb of the language.
     Verb,
     /// The verb has other arguments.
@@ -34,7 +34,7 @@ pub(crate) enum Fault {
 
 impl Fault {
     /// What is told of it.
-    pub(crate) fn text(self) -> &'static str {
+    pub fn text(self) -> &'static str {
         match self {
             Fault::Verb => "an unknown verb",
             Fault::Arguments => "other arguments than the verb has",

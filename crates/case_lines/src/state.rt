@@ -14,13 +14,13 @@ use std::mem;
 
 /// What the next stage has.
 #[derive(Drop)]
-pub(crate) struct Setting {
-    pub(crate) book: Vec<u8>,
-    pub(crate) links: Vec<Vec<Vec<u8>>>,
-    pub(crate) readings: Vec<u64>,
-    pub(crate) failing_disk: Vec<u32>,
-    pub(crate) failing_link: Vec<u32>,
-    pub(crate) books: u32,
+pub struct Setting {
+    pub book: Vec<u8>,
+    pub links: Vec<Vec<Vec<u8>>>,
+    pub readings: Vec<u64>,
+    pub failing_disk: Vec<u32>,
+    pub failing_link: Vec<u32>,
+    pub books: u32,
 }
 
 impl Setting {
@@ -38,22 +38,22 @@ impl Setting {
 
 /// What the lines of a case have said so far.
 #[derive(Drop)]
-pub(crate) struct State {
-    pub(crate) alloc: Global,
-    pub(crate) names: Names,
-    pub(crate) setting: Setting,
-    pub(crate) limits: Limits,
+pub struct State {
+    pub alloc: Global,
+    pub names: Names,
+    pub setting: Setting,
+    pub limits: Limits,
     /// The last stage.
-    pub(crate) stage: Option<Stage>,
+    pub stage: Option<Stage>,
     /// Whether calls by hand go on with it.
-    pub(crate) is_called: bool,
-    pub(crate) terms: Option<Terms>,
-    pub(crate) issuer: Option<Issuer>,
-    pub(crate) kept: Option<Kept>,
+    pub is_called: bool,
+    pub terms: Option<Terms>,
+    pub issuer: Option<Issuer>,
+    pub kept: Option<Kept>,
 }
 
 impl State {
-    pub(crate) fn new(alloc: Global) -> State {
+    pub fn new(alloc: Global) -> State {
         State {
             alloc,
             names: Names::new(alloc),
@@ -68,7 +68,7 @@ impl State {
     }
 
     /// Forgets all but the names, as each case begins.
-    pub(crate) fn forget(&mut self) {
+    pub fn forget(&mut self) {
         self.setting = Setting::new(self.alloc);
         self.limits = Limits::FULL;
         self.stage = None;
@@ -79,7 +79,7 @@ impl State {
     }
 
     /// The stage that the lines say. Its links and failing calls are for it alone.
-    pub(crate) fn make_stage(&mut self) -> Result<Stage, Fault> {
+    pub fn make_stage(&mut self) -> Result<Stage, Fault> {
         let alloc = self.alloc;
         let contents = Vec::from_slice(alloc, &self.setting.book)?;
         let readings = Vec::from_slice(alloc, &self.setting.readings)?;
@@ -92,7 +92,7 @@ impl State {
     }
 
     /// The bytes of the first link.
-    pub(crate) fn whole_link(&self) -> Result<Vec<u8>, Fault> {
+    pub fn whole_link(&self) -> Result<Vec<u8>, Fault> {
         let mut whole = Vec::new(self.alloc);
         if let Some(link) = self.setting.links.first() {
             for piece in link {
@@ -103,32 +103,38 @@ impl State {
     }
 
     /// Prints the lines of a stage, whose disk is the next book.
-    pub(crate) fn show_stage(&mut self, stage: Stage, out: &mut Lines) -> Result<(), Fault> {
-        if !stage.said().is_empty() {
-            out.given("said", stage.said());
-        }
-        for link in 0..usize::MAX {
-            match stage.sent(link) {
-                Some(sent) => out.given("sent", sent),
-                None => break,
-            }
-        }
-        show_book("book", &self.setting.book, stage.contents(), out);
-        let (disk, link) = stage.calls();
-        out.start("calls");
-        out.number(disk);
-        out.number(link);
-        out.end();
-        self.setting.book = Vec::from_slice(self.alloc, stage.contents())?;
-        self.setting.books = 0;
+    pub fn show_stage(&mut self, stage: Stage, out: &mut Lines) -> Result<(), Fault> {
+        show_lines(&stage, &self.setting.book, out);
+        let contents = Vec::from_slice(self.alloc, stage.contents());
         self.stage = Some(stage);
         self.is_called = false;
+        self.setting.books = 0;
+        self.setting.book = contents?;
         Ok(())
     }
 }
 
+/// Prints what a stage tells, whose disk had these bytes before.
+fn show_lines(stage: &Stage, before: &[u8], out: &mut Lines) {
+    if !stage.said().is_empty() {
+        out.given("said", stage.said());
+    }
+    for link in 0..usize::MAX {
+        match stage.sent(link) {
+            Some(sent) => out.given("sent", sent),
+            None => break,
+        }
+    }
+    show_book("book", before, stage.contents(), out);
+    let (disk, link) = stage.calls();
+    out.start("calls");
+    out.number(disk);
+    out.number(link);
+    out.end()
+}
+
 /// Prints the bytes of a disk: how many of the bytes before stand in front, and what follows.
-pub(crate) fn show_book(verb: &str, before: &[u8], after: &[u8], out: &mut Lines) {
+pub fn show_book(verb: &str, before: &[u8], after: &[u8], out: &mut Lines) {
     if before == after {
         return out.said(verb, "same");
     }

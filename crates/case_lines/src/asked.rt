@@ -6,19 +6,14 @@ use mc_records::Request;
 
 /// A request of a case, which owns its texts.
 #[derive(Drop)]
-pub(crate) struct Asked {
+pub struct Asked {
     target: Vec<u8>,
     scrip: Option<Vec<u8>>,
     sign: Option<Vec<u8>>,
 }
 
 impl Asked {
-    pub(crate) fn of(
-        state: &State,
-        target: &[u8],
-        scrip: &[u8],
-        sign: &[u8],
-    ) -> Result<Asked, Fault> {
+    pub fn of(state: &State, target: &[u8], scrip: &[u8], sign: &[u8]) -> Result<Asked, Fault> {
         Ok(Asked {
             target: state.names.bytes(target)?,
             scrip: state.names.some_bytes(scrip)?,
@@ -26,7 +21,7 @@ impl Asked {
         })
     }
 
-    pub(crate) fn request(&self) -> Request<'_> {
+    pub fn request(&self) -> Request<'_> {
         Request {
             target: &self.target,
             scrip: self.scrip.as_deref(),

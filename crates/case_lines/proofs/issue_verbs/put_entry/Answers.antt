@@ -1,7 +1,7 @@
 use Rattle.std.proofs.Common.{◌≡◌, sym, ◌∙◌}
 use Rattle.mc_records.specs.Requests.{asked_of}
 use Rattle.kept_replies.proofs.ReplyLaws.{not_kept}
-use Rattle.cases.proofs.issue_verbs.put_entry.Goals as goal
+use Rattle.case_lines.proofs.issue_verbs.put_entry.Goals as goal
 
 pub keep-requires-clause-new_request : goal.keep-requires-clause-new_request
 keep-requires-clause-new_request c =

@@ -3,7 +3,7 @@
 use crate::fault::Fault;
 use crate::show::Lines;
 use crate::state::State;
-use crate::tokens::{number, numbers, small};
+use crate::words::{number, numbers, small};
 use mc_records::Limits;
 
 /// The verbs of this module; None where the verb is none of them.

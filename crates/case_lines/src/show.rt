@@ -11,13 +11,13 @@ const MOST: usize = 512;
 
 /// Lines that are printed. A line is begun by its verb, and each thing in it stands behind a blank.
 #[derive(Drop)]
-pub(crate) struct Lines {
+pub struct Lines {
     text: Vec<u8>,
     is_whole: bool,
 }
 
 impl Lines {
-    pub(crate) fn new(alloc: Global) -> Lines {
+    pub fn new(alloc: Global) -> Lines {
         Lines {
             text: Vec::new(alloc),
             is_whole: true,
@@ -25,12 +25,12 @@ impl Lines {
     }
 
     /// What was printed.
-    pub(crate) fn text(&self) -> &[u8] {
+    pub fn text(&self) -> &[u8] {
         &self.text
     }
 
     /// Whether nothing was lost.
-    pub(crate) fn is_whole(&self) -> bool {
+    pub fn is_whole(&self) -> bool {
         self.is_whole
     }
 
@@ -41,74 +41,74 @@ impl Lines {
     }
 
     /// Begins a line.
-    pub(crate) fn start(&mut self, verb: &str) {
+    pub fn start(&mut self, verb: &str) {
         self.put(verb.as_bytes());
     }
 
     /// Ends a line.
-    pub(crate) fn end(&mut self) {
+    pub fn end(&mut self) {
         self.put(&[b'\n']);
     }
 
     /// A line of these words alone.
-    pub(crate) fn line(&mut self, words: &str) {
+    pub fn line(&mut self, words: &str) {
         self.start(words);
         self.end()
     }
 
     /// A line of a verb and one word.
-    pub(crate) fn said(&mut self, verb: &str, word: &str) {
+    pub fn said(&mut self, verb: &str, word: &str) {
         self.start(verb);
         self.word(word.as_bytes());
         self.end()
     }
 
     /// A line of a verb and one number.
-    pub(crate) fn counted(&mut self, verb: &str, n: u64) {
+    pub fn counted(&mut self, verb: &str, n: u64) {
         self.start(verb);
         self.number(n);
         self.end()
     }
 
     /// A line of a verb and bytes.
-    pub(crate) fn given(&mut self, verb: &str, bytes: &[u8]) {
+    pub fn given(&mut self, verb: &str, bytes: &[u8]) {
         self.start(verb);
         self.bytes(bytes);
         self.end()
     }
 
     /// A line of a verb, and `yes` or `no`.
-    pub(crate) fn answered(&mut self, verb: &str, is_so: bool) {
+    pub fn answered(&mut self, verb: &str, is_so: bool) {
         self.said(verb, if is_so { "yes" } else { "no" })
     }
 
-    pub(crate) fn word(&mut self, word: &[u8]) {
+    pub fn word(&mut self, word: &[u8]) {
         self.put(&[b' ']);
         self.put(word);
     }
 
-    pub(crate) fn number(&mut self, n: u64) {
+    pub fn number(&mut self, n: u64) {
         self.sum(u128::from(n))
     }
 
-    pub(crate) fn sum(&mut self, n: u128) {
+    pub fn sum(&mut self, n: u128) {
         self.word(itoa::Buffer::new().format(n).as_bytes())
     }
 
     /// An identity, by its sixteen digits.
-    pub(crate) fn identity(&mut self, id: Id) {
+    pub fn identity(&mut self, id: Id) {
         self.put(&[b' ']);
         self.hex(&id.number().to_be_bytes())
     }
 
     /// Bytes by their digits, as those of digests.
-    pub(crate) fn digits(&mut self, bytes: &[u8]) {
+    pub fn digits(&mut self, bytes: &[u8]) {
         self.put(&[b' ']);
         self.hex(bytes)
     }
 
     /// Bytes that may lack.
-    pub(crate) fn some_bytes(&mut self, bytes: Option<&[u8]>) {
+    pub fn some_bytes(&mut self, bytes: Option<&[u8]>) {
         match bytes {
             Some(bytes) => self.bytes(bytes),
             None => self.word(b"-"),
@@ -116,7 +116,7 @@ impl Lines {
     }
 
     /// Bytes as a text in quotation marks, and many by their length and digest.
-    pub(crate) fn bytes(&mut self, bytes: &[u8]) {
+    pub fn bytes(&mut self, bytes: &[u8]) {
         if bytes.len() > MOST {
             self.digest(bytes);
             return;
@@ -129,7 +129,7 @@ impl Lines {
     }
 
     /// Bytes by their length and digest.
-    pub(crate) fn digest(&mut self, bytes: &[u8]) {
+    pub fn digest(&mut self, bytes: &[u8]) {
         self.number(bytes.len() as u64);
         self.put(&[b'#']);
         self.hex(&Md5::digest(bytes))

@@ -25,22 +25,34 @@ pub(crate) fn act(
 }
 
 fn found(state: &mut State, args: &[&[u8]], out: &mut Lines) -> Result<(), Fault> {
-    let mut payloads = Vec::new(state.alloc);
-    for token in args {
-        payloads.push(state.names.bytes(token)?)?;
-    }
-    let stage = state.make_stage()?;
     let limits = state.limits;
     if !limits.are_in_range() {
         return Err(Fault::Value);
     }
+    let payloads = payloads(state, args)?;
+    let stage = state.make_stage()?;
     let stage = match found_journal(state.alloc, stage, limits) {
         Ok(journal) => enter_all(journal, &payloads, out),
-        Err(OpenFault::NotJournal(stage)) => told(stage, "not a journal", out),
-        Err(OpenFault::Disk(stage)) => told(stage, "disk fault", out),
-        Err(OpenFault::NoMemory(stage)) => told(stage, "no memory", out),
+        Err(fault) => unopened(fault, out),
     };
     state.show_stage(stage, out)
+}
+
+fn payloads(state: &State, args: &[&[u8]]) -> Result<Vec<Vec<u8>>, Fault> {
+    let mut payloads = Vec::new(state.alloc);
+    for token in args {
+        payloads.push(state.names.bytes(token)?)?;
+    }
+    Ok(payloads)
+}
+
+/// The stage of a journal that was not founded or opened.
+fn unopened(fault: OpenFault<Stage>, out: &mut Lines) -> Stage {
+    match fault {
+        OpenFault::NotJournal(stage) => told(stage, "not a journal", out),
+        OpenFault::Disk(stage) => told(stage, "disk fault", out),
+        OpenFault::NoMemory(stage) => told(stage, "no memory", out),
+    }
 }
 
 /// The stage, of which a line is printed.
@@ -98,9 +110,7 @@ fn replay(state: &mut State, out: &mut Lines) -> Result<(), Fault> {
     let stage = state.make_stage()?;
     let stage = match open_journal(state.alloc, stage, Limits::FULL) {
         Ok(replay) => read_all(state.alloc, replay, out),
-        Err(OpenFault::NotJournal(stage)) => told(stage, "not a journal", out),
-        Err(OpenFault::Disk(stage)) => told(stage, "disk fault", out),
-        Err(OpenFault::NoMemory(stage)) => told(stage, "no memory", out),
+        Err(fault) => unopened(fault, out),
     };
     state.show_stage(stage, out)
 }
