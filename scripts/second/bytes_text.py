@@ -58,7 +58,7 @@ def bytes_of(word, names):
 
 
 def part_of(word, at, names):
-    """One part, with its range and how often it is repeated, and where it ends."""
+    """One part, with its ranges and how often it is repeated, in the order in which they stand, and where it ends."""
     found = PART.match(word, at)
     if not found:
         raise CaseError("no bytes: %s" % word[at:])
@@ -67,14 +67,19 @@ def part_of(word, at, names):
         raise CaseError("no such name: %s" % name)
     part = unescaped(text) if text is not None else bytes.fromhex(digits) if digits is not None else names[name]
     at = found.end()
-    if cut := RANGE.match(word, at):
-        first, end = int(cut[1] or 0), int(cut[2]) if cut[2] else len(part)
-        if not first <= end <= len(part):
-            raise CaseError("no such range: %s of %d bytes" % (cut[0], len(part)))
-        part, at = part[first:end], cut.end()
-    if times := TIMES.match(word, at):
-        part, at = part * int(times[1]), times.end()
+    while found := RANGE.match(word, at) or TIMES.match(word, at):
+        part, at = changed(part, found), found.end()
     return part, at
+
+
+def changed(part, found):
+    """A range of a part, or the part repeated."""
+    if found.re is TIMES:
+        return part * int(found[1])
+    first, end = int(found[1] or 0), int(found[2]) if found[2] else len(part)
+    if not first <= end <= len(part):
+        raise CaseError("no such range: %s of %d bytes" % (found[0], len(part)))
+    return part[first:end]
 
 
 def shown(data):

@@ -118,19 +118,17 @@ def do_total(setting, words):
 
 
 def do_id(setting, words):
-    issuer, epoch, serial = setting.arguments(words, up_to(255), up_to(U32), up_to(U32))
-    if epoch >= 2**24:
+    issuer, epoch, serial = setting.arguments(words, number, number, number)
+    if issuer > 255 or epoch >= 2**24 or serial > U32:
         return ["id no"]
     ident = forms.id_of(issuer, epoch, serial)
     return ["id %s %d" % (id_text(ident), forms.series_of(ident))]
 
 
 def do_piece(setting, words):
-    kinds = data, up_to(MOST_VALUE), number, number, number, data
-    vendor, value, _, _, expires, props = setting.arguments(words, *kinds)
-    if not (forms.is_name(vendor) and forms.is_props(props)):
-        raise CaseError("no name or no props")
-    return ["piece " + yes_no(value > 0 and 0 < expires <= MOST_EXPIRES)]
+    vendor, value, _, _, expires, props = setting.arguments(words, data, number, number, number, number, data)
+    is_spelled = forms.is_name(vendor) and forms.is_props(props)
+    return ["piece " + yes_no(is_spelled and 0 < value <= MOST_VALUE and 0 < expires <= MOST_EXPIRES)]
 
 
 VERBS = {

@@ -29,7 +29,7 @@ def set_clock(setting, words):
 def set_fail(setting, words):
     if not words or words[0] not in ("disk", "link"):
         raise CaseError("fail wants disk or link")
-    setting.failing[words[0]] += [number(setting, word, U32) for word in words[1:]]
+    setting.failing[words[0]] = [number(setting, word, U32) for word in words[1:]]
 
 
 def set_books(setting, words):
