@@ -39,9 +39,13 @@ fn run_all(rt: &HostRuntime, state: &mut State) -> io::Result<Option<u64>> {
     Ok(Some(files))
 }
 
-/// Runs a file, and prints what came out. Where it is not done that is told with its line, and it is false.
+/// Runs a file, and prints what came out. It is false where the file is not done, and then its name is told, with the
+/// line, or that it cannot be read.
 fn run_file(rt: &HostRuntime, state: &mut State, path: &str) -> io::Result<bool> {
-    let text = fs::read(rt, path)?;
+    let Ok(text) = fs::read(rt, path) else {
+        println!(rt; "{path}: cannot be read")?;
+        return Ok(false);
+    };
     let mut out = Lines::new(rt.alloc());
     let mut progress = Progress::new();
     let done = progress.read(state, &text, &mut out);
