@@ -1,5 +1,5 @@
 """The verbs on terms, signatures, an issuer's series, and kept replies."""
-from bytes_text import CaseError, shown
+from bytes_text import shown
 from forms import (
     MOMENTS, MOST_VALUE, Terms, are_terms, id_of, id_text, reply_signature, request_signature, series_of)
 from setting import U32, data, maybe_data, maybe_number, number, of_length, up_to
@@ -16,26 +16,20 @@ def do_terms(setting, words):
     return [] if setting.terms else ["terms no"]
 
 
-def terms_of(setting):
-    if setting.terms is None:
-        raise CaseError("there are no terms")
-    return setting.terms
-
-
 def do_series(setting, words):
     at, = setting.arguments(words, moment)
-    epoch = terms_of(setting).epoch(at)
+    epoch = setting.given("terms").epoch(at)
     return ["series %d %d" % (epoch, setting.terms.end(epoch))]
 
 
 def do_certificate(setting, words):
     body, ident = setting.arguments(words, data, number)
-    return ["certificate " + terms_of(setting).certificate(body, ident).hex()]
+    return ["certificate " + setting.given("terms").certificate(body, ident).hex()]
 
 
 def do_secret(setting, words):
     cust, = setting.arguments(words, number)
-    return ["secret " + terms_of(setting).secret(cust).hex()]
+    return ["secret " + setting.given("terms").secret(cust).hex()]
 
 
 def do_signed(setting, words):
@@ -65,18 +59,12 @@ def add(sums, series, more):
 
 def do_issuer(setting, words):
     limit, = setting.arguments(words, up_to(2**32))
-    setting.issuer = Issuer(terms_of(setting), limit)
-
-
-def issuer_set(setting):
-    if setting.issuer is None:
-        raise CaseError("there is no issuer")
-    return setting.issuer
+    setting.issuer = Issuer(setting.given("terms"), limit)
 
 
 def do_next(setting, words):
     at, = setting.arguments(words, moment)
-    ident = issuer_set(setting).next(at)
+    ident = setting.given("issuer").next(at)
     return [full(setting, at) if ident is None else "next " + id_text(ident)]
 
 
@@ -86,7 +74,7 @@ def full(setting, at):
 
 def do_issue(setting, words):
     at, value, cust = setting.arguments(words, moment, up_to(MOST_VALUE), maybe_number)
-    issuer = issuer_set(setting)
+    issuer = setting.given("issuer")
     ident = issuer.next(at)
     if ident is None:
         return [full(setting, at)]
@@ -99,13 +87,13 @@ def do_issue(setting, words):
 
 def do_redeem(setting, words):
     ident, value = setting.arguments(words, number, up_to(MOST_VALUE))
-    add(issuer_set(setting).redeemed, series_of(ident), value)
+    add(setting.given("issuer").redeemed, series_of(ident), value)
     return ["redeem %d" % value]
 
 
 def do_count(setting, words):
     series, = setting.arguments(words, up_to(U32))
-    issuer = issuer_set(setting)
+    issuer = setting.given("issuer")
     return ["count %d %d %d" % tuple(s.get(series, 0) for s in (issuer.pieces, issuer.issued, issuer.redeemed))]
 
 
@@ -126,15 +114,9 @@ def do_kept(setting, words):
     setting.kept = Kept(*setting.arguments(words, up_to(U32)))
 
 
-def kept_set(setting):
-    if setting.kept is None:
-        raise CaseError("no replies are kept")
-    return setting.kept
-
-
 def do_keep(setting, words):
     of, at, *request = setting.arguments(words, number, moment, data, maybe_data, maybe_data)
-    kept = kept_set(setting)
+    kept = setting.given("kept")
     if of in kept.replies or any(r == request for _, r in kept.replies.values()):
         return ["keep no"]
     kept.replies[of] = (at, request)
@@ -147,18 +129,18 @@ def told(verb, value):
 
 def do_find(setting, words):
     at, *request = setting.arguments(words, moment, data, maybe_data, maybe_data)
-    return told("find", kept_set(setting).find(at, request))
+    return told("find", setting.given("kept").find(at, request))
 
 
 def do_forget(setting, words):
     at, = setting.arguments(words, moment)
-    kept_set(setting).forget(at)
+    setting.given("kept").forget(at)
     return told("forget", min(setting.kept.replies, default=None))
 
 
 def do_held(setting, words):
     of, = setting.arguments(words, number)
-    if of not in kept_set(setting).replies:
+    if of not in setting.given("kept").replies:
         return ["held none"]
     at, request = setting.kept.replies[of]
     return ["held %s %d 25" % (" ".join(map(shown, request)), at)]

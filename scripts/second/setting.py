@@ -33,6 +33,13 @@ class Setting:
         """The bytes of the first link."""
         return b"".join(self.links[0]) if self.links else b""
 
+    def given(self, what):
+        """The terms, the issuer or the kept replies that the case has set."""
+        value = getattr(self, what)
+        if value is None:
+            raise CaseError("the case has no %s yet" % what)
+        return value
+
     def arguments(self, words, *kinds):
         """The values of so many words, each read by its kind."""
         if len(words) != len(kinds):
