@@ -21,6 +21,7 @@ use Rattle.kept_replies.specs.Kept.{KeptReply, KeptView, found, has_number, is_i
 use Rattle.ledger_model.specs.Histories.{History}
 use Rattle.ledger_model.specs.Answer as answers
 use Rattle.ledger_model.specs.Answer.{Answer, answer, answered}
+use Rattle.ledger_model.specs.Houses.{version}
 use Rattle.house_core.specs.declared.bench.Bench.{Bench}
 use Rattle.house_core.specs.declared.verdict.Acceptance.{Acceptance}
 use Rattle.house_core.specs.declared.verdict.Stopped.{Stopped}
@@ -117,6 +118,8 @@ stands_as_before {old = old} {new = new} {h = h} st is = record {
   takings = st.takings ∙ sym is.takings;
   counted = st.counted ∙ sym is.counted;
   sized = st.sized ∙ sym is.sized;
+  tail = st.tail;
+  version = st.version ∙ ap (version []) (sym is.name);
   limits = rw is.limits st.limits;
   lawful = rw is.limits st.lawful;
 }

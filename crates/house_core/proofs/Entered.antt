@@ -21,17 +21,19 @@ use Rattle.kept_replies.specs.Requests.{is_same_text, is_same_request}
 use Rattle.kept_replies.specs.Kept.{KeptReply, is_in_time, found}
 use Rattle.change_issue.specs.Registers.{count_in, next_in}
 use Rattle.ledger_model.specs.Histories.{History, time}
-use Rattle.ledger_model.specs.Houses.{site_name, site_kind, house, keeping, is_vendor, terms_of, all_terms, terms_by}
+use Rattle.ledger_model.specs.Houses.{site_name, site_kind, house, keeping, is_vendor, terms_of, all_terms, terms_by, version}
 use Rattle.ledger_model.specs.Goods.{price_in}
 use Rattle.ledger_model.specs.Pieces.{piece_of, accepted, change_from, change_piece, own_out, minted, own_count}
 use Rattle.ledger_model.specs.Sums.{price_paid, values}
 use Rattle.ledger_model.specs.Lines.{given, refused_if, ◌>>=◌}
 use Rattle.ledger_model.specs.Stages.{Offer, is_repeat, is_same_sign, shelf_by}
-use Rattle.ledger_model.specs.Answer.{offer, desk_offer, answer, Take}
+use Rattle.ledger_model.specs.Answer.{offer, answer, Take}
 use Rattle.ledger_model.specs.Lawful.{IsLawful, MayFollow, IsAllowed, request_of}
 use Rattle.ledger_model.proofs.TableLaws.{line_ok, refused_ok, ok_is, answer_through}
-use Rattle.ledger_model.proofs.AcceptLaws.{accepted_snoc}
+use Rattle.ledger_model.proofs.AcceptLaws.{accepted_snoc, offer_below}
 use Rattle.ledger_model.proofs.SerialLaws.{own_out_snoc, minted_snoc, count-append}
+use Rattle.mc_records.proofs.SizeLaws.{length-tail, tail_size-more}
+use Rattle.ledger_model.proofs.VersionLaws.{version-more}
 use Rattle.ledger_model.proofs.FollowLaws.{same_request, may_follow, longer_lawful, size_snoc}
 use Rattle.house_core.specs.declared.verdict.Acceptance.{Acceptance}
 use Rattle.house_core.specs.Views.{entry_deed}
@@ -156,23 +158,6 @@ pub values_more : (s : ℕ) (ps qs : List Scrip) → values (of_series s (ps ++ 
 values_more s ps qs =
     let test : Scrip → Bool = λ p. series_of p.id == s in
     ap values (filter-append test ps qs) ∙ sum_by-append (λ (p : Scrip). p.value) (filter test ps) (filter test qs)
-
--- ---- what an offer costs
-
-pub offer_below : (h : History) (t : ℕ) (limits : Limits) (target : List ℕ) (value : ℕ) (o : Offer) → offer h t limits target value ≡ Ok o → o.price ≤ value
-offer_below h t limits target value o e = by_kind (is_vendor h) e
-  where
-    on_shelf : shelf_by (price_in h target) value ≡ Ok o → o.price ≤ value
-    on_shelf r =
-        let a = line_ok (given (price_in h target) NoSuchGoods) (λ price. refused_if (ltb value price) (TooLittle price) >>= λ _. Ok (record { price = price; deed = goods_deed })) o r in
-        let b = line_ok (refused_if (ltb value a.0) (TooLittle a.0)) (λ _. Ok (record { price = a.0; deed = goods_deed })) o a.2 in
-        let le : a.0 ≤ value = ltb-false value a.0 (refused_ok _ _ b.0 b.1) in
-        let is : a.0 ≡ o.price = ap (λ (x : Offer). x.price) (ok_is _ o b.2) in
-        omega arith
-
-    by_kind : (b : Bool) → cond b (shelf_by (price_in h target) value) (desk_offer h t limits target value) ≡ Ok o → o.price ≤ value
-    by_kind true r = on_shelf r
-    by_kind false r = absurd cc
 
 -- ---- the entry
 
@@ -356,7 +341,9 @@ stands_entered {old = old} {new = new} {h = h} st q c a read ready brings limits
           ∙ ap₂ (λ (m n : ℕ). m + n) (st.worth s) (change_worthy h old c.text q.target c.piece a s most taken.piece ready.change) ∙ sym (is.worth s);
       takings = omega (arith, sum_by-append price_paid h (e ∷ []), st.takings, is.takings, taken.price);
       counted = omega (arith, length-append h (e ∷ []), st.counted, is.counted);
-      sized = omega (arith, size_snoc h e, st.sized, ready.payload, is.sized);
+      sized = omega (arith, size_snoc h e, length-tail h e, st.sized, st.tail, ready.payload, is.sized);
+      tail = tail_size-more h e ∙ st.tail;
+      version = ap₂ (λ (v : List ℕ → ℕ → ℕ) (n : List ℕ). v n) (version-more h e) same.name ∙ st.version ∙ ap (version []) (sym is.name);
       limits = rw is.limits st.limits;
       lawful = rw is.limits (longer_lawful old.limits h e st.lawful (takes_follow st limits q c.text a series bound takes));
     }

@@ -6,9 +6,9 @@ use Rattle.std.proofs.lemmas.List.Elements.{All-head, All-tail, All-push, All-we
 use Rattle.scrip_form.specs.Identities.{series_of}
 use Rattle.scrip_form.specs.Issuing.{Issuing, epoch}
 use Rattle.scrip_form.specs.Scrip.{Scrip, IsPiece, scrip_body}
-use Rattle.scrip_certs.specs.Digests.{certificate}
 use Rattle.mc_records.specs.declared.limits.Limits.{Limits}
 use Rattle.mc_records.specs.Requests.{Asked}
+use Rattle.ledger_model.specs.Houses.{certificate_in}
 use Rattle.kept_replies.specs.Requests.{is_same_request}
 use Rattle.kept_replies.specs.Kept.{KeptReply, KeptView, is_in_time, has_request, has_number, inserted}
 use Rattle.kept_replies.proofs.InsertLaws.{inserted_last}
@@ -16,7 +16,7 @@ use Rattle.change_issue.specs.Registers.{Register, count_in, issued_in, redeemed
 use Rattle.change_issue.specs.IssuedPieces.{issued_piece}
 use Rattle.house_core.specs.declared.verdict.Acceptance.{Acceptance}
 use Rattle.house_core.specs.Spent.{SpentView, is_marked}
-use Rattle.house_core.specs.Books.{BooksView, AreSound, IsEntered, series_now, kept_entry, certified_change, at_series, change_count, change_worth}
+use Rattle.house_core.specs.Books.{BooksView, AreSound, IsEntered, version_of, size_with, series_now, kept_entry, certified_change, at_series, change_count, change_worth}
 
 -- ---- a later time
 
@@ -64,13 +64,13 @@ no_number n (r ∷ rs) all =
 -- what is kept of the change
 pub change_is : (old : BooksView) (paid : Scrip) (price : ℕ) (change : Option ℕ) (piece : Option Scrip) (made : Option (Scrip × List ℕ)) → old.own.terms ≡ old.own_terms
     → piece ≡ option_map (λ id. issued_piece old.own.terms old.time old.name (paid.value - price) id (Some paid.cust) paid.props) change
-    → made ≡ option_map (λ p. (p, certificate old.own_terms (scrip_body p) p.id)) piece
+    → made ≡ option_map (λ p. (p, certificate_in (version_of old (series_of p.id)) old.own_terms (scrip_body p) p.id)) piece
     → made ≡ option_map (certified_change old paid price) change
 change_is old paid price change piece made same is_piece is_made =
     is_made ∙ ap certify is_piece ∙ ap (λ (t : Issuing). certify (option_map (λ id. issued_piece t old.time old.name (paid.value - price) id (Some paid.cust) paid.props) change)) same ∙ go change
   where
     certify : Option Scrip → Option (Scrip × List ℕ)
-    certify o = option_map (λ p. (p, certificate old.own_terms (scrip_body p) p.id)) o
+    certify o = option_map (λ p. (p, certificate_in (version_of old (series_of p.id)) old.own_terms (scrip_body p) p.id)) o
 
     go : (o : Option ℕ) → certify (option_map (λ id. issued_piece old.own_terms old.time old.name (paid.value - price) id (Some paid.cust) paid.props) o) ≡ option_map (certified_change old paid price) o
     go None = refl
@@ -81,12 +81,12 @@ pub entered : (old : BooksView) (spent : SpentView) (kept : KeptView) (own : Reg
     → kept.keep ≡ old.kept.keep
     → kept.replies ≡ inserted (record { asked = q; entry = record { number = old.count; moment = old.time; price = a.price; change = made; secret = a.secret; deed = a.deed } }) old.kept.replies
     → piece ≡ option_map (λ id. issued_piece old.own.terms old.time old.name (paid.value - a.price) id (Some paid.cust) paid.props) a.change
-    → made ≡ option_map (λ p. (p, certificate old.own_terms (scrip_body p) p.id)) piece
+    → made ≡ option_map (λ p. (p, certificate_in (version_of old (series_of p.id)) old.own_terms (scrip_body p) p.id)) piece
     → own.terms ≡ old.own.terms → own.most ≡ old.own.most
     → ((s : ℕ) → count_in own s ≡ count_in old.own s + at_series (series_now old) (change_count a.change) s)
     → ((s : ℕ) → issued_in own s ≡ issued_in old.own s + at_series (series_now old) (change_worth a.price paid.value a.change) s)
     → ((s : ℕ) → redeemed_in own s ≡ redeemed_in old.own s + at_series (series_of paid.id) paid.value s)
-    → takings ≡ old.takings + min a.price paid.value → size ≡ old.size + a.payload + 5
+    → takings ≡ old.takings + min a.price paid.value → size ≡ size_with old a.payload
     → IsEntered old (record old { spent = spent; kept = kept; own = own; takings = takings; count = old.count + 1; size = size }) q paid a
 entered old spent kept own takings size q paid a piece made sound short marks keep replies is_piece is_made terms most count worth redeemed took grown =
     let change = change_is old paid a.price a.change piece made sound.terms is_piece is_made in
@@ -121,7 +121,7 @@ at_most series n s = go (eqb series s)
     go true = omega arith
     go false = omega arith
 
-pub sound_entered : (old new : BooksView) (q : Asked) (paid : Scrip) (a : Acceptance) → AreSound old → IsPiece paid → old.size + a.payload + 5 ≤ 2 ^ 40 → IsEntered old new q paid a → AreSound new
+pub sound_entered : (old new : BooksView) (q : Asked) (paid : Scrip) (a : Acceptance) → AreSound old → IsPiece paid → size_with old a.payload ≤ 2 ^ 40 → IsEntered old new q paid a → AreSound new
 sound_entered old new q paid a sound piece fits e = record {
   terms = e.issuer ∙ sound.terms ∙ sym e.own_terms;
   limits = rw e.limits sound.limits;

@@ -1,10 +1,12 @@
 -- The books of a house that was just founded stand for its one entry.
-use Rattle.std.proofs.Common.{◌≡◌, ℕ, ◌≤◌, List, [], ◌∷◌, Option, Some, None, refl, sym, ap, subst, ◌∙◌, arith}
+use Rattle.std.proofs.Common.{◌≡◌, ℕ, ◌≤◌, List, [], ◌∷◌, Option, Some, None, refl, sym, ap, ap₂, subst, ◌∙◌, arith}
 use Rattle.std.proofs.lemmas.Bool.{eq-eqb}
 use Rattle.scrip_form.specs.Issuing.{Issuing}
 use Rattle.mc_records.specs.declared.limits.Limits.{Limits}
 use Rattle.mc_records.specs.Limits.{AreInRange}
 use Rattle.mc_records.specs.Entry.{House, HouseFits, SiteFits, Entry, Site, AddTerms, Goods, Accept, Mint, Account, Deposit, Withdraw, Draw, Licence, Stock, Got, Pend, Done, Refused}
+use Rattle.mc_records.proofs.SizeLaws.{length-tail, tail_size-more}
+use Rattle.ledger_model.proofs.VersionLaws.{version-more}
 use Rattle.ledger_model.specs.Houses.{site_kind, terms_by}
 use Rattle.ledger_model.specs.Lawful.{MayFollow}
 use Rattle.ledger_model.specs.Histories.{History}
@@ -25,6 +27,7 @@ of_site : (b : BooksView) (limits : Limits) (m kind : ℕ) (name : List ℕ) (h 
     → MayFollow limits [] (Site m kind name (Some h)) → Stands b (Site m kind name (Some h) ∷ [])
 of_site b limits m kind name h is fits range may =
     let house = house_fits limits m kind name h fits may in
+    let site = Site m kind name (Some h) in
     record {
       name = sym is.name;
       clear = sym is.clear;
@@ -42,7 +45,9 @@ of_site b limits m kind name h is fits range may =
       worth = λ s. sym (is.worth s);
       takings = sym is.takings;
       counted = sym is.counted;
-      sized = omega (arith, is.sized);
+      sized = omega (arith, is.sized, length-tail [] site);
+      tail = tail_size-more [] site;
+      version = ap₂ (λ (v : List ℕ → ℕ → ℕ) (n : List ℕ). v n) (version-more [] site) (sym is.name);
       limits = rw is.limits range;
       lawful = rw is.limits (may, tt);
     }

@@ -6,6 +6,7 @@ use Rattle.mc_outside.proofs.Runs.{ran_then, ran_weaker, ran_none}
 use Rattle.scrip_form.specs.Scrip.{Certified}
 use Rattle.mc_records.specs.Entry.{Entry, payload}
 use Rattle.mc_records.specs.Sizes.{size, entry_size}
+use Rattle.mc_records.proofs.SizeLaws.{length-tail}
 use Rattle.scrip_journal.specs.States.{AtRest, IsJournal}
 use Rattle.scrip_journal.specs.Rests.{journal_leaves}
 use Rattle.scrip_journal.specs.Exits.{staged_disk, StandsQuiet, EitherQuiet}
@@ -16,7 +17,7 @@ use Rattle.ledger_model.specs.Histories.{History}
 use Rattle.house_core.specs.declared.bench.Bench.{Bench}
 use Rattle.house_core.specs.declared.house.House.{House}
 use Rattle.house_core.specs.declared.verdict.Acceptance.{Acceptance}
-use Rattle.house_core.specs.Books.{BooksView}
+use Rattle.house_core.specs.Books.{BooksView, size_with}
 use Rattle.house_core.specs.Stands.{Stands}
 use Rattle.house_core.specs.Verdicts.{accept_entry, stop_of, IsReady}
 use Rattle.house_core.specs.Bench.{Holds, HasContents, IsRoomed, limits_of}
@@ -93,11 +94,11 @@ has_entered view stands site holds x y h e f number same st written limit limits
 
 -- the entry of an acceptance that has room fits the journal
 pub not_full : (b : BooksView) (h : History) (c : Certified) (target : List ℕ) (a : Acceptance) (limit : ℕ) (f : Entry) → Stands b h → IsReady b c target a
-    → b.size + a.payload + 5 ≤ b.limits.journal → limit ≡ b.limits.journal
+    → size_with b a.payload ≤ b.limits.journal → limit ≡ b.limits.journal
     → f ≡ accept_entry b.time c.text target a → limit < size h + entry_size h f → ⊥
 not_full b h c target a limit f st ready room limits same full =
     let long : length (payload f) ≡ a.payload = ap (λ (e : Entry). length (payload e)) same ∙ sym ready.payload in
-    omega (arith, long, room, st.sized, limits, full)
+    omega (arith, long, room, length-tail h f, st.sized, st.tail, limits, full)
 
 -- ---- a request that makes no entry
 
@@ -119,9 +120,9 @@ ran_refused A u v (answers.Take e) x f h aside ran = ran
 -- ---- an entry that accepts nothing
 
 -- an entry with this payload fits the journal
-pub not_full_of : (b : BooksView) (h : History) (limit bytes : ℕ) (e : Entry) → Stands b h → bytes ≡ length (payload e) → b.size + bytes + 5 ≤ b.limits.journal → limit ≡ b.limits.journal
+pub not_full_of : (b : BooksView) (h : History) (limit bytes : ℕ) (e : Entry) → Stands b h → bytes ≡ length (payload e) → size_with b bytes ≤ b.limits.journal → limit ≡ b.limits.journal
     → limit < size h + entry_size h e → ⊥
-not_full_of b h limit bytes e st long fits limits full = omega (arith, st.sized)
+not_full_of b h limit bytes e st long fits limits full = omega (arith, length-tail h e, st.sized, st.tail)
 
 -- where the entry may follow it was noted
 pub noted : {E : Type 0} (r : Result ℕ E) (M A B C D : Type 0) (N : ℕ → Type 0) → M → MatchResult r (λ n. M × N n × A) (λ f. (M → ⊥) × B) → MatchResult r (λ n. C) (λ f. D) → A × C

@@ -98,6 +98,8 @@ stands_later {b = b} {h = h} st t kept le keep replies = record {
   takings = st.takings;
   counted = st.counted;
   sized = st.sized;
+  tail = st.tail;
+  version = st.version;
   limits = st.limits;
   lawful = st.lawful;
 }

@@ -16,13 +16,15 @@ use Rattle.kept_replies.specs.declared.deed.KeptEntry.{KeptEntry}
 use Rattle.kept_replies.specs.Kept.{KeptView, found}
 use Rattle.change_issue.specs.Registers.{Register, count_in, next_in}
 use Rattle.ledger_model.specs.Histories.{History}
-use Rattle.ledger_model.specs.Houses.{site_kind, house, keeping, is_vendor, terms_of, all_terms, terms_by, terms_in, own_series}
+use Rattle.ledger_model.specs.Houses.{site_kind, house, keeping, is_vendor, terms_of, all_terms, terms_by, terms_in, version, own_series}
 use Rattle.ledger_model.specs.Pieces.{accepted_piece, accepted, change_piece, own_out, first_hand, run_from, minted_pieces, minted, own_count, next_identity}
 use Rattle.ledger_model.specs.Sums.{price_paid, values}
 use Rattle.ledger_model.specs.Stages.{is_repeat}
 use Rattle.ledger_model.specs.Lawful.{MayFollow, IsAllowed}
 use Rattle.ledger_model.proofs.AcceptLaws.{accepted_snoc}
 use Rattle.ledger_model.proofs.SerialLaws.{own_out_snoc, minted_snoc, count-append, count-cons}
+use Rattle.mc_records.proofs.SizeLaws.{length-tail, tail_size-more}
+use Rattle.ledger_model.proofs.VersionLaws.{version-more}
 use Rattle.ledger_model.proofs.FollowLaws.{longer_lawful, size_snoc}
 use Rattle.house_core.specs.Learning.{ByHouse, ByTrade, GoodsFit}
 use Rattle.house_core.specs.Noting.{IsCommand}
@@ -247,7 +249,9 @@ stands_noted {old = old} {new = new} {h = h} st e bytes command at goes may len 
       worth = λ s. ap (λ (ps : List Scrip). values (of_series s ps)) out ∙ st.worth s ∙ sym (is.worth s);
       takings = omega (arith, sum_by-append price_paid h (e ∷ []), still.price, st.takings, is.takings);
       counted = omega (arith, length-append h (e ∷ []), st.counted, is.counted);
-      sized = omega (arith, size_snoc h e, st.sized, len, is.sized);
+      sized = omega (arith, size_snoc h e, length-tail h e, st.sized, st.tail, len, is.sized);
+      tail = tail_size-more h e ∙ st.tail;
+      version = ap₂ (λ (v : List ℕ → ℕ → ℕ) (n : List ℕ). v n) (version-more h e) same.name ∙ st.version ∙ ap (version []) (sym is.name);
       limits = rw is.limits st.limits;
       lawful = rw is.limits (longer_lawful old.limits h e st.lawful may);
     }

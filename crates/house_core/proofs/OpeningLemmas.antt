@@ -1,8 +1,9 @@
 -- What comes of reading the entries of a book one by one.
-use Rattle.std.proofs.Common.{◌≡◌, ℕ, ◌+◌, ◌≤◌, ◌^◌, Option, Some, None, Result, Ok, Err, List, [], ◌∷◌, ◌++◌, MatchResult, inl, inr, refl, sym, ◌∙◌, subst, arith}
+use Rattle.std.proofs.Common.{◌≡◌, ℕ, ◌+◌, ◌≤◌, ◌^◌, Option, Some, None, Result, Ok, Err, List, [], ◌∷◌, ◌++◌, MatchResult, inl, inr, refl, sym, ◌∙◌, subst, arith, not, bytes_eq}
 use Rattle.mc_outside.specs.DiskView.{DiskView, OnlyRead}
 use Rattle.mc_outside.proofs.Runs.{read_then}
 use Rattle.mc_records.specs.declared.limits.Limits.{Limits}
+use Rattle.mc_records.specs.declared.refusal.Refusal.TheVariants.{WrongVendor}
 use Rattle.mc_records.specs.Entry.{Entry, Fits, payload}
 use Rattle.mc_records.specs.Sizes.{size, entry_size}
 use Rattle.mc_records.specs.declared.record.Record.{Record}
@@ -13,7 +14,9 @@ use Rattle.std.specs.Borrow.{Bor}
 use Rattle.ledger_model.specs.Histories.{History}
 use Rattle.ledger_model.specs.Houses.{site_kind}
 use Rattle.ledger_model.specs.Lawful.{MayFollow, AllFollow, IsLawful}
+use Rattle.ledger_model.specs.Lines.{refused_if}
 use Rattle.ledger_model.proofs.AcceptLaws.{accept_through}
+use Rattle.ledger_model.proofs.TableLaws.{line_ok}
 use Rattle.ledger_model.proofs.FollowLaws.{size_snoc}
 use Rattle.scrip_journal.specs.Layout as layout
 use Rattle.scrip_journal.specs.Layout.{IsSpoiled}
@@ -153,7 +156,8 @@ no_other_first limits kind (records.Goods m target price k contents) other = (λ
 no_other_first limits kind (records.Accept m scrip target sign price change deed) other = (
   λ may.
       let t = accept_through limits [] m scrip.now target.now sign price change (deed_of deed) may.allowed in
-      absurd (cc t.is_offered),
+      let vendor = line_ok (refused_if (not (bytes_eq t.scrip.piece.vendor [])) WrongVendor) _ t.secret t.is_genuine in
+      absurd (cc vendor.2),
   λ o. o,
 )
 no_other_first limits kind (records.Mint m reference count value first) other = (λ may. absurd (cc may.allowed.0), λ o. o)

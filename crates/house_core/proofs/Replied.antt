@@ -1,18 +1,17 @@
 -- Kept replies, after one more entry.
-use Rattle.std.proofs.Common.{◌≡◌, ℕ, ◌-◌, ◌<◌, ◌≤◌, ◌^◌, not, List, [], ◌∷◌, ◌++◌, length, take, Option, Some, None, Ok, refl, sym, ap, ◌∙◌, arith, eqb, bytes_eq, length-append}
+use Rattle.std.proofs.Common.{◌≡◌, ℕ, ◌-◌, ◌<◌, ◌≤◌, ◌^◌, not, List, [], ◌∷◌, ◌++◌, length, take, Option, Some, None, Ok, refl, sym, ap, ap₂, ◌∙◌, arith, eqb, bytes_eq, length-append}
 use Rattle.std.specs.Prelude.{option_map, option_and_then, unwrap_or}
 use Rattle.std.proofs.lemmas.List.{take-append-le, take_all}
-use Rattle.scrip_form.specs.Identities.{issuer_of, epoch_of}
+use Rattle.scrip_form.specs.Identities.{issuer_of, epoch_of, series_of}
 use Rattle.scrip_form.specs.Issuing.{Issuing, epoch, series_at, series_end}
 use Rattle.scrip_form.specs.Scrip.{Scrip, Certified, scrip_body, scrip_text}
-use Rattle.scrip_certs.specs.Digests.{certificate}
 use Rattle.mc_records.specs.declared.refusal.Refusal.TheVariants.{WrongVendor, UnknownIssuer, ExpiryMismatch, BadCertificate}
 use Rattle.mc_records.specs.Entry.{Entry, Accept}
 use Rattle.mc_records.specs.Requests.{Asked}
 use Rattle.kept_replies.specs.Kept.{KeptReply}
 use Rattle.change_issue.specs.Registers.{count_in, next_in}
 use Rattle.ledger_model.specs.Histories.{History}
-use Rattle.ledger_model.specs.Houses.{site_name, all_terms, terms_in, certificate_in, secret_in, secret_of}
+use Rattle.ledger_model.specs.Houses.{site_name, all_terms, terms_in, version, certificate_in, secret_in, secret_of}
 use Rattle.ledger_model.specs.Pieces.{piece_of, change_from, change_piece}
 use Rattle.ledger_model.specs.Lines.{given, refused_if}
 use Rattle.ledger_model.specs.Answer.{genuine}
@@ -21,7 +20,7 @@ use Rattle.ledger_model.proofs.TableLaws.{line_ok, given_ok, ok_is}
 use Rattle.ledger_model.proofs.ReplyLaws.{own_reply, reply_stays}
 use Rattle.house_core.specs.declared.verdict.Acceptance.{Acceptance}
 use Rattle.house_core.specs.Views.{entry_deed}
-use Rattle.house_core.specs.Books.{BooksView, HasChange, series_now, kept_entry, change_made, certified_change}
+use Rattle.house_core.specs.Books.{BooksView, HasChange, version_of, series_now, kept_entry, change_made, certified_change}
 use Rattle.house_core.specs.Trade.{BringsFor}
 use Rattle.house_core.specs.Stands.{Stands, IsReply, brought_then, scrip_request}
 use Rattle.house_core.specs.Verdicts.{accept_entry, IsReady}
@@ -53,15 +52,16 @@ some s = Some s
 -- the secret of the customer of a genuine piece
 secret_is : (h : History) (c : Certified) (secret : List ℕ) → piece_of c.text ≡ Some c.piece → genuine h c ≡ Ok secret → secret_for h c.text ≡ Some secret
 secret_is h c secret piece e =
+    let of_series : ℕ → ℕ = λ id. version h (site_name h) (series_of id) in
     let v = line_ok (refused_if (not (bytes_eq c.piece.vendor (site_name h))) WrongVendor) _ secret e in
     let own = line_ok (given (terms_in h (issuer_of c.piece.id)) UnknownIssuer) _ secret v.2 in
     let customers = line_ok (given (terms_in h (issuer_of c.piece.cust)) UnknownIssuer) _ secret own.2 in
     let end = series_end own.0 (epoch_of c.piece.id) in
     let ends = line_ok (refused_if (not (eqb c.piece.expires end)) (ExpiryMismatch c.piece.expires end)) _ secret customers.2 in
-    let proved = line_ok (refused_if (not (bytes_eq c.cert (certificate_in 1 own.0 (scrip_body c.piece) c.piece.id))) BadCertificate) _ secret ends.2 in
-    let is : secret_in 1 customers.0 c.piece.cust ≡ secret = ok_is (secret_in 1 customers.0 c.piece.cust) secret proved.2 in
+    let proved = line_ok (refused_if (not (bytes_eq c.cert (certificate_in (of_series c.piece.id) own.0 (scrip_body c.piece) c.piece.id))) BadCertificate) _ secret ends.2 in
+    let is : secret_in (of_series c.piece.cust) customers.0 c.piece.cust ≡ secret = ok_is (secret_in (of_series c.piece.cust) customers.0 c.piece.cust) secret proved.2 in
     let terms : terms_in h (issuer_of c.piece.cust) ≡ Some customers.0 = given_ok (terms_in h (issuer_of c.piece.cust)) UnknownIssuer customers.0 customers.1 in
-    ap (λ (o : Option Scrip). option_and_then (λ p. secret_of h p.cust) o) piece ∙ ap (λ (o : Option Issuing). option_map (λ t. secret_in 1 t c.piece.cust) o) terms ∙ ap (λ (s : List ℕ). Some s) is
+    ap (λ (o : Option Scrip). option_and_then (λ p. secret_of h p.cust) o) piece ∙ ap (λ (o : Option Issuing). option_map (λ t. secret_in (of_series c.piece.cust) t c.piece.cust) o) terms ∙ ap (λ (s : List ℕ). Some s) is
 
 -- the change of an entry is the one that was made
 change_is : {b : BooksView} {h : History} → Stands b h → (paid : Scrip) (price id : ℕ) → epoch b.own_terms b.time < 2 ^ 24 → count_in b.own (series_now b) < 2 ^ 32 → id ≡ next_in b.own (series_now b)
@@ -85,8 +85,9 @@ changes_are {b = b} {h = h} st c target a piece short most has = go a.change has
     go (Some id) has =
         let made = change_made b c.piece a.price id in
         let same : change_from h c.piece a.price id ≡ made = change_is st c.piece a.price id short (omega (arith, most, has.1)) has.2 in
-        let text : own_text h made ≡ scrip_text made (certificate b.own_terms (scrip_body made) id) =
-        ap (λ (o : Option Issuing). scrip_text made (unwrap_or (option_map (λ t. certificate t (scrip_body made) id) o) [])) st.own_terms in
+        let certified : (ℕ → ℕ) → Option Issuing → List ℕ = λ v o. scrip_text made (unwrap_or (option_map (λ t. certificate_in (v (series_of id)) t (scrip_body made) id) o) []) in
+        let versions : version h b.name ≡ version_of b = ap (version h) (sym st.name) ∙ st.version in
+        let text : own_text h made ≡ certified (version_of b) (Some b.own_terms) = ap₂ certified versions st.own_terms in
         ap (λ (o : Option Scrip). option_map (own_text h) (option_map (λ p. change_from h p a.price id) o)) piece
         ∙ ap (λ (p : Scrip). some (own_text h p)) same ∙ ap some text
 

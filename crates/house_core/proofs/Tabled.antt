@@ -13,10 +13,11 @@ use Rattle.mc_records.specs.declared.refusal.Refusal.{Refusal}
 use Rattle.mc_records.specs.declared.refusal.Refusal.TheVariants.{SeriesFull, WrongVendor, UnknownIssuer, ExpiryMismatch, Expired, Spent, NeedSignature, BadSignature}
 use Rattle.mc_records.specs.Entry.{Entry, Accept}
 use Rattle.mc_records.specs.Requests.{Asked}
+use Rattle.mc_records.proofs.SizeLaws.{length-tail}
 use Rattle.kept_replies.specs.Kept.{found}
 use Rattle.change_issue.specs.Registers.{count_in, next_in}
 use Rattle.ledger_model.specs.Histories.{History}
-use Rattle.ledger_model.specs.Houses.{site_name, keeping, all_terms, terms_by, terms_in, own_series}
+use Rattle.ledger_model.specs.Houses.{site_name, keeping, all_terms, terms_by, terms_in, version, own_series}
 use Rattle.ledger_model.specs.Pieces.{is_spent}
 use Rattle.ledger_model.specs.Lines.{Stop, Repeat, ◌>>=◌, given, refused_if}
 use Rattle.ledger_model.specs.Stages.{is_repeat, is_right, genuine_by, spendable_by, Offer, next_by, needed, fitted_by}
@@ -24,7 +25,7 @@ use Rattle.ledger_model.specs.Answer.{repeated, genuine, spendable, offer, next_
 use Rattle.ledger_model.specs.Slow.{after_repeat, after_read}
 use Rattle.ledger_model.proofs.TableLaws.{line_ok, refused_ok, given_ok}
 use Rattle.ledger_model.proofs.RepeatLaws.{again_is_same}
-use Rattle.house_core.specs.Books.{BooksView, series_now}
+use Rattle.house_core.specs.Books.{BooksView, version_of, tail_of, series_now}
 use Rattle.house_core.specs.House.{HasRun}
 use Rattle.house_core.specs.Spent.{is_marked}
 use Rattle.house_core.specs.Stands.{Stands, has_ended, scrip_request}
@@ -33,10 +34,11 @@ use Rattle.house_core.specs.Verdicts.{repeat_of}
 -- ---- 22 to 25
 
 abbrev pub genuine_in : BooksView → Certified → Result (List ℕ) Stop
-genuine_in b c = genuine_by b.name (λ series. 1) b.terms c
+genuine_in b c = genuine_by b.name (version_of b) b.terms c
 
 pub genuine_stands : {b : BooksView} {h : History} → Stands b h → (c : Certified) → genuine h c ≡ genuine_in b c
-genuine_stands st c = ap₂ (λ (n : List ℕ) (ts : List Issuing). genuine_by n (λ series. 1) ts c) st.name st.terms
+genuine_stands {b = b} {h = h} st c =
+    ap₂ (λ (n : List ℕ) (ts : List Issuing). genuine_by n (version h (site_name h)) ts c) st.name st.terms ∙ ap (λ (v : ℕ → ℕ). genuine_by b.name v b.terms c) st.version
 
 not_false : (b : Bool) → not b ≡ false → b ≡ true
 not_false true e = refl
@@ -97,6 +99,10 @@ terms_are_of (x ∷ xs) issuer t e = go (eqb x.issuer issuer) refl (terms_are_of
     go true is more f = let same : x ≡ t = cc in ap (λ (y : Issuing). y.issuer) (sym same) ∙ eqb-true x.issuer issuer is
     go false is more f = more f
 
+-- the terms that the history has for issuer 0 are those that the books have for the house itself
+pub own_terms_are : {b : BooksView} {h : History} → Stands b h → (terms : Issuing) → terms_in h 0 ≡ Some terms → b.own_terms ≡ terms
+own_terms_are {b = b} st terms own = let both : Some b.own_terms ≡ Some terms = sym st.own_terms ∙ own in cc
+
 pub series_stands : {b : BooksView} {h : History} → Stands b h → (t : ℕ) → own_series h t ≡ series_at b.own.terms t
 series_stands {b = b} {h = h} st t =
     let zero : b.own_terms.issuer ≡ 0 = terms_are_of (all_terms h) 0 b.own_terms st.own_terms in
@@ -113,8 +119,8 @@ change_stands : {b : BooksView} {h : History} → Stands b h → (limits : Limit
 change_stands {b = b} {h = h} st limits same price value =
     rw (series_stands st b.time, st.issued (series_at b.own.terms b.time), st.most, same) refl
 
-fitted_stands : {b : BooksView} {h : History} → Stands b h → (limits : Limits) (e : Entry) → fitted h limits e ≡ fitted_by limits.journal b.size 0 e
-fitted_stands {b = b} {h = h} st limits e = ap (λ (n : ℕ). fitted_by limits.journal n 0 e) st.sized
+pub fitted_stands : {b : BooksView} {h : History} → Stands b h → (limits : Limits) (e : Entry) → fitted h limits e ≡ fitted_by limits.journal b.size (tail_of b) e
+fitted_stands {b = b} {h = h} st limits e = ap₂ (λ (n t : ℕ). fitted_by limits.journal n t e) st.sized (length-tail h e ∙ st.tail)
 
 -- ---- 30 to 33
 
@@ -130,7 +136,7 @@ no_change st limits same q c sign o s offered full = rw (← offered, change_sta
 
 pub fits : {b : BooksView} {h : History} → Stands b h → (limits : Limits) → limits.series ≡ b.limits.series → (q : Asked) (c : Certified) (sign : Option (List ℕ)) (o : Offer) (change : Option ℕ) (r : Result Entry Stop)
     → Ok o ≡ offer h b.time limits q.target c.piece.value → Ok change ≡ change_in b o.price c.piece.value
-    → r ≡ fitted_by limits.journal b.size 0 (Accept b.time c.text q.target sign o.price change o.deed) → r ≡ taken h b.time limits q c sign
+    → r ≡ fitted_by limits.journal b.size (tail_of b) (Accept b.time c.text q.target sign o.price change o.deed) → r ≡ taken h b.time limits q c sign
 fits st limits same q c sign o change r offered changed is =
     rw (← offered, change_stands st limits same o.price c.piece.value, ← changed, fitted_stands st limits (Accept _ c.text q.target sign o.price change o.deed)) is
 

@@ -3,12 +3,12 @@ use Rattle.std.specs.Prelude.{◌≡◌, ℕ, ◌+◌, ◌-◌, ◌*◌, ◌<◌
 use Rattle.scrip_form.specs.Identities.{series_of}
 use Rattle.scrip_form.specs.Issuing.{Issuing, epoch, series_at}
 use Rattle.scrip_form.specs.Scrip.{Scrip, scrip_body}
-use Rattle.scrip_certs.specs.Digests.{certificate}
 use Rattle.mc_records.specs.declared.limits.Limits.{Limits}
 use Rattle.mc_records.specs.Limits.{AreInRange}
 use Rattle.mc_records.specs.Entry.{Entry, AddTerms, Mint}
 use Rattle.mc_records.specs.Requests.{Asked}
-use Rattle.ledger_model.specs.Houses.{all_terms}
+use Rattle.mc_records.specs.Sizes.{tail_size, framed_size}
+use Rattle.ledger_model.specs.Houses.{version, certificate_in, all_terms}
 use Rattle.kept_replies.specs.declared.deed.KeptEntry.{KeptEntry}
 use Rattle.kept_replies.specs.Requests.{text_size}
 use Rattle.kept_replies.specs.Kept.{KeptView, is_in_time}
@@ -38,6 +38,18 @@ pub record BooksView : Type 0 where
 -- the series that change is handed out in at the house time
 abbrev pub series_now : BooksView → ℕ
 series_now b = series_at b.own.terms b.time
+
+-- the version of each of the house's series: the one from before any entry
+abbrev pub version_of : BooksView → ℕ → ℕ
+version_of b = version [] b.name
+
+-- how many bytes the tail of the next entry has: as many as that of the first
+abbrev pub tail_of : BooksView → ℕ
+tail_of b = tail_size []
+
+-- how many bytes the journal has with one entry more, with a payload of so many bytes
+abbrev pub size_with : BooksView → ℕ → ℕ
+size_with b payload_bytes = b.size + framed_size payload_bytes (tail_of b)
 
 -- what is true of all books, whatever their history
 pub record AreSound (b : BooksView) : Type 0 where
@@ -71,7 +83,7 @@ abbrev pub change_made : BooksView → Scrip → ℕ → ℕ → Scrip
 change_made b paid price id = issued_piece b.own_terms b.time b.name (paid.value - price) id (Some paid.cust) paid.props
 
 abbrev pub certified_change : BooksView → Scrip → ℕ → ℕ → Scrip × List ℕ
-certified_change b paid price id = (change_made b paid price id, certificate b.own_terms (scrip_body (change_made b paid price id)) id)
+certified_change b paid price id = (change_made b paid price id, certificate_in (version_of b (series_of id)) b.own_terms (scrip_body (change_made b paid price id)) id)
 
 -- what is kept of the entry of an acceptance
 abbrev pub kept_entry : BooksView → Scrip → Acceptance → KeptEntry
@@ -116,7 +128,7 @@ pub record IsEntered (old new : BooksView) (q : Asked) (paid : Scrip) (a : Accep
   pub redeemed : (s : ℕ) → redeemed_in new.own s ≡ redeemed_in old.own s + at_series (series_of paid.id) paid.value s
   pub takings : new.takings ≡ old.takings + min a.price paid.value
   pub counted : new.count ≡ old.count + 1
-  pub sized : new.size ≡ old.size + a.payload + 5
+  pub sized : new.size ≡ size_with old a.payload
 
 -- the books before and after room was made
 pub record IsAsBefore (old new : BooksView) : Type 0 where
@@ -173,4 +185,4 @@ pub record IsNoted (old new : BooksView) (e : Entry) (bytes : ℕ) : Type 0 wher
   pub redeemed : (s : ℕ) → redeemed_in new.own s ≡ redeemed_in old.own s
   pub takings : new.takings ≡ old.takings
   pub counted : new.count ≡ old.count + 1
-  pub sized : new.size ≡ old.size + bytes + 5
+  pub sized : new.size ≡ size_with old bytes

@@ -2,6 +2,7 @@
 use Rattle.std.specs.Prelude.{◌≡◌, ℕ, ◌+◌, false, List, [], ◌∷◌, length, Some}
 use Rattle.mc_records.specs.declared.limits.Limits.{Limits}
 use Rattle.mc_records.specs.Entry.{House, Entry, Site, Fits, payload}
+use Rattle.mc_records.specs.Sizes.{empty_size, framed_size, tail_size}
 use Rattle.change_issue.specs.Registers.{count_in, issued_in, redeemed_in}
 use Rattle.house_core.specs.Spent.{is_marked}
 use Rattle.house_core.specs.Books.{BooksView}
@@ -24,7 +25,7 @@ pub record AreFounded (b : BooksView) (m : ℕ) (site : List ℕ) (h : House) (l
   pub redeemed : (s : ℕ) → redeemed_in b.own s ≡ 0
   pub takings : b.takings ≡ 0
   pub counted : b.count ≡ 1
-  pub sized : b.size ≡ len + 14
+  pub sized : b.size ≡ empty_size + framed_size len (tail_size [])
   pub limits : b.limits ≡ l
 
 -- the books are those that an entry founds

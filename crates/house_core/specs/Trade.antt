@@ -1,9 +1,11 @@
 -- What a history says of a trade.
-use Rattle.std.specs.Prelude.{◌≡◌, ℕ, ◌<◌, true, List, ◌++◌, length, codes, decimal, Option, Some, None, option_map, option_and_then, slice_get}
+use Rattle.std.specs.Prelude.{◌≡◌, ℕ, ◌<◌, true, List, ◌++◌, length, codes, decimal, Option, Some, None, option_map, option_and_then, slice_get, if◌then◌else◌}
+use Rattle.scrip_form.specs.Scrip.{Scrip}
 use Rattle.kept_replies.specs.declared.deed.Deed.{Deed}
 use Rattle.kept_replies.specs.declared.deed.Deed.TheVariants as kept
 use Rattle.mc_records.specs.Entry.{Entry, Goods}
 use Rattle.ledger_model.specs.Histories.{History}
+use Rattle.ledger_model.specs.Houses.{is_vendor}
 use Rattle.ledger_model.specs.Goods.{is_goods_of}
 use Rattle.ledger_model.specs.Replies.{Contents, brought, no_contents}
 use Rattle.house_core.specs.declared.offer.DrawAsk.{DrawAsk}
@@ -11,23 +13,30 @@ use Rattle.house_core.specs.Views.{entry_deed}
 
 -- ---- what is asked and brought
 
--- The draw that a target asks for, with what a history says of its account. A broker's targets and
--- accounts stand here.
+-- a broker's targets of draws and its accounts stand here
+unfoldable pub broker_draw : History → List ℕ → Option DrawAsk
+broker_draw h target = None
+
+-- The draw that a target asks for, with what a history says of its account. A vendor has no accounts.
 abbrev pub draw_asked : History → List ℕ → Option DrawAsk
-draw_asked h target = None
+draw_asked h target = if is_vendor h then None else broker_draw h target
 
 -- the contents of a Goods entry; other entries have none
 abbrev pub contents_in : Entry → Option Contents
 contents_in (Goods m target price kind contents) = Some (record { kind = kind; bytes = contents })
 contents_in _ = None
 
--- What a kept deed brings: the contents of the Goods entry of its number, where there is one; of a
--- credit the balance as a line. The pieces that are sold and drawn stand here.
+-- the line of a piece that is sold or drawn stands here
+unfoldable pub piece_brought : Scrip → List ℕ → List ℕ → Contents
+piece_brought piece cert secret = no_contents
+
+-- What a kept deed brings: the contents of the Goods entry of its number, where there is one; the piece that was sold or
+-- drawn; of a credit the balance as a line.
 abbrev pub brought_by : History → Deed → Option Contents
 brought_by h (kept.Goods number) = option_and_then contents_in (slice_get h number)
-brought_by h (kept.Sale piece cert secret stock) = Some no_contents
+brought_by h (kept.Sale piece cert secret stock) = Some (piece_brought piece cert secret)
 brought_by h (kept.Credit balance) = Some (record { kind = 1; bytes = decimal balance ++ codes "\n" })
-brought_by h (kept.Draw piece cert secret) = Some no_contents
+brought_by h (kept.Draw piece cert secret) = Some (piece_brought piece cert secret)
 
 -- a kept deed brings what the entry's deed brings where this target is asked for
 abbrev pub BringsFor : History → List ℕ → Deed → Type 0

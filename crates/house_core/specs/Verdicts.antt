@@ -13,7 +13,7 @@ use Rattle.house_core.specs.declared.verdict.Stopped.{Stopped}
 use Rattle.house_core.specs.declared.verdict.Stopped.TheVariants as stops
 use Rattle.house_core.specs.declared.verdict.Acceptance.{Acceptance}
 use Rattle.house_core.specs.Views.{entry_deed}
-use Rattle.house_core.specs.Books.{BooksView, HasChange}
+use Rattle.house_core.specs.Books.{BooksView, version_of, size_with, HasChange}
 use Rattle.house_core.specs.Replying.{IsOfSite}
 
 -- ---- verdicts
@@ -50,10 +50,10 @@ accept_entry moment text target a = Accept moment text target a.sign a.price a.c
 -- change where there has to be, the length is that of the payload of its entry, and the entry fits the
 -- greatest journal.
 pub record IsReady (b : BooksView) (c : Certified) (target : List ℕ) (a : Acceptance) : Type 0 where
-  pub secret : genuine_by b.name (λ series. 1) b.terms c ≡ Ok a.secret
+  pub secret : genuine_by b.name (version_of b) b.terms c ≡ Ok a.secret
   pub change : HasChange b a.price c.piece.value a.change
   pub payload : a.payload ≡ length (payload (accept_entry b.time c.text target a))
-  pub fits : b.size + a.payload + 5 ≤ 2 ^ 40
+  pub fits : size_with b a.payload ≤ 2 ^ 40
 
 -- an entry says what an acceptance says: this signature, price, change and deed
 pub record IsSaid (a : Acceptance) (signed : Option (List ℕ)) (asked : ℕ) (handed : Option ℕ) (sold : Deed) : Type 0 where

@@ -119,7 +119,7 @@ impl<T: Trade> Bench<T> {
         ensures { (h : History) → Holds T.stands T.site self.now h → result ≡ ledger.secret_when (ledger.is_signed refusal.now) h (seen q.now.scrip) }
     {
         if is_signed(refusal) {
-            customer_of(self.books.terms(), q)
+            customer_of(&self.books, q)
         } else {
             None
         }

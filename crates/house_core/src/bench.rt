@@ -15,7 +15,7 @@ ghost use Rattle.kept_replies.specs.Kept.{found};
 ghost use Rattle.ledger_model.specs.Histories.{History, time};
 ghost use Rattle.ledger_model.specs.Answer as model;
 ghost use Rattle.house_core.specs.Bench.{Holds, HasContents, IsRoomed, KeepsReply, Takes, Accepts, KeepsContents, FaultIsOfSite, Enters, Follows, stopped_with, house_time, limits_of};
-ghost use Rattle.house_core.specs.Books.{HasRoom, HasRoomFor, GoesOn};
+ghost use Rattle.house_core.specs.Books.{size_with, HasRoom, HasRoomFor, GoesOn};
 ghost use Rattle.house_core.specs.Views.{entry_deed};
 ghost use Rattle.house_core.specs.Stands.{scrip_request};
 ghost use Rattle.house_core.specs.Trade.{OfGoods, NamesInForce, BringsFor};
@@ -201,8 +201,8 @@ impl<T: Trade> Bench<T> {
         requires command { IsCommand (entry r.now) }
         ensures same { IsRoomed T.stands T.site T.holds self.old self.new }
         ensures len { IfOk result (λ n. n ≡ length (payload (entry r.now))) }
-        ensures fits { IfOk result (λ n. self.new.books.size + n + 5 ≤ self.new.books.limits.journal) }
-        ensures room { IfOk result (λ n. self.new.books.size + n + 5 ≤ 2 ^ 40) }
+        ensures fits { IfOk result (λ n. size_with self.new.books n ≤ self.new.books.limits.journal) }
+        ensures room { IfOk result (λ n. size_with self.new.books n ≤ 2 ^ 40) }
         ensures goes_on { OnOk result (GoesOn self.new.books (entry r.now)) }
         ensures trade { OnOk result (T.has_room self.new.trade (entry r.now)) }
         ensures books { OnOk result (HasRoomFor self.new.books (entry r.now)) }
@@ -212,7 +212,7 @@ impl<T: Trade> Bench<T> {
             Ok(bytes) => bytes,
             Err(NoMemory) => return Err(EnterFault::NoMemory),
         };
-        match fitted(self.books.limits().journal, self.books.size(), bytes) {
+        match fitted(&self.books, self.books.limits().journal, bytes) {
             Ok(()) => (),
             Err(refusal) => return Err(EnterFault::Refused(refusal)),
         }
@@ -255,7 +255,7 @@ impl<T: Trade> Bench<T> {
         requires command { IsCommand (entry r.now) }
         requires time { moment_of (entry r.now) ≤ house_time self.old }
         requires len { bytes ≡ length (payload (entry r.now)) }
-        requires room { self.old.books.size + bytes + 5 ≤ 2 ^ 40 }
+        requires room { size_with self.old.books bytes ≤ 2 ^ 40 }
         requires goes_on { GoesOn self.old.books (entry r.now) }
         requires trade { T.has_room self.old.trade (entry r.now) }
         requires books { HasRoomFor self.old.books (entry r.now) }

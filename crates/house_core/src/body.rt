@@ -13,6 +13,7 @@ const TEXT: u8 = 1;
 
 /// What a reply with this deed brings, where no trade needs to hold anything for it: the deed names no
 /// goods. Of goods it is nothing, as text.
+#[tactic(auto, unfolding(crate::specs::Trade::piece_brought))]
 pub fn body_of_deed<'a>(deed: &Deed, room: &'a mut [u8; 512]) -> Body<'a>
     ensures range { AreContents result }
     ensures brought { (h : History) → OfGoods (λ n. ⊥) deed.now → brought_by h deed.now ≡ Some (contents_of result) }

@@ -1,18 +1,21 @@
 ghost use Rattle.std.specs.Prelude.{◌≡◌, ◌+◌, ◌-◌, ◌≤◌, ◌<◌, Some, None, option_map, filter, max, All, IfSome, IsNone, ◌↔◌, ◌^◌, [], IsTrue, IsFalse, IfOk, MatchResult, OnOk};
+ghost use Rattle.scrip_form.specs.Identities.{series_of};
 ghost use Rattle.scrip_form.specs.Issuing.{epoch, series_at};
+ghost use Rattle.scrip_form.specs.Scrip.{scrip_body};
 ghost use Rattle.mc_records.specs.declared.refusal.Refusal.TheVariants.{SeriesFull};
 ghost use Rattle.mc_records.specs.Limits.{AreInRange};
 ghost use Rattle.change_issue.specs.Registers.{count_in, next_in};
 ghost use Rattle.mc_records.specs.Views.{house_of, entry};
 ghost use Rattle.mc_records.specs.Entry.{Fits};
+ghost use Rattle.ledger_model.specs.Houses.{certificate_in, secret_in};
 ghost use Rattle.house_core.specs.Noting.{IsNoSite};
 ghost use Rattle.house_core.specs.Founding.{AreFounded};
 ghost use Rattle.mc_records.specs.Requests.{asked_of};
 ghost use Rattle.kept_replies.specs.Kept.{found, has_number, is_in_time, reply_of, with_number};
 ghost use Rattle.house_core.specs.Spent.{is_marked};
-ghost use Rattle.house_core.specs.Books.{AreSound, HasRoom, HasChange, HasRoomFor, GoesOn, IsEntered, IsNoted, IsAsBefore, series_now};
+ghost use Rattle.house_core.specs.Books.{AreSound, HasRoom, HasChange, HasRoomFor, GoesOn, IsEntered, IsNoted, IsAsBefore, version_of, size_with, series_now};
 
-use crate::money::{certified_if, redeem};
+use crate::money::{certificate_by, certified, certified_if, redeem, secret_by};
 use crate::spent::Spent;
 use crate::verdict::Acceptance;
 use change_issue::Issuer;
@@ -22,6 +25,12 @@ use mc_records::{Limits, PieceList, Record, Refusal, Request, SiteTerms};
 use scrip_form::{Id, Name, Piece, Terms};
 use std::alloc::Global;
 use std::marker::Model;
+
+/// The bytes of a journal of no entries: the header and the first gate.
+const EMPTY_JOURNAL: u64 = 9;
+
+/// What an entry adds to a journal beside its payload: the payload's length, and the gate behind it.
+const FRAME: u64 = 5;
 
 /// What a house keeps in place of its history, beside its trade. Contracts see it as the record
 /// `BooksView`.
@@ -62,6 +71,7 @@ impl Model for Books {
 
 impl Books {
     /// The books of a house that is founded so, by an entry of so many bytes of payload.
+    #[tactic(auto, unfolding(mc_records::specs::Sizes::tail_size))]
     pub(crate) fn found(
         alloc: Global,
         moment: Moment,
@@ -88,7 +98,7 @@ impl Books {
             own: Issuer::new(alloc, house.terms, limits),
             takings: Total::zero(),
             count: 1,
-            size: payload + 14,
+            size: EMPTY_JOURNAL + payload + FRAME,
             limits,
         })
     }
@@ -157,6 +167,37 @@ impl Books {
         ensures { result ≡ self.now.size }
     {
         self.size
+    }
+
+    /// How many bytes the journal has with one entry more, with a payload of so many bytes.
+    #[tactic(auto, unfolding(mc_records::specs::Sizes::tail_size))]
+    pub(crate) fn size_with(&self, payload: u64) -> u64
+        requires { payload ≤ 2 ^ 40 }
+        ensures { result ≡ size_with self.now payload }
+    {
+        self.size + payload + FRAME
+    }
+
+    /// The certificate of a body under an identity of the house's name, by the terms of its issuer.
+    pub(crate) fn certificate_of(&self, terms: &Terms, body: &[u8], id: Id) -> [u8; 16]
+        ensures { result ≡ certificate_in (version_of self.now (series_of id)) terms.now body.now id }
+    {
+        certificate_by(terms, body, id)
+    }
+
+    /// The certificate of a piece of the house's own.
+    pub(crate) fn own_certificate(&self, piece: &Piece) -> [u8; 16]
+        ensures { result ≡ certificate_in (version_of self.now (series_of piece.now.id)) self.now.own_terms (scrip_body piece.now) piece.now.id }
+    {
+        let (_, cert) = certified(&self.own_terms, *piece);
+        cert
+    }
+
+    /// The secret of a customer, by the terms of the issuer of his identity.
+    pub(crate) fn secret_of(&self, terms: &Terms, cust: Id) -> [u8; 16]
+        ensures { result ≡ secret_in (version_of self.now (series_of cust)) terms.now cust }
+    {
+        secret_by(terms, cust)
     }
 
     /// Whether an identity was accepted.
@@ -284,16 +325,17 @@ impl Books {
         requires goes_on { GoesOn self.old (entry r.now) }
         requires payload { Fits (entry r.now) }
         requires site { IsNoSite (entry r.now) }
-        requires fits { self.old.size + bytes + 5 ≤ 2 ^ 40 }
+        requires fits { size_with self.old bytes ≤ 2 ^ 40 }
         ensures { IsNoted self.old self.new (entry r.now) bytes }
     {
+        let size = self.size_with(bytes);
         match r {
             Record::Terms { terms, .. } => self.terms.push_reserved(*terms),
             Record::Mint { count, first, .. } => self.own.count_on(*first, u32::from(*count)),
             _ => (),
         }
         self.count += 1;
-        self.size += bytes + 5;
+        self.size = size;
     }
 
     /// The series that the house hands out at the house time.
@@ -317,10 +359,11 @@ impl Books {
         requires room { HasRoom self.old (asked_of q.now) paid.now.id }
         requires fresh { found self.old.kept self.old.time (asked_of q.now) ≡ None }
         requires change { HasChange self.old a.now.price paid.now.value a.now.change }
-        requires fits { self.old.size + a.now.payload + 5 ≤ 2 ^ 40 }
+        requires fits { size_with self.old a.now.payload ≤ 2 ^ 40 }
         ensures { IsEntered self.old self.new (asked_of q.now) paid.now a.now }
     {
         let _series = self.series_now();
+        let size = self.size_with(a.payload);
         let piece = redeem(
             &mut self.own,
             &mut self.takings,
@@ -342,7 +385,7 @@ impl Books {
         self.kept.keep(q, entry);
         self.spent.mark(paid.id());
         self.count += 1;
-        self.size += a.payload + 5;
+        self.size = size;
     }
 }
 

@@ -3,7 +3,10 @@
 ghost use Rattle.std.specs.Prelude.{◌≡◌, ◌<◌, ◌≤◌, ◌+◌, ◌∷◌, ◌++◌, [], ℕ, List, length, max, IfOk, IfErr, IfSome, MatchResult, OnOk, None, Some, Ok};
 ghost use Rattle.mc_outside.specs.Bytes.{Rose};
 ghost use Rattle.mc_outside.specs.DiskView.{Ran};
+ghost use Rattle.scrip_form.specs.Identities.{series_of};
+ghost use Rattle.scrip_form.specs.Issuing.{Issuing};
 ghost use Rattle.scrip_form.specs.Reading.{scrip_of};
+ghost use Rattle.scrip_form.specs.Scrip.{scrip_body};
 ghost use Rattle.scrip_form.specs.Texts.{IsTarget};
 ghost use Rattle.mc_records.specs.Entry.{Entry, Fits, moment_of};
 ghost use Rattle.mc_records.specs.Requests.{asked_of, seen};
@@ -12,11 +15,12 @@ ghost use Rattle.mc_records.specs.Views.{entry};
 ghost use Rattle.kept_replies.specs.Kept.{found};
 ghost use Rattle.ledger_model.specs.Histories.{History};
 ghost use Rattle.ledger_model.specs.Answer as model;
-ghost use Rattle.ledger_model.specs.Houses.{site_name, terms_in};
+ghost use Rattle.ledger_model.specs.Houses.{site_name, terms_in, version, certificate_in, secret_in};
 ghost use Rattle.ledger_model.specs.Lawful.{MayFollow};
 ghost use Rattle.house_core.specs.Noting.{IsCommand};
 ghost use Rattle.scrip_journal.specs.States.{IsJournal};
 ghost use Rattle.scrip_journal.specs.Exits.{EitherQuiet, MatchStageFault};
+ghost use Rattle.house_core.specs.Books.{size_with};
 ghost use Rattle.house_core.specs.Bench.{IsHouse, KeepsReply, house_time, limits_of};
 ghost use Rattle.house_core.specs.Stands.{scrip_request};
 ghost use Rattle.house_core.specs.Trade.{OfGoods, NamesInForce, BringsFor};
@@ -36,7 +40,7 @@ use crate::weigh::weigh;
 use mc_base::{Moment, NoMemory};
 use mc_outside::Disk;
 use mc_records::{Limits, PieceList, Record, Refusal, Request};
-use scrip_form::{Id, Name, ScripRef, Terms, read_scrip};
+use scrip_form::{Id, Name, Piece, ScripRef, Terms, read_scrip};
 use scrip_journal::{Journal, Receipt, StageFault};
 use std::alloc::Global;
 
@@ -92,6 +96,23 @@ impl<D: Disk, T: Trade> House<D, T> {
         ensures { (h : History) → StandsFor D.disk T.stands T.site T.holds self.now h → terms_in h 0 ≡ Some result }
     {
         self.bench.books.own_terms()
+    }
+
+    /// The certificate of a piece of its own, by its own terms.
+    pub fn own_certificate(&self, piece: &Piece) -> [u8; 16]
+        ensures { (h : History) (terms : Issuing) → StandsFor D.disk T.stands T.site T.holds self.now h → terms_in h 0 ≡ Some terms
+            → result ≡ certificate_in (version h (site_name h) (series_of piece.now.id)) terms (scrip_body piece.now) piece.now.id }
+    {
+        self.bench.books.own_certificate(piece)
+    }
+
+    /// The secret of a customer whose identity is of its own, by its own terms.
+    pub fn own_secret(&self, cust: Id) -> [u8; 16]
+        ensures { (h : History) (terms : Issuing) → StandsFor D.disk T.stands T.site T.holds self.now h → terms_in h 0 ≡ Some terms
+            → result ≡ secret_in (version h (site_name h) (series_of cust)) terms cust }
+    {
+        let books = &self.bench.books;
+        books.secret_of(&books.own_terms(), cust)
     }
 
     /// The identity of the first of so many next pieces of its own series of the house time; refused with 32
@@ -196,7 +217,7 @@ impl<D: Disk, T: Trade> House<D, T> {
         requires new { found self.bench.books.kept self.bench.books.time (scrip_request scrip.now.text q.now.target.now (seen q.now.sign)) ≡ None }
         requires held { OfGoods (T.holds self.bench.trade) acceptance.now.deed }
         requires ready { IsReady self.bench.books scrip.now q.now.target.now acceptance.now }
-        requires room { self.bench.books.size + acceptance.now.payload + 5 ≤ self.bench.books.limits.journal }
+        requires room { size_with self.bench.books acceptance.now.payload ≤ self.bench.books.limits.journal }
         ensures moved { D.disk_moved self.journal.disk (outcome_disk result) }
         ensures keeps { OfHouse (KeepsTime self) result }
         ensures counts { CountsFaults result (D.disk self.journal.disk).faults (D.disk (outcome_disk result)).faults }

@@ -1,32 +1,49 @@
 //! The money of an accepted piece, and its change.
 
-ghost use Rattle.std.specs.Prelude.{◌≡◌, ◌+◌, ◌-◌, ◌≤◌, ◌<◌, ◌^◌, ℕ, Some, option_map, min, MatchOption, IsTrue};
+ghost use Rattle.std.specs.Prelude.{◌≡◌, ◌+◌, ◌-◌, ◌≤◌, ◌<◌, ◌^◌, ℕ, List, [], Some, option_map, min, MatchOption, IsTrue};
 ghost use Rattle.scrip_form.specs.Identities.{series_of};
 ghost use Rattle.scrip_form.specs.Issuing.{series_at};
 ghost use Rattle.scrip_form.specs.Scrip.{scrip_body};
-ghost use Rattle.scrip_certs.specs.Digests as digests;
+ghost use Rattle.ledger_model.specs.Houses.{version, certificate_in, secret_in};
 ghost use Rattle.change_issue.specs.Registers.{has_room, count_in, issued_in, redeemed_in, next_in};
 ghost use Rattle.change_issue.specs.IssuedPieces.{issued_piece};
 ghost use Rattle.house_core.specs.Books.{at_series, change_count, change_worth};
 
 use change_issue::Issuer;
 use mc_base::{Amount, Coin, Moment, Total};
-use scrip_certs::certificate;
+use scrip_certs::{certificate, customer_secret};
 use scrip_form::{Id, Name, Piece, Terms, write_scrip};
 
+/// The certificate of a body under an identity, by the terms of its issuer, in the version that a series has
+/// before any entry.
+#[tactic(auto, unfolding(ledger_model::specs::Houses::version, ledger_model::specs::Houses::certificate_in))]
+pub(crate) fn certificate_by(terms: &Terms, body: &[u8], id: Id) -> [u8; 16]
+    ensures { (site : List ℕ) → result ≡ certificate_in (version [] site (series_of id)) terms.now body.now id }
+{
+    certificate(terms, body, id)
+}
+
+/// The secret of a customer by the terms of the issuer, likewise.
+#[tactic(auto, unfolding(ledger_model::specs::Houses::version, ledger_model::specs::Houses::secret_in))]
+pub(crate) fn secret_by(terms: &Terms, cust: Id) -> [u8; 16]
+    ensures { (site : List ℕ) → result ≡ secret_in (version [] site (series_of cust)) terms.now cust }
+{
+    customer_secret(terms, cust)
+}
+
 /// A piece of the house's own with its certificate under these terms.
-fn certified(terms: &Terms, piece: Piece) -> (Piece, [u8; 16])
-    ensures { result ≡ (piece, digests.certificate terms.now (scrip_body piece) piece.id) }
+pub(crate) fn certified(terms: &Terms, piece: Piece) -> (Piece, [u8; 16])
+    ensures { (site : List ℕ) → result ≡ (piece, certificate_in (version [] site (series_of piece.id)) terms.now (scrip_body piece) piece.id) }
 {
     let mut out = [0; 512];
     let len = write_scrip(&piece, &[0; 16], &mut out);
-    let cert = certificate(terms, &out[..len - 32], piece.id());
+    let cert = certificate_by(terms, &out[..len - 32], piece.id());
     (piece, cert)
 }
 
 /// A piece that may be there, likewise.
 pub(crate) fn certified_if(terms: &Terms, piece: Option<Piece>) -> Option<(Piece, [u8; 16])>
-    ensures { result ≡ option_map (λ p. (p, digests.certificate terms.now (scrip_body p) p.id)) piece }
+    ensures { (site : List ℕ) → result ≡ option_map (λ p. (p, certificate_in (version [] site (series_of p.id)) terms.now (scrip_body p) p.id)) piece }
 {
     match piece {
         Some(piece) => Some(certified(terms, piece)),

@@ -11,6 +11,7 @@ ghost use Rattle.hex.specs.Hex.{encode_lower};
 ghost use Rattle.house_core.specs.Stands.{scrip_request};
 ghost use Rattle.house_core.specs.Verdicts.{IsSaid};
 ghost use Rattle.house_core.specs.Noting.{IsCommand};
+ghost use Rattle.house_core.specs.Books.{size_with};
 ghost use Rattle.house_core.specs.Bench.{Holds, HasContents, Follows, Replays, house_time, limits_of};
 
 use crate::bench::{Bench, record_deed};
@@ -42,7 +43,7 @@ impl<T: Trade> Bench<T> {
         requires command { IsCommand (entry r.now) }
         requires time { moment_of (entry r.now) ≡ house_time self.old }
         requires len { bytes ≡ length (payload (entry r.now)) }
-        requires room { self.old.books.size + bytes + 5 ≤ 2 ^ 40 }
+        requires room { size_with self.old.books bytes ≤ 2 ^ 40 }
         ensures time { house_time self.new ≡ house_time self.old }
         ensures limits { limits_of self.new ≡ limits_of self.old }
         ensures exact { (h : History) → Holds T.stands T.site self.old h → Follows T.stands T.site self.new (limits_of self.old) h (entry r.now) result }
@@ -107,7 +108,7 @@ impl<T: Trade> Bench<T> {
             Ok(bytes) => bytes,
             Err(NoMemory) => return Err(ReplayEnd::NoMemory),
         };
-        match fitted(1 << 40, self.books.size(), bytes) {
+        match fitted(&self.books, 1 << 40, bytes) {
             Ok(()) => (),
             Err(_) => return Err(ReplayEnd::Unlawful),
         }

@@ -6,12 +6,13 @@ ghost use Rattle.scrip_certs.specs.Digests.{reply_signature};
 ghost use Rattle.mc_records.specs.Requests.{seen};
 ghost use Rattle.mc_records.specs.Replies.{reply_head, reply_text};
 ghost use Rattle.ledger_model.specs.Histories.{History};
-ghost use Rattle.ledger_model.specs.Houses.{all_terms};
 ghost use Rattle.ledger_model.specs.Replies as ledger;
 ghost use Rattle.millicent_http.specs.ReplyHeads.{IsReplyHead, reply_of};
 ghost use Rattle.house_core.specs.Views.{contents_of};
 ghost use Rattle.house_core.specs.Replying.{AreContents, IsOfSite};
+ghost use Rattle.house_core.specs.Stands.{Stands};
 
+use crate::books::Books;
 use crate::offer::Body;
 use crate::reply::{Reply, refusal_head};
 use crate::stages::terms_of;
@@ -19,8 +20,8 @@ use kept_replies::KeptEntry;
 use mc_base::Moment;
 use mc_records::{Refusal, Request};
 use millicent_http::{ReplyHead, write_reply_text};
-use scrip_certs::{customer_secret, sign_reply};
-use scrip_form::{Terms, read_scrip, write_scrip};
+use scrip_certs::sign_reply;
+use scrip_form::{read_scrip, write_scrip};
 
 /// The first reply to a request, from what is kept of its entry and what the entry brought.
 pub(crate) fn taken_reply<'a>(q: &Request<'_>, entry: &KeptEntry, body: &Body<'a>) -> Reply<'a>
@@ -102,8 +103,8 @@ pub(crate) fn is_signed(refusal: &Refusal) -> bool
 
 /// The secret of the customer of a request's piece. None where the request has no scrip text, or there
 /// are no terms of the customer's issuer.
-pub(crate) fn customer_of(terms: &[Terms], q: &Request<'_>) -> Option<[u8; 16]>
-    ensures { (h : History) → all_terms h ≡ terms.now → result ≡ option_and_then (ledger.secret_for h) (seen q.now.scrip) }
+pub(crate) fn customer_of(books: &Books, q: &Request<'_>) -> Option<[u8; 16]>
+    ensures { (h : History) → Stands books.now h → result ≡ option_and_then (ledger.secret_for h) (seen q.now.scrip) }
 {
     let text = q.scrip?;
     let Ok(scrip) = read_scrip(text) else {
@@ -111,6 +112,6 @@ pub(crate) fn customer_of(terms: &[Terms], q: &Request<'_>) -> Option<[u8; 16]>
     };
     let cust = scrip.piece().cust();
     let (issuer, _, _) = cust.parts();
-    let own = terms_of(terms, issuer)?;
-    Some(customer_secret(own, cust))
+    let own = terms_of(books.terms(), issuer)?;
+    Some(books.secret_of(own, cust))
 }

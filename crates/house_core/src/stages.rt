@@ -9,12 +9,14 @@ ghost use Rattle.change_issue.specs.Registers.{count_in, next_in};
 ghost use Rattle.ledger_model.specs.Houses.{terms_by};
 ghost use Rattle.ledger_model.specs.Stages.{genuine_by, spendable_by, next_by, needed, fitted_by};
 ghost use Rattle.ledger_model.specs.Slow.{told};
+ghost use Rattle.house_core.specs.Books.{version_of, tail_of, size_with};
 ghost use Rattle.house_core.specs.Replying.{IsOfSite};
 
+use crate::books::Books;
 use change_issue::Issuer;
 use mc_base::Moment;
 use mc_records::{Refusal, Request};
-use scrip_certs::{certificate, customer_secret, hex_of, sign_request};
+use scrip_certs::{hex_of, sign_request};
 use scrip_form::{Id, ScripRef, Terms};
 
 /// The terms of an issuer; None exactly where there are none.
@@ -26,35 +28,31 @@ pub(crate) fn terms_of(terms: &[Terms], issuer: u8) -> Option<&Terms>
 
 /// The secret of a piece's customer; refused where the vendor, an issuer, the end of the series or the
 /// certificate is not right.
-pub(crate) fn genuine(
-    name: &[u8],
-    terms: &[Terms],
-    scrip: &ScripRef<'_>,
-) -> Result<[u8; 16], Refusal>
-    ensures lines { told (λ s. s) result ≡ genuine_by name.now (λ series. 1) terms.now scrip.now }
+pub(crate) fn genuine(books: &Books, scrip: &ScripRef<'_>) -> Result<[u8; 16], Refusal>
+    ensures lines { told (λ s. s) result ≡ genuine_by books.now.name (version_of books.now) books.now.terms scrip.now }
     ensures site { IfErr result IsOfSite }
 {
     let piece = scrip.piece();
-    if piece.vendor().bytes() != name {
+    if piece.vendor().bytes() != books.name() {
         return Err(Refusal::WrongVendor);
     }
     let (issuer, epoch, _) = piece.id().parts();
-    let Some(own) = terms_of(terms, issuer) else {
+    let Some(own) = terms_of(books.terms(), issuer) else {
         return Err(Refusal::UnknownIssuer);
     };
     let (customer, _, _) = piece.cust().parts();
-    let Some(customers) = terms_of(terms, customer) else {
+    let Some(customers) = terms_of(books.terms(), customer) else {
         return Err(Refusal::UnknownIssuer);
     };
     let end = own.series_end(epoch);
     if piece.expires() != end {
         return Err(Refusal::ExpiryMismatch(piece.expires(), end));
     }
-    let right = certificate(own, scrip.body(), piece.id());
+    let right = books.certificate_of(own, scrip.body(), piece.id());
     if scrip.cert().as_slice() != right.as_slice() {
         return Err(Refusal::BadCertificate);
     }
-    Ok(customer_secret(customers, piece.cust()))
+    Ok(books.secret_of(customers, piece.cust()))
 }
 
 /// The signature of a request whose piece may be spent by it, where it has one; refused where the piece
@@ -114,15 +112,16 @@ pub(crate) fn change(
     }
 }
 
-/// Refused where an entry of so many bytes of payload would pass the limit of the journal.
-pub(crate) fn fitted(limit: u64, size: u64, payload: u64) -> Result<(), Refusal>
-    ensures lines { (e : entries.Entry) → payload ≡ length (entries.payload e) → told (λ u. e) result ≡ fitted_by limit size 0 e }
-    ensures room { OnOk result (size + payload + 5 ≤ limit) }
-    ensures full { OnErr result (limit < size + payload + 5) }
+/// Refused where the journal would pass a limit with one entry more, with a payload of so many bytes.
+pub(crate) fn fitted(books: &Books, limit: u64, payload: u64) -> Result<(), Refusal>
+    ensures lines { (e : entries.Entry) → payload ≡ length (entries.payload e) → told (λ u. e) result ≡ fitted_by limit books.now.size (tail_of books.now) e }
+    ensures room { OnOk result (size_with books.now payload ≤ limit) }
+    ensures full { OnErr result (limit < size_with books.now payload) }
     ensures site { IfErr result IsOfSite }
 {
-    if limit < size || limit - size < 5 || limit - size - 5 < payload {
-        return Err(Refusal::JournalFull(size, payload));
+    let least = books.size_with(0);
+    if limit < least || limit - least < payload {
+        return Err(Refusal::JournalFull(books.size(), payload));
     }
     Ok(())
 }

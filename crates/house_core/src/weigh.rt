@@ -9,6 +9,7 @@ ghost use Rattle.ledger_model.specs.Histories.{History};
 ghost use Rattle.ledger_model.specs.Houses.{site_kind};
 ghost use Rattle.ledger_model.specs.Answer as model;
 ghost use Rattle.ledger_model.specs.Slow.{told, after_read, after_repeat};
+ghost use Rattle.house_core.specs.Books.{version_of, size_with};
 ghost use Rattle.house_core.specs.Trade.{OfGoods, NamesInForce, BringsFor};
 ghost use Rattle.house_core.specs.Stands.{Stands, scrip_request};
 ghost use Rattle.house_core.specs.Replying.{IsOfSite};
@@ -47,9 +48,9 @@ fn taken<T: Trade>(
     requires series { limits.series ≡ books.now.limits.series }
     requires journal { limits.journal ≤ 2 ^ 40 }
     requires sign { IfSome sign.now IsKey }
-    requires secret { genuine_by books.now.name (λ series. 1) books.now.terms scrip.now ≡ Ok secret.now }
+    requires secret { genuine_by books.now.name (version_of books.now) books.now.terms scrip.now ≡ Ok secret.now }
     ensures ready { IfOk result (IsReady books.now scrip.now q.now.target.now) }
-    ensures room { IfOk result (λ a. books.now.size + a.payload + 5 ≤ limits.journal) }
+    ensures room { IfOk result (λ a. size_with books.now a.payload ≤ limits.journal) }
     ensures held { IfOk result (λ a. OfGoods (T.holds trade.now) a.deed) }
     ensures in_force { (h : History) → T.stands trade.now h → site_kind h ≡ Some (T.site trade.now) → IfOk result (λ a. NamesInForce h a.deed) }
     ensures brings { (h : History) → T.stands trade.now h → site_kind h ≡ Some (T.site trade.now) → IfOk result (λ a. BringsFor h q.now.target.now a.deed) }
@@ -67,7 +68,7 @@ fn taken<T: Trade>(
         Err(refusal) => return Err(refusal),
     };
     let payload = accept_len(scrip, q.target, sign, &change, &offer.deed);
-    match fitted(limits.journal, books.size(), payload) {
+    match fitted(books, limits.journal, payload) {
         Ok(()) => Ok(Acceptance {
             secret: *secret,
             sign: *sign,
@@ -91,7 +92,7 @@ fn weigh_new<T: Trade>(
     requires series { limits.series ≡ books.now.limits.series }
     requires journal { limits.journal ≤ 2 ^ 40 }
     ensures ready { IfOk result (IsReady books.now scrip.now q.now.target.now) }
-    ensures room { IfOk result (λ a. books.now.size + a.payload + 5 ≤ limits.journal) }
+    ensures room { IfOk result (λ a. size_with books.now a.payload ≤ limits.journal) }
     ensures held { IfOk result (λ a. OfGoods (T.holds trade.now) a.deed) }
     ensures in_force { (h : History) → T.stands trade.now h → site_kind h ≡ Some (T.site trade.now) → IfOk result (λ a. NamesInForce h a.deed) }
     ensures brings { (h : History) → T.stands trade.now h → site_kind h ≡ Some (T.site trade.now) → IfOk result (λ a. BringsFor h q.now.target.now a.deed) }
@@ -99,7 +100,7 @@ fn weigh_new<T: Trade>(
     ensures lines { (h : History) → Stands books.now h → T.stands trade.now h → site_kind h ≡ Some (T.site trade.now)
         → told (accept_entry books.now.time scrip.now.text q.now.target.now) result ≡ after_repeat h books.now.time limits (asked_of q.now) scrip.now }
 {
-    let secret = match genuine(books.name(), books.terms(), scrip) {
+    let secret = match genuine(books, scrip) {
         Ok(secret) => secret,
         Err(refusal) => return Err(refusal),
     };
@@ -124,7 +125,7 @@ pub(crate) fn weigh<T: Trade>(
     requires journal { limits.journal ≤ 2 ^ 40 }
     ensures new { OnOk result (found books.now.kept books.now.time (scrip_request scrip.now.text q.now.target.now (seen q.now.sign)) ≡ None) }
     ensures ready { IfOk result (IsReady books.now scrip.now q.now.target.now) }
-    ensures room { IfOk result (λ a. books.now.size + a.payload + 5 ≤ limits.journal) }
+    ensures room { IfOk result (λ a. size_with books.now a.payload ≤ limits.journal) }
     ensures held { IfOk result (λ a. OfGoods (T.holds trade.now) a.deed) }
     ensures in_force { (h : History) → T.stands trade.now h → site_kind h ≡ Some (T.site trade.now) → IfOk result (λ a. NamesInForce h a.deed) }
     ensures brings { (h : History) → T.stands trade.now h → site_kind h ≡ Some (T.site trade.now) → IfOk result (λ a. BringsFor h q.now.target.now a.deed) }

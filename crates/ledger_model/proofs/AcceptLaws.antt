@@ -93,7 +93,13 @@ accepted_once limits (e ∷ es) lawful = distinct_from limits [] (e ∷ es) lawf
 
 -- ---- a piece's value is its price and its change
 
-offer_below : (h : History) (t : ℕ) (limits : Limits) (target : List ℕ) (value : ℕ) (o : Offer) → offer h t limits target value ≡ Ok o → o.price ≤ value
+-- no more than the piece's value is asked at a broker
+desk_below : (h : History) (t : ℕ) (limits : Limits) (target : List ℕ) (value : ℕ) (o : Offer) → desk_offer h t limits target value ≡ Ok o → o.price ≤ value
+unfolding desk_offer
+desk_below h t limits target value o e = absurd cc
+
+-- nor at any house
+pub offer_below : (h : History) (t : ℕ) (limits : Limits) (target : List ℕ) (value : ℕ) (o : Offer) → offer h t limits target value ≡ Ok o → o.price ≤ value
 offer_below h t limits target value o e = by_kind (is_vendor h) e
   where
     on_shelf : shelf_by (price_in h target) value ≡ Ok o → o.price ≤ value
@@ -106,7 +112,7 @@ offer_below h t limits target value o e = by_kind (is_vendor h) e
 
     by_kind : (b : Bool) → cond b (shelf_by (price_in h target) value) (desk_offer h t limits target value) ≡ Ok o → o.price ≤ value
     by_kind true r = on_shelf r
-    by_kind false r = absurd cc
+    by_kind false r = desk_below h t limits target value o r
 
 -- a value splits into its price and its change
 record Split (value price : ℕ) (change : Option ℕ) : Type 0 where

@@ -6,3 +6,4 @@ pub mod GroupLaws
 pub mod PieceLaws
 pub mod ReadLaws
 pub mod PayloadSizes
+pub mod SizeLaws

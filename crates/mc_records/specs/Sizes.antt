@@ -3,21 +3,29 @@ use Rattle.std.specs.Prelude.{ℕ, ◌+◌, List, [], ◌∷◌, ◌++◌, lengt
 use Rattle.mc_records.specs.Entry.{Entry, payload}
 
 -- What stands behind the payload of an entry, after the entries before it: nothing.
-abbrev pub tail : List Entry → Entry → List ℕ
+unfoldable pub tail : List Entry → Entry → List ℕ
 tail before e = []
 
 -- how many bytes that is for every entry that comes next
-abbrev pub tail_size : List Entry → ℕ
+unfoldable pub tail_size : List Entry → ℕ
 tail_size before = 0
 
--- an entry's payload and its tail, the four bytes of its length before them and the gate after them
+-- how many bytes an entry adds to a journal, with a payload and a tail of so many bytes: these, the four bytes of
+-- the payload's length before them, and the gate after them
+abbrev pub framed_size : ℕ → ℕ → ℕ
+framed_size payload_bytes tail_bytes = payload_bytes + tail_bytes + 5
+
+-- likewise of an entry after the entries before it
 abbrev pub entry_size : List Entry → Entry → ℕ
-entry_size before e = length (payload e) + length (tail before e) + 5
+entry_size before e = framed_size (length (payload e)) (length (tail before e))
 
 abbrev pub size_from : List Entry → List Entry → ℕ
 size_from before [] = 0
 size_from before (e ∷ es) = entry_size before e + size_from (before ++ e ∷ []) es
 
--- the header and the first gate are nine bytes
+-- how many bytes a journal of no entries has: the header and the first gate
+abbrev pub empty_size : ℕ
+empty_size = 9
+
 abbrev pub size : List Entry → ℕ
-size h = 9 + size_from [] h
+size h = empty_size + size_from [] h

@@ -26,7 +26,6 @@ use Rattle.house_serving.proofs.AsideLemmas.{TellsAside, SentNoMore, no_more_the
 use Rattle.house_serving.proofs.OrderLemmas.{house_keeps}
 use Rattle.vendor_core.specs.declared.shelf.Shelf.{Shelf}
 use Rattle.vendor_core.specs.Shelf.{Stands as ShelfStands, Holds}
-use Rattle.ledger_model.specs.Houses.{terms_in}
 use Rattle.vendor_core.specs.Desk.{Task, Add, Stays, Refuse, IsMintTask, IsMintAt, mint_lines, Does, LeavesBy, Performs}
 use Rattle.mc_top.specs.Words.{Listing}
 use Rattle.mc_top.specs.declared.order.Order.{Order}
@@ -322,6 +321,6 @@ pub mint_task_at : (h : History) (t : ℕ) (limits : Limits) (reference named : 
 mint_task_at h t limits reference named count so_many value worth task is_full is_named is_many is_worth is = rw (← is_full, ← is_named, ← is_many, ← is_worth) is
 
 pub mint_line_at : (g : History) (reference named : List ℕ) (count so_many value worth number : ℕ) (out line : List ℕ) → reference ≡ named → count ≡ so_many → value ≡ worth → line ≡ out
-    → IsMintAt g reference count value number × (out ≡ mint_lines (terms_in g 0) g number) → (n : ℕ) × IsMintAt g named so_many worth n × (line ≡ mint_lines (terms_in g 0) g n)
+    → IsMintAt g reference count value number × (out ≡ mint_lines g number) → (n : ℕ) × IsMintAt g named so_many worth n × (line ≡ mint_lines g n)
 mint_line_at g reference named count so_many value worth number out line is_named is_many is_worth same tells =
     (number, rw (← is_named, ← is_many, ← is_worth) tells.0, same ∙ tells.1)

@@ -6,7 +6,8 @@ use Rattle.mc_outside.specs.DiskView.{DiskView, LinkKeeps, Ran}
 use Rattle.mc_outside.specs.LinkView.{LinkView}
 use Rattle.mc_outside.proofs.Runs.{ran_then, ran_weaker, ran_link}
 use Rattle.mc_records.specs.Entry.{Entry, Fits}
-use Rattle.mc_records.specs.Sizes.{entry_size}
+use Rattle.mc_records.specs.Sizes.{empty_size, entry_size}
+use Rattle.mc_records.proofs.SizeLaws.{tail_is_short}
 use Rattle.mc_records.proofs.PayloadSizes.{payload_is_short}
 use Rattle.mc_records.specs.declared.limits.Limits.{Limits}
 use Rattle.ledger_model.specs.Histories.{History}
@@ -28,8 +29,8 @@ use Rattle.mc_top.specs.Serving.{StandsLawful}
 use Rattle.mc_top.proofs.ServedLemmas.{stands_lawful}
 
 -- any entry that fits has room as the first
-pub first_has_room : (e : Entry) → Fits e → 9 + entry_size [] e ≤ 2 ^ 40
-first_has_room e fits = omega (arith, payload_is_short e fits)
+pub first_has_room : (e : Entry) → Fits e → empty_size + entry_size [] e ≤ 2 ^ 40
+first_has_room e fits = omega (arith, payload_is_short e fits, tail_is_short [] e)
 
 -- nothing before and nothing after
 pub none_between : (x y : List ℕ) → BeginsWith x y → BeginsWith y x → y ≡ x

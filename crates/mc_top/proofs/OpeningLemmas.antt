@@ -4,7 +4,8 @@ use Rattle.std.specs.Prelude.{nat_lt}
 use Rattle.std.proofs.lemmas.Bool.{le-ltb}
 use Rattle.scrip_form.specs.Issuing.{Issuing}
 use Rattle.mc_records.specs.Entry.{Entry, AddTerms, Goods, AreSecrets, AreTerms, Fits, payload}
-use Rattle.mc_records.specs.Sizes.{size}
+use Rattle.mc_records.specs.Sizes.{size, entry_size}
+use Rattle.mc_records.proofs.SizeLaws.{tail_is_short}
 use Rattle.mc_records.proofs.PayloadSizes.{payload_is_short}
 use Rattle.ledger_model.specs.Histories.{History}
 use Rattle.ledger_model.specs.Answer.{fitted}
@@ -51,14 +52,15 @@ ware_fits shop is = record {
 fits_behind : (h : History) (e : Entry) → size h ≤ 300000 → Fits e → fitted h full e ≡ Ok e
 fits_behind h e small fits =
     let short = payload_is_short e fits in
-    let below : nat_lt (2 ^ 40) (size h + (length (payload e) + 0 + 5)) ≡ false = le-ltb (2 ^ 40) (size h + (length (payload e) + 0 + 5)) (omega (arith, small, short)) in
+    let fits_still : size h + entry_size h e ≤ 2 ^ 40 = omega (arith, small, short, tail_is_short h e) in
+    let below : nat_lt (2 ^ 40) (size h + entry_size h e) ≡ false = le-ltb (2 ^ 40) (size h + entry_size h e) fits_still in
     rw below refl
 
 size_of_one : (a : Entry) → Fits a → size (a ∷ []) ≤ 300000
-size_of_one a fits = omega (arith, payload_is_short a fits)
+size_of_one a fits = omega (arith, payload_is_short a fits, tail_is_short [] a)
 
 size_of_two : (a b : Entry) → Fits a → Fits b → size (a ∷ b ∷ []) ≤ 300000
-size_of_two a b fits_a fits_b = omega (arith, payload_is_short a fits_a, payload_is_short b fits_b)
+size_of_two a b fits_a fits_b = omega (arith, payload_is_short a fits_a, payload_is_short b fits_b, tail_is_short [] a, tail_is_short (a ∷ []) b)
 
 -- ---- one after another
 

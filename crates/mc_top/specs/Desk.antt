@@ -6,7 +6,7 @@ use Rattle.scrip_form.specs.Issuing.{Issuing}
 use Rattle.mc_records.specs.declared.refusal.Refusal.{Refusal}
 use Rattle.mc_records.specs.declared.refusal.Refusal.TheVariants.{ContentsFull}
 use Rattle.ledger_model.specs.Histories.{History, time}
-use Rattle.ledger_model.specs.Houses.{site_name, terms_in}
+use Rattle.ledger_model.specs.Houses.{site_name}
 use Rattle.ledger_model.specs.Lines as lines
 use Rattle.ledger_model.specs.Answer.{fitted}
 use Rattle.scrip_journal.specs.Layout.{Stands}
@@ -68,7 +68,7 @@ abbrev pub IsLine : Order → History → Task → List ℕ → Type 0
 IsLine (orders.Goods l) h task line = line ≡ goods_line l.target l.price
 IsLine (orders.Price p) h task line = line ≡ goods_line p.target p.price
 IsLine (orders.Licence l) h task line = line ≡ licence_line (site_name h) (licensed_terms l)
-IsLine (orders.Mint m) h task line = (number : ℕ) × IsMintAt (after task h) m.reference m.count m.value number × (line ≡ mint_lines (terms_in (after task h) 0) (after task h) number)
+IsLine (orders.Mint m) h task line = (number : ℕ) × IsMintAt (after task h) m.reference m.count m.value number × (line ≡ mint_lines (after task h) number)
 
 -- ---- what becomes of the book
 

@@ -18,7 +18,7 @@ framed_long before e = omega (arith, length-append (to_be_bytes w32 (length (pay
 
 -- a block is the framed entry and a closed gate
 pub block_is : (h : List Entry) (e : Entry) (block : List ℕ) → block ≡ to_be_bytes w32 (length (payload e)) ++ (payload e ++ 0 ∷ []) → block ≡ framed h e ++ 0 ∷ []
-unfolding framed
+unfolding framed tail
 block_is h e block is =
     is ∙ ap (λ (p : List ℕ). to_be_bytes w32 (length (payload e)) ++ (p ++ 0 ∷ [])) (sym (append-nil (payload e)))
     ∙ sym (append_assoc (to_be_bytes w32 (length (payload e))) (payload e ++ []) (0 ∷ []))

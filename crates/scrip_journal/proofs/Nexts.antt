@@ -5,7 +5,7 @@ use Rattle.std.proofs.lemmas.Bool.{lt-ltb, le-ltb, le-leb, lt-leb, ne_eqb, cases
 use Rattle.std.proofs.lemmas.List.{take_at, drop_at}
 use Rattle.std.proofs.lemmas.Nat.{from_be_bytes-to_be_bytes_4}
 use Rattle.mc_records.specs.Entry.{Entry, Fits, payload}
-use Rattle.mc_records.specs.Sizes.{tail, entry_size, size}
+use Rattle.mc_records.specs.Sizes.{tail_size, entry_size, size}
 use Rattle.mc_records.specs.Forms.{entry_of}
 use Rattle.mc_records.proofs.EntryLaws.{no_prefix}
 use Rattle.scrip_journal.specs.Layout.{framed, body, Next, at_end, entered, spoiled, next_payload, next_framed, next_behind, next_of}
@@ -35,15 +35,18 @@ module _ (h : List Entry) (gate : ℕ) (place : gate ≡ length (body h)) where
     long_there long = behind_length _ (rw (le-leb 131066 n long) refl)
 
     pub far_there : n < 131066 → 2 ^ 40 < gate + n + 6 → next_of h (1 ∷ rest) ≡ spoiled (gate + 1)
+    unfolding tail_size
     far_there short far =
         behind_length _ (rw (lt-leb 131066 n short, lt-ltb (2 ^ 40) (gate + 1 + 4 + n + 0 + 1) (omega (arith, far))) refl)
 
     module _ (short : n < 131066) (near : gate + n + 6 ≤ 2 ^ 40) where
       pub payload_cut : length (drop 4 rest) < n → next_of h (1 ∷ rest) ≡ spoiled (gate + 5 + length (drop 4 rest))
+      unfolding tail_size
       payload_cut cut =
           behind_length _ (rw (lt-leb 131066 n short, le-ltb (2 ^ 40) (gate + 1 + 4 + n + 0 + 1) (omega (arith, near)), lt-ltb (length (drop 4 rest)) (n + 0) (omega (arith, cut))) (ap spoiled (omega arith)))
 
       pub payload_there : n ≤ length (drop 4 rest) → (read : Result Entry ℕ) → entry_of (take n (drop 4 rest)) ≡ read → next_of h (1 ∷ rest) ≡ next_payload (gate + 5) read
+      unfolding tail_size
       payload_there whole read is =
           behind_length _ (rw (lt-leb 131066 n short, le-ltb (2 ^ 40) (gate + 1 + 4 + n + 0 + 1) (omega (arith, near)), le-ltb (length (drop 4 rest)) (n + 0) (omega (arith, whole)))
           (ap (λ (r : Result Entry ℕ). next_payload (gate + 1 + 4) r) is ∙ ap (λ (p : ℕ). next_payload p read) (omega arith)))
@@ -64,7 +67,7 @@ payload_no_end place (Ok e) = tt
 payload_no_end place (Err fault) = tt
 
 behind_no_end : (h : List Entry) (place : ℕ) (rest : List ℕ) → NotEnd (next_behind h place rest)
-unfolding NotEnd
+unfolding NotEnd tail_size
 behind_no_end h place rest =
     either (ltb (length rest) 4) (spoiled (place + length rest)) _ tt (framed_no_end (from_be_bytes w32 (take 4 rest)) (drop 4 rest)) where
       framed_no_end : (n : ℕ) (l : List ℕ) → NotEnd (next_framed h place n l)

@@ -16,7 +16,7 @@ use Rattle.scrip_journal.proofs.Nexts.{at_end_is}
 
 -- a length and the payload of that length are the frame of an entry
 frame_is : (before : List Entry) (e : Entry) (m : ℕ) → length (payload e) ≡ m → 1 ∷ (to_be_bytes w32 m ++ payload e) ≡ 1 ∷ framed before e
-unfolding framed
+unfolding framed tail
 frame_is before e m is = ap (λ (k : ℕ). 1 ∷ (to_be_bytes w32 k ++ payload e)) (sym is) ∙ ap (λ (l : List ℕ). 1 ∷ (to_be_bytes w32 (length (payload e)) ++ l)) (sym (append-nil (payload e)))
 
 module _ {D : Type 0} (view : D → DiskView) (a : Reading D) (h : List Entry) (r : IsReading view a h) where
@@ -63,6 +63,7 @@ module _ {D : Type 0} (view : D → DiskView) (a : Reading D) (h : List Entry) (
 
   -- the next entry was taken off
   pub next_reading : (b : Reading D) (n : ℕ) (f : IsFrame n a.gate a.held) → a.ended ≡ None → b ≡ record a { gate = a.gate + n + 5; entries = a.entries + 1; held = drop (n + 5) a.held; last = b.last } → IsReading view b (h ++ f.next ∷ [])
+  unfolding tail
   next_reading b n f on is =
       let more = r.held_is in
       let bytes = to_be_bytes w32 n in

@@ -11,8 +11,9 @@ use Rattle.mc_records.specs.declared.refusal.Refusal.{Refusal}
 use Rattle.mc_records.specs.declared.refusal.Refusal.TheVariants.{ContentsFull, IssuerTaken}
 use Rattle.mc_records.specs.Entry.{Entry, AddTerms, Goods, Mint}
 use Rattle.ledger_model.specs.Histories.{History, time}
-use Rattle.ledger_model.specs.Houses.{site_kind, terms_in}
+use Rattle.ledger_model.specs.Houses.{site_name, site_kind, terms_in, version}
 use Rattle.ledger_model.specs.Lawful.{MayFollow}
+use Rattle.ledger_model.proofs.VersionLaws.{version-more}
 use Rattle.ledger_model.specs.Pieces.{has_reference, run_from}
 use Rattle.ledger_model.specs.Goods.{goods_in, goods_kind, goods_contents, in_force}
 use Rattle.ledger_model.specs.Answer as answers
@@ -161,20 +162,22 @@ module _ (limits : Limits) (h : History) (t : ℕ) (reference : List ℕ) (count
   })
 
   -- the lines in the list are those of the entry
-  pub mint_tells : (terms : Issuing) (out : List ℕ) (n : ℕ) → terms_in h 0 ≡ Some terms → out ≡ piece_lines terms (run_from h value first count) → n ≡ length h
+  pub mint_tells : (terms : Issuing) (out : List ℕ) (n : ℕ) → site_name (h ++ e ∷ []) ≡ site_name h → terms_in h 0 ≡ Some terms → out ≡ piece_lines (version h (site_name h)) terms (run_from h value first count) → n ≡ length h
       → TellsMint reference count value out (Add e) (h ++ e ∷ []) n
-  mint_tells terms out n own lines is =
+  mint_tells terms out n named own lines is =
       let there : slice_get (h ++ e ∷ []) n ≡ Some (Mint t reference count value first) = last_there h e n is ∙ ap (λ (x : Entry). Some x) same in
       let still : terms_in (h ++ e ∷ []) 0 ≡ Some terms = ap (λ (x : Entry). terms_in (h ++ x ∷ []) 0) same ∙ terms_under_mint h t reference count value first 0 ∙ own in
+      let versions : version (h ++ e ∷ []) (site_name (h ++ e ∷ [])) ≡ version h (site_name h) = ap₂ (λ (v : List ℕ → ℕ → ℕ) (name : List ℕ). v name) (version-more h e) named in
       let before : take n (h ++ e ∷ []) ≡ h = ap (λ (k : ℕ). take k (h ++ e ∷ [])) is ∙ take-append_seam h (e ∷ []) in (
         record { moment = t; first = first; entry = there },
-        lines ∙ sym (lines_of_mint (h ++ e ∷ []) terms n t reference count value first still there ∙ ap (λ (g : History). piece_lines terms (run_from g value first count)) before),
+        lines ∙ sym (lines_of_mint (h ++ e ∷ []) terms n t reference count value first still there
+            ∙ ap₂ (λ (v : ℕ → ℕ) (g : History). piece_lines v terms (run_from g value first count)) versions before),
       )
 
   pub mint_enters : {D T : Type 0} (view : D → DiskView) (stands : T → History → Type 0) (site : T → ℕ) (holds : T → ℕ → Type 0) (disk : D) (terms : Issuing) (out : List ℕ) (r : Outcome D T ℕ)
-      → terms_in h 0 ≡ Some terms → (IsDone r → out ≡ piece_lines terms (run_from h value first count))
+      → site_name (h ++ e ∷ []) ≡ site_name h → terms_in h 0 ≡ Some terms → (IsDone r → out ≡ piece_lines (version h (site_name h)) terms (run_from h value first count))
       → Entered view stands site holds limits disk h e r → Ran (view disk) (view (outcome_disk r)) (Leaves (answers.Take e) r h (view disk).aside)
       → Performs view stands site holds (IsMintTask h t limits reference count value) (TellsMint reference count value out) limits disk h (answered_as (λ n. n) r)
-  mint_enters view stands site holds disk terms out r own lines is ran =
+  mint_enters view stands site holds disk terms out r named own lines is ran =
       enters view stands site holds (IsMintTask h t limits reference count value) (TellsMint reference count value out) limits (λ n. n) disk h e r
-      (new, run.1, same ∙ ap (λ (id : ℕ). Mint t reference count value id) run.0) (λ done n number. mint_tells terms out n own (lines done) number) is ran
+      (new, run.1, same ∙ ap (λ (id : ℕ). Mint t reference count value id) run.0) (λ done n number. mint_tells terms out n named own (lines done) number) is ran

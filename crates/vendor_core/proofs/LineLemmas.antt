@@ -1,5 +1,5 @@
 -- The lines of the pieces of a mint.
-use Rattle.std.proofs.Common.{◌≡◌, ℕ, zero, suc, ◌+◌, ◌*◌, ◌<◌, ◌≤◌, ◌^◌, Bool, cond, List, [], ◌∷◌, ◌++◌, take, Option, Some, None, slice_get, refl, sym, ap, subst, ◌∙◌, append_assoc, append-nil, add-one, arith}
+use Rattle.std.proofs.Common.{◌≡◌, ℕ, zero, suc, ◌+◌, ◌*◌, ◌<◌, ◌≤◌, ◌^◌, Bool, cond, List, [], ◌∷◌, ◌++◌, take, Option, Some, None, slice_get, refl, sym, ap, ap₂, subst, ◌∙◌, append_assoc, append-nil, add-one, arith}
 use Rattle.std.specs.Prelude.{option_map, unwrap_or}
 use Rattle.std.specs.List.{AllByRecursion}
 use Rattle.std.proofs.lemmas.Bool.{eq-eqb}
@@ -11,7 +11,7 @@ use Rattle.scrip_form.specs.Issuing.{Issuing, HasPeriod, series_end}
 use Rattle.mc_records.specs.declared.limits.Limits.{Limits}
 use Rattle.mc_records.specs.Entry.{House, Entry, Site, Mint, Fits, SiteFits}
 use Rattle.ledger_model.specs.Histories.{History}
-use Rattle.ledger_model.specs.Houses.{site_name, site_kind, own_series, terms_of, all_terms, terms_by, terms_in}
+use Rattle.ledger_model.specs.Houses.{site_name, site_kind, own_series, terms_of, all_terms, terms_by, terms_in, version}
 use Rattle.ledger_model.specs.Lawful.{MayFollow, AllFollow, IsLawful}
 use Rattle.ledger_model.specs.Pieces.{first_hand, run_from, minted_pieces, own_count}
 use Rattle.vendor_core.specs.Desk.{mint_lines}
@@ -28,19 +28,19 @@ ends_in_range t epoch has below =
     (omega (arith, positive), omega (arith, product, has.short))
 
 -- one more piece of a run puts one more line behind the others
-line_behind : (h : History) (t : Issuing) (value first n : ℕ)
-    → piece_lines t (run_from h value first (suc n)) ≡ piece_lines t (run_from h value first n) ++ piece_line t (first_hand h value (first + n))
-line_behind h t value first zero = append-nil (piece_line t (first_hand h value first)) ∙ ap (λ (id : ℕ). piece_line t (first_hand h value id)) (omega arith)
-line_behind h t value first (suc n) =
-    let line = piece_line t (first_hand h value first) in
+line_behind : (h : History) (v : ℕ → ℕ) (t : Issuing) (value first n : ℕ)
+    → piece_lines v t (run_from h value first (suc n)) ≡ piece_lines v t (run_from h value first n) ++ piece_line v t (first_hand h value (first + n))
+line_behind h v t value first zero = append-nil (piece_line v t (first_hand h value first)) ∙ ap (λ (id : ℕ). piece_line v t (first_hand h value id)) (omega arith)
+line_behind h v t value first (suc n) =
+    let line = piece_line v t (first_hand h value first) in
     let next : first + 1 + n ≡ first + suc n = omega arith in
-    ap (λ (rest : List ℕ). line ++ rest) (line_behind h t value (first + 1) n)
-    ∙ ap (λ (id : ℕ). line ++ (piece_lines t (run_from h value (first + 1) n) ++ piece_line t (first_hand h value id))) next
-    ∙ sym (append_assoc line (piece_lines t (run_from h value (first + 1) n)) (piece_line t (first_hand h value (first + suc n))))
+    ap (λ (rest : List ℕ). line ++ rest) (line_behind h v t value (first + 1) n)
+    ∙ ap (λ (id : ℕ). line ++ (piece_lines v t (run_from h value (first + 1) n) ++ piece_line v t (first_hand h value id))) next
+    ∙ sym (append_assoc line (piece_lines v t (run_from h value (first + 1) n)) (piece_line v t (first_hand h value (first + suc n))))
 
-pub line_added : (h : History) (t : Issuing) (value first n : ℕ)
-    → piece_lines t (run_from h value first (n + 1)) ≡ piece_lines t (run_from h value first n) ++ piece_line t (first_hand h value (first + n))
-line_added h t value first n = rw (add-one n) (line_behind h t value first n)
+pub line_added : (h : History) (v : ℕ → ℕ) (t : Issuing) (value first n : ℕ)
+    → piece_lines v t (run_from h value first (n + 1)) ≡ piece_lines v t (run_from h value first n) ++ piece_line v t (first_hand h value (first + n))
+line_added h v t value first n = rw (add-one n) (line_behind h v t value first n)
 
 -- so many identities of a series fit 64 bits
 pub run_in_range : (series before count first : ℕ) → first ≡ numbered series before → before + count ≤ 2 ^ 32 → first < 2 ^ 64 → first + count ≤ 2 ^ 64
@@ -49,9 +49,11 @@ run_in_range series before count first is few long = omega arith
 -- ---- the lines of a Mint entry
 
 pub lines_of_mint : (h : History) (terms : Issuing) (n m : ℕ) (reference : List ℕ) (count value first : ℕ) → terms_in h 0 ≡ Some terms → slice_get h n ≡ Some (Mint m reference count value first)
-    → mint_lines (terms_in h 0) h n ≡ piece_lines terms (run_from (take n h) value first count)
-lines_of_mint h terms n m reference count value first own is =
-    ap (λ (o : Option Issuing). mint_lines o h n) own ∙ ap (λ (o : Option Entry). piece_lines terms (unwrap_or (option_map (minted_pieces (take n h)) o) [])) is
+    → mint_lines h n ≡ piece_lines (version h (site_name h)) terms (run_from (take n h) value first count)
+lines_of_mint h terms n m reference count value first own is = ap₂ lines own is
+  where
+    lines : Option Issuing → Option Entry → List ℕ
+    lines terms' e = unwrap_or (option_map (λ t. piece_lines (version h (site_name h)) t (unwrap_or (option_map (minted_pieces (take n h)) e) [])) terms') []
 
 -- terms stay under a mint
 pub terms_under_mint : (h : History) (m : ℕ) (reference : List ℕ) (count value first issuer : ℕ) → terms_in (h ++ Mint m reference count value first ∷ []) issuer ≡ terms_in h issuer

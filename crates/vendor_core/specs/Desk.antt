@@ -9,7 +9,7 @@ use Rattle.mc_records.specs.declared.refusal.Refusal.{Refusal}
 use Rattle.mc_records.specs.declared.refusal.Refusal.TheVariants.{NoSuchGoods, SeriesFull, ContentsFull, IssuerTaken, RefUsed}
 use Rattle.mc_records.specs.Entry.{Entry, AddTerms, Goods, Mint}
 use Rattle.ledger_model.specs.Histories.{History}
-use Rattle.ledger_model.specs.Houses.{terms_in, own_series}
+use Rattle.ledger_model.specs.Houses.{site_name, terms_in, version, own_series}
 use Rattle.ledger_model.specs.Goods.{goods_in, goods_kind, goods_contents, in_force}
 use Rattle.ledger_model.specs.Pieces.{own_count, next_identity, has_reference, minted_pieces}
 use Rattle.ledger_model.specs.Lawful.{MayFollow}
@@ -124,13 +124,14 @@ TellsAdded (Add e) g answer = MatchOption answer ⊥ (λ number. number + 1 ≡ 
 TellsAdded _ g answer = answer ≡ None
 
 -- the lines of the pieces that the entry of a number mints
-abbrev pub mint_lines : Option Issuing → History → ℕ → List ℕ
-mint_lines terms h number =
-    unwrap_or (option_map (λ t. piece_lines t (unwrap_or (option_map (minted_pieces (take number h)) (slice_get h number)) [])) terms) []
+abbrev pub mint_lines : History → ℕ → List ℕ
+mint_lines h number =
+    let minted = unwrap_or (option_map (minted_pieces (take number h)) (slice_get h number)) [] in
+    unwrap_or (option_map (λ t. piece_lines (version h (site_name h)) t minted) (terms_in h 0)) []
 
 -- the number of the mint of this reference, and its lines
 abbrev pub TellsMint : List ℕ → ℕ → ℕ → List ℕ → Task → History → ℕ → Type 0
-TellsMint reference count value out task g number = IsMintAt g reference count value number × (out ≡ mint_lines (terms_in g 0) g number)
+TellsMint reference count value out task g number = IsMintAt g reference count value number × (out ≡ mint_lines g number)
 
 -- no lines where it is not done
 abbrev pub NoLines : {D T A : Type 0} → List ℕ → Outcome D T A → Type 0

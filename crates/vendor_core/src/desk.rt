@@ -5,7 +5,7 @@ ghost use Rattle.scrip_form.specs.Issuing.{Issuing};
 ghost use Rattle.mc_records.specs.Entry.{AddTerms, AreSecrets, Fits};
 ghost use Rattle.mc_records.specs.Views.{entry};
 ghost use Rattle.ledger_model.specs.Histories.{History};
-ghost use Rattle.ledger_model.specs.Houses.{terms_in};
+ghost use Rattle.ledger_model.specs.Houses.{site_name, terms_in, version};
 ghost use Rattle.ledger_model.specs.Pieces.{has_reference, run_from};
 ghost use Rattle.house_core.specs.Bench.{house_time, limits_of};
 ghost use Rattle.house_core.specs.House.{StandsFor, HasRun, KeepsTime, OfHouse, CountsFaults, outcome_disk};
@@ -171,14 +171,7 @@ pub fn mint<D: Disk>(
         if minted.count != count || minted.value != value.get() {
             return Outcome::Refused(house, Refusal::RefUsed(*reference));
         }
-        return match put_lines(
-            house.name(),
-            &house.own_terms(),
-            minted.first,
-            count,
-            value,
-            out,
-        ) {
+        return match put_lines(&house, minted.first, count, value, out) {
             Ok(()) => Outcome::Done(house, minted.number),
             Err(NoMemory) => Outcome::NoMemory(house),
         };
@@ -187,7 +180,7 @@ pub fn mint<D: Disk>(
         Ok(first) => first,
         Err(refusal) => return Outcome::Refused(house, refusal),
     };
-    match put_lines(house.name(), &house.own_terms(), first, count, value, out) {
+    match put_lines(&house, first, count, value, out) {
         Ok(()) => enter_mint(house, count, value, reference, first, out),
         Err(NoMemory) => Outcome::NoMemory(house),
     }
@@ -213,7 +206,7 @@ fn enter_mint<D: Disk>(
     ensures keeps { OfHouse (KeepsTime house) result }
     ensures counts { CountsFaults result (D.disk house.journal.disk).faults (D.disk (outcome_disk result)).faults }
     ensures empty { NoLines out.new.items result }
-    ensures exact { (h : History) (terms : Issuing) → StandsFor D.disk Stands (λ s. 0) Holds house h → terms_in h 0 ≡ Some terms → out.old.items ≡ piece_lines terms (run_from h value first count)
+    ensures exact { (h : History) (terms : Issuing) → StandsFor D.disk Stands (λ s. 0) Holds house h → terms_in h 0 ≡ Some terms → out.old.items ≡ piece_lines (version h (site_name h)) terms (run_from h value first count)
         → Performs D.disk Stands (λ s. 0) Holds (IsMintTask h (house_time house.bench) (limits_of house.bench) reference.now count value) (TellsMint reference.now count value out.new.items)
         (limits_of house.bench) house.journal.disk h result }
 {

@@ -1,20 +1,26 @@
 //! The lines of minted pieces.
 
 ghost use Rattle.std.specs.Prelude.{◌≡◌, ◌++◌, ◌<◌, ◌≤◌, ◌+◌, ◌^◌, ℕ, IfSome, OnOk, OnErr, [], Some};
+ghost use Rattle.scrip_form.specs.Issuing.{Issuing};
 ghost use Rattle.ledger_model.specs.Histories.{History};
-ghost use Rattle.ledger_model.specs.Houses.{site_name, terms_in};
+ghost use Rattle.ledger_model.specs.Houses.{site_name, terms_in, version};
 ghost use Rattle.ledger_model.specs.Pieces.{first_hand, run_from};
+ghost use Rattle.house_core.specs.House.{StandsFor};
 ghost use Rattle.vendor_core.specs.Lines.{piece_line, piece_lines};
+ghost use Rattle.vendor_core.specs.Shelf.{Stands, Holds};
 
+use crate::shelf::Shelf;
+use house_core::House;
 use mc_base::{Amount, NoMemory};
-use scrip_certs::{certificate, customer_secret, hex_of};
+use mc_outside::Disk;
+use scrip_certs::hex_of;
 use scrip_form::{Id, Name, Piece, Props, Terms, write_scrip};
 
-/// Puts the lines of so many new pieces of a value into an empty list, as the house of a name makes them
-/// under its own terms, with identities that follow the first. After an `Err` the list is empty.
-pub(crate) fn put_lines(
-    name: Name,
-    terms: &Terms,
+/// Puts the lines of so many pieces of a value into an empty list, with identities that follow the first, as
+/// the house made them after a history of its name and terms, or is to make them next. After an `Err` the list
+/// is empty.
+pub(crate) fn put_lines<D: Disk>(
+    house: &House<D, Shelf>,
     first: Id,
     count: u16,
     value: Amount,
@@ -22,13 +28,16 @@ pub(crate) fn put_lines(
 ) -> Result<(), NoMemory>
     requires value { 0 < value }
     requires empty { out.old.items ≡ [] }
-    ensures lines { OnOk result ((h : History) → site_name h ≡ name → terms_in h 0 ≡ Some terms.now → first + count ≤ 2 ^ 64
-        → out.new.items ≡ piece_lines terms.now (run_from h value first count)) }
+    ensures lines { OnOk result ((h g : History) (terms : Issuing) → StandsFor D.disk Stands (λ s. 0) Holds house.now h → terms_in h 0 ≡ Some terms
+        → site_name g ≡ site_name h → terms_in g 0 ≡ terms_in h 0 → first + count ≤ 2 ^ 64
+        → out.new.items ≡ piece_lines (version h (site_name h)) terms (run_from g value first count)) }
     ensures empty { OnErr result (out.new.items ≡ []) }
 {
+    let name = house.name();
+    let terms = house.own_terms();
     for i in 0..count {
         let id = Id::of_number(first.number().saturating_add(u64::from(i)));
-        match put_line(terms, &new_piece(name, *terms, id, value), out) {
+        match put_line(house, &new_piece(name, terms, id, value), out) {
             Ok(()) => (),
             Err(NoMemory) => {
                 out.clear();
@@ -50,19 +59,23 @@ fn new_piece(name: Name, terms: Terms, id: Id, value: Amount) -> Piece
     Piece::new(name, value, id, id, expires, no_props).unwrap()
 }
 
-/// Puts the line of a piece behind what a list has, certified under these terms. After an `Err` the list may
-/// have a part of it.
-fn put_line(terms: &Terms, piece: &Piece, out: &mut Vec<u8>) -> Result<(), NoMemory>
-    ensures { OnOk result (out.new.items ≡ out.old.items ++ piece_line terms.now piece.now) }
+/// Puts the line of a piece of the house's own behind what a list has. After an `Err` the list may have a part
+/// of it.
+fn put_line<D: Disk>(
+    house: &House<D, Shelf>,
+    piece: &Piece,
+    out: &mut Vec<u8>,
+) -> Result<(), NoMemory>
+    ensures { OnOk result ((h : History) (terms : Issuing) → StandsFor D.disk Stands (λ s. 0) Holds house.now h → terms_in h 0 ≡ Some terms
+        → out.new.items ≡ out.old.items ++ piece_line (version h (site_name h)) terms piece.now) }
 {
+    let cert = house.own_certificate(piece);
+    let secret = house.own_secret(piece.cust());
     let mut text = [0; 512];
-    // The body is that of the text with any certificate.
-    let len = write_scrip(piece, &[0; 16], &mut text);
-    let cert = certificate(terms, &text[..len - 32], piece.id());
     let len = write_scrip(piece, &cert, &mut text);
     out.extend_from_slice(&text[..len])?;
     out.extend_from_slice(b" ")?;
-    out.extend_from_slice(&hex_of(&customer_secret(terms, piece.cust())))?;
+    out.extend_from_slice(&hex_of(&secret))?;
     out.extend_from_slice(b"\n")?;
     Ok(())
 }

@@ -4,6 +4,7 @@ use Rattle.mc_records.specs.Requests.{asked_of}
 use Rattle.ledger_model.specs.Lines.{Refuse}
 use Rattle.ledger_model.specs.Stages.{fitted_by}
 use Rattle.ledger_model.specs.Answer.{offer}
+use Rattle.house_core.specs.Books.{tail_of}
 use Rattle.house_core.specs.Views.{offer_of, entry_deed}
 use Rattle.house_core.proofs.Tabled.{change_in, offered_at, no_change, fits}
 use Rattle.house_core.proofs.weigh.taken.Goals as goal
@@ -27,7 +28,7 @@ returns-in-Ok-fitted-clause-ready g c =
       secret = c.requires.secret;
       change = rw (← c.own.ensures, ← c.time-2.ensures, ← got) c.in-Ok-change.ensures.next;
       payload = c.accept_len-payload.ensures c.args.books.now.time c.in-Ok.offer.price;
-      fits = omega (arith, c.in-Ok-fitted.ensures.room, c.size.ensures, c.requires.journal);
+      fits = omega (arith, c.in-Ok-fitted.ensures.room, c.requires.journal);
     }
 
 pub returns-in-Ok-fitted-clause-lines : goal.returns-in-Ok-fitted-clause-lines
@@ -40,8 +41,8 @@ returns-in-Ok-fitted-clause-lines g c h st trade kind =
     (c.in-Ok.ensures.offer h trade kind) in
     let changed : Ok c.in-Ok-change.change ≡ change_in c.args.books.now c.in-Ok.offer.price c.args.scrip.now.piece.value =
     rw (← c.own.ensures, ← c.time-2.ensures, ← got) c.in-Ok-change.ensures.lines in
-    let is : Ok e ≡ fitted_by c.args.limits.journal c.args.books.now.size 0 e =
-    rw (← c.size.ensures) (c.in-Ok-fitted.ensures.lines e (c.accept_len-payload.ensures c.args.books.now.time c.in-Ok.offer.price)) in
+    let is : Ok e ≡ fitted_by c.args.limits.journal c.args.books.now.size (tail_of c.args.books.now) e =
+    c.in-Ok-fitted.ensures.lines e (c.accept_len-payload.ensures c.args.books.now.time c.in-Ok.offer.price) in
     fits st c.args.limits c.requires.series (asked_of c.args.q.now) c.args.scrip.now c.args.sign.now (offer_of c.in-Ok.offer) c.in-Ok-change.change (Ok e) offered changed is
 
 pub returns-in-Err-fitted-clause-lines : goal.returns-in-Err-fitted-clause-lines
@@ -54,6 +55,6 @@ returns-in-Err-fitted-clause-lines g c h st trade kind =
     (c.in-Ok.ensures.offer h trade kind) in
     let changed : Ok c.in-Ok-change.change ≡ change_in c.args.books.now c.in-Ok.offer.price c.args.scrip.now.piece.value =
     rw (← c.own.ensures, ← c.time-2.ensures, ← got) c.in-Ok-change.ensures.lines in
-    let full : Err (Refuse c.in-Err-fitted.refusal) ≡ fitted_by c.args.limits.journal c.args.books.now.size 0 e =
-    rw (← c.size.ensures) (c.in-Err-fitted.ensures.lines e (c.accept_len-payload.ensures c.args.books.now.time c.in-Ok.offer.price)) in
+    let full : Err (Refuse c.in-Err-fitted.refusal) ≡ fitted_by c.args.limits.journal c.args.books.now.size (tail_of c.args.books.now) e =
+    c.in-Err-fitted.ensures.lines e (c.accept_len-payload.ensures c.args.books.now.time c.in-Ok.offer.price) in
     fits st c.args.limits c.requires.series (asked_of c.args.q.now) c.args.scrip.now c.args.sign.now (offer_of c.in-Ok.offer) c.in-Ok-change.change (Err (Refuse c.in-Err-fitted.refusal)) offered changed full

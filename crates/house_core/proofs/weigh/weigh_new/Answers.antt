@@ -8,7 +8,7 @@ use Rattle.house_core.proofs.weigh.weigh_new.Goals as goal
 pub returns-in-Err-spendable-clause-lines : goal.returns-in-Err-spendable-clause-lines
 returns-in-Err-spendable-clause-lines g c h st trade kind =
     let spent : c.has_spent-spent.result ≡ is_marked c.args.books.now.spent c.args.scrip.now.piece.id = rw (c.has_spent-spent.ensures, c.id.ensures.id, c.piece.ensures) refl in
-    let is : Ok c.in-Ok.secret ≡ genuine_in c.args.books.now c.args.scrip.now = rw (← c.name.ensures, ← c.terms.ensures) c.in-Ok.ensures.lines in
+    let is : Ok c.in-Ok.secret ≡ genuine_in c.args.books.now c.args.scrip.now = c.in-Ok.ensures.lines in
     let refused : Err (Refuse c.in-Err-spendable.refusal) ≡ spendable_in c.args.books.now c.in-Ok.secret (asked_of c.args.q.now) c.args.scrip.now =
     rw (← spent, ← c.is_clear.ensures, ← c.time.ensures) c.in-Err-spendable.ensures.lines in
     not_spendable st c.args.limits (asked_of c.args.q.now) c.args.scrip.now c.in-Ok.secret (Refuse c.in-Err-spendable.refusal) is refused
@@ -16,12 +16,12 @@ returns-in-Err-spendable-clause-lines g c h st trade kind =
 pub returns-clause-lines : goal.returns-clause-lines
 returns-clause-lines g c h st trade kind =
     let spent : c.has_spent-spent.result ≡ is_marked c.args.books.now.spent c.args.scrip.now.piece.id = rw (c.has_spent-spent.ensures, c.id.ensures.id, c.piece.ensures) refl in
-    let is : Ok c.in-Ok.secret ≡ genuine_in c.args.books.now c.args.scrip.now = rw (← c.name.ensures, ← c.terms.ensures) c.in-Ok.ensures.lines in
+    let is : Ok c.in-Ok.secret ≡ genuine_in c.args.books.now c.args.scrip.now = c.in-Ok.ensures.lines in
     let may : Ok c.in-Ok-spendable.sign ≡ spendable_in c.args.books.now c.in-Ok.secret (asked_of c.args.q.now) c.args.scrip.now =
     rw (← spent, ← c.is_clear.ensures, ← c.time.ensures) c.in-Ok-spendable.ensures.lines in
     takes st c.args.limits (asked_of c.args.q.now) c.args.scrip.now c.in-Ok.secret c.in-Ok-spendable.sign _ is may (c.taken.ensures.lines h st trade kind)
 
 pub taken-requires-clause-secret : goal.taken-requires-clause-secret
 taken-requires-clause-secret g c =
-    let is : Ok c.in-Ok.secret ≡ genuine_in c.args.books.now c.args.scrip.now = rw (← c.name.ensures, ← c.terms.ensures) c.in-Ok.ensures.lines in
+    let is : Ok c.in-Ok.secret ≡ genuine_in c.args.books.now c.args.scrip.now = c.in-Ok.ensures.lines in
     sym is

@@ -4,7 +4,7 @@ use Rattle.mc_records.specs.Entry.{Entry, AddTerms, moment_of}
 use Rattle.mc_records.specs.Views.{entry}
 use Rattle.ledger_model.specs.Houses.{terms_in}
 use Rattle.house_core.specs.Bench.{house_time, limits_of}
-use Rattle.house_core.specs.declared.outcome.Outcome.TheVariants.{Done}
+use Rattle.house_core.specs.declared.outcome.Outcome.TheVariants.{Done, Halted}
 use Rattle.vendor_core.specs.Shelf.{Stands, Holds}
 use Rattle.vendor_core.specs.Desk.{Add, terms_task, TellsAdded}
 use Rattle.vendor_core.proofs.DeskLemmas.{enters, refuses, stays, same_licensed, other_licensed, new_licensed, tells_last}
@@ -53,3 +53,13 @@ returns-in-NoMemory-clause-keeps g c =
     let raised = c.in-NoMemory.ensures.keeps in
     let at = at_once (entry c.terms_record-record.result) c.time.result (house_time c.args.house.bench) c.args.terms.now c.terms_record-record.ensures.entry c.time.ensures in
     record { time = omega (arith, raised.time, at); limits = raised.limits }
+
+pub returns-in-Halted-clause-exact : goal.returns-in-Halted-clause-exact
+returns-in-Halted-clause-exact g c h st =
+    let t = house_time c.args.house.bench in
+    let e = entry c.terms_record-record.result in
+    let same : e ≡ AddTerms t c.args.terms.now = c.terms_record-record.ensures.entry ∙ ap (λ (m : ℕ). AddTerms m c.args.terms.now) c.time.ensures in
+    let none : terms_in h c.args.terms.now.issuer ≡ None = rw c.issuer.ensures at (sym (c.in_default.ensures h st)) in
+    let asks : Add e ≡ terms_task h t c.args.terms.now = ap (λ (x : Entry). Add x) same ∙ new_licensed t c.args.terms.now _ none in
+    enters g.D.Disk.disk Stands (λ s. 0) Holds (λ task. task ≡ terms_task h t c.args.terms.now) TellsAdded (limits_of c.args.house.bench) (λ n. Some n)
+    c.args.house.journal.disk h e (Halted c.in-Halted.halted) asks (λ done. absurd done) (c.in-Halted.ensures.exact h st) (c.in-Halted.ensures.ran h st)

@@ -1,6 +1,7 @@
 use Rattle.std.proofs.Common.{◌≡◌, ℕ, List}
 use Rattle.mc_records.specs.Entry.{Mint}
 use Rattle.house_core.specs.Bench.{house_time, limits_of}
+use Rattle.house_core.proofs.Entered.{same_house}
 use Rattle.house_core.specs.declared.outcome.Outcome.TheVariants as outcomes
 use Rattle.vendor_core.specs.Shelf.{Stands, Holds}
 use Rattle.vendor_core.proofs.DeskLemmas.{mint_may_follow, mint_enters}
@@ -18,24 +19,28 @@ enter-requires-clause-may g c h st =
 
 pub returns-in-Done-clause-exact : goal.returns-in-Done-clause-exact
 returns-in-Done-clause-exact g c h terms st own lines =
+    let named = (same_house (limits_of c.args.house.bench) h _ st.house.stands'.books.lawful).name in
     rw c.number.ensures (mint_enters (limits_of c.args.house.bench) h (house_time c.args.house.bench) c.args.reference.now c.args.count c.args.value c.args.first _
     (same_mint _ _ _ _ _ _ _ _ c.time.ensures c.bytes.ensures.value c.get.ensures.units) (c.requires.new h st) (c.requires.run h st)
-    g.D.Disk.disk Stands (λ s. 0) Holds c.args.house.journal.disk terms c.args.out.now.items (outcomes.Done c.in-Done.house c.in-Done.receipt) own (λ done. lines) (c.in-Done.ensures.exact h st) (c.in-Done.ensures.ran h st))
+    g.D.Disk.disk Stands (λ s. 0) Holds c.args.house.journal.disk terms c.args.out.now.items (outcomes.Done c.in-Done.house c.in-Done.receipt) named own (λ done. lines) (c.in-Done.ensures.exact h st) (c.in-Done.ensures.ran h st))
 
 pub returns-in-Refused-clause-exact : goal.returns-in-Refused-clause-exact
 returns-in-Refused-clause-exact g c h terms st own lines =
+    let named = (same_house (limits_of c.args.house.bench) h _ st.house.stands'.books.lawful).name in
     mint_enters (limits_of c.args.house.bench) h (house_time c.args.house.bench) c.args.reference.now c.args.count c.args.value c.args.first _
     (same_mint _ _ _ _ _ _ _ _ c.time.ensures c.bytes.ensures.value c.get.ensures.units) (c.requires.new h st) (c.requires.run h st)
-    g.D.Disk.disk Stands (λ s. 0) Holds c.args.house.journal.disk terms c.clear.new.self.items (outcomes.Refused c.in-Refused.house c.in-Refused.refusal) own (λ done. absurd done) (c.in-Refused.ensures.exact h st) (c.in-Refused.ensures.ran h st)
+    g.D.Disk.disk Stands (λ s. 0) Holds c.args.house.journal.disk terms c.clear.new.self.items (outcomes.Refused c.in-Refused.house c.in-Refused.refusal) named own (λ done. absurd done) (c.in-Refused.ensures.exact h st) (c.in-Refused.ensures.ran h st)
 
 pub returns-in-NoMemory-clause-exact : goal.returns-in-NoMemory-clause-exact
 returns-in-NoMemory-clause-exact g c h terms st own lines =
+    let named = (same_house (limits_of c.args.house.bench) h _ st.house.stands'.books.lawful).name in
     mint_enters (limits_of c.args.house.bench) h (house_time c.args.house.bench) c.args.reference.now c.args.count c.args.value c.args.first _
     (same_mint _ _ _ _ _ _ _ _ c.time.ensures c.bytes.ensures.value c.get.ensures.units) (c.requires.new h st) (c.requires.run h st)
-    g.D.Disk.disk Stands (λ s. 0) Holds c.args.house.journal.disk terms c.clear-in-NoMemory.new.self.items (outcomes.NoMemory c.in-NoMemory.house) own (λ done. absurd done) (c.in-NoMemory.ensures.exact h st) (c.in-NoMemory.ensures.ran h st)
+    g.D.Disk.disk Stands (λ s. 0) Holds c.args.house.journal.disk terms c.clear-in-NoMemory.new.self.items (outcomes.NoMemory c.in-NoMemory.house) named own (λ done. absurd done) (c.in-NoMemory.ensures.exact h st) (c.in-NoMemory.ensures.ran h st)
 
 pub returns-in-Halted-clause-exact : goal.returns-in-Halted-clause-exact
 returns-in-Halted-clause-exact g c h terms st own lines =
+    let named = (same_house (limits_of c.args.house.bench) h _ st.house.stands'.books.lawful).name in
     mint_enters (limits_of c.args.house.bench) h (house_time c.args.house.bench) c.args.reference.now c.args.count c.args.value c.args.first _
     (same_mint _ _ _ _ _ _ _ _ c.time.ensures c.bytes.ensures.value c.get.ensures.units) (c.requires.new h st) (c.requires.run h st)
-    g.D.Disk.disk Stands (λ s. 0) Holds c.args.house.journal.disk terms c.clear-in-Halted.new.self.items (outcomes.Halted c.in-Halted.halted) own (λ done. absurd done) (c.in-Halted.ensures.exact h st) (c.in-Halted.ensures.ran h st)
+    g.D.Disk.disk Stands (λ s. 0) Holds c.args.house.journal.disk terms c.clear-in-Halted.new.self.items (outcomes.Halted c.in-Halted.halted) named own (λ done. absurd done) (c.in-Halted.ensures.exact h st) (c.in-Halted.ensures.ran h st)

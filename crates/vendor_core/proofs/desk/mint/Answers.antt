@@ -1,11 +1,11 @@
-use Rattle.std.proofs.Common.{◌≡◌, take, inl, inr, refl, sym, ◌∙◌}
+use Rattle.std.proofs.Common.{◌≡◌, ◌+◌, ◌<◌, ◌≤◌, ◌^◌, take, inl, inr, refl, sym, ◌∙◌, arith, rules}
 use Rattle.mc_records.specs.Entry.{Mint}
 use Rattle.ledger_model.specs.Houses.{own_series}
-use Rattle.ledger_model.specs.Pieces.{next_identity}
+use Rattle.ledger_model.specs.Pieces.{next_identity, own_count}
 use Rattle.house_core.specs.Bench.{house_time, limits_of}
 use Rattle.vendor_core.specs.Shelf.{Stands, Holds}
 use Rattle.vendor_core.specs.Desk.{Add, Stays, IsMintAt, IsUsed}
-use Rattle.vendor_core.proofs.LineLemmas.{lines_of_mint, earlier_mint}
+use Rattle.vendor_core.proofs.LineLemmas.{lines_of_mint, earlier_mint, run_in_range}
 use Rattle.vendor_core.proofs.DeskLemmas.{refuses, stays, wants_memory}
 use Rattle.vendor_core.proofs.desk.mint.Goals as goal
 use Rattle.vendor_core.proofs.desk.mint.Goals.{then-minted-count-via-then-minted-count, then-minted-count-via-else-minted-count+then-minted-get}
@@ -34,12 +34,12 @@ returns-in-Ok-clause-exact g c h st =
     let number = c.in-Some.minted.number in
     let at : IsMintAt h c.args.reference.now c.args.count c.args.value number = record { moment = is.0; first = c.in-Some.minted.first; entry = entry } in
     let books = st.house.stands'.books in
-    let own = c.own_terms.ensures h st in
+    let own = books.own_terms in
     let earlier = earlier_mint (limits_of c.args.house.bench) h number is.0 c.args.reference.now c.args.count c.args.value c.in-Some.minted.first
     books.limits.series_most books.lawful st.journal.stands.fits st.house.stands'.of_kind entry in
-    let lines = c.in-Ok.ensures.lines (take number h) (earlier.name ∙ sym (c.name.ensures h st)) (earlier.terms ∙ own) earlier.fits in
+    let lines = c.in-Ok.ensures.lines h (take number h) c.args.house.bench.books.own_terms st own earlier.name earlier.terms earlier.fits in
     stays g.D.Disk.disk Stands (λ s. 0) Holds _ _ (limits_of c.args.house.bench) c.args.house h (g.met.D.Disk.is_disk _) st _ (number, at)
-    (at, lines ∙ sym (lines_of_mint h c.own_terms.result number is.0 c.args.reference.now c.args.count c.args.value c.in-Some.minted.first own entry))
+    (at, lines ∙ sym (lines_of_mint h c.args.house.bench.books.own_terms number is.0 c.args.reference.now c.args.count c.args.value c.in-Some.minted.first own entry))
 
 pub returns-in-Err-clause-exact : goal.returns-in-Err-clause-exact
 returns-in-Err-clause-exact g c h st =
@@ -61,3 +61,14 @@ returns-in-Err-put_lines-clause-exact g c h st =
     let run = c.in-Ok-next_run.ensures h st in
     wants_memory g.D.Disk.disk Stands (λ s. 0) Holds _ _ (limits_of c.args.house.bench) c.args.house h (g.met.D.Disk.is_disk _) st
     (Add (Mint t c.args.reference.now c.args.count c.args.value (next_identity h (own_series h t)))) tt (new, run.1, refl)
+
+pub returns-in-Ok-put_lines-clause-exact : goal.returns-in-Ok-put_lines-clause-exact
+returns-in-Ok-put_lines-clause-exact g c h st =
+    let books = st.house.stands'.books in
+    let series = own_series h (house_time c.args.house.bench) in
+    let run = c.in-Ok-next_run.ensures h st in
+    let long : c.in-Ok-next_run.first < 2 ^ 64 = search rules in
+    let few : own_count h series + c.args.count ≤ 2 ^ 32 = omega (arith, run.1, books.limits.series_most) in
+    let fits = run_in_range series (own_count h series) c.args.count c.in-Ok-next_run.first run.0 few long in
+    let lines = c.in-Ok-put_lines.ensures.lines h h c.args.house.bench.books.own_terms st books.own_terms refl refl fits in
+    c.enter_mint.ensures.exact h c.args.house.bench.books.own_terms st books.own_terms lines

@@ -1,10 +1,14 @@
 use Rattle.std.proofs.Common.{◌≡◌, ◌+◌, ◌≤◌, ◌^◌, Some}
+use Rattle.scrip_form.specs.Issuing.{Issuing}
 use Rattle.ledger_model.specs.Histories.{History}
-use Rattle.ledger_model.specs.Houses.{site_name, terms_in}
+use Rattle.ledger_model.specs.Houses.{site_name, terms_in, version}
 use Rattle.ledger_model.specs.Pieces.{run_from}
+use Rattle.house_core.specs.House.{StandsFor}
 use Rattle.vendor_core.specs.Lines.{piece_lines}
+use Rattle.vendor_core.specs.Shelf.{Stands, Holds}
 use Rattle.vendor_core.proofs.lines.put_lines.Given as goal
 
 abbrev pub invariant-loop-i : goal.invariant-loop-i
-invariant-loop-i l = (h : History) → site_name h ≡ l.name → terms_in h 0 ≡ Some l.terms → l.first + l.count ≤ 2 ^ 64
-    → l.out.items ≡ piece_lines l.terms (run_from h l.value l.first l.i)
+invariant-loop-i g l = (h f : History) (terms : Issuing) → StandsFor g.D.Disk.disk Stands (λ s. 0) Holds l.house h → terms_in h 0 ≡ Some terms
+    → site_name f ≡ site_name h → terms_in f 0 ≡ terms_in h 0 → l.first + l.count ≤ 2 ^ 64
+    → l.out.items ≡ piece_lines (version h (site_name h)) terms (run_from f l.value l.first l.i)

@@ -3,7 +3,7 @@ use Rattle.std.proofs.Common.{◌<◌, ◌^◌, ◌≡◌, ◌+◌, ◌≤◌, N
 use Rattle.std.specs.Prelude.{◌-◌, vec_len, vec_capacity}
 use Rattle.mc_records.specs.Requests.{asked_of}
 use Rattle.kept_replies.specs.Kept.{found}
-use Rattle.house_core.specs.Books.{BooksView, IsEntered}
+use Rattle.house_core.specs.Books.{BooksView, IsEntered, size_with}
 use Rattle.house_core.proofs.Entering.{no_request, no_number, entered, sound_entered}
 use Rattle.house_core.proofs.books.Books.enter.Goals as goal
 
@@ -18,17 +18,17 @@ keep-requires-clause-new_number c = no_number c.self.inside.count c.self.inside.
 pub invariant_of-self : goal.invariant_of-self
 invariant_of-self c =
     let short : epoch c.self.inside.own_terms c.self.inside.time < 2 ^ 24 = subst (λ (b : BooksView). epoch b.own_terms b.time < 2 ^ 24) (sym c.self.view_is) c.series_now-series.ensures.short in
-    let size : c.self.inside.size + (c.args.a.now.payload + 5) ≡ c.self.inside.size + c.args.a.now.payload + 5 = omega arith in
-    let fits = subst (λ (b : BooksView). b.size + c.args.a.now.payload + 5 ≤ 2 ^ 40) (sym c.self.view_is) c.requires.fits in
+    let size = subst (λ (b : BooksView). c.size_with-size.result ≡ size_with b c.args.a.now.payload) (sym c.self.view_is) c.size_with-size.ensures in
+    let fits = subst (λ (b : BooksView). size_with b c.args.a.now.payload ≤ 2 ^ 40) (sym c.self.view_is) c.requires.fits in
     sound_entered _ _ (asked_of c.args.q.now) c.args.paid.now c.args.a.now c.self.invariant c.id.ensures.piece fits
     (entered _ c.mark.new.self c.keep.new.self c.redeem-piece.new.own c.redeem-piece.new.takings _ (asked_of c.args.q.now) c.args.paid.now c.args.a.now c.redeem-piece.result c.certified_if-change.result c.self.invariant short
-    (rw c.id.ensures.id at c.mark.ensures) c.keep.ensures.keep c.keep.ensures.replies c.redeem-piece.ensures.piece c.certified_if-change.ensures c.redeem-piece.ensures.terms c.redeem-piece.ensures.most
+    (rw c.id.ensures.id at c.mark.ensures) c.keep.ensures.keep c.keep.ensures.replies c.redeem-piece.ensures.piece (c.certified_if-change.ensures c.self.inside.name) c.redeem-piece.ensures.terms c.redeem-piece.ensures.most
     c.redeem-piece.ensures.count c.redeem-piece.ensures.worth c.redeem-piece.ensures.redeemed c.redeem-piece.ensures.takings size)
 
 pub returns : goal.returns
 returns c =
     let short : epoch c.self.inside.own_terms c.self.inside.time < 2 ^ 24 = subst (λ (b : BooksView). epoch b.own_terms b.time < 2 ^ 24) (sym c.self.view_is) c.series_now-series.ensures.short in
-    let size : c.self.inside.size + (c.args.a.now.payload + 5) ≡ c.self.inside.size + c.args.a.now.payload + 5 = omega arith in
+    let size = subst (λ (b : BooksView). c.size_with-size.result ≡ size_with b c.args.a.now.payload) (sym c.self.view_is) c.size_with-size.ensures in
     let old : BooksView = record {
       name = c.self.inside.name;
       clear = c.self.inside.clear;
@@ -44,8 +44,8 @@ returns c =
       size = c.self.inside.size;
       limits = c.self.inside.limits;
     } in
-    let new : BooksView = record old { spent = c.mark.new.self; kept = c.keep.new.self; own = c.redeem-piece.new.own; takings = c.redeem-piece.new.takings; count = c.self.inside.count + 1; size = c.self.inside.size + (c.args.a.now.payload + 5) } in
+    let new : BooksView = record old { spent = c.mark.new.self; kept = c.keep.new.self; own = c.redeem-piece.new.own; takings = c.redeem-piece.new.takings; count = c.self.inside.count + 1; size = c.size_with-size.result } in
     subst (λ (b : BooksView). IsEntered b new (asked_of c.args.q.now) c.args.paid.now c.args.a.now) c.self.view_is
     (entered old c.mark.new.self c.keep.new.self c.redeem-piece.new.own c.redeem-piece.new.takings _ (asked_of c.args.q.now) c.args.paid.now c.args.a.now c.redeem-piece.result c.certified_if-change.result c.self.invariant short
-    (rw c.id.ensures.id at c.mark.ensures) c.keep.ensures.keep c.keep.ensures.replies c.redeem-piece.ensures.piece c.certified_if-change.ensures c.redeem-piece.ensures.terms c.redeem-piece.ensures.most
+    (rw c.id.ensures.id at c.mark.ensures) c.keep.ensures.keep c.keep.ensures.replies c.redeem-piece.ensures.piece (c.certified_if-change.ensures c.self.inside.name) c.redeem-piece.ensures.terms c.redeem-piece.ensures.most
     c.redeem-piece.ensures.count c.redeem-piece.ensures.worth c.redeem-piece.ensures.redeemed c.redeem-piece.ensures.takings size)

@@ -62,3 +62,6 @@ pub returns-in-Err-Disk-clause-ran : goal.returns-in-Err-Disk-clause-ran
 returns-in-Err-Disk-clause-ran g c h st =
     let ran : Ran (g.D.Disk.disk c.args.self.journal.disk) (g.D.Disk.disk c.in-Err-Disk.halted) (EitherQuiet h (entry c.args.r.now) (g.D.Disk.disk c.args.self.journal.disk).aside) = rw c.in-Err-Disk.field-0-is at (c.in-Err-Disk.ensures.ran h st.journal) in
     ran
+
+pub returns-in-Ok-write_entry-clause-ran : goal.returns-in-Ok-write_entry-clause-ran
+returns-in-Ok-write_entry-clause-ran g c h st = c.in-Ok-write_entry.ensures.ran h st.journal

@@ -1,7 +1,8 @@
-use Rattle.std.proofs.Common.{◌≡◌, refl, sym, subst, ap, take, ◌∙◌, List, ℕ}
+use Rattle.std.proofs.Common.{◌≡◌, arith, refl, sym, subst, ap, take, ◌∙◌, List, ℕ}
 use Rattle.mc_outside.specs.DiskView.{DiskView, Ran}
 use Rattle.mc_outside.proofs.Counts.{on_ok}
 use Rattle.mc_records.specs.Entry.{Entry}
+use Rattle.mc_records.specs.Sizes.{tail}
 use Rattle.scrip_journal.specs.States.{AtRest, IsJournal}
 use Rattle.scrip_journal.specs.Exits.{StandsQuiet}
 use Rattle.scrip_journal.proofs.Steps.{stage_ran, stage_sync_ran, is_staged}
@@ -13,16 +14,28 @@ of_parts : {D : Type 0} (view : D → DiskView) (b : DiskView) (h : List Entry) 
     → IsJournal view j h → Ran (view j.disk) b (StandsQuiet h (view j.disk).aside)
 of_parts {D = D} view b h v j is ran = subst (λ (k : AtRest D). IsJournal view k h → Ran (view k.disk) b (StandsQuiet h (view k.disk).aside)) is ran
 
+pub returns-then-is_err-clause-full : goal.returns-then-is_err-clause-full
+unfolding tail
+returns-then-is_err-clause-full g c = grind arith
+
 pub returns-then-is_err-clause-ran : goal.returns-then-is_err-clause-ran
 returns-then-is_err-clause-ran g c h =
     of_parts g.D.Disk.disk (g.D.Disk.disk c.write_at.new.self) h _ _ c.self.view_is (λ j.
     stage_ran g.D.Disk.disk _ h j c.self.inside.at.gate refl _ _ (g.met.D.Disk.disk_goes _ _ c.write_at.ensures.moved) c.write_at.ensures.pairs c.write_at.ensures.crash)
+
+pub returns-then-is_err-2-clause-full : goal.returns-then-is_err-2-clause-full
+unfolding tail
+returns-then-is_err-2-clause-full g c = grind arith
 
 pub returns-then-is_err-2-clause-ran : goal.returns-then-is_err-2-clause-ran
 returns-then-is_err-2-clause-ran g c h =
     of_parts g.D.Disk.disk (g.D.Disk.disk c.sync.new.self) h _ _ c.self.view_is (λ j.
     stage_sync_ran g.D.Disk.disk _ h j c.self.inside.at.gate refl _ _ _ (g.met.D.Disk.disk_goes _ _ c.write_at.ensures.moved) c.write_at.ensures.pairs c.write_at.ensures.crash
     (g.met.D.Disk.disk_goes _ _ c.sync.ensures.moved) c.sync.ensures.pairs c.sync.ensures.crash)
+
+pub returns-clause-full : goal.returns-clause-full
+unfolding tail
+returns-clause-full g c = grind arith
 
 pub returns-clause-ran : goal.returns-clause-ran
 returns-clause-ran g c h =

@@ -3,12 +3,26 @@ use Rattle.std.specs.Int.{w32, from_be_bytes}
 use Rattle.scrip_journal.specs.States.{Reading}
 use Rattle.scrip_journal.specs.Replays.{EndsHere}
 use Rattle.scrip_journal.specs.declared.ending.Ending.TheVariants.{Spoiled}
-use Rattle.scrip_journal.proofs.Looking.{ahead_then, ends_at_fault, framed_here, length_stays, begins_still, longer}
+use Rattle.scrip_journal.proofs.Looking.{ahead_then, cut_then, ends_in_payload, ends_at_fault, framed_here, length_stays, begins_still, longer}
 use Rattle.scrip_journal.proofs.replay.Replay.look.Goals as goal
 
 pub returns-in-Err-hold-2-clause-ahead : goal.returns-in-Err-hold-2-clause-ahead
 returns-in-Err-hold-2-clause-ahead g c =
     ahead_then g.D.Disk.disk _ _ _ (ahead_then g.D.Disk.disk _ _ _ c.hold.ensures.ahead c.hold-2.ensures.ahead) c.hold-3.ensures.ahead
+
+pub returns-in-Err-hold-2-clause-ends : goal.returns-in-Err-hold-2-clause-ends
+returns-in-Err-hold-2-clause-ends g c =
+    let ahead_to_length = ahead_then g.D.Disk.disk _ _ _ c.hold.ensures.ahead c.hold-2.ensures.ahead in
+    let ahead = ahead_then g.D.Disk.disk _ _ _ ahead_to_length c.hold-3.ensures.ahead in
+    let more = c.hold-3.ensures.ahead.more in
+    let opened = begins_still (1 ∷ []) c.hold-2.new.self.held c.hold-3.new.self.held (begins_still (1 ∷ []) c.hold.new.self.held c.hold-2.new.self.held (c.if-not-is_open.ensures.opened refl) c.hold-2.ensures.ahead.more) more in
+    let stays = length_stays c.hold-2.new.self.held c.hold-3.new.self.held more c.in_default-hold.ensures.enough in
+    let n_is = ap (λ (l : List ℕ). from_be_bytes w32 l) stays ∙ sym c.payload_length-length.ensures.value in
+    let five = longer c.hold-2.new.self.held c.hold-3.new.self.held more 5 c.in_default-hold.ensures.enough in
+    let here = ap (λ (v : Reading g.row.D.Denot). v.gate) c.self.view_is in
+    ends_in_payload g.D.Disk.disk c.args.self.now c.hold-3.new.self ahead opened five c.payload_length-length.result n_is c.if-length-ge-MAX_PAYLOAD.false
+    (omega (arith, c.if-self-length-gt-LAST_PLACE.false, here, c.hold.ensures.ahead.same.gate, c.hold-2.ensures.ahead.same.gate)) c.in-Err-hold-2.ending
+    (cut_then g.D.Disk.disk c.args.self.now c.hold-2.new.self c.hold-3.new.self _ c.in-Err-hold-2.ending ahead_to_length c.in-Err-hold-2.ensures.short)
 
 pub returns-in-Some-clause-moved : goal.returns-in-Some-clause-moved
 returns-in-Some-clause-moved g c =
