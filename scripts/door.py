@@ -17,7 +17,7 @@ from shop import TARGET, Link, Shop
 
 BIG, BIG_CONTENTS = b"/big", bytes(range(256)) * 256
 WORST = 2.0
-TIMES = "%d payments, median %.2f ms, worst %.2f"
+TIMES = "%d %s, median %.2f ms, worst %.2f"
 
 
 class Tries:
@@ -51,10 +51,16 @@ class Tries:
         asked = [self.fresh() for _ in range(count)]
         return self.told([self.pay(a) for a in asked])
 
-    def told(self, times):
+    def told(self, times, what="payments"):
         """What these times are; none may be too long."""
-        assert max(times) < WORST, "a payment took %.2f s" % max(times)
-        return TIMES % (len(times), statistics.median(times) * 1e3, max(times) * 1e3)
+        assert max(times) < WORST, "one of %d %s took %.2f s" % (len(times), what, max(times))
+        return TIMES % (len(times), what, statistics.median(times) * 1e3, max(times) * 1e3)
+
+    def both(self, count):
+        """Payments, and as many repeats, which touch no disk."""
+        said, again = self.pays(count), self.fresh()
+        self.pay(again)
+        return "%s; %s" % (said, self.told([self.pay(again) for _ in range(count)], "repeats"))
 
     def descriptors(self):
         return len(os.listdir("/proc/%d/fd" % self.shop.server.pid))
@@ -65,13 +71,13 @@ class Tries:
             return next(int(line.split()[1]) / 1024 for line in f if line.startswith("VmHWM"))
 
     def alone(self):
-        return self.pays(200)
+        return self.both(200)
 
     def silent(self, count, payments=100):
         start = time.perf_counter()
         held = [self.connect() for _ in range(count)]
         opened = time.perf_counter() - start
-        said = "opened in %.2f s; %s" % (opened, self.pays(payments))
+        said = "opened in %.2f s; %s" % (opened, self.both(payments))
         return held, said
 
     def let_go(self, held):
@@ -184,10 +190,10 @@ class Tries:
         return "150 resets; " + self.pays(20)
 
     def no_takers(self):
-        """40 clients that each ask 40 times for 65,536 bytes and read nothing."""
+        """20 clients that each ask 40 times for 65,536 bytes and read nothing."""
         asked = self.fresh(BIG)
         self.pay(asked)
-        held = [self.connect(2048, segment) for segment in (None, 536) * 20]
+        held = [self.connect(2048, segment) for segment in (None, 536) * 10]
         for s in held:
             s.sendall(asked * 40)
         said = self.pays(50)
@@ -238,8 +244,10 @@ class Tries:
         return self.told(times) + " on six connections, one after another"
 
     def restart(self, links):
+        """Serves so many links more, once the book is open."""
         self.shop.kill()
-        self.shop.start(links)
+        self.shop.start(links + 2)
+        self.pay()
 
     def served(self):
         """What the program says, which ends by itself."""
@@ -251,8 +259,7 @@ class Tries:
         """Heads become whole while the program stands still. The first ones are served, up to LINKS."""
         wanted = [3, 1, 4, 0, 2]
         for links in range(1, 6):
-            self.restart(links + 1)
-            time.sleep(0.1)
+            self.restart(links)
             held = [self.connect() for _ in wanted]
             time.sleep(0.1)
             self.shop.server.send_signal(signal.SIGSTOP)
@@ -263,16 +270,17 @@ class Tries:
             for i in wanted[:links]:
                 assert held[i].recv(100).startswith(b"HTTP/1.1 200 "), "the one that was ready before was not served"
                 held[i].close()
-            assert self.served() == "served %d" % (links + 1)
+            assert self.served() == "served %d" % (links + 2)
             self.let_go(held)
         self.shop.start()
         return "with 1 to 5 links the first of 3 1 4 0 2 were served"
 
     def last(self):
         """The last link's client reads late; the program waits for it, and not for long."""
-        self.restart(2)
+        self.restart(1)
         s = self.connect(2048, 536)
         s.sendall(self.fresh(BIG))
+        s.shutdown(socket.SHUT_WR)
         time.sleep(0.5)
         got, start = b"", time.perf_counter()
         while data := s.recv(65_536):

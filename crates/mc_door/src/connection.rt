@@ -13,9 +13,6 @@ use std::time::{Duration, Instant};
 /// How many seconds a connection may take for its first item.
 const WAITING: u64 = 30;
 
-/// How many milliseconds a connection has for its first item though others want its place.
-const GRACE: u64 = 100;
-
 /// How many seconds a peer may take nothing of what is left for it, or not end its side, once its link is over.
 const LEAVING: u64 = 10;
 
@@ -131,15 +128,13 @@ impl Connection {
     }
 
     /// Of those that may make room for another, the one with the least of these goes first: one whose peer
-    /// has all, the longest waiting one, one whose peer does not take what it was sent. None where it may not
-    /// go.
-    pub(crate) fn rank(&self, now: Instant) -> Option<(u8, Instant)> {
+    /// has all, one that waits since before `young`, one whose peer does not take what it was sent, each time
+    /// the oldest. None where it may not go.
+    pub(crate) fn rank(&self, young: Instant) -> Option<(u8, Instant)> {
         match self.stage {
             Stage::Leaving if self.has_kept() => Some((2, self.since)),
             Stage::Leaving => Some((0, self.since)),
-            Stage::Waiting if self.age(now) >= Duration::from_millis(GRACE) => {
-                Some((1, self.since))
-            }
+            Stage::Waiting if self.since <= young => Some((1, self.since)),
             Stage::Waiting | Stage::Ready | Stage::Standing => None,
         }
     }

@@ -187,13 +187,11 @@ impl Connections {
         self.table.retain(|_, c| !c.is_overdue(now));
     }
 
-    /// Makes room for one more, where some connection may go. False where none may.
-    pub(crate) fn make_room(&mut self, now: Instant) -> bool
-        ensures queue { self.new ≡ self.old }
-    {
+    /// The connection that is the first to go where room is needed; None where none may.
+    pub(crate) fn first_to_go(&self, young: Instant) -> Option<usize> {
         let mut first: Option<((u8, Instant), usize)> = None;
         for (key, connection) in self.table.iter() {
-            if let Some(rank) = connection.rank(now) {
+            if let Some(rank) = connection.rank(young) {
                 match first {
                     Some((least, _)) if least <= rank => {}
                     _ => first = Some((rank, key)),
@@ -201,7 +199,26 @@ impl Connections {
             }
         }
         match first {
-            Some((_, key)) => self.table.try_remove(key).is_some(),
+            Some((_, key)) => Some(key),
+            None => None,
+        }
+    }
+
+    /// Drops the connection, unless another look shows that it is ready. True where it is dropped.
+    pub(crate) fn drop_silent(&mut self, key: usize, now: Instant) -> bool
+        ensures last { (self.new ≡ self.old) ⊎ (self.new ≡ self.old ++ key ∷ []) }
+    {
+        self.notice(key, false, now);
+        if self.is_ready(key) {
+            return false;
+        }
+        self.remove(key);
+        true
+    }
+
+    fn is_ready(&self, key: usize) -> bool {
+        match self.table.get(key) {
+            Some(connection) => connection.stage() == Stage::Ready,
             None => false,
         }
     }

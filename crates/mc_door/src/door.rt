@@ -27,8 +27,21 @@ const TURN: u64 = 2;
 /// How many links are taken before the door looks again for what came meanwhile.
 const LINKS_AT_ONCE: u32 = 64;
 
-/// How many connections are accepted at once, and the most events that are told at once.
+/// How many milliseconds may go by until it looks.
+const LOOK: u64 = 20;
+
+/// How many connections are accepted at once.
 const MOST_AT_ONCE: usize = 256;
+
+/// The most events that are told at once: one for each connection, and one for the listening socket.
+const MOST_EVENTS: usize = MOST + 1;
+
+/// How many milliseconds pass, once there is no room, before connections that wait are dropped for others,
+/// so that many that come at once can tell what they ask.
+const GRACE: u64 = 200;
+
+/// How many seconds without want of room end such a time.
+const CALM: u64 = 5;
 
 /// How many seconds accepting may fail, where no connection is open, before the door fails.
 const FAILING: u64 = 16;
@@ -64,10 +77,13 @@ pub(crate) struct Door {
     connections: Connections,
     standing: Option<usize>,
     accepting: Accepting,
-    // how many links were taken since the door last looked
+    // since when there is want of room, and when it was last
+    pressed: Option<(Instant, Instant)>,
+    // when the door last looked, and how many links were taken since
+    looked: Instant,
     taken: u32,
     // when it last looked for connections whose time is over
-    looked: Instant,
+    swept: Instant,
 }
 
 impl Door {
@@ -79,8 +95,8 @@ impl Door {
         clock: &C,
     ) -> Result<Option<Door>, AllocError> {
         let connections = Connections::new(alloc)?;
-        let events = Events::with_capacity(alloc, MOST_AT_ONCE)?;
-        let (Ok(poll), Ok(looked)) = (Poll::new(rt), Instant::now(clock)) else {
+        let events = Events::with_capacity(alloc, MOST_EVENTS)?;
+        let (Ok(poll), Ok(now)) = (Poll::new(rt), Instant::now(clock)) else {
             return Ok(None);
         };
         let readable = Interest::READABLE;
@@ -99,8 +115,10 @@ impl Door {
             connections,
             standing: None,
             accepting: Accepting::Going,
+            pressed: None,
+            looked: now,
             taken: 0,
-            looked,
+            swept: now,
         }))
     }
 
@@ -112,14 +130,14 @@ impl Door {
     /// longest time.
     pub(crate) fn next<C: Clock>(&mut self, clock: &C) -> io::Result<()> {
         self.end(clock);
+        if self.taken >= LINKS_AT_ONCE || self.is_look_due(Instant::now(clock)?) {
+            self.turn(clock, 0)?;
+        }
         for _ in 0..u64::MAX {
-            if self.taken < LINKS_AT_ONCE {
-                let now = Instant::now(clock)?;
-                self.standing = self.connections.stand(now);
-                if self.standing.is_some() {
-                    self.taken = self.taken.saturating_add(1);
-                    return Ok(());
-                }
+            self.standing = self.connections.stand(Instant::now(clock)?);
+            if self.standing.is_some() {
+                self.taken = self.taken.saturating_add(1);
+                return Ok(());
             }
             self.turn(clock, TICK)?;
         }
@@ -213,7 +231,7 @@ impl Door {
     /// for these, where that was some time ago.
     fn keep_turn<C: Clock>(&mut self, key: usize, clock: &C) -> io::Result<()> {
         let now = Instant::now(clock)?;
-        if now.duration_since(self.looked).as_millis() >= TICK as u128 {
+        if self.is_look_due(now) {
             self.turn(clock, 0)?;
         }
         let (age, _) = self.connections.times(key, now)?;
@@ -239,20 +257,25 @@ impl Door {
         self.connections.watch(self.poll.registry(), key)
     }
 
+    fn is_look_due(&self, now: Instant) -> bool {
+        now.duration_since(self.looked) >= Duration::from_millis(LOOK)
+    }
+
     /// Takes in what came. Where nothing is ready it waits for that, up to so many milliseconds.
     pub(crate) fn turn<C: Clock>(&mut self, clock: &C, most: u64) -> io::Result<()> {
-        let wait = self.patience(most);
-        self.poll
-            .poll(&mut self.events, Some(Duration::from_millis(wait)))?;
+        let wait = Duration::from_millis(self.patience(most));
+        self.poll.poll(&mut self.events, Some(wait))?;
         let now = Instant::now(clock)?;
-        if sort_out(&self.events, &mut self.connections, now) && self.accepting == Accepting::Idle {
+        let waited_for = sort_out(&self.events, &mut self.connections, now);
+        if waited_for && self.accepting == Accepting::Idle {
             self.accepting = Accepting::Going;
         }
-        if now.duration_since(self.looked).as_millis() >= TICK as u128 {
-            self.looked = now;
+        if now.duration_since(self.swept) >= Duration::from_millis(TICK) {
+            self.swept = now;
             self.connections.sweep(now);
             look_again(&mut self.connections, now);
         }
+        self.looked = now;
         self.taken = 0;
         self.accept_all(now)
     }
@@ -275,7 +298,7 @@ impl Door {
             return Ok(());
         }
         for _ in 0..MOST_AT_ONCE {
-            if self.connections.is_full() && !self.connections.make_room(now) {
+            if self.connections.is_full() && !self.make_room(now) {
                 self.accepting = Accepting::Full;
                 return Ok(());
             }
@@ -286,13 +309,45 @@ impl Door {
                     return Ok(());
                 }
                 Err(e) => {
-                    if !is_want_of_descriptor(&e) || !self.connections.make_room(now) {
+                    if !is_want_of_descriptor(&e) || !self.make_room(now) {
                         return self.bear(e, now);
                     }
                 }
             }
         }
         Ok(())
+    }
+
+    /// Makes room for one more connection, where one that is open may go. False where none may.
+    fn make_room(&mut self, now: Instant) -> bool {
+        let young = self.young(now);
+        for _ in 0..MOST {
+            let Some(key) = self.connections.first_to_go(young) else {
+                return false;
+            };
+            if self.connections.drop_silent(key, now) {
+                return true;
+            }
+        }
+        false
+    }
+
+    /// Connections that have waited since this time may go for others: once there has been want of room for a
+    /// while, all of them, and before only those that are older than that.
+    fn young(&mut self, now: Instant) -> Instant {
+        let since = match self.pressed {
+            Some((since, last)) if now.duration_since(last).as_secs() < CALM => since,
+            _ => now,
+        };
+        self.pressed = Some((since, now));
+        let grace = Duration::from_millis(GRACE);
+        if now.duration_since(since) >= grace {
+            return now;
+        }
+        match now.checked_sub(grace) {
+            Some(before) => before,
+            None => now,
+        }
     }
 
     /// Accepts a connection. False where none waits.

@@ -107,13 +107,13 @@ fn a_reply_that_is_not_taken_holds_up_nobody(rt: HostRuntime) -> Result<(), Fail
 fn a_connection_has_its_time(rt: HostRuntime) -> Result<(), Fail> {
     let clock = Hasty {
         seconds: Cell::new(0),
-        step: 20,
+        step: 31,
     };
     let mut links = listen(&rt, rt.alloc(), "127.0.0.1:0", clock)?;
     let mut silent = peer_of(&rt, &links)?;
     for _ in 0..4 {
         if let Some(door) = &mut links.door {
-            door.turn(&links.clock, 100)?;
+            door.turn(&links.clock, 10)?;
         }
     }
     let mut buf = [0; 8];
