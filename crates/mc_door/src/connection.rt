@@ -72,6 +72,8 @@ pub(crate) struct Connection {
 }
 
 impl Connection {
+    ghost use Rattle.std.specs.Prelude.{◌≡◌, ◌⊎◌, false, IsNone};
+
     pub(crate) fn new(alloc: Global, stream: TcpStream, now: Instant) -> Connection {
         Connection {
             stream,
@@ -118,7 +120,9 @@ impl Connection {
     }
 
     /// Whether its time is over.
-    pub(crate) fn is_overdue(&self, now: Instant) -> bool {
+    pub(crate) fn is_overdue(&self, now: Instant) -> bool
+        ensures stays { (self.now.stage ≡ Stage.Ready) ⊎ (self.now.stage ≡ Stage.Standing) → result ≡ false }
+    {
         let age = self.age(now).as_secs();
         match self.stage {
             Stage::Waiting => age >= WAITING,
@@ -130,7 +134,9 @@ impl Connection {
     /// Of those that may make room for another, the one with the least of these goes first: one whose peer
     /// has all, one that waits since before `young`, one whose peer does not take what it was sent, each time
     /// the oldest. None where it may not go.
-    pub(crate) fn rank(&self, young: Instant) -> Option<(u8, Instant)> {
+    pub(crate) fn rank(&self, young: Instant) -> Option<(u8, Instant)>
+        ensures stays { (self.now.stage ≡ Stage.Ready) ⊎ (self.now.stage ≡ Stage.Standing) → IsNone result }
+    {
         match self.stage {
             Stage::Leaving if self.has_kept() => Some((2, self.since)),
             Stage::Leaving => Some((0, self.since)),

@@ -26,80 +26,127 @@ impl Clock for Hasty {
     }
 }
 
-/// A connection to a listener, which does not wait forever for it.
-fn peer_of<C>(rt: &HostRuntime, links: &Listener<C>) -> io::Result<TcpStream> {
+/// A connection to a listener, on which these bytes were sent. It does not wait forever.
+fn peer_of<C>(rt: &HostRuntime, links: &Listener<C>, bytes: &[u8]) -> io::Result<TcpStream> {
     let Some(address) = links.address() else {
         return Err(ErrorKind::NotConnected.into());
     };
-    let peer = TcpStream::connect(rt, address)?;
+    let mut peer = TcpStream::connect(rt, address)?;
     peer.set_read_timeout(Some(Duration::from_secs(10)))?;
+    peer.write_all(bytes)?;
     Ok(peer)
 }
 
-#[test]
-fn a_silent_connection_holds_up_nobody(rt: HostRuntime) -> Result<(), Fail> {
-    let mut links = listen(&rt, rt.alloc(), "127.0.0.1:0", &rt)?;
-    let mut silent = peer_of(&rt, &links)?;
-    let mut slow = peer_of(&rt, &links)?;
-    slow.write_all(&HEAD[..20])?;
-    let mut peer = peer_of(&rt, &links)?;
-    peer.write_all(HEAD)?;
-    let mut buf = [0; 64];
-    assert!(rt; links.next()?);
-    assert_eq!(rt; links.recv(&mut buf[..20])?, 20);
-    assert_eq!(rt; links.recv(&mut buf)?, HEAD.len() - 20);
-    assert_eq!(rt; links.send(b"first")?, 5);
+/// How many bytes the peer reads.
+fn read(peer: &mut TcpStream) -> io::Result<usize> {
+    peer.read(&mut [0; 64])
+}
+
+/// How many bytes the standing link receives.
+fn heard<C: Clock>(links: &mut Listener<C>) -> io::Result<usize> {
+    links.recv(&mut [0; 64])
+}
+
+/// Takes the next link, receives, and replies five bytes: how many were received.
+fn answer<C: Clock>(links: &mut Listener<C>) -> io::Result<usize> {
+    let _more = links.next()?;
+    let n = heard(links)?;
+    let _sent = links.send(b"reply")?;
     links.end();
-    assert_eq!(rt; peer.read(&mut buf)?, 5);
-    assert_eq!(rt; peer.read(&mut buf)?, 0);
+    Ok(n)
+}
+
+#[test]
+fn the_first_whole_head_is_the_first_served(rt: HostRuntime) -> Result<(), Fail> {
+    let mut links = listen(&rt, rt.alloc(), "127.0.0.1:0", &rt)?;
+    let _silent = peer_of(&rt, &links, b"")?;
+    let mut slow = peer_of(&rt, &links, &HEAD[..20])?;
+    let mut peer = peer_of(&rt, &links, HEAD)?;
+    assert_eq!(rt; answer(&mut links)?, HEAD.len());
+    assert_eq!(rt; read(&mut peer)?, 5);
     slow.write_all(&HEAD[20..])?;
+    assert_eq!(rt; answer(&mut links)?, HEAD.len());
+    assert_eq!(rt; read(&mut slow)?, 5);
+    Ok(())
+}
+
+#[test]
+fn an_idle_link_gives_way_by_a_fault(rt: HostRuntime) -> Result<(), Fail> {
+    let mut links = listen(&rt, rt.alloc(), "127.0.0.1:0", &rt)?;
+    let mut idle = peer_of(&rt, &links, HEAD)?;
     assert!(rt; links.next()?);
-    assert_eq!(rt; links.recv(&mut buf)?, HEAD.len());
-    silent.write_all(HEAD)?;
-    assert!(rt; links.recv(&mut buf).is_err());
+    assert_eq!(rt; heard(&mut links)?, HEAD.len());
+    let _other = peer_of(&rt, &links, HEAD)?;
+    assert!(rt; heard(&mut links).is_err());
+    assert_eq!(rt; answer(&mut links)?, HEAD.len());
+    assert_eq!(rt; read(&mut idle)?, 0);
+    Ok(())
+}
+
+#[test]
+fn the_last_reply_arrives(rt: HostRuntime) -> Result<(), Fail> {
+    let mut links = listen(&rt, rt.alloc(), "127.0.0.1:0", &rt)?;
+    let mut peer = peer_of(&rt, &links, HEAD)?;
+    peer.shutdown(Shutdown::Write)?;
     assert!(rt; links.next()?);
-    assert_eq!(rt; slow.read(&mut buf)?, 0);
-    assert_eq!(rt; links.recv(&mut buf)?, HEAD.len());
-    silent.shutdown(Shutdown::Write)?;
-    assert_eq!(rt; links.recv(&mut buf)?, 0);
+    assert_eq!(rt; heard(&mut links)?, HEAD.len());
+    assert_eq!(rt; heard(&mut links)?, 0);
     assert_eq!(rt; links.send(b"last")?, 4);
     links.finish();
-    assert_eq!(rt; silent.read(&mut buf)?, 4);
+    assert_eq!(rt; read(&mut peer)?, 4);
     assert!(rt; links.next().is_err());
     Ok(())
+}
+
+/// Sends pages until no more is taken: how many bytes were.
+fn send_much<C: Clock>(links: &mut Listener<C>, page: &[u8]) -> usize {
+    let mut sent = 0usize;
+    for _ in 0..10_000 {
+        match links.send(page) {
+            Ok(n) => sent = sent.saturating_add(n),
+            Err(_) => break,
+        }
+    }
+    sent
+}
+
+/// Reads so many bytes, or up to the end, while the door goes on: how many came.
+fn read_much<C: Clock>(
+    links: &mut Listener<C>,
+    peer: &mut TcpStream,
+    most: usize,
+) -> io::Result<usize> {
+    let mut got = 0usize;
+    for _ in 0..1_000_000 {
+        let n = peer.read(&mut [0; 4096])?;
+        got = got.saturating_add(n);
+        if n == 0 || got >= most {
+            break;
+        }
+        turn(links, 0)?;
+    }
+    Ok(got)
+}
+
+/// Has the door look once for what came, for so many milliseconds at most.
+fn turn<C: Clock>(links: &mut Listener<C>, most: u64) -> io::Result<()> {
+    match &mut links.door {
+        Some(door) => door.turn(&links.clock, most),
+        None => Ok(()),
+    }
 }
 
 #[test]
 fn a_reply_that_is_not_taken_holds_up_nobody(rt: HostRuntime) -> Result<(), Fail> {
     let mut links = listen(&rt, rt.alloc(), "127.0.0.1:0", &rt)?;
-    let mut idle = peer_of(&rt, &links)?;
-    idle.write_all(HEAD)?;
+    let mut idle = peer_of(&rt, &links, HEAD)?;
     assert!(rt; links.next()?);
-    let mut other = peer_of(&rt, &links)?;
-    other.write_all(HEAD)?;
+    let _other = peer_of(&rt, &links, HEAD)?;
     let page = Vec::from_elem(rt.alloc(), 7u8, 65_536)?;
-    let mut sent = 0usize;
-    for _ in 0..10_000 {
-        match links.send(&page) {
-            Ok(n) => sent = sent.saturating_add(n),
-            Err(_) => break,
-        }
-    }
+    let sent = send_much(&mut links, &page);
     assert!(rt; links.next()?);
-    let mut buf = [0; 4096];
-    assert_eq!(rt; links.recv(&mut buf)?, HEAD.len());
-    let mut got = 0usize;
-    for _ in 0..1_000_000 {
-        let n = idle.read(&mut buf)?;
-        got = got.saturating_add(n);
-        if n == 0 || got == sent {
-            break;
-        }
-        if let Some(door) = &mut links.door {
-            door.turn(&rt, 0)?;
-        }
-    }
-    assert_eq!(rt; got, sent);
+    assert_eq!(rt; heard(&mut links)?, HEAD.len());
+    assert_eq!(rt; read_much(&mut links, &mut idle, sent)?, sent);
     Ok(())
 }
 
@@ -110,20 +157,15 @@ fn a_connection_has_its_time(rt: HostRuntime) -> Result<(), Fail> {
         step: 31,
     };
     let mut links = listen(&rt, rt.alloc(), "127.0.0.1:0", clock)?;
-    let mut silent = peer_of(&rt, &links)?;
+    let mut silent = peer_of(&rt, &links, b"")?;
     for _ in 0..4 {
-        if let Some(door) = &mut links.door {
-            door.turn(&links.clock, 10)?;
-        }
+        turn(&mut links, 10)?;
     }
-    let mut buf = [0; 8];
-    assert_eq!(rt; silent.read(&mut buf)?, 0);
-    let mut peer = peer_of(&rt, &links)?;
-    peer.write_all(HEAD)?;
+    assert_eq!(rt; read(&mut silent)?, 0);
+    let _peer = peer_of(&rt, &links, HEAD)?;
     assert!(rt; links.next()?);
-    assert!(rt; links.recv(&mut buf).is_ok());
-    assert_eq!(rt; links.recv(&mut [0; 64])?, HEAD.len() - 8);
-    assert!(rt; links.recv(&mut buf).is_err());
+    assert_eq!(rt; heard(&mut links)?, HEAD.len());
+    assert!(rt; heard(&mut links).is_err());
     Ok(())
 }
 
