@@ -2,7 +2,7 @@
 """How many payments and repeats a second a shop's program answers over loopback. Before each payment a plain
 loop writes and syncs an entry of the same size in a file beside the book, so that both meet the same load of
 the machine. The argument is how many payments there are of each kind. Rates of repeats are told with how many
-replies are kept."""
+replies are kept. Where many heads are sent in one write the client costs least, and the rate is the program's."""
 import os
 import statistics
 import sys
@@ -12,6 +12,7 @@ import millicent
 from shop import TARGET, Link, Shop
 
 LINK_ITEMS = 900
+IN_ONE_WRITE = 30
 
 
 class Beside:
@@ -34,10 +35,11 @@ class Times:
     def __init__(self):
         self.each = {}
 
-    def take(self, what, work):
+    def take(self, what, work, count=1):
+        """Does this work, of so many requests, which take the same time each."""
         start = time.perf_counter()
         work()
-        self.each.setdefault(what, []).append(time.perf_counter() - start)
+        self.each.setdefault(what, []).extend([(time.perf_counter() - start) / count] * count)
 
     def tell(self, what, beside=None):
         each = self.each[what]
@@ -58,6 +60,23 @@ def fresh(shop, count):
 def pay_alone(shop, asked):
     with Link(shop.address) as link:
         took(link.ask(asked))
+
+
+def ask_all(link, requests):
+    link.send(b"".join(requests))
+    for _ in requests:
+        took(link.receive())
+
+
+def in_one_write(shop, count, times):
+    """Payments and then repeats on one connection, of which some are always under way."""
+    requests = fresh(shop, count)
+    for what in ("payments, 30 heads in one write", "repeats, 30 heads in one write"):
+        for first in range(0, count, LINK_ITEMS):
+            with Link(shop.address) as link:
+                for at in range(first, min(first + LINK_ITEMS, count), IN_ONE_WRITE):
+                    part = requests[at:min(at + IN_ONE_WRITE, first + LINK_ITEMS)]
+                    times.take(what, lambda: ask_all(link, part), len(part))
 
 
 def entry_size(shop):
@@ -87,12 +106,15 @@ def main():
         for asked in fresh(shop, count):
             times.take("loop beside a connection each", beside.add)
             times.take("payments, a connection each", lambda: pay_alone(shop, asked))
+        for asked in requests:
+            times.take("repeats, a connection each", lambda: pay_alone(shop, asked))
+        in_one_write(shop, count, times)
     print("%d of each kind, entries of %d bytes" % (count, size))
     for what, beside in (("payments on one connection", "loop beside one connection"),
                          ("payments, a connection each", "loop beside a connection each")):
         times.tell(beside)
         times.tell(what, beside)
-    for what in (w for w in times.each if w.startswith("repeats")):
+    for what in (w for w in times.each if w.startswith("repeats") or "heads" in w):
         times.tell(what)
 
 

@@ -6,14 +6,12 @@ ghost use Rattle.std.specs.Prelude.{◌≡◌};
 
 mod book;
 mod faults;
-mod listener;
 mod site;
-mod source;
 mod streams;
 
 use book::Book;
-use listener::listen;
 use mc_base::{List, NoMemory};
+use mc_door::listen;
 use mc_top::{Places, places, run};
 use site::Site;
 use std::alloc::{AllocError, Global};
@@ -77,10 +75,14 @@ fn start(rt: &HostRuntime, words: &[String], places: &Places) -> u8 {
     };
     match &places.listen {
         Some(address) => {
-            let source = listen(rt, text(address.slice()), rt);
+            let Ok(source) = listen(rt, rt.alloc(), text(address.slice()), rt) else {
+                return end(rt, b"no memory\n", 5);
+            };
             tell_port(rt, text(address.slice()), source.address());
             let out = Site::new(book, source, rt.stdout(), rt);
-            run(rt.alloc(), words, out, others).status
+            let ran = run(rt.alloc(), words, out, others);
+            let _book = ran.out.finish();
+            ran.status
         }
         None => {
             let source = Streams::new(rt.stdin(), rt.stdout());

@@ -3,8 +3,8 @@ ghost use Rattle.millicent.specs.Counts.{site_counts};
 
 use crate::book::Book;
 use crate::faults::counted;
-use crate::source::Source;
 use mc_base::Moment;
+use mc_door::Source;
 use mc_outside::{Disk, DiskFault, Link, LinkFault, Outside};
 use std::fs::OpenFile;
 use std::io::{ErrorKind, Write};
@@ -46,6 +46,18 @@ impl<F, S: Source, W: Write, C: Clock> Site<F, S, W, C> {
     /// The book of it.
     pub fn book(&self) -> &Book<F> {
         &self.book
+    }
+
+    /// Sees for a bounded time to what is still under way to peers, and gives back the book.
+    pub fn finish(mut self) -> Book<F>
+    where
+        S: Drop,
+        W: Drop,
+        C: Drop,
+        ensures { result ≡ self.book }
+    {
+        self.source.finish();
+        self.book
     }
 }
 
@@ -166,11 +178,11 @@ impl<F: OpenFile + FileExt, S: Source, W: Write, C: Clock> Outside for Site<F, S
 #[cfg(test)]
 mod tests {
     use super::*;
-    use crate::listener::{Listener, listen};
     use crate::streams::Streams;
+    use mc_door::listen;
     use std::fs::File;
     use std::io::Read;
-    use std::net::{Shutdown, TcpListener, TcpStream};
+    use std::net::{Shutdown, TcpStream};
     use std::test::Fail;
 
     #[test]
@@ -197,39 +209,41 @@ mod tests {
 
     #[test]
     fn links_over_connections(rt: HostRuntime) -> Result<(), Fail> {
-        let listener = TcpListener::bind(&rt, "127.0.0.1:0")?;
-        let address = listener.local_addr()?;
         let book: Book<File> = Book::none();
-        let source = Listener::over(Some(listener), &rt);
+        let source = listen(&rt, rt.alloc(), "127.0.0.1:0", &rt)?;
+        let Some(address) = source.address() else {
+            return Err(ErrorKind::NotConnected.into());
+        };
         let mut site = Site::new(book, source, Vec::new(rt.alloc()), &rt);
         let mut peer = TcpStream::connect(&rt, address)?;
-        peer.write_all(b"in")?;
+        peer.write_all(b"in\n\n")?;
         assert_eq!(rt; site.next_link(), Ok(true));
         let mut buf = [0; 8];
-        assert_eq!(rt; site.recv(&mut buf), Ok(2));
-        assert_eq!(rt; &buf[..2], b"in".as_slice());
+        assert_eq!(rt; site.recv(&mut buf), Ok(4));
+        assert_eq!(rt; &buf[..4], b"in\n\n".as_slice());
         assert_eq!(rt; site.send(b"out"), Ok(3));
         peer.shutdown(Shutdown::Write)?;
         assert_eq!(rt; site.recv(&mut buf), Ok(0));
         let mut other = TcpStream::connect(&rt, address)?;
-        other.write_all(b"more than is read")?;
+        other.write_all(b"more than is read\n\n")?;
         assert_eq!(rt; site.next_link(), Ok(true));
         assert_eq!(rt; peer.read(&mut buf)?, 3);
         assert_eq!(rt; peer.read(&mut buf)?, 0);
         assert_eq!(rt; site.recv(&mut buf[..4]), Ok(4));
         assert_eq!(rt; site.send(b"last"), Ok(4));
         site.end_link();
+        assert_eq!(rt; site.link_faults, 0);
+        let _book = site.finish();
         assert_eq!(rt; other.read(&mut buf)?, 4);
         assert_eq!(rt; &buf[..4], b"last".as_slice());
         assert_eq!(rt; other.read(&mut buf)?, 0);
-        assert_eq!(rt; site.link_faults, 0);
         Ok(())
     }
 
     #[test]
     fn no_listener_no_links(rt: HostRuntime) -> Result<(), Fail> {
         let book: Book<File> = Book::none();
-        let source = listen(&rt, "no address", &rt);
+        let source = listen(&rt, rt.alloc(), "no address", &rt)?;
         let mut site = Site::new(book, source, Vec::new(rt.alloc()), &rt);
         assert_eq!(rt; site.next_link(), Err(LinkFault));
         assert_eq!(rt; site.next_link(), Err(LinkFault));

@@ -1,4 +1,4 @@
-use crate::source::Source;
+use mc_door::Source;
 use std::io;
 use std::io::{Read, Write};
 
@@ -36,4 +36,6 @@ impl<R: Read, W: Write> Source for Streams<R, W> {
     }
 
     fn end(&mut self) {}
+
+    fn finish(&mut self) {}
 }

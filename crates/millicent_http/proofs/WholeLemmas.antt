@@ -1,11 +1,11 @@
 -- The first item of a whole list of bytes.
-use Rattle.std.proofs.Common.{◌≡◌, ℕ, ◌≤◌, ◌<◌, true, List, length, take, drop, min, refl, sym, ◌∙◌, ap, subst, arith, inl, inr}
+use Rattle.std.proofs.Common.{◌≡◌, ◌↔◌, ℕ, ◌≤◌, ◌<◌, true, false, List, length, take, drop, min, refl, sym, ◌∙◌, ap, subst, arith, inl, inr}
 use Rattle.std.specs.Prelude.{slice_range}
 use Rattle.std.proofs.Math.Nat.{min_comm}
 use Rattle.std.proofs.lemmas.Bool.{cases_lt, true≢false}
 use Rattle.std.proofs.lemmas.List.{take_min, length-take, take_all}
 use Rattle.mc_records.specs.declared.refusal.Refusal.TheVariants.{HeadTooLarge}
-use Rattle.millicent_http.specs.HeadEnds.{line_ends, ends_at, HasNoEnd, IsFirstEnd}
+use Rattle.millicent_http.specs.HeadEnds.{line_ends, HasNoEnd, IsFirstEnd}
 use Rattle.millicent_http.specs.Items.{Item, refused, max_head, ReadsItem, NextItem, EndsNoItem}
 use Rattle.millicent_http.proofs.EndLemmas.{no_end_front}
 use Rattle.millicent_http.proofs.ItemLemmas.{max_head_is}
@@ -52,3 +52,11 @@ whole_large bytes window rest is none long after =
       is = refl;
       after = after ∙ ap (λ (n : ℕ). drop n bytes) (sym max_head_is);
     })
+
+-- as many bytes as a head may have end an item
+pub long_item : (bytes : List ℕ) → 8192 ≤ length bytes → (true ≡ false) ↔ EndsNoItem bytes
+long_item bytes long = ((λ e. absurd (true≢false e)), (λ h. absurd (omega (arith, h.short, max_head_is, long))))
+
+-- fewer bytes without an empty line end none
+pub no_item : (bytes : List ℕ) → length bytes < 8192 → HasNoEnd bytes (length bytes) → (false ≡ false) ↔ EndsNoItem bytes
+no_item bytes short none = ((λ _. record { short = omega (arith, max_head_is, short); none = none }), (λ _. refl))

@@ -16,9 +16,9 @@ mod whole;
 
 pub use item::{After, HeadOut, HeadRefusal, ItemRef};
 pub use law::{a_refusal_has_a_status, a_request_asks_a_target, one_reading};
-pub use reader::HeadReader;
+pub use reader::{HeadReader, MAX_HEAD};
 pub use reply::ReplyHead;
 pub use reply_head::write_reply_head;
 pub use reply_text::write_reply_text;
 pub use send::send_all;
-pub use whole::next_item;
+pub use whole::{ends_item, next_item};

@@ -7,7 +7,7 @@ use std::alloc::Global;
 use std::marker::Model;
 
 /// The greatest head, with the line ends before it.
-pub(crate) const MAX_HEAD: usize = 8192;
+pub const MAX_HEAD: usize = 8192;
 
 /// The most items that one link may have.
 const MAX_ITEMS: u16 = 1000;

@@ -1,4 +1,4 @@
-ghost use Rattle.std.specs.Prelude.{IfSome, IfNone};
+ghost use Rattle.std.specs.Prelude.{◌≡◌, ◌↔◌, false, IfSome, IfNone};
 ghost use Rattle.millicent_http.specs.Items.{NextItem, EndsNoItem};
 ghost use Rattle.millicent_http.specs.Takes.{item_of};
 
@@ -23,5 +23,20 @@ pub fn next_item(bytes: &[u8]) -> Option<(ItemRef<'_>, &[u8])>
             ItemRef::Refused(HeadRefusal::HeadTooLarge, true),
             &bytes[MAX_HEAD..],
         )),
+    }
+}
+
+/// Whether the bytes end an item: with them alone [`HeadReader`](crate::HeadReader) gives one, and waits for
+/// no more. Reads no head.
+pub fn ends_item(bytes: &[u8]) -> bool
+    ensures { (result ≡ false) ↔ EndsNoItem bytes.now }
+{
+    if bytes.len() >= MAX_HEAD {
+        return true;
+    }
+    let skip = skip_line_ends(bytes, 0);
+    match find_end(bytes, skip, skip) {
+        Some(_) => true,
+        None => false,
     }
 }

@@ -1,6 +1,4 @@
-use Rattle.std.proofs.Common.{◌≡◌, ◌≤◌, ◌∙◌, ℕ, List, length, take, drop, sym, ap, arith}
-use Rattle.millicent_http.specs.HeadEnds.{line_ends}
-use Rattle.millicent_http.specs.Items.{max_head}
+use Rattle.std.proofs.Common.{take, arith}
 use Rattle.millicent_http.proofs.EndLemmas.{line_ends-nil, no_end_front, tail_range}
 use Rattle.millicent_http.proofs.WholeLemmas.{window_is, whole_item, whole_none, whole_large}
 use Rattle.millicent_http.proofs.whole.next_item.Goals as goal

@@ -1,0 +1,108 @@
+use crate::door::Door;
+use crate::source::Source;
+use mio::net::TcpListener;
+use std::alloc::{AllocError, Global};
+use std::io::ErrorKind;
+use std::net::{Net, SocketAddr, ToSocketAddrs};
+use std::os::fd::OwnedFd;
+use std::rt::Clock;
+use std::{io, net};
+
+#[cfg(test)]
+mod tests;
+
+/// Links over the connections that are made to an address. Up to 1,000 are open at once, and none of them holds
+/// up another: one waits by itself until its bytes end an item, or its peer has ended it, and as the next link
+/// comes the one that was the first to be so. There is no last link. With no socket no link can be taken.
+///
+/// A link that is kept open is ended by an error of `recv` where it is silent and another connection is ready,
+/// after two seconds in which others are ready, or after 30 seconds of silence; a server may close a connection
+/// at any time (RFC 9112, 9.5).
+#[derive(Drop)]
+pub struct Listener<C> {
+    door: Option<Door>,
+    clock: C,
+}
+
+/// Listens at this address, an IP address or a host's name and a port, where it can be bound. Takes all memory
+/// that connections need, but for the bytes of replies that peers don't take: at most 69,632 for each of 64.
+pub fn listen<R: Net, C: Clock + Drop>(
+    rt: &R,
+    alloc: Global,
+    address: &str,
+    clock: C,
+) -> Result<Listener<C>, AllocError> {
+    let door = match bind(rt, address) {
+        Ok(socket) => Door::open(rt, alloc, socket, &clock)?,
+        Err(_) => None,
+    };
+    Ok(Listener { door, clock })
+}
+
+/// A socket at the first of the addresses that can be bound.
+fn bind<R: Net>(rt: &R, address: &str) -> io::Result<TcpListener> {
+    let mut last = ErrorKind::NotConnected.into();
+    for address in address.to_socket_addrs(rt)? {
+        match TcpListener::bind(rt, address) {
+            Ok(socket) => return Ok(at_once(socket)),
+            Err(e) => last = e,
+        }
+    }
+    Err(last)
+}
+
+/// What is accepted at the socket then sends its bytes at once, where the system lets it: Linux gives a
+/// connection that option (`TCP_NODELAY`) of its listener.
+fn at_once(socket: TcpListener) -> TcpListener {
+    let stream = net::TcpStream::from(OwnedFd::from(socket));
+    let _ = stream.set_nodelay(true);
+    TcpListener::from(OwnedFd::from(stream))
+}
+
+impl<C> Listener<C> {
+    /// The address that it listens at, where it does.
+    pub fn address(&self) -> Option<SocketAddr> {
+        match &self.door {
+            Some(door) => door.address().ok(),
+            None => None,
+        }
+    }
+}
+
+impl<C: Clock> Source for Listener<C> {
+    fn next(&mut self) -> io::Result<bool> {
+        match &mut self.door {
+            Some(door) => {
+                door.next(&self.clock)?;
+                Ok(true)
+            }
+            None => Err(ErrorKind::NotConnected.into()),
+        }
+    }
+
+    fn recv(&mut self, buf: &mut [u8]) -> io::Result<usize> {
+        match &mut self.door {
+            Some(door) => door.recv(&self.clock, buf),
+            None => Err(ErrorKind::NotConnected.into()),
+        }
+    }
+
+    fn send(&mut self, bytes: &[u8]) -> io::Result<usize> {
+        match &mut self.door {
+            Some(door) => door.send(&self.clock, bytes),
+            None => Err(ErrorKind::NotConnected.into()),
+        }
+    }
+
+    fn end(&mut self) {
+        if let Some(door) = &mut self.door {
+            door.end(&self.clock);
+        }
+    }
+
+    fn finish(&mut self) {
+        if let Some(door) = self.door.take() {
+            door.finish(&self.clock);
+        }
+    }
+}

@@ -1,0 +1,185 @@
+use super::*;
+use std::cell::Cell;
+use std::io::{Read, Write};
+use std::net::{Shutdown, TcpStream};
+use std::test::Fail;
+use std::time::Duration;
+
+const HEAD: &[u8] = b"GET /news/1 HTTP/1.1\r\nHost: news.example\r\n\r\n";
+
+/// A clock that goes on by so many seconds at each reading.
+#[derive(Drop)]
+struct Hasty {
+    seconds: Cell<u64>,
+    step: u64,
+}
+
+impl Clock for Hasty {
+    fn monotonic(&self) -> io::Result<Duration> {
+        let seconds = self.seconds.get();
+        self.seconds.set(seconds.saturating_add(self.step));
+        Ok(Duration::from_secs(seconds))
+    }
+
+    fn since_1970(&self) -> io::Result<Duration> {
+        self.monotonic()
+    }
+}
+
+/// A connection to a listener, on which these bytes were sent. It does not wait forever.
+fn peer_of<C>(rt: &HostRuntime, links: &Listener<C>, bytes: &[u8]) -> io::Result<TcpStream> {
+    let Some(address) = links.address() else {
+        return Err(ErrorKind::NotConnected.into());
+    };
+    let mut peer = TcpStream::connect(rt, address)?;
+    peer.set_read_timeout(Some(Duration::from_secs(10)))?;
+    peer.write_all(bytes)?;
+    Ok(peer)
+}
+
+/// How many bytes the peer reads.
+fn read(peer: &mut TcpStream) -> io::Result<usize> {
+    peer.read(&mut [0; 64])
+}
+
+/// How many bytes the standing link receives.
+fn heard<C: Clock>(links: &mut Listener<C>) -> io::Result<usize> {
+    links.recv(&mut [0; 64])
+}
+
+/// Takes the next link, receives, and replies five bytes: how many were received.
+fn answer<C: Clock>(links: &mut Listener<C>) -> io::Result<usize> {
+    let _more = links.next()?;
+    let n = heard(links)?;
+    let _sent = links.send(b"reply")?;
+    links.end();
+    Ok(n)
+}
+
+#[test]
+fn the_first_whole_head_is_the_first_served(rt: HostRuntime) -> Result<(), Fail> {
+    let mut links = listen(&rt, rt.alloc(), "127.0.0.1:0", &rt)?;
+    let _silent = peer_of(&rt, &links, b"")?;
+    let mut slow = peer_of(&rt, &links, &HEAD[..20])?;
+    let mut peer = peer_of(&rt, &links, HEAD)?;
+    assert_eq!(rt; answer(&mut links)?, HEAD.len());
+    assert_eq!(rt; read(&mut peer)?, 5);
+    slow.write_all(&HEAD[20..])?;
+    assert_eq!(rt; answer(&mut links)?, HEAD.len());
+    assert_eq!(rt; read(&mut slow)?, 5);
+    Ok(())
+}
+
+#[test]
+fn an_idle_link_gives_way_by_a_fault(rt: HostRuntime) -> Result<(), Fail> {
+    let mut links = listen(&rt, rt.alloc(), "127.0.0.1:0", &rt)?;
+    let mut idle = peer_of(&rt, &links, HEAD)?;
+    assert!(rt; links.next()?);
+    assert_eq!(rt; heard(&mut links)?, HEAD.len());
+    let _other = peer_of(&rt, &links, HEAD)?;
+    assert!(rt; heard(&mut links).is_err());
+    assert_eq!(rt; answer(&mut links)?, HEAD.len());
+    assert_eq!(rt; read(&mut idle)?, 0);
+    Ok(())
+}
+
+#[test]
+fn the_last_reply_arrives(rt: HostRuntime) -> Result<(), Fail> {
+    let mut links = listen(&rt, rt.alloc(), "127.0.0.1:0", &rt)?;
+    let mut peer = peer_of(&rt, &links, HEAD)?;
+    peer.shutdown(Shutdown::Write)?;
+    assert!(rt; links.next()?);
+    assert_eq!(rt; heard(&mut links)?, HEAD.len());
+    assert_eq!(rt; heard(&mut links)?, 0);
+    assert_eq!(rt; links.send(b"last")?, 4);
+    links.finish();
+    assert_eq!(rt; read(&mut peer)?, 4);
+    assert!(rt; links.next().is_err());
+    Ok(())
+}
+
+/// Sends pages until no more is taken: how many bytes were.
+fn send_much<C: Clock>(links: &mut Listener<C>, page: &[u8]) -> usize {
+    let mut sent = 0usize;
+    for _ in 0..10_000 {
+        match links.send(page) {
+            Ok(n) => sent = sent.saturating_add(n),
+            Err(_) => break,
+        }
+    }
+    sent
+}
+
+/// Reads so many bytes, or up to the end, while the door goes on: how many came.
+fn read_much<C: Clock>(
+    links: &mut Listener<C>,
+    peer: &mut TcpStream,
+    most: usize,
+) -> io::Result<usize> {
+    let mut got = 0usize;
+    for _ in 0..1_000_000 {
+        let n = peer.read(&mut [0; 4096])?;
+        got = got.saturating_add(n);
+        if n == 0 || got >= most {
+            break;
+        }
+        turn(links, 0)?;
+    }
+    Ok(got)
+}
+
+/// Has the door look once for what came, for so many milliseconds at most.
+fn turn<C: Clock>(links: &mut Listener<C>, most: u64) -> io::Result<()> {
+    match &mut links.door {
+        Some(door) => door.turn(&links.clock, most),
+        None => Ok(()),
+    }
+}
+
+#[test]
+fn a_reply_that_is_not_taken_holds_up_nobody(rt: HostRuntime) -> Result<(), Fail> {
+    let mut links = listen(&rt, rt.alloc(), "127.0.0.1:0", &rt)?;
+    let mut idle = peer_of(&rt, &links, HEAD)?;
+    assert!(rt; links.next()?);
+    let _other = peer_of(&rt, &links, HEAD)?;
+    let page = Vec::from_elem(rt.alloc(), 7u8, 65_536)?;
+    let sent = send_much(&mut links, &page);
+    assert!(rt; links.next()?);
+    assert_eq!(rt; heard(&mut links)?, HEAD.len());
+    assert_eq!(rt; read_much(&mut links, &mut idle, sent)?, sent);
+    Ok(())
+}
+
+#[test]
+fn a_connection_has_its_time(rt: HostRuntime) -> Result<(), Fail> {
+    let clock = Hasty {
+        seconds: Cell::new(0),
+        step: 31,
+    };
+    let mut links = listen(&rt, rt.alloc(), "127.0.0.1:0", clock)?;
+    let mut silent = peer_of(&rt, &links, b"")?;
+    for _ in 0..4 {
+        turn(&mut links, 10)?;
+    }
+    assert_eq!(rt; read(&mut silent)?, 0);
+    let _peer = peer_of(&rt, &links, HEAD)?;
+    assert!(rt; links.next()?);
+    assert_eq!(rt; heard(&mut links)?, HEAD.len());
+    assert!(rt; heard(&mut links).is_err());
+    Ok(())
+}
+
+#[test]
+fn bytes_leave_at_once(rt: HostRuntime) -> Result<(), Fail> {
+    let socket = bind(&rt, "127.0.0.1:0")?;
+    let _peer = TcpStream::connect(&rt, socket.local_addr()?)?;
+    let mut taken = socket.accept();
+    for _ in 0..1000 {
+        if taken.is_ok() {
+            break;
+        }
+        taken = socket.accept();
+    }
+    assert!(rt; taken?.0.nodelay()?);
+    Ok(())
+}
