@@ -12,8 +12,9 @@ import struct
 import sys
 import time
 
+import chromium
 import millicent
-from shop import TARGET, Link, Shop
+from shop import CONTENTS, TARGET, Link, Shop
 
 BIG, BIG_CONTENTS = b"/big", bytes(range(256)) * 256
 WORST = 2.0
@@ -243,6 +244,22 @@ class Tries:
         self.let_go(held)
         return self.told(times) + " on six connections, one after another"
 
+    def chromium(self):
+        """A headless Chromium opens a page that is paid for, twice, and keeps its connections; others pay meanwhile."""
+        if not chromium.PROGRAM:
+            return "there is no chromium here"
+        fields = {"Millicent-Scrip": self.shop.fresh(100)[0].decode()}
+        url = "http://%s:%d%s" % (*self.shop.address, TARGET.decode())
+        with chromium.Chromium() as browser:
+            pages, times = [], []
+            for _ in range(2):
+                start = time.perf_counter()
+                pages.append(browser.open(url, fields))
+                times.append(time.perf_counter() - start)
+                paid = self.pays(20)
+        assert pages == [(200, CONTENTS.decode())] * 2, "the browser got %r" % pages
+        return "%s; %s beside it" % (self.told(times, "pages"), paid)
+
     def restart(self, links):
         """Serves so many links more, once the book is open."""
         self.shop.kill()
@@ -330,7 +347,7 @@ def all_at_once(address, asked):
 
 
 NAMES = ("alone silent_3 silent_1000 silent_10000 few_descriptors drips pieces idle kept half_closed resets no_takers slow_taker "
-         "large_head at_once browser order last").split()
+         "large_head at_once browser chromium order last").split()
 
 
 def main():
