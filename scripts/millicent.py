@@ -60,6 +60,6 @@ def mint_entry(moment, reference, count, value, first):
 
 
 def entries_of(data):
-    """The entries that a book stands for."""
+    """The entries that a book encodes."""
     replay = Replay(Stage(data))
     return [entry for _, entry in iter(replay.next, None)]

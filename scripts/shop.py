@@ -110,7 +110,7 @@ class Shop:
             return f.read()
 
     def enter(self, entry, command, *words, contents=b""):
-        """Has the program do a keeper's command to the book, which is not served then, and answers what it
+        """Has the program do an operator's command to the book, which is not served then, and answers what it
         says. The book then has the entries that were expected: this one, by its moment, behind those before."""
         words = [PROGRAM, "vendor", command, self.book, *words]
         said = subprocess.run(words, check=True, input=contents, stdout=subprocess.PIPE).stdout.decode()

@@ -50,7 +50,7 @@ def do_whole_number(setting, words):
 
 
 def reading(verb, read, show, *kinds):
-    """A verb that reads one field off the front of bytes."""
+    """A verb that reads one field off the beginning of bytes."""
     def act(setting, words):
         *values, text = setting.arguments(words, *kinds, data)
         try:

@@ -442,7 +442,7 @@ def answers():
 
 
 def operators():
-    out = Cases("Orders of a keeper one after another over one book, with repeats, other values under one reference\n"
+    out = Cases("Operations of an operator one after another over one book, with repeats, other values under one reference\n"
                 "and taken issuers; and then the book is served.")
     numbers = Numbers(65536)
     out.let("all", '"x"*65536')

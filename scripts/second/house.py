@@ -1,4 +1,4 @@
-"""A house over a book, or in memory: how it opens, is founded, serves links and enters what a keeper orders."""
+"""A house over a book, or in memory: how it opens, is founded, serves links and enters what an operator orders."""
 from types import SimpleNamespace
 
 from forms import Terms
@@ -45,7 +45,7 @@ class House:
             self.time = max(self.time, self.stage.now())
 
     def enter(self, entry):
-        """Adds the entry of a keeper's order."""
+        """Adds the entry of an operator's operation."""
         full = journal_full(self.history.size, self.limits, entry)
         if full:
             raise Ends.refused(full)
@@ -140,7 +140,7 @@ def unlawful(gate):
 
 
 def free_journal(stage):
-    """The empty journal of a disk that stands for nothing, founded where it has no header."""
+    """The empty journal of a disk that encodes nothing, founded where it has no header."""
     try:
         replay = Replay(stage)
         if replay.next() is None:

@@ -188,7 +188,7 @@ def goods(order, stage):
 
 
 def kept(stage):
-    """The house of a book, opened for its keeper at the reading of the clock."""
+    """The house of a book, opened for its operator at the reading of the clock."""
     house = opened(stage, FULL)
     house.raise_time()
     return house

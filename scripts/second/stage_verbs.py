@@ -137,7 +137,7 @@ def coming(house):
 
 
 def kept_by(setting, verb, time, enter):
-    """The lines of a keeper's call of the house of the book."""
+    """The lines of an operator's call of the house of the book."""
     stage = setting.stage()
     try:
         house = opened(stage, setting.limits)
@@ -245,7 +245,7 @@ def do_places(setting, words):
 
 
 def history_of(setting):
-    """The entries that the book stands for."""
+    """The entries that the book encodes."""
     try:
         replay, entries = Replay(Stage(setting.book)), []
         while read := replay.next():

@@ -20,7 +20,7 @@ pub enum Fault {
     Range,
     /// A value is outside of its range.
     Value,
-    /// The book stands for no history.
+    /// The book encodes no history.
     Book,
     /// The case has no such thing yet: a stage, a link, terms, an issuer, replies.
     Missing,

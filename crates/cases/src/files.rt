@@ -1,6 +1,6 @@
 //! Files of cases, line by line.
 
-use crate::{keeper_verbs, ledger_verbs, program_verbs};
+use crate::{ledger_verbs, operator_verbs, program_verbs};
 use case_lines::{Fault, Lines, State, number, tokens};
 
 /// How far a file was read.
@@ -99,7 +99,7 @@ fn on_houses(
     if let Some(done) = program_verbs::act(state, verb, args, out) {
         return Some(done);
     }
-    if let Some(done) = keeper_verbs::enter(state, verb, args, out) {
+    if let Some(done) = operator_verbs::enter(state, verb, args, out) {
         return Some(done);
     }
     ledger_verbs::ask(state, verb, args, out)

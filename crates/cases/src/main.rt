@@ -5,8 +5,8 @@
 #![tactic(auto)]
 
 mod files;
-mod keeper_verbs;
 mod ledger_verbs;
+mod operator_verbs;
 mod program_verbs;
 
 use case_lines::{Fault, Lines, State};

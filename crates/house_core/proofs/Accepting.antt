@@ -23,16 +23,16 @@ use Rattle.ledger_model.specs.Answer as answers
 use Rattle.ledger_model.specs.Answer.{Answer, answer, answered}
 use Rattle.ledger_model.specs.Houses.{version}
 use Rattle.house_core.specs.declared.bench.Bench.{Bench}
-use Rattle.house_core.specs.declared.verdict.Acceptance.{Acceptance}
-use Rattle.house_core.specs.declared.verdict.Stopped.{Stopped}
-use Rattle.house_core.specs.declared.verdict.Stopped.TheVariants as stops
+use Rattle.house_core.specs.declared.verdict.Authorization.{Authorization}
+use Rattle.house_core.specs.declared.verdict.NotAuthorized.{NotAuthorized}
+use Rattle.house_core.specs.declared.verdict.NotAuthorized.TheVariants as stops
 use Rattle.house_core.specs.declared.verdict.BenchFault.TheVariants as faults
 use Rattle.house_core.specs.Learning.{MayLearn}
 use Rattle.house_core.specs.Trade.{BringsFor}
-use Rattle.house_core.specs.Books.{BooksView, HasChange, GoesOn, IsEntered, IsAsBefore, series_now}
-use Rattle.house_core.specs.Stands.{Stands, has_ended, scrip_request}
+use Rattle.house_core.specs.HouseState.{HouseStateView, HasChange, GoesOn, IsEntered, IsAsBefore, series_now}
+use Rattle.house_core.specs.Representation.{StateRepresents, has_ended, scrip_request}
 use Rattle.house_core.specs.Verdicts.{accept_entry, stop_of, IsReady, RepeatsKept, StopIsOfSite}
-use Rattle.house_core.specs.Bench.{Holds, IsRoomed, Accepts, KeepsReply, FaultIsOfSite, house_time, limits_of, stopped_with}
+use Rattle.house_core.specs.Bench.{Represents, IsRoomed, Accepts, KeepsReply, FaultIsOfSite, house_time, limits_of, stopped_with}
 use Rattle.house_core.proofs.Entered.{stands_entered, takes_follow}
 
 -- ---- refusals and repeats
@@ -49,11 +49,11 @@ pub bad_scrip : (h : History) (t : ℕ) (limits : Limits) (q : Asked) (text : Li
 unfolding answer
 bad_scrip h t limits q text place asked fault = rw (asked, fault) refl
 
-pub refuses : {T : Type 0} (stands : T → History → Type 0) (site : T → ℕ) (b : Bench T) (h : History) (q : Asked) (f : Refusal) → Holds stands site b h
+pub refuses : {T : Type 0} (stands : T → History → Type 0) (site : T → ℕ) (b : Bench T) (h : History) (q : Asked) (f : Refusal) → Represents stands site b h
     → answers.Refused f ≡ answer h (house_time b) (limits_of b) q → Accepts stands site b h (answer h (house_time b) (limits_of b) q) (Err (faults.Refused f))
 refuses stands site b h q f st e = subst (λ (a : Answer). Accepts stands site b h a (Err (faults.Refused f))) e (refl, st)
 
-pub makes_none : {T : Type 0} (stands : T → History → Type 0) (site : T → ℕ) (b : Bench T) (h : History) (q : Asked) (s : Stopped) → Holds stands site b h
+pub makes_none : {T : Type 0} (stands : T → History → Type 0) (site : T → ℕ) (b : Bench T) (h : History) (q : Asked) (s : NotAuthorized) → Represents stands site b h
     → answered (Err (stop_of s)) ≡ answer h (house_time b) (limits_of b) q → Accepts stands site b h (answer h (house_time b) (limits_of b) q) (stopped_with s)
 makes_none stands site b h q (stops.Refused f) st e = subst (λ (a : Answer). Accepts stands site b h a (Err (faults.Refused f))) e (refl, st)
 makes_none stands site b h q (stops.Again n) st e = subst (λ (a : Answer). Accepts stands site b h a (Ok n)) e (refl, st)
@@ -89,17 +89,17 @@ last_number rs r n is =
     let one : list_any (λ (x : KeptReply). x.entry.number == n) (r ∷ []) ≡ true = rw (eq-eqb r.entry.number n is) refl in
     list_any-append (λ (x : KeptReply). x.entry.number == n) rs (r ∷ []) ∙ or_last (has_number rs n) _ one
 
-pub stopped_kept : {T : Type 0} (b : Bench T) (s : Stopped) → RepeatsKept b.books s → IfOk (stopped_with s) (KeepsReply b)
+pub stopped_kept : {T : Type 0} (b : Bench T) (s : NotAuthorized) → RepeatsKept b.state s → IfOk (stopped_with s) (KeepsReply b)
 stopped_kept b (stops.Refused f) is = tt
 stopped_kept b (stops.Again n) is = is
 
-pub stopped_site : (s : Stopped) → StopIsOfSite s → IfErr (stopped_with s) FaultIsOfSite
+pub stopped_site : (s : NotAuthorized) → StopIsOfSite s → IfErr (stopped_with s) FaultIsOfSite
 stopped_site (stops.Refused f) is = is
 stopped_site (stops.Again n) is = tt
 
 -- ---- room that was made
 
-pub stands_as_before : {old new : BooksView} {h : History} → Stands old h → IsAsBefore old new → Stands new h
+pub stands_as_before : {old new : HouseStateView} {h : History} → StateRepresents old h → IsAsBefore old new → StateRepresents new h
 stands_as_before {old = old} {new = new} {h = h} st is = record {
   name = st.name ∙ sym is.name;
   clear = st.clear ∙ sym is.clear;
@@ -130,7 +130,7 @@ stands_as_before {old = old} {new = new} {h = h} st is = record {
     same_found : (t : ℕ) (q : Asked) → option_map (λ (e : KeptEntry). e.number) (found old.kept t q) ≡ option_map (λ e. e.number) (found new.kept t q)
     same_found t q = rw (is.keep, is.replies) refl
 
-pub ready_as_before : {old new : BooksView} → IsAsBefore old new → (c : Certified) (target : List ℕ) (a : Acceptance) → IsReady old c target a → IsReady new c target a
+pub ready_as_before : {old new : HouseStateView} → IsAsBefore old new → (c : Certified) (target : List ℕ) (a : Authorization) → IsReady old c target a → IsReady new c target a
 ready_as_before {old = old} {new = new} is c target a ready = record {
   secret = rw (is.name, is.terms) ready.secret;
   change = by_change a.change ready.change;
@@ -147,25 +147,25 @@ ready_as_before {old = old} {new = new} is c target a ready = record {
 
 -- ---- the new entry
 
-pub may_learn : {b : BooksView} {h : History} → Stands b h → (kind : ℕ) (limits : Limits) (q : Asked) (text : List ℕ) (a : Acceptance) → limits.series ≡ b.limits.series → limits.journal ≤ 2 ^ 40
+pub may_learn : {b : HouseStateView} {h : History} → StateRepresents b h → (kind : ℕ) (limits : Limits) (q : Asked) (text : List ℕ) (a : Authorization) → limits.series ≡ b.limits.series → limits.journal ≤ 2 ^ 40
     → answer h b.time limits q ≡ answers.Take (accept_entry b.time text q.target a) → MayLearn b.limits kind b.count h (accept_entry b.time text q.target a)
 may_learn {b = b} {h = h} st kind limits q text a series most takes =
     let may = takes_follow st limits q text a series most takes in
     record { counted = sym st.counted; in_order = may.in_order; by_house = may.allowed }
 
-pub stands_taken : {old mid new : BooksView} {h : History} → Stands old h → IsAsBefore old mid → (q : Asked) (c : Certified) (a : Acceptance) → scrip_of c.text ≡ Ok (c.piece, c.cert)
+pub stands_taken : {old mid new : HouseStateView} {h : History} → StateRepresents old h → IsAsBefore old mid → (q : Asked) (c : Certified) (a : Authorization) → scrip_of c.text ≡ Ok (c.piece, c.cert)
     → IsReady old c q.target a → BringsFor h q.target a.deed → (limits : Limits) → limits.series ≡ old.limits.series → limits.journal ≤ 2 ^ 40
     → answer h old.time limits q ≡ answers.Take (accept_entry old.time c.text q.target a)
-    → IsEntered mid new (scrip_request c.text q.target q.sign) c.piece a → Stands new (h ++ accept_entry old.time c.text q.target a ∷ [])
+    → IsEntered mid new (scrip_request c.text q.target q.sign) c.piece a → StateRepresents new (h ++ accept_entry old.time c.text q.target a ∷ [])
 stands_taken {old = old} {mid = mid} {new = new} {h = h} st before q c a read ready brings limits series most takes is =
     let later : answer h mid.time limits q ≡ answers.Take (accept_entry mid.time c.text q.target a) = rw before.time takes in
     let same : limits.series ≡ mid.limits.series = series ∙ ap (λ (l : Limits). l.series) (sym before.limits) in
-    subst (λ (t : ℕ). Stands new (h ++ accept_entry t c.text q.target a ∷ [])) before.time
+    subst (λ (t : ℕ). StateRepresents new (h ++ accept_entry t c.text q.target a ∷ [])) before.time
     (stands_entered (stands_as_before st before) q c a read (ready_as_before before c q.target a ready) brings limits same most later is)
 
 -- ---- an entry that accepts nothing
 
-pub goes_as_before : {old new : BooksView} → IsAsBefore old new → (e : Entry) → GoesOn old e → GoesOn new e
+pub goes_as_before : {old new : HouseStateView} → IsAsBefore old new → (e : Entry) → GoesOn old e → GoesOn new e
 goes_as_before is (Site m kind name house) goes = tt
 goes_as_before is (AddTerms m terms) goes = tt
 goes_as_before is (Goods m target price k contents) goes = tt
@@ -187,7 +187,7 @@ goes_as_before is (Refused m n refusal) goes = tt
 
 -- ---- what is learned
 
-pub as_it_was : (b : BooksView) → IsAsBefore b b
+pub as_it_was : (b : HouseStateView) → IsAsBefore b b
 as_it_was b = record {
   name = refl;
   clear = refl;
@@ -212,6 +212,6 @@ pub on_is_ok : {T E : Type 0} (r : Result T E) (P : Type 0) → IsOk r → OnOk 
 on_is_ok (Ok x) P is p = p
 on_is_ok (Err e) P is p = absurd (cc is)
 
--- a house where room was made stands for what it stood for
-pub holds_roomed : {T : Type 0} (stands : T → History → Type 0) (site : T → ℕ) (holds : T → ℕ → Type 0) (old new : Bench T) (h : History) → IsRoomed stands site holds old new → Holds stands site old h → Holds stands site new h
-holds_roomed stands site holds old new h is st = record { books = stands_as_before st.books is.books; trade = is.stands' h st.trade; of_kind = rw is.site' st.of_kind }
+-- a house where room was made represents what it represented
+pub holds_roomed : {T : Type 0} (stands : T → History → Type 0) (site : T → ℕ) (holds : T → ℕ → Type 0) (old new : Bench T) (h : History) → IsRoomed stands site holds old new → Represents stands site old h → Represents stands site new h
+holds_roomed stands site holds old new h is st = record { state = stands_as_before st.state is.state; trade = is.stands' h st.trade; of_kind = rw is.site' st.of_kind }

@@ -7,7 +7,7 @@ use Rattle.mc_records.specs.Entry.{Entry, Fits, Site}
 use Rattle.mc_records.specs.Sizes.{size, size_from, entry_size}
 use Rattle.ledger_model.specs.Histories.{History}
 use Rattle.ledger_model.specs.Houses.{site_kind}
-use Rattle.scrip_journal.specs.Layout.{header, framed, gated, Stands, Next, at_end, spoiled, next_of, entered, IsSpoiled}
+use Rattle.scrip_journal.specs.Layout.{header, framed, gated, Encodes, Next, at_end, spoiled, next_of, entered, IsSpoiled}
 use Rattle.scrip_journal.proofs.Unique.{IsStop, entered_there, stands_read}
 use Rattle.mc_records.specs.declared.limits.Limits.{Limits}
 use Rattle.house_core.specs.Opening.{BeginsWithEntries, SpoilsAt, IsOfKind, IsOfOther, IsOfOtherKind}
@@ -20,7 +20,7 @@ size_apart front (x ∷ xs) es = omega (arith, size_apart (front ++ x ∷ []) xs
 size_grows : (before es : List Entry) (e : Entry) → size (before ++ e ∷ es) ≤ 2 ^ 40 → size before + entry_size before e ≤ 2 ^ 40
 size_grows before es e most = omega (arith, size_apart [] before (e ∷ es), most)
 
--- entries behind the same bytes: those that the bytes begin with are the first of those that they stand for
+-- entries behind the same bytes: those that the bytes begin with are the first of those that they encode
 first_of : (before h g : List Entry) (r s : List ℕ) → AllByRecursion Fits h → AllByRecursion Fits g → size (before ++ h) ≤ 2 ^ 40 → size (before ++ g) ≤ 2 ^ 40 → IsStop (next_of (before ++ h) r)
     → gated before h ++ r ≡ gated before g ++ s → (k : List Entry) × (h ≡ g ++ k)
 first_of before h [] r s a b m n x same = (h, refl)
@@ -46,8 +46,8 @@ first_of before (e ∷ h) (f ∷ g) r s a b m n x same =
     (subst (λ (l : List Entry). IsStop (next_of l r)) (sym (here h)) x) rest in
     (more.0, ap (λ (l : List Entry). e ∷ l) more.1 ∙ ap (λ (z : Entry). z ∷ (g ++ more.0)) one)
 
--- the entries that the bytes begin with are the first of the history that they stand for
-pub begins_history : (h g : History) (bytes : List ℕ) → Stands h bytes → BeginsWithEntries g bytes → (k : History) × (h ≡ g ++ k)
+-- the entries that the bytes begin with are the first of the history that they encode
+pub begins_history : (h g : History) (bytes : List ℕ) → Encodes h bytes → BeginsWithEntries g bytes → (k : History) × (h ≡ g ++ k)
 begins_history h g bytes st begins =
     let read = stands_read h bytes st in
     let whole : header ++ (gated [] h ++ read.rest) ≡ header ++ (gated [] g ++ begins.begins.0) =
@@ -98,7 +98,7 @@ kind_tells kind [] bytes is begins other = absurd (cc is)
 kind_tells kind (e ∷ es) bytes is begins other = first_tells kind e es bytes begins (kind_is_one kind e es is) other
 
 -- nor one without entries
-pub empty_tells : (kind : ℕ) (bytes : List ℕ) → Stands [] bytes → IsOfOther kind bytes → ⊥
+pub empty_tells : (kind : ℕ) (bytes : List ℕ) → Encodes [] bytes → IsOfOther kind bytes → ⊥
 empty_tells kind bytes st other =
     let read = stands_read [] bytes st in
     let first = first_there other.first [] bytes other.begins in

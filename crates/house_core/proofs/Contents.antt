@@ -11,11 +11,11 @@ use Rattle.ledger_model.specs.Histories.{History}
 use Rattle.ledger_model.specs.Goods.{is_goods_of}
 use Rattle.house_core.specs.declared.bench.Bench.{Bench}
 use Rattle.house_core.specs.Trade.{Replaces, OfGoods, NamesInForce}
-use Rattle.house_core.specs.declared.verdict.Stopped.{Stopped}
-use Rattle.house_core.specs.declared.verdict.Stopped.TheVariants as stops
+use Rattle.house_core.specs.declared.verdict.NotAuthorized.{NotAuthorized}
+use Rattle.house_core.specs.declared.verdict.NotAuthorized.TheVariants as stops
 use Rattle.house_core.specs.declared.verdict.BenchFault.TheVariants as faults
 use Rattle.std.proofs.Common.{Ok, Err, get_or}
-use Rattle.house_core.specs.Stands.{IsReply}
+use Rattle.house_core.specs.Representation.{IsReply}
 use Rattle.mc_records.specs.Requests.{Asked}
 use Rattle.ledger_model.specs.Answer.{Answer, answer, answered}
 use Rattle.house_core.specs.Verdicts.{stop_of}
@@ -78,28 +78,28 @@ held_by old new keeps (kept.Credit balance) held = tt
 held_by old new keeps (kept.Draw piece cert secret) held = tt
 
 -- the kept replies are the same, and the trade holds what it held
-pub contents_as_before : {T : Type 0} (holds : T → ℕ → Type 0) (b c : Bench T) (h : History) → HasContents holds b h → c.books.kept.replies ≡ b.books.kept.replies
+pub contents_as_before : {T : Type 0} (holds : T → ℕ → Type 0) (b c : Bench T) (h : History) → HasContents holds b h → c.state.kept.replies ≡ b.state.kept.replies
     → ((n : ℕ) → holds b.trade n → holds c.trade n) → HasContents holds c h
 contents_as_before holds b c h has same keeps = record {
   in_force = subst (All (IsInForceFor h)) (sym same) has.in_force;
   held = subst (All (λ r. OfGoods (holds c.trade) r.entry.deed)) (sym same)
-      (All-weaker (λ r. OfGoods (holds b.trade) r.entry.deed) (λ r. OfGoods (holds c.trade) r.entry.deed) (λ r. held_by (holds b.trade) (holds c.trade) keeps r.entry.deed) b.books.kept.replies has.held);
+      (All-weaker (λ r. OfGoods (holds b.trade) r.entry.deed) (λ r. OfGoods (holds c.trade) r.entry.deed) (λ r. held_by (holds b.trade) (holds c.trade) keeps r.entry.deed) b.state.kept.replies has.held);
 }
 
 -- there is one reply more, of an entry that puts no goods
 pub contents_taken : {T : Type 0} (holds : T → ℕ → Type 0) (b c : Bench T) (h : History) (e : Entry) (r : KeptReply) → HasContents holds b h → ((target : List ℕ) → is_goods_of target e ≡ false)
-    → c.books.kept.replies ≡ b.books.kept.replies ++ r ∷ [] → ((n : ℕ) → holds b.trade n → holds c.trade n) → OfGoods (holds b.trade) r.entry.deed → NamesInForce h r.entry.deed
+    → c.state.kept.replies ≡ b.state.kept.replies ++ r ∷ [] → ((n : ℕ) → holds b.trade n → holds c.trade n) → OfGoods (holds b.trade) r.entry.deed → NamesInForce h r.entry.deed
     → HasContents holds c (h ++ e ∷ [])
 contents_taken holds b c h e r has quiet more keeps held in_force =
-    let later = All-weaker (IsInForceFor h) (IsInForceFor (h ++ e ∷ [])) (λ x. still_in_force h e x.entry.number quiet x.entry.deed) b.books.kept.replies has.in_force in
-    let still = All-weaker (λ x. OfGoods (holds b.trade) x.entry.deed) (λ x. OfGoods (holds c.trade) x.entry.deed) (λ x. held_by (holds b.trade) (holds c.trade) keeps x.entry.deed) b.books.kept.replies has.held in
+    let later = All-weaker (IsInForceFor h) (IsInForceFor (h ++ e ∷ [])) (λ x. still_in_force h e x.entry.number quiet x.entry.deed) b.state.kept.replies has.in_force in
+    let still = All-weaker (λ x. OfGoods (holds b.trade) x.entry.deed) (λ x. OfGoods (holds c.trade) x.entry.deed) (λ x. held_by (holds b.trade) (holds c.trade) keeps x.entry.deed) b.state.kept.replies has.held in
     record {
-      in_force = subst (All (IsInForceFor (h ++ e ∷ []))) (sym more) (All-push (IsInForceFor (h ++ e ∷ [])) b.books.kept.replies r later (new_in_force h e r.entry.number quiet r.entry.deed in_force));
-      held = subst (All (λ x. OfGoods (holds c.trade) x.entry.deed)) (sym more) (All-push (λ x. OfGoods (holds c.trade) x.entry.deed) b.books.kept.replies r still (held_by (holds b.trade) (holds c.trade) keeps r.entry.deed held));
+      in_force = subst (All (IsInForceFor (h ++ e ∷ []))) (sym more) (All-push (IsInForceFor (h ++ e ∷ [])) b.state.kept.replies r later (new_in_force h e r.entry.number quiet r.entry.deed in_force));
+      held = subst (All (λ x. OfGoods (holds c.trade) x.entry.deed)) (sym more) (All-push (λ x. OfGoods (holds c.trade) x.entry.deed) b.state.kept.replies r still (held_by (holds b.trade) (holds c.trade) keeps r.entry.deed held));
     }
 
 -- a request that makes no entry
-pub keeps_all : {T : Type 0} (holds : T → ℕ → Type 0) (b : Bench T) (h : History) (q : Asked) (s : Stopped) → HasContents holds b h
+pub keeps_all : {T : Type 0} (holds : T → ℕ → Type 0) (b : Bench T) (h : History) (q : Asked) (s : NotAuthorized) → HasContents holds b h
     → answered (Err (stop_of s)) ≡ answer h (house_time b) (limits_of b) q → KeepsContents holds b h (answer h (house_time b) (limits_of b) q) (stopped_with s)
 keeps_all holds b h q (stops.Refused f) has e = subst (λ (a : Answer). KeepsContents holds b h a (Err (faults.Refused f))) e has
 keeps_all holds b h q (stops.Again n) has e = subst (λ (a : Answer). KeepsContents holds b h a (Ok n)) e has
@@ -132,17 +132,17 @@ in_force_by h e number within (kept.Sale piece cert secret stock) later = tt
 in_force_by h e number within (kept.Credit balance) later = tt
 in_force_by h e number within (kept.Draw piece cert secret) later = tt
 
-pub contents_noted : {T : Type 0} (holds : T → ℕ → Type 0) (b c : Bench T) (h : History) (e : Entry) → HasContents holds b h → All (IsReply h) b.books.kept.replies → c.books.kept.replies ≡ b.books.kept.replies
+pub contents_applied : {T : Type 0} (holds : T → ℕ → Type 0) (b c : Bench T) (h : History) (e : Entry) → HasContents holds b h → All (IsReply h) b.state.kept.replies → c.state.kept.replies ≡ b.state.kept.replies
     → ((n : ℕ) → holds b.trade n → holds c.trade n) → HasContents holds c (h ++ e ∷ [])
-contents_noted holds b c h e has replies same keeps =
+contents_applied holds b c h e has replies same keeps =
     let still = contents_as_before holds b c h has same keeps in
     record {
       in_force = subst (All (IsInForceFor (h ++ e ∷ []))) (sym same)
-          (λ k d lt. in_force_by h e (get_or b.books.kept.replies k d).entry.number (replies k d lt).within (get_or b.books.kept.replies k d).entry.deed (has.in_force k d lt));
+          (λ k d lt. in_force_by h e (get_or b.state.kept.replies k d).entry.number (replies k d lt).within (get_or b.state.kept.replies k d).entry.deed (has.in_force k d lt));
       held = still.held;
     }
 
-pub contents_of_none : {T : Type 0} (holds : T → ℕ → Type 0) (b : Bench T) (h : History) → b.books.kept.replies ≡ [] → HasContents holds b h
+pub contents_of_none : {T : Type 0} (holds : T → ℕ → Type 0) (b : Bench T) (h : History) → b.state.kept.replies ≡ [] → HasContents holds b h
 contents_of_none holds b h none = record {
   in_force = subst (All (IsInForceFor h)) (sym none) (All-nil (IsInForceFor h));
   held = subst (All (λ r. OfGoods (holds b.trade) r.entry.deed)) (sym none) (All-nil (λ r. OfGoods (holds b.trade) r.entry.deed));
@@ -150,4 +150,4 @@ contents_of_none holds b h none = record {
 
 -- and so is a house where room was made
 pub contents_roomed : {T : Type 0} (stands : T → History → Type 0) (site : T → ℕ) (holds : T → ℕ → Type 0) (b c : Bench T) (h : History) → IsRoomed stands site holds b c → HasContents holds b h → HasContents holds c h
-contents_roomed stands site holds b c h is has = contents_as_before holds b c h has is.books.replies is.held
+contents_roomed stands site holds b c h is has = contents_as_before holds b c h has is.state.replies is.held

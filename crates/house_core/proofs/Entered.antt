@@ -1,4 +1,4 @@
--- What the books keep after an acceptance was entered says what the longer history says.
+-- What the state keeps after an authorization was entered says what the longer history says.
 use Rattle.std.proofs.Common.{◌≡◌, ℕ, ◌+◌, ◌-◌, ◌<◌, ◌≤◌, ◌^◌, Bool, true, false, not, cond, List, [], ◌∷◌, ◌++◌, length, filter, find, Option, Some, None, Result, Ok, refl, sym, ap, ap₂, ◌∙◌, arith, eqb, ltb, leb, inl, inr, append-nil, length-append}
 use Rattle.std.specs.Prelude.{◌&&◌, ◌||◌, ◌==◌, max, option_map, option_to_list, unwrap_or, position, count_by, bytes_eq}
 use Rattle.std.specs.Option.{option_or}
@@ -35,11 +35,11 @@ use Rattle.ledger_model.proofs.SerialLaws.{own_out_snoc, minted_snoc, count-appe
 use Rattle.mc_records.proofs.SizeLaws.{length-tail, tail_size-more}
 use Rattle.ledger_model.proofs.VersionLaws.{version-more}
 use Rattle.ledger_model.proofs.FollowLaws.{same_request, may_follow, longer_lawful, size_snoc}
-use Rattle.house_core.specs.declared.verdict.Acceptance.{Acceptance}
+use Rattle.house_core.specs.declared.verdict.Authorization.{Authorization}
 use Rattle.house_core.specs.Views.{entry_deed}
 use Rattle.house_core.specs.Trade.{BringsFor}
-use Rattle.house_core.specs.Books.{BooksView, HasChange, IsEntered, series_now, kept_entry, at_series, change_count, change_worth}
-use Rattle.house_core.specs.Stands.{Stands, IsReply, has_ended, scrip_request, of_series}
+use Rattle.house_core.specs.HouseState.{HouseStateView, HasChange, IsEntered, series_now, kept_entry, at_series, change_count, change_worth}
+use Rattle.house_core.specs.Representation.{StateRepresents, IsReply, has_ended, scrip_request, of_series}
 use Rattle.house_core.specs.Verdicts.{accept_entry, IsReady}
 use Rattle.std.proofs.Common.{All, subst}
 use Rattle.house_core.proofs.Replied.{reply_kept, reply_new}
@@ -169,13 +169,13 @@ abbrev accept_sign : Entry → Option (List ℕ)
 accept_sign (Accept m scrip target sign price change deed) = sign
 accept_sign _ = None
 
--- what is known of an acceptance that the answer takes
-record IsTaken (h : History) (t : ℕ) (q : Asked) (c : Certified) (a : Acceptance) : Type 0 where
+-- what is known of an authorization that the answer takes
+record IsTaken (h : History) (t : ℕ) (q : Asked) (c : Certified) (a : Authorization) : Type 0 where
   pub piece : piece_of c.text ≡ Some c.piece
   pub price : a.price ≤ c.piece.value
   pub sign : option_map encode_lower a.sign ≡ q.sign
 
-is_taken : (h : History) (t : ℕ) (limits : Limits) (q : Asked) (c : Certified) (a : Acceptance) → scrip_of c.text ≡ Ok (c.piece, c.cert)
+is_taken : (h : History) (t : ℕ) (limits : Limits) (q : Asked) (c : Certified) (a : Authorization) → scrip_of c.text ≡ Ok (c.piece, c.cert)
     → answer h t limits q ≡ Take (accept_entry t c.text q.target a) → IsTaken h t q c a
 is_taken h t limits q c a read takes =
     let e = accept_entry t c.text q.target a in
@@ -196,10 +196,10 @@ is_taken h t limits q c a read takes =
 -- ---- the change
 
 -- the change piece of an entry is of the series in which it was handed out
-series_is : (b : BooksView) (id : ℕ) → count_in b.own (series_now b) < 2 ^ 32 → id ≡ next_in b.own (series_now b) → series_of id ≡ series_now b
+series_is : (b : HouseStateView) (id : ℕ) → count_in b.own (series_now b) < 2 ^ 32 → id ≡ next_in b.own (series_now b) → series_of id ≡ series_now b
 series_is b id below is = omega (arith, below, is)
 
-change_counted : (h : History) (b : BooksView) (text target : List ℕ) (paid : Scrip) (a : Acceptance) (s : ℕ) → b.own.most ≤ 2 ^ 32 → piece_of text ≡ Some paid → HasChange b a.price paid.value a.change
+change_counted : (h : History) (b : HouseStateView) (text target : List ℕ) (paid : Scrip) (a : Authorization) (s : ℕ) → b.own.most ≤ 2 ^ 32 → piece_of text ≡ Some paid → HasChange b a.price paid.value a.change
     → count_by (λ p. series_of p.id == s) (option_to_list (change_piece h (accept_entry b.time text target a))) ≡ at_series (series_now b) (change_count a.change) s
 change_counted h b text target paid a s most piece has = go a.change has
   where
@@ -211,7 +211,7 @@ change_counted h b text target paid a s most piece has = go a.change has
         ap (λ (o : Option Scrip). count_by (λ p. series_of p.id == s) (option_to_list (option_map (λ p. change_from h p a.price id) o))) piece
         ∙ one_count (series_now b) s (change_from h paid a.price id) series
 
-change_worthy : (h : History) (b : BooksView) (text target : List ℕ) (paid : Scrip) (a : Acceptance) (s : ℕ) → b.own.most ≤ 2 ^ 32 → piece_of text ≡ Some paid → HasChange b a.price paid.value a.change
+change_worthy : (h : History) (b : HouseStateView) (text target : List ℕ) (paid : Scrip) (a : Authorization) (s : ℕ) → b.own.most ≤ 2 ^ 32 → piece_of text ≡ Some paid → HasChange b a.price paid.value a.change
     → values (of_series s (option_to_list (change_piece h (accept_entry b.time text target a)))) ≡ at_series (series_now b) (change_worth a.price paid.value a.change) s
 change_worthy h b text target paid a s most piece has = go a.change has
   where
@@ -223,7 +223,7 @@ change_worthy h b text target paid a s most piece has = go a.change has
         ap (λ (o : Option Scrip). values (of_series s (option_to_list (option_map (λ p. change_from h p a.price id) o)))) piece
         ∙ one_value (series_now b) s (paid.value - a.price) (change_from h paid a.price id) series refl
 
-own_count_snoc : (h : History) (b : BooksView) (text target : List ℕ) (a : Acceptance) (s : ℕ)
+own_count_snoc : (h : History) (b : HouseStateView) (text target : List ℕ) (a : Authorization) (s : ℕ)
     → own_count (h ++ accept_entry b.time text target a ∷ []) s ≡ own_count h s + count_by (λ p. series_of p.id == s) (option_to_list (change_piece h (accept_entry b.time text target a)))
 own_count_snoc h b text target a s =
     let e = accept_entry b.time text target a in
@@ -234,26 +234,26 @@ own_count_snoc h b text target a s =
     let longer : own_count (h ++ e ∷ []) s ≡ count_by test ((own_out h ++ change) ++ minted h) = ap₂ (λ (ps qs : List Scrip). count_by test (ps ++ qs)) out made in
     omega (arith, longer, count-append test (own_out h ++ change) (minted h), count-append test (own_out h) change, count-append test (own_out h) (minted h))
 
--- ---- the books
+-- ---- the state
 
-all_terms_stay : (h : History) (b : BooksView) (text target : List ℕ) (a : Acceptance) → all_terms (h ++ accept_entry b.time text target a ∷ []) ≡ all_terms h
+all_terms_stay : (h : History) (b : HouseStateView) (text target : List ℕ) (a : Authorization) → all_terms (h ++ accept_entry b.time text target a ∷ []) ≡ all_terms h
 all_terms_stay h b text target a = filter_map-append terms_of h (accept_entry b.time text target a ∷ []) ∙ append-nil (all_terms h)
 
-accepted_more : (h : History) (b : BooksView) (text target : List ℕ) (paid : Scrip) (a : Acceptance) → piece_of text ≡ Some paid
+accepted_more : (h : History) (b : HouseStateView) (text target : List ℕ) (paid : Scrip) (a : Authorization) → piece_of text ≡ Some paid
     → accepted (h ++ accept_entry b.time text target a ∷ []) ≡ accepted h ++ paid ∷ []
 accepted_more h b text target paid a piece =
     let e = accept_entry b.time text target a in
     accepted_snoc h e ∙ ap (λ (o : Option Scrip). accepted h ++ cons_option o []) piece
 
 -- a repeat of the new entry is a repeat of its reply
-repeats_alike : (b : BooksView) (paid : Scrip) (a : Acceptance) (t : ℕ) (text target : List ℕ) (own own_target : List ℕ) (own_sign sign : Option (List ℕ)) → option_map encode_lower a.sign ≡ own_sign
+repeats_alike : (b : HouseStateView) (paid : Scrip) (a : Authorization) (t : ℕ) (text target : List ℕ) (own own_target : List ℕ) (own_sign sign : Option (List ℕ)) → option_map encode_lower a.sign ≡ own_sign
     → is_repeat b.kept.keep t text target sign (accept_entry b.time own own_target a)
     ≡ (is_same_request (scrip_request own own_target own_sign) (scrip_request text target sign) && is_in_time b.kept.keep t (record { asked = scrip_request own own_target own_sign; entry = kept_entry b paid a }))
 repeats_alike b paid a t text target own own_target own_sign sign same =
     swap_and (bytes_eq own text) (bytes_eq own_target target) (is_same_sign a.sign sign) (ltb t (b.time + b.kept.keep))
     ∙ ap (λ (x : Bool). bytes_eq own_target target && bytes_eq own text && x && ltb t (b.time + b.kept.keep)) (sym (sign_as_text a.sign sign) ∙ ap (λ (o : Option (List ℕ)). is_same_text o sign) same)
 
-again_more : {old new : BooksView} {h : History} → Stands old h → (q : Asked) (c : Certified) (a : Acceptance) → option_map encode_lower a.sign ≡ q.sign
+again_more : {old new : HouseStateView} {h : History} → StateRepresents old h → (q : Asked) (c : Certified) (a : Authorization) → option_map encode_lower a.sign ≡ q.sign
     → IsEntered old new (scrip_request c.text q.target q.sign) c.piece a
     → (t : ℕ) (text target : List ℕ) (sign : Option (List ℕ)) → old.time ≤ t
     → position (is_repeat (keeping h) t text target sign) (h ++ accept_entry old.time c.text q.target a ∷ []) ≡ option_map (λ e. e.number) (found new.kept t (scrip_request text target sign))
@@ -273,7 +273,7 @@ again_more {old = old} {new = new} {h = h} st q c a same is t text target sign l
     ∙ ap number (sym (find-append asks old.kept.replies (r ∷ [])))
     ∙ kept
 
--- what the books' own limits allow is what limits of the same series allow
+-- what the state's own limits allow is what limits of the same series allow
 pub same_series : (limits own : Limits) (h : History) (e : Entry) → limits.series ≡ own.series → MayFollow limits h e → MayFollow own h e
 same_series limits own h e same may = record { in_order = may.in_order; allowed = allowed e may.allowed }
   where
@@ -298,15 +298,15 @@ same_series limits own h e same may = record { in_order = may.in_order; allowed 
     allowed (Refused m n refusal) a = a
 
 -- the entry that the answer takes may follow
-pub takes_follow : {b : BooksView} {h : History} → Stands b h → (limits : Limits) (q : Asked) (text : List ℕ) (a : Acceptance) → limits.series ≡ b.limits.series → limits.journal ≤ 2 ^ 40
+pub takes_follow : {b : HouseStateView} {h : History} → StateRepresents b h → (limits : Limits) (q : Asked) (text : List ℕ) (a : Authorization) → limits.series ≡ b.limits.series → limits.journal ≤ 2 ^ 40
     → answer h b.time limits q ≡ Take (accept_entry b.time text q.target a) → MayFollow b.limits h (accept_entry b.time text q.target a)
 takes_follow {b = b} {h = h} st limits q text a series most takes =
     let e = accept_entry b.time text q.target a in
     same_series limits b.limits h e series (may_follow h b.time limits q e st.in_time most takes)
 
-pub stands_entered : {old new : BooksView} {h : History} → Stands old h → (q : Asked) (c : Certified) (a : Acceptance) → scrip_of c.text ≡ Ok (c.piece, c.cert)
+pub stands_entered : {old new : HouseStateView} {h : History} → StateRepresents old h → (q : Asked) (c : Certified) (a : Authorization) → scrip_of c.text ≡ Ok (c.piece, c.cert)
     → IsReady old c q.target a → BringsFor h q.target a.deed → (limits : Limits) → limits.series ≡ old.limits.series → limits.journal ≤ 2 ^ 40 → answer h old.time limits q ≡ Take (accept_entry old.time c.text q.target a)
-    → IsEntered old new (scrip_request c.text q.target q.sign) c.piece a → Stands new (h ++ accept_entry old.time c.text q.target a ∷ [])
+    → IsEntered old new (scrip_request c.text q.target q.sign) c.piece a → StateRepresents new (h ++ accept_entry old.time c.text q.target a ∷ [])
 stands_entered {old = old} {new = new} {h = h} st q c a read ready brings limits series bound takes is =
     let e = accept_entry old.time c.text q.target a in
     let taken = is_taken h old.time limits q c a read takes in

@@ -1,4 +1,4 @@
--- Books before and after an acceptance was entered, by what the calls on the way say.
+-- The state before and after an authorization was entered, by what the calls on the way say.
 use Rattle.std.proofs.Common.{◌^◌, ◌≡◌, ℕ, ◌+◌, ◌-◌, ◌<◌, ◌≤◌, Bool, true, false, cond, List, [], ◌∷◌, ◌++◌, filter, find, All, Option, Some, None, refl, sym, ap, subst, ◌∙◌, arith, eqb}
 use Rattle.std.specs.Prelude.{◌&&◌, ◌||◌, ◌==◌, min, option_map, IsTrue}
 use Rattle.std.proofs.lemmas.Bool.{lt-ltb}
@@ -14,14 +14,14 @@ use Rattle.kept_replies.specs.Kept.{KeptReply, KeptView, is_in_time, has_request
 use Rattle.kept_replies.proofs.InsertLaws.{inserted_last}
 use Rattle.change_issue.specs.Registers.{Register, count_in, issued_in, redeemed_in}
 use Rattle.change_issue.specs.IssuedPieces.{issued_piece}
-use Rattle.house_core.specs.declared.verdict.Acceptance.{Acceptance}
+use Rattle.house_core.specs.declared.verdict.Authorization.{Authorization}
 use Rattle.house_core.specs.Spent.{SpentView, is_marked}
-use Rattle.house_core.specs.Books.{BooksView, AreSound, IsEntered, version_of, size_with, series_now, kept_entry, certified_change, at_series, change_count, change_worth}
+use Rattle.house_core.specs.HouseState.{HouseStateView, IsSound, IsEntered, version_of, size_with, series_now, kept_entry, certified_change, at_series, change_count, change_worth}
 
 -- ---- a later time
 
--- letting go what is over leaves the books sound
-pub sound_later : (b : BooksView) (t : ℕ) (kept : KeptView) → AreSound b → kept.keep ≡ b.kept.keep → kept.replies ≡ filter (is_in_time b.kept.keep t) b.kept.replies → AreSound (record b { time = t; kept = kept })
+-- letting go what is over leaves the state sound
+pub sound_later : (b : HouseStateView) (t : ℕ) (kept : KeptView) → IsSound b → kept.keep ≡ b.kept.keep → kept.replies ≡ filter (is_in_time b.kept.keep t) b.kept.replies → IsSound (record b { time = t; kept = kept })
 sound_later b t kept sound keep replies = record {
   terms = sound.terms;
   limits = sound.limits;
@@ -62,7 +62,7 @@ no_number n (r ∷ rs) all =
     rw (other, more) refl
 
 -- what is kept of the change
-pub change_is : (old : BooksView) (paid : Scrip) (price : ℕ) (change : Option ℕ) (piece : Option Scrip) (made : Option (Scrip × List ℕ)) → old.own.terms ≡ old.own_terms
+pub change_is : (old : HouseStateView) (paid : Scrip) (price : ℕ) (change : Option ℕ) (piece : Option Scrip) (made : Option (Scrip × List ℕ)) → old.own.terms ≡ old.own_terms
     → piece ≡ option_map (λ id. issued_piece old.own.terms old.time old.name (paid.value - price) id (Some paid.cust) paid.props) change
     → made ≡ option_map (λ p. (p, certificate_in (version_of old (series_of p.id)) old.own_terms (scrip_body p) p.id)) piece
     → made ≡ option_map (certified_change old paid price) change
@@ -76,7 +76,7 @@ change_is old paid price change piece made same is_piece is_made =
     go None = refl
     go (Some id) = refl
 
-pub entered : (old : BooksView) (spent : SpentView) (kept : KeptView) (own : Register) (takings size : ℕ) (q : Asked) (paid : Scrip) (a : Acceptance) (piece : Option Scrip) (made : Option (Scrip × List ℕ)) → AreSound old → epoch old.own_terms old.time < 2 ^ 24
+pub entered : (old : HouseStateView) (spent : SpentView) (kept : KeptView) (own : Register) (takings size : ℕ) (q : Asked) (paid : Scrip) (a : Authorization) (piece : Option Scrip) (made : Option (Scrip × List ℕ)) → IsSound old → epoch old.own_terms old.time < 2 ^ 24
     → ((k : ℕ) → is_marked spent k ≡ (is_marked old.spent k || (paid.id == k)))
     → kept.keep ≡ old.kept.keep
     → kept.replies ≡ inserted (record { asked = q; entry = record { number = old.count; moment = old.time; price = a.price; change = made; secret = a.secret; deed = a.deed } }) old.kept.replies
@@ -112,7 +112,7 @@ entered old spent kept own takings size q paid a piece made sound short marks ke
       sized = grown;
     }
 
--- ---- the books stay sound
+-- ---- that the state stays sound
 
 pub at_most : (series n s : ℕ) → at_series series n s ≤ n
 at_most series n s = go (eqb series s)
@@ -121,7 +121,7 @@ at_most series n s = go (eqb series s)
     go true = omega arith
     go false = omega arith
 
-pub sound_entered : (old new : BooksView) (q : Asked) (paid : Scrip) (a : Acceptance) → AreSound old → IsPiece paid → size_with old a.payload ≤ 2 ^ 40 → IsEntered old new q paid a → AreSound new
+pub sound_entered : (old new : HouseStateView) (q : Asked) (paid : Scrip) (a : Authorization) → IsSound old → IsPiece paid → size_with old a.payload ≤ 2 ^ 40 → IsEntered old new q paid a → IsSound new
 sound_entered old new q paid a sound piece fits e = record {
   terms = e.issuer ∙ sound.terms ∙ sym e.own_terms;
   limits = rw e.limits sound.limits;

@@ -6,7 +6,7 @@ use Rattle.kept_replies.specs.Kept.{KeptReply}
 use Rattle.ledger_model.specs.Histories.{History}
 use Rattle.ledger_model.specs.Replies.{Contents, taken_values, taken_reply, reply_of}
 use Rattle.house_core.specs.Trade.{brought_by}
-use Rattle.house_core.specs.Stands.{IsReply, brought_then}
+use Rattle.house_core.specs.Representation.{IsReply, brought_then}
 
 -- what holds of each element, and the test, hold of the one that is found
 pub of_found : {X : Type 0} (P : X → Type 0) (test : X → Bool) (xs : List X) (x : X) → All P xs → find test xs ≡ Some x → P x × (test x ≡ true)

@@ -4,30 +4,30 @@ use Rattle.mc_outside.specs.Bytes.{BeginsWith}
 use Rattle.mc_outside.specs.DiskView.{DiskView, DiskGoes, IsSynced, OnlyRead, Ran}
 use Rattle.mc_outside.proofs.Runs.{ran_then, ran_weaker}
 use Rattle.mc_records.specs.Entry.{Entry}
-use Rattle.scrip_journal.specs.Layout.{header, body, Stands}
+use Rattle.scrip_journal.specs.Layout.{header, body, Encodes}
 use Rattle.scrip_journal.specs.States.{AtRest, Reading, IsReading}
 use Rattle.scrip_journal.specs.declared.fault.HouseFault.{HouseFault}
 use Rattle.scrip_journal.specs.declared.fault.HouseFault.TheVariants.{NotJournal, BadRecord, Unlawful, WrongKind, NotEmpty, Disk, NoMemory}
 use Rattle.scrip_journal.specs.Opens.{NoLonger}
-use Rattle.scrip_journal.specs.Exits.{EitherQuiet}
+use Rattle.scrip_journal.specs.Exits.{EitherNoOutput}
 use Rattle.house_core.proofs.OpeningLemmas.{bytes_told}
-use Rattle.house_core.specs.Found.{ReadsOnly, ShortQuiet, FoundQuiet, ClearsSmall, ClearsFree, IsOfWriting}
+use Rattle.house_core.specs.Found.{ReadsOnly, ShortNoOutput, FoundNoOutput, ClearsSmall, ClearsFree, IsOfWriting}
 
 pub ran_at : {D : Type 0} (view : D → DiskView) (a : DiskView) (d e : D) (P : List ℕ → List ℕ → Type 0) → e ≡ d → Ran a (view d) P → Ran a (view e) P
 ran_at {D = D} view a d e P is ran = subst (λ (x : D). Ran a (view x) P) (sym is) ran
 
 -- what was only read left nothing new
-pub read_short : (a b : DiskView) → OnlyRead a b → Ran a b (ShortQuiet a)
-read_short a b read = ran_weaker a b _ (ShortQuiet a) read.ran (λ c s p. (inr p.0, p.1))
+pub read_short : (a b : DiskView) → OnlyRead a b → Ran a b (ShortNoOutput a)
+read_short a b read = ran_weaker a b _ (ShortNoOutput a) read.ran (λ c s p. (inr p.0, p.1))
 
 -- what was done to a disk that was read before
-pub short_then : (a b d : DiskView) → OnlyRead a b → Ran b d (ShortQuiet b) → Ran a d (ShortQuiet a)
-short_then a b d read ran = ran_then a b d (ShortQuiet a) (read_short a b read) (ran_weaker b d (ShortQuiet b) (ShortQuiet a) ran (λ c s p. (⊎_elim (λ short. inl short) (λ l. inr (read.leaves c l)) p.0, p.1 ∙ read.aside)))
+pub short_then : (a b d : DiskView) → OnlyRead a b → Ran b d (ShortNoOutput b) → Ran a d (ShortNoOutput a)
+short_then a b d read ran = ran_then a b d (ShortNoOutput a) (read_short a b read) (ran_weaker b d (ShortNoOutput b) (ShortNoOutput a) ran (λ c s p. (⊎_elim (λ short. inl short) (λ l. inr (read.leaves c l)) p.0, p.1 ∙ read.aside)))
 
 -- a small disk that was synced, and then founded
-pub founded_short : (a b d : DiskView) (x : List ℕ) → OnlyRead a b → a.contents ≡ Some x → IsSynced a → length x ≤ 9 → Ran b d (NoLonger b) → Ran a d (ShortQuiet a)
+pub founded_short : (a b d : DiskView) (x : List ℕ) → OnlyRead a b → a.contents ≡ Some x → IsSynced a → length x ≤ 9 → Ran b d (NoLonger b) → Ran a d (ShortNoOutput a)
 founded_short a b d x read told synced small ran =
-    short_then a b d read (ran_weaker b d (NoLonger b) (ShortQuiet b) ran (λ c s p. (inl (short c p.0.0 p.0.1 p.0.2), p.1)))
+    short_then a b d read (ran_weaker b d (NoLonger b) (ShortNoOutput b) ran (λ c s p. (inl (short c p.0.0 p.0.1 p.0.2), p.1)))
   where
     short : (c e : List ℕ) → b.leaves e → length c ≤ max 9 (length e) → length c ≤ 9
     short c e l le =
@@ -35,18 +35,18 @@ founded_short a b d x read told synced small ran =
         omega (arith, le, is, small)
 
 -- no entry was written
-pub short_found : (a b : DiskView) (e : Entry) → Ran a b (ShortQuiet a) → Ran a b (FoundQuiet a e)
-short_found a b e ran = ran_weaker a b (ShortQuiet a) (FoundQuiet a e) ran (λ c s p. (inl p.0, p.1))
+pub short_found : (a b : DiskView) (e : Entry) → Ran a b (ShortNoOutput a) → Ran a b (FoundNoOutput a e)
+short_found a b e ran = ran_weaker a b (ShortNoOutput a) (FoundNoOutput a e) ran (λ c s p. (inl p.0, p.1))
 
 -- and then the entry was written
-pub found_quiet : (a b d : DiskView) (e : Entry) → DiskGoes a b → Ran a b (ShortQuiet a) → Ran b d (EitherQuiet [] e b.aside) → Ran a d (FoundQuiet a e)
+pub found_quiet : (a b d : DiskView) (e : Entry) → DiskGoes a b → Ran a b (ShortNoOutput a) → Ran b d (EitherNoOutput [] e b.aside) → Ran a d (FoundNoOutput a e)
 found_quiet a b d e goes first then' =
-    ran_then a b d (FoundQuiet a e) (short_found a b e first) (ran_weaker b d (EitherQuiet [] e b.aside) (FoundQuiet a e) then' (λ c s p. (inr p.0, p.1 ∙ goes.aside)))
+    ran_then a b d (FoundNoOutput a e) (short_found a b e first) (ran_weaker b d (EitherNoOutput [] e b.aside) (FoundNoOutput a e) then' (λ c s p. (inr p.0, p.1 ∙ goes.aside)))
 
--- ---- which bytes stand for no entries
+-- ---- which bytes encode no entries
 
 -- those without the header do not
-pub no_header : (x : List ℕ) → (BeginsWith header x → ⊥) → Stands [] x → ⊥
+pub no_header : (x : List ℕ) → (BeginsWith header x → ⊥) → Encodes [] x → ⊥
 unfolding header
 no_header x other st = other (st.gate ∷ st.rest, st.shape)
 
@@ -54,7 +54,7 @@ head_same : {A : Type 0} (x y : A) (xs ys : List A) → x ∷ xs ≡ y ∷ ys �
 head_same x y xs ys e = cc
 
 -- those with an entry do not
-pub no_more : {D : Type 0} (view : D → DiskView) (r : Reading D) (e : Entry) (x : List ℕ) → IsReading view r (e ∷ []) → (view r.disk).contents ≡ Some x → Stands [] x → ⊥
+pub no_more : {D : Type 0} (view : D → DiskView) (r : Reading D) (e : Entry) (x : List ℕ) → IsReading view r (e ∷ []) → (view r.disk).contents ≡ Some x → Encodes [] x → ⊥
 unfolding header
 no_more view r e x is told st =
     let same : body (e ∷ []) ++ is.rest ≡ body [] ++ st.gate ∷ st.rest = sym is.shape ∙ (bytes_told view r (e ∷ []) x is told ∙ st.shape) in
@@ -65,7 +65,7 @@ pub reading_synced : {D : Type 0} (view : D → DiskView) (r : Reading D) (h : L
 reading_synced view r h x is told y told' c l = is.synced c l ∙ bytes_told view r h y is told'
 
 -- a small disk is free, and one that is not is taken, where it does not stand for no entries
-pub cleared : {D : Type 0} (view : D → DiskView) (x : List ℕ) (result : Result (AtRest D) (HouseFault D)) → (Stands [] x → ⊥) → ClearsSmall view x result → ClearsFree view x result
+pub cleared : {D : Type 0} (view : D → DiskView) (x : List ℕ) (result : Result (AtRest D) (HouseFault D)) → (Encodes [] x → ⊥) → ClearsSmall view x result → ClearsFree view x result
 cleared view x (Ok j) other is = (is.0, inr is.1)
 cleared view x (Err (NotJournal d)) other is = is
 cleared view x (Err (BadRecord d place)) other is = is

@@ -1,4 +1,4 @@
--- The books of a house that was just founded stand for its one entry.
+-- The state of a house that was just founded represents its one entry.
 use Rattle.std.proofs.Common.{◌≡◌, ℕ, ◌≤◌, List, [], ◌∷◌, Option, Some, None, refl, sym, ap, ap₂, subst, ◌∙◌, arith}
 use Rattle.std.proofs.lemmas.Bool.{eq-eqb}
 use Rattle.scrip_form.specs.Issuing.{Issuing}
@@ -11,10 +11,10 @@ use Rattle.ledger_model.specs.Houses.{site_kind, terms_by}
 use Rattle.ledger_model.specs.Lawful.{MayFollow}
 use Rattle.ledger_model.specs.Histories.{History}
 use Rattle.house_core.specs.Learning.{ByTrade, MayLearn, GoodsFit}
-use Rattle.house_core.specs.Books.{BooksView}
-use Rattle.house_core.specs.Founding.{AreOf, FoundsHouse}
+use Rattle.house_core.specs.HouseState.{HouseStateView}
+use Rattle.house_core.specs.Founding.{IsStateOf, FoundsHouse}
 use Rattle.std.proofs.lemmas.List.Elements.{All-nil}
-use Rattle.house_core.specs.Stands.{Stands, IsReply}
+use Rattle.house_core.specs.Representation.{StateRepresents, IsReply}
 
 -- a vendor's house has its ranges
 pub house_fits : (limits : Limits) (m kind : ℕ) (name : List ℕ) (h : House) → FoundsHouse (Site m kind name (Some h)) → MayFollow limits [] (Site m kind name (Some h)) → HouseFits 0 h
@@ -23,8 +23,8 @@ house_fits limits m kind name h fits may = subst (λ (k : ℕ). SiteFits k (Some
 own_found : (t : Issuing) → t.issuer ≤ 0 → terms_by (t ∷ []) 0 ≡ Some t
 own_found t le = rw (eq-eqb t.issuer 0 (omega (arith, le))) refl
 
-of_site : (b : BooksView) (limits : Limits) (m kind : ℕ) (name : List ℕ) (h : House) → AreOf b limits (Site m kind name (Some h)) → FoundsHouse (Site m kind name (Some h)) → AreInRange limits
-    → MayFollow limits [] (Site m kind name (Some h)) → Stands b (Site m kind name (Some h) ∷ [])
+of_site : (b : HouseStateView) (limits : Limits) (m kind : ℕ) (name : List ℕ) (h : House) → IsStateOf b limits (Site m kind name (Some h)) → FoundsHouse (Site m kind name (Some h)) → AreInRange limits
+    → MayFollow limits [] (Site m kind name (Some h)) → StateRepresents b (Site m kind name (Some h) ∷ [])
 of_site b limits m kind name h is fits range may =
     let house = house_fits limits m kind name h fits may in
     let site = Site m kind name (Some h) in
@@ -55,7 +55,7 @@ of_site b limits m kind name h is fits range may =
     some : Issuing → Option Issuing
     some t = Some t
 
-pub stands_founded : (b : BooksView) (limits : Limits) (e : Entry) → AreOf b limits e → FoundsHouse e → AreInRange limits → MayFollow limits [] e → Stands b (e ∷ [])
+pub stands_founded : (b : HouseStateView) (limits : Limits) (e : Entry) → IsStateOf b limits e → FoundsHouse e → AreInRange limits → MayFollow limits [] e → StateRepresents b (e ∷ [])
 stands_founded b limits (Site m kind name (Some h)) is fits range may = of_site b limits m kind name h is fits range may
 stands_founded b limits (Site m kind name None) is fits range may = absurd fits
 stands_founded b limits (AddTerms m terms) is fits range may = absurd fits
@@ -90,7 +90,7 @@ pub founds_by_trade : (passes : History → Entry → Type 0) (kind : ℕ) (e : 
 founds_by_trade passes kind (Site m k name (Some h)) founds = tt
 founds_by_trade passes kind e founds = absurd founds
 
-pub none_kept : (b : BooksView) (limits : Limits) (e : Entry) → AreOf b limits e → b.kept.replies ≡ []
+pub none_kept : (b : HouseStateView) (limits : Limits) (e : Entry) → IsStateOf b limits e → b.kept.replies ≡ []
 none_kept b limits (Site m kind name (Some h)) is = is.replies
 none_kept b limits e is = absurd is
 

@@ -9,22 +9,22 @@ use Rattle.mc_records.specs.Sizes.{size, entry_size}
 use Rattle.mc_records.proofs.SizeLaws.{length-tail}
 use Rattle.scrip_journal.specs.States.{AtRest, IsJournal}
 use Rattle.scrip_journal.specs.Rests.{journal_leaves}
-use Rattle.scrip_journal.specs.Exits.{staged_disk, StandsQuiet, EitherQuiet}
+use Rattle.scrip_journal.specs.Exits.{staged_disk, EncodesNoOutput, EitherNoOutput}
 use Rattle.scrip_journal.specs.declared.journal.StageFault.{StageFault}
 use Rattle.scrip_journal.specs.declared.journal.StageFault.TheVariants.{Full, Disk}
 use Rattle.mc_records.specs.declared.limits.Limits.{Limits}
 use Rattle.ledger_model.specs.Histories.{History}
 use Rattle.house_core.specs.declared.bench.Bench.{Bench}
 use Rattle.house_core.specs.declared.house.House.{House}
-use Rattle.house_core.specs.declared.verdict.Acceptance.{Acceptance}
-use Rattle.house_core.specs.Books.{BooksView, size_with}
-use Rattle.house_core.specs.Stands.{Stands}
+use Rattle.house_core.specs.declared.verdict.Authorization.{Authorization}
+use Rattle.house_core.specs.HouseState.{HouseStateView, size_with}
+use Rattle.house_core.specs.Representation.{StateRepresents}
 use Rattle.house_core.specs.Verdicts.{accept_entry, stop_of, IsReady}
-use Rattle.house_core.specs.Bench.{Holds, HasContents, IsRoomed, limits_of}
-use Rattle.house_core.specs.House.{StandsFor, IsAsItWas, HasEntered, Accepted, Leaves, Refuses, written_disk}
+use Rattle.house_core.specs.Bench.{Represents, HasContents, IsRoomed, limits_of}
+use Rattle.house_core.specs.House.{HouseRepresents, IsAsItWas, HasEntered, Accepted, Leaves, Refuses, written_disk}
 use Rattle.house_core.specs.declared.outcome.Outcome.TheVariants.{Refused}
-use Rattle.house_core.specs.declared.verdict.Stopped.{Stopped}
-use Rattle.house_core.specs.declared.verdict.Stopped.TheVariants as stops
+use Rattle.house_core.specs.declared.verdict.NotAuthorized.{NotAuthorized}
+use Rattle.house_core.specs.declared.verdict.NotAuthorized.TheVariants as stops
 use Rattle.mc_records.specs.declared.refusal.Refusal.{Refusal}
 use Rattle.ledger_model.specs.Answer as answers
 use Rattle.ledger_model.specs.Answer.{Answer, answered}
@@ -32,28 +32,28 @@ use Rattle.house_core.proofs.Accepting.{holds_roomed}
 use Rattle.house_core.proofs.Contents.{contents_roomed}
 
 -- first it was staged, and then its gate was opened
-pub ran_written : (a b d : DiskView) (h : List Entry) (e : Entry) → DiskGoes a b → Ran a b (StandsQuiet h a.aside) → Ran b d (EitherQuiet h e b.aside) → Ran a d (EitherQuiet h e a.aside)
+pub ran_written : (a b d : DiskView) (h : List Entry) (e : Entry) → DiskGoes a b → Ran a b (EncodesNoOutput h a.aside) → Ran b d (EitherNoOutput h e b.aside) → Ran a d (EitherNoOutput h e a.aside)
 ran_written a b d h e goes first then' =
-    ran_then a b d (EitherQuiet h e a.aside) (ran_weaker a b (StandsQuiet h a.aside) (EitherQuiet h e a.aside) first (λ c s quiet. (inl quiet.0, quiet.1)))
-    (subst (λ (x : List ℕ). Ran b d (EitherQuiet h e x)) goes.aside then')
+    ran_then a b d (EitherNoOutput h e a.aside) (ran_weaker a b (EncodesNoOutput h a.aside) (EitherNoOutput h e a.aside) first (λ c s quiet. (inl quiet.0, quiet.1)))
+    (subst (λ (x : List ℕ). Ran b d (EitherNoOutput h e x)) goes.aside then')
 
 -- it was not staged
 pub ran_unstaged : {D : Type 0} (view : D → DiskView) (a : DiskView) (h : List Entry) (e : Entry) (aside : List ℕ) (f : StageFault D)
-    → Ran a (view (staged_disk (Err f))) (StandsQuiet h aside) → Ran a (view (written_disk (Err f))) (EitherQuiet h e aside)
+    → Ran a (view (staged_disk (Err f))) (EncodesNoOutput h aside) → Ran a (view (written_disk (Err f))) (EitherNoOutput h e aside)
 ran_unstaged view a h e aside (Full j) ran = ran_weaker a (view j.disk) _ _ ran (λ c s quiet. (inl quiet.0, quiet.1))
 ran_unstaged view a h e aside (Disk d) ran = ran_weaker a (view d) _ _ ran (λ c s quiet. (inl quiet.0, quiet.1))
 
 -- nothing was written
-pub ran_nothing : {D : Type 0} (view : D → DiskView) (j : AtRest D) (d : D) (h : List Entry) → IsDisk (view j.disk) → IsJournal view j h → d ≡ j.disk → Ran (view j.disk) (view d) (StandsQuiet h (view j.disk).aside)
+pub ran_nothing : {D : Type 0} (view : D → DiskView) (j : AtRest D) (d : D) (h : List Entry) → IsDisk (view j.disk) → IsJournal view j h → d ≡ j.disk → Ran (view j.disk) (view d) (EncodesNoOutput h (view j.disk).aside)
 ran_nothing {D = D} view j d h disk is same =
-    subst (λ (x : D). Ran (view j.disk) (view x) (StandsQuiet h (view j.disk).aside)) (sym same)
-    (ran_none (view j.disk) (StandsQuiet h (view j.disk).aside) disk (λ c leaves. (journal_leaves view j h is c leaves, refl)))
+    subst (λ (x : D). Ran (view j.disk) (view x) (EncodesNoOutput h (view j.disk).aside)) (sym same)
+    (ran_none (view j.disk) (EncodesNoOutput h (view j.disk).aside) disk (λ c leaves. (journal_leaves view j h is c leaves, refl)))
 
 -- ---- the house
 
--- the bench is another one that stands for the history, too
+-- the bench is another one that represents the history, too
 pub stands_with : {D T : Type 0} (view : D → DiskView) (stands : T → History → Type 0) (site : T → ℕ) (holds : T → ℕ → Type 0) (x : House D T) (b : Bench T) (h : History)
-    → StandsFor view stands site holds x h → Holds stands site b h → HasContents holds b h → limits_of b ≡ limits_of x.bench → StandsFor {D = D} {T = T} view stands site holds (record { journal = x.journal; bench = b }) h
+    → HouseRepresents view stands site holds x h → Represents stands site b h → HasContents holds b h → limits_of b ≡ limits_of x.bench → HouseRepresents {D = D} {T = T} view stands site holds (record { journal = x.journal; bench = b }) h
 stands_with view stands site holds x b h st has contents limits = record {
   journal = st.journal;
   house = record { stands' = has; contents = contents };
@@ -62,18 +62,18 @@ stands_with view stands site holds x b h st has contents limits = record {
 
 -- room was made
 pub stands_roomed : {D T : Type 0} (view : D → DiskView) (stands : T → History → Type 0) (site : T → ℕ) (holds : T → ℕ → Type 0) (x y : House D T) (h : History)
-    → y.journal ≡ x.journal → IsRoomed stands site holds x.bench y.bench → StandsFor view stands site holds x h → StandsFor view stands site holds y h
+    → y.journal ≡ x.journal → IsRoomed stands site holds x.bench y.bench → HouseRepresents view stands site holds x h → HouseRepresents view stands site holds y h
 stands_roomed {D = D} view stands site holds x y h same roomed st = record {
   journal = rw same st.journal;
   house = record {
     stands' = holds_roomed stands site holds x.bench y.bench h roomed st.house.stands';
     contents = contents_roomed stands site holds x.bench y.bench h roomed st.house.contents;
   };
-  limit = ap (λ (j : AtRest D). j.limit) same ∙ st.limit ∙ ap (λ (l : Limits). l.journal) (sym roomed.books.limits);
+  limit = ap (λ (j : AtRest D). j.limit) same ∙ st.limit ∙ ap (λ (l : Limits). l.journal) (sym roomed.state.limits);
 }
 
 pub as_roomed : {D T : Type 0} (view : D → DiskView) (stands : T → History → Type 0) (site : T → ℕ) (holds : T → ℕ → Type 0) (x y : House D T) (h : History)
-    → y.journal ≡ x.journal → IsRoomed stands site holds x.bench y.bench → StandsFor view stands site holds x h → IsAsItWas view stands site holds x.journal.disk y h
+    → y.journal ≡ x.journal → IsRoomed stands site holds x.bench y.bench → HouseRepresents view stands site holds x h → IsAsItWas view stands site holds x.journal.disk y h
 as_roomed {D = D} view stands site holds x y h same roomed st = record {
   stands' = stands_roomed view stands site holds x y h same roomed st;
   disk' = ap (λ (j : AtRest D). j.disk) same;
@@ -81,8 +81,8 @@ as_roomed {D = D} view stands site holds x y h same roomed st = record {
 
 -- an entry was written and entered
 pub has_entered : {D T : Type 0} (view : D → DiskView) (stands : T → History → Type 0) (site : T → ℕ) (holds : T → ℕ → Type 0) (x y : House D T) (h : History) (e f : Entry) (number : ℕ) → f ≡ e
-    → StandsFor view stands site holds x h → IsJournal view y.journal (h ++ f ∷ []) → y.journal.limit ≡ x.journal.limit → limits_of y.bench ≡ limits_of x.bench
-    → number ≡ length h → Holds stands site y.bench (h ++ e ∷ []) → HasContents holds y.bench (h ++ e ∷ []) → HasEntered view stands site holds y h e number
+    → HouseRepresents view stands site holds x h → IsJournal view y.journal (h ++ f ∷ []) → y.journal.limit ≡ x.journal.limit → limits_of y.bench ≡ limits_of x.bench
+    → number ≡ length h → Represents stands site y.bench (h ++ e ∷ []) → HasContents holds y.bench (h ++ e ∷ []) → HasEntered view stands site holds y h e number
 has_entered view stands site holds x y h e f number same st written limit limits counted entered contents = record {
   stands' = record {
     journal = subst (λ (g : Entry). IsJournal view y.journal (h ++ g ∷ [])) same written;
@@ -92,8 +92,8 @@ has_entered view stands site holds x y h e f number same st written limit limits
   number' = counted;
 }
 
--- the entry of an acceptance that has room fits the journal
-pub not_full : (b : BooksView) (h : History) (c : Certified) (target : List ℕ) (a : Acceptance) (limit : ℕ) (f : Entry) → Stands b h → IsReady b c target a
+-- the entry of an authorization that has room fits the journal
+pub not_full : (b : HouseStateView) (h : History) (c : Certified) (target : List ℕ) (a : Authorization) (limit : ℕ) (f : Entry) → StateRepresents b h → IsReady b c target a
     → size_with b a.payload ≤ b.limits.journal → limit ≡ b.limits.journal
     → f ≡ accept_entry b.time c.text target a → limit < size h + entry_size h f → ⊥
 not_full b h c target a limit f st ready room limits same full =
@@ -102,17 +102,17 @@ not_full b h c target a limit f st ready room limits same full =
 
 -- ---- a request that makes no entry
 
-pub as_it_stood : {D T : Type 0} (view : D → DiskView) (stands : T → History → Type 0) (site : T → ℕ) (holds : T → ℕ → Type 0) (x : House D T) (h : History) → StandsFor view stands site holds x h → IsAsItWas view stands site holds x.journal.disk x h
+pub as_it_stood : {D T : Type 0} (view : D → DiskView) (stands : T → History → Type 0) (site : T → ℕ) (holds : T → ℕ → Type 0) (x : House D T) (h : History) → HouseRepresents view stands site holds x h → IsAsItWas view stands site holds x.journal.disk x h
 as_it_stood view stands site holds x h st = record { stands' = st; disk' = refl }
 
-pub not_accepted : {D T : Type 0} (view : D → DiskView) (stands : T → History → Type 0) (site : T → ℕ) (holds : T → ℕ → Type 0) (x : House D T) (h : History) (a : Answer) (s : Stopped) (f : Refusal) → Refuses f s → answered (Err (stop_of s)) ≡ a
-    → StandsFor view stands site holds x h → Accepted view stands site holds x.journal.disk h a (Refused x f)
+pub not_accepted : {D T : Type 0} (view : D → DiskView) (stands : T → History → Type 0) (site : T → ℕ) (holds : T → ℕ → Type 0) (x : House D T) (h : History) (a : Answer) (s : NotAuthorized) (f : Refusal) → Refuses f s → answered (Err (stop_of s)) ≡ a
+    → HouseRepresents view stands site holds x h → Accepted view stands site holds x.journal.disk h a (Refused x f)
 not_accepted view stands site holds x h a (stops.Refused g) f same e st =
     subst (λ (b : Answer). Accepted view stands site holds x.journal.disk h b (Refused x f)) e (same, as_it_stood view stands site holds x h st)
 not_accepted view stands site holds x h a (stops.Again n) f same e st =
     subst (λ (b : Answer). Accepted view stands site holds x.journal.disk h b (Refused x f)) e (same, as_it_stood view stands site holds x h st)
 
-pub ran_refused : {D T : Type 0} (A : Type 0) (u v : DiskView) (a : Answer) (x : House D T) (f : Refusal) (h : History) (aside : List ℕ) → Ran u v (StandsQuiet h aside) → Ran u v (Leaves {D = D} {T = T} {A = A} a (Refused x f) h aside)
+pub ran_refused : {D T : Type 0} (A : Type 0) (u v : DiskView) (a : Answer) (x : House D T) (f : Refusal) (h : History) (aside : List ℕ) → Ran u v (EncodesNoOutput h aside) → Ran u v (Leaves {D = D} {T = T} {A = A} a (Refused x f) h aside)
 ran_refused A u v (answers.Refused g) x f h aside ran = ran
 ran_refused A u v (answers.Again n) x f h aside ran = ran
 ran_refused A u v (answers.Take e) x f h aside ran = ran
@@ -120,11 +120,11 @@ ran_refused A u v (answers.Take e) x f h aside ran = ran
 -- ---- an entry that accepts nothing
 
 -- an entry with this payload fits the journal
-pub not_full_of : (b : BooksView) (h : History) (limit bytes : ℕ) (e : Entry) → Stands b h → bytes ≡ length (payload e) → size_with b bytes ≤ b.limits.journal → limit ≡ b.limits.journal
+pub not_full_of : (b : HouseStateView) (h : History) (limit bytes : ℕ) (e : Entry) → StateRepresents b h → bytes ≡ length (payload e) → size_with b bytes ≤ b.limits.journal → limit ≡ b.limits.journal
     → limit < size h + entry_size h e → ⊥
 not_full_of b h limit bytes e st long fits limits full = omega (arith, length-tail h e, st.sized, st.tail)
 
--- where the entry may follow it was noted
-pub noted : {E : Type 0} (r : Result ℕ E) (M A B C D : Type 0) (N : ℕ → Type 0) → M → MatchResult r (λ n. M × N n × A) (λ f. (M → ⊥) × B) → MatchResult r (λ n. C) (λ f. D) → A × C
-noted (Ok n) M A B C D N may is contents = (is.2, contents)
-noted (Err f) M A B C D N may is contents = absurd (is.0 may)
+-- where the entry may follow it was applied
+pub applied : {E : Type 0} (r : Result ℕ E) (M A B C D : Type 0) (N : ℕ → Type 0) → M → MatchResult r (λ n. M × N n × A) (λ f. (M → ⊥) × B) → MatchResult r (λ n. C) (λ f. D) → A × C
+applied (Ok n) M A B C D N may is contents = (is.2, contents)
+applied (Err f) M A B C D N may is contents = absurd (is.0 may)

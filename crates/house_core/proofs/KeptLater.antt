@@ -13,10 +13,10 @@ use Rattle.scrip_form.specs.Identities.{issuer_of, epoch_of}
 use Rattle.scrip_form.specs.Issuing.{Issuing, series_end}
 use Rattle.ledger_model.specs.Histories.{History}
 use Rattle.ledger_model.specs.Houses.{terms_in}
-use Rattle.house_core.specs.Books.{BooksView}
+use Rattle.house_core.specs.HouseState.{HouseStateView}
 use Rattle.house_core.specs.declared.bench.Bench.{Bench}
 use Rattle.house_core.specs.Trade.{Replaces, LiesBehind, IsKeptFrom, OfGoods}
-use Rattle.house_core.specs.Stands.{Stands, IsReply, has_ended, scrip_request}
+use Rattle.house_core.specs.Representation.{StateRepresents, IsReply, has_ended, scrip_request}
 use Rattle.house_core.specs.Bench.{IsInForceFor, HasContents}
 
 -- ---- replies
@@ -67,7 +67,7 @@ pub all_held : (old new : ℕ → Type 0) (h : History) (from : Option ℕ) (rs 
 all_held old new h from rs keeps least none in_force held k d lt =
     still_held old new h from (get_or rs k d).entry.number keeps (λ m above. lies_behind from rs k d lt least none m above) (get_or rs k d).entry.deed (in_force k d lt) (held k d lt)
 
--- ---- the books
+-- ---- the state
 
 -- a series that has not ended later has not ended now
 live_before : (h : History) (t u id : ℕ) → t ≤ u → has_ended h u id ≡ false → has_ended h t id ≡ false
@@ -78,8 +78,8 @@ live_before h t u id le = by_terms (terms_in h (issuer_of id))
     by_terms None live = refl
     by_terms (Some x) live = let above : u < series_end x (epoch_of id) = leb-false (series_end x (epoch_of id)) u live in grind (arith, above, le)
 
-pub stands_later : {b : BooksView} {h : History} → Stands b h → (t : ℕ) (kept : KeptView) → b.time ≤ t → kept.keep ≡ b.kept.keep → kept.replies ≡ filter (is_in_time b.kept.keep t) b.kept.replies
-    → Stands (record b { time = t; kept = kept }) h
+pub stands_later : {b : HouseStateView} {h : History} → StateRepresents b h → (t : ℕ) (kept : KeptView) → b.time ≤ t → kept.keep ≡ b.kept.keep → kept.replies ≡ filter (is_in_time b.kept.keep t) b.kept.replies
+    → StateRepresents (record b { time = t; kept = kept }) h
 stands_later {b = b} {h = h} st t kept le keep replies = record {
   name = st.name;
   clear = st.clear;
@@ -105,12 +105,12 @@ stands_later {b = b} {h = h} st t kept le keep replies = record {
 }
 
 pub contents_later : {T : Type 0} (holds : T → ℕ → Type 0) (b c : Bench T) (h : History) (t : ℕ) (from : Option ℕ)
-    → HasContents holds b h → c.books.kept.replies ≡ filter (is_in_time b.books.kept.keep t) b.books.kept.replies
-    → IfSome from (λ n. All (λ r. n ≤ r.entry.number) c.books.kept.replies) → (from ≡ None → c.books.kept.replies ≡ [])
+    → HasContents holds b h → c.state.kept.replies ≡ filter (is_in_time b.state.kept.keep t) b.state.kept.replies
+    → IfSome from (λ n. All (λ r. n ≤ r.entry.number) c.state.kept.replies) → (from ≡ None → c.state.kept.replies ≡ [])
     → ((n : ℕ) → IsKeptFrom h from n → holds b.trade n → holds c.trade n) → HasContents holds c h
 contents_later {T = T} holds b c h t from has replies least none keeps =
-    let of_rest : (P : KeptReply → Type 0) → All P b.books.kept.replies → All P c.books.kept.replies =
-    λ P all. subst (All P) (sym replies) (All-filter (is_in_time b.books.kept.keep t) P b.books.kept.replies all) in
+    let of_rest : (P : KeptReply → Type 0) → All P b.state.kept.replies → All P c.state.kept.replies =
+    λ P all. subst (All P) (sym replies) (All-filter (is_in_time b.state.kept.keep t) P b.state.kept.replies all) in
     let in_force = of_rest (IsInForceFor h) has.in_force in
     let held = of_rest (λ r. OfGoods (holds b.trade) r.entry.deed) has.held in
-    record { in_force = in_force; held = all_held (holds b.trade) (holds c.trade) h from c.books.kept.replies keeps least none in_force held }
+    record { in_force = in_force; held = all_held (holds b.trade) (holds c.trade) h from c.state.kept.replies keeps least none in_force held }

@@ -7,7 +7,7 @@ pub mod Replied
 pub mod Entered
 pub mod Accepting
 pub mod Founded
-pub mod Noted
+pub mod Applied
 pub mod Contents
 pub mod Replayed
 pub mod SendLemmas

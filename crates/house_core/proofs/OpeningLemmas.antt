@@ -68,14 +68,14 @@ module _ {D T : Type 0} (view : D → DiskView) (stands : T → History → Type
   pub none_left : ReadsOn view h l.reading.bytes old.gate (Ok None) new → LearnedAll view stands site holds kind x new b
   none_left reads = (
     h,
-    subst (layout.Stands h) (bytes_told view old h x l.reading told) reads.0,
+    subst (layout.Encodes h) (bytes_told view old h x l.reading told) reads.0,
     record { reading = reads.1; house = l.house; of_kind = l.of_kind; time' = l.time' },
   )
 
   pub spoils_here : (place : ℕ) → ReadsOn view h l.reading.bytes old.gate (Err (BadRecord place)) new → SpoilsAt (limits_of b) kind x place
   spoils_here place reads = record {
     before = h;
-    follow = all_follow (limits_of b) h l.house.stands'.books.lawful;
+    follow = all_follow (limits_of b) h l.house.stands'.state.lawful;
     of_kind = kind_of_first kind h l.of_kind;
     spoiled = subst (λ (bytes : List ℕ). IsSpoiled h bytes place) (bytes_told view old h x l.reading told) reads.0;
   }
@@ -86,7 +86,7 @@ module _ {D T : Type 0} (view : D → DiskView) (stands : T → History → Type
     record {
       reading = is;
       house = record { stands' = replays.1; contents = contents };
-      of_kind = kind_stays (limits_of b) h f l.house.stands'.books.lawful ∙ l.of_kind;
+      of_kind = kind_stays (limits_of b) h f l.house.stands'.state.lawful ∙ l.of_kind;
       time' = omega (arith, replays.2, time_snoc h f, replays.0.in_order);
     },
   )
@@ -94,11 +94,11 @@ module _ {D T : Type 0} (view : D → DiskView) (stands : T → History → Type
   pub breaks_here : (place : ℕ) (f : Entry) → OnlyRead (view old.disk) (view new.disk) → place ≡ old.gate → IsReading view new (h ++ f ∷ []) → (MayFollow (limits_of b) h f → ⊥) → IsUnlawfulAt (limits_of b) kind x place
   breaks_here place f read at is breaks =
       let begins = begins_so view new (h ++ f ∷ []) x is (read.contents ∙ told) in (
-        λ other. kind_tells kind (h ++ f ∷ []) x (kind_stays (limits_of b) h f l.house.stands'.books.lawful ∙ l.of_kind) begins other,
+        λ other. kind_tells kind (h ++ f ∷ []) x (kind_stays (limits_of b) h f l.house.stands'.state.lawful ∙ l.of_kind) begins other,
         inr (record {
           before = h;
           next = f;
-          follow = all_follow (limits_of b) h l.house.stands'.books.lawful;
+          follow = all_follow (limits_of b) h l.house.stands'.state.lawful;
           of_kind = kind_of_first kind h l.of_kind;
           begins = begins;
           place_is = omega (arith, at, l.reading.gate_is);
@@ -115,7 +115,7 @@ read_on_then view moved a b c goes m n = record { disk_moved = goes; only_read =
 module _ {D : Type 0} (view : D → DiskView) (limits : Limits) (kind : ℕ) (x : List ℕ) (old new : Reading D) (told : (view old.disk).contents ≡ Some x) (r : IsReading view old []) where
   pub no_entries : ReadsOn view [] r.bytes old.gate (Ok None) new → IsUnlawfulAt limits kind x 8
   no_entries reads =
-      let stands : layout.Stands [] x = subst (layout.Stands []) (bytes_told view old [] x r told) reads.0 in
+      let stands : layout.Encodes [] x = subst (layout.Encodes []) (bytes_told view old [] x r told) reads.0 in
       (λ other. empty_tells kind x stands other, inl (stands, refl))
 
   pub spoils_first : (place : ℕ) → ReadsOn view [] r.bytes old.gate (Err (BadRecord place)) new → SpoilsAt limits kind x place

@@ -7,7 +7,7 @@ use Rattle.ledger_model.specs.Lines.{Stop, Refuse, Repeat}
 use Rattle.ledger_model.specs.Answer as answers
 use Rattle.ledger_model.specs.Answer.{Answer, answered}
 use Rattle.house_core.specs.declared.bench.Bench.{Bench}
-use Rattle.house_core.specs.declared.verdict.Acceptance.{Acceptance}
+use Rattle.house_core.specs.declared.verdict.Authorization.{Authorization}
 use Rattle.house_core.specs.declared.replaying.ReplayEnd.{ReplayEnd}
 use Rattle.house_core.specs.declared.replaying.ReplayEnd.TheVariants as ends
 use Rattle.house_core.specs.Bench.{Follows, Replays}
@@ -24,8 +24,8 @@ pub stops : (s : Stop) (a : Answer) (e : Entry) → answered (Err s) ≡ a → a
 stops (Refuse f) a e is takes = absurd cc
 stops (Repeat n) a e is takes = absurd cc
 
--- the entry of an acceptance, where an entry says the same
-pub said_entry : (t : ℕ) (text other target goal : List ℕ) (a : Acceptance) (sign : Option (List ℕ)) (price : ℕ) (change : Option ℕ) (deed : Deed) → text ≡ other → target ≡ goal
+-- the entry of an authorization, where an entry says the same
+pub said_entry : (t : ℕ) (text other target goal : List ℕ) (a : Authorization) (sign : Option (List ℕ)) (price : ℕ) (change : Option ℕ) (deed : Deed) → text ≡ other → target ≡ goal
     → IsSaid a sign price change deed → accept_entry t text target a ≡ Accept t other goal sign price change deed
 said_entry t text other target goal a sign price change deed same at said =
     let s = said.sign in
@@ -34,7 +34,7 @@ said_entry t text other target goal a sign price change deed same at said =
     let d = said.deed in
     cc (same, at, s, p, c, d)
 
-pub is_said : (t u : ℕ) (text other target goal : List ℕ) (a : Acceptance) (sign : Option (List ℕ)) (price : ℕ) (change : Option ℕ) (deed : Deed) (answer : Answer)
+pub is_said : (t u : ℕ) (text other target goal : List ℕ) (a : Authorization) (sign : Option (List ℕ)) (price : ℕ) (change : Option ℕ) (deed : Deed) (answer : Answer)
     → answers.Take (accept_entry t text target a) ≡ answer → answer ≡ answers.Take (Accept u other goal sign price change deed) → IsSaid a sign price change deed
 is_said t u text other target goal a sign price change deed answer is takes =
     let same : answers.Take (accept_entry t text target a) ≡ answers.Take (Accept u other goal sign price change deed) = is ∙ takes in

@@ -18,11 +18,11 @@ use Rattle.ledger_model.specs.Answer.{genuine}
 use Rattle.ledger_model.specs.Replies.{Contents, brought, own_text, secret_for, taken_values, taken_reply, reply_of}
 use Rattle.ledger_model.proofs.TableLaws.{line_ok, given_ok, ok_is}
 use Rattle.ledger_model.proofs.ReplyLaws.{own_reply, reply_stays}
-use Rattle.house_core.specs.declared.verdict.Acceptance.{Acceptance}
+use Rattle.house_core.specs.declared.verdict.Authorization.{Authorization}
 use Rattle.house_core.specs.Views.{entry_deed}
-use Rattle.house_core.specs.Books.{BooksView, HasChange, version_of, series_now, kept_entry, change_made, certified_change}
+use Rattle.house_core.specs.HouseState.{HouseStateView, HasChange, version_of, series_now, kept_entry, change_made, certified_change}
 use Rattle.house_core.specs.Trade.{BringsFor}
-use Rattle.house_core.specs.Stands.{Stands, IsReply, brought_then, scrip_request}
+use Rattle.house_core.specs.Representation.{StateRepresents, IsReply, brought_then, scrip_request}
 use Rattle.house_core.specs.Verdicts.{accept_entry, IsReady}
 use Rattle.house_core.proofs.Tabled.{genuine_stands, terms_are_of}
 use Rattle.house_core.proofs.KeptLaws.{contents_stay}
@@ -64,7 +64,7 @@ secret_is h c secret piece e =
     ap (λ (o : Option Scrip). option_and_then (λ p. secret_of h p.cust) o) piece ∙ ap (λ (o : Option Issuing). option_map (λ t. secret_in (of_series c.piece.cust) t c.piece.cust) o) terms ∙ ap (λ (s : List ℕ). Some s) is
 
 -- the change of an entry is the one that was made
-change_is : {b : BooksView} {h : History} → Stands b h → (paid : Scrip) (price id : ℕ) → epoch b.own_terms b.time < 2 ^ 24 → count_in b.own (series_now b) < 2 ^ 32 → id ≡ next_in b.own (series_now b)
+change_is : {b : HouseStateView} {h : History} → StateRepresents b h → (paid : Scrip) (price id : ℕ) → epoch b.own_terms b.time < 2 ^ 24 → count_in b.own (series_now b) < 2 ^ 32 → id ≡ next_in b.own (series_now b)
     → change_from h paid price id ≡ change_made b paid price id
 change_is {b = b} {h = h} st paid price id short below is =
     let own : b.own_terms.issuer ≡ 0 = terms_are_of (all_terms h) 0 b.own_terms st.own_terms in
@@ -74,7 +74,7 @@ change_is {b = b} {h = h} st paid price id short below is =
     ap (λ (o : Option Issuing). unwrap_or (option_map (λ t. series_end t (epoch_of id)) o) 0) st.own_terms ∙ ap (series_end b.own_terms) at in
     λ i. record { vendor = st.name i; value = paid.value - price; id = id; cust = paid.cust; expires = ends i; props = paid.props }
 
-changes_are : {b : BooksView} {h : History} → Stands b h → (c : Certified) (target : List ℕ) (a : Acceptance) → piece_of c.text ≡ Some c.piece → epoch b.own_terms b.time < 2 ^ 24 → b.own.most ≤ 2 ^ 32
+changes_are : {b : HouseStateView} {h : History} → StateRepresents b h → (c : Certified) (target : List ℕ) (a : Authorization) → piece_of c.text ≡ Some c.piece → epoch b.own_terms b.time < 2 ^ 24 → b.own.most ≤ 2 ^ 32
     → HasChange b a.price c.piece.value a.change
     → option_map (own_text h) (change_piece h (accept_entry b.time c.text target a)) ≡ option_map (λ x. scrip_text x.0 x.1) (option_map (certified_change b c.piece a.price) a.change)
 changes_are {b = b} {h = h} st c target a piece short most has = go a.change has
@@ -92,7 +92,7 @@ changes_are {b = b} {h = h} st c target a piece short most has = go a.change has
         ∙ ap (λ (p : Scrip). some (own_text h p)) same ∙ ap some text
 
 -- the reply to a new entry
-pub reply_new : {b : BooksView} {h : History} → Stands b h → (q : Asked) (c : Certified) (a : Acceptance) → piece_of c.text ≡ Some c.piece → IsReady b c q.target a → epoch b.own_terms b.time < 2 ^ 24 → b.own.most ≤ 2 ^ 32
+pub reply_new : {b : HouseStateView} {h : History} → StateRepresents b h → (q : Asked) (c : Certified) (a : Authorization) → piece_of c.text ≡ Some c.piece → IsReady b c q.target a → epoch b.own_terms b.time < 2 ^ 24 → b.own.most ≤ 2 ^ 32
     → BringsFor h q.target a.deed → IsReply (h ++ accept_entry b.time c.text q.target a ∷ []) (record { asked = scrip_request c.text q.target q.sign; entry = kept_entry b c.piece a })
 reply_new {b = b} {h = h} st q c a piece ready short most brings =
     let e = accept_entry b.time c.text q.target a in

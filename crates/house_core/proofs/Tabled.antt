@@ -25,18 +25,18 @@ use Rattle.ledger_model.specs.Answer.{repeated, genuine, spendable, offer, next_
 use Rattle.ledger_model.specs.Slow.{after_repeat, after_read}
 use Rattle.ledger_model.proofs.TableLaws.{line_ok, refused_ok, given_ok}
 use Rattle.ledger_model.proofs.RepeatLaws.{again_is_same}
-use Rattle.house_core.specs.Books.{BooksView, version_of, tail_of, series_now}
+use Rattle.house_core.specs.HouseState.{HouseStateView, version_of, tail_of, series_now}
 use Rattle.house_core.specs.House.{HasRun}
 use Rattle.house_core.specs.Spent.{is_marked}
-use Rattle.house_core.specs.Stands.{Stands, has_ended, scrip_request}
+use Rattle.house_core.specs.Representation.{StateRepresents, has_ended, scrip_request}
 use Rattle.house_core.specs.Verdicts.{repeat_of}
 
 -- ---- 22 to 25
 
-abbrev pub genuine_in : BooksView → Certified → Result (List ℕ) Stop
+abbrev pub genuine_in : HouseStateView → Certified → Result (List ℕ) Stop
 genuine_in b c = genuine_by b.name (version_of b) b.terms c
 
-pub genuine_stands : {b : BooksView} {h : History} → Stands b h → (c : Certified) → genuine h c ≡ genuine_in b c
+pub genuine_stands : {b : HouseStateView} {h : History} → StateRepresents b h → (c : Certified) → genuine h c ≡ genuine_in b c
 genuine_stands {b = b} {h = h} st c =
     ap₂ (λ (n : List ℕ) (ts : List Issuing). genuine_by n (version h (site_name h)) ts c) st.name st.terms ∙ ap (λ (v : ℕ → ℕ). genuine_by b.name v b.terms c) st.version
 
@@ -75,10 +75,10 @@ spent_counts clear x y t secret target sign c same = go (leb c.piece.expires t) 
     go true same = refl
     go false same = ap (λ (s : Bool). rest_spendable clear s secret target sign c) (same refl)
 
-abbrev pub spendable_in : BooksView → List ℕ → Asked → Certified → Result (Option (List ℕ)) Stop
+abbrev pub spendable_in : HouseStateView → List ℕ → Asked → Certified → Result (Option (List ℕ)) Stop
 spendable_in b secret q c = spendable_by b.clear (is_marked b.spent c.piece.id) b.time secret q.target q.sign c
 
-spendable_stands : {b : BooksView} {h : History} → Stands b h → (secret : List ℕ) (q : Asked) (c : Certified) → genuine h c ≡ Ok secret
+spendable_stands : {b : HouseStateView} {h : History} → StateRepresents b h → (secret : List ℕ) (q : Asked) (c : Certified) → genuine h c ≡ Ok secret
     → spendable h b.time secret q c ≡ spendable_in b secret q c
 spendable_stands {b = b} {h = h} st secret q c is =
     ap (λ (clear : Bool). spendable_by clear (is_spent h c.piece.id) b.time secret q.target q.sign c) st.clear
@@ -87,7 +87,7 @@ spendable_stands {b = b} {h = h} st secret q c is =
 
 -- ---- 32, 33
 
-abbrev pub change_in : BooksView → ℕ → ℕ → Result (Option ℕ) Stop
+abbrev pub change_in : HouseStateView → ℕ → ℕ → Result (Option ℕ) Stop
 change_in b price value = needed (nat_lt price value) (next_by b.own.most (series_at b.own.terms b.time) (count_in b.own (series_at b.own.terms b.time)))
 
 -- the terms of an issuer are of it
@@ -100,26 +100,26 @@ terms_are_of (x ∷ xs) issuer t e = go (eqb x.issuer issuer) refl (terms_are_of
     go false is more f = more f
 
 -- the terms that the history has for issuer 0 are those that the books have for the house itself
-pub own_terms_are : {b : BooksView} {h : History} → Stands b h → (terms : Issuing) → terms_in h 0 ≡ Some terms → b.own_terms ≡ terms
+pub own_terms_are : {b : HouseStateView} {h : History} → StateRepresents b h → (terms : Issuing) → terms_in h 0 ≡ Some terms → b.own_terms ≡ terms
 own_terms_are {b = b} st terms own = let both : Some b.own_terms ≡ Some terms = sym st.own_terms ∙ own in cc
 
-pub series_stands : {b : BooksView} {h : History} → Stands b h → (t : ℕ) → own_series h t ≡ series_at b.own.terms t
+pub series_stands : {b : HouseStateView} {h : History} → StateRepresents b h → (t : ℕ) → own_series h t ≡ series_at b.own.terms t
 series_stands {b = b} {h = h} st t =
     let zero : b.own_terms.issuer ≡ 0 = terms_are_of (all_terms h) 0 b.own_terms st.own_terms in
     ap (λ (o : Option Issuing). unwrap_or (option_map (λ x. epoch x t) o) 0) st.own_terms ∙ omega (arith, zero) ∙ ap (λ (x : Issuing). series_at x t) (sym st.issuer)
 
 -- the next pieces of the house's own series
-pub run_stands : {b : BooksView} {h : History} → Stands b h → (count : ℕ) (r : Result ℕ Refusal)
+pub run_stands : {b : HouseStateView} {h : History} → StateRepresents b h → (count : ℕ) (r : Result ℕ Refusal)
     → MatchResult r (λ id. (id ≡ next_in b.own (series_now b)) × (count_in b.own (series_now b) + count ≤ b.own.most)) (λ f. (f ≡ SeriesFull (series_now b)) × (b.own.most < count_in b.own (series_now b) + count))
     → HasRun h b.time b.limits count r
 run_stands {b = b} {h = h} st count (Ok id) m = rw (series_stands st b.time, st.issued (series_now b), ← st.most) m
 run_stands {b = b} {h = h} st count (Err f) m = rw (series_stands st b.time, st.issued (series_now b), ← st.most) m
 
-change_stands : {b : BooksView} {h : History} → Stands b h → (limits : Limits) → limits.series ≡ b.limits.series → (price value : ℕ) → needed (nat_lt price value) (next_own h b.time limits) ≡ change_in b price value
+change_stands : {b : HouseStateView} {h : History} → StateRepresents b h → (limits : Limits) → limits.series ≡ b.limits.series → (price value : ℕ) → needed (nat_lt price value) (next_own h b.time limits) ≡ change_in b price value
 change_stands {b = b} {h = h} st limits same price value =
     rw (series_stands st b.time, st.issued (series_at b.own.terms b.time), st.most, same) refl
 
-pub fitted_stands : {b : BooksView} {h : History} → Stands b h → (limits : Limits) (e : Entry) → fitted h limits e ≡ fitted_by limits.journal b.size (tail_of b) e
+pub fitted_stands : {b : HouseStateView} {h : History} → StateRepresents b h → (limits : Limits) (e : Entry) → fitted h limits e ≡ fitted_by limits.journal b.size (tail_of b) e
 fitted_stands {b = b} {h = h} st limits e = ap₂ (λ (n t : ℕ). fitted_by limits.journal n t e) st.sized (length-tail h e ∙ st.tail)
 
 -- ---- 30 to 33
@@ -130,11 +130,11 @@ pub offered_at : (h : History) (t u : ℕ) (limits others : Limits) (target : Li
 offered_at h t u limits others target value worth o time limit same e =
     e ∙ ap (λ (x : ℕ). offer h x others target worth) time ∙ ap (λ (l : Limits). offer h t l target worth) limit ∙ ap (λ (n : ℕ). offer h t limits target n) same
 
-pub no_change : {b : BooksView} {h : History} → Stands b h → (limits : Limits) → limits.series ≡ b.limits.series → (q : Asked) (c : Certified) (sign : Option (List ℕ)) (o : Offer) (s : Stop)
+pub no_change : {b : HouseStateView} {h : History} → StateRepresents b h → (limits : Limits) → limits.series ≡ b.limits.series → (q : Asked) (c : Certified) (sign : Option (List ℕ)) (o : Offer) (s : Stop)
     → Ok o ≡ offer h b.time limits q.target c.piece.value → Err s ≡ change_in b o.price c.piece.value → Err s ≡ taken h b.time limits q c sign
 no_change st limits same q c sign o s offered full = rw (← offered, change_stands st limits same o.price c.piece.value, ← full) refl
 
-pub fits : {b : BooksView} {h : History} → Stands b h → (limits : Limits) → limits.series ≡ b.limits.series → (q : Asked) (c : Certified) (sign : Option (List ℕ)) (o : Offer) (change : Option ℕ) (r : Result Entry Stop)
+pub fits : {b : HouseStateView} {h : History} → StateRepresents b h → (limits : Limits) → limits.series ≡ b.limits.series → (q : Asked) (c : Certified) (sign : Option (List ℕ)) (o : Offer) (change : Option ℕ) (r : Result Entry Stop)
     → Ok o ≡ offer h b.time limits q.target c.piece.value → Ok change ≡ change_in b o.price c.piece.value
     → r ≡ fitted_by limits.journal b.size (tail_of b) (Accept b.time c.text q.target sign o.price change o.deed) → r ≡ taken h b.time limits q c sign
 fits st limits same q c sign o change r offered changed is =
@@ -142,13 +142,13 @@ fits st limits same q c sign o change r offered changed is =
 
 -- ---- from 22 on
 
-pub not_spendable : {b : BooksView} {h : History} → Stands b h → (limits : Limits) (q : Asked) (c : Certified) (secret : List ℕ) (s : Stop)
+pub not_spendable : {b : HouseStateView} {h : History} → StateRepresents b h → (limits : Limits) (q : Asked) (c : Certified) (secret : List ℕ) (s : Stop)
     → Ok secret ≡ genuine_in b c → Err s ≡ spendable_in b secret q c → Err s ≡ after_repeat h b.time limits q c
 not_spendable {h = h} st limits q c secret s is refused =
     let genuine_is : genuine h c ≡ Ok secret = genuine_stands st c ∙ sym is in
     rw (genuine_is, spendable_stands st secret q c genuine_is, ← refused) refl
 
-pub takes : {b : BooksView} {h : History} → Stands b h → (limits : Limits) (q : Asked) (c : Certified) (secret : List ℕ) (sign : Option (List ℕ)) (r : Result Entry Stop)
+pub takes : {b : HouseStateView} {h : History} → StateRepresents b h → (limits : Limits) (q : Asked) (c : Certified) (secret : List ℕ) (sign : Option (List ℕ)) (r : Result Entry Stop)
     → Ok secret ≡ genuine_in b c → Ok sign ≡ spendable_in b secret q c → r ≡ taken h b.time limits q c sign → r ≡ after_repeat h b.time limits q c
 takes {h = h} st limits q c secret sign r is may e =
     let genuine_is : genuine h c ≡ Ok secret = genuine_stands st c ∙ sym is in
@@ -156,21 +156,21 @@ takes {h = h} st limits q c secret sign r is may e =
 
 -- ---- repeats
 
-abbrev pub kept_number : BooksView → Asked → Certified → Option ℕ
+abbrev pub kept_number : HouseStateView → Asked → Certified → Option ℕ
 kept_number b q c = option_map (λ e. e.number) (found b.kept b.time (scrip_request c.text q.target q.sign))
 
 -- the number that a search for the request with its text gives
-pub number_at : (b : BooksView) (q asked : Asked) (c : Certified) (r : Option ℕ) → asked ≡ scrip_request c.text q.target q.sign
+pub number_at : (b : HouseStateView) (q asked : Asked) (c : Certified) (r : Option ℕ) → asked ≡ scrip_request c.text q.target q.sign
     → r ≡ option_map (λ e. e.number) (found b.kept b.time asked) → r ≡ kept_number b q c
 number_at b q asked c r same e = e ∙ ap (λ (p : Asked). option_map (λ e. e.number) (found b.kept b.time p)) same
 
-again_is : {b : BooksView} {h : History} → Stands b h → (q : Asked) (c : Certified) → repeated h b.time c q ≡ kept_number b q c
+again_is : {b : HouseStateView} {h : History} → StateRepresents b h → (q : Asked) (c : Certified) → repeated h b.time c q ≡ kept_number b q c
 again_is {b = b} st q c = st.again b.time c.text q.target q.sign (omega arith)
 
-pub comes_again : {b : BooksView} {h : History} → Stands b h → (limits : Limits) (q : Asked) (c : Certified) (n : ℕ) → Some n ≡ kept_number b q c → Err (Repeat n) ≡ after_read h b.time limits q c
+pub comes_again : {b : HouseStateView} {h : History} → StateRepresents b h → (limits : Limits) (q : Asked) (c : Certified) (n : ℕ) → Some n ≡ kept_number b q c → Err (Repeat n) ≡ after_read h b.time limits q c
 comes_again st limits q c n is = rw (again_is st q c, ← is) refl
 
-pub is_new : {b : BooksView} {h : History} → Stands b h → (limits : Limits) (q : Asked) (c : Certified) (r : Result Entry Stop) → None ≡ kept_number b q c
+pub is_new : {b : HouseStateView} {h : History} → StateRepresents b h → (limits : Limits) (q : Asked) (c : Certified) (r : Result Entry Stop) → None ≡ kept_number b q c
     → r ≡ after_repeat h b.time limits q c → r ≡ after_read h b.time limits q c
 is_new st limits q c r none e = rw (again_is st q c, ← none) e
 
@@ -215,7 +215,7 @@ not_again (Again n) not = absurd (not n refl)
 not_again (Take e) not = refl
 
 -- what is kept of a request tells whether it comes again
-pub repeat_kept : {b : BooksView} {h : History} → Stands b h → (limits : Limits) (q : Asked) (c : Certified) → q.scrip ≡ Some c.text → scrip_of c.text ≡ Ok (c.piece, c.cert)
+pub repeat_kept : {b : HouseStateView} {h : History} → StateRepresents b h → (limits : Limits) (q : Asked) (c : Certified) → q.scrip ≡ Some c.text → scrip_of c.text ≡ Ok (c.piece, c.cert)
     → kept_number b q c ≡ repeat_of (answer h b.time limits q)
 repeat_kept {b = b} {h = h} st limits q c asked read = by_kept (kept_number b q c) refl
   where

@@ -10,54 +10,54 @@ use Rattle.ledger_model.specs.Lines.{Refuse}
 use Rattle.ledger_model.specs.Answer.{fitted, Answer, Refused, Again, Take}
 use Rattle.ledger_model.specs.Lawful.{MayFollow}
 use Rattle.house_core.specs.declared.bench.Bench.{Bench}
-use Rattle.house_core.specs.declared.verdict.Stopped.{Stopped}
-use Rattle.house_core.specs.declared.verdict.Stopped.TheVariants as stops
+use Rattle.house_core.specs.declared.verdict.NotAuthorized.{NotAuthorized}
+use Rattle.house_core.specs.declared.verdict.NotAuthorized.TheVariants as stops
 use Rattle.house_core.specs.declared.verdict.EnterFault.{EnterFault}
 use Rattle.house_core.specs.declared.verdict.EnterFault.TheVariants as enters
 use Rattle.house_core.specs.declared.replaying.ReplayEnd.{ReplayEnd}
 use Rattle.house_core.specs.declared.replaying.ReplayEnd.TheVariants as ends
 use Rattle.house_core.specs.declared.verdict.BenchFault.{BenchFault}
 use Rattle.house_core.specs.declared.verdict.BenchFault.TheVariants as faults
-use Rattle.house_core.specs.Stands.{Stands}
-use Rattle.house_core.specs.Books.{IsAsBefore}
+use Rattle.house_core.specs.Representation.{StateRepresents}
+use Rattle.house_core.specs.HouseState.{IsAsBefore}
 use Rattle.house_core.specs.Trade.{OfGoods, Replaces}
 use Rattle.house_core.specs.Replying.{IsOfSite}
 use Rattle.house_core.specs.Session.{State}
 
 abbrev pub house_time : {T : Type 0} → Bench T → ℕ
-house_time b = b.books.time
+house_time b = b.state.time
 
 abbrev pub limits_of : {T : Type 0} → Bench T → Limits
-limits_of b = b.books.limits
+limits_of b = b.state.limits
 
 -- Entries that replace the goods which a reply brings come after the entry of the reply.
 abbrev pub IsInForceFor : History → KeptReply → Type 0
 IsInForceFor h r = OfGoods (λ n. (m : ℕ) → Replaces h n m → r.entry.number < m) r.entry.deed
 
--- The books and the trade stand for the history, which is of the trade's kind of site.
-pub record Holds {T : Type 0} (stands : T → History → Type 0) (site : T → ℕ) (b : Bench T) (h : History) : Type 0 where
-  pub books : Stands b.books h
+-- The state and the trade represent the history, which is of the trade's kind of site.
+pub record Represents {T : Type 0} (stands : T → History → Type 0) (site : T → ℕ) (b : Bench T) (h : History) : Type 0 where
+  pub state : StateRepresents b.state h
   pub trade : stands b.trade h
   pub of_kind : site_kind h ≡ Some (site b.trade)
 
 -- The trade has what the kept replies bring, and no earlier entry replaces it.
 pub record HasContents {T : Type 0} (holds : T → ℕ → Type 0) (b : Bench T) (h : History) : Type 0 where
-  pub in_force : All (IsInForceFor h) b.books.kept.replies
-  pub held : All (λ r. OfGoods (holds b.trade) r.entry.deed) b.books.kept.replies
+  pub in_force : All (IsInForceFor h) b.state.kept.replies
+  pub held : All (λ r. OfGoods (holds b.trade) r.entry.deed) b.state.kept.replies
 
--- the house stands for the history, and can reply as it says
+-- the house represents the history, and can reply as it says
 pub record IsHouse {T : Type 0} (stands : T → History → Type 0) (site : T → ℕ) (holds : T → ℕ → Type 0) (b : Bench T) (h : History) : Type 0 where
-  pub stands' : Holds stands site b h
+  pub stands' : Represents stands site b h
   pub contents : HasContents holds b h
 
 -- the reply of the entry of this number is kept
 abbrev pub KeepsReply : {T : Type 0} → Bench T → ℕ → Type 0
-KeepsReply b n = IsTrue (has_number b.books.kept.replies n)
+KeepsReply b n = IsTrue (has_number b.state.kept.replies n)
 
--- Room was made in the books and in the trade: the house stands for what it stood for, and has what it
+-- Room was made in the state and in the trade: the house represents what it represented, and has what it
 -- had.
 pub record IsRoomed {T : Type 0} (stands : T → History → Type 0) (site : T → ℕ) (holds : T → ℕ → Type 0) (old new : Bench T) : Type 0 where
-  pub books : IsAsBefore old.books new.books
+  pub state : IsAsBefore old.state new.state
   pub site' : site new.trade ≡ site old.trade
   pub stands' : (h : History) → stands old.trade h → stands new.trade h
   pub held : (n : ℕ) → holds old.trade n → holds new.trade n
@@ -67,32 +67,32 @@ pub record IsRoomed {T : Type 0} (stands : T → History → Type 0) (site : T �
 abbrev pub state_of : {T : Type 0} → History → Bench T → State
 state_of h b = record { history = h; time = house_time b }
 
--- the house stands for a history now, to whose state the relation leads
-pub record Came {T : Type 0} (stands : T → History → Type 0) (site : T → ℕ) (holds : T → ℕ → Type 0) (Leads : State → Type 0) (b : Bench T) : Type 0 where
+-- the house represents a history now, to whose state the relation leads
+pub record Reaches {T : Type 0} (stands : T → History → Type 0) (site : T → ℕ) (holds : T → ℕ → Type 0) (Relates : State → Type 0) (b : Bench T) : Type 0 where
   pub history : History
   pub house : IsHouse stands site holds b history
-  pub leads : Leads (state_of history b)
+  pub related : Relates (state_of history b)
 
--- from the state of each history that the house stood for, to that of one that it stands for now
-abbrev pub Went : {T : Type 0} → (T → History → Type 0) → (T → ℕ) → (T → ℕ → Type 0) → (State → State → Type 0) → Bench T → Bench T → Type 0
-Went stands site holds Leads a b = (h : History) → IsHouse stands site holds a h → Came stands site holds (Leads (state_of h a)) b
+-- from the state of each history that the house represented, to that of one that it represents now
+abbrev pub Refines : {T : Type 0} → (T → History → Type 0) → (T → ℕ) → (T → ℕ → Type 0) → (State → State → Type 0) → Bench T → Bench T → Type 0
+Refines stands site holds Relates a b = (h : History) → IsHouse stands site holds a h → Reaches stands site holds (Relates (state_of h a)) b
 
 -- ---- what comes of a request
 
 -- of a request that the answer takes: its entry is entered under the next number, or want of memory
 -- leaves the house as it was
 abbrev pub Takes : {T : Type 0} → (T → History → Type 0) → (T → ℕ) → Bench T → History → Entry → Result ℕ NoMemory → Type 0
-Takes stands site b h e (Ok n) = (n ≡ length h) × Holds stands site b (h ++ e ∷ [])
-Takes stands site b h e (Err fault) = Holds stands site b h
+Takes stands site b h e (Ok n) = (n ≡ length h) × Represents stands site b (h ++ e ∷ [])
+Takes stands site b h e (Err fault) = Represents stands site b h
 
 -- Of a request with this answer: its entry is entered under the next number, or there is no memory for
 -- it; a refusal and the number of a request that comes again are those of the answer, and leave the house
 -- as it was.
 abbrev pub Accepts : {T : Type 0} → (T → History → Type 0) → (T → ℕ) → Bench T → History → Answer → Result ℕ BenchFault → Type 0
-Accepts stands site b h (Take e) (Ok n) = (n ≡ length h) × Holds stands site b (h ++ e ∷ [])
-Accepts stands site b h (Take e) (Err faults.NoMemory) = Holds stands site b h
-Accepts stands site b h (Refused f) (Err (faults.Refused g)) = (g ≡ f) × Holds stands site b h
-Accepts stands site b h (Again m) (Ok n) = (n ≡ m) × Holds stands site b h
+Accepts stands site b h (Take e) (Ok n) = (n ≡ length h) × Represents stands site b (h ++ e ∷ [])
+Accepts stands site b h (Take e) (Err faults.NoMemory) = Represents stands site b h
+Accepts stands site b h (Refused f) (Err (faults.Refused g)) = (g ≡ f) × Represents stands site b h
+Accepts stands site b h (Again m) (Ok n) = (n ≡ m) × Represents stands site b h
 Accepts stands site b h _ _ = ⊥
 
 -- the contents that kept replies bring are there, after a request with this answer too
@@ -106,28 +106,28 @@ FaultIsOfSite (faults.Refused f) = IsOfSite f
 FaultIsOfSite faults.NoMemory = Unit {0}
 
 -- what is answered to a request that makes no entry
-abbrev pub stopped_with : Stopped → Result ℕ BenchFault
+abbrev pub stopped_with : NotAuthorized → Result ℕ BenchFault
 stopped_with (stops.Refused f) = Err (faults.Refused f)
 stopped_with (stops.Again n) = Ok n
 
 -- Of an entry by a command: it may follow, and is entered under the next number; or it may not follow,
 -- does not fit, or there is no memory for it, and the house stays as it was.
 abbrev pub Enters : {T : Type 0} → (T → History → Type 0) → (T → ℕ) → Bench T → Limits → History → Entry → Result ℕ EnterFault → Type 0
-Enters stands site b limits h e (Ok n) = MayFollow limits h e × (n ≡ length h) × Holds stands site b (h ++ e ∷ [])
-Enters stands site b limits h e (Err enters.Unlawful) = (MayFollow limits h e → ⊥) × Holds stands site b h
-Enters stands site b limits h e (Err (enters.Refused f)) = (fitted h limits e ≡ Err (Refuse f)) × Holds stands site b h
-Enters stands site b limits h e (Err enters.NoMemory) = Holds stands site b h
+Enters stands site b limits h e (Ok n) = MayFollow limits h e × (n ≡ length h) × Represents stands site b (h ++ e ∷ [])
+Enters stands site b limits h e (Err enters.Unlawful) = (MayFollow limits h e → ⊥) × Represents stands site b h
+Enters stands site b limits h e (Err (enters.Refused f)) = (fitted h limits e ≡ Err (Refuse f)) × Represents stands site b h
+Enters stands site b limits h e (Err enters.NoMemory) = Represents stands site b h
 
 -- Of an entry that accepts nothing and fits: it may follow, and is entered under the next number; or it
 -- may not follow, or there is no memory for it, and the house stays as it was.
 abbrev pub Follows : {T : Type 0} → (T → History → Type 0) → (T → ℕ) → Bench T → Limits → History → Entry → Result ℕ ReplayEnd → Type 0
-Follows stands site b limits h e (Ok n) = MayFollow limits h e × (n ≡ length h) × Holds stands site b (h ++ e ∷ [])
-Follows stands site b limits h e (Err ends.Unlawful) = (MayFollow limits h e → ⊥) × Holds stands site b h
-Follows stands site b limits h e (Err ends.NoMemory) = Holds stands site b h
+Follows stands site b limits h e (Ok n) = MayFollow limits h e × (n ≡ length h) × Represents stands site b (h ++ e ∷ [])
+Follows stands site b limits h e (Err ends.Unlawful) = (MayFollow limits h e → ⊥) × Represents stands site b h
+Follows stands site b limits h e (Err ends.NoMemory) = Represents stands site b h
 
--- Of the next entry of a history: it may follow, and the house stands for the history with it, at its
+-- Of the next entry of a history: it may follow, and the house represents the history with it, at its
 -- moment; or it may not follow; or there is no memory for it.
 abbrev pub Replays : {T : Type 0} → (T → History → Type 0) → (T → ℕ) → Bench T → Limits → History → Entry → Result (Unit {0}) ReplayEnd → Type 0
-Replays stands site b limits h e (Ok u) = MayFollow limits h e × Holds stands site b (h ++ e ∷ []) × (house_time b ≡ moment_of e)
+Replays stands site b limits h e (Ok u) = MayFollow limits h e × Represents stands site b (h ++ e ∷ []) × (house_time b ≡ moment_of e)
 Replays stands site b limits h e (Err ends.Unlawful) = MayFollow limits h e → ⊥
 Replays stands site b limits h e (Err ends.NoMemory) = Unit {0}

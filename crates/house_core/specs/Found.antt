@@ -11,23 +11,23 @@ use Rattle.scrip_journal.specs.declared.fault.HouseFault.{HouseFault}
 use Rattle.scrip_journal.specs.declared.fault.HouseFault.TheVariants.{NotEmpty, Disk, NoMemory}
 use Rattle.house_core.specs.declared.house.House.{House}
 use Rattle.house_core.specs.Bench.{house_time, limits_of}
-use Rattle.house_core.specs.House.{StandsFor}
+use Rattle.house_core.specs.House.{HouseRepresents}
 use Rattle.house_core.specs.Opening.{fault_disk}
 
--- The disk may be founded on: its bytes stand for no entries, or are nine at most.
+-- The disk may be founded on: its bytes encode no entries, or are nine at most.
 abbrev pub IsFree : List ℕ → Type 0
-IsFree bytes = layout.Stands [] bytes ⊎ (length bytes ≤ 9)
+IsFree bytes = layout.Encodes [] bytes ⊎ (length bytes ≤ 9)
 
--- The disk has so many bytes, more than nine, which don't stand for no entries.
+-- The disk has so many bytes, more than nine, which don't encode no entries.
 pub record IsTaken (bytes : List ℕ) (count : ℕ) : Type 0 where
   pub count_is : count ≡ length bytes
   pub many : 9 < count
-  pub other : layout.Stands [] bytes → ⊥
+  pub other : layout.Encodes [] bytes → ⊥
 
--- The house stands for this entry alone, at its moment, on a disk that was free.
+-- The house represents this entry alone, at its moment, on a disk that was free.
 pub record FoundedFor {D T : Type 0} (view : D → DiskView) (stands : T → History → Type 0) (site : T → ℕ) (holds : T → ℕ → Type 0) (limits : Limits) (e : Entry) (bytes : List ℕ) (x : House D T) : Type 0 where
   pub free : IsFree bytes
-  pub house : StandsFor view stands site holds x (e ∷ [])
+  pub house : HouseRepresents view stands site holds x (e ∷ [])
   pub time' : house_time x.bench ≡ moment_of e
   pub limits' : limits_of x.bench ≡ limits
 
@@ -56,17 +56,17 @@ ReadsOnly view disk _ = Unit {0}
 
 -- A crash pair whose image has at most nine bytes, or is one that a crash before could have left, with
 -- nothing sent.
-abbrev pub ShortQuiet : DiskView → List ℕ → List ℕ → Type 0
-ShortQuiet before c s = ((length c ≤ 9) ⊎ before.leaves c) × (s ≡ before.aside)
+abbrev pub ShortNoOutput : DiskView → List ℕ → List ℕ → Type 0
+ShortNoOutput before c s = ((length c ≤ 9) ⊎ before.leaves c) × (s ≡ before.aside)
 
--- an image of at most nine bytes, or one that a crash before could have left, or one that stands for no
+-- an image of at most nine bytes, or one that a crash before could have left, or one that encodes no
 -- entries or for this one alone
 abbrev pub FoundImage : DiskView → Entry → List ℕ → Type 0
-FoundImage before e c = ((length c ≤ 9) ⊎ before.leaves c) ⊎ (layout.Stands [] c ⊎ layout.Stands (e ∷ []) c)
+FoundImage before e c = ((length c ≤ 9) ⊎ before.leaves c) ⊎ (layout.Encodes [] c ⊎ layout.Encodes (e ∷ []) c)
 
 -- a crash pair of such an image, with nothing sent
-abbrev pub FoundQuiet : DiskView → Entry → List ℕ → List ℕ → Type 0
-FoundQuiet before e c s = FoundImage before e c × (s ≡ before.aside)
+abbrev pub FoundNoOutput : DiskView → Entry → List ℕ → List ℕ → Type 0
+FoundNoOutput before e c s = FoundImage before e c × (s ≡ before.aside)
 
 -- ---- its steps
 
@@ -93,7 +93,7 @@ ClearsFree view bytes (Err _) = ⊥
 
 -- the entry stands in the journal, or the disk failed and no other fault came
 abbrev pub EntersSite : {D T : Type 0} → (D → DiskView) → (T → History → Type 0) → (T → ℕ) → (T → ℕ → Type 0) → Entry → Result (House D T) (HouseFault D) → Type 0
-EntersSite view stands site holds e (Ok x) = StandsFor view stands site holds x (e ∷ [])
+EntersSite view stands site holds e (Ok x) = HouseRepresents view stands site holds x (e ∷ [])
 EntersSite view stands site holds e (Err (Disk d)) = Unit {0}
 EntersSite view stands site holds e (Err _) = ⊥
 

@@ -1,15 +1,15 @@
--- The books of a house that was just founded.
+-- The state of a house that was just founded.
 use Rattle.std.specs.Prelude.{◌≡◌, ℕ, ◌+◌, false, List, [], ◌∷◌, length, Some}
 use Rattle.mc_records.specs.declared.limits.Limits.{Limits}
 use Rattle.mc_records.specs.Entry.{House, Entry, Site, Fits, payload}
 use Rattle.mc_records.specs.Sizes.{empty_size, framed_size, tail_size}
 use Rattle.change_issue.specs.Registers.{count_in, issued_in, redeemed_in}
 use Rattle.house_core.specs.Spent.{is_marked}
-use Rattle.house_core.specs.Books.{BooksView}
+use Rattle.house_core.specs.HouseState.{HouseStateView}
 
--- the books hold nothing but what a Site entry of this moment, name and house, with a payload of so many
+-- the state holds nothing but what a Site entry of this moment, name and house, with a payload of so many
 -- bytes, founds
-pub record AreFounded (b : BooksView) (m : ℕ) (site : List ℕ) (h : House) (l : Limits) (len : ℕ) : Type 0 where
+pub record IsFounded (b : HouseStateView) (m : ℕ) (site : List ℕ) (h : House) (l : Limits) (len : ℕ) : Type 0 where
   pub name : b.name ≡ site
   pub clear : b.clear ≡ h.clear
   pub terms : b.terms ≡ h.terms ∷ []
@@ -28,10 +28,10 @@ pub record AreFounded (b : BooksView) (m : ℕ) (site : List ℕ) (h : House) (l
   pub sized : b.size ≡ empty_size + framed_size len (tail_size [])
   pub limits : b.limits ≡ l
 
--- the books are those that an entry founds
-abbrev pub AreOf : BooksView → Limits → Entry → Type 0
-AreOf b limits (Site m kind name (Some h)) = AreFounded b m name h limits (length (payload (Site m kind name (Some h))))
-AreOf b limits _ = ⊥
+-- the state is the one that an entry founds
+abbrev pub IsStateOf : HouseStateView → Limits → Entry → Type 0
+IsStateOf b limits (Site m kind name (Some h)) = IsFounded b m name h limits (length (payload (Site m kind name (Some h))))
+IsStateOf b limits _ = ⊥
 
 -- a Site entry of a house, with a payload
 abbrev pub FoundsHouse : Entry → Type 0

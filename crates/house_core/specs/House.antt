@@ -14,22 +14,22 @@ use Rattle.ledger_model.specs.Lines.{Refuse}
 use Rattle.ledger_model.specs.Pieces.{own_count, next_identity}
 use Rattle.ledger_model.specs.Answer as answers
 use Rattle.ledger_model.specs.Answer.{Answer, fitted}
-use Rattle.scrip_journal.specs.Layout.{Stands}
+use Rattle.scrip_journal.specs.Layout.{Encodes}
 use Rattle.scrip_journal.specs.States.{AtRest, IsJournal}
 use Rattle.scrip_journal.specs.Rests.{RestsAs, rests_none, rests_then}
-use Rattle.scrip_journal.specs.Exits.{StandsQuiet, EitherQuiet}
+use Rattle.scrip_journal.specs.Exits.{EncodesNoOutput, EitherNoOutput}
 use Rattle.scrip_journal.specs.declared.journal.StageFault.{StageFault}
 use Rattle.scrip_journal.specs.declared.journal.StageFault.TheVariants.{Full, Disk}
-use Rattle.house_core.specs.declared.verdict.Stopped.{Stopped}
-use Rattle.house_core.specs.declared.verdict.Stopped.TheVariants as stops
+use Rattle.house_core.specs.declared.verdict.NotAuthorized.{NotAuthorized}
+use Rattle.house_core.specs.declared.verdict.NotAuthorized.TheVariants as stops
 use Rattle.house_core.specs.declared.house.House.{House}
 use Rattle.house_core.specs.declared.settled.Settled.{Settled}
 use Rattle.house_core.specs.declared.outcome.Outcome.{Outcome}
 use Rattle.house_core.specs.declared.outcome.Outcome.TheVariants.{Done, Refused, NoMemory, Halted}
 use Rattle.house_core.specs.Bench.{IsHouse, house_time, limits_of}
 
--- The journal and the bench stand for the history, and the journal has the house's limit.
-pub record StandsFor {D T : Type 0} (view : D → DiskView) (stands : T → History → Type 0) (site : T → ℕ) (holds : T → ℕ → Type 0) (x : House D T) (h : History) : Type 0 where
+-- The journal and the bench represent the history, and the journal has the house's limit.
+pub record HouseRepresents {D T : Type 0} (view : D → DiskView) (stands : T → History → Type 0) (site : T → ℕ) (holds : T → ℕ → Type 0) (x : House D T) (h : History) : Type 0 where
   pub journal : IsJournal view x.journal h
   pub house : IsHouse stands site holds x.bench h
   pub limit : x.journal.limit ≡ (limits_of x.bench).journal
@@ -95,14 +95,14 @@ pub record RaisedTo {D T : Type 0} (moment : ℕ) (old new : House D T) : Type 0
   pub time : house_time new.bench ≡ max (house_time old.bench) moment
   pub limits : limits_of new.bench ≡ limits_of old.bench
 
--- the house stands for the history, and its disk was not touched
+-- the house represents the history, and its disk was not touched
 pub record IsAsItWas {D T : Type 0} (view : D → DiskView) (stands : T → History → Type 0) (site : T → ℕ) (holds : T → ℕ → Type 0) (disk : D) (x : House D T) (h : History) : Type 0 where
-  pub stands' : StandsFor view stands site holds x h
+  pub stands' : HouseRepresents view stands site holds x h
   pub disk' : x.journal.disk ≡ disk
 
 -- The entry is on the disk and is entered under the next number.
 pub record HasEntered {D T : Type 0} (view : D → DiskView) (stands : T → History → Type 0) (site : T → ℕ) (holds : T → ℕ → Type 0) (x : House D T) (h : History) (e : Entry) (number : ℕ) : Type 0 where
-  pub stands' : StandsFor view stands site holds x (h ++ e ∷ [])
+  pub stands' : HouseRepresents view stands site holds x (h ++ e ∷ [])
   pub number' : number ≡ length h
 
 -- Of a request with this answer: its entry is on the disk and entered; or memory was refused for it, or
@@ -126,17 +126,17 @@ Entered view stands site holds limits disk h e (Halted d) = MayFollow limits h e
 -- The crash pairs of a call: with the new entry or without it where one was written, else with the
 -- entries as they were; and nothing was sent.
 abbrev pub Leaves : {D T A : Type 0} → Answer → Outcome D T A → History → List ℕ → List ℕ → List ℕ → Type 0
-Leaves (answers.Take e) (Done x a) h aside c s = EitherQuiet h e aside c s
-Leaves (answers.Take e) (Halted d) h aside c s = EitherQuiet h e aside c s
-Leaves _ _ h aside c s = StandsQuiet h aside c s
+Leaves (answers.Take e) (Done x a) h aside c s = EitherNoOutput h e aside c s
+Leaves (answers.Take e) (Halted d) h aside c s = EitherNoOutput h e aside c s
+Leaves _ _ h aside c s = EncodesNoOutput h aside c s
 
--- A crash pair while the house sends: the image stands for its entries, and by then the bytes sent went on
+-- A crash pair while the house sends: the image encodes its entries, and by then the bytes sent went on
 -- from those sent before to those sent after, so that nothing is said of an entry that is not there.
 abbrev pub SendsOn : History → List ℕ → List ℕ → List ℕ → List ℕ → Type 0
-SendsOn h before after c s = Stands h c × (BeginsWith before s × BeginsWith s after)
+SendsOn h before after c s = Encodes h c × (BeginsWith before s × BeginsWith s after)
 
 -- a refusal is that of what stopped a request; one that comes again is refused as one whose piece is spent
-abbrev pub Refuses : Refusal → Stopped → Type 0
+abbrev pub Refuses : Refusal → NotAuthorized → Type 0
 Refuses f (stops.Refused g) = f ≡ g
 Refuses f (stops.Again n) = f ≡ Spent
 

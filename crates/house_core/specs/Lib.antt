@@ -2,10 +2,10 @@ pub mod Views
 pub mod Trade
 pub mod Learning
 pub mod Spent
-pub mod Books
+pub mod HouseState
 pub mod Founding
-pub mod Noting
-pub mod Stands
+pub mod CommandEntries
+pub mod Representation
 pub mod Verdicts
 pub mod Replying
 pub mod Session

@@ -20,7 +20,7 @@ use Rattle.house_core.specs.declared.house.House.{House}
 use Rattle.house_core.specs.declared.opening.Halt.{Halt}
 use Rattle.house_core.specs.declared.opening.Halt.TheVariants as halts
 use Rattle.house_core.specs.Bench.{IsHouse, house_time, limits_of}
-use Rattle.house_core.specs.House.{StandsFor}
+use Rattle.house_core.specs.House.{HouseRepresents}
 
 -- the disk of a fault
 abbrev pub fault_disk : {D : Type 0} → HouseFault D → D
@@ -88,13 +88,13 @@ pub record IsOfOther (kind : ℕ) (bytes : List ℕ) : Type 0 where
 -- The first entry that may not follow is behind the gate at this place, in a book that is of no site of
 -- another kind. A book without entries breaks at its only gate.
 abbrev pub IsUnlawfulAt : Limits → ℕ → List ℕ → ℕ → Type 0
-IsUnlawfulAt limits kind bytes place = (IsOfOther kind bytes → ⊥) × ((layout.Stands [] bytes × (place ≡ 8)) ⊎ BreaksAt limits kind bytes place)
+IsUnlawfulAt limits kind bytes place = (IsOfOther kind bytes → ⊥) × ((layout.Encodes [] bytes × (place ≡ 8)) ⊎ BreaksAt limits kind bytes place)
 
--- The bytes stand for a history, and the house for it too, at the time of the history.
+-- The bytes encode a history, and the house represents it too, at the time of the history.
 pub record OpenedFor {D T : Type 0} (view : D → DiskView) (stands : T → History → Type 0) (site : T → ℕ) (holds : T → ℕ → Type 0) (limits : Limits) (bytes : List ℕ) (x : House D T) : Type 0 where
   pub history : History
-  pub of_bytes : layout.Stands history bytes
-  pub house : StandsFor view stands site holds x history
+  pub of_bytes : layout.Encodes history bytes
+  pub house : HouseRepresents view stands site holds x history
   pub time' : house_time x.bench ≡ time history
   pub limits' : limits_of x.bench ≡ limits
 
@@ -117,20 +117,20 @@ pub record ReadOn {D : Type 0} (view : D → DiskView) (moved : D → D → Type
   pub only_read : OnlyRead (view old.disk) (view new.disk)
   pub limit : new.limit ≡ old.limit
 
--- The entries that were read are of a site of this kind, and the house stands for them at their time.
+-- The entries that were read are of a site of this kind, and the house represents them at their time.
 pub record Learned {D T : Type 0} (view : D → DiskView) (stands : T → History → Type 0) (site : T → ℕ) (holds : T → ℕ → Type 0) (kind : ℕ) (r : Reading D) (b : Bench T) (h : History) : Type 0 where
   pub reading : IsReading view r h
   pub house : IsHouse stands site holds b h
   pub of_kind : site_kind h ≡ Some kind
   pub time' : house_time b ≡ time h
 
--- the house stands for entries that were read
+-- the house represents entries that were read
 abbrev pub LearnedSome : {D T : Type 0} → (D → DiskView) → (T → History → Type 0) → (T → ℕ) → (T → ℕ → Type 0) → ℕ → Reading D → Bench T → Type 0
 LearnedSome view stands site holds kind r b = (h : History) × Learned view stands site holds kind r b h
 
--- the house stands for the entries of the bytes
+-- the house represents the entries of the bytes
 abbrev pub LearnedAll : {D T : Type 0} → (D → DiskView) → (T → History → Type 0) → (T → ℕ) → (T → ℕ → Type 0) → ℕ → List ℕ → Reading D → Bench T → Type 0
-LearnedAll view stands site holds kind bytes r b = (h : History) × layout.Stands h bytes × Learned view stands site holds kind r b h
+LearnedAll view stands site holds kind bytes r b = (h : History) × layout.Encodes h bytes × Learned view stands site holds kind r b h
 
 -- why a book was not learned, by its bytes
 abbrev pub HaltsBy : Limits → ℕ → List ℕ → Halt → Type 0

@@ -9,11 +9,11 @@ use Rattle.ledger_model.specs.Stages.{genuine_by}
 use Rattle.ledger_model.specs.Answer as answers
 use Rattle.house_core.specs.declared.verdict.Verdict.{Verdict}
 use Rattle.house_core.specs.declared.verdict.Verdict.TheVariants as verdicts
-use Rattle.house_core.specs.declared.verdict.Stopped.{Stopped}
-use Rattle.house_core.specs.declared.verdict.Stopped.TheVariants as stops
-use Rattle.house_core.specs.declared.verdict.Acceptance.{Acceptance}
+use Rattle.house_core.specs.declared.verdict.NotAuthorized.{NotAuthorized}
+use Rattle.house_core.specs.declared.verdict.NotAuthorized.TheVariants as stops
+use Rattle.house_core.specs.declared.verdict.Authorization.{Authorization}
 use Rattle.house_core.specs.Views.{entry_deed}
-use Rattle.house_core.specs.Books.{BooksView, version_of, size_with, HasChange}
+use Rattle.house_core.specs.HouseState.{HouseStateView, version_of, size_with, HasChange}
 use Rattle.house_core.specs.Replying.{IsOfSite}
 
 -- ---- verdicts
@@ -42,41 +42,41 @@ repeat_of (answers.Take e) = None
 
 -- ---- entries
 
--- the entry of an acceptance
-abbrev pub accept_entry : ℕ → List ℕ → List ℕ → Acceptance → Entry
+-- the entry of an authorization
+abbrev pub accept_entry : ℕ → List ℕ → List ℕ → Authorization → Entry
 accept_entry moment text target a = Accept moment text target a.sign a.price a.change (entry_deed a.deed)
 
--- An acceptance that may be entered: the secret is that of the customer of a genuine piece, there is
+-- An authorization that may be entered: the secret is that of the customer of a genuine piece, there is
 -- change where there has to be, the length is that of the payload of its entry, and the entry fits the
 -- greatest journal.
-pub record IsReady (b : BooksView) (c : Certified) (target : List ℕ) (a : Acceptance) : Type 0 where
+pub record IsReady (b : HouseStateView) (c : Certified) (target : List ℕ) (a : Authorization) : Type 0 where
   pub secret : genuine_by b.name (version_of b) b.terms c ≡ Ok a.secret
   pub change : HasChange b a.price c.piece.value a.change
   pub payload : a.payload ≡ length (payload (accept_entry b.time c.text target a))
   pub fits : size_with b a.payload ≤ 2 ^ 40
 
--- an entry says what an acceptance says: this signature, price, change and deed
-pub record IsSaid (a : Acceptance) (signed : Option (List ℕ)) (asked : ℕ) (handed : Option ℕ) (sold : Deed) : Type 0 where
+-- an entry says what an authorization says: this signature, price, change and deed
+pub record IsSaid (a : Authorization) (signed : Option (List ℕ)) (asked : ℕ) (handed : Option ℕ) (sold : Deed) : Type 0 where
   pub sign : a.sign ≡ signed
   pub price : a.price ≡ asked
   pub change : a.change ≡ handed
   pub deed : entry_deed a.deed ≡ sold
 
-abbrev pub stop_of : Stopped → Stop
+abbrev pub stop_of : NotAuthorized → Stop
 stop_of (stops.Refused refusal) = Refuse refusal
 stop_of (stops.Again number) = Repeat number
 
 -- the reply of an entry that a request repeats is kept
-abbrev pub RepeatsKept : BooksView → Stopped → Type 0
+abbrev pub RepeatsKept : HouseStateView → NotAuthorized → Type 0
 RepeatsKept b (stops.Refused refusal) = Unit {0}
 RepeatsKept b (stops.Again number) = IsTrue (has_number b.kept.replies number)
 
 -- a refusal is one that a site replies with
-abbrev pub StopIsOfSite : Stopped → Type 0
+abbrev pub StopIsOfSite : NotAuthorized → Type 0
 StopIsOfSite (stops.Refused refusal) = IsOfSite refusal
 StopIsOfSite (stops.Again number) = Unit {0}
 
--- what was weighed, as a table that ran through or stopped
-abbrev pub weighed : (Acceptance → Entry) → Result Acceptance Stopped → Result Entry Stop
-weighed view (Ok a) = Ok (view a)
-weighed view (Err stopped) = Err (stop_of stopped)
+-- what was evaluated, as a table that ran through or stopped
+abbrev pub evaluated : (Authorization → Entry) → Result Authorization NotAuthorized → Result Entry Stop
+evaluated view (Ok a) = Ok (view a)
+evaluated view (Err stopped) = Err (stop_of stopped)

@@ -6,7 +6,7 @@ ghost use Rattle.ledger_model.specs.Histories.{History};
 ghost use Rattle.ledger_model.specs.Answer.{answer};
 ghost use Rattle.ledger_model.specs.Replies as ledger;
 ghost use Rattle.millicent_http.specs.HeadRefusals.{as_refusal};
-ghost use Rattle.house_core.specs.Bench.{Holds, IsHouse, KeepsReply, Went, house_time, limits_of, state_of};
+ghost use Rattle.house_core.specs.Bench.{Represents, IsHouse, KeepsReply, Refines, house_time, limits_of, state_of};
 ghost use Rattle.house_core.specs.Replying.{IsOfSite};
 ghost use Rattle.house_core.specs.Session.{raised, Says, said_reply, refused_reply};
 
@@ -26,7 +26,7 @@ impl<T: Trade> Bench<T> {
         ensures limits { limits_of self.new ≡ limits_of self.old }
         ensures kept { IfOk result (KeepsReply self.new) }
         ensures site { IfErr result IsOfSite }
-        ensures went { Went T.stands T.site T.holds (λ s t. Says (answer (raised s reading).history (raised s reading).time (limits_of self.old) (asked_of q.now)) result (raised s reading) t) self.old self.new }
+        ensures went { Refines T.stands T.site T.holds (λ s t. Says (answer (raised s reading).history (raised s reading).time (limits_of self.old) (asked_of q.now)) result (raised s reading) t) self.old self.new }
     {
         self.raise(reading);
         match self.accept(q) {
@@ -59,7 +59,7 @@ impl<T: Trade> Bench<T> {
     pub fn refuse_head(&mut self, reading: Moment, head: HeadRefusal) -> Reply<'static>
         ensures limits { limits_of self.new ≡ limits_of self.old }
         ensures reply { result ≡ ledger.head_refusal (house_time self.new) (as_refusal head) }
-        ensures went { Went T.stands T.site T.holds (λ s t. t ≡ raised s reading) self.old self.new }
+        ensures went { Refines T.stands T.site T.holds (λ s t. t ≡ raised s reading) self.old self.new }
     {
         let time = self.raise(reading);
         Reply::of(&refusal_head(time, &Refusal::from(head), None), b"")
@@ -70,7 +70,7 @@ impl<T: Trade> Bench<T> {
         requires kept { KeepsReply self.now number }
         ensures { (h : History) → IsHouse T.stands T.site T.holds self.now h → result ≡ ledger.reply_of h number }
     {
-        let Some((q, entry)) = self.books.kept(number) else {
+        let Some((q, entry)) = self.state.kept(number) else {
             unreachable!();
         };
         let body = self.trade.body(&entry.deed, room);
@@ -80,9 +80,9 @@ impl<T: Trade> Bench<T> {
     /// The reply to a request that is refused at the house time.
     fn refusal_reply(&self, q: &Request<'_>, refusal: &Refusal) -> Reply<'static>
         requires { IsOfSite refusal.now }
-        ensures { (h : History) → Holds T.stands T.site self.now h → result ≡ ledger.refusal_of h (house_time self.now) (asked_of q.now) refusal.now }
+        ensures { (h : History) → Represents T.stands T.site self.now h → result ≡ ledger.refusal_of h (house_time self.now) (asked_of q.now) refusal.now }
     {
-        let time = self.books.time();
+        let time = self.state.time();
         let price = self.price_told(q.target, refusal);
         match self.secret_when(q, refusal) {
             Some(secret) => signed_refusal(time, q, refusal, price, &secret),
@@ -94,18 +94,18 @@ impl<T: Trade> Bench<T> {
     #[tactic(auto, unfolding(ledger_model::specs::Replies::head_refusal))]
     pub(crate) fn refused_reply(&self, q: Option<&Request<'_>>, refusal: &Refusal) -> Reply<'static>
         requires { IsOfSite refusal.now }
-        ensures { (h : History) → Holds T.stands T.site self.now h → result ≡ refused_reply h (house_time self.now) (option_map (λ q. asked_of q.now) q.entry) refusal.now }
+        ensures { (h : History) → Represents T.stands T.site self.now h → result ≡ refused_reply h (house_time self.now) (option_map (λ q. asked_of q.now) q.entry) refusal.now }
     {
         match q {
             Some(q) => self.refusal_reply(q, refusal),
-            None => Reply::of(&refusal_head(self.books.time(), refusal, None), b""),
+            None => Reply::of(&refusal_head(self.state.time(), refusal, None), b""),
         }
     }
 
     /// The price that the reply to a refusal tells: that of the target where there was no scrip, or the
     /// one that the piece is below.
     fn price_told(&self, target: &[u8], refusal: &Refusal) -> Option<u64>
-        ensures { (h : History) → Holds T.stands T.site self.now h → result ≡ ledger.price_told h target.now refusal.now }
+        ensures { (h : History) → Represents T.stands T.site self.now h → result ≡ ledger.price_told h target.now refusal.now }
     {
         match refusal {
             Refusal::NoScrip => self.trade.price(target),
@@ -116,10 +116,10 @@ impl<T: Trade> Bench<T> {
 
     /// The secret under which the reply to a refusal is signed, where it is signed.
     fn secret_when(&self, q: &Request<'_>, refusal: &Refusal) -> Option<[u8; 16]>
-        ensures { (h : History) → Holds T.stands T.site self.now h → result ≡ ledger.secret_when (ledger.is_signed refusal.now) h (seen q.now.scrip) }
+        ensures { (h : History) → Represents T.stands T.site self.now h → result ≡ ledger.secret_when (ledger.is_signed refusal.now) h (seen q.now.scrip) }
     {
         if is_signed(refusal) {
-            customer_of(&self.books, q)
+            customer_of(&self.state, q)
         } else {
             None
         }

@@ -2,7 +2,7 @@ ghost use Rattle.std.specs.Prelude.{◌≡◌, ◌+◌, ◌≤◌, ◌^◌, ℕ,
 ghost use Rattle.mc_records.specs.declared.limits.Limits.{Limits as Bounds};
 ghost use Rattle.mc_records.specs.Limits.{AreInRange};
 ghost use Rattle.mc_records.specs.Entry.{Fits, moment_of, payload};
-ghost use Rattle.house_core.specs.Noting.{IsCommand};
+ghost use Rattle.house_core.specs.CommandEntries.{IsCommand};
 ghost use Rattle.ledger_model.specs.Houses.{site_kind};
 ghost use Rattle.ledger_model.specs.Lawful.{MayFollow};
 ghost use Rattle.house_core.specs.Founding.{FoundsHouse};
@@ -14,34 +14,34 @@ ghost use Rattle.mc_records.specs.Views.{deed_of, entry};
 ghost use Rattle.kept_replies.specs.Kept.{found};
 ghost use Rattle.ledger_model.specs.Histories.{History, time};
 ghost use Rattle.ledger_model.specs.Answer as model;
-ghost use Rattle.house_core.specs.Bench.{Holds, HasContents, IsRoomed, KeepsReply, Takes, Accepts, KeepsContents, FaultIsOfSite, Enters, Follows, stopped_with, house_time, limits_of};
-ghost use Rattle.house_core.specs.Books.{size_with, HasRoom, HasRoomFor, GoesOn};
+ghost use Rattle.house_core.specs.Bench.{Represents, HasContents, IsRoomed, KeepsReply, Takes, Accepts, KeepsContents, FaultIsOfSite, Enters, Follows, stopped_with, house_time, limits_of};
+ghost use Rattle.house_core.specs.HouseState.{size_with, HasRoom, HasRoomFor, GoesOn};
 ghost use Rattle.house_core.specs.Views.{entry_deed};
-ghost use Rattle.house_core.specs.Stands.{scrip_request};
+ghost use Rattle.house_core.specs.Representation.{scrip_request};
 ghost use Rattle.house_core.specs.Trade.{OfGoods, NamesInForce, BringsFor};
 ghost use Rattle.house_core.specs.Replying.{IsOfSite};
 ghost use Rattle.house_core.specs.declared.verdict.Verdict.TheVariants as verdicts;
 ghost use Rattle.house_core.specs.Verdicts.{judged, judged_of, repeat_of, accept_entry, IsReady};
 
-use crate::books::Books;
-use crate::founding::{found_books, payload_len};
+use crate::evaluate::{evaluate, request_with};
+use crate::founding::{found_state, payload_len};
+use crate::house_state::HouseState;
 use crate::offer::Unlawful;
-use crate::ranges::acceptance_fits;
+use crate::ranges::authorization_fits;
 use crate::replaying::{ReplayEnd, moment_in};
 use crate::stages::fitted;
 use crate::trade::Trade;
-use crate::verdict::{Acceptance, BenchFault, EnterFault, Stopped, Verdict};
-use crate::weigh::{request_with, weigh};
+use crate::verdict::{Authorization, BenchFault, EnterFault, NotAuthorized, Verdict};
 use kept_replies::Deed;
 use mc_base::{Moment, NoMemory};
 use mc_records::{Limits, PieceList, Record, RecordDeed, Refusal, Request};
 use scrip_form::{FormFault, ScripRef, read_scrip};
 use std::alloc::Global;
 
-/// A house without a journal: its books and the trade that it carries.
+/// A house without a journal: its state and the trade that it carries.
 #[derive(Drop)]
 pub struct Bench<T> {
-    pub(crate) books: Books,
+    pub(crate) state: HouseState,
     pub(crate) trade: T,
 }
 
@@ -59,33 +59,33 @@ impl<T: Trade> Bench<T> {
         requires first { MayFollow limits [] (entry site.now) }
         requires kind { site_kind (entry site.now ∷ []) ≡ Some (T.site trade) }
         requires trade { T.stands trade [] }
-        ensures holds { IfOk result (λ b. Holds T.stands T.site b (entry site.now ∷ [])) }
+        ensures holds { IfOk result (λ b. Represents T.stands T.site b (entry site.now ∷ [])) }
         ensures contents { IfOk result (λ b. HasContents T.holds b (entry site.now ∷ [])) }
         ensures time { IfOk result (λ b. house_time b ≡ moment_of (entry site.now)) }
         ensures limits { IfOk result (λ b. limits_of b ≡ limits) }
     {
         let bytes = payload_len(alloc, site)?;
-        let books = found_books(alloc, site, limits, bytes)?;
+        let state = found_state(alloc, site, limits, bytes)?;
         match trade.reserve(site) {
             Ok(()) => (),
             Err(NoMemory) => return Err(NoMemory),
         }
         match trade.learn(0, site) {
-            Ok(()) => Ok(Bench { books, trade }),
+            Ok(()) => Ok(Bench { state, trade }),
             Err(Unlawful) => unreachable!(),
         }
     }
 
     /// Its trade.
     pub fn trade(&self) -> &T
-        ensures { (h : History) → Holds T.stands T.site self.now h → T.stands result.now h }
+        ensures { (h : History) → Represents T.stands T.site self.now h → T.stands result.now h }
     {
         &self.trade
     }
 
     /// Where its memory comes from.
     pub fn alloc(&self) -> Global {
-        self.books.alloc()
+        self.state.alloc()
     }
 
     /// What the house says of a request at the house time: the ledger's answer without its entry. It
@@ -93,7 +93,7 @@ impl<T: Trade> Bench<T> {
     #[tactic(auto, unfolding(ledger_model::specs::Answer::answer))]
     pub fn judge(&self, q: &Request<'_>) -> Verdict
         ensures kept { (n : ℕ) → result ≡ verdicts.Again n → KeepsReply self.now n }
-        ensures exact { (h : History) → Holds T.stands T.site self.now h
+        ensures exact { (h : History) → Represents T.stands T.site self.now h
             → judged_of result ≡ judged (model.answer h (house_time self.now) (limits_of self.now) (asked_of q.now)) }
     {
         let Some(text) = q.scrip else {
@@ -103,10 +103,10 @@ impl<T: Trade> Bench<T> {
             Ok(scrip) => scrip,
             Err(fault) => return Verdict::Refused(bad_scrip(fault)),
         };
-        match weigh(&self.books, self.books.limits(), &self.trade, q, &scrip) {
+        match evaluate(&self.state, self.state.limits(), &self.trade, q, &scrip) {
             Ok(_) => Verdict::Take,
-            Err(Stopped::Refused(refusal)) => Verdict::Refused(refusal),
-            Err(Stopped::Again(number)) => Verdict::Again(number),
+            Err(NotAuthorized::Refused(refusal)) => Verdict::Refused(refusal),
+            Err(NotAuthorized::Again(number)) => Verdict::Again(number),
         }
     }
 
@@ -114,14 +114,14 @@ impl<T: Trade> Bench<T> {
     /// It takes no memory.
     pub fn repeated(&self, q: &Request<'_>) -> Option<u64>
         ensures kept { IfSome result (KeepsReply self.now) }
-        ensures exact { (h : History) → Holds T.stands T.site self.now h
+        ensures exact { (h : History) → Represents T.stands T.site self.now h
             → result ≡ repeat_of (model.answer h (house_time self.now) (limits_of self.now) (asked_of q.now)) }
     {
         let Some(text) = q.scrip else {
             return None;
         };
         match read_scrip(text) {
-            Ok(scrip) => self.books.repeated(&request_with(q, &scrip)),
+            Ok(scrip) => self.state.repeated(&request_with(q, &scrip)),
             Err(_) => None,
         }
     }
@@ -133,11 +133,11 @@ impl<T: Trade> Bench<T> {
         ensures time { result ≡ max (house_time self.old) reading }
         ensures raised { house_time self.new ≡ max (house_time self.old) reading }
         ensures limits { limits_of self.new ≡ limits_of self.old }
-        ensures same { (h : History) → Holds T.stands T.site self.old h → Holds T.stands T.site self.new h }
-        ensures contents { (h : History) → Holds T.stands T.site self.old h → HasContents T.holds self.old h → HasContents T.holds self.new h }
+        ensures same { (h : History) → Represents T.stands T.site self.old h → Represents T.stands T.site self.new h }
+        ensures contents { (h : History) → Represents T.stands T.site self.old h → HasContents T.holds self.old h → HasContents T.holds self.new h }
     {
-        let time = self.books.raise(reading);
-        self.trade.forget(self.books.first_kept());
+        let time = self.state.raise(reading);
+        self.trade.forget(self.state.first_kept());
         time
     }
 
@@ -149,9 +149,9 @@ impl<T: Trade> Bench<T> {
         ensures site { IfErr result FaultIsOfSite }
         ensures time { house_time self.new ≡ house_time self.old }
         ensures limits { limits_of self.new ≡ limits_of self.old }
-        ensures exact { (h : History) → Holds T.stands T.site self.old h
+        ensures exact { (h : History) → Represents T.stands T.site self.old h
             → Accepts T.stands T.site self.new h (model.answer h (house_time self.old) (limits_of self.old) (asked_of q.now)) result }
-        ensures contents { (h : History) → Holds T.stands T.site self.old h → HasContents T.holds self.old h → KeepsContents T.holds self.new h (model.answer h (house_time self.old) (limits_of self.old) (asked_of q.now)) result }
+        ensures contents { (h : History) → Represents T.stands T.site self.old h → HasContents T.holds self.old h → KeepsContents T.holds self.new h (model.answer h (house_time self.old) (limits_of self.old) (asked_of q.now)) result }
     {
         let Some(text) = q.scrip else {
             return Err(BenchFault::Refused(Refusal::NoScrip));
@@ -160,27 +160,33 @@ impl<T: Trade> Bench<T> {
             Ok(scrip) => scrip,
             Err(fault) => return Err(BenchFault::Refused(bad_scrip(fault))),
         };
-        let acceptance = match weigh(&self.books, self.books.limits(), &self.trade, q, &scrip) {
-            Ok(acceptance) => acceptance,
+        let authorization = match evaluate(
+            &self.state,
+            self.state.limits(),
+            &self.trade,
+            q,
+            &scrip,
+        ) {
+            Ok(authorization) => authorization,
             Err(stopped) => return stopped_with(stopped),
         };
-        match self.take(q, &scrip, &acceptance) {
+        match self.commit(q, &scrip, &authorization) {
             Ok(number) => Ok(number),
             Err(NoMemory) => Err(BenchFault::NoMemory),
         }
     }
 
-    /// Enters an entry by a command of the house's keeper, whose moment is not before the last entry's, and
+    /// Enters an entry by a command of the house's operator, whose moment is not before the last entry's, and
     /// answers its number, from 0. The house time is raised to that moment where it is later. After an
     /// `Err` the house is as it was, but for that.
     pub fn enter(&mut self, r: &Record<'_>) -> Result<u64, EnterFault>
         requires fits { Fits (entry r.now) }
         requires command { IsCommand (entry r.now) }
-        requires order { (h : History) → Holds T.stands T.site self.old h → time h ≤ moment_of (entry r.now) }
+        requires order { (h : History) → Represents T.stands T.site self.old h → time h ≤ moment_of (entry r.now) }
         ensures time { house_time self.new ≡ max (house_time self.old) (moment_of (entry r.now)) }
         ensures limits { limits_of self.new ≡ limits_of self.old }
-        ensures exact { (h : History) → Holds T.stands T.site self.old h → Enters T.stands T.site self.new (limits_of self.old) h (entry r.now) result }
-        ensures contents { (h : History) → Holds T.stands T.site self.old h → HasContents T.holds self.old h
+        ensures exact { (h : History) → Represents T.stands T.site self.old h → Enters T.stands T.site self.new (limits_of self.old) h (entry r.now) result }
+        ensures contents { (h : History) → Represents T.stands T.site self.old h → HasContents T.holds self.old h
             → MatchResult result (λ n. HasContents T.holds self.new (h ++ entry r.now ∷ [])) (λ f. HasContents T.holds self.new h) }
     {
         self.raise(moment_in(r));
@@ -188,31 +194,31 @@ impl<T: Trade> Bench<T> {
             Ok(bytes) => bytes,
             Err(fault) => return Err(fault),
         };
-        match self.note(r, bytes) {
+        match self.apply_entry(r, bytes) {
             Ok(number) => Ok(number),
             Err(Unlawful) => Err(EnterFault::Unlawful),
         }
     }
 
-    /// Makes room to enter an entry by a command of the house's keeper, and answers how many bytes its
+    /// Makes room to enter an entry by a command of the house's operator, and answers how many bytes its
     /// payload has. The house stays as it is, after an `Err` too.
     pub(crate) fn make_room_for(&mut self, r: &Record<'_>) -> Result<u64, EnterFault>
         requires fits { Fits (entry r.now) }
         requires command { IsCommand (entry r.now) }
         ensures same { IsRoomed T.stands T.site T.holds self.old self.new }
         ensures len { IfOk result (λ n. n ≡ length (payload (entry r.now))) }
-        ensures fits { IfOk result (λ n. size_with self.new.books n ≤ self.new.books.limits.journal) }
-        ensures room { IfOk result (λ n. size_with self.new.books n ≤ 2 ^ 40) }
-        ensures goes_on { OnOk result (GoesOn self.new.books (entry r.now)) }
+        ensures fits { IfOk result (λ n. size_with self.new.state n ≤ self.new.state.limits.journal) }
+        ensures room { IfOk result (λ n. size_with self.new.state n ≤ 2 ^ 40) }
+        ensures goes_on { OnOk result (GoesOn self.new.state (entry r.now)) }
         ensures trade { OnOk result (T.has_room self.new.trade (entry r.now)) }
-        ensures books { OnOk result (HasRoomFor self.new.books (entry r.now)) }
-        ensures fault { (h : History) → Holds T.stands T.site self.old h → IfErr result (λ f. Enters T.stands T.site self.new (limits_of self.old) h (entry r.now) (Err f)) }
+        ensures state { OnOk result (HasRoomFor self.new.state (entry r.now)) }
+        ensures fault { (h : History) → Represents T.stands T.site self.old h → IfErr result (λ f. Enters T.stands T.site self.new (limits_of self.old) h (entry r.now) (Err f)) }
     {
-        let bytes = match payload_len(self.books.alloc(), r) {
+        let bytes = match payload_len(self.state.alloc(), r) {
             Ok(bytes) => bytes,
             Err(NoMemory) => return Err(EnterFault::NoMemory),
         };
-        match fitted(&self.books, self.books.limits().journal, bytes) {
+        match fitted(&self.state, self.state.limits().journal, bytes) {
             Ok(()) => (),
             Err(refusal) => return Err(EnterFault::Refused(refusal)),
         }
@@ -223,25 +229,25 @@ impl<T: Trade> Bench<T> {
         }
     }
 
-    /// Makes room in the trade and in the books to enter an entry that accepts nothing. `Unlawful` comes only
+    /// Makes room in the trade and in the state to enter an entry that accepts nothing. `Unlawful` comes only
     /// where the entry may not follow. The house stays as it is, after an `Err` too.
     pub(crate) fn room_for(&mut self, r: &Record<'_>) -> Result<(), ReplayEnd>
         requires fits { Fits (entry r.now) }
         requires command { IsCommand (entry r.now) }
         ensures same { IsRoomed T.stands T.site T.holds self.old self.new }
-        ensures goes_on { OnOk result (GoesOn self.new.books (entry r.now)) }
+        ensures goes_on { OnOk result (GoesOn self.new.state (entry r.now)) }
         ensures trade { OnOk result (T.has_room self.new.trade (entry r.now)) }
-        ensures books { OnOk result (HasRoomFor self.new.books (entry r.now)) }
-        ensures end { (h : History) → Holds T.stands T.site self.old h → IfErr result (λ f. Follows T.stands T.site self.new (limits_of self.old) h (entry r.now) (Err f)) }
+        ensures state { OnOk result (HasRoomFor self.new.state (entry r.now)) }
+        ensures end { (h : History) → Represents T.stands T.site self.old h → IfErr result (λ f. Follows T.stands T.site self.new (limits_of self.old) h (entry r.now) (Err f)) }
     {
-        if !self.books.goes_on(r) {
+        if !self.state.goes_on(r) {
             return Err(ReplayEnd::Unlawful);
         }
         match self.trade.reserve(r) {
             Ok(()) => (),
             Err(NoMemory) => return Err(ReplayEnd::NoMemory),
         }
-        match self.books.reserve_for(r) {
+        match self.state.reserve_for(r) {
             Ok(()) => Ok(()),
             Err(NoMemory) => Err(ReplayEnd::NoMemory),
         }
@@ -250,137 +256,137 @@ impl<T: Trade> Bench<T> {
     /// Enters such an entry, for which there is room, with a payload of so many bytes, and answers its
     /// number. Its moment is neither after the house time nor before the last entry's. `Err` comes where the
     /// trade's half of what makes it lawful does not hold, and leaves the house as it was. It takes no memory.
-    pub(crate) fn note(&mut self, r: &Record<'_>, bytes: u64) -> Result<u64, Unlawful>
+    pub(crate) fn apply_entry(&mut self, r: &Record<'_>, bytes: u64) -> Result<u64, Unlawful>
         requires fits { Fits (entry r.now) }
         requires command { IsCommand (entry r.now) }
         requires time { moment_of (entry r.now) ≤ house_time self.old }
         requires len { bytes ≡ length (payload (entry r.now)) }
-        requires room { size_with self.old.books bytes ≤ 2 ^ 40 }
-        requires goes_on { GoesOn self.old.books (entry r.now) }
+        requires room { size_with self.old.state bytes ≤ 2 ^ 40 }
+        requires goes_on { GoesOn self.old.state (entry r.now) }
         requires trade { T.has_room self.old.trade (entry r.now) }
-        requires books { HasRoomFor self.old.books (entry r.now) }
+        requires state { HasRoomFor self.old.state (entry r.now) }
         ensures time { house_time self.new ≡ house_time self.old }
         ensures limits { limits_of self.new ≡ limits_of self.old }
-        ensures exact { (h : History) → Holds T.stands T.site self.old h → time h ≤ moment_of (entry r.now)
+        ensures exact { (h : History) → Represents T.stands T.site self.old h → time h ≤ moment_of (entry r.now)
             → MatchResult result
-            (λ n. MayFollow (limits_of self.old) h (entry r.now) × (n ≡ length h) × Holds T.stands T.site self.new (h ++ entry r.now ∷ []))
-            (λ f. (MayFollow (limits_of self.old) h (entry r.now) → ⊥) × Holds T.stands T.site self.new h) }
-        ensures contents { (h : History) → Holds T.stands T.site self.old h → HasContents T.holds self.old h
+            (λ n. MayFollow (limits_of self.old) h (entry r.now) × (n ≡ length h) × Represents T.stands T.site self.new (h ++ entry r.now ∷ []))
+            (λ f. (MayFollow (limits_of self.old) h (entry r.now) → ⊥) × Represents T.stands T.site self.new h) }
+        ensures contents { (h : History) → Represents T.stands T.site self.old h → HasContents T.holds self.old h
             → MatchResult result (λ n. HasContents T.holds self.new (h ++ entry r.now ∷ [])) (λ f. HasContents T.holds self.new h) }
     {
-        let number = self.books.count();
+        let number = self.state.count();
         match self.trade.learn(number, r) {
             Ok(()) => (),
             Err(Unlawful) => return Err(Unlawful),
         }
-        self.books.note(r, bytes);
+        self.state.apply_entry(r, bytes);
         Ok(number)
     }
 
-    /// Enters the entry of an acceptance, with room for it made first, and answers its number.
-    pub(crate) fn take(
+    /// Enters the entry of an authorization, with room for it made first, and answers its number.
+    pub(crate) fn commit(
         &mut self,
         q: &Request<'_>,
         scrip: &ScripRef<'_>,
-        acceptance: &Acceptance,
+        authorization: &Authorization,
     ) -> Result<u64, NoMemory>
         requires read { scrip_of scrip.now.text ≡ Ok (scrip.now.piece, scrip.now.cert) }
-        requires new { found self.old.books.kept self.old.books.time (scrip_request scrip.now.text q.now.target.now (seen q.now.sign)) ≡ None }
-        requires held { OfGoods (T.holds self.old.trade) acceptance.now.deed }
-        requires ready { IsReady self.old.books scrip.now q.now.target.now acceptance.now }
-        requires brings { (h : History) → T.stands self.old.trade h → site_kind h ≡ Some (T.site self.old.trade) → BringsFor h q.now.target.now acceptance.now.deed }
+        requires new { found self.old.state.kept self.old.state.time (scrip_request scrip.now.text q.now.target.now (seen q.now.sign)) ≡ None }
+        requires held { OfGoods (T.holds self.old.trade) authorization.now.deed }
+        requires ready { IsReady self.old.state scrip.now q.now.target.now authorization.now }
+        requires brings { (h : History) → T.stands self.old.trade h → site_kind h ≡ Some (T.site self.old.trade) → BringsFor h q.now.target.now authorization.now.deed }
         ensures kept { IfOk result (KeepsReply self.new) }
         ensures time { house_time self.new ≡ house_time self.old }
         ensures limits { limits_of self.new ≡ limits_of self.old }
-        ensures exact { (limits : Bounds) (h : History) → Holds T.stands T.site self.old h → limits.series ≡ (limits_of self.old).series → limits.journal ≤ 2 ^ 40
-            → model.answer h (house_time self.old) limits (asked_of q.now) ≡ model.Take (accept_entry (house_time self.old) scrip.now.text q.now.target.now acceptance.now)
-            → Takes T.stands T.site self.new h (accept_entry (house_time self.old) scrip.now.text q.now.target.now acceptance.now) result }
-        ensures contents { (h : History) → Holds T.stands T.site self.old h → HasContents T.holds self.old h → NamesInForce h acceptance.now.deed
-            → MatchResult result (λ n. HasContents T.holds self.new (h ++ accept_entry (house_time self.old) scrip.now.text q.now.target.now acceptance.now ∷ [])) (λ f. HasContents T.holds self.new h) }
+        ensures exact { (limits : Bounds) (h : History) → Represents T.stands T.site self.old h → limits.series ≡ (limits_of self.old).series → limits.journal ≤ 2 ^ 40
+            → model.answer h (house_time self.old) limits (asked_of q.now) ≡ model.Take (accept_entry (house_time self.old) scrip.now.text q.now.target.now authorization.now)
+            → Takes T.stands T.site self.new h (accept_entry (house_time self.old) scrip.now.text q.now.target.now authorization.now) result }
+        ensures contents { (h : History) → Represents T.stands T.site self.old h → HasContents T.holds self.old h → NamesInForce h authorization.now.deed
+            → MatchResult result (λ n. HasContents T.holds self.new (h ++ accept_entry (house_time self.old) scrip.now.text q.now.target.now authorization.now ∷ [])) (λ f. HasContents T.holds self.new h) }
     {
-        match self.make_room(q, scrip, acceptance) {
+        match self.make_room(q, scrip, authorization) {
             Ok(()) => (),
             Err(NoMemory) => return Err(NoMemory),
         }
-        Ok(self.settle(q, scrip, acceptance))
+        Ok(self.apply_accept(q, scrip, authorization))
     }
 
-    /// Makes room to enter the entry of an acceptance, in the trade and in the books. The house stays as it
+    /// Makes room to enter the entry of an authorization, in the trade and in the state. The house stays as it
     /// is, after an `Err` too.
     pub(crate) fn make_room(
         &mut self,
         q: &Request<'_>,
         scrip: &ScripRef<'_>,
-        acceptance: &Acceptance,
+        authorization: &Authorization,
     ) -> Result<(), NoMemory>
         ensures same { IsRoomed T.stands T.site T.holds self.old self.new }
-        ensures trade { OnOk result (T.has_room self.new.trade (accept_entry (house_time self.old) scrip.now.text q.now.target.now acceptance.now)) }
-        ensures books { OnOk result (HasRoom self.new.books (scrip_request scrip.now.text q.now.target.now (seen q.now.sign)) scrip.now.piece.id) }
+        ensures trade { OnOk result (T.has_room self.new.trade (accept_entry (house_time self.old) scrip.now.text q.now.target.now authorization.now)) }
+        ensures state { OnOk result (HasRoom self.new.state (scrip_request scrip.now.text q.now.target.now (seen q.now.sign)) scrip.now.piece.id) }
     {
         let request = request_with(q, scrip);
         // The check lets a record go only where the types of its parts are named.
         let _pieces: Option<PieceList<'_>> = None;
-        let record = entry_of(self.books.time(), q, scrip, acceptance);
+        let record = entry_of(self.state.time(), q, scrip, authorization);
         match self.trade.reserve(&record) {
             Ok(()) => (),
             Err(NoMemory) => return Err(NoMemory),
         }
-        self.books.reserve(&request, scrip.piece().id())
+        self.state.reserve(&request, scrip.piece().id())
     }
 
-    /// Enters the entry of an acceptance, for which there is room, and answers its number. It takes no
+    /// Enters the entry of an authorization, for which there is room, and answers its number. It takes no
     /// memory.
-    pub(crate) fn settle(
+    pub(crate) fn apply_accept(
         &mut self,
         q: &Request<'_>,
         scrip: &ScripRef<'_>,
-        acceptance: &Acceptance,
+        authorization: &Authorization,
     ) -> u64
         requires read { scrip_of scrip.now.text ≡ Ok (scrip.now.piece, scrip.now.cert) }
-        requires new { found self.old.books.kept self.old.books.time (scrip_request scrip.now.text q.now.target.now (seen q.now.sign)) ≡ None }
-        requires held { OfGoods (T.holds self.old.trade) acceptance.now.deed }
-        requires ready { IsReady self.old.books scrip.now q.now.target.now acceptance.now }
-        requires trade { T.has_room self.old.trade (accept_entry (house_time self.old) scrip.now.text q.now.target.now acceptance.now) }
-        requires books { HasRoom self.old.books (scrip_request scrip.now.text q.now.target.now (seen q.now.sign)) scrip.now.piece.id }
+        requires new { found self.old.state.kept self.old.state.time (scrip_request scrip.now.text q.now.target.now (seen q.now.sign)) ≡ None }
+        requires held { OfGoods (T.holds self.old.trade) authorization.now.deed }
+        requires ready { IsReady self.old.state scrip.now q.now.target.now authorization.now }
+        requires trade { T.has_room self.old.trade (accept_entry (house_time self.old) scrip.now.text q.now.target.now authorization.now) }
+        requires state { HasRoom self.old.state (scrip_request scrip.now.text q.now.target.now (seen q.now.sign)) scrip.now.piece.id }
         ensures kept { KeepsReply self.new result }
         ensures time { house_time self.new ≡ house_time self.old }
         ensures limits { limits_of self.new ≡ limits_of self.old }
-        ensures exact { (limits : Bounds) (h : History) → Holds T.stands T.site self.old h → BringsFor h q.now.target.now acceptance.now.deed
+        ensures exact { (limits : Bounds) (h : History) → Represents T.stands T.site self.old h → BringsFor h q.now.target.now authorization.now.deed
             → limits.series ≡ (limits_of self.old).series → limits.journal ≤ 2 ^ 40
-            → model.answer h (house_time self.old) limits (asked_of q.now) ≡ model.Take (accept_entry (house_time self.old) scrip.now.text q.now.target.now acceptance.now)
-            → (result ≡ length h) × Holds T.stands T.site self.new (h ++ accept_entry (house_time self.old) scrip.now.text q.now.target.now acceptance.now ∷ []) }
-        ensures contents { (h : History) → Holds T.stands T.site self.old h → HasContents T.holds self.old h → NamesInForce h acceptance.now.deed
-            → HasContents T.holds self.new (h ++ accept_entry (house_time self.old) scrip.now.text q.now.target.now acceptance.now ∷ []) }
+            → model.answer h (house_time self.old) limits (asked_of q.now) ≡ model.Take (accept_entry (house_time self.old) scrip.now.text q.now.target.now authorization.now)
+            → (result ≡ length h) × Represents T.stands T.site self.new (h ++ accept_entry (house_time self.old) scrip.now.text q.now.target.now authorization.now ∷ []) }
+        ensures contents { (h : History) → Represents T.stands T.site self.old h → HasContents T.holds self.old h → NamesInForce h authorization.now.deed
+            → HasContents T.holds self.new (h ++ accept_entry (house_time self.old) scrip.now.text q.now.target.now authorization.now ∷ []) }
     {
         let request = request_with(q, scrip);
-        let number = self.books.count();
+        let number = self.state.count();
         let _pieces: Option<PieceList<'_>> = None;
-        let record = entry_of(self.books.time(), q, scrip, acceptance);
+        let record = entry_of(self.state.time(), q, scrip, authorization);
         let _learned = self.trade.learn(number, &record);
-        self.books.enter(&request, &scrip.piece(), acceptance);
+        self.state.enter(&request, &scrip.piece(), authorization);
         number
     }
 }
 
-/// The entry of an acceptance at the house time.
+/// The entry of an authorization at the house time.
 pub(crate) fn entry_of<'a>(
     time: Moment,
     q: &Request<'a>,
     scrip: &ScripRef<'a>,
-    acceptance: &Acceptance,
+    authorization: &Authorization,
 ) -> Record<'a>
-    ensures same { entry result ≡ accept_entry time scrip.now.text q.now.target.now acceptance.now }
+    ensures same { entry result ≡ accept_entry time scrip.now.text q.now.target.now authorization.now }
     ensures fits { IsTarget q.now.target.now → Fits (entry result) }
 {
-    acceptance_fits(time, scrip, q.target, acceptance);
+    authorization_fits(time, scrip, q.target, authorization);
     Record::Accept {
         moment: time,
         scrip: scrip.text(),
         target: q.target,
-        sign: acceptance.sign,
-        price: acceptance.price,
-        change: acceptance.change,
-        deed: record_deed(&acceptance.deed),
+        sign: authorization.sign,
+        price: authorization.price,
+        change: authorization.change,
+        deed: record_deed(&authorization.deed),
     }
 }
 
@@ -392,12 +398,12 @@ pub(crate) fn bad_scrip(fault: FormFault) -> Refusal
 }
 
 /// What comes of a request that makes no entry.
-fn stopped_with(stopped: Stopped) -> Result<u64, BenchFault>
+fn stopped_with(stopped: NotAuthorized) -> Result<u64, BenchFault>
     ensures { result ≡ stopped_with stopped }
 {
     match stopped {
-        Stopped::Refused(refusal) => Err(BenchFault::Refused(refusal)),
-        Stopped::Again(number) => Ok(number),
+        NotAuthorized::Refused(refusal) => Err(BenchFault::Refused(refusal)),
+        NotAuthorized::Again(number) => Ok(number),
     }
 }
 

@@ -9,11 +9,11 @@ ghost use Rattle.mc_records.specs.Views.{entry};
 ghost use Rattle.ledger_model.specs.Houses.{site_kind};
 ghost use Rattle.ledger_model.specs.Lawful.{MayFollow};
 ghost use Rattle.scrip_journal.specs.States.{IsJournal};
-ghost use Rattle.scrip_journal.specs.Exits.{EitherQuiet};
+ghost use Rattle.scrip_journal.specs.Exits.{EitherNoOutput};
 ghost use Rattle.house_core.specs.Founding.{FoundsHouse};
 ghost use Rattle.house_core.specs.Bench.{IsHouse, house_time, limits_of};
 ghost use Rattle.house_core.specs.Opening.{house_disk};
-ghost use Rattle.house_core.specs.Found.{FoundsHouseBy, CountsBy, ReadsOnly, ShortQuiet, FoundQuiet, book_disk, ClearsSmall, ClearsFree, EntersSite, IsOfWriting};
+ghost use Rattle.house_core.specs.Found.{FoundsHouseBy, CountsBy, ReadsOnly, ShortNoOutput, FoundNoOutput, book_disk, ClearsSmall, ClearsFree, EntersSite, IsOfWriting};
 
 use crate::bench::Bench;
 use crate::house::{House, write_entry};
@@ -32,9 +32,9 @@ const EMPTY_BOOK: u64 = 9;
 /// Founds the book of a house by its Site entry, with a trade that has learned nothing yet. The house may
 /// grow to these limits; its time is the entry's moment.
 ///
-/// A disk that stands for no entries is used as it is, and one of at most nine bytes is written anew. Any
+/// A disk that encodes no entries is used as it is, and one of at most nine bytes is written anew. Any
 /// other is left as it is: `NotEmpty` tells its size. `Disk` comes only where the disk failed, `NoMemory`
-/// with nothing written, and no other fault does. A crash in this call leaves what stands for no entries
+/// with nothing written, and no other fault does. A crash in this call leaves what encodes no entries
 /// or for the Site entry, at most nine bytes, or what a crash before could have left.
 pub fn found_house<D: Disk, T: Trade>(
     alloc: Global,
@@ -51,7 +51,7 @@ pub fn found_house<D: Disk, T: Trade>(
     requires room { 9 + entry_size [] (entry site.now) ≤ limits.journal }
     ensures moved { D.disk_moved disk (house_disk result) }
     ensures exact { (x : List ℕ) → (D.disk disk).contents ≡ Some x → FoundsHouseBy D.disk T.stands T.site T.holds limits (entry site.now) x result }
-    ensures ran { (x : List ℕ) → (D.disk disk).contents ≡ Some x → Ran (D.disk disk) (D.disk (house_disk result)) (FoundQuiet (D.disk disk) (entry site.now)) }
+    ensures ran { (x : List ℕ) → (D.disk disk).contents ≡ Some x → Ran (D.disk disk) (D.disk (house_disk result)) (FoundNoOutput (D.disk disk) (entry site.now)) }
     ensures read { ReadsOnly D.disk disk result }
     ensures fault { CountsBy result (D.disk disk).faults (D.disk (house_disk result)).faults }
 {
@@ -65,13 +65,13 @@ pub fn found_house<D: Disk, T: Trade>(
     }
 }
 
-/// A journal without entries: what the disk has, where that stands for none, else a new one.
+/// A journal without entries: what the disk has, where that encodes none, else a new one.
 fn empty_book<D: Disk>(alloc: Global, disk: D, limits: Limits) -> Result<Journal<D>, HouseFault<D>>
     requires limits { AreInRange limits }
     ensures moved { D.disk_moved disk (book_disk result) }
     ensures exact { (x : List ℕ) → (D.disk disk).contents ≡ Some x → ClearsFree D.disk x result }
     ensures fresh { IfOk result (λ j. (j.size ≡ 9) × (j.limit ≡ limits.journal)) }
-    ensures ran { (x : List ℕ) → (D.disk disk).contents ≡ Some x → Ran (D.disk disk) (D.disk (book_disk result)) (ShortQuiet (D.disk disk)) }
+    ensures ran { (x : List ℕ) → (D.disk disk).contents ≡ Some x → Ran (D.disk disk) (D.disk (book_disk result)) (ShortNoOutput (D.disk disk)) }
     ensures read { ReadsOnly D.disk disk result }
     ensures fault { CountsBy result (D.disk disk).faults (D.disk (book_disk result)).faults }
 {
@@ -96,7 +96,7 @@ fn empty_small<D: Disk>(alloc: Global, disk: D, limits: Limits) -> Result<Journa
     ensures moved { D.disk_moved disk (book_disk result) }
     ensures exact { (x : List ℕ) → (D.disk disk).contents ≡ Some x → ClearsSmall D.disk x result }
     ensures fresh { IfOk result (λ j. (j.size ≡ 9) × (j.limit ≡ limits.journal)) }
-    ensures ran { (x : List ℕ) → (D.disk disk).contents ≡ Some x → IsSynced (D.disk disk) → Ran (D.disk disk) (D.disk (book_disk result)) (ShortQuiet (D.disk disk)) }
+    ensures ran { (x : List ℕ) → (D.disk disk).contents ≡ Some x → IsSynced (D.disk disk) → Ran (D.disk disk) (D.disk (book_disk result)) (ShortNoOutput (D.disk disk)) }
     ensures read { ReadsOnly D.disk disk result }
     ensures fault { CountsBy result (D.disk disk).faults (D.disk (book_disk result)).faults }
 {
@@ -131,7 +131,7 @@ fn enter_site<D: Disk, T: Trade>(
     ensures wrote { IsOfWriting result }
     ensures time { IfOk result (λ h. house_time h.bench ≡ house_time bench) }
     ensures limits { IfOk result (λ h. limits_of h.bench ≡ limits_of bench) }
-    ensures ran { IsJournal D.disk journal [] → Ran (D.disk journal.disk) (D.disk (house_disk result)) (EitherQuiet [] (entry site.now) (D.disk journal.disk).aside) }
+    ensures ran { IsJournal D.disk journal [] → Ran (D.disk journal.disk) (D.disk (house_disk result)) (EitherNoOutput [] (entry site.now) (D.disk journal.disk).aside) }
     ensures fault { CountsBy result (D.disk journal.disk).faults (D.disk (house_disk result)).faults }
 {
     match write_entry(journal, site) {

@@ -5,9 +5,9 @@ ghost use Rattle.mc_records.specs.Entry.{Fits, payload};
 ghost use Rattle.mc_records.specs.Limits.{AreInRange};
 ghost use Rattle.mc_records.specs.Views.{entry};
 ghost use Rattle.ledger_model.specs.Lawful.{MayFollow};
-ghost use Rattle.house_core.specs.Founding.{AreOf, FoundsHouse};
+ghost use Rattle.house_core.specs.Founding.{IsStateOf, FoundsHouse};
 
-use crate::books::Books;
+use crate::house_state::HouseState;
 use mc_base::NoMemory;
 use mc_records::{Limits, PieceList, Record, payloads_are_short, write_record};
 use scrip_form::Name;
@@ -25,19 +25,19 @@ pub(crate) fn payload_len(alloc: Global, r: &Record<'_>) -> Result<u64, NoMemory
     Ok(bytes.len() as u64)
 }
 
-/// The books of the house that a Site entry founds, by an entry of so many bytes of payload.
-pub(crate) fn found_books(
+/// The state of the house that a Site entry founds, by an entry of so many bytes of payload.
+pub(crate) fn found_state(
     alloc: Global,
     site: &Record<'_>,
     limits: Limits,
     bytes: u64,
-) -> Result<Books, NoMemory>
+) -> Result<HouseState, NoMemory>
     requires limits { AreInRange limits }
     requires site { FoundsHouse (entry site.now) }
     requires first { MayFollow limits [] (entry site.now) }
     requires len { bytes ≡ length (payload (entry site.now)) }
     requires short { bytes < 2 ^ 32 }
-    ensures { IfOk result (λ b. AreOf b limits (entry site.now)) }
+    ensures { IfOk result (λ b. IsStateOf b limits (entry site.now)) }
 {
     // The check lets a record go only where the types of its parts are named.
     let _pieces: Option<PieceList<'_>> = None;
@@ -49,7 +49,7 @@ pub(crate) fn found_books(
             ..
         } => {
             let name = Name::new(name).unwrap();
-            Books::found(alloc, *moment, name, house, limits, bytes)
+            HouseState::found(alloc, *moment, name, house, limits, bytes)
         }
         _ => unreachable!(),
     }

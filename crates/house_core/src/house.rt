@@ -17,26 +17,26 @@ ghost use Rattle.ledger_model.specs.Histories.{History};
 ghost use Rattle.ledger_model.specs.Answer as model;
 ghost use Rattle.ledger_model.specs.Houses.{site_name, terms_in, version, certificate_in, secret_in};
 ghost use Rattle.ledger_model.specs.Lawful.{MayFollow};
-ghost use Rattle.house_core.specs.Noting.{IsCommand};
+ghost use Rattle.house_core.specs.CommandEntries.{IsCommand};
 ghost use Rattle.scrip_journal.specs.States.{IsJournal};
-ghost use Rattle.scrip_journal.specs.Exits.{EitherQuiet, MatchStageFault};
-ghost use Rattle.house_core.specs.Books.{size_with};
+ghost use Rattle.scrip_journal.specs.Exits.{EitherNoOutput, MatchStageFault};
+ghost use Rattle.house_core.specs.HouseState.{size_with};
 ghost use Rattle.house_core.specs.Bench.{IsHouse, KeepsReply, house_time, limits_of};
-ghost use Rattle.house_core.specs.Stands.{scrip_request};
+ghost use Rattle.house_core.specs.Representation.{scrip_request};
 ghost use Rattle.house_core.specs.Trade.{OfGoods, NamesInForce, BringsFor};
 ghost use Rattle.house_core.specs.Replying.{IsOfSite};
 ghost use Rattle.house_core.specs.declared.verdict.Verdict.TheVariants as verdicts;
 ghost use Rattle.house_core.specs.Verdicts.{judged, judged_of, repeat_of, accept_entry, IsReady, StopIsOfSite};
-ghost use Rattle.house_core.specs.House.{StandsFor, HasRun, KeepsTime, RaisedTo, OfHouse, IfDone, IfRefused, CountsFaults, Accepted, Entered, Leaves, Refuses, written_disk, outcome_disk};
+ghost use Rattle.house_core.specs.House.{HouseRepresents, HasRun, KeepsTime, RaisedTo, OfHouse, IfDone, IfRefused, CountsFaults, Accepted, Entered, Leaves, Refuses, written_disk, outcome_disk};
 
 use crate::bench::{Bench, bad_scrip, entry_of};
+use crate::evaluate::evaluate;
 use crate::outcome::Outcome;
 use crate::replaying::moment_in;
 use crate::settled::Settled;
 use crate::stages::terms_of;
 use crate::trade::Trade;
-use crate::verdict::{Acceptance, EnterFault, Stopped, Verdict};
-use crate::weigh::weigh;
+use crate::verdict::{Authorization, EnterFault, NotAuthorized, Verdict};
 use mc_base::{Moment, NoMemory};
 use mc_outside::Disk;
 use mc_records::{Limits, PieceList, Record, Refusal, Request};
@@ -55,7 +55,7 @@ impl<D: Disk, T: Trade> House<D, T> {
     /// The house of a journal and of the bench that was made of its entries.
     pub(crate) fn new(journal: Journal<D>, bench: Bench<T>) -> House<D, T>
         ensures stands { (h : History) → IsJournal D.disk journal h → IsHouse T.stands T.site T.holds bench h → journal.limit ≡ (limits_of bench).journal
-            → StandsFor D.disk T.stands T.site T.holds result h }
+            → HouseRepresents D.disk T.stands T.site T.holds result h }
         ensures disk { result.journal.disk ≡ journal.disk }
         ensures time { house_time result.bench ≡ house_time bench }
         ensures limits { limits_of result.bench ≡ limits_of bench }
@@ -67,74 +67,74 @@ impl<D: Disk, T: Trade> House<D, T> {
     pub fn time(&self) -> Moment
         ensures { result ≡ house_time self.now.bench }
     {
-        self.bench.books.time()
+        self.bench.state.time()
     }
 
     /// The limits of its journal and its series.
     pub fn limits(&self) -> Limits
         ensures { result ≡ limits_of self.now.bench }
     {
-        self.bench.books.limits()
+        self.bench.state.limits()
     }
 
     /// Its name.
     pub fn name(&self) -> Name
-        ensures { (h : History) → StandsFor D.disk T.stands T.site T.holds self.now h → result ≡ site_name h }
+        ensures { (h : History) → HouseRepresents D.disk T.stands T.site T.holds self.now h → result ≡ site_name h }
     {
-        self.bench.books.site_name()
+        self.bench.state.site_name()
     }
 
     /// The terms of an issuer; None exactly where it takes no scrip of that issuer.
     pub fn terms(&self, issuer: u8) -> Option<Terms>
-        ensures { (h : History) → StandsFor D.disk T.stands T.site T.holds self.now h → result ≡ terms_in h issuer }
+        ensures { (h : History) → HouseRepresents D.disk T.stands T.site T.holds self.now h → result ≡ terms_in h issuer }
     {
-        terms_of(self.bench.books.terms(), issuer).copied()
+        terms_of(self.bench.state.terms(), issuer).copied()
     }
 
     /// Its own terms, in whose series it hands out and mints.
     pub fn own_terms(&self) -> Terms
-        ensures { (h : History) → StandsFor D.disk T.stands T.site T.holds self.now h → terms_in h 0 ≡ Some result }
+        ensures { (h : History) → HouseRepresents D.disk T.stands T.site T.holds self.now h → terms_in h 0 ≡ Some result }
     {
-        self.bench.books.own_terms()
+        self.bench.state.own_terms()
     }
 
     /// The certificate of a piece of its own, by its own terms.
     pub fn own_certificate(&self, piece: &Piece) -> [u8; 16]
-        ensures { (h : History) (terms : Issuing) → StandsFor D.disk T.stands T.site T.holds self.now h → terms_in h 0 ≡ Some terms
+        ensures { (h : History) (terms : Issuing) → HouseRepresents D.disk T.stands T.site T.holds self.now h → terms_in h 0 ≡ Some terms
             → result ≡ certificate_in (version h (site_name h) (series_of piece.now.id)) terms (scrip_body piece.now) piece.now.id }
     {
-        self.bench.books.own_certificate(piece)
+        self.bench.state.own_certificate(piece)
     }
 
     /// The secret of a customer whose identity is of its own, by its own terms.
     pub fn own_secret(&self, cust: Id) -> [u8; 16]
-        ensures { (h : History) (terms : Issuing) → StandsFor D.disk T.stands T.site T.holds self.now h → terms_in h 0 ≡ Some terms
+        ensures { (h : History) (terms : Issuing) → HouseRepresents D.disk T.stands T.site T.holds self.now h → terms_in h 0 ≡ Some terms
             → result ≡ secret_in (version h (site_name h) (series_of cust)) terms cust }
     {
-        let books = &self.bench.books;
-        books.secret_of(&books.own_terms(), cust)
+        let state = &self.bench.state;
+        state.secret_of(&state.own_terms(), cust)
     }
 
     /// The identity of the first of so many next pieces of its own series of the house time; refused with 32
     /// exactly where the limit of a series leaves no room for so many.
     pub fn next_run(&self, count: u16) -> Result<Id, Refusal>
         requires { 0 < count }
-        ensures { (h : History) → StandsFor D.disk T.stands T.site T.holds self.now h → HasRun h (house_time self.now.bench) (limits_of self.now.bench) count result }
+        ensures { (h : History) → HouseRepresents D.disk T.stands T.site T.holds self.now h → HasRun h (house_time self.now.bench) (limits_of self.now.bench) count result }
     {
-        self.bench.books.next_run(count)
+        self.bench.state.next_run(count)
     }
 
     /// The identity of the next piece of its own series of the house time; refused with 32 exactly where the
     /// limit of a series leaves no room for one more.
     pub fn next(&self) -> Result<Id, Refusal>
-        ensures { (h : History) → StandsFor D.disk T.stands T.site T.holds self.now h → HasRun h (house_time self.now.bench) (limits_of self.now.bench) 1 result }
+        ensures { (h : History) → HouseRepresents D.disk T.stands T.site T.holds self.now h → HasRun h (house_time self.now.bench) (limits_of self.now.bench) 1 result }
     {
         self.next_run(1)
     }
 
     /// Its trade.
     pub fn trade(&self) -> &T
-        ensures { (h : History) → StandsFor D.disk T.stands T.site T.holds self.now h → T.stands result.now h }
+        ensures { (h : History) → HouseRepresents D.disk T.stands T.site T.holds self.now h → T.stands result.now h }
     {
         self.bench.trade()
     }
@@ -148,7 +148,7 @@ impl<D: Disk, T: Trade> House<D, T> {
     /// takes no memory.
     pub fn judge(&self, q: &Request<'_>) -> Verdict
         ensures kept { (n : ℕ) → result ≡ verdicts.Again n → KeepsReply self.now.bench n }
-        ensures exact { (h : History) → StandsFor D.disk T.stands T.site T.holds self.now h
+        ensures exact { (h : History) → HouseRepresents D.disk T.stands T.site T.holds self.now h
             → judged_of result ≡ judged (model.answer h (house_time self.now.bench) (limits_of self.now.bench) (asked_of q.now)) }
     {
         self.bench.judge(q)
@@ -158,7 +158,7 @@ impl<D: Disk, T: Trade> House<D, T> {
     /// It takes no memory.
     pub fn repeated(&self, q: &Request<'_>) -> Option<u64>
         ensures kept { IfSome result (KeepsReply self.now.bench) }
-        ensures exact { (h : History) → StandsFor D.disk T.stands T.site T.holds self.now h
+        ensures exact { (h : History) → HouseRepresents D.disk T.stands T.site T.holds self.now h
             → result ≡ repeat_of (model.answer h (house_time self.now.bench) (limits_of self.now.bench) (asked_of q.now)) }
     {
         self.bench.repeated(q)
@@ -171,7 +171,7 @@ impl<D: Disk, T: Trade> House<D, T> {
         ensures raised { house_time self.new.bench ≡ max (house_time self.old.bench) reading }
         ensures limits { limits_of self.new.bench ≡ limits_of self.old.bench }
         ensures journal { self.new.journal ≡ self.old.journal }
-        ensures same { (h : History) → StandsFor D.disk T.stands T.site T.holds self.old h → StandsFor D.disk T.stands T.site T.holds self.new h }
+        ensures same { (h : History) → HouseRepresents D.disk T.stands T.site T.holds self.old h → HouseRepresents D.disk T.stands T.site T.holds self.new h }
     {
         self.bench.raise(reading)
     }
@@ -186,9 +186,9 @@ impl<D: Disk, T: Trade> House<D, T> {
         ensures counts { CountsFaults result (D.disk self.journal.disk).faults (D.disk (outcome_disk result)).faults }
         ensures site { IfRefused IsOfSite result }
         ensures kept { IfDone (λ x s. KeepsReply x.bench s.number) result }
-        ensures exact { (h : History) → StandsFor D.disk T.stands T.site T.holds self h
+        ensures exact { (h : History) → HouseRepresents D.disk T.stands T.site T.holds self h
             → Accepted D.disk T.stands T.site T.holds self.journal.disk h (model.answer h (house_time self.bench) (limits_of self.bench) (asked_of q.now)) result }
-        ensures ran { (h : History) → StandsFor D.disk T.stands T.site T.holds self h
+        ensures ran { (h : History) → HouseRepresents D.disk T.stands T.site T.holds self h
             → Ran (D.disk self.journal.disk) (D.disk (outcome_disk result)) (Leaves (model.answer h (house_time self.bench) (limits_of self.bench) (asked_of q.now)) result h (D.disk self.journal.disk).aside) }
     {
         let House { journal, bench } = self;
@@ -199,72 +199,72 @@ impl<D: Disk, T: Trade> House<D, T> {
             Ok(scrip) => scrip,
             Err(fault) => return Outcome::Refused(House { journal, bench }, bad_scrip(fault)),
         };
-        match weigh(&bench.books, bench.books.limits(), &bench.trade, q, &scrip) {
-            Ok(acceptance) => House { journal, bench }.take(q, &scrip, &acceptance),
+        match evaluate(&bench.state, bench.state.limits(), &bench.trade, q, &scrip) {
+            Ok(authorization) => House { journal, bench }.commit(q, &scrip, &authorization),
             Err(stopped) => Outcome::Refused(House { journal, bench }, refusal_of(stopped)),
         }
     }
 
-    /// Takes a request that was weighed: makes room for its entry, writes it and enters it.
-    fn take(
+    /// Commits a request that was evaluated: makes room for its entry, writes it and enters it.
+    fn commit(
         self,
         q: &Request<'_>,
         scrip: &ScripRef<'_>,
-        acceptance: &Acceptance,
+        authorization: &Authorization,
     ) -> Outcome<D, T, Settled>
         requires target { IsTarget q.now.target.now }
         requires read { scrip_of scrip.now.text ≡ Ok (scrip.now.piece, scrip.now.cert) }
-        requires new { found self.bench.books.kept self.bench.books.time (scrip_request scrip.now.text q.now.target.now (seen q.now.sign)) ≡ None }
-        requires held { OfGoods (T.holds self.bench.trade) acceptance.now.deed }
-        requires ready { IsReady self.bench.books scrip.now q.now.target.now acceptance.now }
-        requires room { size_with self.bench.books acceptance.now.payload ≤ self.bench.books.limits.journal }
+        requires new { found self.bench.state.kept self.bench.state.time (scrip_request scrip.now.text q.now.target.now (seen q.now.sign)) ≡ None }
+        requires held { OfGoods (T.holds self.bench.trade) authorization.now.deed }
+        requires ready { IsReady self.bench.state scrip.now q.now.target.now authorization.now }
+        requires room { size_with self.bench.state authorization.now.payload ≤ self.bench.state.limits.journal }
         ensures moved { D.disk_moved self.journal.disk (outcome_disk result) }
         ensures keeps { OfHouse (KeepsTime self) result }
         ensures counts { CountsFaults result (D.disk self.journal.disk).faults (D.disk (outcome_disk result)).faults }
         ensures site { IfRefused IsOfSite result }
         ensures kept { IfDone (λ x s. KeepsReply x.bench s.number) result }
-        ensures exact { (h : History) → StandsFor D.disk T.stands T.site T.holds self h → NamesInForce h acceptance.now.deed → BringsFor h q.now.target.now acceptance.now.deed
-            → model.answer h (house_time self.bench) (limits_of self.bench) (asked_of q.now) ≡ model.Take (accept_entry (house_time self.bench) scrip.now.text q.now.target.now acceptance.now)
-            → Accepted D.disk T.stands T.site T.holds self.journal.disk h (model.Take (accept_entry (house_time self.bench) scrip.now.text q.now.target.now acceptance.now)) result }
-        ensures ran { (h : History) → StandsFor D.disk T.stands T.site T.holds self h
-            → Ran (D.disk self.journal.disk) (D.disk (outcome_disk result)) (Leaves (model.Take (accept_entry (house_time self.bench) scrip.now.text q.now.target.now acceptance.now)) result h (D.disk self.journal.disk).aside) }
+        ensures exact { (h : History) → HouseRepresents D.disk T.stands T.site T.holds self h → NamesInForce h authorization.now.deed → BringsFor h q.now.target.now authorization.now.deed
+            → model.answer h (house_time self.bench) (limits_of self.bench) (asked_of q.now) ≡ model.Take (accept_entry (house_time self.bench) scrip.now.text q.now.target.now authorization.now)
+            → Accepted D.disk T.stands T.site T.holds self.journal.disk h (model.Take (accept_entry (house_time self.bench) scrip.now.text q.now.target.now authorization.now)) result }
+        ensures ran { (h : History) → HouseRepresents D.disk T.stands T.site T.holds self h
+            → Ran (D.disk self.journal.disk) (D.disk (outcome_disk result)) (Leaves (model.Take (accept_entry (house_time self.bench) scrip.now.text q.now.target.now authorization.now)) result h (D.disk self.journal.disk).aside) }
     {
         let House { journal, bench } = self;
         let mut bench = bench;
-        match bench.make_room(q, scrip, acceptance) {
+        match bench.make_room(q, scrip, authorization) {
             Ok(()) => (),
             Err(NoMemory) => return Outcome::NoMemory(House { journal, bench }),
         }
         // The check lets a record go only where the types of its parts are named.
         let _pieces: Option<PieceList<'_>> = None;
-        let record = entry_of(bench.books.time(), q, scrip, acceptance);
+        let record = entry_of(bench.state.time(), q, scrip, authorization);
         match write_entry(journal, &record) {
             Ok((journal, receipt)) => {
-                let number = bench.settle(q, scrip, acceptance);
+                let number = bench.apply_accept(q, scrip, authorization);
                 Outcome::Done(House { journal, bench }, Settled { receipt, number })
             }
             Err(StageFault::Full(journal)) => {
-                let full = Refusal::JournalFull(bench.books.size(), acceptance.payload);
+                let full = Refusal::JournalFull(bench.state.size(), authorization.payload);
                 Outcome::Refused(House { journal, bench }, full)
             }
             Err(StageFault::Disk(halted)) => Outcome::Halted(halted),
         }
     }
 
-    /// Enters an entry by a command of the house's keeper, which may follow the entries before it: it is on
+    /// Enters an entry by a command of the house's operator, which may follow the entries before it: it is on
     /// the disk behind an open gate, and then it is entered. The house time is raised to its moment where
     /// that is later. All memory is taken before anything is written. It is refused only where the journal
     /// has no room for it.
     pub fn enter(self, r: &Record<'_>) -> Outcome<D, T, Receipt>
         requires fits { Fits (entry r.now) }
         requires command { IsCommand (entry r.now) }
-        requires may { (h : History) → StandsFor D.disk T.stands T.site T.holds self h → MayFollow (limits_of self.bench) h (entry r.now) }
+        requires may { (h : History) → HouseRepresents D.disk T.stands T.site T.holds self h → MayFollow (limits_of self.bench) h (entry r.now) }
         ensures moved { D.disk_moved self.journal.disk (outcome_disk result) }
         ensures keeps { OfHouse (RaisedTo (moment_of (entry r.now)) self) result }
         ensures counts { CountsFaults result (D.disk self.journal.disk).faults (D.disk (outcome_disk result)).faults }
-        ensures exact { (h : History) → StandsFor D.disk T.stands T.site T.holds self h
+        ensures exact { (h : History) → HouseRepresents D.disk T.stands T.site T.holds self h
             → Entered D.disk T.stands T.site T.holds (limits_of self.bench) self.journal.disk h (entry r.now) result }
-        ensures ran { (h : History) → StandsFor D.disk T.stands T.site T.holds self h
+        ensures ran { (h : History) → HouseRepresents D.disk T.stands T.site T.holds self h
             → Ran (D.disk self.journal.disk) (D.disk (outcome_disk result)) (Leaves (model.Take (entry r.now)) result h (D.disk self.journal.disk).aside) }
     {
         let House { journal, bench } = self;
@@ -279,11 +279,11 @@ impl<D: Disk, T: Trade> House<D, T> {
         };
         match write_entry(journal, r) {
             Ok((journal, receipt)) => {
-                let _noted = bench.note(r, bytes);
+                let _applied = bench.apply_entry(r, bytes);
                 Outcome::Done(House { journal, bench }, receipt)
             }
             Err(StageFault::Full(journal)) => {
-                let full = Refusal::JournalFull(bench.books.size(), bytes);
+                let full = Refusal::JournalFull(bench.state.size(), bytes);
                 Outcome::Refused(House { journal, bench }, full)
             }
             Err(StageFault::Disk(halted)) => Outcome::Halted(halted),
@@ -301,14 +301,14 @@ impl<D: Disk, T: Trade> House<D, T> {
 
 /// The refusal of a request that makes no entry. One that comes again is refused as one whose piece is
 /// spent.
-fn refusal_of(stopped: Stopped) -> Refusal
+fn refusal_of(stopped: NotAuthorized) -> Refusal
     requires { StopIsOfSite stopped }
     ensures site { IsOfSite result }
     ensures same { Refuses result stopped }
 {
     match stopped {
-        Stopped::Refused(refusal) => refusal,
-        Stopped::Again(_) => Refusal::Spent,
+        NotAuthorized::Refused(refusal) => refusal,
+        NotAuthorized::Again(_) => Refusal::Spent,
     }
 }
 
@@ -323,7 +323,7 @@ pub(crate) fn write_entry<D: Disk>(
     ensures written { IfOk result (λ w. (h : List Entry) → IsJournal D.disk journal h → IsJournal D.disk w.0 (h ++ entry r.now ∷ []) × (w.1 ≡ length h)) }
     ensures limit { IfOk result (λ w. w.0.limit ≡ journal.limit) }
     ensures ran { (h : List Entry) → IsJournal D.disk journal h
-        → Ran (D.disk journal.disk) (D.disk (written_disk result)) (EitherQuiet h (entry r.now) (D.disk journal.disk).aside) }
+        → Ran (D.disk journal.disk) (D.disk (written_disk result)) (EitherNoOutput h (entry r.now) (D.disk journal.disk).aside) }
     ensures full { (h : List Entry) → journal.size ≡ size h
         → IfErr result (λ f. MatchStageFault f (λ j. journal.limit < size h + entry_size h (entry r.now)) (λ d. Unit {0})) }
     ensures fault { IfErr result (λ f. MatchStageFault f

@@ -10,10 +10,11 @@
 mod answering;
 mod bench;
 mod body;
-mod books;
+mod evaluate;
 mod found;
 mod founding;
 mod house;
+mod house_state;
 mod law;
 mod lengths;
 mod money;
@@ -30,13 +31,12 @@ mod spent;
 mod stages;
 mod trade;
 mod verdict;
-mod weigh;
 
 pub use bench::Bench;
 pub use body::body_of_deed;
-pub use books::Books;
 pub use found::found_house;
 pub use house::House;
+pub use house_state::HouseState;
 pub use law::{
     books_of_another_kind_have_one_fault, contents_stay, entries_follow_in_parts,
     goods_in_force_are_kept,

@@ -7,7 +7,7 @@ ghost use Rattle.scrip_form.specs.Scrip.{scrip_body};
 ghost use Rattle.ledger_model.specs.Houses.{version, certificate_in, secret_in};
 ghost use Rattle.change_issue.specs.Registers.{has_room, count_in, issued_in, redeemed_in, next_in};
 ghost use Rattle.change_issue.specs.IssuedPieces.{issued_piece};
-ghost use Rattle.house_core.specs.Books.{at_series, change_count, change_worth};
+ghost use Rattle.house_core.specs.HouseState.{at_series, change_count, change_worth};
 
 use change_issue::Issuer;
 use mc_base::{Amount, Coin, Moment, Total};

@@ -7,13 +7,18 @@ ghost use Rattle.mc_records.specs.Entry.{Fits, IsKey, IsLong, DeedFits};
 ghost use Rattle.house_core.specs.Views.{entry_deed};
 ghost use Rattle.house_core.specs.Verdicts.{accept_entry};
 
-use crate::verdict::Acceptance;
+use crate::verdict::Authorization;
 use kept_replies::Deed;
 use mc_base::Moment;
 use scrip_form::{Id, ScripRef};
 
-/// The entry of an acceptance for a target that may be asked for has a payload.
-pub(crate) fn acceptance_fits(time: Moment, scrip: &ScripRef<'_>, target: &[u8], a: &Acceptance)
+/// The entry of an authorization for a target that may be asked for has a payload.
+pub(crate) fn authorization_fits(
+    time: Moment,
+    scrip: &ScripRef<'_>,
+    target: &[u8],
+    a: &Authorization,
+)
     ensures { IsTarget target.now → Fits (accept_entry time scrip.now.text target.now a.now) }
 {
     let _seconds = time.seconds();

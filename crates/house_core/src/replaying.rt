@@ -8,19 +8,19 @@ ghost use Rattle.mc_records.specs.Sizes.{size, entry_size};
 ghost use Rattle.ledger_model.specs.Histories.{History, time};
 ghost use Rattle.ledger_model.specs.Lawful.{unbounded};
 ghost use Rattle.hex.specs.Hex.{encode_lower};
-ghost use Rattle.house_core.specs.Stands.{scrip_request};
+ghost use Rattle.house_core.specs.Representation.{scrip_request};
 ghost use Rattle.house_core.specs.Verdicts.{IsSaid};
-ghost use Rattle.house_core.specs.Noting.{IsCommand};
-ghost use Rattle.house_core.specs.Books.{size_with};
-ghost use Rattle.house_core.specs.Bench.{Holds, HasContents, Follows, Replays, house_time, limits_of};
+ghost use Rattle.house_core.specs.CommandEntries.{IsCommand};
+ghost use Rattle.house_core.specs.HouseState.{size_with};
+ghost use Rattle.house_core.specs.Bench.{Represents, HasContents, Follows, Replays, house_time, limits_of};
 
 use crate::bench::{Bench, record_deed};
+use crate::evaluate::evaluate;
 use crate::founding::payload_len;
 use crate::offer::Unlawful;
 use crate::stages::fitted;
 use crate::trade::Trade;
-use crate::verdict::Acceptance;
-use crate::weigh::weigh;
+use crate::verdict::Authorization;
 use mc_base::{Moment, NoMemory};
 use mc_records::{Limits, Record, RecordDeed, Request};
 use scrip_certs::hex_of;
@@ -43,18 +43,18 @@ impl<T: Trade> Bench<T> {
         requires command { IsCommand (entry r.now) }
         requires time { moment_of (entry r.now) ≡ house_time self.old }
         requires len { bytes ≡ length (payload (entry r.now)) }
-        requires room { size_with self.old.books bytes ≤ 2 ^ 40 }
+        requires room { size_with self.old.state bytes ≤ 2 ^ 40 }
         ensures time { house_time self.new ≡ house_time self.old }
         ensures limits { limits_of self.new ≡ limits_of self.old }
-        ensures exact { (h : History) → Holds T.stands T.site self.old h → Follows T.stands T.site self.new (limits_of self.old) h (entry r.now) result }
-        ensures contents { (h : History) → Holds T.stands T.site self.old h → HasContents T.holds self.old h
+        ensures exact { (h : History) → Represents T.stands T.site self.old h → Follows T.stands T.site self.new (limits_of self.old) h (entry r.now) result }
+        ensures contents { (h : History) → Represents T.stands T.site self.old h → HasContents T.holds self.old h
             → MatchResult result (λ n. HasContents T.holds self.new (h ++ entry r.now ∷ [])) (λ f. HasContents T.holds self.new h) }
     {
         match self.room_for(r) {
             Ok(()) => (),
             Err(end) => return Err(end),
         }
-        match self.note(r, bytes) {
+        match self.apply_entry(r, bytes) {
             Ok(number) => Ok(number),
             Err(Unlawful) => Err(ReplayEnd::Unlawful),
         }
@@ -67,13 +67,13 @@ impl<T: Trade> Bench<T> {
     pub(crate) fn replay(&mut self, r: &Record<'_>) -> Result<(), ReplayEnd>
         requires fits { Fits (entry r.now) }
         ensures limits { limits_of self.new ≡ limits_of self.old }
-        ensures exact { (h : History) → Holds T.stands T.site self.old h → house_time self.old ≡ time h → size h + entry_size h (entry r.now) ≤ 2 ^ 40
+        ensures exact { (h : History) → Represents T.stands T.site self.old h → house_time self.old ≡ time h → size h + entry_size h (entry r.now) ≤ 2 ^ 40
             → Replays T.stands T.site self.new (limits_of self.old) h (entry r.now) result }
-        ensures contents { (h : History) → Holds T.stands T.site self.old h → HasContents T.holds self.old h
+        ensures contents { (h : History) → Represents T.stands T.site self.old h → HasContents T.holds self.old h
             → IfOk result (λ u. HasContents T.holds self.new (h ++ entry r.now ∷ [])) }
     {
         let moment = moment_in(r);
-        if moment.seconds() < self.books.time().seconds() {
+        if moment.seconds() < self.state.time().seconds() {
             return Err(ReplayEnd::Unlawful);
         }
         self.raise(moment);
@@ -99,16 +99,16 @@ impl<T: Trade> Bench<T> {
         requires command { IsCommand (entry r.now) }
         requires time { moment_of (entry r.now) ≡ house_time self.old }
         ensures limits { limits_of self.new ≡ limits_of self.old }
-        ensures exact { (h : History) → Holds T.stands T.site self.old h → size h + entry_size h (entry r.now) ≤ 2 ^ 40
+        ensures exact { (h : History) → Represents T.stands T.site self.old h → size h + entry_size h (entry r.now) ≤ 2 ^ 40
             → Replays T.stands T.site self.new (limits_of self.old) h (entry r.now) result }
-        ensures contents { (h : History) → Holds T.stands T.site self.old h → HasContents T.holds self.old h
+        ensures contents { (h : History) → Represents T.stands T.site self.old h → HasContents T.holds self.old h
             → IfOk result (λ u. HasContents T.holds self.new (h ++ entry r.now ∷ [])) }
     {
-        let bytes = match payload_len(self.books.alloc(), r) {
+        let bytes = match payload_len(self.state.alloc(), r) {
             Ok(bytes) => bytes,
             Err(NoMemory) => return Err(ReplayEnd::NoMemory),
         };
-        match fitted(&self.books, 1 << 40, bytes) {
+        match fitted(&self.state, 1 << 40, bytes) {
             Ok(()) => (),
             Err(_) => return Err(ReplayEnd::Unlawful),
         }
@@ -130,9 +130,9 @@ impl<T: Trade> Bench<T> {
         deed: &RecordDeed,
     ) -> Result<(), ReplayEnd>
         ensures limits { limits_of self.new ≡ limits_of self.old }
-        ensures exact { (h : History) → Holds T.stands T.site self.old h
+        ensures exact { (h : History) → Represents T.stands T.site self.old h
             → Replays T.stands T.site self.new (limits_of self.old) h (Accept (house_time self.old) scrip.now target.now sign.now price change (deed_of deed.now)) result }
-        ensures contents { (h : History) → Holds T.stands T.site self.old h → HasContents T.holds self.old h
+        ensures contents { (h : History) → Represents T.stands T.site self.old h → HasContents T.holds self.old h
             → IfOk result (λ u. HasContents T.holds self.new (h ++ Accept (house_time self.old) scrip.now target.now sign.now price change (deed_of deed.now) ∷ [])) }
     {
         let digits = digits_of(sign);
@@ -141,15 +141,15 @@ impl<T: Trade> Bench<T> {
             Ok(read) => read,
             Err(_) => return Err(ReplayEnd::Unlawful),
         };
-        let limits = unbounded_of(self.books.limits());
-        let acceptance = match weigh(&self.books, limits, &self.trade, &q, &read) {
-            Ok(acceptance) => acceptance,
+        let limits = unbounded_of(self.state.limits());
+        let authorization = match evaluate(&self.state, limits, &self.trade, &q, &read) {
+            Ok(authorization) => authorization,
             Err(_) => return Err(ReplayEnd::Unlawful),
         };
-        if !is_said(&acceptance, sign, price, &change, deed) {
+        if !is_said(&authorization, sign, price, &change, deed) {
             return Err(ReplayEnd::Unlawful);
         }
-        match self.take(&q, &read, &acceptance) {
+        match self.commit(&q, &read, &authorization) {
             Ok(_) => Ok(()),
             Err(NoMemory) => Err(ReplayEnd::NoMemory),
         }
@@ -217,9 +217,9 @@ fn request_for<'a>(scrip: &'a [u8], target: &'a [u8], digits: &'a Option<[u8; 32
     }
 }
 
-/// Whether an entry says what an acceptance says: the signature, the price, the change and the deed.
+/// Whether an entry says what an authorization says: the signature, the price, the change and the deed.
 fn is_said(
-    a: &Acceptance,
+    a: &Authorization,
     sign: &Option<[u8; 16]>,
     price: u64,
     change: &Option<Id>,

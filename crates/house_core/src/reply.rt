@@ -1,5 +1,5 @@
 ghost use Rattle.std.specs.Prelude.{◌≡◌, ◌<◌, ◌++◌, ℕ, [], length, take, IsTrue, OnOk, OnErr};
-ghost use Rattle.mc_outside.specs.LinkView.{told, Failed};
+ghost use Rattle.mc_outside.specs.LinkView.{after_send, Failed};
 ghost use Rattle.mc_records.specs.Replies.{reply_head};
 ghost use Rattle.ledger_model.specs.Replies.{refused_values};
 ghost use Rattle.millicent_http.specs.ReplyHeads.{IsReplyHead, reply_of};
@@ -63,13 +63,13 @@ impl<'a> Reply<'a> {
     }
 
     /// Sends the reply: in one call of the link where it fits a page and the link takes it whole. At an
-    /// `Err` a first part of it was sent, and not the whole.
+    /// `Err` a prefix of it was sent, and not the whole.
     pub fn send<K: Link>(&self, k: &mut K) -> Result<(), LinkFault>
         requires { IsTrue (K.link k.old).stands }
         ensures moved { K.link_moved k.old k.new }
         ensures standing { (K.link k.new).stands ≡ (K.link k.old).stands }
-        ensures sent { OnOk result (K.link k.new ≡ told self.now (K.link k.old)) }
-        ensures fault { OnErr result ((n : ℕ) × (n < length self.now) × Failed (told (take n self.now) (K.link k.old)) (K.link k.new)) }
+        ensures sent { OnOk result (K.link k.new ≡ after_send self.now (K.link k.old)) }
+        ensures fault { OnErr result ((n : ℕ) × (n < length self.now) × Failed (after_send (take n self.now) (K.link k.old)) (K.link k.new)) }
     {
         send_all(k, &self.page[..self.len])?;
         send_all(k, self.rest)

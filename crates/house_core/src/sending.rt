@@ -2,13 +2,13 @@
 
 ghost use Rattle.std.specs.Prelude.{◌≡◌, ◌<◌, ℕ, length, take, IsTrue, OnOk, OnErr, option_map};
 ghost use Rattle.mc_outside.specs.DiskView.{Ran};
-ghost use Rattle.mc_outside.specs.LinkView.{told, Failed};
+ghost use Rattle.mc_outside.specs.LinkView.{after_send, Failed};
 ghost use Rattle.mc_records.specs.declared.refusal.Refusal.TheVariants as refusals;
 ghost use Rattle.mc_records.specs.Requests.{Asked, asked_of};
 ghost use Rattle.ledger_model.specs.Histories.{History};
 ghost use Rattle.ledger_model.specs.Replies as ledger;
 ghost use Rattle.house_core.specs.Bench.{KeepsReply, house_time};
-ghost use Rattle.house_core.specs.House.{StandsFor, HouseRests, SendsOn};
+ghost use Rattle.house_core.specs.House.{HouseRepresents, HouseRests, SendsOn};
 ghost use Rattle.house_core.specs.Replying.{IsOfSite};
 ghost use Rattle.house_core.specs.Session.{refused_reply};
 
@@ -61,8 +61,8 @@ impl<O: Outside, T: Trade> Link for House<O, T> {
     }
 }
 
-/// Sends the reply of an acceptance, which the house keeps since it accepted, on the link that stands, and
-/// spends what says that it is on the disk. At an `Err` a first part of the reply was sent, and not the
+/// Sends the reply of an accepted request, which the house keeps since it accepted, on the link that stands, and
+/// spends what says that it is on the disk. At an `Err` a prefix of the reply was sent, and not the
 /// whole. It takes no memory.
 pub fn send_settled<O: Outside, T: Trade>(
     house: &mut House<O, T>,
@@ -73,13 +73,14 @@ pub fn send_settled<O: Outside, T: Trade>(
     ensures moved { O.link_moved house.old.journal.disk house.new.journal.disk }
     ensures standing { (O.link house.new.journal.disk).stands ≡ (O.link house.old.journal.disk).stands }
     ensures rests { HouseRests house.old house.new }
-    ensures stands { (h : History) → StandsFor O.disk T.stands T.site T.holds house.old h → StandsFor O.disk T.stands T.site T.holds house.new h }
-    ensures ran { (h : History) → StandsFor O.disk T.stands T.site T.holds house.old h
+    ensures stands { (h : History) → HouseRepresents O.disk T.stands T.site T.holds house.old h → HouseRepresents O.disk T.stands T.site T.holds house.new h }
+    ensures ran { (h : History) → HouseRepresents O.disk T.stands T.site T.holds house.old h
         → Ran (O.disk house.old.journal.disk) (O.disk house.new.journal.disk) (SendsOn h (O.disk house.old.journal.disk).aside (O.disk house.new.journal.disk).aside) }
-    ensures sent { OnOk result ((h : History) → StandsFor O.disk T.stands T.site T.holds house.old h
-        → O.link house.new.journal.disk ≡ told (ledger.reply_of h s.number) (O.link house.old.journal.disk)) }
-    ensures fault { OnErr result ((h : History) → StandsFor O.disk T.stands T.site T.holds house.old h
-        → (n : ℕ) × (n < length (ledger.reply_of h s.number)) × Failed (told (take n (ledger.reply_of h s.number)) (O.link house.old.journal.disk)) (O.link house.new.journal.disk)) }
+    ensures sent { OnOk result ((h : History)
+        → HouseRepresents O.disk T.stands T.site T.holds house.old h
+        → O.link house.new.journal.disk ≡ after_send (ledger.reply_of h s.number) (O.link house.old.journal.disk)) }
+    ensures fault { OnErr result ((h : History) → HouseRepresents O.disk T.stands T.site T.holds house.old h
+        → (n : ℕ) × (n < length (ledger.reply_of h s.number)) × Failed (after_send (take n (ledger.reply_of h s.number)) (O.link house.old.journal.disk)) (O.link house.new.journal.disk)) }
 {
     let number = s.number();
     drop_settled(s);
@@ -87,7 +88,7 @@ pub fn send_settled<O: Outside, T: Trade>(
 }
 
 /// Sends the first reply to the entry of a number, which is kept, on the link that stands. At an `Err` a
-/// first part of it was sent, and not the whole. It takes no memory.
+/// prefix of it was sent, and not the whole. It takes no memory.
 pub fn send_again<O: Outside, T: Trade>(
     house: &mut House<O, T>,
     number: u64,
@@ -97,13 +98,14 @@ pub fn send_again<O: Outside, T: Trade>(
     ensures moved { O.link_moved house.old.journal.disk house.new.journal.disk }
     ensures standing { (O.link house.new.journal.disk).stands ≡ (O.link house.old.journal.disk).stands }
     ensures rests { HouseRests house.old house.new }
-    ensures stands { (h : History) → StandsFor O.disk T.stands T.site T.holds house.old h → StandsFor O.disk T.stands T.site T.holds house.new h }
-    ensures ran { (h : History) → StandsFor O.disk T.stands T.site T.holds house.old h
+    ensures stands { (h : History) → HouseRepresents O.disk T.stands T.site T.holds house.old h → HouseRepresents O.disk T.stands T.site T.holds house.new h }
+    ensures ran { (h : History) → HouseRepresents O.disk T.stands T.site T.holds house.old h
         → Ran (O.disk house.old.journal.disk) (O.disk house.new.journal.disk) (SendsOn h (O.disk house.old.journal.disk).aside (O.disk house.new.journal.disk).aside) }
-    ensures sent { OnOk result ((h : History) → StandsFor O.disk T.stands T.site T.holds house.old h
-        → O.link house.new.journal.disk ≡ told (ledger.reply_of h number) (O.link house.old.journal.disk)) }
-    ensures fault { OnErr result ((h : History) → StandsFor O.disk T.stands T.site T.holds house.old h
-        → (n : ℕ) × (n < length (ledger.reply_of h number)) × Failed (told (take n (ledger.reply_of h number)) (O.link house.old.journal.disk)) (O.link house.new.journal.disk)) }
+    ensures sent { OnOk result ((h : History)
+        → HouseRepresents O.disk T.stands T.site T.holds house.old h
+        → O.link house.new.journal.disk ≡ after_send (ledger.reply_of h number) (O.link house.old.journal.disk)) }
+    ensures fault { OnErr result ((h : History) → HouseRepresents O.disk T.stands T.site T.holds house.old h
+        → (n : ℕ) × (n < length (ledger.reply_of h number)) × Failed (after_send (take n (ledger.reply_of h number)) (O.link house.old.journal.disk)) (O.link house.new.journal.disk)) }
 {
     let mut room = [0; 512];
     let reply = house.bench.first_reply(number, &mut room);
@@ -111,7 +113,7 @@ pub fn send_again<O: Outside, T: Trade>(
 }
 
 /// Sends the reply to a refusal at the house time on the link that stands: that of a request, or of a
-/// head that is no request. At an `Err` a first part of it was sent, and not the whole. It takes no
+/// head that is no request. At an `Err` a prefix of it was sent, and not the whole. It takes no
 /// memory.
 pub fn send_refusal<O: Outside, T: Trade>(
     house: &mut House<O, T>,
@@ -123,28 +125,29 @@ pub fn send_refusal<O: Outside, T: Trade>(
     ensures moved { O.link_moved house.old.journal.disk house.new.journal.disk }
     ensures standing { (O.link house.new.journal.disk).stands ≡ (O.link house.old.journal.disk).stands }
     ensures rests { HouseRests house.old house.new }
-    ensures stands { (h : History) → StandsFor O.disk T.stands T.site T.holds house.old h → StandsFor O.disk T.stands T.site T.holds house.new h }
-    ensures ran { (h : History) → StandsFor O.disk T.stands T.site T.holds house.old h
+    ensures stands { (h : History) → HouseRepresents O.disk T.stands T.site T.holds house.old h → HouseRepresents O.disk T.stands T.site T.holds house.new h }
+    ensures ran { (h : History) → HouseRepresents O.disk T.stands T.site T.holds house.old h
         → Ran (O.disk house.old.journal.disk) (O.disk house.new.journal.disk) (SendsOn h (O.disk house.old.journal.disk).aside (O.disk house.new.journal.disk).aside) }
-    ensures sent { OnOk result ((h : History) → StandsFor O.disk T.stands T.site T.holds house.old h
-        → O.link house.new.journal.disk ≡ told (refused_reply h (house_time house.old.bench) (option_map (λ q. asked_of q.now) q.entry) refusal.now) (O.link house.old.journal.disk)) }
-    ensures fault { OnErr result ((h : History) → StandsFor O.disk T.stands T.site T.holds house.old h
+    ensures sent { OnOk result ((h : History)
+        → HouseRepresents O.disk T.stands T.site T.holds house.old h
+        → O.link house.new.journal.disk ≡ after_send (refused_reply h (house_time house.old.bench) (option_map (λ q. asked_of q.now) q.entry) refusal.now) (O.link house.old.journal.disk)) }
+    ensures fault { OnErr result ((h : History) → HouseRepresents O.disk T.stands T.site T.holds house.old h
         → (n : ℕ) × (n < length (refused_reply h (house_time house.old.bench) (option_map (λ q. asked_of q.now) q.entry) refusal.now))
-        × Failed (told (take n (refused_reply h (house_time house.old.bench) (option_map (λ q. asked_of q.now) q.entry) refusal.now)) (O.link house.old.journal.disk)) (O.link house.new.journal.disk)) }
+        × Failed (after_send (take n (refused_reply h (house_time house.old.bench) (option_map (λ q. asked_of q.now) q.entry) refusal.now)) (O.link house.old.journal.disk)) (O.link house.new.journal.disk)) }
 {
     let reply = house.bench.refused_reply(q, refusal);
     reply.send(&mut house.journal)
 }
 
 /// Sends the refusal that tells a request that the disk failed, on the link that stands, at a house time.
-/// At an `Err` a first part of it was sent, and not the whole. It takes no memory.
+/// At an `Err` a prefix of it was sent, and not the whole. It takes no memory.
 pub fn send_disk_fault<O: Outside>(halted: &mut Halted<O>, time: Moment) -> Result<(), LinkFault>
     requires { IsTrue (O.link halted.old).stands }
     ensures moved { O.link_moved halted.old halted.new }
     ensures standing { (O.link halted.new).stands ≡ (O.link halted.old).stands }
-    ensures sent { OnOk result ((a : History × Asked) → O.link halted.new ≡ told (ledger.refusal_of a.0 time a.1 refusals.DiskFault) (O.link halted.old)) }
+    ensures sent { OnOk result ((a : History × Asked) → O.link halted.new ≡ after_send (ledger.refusal_of a.0 time a.1 refusals.DiskFault) (O.link halted.old)) }
     ensures fault { OnErr result ((a : History × Asked)
-        → (n : ℕ) × (n < length (ledger.refusal_of a.0 time a.1 refusals.DiskFault)) × Failed (told (take n (ledger.refusal_of a.0 time a.1 refusals.DiskFault)) (O.link halted.old)) (O.link halted.new)) }
+        → (n : ℕ) × (n < length (ledger.refusal_of a.0 time a.1 refusals.DiskFault)) × Failed (after_send (take n (ledger.refusal_of a.0 time a.1 refusals.DiskFault)) (O.link halted.old)) (O.link halted.new)) }
 {
     let reply = Reply::of(&refusal_head(time, &Refusal::DiskFault, None), b"");
     reply.send(halted)

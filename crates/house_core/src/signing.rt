@@ -10,9 +10,9 @@ ghost use Rattle.ledger_model.specs.Replies as ledger;
 ghost use Rattle.millicent_http.specs.ReplyHeads.{IsReplyHead, reply_of};
 ghost use Rattle.house_core.specs.Views.{contents_of};
 ghost use Rattle.house_core.specs.Replying.{AreContents, IsOfSite};
-ghost use Rattle.house_core.specs.Stands.{Stands};
+ghost use Rattle.house_core.specs.Representation.{StateRepresents};
 
-use crate::books::Books;
+use crate::house_state::HouseState;
 use crate::offer::Body;
 use crate::reply::{Reply, refusal_head};
 use crate::stages::terms_of;
@@ -103,8 +103,8 @@ pub(crate) fn is_signed(refusal: &Refusal) -> bool
 
 /// The secret of the customer of a request's piece. None where the request has no scrip text, or there
 /// are no terms of the customer's issuer.
-pub(crate) fn customer_of(books: &Books, q: &Request<'_>) -> Option<[u8; 16]>
-    ensures { (h : History) → Stands books.now h → result ≡ option_and_then (ledger.secret_for h) (seen q.now.scrip) }
+pub(crate) fn customer_of(state: &HouseState, q: &Request<'_>) -> Option<[u8; 16]>
+    ensures { (h : History) → StateRepresents state.now h → result ≡ option_and_then (ledger.secret_for h) (seen q.now.scrip) }
 {
     let text = q.scrip?;
     let Ok(scrip) = read_scrip(text) else {
@@ -112,6 +112,6 @@ pub(crate) fn customer_of(books: &Books, q: &Request<'_>) -> Option<[u8; 16]>
     };
     let cust = scrip.piece().cust();
     let (issuer, _, _) = cust.parts();
-    let own = terms_of(books.terms(), issuer)?;
-    Some(books.secret_of(own, cust))
+    let own = terms_of(state.terms(), issuer)?;
+    Some(state.secret_of(own, cust))
 }

@@ -8,11 +8,11 @@ ghost use Rattle.mc_records.specs.Requests.{seen};
 ghost use Rattle.change_issue.specs.Registers.{count_in, next_in};
 ghost use Rattle.ledger_model.specs.Houses.{terms_by};
 ghost use Rattle.ledger_model.specs.Stages.{genuine_by, spendable_by, next_by, needed, fitted_by};
-ghost use Rattle.ledger_model.specs.Slow.{told};
-ghost use Rattle.house_core.specs.Books.{version_of, tail_of, size_with};
+ghost use Rattle.ledger_model.specs.Slow.{as_line};
+ghost use Rattle.house_core.specs.HouseState.{version_of, tail_of, size_with};
 ghost use Rattle.house_core.specs.Replying.{IsOfSite};
 
-use crate::books::Books;
+use crate::house_state::HouseState;
 use change_issue::Issuer;
 use mc_base::Moment;
 use mc_records::{Refusal, Request};
@@ -28,31 +28,31 @@ pub(crate) fn terms_of(terms: &[Terms], issuer: u8) -> Option<&Terms>
 
 /// The secret of a piece's customer; refused where the vendor, an issuer, the end of the series or the
 /// certificate is not right.
-pub(crate) fn genuine(books: &Books, scrip: &ScripRef<'_>) -> Result<[u8; 16], Refusal>
-    ensures lines { told (λ s. s) result ≡ genuine_by books.now.name (version_of books.now) books.now.terms scrip.now }
+pub(crate) fn genuine(state: &HouseState, scrip: &ScripRef<'_>) -> Result<[u8; 16], Refusal>
+    ensures lines { as_line (λ s. s) result ≡ genuine_by state.now.name (version_of state.now) state.now.terms scrip.now }
     ensures site { IfErr result IsOfSite }
 {
     let piece = scrip.piece();
-    if piece.vendor().bytes() != books.name() {
+    if piece.vendor().bytes() != state.name() {
         return Err(Refusal::WrongVendor);
     }
     let (issuer, epoch, _) = piece.id().parts();
-    let Some(own) = terms_of(books.terms(), issuer) else {
+    let Some(own) = terms_of(state.terms(), issuer) else {
         return Err(Refusal::UnknownIssuer);
     };
     let (customer, _, _) = piece.cust().parts();
-    let Some(customers) = terms_of(books.terms(), customer) else {
+    let Some(customers) = terms_of(state.terms(), customer) else {
         return Err(Refusal::UnknownIssuer);
     };
     let end = own.series_end(epoch);
     if piece.expires() != end {
         return Err(Refusal::ExpiryMismatch(piece.expires(), end));
     }
-    let right = books.certificate_of(own, scrip.body(), piece.id());
+    let right = state.certificate_of(own, scrip.body(), piece.id());
     if scrip.cert().as_slice() != right.as_slice() {
         return Err(Refusal::BadCertificate);
     }
-    Ok(books.secret_of(customers, piece.cust()))
+    Ok(state.secret_of(customers, piece.cust()))
 }
 
 /// The signature of a request whose piece may be spent by it, where it has one; refused where the piece
@@ -65,7 +65,7 @@ pub(crate) fn spendable(
     q: &Request<'_>,
     scrip: &ScripRef<'_>,
 ) -> Result<Option<[u8; 16]>, Refusal>
-    ensures lines { told (λ s. s) result ≡ spendable_by clear spent time secret.now q.now.target.now (seen q.now.sign) scrip.now }
+    ensures lines { as_line (λ s. s) result ≡ spendable_by clear spent time secret.now q.now.target.now (seen q.now.sign) scrip.now }
     ensures sign { IfOk result (λ s. IfSome s IsKey) }
     ensures site { IfErr result IsOfSite }
 {
@@ -99,7 +99,7 @@ pub(crate) fn change(
     price: u64,
     value: u64,
 ) -> Result<Option<Id>, Refusal>
-    ensures lines { told (λ id. id) result ≡ needed (nat_lt price value) (next_by own.now.most (series_at own.now.terms time) (count_in own.now (series_at own.now.terms time))) }
+    ensures lines { as_line (λ id. id) result ≡ needed (nat_lt price value) (next_by own.now.most (series_at own.now.terms time) (count_in own.now (series_at own.now.terms time))) }
     ensures site { IfErr result IsOfSite }
     ensures next { IfOk result (λ c. MatchOption c (value ≤ price) (λ id. (price < value) × (count_in own.now (series_at own.now.terms time) < own.now.most) × (id ≡ next_in own.now (series_at own.now.terms time)))) }
 {
@@ -113,15 +113,15 @@ pub(crate) fn change(
 }
 
 /// Refused where the journal would pass a limit with one entry more, with a payload of so many bytes.
-pub(crate) fn fitted(books: &Books, limit: u64, payload: u64) -> Result<(), Refusal>
-    ensures lines { (e : entries.Entry) → payload ≡ length (entries.payload e) → told (λ u. e) result ≡ fitted_by limit books.now.size (tail_of books.now) e }
-    ensures room { OnOk result (size_with books.now payload ≤ limit) }
-    ensures full { OnErr result (limit < size_with books.now payload) }
+pub(crate) fn fitted(state: &HouseState, limit: u64, payload: u64) -> Result<(), Refusal>
+    ensures lines { (e : entries.Entry) → payload ≡ length (entries.payload e) → as_line (λ u. e) result ≡ fitted_by limit state.now.size (tail_of state.now) e }
+    ensures room { OnOk result (size_with state.now payload ≤ limit) }
+    ensures full { OnErr result (limit < size_with state.now payload) }
     ensures site { IfErr result IsOfSite }
 {
-    let least = books.size_with(0);
+    let least = state.size_with(0);
     if limit < least || limit - least < payload {
-        return Err(Refusal::JournalFull(books.size(), payload));
+        return Err(Refusal::JournalFull(state.size(), payload));
     }
     Ok(())
 }

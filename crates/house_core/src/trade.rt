@@ -6,7 +6,7 @@ ghost use Rattle.ledger_model.specs.Histories.{History};
 ghost use Rattle.ledger_model.specs.Houses.{site_kind};
 ghost use Rattle.ledger_model.specs.Answer as answers;
 ghost use Rattle.ledger_model.specs.Replies.{brought, price_asked};
-ghost use Rattle.ledger_model.specs.Slow.{told};
+ghost use Rattle.ledger_model.specs.Slow.{as_line};
 ghost use Rattle.house_core.specs.Views.{kind_number, entry_deed, offer_of, contents_of};
 ghost use Rattle.house_core.specs.Trade.{draw_asked, brought_by, OfGoods, IsInForce, IsKeptFrom};
 ghost use Rattle.house_core.specs.Learning.{ByTrade, GoodsFit, MayLearn, IsGoods};
@@ -18,7 +18,7 @@ use mc_base::{Amount, Moment, NoMemory};
 use mc_records::{Limits, Record, Refusal};
 
 /// What a site offers for scrip, as far as a history says something of it: goods, or accounts, licences
-/// and stock. A trade stands for a history, whose entries it learns one by one, and answers as the
+/// and stock. A trade represents a history, whose entries it learns one by one, and answers as the
 /// ledger does for that history.
 pub trait Trade: Drop {
     // What the trade says is what this history says.
@@ -54,7 +54,7 @@ pub trait Trade: Drop {
     ) -> Result<Offer, Refusal>
         // The price and the deed of the entry, or the refusal, are the ledger's.
         ensures offer { (h : History) → stands self.now h → site_kind h ≡ Some (site self.now)
-            → told offer_of result ≡ answers.offer h time limits target.now value }
+            → as_line offer_of result ≡ answers.offer h time limits target.now value }
         ensures site { IfErr result IsOfSite }
         // What the kept deed names is what the entry's deed brings, and what is in force.
         ensures brings { (h : History) → stands self.now h → site_kind h ≡ Some (site self.now)
@@ -66,7 +66,7 @@ pub trait Trade: Drop {
     fn draw(&self, target: &[u8]) -> Option<DrawAsk>
         ensures { (h : History) → stands self.now h → site_kind h ≡ Some (site self.now) → result ≡ draw_asked h target.now };
 
-    /// Makes room to learn an entry. The trade stands for what it stood for, also after an `Err`.
+    /// Makes room to learn an entry. The trade represents what it represented, also after an `Err`.
     fn reserve(&mut self, r: &Record<'_>) -> Result<(), NoMemory>
         ensures site { site self.new ≡ site self.old }
         ensures same { (h : History) → stands self.old h → stands self.new h }
@@ -74,7 +74,7 @@ pub trait Trade: Drop {
         ensures room { OnOk result (has_room self.new (entry r.now)) };
 
     /// Learns the next entry, of which the house has told its half of what makes it lawful. `Err` comes
-    /// exactly where the trade's half does not hold, and leaves the trade standing for what it stood for.
+    /// exactly where the trade's half does not hold, and leaves the trade representing what it represented.
     fn learn(&mut self, number: u64, r: &Record<'_>) -> Result<(), Unlawful>
         requires room { has_room self.old (entry r.now) }
         requires fits { GoodsFit (entry r.now) }

@@ -34,7 +34,7 @@ pub enum EnterFault {
 
 /// Why a request with a scrip text makes no entry.
 #[derive(Drop)]
-pub(crate) enum Stopped {
+pub(crate) enum NotAuthorized {
     Refused(Refusal),
     Again(u64),
 }
@@ -42,7 +42,7 @@ pub(crate) enum Stopped {
 /// What an entry for a piece says beside the moment, the scrip text and the target, with the secret of
 /// the piece's customer and the length of the payload.
 #[derive(Drop)]
-pub(crate) struct Acceptance {
+pub(crate) struct Authorization {
     pub(crate) secret: [u8; 16],
     pub(crate) sign: Option<[u8; 16]>,
     pub(crate) price: u64,

@@ -1,7 +1,7 @@
 -- What was sent over all links, by what becomes of the links.
 use Rattle.std.proofs.Common.{◌≡◌, ℕ, List, [], ◌∷◌, ◌++◌, refl, sym, ap, ◌∙◌, Option, Some, None}
 use Rattle.std.specs.Prelude.{IsSome, IsTrue, option_map}
-use Rattle.mc_outside.specs.LinkView.{Session, LinkView, IsLink, on_last, hear, ended, fresh, all_sent, heard, told, finished, next_taken}
+use Rattle.mc_outside.specs.LinkView.{Session, LinkView, IsLink, on_last, hear, ended, fresh, all_sent, after_recv, after_send, after_eof, next_taken}
 use Rattle.mc_outside.proofs.Sessions.{aside_grows}
 
 pub some_of : {A : Type 0} (o : Option A) → IsSome o → (x : A) × (o ≡ Some x)
@@ -28,11 +28,11 @@ on_last_no_more : (f : Session → Session) (v w : LinkView) → ((s : Session) 
 on_last_no_more f v w same is = λ ss e. (on_last f ss, is ∙ ap (λ (o : Option (List Session)). option_map (on_last f) o) e, maps_no_more f same ss)
 
 -- more was received
-pub no_more_heard : (v w : LinkView) (x : List ℕ) → w.sessions ≡ (heard x v).sessions → SentNoMore v w
+pub no_more_heard : (v w : LinkView) (x : List ℕ) → w.sessions ≡ (after_recv x v).sessions → SentNoMore v w
 no_more_heard v w x is = on_last_no_more (hear x) v w (λ s. refl) is
 
 -- the link was read to its end
-pub no_more_finished : (v w : LinkView) → w.sessions ≡ (finished v).sessions → SentNoMore v w
+pub no_more_finished : (v w : LinkView) → w.sessions ≡ (after_eof v).sessions → SentNoMore v w
 no_more_finished v w is = on_last_no_more ended v w (λ s. refl) is
 
 fresh_no_more : (ss : List Session) → all_sent (ss ++ fresh ∷ []) ≡ all_sent ss
@@ -57,7 +57,7 @@ aside_still link aside a b tells told' same =
     tells b after.0 after.1 ∙ after.2 ∙ sym (tells a some.0 some.1)
 
 pub aside_sent : {O : Type 0} (link : O → LinkView) (aside : O → List ℕ) (a b : O) (x : List ℕ) → TellsAside link aside → IsSome (link a).sessions → IsLink (link a) → IsTrue (link a).stands
-    → (link b).sessions ≡ (told x (link a)).sessions → aside b ≡ aside a ++ x
+    → (link b).sessions ≡ (after_send x (link a)).sessions → aside b ≡ aside a ++ x
 aside_sent link aside a b x tells told' is stands sent =
     let some = some_of (link a).sessions told' in
     aside_grows (link a) (link b) (aside a) (aside b) some.0 x is stands some.1 sent (tells a) (tells b)

@@ -14,7 +14,7 @@ use Rattle.millicent_http.proofs.ReadLemmas.{read_more, read_item}
 use Rattle.house_core.specs.declared.bench.Bench.{Bench}
 use Rattle.house_core.specs.declared.house.House.{House}
 use Rattle.house_core.specs.Bench.{house_time, limits_of, state_of}
-use Rattle.house_core.specs.House.{StandsFor}
+use Rattle.house_core.specs.House.{HouseRepresents}
 use Rattle.house_core.specs.Session.{State}
 use Rattle.house_serving.specs.declared.serving.Clock.TheVariants.{OfLinks}
 use Rattle.house_serving.specs.declared.turn.Turn.{Turn}
@@ -22,8 +22,8 @@ use Rattle.house_serving.specs.declared.turn.Turn.TheVariants as turns
 use Rattle.house_serving.specs.declared.links.ServeOut.TheVariants as outs
 use Rattle.house_serving.specs.Steps.{Did, sent_of, state_after}
 use Rattle.house_serving.specs.Course.{HadLinks, NoLink}
-use Rattle.house_serving.specs.Orders.{WentBy, InDoubt, HaltedBy}
-use Rattle.house_serving.specs.Doubts.{IsDoubted, DoubtTurn, DoubtLink}
+use Rattle.house_serving.specs.Orders.{RefinesBy, InDoubt, HaltedBy}
+use Rattle.house_serving.specs.InDoubt.{RequestInDoubt, InDoubtTurn, InDoubtLink}
 use Rattle.house_serving.specs.Links.{TurnsHouse, EndsTurns, ServesLink, ServesLinks}
 use Rattle.house_serving.proofs.LinkCalls.{heard_on}
 use Rattle.house_serving.proofs.ServingLemmas.{IsServing, serving_starts, serving_goes_on, serving_ended}
@@ -33,15 +33,15 @@ use Rattle.house_serving.proofs.OrderLemmas.{begins_then, house_keeps, went_nowh
 use Rattle.house_serving.proofs.HouseTurnLemmas.{ReadOn}
 
 -- the state that a house is in after its steps
-went_at : {O T : Type 0} (link : O → LinkView) (disk : O → DiskView) (stands : T → History → Type 0) (site : T → ℕ) (holds : T → ℕ → Type 0) (a : O) (s : State) (xs : List Did) (x : House O T) → WentBy link disk stands site holds a s xs x
+went_at : {O T : Type 0} (link : O → LinkView) (disk : O → DiskView) (stands : T → History → Type 0) (site : T → ℕ) (holds : T → ℕ → Type 0) (a : O) (s : State) (xs : List Did) (x : House O T) → RefinesBy link disk stands site holds a s xs x
     → state_of (state_after s xs).history x.bench ≡ state_after s xs
 went_at link disk stands site holds a s xs x went = ap (λ (t : ℕ). record { history = (state_after s xs).history; time = t }) went.time
 
 -- links did what sends nothing, after some steps
 pub went_still : {O T : Type 0} (link : O → LinkView) (disk : O → DiskView) (stands : T → History → Type 0) (site : T → ℕ) (holds : T → ℕ → Type 0) (a : O) (s : State) (xs : List Did) (x y : House O T) → ReadOn link disk x y
-    → SentNoMore (link x.journal.disk) (link y.journal.disk) → WentBy link disk stands site holds a s xs x → WentBy link disk stands site holds a s xs y
+    → SentNoMore (link x.journal.disk) (link y.journal.disk) → RefinesBy link disk stands site holds a s xs x → RefinesBy link disk stands site holds a s xs y
 went_still {T = T} link disk stands site holds a s xs x y on same went =
-    subst (λ (l : List Did). WentBy link disk stands site holds a s l y) (append-nil xs)
+    subst (λ (l : List Did). RefinesBy link disk stands site holds a s l y) (append-nil xs)
     (went_on link disk stands site holds a s xs [] x y went
     (went_quiet link disk stands site holds x y (state_after s xs) on.tells went.house (ap (λ (b : Bench T). house_time b) on.rests.bench ∙ went.time) on.keeps on.goes
     (house_keeps disk stands site holds x y (state_after s xs).history went.house on.keeps on.rests) same))
@@ -74,10 +74,10 @@ halted_still link disk a c d s xs e said tells keeps goes same halted =
 -- by these turns a house came so far on a link
 abbrev pub ServingHouse : {O T : Type 0} → (O → LinkView) → (O → DiskView) → (T → History → Type 0) → (T → ℕ) → (T → ℕ → Type 0) → Limits → O → State → House O T → Held → Type 0
 ServingHouse link disk stands site holds limits a s x k =
-    (steps : List Did) × WentBy link disk stands site holds a s steps x × IsServing limits OfLinks steps s (link a) k (link x.journal.disk)
+    (steps : List Did) × RefinesBy link disk stands site holds a s steps x × IsServing limits OfLinks steps s (link a) k (link x.journal.disk)
 
 pub house_starts : {O T : Type 0} (link : O → LinkView) (disk : O → DiskView) (stands : T → History → Type 0) (site : T → ℕ) (holds : T → ℕ → Type 0) (x : House O T) (h : History) (k : Held) → IsDisk (disk x.journal.disk) → k ≡ nothing_held
-    → StandsFor disk stands site holds x h → ServingHouse link disk stands site holds (limits_of x.bench) x.journal.disk (state_of h x.bench) x k
+    → HouseRepresents disk stands site holds x h → ServingHouse link disk stands site holds (limits_of x.bench) x.journal.disk (state_of h x.bench) x k
 house_starts link disk stands site holds x h k is empty st = (
   [],
   went_nowhere link disk stands site holds x (state_of h x.bench) is st refl,
@@ -86,8 +86,8 @@ house_starts link disk stands site holds x h k is empty st = (
 
 -- the next turn, from the state that the house is in
 turn_from : {O T : Type 0} (link : O → LinkView) (disk : O → DiskView) (stands : T → History → Type 0) (site : T → ℕ) (holds : T → ℕ → Type 0) (limits : Limits) (a : O) (s : State) (xs : List Did) (x : House O T) (k m : Held)
-    (r : Result (House O T × Turn) O) → WentBy link disk stands site holds a s xs x → limits_of x.bench ≡ limits
-    → ((h : History) → StandsFor disk stands site holds x h → TurnsHouse link disk stands site holds (limits_of x.bench) x.journal.disk (state_of h x.bench) k m r)
+    (r : Result (House O T × Turn) O) → RefinesBy link disk stands site holds a s xs x → limits_of x.bench ≡ limits
+    → ((h : History) → HouseRepresents disk stands site holds x h → TurnsHouse link disk stands site holds (limits_of x.bench) x.journal.disk (state_of h x.bench) k m r)
     → TurnsHouse link disk stands site holds limits x.journal.disk (state_after s xs) k m r
 turn_from link disk stands site holds limits a s xs x k m r went same turned =
     subst (λ (t : State). TurnsHouse link disk stands site holds limits x.journal.disk t k m r) (went_at link disk stands site holds a s xs x went)
@@ -95,7 +95,7 @@ turn_from link disk stands site holds limits a s xs x k m r went same turned =
 
 pub house_goes_on : {O T : Type 0} (link : O → LinkView) (disk : O → DiskView) (stands : T → History → Type 0) (site : T → ℕ) (holds : T → ℕ → Type 0) (limits : Limits) (a : O) (s : State) (x y : House O T) (k m : Held)
     → limits_of x.bench ≡ limits → ServingHouse link disk stands site holds limits a s x k
-    → ((h : History) → StandsFor disk stands site holds x h → TurnsHouse link disk stands site holds (limits_of x.bench) x.journal.disk (state_of h x.bench) k m (Ok (y, turns.GoOn)))
+    → ((h : History) → HouseRepresents disk stands site holds x h → TurnsHouse link disk stands site holds (limits_of x.bench) x.journal.disk (state_of h x.bench) k m (Ok (y, turns.GoOn)))
     → ServingHouse link disk stands site holds limits a s y m
 house_goes_on link disk stands site holds limits a s x y k m same so turned =
     let xs : List Did = so.0 in
@@ -107,7 +107,7 @@ house_goes_on link disk stands site holds limits a s x y k m same so turned =
 
 pub house_ends : {O T : Type 0} (link : O → LinkView) (disk : O → DiskView) (stands : T → History → Type 0) (site : T → ℕ) (holds : T → ℕ → Type 0) (limits : Limits) (a : O) (s : State) (x y : House O T) (k m : Held) (turn : Turn)
     → limits_of x.bench ≡ limits → (turn ≡ turns.GoOn → ⊥) → ServingHouse link disk stands site holds limits a s x k
-    → ((h : History) → StandsFor disk stands site holds x h → TurnsHouse link disk stands site holds (limits_of x.bench) x.journal.disk (state_of h x.bench) k m (Ok (y, turn)))
+    → ((h : History) → HouseRepresents disk stands site holds x h → TurnsHouse link disk stands site holds (limits_of x.bench) x.journal.disk (state_of h x.bench) k m (Ok (y, turn)))
     → EndsTurns link disk stands site holds limits a s (Ok (y, turn))
 house_ends link disk stands site holds limits a s x y k m turn same last so turned =
     let xs : List Did = so.0 in
@@ -119,7 +119,7 @@ house_ends link disk stands site holds limits a s x y k m turn same last so turn
 
 -- a request whose entry is in doubt, after some items
 doubt_link : (limits : Limits) (xs : List Did) (s : State) (before now : LinkView) (k : Held) (e : Entry) (said : List ℕ) (after : LinkView) → IsServing limits OfLinks xs s before k now
-    → DoubtTurn limits (state_after s xs) k now e said after → DoubtLink limits xs s before e said after
+    → InDoubtTurn limits (state_after s xs) k now e said after → InDoubtLink limits xs s before e said after
 doubt_link limits xs s before now k e said after so doubt = record {
   got = so.got ++ doubt.more;
   front = so.items;
@@ -133,12 +133,12 @@ doubt_link limits xs s before now k e said after so doubt = record {
   };
   between = now.readings;
   replied = so.replied;
-  doubted = subst (λ (v : LinkView). IsDoubted limits doubt.q (state_after s xs) e said v after) (heard_on before now so.got doubt.more (sent_of xs) now.readings so.link) doubt.doubted;
+  in_doubt = subst (λ (v : LinkView). RequestInDoubt limits doubt.q (state_after s xs) e said v after) (heard_on before now so.got doubt.more (sent_of xs) now.readings so.link) doubt.in_doubt;
 }
 
 pub house_halts : {O T : Type 0} (link : O → LinkView) (disk : O → DiskView) (stands : T → History → Type 0) (site : T → ℕ) (holds : T → ℕ → Type 0) (limits : Limits) (a : O) (s : State) (x : House O T) (k m : Held) (d : O)
     → limits_of x.bench ≡ limits → ServingHouse link disk stands site holds limits a s x k
-    → ((h : History) → StandsFor disk stands site holds x h → TurnsHouse link disk stands site holds (limits_of x.bench) x.journal.disk (state_of h x.bench) k m (Err d))
+    → ((h : History) → HouseRepresents disk stands site holds x h → TurnsHouse link disk stands site holds (limits_of x.bench) x.journal.disk (state_of h x.bench) k m (Err d))
     → EndsTurns {O = O} {T = T} link disk stands site holds limits a s (Err d)
 house_halts link disk stands site holds limits a s x k m d same so turned =
     let xs : List Did = so.0 in
@@ -147,7 +147,7 @@ house_halts link disk stands site holds limits a s x k m d same so turned =
       next.0,
       next.1,
       halted_later link disk stands site holds a s xs [] x next.0 next.1 d so.1 next.2,
-      subst (λ (l : List Did). DoubtLink limits l s (link a) next.0 next.1 (link d)) (sym (append-nil xs)) (doubt_link limits xs s (link a) (link x.journal.disk) k next.0 next.1 (link d) so.2 next.3),
+      subst (λ (l : List Did). InDoubtLink limits l s (link a) next.0 next.1 (link d)) (sym (append-nil xs)) (doubt_link limits xs s (link a) (link x.journal.disk) k next.0 next.1 (link d) so.2 next.3),
     )
 
 -- ---- a link
@@ -177,9 +177,9 @@ link_halted link disk stands site holds limits a s c d tells keeps goes is ended
 
 abbrev pub LinkedHouse : {O T : Type 0} → (O → LinkView) → (O → DiskView) → (T → History → Type 0) → (T → ℕ) → (T → ℕ → Type 0) → Limits → ℕ → O → State → House O T → Type 0
 LinkedHouse link disk stands site holds limits n a s x =
-    (steps : List Did) × WentBy link disk stands site holds a s steps x × HadLinks limits OfLinks n steps s (link a) (link x.journal.disk)
+    (steps : List Did) × RefinesBy link disk stands site holds a s steps x × HadLinks limits OfLinks n steps s (link a) (link x.journal.disk)
 
-pub linked_starts : {O T : Type 0} (link : O → LinkView) (disk : O → DiskView) (stands : T → History → Type 0) (site : T → ℕ) (holds : T → ℕ → Type 0) (limits : Limits) (x : House O T) (h : History) → IsDisk (disk x.journal.disk) → StandsFor disk stands site holds x h
+pub linked_starts : {O T : Type 0} (link : O → LinkView) (disk : O → DiskView) (stands : T → History → Type 0) (site : T → ℕ) (holds : T → ℕ → Type 0) (limits : Limits) (x : House O T) (h : History) → IsDisk (disk x.journal.disk) → HouseRepresents disk stands site holds x h
     → LinkedHouse link disk stands site holds limits 0 x.journal.disk (state_of h x.bench) x
 linked_starts link disk stands site holds limits x h is st = (
   [],
@@ -189,8 +189,8 @@ linked_starts link disk stands site holds limits x h is st = (
 
 -- the link that was taken was served, from the state that the house is in
 link_from : {O T : Type 0} (link : O → LinkView) (disk : O → DiskView) (stands : T → History → Type 0) (site : T → ℕ) (holds : T → ℕ → Type 0) (limits : Limits) (a : O) (s : State) (xs : List Did) (y : House O T) (r : Result (House O T) O)
-    → WentBy link disk stands site holds a s xs y → limits_of y.bench ≡ limits
-    → ((h : History) → StandsFor disk stands site holds y h → ServesLink link disk stands site holds (limits_of y.bench) y.journal.disk (state_of h y.bench) r)
+    → RefinesBy link disk stands site holds a s xs y → limits_of y.bench ≡ limits
+    → ((h : History) → HouseRepresents disk stands site holds y h → ServesLink link disk stands site holds (limits_of y.bench) y.journal.disk (state_of h y.bench) r)
     → ServesLink link disk stands site holds limits y.journal.disk (state_after s xs) r
 link_from link disk stands site holds limits a s xs y r went same served =
     subst (λ (t : State). ServesLink link disk stands site holds limits y.journal.disk t r) (went_at link disk stands site holds a s xs y went)
@@ -198,7 +198,7 @@ link_from link disk stands site holds limits a s xs y r went same served =
 
 pub linked_goes_on : {O T : Type 0} (link : O → LinkView) (disk : O → DiskView) (stands : T → History → Type 0) (site : T → ℕ) (holds : T → ℕ → Type 0) (limits : Limits) (n m : ℕ) (a : O) (s : State) (x y z : House O T) → m ≡ suc n → ReadOn link disk x y
     → link y.journal.disk ≡ next_taken (link x.journal.disk) → limits_of y.bench ≡ limits → LinkedHouse link disk stands site holds limits n a s x
-    → ((h : History) → StandsFor disk stands site holds y h → ServesLink link disk stands site holds (limits_of y.bench) y.journal.disk (state_of h y.bench) (Ok z))
+    → ((h : History) → HouseRepresents disk stands site holds y h → ServesLink link disk stands site holds (limits_of y.bench) y.journal.disk (state_of h y.bench) (Ok z))
     → LinkedHouse link disk stands site holds limits m a s z
 linked_goes_on link disk stands site holds limits n m a s x y z more on taken same so served =
     let xs : List Did = so.0 in
@@ -235,7 +235,7 @@ linked_house_broke link disk stands site holds limits links n a s x y few on fau
 -- the disk failed on the next one
 pub linked_house_halts : {O T : Type 0} (link : O → LinkView) (disk : O → DiskView) (stands : T → History → Type 0) (site : T → ℕ) (holds : T → ℕ → Type 0) (limits : Limits) (links n : ℕ) (a : O) (s : State) (x y : House O T) (d : O) → n < links → ReadOn link disk x y
     → link y.journal.disk ≡ next_taken (link x.journal.disk) → limits_of y.bench ≡ limits → LinkedHouse link disk stands site holds limits n a s x
-    → ((h : History) → StandsFor disk stands site holds y h → ServesLink link disk stands site holds (limits_of y.bench) y.journal.disk (state_of h y.bench) (Err d))
+    → ((h : History) → HouseRepresents disk stands site holds y h → ServesLink link disk stands site holds (limits_of y.bench) y.journal.disk (state_of h y.bench) (Err d))
     → ServesLinks {O = O} {T = T} link disk stands site holds limits links a s (outs.Halted d)
 linked_house_halts link disk stands site holds limits links n a s x y d few on taken same so served =
     let xs : List Did = so.0 in
@@ -254,7 +254,7 @@ linked_house_halts link disk stands site holds limits links n a s x y d few on t
         between = link x.journal.disk;
         links_had = so.2;
         stopped = had.3;
-        last_link = subst (λ (v : LinkView). DoubtLink limits had.0 (state_after s xs) v had.1 had.2 had.3) taken had.5;
+        last_link = subst (λ (v : LinkView). InDoubtLink limits had.0 (state_after s xs) v had.1 had.2 had.3) taken had.5;
         ended = had.6;
       },
     )

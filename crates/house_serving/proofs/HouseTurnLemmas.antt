@@ -4,7 +4,7 @@ use Rattle.std.specs.Prelude.{OnOk, OnErr, IfOk, IsTrue, max}
 use Rattle.mc_outside.specs.declared.link.LinkFault.{LinkFault}
 use Rattle.mc_outside.specs.Bytes.{Rose}
 use Rattle.mc_outside.specs.DiskView.{DiskView, IsDisk, LinkKeeps, Ran}
-use Rattle.mc_outside.specs.LinkView.{LinkView, IsLink, LinkGoes, heard, told, Failed}
+use Rattle.mc_outside.specs.LinkView.{LinkView, IsLink, LinkGoes, after_recv, after_send, Failed}
 use Rattle.mc_records.specs.declared.limits.Limits.{Limits}
 use Rattle.mc_records.specs.declared.refusal.Refusal.{Refusal}
 use Rattle.mc_records.specs.declared.refusal.Refusal.TheVariants as refusals
@@ -26,15 +26,15 @@ use Rattle.millicent_http.specs.Held.{Held}
 use Rattle.millicent_http.specs.Takes.{Took, TookItem, with_more}
 use Rattle.millicent_http.specs.Items.{Item, request, refused}
 use Rattle.millicent_http.proofs.JudgeLemmas.{asks_a_target}
-use Rattle.scrip_journal.specs.Layout.{Stands}
-use Rattle.scrip_journal.specs.Exits.{EitherQuiet}
+use Rattle.scrip_journal.specs.Layout.{Encodes}
+use Rattle.scrip_journal.specs.Exits.{EitherNoOutput}
 use Rattle.house_core.specs.declared.bench.Bench.{Bench}
 use Rattle.house_core.specs.declared.house.House.{House}
 use Rattle.house_core.specs.declared.settled.Settled.{Settled}
 use Rattle.house_core.specs.declared.outcome.Outcome.TheVariants as outcomes
 use Rattle.house_core.specs.Verdicts.{repeat_of}
 use Rattle.house_core.specs.Bench.{house_time, limits_of, state_of}
-use Rattle.house_core.specs.House.{StandsFor, HouseRests, HasEntered, IsAsItWas, Accepted, Leaves}
+use Rattle.house_core.specs.House.{HouseRepresents, HouseRests, HasEntered, IsAsItWas, Accepted, Leaves}
 use Rattle.house_core.specs.Session.{State, Gives, entered, raised}
 use Rattle.house_serving.specs.declared.serving.Clock.TheVariants.{OfLinks}
 use Rattle.house_serving.specs.declared.turn.Turn.{Turn}
@@ -42,8 +42,8 @@ use Rattle.house_serving.specs.declared.turn.Turn.TheVariants.{GoOn, Last, End, 
 use Rattle.house_serving.specs.Steps.{Did}
 use Rattle.house_serving.specs.Course.{AreRead, with_readings}
 use Rattle.house_serving.specs.Turns.{Sent, AnsweredItem, Turned, turn_after}
-use Rattle.house_serving.specs.Orders.{WentBy, HaltedBy}
-use Rattle.house_serving.specs.Doubts.{Sends, IsDoubted}
+use Rattle.house_serving.specs.Orders.{RefinesBy, HaltedBy}
+use Rattle.house_serving.specs.InDoubt.{Sends, RequestInDoubt}
 use Rattle.house_serving.specs.Links.{RepliesTo, AnswersRequest, RefusesHead, TurnsHouse}
 use Rattle.house_serving.proofs.AsideLemmas.{TellsAside, SentNoMore, no_more_still, no_more_then, no_more_heard, no_more_finished}
 use Rattle.house_serving.proofs.TurnLemmas.{leads_so, item_turned}
@@ -52,21 +52,21 @@ use Rattle.house_serving.proofs.OrderLemmas.{house_keeps, went_on, went_quiet, w
 
 -- ---- sending
 
--- the refusal of a request that the disk failed was sent, or a first part of it
-pub sends_so : (reply : List ℕ) (r : Result (Unit {0}) LinkFault) (v w : LinkView) → OnOk r (w ≡ told reply v) → OnErr r ((n : ℕ) × (n < length reply) × Failed (told (take n reply) v) w)
+-- the refusal of a request that the disk failed was sent, or a prefix of it
+pub sends_so : (reply : List ℕ) (r : Result (Unit {0}) LinkFault) (v w : LinkView) → OnOk r (w ≡ after_send reply v) → OnErr r ((n : ℕ) × (n < length reply) × Failed (after_send (take n reply) v) w)
     → (said : List ℕ) × Sends reply said v w
 sends_so reply (Ok u) v w sent fault = (reply, inl (refl, sent))
 sends_so reply (Err e) v w sent fault = (take fault.0 reply, inr (fault.0, fault.1, refl, fault.2))
 
-sent_sessions : (after : After) (reply part : List ℕ) (turn : Turn) (v w : LinkView) → Sent after reply turn part v w → w.sessions ≡ (told part v).sessions
+sent_sessions : (after : After) (reply part : List ℕ) (turn : Turn) (v w : LinkView) → Sent after reply turn part v w → w.sessions ≡ (after_send part v).sessions
 sent_sessions after reply part GoOn v w sent = ap (λ (u : LinkView). u.sessions) sent.2
 sent_sessions after reply part Last v w sent = ap (λ (u : LinkView). u.sessions) sent.2
 sent_sessions after reply part End v w sent = absurd sent
 sent_sessions after reply part NotReceived v w sent = absurd sent
 sent_sessions after reply part NotSent v w sent = ap (λ (u : LinkView). u.sessions) sent.3.same
 
-said_sessions : (reply said : List ℕ) (v w : LinkView) → Sends reply said v w → w.sessions ≡ (told said v).sessions
-said_sessions reply said v w (inl sent) = ap (λ (u : LinkView). u.sessions) sent.1 ∙ ap (λ (l : List ℕ). (told l v).sessions) (sym sent.0)
+said_sessions : (reply said : List ℕ) (v w : LinkView) → Sends reply said v w → w.sessions ≡ (after_send said v).sessions
+said_sessions reply said v w (inl sent) = ap (λ (u : LinkView). u.sessions) sent.1 ∙ ap (λ (l : List ℕ). (after_send l v).sessions) (sym sent.0)
 said_sessions reply said v w (inr fault) = ap (λ (u : LinkView). u.sessions) fault.3.same
 
 -- what follows of an answer
@@ -87,7 +87,7 @@ said_readings reply said v w (inr fault) = ap (λ (u : LinkView). u.readings) fa
 
 done_is : {D T : Type 0} (view : D → DiskView) (stands : T → History → Type 0) (site : T → ℕ) (holds : T → ℕ → Type 0) (d : D) (h : History) (a : Answer) (x : House D T) (s : Settled) (u v : DiskView) (aside : List ℕ)
     → Accepted view stands site holds d h a (outcomes.Done x s) → Ran u v (Leaves {D = D} {T = T} {A = Settled} a (outcomes.Done x s) h aside)
-    → (e : Entry) × (a ≡ answers.Take e) × HasEntered view stands site holds x h e s.number × Ran u v (EitherQuiet h e aside)
+    → (e : Entry) × (a ≡ answers.Take e) × HasEntered view stands site holds x h e s.number × Ran u v (EitherNoOutput h e aside)
 done_is view stands site holds d h (answers.Take e) x s u v aside accepted ran = (e, refl, accepted, ran)
 done_is view stands site holds d h (answers.Refused f) x s u v aside accepted ran = absurd accepted
 done_is view stands site holds d h (answers.Again n) x s u v aside accepted ran = absurd accepted
@@ -106,7 +106,7 @@ starved_is view stands site holds d h (answers.Again n) x accepted = absurd acce
 
 halted_is : {D T : Type 0} (view : D → DiskView) (stands : T → History → Type 0) (site : T → ℕ) (holds : T → ℕ → Type 0) (d e' : D) (h : History) (a : Answer) (u v : DiskView) (aside : List ℕ)
     → Accepted view stands site holds d h a (outcomes.Halted e') → Ran u v (Leaves {D = D} {T = T} {A = Settled} a (outcomes.Halted e') h aside)
-    → (e : Entry) × (a ≡ answers.Take e) × Ran u v (EitherQuiet h e aside) × Rose (view d).faults (view e').faults
+    → (e : Entry) × (a ≡ answers.Take e) × Ran u v (EitherNoOutput h e aside) × Rose (view d).faults (view e').faults
 halted_is view stands site holds d e' h (answers.Take e) u v aside accepted ran = (e, refl, ran, accepted)
 halted_is view stands site holds d e' h (answers.Refused f) u v aside accepted ran = absurd accepted
 halted_is view stands site holds d e' h (answers.Again n) u v aside accepted ran = absurd accepted
@@ -124,9 +124,9 @@ pub record SentOn {O T : Type 0} (link : O → LinkView) (disk : O → DiskView)
 
 -- nothing new is entered: the reply is the first one of an entry, or a refusal
 pub replied_old : {O T : Type 0} (link : O → LinkView) (disk : O → DiskView) (stands : T → History → Type 0) (site : T → ℕ) (holds : T → ℕ → Type 0) (limits : Limits) (q : Asked) (after : After) (y z : House O T) (s : State)
-    (reply : List ℕ) (r : Result (Unit {0}) LinkFault) → SentOn link disk y z → StandsFor disk stands site holds y s.history → house_time y.bench ≡ s.time
+    (reply : List ℕ) (r : Result (Unit {0}) LinkFault) → SentOn link disk y z → HouseRepresents disk stands site holds y s.history → house_time y.bench ≡ s.time
     → Gives s q (answer s.history s.time limits q) reply s
-    → OnOk r (link z.journal.disk ≡ told reply (link y.journal.disk)) → OnErr r ((n : ℕ) × (n < length reply) × Failed (told (take n reply) (link y.journal.disk)) (link z.journal.disk))
+    → OnOk r (link z.journal.disk ≡ after_send reply (link y.journal.disk)) → OnErr r ((n : ℕ) × (n < length reply) × Failed (after_send (take n reply) (link y.journal.disk)) (link z.journal.disk))
     → RepliesTo link disk stands site holds limits q after y.journal.disk s (Ok (z, turn_after r after))
 replied_old {T = T} link disk stands site holds limits q after y z s reply r on st time gives sent fault =
     let was = sent_so after reply r (link y.journal.disk) (link z.journal.disk) sent fault in
@@ -144,15 +144,15 @@ pub replied_new : {O T : Type 0} (link : O → LinkView) (disk : O → DiskView)
     (settled : Settled) (r : Result (Unit {0}) LinkFault) → SentOn link disk y z → house_time y.bench ≡ s.time → (disk y.journal.disk).aside ≡ (disk a).aside → (disk y.journal.disk).faults ≡ (disk a).faults → link y.journal.disk ≡ link a
     → Accepted disk stands site holds a s.history (answer s.history s.time limits q) (outcomes.Done y settled)
     → Ran (disk a) (disk y.journal.disk) (Leaves {D = O} {T = T} {A = Settled} (answer s.history s.time limits q) (outcomes.Done y settled) s.history (disk a).aside)
-    → OnOk r ((h : History) → StandsFor disk stands site holds y h → link z.journal.disk ≡ told (reply_of h settled.number) (link y.journal.disk))
-    → OnErr r ((h : History) → StandsFor disk stands site holds y h
-    → (n : ℕ) × (n < length (reply_of h settled.number)) × Failed (told (take n (reply_of h settled.number)) (link y.journal.disk)) (link z.journal.disk))
+    → OnOk r ((h : History) → HouseRepresents disk stands site holds y h → link z.journal.disk ≡ after_send (reply_of h settled.number) (link y.journal.disk))
+    → OnErr r ((h : History) → HouseRepresents disk stands site holds y h
+    → (n : ℕ) × (n < length (reply_of h settled.number)) × Failed (after_send (take n (reply_of h settled.number)) (link y.journal.disk)) (link z.journal.disk))
     → RepliesTo link disk stands site holds limits q after a s (Ok (z, turn_after r after))
 replied_new {T = T} link disk stands site holds limits q after a y z s settled r on time quiet calm same accepted ran sent fault =
     let is = done_is disk stands site holds a s.history (answer s.history s.time limits q) y settled (disk a) (disk y.journal.disk) (disk a).aside accepted ran in
     let e : Entry = is.0 in
     let t : State = entered s e in
-    let st : StandsFor disk stands site holds y t.history = is.2.stands' in
+    let st : HouseRepresents disk stands site holds y t.history = is.2.stands' in
     let reply : List ℕ = reply_of t.history settled.number in
     let was = sent_so after reply r (link y.journal.disk) (link z.journal.disk) (told_so r _ _ (λ f. f t.history st) sent) (failed_so r _ _ (λ f. f t.history st) fault) in
     let step : Did = record { sent = was.0; after = t } in (
@@ -168,9 +168,9 @@ replied_new {T = T} link disk stands site holds limits q after a y z s settled r
 pub replied_refused : {O T : Type 0} (link : O → LinkView) (disk : O → DiskView) (stands : T → History → Type 0) (site : T → ℕ) (holds : T → ℕ → Type 0) (limits : Limits) (q : Asked) (after : After) (a : O) (y z : House O T) (s : State)
     (f : Refusal) (r : Result (Unit {0}) LinkFault) → SentOn link disk y z → house_time y.bench ≡ s.time → ((n : ℕ) → answer s.history s.time limits q ≡ answers.Again n → ⊥)
     → Accepted disk stands site holds a s.history (answer s.history s.time limits q) (outcomes.Refused y f)
-    → OnOk r ((h : History) → StandsFor disk stands site holds y h → link z.journal.disk ≡ told (refusal_of h (house_time y.bench) q f) (link y.journal.disk))
-    → OnErr r ((h : History) → StandsFor disk stands site holds y h
-    → (n : ℕ) × (n < length (refusal_of h (house_time y.bench) q f)) × Failed (told (take n (refusal_of h (house_time y.bench) q f)) (link y.journal.disk)) (link z.journal.disk))
+    → OnOk r ((h : History) → HouseRepresents disk stands site holds y h → link z.journal.disk ≡ after_send (refusal_of h (house_time y.bench) q f) (link y.journal.disk))
+    → OnErr r ((h : History) → HouseRepresents disk stands site holds y h
+    → (n : ℕ) × (n < length (refusal_of h (house_time y.bench) q f)) × Failed (after_send (take n (refusal_of h (house_time y.bench) q f)) (link y.journal.disk)) (link z.journal.disk))
     → RepliesTo link disk stands site holds limits q after a s (Ok (z, turn_after r after))
 replied_refused {O = O} link disk stands site holds limits q after a y z s f r on time new accepted sent fault =
     let is = refused_is disk stands site holds a s.history (answer s.history s.time limits q) y f new accepted in
@@ -184,9 +184,9 @@ replied_refused {O = O} link disk stands site holds limits q after a y z s f r o
 pub replied_starved : {O T : Type 0} (link : O → LinkView) (disk : O → DiskView) (stands : T → History → Type 0) (site : T → ℕ) (holds : T → ℕ → Type 0) (limits : Limits) (q : Asked) (after : After) (a : O) (y z : House O T) (s : State)
     (r : Result (Unit {0}) LinkFault) → SentOn link disk y z → house_time y.bench ≡ s.time
     → Accepted disk stands site holds a s.history (answer s.history s.time limits q) (outcomes.NoMemory y)
-    → OnOk r ((h : History) → StandsFor disk stands site holds y h → link z.journal.disk ≡ told (refusal_of h (house_time y.bench) q refusals.NoMemory) (link y.journal.disk))
-    → OnErr r ((h : History) → StandsFor disk stands site holds y h
-    → (n : ℕ) × (n < length (refusal_of h (house_time y.bench) q refusals.NoMemory)) × Failed (told (take n (refusal_of h (house_time y.bench) q refusals.NoMemory)) (link y.journal.disk)) (link z.journal.disk))
+    → OnOk r ((h : History) → HouseRepresents disk stands site holds y h → link z.journal.disk ≡ after_send (refusal_of h (house_time y.bench) q refusals.NoMemory) (link y.journal.disk))
+    → OnErr r ((h : History) → HouseRepresents disk stands site holds y h
+    → (n : ℕ) × (n < length (refusal_of h (house_time y.bench) q refusals.NoMemory)) × Failed (after_send (take n (refusal_of h (house_time y.bench) q refusals.NoMemory)) (link y.journal.disk)) (link z.journal.disk))
     → RepliesTo link disk stands site holds limits q after a s (Ok (z, turn_after r after))
 replied_starved {O = O} link disk stands site holds limits q after a y z s r on time accepted sent fault =
     let is = starved_is disk stands site holds a s.history (answer s.history s.time limits q) y accepted in
@@ -198,10 +198,10 @@ replied_starved {O = O} link disk stands site holds limits q after a y z s r on 
 
 -- the request comes again, and gets the first reply of its entry
 pub replied_again : {O T : Type 0} (link : O → LinkView) (disk : O → DiskView) (stands : T → History → Type 0) (site : T → ℕ) (holds : T → ℕ → Type 0) (limits : Limits) (q : Asked) (after : After) (y z : House O T) (s : State)
-    (number : ℕ) (r : Result (Unit {0}) LinkFault) → SentOn link disk y z → StandsFor disk stands site holds y s.history → house_time y.bench ≡ s.time → answer s.history s.time limits q ≡ answers.Again number
-    → OnOk r ((h : History) → StandsFor disk stands site holds y h → link z.journal.disk ≡ told (reply_of h number) (link y.journal.disk))
-    → OnErr r ((h : History) → StandsFor disk stands site holds y h
-    → (n : ℕ) × (n < length (reply_of h number)) × Failed (told (take n (reply_of h number)) (link y.journal.disk)) (link z.journal.disk))
+    (number : ℕ) (r : Result (Unit {0}) LinkFault) → SentOn link disk y z → HouseRepresents disk stands site holds y s.history → house_time y.bench ≡ s.time → answer s.history s.time limits q ≡ answers.Again number
+    → OnOk r ((h : History) → HouseRepresents disk stands site holds y h → link z.journal.disk ≡ after_send (reply_of h number) (link y.journal.disk))
+    → OnErr r ((h : History) → HouseRepresents disk stands site holds y h
+    → (n : ℕ) × (n < length (reply_of h number)) × Failed (after_send (take n (reply_of h number)) (link y.journal.disk)) (link z.journal.disk))
     → RepliesTo link disk stands site holds limits q after y.journal.disk s (Ok (z, turn_after r after))
 replied_again link disk stands site holds limits q after y z s number r on st time again sent fault =
     let reply : List ℕ = reply_of s.history number in
@@ -211,11 +211,11 @@ replied_again link disk stands site holds limits q after y z s number r on st ti
 
 -- the disk failed while the entry of the request was written, and it was told so
 pub replied_halted : {O T : Type 0} (link : O → LinkView) (disk : O → DiskView) (stands : T → History → Type 0) (site : T → ℕ) (holds : T → ℕ → Type 0) (limits : Limits) (q : Asked) (after : After) (a b c : O) (s : State)
-    (r : Result (Unit {0}) LinkFault) → TellsAside link (λ o. (disk o).aside) → IsDisk (disk a) → ((i : List ℕ) → (disk a).leaves i → Stands s.history i) → IsDisk (disk b) → IsLink (link b) → IsTrue (link b).stands → (disk b).aside ≡ (disk a).aside → link b ≡ link a → LinkKeeps (disk b) (disk c) → LinkGoes (link b) (link c)
+    (r : Result (Unit {0}) LinkFault) → TellsAside link (λ o. (disk o).aside) → IsDisk (disk a) → ((i : List ℕ) → (disk a).leaves i → Encodes s.history i) → IsDisk (disk b) → IsLink (link b) → IsTrue (link b).stands → (disk b).aside ≡ (disk a).aside → link b ≡ link a → LinkKeeps (disk b) (disk c) → LinkGoes (link b) (link c)
     → Accepted {D = O} {T = T} disk stands site holds a s.history (answer s.history s.time limits q) (outcomes.Halted b)
     → Ran (disk a) (disk b) (Leaves {D = O} {T = T} {A = Settled} (answer s.history s.time limits q) (outcomes.Halted b) s.history (disk a).aside)
-    → OnOk r ((x : History × Asked) → link c ≡ told (refusal_of x.0 s.time x.1 refusals.DiskFault) (link b))
-    → OnErr r ((x : History × Asked) → (n : ℕ) × (n < length (refusal_of x.0 s.time x.1 refusals.DiskFault)) × Failed (told (take n (refusal_of x.0 s.time x.1 refusals.DiskFault)) (link b)) (link c))
+    → OnOk r ((x : History × Asked) → link c ≡ after_send (refusal_of x.0 s.time x.1 refusals.DiskFault) (link b))
+    → OnErr r ((x : History × Asked) → (n : ℕ) × (n < length (refusal_of x.0 s.time x.1 refusals.DiskFault)) × Failed (after_send (take n (refusal_of x.0 s.time x.1 refusals.DiskFault)) (link b)) (link c))
     → RepliesTo {O = O} {T = T} link disk stands site holds limits q after a s (Err c)
 replied_halted link disk stands site holds limits q after a b c s r tells is_a stood is_b is_link on quiet same keeps goes accepted ran sent fault =
     let taken = halted_is disk stands site holds a b s.history (answer s.history s.time limits q) (disk a) (disk b) (disk a).aside accepted ran in
@@ -245,7 +245,7 @@ pub record RaisedBy {O T : Type 0} (link : O → LinkView) (disk : O → DiskVie
   pub tells : TellsAside link (λ o. (disk o).aside)
   pub keeps : LinkKeeps (disk x.journal.disk) (disk y.journal.disk)
   pub goes : LinkGoes (link x.journal.disk) (link y.journal.disk)
-  pub stands' : (h : History) → StandsFor disk stands site holds x h → StandsFor disk stands site holds y h
+  pub stands' : (h : History) → HouseRepresents disk stands site holds x h → HouseRepresents disk stands site holds y h
   pub time : house_time y.bench ≡ max (house_time x.bench) reading
   pub limits : limits_of y.bench ≡ limits_of x.bench
   pub rest : link y.journal.disk ≡ with_readings (link y.journal.disk).readings (link x.journal.disk)
@@ -253,15 +253,15 @@ pub record RaisedBy {O T : Type 0} (link : O → LinkView) (disk : O → DiskVie
 
 -- nothing was sent while it was raised
 raised_quiet : {O T : Type 0} (link : O → LinkView) (disk : O → DiskView) (stands : T → History → Type 0) (site : T → ℕ) (holds : T → ℕ → Type 0) (x y : House O T) (reading : ℕ) (h : History)
-    → RaisedBy link disk stands site holds x y reading → StandsFor disk stands site holds x h → WentBy link disk stands site holds x.journal.disk (state_of h y.bench) [] y
+    → RaisedBy link disk stands site holds x y reading → HouseRepresents disk stands site holds x h → RefinesBy link disk stands site holds x.journal.disk (state_of h y.bench) [] y
 raised_quiet link disk stands site holds x y reading h up st =
     went_quiet link disk stands site holds x y (state_of h y.bench) up.tells st refl up.keeps up.goes (up.stands' h st)
     (no_more_still (link x.journal.disk) (link y.journal.disk) (ap (λ (v : LinkView). v.sessions) up.rest))
 
 -- a step after it, as a step from before
 raised_went : {O T : Type 0} (link : O → LinkView) (disk : O → DiskView) (stands : T → History → Type 0) (site : T → ℕ) (holds : T → ℕ → Type 0) (x y z : House O T) (reading : ℕ) (h : History) (step : Did)
-    → RaisedBy link disk stands site holds x y reading → StandsFor disk stands site holds x h → WentBy link disk stands site holds y.journal.disk (state_of h y.bench) (step ∷ []) z
-    → WentBy link disk stands site holds x.journal.disk (state_of h x.bench) (step ∷ []) z
+    → RaisedBy link disk stands site holds x y reading → HouseRepresents disk stands site holds x h → RefinesBy link disk stands site holds y.journal.disk (state_of h y.bench) (step ∷ []) z
+    → RefinesBy link disk stands site holds x.journal.disk (state_of h x.bench) (step ∷ []) z
 raised_went link disk stands site holds x y z reading h step up st went =
     went_from link disk stands site holds x.journal.disk (state_of h x.bench) (state_of h y.bench) step [] z refl
     (went_on link disk stands site holds x.journal.disk (state_of h y.bench) [] (step ∷ []) y z (raised_quiet link disk stands site holds x y reading h up st) went)
@@ -273,7 +273,7 @@ raised_is link disk stands site holds x y reading h up = ap (λ (t : ℕ). recor
 
 -- a request was answered
 pub request_answered : {O T : Type 0} (link : O → LinkView) (disk : O → DiskView) (stands : T → History → Type 0) (site : T → ℕ) (holds : T → ℕ → Type 0) (q : Asked) (after : After) (x y : House O T) (reading : ℕ) (h : History)
-    (r : Result (House O T × Turn) O) → RaisedBy link disk stands site holds x y reading → StandsFor disk stands site holds x h
+    (r : Result (House O T × Turn) O) → RaisedBy link disk stands site holds x y reading → HouseRepresents disk stands site holds x h
     → RepliesTo link disk stands site holds (limits_of y.bench) q after y.journal.disk (state_of h y.bench) r
     → AnswersRequest link disk stands site holds (limits_of x.bench) q after x.journal.disk (state_of h x.bench) r
 request_answered link disk stands site holds q after x y reading h (Ok r) up st replied =
@@ -307,13 +307,13 @@ request_answered link disk stands site holds q after x y reading h (Err d) up st
 
 -- a head was refused
 pub head_answered : {O T : Type 0} (link : O → LinkView) (disk : O → DiskView) (stands : T → History → Type 0) (site : T → ℕ) (holds : T → ℕ → Type 0) (f : Refusal) (after : After) (x y z : House O T) (reading : ℕ) (h : History)
-    (r : Result (Unit {0}) LinkFault) → RaisedBy link disk stands site holds x y reading → SentOn link disk y z → StandsFor disk stands site holds x h
-    → OnOk r ((h : History) → StandsFor disk stands site holds y h → link z.journal.disk ≡ told (head_refusal (house_time y.bench) f) (link y.journal.disk))
-    → OnErr r ((h : History) → StandsFor disk stands site holds y h
-    → (n : ℕ) × (n < length (head_refusal (house_time y.bench) f)) × Failed (told (take n (head_refusal (house_time y.bench) f)) (link y.journal.disk)) (link z.journal.disk))
+    (r : Result (Unit {0}) LinkFault) → RaisedBy link disk stands site holds x y reading → SentOn link disk y z → HouseRepresents disk stands site holds x h
+    → OnOk r ((h : History) → HouseRepresents disk stands site holds y h → link z.journal.disk ≡ after_send (head_refusal (house_time y.bench) f) (link y.journal.disk))
+    → OnErr r ((h : History) → HouseRepresents disk stands site holds y h
+    → (n : ℕ) × (n < length (head_refusal (house_time y.bench) f)) × Failed (after_send (take n (head_refusal (house_time y.bench) f)) (link y.journal.disk)) (link z.journal.disk))
     → RefusesHead link disk stands site holds (limits_of x.bench) f after x.journal.disk (state_of h x.bench) (z, turn_after r after)
 head_answered {T = T} link disk stands site holds f after x y z reading h r up on st sent fault =
-    let st' : StandsFor disk stands site holds y h = up.stands' h st in
+    let st' : HouseRepresents disk stands site holds y h = up.stands' h st in
     let reply : List ℕ = head_refusal (house_time y.bench) f in
     let was = sent_so after reply r (link y.journal.disk) (link z.journal.disk) (told_so r _ _ (λ g. g h st') sent) (failed_so r _ _ (λ g. g h st') fault) in
     let t : State = state_of h y.bench in
@@ -335,23 +335,23 @@ pub record ReadOn {O T : Type 0} (link : O → LinkView) (disk : O → DiskView)
   pub goes : LinkGoes (link x.journal.disk) (link y.journal.disk)
   pub rests : HouseRests x y
 
-read_quiet : {O T : Type 0} (link : O → LinkView) (disk : O → DiskView) (stands : T → History → Type 0) (site : T → ℕ) (holds : T → ℕ → Type 0) (x y : House O T) (h : History) → ReadOn link disk x y → StandsFor disk stands site holds x h
-    → SentNoMore (link x.journal.disk) (link y.journal.disk) → WentBy link disk stands site holds x.journal.disk (state_of h x.bench) [] y
+read_quiet : {O T : Type 0} (link : O → LinkView) (disk : O → DiskView) (stands : T → History → Type 0) (site : T → ℕ) (holds : T → ℕ → Type 0) (x y : House O T) (h : History) → ReadOn link disk x y → HouseRepresents disk stands site holds x h
+    → SentNoMore (link x.journal.disk) (link y.journal.disk) → RefinesBy link disk stands site holds x.journal.disk (state_of h x.bench) [] y
 read_quiet {T = T} link disk stands site holds x y h on st same =
     went_quiet link disk stands site holds x y (state_of h x.bench) on.tells st (ap (λ (b : Bench T). house_time b) on.rests.bench) on.keeps on.goes (house_keeps disk stands site holds x y h st on.keeps on.rests) same
 
-pub read_stands : {O T : Type 0} (link : O → LinkView) (disk : O → DiskView) (stands : T → History → Type 0) (site : T → ℕ) (holds : T → ℕ → Type 0) (x y : House O T) (h : History) → ReadOn link disk x y → StandsFor disk stands site holds x h
-    → StandsFor disk stands site holds y h
+pub read_stands : {O T : Type 0} (link : O → LinkView) (disk : O → DiskView) (stands : T → History → Type 0) (site : T → ℕ) (holds : T → ℕ → Type 0) (x y : House O T) (h : History) → ReadOn link disk x y → HouseRepresents disk stands site holds x h
+    → HouseRepresents disk stands site holds y h
 read_stands link disk stands site holds x y h on st = house_keeps disk stands site holds x y h st on.keeps on.rests
 
 -- an item that was taken was answered
 item_turns : {O T : Type 0} (link : O → LinkView) (disk : O → DiskView) (stands : T → History → Type 0) (site : T → ℕ) (holds : T → ℕ → Type 0) (item : Bool → Item) (after : After) (x y z : House O T) (h : History) (old new : Held) (turn : Turn) (more : List ℕ) (closing : Bool)
-    → ReadOn link disk x y → StandsFor disk stands site holds x h → TookItem (with_more old more).bytes old.given (item closing) after new → link y.journal.disk ≡ heard more (link x.journal.disk)
-    → ((step : Did) × WentBy link disk stands site holds y.journal.disk (state_of h y.bench) (step ∷ []) z × ((closes : Bool) → AnsweredItem (limits_of y.bench) OfLinks (item closes) after turn step (state_of h y.bench) (link y.journal.disk) (link z.journal.disk)))
-    → (steps : List Did) × WentBy link disk stands site holds x.journal.disk (state_of h x.bench) steps z × Turned (limits_of x.bench) OfLinks turn steps (state_of h x.bench) old (link x.journal.disk) new (link z.journal.disk)
+    → ReadOn link disk x y → HouseRepresents disk stands site holds x h → TookItem (with_more old more).bytes old.given (item closing) after new → link y.journal.disk ≡ after_recv more (link x.journal.disk)
+    → ((step : Did) × RefinesBy link disk stands site holds y.journal.disk (state_of h y.bench) (step ∷ []) z × ((closes : Bool) → AnsweredItem (limits_of y.bench) OfLinks (item closes) after turn step (state_of h y.bench) (link y.journal.disk) (link z.journal.disk)))
+    → (steps : List Did) × RefinesBy link disk stands site holds x.journal.disk (state_of h x.bench) steps z × Turned (limits_of x.bench) OfLinks turn steps (state_of h x.bench) old (link x.journal.disk) new (link z.journal.disk)
 item_turns {T = T} link disk stands site holds item after x y z h old new turn more closing on st took came did =
     let step : Did = did.0 in
-    let from : WentBy link disk stands site holds y.journal.disk (state_of h x.bench) (step ∷ []) z = subst (λ (b : Bench T). WentBy link disk stands site holds y.journal.disk (state_of h b) (step ∷ []) z) on.rests.bench did.1 in
+    let from : RefinesBy link disk stands site holds y.journal.disk (state_of h x.bench) (step ∷ []) z = subst (λ (b : Bench T). RefinesBy link disk stands site holds y.journal.disk (state_of h b) (step ∷ []) z) on.rests.bench did.1 in
     let answered : AnsweredItem (limits_of x.bench) OfLinks (item closing) after turn step (state_of h x.bench) (link y.journal.disk) (link z.journal.disk) =
     subst (λ (b : Bench T). AnsweredItem (limits_of b) OfLinks (item closing) after turn step (state_of h b) (link y.journal.disk) (link z.journal.disk)) on.rests.bench (did.2 closing) in (
       step ∷ [],
@@ -361,7 +361,7 @@ item_turns {T = T} link disk stands site holds item after x y z h old new turn m
     )
 
 pub head_turns : {O T : Type 0} (link : O → LinkView) (disk : O → DiskView) (stands : T → History → Type 0) (site : T → ℕ) (holds : T → ℕ → Type 0) (q : Request) (after : After) (x y : House O T) (h : History) (old new : Held) (out : HeadOut)
-    (r : Result (House O T × Turn) O) → Took old (link x.journal.disk) out new (link y.journal.disk) → out ≡ outs.Head q after → ReadOn link disk x y → StandsFor disk stands site holds x h
+    (r : Result (House O T × Turn) O) → Took old (link x.journal.disk) out new (link y.journal.disk) → out ≡ outs.Head q after → ReadOn link disk x y → HouseRepresents disk stands site holds x h
     → AnswersRequest link disk stands site holds (limits_of y.bench) (asked_of q) after y.journal.disk (state_of h y.bench) r
     → TurnsHouse link disk stands site holds (limits_of x.bench) x.journal.disk (state_of h x.bench) old new r
 head_turns link disk stands site holds q after x y h old new out (Ok r) took is on st did =
@@ -372,8 +372,8 @@ head_turns {T = T} link disk stands site holds q after x y h old new out (Err d)
     let e : Entry = did.0 in
     let said : List ℕ = did.1 in
     let halted : HaltedBy link disk y.journal.disk (state_of h x.bench) [] e said d = subst (λ (b : Bench T). HaltedBy link disk y.journal.disk (state_of h b) [] e said d) on.rests.bench did.2 in
-    let doubted : IsDoubted (limits_of x.bench) (asked_of q) (state_of h x.bench) e said (link y.journal.disk) (link d) =
-    subst (λ (b : Bench T). IsDoubted (limits_of b) (asked_of q) (state_of h b) e said (link y.journal.disk) (link d)) on.rests.bench did.3 in (
+    let in_doubt : RequestInDoubt (limits_of x.bench) (asked_of q) (state_of h x.bench) e said (link y.journal.disk) (link d) =
+    subst (λ (b : Bench T). RequestInDoubt (limits_of b) (asked_of q) (state_of h b) e said (link y.journal.disk) (link d)) on.rests.bench did.3 in (
       e,
       said,
       halted_later link disk stands site holds x.journal.disk (state_of h x.bench) [] [] y e said d
@@ -385,12 +385,12 @@ head_turns {T = T} link disk stands site holds q after x y h old new out (Err d)
         after = after;
         new = new;
         took = leads.0.1;
-        doubted = subst (λ (v : LinkView). IsDoubted (limits_of x.bench) (asked_of q) (state_of h x.bench) e said v (link d)) leads.1 doubted;
+        in_doubt = subst (λ (v : LinkView). RequestInDoubt (limits_of x.bench) (asked_of q) (state_of h x.bench) e said v (link d)) leads.1 in_doubt;
       },
     )
 
 pub refused_turns : {O T : Type 0} (link : O → LinkView) (disk : O → DiskView) (stands : T → History → Type 0) (site : T → ℕ) (holds : T → ℕ → Type 0) (f : HeadRefusal) (after : After) (x y : House O T) (h : History) (old new : Held) (out : HeadOut)
-    (r : House O T × Turn) → Took old (link x.journal.disk) out new (link y.journal.disk) → out ≡ outs.Refused f after → ReadOn link disk x y → StandsFor disk stands site holds x h
+    (r : House O T × Turn) → Took old (link x.journal.disk) out new (link y.journal.disk) → out ≡ outs.Refused f after → ReadOn link disk x y → HouseRepresents disk stands site holds x h
     → RefusesHead link disk stands site holds (limits_of y.bench) (as_refusal f) after y.journal.disk (state_of h y.bench) r
     → TurnsHouse link disk stands site holds (limits_of x.bench) x.journal.disk (state_of h x.bench) old new (Ok r)
 refused_turns link disk stands site holds f after x y h old new out r took is on st did =
@@ -398,18 +398,18 @@ refused_turns link disk stands site holds f after x y h old new out r took is on
     item_turns link disk stands site holds (refused (as_refusal f)) after x y r.0 h old new r.1 took.got leads.0.0 on st leads.0.1 leads.1 did
 
 pub end_turns : {O T : Type 0} (link : O → LinkView) (disk : O → DiskView) (stands : T → History → Type 0) (site : T → ℕ) (holds : T → ℕ → Type 0) (x y : House O T) (h : History) (old new : Held) (out : HeadOut)
-    → Took old (link x.journal.disk) out new (link y.journal.disk) → out ≡ outs.End → ReadOn link disk x y → StandsFor disk stands site holds x h
+    → Took old (link x.journal.disk) out new (link y.journal.disk) → out ≡ outs.End → ReadOn link disk x y → HouseRepresents disk stands site holds x h
     → TurnsHouse link disk stands site holds (limits_of x.bench) x.journal.disk (state_of h x.bench) old new (Ok (y, End))
 end_turns link disk stands site holds x y h old new out took is on st =
     let leads = leads_so old (link x.journal.disk) out outs.End new (link y.journal.disk) took is in
     let same : SentNoMore (link x.journal.disk) (link y.journal.disk) =
-    no_more_then (link x.journal.disk) (heard took.got (link x.journal.disk)) (link y.journal.disk)
-    (no_more_heard (link x.journal.disk) (heard took.got (link x.journal.disk)) took.got refl)
-    (no_more_finished (heard took.got (link x.journal.disk)) (link y.journal.disk) (ap (λ (v : LinkView). v.sessions) leads.2)) in
+    no_more_then (link x.journal.disk) (after_recv took.got (link x.journal.disk)) (link y.journal.disk)
+    (no_more_heard (link x.journal.disk) (after_recv took.got (link x.journal.disk)) took.got refl)
+    (no_more_finished (after_recv took.got (link x.journal.disk)) (link y.journal.disk) (ap (λ (v : LinkView). v.sessions) leads.2)) in
     ([], read_quiet link disk stands site holds x y h on st same, record { none_done = refl; more = took.got; none = leads.1; then' = leads.2 })
 
 pub fault_turns : {O T : Type 0} (link : O → LinkView) (disk : O → DiskView) (stands : T → History → Type 0) (site : T → ℕ) (holds : T → ℕ → Type 0) (x y : House O T) (h : History) (old new : Held) (out : HeadOut)
-    → Took old (link x.journal.disk) out new (link y.journal.disk) → out ≡ outs.Fault → ReadOn link disk x y → StandsFor disk stands site holds x h
+    → Took old (link x.journal.disk) out new (link y.journal.disk) → out ≡ outs.Fault → ReadOn link disk x y → HouseRepresents disk stands site holds x h
     → TurnsHouse link disk stands site holds (limits_of x.bench) x.journal.disk (state_of h x.bench) old new (Ok (y, NotReceived))
 fault_turns link disk stands site holds x y h old new out took is on st =
     let leads = leads_so old (link x.journal.disk) out outs.Fault new (link y.journal.disk) took is in

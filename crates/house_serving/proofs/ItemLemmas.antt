@@ -2,7 +2,7 @@
 use Rattle.std.proofs.Common.{◌≡◌, inl, inr, ℕ, ◌<◌, List, [], ◌∷◌, length, take, refl, sym, ap, ap₂, ◌∙◌, Option, Result, Ok, Err, subst}
 use Rattle.std.specs.Prelude.{OnOk, OnErr}
 use Rattle.mc_outside.specs.declared.link.LinkFault.{LinkFault}
-use Rattle.mc_outside.specs.LinkView.{LinkView, told, Failed}
+use Rattle.mc_outside.specs.LinkView.{LinkView, after_send, Failed}
 use Rattle.mc_records.specs.declared.limits.Limits.{Limits}
 use Rattle.mc_records.specs.declared.refusal.Refusal.{Refusal}
 use Rattle.mc_records.specs.Requests.{Asked}
@@ -36,8 +36,8 @@ sent_readings after reply End part before link sent = absurd sent
 sent_readings after reply NotReceived part before link sent = absurd sent
 sent_readings after reply NotSent part before link sent = ap (λ (v : LinkView). v.readings) sent.3.same
 
--- a reply was sent, or a first part of it
-pub sent_so : (after : After) (reply : List ℕ) (r : Result (Unit {0}) LinkFault) (v w : LinkView) → OnOk r (w ≡ told reply v) → OnErr r ((n : ℕ) × (n < length reply) × Failed (told (take n reply) v) w)
+-- a reply was sent, or a prefix of it
+pub sent_so : (after : After) (reply : List ℕ) (r : Result (Unit {0}) LinkFault) (v w : LinkView) → OnOk r (w ≡ after_send reply v) → OnErr r ((n : ℕ) × (n < length reply) × Failed (after_send (take n reply) v) w)
     → (part : List ℕ) × Sent after reply (turn_after r after) part v w
 sent_so afters.GoOn reply (Ok u) v w sent fault = (reply, ((λ e. absurd (cc e)), refl, sent))
 sent_so afters.Close reply (Ok u) v w sent fault = (reply, (refl, refl, sent))

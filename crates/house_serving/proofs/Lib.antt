@@ -1,5 +1,5 @@
 pub mod StepLemmas
-pub mod WentLemmas
+pub mod RefinesLemmas
 pub mod LinkCalls
 pub mod ServingLemmas
 pub mod TurnLemmas

@@ -8,12 +8,12 @@ use Rattle.house_serving.specs.declared.serving.Clock.{Clock}
 use Rattle.house_serving.specs.declared.serving.BenchEnd.TheVariants as ends
 use Rattle.house_serving.specs.declared.turn.Turn.{Turn}
 use Rattle.house_serving.specs.declared.turn.Turn.TheVariants.{GoOn, Last, End, NotReceived, NotSent}
-use Rattle.house_core.specs.Bench.{Went}
+use Rattle.house_core.specs.Bench.{Refines}
 use Rattle.house_core.specs.Session.{State}
 use Rattle.house_serving.specs.Steps.{Did, state_after, BySteps}
 use Rattle.house_serving.specs.Course.{HadLink, HadLinks, NoLink, Served}
 use Rattle.house_serving.specs.Turns.{Ended}
-use Rattle.house_serving.proofs.WentLemmas.{stepped_so, stepped_then, stepped_nowhere}
+use Rattle.house_serving.proofs.RefinesLemmas.{stepped_so, stepped_then, stepped_nowhere}
 
 -- a link was ended by its last turn
 pub had_link : (limits : Limits) (clock : Clock) (turn : Turn) (steps : List Did) (s : State) (before served after : LinkView) → after ≡ record served { stands = false } → Ended limits clock turn steps s before served
@@ -54,11 +54,11 @@ links_broke limits clock links n steps s before now next few fault so = record {
 
 -- so many links were taken
 abbrev pub Linked : {T : Type 0} → (T → History → Type 0) → (T → ℕ) → (T → ℕ → Type 0) → Limits → Clock → ℕ → Bench T → LinkView → Bench T → LinkView → Type 0
-Linked stands site holds limits clock n a before b now = Went stands site holds (BySteps (λ steps s. HadLinks limits clock n steps s before now)) a b
+Linked stands site holds limits clock n a before b now = Refines stands site holds (BySteps (λ steps s. HadLinks limits clock n steps s before now)) a b
 
 -- one link was taken
 abbrev pub LinkedOne : {T : Type 0} → (T → History → Type 0) → (T → ℕ) → (T → ℕ → Type 0) → Limits → Clock → Bench T → LinkView → Bench T → LinkView → Type 0
-LinkedOne stands site holds limits clock a before b now = Went stands site holds (BySteps (λ steps s. HadLink limits clock steps s before now)) a b
+LinkedOne stands site holds limits clock a before b now = Refines stands site holds (BySteps (λ steps s. HadLink limits clock steps s before now)) a b
 
 pub linked_none : {T : Type 0} (stands : T → History → Type 0) (site : T → ℕ) (holds : T → ℕ → Type 0) (limits : Limits) (clock : Clock) (b : Bench T) (v : LinkView) → Linked stands site holds limits clock 0 b v b v
 linked_none stands site holds limits clock b v = stepped_nowhere stands site holds (λ (steps : List Did) (s : State). HadLinks limits clock 0 steps s v v) b (λ (s : State). links_start limits clock s v)
@@ -73,19 +73,19 @@ linked_more stands site holds limits now_limits clock n m a b c before now taken
     so (subst (λ (l : Limits). LinkedOne stands site holds l clock b taken c next) same had)
 
 pub linked_all : {T : Type 0} (stands : T → History → Type 0) (site : T → ℕ) (holds : T → ℕ → Type 0) (limits : Limits) (clock : Clock) (links n : ℕ) (a b : Bench T) (before now : LinkView) → n ≡ links
-    → Linked stands site holds limits clock n a before b now → Went stands site holds (BySteps (λ steps s. Served limits clock links (Ok n) steps s before now)) a b
+    → Linked stands site holds limits clock n a before b now → Refines stands site holds (BySteps (λ steps s. Served limits clock links (Ok n) steps s before now)) a b
 linked_all stands site holds limits clock links n a b before now all so =
     stepped_so stands site holds (λ (steps : List Did) (s : State). HadLinks limits clock n steps s before now) (λ (steps : List Did) (s : State). Served limits clock links (Ok n) steps s before now) a b
     (λ (steps : List Did) (s : State) (x : HadLinks limits clock n steps s before now). links_all limits clock links n steps s before now all x) so
 
 pub linked_over : {T : Type 0} (stands : T → History → Type 0) (site : T → ℕ) (holds : T → ℕ → Type 0) (limits : Limits) (clock : Clock) (links n : ℕ) (a b : Bench T) (before now next : LinkView) → n < links → next ≡ none_left now
-    → Linked stands site holds limits clock n a before b now → Went stands site holds (BySteps (λ steps s. Served limits clock links (Ok n) steps s before next)) a b
+    → Linked stands site holds limits clock n a before b now → Refines stands site holds (BySteps (λ steps s. Served limits clock links (Ok n) steps s before next)) a b
 linked_over stands site holds limits clock links n a b before now next few over so =
     stepped_so stands site holds (λ (steps : List Did) (s : State). HadLinks limits clock n steps s before now) (λ (steps : List Did) (s : State). Served limits clock links (Ok n) steps s before next) a b
     (λ (steps : List Did) (s : State) (x : HadLinks limits clock n steps s before now). links_over limits clock links n steps s before now next few over x) so
 
 pub linked_broke : {T : Type 0} (stands : T → History → Type 0) (site : T → ℕ) (holds : T → ℕ → Type 0) (limits : Limits) (clock : Clock) (links n : ℕ) (a b : Bench T) (before now next : LinkView) → n < links → NoLink now next
-    → Linked stands site holds limits clock n a before b now → Went stands site holds (BySteps (λ steps s. Served limits clock links (Err ends.Link) steps s before next)) a b
+    → Linked stands site holds limits clock n a before b now → Refines stands site holds (BySteps (λ steps s. Served limits clock links (Err ends.Link) steps s before next)) a b
 linked_broke stands site holds limits clock links n a b before now next few fault so =
     stepped_so stands site holds (λ (steps : List Did) (s : State). HadLinks limits clock n steps s before now) (λ (steps : List Did) (s : State). Served limits clock links (Err ends.Link) steps s before next) a b
     (λ (steps : List Did) (s : State) (x : HadLinks limits clock n steps s before now). links_broke limits clock links n steps s before now next few fault x) so

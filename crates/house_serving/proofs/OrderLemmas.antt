@@ -4,20 +4,20 @@ use Rattle.std.specs.Prelude.{IsSome, IsTrue, Bool, is_some}
 use Rattle.std.proofs.lemmas.List.{append-nil}
 use Rattle.mc_outside.specs.Bytes.{BeginsWith, Rose}
 use Rattle.mc_outside.specs.DiskView.{DiskView, IsDisk, LinkKeeps, Ran}
-use Rattle.mc_outside.specs.LinkView.{LinkView, IsLink, LinkGoes, told}
+use Rattle.mc_outside.specs.LinkView.{LinkView, IsLink, LinkGoes, after_send}
 use Rattle.mc_outside.proofs.Runs.{ran_none, ran_then, ran_weaker, ran_link, ran_now}
 use Rattle.mc_records.specs.Entry.{Entry}
 use Rattle.ledger_model.specs.Histories.{History}
-use Rattle.scrip_journal.specs.Layout.{Stands}
+use Rattle.scrip_journal.specs.Layout.{Encodes}
 use Rattle.scrip_journal.specs.Rests.{journal_keeps, journal_leaves}
-use Rattle.scrip_journal.specs.Exits.{EitherQuiet}
+use Rattle.scrip_journal.specs.Exits.{EitherNoOutput}
 use Rattle.house_core.specs.declared.house.House.{House}
 use Rattle.house_core.specs.declared.bench.Bench.{Bench}
 use Rattle.house_core.specs.Bench.{IsHouse, house_time, limits_of}
-use Rattle.house_core.specs.House.{StandsFor, HouseRests}
+use Rattle.house_core.specs.House.{HouseRepresents, HouseRests}
 use Rattle.house_core.specs.Session.{State}
 use Rattle.house_serving.specs.Steps.{Did, sent_of, state_after}
-use Rattle.house_serving.specs.Orders.{InOrder, MovedBy, WentBy, IsEither, InDoubt, HaltedBy}
+use Rattle.house_serving.specs.Orders.{InOrder, MovedBy, RefinesBy, IsEither, InDoubt, HaltedBy}
 use Rattle.house_serving.proofs.StepLemmas.{sent_of-append, state_after-append}
 use Rattle.house_serving.proofs.AsideLemmas.{TellsAside, SentNoMore, aside_still, aside_sent}
 
@@ -58,7 +58,7 @@ order_later tells s before between xs ys image sent is o = record {
   done = xs ++ o.done;
   rest = o.rest;
   split = ap (λ (l : List Did). xs ++ l) o.split ∙ sym (append_assoc xs o.done o.rest);
-  stands = subst (λ (t : State). Stands t.history image) (sym (state_after-append s xs o.done)) o.stands;
+  stands = subst (λ (t : State). Encodes t.history image) (sym (state_after-append s xs o.done)) o.stands;
   began = λ t. begins_then before between sent (sent_of xs, is t) (o.began t);
   part = λ t. subst (λ (l : List ℕ). BeginsWith sent l) (ap (λ (l : List ℕ). l ++ sent_of o.done) (is t) ∙ sent_further before xs o.done) (o.part t);
 }
@@ -91,7 +91,7 @@ moved_told tells told' a b s ds so moved = record {
 }
 
 -- nothing happened
-moved_nowhere : (tells : Type 0) (a : DiskView) (s : State) → IsDisk a → ((c : List ℕ) → a.leaves c → Stands s.history c) → MovedBy tells a a s []
+moved_nowhere : (tells : Type 0) (a : DiskView) (s : State) → IsDisk a → ((c : List ℕ) → a.leaves c → Encodes s.history c) → MovedBy tells a a s []
 moved_nowhere tells a s is stands = record {
   aside = λ t. sym (append-nil a.aside);
   ran = ran_none a (InOrder tells s a.aside []) is (λ c leaves. record {
@@ -105,7 +105,7 @@ moved_nowhere tells a s is stands = record {
 }
 
 -- calls of Link that sent nothing
-moved_quiet : (tells : Type 0) (a b : DiskView) (s : State) → LinkKeeps a b → (tells → b.aside ≡ a.aside) → ((c : List ℕ) → a.leaves c → Stands s.history c) → MovedBy tells a b s []
+moved_quiet : (tells : Type 0) (a b : DiskView) (s : State) → LinkKeeps a b → (tells → b.aside ≡ a.aside) → ((c : List ℕ) → a.leaves c → Encodes s.history c) → MovedBy tells a b s []
 moved_quiet tells a b s keeps same stands = record {
   aside = λ t. same t ∙ sym (append-nil a.aside);
   ran = ran_link a b (InOrder tells s a.aside []) keeps (λ c sent leaves from upto. record {
@@ -118,8 +118,8 @@ moved_quiet tells a b s keeps same stands = record {
   });
 }
 
--- calls of Link that sent a reply, or a first part of it, when its entry was there
-moved_sent : (tells : Type 0) (a b : DiskView) (s : State) (d : Did) → LinkKeeps a b → (tells → b.aside ≡ a.aside ++ d.sent) → ((c : List ℕ) → a.leaves c → Stands d.after.history c) → MovedBy tells a b s (d ∷ [])
+-- calls of Link that sent a reply, or a prefix of it, when its entry was there
+moved_sent : (tells : Type 0) (a b : DiskView) (s : State) (d : Did) → LinkKeeps a b → (tells → b.aside ≡ a.aside ++ d.sent) → ((c : List ℕ) → a.leaves c → Encodes d.after.history c) → MovedBy tells a b s (d ∷ [])
 moved_sent tells a b s d keeps more stands =
     let all : tells → b.aside ≡ a.aside ++ sent_of (d ∷ []) = λ t. more t ∙ ap (λ (l : List ℕ). a.aside ++ l) (sym (append-nil d.sent)) in
     record {
@@ -135,11 +135,11 @@ moved_sent tells a b s d keeps more stands =
     }
 
 -- with the entry that a step gave, or without it, while nothing of its reply was sent
-either_order : (tells : Type 0) (s : State) (before : List ℕ) (e : Entry) (d : Did) (image sent : List ℕ) → d.after.history ≡ s.history ++ e ∷ [] → EitherQuiet s.history e before image sent → InOrder tells s before (d ∷ []) image sent
+either_order : (tells : Type 0) (s : State) (before : List ℕ) (e : Entry) (d : Did) (image sent : List ℕ) → d.after.history ≡ s.history ++ e ∷ [] → EitherNoOutput s.history e before image sent → InOrder tells s before (d ∷ []) image sent
 either_order tells s before e d image sent after quiet =
     let from : BeginsWith before sent = ([], quiet.1 ∙ sym (append-nil before)) in
     ⊎_elim
-    (λ (without : Stands s.history image). record {
+    (λ (without : Encodes s.history image). record {
       done = [];
       rest = d ∷ [];
       split = refl;
@@ -147,18 +147,18 @@ either_order tells s before e d image sent after quiet =
       began = λ t. from;
       part = λ t. begins_longer sent before [] (begins_same sent before quiet.1);
     })
-    (λ (with' : Stands (s.history ++ e ∷ []) image). record {
+    (λ (with' : Encodes (s.history ++ e ∷ []) image). record {
       done = d ∷ [];
       rest = [];
       split = refl;
-      stands = subst (λ (h : History). Stands h image) (sym after) with';
+      stands = subst (λ (h : History). Encodes h image) (sym after) with';
       began = λ t. from;
       part = λ t. begins_longer sent before (d.sent ++ []) (begins_same sent before quiet.1);
     }) quiet.0
 
--- the entry was written first, and then its reply was sent, or a first part of it
-moved_written : (tells : Type 0) (a b c : DiskView) (s : State) (e : Entry) (d : Did) → d.after.history ≡ s.history ++ e ∷ [] → Ran a b (EitherQuiet s.history e a.aside) → b.aside ≡ a.aside
-    → LinkKeeps b c → (tells → c.aside ≡ b.aside ++ d.sent) → ((i : List ℕ) → b.leaves i → Stands d.after.history i) → MovedBy tells a c s (d ∷ [])
+-- the entry was written first, and then its reply was sent, or a prefix of it
+moved_written : (tells : Type 0) (a b c : DiskView) (s : State) (e : Entry) (d : Did) → d.after.history ≡ s.history ++ e ∷ [] → Ran a b (EitherNoOutput s.history e a.aside) → b.aside ≡ a.aside
+    → LinkKeeps b c → (tells → c.aside ≡ b.aside ++ d.sent) → ((i : List ℕ) → b.leaves i → Encodes d.after.history i) → MovedBy tells a c s (d ∷ [])
 moved_written tells a b c s e d after written same keeps more stands =
     let sent = moved_sent tells b c s d keeps more stands in
     record {
@@ -170,14 +170,14 @@ moved_written tells a b c s e d after written same keeps more stands =
 
 -- ---- houses
 
--- a crash now leaves what stands for the history
-pub house_leaves : {O T : Type 0} (disk : O → DiskView) (stands : T → History → Type 0) (site : T → ℕ) (holds : T → ℕ → Type 0) (x : House O T) (h : History) → StandsFor disk stands site holds x h
-    → (c : List ℕ) → (disk x.journal.disk).leaves c → Stands h c
+-- a crash now leaves what encodes the history
+pub house_leaves : {O T : Type 0} (disk : O → DiskView) (stands : T → History → Type 0) (site : T → ℕ) (holds : T → ℕ → Type 0) (x : House O T) (h : History) → HouseRepresents disk stands site holds x h
+    → (c : List ℕ) → (disk x.journal.disk).leaves c → Encodes h c
 house_leaves disk stands site holds x h st = journal_leaves disk x.journal h st.journal
 
 -- what links do leaves the house
-pub house_keeps : {O T : Type 0} (disk : O → DiskView) (stands : T → History → Type 0) (site : T → ℕ) (holds : T → ℕ → Type 0) (x y : House O T) (h : History) → StandsFor disk stands site holds x h
-    → LinkKeeps (disk x.journal.disk) (disk y.journal.disk) → HouseRests x y → StandsFor disk stands site holds y h
+pub house_keeps : {O T : Type 0} (disk : O → DiskView) (stands : T → History → Type 0) (site : T → ℕ) (holds : T → ℕ → Type 0) (x y : House O T) (h : History) → HouseRepresents disk stands site holds x h
+    → LinkKeeps (disk x.journal.disk) (disk y.journal.disk) → HouseRests x y → HouseRepresents disk stands site holds y h
 house_keeps {T = T} disk stands site holds x y h st keeps rests = record {
   journal = journal_keeps disk x.journal y.journal h st.journal keeps rests.journal;
   house = subst (λ (b : Bench T). IsHouse stands site holds b h) (sym rests.bench) st.house;
@@ -186,12 +186,12 @@ house_keeps {T = T} disk stands site holds x y h st keeps rests = record {
 
 -- where the links told what was sent, they still tell it
 pub told_on : {O T : Type 0} (link : O → LinkView) (disk : O → DiskView) (stands : T → History → Type 0) (site : T → ℕ) (holds : T → ℕ → Type 0) (a : O) (s : State) (xs : List Did) (x : House O T)
-    → WentBy link disk stands site holds a s xs x → IsSome (link a).sessions → IsSome (link x.journal.disk).sessions
+    → RefinesBy link disk stands site holds a s xs x → IsSome (link a).sessions → IsSome (link x.journal.disk).sessions
 told_on link disk stands site holds a s xs x went told' = subst (λ (b : Bool). IsTrue b) (sym went.tells) told'
 
 -- no step was taken
 pub went_nowhere : {O T : Type 0} (link : O → LinkView) (disk : O → DiskView) (stands : T → History → Type 0) (site : T → ℕ) (holds : T → ℕ → Type 0) (x : House O T) (s : State) → IsDisk (disk x.journal.disk)
-    → StandsFor disk stands site holds x s.history → house_time x.bench ≡ s.time → WentBy link disk stands site holds x.journal.disk s [] x
+    → HouseRepresents disk stands site holds x s.history → house_time x.bench ≡ s.time → RefinesBy link disk stands site holds x.journal.disk s [] x
 went_nowhere link disk stands site holds x s is st time = record {
   house = st;
   time = time;
@@ -202,9 +202,9 @@ went_nowhere link disk stands site holds x s is st time = record {
 
 -- steps, and others after them
 pub went_on : {O T : Type 0} (link : O → LinkView) (disk : O → DiskView) (stands : T → History → Type 0) (site : T → ℕ) (holds : T → ℕ → Type 0) (a : O) (s : State) (xs ys : List Did) (x y : House O T)
-    → WentBy link disk stands site holds a s xs x → WentBy link disk stands site holds x.journal.disk (state_after s xs) ys y → WentBy link disk stands site holds a s (xs ++ ys) y
+    → RefinesBy link disk stands site holds a s xs x → RefinesBy link disk stands site holds x.journal.disk (state_after s xs) ys y → RefinesBy link disk stands site holds a s (xs ++ ys) y
 went_on link disk stands site holds a s xs ys x y first second = record {
-  house = subst (λ (t : State). StandsFor disk stands site holds y t.history) (sym (state_after-append s xs ys)) second.house;
+  house = subst (λ (t : State). HouseRepresents disk stands site holds y t.history) (sym (state_after-append s xs ys)) second.house;
   time = second.time ∙ ap (λ (t : State). t.time) (sym (state_after-append s xs ys));
   tells = second.tells ∙ first.tells;
   faults = second.faults ∙ first.faults;
@@ -214,8 +214,8 @@ went_on link disk stands site holds a s xs ys x y first second = record {
 
 -- links did what sends nothing
 pub went_quiet : {O T : Type 0} (link : O → LinkView) (disk : O → DiskView) (stands : T → History → Type 0) (site : T → ℕ) (holds : T → ℕ → Type 0) (x y : House O T) (s : State)
-    → TellsAside link (λ o. (disk o).aside) → StandsFor disk stands site holds x s.history → house_time y.bench ≡ s.time → LinkKeeps (disk x.journal.disk) (disk y.journal.disk) → LinkGoes (link x.journal.disk) (link y.journal.disk)
-    → StandsFor disk stands site holds y s.history → SentNoMore (link x.journal.disk) (link y.journal.disk) → WentBy link disk stands site holds x.journal.disk s [] y
+    → TellsAside link (λ o. (disk o).aside) → HouseRepresents disk stands site holds x s.history → house_time y.bench ≡ s.time → LinkKeeps (disk x.journal.disk) (disk y.journal.disk) → LinkGoes (link x.journal.disk) (link y.journal.disk)
+    → HouseRepresents disk stands site holds y s.history → SentNoMore (link x.journal.disk) (link y.journal.disk) → RefinesBy link disk stands site holds x.journal.disk s [] y
 went_quiet link disk stands site holds x y s tells st time keeps goes stands' same = record {
   house = stands';
   time = time;
@@ -224,11 +224,11 @@ went_quiet link disk stands site holds x y s tells st time keeps goes stands' sa
   moved = moved_quiet _ (disk x.journal.disk) (disk y.journal.disk) s keeps (λ told'. aside_still link (λ o. (disk o).aside) x.journal.disk y.journal.disk tells told' same) (house_leaves disk stands site holds x s.history st);
 }
 
--- a reply was sent, or a first part of it, when what it speaks of was there
+-- a reply was sent, or a prefix of it, when what it speaks of was there
 pub went_sent : {O T : Type 0} (link : O → LinkView) (disk : O → DiskView) (stands : T → History → Type 0) (site : T → ℕ) (holds : T → ℕ → Type 0) (x y : House O T) (s : State) (d : Did)
-    → TellsAside link (λ o. (disk o).aside) → IsLink (link x.journal.disk) → IsTrue (link x.journal.disk).stands → StandsFor disk stands site holds x d.after.history → StandsFor disk stands site holds y d.after.history
+    → TellsAside link (λ o. (disk o).aside) → IsLink (link x.journal.disk) → IsTrue (link x.journal.disk).stands → HouseRepresents disk stands site holds x d.after.history → HouseRepresents disk stands site holds y d.after.history
     → house_time y.bench ≡ d.after.time → LinkKeeps (disk x.journal.disk) (disk y.journal.disk) → LinkGoes (link x.journal.disk) (link y.journal.disk)
-    → (link y.journal.disk).sessions ≡ (told d.sent (link x.journal.disk)).sessions → WentBy link disk stands site holds x.journal.disk s (d ∷ []) y
+    → (link y.journal.disk).sessions ≡ (after_send d.sent (link x.journal.disk)).sessions → RefinesBy link disk stands site holds x.journal.disk s (d ∷ []) y
 went_sent link disk stands site holds x y s d tells is on st after time keeps goes sent = record {
   house = after;
   time = time;
@@ -238,12 +238,12 @@ went_sent link disk stands site holds x y s d tells is on st after time keeps go
       (λ told'. aside_sent link (λ o. (disk o).aside) x.journal.disk y.journal.disk d.sent tells told' is on sent) (house_leaves disk stands site holds x d.after.history st);
 }
 
--- an entry was written, and then its reply was sent, or a first part of it
+-- an entry was written, and then its reply was sent, or a prefix of it
 pub went_written : {O T : Type 0} (link : O → LinkView) (disk : O → DiskView) (stands : T → History → Type 0) (site : T → ℕ) (holds : T → ℕ → Type 0) (a : O) (y z : House O T) (s : State) (e : Entry) (d : Did)
-    → TellsAside link (λ o. (disk o).aside) → d.after.history ≡ s.history ++ e ∷ [] → Ran (disk a) (disk y.journal.disk) (EitherQuiet s.history e (disk a).aside) → (disk y.journal.disk).aside ≡ (disk a).aside
-    → (disk y.journal.disk).faults ≡ (disk a).faults → link y.journal.disk ≡ link a → IsLink (link y.journal.disk) → IsTrue (link y.journal.disk).stands → StandsFor disk stands site holds y d.after.history → StandsFor disk stands site holds z d.after.history
+    → TellsAside link (λ o. (disk o).aside) → d.after.history ≡ s.history ++ e ∷ [] → Ran (disk a) (disk y.journal.disk) (EitherNoOutput s.history e (disk a).aside) → (disk y.journal.disk).aside ≡ (disk a).aside
+    → (disk y.journal.disk).faults ≡ (disk a).faults → link y.journal.disk ≡ link a → IsLink (link y.journal.disk) → IsTrue (link y.journal.disk).stands → HouseRepresents disk stands site holds y d.after.history → HouseRepresents disk stands site holds z d.after.history
     → house_time z.bench ≡ d.after.time → LinkKeeps (disk y.journal.disk) (disk z.journal.disk) → LinkGoes (link y.journal.disk) (link z.journal.disk)
-    → (link z.journal.disk).sessions ≡ (told d.sent (link y.journal.disk)).sessions → WentBy link disk stands site holds a s (d ∷ []) z
+    → (link z.journal.disk).sessions ≡ (after_send d.sent (link y.journal.disk)).sessions → RefinesBy link disk stands site holds a s (d ∷ []) z
 went_written link disk stands site holds a y z s e d tells entered written quiet calm same is on st after time keeps goes sent =
     let tells_same : is_some (link y.journal.disk).sessions ≡ is_some (link a).sessions = ap (λ (v : LinkView). is_some v.sessions) same in
     record {
@@ -260,11 +260,11 @@ went_written link disk stands site holds a y z s e d tells entered written quiet
 
 -- the disk failed while an entry was written, and then so much of the refusal was sent
 pub halted_told : {O : Type 0} (link : O → LinkView) (disk : O → DiskView) (a b c : O) (s : State) (e : Entry) (said : List ℕ)
-    → TellsAside link (λ o. (disk o).aside) → IsDisk (disk a) → ((i : List ℕ) → (disk a).leaves i → Stands s.history i) → IsDisk (disk b) → Ran (disk a) (disk b) (EitherQuiet s.history e (disk a).aside) → (disk b).aside ≡ (disk a).aside
+    → TellsAside link (λ o. (disk o).aside) → IsDisk (disk a) → ((i : List ℕ) → (disk a).leaves i → Encodes s.history i) → IsDisk (disk b) → Ran (disk a) (disk b) (EitherNoOutput s.history e (disk a).aside) → (disk b).aside ≡ (disk a).aside
     → Rose (disk a).faults (disk b).faults → link b ≡ link a → IsLink (link b) → IsTrue (link b).stands
-    → LinkKeeps (disk b) (disk c) → LinkGoes (link b) (link c) → (link c).sessions ≡ (told said (link b)).sessions → HaltedBy link disk a s [] e said c
+    → LinkKeeps (disk b) (disk c) → LinkGoes (link b) (link c) → (link c).sessions ≡ (after_send said (link b)).sessions → HaltedBy link disk a s [] e said c
 halted_told link disk a b c s e said tells is_a stood is_b written quiet rose same is_link on keeps goes sent =
-    let leaves : (i : List ℕ) → (disk b).leaves i → IsEither s.history e i = λ i l. (ran_now (disk a) (disk b) (EitherQuiet s.history e (disk a).aside) is_b written i l).0 in
+    let leaves : (i : List ℕ) → (disk b).leaves i → IsEither s.history e i = λ i l. (ran_now (disk a) (disk b) (EitherNoOutput s.history e (disk a).aside) is_b written i l).0 in
     let more : IsSome (link a).sessions → (disk c).aside ≡ (disk a).aside ++ said = λ told'.
     aside_sent link (λ o. (disk o).aside) b c said tells (subst (λ (v : LinkView). IsSome v.sessions) (sym same) told') is_link on sent ∙ ap (λ (l : List ℕ). l ++ said) quiet in
     record {
@@ -298,7 +298,7 @@ doubt_told tells told' h g before e said image sent so same pair = record {
 
 -- steps came before
 pub halted_later : {O T : Type 0} (link : O → LinkView) (disk : O → DiskView) (stands : T → History → Type 0) (site : T → ℕ) (holds : T → ℕ → Type 0) (a : O) (s : State) (xs ys : List Did) (x : House O T) (e : Entry) (said : List ℕ) (d : O)
-    → WentBy link disk stands site holds a s xs x → HaltedBy link disk x.journal.disk (state_after s xs) ys e said d → HaltedBy link disk a s (xs ++ ys) e said d
+    → RefinesBy link disk stands site holds a s xs x → HaltedBy link disk x.journal.disk (state_after s xs) ys e said d → HaltedBy link disk a s (xs ++ ys) e said d
 halted_later link disk stands site holds a s xs ys x e said d went halted =
     let same : (state_after (state_after s xs) ys).history ≡ (state_after s (xs ++ ys)).history = ap (λ (t : State). t.history) (sym (state_after-append s xs ys)) in
     let on : IsSome (link a).sessions → IsSome (link x.journal.disk).sessions = told_on link disk stands site holds a s xs x went in
@@ -326,7 +326,7 @@ order_from tells s t same before ds image sent o = record {
   done = o.done;
   rest = o.rest;
   split = o.split;
-  stands = subst (λ (h : History). Stands h image) (sym (same_history s t same o.done)) o.stands;
+  stands = subst (λ (h : History). Encodes h image) (sym (same_history s t same o.done)) o.stands;
   began = o.began;
   part = o.part;
 }
@@ -338,7 +338,7 @@ moved_from tells a b s t ds same moved = record {
 }
 
 pub went_from : {O T : Type 0} (link : O → LinkView) (disk : O → DiskView) (stands : T → History → Type 0) (site : T → ℕ) (holds : T → ℕ → Type 0) (a : O) (s t : State) (d : Did) (ds : List Did) (x : House O T) → s.history ≡ t.history
-    → WentBy link disk stands site holds a t (d ∷ ds) x → WentBy link disk stands site holds a s (d ∷ ds) x
+    → RefinesBy link disk stands site holds a t (d ∷ ds) x → RefinesBy link disk stands site holds a s (d ∷ ds) x
 went_from link disk stands site holds a s t d ds x same went = record {
   house = went.house;
   time = went.time;

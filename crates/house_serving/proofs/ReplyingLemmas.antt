@@ -7,12 +7,12 @@ use Rattle.millicent_http.specs.Items.{Item, closes, NextItem, EndsNoItem}
 use Rattle.millicent_http.specs.Reads.{HaveRead, NoneCloses}
 use Rattle.millicent_http.proofs.ReadLemmas.{read_item, read_all, read_closed}
 use Rattle.house_core.specs.declared.bench.Bench.{Bench}
-use Rattle.house_core.specs.Bench.{Went}
+use Rattle.house_core.specs.Bench.{Refines}
 use Rattle.house_core.specs.Session.{State, Step}
 use Rattle.house_serving.specs.Steps.{Did, sent_of, state_after, BySteps, Run, IsSession}
 use Rattle.house_serving.proofs.StepLemmas.{run_more, sent_one}
 use Rattle.house_serving.proofs.ServingLemmas.{none_more}
-use Rattle.house_serving.proofs.WentLemmas.{went_so, stepped_so, stepped_then, stepped_nowhere}
+use Rattle.house_serving.proofs.RefinesLemmas.{went_so, stepped_so, stepped_then, stepped_nowhere}
 
 -- so far these steps wrote this, in reply to i items, none of which ends the link, and this is left of it
 pub record IsReplying (limits : Limits) (moment : ℕ) (link : List ℕ) (i : ℕ) (rest written : List ℕ) (steps : List Did) (s : State) : Type 0 where
@@ -105,13 +105,13 @@ ended limits moment link i rest written steps s few ends so = (
 -- ---- from one house to another
 
 abbrev pub Replying : {T : Type 0} → (T → History → Type 0) → (T → ℕ) → (T → ℕ → Type 0) → Limits → ℕ → List ℕ → ℕ → Bench T → List ℕ → List ℕ → Bench T → Type 0
-Replying stands site holds limits moment link i a rest written b = Went stands site holds (BySteps (IsReplying limits moment link i rest written)) a b
+Replying stands site holds limits moment link i a rest written b = Refines stands site holds (BySteps (IsReplying limits moment link i rest written)) a b
 
 went_step : {T : Type 0} (stands : T → History → Type 0) (site : T → ℕ) (holds : T → ℕ → Type 0) (limits now_limits : Limits) (moment : ℕ) (b c : Bench T) (written more : List ℕ) (item : Item) → now_limits ≡ limits
-    → Went stands site holds (λ s t. Stepped now_limits moment item written more s t) b c → Went stands site holds (BySteps (IsStep limits moment item written more)) b c
+    → Refines stands site holds (λ s t. Stepped now_limits moment item written more s t) b c → Refines stands site holds (BySteps (IsStep limits moment item written more)) b c
 went_step stands site holds limits now_limits moment b c written more item same stepped =
     went_so stands site holds (λ (s t : State). Stepped limits moment item written more s t) (BySteps (IsStep limits moment item written more)) b c (as_step limits moment item written more)
-    (subst (λ (l : Limits). Went stands site holds (λ s t. Stepped l moment item written more s t) b c) same stepped)
+    (subst (λ (l : Limits). Refines stands site holds (λ s t. Stepped l moment item written more s t) b c) same stepped)
 
 pub replying_starts : {T : Type 0} (stands : T → History → Type 0) (site : T → ℕ) (holds : T → ℕ → Type 0) (limits : Limits) (moment : ℕ) (link : List ℕ) (b : Bench T) (written : List ℕ) → written ≡ []
     → Replying stands site holds limits moment link 0 b link written b
@@ -120,20 +120,20 @@ replying_starts stands site holds limits moment link b written empty =
 
 pub replying_goes_on : {T : Type 0} (stands : T → History → Type 0) (site : T → ℕ) (holds : T → ℕ → Type 0) (limits now_limits : Limits) (moment : ℕ) (link : List ℕ) (i : ℕ) (a b c : Bench T) (rest tail written more : List ℕ) (item : Item)
     → now_limits ≡ limits → NextItem rest item tail → closes item ≡ false → Replying stands site holds limits moment link i a rest written b
-    → Went stands site holds (λ s t. Stepped now_limits moment item written more s t) b c → Replying stands site holds limits moment link (i + 1) a tail more c
+    → Refines stands site holds (λ s t. Stepped now_limits moment item written more s t) b c → Replying stands site holds limits moment link (i + 1) a tail more c
 replying_goes_on stands site holds limits now_limits moment link i a b c rest tail written more item same next open' so stepped =
     stepped_then stands site holds (IsReplying limits moment link i rest written) (IsStep limits moment item written more) (IsReplying limits moment link (i + 1) tail more) a b c
     (λ (ds es : List Did) (s : State). goes_on limits moment link i rest tail written more item ds es s next open') so (went_step stands site holds limits now_limits moment b c written more item same stepped)
 
 pub replying_closes : {T : Type 0} (stands : T → History → Type 0) (site : T → ℕ) (holds : T → ℕ → Type 0) (limits now_limits : Limits) (moment : ℕ) (link : List ℕ) (i : ℕ) (a b c : Bench T) (rest tail written more : List ℕ) (item : Item)
     → now_limits ≡ limits → i < 1000 → NextItem rest item tail → closes item ≡ true → Replying stands site holds limits moment link i a rest written b
-    → Went stands site holds (λ s t. Stepped now_limits moment item written more s t) b c → Went stands site holds (BySteps (Wrote limits moment link more)) a c
+    → Refines stands site holds (λ s t. Stepped now_limits moment item written more s t) b c → Refines stands site holds (BySteps (Wrote limits moment link more)) a c
 replying_closes stands site holds limits now_limits moment link i a b c rest tail written more item same few next close so stepped =
     stepped_then stands site holds (IsReplying limits moment link i rest written) (IsStep limits moment item written more) (Wrote limits moment link more) a b c
     (λ (ds es : List Did) (s : State). closed limits moment link i rest tail written more item ds es s few next close) so (went_step stands site holds limits now_limits moment b c written more item same stepped)
 
 pub replying_ends : {T : Type 0} (stands : T → History → Type 0) (site : T → ℕ) (holds : T → ℕ → Type 0) (limits : Limits) (moment : ℕ) (link : List ℕ) (i : ℕ) (a b : Bench T) (rest written : List ℕ)
-    → i ≤ 1000 → (i ≡ 1000) ⊎ EndsNoItem rest → Replying stands site holds limits moment link i a rest written b → Went stands site holds (BySteps (Wrote limits moment link written)) a b
+    → i ≤ 1000 → (i ≡ 1000) ⊎ EndsNoItem rest → Replying stands site holds limits moment link i a rest written b → Refines stands site holds (BySteps (Wrote limits moment link written)) a b
 replying_ends stands site holds limits moment link i a b rest written few ends so =
     stepped_so stands site holds (IsReplying limits moment link i rest written) (Wrote limits moment link written) a b
     (λ (steps : List Did) (s : State). ended limits moment link i rest written steps s few ends) so

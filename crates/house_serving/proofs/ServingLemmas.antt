@@ -3,7 +3,7 @@ use Rattle.std.specs.Prelude.{IsTrue}
 use Rattle.std.proofs.Common.{◌≡◌, inl, inr, ℕ, ◌+◌, ◌<◌, true, false, List, [], ◌∷◌, ◌++◌, length, refl, sym, ap, ◌∙◌, append_assoc, Option, arith, length-append, subst}
 use Rattle.std.proofs.lemmas.List.{append-nil}
 use Rattle.std.proofs.lemmas.List.Elements.{All-nil, All-append}
-use Rattle.mc_outside.specs.LinkView.{LinkView, heard, told, finished, Failed}
+use Rattle.mc_outside.specs.LinkView.{LinkView, after_recv, after_send, after_eof, Failed}
 use Rattle.mc_outside.proofs.Sessions.{heard_none, sent_none}
 use Rattle.mc_records.specs.declared.limits.Limits.{Limits}
 use Rattle.millicent_http.specs.Items.{Item, closes, EndsNoItem, Heads}
@@ -61,7 +61,7 @@ pub record IsServing (limits : Limits) (clock : Clock) (steps : List Did) (s : S
   pub len : length items ≡ h.given
   pub few : h.given < 1000
   pub replied : Replied limits clock items steps s before.readings now.readings
-  pub link : now ≡ with_readings now.readings (told (sent_of steps) (heard got before))
+  pub link : now ≡ with_readings now.readings (after_send (sent_of steps) (after_recv got before))
 
 pub serving_starts : (limits : Limits) (clock : Clock) (s : State) (h : Held) (v : LinkView) → h ≡ nothing_held → IsServing limits clock [] s v h v
 serving_starts limits clock s h v empty = record {
@@ -72,7 +72,7 @@ serving_starts limits clock s h v empty = record {
   len = ap (λ (k : Held). k.given) (sym empty);
   few = omega (arith, ap (λ (k : Held). k.given) empty);
   replied = replied_none limits clock s v.readings;
-  link = heard_none v ∙ sent_none (heard [] v);
+  link = heard_none v ∙ sent_none (after_recv [] v);
 }
 
 -- the link stands as it did before
@@ -100,10 +100,10 @@ read_on limits clock turn ds es s before h k now next so a =
 -- what its step sent is told after what was sent before
 step_told : (limits : Limits) (clock : Clock) (turn : Turn) (ds es : List Did) (s : State) (before : LinkView) (h k : Held) (now next : LinkView) (so : IsServing limits clock ds s before h now)
     (a : Answered limits clock turn es (state_after s ds) h now k next)
-    → told a.step.sent (with_readings next.readings (heard a.more now)) ≡ with_readings next.readings (told (sent_of (ds ++ es)) (heard (so.got ++ a.more) before))
+    → after_send a.step.sent (with_readings next.readings (after_recv a.more now)) ≡ with_readings next.readings (after_send (sent_of (ds ++ es)) (after_recv (so.got ++ a.more) before))
 step_told limits clock turn ds es s before h k now next so a =
     told_on before now so.got a.more (sent_of ds) a.step.sent now.readings next.readings so.link
-    ∙ ap (λ (l : List ℕ). with_readings next.readings (told l (heard (so.got ++ a.more) before))) (sym (sent_one ds es a.step a.one))
+    ∙ ap (λ (l : List ℕ). with_readings next.readings (after_send l (after_recv (so.got ++ a.more) before))) (sym (sent_one ds es a.step a.one))
 
 -- After a turn that lets the link go on, one item more was given, and one more may be.
 pub given_grows : (limits : Limits) (clock : Clock) (es : List Did) (s : State) (h k : Held) (now next : LinkView) → Answered limits clock turns.GoOn es s h now k next
@@ -158,7 +158,7 @@ serving_closes limits clock ds es s before h k now next so a =
       items = items;
       heads = ends.0;
       replied = replied_item limits clock turns.Last ds es s before h k now next so a sent.1;
-      read = heard got before;
+      read = after_recv got before;
       to_end = inr (refl, ends.1);
       sent = sent.2 ∙ step_told limits clock turns.Last ds es s before h k now next so a;
     }
@@ -175,7 +175,7 @@ replied_still limits clock items ds s a b c readings so = subst (λ (o : Option 
 
 -- the link was read to its end
 pub serving_ends : (limits : Limits) (clock : Clock) (ds es : List Did) (s : State) (before : LinkView) (h : Held) (now next : LinkView) → IsServing limits clock ds s before h now
-    → Waited es h now (λ v w. w ≡ finished v) next → IsServed limits clock (ds ++ es) s before next
+    → Waited es h now (λ v w. w ≡ after_eof v) next → IsServed limits clock (ds ++ es) s before next
 serving_ends limits clock ds es s before h now next so w =
     let readings : next.readings ≡ now.readings = ap (λ (v : LinkView). v.readings) w.then' in
     let got : List ℕ = so.got ++ w.more in
@@ -184,10 +184,10 @@ serving_ends limits clock ds es s before h now next so w =
       items = so.items;
       heads = ending limits clock ds s before h now w.more so w.none;
       replied = replied_still limits clock so.items ds s before.readings now.readings next.readings readings so.replied;
-      read = finished (heard got before);
+      read = after_eof (after_recv got before);
       to_end = inl refl;
       sent = w.then' ∙ finished_on before now so.got w.more (sent_of ds) now.readings so.link
-          ∙ ap (λ (r : Option (List ℕ)). with_readings r (told (sent_of ds) (finished (heard got before)))) (sym readings);
+          ∙ ap (λ (r : Option (List ℕ)). with_readings r (after_send (sent_of ds) (after_eof (after_recv got before)))) (sym readings);
     })
 
 -- receiving failed
@@ -202,7 +202,7 @@ serving_broke limits clock ds es s before h now next so w =
       heads = ending limits clock ds s before h now w.more so w.none;
       replied = replied_still limits clock so.items ds s before.readings now.readings next.readings readings so.replied;
       fault = subst (λ (v : LinkView). Failed v next)
-          (heard_on before now so.got w.more (sent_of ds) now.readings so.link ∙ ap (λ (r : Option (List ℕ)). with_readings r (told (sent_of ds) (heard got before))) (sym readings)) w.then';
+          (heard_on before now so.got w.more (sent_of ds) now.readings so.link ∙ ap (λ (r : Option (List ℕ)). with_readings r (after_send (sent_of ds) (after_recv got before))) (sym readings)) w.then';
     })
 
 -- sending failed

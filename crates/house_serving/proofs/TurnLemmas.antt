@@ -1,6 +1,6 @@
 -- One turn of serving a link.
 use Rattle.std.proofs.Common.{◌≡◌, ℕ, Bool, List, [], ◌∷◌, refl, subst}
-use Rattle.mc_outside.specs.LinkView.{LinkView, heard}
+use Rattle.mc_outside.specs.LinkView.{LinkView, after_recv}
 use Rattle.mc_records.specs.declared.limits.Limits.{Limits}
 use Rattle.mc_records.specs.declared.request.Request.{Request}
 use Rattle.mc_records.specs.Requests.{asked_of}
@@ -29,7 +29,7 @@ turned limits clock NotSent steps s old before new link x = x
 
 -- an item was taken and answered
 pub item_turned : (limits : Limits) (clock : Clock) (turn : Turn) (step : Did) (s : State) (old : Held) (before mid : LinkView) (more : List ℕ) (item : Item) (after : After) (new : Held) (link : LinkView)
-    → TookItem (with_more old more).bytes old.given item after new → mid ≡ heard more before → AnsweredItem limits clock item after turn step s mid link
+    → TookItem (with_more old more).bytes old.given item after new → mid ≡ after_recv more before → AnsweredItem limits clock item after turn step s mid link
     → Turned limits clock turn (step ∷ []) s old before new link
 item_turned limits clock turn step s old before mid more item after new link took came answered =
     turned limits clock turn (step ∷ []) s old before new link (record {
@@ -42,8 +42,8 @@ item_turned limits clock turn step s old before mid more item after new link too
       answered = subst (λ (v : LinkView). AnsweredItem limits clock item after turn step s v link) came answered;
     })
 
-pub leads_so : (old : Held) (before : LinkView) (out made : HeadOut) (new : Held) (mid : LinkView) (took : Took old before out new mid) → out ≡ made → LeadsTo (with_more old took.got) made new (heard took.got before) mid
-leads_so old before out made new mid took is = subst (λ (o : HeadOut). LeadsTo (with_more old took.got) o new (heard took.got before) mid) is took.leads
+pub leads_so : (old : Held) (before : LinkView) (out made : HeadOut) (new : Held) (mid : LinkView) (took : Took old before out new mid) → out ≡ made → LeadsTo (with_more old took.got) made new (after_recv took.got before) mid
+leads_so old before out made new mid took is = subst (λ (o : HeadOut). LeadsTo (with_more old took.got) o new (after_recv took.got before) mid) is took.leads
 
 -- so the turn's step leads from the one state to the other
 abbrev pub TurnedBy : Limits → Clock → Turn → State → Held → LinkView → State → Held → LinkView → Type 0

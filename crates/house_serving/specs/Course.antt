@@ -1,7 +1,7 @@
 -- How serving links goes, as what becomes of the links.
 use Rattle.std.specs.Prelude.{◌≡◌, ◌⊎◌, ℕ, zero, suc, ◌<◌, true, false, List, [], ◌∷◌, ◌++◌, length, take, All, Option, Some, Result, Ok, Err}
 use Rattle.mc_outside.specs.Bytes.{Rose}
-use Rattle.mc_outside.specs.LinkView.{LinkView, next_taken, none_left, heard, told, finished, Failed}
+use Rattle.mc_outside.specs.LinkView.{LinkView, next_taken, none_left, after_recv, after_send, after_eof, Failed}
 use Rattle.mc_records.specs.declared.limits.Limits.{Limits}
 use Rattle.millicent_http.specs.Items.{Item, closes, Heads}
 use Rattle.millicent_http.specs.Reads.{HaveRead, NoneCloses}
@@ -51,8 +51,8 @@ pub record IsServed (limits : Limits) (clock : Clock) (steps : List Did) (s : St
   pub heads : Heads got items
   pub replied : Replied limits clock items steps s before.readings after.readings
   pub read : LinkView
-  pub to_end : (read ≡ finished (heard got before)) ⊎ ((read ≡ heard got before) × EndLink items)
-  pub sent : after ≡ with_readings after.readings (told (sent_of steps) read)
+  pub to_end : (read ≡ after_eof (after_recv got before)) ⊎ ((read ≡ after_recv got before) × EndLink items)
+  pub sent : after ≡ with_readings after.readings (after_send (sent_of steps) read)
 
 -- A `recv` failed when every item of what was received was answered.
 pub record BrokeReceiving (limits : Limits) (clock : Clock) (steps : List Did) (s : State) (before after : LinkView) : Type 0 where
@@ -60,10 +60,10 @@ pub record BrokeReceiving (limits : Limits) (clock : Clock) (steps : List Did) (
   pub items : List Item
   pub heads : Heads got items
   pub replied : Replied limits clock items steps s before.readings after.readings
-  pub fault : Failed (with_readings after.readings (told (sent_of steps) (heard got before))) after
+  pub fault : Failed (with_readings after.readings (after_send (sent_of steps) (after_recv got before))) after
 
--- A `send` failed: the replies to the first items were sent whole, and of the last one's a proper first
--- part.
+-- A `send` failed: the replies to the first items were sent whole, and of the last one's a proper
+-- prefix.
 pub record BrokeSending (limits : Limits) (clock : Clock) (steps : List Did) (s : State) (before after : LinkView) : Type 0 where
   pub got : List ℕ
   pub front : List Item
@@ -79,7 +79,7 @@ pub record BrokeSending (limits : Limits) (clock : Clock) (steps : List Did) (s 
   pub part : n < length reply
   pub sent : step.sent ≡ take n reply
   pub steps_are : steps ≡ done ++ step ∷ []
-  pub fault : Failed (with_readings after.readings (told (sent_of steps) (heard got before))) after
+  pub fault : Failed (with_readings after.readings (after_send (sent_of steps) (after_recv got before))) after
 
 -- What becomes of a link that was taken: it is served whole, or up to a fault of one of its calls, and
 -- then ended.

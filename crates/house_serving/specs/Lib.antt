@@ -2,5 +2,5 @@ pub mod Steps
 pub mod Course
 pub mod Turns
 pub mod Orders
-pub mod Doubts
+pub mod InDoubt
 pub mod Links

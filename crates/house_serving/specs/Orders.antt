@@ -5,21 +5,21 @@ use Rattle.mc_outside.specs.DiskView.{DiskView, Ran}
 use Rattle.mc_outside.specs.LinkView.{LinkView}
 use Rattle.mc_records.specs.Entry.{Entry}
 use Rattle.ledger_model.specs.Histories.{History}
-use Rattle.scrip_journal.specs.Layout.{Stands}
+use Rattle.scrip_journal.specs.Layout.{Encodes}
 use Rattle.house_core.specs.declared.house.House.{House}
 use Rattle.house_core.specs.Bench.{house_time}
-use Rattle.house_core.specs.House.{StandsFor}
+use Rattle.house_core.specs.House.{HouseRepresents}
 use Rattle.house_core.specs.Session.{State}
 use Rattle.house_serving.specs.Steps.{Did, sent_of, state_after}
 
--- A crash pair is in order: after some first of the steps the image stands for the history. Where what was
+-- A crash pair is in order: after some first of the steps the image encodes the history. Where what was
 -- sent is told, by then no more was sent than those steps sent. So of the reply of a step that gave an entry
 -- no byte was sent before the entry was there.
 pub record InOrder (tells : Type 0) (s : State) (before : List ℕ) (steps : List Did) (image sent : List ℕ) : Type 0 where
   pub done : List Did
   pub rest : List Did
   pub split : steps ≡ done ++ rest
-  pub stands : Stands (state_after s done).history image
+  pub stands : Encodes (state_after s done).history image
   pub began : tells → BeginsWith before sent
   pub part : tells → BeginsWith sent (before ++ sent_of done)
 
@@ -31,8 +31,8 @@ pub record MovedBy (tells : Type 0) (a b : DiskView) (s : State) (steps : List D
 
 -- A house came from this state to what it is by these steps, while the disk did not fail, and each crash
 -- pair is in order.
-pub record WentBy {O T : Type 0} (link : O → LinkView) (disk : O → DiskView) (stands : T → History → Type 0) (site : T → ℕ) (holds : T → ℕ → Type 0) (a : O) (s : State) (steps : List Did) (x : House O T) : Type 0 where
-  pub house : StandsFor disk stands site holds x (state_after s steps).history
+pub record RefinesBy {O T : Type 0} (link : O → LinkView) (disk : O → DiskView) (stands : T → History → Type 0) (site : T → ℕ) (holds : T → ℕ → Type 0) (a : O) (s : State) (steps : List Did) (x : House O T) : Type 0 where
+  pub house : HouseRepresents disk stands site holds x (state_after s steps).history
   pub time : house_time x.bench ≡ (state_after s steps).time
   pub tells : is_some (link x.journal.disk).sessions ≡ is_some (link a).sessions
   pub faults : (disk x.journal.disk).faults ≡ (disk a).faults
@@ -40,11 +40,11 @@ pub record WentBy {O T : Type 0} (link : O → LinkView) (disk : O → DiskView)
 
 -- ---- where the disk fails
 
--- an image stands for the history with the entry or without it
+-- an image encodes the history with the entry or without it
 abbrev pub IsEither : History → Entry → List ℕ → Type 0
-IsEither h e image = Stands h image ⊎ Stands (h ++ e ∷ []) image
+IsEither h e image = Encodes h image ⊎ Encodes (h ++ e ∷ []) image
 
--- A crash pair while an entry is in doubt: the image stands for the history with the entry or without it.
+-- A crash pair while an entry is in doubt: the image encodes the history with the entry or without it.
 -- Where what was sent is told, by then no more was sent than this.
 pub record InDoubt (tells : Type 0) (h : History) (before : List ℕ) (e : Entry) (said : List ℕ) (image sent : List ℕ) : Type 0 where
   pub stands : IsEither h e image

@@ -1,7 +1,7 @@
 -- One turn of serving a link: the next item is answered, or there is none.
 use Rattle.std.specs.Prelude.{◌≡◌, ℕ, ◌<◌, List, [], ◌∷◌, ◌++◌, length, take, Result, Ok, Err}
 use Rattle.mc_outside.specs.declared.link.LinkFault.{LinkFault}
-use Rattle.mc_outside.specs.LinkView.{LinkView, heard, told, finished, Failed}
+use Rattle.mc_outside.specs.LinkView.{LinkView, after_recv, after_send, after_eof, Failed}
 use Rattle.mc_records.specs.declared.limits.Limits.{Limits}
 use Rattle.millicent_http.specs.declared.item.After.{After}
 use Rattle.millicent_http.specs.declared.item.After.TheVariants.{Close}
@@ -18,11 +18,11 @@ use Rattle.house_serving.specs.Course.{with_readings, Replied, IsServed, BrokeRe
 
 -- how sending a reply went, of which so much was sent
 abbrev pub Sent : After → List ℕ → Turn → List ℕ → LinkView → LinkView → Type 0
-Sent after reply GoOn part before link = (after ≡ Close → ⊥) × (part ≡ reply) × (link ≡ told part before)
-Sent after reply Last part before link = (after ≡ Close) × (part ≡ reply) × (link ≡ told part before)
+Sent after reply GoOn part before link = (after ≡ Close → ⊥) × (part ≡ reply) × (link ≡ after_send part before)
+Sent after reply Last part before link = (after ≡ Close) × (part ≡ reply) × (link ≡ after_send part before)
 Sent after reply End part before link = ⊥
 Sent after reply NotReceived part before link = ⊥
-Sent after reply NotSent part before link = (n : ℕ) × (n < length reply) × (part ≡ take n reply) × Failed (told part before) link
+Sent after reply NotSent part before link = (n : ℕ) × (n < length reply) × (part ≡ take n reply) × Failed (after_send part before) link
 
 -- the turn of an item whose reply was sent with this result
 abbrev pub turn_after : Result (Unit {0}) LinkFault → After → Turn
@@ -44,19 +44,19 @@ pub record Answered (limits : Limits) (clock : Clock) (turn : Turn) (steps : Lis
   pub took : TookItem (old.bytes ++ more) old.given item after new
   pub step : Did
   pub one : steps ≡ step ∷ []
-  pub answered : AnsweredItem limits clock item after turn step s (heard more before) link
+  pub answered : AnsweredItem limits clock item after turn step s (after_recv more before) link
 
 -- what was received ended no item
 pub record Waited (steps : List Did) (old : Held) (before : LinkView) (Then : LinkView → LinkView → Type 0) (link : LinkView) : Type 0 where
   pub none_done : steps ≡ []
   pub more : List ℕ
   pub none : EndsNoItem (old.bytes ++ more)
-  pub then' : Then (heard more before) link
+  pub then' : Then (after_recv more before) link
 
 abbrev pub Turned : Limits → Clock → Turn → List Did → State → Held → LinkView → Held → LinkView → Type 0
 Turned limits clock GoOn steps s old before new link = Answered limits clock GoOn steps s old before new link
 Turned limits clock Last steps s old before new link = Answered limits clock Last steps s old before new link
-Turned limits clock End steps s old before new link = Waited steps old before (λ v w. w ≡ finished v) link
+Turned limits clock End steps s old before new link = Waited steps old before (λ v w. w ≡ after_eof v) link
 Turned limits clock NotReceived steps s old before new link = Waited steps old before Failed link
 Turned limits clock NotSent steps s old before new link = Answered limits clock NotSent steps s old before new link
 

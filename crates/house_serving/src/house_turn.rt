@@ -8,7 +8,7 @@ ghost use Rattle.ledger_model.specs.Answer.{answer, Again};
 ghost use Rattle.millicent_http.specs.declared.item.After.TheVariants.{Close};
 ghost use Rattle.millicent_http.specs.HeadRefusals.{as_refusal};
 ghost use Rattle.house_core.specs.Bench.{house_time, limits_of, state_of};
-ghost use Rattle.house_core.specs.House.{StandsFor};
+ghost use Rattle.house_core.specs.House.{HouseRepresents};
 ghost use Rattle.house_serving.specs.declared.serving.Clock.TheVariants.{OfLinks};
 ghost use Rattle.house_serving.specs.declared.turn.Turn.TheVariants.{GoOn};
 ghost use Rattle.house_serving.specs.Course.{AreRead, with_readings};
@@ -32,7 +32,7 @@ pub(crate) fn take_turn<O: Outside, T: Trade>(
     ensures limits { IfOk result (λ r. limits_of r.0.bench ≡ limits_of house.bench) }
     ensures stands { IfOk result (λ r. r.1 ≡ GoOn → IsTrue (O.link r.0.journal.disk).stands) }
     ensures given { IfOk result (λ r. r.1 ≡ GoOn → (reader.new.given ≡ reader.old.given + 1) × (reader.old.given < 1000)) }
-    ensures turned { (h : History) → StandsFor O.disk T.stands T.site T.holds house h
+    ensures turned { (h : History) → HouseRepresents O.disk T.stands T.site T.holds house h
         → TurnsHouse O.link O.disk T.stands T.site T.holds (limits_of house.bench) house.journal.disk (state_of h house.bench) reader.old reader.new result }
 {
     let mut house = house;
@@ -56,7 +56,7 @@ fn answer_request<O: Outside, T: Trade>(
     ensures limits { IfOk result (λ r. limits_of r.0.bench ≡ limits_of house.bench) }
     ensures stands { IfOk result (λ r. r.1 ≡ GoOn → IsTrue (O.link r.0.journal.disk).stands) }
     ensures open { IfOk result (λ r. r.1 ≡ GoOn → after ≡ Close → ⊥) }
-    ensures answered { (h : History) → StandsFor O.disk T.stands T.site T.holds house h
+    ensures answered { (h : History) → HouseRepresents O.disk T.stands T.site T.holds house h
         → AnswersRequest O.link O.disk T.stands T.site T.holds (limits_of house.bench) (asked_of q.now) after house.journal.disk (state_of h house.bench) result }
 {
     let mut house = house;
@@ -75,7 +75,7 @@ fn answer_refused<O: Outside, T: Trade>(
     ensures limits { limits_of result.0.bench ≡ limits_of house.bench }
     ensures stands { result.1 ≡ GoOn → IsTrue (O.link result.0.journal.disk).stands }
     ensures open { result.1 ≡ GoOn → after ≡ Close → ⊥ }
-    ensures answered { (h : History) → StandsFor O.disk T.stands T.site T.holds house h
+    ensures answered { (h : History) → HouseRepresents O.disk T.stands T.site T.holds house h
         → RefusesHead O.link O.disk T.stands T.site T.holds (limits_of house.bench) (as_refusal head) after house.journal.disk (state_of h house.bench) result }
 {
     let mut house = house;
@@ -88,7 +88,7 @@ fn answer_refused<O: Outside, T: Trade>(
 /// memory.
 pub fn raise_by_clock<O: Outside, T: Trade>(house: &mut House<O, T>) -> Moment
     ensures moved { O.link_moved house.old.journal.disk house.new.journal.disk }
-    ensures stands { (h : History) → StandsFor O.disk T.stands T.site T.holds house.old h → StandsFor O.disk T.stands T.site T.holds house.new h }
+    ensures stands { (h : History) → HouseRepresents O.disk T.stands T.site T.holds house.old h → HouseRepresents O.disk T.stands T.site T.holds house.new h }
     ensures time { house_time house.new.bench ≡ max (house_time house.old.bench) result }
     ensures limits { limits_of house.new.bench ≡ limits_of house.old.bench }
     ensures rest { O.link house.new.journal.disk ≡ with_readings (O.link house.new.journal.disk).readings (O.link house.old.journal.disk) }
@@ -111,7 +111,7 @@ fn reply_to<O: Outside, T: Trade>(
     ensures limits { IfOk result (λ r. limits_of r.0.bench ≡ limits_of house.bench) }
     ensures stands { IfOk result (λ r. r.1 ≡ GoOn → IsTrue (O.link r.0.journal.disk).stands) }
     ensures open { IfOk result (λ r. r.1 ≡ GoOn → after ≡ Close → ⊥) }
-    ensures replied { (h : History) → StandsFor O.disk T.stands T.site T.holds house h
+    ensures replied { (h : History) → HouseRepresents O.disk T.stands T.site T.holds house h
         → RepliesTo O.link O.disk T.stands T.site T.holds (limits_of house.bench) (asked_of q.now) after house.journal.disk (state_of h house.bench) result }
 {
     match house.repeated(q) {
@@ -136,7 +136,7 @@ fn reply_to_new<O: Outside, T: Trade>(
     ensures limits { IfOk result (λ r. limits_of r.0.bench ≡ limits_of house.bench) }
     ensures stands { IfOk result (λ r. r.1 ≡ GoOn → IsTrue (O.link r.0.journal.disk).stands) }
     ensures open { IfOk result (λ r. r.1 ≡ GoOn → after ≡ Close → ⊥) }
-    ensures replied { (h : History) → StandsFor O.disk T.stands T.site T.holds house h
+    ensures replied { (h : History) → HouseRepresents O.disk T.stands T.site T.holds house h
         → ((n : ℕ) → answer h (house_time house.bench) (limits_of house.bench) (asked_of q.now) ≡ Again n → ⊥)
         → RepliesTo O.link O.disk T.stands T.site T.holds (limits_of house.bench) (asked_of q.now) after house.journal.disk (state_of h house.bench) result }
 {

@@ -4,7 +4,7 @@ ghost use Rattle.std.specs.Prelude.{◌≡◌, IsTrue, IfOk};
 ghost use Rattle.ledger_model.specs.Histories.{History};
 ghost use Rattle.millicent_http.specs.Held.{nothing_held};
 ghost use Rattle.house_core.specs.Bench.{limits_of, state_of};
-ghost use Rattle.house_core.specs.House.{StandsFor};
+ghost use Rattle.house_core.specs.House.{HouseRepresents};
 ghost use Rattle.house_serving.specs.Links.{ServesLinks, HaveCauses, PartCauses, EndsTurns, ServesLink};
 
 use crate::house_turn::take_turn;
@@ -36,7 +36,7 @@ pub enum ServeOut<O, T> {
 /// where the disk failed.
 pub fn serve_links<O: Outside, T: Trade>(house: House<O, T>, links: u32) -> ServeOut<O, T>
     ensures causes { HaveCauses O.link O.disk house.journal.disk result }
-    ensures served { (h : History) → StandsFor O.disk T.stands T.site T.holds house h
+    ensures served { (h : History) → HouseRepresents O.disk T.stands T.site T.holds house h
         → ServesLinks O.link O.disk T.stands T.site T.holds (limits_of house.bench) links house.journal.disk (state_of h house.bench) result }
 {
     let Ok(mut reader) = HeadReader::new(house.alloc()) else {
@@ -67,7 +67,7 @@ fn serve_link<O: Outside, T: Trade>(
     requires stands { IsTrue (O.link house.journal.disk).stands }
     ensures causes { PartCauses O.link O.disk house.journal.disk (λ x. x) result }
     ensures limits { IfOk result (λ x. limits_of x.bench ≡ limits_of house.bench) }
-    ensures served { (h : History) → StandsFor O.disk T.stands T.site T.holds house h
+    ensures served { (h : History) → HouseRepresents O.disk T.stands T.site T.holds house h
         → ServesLink O.link O.disk T.stands T.site T.holds (limits_of house.bench) house.journal.disk (state_of h house.bench) result }
 {
     reader.restart();
@@ -94,7 +94,7 @@ fn serve_turns<O: Outside, T: Trade>(
     requires empty { reader.old ≡ nothing_held }
     ensures causes { PartCauses O.link O.disk house.journal.disk (λ r. r.0) result }
     ensures limits { IfOk result (λ r. limits_of r.0.bench ≡ limits_of house.bench) }
-    ensures ended { (h : History) → StandsFor O.disk T.stands T.site T.holds house h
+    ensures ended { (h : History) → HouseRepresents O.disk T.stands T.site T.holds house h
         → EndsTurns O.link O.disk T.stands T.site T.holds (limits_of house.bench) house.journal.disk (state_of h house.bench) result }
 {
     let mut house = house;

@@ -3,7 +3,7 @@
 ghost use Rattle.std.specs.Prelude.{◌≡◌, IsTrue};
 ghost use Rattle.ledger_model.specs.Histories.{History};
 ghost use Rattle.millicent_http.specs.Held.{nothing_held};
-ghost use Rattle.house_core.specs.Bench.{IsHouse, Went, limits_of};
+ghost use Rattle.house_core.specs.Bench.{IsHouse, Refines, limits_of};
 ghost use Rattle.house_serving.specs.Steps.{BySteps};
 ghost use Rattle.house_serving.specs.Course.{HadLink, Served};
 ghost use Rattle.house_serving.specs.Turns.{Ended};
@@ -43,7 +43,7 @@ pub fn serve_bench<K: Link, T: Trade>(
     requires house { (h : History) × IsHouse T.stands T.site T.holds bench.old h }
     ensures moved { K.link_moved k.old k.new }
     ensures limits { limits_of bench.new ≡ limits_of bench.old }
-    ensures served { Went T.stands T.site T.holds (BySteps (λ steps s. Served (limits_of bench.old) Clock.OfLinks links result steps s (K.link k.old) (K.link k.new))) bench.old bench.new }
+    ensures served { Refines T.stands T.site T.holds (BySteps (λ steps s. Served (limits_of bench.old) Clock.OfLinks links result steps s (K.link k.old) (K.link k.new))) bench.old bench.new }
 {
     serve_bench_by(bench, k, links, &Clock::OfLinks)
 }
@@ -58,7 +58,7 @@ pub fn serve_bench_by<K: Link, T: Trade>(
     requires house { (h : History) × IsHouse T.stands T.site T.holds bench.old h }
     ensures moved { K.link_moved k.old k.new }
     ensures limits { limits_of bench.new ≡ limits_of bench.old }
-    ensures served { Went T.stands T.site T.holds (BySteps (λ steps s. Served (limits_of bench.old) clock.now links result steps s (K.link k.old) (K.link k.new))) bench.old bench.new }
+    ensures served { Refines T.stands T.site T.holds (BySteps (λ steps s. Served (limits_of bench.old) clock.now links result steps s (K.link k.old) (K.link k.new))) bench.old bench.new }
 {
     let Ok(mut reader) = HeadReader::new(bench.alloc()) else {
         return Err(BenchEnd::NoMemory);
@@ -87,7 +87,7 @@ fn serve_standing<K: Link, T: Trade>(
     requires house { (h : History) × IsHouse T.stands T.site T.holds bench.old h }
     ensures moved { K.link_moved k.old k.new }
     ensures limits { limits_of bench.new ≡ limits_of bench.old }
-    ensures course { Went T.stands T.site T.holds (BySteps (λ steps s. HadLink (limits_of bench.old) clock.now steps s (K.link k.old) (K.link k.new))) bench.old bench.new }
+    ensures course { Refines T.stands T.site T.holds (BySteps (λ steps s. HadLink (limits_of bench.old) clock.now steps s (K.link k.old) (K.link k.new))) bench.old bench.new }
 {
     reader.restart();
     serve_turns(bench, reader, k, clock);
@@ -106,7 +106,7 @@ fn serve_turns<K: Link, T: Trade>(
     requires house { (h : History) × IsHouse T.stands T.site T.holds bench.old h }
     ensures moved { K.link_moved k.old k.new }
     ensures limits { limits_of bench.new ≡ limits_of bench.old }
-    ensures ended { Went T.stands T.site T.holds (BySteps (λ steps s. Ended (limits_of bench.old) clock.now result steps s (K.link k.old) (K.link k.new))) bench.old bench.new }
+    ensures ended { Refines T.stands T.site T.holds (BySteps (λ steps s. Ended (limits_of bench.old) clock.now result steps s (K.link k.old) (K.link k.new))) bench.old bench.new }
 {
     'turns: loop {
         match serve_next(bench, reader, k, clock) {

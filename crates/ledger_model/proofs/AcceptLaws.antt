@@ -17,7 +17,7 @@ use Rattle.ledger_model.specs.Pieces.{piece_of, accepted, accepted_piece, change
 use Rattle.ledger_model.specs.Sums.{price_paid, takings, values}
 use Rattle.ledger_model.specs.Lines.{Stop, ◌>>=◌, given, refused_if}
 use Rattle.ledger_model.specs.Stages.{Offer, shelf_by, needed}
-use Rattle.ledger_model.specs.Answer.{offer, desk_offer}
+use Rattle.ledger_model.specs.Answer.{offer, broker_offer}
 use Rattle.ledger_model.specs.Lawful.{unbounded, request_of, IsAllowed, AllFollow, IsLawful}
 use Rattle.ledger_model.specs.Laws.{AreDistinct, worth, IsPaid, ArePaid}
 use Rattle.ledger_model.proofs.TableLaws.{line_ok, refused_ok, ok_is, Through, answer_through}
@@ -94,9 +94,9 @@ accepted_once limits (e ∷ es) lawful = distinct_from limits [] (e ∷ es) lawf
 -- ---- a piece's value is its price and its change
 
 -- no more than the piece's value is asked at a broker
-desk_below : (h : History) (t : ℕ) (limits : Limits) (target : List ℕ) (value : ℕ) (o : Offer) → desk_offer h t limits target value ≡ Ok o → o.price ≤ value
-unfolding desk_offer
-desk_below h t limits target value o e = absurd cc
+broker_offer_below : (h : History) (t : ℕ) (limits : Limits) (target : List ℕ) (value : ℕ) (o : Offer) → broker_offer h t limits target value ≡ Ok o → o.price ≤ value
+unfolding broker_offer
+broker_offer_below h t limits target value o e = absurd cc
 
 -- nor at any house
 pub offer_below : (h : History) (t : ℕ) (limits : Limits) (target : List ℕ) (value : ℕ) (o : Offer) → offer h t limits target value ≡ Ok o → o.price ≤ value
@@ -110,9 +110,9 @@ offer_below h t limits target value o e = by_kind (is_vendor h) e
         let is : a.0 ≡ o.price = ap (λ (x : Offer). x.price) (ok_is _ o b.2) in
         omega arith
 
-    by_kind : (b : Bool) → cond b (shelf_by (price_in h target) value) (desk_offer h t limits target value) ≡ Ok o → o.price ≤ value
+    by_kind : (b : Bool) → cond b (shelf_by (price_in h target) value) (broker_offer h t limits target value) ≡ Ok o → o.price ≤ value
     by_kind true r = on_shelf r
-    by_kind false r = desk_below h t limits target value o r
+    by_kind false r = broker_offer_below h t limits target value o r
 
 -- a value splits into its price and its change
 record Split (value price : ℕ) (change : Option ℕ) : Type 0 where

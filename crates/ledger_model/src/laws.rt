@@ -23,9 +23,9 @@ pub fn accepted_once()
     ensures { (limits : Bounds) (h : History) → IsLawful limits h → AreDistinct (accepted h) }
 {}
 
-/// A front of a lawful history, from its first entry on, is lawful.
-#[tactic(auto, using(crate::proofs::FollowLaws::front_lawful))]
-pub fn fronts_are_lawful()
+/// A prefix of a lawful history, from its first entry on, is lawful.
+#[tactic(auto, using(crate::proofs::FollowLaws::prefix_lawful))]
+pub fn prefixes_are_lawful()
     ensures { (limits : Bounds) (e : Entry) (xs ys : History) → IsLawful limits ((e ∷ xs) ++ ys) → IsLawful limits (e ∷ xs) }
 {}
 

@@ -14,7 +14,7 @@ pub trait Source {
     fn recv(&mut self, buf: &mut [u8]) -> io::Result<usize>
         ensures bound { ReadsAtMost result buf.new };
 
-    /// Sends a first part of the bytes on the standing link.
+    /// Sends a prefix of the bytes on the standing link.
     fn send(&mut self, bytes: &[u8]) -> io::Result<usize>
         ensures bound { WritesAtMost result bytes.now };
 

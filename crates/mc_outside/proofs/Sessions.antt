@@ -2,7 +2,7 @@
 use Rattle.std.proofs.Common.{◌≡◌, ◌⊎◌, inl, inr, ℕ, List, [], ◌∷◌, ◌++◌, refl, sym, ◌∙◌, ap, append_assoc, Option, Some, None}
 use Rattle.std.specs.Prelude.{option_map, IsTrue}
 use Rattle.std.proofs.lemmas.List.{append-nil}
-use Rattle.mc_outside.specs.LinkView.{Session, LinkView, IsLink, on_last, hear, send, heard, told, all_sent}
+use Rattle.mc_outside.specs.LinkView.{Session, LinkView, IsLink, on_last, hear, send, after_recv, after_send, all_sent}
 
 on_last-none : (ss : List Session) → on_last (send []) ss ≡ ss
 on_last-none [] = refl
@@ -24,16 +24,16 @@ maps-more None x y = refl
 maps-more (Some ss) x y = ap (λ (l : List Session). Some l) (on_last-more ss x y)
 
 -- nothing sent
-pub sent_none : (v : LinkView) → v ≡ told [] v
+pub sent_none : (v : LinkView) → v ≡ after_send [] v
 sent_none v = ap (λ (o : Option (List Session)). record v { sessions = o }) (sym (maps-none v.sessions))
 
 -- one piece after another
-pub sent_step : (u v w : LinkView) (x y z : List ℕ) → v ≡ told x u → w ≡ told y v → x ++ y ≡ z → w ≡ told z u
+pub sent_step : (u v w : LinkView) (x y z : List ℕ) → v ≡ after_send x u → w ≡ after_send y v → x ++ y ≡ z → w ≡ after_send z u
 sent_step u v w x y z first second is =
     second
-    ∙ ap (λ (t : LinkView). told y t) first
+    ∙ ap (λ (t : LinkView). after_send y t) first
     ∙ ap (λ (o : Option (List Session)). record u { sessions = o }) (maps-more u.sessions x y)
-    ∙ ap (λ (l : List ℕ). told l u) is
+    ∙ ap (λ (l : List ℕ). after_send l u) is
 
 hear-none : (ss : List Session) → on_last (hear []) ss ≡ ss
 hear-none [] = refl
@@ -55,11 +55,11 @@ hears-more None x y = refl
 hears-more (Some ss) x y = ap (λ (l : List Session). Some l) (hear-more ss x y)
 
 -- nothing received
-pub heard_none : (v : LinkView) → v ≡ heard [] v
+pub heard_none : (v : LinkView) → v ≡ after_recv [] v
 heard_none v = ap (λ (o : Option (List Session)). record v { sessions = o }) (sym (hears-none v.sessions))
 
 -- one piece after another
-pub heard_more : (v : LinkView) (x y : List ℕ) → heard y (heard x v) ≡ heard (x ++ y) v
+pub heard_more : (v : LinkView) (x y : List ℕ) → after_recv y (after_recv x v) ≡ after_recv (x ++ y) v
 heard_more v x y = ap (λ (o : Option (List Session)). record v { sessions = o }) (hears-more v.sessions x y)
 
 -- the bytes sent over all links

@@ -59,16 +59,16 @@ abbrev pub none_left : LinkView → LinkView
 none_left v = record v { stands = false; over = true }
 
 -- these bytes were received on the standing link
-abbrev pub heard : List ℕ → LinkView → LinkView
-heard bytes v = record v { sessions = option_map (on_last (hear bytes)) v.sessions }
+abbrev pub after_recv : List ℕ → LinkView → LinkView
+after_recv bytes v = record v { sessions = option_map (on_last (hear bytes)) v.sessions }
 
 -- these bytes were sent on the standing link
-abbrev pub told : List ℕ → LinkView → LinkView
-told bytes v = record v { sessions = option_map (on_last (send bytes)) v.sessions }
+abbrev pub after_send : List ℕ → LinkView → LinkView
+after_send bytes v = record v { sessions = option_map (on_last (send bytes)) v.sessions }
 
 -- the standing link was read to its end
-abbrev pub finished : LinkView → LinkView
-finished v = record v { sessions = option_map (on_last ended) v.sessions; at_end = true }
+abbrev pub after_eof : LinkView → LinkView
+after_eof v = record v { sessions = option_map (on_last ended) v.sessions; at_end = true }
 
 -- nothing but the count of faults changed, which rose
 pub record Failed (before after : LinkView) : Type 0 where

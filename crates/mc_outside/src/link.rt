@@ -1,6 +1,6 @@
 ghost use Rattle.std.specs.Prelude.{◌≡◌, ◌⊎◌, ◌≤◌, ◌<◌, ◌++◌, [], ◌∷◌, List, ℕ, length, take, IfOk, OnOk, OnErr, option_map, IsTrue, false, if◌then◌else◌};
 ghost use Rattle.mc_outside.specs.Bytes.{Told, AddsPart, HasCause};
-ghost use Rattle.mc_outside.specs.LinkView.{LinkView, IsLink, LinkGoes, Failed, next_taken, none_left, heard, told, finished};
+ghost use Rattle.mc_outside.specs.LinkView.{LinkView, IsLink, LinkGoes, Failed, next_taken, none_left, after_recv, after_send, after_eof};
 
 use mc_base::Moment;
 use std::error::Error;
@@ -54,12 +54,12 @@ pub trait Link {
         ensures moved { link_moved self.old self.new }
         ensures cause { HasCause (link self.old).faults (link self.new).faults result }
         ensures room { IfOk result (λ n. n ≤ length buf.old) }
-        ensures heard { IfOk result (λ n. 0 < n ⊎ (length buf.old ≡ 0) → link self.new ≡ heard (take n buf.new) (link self.old)) }
-        ensures end { IfOk result (λ n. n ≡ 0 → 0 < length buf.old → link self.new ≡ finished (link self.old)) }
+        ensures heard { IfOk result (λ n. 0 < n ⊎ (length buf.old ≡ 0) → link self.new ≡ after_recv (take n buf.new) (link self.old)) }
+        ensures end { IfOk result (λ n. n ≡ 0 → 0 < length buf.old → link self.new ≡ after_eof (link self.old)) }
         ensures stays_at_end { IfOk result (λ n. IsTrue (link self.old).at_end → n ≡ 0) }
         ensures failed { OnErr result (Failed (link self.old) (link self.new)) };
 
-    /// Sends a first part of the bytes on the standing link, at least one byte where there is
+    /// Sends a prefix of the bytes on the standing link, at least one byte where there is
     /// one, and answers how many. At an `Err` no byte was sent.
     fn send(&mut self, bytes: &[u8]) -> Result<usize, LinkFault>
         requires { IsTrue (link self.old).stands }
@@ -67,7 +67,8 @@ pub trait Link {
         ensures cause { HasCause (link self.old).faults (link self.new).faults result }
         ensures room { IfOk result (λ n. n ≤ length bytes.now) }
         ensures some { IfOk result (λ n. 0 < length bytes.now → 0 < n) }
-        ensures sent { IfOk result (λ n. link self.new ≡ told (take n bytes.now) (link self.old)) }
+        ensures sent { IfOk result (λ n. link self.new
+            ≡ after_send (take n bytes.now) (link self.old)) }
         ensures failed { OnErr result (Failed (link self.old) (link self.new)) };
 
     /// Ends the standing link, where one stands.

@@ -8,7 +8,7 @@ use crate::{Disk, Link};
 /// the bytes sent on all links are those that the crash pairs of the disk speak of.
 pub trait Outside: Disk + Link {
     /// Where calls of Link alone were made, the disk stays, and the crash pairs grow by the images
-    /// of now, each with a first part of what was sent.
+    /// of now, each with a prefix of what was sent.
     ghost link_keeps: { (a b : Self) → Self.link_moved a b → LinkKeeps (Self.disk a) (Self.disk b) };
 
     /// Where calls of Disk alone were made, all meanings of Link stay.

@@ -1,5 +1,5 @@
 pub mod Refusals
-pub mod Kept
+pub mod RefusalArgs
 pub mod Limits
 pub mod Requests
 pub mod Dates

@@ -13,7 +13,7 @@ use mc_fields::{Stuck, read_key, read_plain, read_u8, read_u16, read_u32, read_u
 use scrip_form::Id;
 
 #[tactic(auto, unfolding(crate::specs::Forms::site_form), using(mc_fields::proofs::FormLaws::behind))]
-pub(crate) fn site(moment: Moment, bytes: &[u8]) -> Result<(Record<'_>, &[u8]), Stuck>
+pub(crate) fn read_site(moment: Moment, bytes: &[u8]) -> Result<(Record<'_>, &[u8]), Stuck>
     ensures { Gives (λ x. (entry x.0, x.1.now)) result (run (site_form moment) bytes.now) }
 {
     let (kind, rest) = read_u8(bytes, 0, 2)?;
@@ -32,7 +32,7 @@ pub(crate) fn site(moment: Moment, bytes: &[u8]) -> Result<(Record<'_>, &[u8]), 
 }
 
 #[tactic(auto, unfolding(crate::specs::Forms::add_terms_form), using(mc_fields::proofs::FormLaws::behind))]
-pub(crate) fn add_terms(moment: Moment, bytes: &[u8]) -> Result<(Record<'_>, &[u8]), Stuck>
+pub(crate) fn read_add_terms(moment: Moment, bytes: &[u8]) -> Result<(Record<'_>, &[u8]), Stuck>
     ensures { Gives (λ x. (entry x.0, x.1.now)) result (run (add_terms_form moment) bytes.now) }
 {
     match terms(1, 255, bytes) {
@@ -42,7 +42,7 @@ pub(crate) fn add_terms(moment: Moment, bytes: &[u8]) -> Result<(Record<'_>, &[u
 }
 
 #[tactic(auto, unfolding(crate::specs::Forms::goods_form))]
-pub(crate) fn goods(moment: Moment, bytes: &[u8]) -> Result<(Record<'_>, &[u8]), Stuck>
+pub(crate) fn read_goods(moment: Moment, bytes: &[u8]) -> Result<(Record<'_>, &[u8]), Stuck>
     ensures { Gives (λ x. (entry x.0, x.1.now)) result (run (goods_form moment) bytes.now) }
 {
     let (target, rest) = target(bytes)?;
@@ -61,7 +61,7 @@ pub(crate) fn goods(moment: Moment, bytes: &[u8]) -> Result<(Record<'_>, &[u8]),
 }
 
 #[tactic(auto, unfolding(crate::specs::Forms::accept_form), using(mc_fields::proofs::FormLaws::behind))]
-pub(crate) fn accept(moment: Moment, bytes: &[u8]) -> Result<(Record<'_>, &[u8]), Stuck>
+pub(crate) fn read_accept(moment: Moment, bytes: &[u8]) -> Result<(Record<'_>, &[u8]), Stuck>
     ensures { Gives (λ x. (entry x.0, x.1.now)) result (run (accept_form moment) bytes.now) }
 {
     let (scrip, rest) = scrip(bytes)?;
@@ -89,7 +89,7 @@ pub(crate) fn accept(moment: Moment, bytes: &[u8]) -> Result<(Record<'_>, &[u8])
 }
 
 #[tactic(auto, unfolding(crate::specs::Forms::mint_form))]
-pub(crate) fn mint(moment: Moment, bytes: &[u8]) -> Result<(Record<'_>, &[u8]), Stuck>
+pub(crate) fn read_mint(moment: Moment, bytes: &[u8]) -> Result<(Record<'_>, &[u8]), Stuck>
     ensures { Gives (λ x. (entry x.0, x.1.now)) result (run (mint_form moment) bytes.now) }
 {
     let (reference, rest) = name(bytes)?;
@@ -108,7 +108,7 @@ pub(crate) fn mint(moment: Moment, bytes: &[u8]) -> Result<(Record<'_>, &[u8]), 
 }
 
 #[tactic(auto, unfolding(crate::specs::Forms::account_form))]
-pub(crate) fn account(moment: Moment, bytes: &[u8]) -> Result<(Record<'_>, &[u8]), Stuck>
+pub(crate) fn read_account(moment: Moment, bytes: &[u8]) -> Result<(Record<'_>, &[u8]), Stuck>
     ensures { Gives (λ x. (entry x.0, x.1.now)) result (run (account_form moment) bytes.now) }
 {
     let (name, rest) = name(bytes)?;
@@ -117,7 +117,7 @@ pub(crate) fn account(moment: Moment, bytes: &[u8]) -> Result<(Record<'_>, &[u8]
 }
 
 #[tactic(auto, unfolding(crate::specs::Forms::deposit_form))]
-pub(crate) fn deposit(moment: Moment, bytes: &[u8]) -> Result<(Record<'_>, &[u8]), Stuck>
+pub(crate) fn read_deposit(moment: Moment, bytes: &[u8]) -> Result<(Record<'_>, &[u8]), Stuck>
     ensures { Gives (λ x. (entry x.0, x.1.now)) result (run (deposit_form moment) bytes.now) }
 {
     let (account, rest) = name(bytes)?;
@@ -133,7 +133,7 @@ pub(crate) fn deposit(moment: Moment, bytes: &[u8]) -> Result<(Record<'_>, &[u8]
 }
 
 #[tactic(auto, unfolding(crate::specs::Forms::withdraw_form))]
-pub(crate) fn withdraw(moment: Moment, bytes: &[u8]) -> Result<(Record<'_>, &[u8]), Stuck>
+pub(crate) fn read_withdraw(moment: Moment, bytes: &[u8]) -> Result<(Record<'_>, &[u8]), Stuck>
     ensures { Gives (λ x. (entry x.0, x.1.now)) result (run (withdraw_form moment) bytes.now) }
 {
     let (account, rest) = name(bytes)?;
@@ -149,7 +149,7 @@ pub(crate) fn withdraw(moment: Moment, bytes: &[u8]) -> Result<(Record<'_>, &[u8
 }
 
 #[tactic(auto, unfolding(crate::specs::Forms::draw_form))]
-pub(crate) fn draw(moment: Moment, bytes: &[u8]) -> Result<(Record<'_>, &[u8]), Stuck>
+pub(crate) fn read_draw(moment: Moment, bytes: &[u8]) -> Result<(Record<'_>, &[u8]), Stuck>
     ensures { Gives (λ x. (entry x.0, x.1.now)) result (run (draw_form moment) bytes.now) }
 {
     let (target, rest) = target(bytes)?;
@@ -166,7 +166,7 @@ pub(crate) fn draw(moment: Moment, bytes: &[u8]) -> Result<(Record<'_>, &[u8]), 
 }
 
 #[tactic(auto, unfolding(crate::specs::Forms::licence_form), using(mc_fields::proofs::FormLaws::behind))]
-pub(crate) fn licence(moment: Moment, bytes: &[u8]) -> Result<(Record<'_>, &[u8]), Stuck>
+pub(crate) fn read_licence(moment: Moment, bytes: &[u8]) -> Result<(Record<'_>, &[u8]), Stuck>
     ensures { Gives (λ x. (entry x.0, x.1.now)) result (run (licence_form moment) bytes.now) }
 {
     let (vendor, rest) = name(bytes)?;
@@ -183,7 +183,7 @@ pub(crate) fn licence(moment: Moment, bytes: &[u8]) -> Result<(Record<'_>, &[u8]
 }
 
 #[tactic(auto, unfolding(crate::specs::Forms::pend_form), using(mc_fields::proofs::FormLaws::behind))]
-pub(crate) fn pend(moment: Moment, bytes: &[u8]) -> Result<(Record<'_>, &[u8]), Stuck>
+pub(crate) fn read_pend(moment: Moment, bytes: &[u8]) -> Result<(Record<'_>, &[u8]), Stuck>
     ensures { Gives (λ x. (entry x.0, x.1.now)) result (run (pend_form moment) bytes.now) }
 {
     let (ask, rest) = read_u8(bytes, 0, 2)?;
@@ -203,7 +203,7 @@ pub(crate) fn pend(moment: Moment, bytes: &[u8]) -> Result<(Record<'_>, &[u8]), 
 }
 
 #[tactic(auto, unfolding(crate::specs::Forms::done_form), using(mc_fields::proofs::FormLaws::behind))]
-pub(crate) fn done(moment: Moment, bytes: &[u8]) -> Result<(Record<'_>, &[u8]), Stuck>
+pub(crate) fn read_done(moment: Moment, bytes: &[u8]) -> Result<(Record<'_>, &[u8]), Stuck>
     ensures { Gives (λ x. (entry x.0, x.1.now)) result (run (done_form moment) bytes.now) }
 {
     let (number, rest) = read_u64(bytes, 0, u64::MAX)?;
@@ -221,7 +221,7 @@ pub(crate) fn done(moment: Moment, bytes: &[u8]) -> Result<(Record<'_>, &[u8]), 
 }
 
 #[tactic(auto, unfolding(crate::specs::Forms::refused_form))]
-pub(crate) fn refused(moment: Moment, bytes: &[u8]) -> Result<(Record<'_>, &[u8]), Stuck>
+pub(crate) fn read_refused(moment: Moment, bytes: &[u8]) -> Result<(Record<'_>, &[u8]), Stuck>
     ensures { Gives (λ x. (entry x.0, x.1.now)) result (run (refused_form moment) bytes.now) }
 {
     let (number, rest) = read_u64(bytes, 0, u64::MAX)?;

@@ -35,7 +35,7 @@ fn pieces(bytes: &[u8]) -> Result<(PieceList<'_>, &[u8]), Stuck>
 }
 
 #[tactic(auto, unfolding(crate::specs::Forms::stock_form), using(mc_fields::proofs::FormLaws::behind))]
-pub(crate) fn stock(moment: Moment, bytes: &[u8]) -> Result<(Record<'_>, &[u8]), Stuck>
+pub(crate) fn read_stock(moment: Moment, bytes: &[u8]) -> Result<(Record<'_>, &[u8]), Stuck>
     ensures { Gives (λ x. (entry x.0, x.1.now)) result (run (stock_form moment) bytes.now) }
 {
     let (vendor, rest) = name(bytes)?;
@@ -52,7 +52,7 @@ pub(crate) fn stock(moment: Moment, bytes: &[u8]) -> Result<(Record<'_>, &[u8]),
 }
 
 #[tactic(auto, unfolding(crate::specs::Forms::got_pieces_form), using(mc_fields::proofs::FormLaws::behind))]
-pub(crate) fn got_pieces(moment: Moment, bytes: &[u8]) -> Result<(Record<'_>, &[u8]), Stuck>
+pub(crate) fn read_got_pieces(moment: Moment, bytes: &[u8]) -> Result<(Record<'_>, &[u8]), Stuck>
     ensures { Gives (λ x. (entry x.0, x.1.now)) result (run (got_pieces_form moment) bytes.now) }
 {
     match pieces(bytes) {

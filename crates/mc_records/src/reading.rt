@@ -9,10 +9,10 @@ ghost use Rattle.mc_records.specs.Forms.{kind_form, entry_form, entry_of};
 ghost use Rattle.mc_records.specs.Views.{entry, GivesEntry};
 
 use crate::kinds::{
-    accept, account, add_terms, deposit, done, draw, goods, licence, mint, pend, refused, site,
-    withdraw,
+    read_accept, read_account, read_add_terms, read_deposit, read_done, read_draw, read_goods,
+    read_licence, read_mint, read_pend, read_refused, read_site, read_withdraw,
 };
-use crate::piece_lists::{got_pieces, stock};
+use crate::piece_lists::{read_got_pieces, read_stock};
 use crate::record::{Record, RecordFault};
 use mc_base::Moment;
 use mc_fields::{Stuck, read_u8, read_u64};
@@ -67,20 +67,20 @@ fn of_kind(kind: u8, moment: Moment, bytes: &[u8]) -> Result<(Record<'_>, &[u8])
     ensures { Gives (λ x. (entry x.0, x.1.now)) result (run (kind_form kind moment) bytes.now) }
 {
     match kind {
-        1 => site(moment, bytes),
-        2 => add_terms(moment, bytes),
-        3 => goods(moment, bytes),
-        4 => accept(moment, bytes),
-        5 => mint(moment, bytes),
-        6 => account(moment, bytes),
-        7 => deposit(moment, bytes),
-        8 => withdraw(moment, bytes),
-        9 => draw(moment, bytes),
-        10 => licence(moment, bytes),
-        11 => stock(moment, bytes),
-        12 => got_pieces(moment, bytes),
-        13 => pend(moment, bytes),
-        14 => done(moment, bytes),
-        _ => refused(moment, bytes),
+        1 => read_site(moment, bytes),
+        2 => read_add_terms(moment, bytes),
+        3 => read_goods(moment, bytes),
+        4 => read_accept(moment, bytes),
+        5 => read_mint(moment, bytes),
+        6 => read_account(moment, bytes),
+        7 => read_deposit(moment, bytes),
+        8 => read_withdraw(moment, bytes),
+        9 => read_draw(moment, bytes),
+        10 => read_licence(moment, bytes),
+        11 => read_stock(moment, bytes),
+        12 => read_got_pieces(moment, bytes),
+        13 => read_pend(moment, bytes),
+        14 => read_done(moment, bytes),
+        _ => read_refused(moment, bytes),
     }
 }

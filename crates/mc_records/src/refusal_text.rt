@@ -1,7 +1,7 @@
 ghost use Rattle.std.specs.Prelude.{◌≡◌, ◌+◌, ◌≤◌, ◌++◌, [], ◌∷◌, length, take, decimal};
 ghost use Rattle.scrip_form.specs.Scrip.{id_digits};
 ghost use Rattle.mc_records.specs.Refusals.{spaced, kept_of, refusal_text};
-ghost use Rattle.mc_records.specs.Kept.{kept_texts};
+ghost use Rattle.mc_records.specs.RefusalArgs.{arg_texts};
 
 use crate::refusal::Refusal;
 use itoa::Buffer;
@@ -22,11 +22,11 @@ pub fn put_refusal_text(out: &mut [u8], at: usize, r: &Refusal) -> usize
 {
     let at = put_number(out, at, u64::from(r.number()));
     let at = put_word(out, at, r.name());
-    put_kept(out, at, what_is_kept(r))
+    put_args(out, at, args_of(r))
 }
 
 /// What a refusal keeps.
-enum Kept {
+enum RefusalArgs {
     Nothing,
     Number(u64),
     Pair(u64, u64),
@@ -35,8 +35,8 @@ enum Kept {
     Named(Name),
 }
 
-fn what_is_kept(r: &Refusal) -> Kept
-    ensures { kept_texts result ≡ kept_of r.now }
+fn args_of(r: &Refusal) -> RefusalArgs
+    ensures { arg_texts result ≡ kept_of r.now }
 {
     match *r {
         Refusal::BadScrip(n)
@@ -56,37 +56,37 @@ fn what_is_kept(r: &Refusal) -> Kept
         | Refusal::SiteRefused(n)
         | Refusal::VersionSet(n)
         | Refusal::TooEarly(n)
-        | Refusal::OverBudget(n) => Kept::Number(n),
+        | Refusal::OverBudget(n) => RefusalArgs::Number(n),
         Refusal::ExpiryMismatch(m, n)
         | Refusal::Expired(m, n)
         | Refusal::JournalFull(m, n)
-        | Refusal::SeriesOpen(m, n) => Kept::Pair(m, n),
-        Refusal::PaidTwice(n) | Refusal::OverSold(n) => Kept::Sum(n),
-        Refusal::StockTwice(id) | Refusal::TwiceHeld(id) => Kept::Identity(id),
-        Refusal::RefUsed(name) | Refusal::MissingBook(name) => Kept::Named(name),
-        _ => Kept::Nothing,
+        | Refusal::SeriesOpen(m, n) => RefusalArgs::Pair(m, n),
+        Refusal::PaidTwice(n) | Refusal::OverSold(n) => RefusalArgs::Sum(n),
+        Refusal::StockTwice(id) | Refusal::TwiceHeld(id) => RefusalArgs::Identity(id),
+        Refusal::RefUsed(name) | Refusal::MissingBook(name) => RefusalArgs::Named(name),
+        _ => RefusalArgs::Nothing,
     }
 }
 
-fn put_kept(out: &mut [u8], at: usize, kept: Kept) -> usize
+fn put_args(out: &mut [u8], at: usize, kept: RefusalArgs) -> usize
     requires { at + 90 ≤ length out.old }
     ensures short { result ≤ at + 90 }
-    ensures put { take result out.new ≡ take at out.old ++ spaced (kept_texts kept) }
+    ensures put { take result out.new ≡ take at out.old ++ spaced (arg_texts kept) }
 {
     match kept {
-        Kept::Nothing => at,
-        Kept::Number(n) => put_number_word(out, at, n),
-        Kept::Pair(m, n) => {
+        RefusalArgs::Nothing => at,
+        RefusalArgs::Number(n) => put_number_word(out, at, n),
+        RefusalArgs::Pair(m, n) => {
             let at = put_number_word(out, at, m);
             put_number_word(out, at, n)
         }
-        Kept::Sum(n) => put_word(out, at, Buffer::new().format(n).as_bytes()),
-        Kept::Identity(id) => {
+        RefusalArgs::Sum(n) => put_word(out, at, Buffer::new().format(n).as_bytes()),
+        RefusalArgs::Identity(id) => {
             let mut digits = [0; 16];
             hex::encode_to_slice(id.number().to_be_bytes(), &mut digits).unwrap();
             put_word(out, at, &digits)
         }
-        Kept::Named(name) => put_word(out, at, name.bytes()),
+        RefusalArgs::Named(name) => put_word(out, at, name.bytes()),
     }
 }
 

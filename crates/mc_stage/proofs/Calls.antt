@@ -7,17 +7,17 @@ use Rattle.mc_outside.specs.Bytes.{put, Told}
 use Rattle.mc_outside.specs.DiskView.{CallPairs, Follows, LeavesNoMore, IsSynced, Torn, CutShort}
 use Rattle.mc_outside.specs.LinkView.{all_sent}
 use Rattle.mc_stage.specs.Lists.{torn_none, cut_none}
-use Rattle.mc_stage.specs.Model.{Entry, Put, Cut, Sync, Model, start, step, run, run-append, Tale, model, disk_of, IsDiskEntry, DiskMoved}
+use Rattle.mc_stage.specs.Model.{Entry, Put, Cut, Sync, Model, start, step, run, run-append, Trace, model, disk_of, IsDiskEntry, DiskMoved}
 use Rattle.mc_stage.specs.Tape.{Played, push_call}
-use Rattle.mc_stage.specs.Tale.{is_disk, disk_goes, images}
+use Rattle.mc_stage.specs.Trace.{is_disk, disk_goes, images}
 
-abbrev pub here : Tale → Played
+abbrev pub here : Trace → Played
 here t = record { first = t.base; calls = t.log }
 
-abbrev pub then : Tale → Played → ℕ → Tale
+abbrev pub then : Trace → Played → ℕ → Trace
 then t p n = record t { base = p.first; log = p.calls; faults = n }
 
-module _ (t : Tale) (p : Played) (n : ℕ) (same : p ≡ here t) where
+module _ (t : Trace) (p : Played) (n : ℕ) (same : p ≡ here t) where
   pub failed_moved : t.faults ≤ n → DiskMoved t (then t p n)
   failed_moved le = subst (λ (q : Played). DiskMoved t (then t q n)) (sym same) (record { base = refl; more = []; log = sym (append-nil t.log); kind = tt; faults = le; said = refl; readings = refl; link_faults = refl; stands = refl; over = refl })
 
@@ -34,8 +34,8 @@ module _ (t : Tale) (p : Played) (n : ℕ) (same : p ≡ here t) where
   failed_cut_told k = subst (λ (q : Played). Told (CutShort k) (disk_of t).contents (disk_of (then t q n)).contents) (sym same) (λ x e. (x, e, cut_none k x))
 
 -- one call was recorded
-module _ (t : Tale) (e : Entry) (kind : IsDiskEntry e) where
-  abbrev next : Tale
+module _ (t : Trace) (e : Entry) (kind : IsDiskEntry e) where
+  abbrev next : Trace
   next = then t (push_call e (here t)) t.faults
 
   one_moved : DiskMoved t next
@@ -56,7 +56,7 @@ module _ (t : Tale) (e : Entry) (kind : IsDiskEntry e) where
             (p.4 ∙ ap (λ (l : List Entry). all_sent (run l (start t.base)).sessions) some, inl (subst (λ (l : List Entry). (run l (start t.base)).leaves c) some p.3))
       ]
 
-module _ (t : Tale) (p : Played) (e : Entry) (kind : IsDiskEntry e) (more : p ≡ push_call e (here t)) where
+module _ (t : Trace) (p : Played) (e : Entry) (kind : IsDiskEntry e) (more : p ≡ push_call e (here t)) where
   pub done_moved : DiskMoved t (then t p t.faults)
   done_moved = subst (λ (q : Played). DiskMoved t (then t q t.faults)) (sym more) (one_moved t e kind)
 
@@ -69,30 +69,30 @@ module _ (t : Tale) (p : Played) (e : Entry) (kind : IsDiskEntry e) (more : p �
   pub done_leaves : (c : List ℕ) → (model (then t p t.faults)).leaves c → (step e (model t)).leaves c
   done_leaves = subst (λ (q : Played). (c : List ℕ) → (model (then t q t.faults)).leaves c → (step e (model t)).leaves c) (sym more) (λ c l. subst (λ (m : Model). m.leaves c) (whole t e kind) l)
 
-pub put_written : (t : Tale) (p : Played) (place : ℕ) (bytes : List ℕ) → p ≡ push_call (Put place bytes) (here t) → (disk_of (then t p t.faults)).contents ≡ option_map (put place bytes) (disk_of t).contents
+pub put_written : (t : Trace) (p : Played) (place : ℕ) (bytes : List ℕ) → p ≡ push_call (Put place bytes) (here t) → (disk_of (then t p t.faults)).contents ≡ option_map (put place bytes) (disk_of t).contents
 put_written t p place bytes more = ap (λ (l : List ℕ). Some l) (done_contents t p (Put place bytes) tt more)
 
-pub put_crash : (t : Tale) (p : Played) (place : ℕ) (bytes : List ℕ) → p ≡ push_call (Put place bytes) (here t) → Follows (Torn place (length bytes)) (disk_of t) (disk_of (then t p t.faults))
+pub put_crash : (t : Trace) (p : Played) (place : ℕ) (bytes : List ℕ) → p ≡ push_call (Put place bytes) (here t) → Follows (Torn place (length bytes)) (disk_of t) (disk_of (then t p t.faults))
 put_crash t p place bytes more c l = done_leaves t p (Put place bytes) tt more c l
 
-pub cut_cut : (t : Tale) (p : Played) (size : ℕ) → p ≡ push_call (Cut size) (here t) → (disk_of (then t p t.faults)).contents ≡ option_map (take size) (disk_of t).contents
+pub cut_cut : (t : Trace) (p : Played) (size : ℕ) → p ≡ push_call (Cut size) (here t) → (disk_of (then t p t.faults)).contents ≡ option_map (take size) (disk_of t).contents
 cut_cut t p size more = ap (λ (l : List ℕ). Some l) (done_contents t p (Cut size) tt more)
 
-pub cut_crash : (t : Tale) (p : Played) (size : ℕ) → p ≡ push_call (Cut size) (here t) → Follows (CutShort size) (disk_of t) (disk_of (then t p t.faults))
+pub cut_crash : (t : Trace) (p : Played) (size : ℕ) → p ≡ push_call (Cut size) (here t) → Follows (CutShort size) (disk_of t) (disk_of (then t p t.faults))
 cut_crash t p size more c l = done_leaves t p (Cut size) tt more c l
 
-pub sync_same : (t : Tale) (p : Played) → p ≡ push_call Sync (here t) → (disk_of (then t p t.faults)).contents ≡ (disk_of t).contents
+pub sync_same : (t : Trace) (p : Played) → p ≡ push_call Sync (here t) → (disk_of (then t p t.faults)).contents ≡ (disk_of t).contents
 sync_same t p more = ap (λ (l : List ℕ). Some l) (done_contents t p Sync tt more)
 
-pub sync_crash : (t : Tale) (p : Played) → p ≡ push_call Sync (here t) → LeavesNoMore (disk_of t) (disk_of (then t p t.faults))
+pub sync_crash : (t : Trace) (p : Played) → p ≡ push_call Sync (here t) → LeavesNoMore (disk_of t) (disk_of (then t p t.faults))
 sync_crash t p more c l = subst (λ (x : List ℕ). (model t).leaves x) (sym (done_leaves t p Sync tt more c l)) ((is_disk t).possible (model t).contents refl)
 
-pub sync_synced : (t : Tale) (p : Played) → p ≡ push_call Sync (here t) → IsSynced (disk_of (then t p t.faults))
+pub sync_synced : (t : Trace) (p : Played) → p ≡ push_call Sync (here t) → IsSynced (disk_of (then t p t.faults))
 sync_synced t p more x told c l = done_leaves t p Sync tt more c l ∙ (let e : Some (model t).contents ≡ Some x = sym (sync_same t p more) ∙ told in cc e)
 
 -- an image of the disk
-pub present_image : (t : Tale) (v : List ℕ) → v ≡ (model t).contents → (model t).leaves v
+pub present_image : (t : Trace) (v : List ℕ) → v ≡ (model t).contents → (model t).leaves v
 present_image t v e = subst (model t).leaves (sym e) (images t.log (start t.base) (refl, refl)).0
 
-pub synced_image : (t : Tale) (v : List ℕ) → v ≡ (model t).synced → (model t).leaves v
+pub synced_image : (t : Trace) (v : List ℕ) → v ≡ (model t).synced → (model t).leaves v
 synced_image t v e = subst (model t).leaves (sym e) (images t.log (start t.base) (refl, refl)).1

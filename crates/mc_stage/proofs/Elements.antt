@@ -4,7 +4,7 @@ use Rattle.std.specs.Prelude.{slice_get}
 use Rattle.std.proofs.lemmas.List.{take-append-le, take_all}
 use Rattle.std.proofs.lemmas.Bool.{cases_lt}
 use Rattle.mc_stage.specs.Lists.{at_last}
-use Rattle.mc_stage.specs.Script.{cut_first, pieces_from, without_empty, pieces_after, IsAtPiece}
+use Rattle.mc_stage.specs.Scenario.{cut_first, pieces_from, without_empty, pieces_after, IsAtPiece}
 
 -- the last element was changed
 pub last_changed : {V W : Type 0} (f : V → W) (h : W → W) (xs : List V) (i : ℕ) (v w : V) → length xs ≡ i + 1 → v ≡ slice_index_or xs i v → f w ≡ h (f v) → map f (slice_set xs i w) ≡ at_last h (map f xs)

@@ -6,9 +6,9 @@ use Rattle.std.proofs.Math.Seq.{take-suc}
 use Rattle.mc_outside.specs.Bytes.{put}
 use Rattle.mc_outside.specs.DiskView.{Torn, CutShort}
 use Rattle.mc_stage.specs.Lists.{unsynced, torn_any, cut_done}
-use Rattle.mc_stage.specs.Model.{Entry, Put, Cut, Sync, Take, Hear, End, Send, Model, start, step, run, Tale, model}
+use Rattle.mc_stage.specs.Model.{Entry, Put, Cut, Sync, Take, Hear, End, Send, Model, start, step, run, Trace, model}
 use Rattle.mc_stage.specs.Image.{fill, image_from, chosen}
-use Rattle.mc_stage.specs.Tale.{images}
+use Rattle.mc_stage.specs.Trace.{images}
 
 image-length : (n p : ℕ) (xs : List ℕ) (ms : List Bool) → length (image_from n p xs ms) ≡ length xs
 image-length n p [] ms = refl
@@ -129,7 +129,7 @@ either false true P x y z p q r = q
 either false false P x y z p q r = r
 
 -- each choice is an image
-pub chosen_image : (n : ℕ) (t : Tale) (v : List ℕ) → v ≡ chosen n (model t) → (model t).leaves v
+pub chosen_image : (n : ℕ) (t : Trace) (v : List ℕ) → v ≡ chosen n (model t) → (model t).leaves v
 chosen_image n t v e =
     let both = images t.log (start t.base) (refl, refl) in
     subst (model t).leaves (sym e)

@@ -2,17 +2,17 @@
 use Rattle.std.proofs.Common.{◌≡◌, ℕ, ◌≤◌, List, [], ◌∷◌, ◌++◌, refl, sym, ◌∙◌, ap, subst, arith, Some, Bool, true, false, ◌&&◌}
 use Rattle.std.specs.Prelude.{IsTrue}
 use Rattle.std.proofs.lemmas.List.{append-nil}
-use Rattle.mc_outside.specs.LinkView.{Session, on_last, hear, send, ended, fresh, told, heard, finished, next_taken}
-use Rattle.mc_stage.specs.Model.{Entry, Take, Hear, End, Send, Model, start, step, run-append, Tale, model, is_taken, last_to_end, link_of, IsLinkEntry, LinkMoved}
+use Rattle.mc_outside.specs.LinkView.{Session, on_last, hear, send, ended, fresh, after_send, after_recv, after_eof, next_taken}
+use Rattle.mc_stage.specs.Model.{Entry, Take, Hear, End, Send, Model, start, step, run-append, Trace, model, is_taken, last_to_end, link_of, IsLinkEntry, LinkMoved}
 use Rattle.mc_stage.specs.Tape.{Played, push_call}
 use Rattle.mc_stage.proofs.Calls.{here}
 use Rattle.mc_stage.proofs.Plays.{take_end, hear_end, send_end}
 
 -- one call of Link, which may set the three flags and the count
-abbrev pub linked : Tale → Played → Bool → Tale
+abbrev pub linked : Trace → Played → Bool → Trace
 linked t p stands = record t { base = p.first; log = p.calls; stands = stands }
 
-module _ (t : Tale) (p : Played) (e : Entry) (kind : IsLinkEntry e) (more : p ≡ push_call e (here t)) (stands : Bool) where
+module _ (t : Trace) (p : Played) (e : Entry) (kind : IsLinkEntry e) (more : p ≡ push_call e (here t)) (stands : Bool) where
   pub linked_moved : LinkMoved t (linked t p stands)
   linked_moved = subst (λ (q : Played). LinkMoved t (linked t q stands)) (sym more)
       (record { base = refl; more = e ∷ []; log = refl; kind = (kind, tt); faults = refl; link_faults = omega arith; over = λ o. o; readings = λ o. o })
@@ -37,33 +37,33 @@ ended_last b (s ∷ []) i = refl
 ended_last b (s ∷ u ∷ []) i = refl
 ended_last b (s ∷ u ∷ v ∷ ss) i = ended_last b (u ∷ v ∷ ss) i
 
-pub sent_view : (t : Tale) (p : Played) (bytes out : List ℕ) → p ≡ push_call (Send bytes) (here t) → out ≡ bytes
-    → link_of (linked t p t.stands) ≡ told out (link_of t)
+pub sent_view : (t : Trace) (p : Played) (bytes out : List ℕ) → p ≡ push_call (Send bytes) (here t) → out ≡ bytes
+    → link_of (linked t p t.stands) ≡ after_send out (link_of t)
 sent_view t p bytes out more is =
     linked_view t p (Send bytes) tt more t.stands
     ∙ (λ i. record (link_of t) { sessions = Some (on_last (send bytes) (model t).sessions); stands = t.stands && taken_last (send bytes) (model t).sessions i; at_end = send_end bytes (model t).sessions i })
-    ∙ ap (λ (l : List ℕ). told l (link_of t)) (sym is)
+    ∙ ap (λ (l : List ℕ). after_send l (link_of t)) (sym is)
 
-pub heard_view : (t : Tale) (p : Played) (bytes out : List ℕ) → p ≡ push_call (Hear bytes) (here t) → out ≡ bytes
-    → link_of (linked t p t.stands) ≡ heard out (link_of t)
+pub heard_view : (t : Trace) (p : Played) (bytes out : List ℕ) → p ≡ push_call (Hear bytes) (here t) → out ≡ bytes
+    → link_of (linked t p t.stands) ≡ after_recv out (link_of t)
 heard_view t p bytes out more is =
     linked_view t p (Hear bytes) tt more t.stands
     ∙ (λ i. record (link_of t) { sessions = Some (on_last (hear bytes) (model t).sessions); stands = t.stands && taken_last (hear bytes) (model t).sessions i; at_end = hear_end bytes (model t).sessions i })
-    ∙ ap (λ (l : List ℕ). heard l (link_of t)) (sym is)
+    ∙ ap (λ (l : List ℕ). after_recv l (link_of t)) (sym is)
 
-pub end_view : (t : Tale) (p : Played) → p ≡ push_call End (here t) → IsTrue (link_of t).stands
-    → link_of (linked t p t.stands) ≡ finished (link_of t)
+pub end_view : (t : Trace) (p : Played) → p ≡ push_call End (here t) → IsTrue (link_of t).stands
+    → link_of (linked t p t.stands) ≡ after_eof (link_of t)
 end_view t p more stands =
     linked_view t p End tt more t.stands
     ∙ (λ i. record (link_of t) { sessions = Some (on_last ended (model t).sessions); stands = t.stands && taken_last ended (model t).sessions i; at_end = ended_last t.stands (model t).sessions stands i })
 
-pub take_view : (t : Tale) (p : Played) → p ≡ push_call Take (here t)
+pub take_view : (t : Trace) (p : Played) → p ≡ push_call Take (here t)
     → link_of (linked t p true) ≡ next_taken (link_of t)
 take_view t p more =
     linked_view t p Take tt more true
     ∙ (λ i. record (link_of t) { sessions = Some ((model t).sessions ++ fresh ∷ []); stands = true && taken_more (model t).sessions i; at_end = take_end (model t).sessions i })
 
 -- a call that failed
-pub link_failed : (t : Tale) (p : Played) (n : ℕ) → p ≡ here t → t.link_faults ≤ n → LinkMoved t (record t { base = p.first; log = p.calls; link_faults = n })
+pub link_failed : (t : Trace) (p : Played) (n : ℕ) → p ≡ here t → t.link_faults ≤ n → LinkMoved t (record t { base = p.first; log = p.calls; link_faults = n })
 link_failed t p n same le = subst (λ (q : Played). LinkMoved t (record t { base = q.first; log = q.calls; link_faults = n })) (sym same)
     (record { base = refl; more = []; log = sym (append-nil t.log); kind = tt; faults = refl; link_faults = le; over = λ o. o; readings = λ o. o })

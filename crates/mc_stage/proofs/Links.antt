@@ -4,7 +4,7 @@ use Rattle.std.specs.Prelude.{reverse, option_map, slice_get}
 use Rattle.std.proofs.lemmas.List.{reverse-append}
 use Rattle.mc_outside.specs.LinkView.{Session}
 use Rattle.mc_stage.specs.Model.{is_taken}
-use Rattle.mc_stage.specs.Script.{links_of}
+use Rattle.mc_stage.specs.Scenario.{links_of}
 
 -- the one kept last is the next
 pub links_last : (ls : List (Vec (Vec ℕ Global) Global)) (l : Vec (Vec ℕ Global) Global) → links_of (ls ++ l ∷ []) ≡ map (λ (v : Vec ℕ Global). v.items) l.items ∷ links_of ls

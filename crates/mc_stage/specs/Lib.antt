@@ -1,7 +1,7 @@
 pub mod Lists
 pub mod Model
 pub mod Image
-pub mod Tale
-pub mod Script
+pub mod Trace
+pub mod Scenario
 pub mod Tape
 pub mod Stage

@@ -52,7 +52,7 @@ last_to_end (s ∷ []) = s.to_end
 last_to_end (s ∷ t ∷ ss) = last_to_end (t ∷ ss)
 
 -- what a stage holds
-pub record Tale : Type 0 where
+pub record Trace : Type 0 where
   pub base : List ℕ
   pub log : List Entry
   pub faults : ℕ
@@ -62,13 +62,13 @@ pub record Tale : Type 0 where
   pub stands : Bool
   pub over : Bool
 
-abbrev pub model_at : ℕ → Tale → Model
+abbrev pub model_at : ℕ → Trace → Model
 model_at k t = run (take k t.log) (start t.base)
 
-abbrev pub model : Tale → Model
+abbrev pub model : Trace → Model
 model t = run t.log (start t.base)
 
-abbrev pub disk_of : Tale → DiskView
+abbrev pub disk_of : Trace → DiskView
 disk_of t = record {
   contents = Some (model t).contents;
   moment = length t.log;
@@ -82,7 +82,7 @@ abbrev pub is_taken : List Session → Bool
 is_taken [] = false
 is_taken (s ∷ ss) = true
 
-abbrev pub link_of : Tale → LinkView
+abbrev pub link_of : Trace → LinkView
 link_of t = record {
   sessions = Some (model t).sessions;
   said = Some t.said;
@@ -112,7 +112,7 @@ Each P [] = Unit {0}
 Each P (e ∷ es) = P e × Each P es
 
 -- Disk alone worked
-pub record DiskMoved (a b : Tale) : Type 0 where
+pub record DiskMoved (a b : Trace) : Type 0 where
   pub base : b.base ≡ a.base
   pub more : List Entry
   pub log : b.log ≡ a.log ++ more
@@ -125,7 +125,7 @@ pub record DiskMoved (a b : Tale) : Type 0 where
   pub over : b.over ≡ a.over
 
 -- Link alone worked
-pub record LinkMoved (a b : Tale) : Type 0 where
+pub record LinkMoved (a b : Trace) : Type 0 where
   pub base : b.base ≡ a.base
   pub more : List Entry
   pub log : b.log ≡ a.log ++ more
@@ -136,12 +136,12 @@ pub record LinkMoved (a b : Tale) : Type 0 where
   pub readings : IsSome b.readings → IsSome a.readings
 
 -- nothing but the count of faults changed
-abbrev pub DiskFailed : Tale → Tale → Type 0
+abbrev pub DiskFailed : Trace → Trace → Type 0
 DiskFailed a b = b ≡ record a { faults = b.faults }
 
-abbrev pub LinkFailed : Tale → Tale → Type 0
+abbrev pub LinkFailed : Trace → Trace → Type 0
 LinkFailed a b = b ≡ record a { link_faults = b.link_faults }
 
 -- these contents, synced, and no call made
-abbrev pub untouched : List ℕ → Tale
+abbrev pub untouched : List ℕ → Trace
 untouched contents = record { base = contents; log = []; faults = 0; said = []; readings = Some []; link_faults = 0; stands = false; over = false }

@@ -3,17 +3,17 @@ use Rattle.std.specs.Prelude.{◌≡◌, ℕ, List, Bool, true, false, Option, S
 use Rattle.std.proofs.Common.{ap}
 use Rattle.mc_outside.specs.DiskView.{DiskView}
 use Rattle.mc_outside.specs.LinkView.{LinkView, Session, all_sent}
-use Rattle.mc_stage.specs.Model.{Tale, disk_of, link_of}
-use Rattle.mc_stage.specs.Tale.{same_some}
-use Rattle.mc_stage.specs.Script.{Script, links_of}
+use Rattle.mc_stage.specs.Model.{Trace, disk_of, link_of}
+use Rattle.mc_stage.specs.Trace.{same_some}
+use Rattle.mc_stage.specs.Scenario.{Scenario, links_of}
 use Rattle.mc_stage.specs.declared.stage.Stage.{Stage}
 
 abbrev pub told : Bool → List ℕ → Option (List ℕ)
 told true xs = None
 told false xs = Some xs
 
-abbrev pub tale_of : Stage → Tale
-tale_of s = record {
+abbrev pub trace_of : Stage → Trace
+trace_of s = record {
   base = s.tape.first;
   log = s.tape.calls;
   faults = s.faults;
@@ -24,14 +24,14 @@ tale_of s = record {
   over = s.over;
 }
 
-pub sent_is : (t : Tale) (ss : List Session) → (link_of t).sessions ≡ Some ss → (disk_of t).aside ≡ all_sent ss
+pub sent_is : (t : Trace) (ss : List Session) → (link_of t).sessions ≡ Some ss → (disk_of t).aside ≡ all_sent ss
 sent_is t ss e = ap all_sent (same_some _ _ e)
 
-abbrev pub script_of : Stage → Script
-script_of s = record { disk = s.disk_plan; link = s.link_plan; links = links_of s.links.items; pieces = s.pieces; readings = s.clock; starved = s.starved }
+abbrev pub scenario_of : Stage → Scenario
+scenario_of s = record { disk = s.disk_plan; link = s.link_plan; links = links_of s.links.items; pieces = s.pieces; readings = s.clock; starved = s.starved }
 
 abbrev pub disk_view : Stage → DiskView
-disk_view s = disk_of (tale_of s)
+disk_view s = disk_of (trace_of s)
 
 abbrev pub link_view : Stage → LinkView
-link_view s = link_of (tale_of s)
+link_view s = link_of (trace_of s)

@@ -1,5 +1,5 @@
 ghost use Rattle.std.specs.Prelude.{◌≡◌, ◌-◌, ◌^◌, min, map, IfOk};
-ghost use Rattle.mc_stage.specs.Script.{first_reading, next_readings};
+ghost use Rattle.mc_stage.specs.Scenario.{first_reading, next_readings};
 
 use mc_base::{Moment, NoMemory};
 use std::alloc::Global;
@@ -14,7 +14,7 @@ pub(crate) struct Clock {
 
 impl Model for Clock {
     ghost use Rattle.std.specs.Prelude.{◌-◌, ◌≤◌, length, drop};
-    ghost use Rattle.mc_stage.specs.Script.{Readings};
+    ghost use Rattle.mc_stage.specs.Scenario.{Readings};
 
     ghost Value = { Readings };
 

@@ -1,5 +1,5 @@
 ghost use Rattle.std.specs.Prelude.{◌≡◌, ◌≤◌, ◌-◌, ◌++◌, [], length, take, drop, min, map};
-ghost use Rattle.mc_stage.specs.Script.{first_piece, pieces_from, pieces_after, without_empty};
+ghost use Rattle.mc_stage.specs.Scenario.{first_piece, pieces_from, pieces_after, without_empty};
 
 use std::alloc::Global;
 use std::marker::Model;
@@ -15,7 +15,7 @@ pub(crate) struct Pieces {
 
 impl Model for Pieces {
     ghost use Rattle.std.specs.Prelude.{List, ℕ, map};
-    ghost use Rattle.mc_stage.specs.Script.{pieces_from, IsAtPiece};
+    ghost use Rattle.mc_stage.specs.Scenario.{pieces_from, IsAtPiece};
 
     ghost Value = { List (List ℕ) };
 

@@ -12,7 +12,7 @@ pub(crate) struct Plan {
 }
 
 impl Model for Plan {
-    ghost use Rattle.mc_stage.specs.Script.{Numbered};
+    ghost use Rattle.mc_stage.specs.Scenario.{Numbered};
 
     ghost Value = { Numbered };
 

@@ -1,5 +1,5 @@
 ghost use Rattle.std.specs.Prelude.{◌≡◌, ◌+◌, ◌-◌, ◌≤◌, ◌^◌, ◌*◌, ◌%◌, min, length, take, drop, IfOk, if◌then◌else◌};
-ghost use Rattle.mc_stage.specs.Script.{without_empty, first_link, links_of};
+ghost use Rattle.mc_stage.specs.Scenario.{without_empty, first_link, links_of};
 ghost use Rattle.mc_stage.specs.Image.{image_from, fill};
 
 use crate::clock::Clock;
@@ -95,8 +95,8 @@ fn filled(alloc: Global, choice: u64, bytes: &[u8], marks: &[bool]) -> Result<Ve
 
 impl Stage {
     ghost use Rattle.std.specs.Prelude.{[], None, Some, false, true, slice_get, option_map, map, reverse};
-    ghost use Rattle.mc_stage.specs.Stage.{tale_of, script_of};
-    ghost use Rattle.mc_stage.specs.Model.{Tale, model, untouched, link_of};
+    ghost use Rattle.mc_stage.specs.Stage.{trace_of, scenario_of};
+    ghost use Rattle.mc_stage.specs.Model.{Trace, model, untouched, link_of};
     ghost use Rattle.mc_stage.specs.Image.{chosen};
 
     /// A stage with these contents, which count as synced. Each link is a list of pieces; one
@@ -110,9 +110,9 @@ impl Stage {
         readings: Vec<u64>,
         failing: Failing,
     ) -> Result<Stage, NoMemory>
-        ensures tale { IfOk result (λ s. tale_of s ≡ untouched contents.items) }
+        ensures trace { IfOk result (λ s. trace_of s ≡ untouched contents.items) }
         // Nothing was called yet: the links and readings are all to come, in their order.
-        ensures script { IfOk result (λ s. script_of s ≡ record {
+        ensures scenario { IfOk result (λ s. scenario_of s ≡ record {
           disk = record { listed = failing.disk; calls = 0 };
           link = record { listed = failing.link; calls = 0 };
           links = map (λ l. map (λ v. v.items) l.items) links.items;
@@ -134,8 +134,8 @@ impl Stage {
         disk: List<u32>,
         link: List<u32>,
     ) -> Result<Stage, NoMemory>
-        ensures tale { IfOk result (λ s. tale_of s ≡ untouched contents.items) }
-        ensures script { IfOk result (λ s. script_of s ≡ record {
+        ensures trace { IfOk result (λ s. trace_of s ≡ untouched contents.items) }
+        ensures scenario { IfOk result (λ s. scenario_of s ≡ record {
           disk = record { listed = disk; calls = 0 };
           link = record { listed = link; calls = 0 };
           links = map (λ l. map (λ v. v.items) l.items) links.items;
@@ -171,18 +171,18 @@ impl Stage {
     /// of `choice` times its place, plus 1. The new stage has no links, the same readings from the
     /// first on, and no failing calls.
     pub fn crash(self, choice: u64) -> Result<Stage, NoMemory>
-        ensures image { IfOk result (λ s. (model (tale_of s)).contents ≡ chosen choice (model (tale_of self))) }
+        ensures image { IfOk result (λ s. (model (trace_of s)).contents ≡ chosen choice (model (trace_of self))) }
         // It is an image of the disk as it was.
-        ensures possible { IfOk result (λ s. (model (tale_of self)).leaves (model (tale_of s)).contents) }
-        ensures script { IfOk result (λ s. script_of s ≡ record {
+        ensures possible { IfOk result (λ s. (model (trace_of self)).leaves (model (trace_of s)).contents) }
+        ensures scenario { IfOk result (λ s. scenario_of s ≡ record {
           disk = record { listed = []; calls = 0 };
           link = record { listed = []; calls = 0 };
           links = [];
           pieces = [];
-          readings = record (script_of self).readings { left = (script_of self).readings.all };
+          readings = record (scenario_of self).readings { left = (scenario_of self).readings.all };
           starved = 0;
         }) }
-        ensures fresh { IfOk result (λ s. tale_of s ≡ untouched (model (tale_of s)).contents) }
+        ensures fresh { IfOk result (λ s. trace_of s ≡ untouched (model (trace_of s)).contents) }
     {
         let bytes = self.image(choice)?;
         let alloc = self.alloc;
@@ -193,7 +193,7 @@ impl Stage {
     }
 
     fn image(&self, choice: u64) -> Result<Vec<u8>, NoMemory>
-        ensures { IfOk result (λ v. v.items ≡ chosen choice (model (tale_of self.now))) }
+        ensures { IfOk result (λ v. v.items ≡ chosen choice (model (trace_of self.now))) }
     {
         if choice == 0 {
             let bytes = self.tape.bytes().to_vec(self.alloc)?;
@@ -209,21 +209,21 @@ impl Stage {
     /// The bytes sent on one link, numbered from 0; None exactly where fewer links were taken.
     pub fn sent(&self, link: usize) -> Option<&[u8]>
         ensures { option_map (λ b. b.now) result
-            ≡ option_map (λ s. s.sent) (slice_get (model (tale_of self.now)).sessions link) }
+            ≡ option_map (λ s. s.sent) (slice_get (model (trace_of self.now)).sessions link) }
     {
         self.tape.sent(link)
     }
 
     /// The bytes said.
     pub fn said(&self) -> &[u8]
-        ensures { result.now ≡ (tale_of self.now).said }
+        ensures { result.now ≡ (trace_of self.now).said }
     {
         &self.said
     }
 
     /// What a read gives.
     pub fn contents(&self) -> &[u8]
-        ensures { result.now ≡ (model (tale_of self.now)).contents }
+        ensures { result.now ≡ (model (trace_of self.now)).contents }
     {
         self.tape.bytes()
     }
@@ -231,7 +231,7 @@ impl Stage {
     /// Whether a link stands, on which bytes can be received and sent.
     #[tactic(auto, using(crate::proofs::Links::taken_where_sent, crate::proofs::Links::none_where_unsent))]
     pub fn stands(&self) -> bool
-        ensures { result ≡ (link_of (tale_of self.now)).stands }
+        ensures { result ≡ (link_of (trace_of self.now)).stands }
     {
         match self.tape.sent(0) {
             Some(_) => self.stands,
@@ -241,15 +241,15 @@ impl Stage {
 
     /// How many calls of the disk were made that can fail, and how many of links, each up to 2^64 - 1.
     pub fn calls(&self) -> (u64, u64)
-        ensures disk { result.0 ≡ (script_of self.now).disk.calls }
-        ensures link { result.1 ≡ (script_of self.now).link.calls }
+        ensures disk { result.0 ≡ (scenario_of self.now).disk.calls }
+        ensures link { result.1 ≡ (scenario_of self.now).link.calls }
     {
         (self.disk_plan.calls(), self.link_plan.calls())
     }
 
     /// How many calls failed since memory was refused, up to 2^32 - 1.
     pub fn starved(&self) -> u32
-        ensures { result ≡ (script_of self.now).starved }
+        ensures { result ≡ (scenario_of self.now).starved }
     {
         self.starved
     }
@@ -259,35 +259,35 @@ impl Disk for Stage {
     ghost use Rattle.std.specs.Prelude.{◌↔◌, ◌⊎◌, ◌++◌, List, ℕ, IfOk, OnOk, OnErr, option_map};
     ghost use Rattle.mc_outside.specs.Bytes.{put, Told, HasCause};
     ghost use Rattle.mc_outside.specs.DiskView.{CallPairs, Follows, LeavesNoMore, IsSynced, Torn, CutShort};
-    ghost use Rattle.mc_stage.specs.Stage.{script_of, disk_view};
-    ghost use Rattle.mc_stage.specs.Script.{DiskPlanned, OnlyDiskCalled};
-    ghost use Rattle.mc_stage.specs.Stage.{tale_of};
+    ghost use Rattle.mc_stage.specs.Stage.{scenario_of, disk_view};
+    ghost use Rattle.mc_stage.specs.Scenario.{DiskPlanned, OnlyDiskCalled};
+    ghost use Rattle.mc_stage.specs.Stage.{trace_of};
     ghost use Rattle.mc_stage.specs.Model.{disk_of, DiskMoved, DiskFailed};
-    ghost use Rattle.mc_stage.specs.Tale.{is_disk, disk_none, disk_then, disk_goes};
+    ghost use Rattle.mc_stage.specs.Trace.{is_disk, disk_none, disk_then, disk_goes};
 
-    ghost disk = { λ s. disk_of (tale_of s) };
+    ghost disk = { λ s. disk_of (trace_of s) };
 
-    ghost disk_moved = { λ a b. DiskMoved (tale_of a) (tale_of b) };
+    ghost disk_moved = { λ a b. DiskMoved (trace_of a) (trace_of b) };
 
-    ghost is_disk = { λ a. is_disk (tale_of a) };
+    ghost is_disk = { λ a. is_disk (trace_of a) };
 
-    ghost disk_stays = { λ a. disk_none (tale_of a) };
+    ghost disk_stays = { λ a. disk_none (trace_of a) };
 
-    ghost disk_goes_on = { λ a b c m n. disk_then (tale_of a) (tale_of b) (tale_of c) m n };
+    ghost disk_goes_on = { λ a b c m n. disk_then (trace_of a) (trace_of b) (trace_of c) m n };
 
-    ghost disk_goes = { λ a b m. disk_goes (tale_of a) (tale_of b) m };
+    ghost disk_goes = { λ a b m. disk_goes (trace_of a) (trace_of b) m };
 
     fn size(&mut self) -> Result<u64, DiskFault>
-        ensures moved { DiskMoved (tale_of self.old) (tale_of self.new) }
+        ensures moved { DiskMoved (trace_of self.old) (trace_of self.new) }
         ensures pairs { CallPairs (disk_view self.old) (disk_view self.new) }
         ensures cause { HasCause (disk_view self.old).faults (disk_view self.new).faults result }
         ensures same { (disk_view self.new).contents ≡ (disk_view self.old).contents }
         ensures crash { LeavesNoMore (disk_view self.old) (disk_view self.new) }
         ensures length { IfOk result (λ n. (x : List ℕ) → (disk_view self.old).contents ≡ Some x
             → n ≡ length x) }
-        ensures plan { DiskPlanned (script_of self.old) (script_of self.new) result }
-        ensures script { OnlyDiskCalled (script_of self.old) (script_of self.new) }
-        ensures nothing { OnErr result (DiskFailed (tale_of self.old) (tale_of self.new)) }
+        ensures plan { DiskPlanned (scenario_of self.old) (scenario_of self.new) result }
+        ensures scenario { OnlyDiskCalled (scenario_of self.old) (scenario_of self.new) }
+        ensures nothing { OnErr result (DiskFailed (trace_of self.old) (trace_of self.new)) }
     {
         if self.disk_plan.next() {
             raise(&mut self.faults);
@@ -297,7 +297,7 @@ impl Disk for Stage {
     }
 
     fn read(&mut self, at: u64, buf: &mut [u8]) -> Result<usize, DiskFault>
-        ensures moved { DiskMoved (tale_of self.old) (tale_of self.new) }
+        ensures moved { DiskMoved (trace_of self.old) (trace_of self.new) }
         ensures pairs { CallPairs (disk_view self.old) (disk_view self.new) }
         ensures cause { HasCause (disk_view self.old).faults (disk_view self.new).faults result }
         ensures same { (disk_view self.new).contents ≡ (disk_view self.old).contents }
@@ -307,9 +307,9 @@ impl Disk for Stage {
             → buf.new ≡ take n (drop at x) ++ drop n buf.old) }
         ensures end { IfOk result (λ n. (x : List ℕ) → (disk_view self.old).contents ≡ Some x
             → (n ≡ 0) ↔ ((length buf.old ≡ 0) ⊎ (length x ≤ at))) }
-        ensures plan { DiskPlanned (script_of self.old) (script_of self.new) result }
-        ensures script { OnlyDiskCalled (script_of self.old) (script_of self.new) }
-        ensures nothing { OnErr result (DiskFailed (tale_of self.old) (tale_of self.new)) }
+        ensures plan { DiskPlanned (scenario_of self.old) (scenario_of self.new) result }
+        ensures scenario { OnlyDiskCalled (scenario_of self.old) (scenario_of self.new) }
+        ensures nothing { OnErr result (DiskFailed (trace_of self.old) (trace_of self.new)) }
     {
         if self.disk_plan.next() {
             raise(&mut self.faults);
@@ -320,16 +320,16 @@ impl Disk for Stage {
 
     fn write_at(&mut self, at: u64, bytes: &[u8]) -> Result<(), DiskFault>
         requires { at + length bytes.now ≤ 2 ^ 40 }
-        ensures moved { DiskMoved (tale_of self.old) (tale_of self.new) }
+        ensures moved { DiskMoved (trace_of self.old) (trace_of self.new) }
         ensures pairs { CallPairs (disk_view self.old) (disk_view self.new) }
         ensures cause { HasCause (disk_view self.old).faults (disk_view self.new).faults result }
         ensures written { OnOk result ((disk_view self.new).contents
             ≡ option_map (put at bytes.now) (disk_view self.old).contents) }
         ensures failed { OnErr result (Told (Torn at (length bytes.now)) (disk_view self.old).contents (disk_view self.new).contents) }
         ensures crash { Follows (Torn at (length bytes.now)) (disk_view self.old) (disk_view self.new) }
-        ensures plan { DiskPlanned (script_of self.old) (script_of self.new) result }
-        ensures script { OnlyDiskCalled (script_of self.old) (script_of self.new) }
-        ensures nothing { OnErr result (DiskFailed (tale_of self.old) (tale_of self.new)) }
+        ensures plan { DiskPlanned (scenario_of self.old) (scenario_of self.new) result }
+        ensures scenario { OnlyDiskCalled (scenario_of self.old) (scenario_of self.new) }
+        ensures nothing { OnErr result (DiskFailed (trace_of self.old) (trace_of self.new)) }
     {
         if self.disk_plan.next() {
             raise(&mut self.faults);
@@ -344,16 +344,16 @@ impl Disk for Stage {
     }
 
     fn cut(&mut self, size: u64) -> Result<(), DiskFault>
-        ensures moved { DiskMoved (tale_of self.old) (tale_of self.new) }
+        ensures moved { DiskMoved (trace_of self.old) (trace_of self.new) }
         ensures pairs { CallPairs (disk_view self.old) (disk_view self.new) }
         ensures cause { HasCause (disk_view self.old).faults (disk_view self.new).faults result }
         ensures cut { OnOk result ((disk_view self.new).contents
             ≡ option_map (take size) (disk_view self.old).contents) }
         ensures failed { OnErr result (Told (CutShort size) (disk_view self.old).contents (disk_view self.new).contents) }
         ensures crash { Follows (CutShort size) (disk_view self.old) (disk_view self.new) }
-        ensures plan { DiskPlanned (script_of self.old) (script_of self.new) result }
-        ensures script { OnlyDiskCalled (script_of self.old) (script_of self.new) }
-        ensures nothing { OnErr result (DiskFailed (tale_of self.old) (tale_of self.new)) }
+        ensures plan { DiskPlanned (scenario_of self.old) (scenario_of self.new) result }
+        ensures scenario { OnlyDiskCalled (scenario_of self.old) (scenario_of self.new) }
+        ensures nothing { OnErr result (DiskFailed (trace_of self.old) (trace_of self.new)) }
     {
         if self.disk_plan.next() {
             raise(&mut self.faults);
@@ -368,15 +368,15 @@ impl Disk for Stage {
     }
 
     fn sync(&mut self) -> Result<(), DiskFault>
-        ensures moved { DiskMoved (tale_of self.old) (tale_of self.new) }
+        ensures moved { DiskMoved (trace_of self.old) (trace_of self.new) }
         ensures pairs { CallPairs (disk_view self.old) (disk_view self.new) }
         ensures cause { HasCause (disk_view self.old).faults (disk_view self.new).faults result }
         ensures same { (disk_view self.new).contents ≡ (disk_view self.old).contents }
         ensures crash { LeavesNoMore (disk_view self.old) (disk_view self.new) }
         ensures synced { OnOk result (IsSynced (disk_view self.new)) }
-        ensures plan { DiskPlanned (script_of self.old) (script_of self.new) result }
-        ensures script { OnlyDiskCalled (script_of self.old) (script_of self.new) }
-        ensures nothing { OnErr result (DiskFailed (tale_of self.old) (tale_of self.new)) }
+        ensures plan { DiskPlanned (scenario_of self.old) (scenario_of self.new) result }
+        ensures scenario { OnlyDiskCalled (scenario_of self.old) (scenario_of self.new) }
+        ensures nothing { OnErr result (DiskFailed (trace_of self.old) (trace_of self.new)) }
     {
         if self.disk_plan.next() {
             raise(&mut self.faults);
@@ -394,46 +394,46 @@ impl Disk for Stage {
 impl Link for Stage {
     ghost use Rattle.std.specs.Prelude.{◌<◌, ◌⊎◌, ◌++◌, [], ◌∷◌, List, ℕ, IfOk, OnOk, OnErr, IsTrue, true, false, option_map};
     ghost use Rattle.mc_outside.specs.Bytes.{Told, AddsPart, HasCause};
-    ghost use Rattle.mc_outside.specs.LinkView.{Failed, next_taken, none_left, heard, told, finished};
-    ghost use Rattle.mc_stage.specs.Stage.{script_of, link_view};
-    ghost use Rattle.mc_stage.specs.Script.{LinkPlanned, OnlyLinkCalled, first_piece, pieces_after, first_reading, next_readings};
-    ghost use Rattle.mc_stage.specs.Stage.{tale_of};
+    ghost use Rattle.mc_outside.specs.LinkView.{Failed, next_taken, none_left, after_recv, after_send, after_eof};
+    ghost use Rattle.mc_stage.specs.Stage.{scenario_of, link_view};
+    ghost use Rattle.mc_stage.specs.Scenario.{LinkPlanned, OnlyLinkCalled, first_piece, pieces_after, first_reading, next_readings};
+    ghost use Rattle.mc_stage.specs.Stage.{trace_of};
     ghost use Rattle.mc_stage.specs.Model.{link_of, LinkMoved, LinkFailed};
-    ghost use Rattle.mc_stage.specs.Tale.{is_link, link_none, link_then, link_goes};
+    ghost use Rattle.mc_stage.specs.Trace.{is_link, link_none, link_then, link_goes};
 
-    ghost link = { λ s. link_of (tale_of s) };
+    ghost link = { λ s. link_of (trace_of s) };
 
-    ghost link_moved = { λ a b. LinkMoved (tale_of a) (tale_of b) };
+    ghost link_moved = { λ a b. LinkMoved (trace_of a) (trace_of b) };
 
-    ghost is_link = { λ a. is_link (tale_of a) };
+    ghost is_link = { λ a. is_link (trace_of a) };
 
-    ghost link_stays = { λ a. link_none (tale_of a) };
+    ghost link_stays = { λ a. link_none (trace_of a) };
 
-    ghost link_goes_on = { λ a b c m n. link_then (tale_of a) (tale_of b) (tale_of c) m n };
+    ghost link_goes_on = { λ a b c m n. link_then (trace_of a) (trace_of b) (trace_of c) m n };
 
-    ghost link_goes = { λ a b m. link_goes (tale_of a) (tale_of b) m };
+    ghost link_goes = { λ a b m. link_goes (trace_of a) (trace_of b) m };
 
     fn next_link(&mut self) -> Result<bool, LinkFault>
-        ensures moved { LinkMoved (tale_of self.old) (tale_of self.new) }
+        ensures moved { LinkMoved (trace_of self.old) (trace_of self.new) }
         ensures cause { HasCause (link_view self.old).faults (link_view self.new).faults result }
         ensures over { IfOk result (λ more. IsTrue more → (link_view self.old).over ≡ false) }
         ensures taken { IfOk result (λ more. link_view self.new
             ≡ (if more then next_taken (link_view self.old) else none_left (link_view self.old))) }
         ensures failed { OnErr result (link_view self.new
             ≡ record (link_view self.old) { stands = false; faults = (link_view self.new).faults }) }
-        ensures plan { LinkPlanned (script_of self.old) (script_of self.new) result }
-        ensures nothing { OnErr result (LinkFailed (record (tale_of self.old) { stands = false }) (tale_of self.new)) }
-        ensures others { script_of self.new ≡ record (script_of self.old) {
-          link = (script_of self.new).link;
-          starved = (script_of self.new).starved;
-          links = (script_of self.new).links;
-          pieces = (script_of self.new).pieces;
+        ensures plan { LinkPlanned (scenario_of self.old) (scenario_of self.new) result }
+        ensures nothing { OnErr result (LinkFailed (record (trace_of self.old) { stands = false }) (trace_of self.new)) }
+        ensures others { scenario_of self.new ≡ record (scenario_of self.old) {
+          link = (scenario_of self.new).link;
+          starved = (scenario_of self.new).starved;
+          links = (scenario_of self.new).links;
+          pieces = (scenario_of self.new).pieces;
         } }
         ensures next { IfOk result (λ more. IsTrue more
-            → ((script_of self.new).links ≡ drop 1 (script_of self.old).links)
-            × ((script_of self.new).pieces ≡ without_empty (first_link (script_of self.old).links))) }
+            → ((scenario_of self.new).links ≡ drop 1 (scenario_of self.old).links)
+            × ((scenario_of self.new).pieces ≡ without_empty (first_link (scenario_of self.old).links))) }
         ensures none { IfOk result (λ more. more ≡ false
-            → ((tale_of self.old).over ≡ true) ⊎ ((script_of self.old).links ≡ [])) }
+            → ((trace_of self.old).over ≡ true) ⊎ ((scenario_of self.old).links ≡ [])) }
     {
         self.stands = false;
         if self.link_plan.next() {
@@ -456,28 +456,28 @@ impl Link for Stage {
 
     fn recv(&mut self, buf: &mut [u8]) -> Result<usize, LinkFault>
         requires { IsTrue (link_view self.old).stands }
-        ensures moved { LinkMoved (tale_of self.old) (tale_of self.new) }
+        ensures moved { LinkMoved (trace_of self.old) (trace_of self.new) }
         ensures cause { HasCause (link_view self.old).faults (link_view self.new).faults result }
         ensures room { IfOk result (λ n. n ≤ length buf.old) }
         ensures rest { IfOk result (λ n. drop n buf.new ≡ drop n buf.old) }
         ensures heard { IfOk result (λ n. 0 < n ⊎ (length buf.old ≡ 0)
-            → link_view self.new ≡ heard (take n buf.new) (link_view self.old)) }
+            → link_view self.new ≡ after_recv (take n buf.new) (link_view self.old)) }
         ensures end { IfOk result (λ n. n ≡ 0 → 0 < length buf.old
-            → link_view self.new ≡ finished (link_view self.old)) }
+            → link_view self.new ≡ after_eof (link_view self.old)) }
         ensures stays_at_end { IfOk result (λ n. IsTrue (link_view self.old).at_end → n ≡ 0) }
         ensures failed { OnErr result (Failed (link_view self.old) (link_view self.new)) }
-        ensures plan { LinkPlanned (script_of self.old) (script_of self.new) result }
-        ensures nothing { OnErr result (LinkFailed (tale_of self.old) (tale_of self.new)) }
-        ensures others { script_of self.new ≡ record (script_of self.old) {
-          link = (script_of self.new).link;
-          starved = (script_of self.new).starved;
-          pieces = (script_of self.new).pieces;
+        ensures plan { LinkPlanned (scenario_of self.old) (scenario_of self.new) result }
+        ensures nothing { OnErr result (LinkFailed (trace_of self.old) (trace_of self.new)) }
+        ensures others { scenario_of self.new ≡ record (scenario_of self.old) {
+          link = (scenario_of self.new).link;
+          starved = (scenario_of self.new).starved;
+          pieces = (scenario_of self.new).pieces;
         } }
-        ensures pieces { IfOk result (λ n. (0 < n → (script_of self.new).pieces ≡ pieces_after n (script_of self.old).pieces)
-            × (n ≡ 0 → (script_of self.new).pieces ≡ (script_of self.old).pieces)) }
-        ensures given { IfOk result (λ n. take n buf.new ≡ take n (first_piece (script_of self.old).pieces)) }
+        ensures pieces { IfOk result (λ n. (0 < n → (scenario_of self.new).pieces ≡ pieces_after n (scenario_of self.old).pieces)
+            × (n ≡ 0 → (scenario_of self.new).pieces ≡ (scenario_of self.old).pieces)) }
+        ensures given { IfOk result (λ n. take n buf.new ≡ take n (first_piece (scenario_of self.old).pieces)) }
         ensures count { IfOk result (λ n. (link_view self.old).at_end ≡ false → n
-            ≡ min (length buf.old) (length (first_piece (script_of self.old).pieces))) }
+            ≡ min (length buf.old) (length (first_piece (scenario_of self.old).pieces))) }
     {
         if self.link_plan.next() {
             raise(&mut self.link_faults);
@@ -510,15 +510,15 @@ impl Link for Stage {
 
     fn send(&mut self, bytes: &[u8]) -> Result<usize, LinkFault>
         requires { IsTrue (link_view self.old).stands }
-        ensures moved { LinkMoved (tale_of self.old) (tale_of self.new) }
+        ensures moved { LinkMoved (trace_of self.old) (trace_of self.new) }
         ensures cause { HasCause (link_view self.old).faults (link_view self.new).faults result }
         ensures room { IfOk result (λ n. n ≤ length bytes.now) }
         ensures some { IfOk result (λ n. 0 < length bytes.now → 0 < n) }
-        ensures sent { IfOk result (λ n. link_view self.new ≡ told (take n bytes.now) (link_view self.old)) }
+        ensures sent { IfOk result (λ n. link_view self.new ≡ after_send (take n bytes.now) (link_view self.old)) }
         ensures failed { OnErr result (Failed (link_view self.old) (link_view self.new)) }
-        ensures plan { LinkPlanned (script_of self.old) (script_of self.new) result }
-        ensures script { OnlyLinkCalled (script_of self.old) (script_of self.new) }
-        ensures nothing { OnErr result (LinkFailed (tale_of self.old) (tale_of self.new)) }
+        ensures plan { LinkPlanned (scenario_of self.old) (scenario_of self.new) result }
+        ensures scenario { OnlyLinkCalled (scenario_of self.old) (scenario_of self.new) }
+        ensures nothing { OnErr result (LinkFailed (trace_of self.old) (trace_of self.new)) }
         ensures whole { IfOk result (λ n. n ≡ length bytes.now) }
     {
         if self.link_plan.next() {
@@ -534,24 +534,24 @@ impl Link for Stage {
     }
 
     fn end_link(&mut self)
-        ensures moved { LinkMoved (tale_of self.old) (tale_of self.new) }
+        ensures moved { LinkMoved (trace_of self.old) (trace_of self.new) }
         ensures ended { link_view self.new ≡ record (link_view self.old) { stands = false } }
-        ensures script { script_of self.new ≡ script_of self.old }
+        ensures scenario { scenario_of self.new ≡ scenario_of self.old }
     {
         self.stands = false;
     }
 
     fn say(&mut self, bytes: &[u8]) -> Result<(), LinkFault>
-        ensures moved { LinkMoved (tale_of self.old) (tale_of self.new) }
+        ensures moved { LinkMoved (trace_of self.old) (trace_of self.new) }
         ensures cause { HasCause (link_view self.old).faults (link_view self.new).faults result }
         ensures said { OnOk result (link_view self.new
             ≡ record (link_view self.old) { said = option_map (λ s. s ++ bytes.now) (link_view self.old).said }) }
         ensures failed { OnErr result (link_view self.new
             ≡ record (link_view self.old) { faults = (link_view self.new).faults; said = (link_view self.new).said }) }
         ensures failed_said { OnErr result (Told (AddsPart bytes.now) (link_view self.old).said (link_view self.new).said) }
-        ensures plan { LinkPlanned (script_of self.old) (script_of self.new) result }
-        ensures script { OnlyLinkCalled (script_of self.old) (script_of self.new) }
-        ensures nothing { OnErr result (LinkFailed (tale_of self.old) (tale_of self.new)) }
+        ensures plan { LinkPlanned (scenario_of self.old) (scenario_of self.new) result }
+        ensures scenario { OnlyLinkCalled (scenario_of self.old) (scenario_of self.new) }
+        ensures nothing { OnErr result (LinkFailed (trace_of self.old) (trace_of self.new)) }
     {
         if self.link_plan.next() {
             raise(&mut self.link_faults);
@@ -566,13 +566,13 @@ impl Link for Stage {
     }
 
     fn now(&mut self) -> Moment
-        ensures moved { LinkMoved (tale_of self.old) (tale_of self.new) }
+        ensures moved { LinkMoved (trace_of self.old) (trace_of self.new) }
         ensures rest { link_view self.new ≡ record (link_view self.old) { readings = (link_view self.new).readings } }
         ensures read { (rs : List ℕ) → (link_view self.new).readings ≡ Some rs
             → (qs : List ℕ) × ((link_view self.old).readings ≡ Some qs) × (rs ≡ qs ++ result ∷ []) }
-        ensures reading { result ≡ first_reading (script_of self.old).readings.left }
-        ensures left { script_of self.new ≡ record (script_of self.old) {
-          readings = record (script_of self.old).readings { left = next_readings (script_of self.old).readings.left };
+        ensures reading { result ≡ first_reading (scenario_of self.old).readings.left }
+        ensures left { scenario_of self.new ≡ record (scenario_of self.old) {
+          readings = record (scenario_of self.old).readings { left = next_readings (scenario_of self.old).readings.left };
         } }
     {
         let reading = self.clock.next();
@@ -584,12 +584,12 @@ impl Link for Stage {
 }
 
 impl Outside for Stage {
-    ghost use Rattle.mc_stage.specs.Stage.{tale_of, sent_is};
-    ghost use Rattle.mc_stage.specs.Tale.{link_keeps, disk_keeps};
+    ghost use Rattle.mc_stage.specs.Stage.{trace_of, sent_is};
+    ghost use Rattle.mc_stage.specs.Trace.{link_keeps, disk_keeps};
 
-    ghost link_keeps = { λ a b m. link_keeps (tale_of a) (tale_of b) m };
+    ghost link_keeps = { λ a b m. link_keeps (trace_of a) (trace_of b) m };
 
-    ghost disk_keeps = { λ a b m. disk_keeps (tale_of a) (tale_of b) m };
+    ghost disk_keeps = { λ a b m. disk_keeps (trace_of a) (trace_of b) m };
 
-    ghost sent_aside = { λ a ss e. sent_is (tale_of a) ss e };
+    ghost sent_aside = { λ a ss e. sent_is (trace_of a) ss e };
 }

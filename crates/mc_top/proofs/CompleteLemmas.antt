@@ -1,4 +1,4 @@
--- A command whose book stands for a lawful history, where no call failed, does what it says, or wants memory, or
+-- A command whose book encodes a lawful history, where no call failed, does what it says, or wants memory, or
 -- tells a refusal.
 use Rattle.std.proofs.Common.{◌≡◌, ◌∙◌, ◌≤◌, ◌⊎◌, inl, inr, ℕ, List, Bool, true, false, refl, sym, ap, subst, arith, Some}
 use Rattle.mc_outside.specs.Bytes.{Rose}
@@ -7,13 +7,13 @@ use Rattle.mc_outside.specs.LinkView.{LinkView}
 use Rattle.ledger_model.specs.Histories.{History}
 use Rattle.ledger_model.specs.Houses.{site_kind}
 use Rattle.ledger_model.specs.Lawful.{IsLawful}
-use Rattle.scrip_journal.specs.Layout.{Stands}
+use Rattle.scrip_journal.specs.Layout.{Encodes}
 use Rattle.house_serving.specs.Links.{TakesNoLink}
-use Rattle.vendor_core.specs.Desk.{Task}
+use Rattle.vendor_core.specs.Tasks.{Task}
 use Rattle.mc_top.specs.declared.command.Command.{Command}
 use Rattle.mc_top.specs.declared.command.Command.TheVariants as commands
-use Rattle.mc_top.specs.declared.order.Order.{Order}
-use Rattle.mc_top.specs.declared.order.Order.TheVariants as orders
+use Rattle.mc_top.specs.declared.operation.Operation.{Operation}
+use Rattle.mc_top.specs.declared.operation.Operation.TheVariants as operations
 use Rattle.mc_top.specs.declared.status.Status.{Status}
 use Rattle.mc_top.specs.declared.status.Status.TheVariants as ends
 use Rattle.mc_top.specs.Opening.{full}
@@ -22,7 +22,7 @@ use Rattle.mc_top.specs.Course.{Says}
 use Rattle.mc_top.specs.Statuses.{number_of, line_of}
 use Rattle.mc_top.specs.Serving.{NotOpened, ServesLinksOf, BookCauses, ServeCauses}
 use Rattle.mc_top.specs.Init.{FoundCauses}
-use Rattle.mc_top.specs.Desk.{TakesInput, LosesInput, DidBy, KeepsBook, KeepCauses}
+use Rattle.mc_top.specs.Operator.{TakesInput, LosesInput, DidBy, OperatesBook, OperateCauses}
 use Rattle.mc_top.specs.Programs.{ServesOnce, Obeys, Ends, RunsAs, HasVendor, HasBook, EndsWell, answered}
 use Rattle.mc_top.proofs.OpenLaws.{begins_with_header, not_spoiled, not_unlawful, not_of_other}
 
@@ -82,25 +82,25 @@ served_grew link disk links bytes a b ends.NoMemory calm causes served = same_co
 served_grew link disk links bytes a b ends.LinkFault calm causes served = absurd (calm.link' causes.1)
 served_grew link disk links bytes a b (ends.Refused f) calm causes served = absurd served
 
-input_kept : (order : Order) (v : LinkView) (input : List ℕ) (w : LinkView) → TakesInput order v input w → w.faults ≡ v.faults
-input_kept (orders.Goods l) v input w (inl is) = ap (λ (u : LinkView). u.faults) is.1
-input_kept (orders.Goods l) v input w (inr (inl is)) = ap (λ (u : LinkView). u.faults) is.1
-input_kept (orders.Goods l) v input w (inr (inr is)) = ap (λ (u : LinkView). u.faults) is.1
-input_kept (orders.Price l) v input w is = ap (λ (u : LinkView). u.faults) is.1
-input_kept (orders.Licence l) v input w is = ap (λ (u : LinkView). u.faults) is.1
-input_kept (orders.Mint l) v input w is = ap (λ (u : LinkView). u.faults) is.1
+input_kept : (operation : Operation) (v : LinkView) (input : List ℕ) (w : LinkView) → TakesInput operation v input w → w.faults ≡ v.faults
+input_kept (operations.Goods l) v input w (inl is) = ap (λ (u : LinkView). u.faults) is.1
+input_kept (operations.Goods l) v input w (inr (inl is)) = ap (λ (u : LinkView). u.faults) is.1
+input_kept (operations.Goods l) v input w (inr (inr is)) = ap (λ (u : LinkView). u.faults) is.1
+input_kept (operations.Price l) v input w is = ap (λ (u : LinkView). u.faults) is.1
+input_kept (operations.Licence l) v input w is = ap (λ (u : LinkView). u.faults) is.1
+input_kept (operations.Mint l) v input w is = ap (λ (u : LinkView). u.faults) is.1
 
-kept_grew : {O : Type 0} (link : O → LinkView) (disk : O → DiskView) (order : Order) (bytes : List ℕ) (a b : O) (status : Status) → Calm link disk a b → KeepCauses link disk order a status b → KeepsBook link disk order bytes a status b
+operated_grew : {O : Type 0} (link : O → LinkView) (disk : O → DiskView) (operation : Operation) (bytes : List ℕ) (a b : O) (status : Status) → Calm link disk a b → OperateCauses link disk operation a status b → OperatesBook link disk operation bytes a status b
     → (link a).faults ≤ (link b).faults
-kept_grew link disk order bytes a b status calm causes (inl not) = unopened_grew link disk bytes a b status not
-kept_grew link disk order bytes a b status calm causes (inr (inr kept)) =
-    let taken : kept.taken.faults ≡ (link a).faults = input_kept order (link a) kept.input kept.taken kept.takes in
+operated_grew link disk operation bytes a b status calm causes (inl not) = unopened_grew link disk bytes a b status not
+operated_grew link disk operation bytes a b status calm causes (inr (inr kept)) =
+    let taken : kept.taken.faults ≡ (link a).faults = input_kept operation (link a) kept.input kept.taken kept.takes in
     let is : (link b).faults ≡ kept.taken.faults = ap (λ (u : LinkView). u.faults) kept.rest in
     omega (arith, taken, is)
-kept_grew link disk order bytes a b status calm causes (inr (inl unread)) = go unread.lost
+operated_grew link disk operation bytes a b status calm causes (inr (inl unread)) = go unread.lost
   where
-    go : ((status ≡ ends.LinkFault) × LosesInput order (link a) (link b)) ⊎ ((status ≡ ends.NoMemory) × (link b ≡ link a)) → (link a).faults ≤ (link b).faults
-    go (inl (is, lost)) = absurd (calm.link' (subst (λ (s : Status). KeepCauses link disk order a s b) is causes).1)
+    go : ((status ≡ ends.LinkFault) × LosesInput operation (link a) (link b)) ⊎ ((status ≡ ends.NoMemory) × (link b ≡ link a)) → (link a).faults ≤ (link b).faults
+    go (inl (is, lost)) = absurd (calm.link' (subst (λ (s : Status). OperateCauses link disk operation a s b) is causes).1)
     go (inr (is, same)) = same_count (link a) (link b) same
 
 -- whatever the command is, where its book is there
@@ -113,12 +113,12 @@ grew link disk (commands.Serve server) a b status has calm obeys = go (obeys.1 h
     go : NotOpened link disk has.bytes a status b ⊎ ServesLinksOf link disk server.links has.bytes a status b → (link a).faults ≤ (link b).faults
     go (inl not) = unopened_grew link disk has.bytes a b status not
     go (inr served) = served_grew link disk server.links has.bytes a b status calm obeys.0 served
-grew link disk (commands.Desk order) a b status has calm obeys = kept_grew link disk order has.bytes a b status calm obeys.0 (obeys.1 has.bytes has.told)
+grew link disk (commands.Operate operation) a b status has calm obeys = operated_grew link disk operation has.bytes a b status calm obeys.0 (obeys.1 has.bytes has.told)
 
 -- ---- how it ends
 
 -- it was opened, unless memory was refused
-only_memory : {O : Type 0} (link : O → LinkView) (disk : O → DiskView) (Lost : O → O → Type 0) (h : History) (bytes : List ℕ) (a b : O) (status : Status) → Stands h bytes → IsLawful full h → site_kind h ≡ Some 0 → Calm link disk a b
+only_memory : {O : Type 0} (link : O → LinkView) (disk : O → DiskView) (Lost : O → O → Type 0) (h : History) (bytes : List ℕ) (a b : O) (status : Status) → Encodes h bytes → IsLawful full h → site_kind h ≡ Some 0 → Calm link disk a b
     → BookCauses link disk Lost a status b → NotOpened link disk bytes a status b → number_of status ≡ 5
 only_memory link disk Lost h bytes a b ends.Done st lawful vendor calm causes not = absurd not
 only_memory link disk Lost h bytes a b (ends.Served n) st lawful vendor calm causes not = absurd not
@@ -176,29 +176,29 @@ links_well link disk links bytes a b (ends.BadEntry place) calm causes served = 
 links_well link disk links bytes a b (ends.UnlawfulEntry place) calm causes served = absurd served
 links_well link disk links bytes a b (ends.Refused f) calm causes served = absurd served
 
-did_well : {O : Type 0} (link : O → LinkView) (disk : O → DiskView) (order : Order) (h : History) (task : Task) (a b : O) (status : Status) → Calm link disk a b → KeepCauses link disk order a status b → DidBy (disk b) order h task status
+did_well : {O : Type 0} (link : O → LinkView) (disk : O → DiskView) (operation : Operation) (h : History) (task : Task) (a b : O) (status : Status) → Calm link disk a b → OperateCauses link disk operation a status b → DidBy (disk b) operation h task status
     → (number_of status ≡ 0) ⊎ ((number_of status ≡ 5) ⊎ (number_of status ≡ 7))
-did_well link disk order h task a b ends.Done calm causes did = inl refl
-did_well link disk order h task a b (ends.Served n) calm causes did = inl refl
-did_well link disk order h task a b (ends.Founded name) calm causes did = inl refl
-did_well link disk order h task a b (ends.Did line) calm causes did = inl refl
-did_well link disk order h task a b ends.NoMemory calm causes did = inr (inl refl)
-did_well link disk order h task a b (ends.Refused f) calm causes did = inr (inr refl)
-did_well link disk order h task a b ends.DiskFault calm causes did = absurd (calm.disk' causes)
-did_well link disk order h task a b ends.LinkFault calm causes did = absurd did
-did_well link disk order h task a b ends.BadWords calm causes did = absurd did
-did_well link disk order h task a b ends.NotJournal calm causes did = absurd did
-did_well link disk order h task a b (ends.BadEntry place) calm causes did = absurd did
-did_well link disk order h task a b (ends.UnlawfulEntry place) calm causes did = absurd did
+did_well link disk operation h task a b ends.Done calm causes did = inl refl
+did_well link disk operation h task a b (ends.Served n) calm causes did = inl refl
+did_well link disk operation h task a b (ends.Founded name) calm causes did = inl refl
+did_well link disk operation h task a b (ends.Did line) calm causes did = inl refl
+did_well link disk operation h task a b ends.NoMemory calm causes did = inr (inl refl)
+did_well link disk operation h task a b (ends.Refused f) calm causes did = inr (inr refl)
+did_well link disk operation h task a b ends.DiskFault calm causes did = absurd (calm.disk' causes)
+did_well link disk operation h task a b ends.LinkFault calm causes did = absurd did
+did_well link disk operation h task a b ends.BadWords calm causes did = absurd did
+did_well link disk operation h task a b ends.NotJournal calm causes did = absurd did
+did_well link disk operation h task a b (ends.BadEntry place) calm causes did = absurd did
+did_well link disk operation h task a b (ends.UnlawfulEntry place) calm causes did = absurd did
 
-desk_well : {O : Type 0} (link : O → LinkView) (disk : O → DiskView) (order : Order) (a b : O) (status : Status) (has : HasVendor (disk a)) → Calm link disk a b → KeepCauses link disk order a status b
-    → KeepsBook link disk order has.bytes a status b → (number_of status ≡ 0) ⊎ ((number_of status ≡ 5) ⊎ (number_of status ≡ 7))
-desk_well link disk order a b status has calm causes (inl not) = inr (inl (only_memory link disk (λ x y. LosesInput order (link x) (link y)) has.history has.bytes a b status has.stands has.lawful has.vendor calm causes not))
-desk_well link disk order a b status has calm causes (inr (inr kept)) = did_well link disk order kept.history kept.task a b status calm causes kept.did
-desk_well link disk order a b status has calm causes (inr (inl unread)) = go unread.lost
+operated_well : {O : Type 0} (link : O → LinkView) (disk : O → DiskView) (operation : Operation) (a b : O) (status : Status) (has : HasVendor (disk a)) → Calm link disk a b → OperateCauses link disk operation a status b
+    → OperatesBook link disk operation has.bytes a status b → (number_of status ≡ 0) ⊎ ((number_of status ≡ 5) ⊎ (number_of status ≡ 7))
+operated_well link disk operation a b status has calm causes (inl not) = inr (inl (only_memory link disk (λ x y. LosesInput operation (link x) (link y)) has.history has.bytes a b status has.stands has.lawful has.vendor calm causes not))
+operated_well link disk operation a b status has calm causes (inr (inr kept)) = did_well link disk operation kept.history kept.task a b status calm causes kept.did
+operated_well link disk operation a b status has calm causes (inr (inl unread)) = go unread.lost
   where
-    go : ((status ≡ ends.LinkFault) × LosesInput order (link a) (link b)) ⊎ ((status ≡ ends.NoMemory) × (link b ≡ link a)) → (number_of status ≡ 0) ⊎ ((number_of status ≡ 5) ⊎ (number_of status ≡ 7))
-    go (inl (is, lost)) = absurd (calm.link' (subst (λ (s : Status). KeepCauses link disk order a s b) is causes).1)
+    go : ((status ≡ ends.LinkFault) × LosesInput operation (link a) (link b)) ⊎ ((status ≡ ends.NoMemory) × (link b ≡ link a)) → (number_of status ≡ 0) ⊎ ((number_of status ≡ 5) ⊎ (number_of status ≡ 7))
+    go (inl (is, lost)) = absurd (calm.link' (subst (λ (s : Status). OperateCauses link disk operation a s b) is causes).1)
     go (inr (is, same)) = inr (inl (ap number_of is))
 
 -- what the program ended with, where the command's book is there
@@ -221,4 +221,4 @@ ends_well {O = O} link disk command a c number has no_disk no_link (b, status, o
         go : NotOpened link disk has.bytes a status b ⊎ ServesLinksOf link disk server.links has.bytes a status b → (number_of status ≡ 0) ⊎ (number_of status ≡ 5)
         go (inl not) = inr (only_memory link disk (TakesNoLink link disk) has.history has.bytes a b status has.stands has.lawful has.vendor calm obeys.0 not)
         go (inr served) = links_well link disk server.links has.bytes a b status calm obeys.0 served
-    by_command (commands.Desk order) has obeys calm = desk_well link disk order a b status has calm obeys.0 (obeys.1 has.bytes has.told)
+    by_command (commands.Operate operation) has obeys calm = operated_well link disk operation a b status has calm obeys.0 (obeys.1 has.bytes has.told)

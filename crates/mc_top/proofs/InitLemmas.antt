@@ -15,7 +15,7 @@ use Rattle.ledger_model.specs.Lawful.{IsLawful}
 use Rattle.scrip_journal.specs.declared.fault.HouseFault.{HouseFault}
 use Rattle.scrip_journal.specs.declared.fault.HouseFault.TheVariants as faults
 use Rattle.house_core.specs.declared.house.House.{House}
-use Rattle.house_core.specs.Found.{FoundedFor, FoundsHouseBy, FoundQuiet, CountsBy, ReadsOnly}
+use Rattle.house_core.specs.Found.{FoundedFor, FoundsHouseBy, FoundNoOutput, CountsBy, ReadsOnly}
 use Rattle.house_core.specs.Opening.{fault_disk}
 use Rattle.house_serving.specs.Course.{with_readings}
 use Rattle.house_serving.proofs.AsideLemmas.{TellsAside, no_more_still, aside_still}
@@ -25,7 +25,7 @@ use Rattle.mc_top.specs.Words.{Founder}
 use Rattle.mc_top.specs.Founding.{site_of}
 use Rattle.mc_top.specs.Endings.{fault_status}
 use Rattle.mc_top.specs.Init.{FoundPair, FoundsBy, FoundCauses}
-use Rattle.mc_top.specs.Serving.{StandsLawful}
+use Rattle.mc_top.specs.Serving.{EncodesLawful}
 use Rattle.mc_top.proofs.ServedLemmas.{stands_lawful}
 
 -- any entry that fits has room as the first
@@ -46,13 +46,13 @@ none_between x y p q =
 
 -- the clock was read, and then the book was founded
 pub found_pairs : {O : Type 0} (link : O → LinkView) (disk : O → DiskView) (a m b : O) (e : Entry) → TellsAside link (λ o. (disk o).aside) → LinkKeeps (disk a) (disk m) → link m ≡ with_readings (link m).readings (link a)
-    → Ran (disk m) (disk b) (FoundQuiet (disk m) e) → Ran (disk a) (disk b) (FoundPair (IsSome (link a).sessions) (disk a) e)
+    → Ran (disk m) (disk b) (FoundNoOutput (disk m) e) → Ran (disk a) (disk b) (FoundPair (IsSome (link a).sessions) (disk a) e)
 found_pairs link disk a m b e tells keeps rest ran =
     let same : IsSome (link a).sessions → (disk m).aside ≡ (disk a).aside = λ told'. aside_still link (λ o. (disk o).aside) a m tells told' (no_more_still (link a) (link m) (ap (λ (v : LinkView). v.sessions) rest)) in
     ran_then (disk a) (disk m) (disk b) (FoundPair (IsSome (link a).sessions) (disk a) e)
     (ran_link (disk a) (disk m) (FoundPair (IsSome (link a).sessions) (disk a) e) keeps (λ i x l from upto. (inl (inr l), λ told'. none_between (disk a).aside x from (subst (λ (z : List ℕ). BeginsWith x z) (same told') upto))))
     (ran_weaker (disk m) (disk b) _ _ ran (λ i x quiet. (
-      ⊎_elim (λ short. inl (⊎_elim (λ few. inl few) (λ l. inr ((keeps.leaves i).0 l)) short)) (λ stood. inr stood) quiet.0,
+      ⊎_elim (λ short. inl (⊎_elim (λ few. inl few) (λ l. inr ((keeps.leaves i).0 l)) short)) (λ encoded. inr encoded) quiet.0,
       λ told'. quiet.1 ∙ same told',
     )))
 
@@ -66,11 +66,11 @@ fault_causes A disk before (faults.BadRecord d place) counts = absurd counts
 fault_causes A disk before (faults.Unlawful d place) counts = absurd counts
 fault_causes A disk before (faults.WrongKind d) counts = absurd counts
 
--- the disk stands for the Site entry
+-- the disk encodes the Site entry
 pub founded_for : {O : Type 0} (disk : O → DiskView) (stands : Shelf → History → Type 0) (site : Shelf → ℕ) (holds : Shelf → ℕ → Type 0) (e : Entry) (bytes : List ℕ) (x : House O Shelf) → FoundedFor disk stands site holds full e bytes x
-    → StandsLawful (disk x.journal.disk) (e ∷ [])
+    → EncodesLawful (disk x.journal.disk) (e ∷ [])
 founded_for disk stands site holds e bytes x at =
-    stands_lawful disk stands site holds x (e ∷ []) at.house (subst (λ (l : Limits). IsLawful l (e ∷ [])) at.limits' at.house.house.stands'.books.lawful)
+    stands_lawful disk stands site holds x (e ∷ []) at.house (subst (λ (l : Limits). IsLawful l (e ∷ [])) at.limits' at.house.house.stands'.state.lawful)
 
 -- nothing was founded
 pub not_founded : {O : Type 0} (disk : O → DiskView) (stands : Shelf → History → Type 0) (site : Shelf → ℕ) (holds : Shelf → ℕ → Type 0) (founder : Founder) (moment : ℕ) (bytes : List ℕ) (a m : O) (fault : HouseFault O) → LinkKeeps (disk a) (disk m)

@@ -3,7 +3,7 @@ use Rattle.std.proofs.Common.{◌≡◌, inl, inr, ℕ, ◌+◌, ◌-◌, ◌≤
 use Rattle.std.proofs.lemmas.List.{take-append-le, take-take, length-take-le}
 use Rattle.std.proofs.Math.Seq.{take-append-add}
 use borrow.Rule.Slice.PartMut.{put_mid}
-use Rattle.mc_outside.specs.LinkView.{LinkView, heard, next_taken, Failed}
+use Rattle.mc_outside.specs.LinkView.{LinkView, after_recv, next_taken, Failed}
 use Rattle.mc_outside.proofs.Sessions.{heard_more}
 use Rattle.mc_top.specs.Inputs.{IsInput, Receives}
 
@@ -22,10 +22,10 @@ size_with a buf more le same =
     omega (arith, length-append (take a buf) (more ++ drop (length buf - a) (drop a buf)), length-append more (drop (length buf - a) (drop a buf)), length-take-le a buf le, rest, same, le)
 
 -- more was heard
-pub heard_then : (u v w : LinkView) (a m : ℕ) (buf more : List ℕ) → a ≤ length buf → m ≤ length more → v ≡ heard (take a buf) u → w ≡ heard (take m more) v
-    → w ≡ heard (take (a + m) (put_mid a (length buf - a) buf more)) u
+pub heard_then : (u v w : LinkView) (a m : ℕ) (buf more : List ℕ) → a ≤ length buf → m ≤ length more → v ≡ after_recv (take a buf) u → w ≡ after_recv (take m more) v
+    → w ≡ after_recv (take (a + m) (put_mid a (length buf - a) buf more)) u
 heard_then u v w a m buf more le few is then =
-    then ∙ ap (heard (take m more)) is ∙ heard_more u (take a buf) (take m more) ∙ ap (λ (l : List ℕ). heard l u) (sym (front_with a m buf more le few))
+    then ∙ ap (after_recv (take m more)) is ∙ heard_more u (take a buf) (take m more) ∙ ap (λ (l : List ℕ). after_recv l u) (sym (front_with a m buf more le few))
 
 -- what was received on a link that was taken is the input
 pub input_is : (most n : ℕ) (u v : LinkView) (got : List ℕ) → length got ≡ n → Receives (most + 1) (next_taken u) n got v → IsInput most u got v
@@ -33,7 +33,7 @@ input_is most n u v got len (inl full) = inr (inr (len ∙ full.0, full.1))
 input_is most n u v got len (inr ended) = inr (inl (omega (arith, len, ended.0), ended.1))
 
 -- and nothing more is there where receiving failed
-pub lost : (u v w : LinkView) (got : List ℕ) → v ≡ heard got u → Failed v w → Failed (heard got u) w
+pub lost : (u v w : LinkView) (got : List ℕ) → v ≡ after_recv got u → Failed v w → Failed (after_recv got u) w
 lost u v w got is failed = subst (λ (x : LinkView). Failed x w) is failed
 
 -- the first bytes of a list that was cut behind them

@@ -16,7 +16,7 @@ use Rattle.house_core.proofs.Entered.{time_snoc}
 use Rattle.house_serving.specs.declared.serving.Clock.TheVariants.{OfLinks}
 use Rattle.house_serving.specs.Steps.{Did, state_after, Run}
 use Rattle.house_serving.specs.Course.{HadLink, HadLinks, ServedAll}
-use Rattle.house_serving.specs.Doubts.{DoubtLinks}
+use Rattle.house_serving.specs.InDoubt.{InDoubtLinks}
 use Rattle.house_serving.proofs.StepLemmas.{state_after-append}
 
 -- the history is lawful, and no entry is after the house time
@@ -82,14 +82,14 @@ all_sound limits links n steps s before after small sound (inl all) = links_soun
 all_sound limits links n steps s before after small sound (inr over) = links_sound limits n steps s before over.1.0 small sound over.1.1
 
 -- links up to a request whose entry is in doubt: with the entry or without it
-pub doubt_sound : (limits : Limits) (links : ℕ) (steps : List Did) (s : State) (before : LinkView) (e : Entry) (said : List ℕ) (after : LinkView) → limits.journal ≤ 2 ^ 40 → IsSound limits s → DoubtLinks limits links steps s before e said after
+pub doubt_sound : (limits : Limits) (links : ℕ) (steps : List Did) (s : State) (before : LinkView) (e : Entry) (said : List ℕ) (after : LinkView) → limits.journal ≤ 2 ^ 40 → IsSound limits s → InDoubtLinks limits links steps s before e said after
     → IsSound limits (state_after s steps) × IsLawful limits ((state_after s steps).history ++ e ∷ [])
 doubt_sound limits links steps s before e said after small sound doubt =
     let front = links_sound limits doubt.n doubt.front s before doubt.between small sound doubt.links_had in
     let last = doubt.last_link in
     let so = run_sound limits (state_after s doubt.front) last.front last.replied.readings doubt.last small front last.replied.ran in
-    let here = raised_sound limits (state_after (state_after s doubt.front) doubt.last) last.doubted.reading so in
+    let here = raised_sound limits (state_after (state_after s doubt.front) doubt.last) last.in_doubt.reading so in
     let both : IsSound limits (state_after (state_after s doubt.front) doubt.last) × IsLawful limits ((state_after (state_after s doubt.front) doubt.last).history ++ e ∷ []) =
-    (so, (taken_sound limits (raised (state_after (state_after s doubt.front) doubt.last) last.doubted.reading) last.q e small here last.doubted.takes).lawful) in
+    (so, (taken_sound limits (raised (state_after (state_after s doubt.front) doubt.last) last.in_doubt.reading) last.q e small here last.in_doubt.takes).lawful) in
     subst (λ (l : List Did). IsSound limits (state_after s l) × IsLawful limits ((state_after s l).history ++ e ∷ [])) (sym doubt.steps_are)
     (subst (λ (t : State). IsSound limits t × IsLawful limits (t.history ++ e ∷ [])) (sym (state_after-append s doubt.front doubt.last)) both)

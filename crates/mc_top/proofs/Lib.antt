@@ -8,5 +8,5 @@ pub mod InitLemmas
 pub mod OpenLaws
 pub mod InputLemmas
 pub mod LineLemmas
-pub mod DeskLemmas
+pub mod OperatorLemmas
 pub mod CompleteLemmas

@@ -1,22 +1,22 @@
--- What stands for a lawful history of a vendor has no fault of a book.
+-- What encodes a lawful history of a vendor has no fault of a book.
 use Rattle.std.proofs.Common.{◌≡◌, inl, inr, ℕ, List, [], ◌∷◌, ◌++◌, Some, sym, ◌∙◌, subst, append-nil, append_assoc}
 use Rattle.mc_outside.specs.Bytes.{BeginsWith}
 use Rattle.mc_records.specs.Entry.{Entry}
 use Rattle.ledger_model.specs.Histories.{History}
 use Rattle.ledger_model.specs.Houses.{site_kind}
 use Rattle.ledger_model.specs.Lawful.{IsLawful, AllFollow, MayFollow}
-use Rattle.scrip_journal.specs.Layout.{header, gated, Stands}
+use Rattle.scrip_journal.specs.Layout.{header, gated, Encodes}
 use Rattle.scrip_journal.proofs.Unique.{stands_read, one_history, not_both}
 use Rattle.house_core.specs.Opening.{SpoilsAt, IsUnlawfulAt, IsOfOther}
 use Rattle.house_core.proofs.Beginnings.{begins_history, kind_tells}
 use Rattle.mc_top.specs.Opening.{full}
 
 -- it begins with the header
-pub begins_with_header : (h : History) (bytes : List ℕ) → Stands h bytes → BeginsWith header bytes
+pub begins_with_header : (h : History) (bytes : List ℕ) → Encodes h bytes → BeginsWith header bytes
 begins_with_header h bytes st = (gated [] h ++ st.gate ∷ st.rest, st.shape ∙ append_assoc header (gated [] h) (st.gate ∷ st.rest))
 
 -- no bytes of it can't stand
-pub not_spoiled : (h : History) (bytes : List ℕ) (place : ℕ) → Stands h bytes → SpoilsAt full 0 bytes place → ⊥
+pub not_spoiled : (h : History) (bytes : List ℕ) (place : ℕ) → Encodes h bytes → SpoilsAt full 0 bytes place → ⊥
 not_spoiled h bytes place st spoils = not_both spoils.before h bytes place spoils.spoiled st
 
 follow_here : (before xs : History) (e : Entry) (ys : History) → AllFollow full before (xs ++ e ∷ ys) → MayFollow full (before ++ xs) e
@@ -28,7 +28,7 @@ all_of [] lawful = absurd lawful
 all_of (e ∷ es) lawful = lawful
 
 -- no entry of it breaks
-pub not_unlawful : (h : History) (bytes : List ℕ) (place : ℕ) → Stands h bytes → IsLawful full h → IsUnlawfulAt full 0 bytes place → ⊥
+pub not_unlawful : (h : History) (bytes : List ℕ) (place : ℕ) → Encodes h bytes → IsLawful full h → IsUnlawfulAt full 0 bytes place → ⊥
 not_unlawful h bytes place st lawful (other, inl empty) = subst (λ (g : History). IsLawful full g) (one_history h [] bytes st empty.0) lawful
 not_unlawful h bytes place st lawful (other, inr breaks) =
     let more = begins_history h (breaks.before ++ breaks.next ∷ []) bytes st breaks.begins in
@@ -36,7 +36,7 @@ not_unlawful h bytes place st lawful (other, inr breaks) =
     breaks.breaks (follow_here [] breaks.before breaks.next more.0 (subst (λ (g : History). AllFollow full [] g) is (all_of h lawful)))
 
 -- it is of no other kind
-pub not_of_other : (h : History) (bytes : List ℕ) → Stands h bytes → site_kind h ≡ Some 0 → IsOfOther 0 bytes → ⊥
+pub not_of_other : (h : History) (bytes : List ℕ) → Encodes h bytes → site_kind h ≡ Some 0 → IsOfOther 0 bytes → ⊥
 not_of_other h bytes st vendor other =
     let read = stands_read h bytes st in
     kind_tells 0 h bytes vendor (record { fits = read.fits; most = read.most; begins = (read.rest, read.shape) }) other

@@ -12,7 +12,7 @@ use Rattle.ledger_model.specs.Answer.{fitted}
 use Rattle.house_core.specs.declared.bench.Bench.{Bench}
 use Rattle.vendor_core.specs.declared.shelf.Shelf.{Shelf}
 use Rattle.mc_top.specs.Words.{Shop, IsShop, terms_of}
-use Rattle.mc_top.specs.Opening.{founding, licence, ware, full, IsOpen, MayEnter}
+use Rattle.mc_top.specs.Opening.{founding, licence, shop_goods, full, IsOpen, MayEnter}
 
 -- ---- payloads
 
@@ -37,8 +37,8 @@ founding_fits shop is = record {
 licence_fits : (shop : Shop) → IsShop shop → Fits (licence shop)
 licence_fits shop is = record { moment = omega arith; terms = terms_are shop is 1 1 255 (omega arith) (omega arith) }
 
-ware_fits : (shop : Shop) → IsShop shop → Fits (ware shop)
-ware_fits shop is = record {
+shop_goods_fit : (shop : Shop) → IsShop shop → Fits (shop_goods shop)
+shop_goods_fit shop is = record {
   moment = omega arith;
   target = is.target;
   price = (omega (arith, is.price.some), is.price.within);
@@ -70,10 +70,10 @@ licence_may_enter shop is = record {
   fits = fits_behind (founding shop ∷ []) (licence shop) (size_of_one (founding shop) (founding_fits shop is)) (licence_fits shop is);
 }
 
-pub ware_may_enter : (shop : Shop) → IsShop shop → MayEnter (founding shop ∷ licence shop ∷ []) (ware shop)
-ware_may_enter shop is = record {
+pub shop_goods_may_enter : (shop : Shop) → IsShop shop → MayEnter (founding shop ∷ licence shop ∷ []) (shop_goods shop)
+shop_goods_may_enter shop is = record {
   follows = record { in_order = omega arith; allowed = (refl, omega (arith, is.contents)) };
-  fits = fits_behind (founding shop ∷ licence shop ∷ []) (ware shop) (size_of_two (founding shop) (licence shop) (founding_fits shop is) (licence_fits shop is)) (ware_fits shop is);
+  fits = fits_behind (founding shop ∷ licence shop ∷ []) (shop_goods shop) (size_of_two (founding shop) (licence shop) (founding_fits shop is) (licence_fits shop is)) (shop_goods_fit shop is);
 }
 
 -- ---- entries of equal parts
@@ -81,9 +81,9 @@ ware_may_enter shop is = record {
 pub licence_is : {m : ℕ} {t : Issuing} (shop : Shop) → m ≡ 0 → t ≡ terms_of shop 1 → AddTerms m t ≡ licence shop
 licence_is shop m t = λ i. AddTerms (m i) (t i)
 
-pub ware_is : {m price : ℕ} {target contents : List ℕ} (s shop : Shop) → s ≡ shop → m ≡ 0 → target ≡ s.target → price ≡ s.price → contents ≡ s.contents
-    → Goods m target price 0 contents ≡ ware shop
-ware_is s shop same m target price contents = (λ i. Goods (m i) (target i) (price i) 0 (contents i)) ∙ ap ware same
+pub shop_goods_is : {m price : ℕ} {target contents : List ℕ} (s shop : Shop) → s ≡ shop → m ≡ 0 → target ≡ s.target → price ≡ s.price → contents ≡ s.contents
+    → Goods m target price 0 contents ≡ shop_goods shop
+shop_goods_is s shop same m target price contents = (λ i. Goods (m i) (target i) (price i) 0 (contents i)) ∙ ap shop_goods same
 
 pub may_enter : {h : History} {e f : Entry} → e ≡ f → MayEnter h f → MayEnter h e
 may_enter {h = h} same may = subst (λ (e : Entry). MayEnter h e) (sym same) may

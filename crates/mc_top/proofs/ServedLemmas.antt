@@ -12,8 +12,8 @@ use Rattle.ledger_model.specs.Lawful.{IsLawful}
 use Rattle.ledger_model.proofs.AcceptLaws.{accepted_once}
 use Rattle.house_core.specs.declared.house.House.{House}
 use Rattle.house_core.specs.Bench.{limits_of, state_of}
-use Rattle.house_core.specs.House.{StandsFor}
-use Rattle.scrip_journal.specs.Layout.{Stands}
+use Rattle.house_core.specs.House.{HouseRepresents}
+use Rattle.scrip_journal.specs.Layout.{Encodes}
 use Rattle.scrip_journal.specs.declared.fault.HouseFault.{HouseFault}
 use Rattle.scrip_journal.specs.declared.fault.HouseFault.TheVariants as faults
 use Rattle.house_core.specs.Opening.{OpenedFor, OpensHouse, fault_disk}
@@ -23,13 +23,13 @@ use Rattle.house_serving.specs.declared.links.ServeOut.TheVariants as outs
 use Rattle.house_serving.specs.declared.serving.Clock.TheVariants.{OfLinks}
 use Rattle.house_serving.specs.Steps.{Did, sent_of, state_after}
 use Rattle.house_serving.specs.Course.{ServedAll, ServedSome}
-use Rattle.house_serving.specs.Doubts.{DoubtLinks}
-use Rattle.house_serving.specs.Orders.{InOrder, MovedBy, WentBy, InDoubt}
+use Rattle.house_serving.specs.InDoubt.{InDoubtLinks}
+use Rattle.house_serving.specs.Orders.{InOrder, MovedBy, RefinesBy, InDoubt}
 use Rattle.house_serving.specs.Links.{ServesLinks, HaveCauses, served_outside}
 use Rattle.vendor_core.specs.declared.shelf.Shelf.{Shelf}
 use Rattle.mc_top.specs.Opening.{full}
 use Rattle.mc_top.specs.Endings.{served_status, fault_status}
-use Rattle.mc_top.specs.Serving.{StandsLawful, ServePair, ServedFrom, Unserved, NotOpened, ServesLinksOf, ServeCauses}
+use Rattle.mc_top.specs.Serving.{EncodesLawful, ServePair, ServedFrom, Unserved, NotOpened, ServesLinksOf, ServeCauses}
 use Rattle.mc_top.proofs.LawfulRuns.{IsSound, all_sound, links_sound, doubt_sound}
 
 -- ---- counts
@@ -58,25 +58,25 @@ read_then_moved tells a b c s steps read moved =
 opened_sound : {O : Type 0} (disk : O → DiskView) (stands : Shelf → History → Type 0) (site : Shelf → ℕ) (holds : Shelf → ℕ → Type 0) (bytes : List ℕ) (x : House O Shelf) (at : OpenedFor disk stands site holds full bytes x)
     → IsSound full (state_of at.history x.bench)
 opened_sound disk stands site holds bytes x at = record {
-  lawful = subst (λ (l : Limits). IsLawful l at.history) at.limits' at.house.house.stands'.books.lawful;
-  in_time = at.house.house.stands'.books.in_time;
+  lawful = subst (λ (l : Limits). IsLawful l at.history) at.limits' at.house.house.stands'.state.lawful;
+  in_time = at.house.house.stands'.state.in_time;
 }
 
-pub stands_lawful : {O : Type 0} (disk : O → DiskView) (stands : Shelf → History → Type 0) (site : Shelf → ℕ) (holds : Shelf → ℕ → Type 0) (x : House O Shelf) (h : History) → StandsFor disk stands site holds x h → IsLawful full h → StandsLawful (disk x.journal.disk) h
+pub stands_lawful : {O : Type 0} (disk : O → DiskView) (stands : Shelf → History → Type 0) (site : Shelf → ℕ) (holds : Shelf → ℕ → Type 0) (x : House O Shelf) (h : History) → HouseRepresents disk stands site holds x h → IsLawful full h → EncodesLawful (disk x.journal.disk) h
 stands_lawful disk stands site holds x h st lawful = record {
   bytes = st.journal.bytes;
   told = st.journal.told;
   stands = st.journal.stands;
   lawful = lawful;
   once = accepted_once full h lawful;
-  lasts = λ image left. subst (λ (x : List ℕ). Stands h x) (sym (st.journal.synced image left)) st.journal.stands;
+  lasts = λ image left. subst (λ (x : List ℕ). Encodes h x) (sym (st.journal.synced image left)) st.journal.stands;
 }
 
 served_from : {O : Type 0} (link : O → LinkView) (disk : O → DiskView) (stands : Shelf → History → Type 0) (site : Shelf → ℕ) (holds : Shelf → ℕ → Type 0) (bytes : List ℕ) (a : O) (x y : House O Shelf) (steps : List Did)
-    (at : OpenedFor disk stands site holds full bytes x) → OnlyRead (disk a) (disk x.journal.disk) → link x.journal.disk ≡ link a → WentBy link disk stands site holds x.journal.disk (state_of at.history x.bench) steps y
+    (at : OpenedFor disk stands site holds full bytes x) → OnlyRead (disk a) (disk x.journal.disk) → link x.journal.disk ≡ link a → RefinesBy link disk stands site holds x.journal.disk (state_of at.history x.bench) steps y
     → IsLawful full (state_after (state_of at.history x.bench) steps).history → ServedFrom link disk bytes a y.journal.disk (state_of at.history x.bench) steps
 served_from link disk stands site holds bytes a x y steps at read same went lawful = record {
-  stood = record { stands = at.of_bytes; time' = at.time' };
+  encoded = record { stands = at.of_bytes; time' = at.time' };
   left = stands_lawful disk stands site holds y (state_after (state_of at.history x.bench) steps).history went.house lawful;
   pairs = read_then_moved (IsSome (link a).sessions) (disk a) (disk x.journal.disk) (disk y.journal.disk) (state_of at.history x.bench) steps read
       (subst (λ (v : LinkView). MovedBy (IsSome v.sessions) (disk x.journal.disk) (disk y.journal.disk) (state_of at.history x.bench) steps) same went.moved);
@@ -96,7 +96,7 @@ not_opened link disk stands site holds bytes a (faults.NoMemory d) by same read 
 -- the book of the house that was opened is served
 pub serves_book : {O : Type 0} (link : O → LinkView) (disk : O → DiskView) (stands : Shelf → History → Type 0) (site : Shelf → ℕ) (holds : Shelf → ℕ → Type 0) (links : ℕ) (bytes : List ℕ) (a : O) (x : House O Shelf) (out : ServeOut O Shelf)
     (at : OpenedFor disk stands site holds full bytes x) → OnlyRead (disk a) (disk x.journal.disk) → (disk x.journal.disk).faults ≡ (disk a).faults → link x.journal.disk ≡ link a
-    → ((h : History) → StandsFor disk stands site holds x h → ServesLinks link disk stands site holds (limits_of x.bench) links x.journal.disk (state_of h x.bench) out)
+    → ((h : History) → HouseRepresents disk stands site holds x h → ServesLinks link disk stands site holds (limits_of x.bench) links x.journal.disk (state_of h x.bench) out)
     → ServesLinksOf link disk links bytes a (served_status out) (served_outside out)
 serves_book link disk stands site holds links bytes a x (outs.Done y n) at read calm same served =
     let s : State = state_of at.history x.bench in
@@ -122,15 +122,15 @@ serves_book link disk stands site holds links bytes a x (outs.Halted d) at read 
     let tells : Type 0 = IsSome (link a).sessions in
     let until : MovedBy tells (disk x.journal.disk) (disk halted.taken) s by.0 =
     subst (λ (v : LinkView). MovedBy (IsSome v.sessions) (disk x.journal.disk) (disk halted.taken) s by.0) same halted.until in
-    let doubt = subst (λ (v : LinkView). DoubtLinks full links by.0 s v by.1 by.2 (link d)) same
-    (subst (λ (l : Limits). DoubtLinks l links by.0 s (link x.journal.disk) by.1 by.2 (link d)) at.limits' by.4) in
+    let doubt = subst (λ (v : LinkView). InDoubtLinks full links by.0 s v by.1 by.2 (link d)) same
+    (subst (λ (l : Limits). InDoubtLinks l links by.0 s (link x.journal.disk) by.1 by.2 (link d)) at.limits' by.4) in
     let sound = doubt_sound full links by.0 s (link a) by.1 by.2 (link d) (omega arith) (opened_sound disk stands site holds bytes x at) doubt in (
       s,
       by.0,
       by.1,
       by.2,
       record {
-        stood = record { stands = at.of_bytes; time' = at.time' };
+        encoded = record { stands = at.of_bytes; time' = at.time' };
         left = record { leaves = halted.leaves; lawful = sound.1; once = accepted_once full _ sound.1 };
         taken = halted.taken;
         quiet = halted.quiet ∙ calm;

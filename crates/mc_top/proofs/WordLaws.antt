@@ -4,13 +4,13 @@ use Rattle.std.specs.Prelude.{Bool, IfSome, decimal, slice_index}
 use Rattle.std.proofs.lemmas.Fmt.{decimal_injective}
 use Rattle.hex.specs.Hex.{encode_lower}
 use Rattle.scrip_form.specs.Issuing.{Issuing}
-use Rattle.mc_top.specs.declared.order.Order.{Order}
-use Rattle.mc_top.specs.declared.order.Order.TheVariants.{Goods, Price, Licence, Mint}
+use Rattle.mc_top.specs.declared.operation.Operation.{Operation}
+use Rattle.mc_top.specs.declared.operation.Operation.TheVariants.{Goods, Price, Licence, Mint}
 use Rattle.mc_top.specs.declared.command.Command.{Command}
-use Rattle.mc_top.specs.declared.command.Command.TheVariants.{Once, Init, Serve, Desk}
+use Rattle.mc_top.specs.declared.command.Command.TheVariants.{Once, Init, Serve, Operate}
 use Rattle.mc_top.specs.Words.{Shop, AreWordsOf, AreTermsWords, Founder, IsKeepingTime, option_words, joined, AreInitWords, Server, AreServeWords, Listing, IsKind, kind_words, AreGoodsWords, Pricing, ArePriceWords, Licensing, licensed_terms, AreLicenceWords, Minting, AreMintWords}
 use Rattle.mc_top.specs.Founding.{own_terms}
-use Rattle.mc_top.specs.Commands.{AreOrderWords, AreWords}
+use Rattle.mc_top.specs.Commands.{AreOperationWords, AreWords}
 use Rattle.mc_top.proofs.SecretLemmas.{same_secret, same_secrets}
 
 one_shop : (words : List (List ℕ)) (a b : Shop) → AreWordsOf words a → AreWordsOf words b → a ≡ b
@@ -156,32 +156,32 @@ one_minting words a b fa fb =
     let value = decimal_injective a.value b.value (omega (arith, fa.minting'.value.within)) (omega (arith, fb.minting'.value.within)) values in
     λ i. record { book = book i; count = count i; value = value i; reference = reference i }
 
-one_order : (words : List (List ℕ)) (a b : Order) → AreOrderWords words a → AreOrderWords words b → a ≡ b
-one_order words (Goods a) (Goods b) fa fb = ap Goods (one_listing words a b fa fb)
-one_order words (Price a) (Price b) fa fb = ap Price (one_pricing words a b fa fb)
-one_order words (Licence a) (Licence b) fa fb = ap Licence (one_licensing words a b fa fb)
-one_order words (Mint a) (Mint b) fa fb = ap Mint (one_minting words a b fa fb)
-one_order words a b fa fb = absurd (omega (arith, ap letter (sym fa.spelled ∙ fb.spelled)))
+one_operation : (words : List (List ℕ)) (a b : Operation) → AreOperationWords words a → AreOperationWords words b → a ≡ b
+one_operation words (Goods a) (Goods b) fa fb = ap Goods (one_listing words a b fa fb)
+one_operation words (Price a) (Price b) fa fb = ap Price (one_pricing words a b fa fb)
+one_operation words (Licence a) (Licence b) fa fb = ap Licence (one_licensing words a b fa fb)
+one_operation words (Mint a) (Mint b) fa fb = ap Mint (one_minting words a b fa fb)
+one_operation words a b fa fb = absurd (omega (arith, ap letter (sym fa.spelled ∙ fb.spelled)))
 
 -- ---- commands
 
-abbrev IsDesk : Command → Type 0
-IsDesk (Desk order) = Unit {0}
-IsDesk _ = ⊥
+abbrev IsOperate : Command → Type 0
+IsOperate (Operate operation) = Unit {0}
+IsOperate _ = ⊥
 
--- the words of an order are of no command but a keeper's
-desk_alone : (words : List (List ℕ)) (order : Order) (c : Command) → AreOrderWords words order → AreWords words c → IsDesk c
-desk_alone words order (Desk other) fo fc = tt
-desk_alone words (Goods order) c fo fc = absurd (omega (arith, ap letter (sym fo.spelled ∙ fc.spelled)))
-desk_alone words (Price order) c fo fc = absurd (omega (arith, ap letter (sym fo.spelled ∙ fc.spelled)))
-desk_alone words (Licence order) c fo fc = absurd (omega (arith, ap letter (sym fo.spelled ∙ fc.spelled)))
-desk_alone words (Mint order) c fo fc = absurd (omega (arith, ap letter (sym fo.spelled ∙ fc.spelled)))
+-- the words of an operation are of no command but an operator's
+operate_alone : (words : List (List ℕ)) (operation : Operation) (c : Command) → AreOperationWords words operation → AreWords words c → IsOperate c
+operate_alone words operation (Operate other) fo fc = tt
+operate_alone words (Goods operation) c fo fc = absurd (omega (arith, ap letter (sym fo.spelled ∙ fc.spelled)))
+operate_alone words (Price operation) c fo fc = absurd (omega (arith, ap letter (sym fo.spelled ∙ fc.spelled)))
+operate_alone words (Licence operation) c fo fc = absurd (omega (arith, ap letter (sym fo.spelled ∙ fc.spelled)))
+operate_alone words (Mint operation) c fo fc = absurd (omega (arith, ap letter (sym fo.spelled ∙ fc.spelled)))
 
 pub one_command : (words : List (List ℕ)) (a b : Command) → AreWords words a → AreWords words b → a ≡ b
 one_command words (Once a) (Once b) fa fb = ap Once (one_shop words a b fa fb)
 one_command words (Init a) (Init b) fa fb = ap Init (one_founder words a b fa fb)
 one_command words (Serve a) (Serve b) fa fb = ap Serve (one_server words a b fa fb)
-one_command words (Desk a) (Desk b) fa fb = ap Desk (one_order words a b fa fb)
-one_command words (Desk a) b fa fb = absurd (desk_alone words a b fa fb)
-one_command words a (Desk b) fa fb = absurd (desk_alone words b a fb fa)
+one_command words (Operate a) (Operate b) fa fb = ap Operate (one_operation words a b fa fb)
+one_command words (Operate a) b fa fb = absurd (operate_alone words a b fa fb)
+one_command words a (Operate b) fa fb = absurd (operate_alone words b a fb fa)
 one_command words a b fa fb = absurd (omega (arith, ap letter (sym fa.spelled ∙ fb.spelled)))

@@ -27,7 +27,7 @@ fault_status (faults.NotEmpty d size) = ends.Refused (refusals.NotEmpty size)
 fault_status (faults.Disk d) = ends.DiskFault
 fault_status (faults.NoMemory d) = ends.NoMemory
 
--- of an order to a book that was opened, with this line where it was done
+-- of an operation to a book that was opened, with this line where it was done
 abbrev pub outcome_status : {D T A : Type 0} → Outcome D T A → List ℕ → Status
 outcome_status (outcomes.Done x a) line = ends.Did line
 outcome_status (outcomes.Refused x f) line = ends.Refused f

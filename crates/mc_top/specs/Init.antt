@@ -12,9 +12,9 @@ use Rattle.mc_top.specs.declared.status.Status.{Status}
 use Rattle.mc_top.specs.declared.status.Status.TheVariants as ends
 use Rattle.mc_top.specs.Words.{Founder}
 use Rattle.mc_top.specs.Founding.{site_of}
-use Rattle.mc_top.specs.Serving.{StandsLawful}
+use Rattle.mc_top.specs.Serving.{EncodesLawful}
 
--- A crash pair: the image stands for no entries or for the Site entry of that moment, has at most nine bytes, or
+-- A crash pair: the image encodes no entries or the Site entry of that moment, has at most nine bytes, or
 -- is what a crash before could have left. Where what is sent is told, nothing was sent.
 abbrev pub FoundPair : Type 0 → DiskView → Entry → List ℕ → List ℕ → Type 0
 FoundPair tells before site image sent = FoundImage before site image × (tells → sent ≡ before.aside)
@@ -27,7 +27,7 @@ pub record FoundAt {O : Type 0} (link : O → LinkView) (disk : O → DiskView) 
 
 -- what the disk is then, by how the command ended, where it had these bytes
 abbrev pub FoundsBy : DiskView → Founder → List ℕ → ℕ → Status → DiskView → Type 0
-FoundsBy before founder bytes moment (ends.Founded name) after = (name ≡ founder.name) × IsFree bytes × StandsLawful after (site_of founder moment ∷ [])
+FoundsBy before founder bytes moment (ends.Founded name) after = (name ≡ founder.name) × IsFree bytes × EncodesLawful after (site_of founder moment ∷ [])
 FoundsBy before founder bytes moment (ends.Refused f) after = (size : ℕ) × (f ≡ refusals.NotEmpty size) × IsTaken bytes size × (after.contents ≡ before.contents)
 FoundsBy before founder bytes moment ends.NoMemory after = after.contents ≡ before.contents
 FoundsBy before founder bytes moment ends.DiskFault after = Unit {0}

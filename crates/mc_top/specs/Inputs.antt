@@ -1,6 +1,6 @@
 -- What is read of an operator's input.
 use Rattle.std.specs.Prelude.{◌≡◌, ◌⊎◌, ℕ, ◌+◌, ◌<◌, ◌≤◌, List, [], length}
-use Rattle.mc_outside.specs.LinkView.{LinkView, next_taken, none_left, heard, finished, Failed}
+use Rattle.mc_outside.specs.LinkView.{LinkView, next_taken, none_left, after_recv, after_eof, Failed}
 use Rattle.house_serving.specs.Course.{NoLink}
 use Rattle.mc_top.specs.declared.input.InputFault.{InputFault}
 use Rattle.mc_top.specs.declared.input.InputFault.TheVariants as faults
@@ -10,16 +10,16 @@ use Rattle.mc_top.specs.declared.input.InputFault.TheVariants as faults
 abbrev pub IsInput : ℕ → LinkView → List ℕ → LinkView → Type 0
 IsInput most before input after =
     ((input ≡ []) × (after ≡ none_left before))
-    ⊎ (((length input ≤ most) × (after ≡ finished (heard input (next_taken before))))
-    ⊎ ((length input ≡ most + 1) × (after ≡ heard input (next_taken before))))
+    ⊎ (((length input ≤ most) × (after ≡ after_eof (after_recv input (next_taken before))))
+    ⊎ ((length input ≡ most + 1) × (after ≡ after_recv input (next_taken before))))
 
 -- so many bytes were received into a buffer of a size: it is full, or the link was read to its end
 abbrev pub Receives : ℕ → LinkView → ℕ → List ℕ → LinkView → Type 0
-Receives size before n got after = ((n ≡ size) × (after ≡ heard got before)) ⊎ ((n < size) × (after ≡ finished (heard got before)))
+Receives size before n got after = ((n ≡ size) × (after ≡ after_recv got before)) ⊎ ((n < size) × (after ≡ after_eof (after_recv got before)))
 
 -- the link could not be taken, or receiving failed after some bytes
 abbrev pub LostInput : LinkView → LinkView → Type 0
-LostInput before after = NoLink before after ⊎ ((got : List ℕ) × Failed (heard got (next_taken before)) after)
+LostInput before after = NoLink before after ⊎ ((got : List ℕ) × Failed (after_recv got (next_taken before)) after)
 
 -- why no input was read: memory was refused before the link was taken, or the link failed
 abbrev pub InputFailed : InputFault → LinkView → LinkView → Type 0

@@ -11,5 +11,5 @@ pub mod Endings
 pub mod Serving
 pub mod Init
 pub mod Inputs
-pub mod Desk
+pub mod Operator
 pub mod Programs

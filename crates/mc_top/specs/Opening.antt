@@ -9,7 +9,7 @@ use Rattle.house_core.specs.declared.bench.Bench.{Bench}
 use Rattle.house_core.specs.Bench.{IsHouse, house_time, limits_of}
 use Rattle.house_core.specs.Session.{State}
 use Rattle.vendor_core.specs.declared.shelf.Shelf.{Shelf}
-use Rattle.vendor_core.specs.Shelf.{Stands, Holds}
+use Rattle.vendor_core.specs.Shelf.{ShelfRepresents, HasGoods}
 use Rattle.mc_top.specs.Words.{Shop, terms_of}
 
 -- A shop is founded at moment 0 as a vendor's site, with the clear flag and a keeping time of 600
@@ -22,12 +22,12 @@ abbrev pub licence : Shop → Entry
 licence shop = AddTerms 0 (terms_of shop 1)
 
 -- and puts its goods on sale
-abbrev pub ware : Shop → Entry
-ware shop = Goods 0 shop.target shop.price 0 shop.contents
+abbrev pub shop_goods : Shop → Entry
+shop_goods shop = Goods 0 shop.target shop.price 0 shop.contents
 
 -- the history of a shop that just opened
 abbrev pub opening : Shop → History
-opening shop = founding shop ∷ licence shop ∷ ware shop ∷ []
+opening shop = founding shop ∷ licence shop ∷ shop_goods shop ∷ []
 
 -- with the house time 0
 abbrev pub opened : Shop → State
@@ -37,9 +37,9 @@ opened shop = record { history = opening shop; time = 0 }
 abbrev pub full : Limits
 full = record { journal = 2 ^ 40; series = 2 ^ 32 }
 
--- a house of the trade of a vendor stands for a history
+-- a house of the trade of a vendor represents a history
 abbrev pub IsVendor : Bench Shelf → History → Type 0
-IsVendor b h = IsHouse Stands (λ s. 0) Holds b h
+IsVendor b h = IsHouse ShelfRepresents (λ s. 0) HasGoods b h
 
 -- a house that just opened, with this history
 pub record IsOpen (b : Bench Shelf) (h : History) : Type 0 where

@@ -5,7 +5,7 @@ use Rattle.mc_outside.specs.LinkView.{LinkView}
 use Rattle.ledger_model.specs.Histories.{History}
 use Rattle.ledger_model.specs.Houses.{site_kind}
 use Rattle.ledger_model.specs.Lawful.{IsLawful}
-use Rattle.scrip_journal.specs.Layout.{Stands}
+use Rattle.scrip_journal.specs.Layout.{Encodes}
 use Rattle.house_serving.specs.Course.{NoLink}
 use Rattle.mc_top.specs.declared.command.Command.{Command}
 use Rattle.mc_top.specs.declared.command.Command.TheVariants as commands
@@ -17,7 +17,7 @@ use Rattle.mc_top.specs.Course.{IsDone, Says}
 use Rattle.mc_top.specs.Statuses.{number_of, line_of}
 use Rattle.mc_top.specs.Serving.{ServesBook, ServeCauses}
 use Rattle.mc_top.specs.Init.{FoundsBook, InitCauses}
-use Rattle.mc_top.specs.Desk.{KeepsBook, KeepCauses}
+use Rattle.mc_top.specs.Operator.{OperatesBook, OperateCauses}
 
 -- how a shop served its one link, or why it took none
 abbrev pub ServesOnce : Shop → LinkView → Status → LinkView → Type 0
@@ -34,8 +34,8 @@ Obeys link disk (commands.Init founder) a status b =
     InitCauses link disk a status b × ((bytes : List ℕ) → (disk a).contents ≡ Some bytes → FoundsBook link disk founder bytes a status b)
 Obeys link disk (commands.Serve server) a status b =
     ServeCauses link disk a status b × ((bytes : List ℕ) → (disk a).contents ≡ Some bytes → ServesBook link disk server.links bytes a status b)
-Obeys link disk (commands.Desk order) a status b =
-    KeepCauses link disk order a status b × ((bytes : List ℕ) → (disk a).contents ≡ Some bytes → KeepsBook link disk order bytes a status b)
+Obeys link disk (commands.Operate operation) a status b =
+    OperateCauses link disk operation a status b × ((bytes : List ℕ) → (disk a).contents ≡ Some bytes → OperatesBook link disk operation bytes a status b)
 
 -- the number that is answered where the line was said; where it was not, a number other than 0 stays, and 6 takes the
 -- place of 0, so that nothing is told to be done whose line is lost
@@ -55,12 +55,12 @@ pub record Ends {O : Type 0} (link : O → LinkView) (disk : O → DiskView) (st
 abbrev pub RunsAs : {O : Type 0} → (O → LinkView) → (O → DiskView) → Command → O → ℕ → O → Type 0
 RunsAs {O} link disk command a number c = (b : O) × (status : Status) × Obeys link disk command a status b × Ends link disk status b c number
 
--- The disk tells bytes that stand for a lawful history of a vendor.
+-- The disk tells bytes that encode a lawful history of a vendor.
 pub record HasVendor (d : DiskView) : Type 0 where
   pub history : History
   pub bytes : List ℕ
   pub told : d.contents ≡ Some bytes
-  pub stands : Stands history bytes
+  pub stands : Encodes history bytes
   pub lawful : IsLawful full history
   pub vendor : site_kind history ≡ Some 0
 
@@ -69,7 +69,7 @@ abbrev pub HasBook : DiskView → Command → Type 0
 HasBook d (commands.Once shop) = Unit {0}
 HasBook d (commands.Init founder) = Unit {0}
 HasBook d (commands.Serve server) = HasVendor d
-HasBook d (commands.Desk order) = HasVendor d
+HasBook d (commands.Operate operation) = HasVendor d
 
 -- the statuses of a command that has its book, where no call failed: it is done, memory was refused, or a
 -- refusal is told
@@ -77,4 +77,4 @@ abbrev pub EndsWell : Command → ℕ → Type 0
 EndsWell (commands.Once shop) number = (number ≡ 0) ⊎ (number ≡ 5)
 EndsWell (commands.Init founder) number = (number ≡ 0) ⊎ ((number ≡ 5) ⊎ (number ≡ 7))
 EndsWell (commands.Serve server) number = (number ≡ 0) ⊎ (number ≡ 5)
-EndsWell (commands.Desk order) number = (number ≡ 0) ⊎ ((number ≡ 5) ⊎ (number ≡ 7))
+EndsWell (commands.Operate operation) number = (number ≡ 0) ⊎ ((number ≡ 5) ⊎ (number ≡ 7))

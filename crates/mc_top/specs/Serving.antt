@@ -9,37 +9,37 @@ use Rattle.ledger_model.specs.Histories.{History, time}
 use Rattle.ledger_model.specs.Lawful.{IsLawful}
 use Rattle.ledger_model.specs.Laws.{AreDistinct}
 use Rattle.ledger_model.specs.Pieces.{accepted}
-use Rattle.scrip_journal.specs.Layout.{header, Stands}
+use Rattle.scrip_journal.specs.Layout.{header, Encodes}
 use Rattle.house_core.specs.Opening.{SpoilsAt, IsUnlawfulAt, IsOfOther}
 use Rattle.house_core.specs.Session.{State}
 use Rattle.house_serving.specs.declared.serving.Clock.TheVariants.{OfLinks}
 use Rattle.house_serving.specs.Steps.{Did, sent_of, state_after}
 use Rattle.house_serving.specs.Course.{ServedAll, ServedSome}
 use Rattle.house_serving.specs.Orders.{InOrder, IsEither, InDoubt}
-use Rattle.house_serving.specs.Doubts.{DoubtLinks}
+use Rattle.house_serving.specs.InDoubt.{InDoubtLinks}
 use Rattle.house_serving.specs.Links.{TakesNoLink}
 use Rattle.mc_top.specs.declared.status.Status.{Status}
 use Rattle.mc_top.specs.declared.status.Status.TheVariants as ends
 use Rattle.mc_top.specs.Opening.{full}
 
--- the bytes of the book stood for the history of this state, at its time
-pub record Stood (bytes : List ℕ) (s : State) : Type 0 where
-  pub stands : Stands s.history bytes
+-- the bytes of the book encoded the history of this state, at its time
+pub record EncodesState (bytes : List ℕ) (s : State) : Type 0 where
+  pub stands : Encodes s.history bytes
   pub time' : s.time ≡ time s.history
 
--- The disk tells bytes that stand for a lawful history, in which no identity was accepted twice, and so does
+-- The disk tells bytes that encode a lawful history, in which no identity was accepted twice, and so does
 -- each image that a crash may leave now.
-pub record StandsLawful (d : DiskView) (h : History) : Type 0 where
+pub record EncodesLawful (d : DiskView) (h : History) : Type 0 where
   pub bytes : List ℕ
   pub told : d.contents ≡ Some bytes
-  pub stands : Stands h bytes
+  pub stands : Encodes h bytes
   pub lawful : IsLawful full h
   pub once : AreDistinct (accepted h)
-  pub lasts : (image : List ℕ) → d.leaves image → Stands h image
+  pub lasts : (image : List ℕ) → d.leaves image → Encodes h image
 
--- Each image that a crash may leave stands for the history with the entry or without it. With it the history
+-- Each image that a crash may leave encodes the history with the entry or without it. With it the history
 -- is lawful, and no identity was accepted twice in it.
-pub record StandsEither (d : DiskView) (h : History) (e : Entry) : Type 0 where
+pub record EncodesEither (d : DiskView) (h : History) (e : Entry) : Type 0 where
   pub leaves : (image : List ℕ) → d.leaves image → IsEither h e image
   pub lawful : IsLawful full (h ++ e ∷ [])
   pub once : AreDistinct (accepted (h ++ e ∷ []))
@@ -48,19 +48,19 @@ pub record StandsEither (d : DiskView) (h : History) (e : Entry) : Type 0 where
 abbrev pub ServePair : Type 0 → DiskView → State → List Did → List ℕ → List ℕ → Type 0
 ServePair tells before s steps image sent = (before.leaves image × (sent ≡ before.aside)) ⊎ InOrder tells s before.aside steps image sent
 
--- From the history that the book stood for these steps led to the one that the disk stands for, and each
+-- From the history that the book encoded these steps led to the one that the disk encodes, and each
 -- crash pair is in order.
 pub record ServedFrom {O : Type 0} (link : O → LinkView) (disk : O → DiskView) (bytes : List ℕ) (a b : O) (s : State) (steps : List Did) : Type 0 where
-  pub stood : Stood bytes s
-  pub left : StandsLawful (disk b) (state_after s steps).history
+  pub encoded : EncodesState bytes s
+  pub left : EncodesLawful (disk b) (state_after s steps).history
   pub pairs : Ran (disk a) (disk b) (ServePair (IsSome (link a).sessions) (disk a) s steps)
 
 -- After these steps a request was taken, and up to that moment the disk had not failed and each crash pair is
 -- in order. Then the disk failed while this entry was written, which may follow, and so much of the refusal
 -- was sent.
 pub record HaltedFrom {O : Type 0} (link : O → LinkView) (disk : O → DiskView) (bytes : List ℕ) (a b : O) (s : State) (steps : List Did) (e : Entry) (said : List ℕ) : Type 0 where
-  pub stood : Stood bytes s
-  pub left : StandsEither (disk b) (state_after s steps).history e
+  pub encoded : EncodesState bytes s
+  pub left : EncodesEither (disk b) (state_after s steps).history e
   pub taken : O
   pub quiet : (disk taken).faults ≡ (disk a).faults
   pub aside : IsSome (link a).sessions → (disk taken).aside ≡ (disk a).aside ++ sent_of steps
@@ -91,7 +91,7 @@ ServesLinksOf link disk links bytes a (ends.Served n) b =
 ServesLinksOf link disk links bytes a ends.LinkFault b =
     (s : State) × (steps : List Did) × ServedFrom link disk bytes a b s steps × ServedSome full OfLinks links steps s (link a) (link b)
 ServesLinksOf link disk links bytes a ends.DiskFault b =
-    (s : State) × (steps : List Did) × (e : Entry) × (said : List ℕ) × HaltedFrom link disk bytes a b s steps e said × DoubtLinks full links steps s (link a) e said (link b)
+    (s : State) × (steps : List Did) × (e : Entry) × (said : List ℕ) × HaltedFrom link disk bytes a b s steps e said × InDoubtLinks full links steps s (link a) e said (link b)
 ServesLinksOf link disk links bytes a ends.NoMemory b = Unserved link disk a b
 ServesLinksOf link disk links bytes a _ b = ⊥
 

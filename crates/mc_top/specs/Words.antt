@@ -42,7 +42,7 @@ terms_of shop issuer = record { issuer = issuer; period = 4096; life = 8192; scr
 -- ---- `vendor init BOOK NAME PERIOD LIFE SCRIP CUSTOMER [--keep S] [--clear]`
 
 -- a word that names a book or a place to listen at has 1 to 255 bytes
-pub record IsPlace (word : List ℕ) : Type 0 where
+pub record IsPathOrAddress (word : List ℕ) : Type 0 where
   pub some : 0 < length word
   pub short : length word ≤ 255
 
@@ -83,7 +83,7 @@ pub record IsKeepingTime (keep : ℕ) : Type 0 where
 
 -- the ranges of a founder
 pub record IsFounder (founder : Founder) : Type 0 where
-  pub book : IsPlace founder.book
+  pub book : IsPathOrAddress founder.book
   pub name : IsName founder.name
   pub period : HasPeriod founder.period founder.life
   pub scrip : IsSecretList founder.scrip
@@ -117,8 +117,8 @@ pub record Server : Type 0 where
 
 -- the ranges of a server
 pub record IsServer (server : Server) : Type 0 where
-  pub book : IsPlace server.book
-  pub listen : IsPlace server.listen
+  pub book : IsPathOrAddress server.book
+  pub listen : IsPathOrAddress server.listen
   pub links : IsNumber (2 ^ 32 - 1) server.links
 
 -- the words are `vendor serve BOOK LISTEN LINKS` of this server
@@ -142,7 +142,7 @@ IsKind kind = kind < 3
 
 -- the ranges of a listing
 pub record IsListing (listing : Listing) : Type 0 where
-  pub book : IsPlace listing.book
+  pub book : IsPathOrAddress listing.book
   pub target : IsTarget listing.target
   pub price : IsNumber (2 ^ 40) listing.price
   pub kind : IfSome listing.kind IsKind
@@ -167,7 +167,7 @@ pub record Pricing : Type 0 where
 
 -- the ranges of a pricing
 pub record IsPricing (pricing : Pricing) : Type 0 where
-  pub book : IsPlace pricing.book
+  pub book : IsPathOrAddress pricing.book
   pub target : IsTarget pricing.target
   pub price : IsNumber (2 ^ 40) pricing.price
 
@@ -195,7 +195,7 @@ pub record Licensing : Type 0 where
 
 -- the ranges of a licensing
 pub record IsLicensing (licensing : Licensing) : Type 0 where
-  pub book : IsPlace licensing.book
+  pub book : IsPathOrAddress licensing.book
   pub issuer : IsNumber 255 licensing.issuer
   pub period : HasPeriod licensing.period licensing.life
   pub scrip : IsSecretList licensing.scrip
@@ -222,7 +222,7 @@ pub record Minting : Type 0 where
 
 -- the ranges of a minting
 pub record IsMinting (minting : Minting) : Type 0 where
-  pub book : IsPlace minting.book
+  pub book : IsPathOrAddress minting.book
   pub count : IsNumber 256 minting.count
   pub value : IsNumber (2 ^ 40) minting.value
   pub reference : IsName minting.reference

@@ -1,5 +1,5 @@
 use crate::founder::Founder;
-use crate::order::Order;
+use crate::operation::Operation;
 use crate::server::Server;
 use crate::shop::Shop;
 use mc_base::List;
@@ -13,8 +13,8 @@ pub(crate) enum Command<'a> {
     Init(Founder<'a>),
     /// Serves the vendor of a book.
     Serve(Server<'a>),
-    /// Has something done to the book of a vendor, as its keeper.
-    Desk(Order<'a>),
+    /// Has something done to the book of a vendor, as its operator.
+    Operate(Operation<'a>),
 }
 
 /// The places that the words name, for the program to open before it does what they say. A place is the

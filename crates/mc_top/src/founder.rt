@@ -3,7 +3,7 @@ ghost use Rattle.scrip_form.specs.Texts.{IsName};
 ghost use Rattle.scrip_form.specs.Issuing.{HasPeriod};
 ghost use Rattle.mc_records.specs.Entry.{Fits};
 ghost use Rattle.mc_records.specs.Views.{entry};
-ghost use Rattle.mc_top.specs.Words.{IsPlace, IsSecretList, IsKeepingTime};
+ghost use Rattle.mc_top.specs.Words.{IsPathOrAddress, IsSecretList, IsKeepingTime};
 ghost use Rattle.mc_top.specs.Founding.{site_of};
 
 use mc_base::Moment;
@@ -44,7 +44,7 @@ impl<'a> Founder<'a> {
         keep: Option<u32>,
         clear: bool,
     ) -> Founder<'a>
-        requires book { IsPlace book.now }
+        requires book { IsPathOrAddress book.now }
         requires name { IsName name }
         requires issuer { terms.issuer ≡ 0 }
         requires period { HasPeriod terms.period terms.life }

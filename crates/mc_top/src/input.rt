@@ -1,7 +1,7 @@
 //! An operator's input.
 
 ghost use Rattle.std.specs.Prelude.{◌≡◌, ◌^◌, ◌<◌, ◌+◌, ◌≤◌, ℕ, List, length, take, IsTrue, IfOk, IfErr, OnErr};
-ghost use Rattle.mc_outside.specs.LinkView.{heard, Failed};
+ghost use Rattle.mc_outside.specs.LinkView.{after_recv, Failed};
 ghost use Rattle.mc_top.specs.Inputs.{IsInput, InputFailed, Receives};
 
 use mc_base::NoMemory;
@@ -56,7 +56,7 @@ fn receive<K: Link>(k: &mut K, buf: &mut [u8]) -> Result<usize, LinkFault>
     ensures moved { K.link_moved k.old k.new }
     ensures len { length buf.new ≡ length buf.old }
     ensures received { IfOk result (λ n. Receives (length buf.old) (K.link k.old) n (take n buf.new) (K.link k.new)) }
-    ensures failed { OnErr result ((got : List ℕ) × Failed (heard got (K.link k.old)) (K.link k.new)) }
+    ensures failed { OnErr result ((got : List ℕ) × Failed (after_recv got (K.link k.old)) (K.link k.new)) }
 {
     let mut len = 0;
     while len < buf.len() {

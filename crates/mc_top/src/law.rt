@@ -3,7 +3,7 @@ ghost use Rattle.mc_outside.specs.Bytes.{BeginsWith};
 ghost use Rattle.ledger_model.specs.Histories.{History};
 ghost use Rattle.ledger_model.specs.Houses.{site_kind};
 ghost use Rattle.ledger_model.specs.Lawful.{IsLawful};
-ghost use Rattle.scrip_journal.specs.Layout.{header, Stands};
+ghost use Rattle.scrip_journal.specs.Layout.{header, Encodes};
 ghost use Rattle.house_core.specs.Opening.{SpoilsAt, IsUnlawfulAt, IsOfOther};
 ghost use Rattle.mc_top.specs.Commands.{AreWords};
 ghost use Rattle.mc_top.specs.Opening.{full};
@@ -14,12 +14,12 @@ pub fn words_are_of_one_command()
     ensures { (words : List (List ℕ)) (a b : Command) → AreWords words a → AreWords words b → a ≡ b }
 {}
 
-/// Bytes that stand for a lawful history of a vendor give no cause to refuse the book: they begin with the
+/// Bytes that encode a lawful history of a vendor give no cause to refuse the book: they begin with the
 /// header, nothing in them can't stand, no entry breaks, and the site is of no other kind. So `vendor serve`
 /// ends on them with neither status 3 nor 7.
 pub fn lawful_books_are_opened()
-    ensures header { (h : History) (bytes : List ℕ) → Stands h bytes → BeginsWith header bytes }
-    ensures whole { (h : History) (bytes : List ℕ) (place : ℕ) → Stands h bytes → SpoilsAt full 0 bytes place → ⊥ }
-    ensures lawful { (h : History) (bytes : List ℕ) (place : ℕ) → Stands h bytes → IsLawful full h → IsUnlawfulAt full 0 bytes place → ⊥ }
-    ensures kind { (h : History) (bytes : List ℕ) → Stands h bytes → site_kind h ≡ Some 0 → IsOfOther 0 bytes → ⊥ }
+    ensures header { (h : History) (bytes : List ℕ) → Encodes h bytes → BeginsWith header bytes }
+    ensures whole { (h : History) (bytes : List ℕ) (place : ℕ) → Encodes h bytes → SpoilsAt full 0 bytes place → ⊥ }
+    ensures lawful { (h : History) (bytes : List ℕ) (place : ℕ) → Encodes h bytes → IsLawful full h → IsUnlawfulAt full 0 bytes place → ⊥ }
+    ensures kind { (h : History) (bytes : List ℕ) → Encodes h bytes → site_kind h ≡ Some 0 → IsOfOther 0 bytes → ⊥ }
 {}

@@ -2,14 +2,14 @@
 #![tactic(auto)]
 
 mod command;
-mod desk;
 mod founder;
 mod init;
 mod input;
 mod law;
 mod lines;
 mod naming;
-mod order;
+mod operation;
+mod operator;
 mod program;
 mod server;
 mod serving;

@@ -1,8 +1,8 @@
-//! The lines that are said of what a vendor's keeper has done.
+//! The lines that are said of what a vendor's operator has done.
 
 ghost use Rattle.std.specs.Prelude.{◌≡◌, ◌++◌, OnOk, IfOk, codes, decimal};
 ghost use Rattle.mc_top.specs.Words.{joined};
-ghost use Rattle.mc_top.specs.Desk.{goods_line, licence_line};
+ghost use Rattle.mc_top.specs.Operator.{goods_line, licence_line};
 
 use itoa::Buffer;
 use mc_base::{Amount, List, NoMemory};

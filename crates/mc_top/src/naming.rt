@@ -27,8 +27,8 @@ pub fn places(alloc: Global, words: &[String]) -> Result<Places, NoMemory>
             listen: Some(list_of(alloc, server.listen())?),
             connect: None,
         }),
-        Some(Command::Desk(order)) => Ok(Places {
-            site: Some(list_of(alloc, order.book())?),
+        Some(Command::Operate(operation)) => Ok(Places {
+            site: Some(list_of(alloc, operation.book())?),
             founds: false,
             books,
             listen: None,

@@ -9,8 +9,8 @@ ghost use Rattle.mc_top.specs.Programs.{Obeys, Ends, RunsAs, HasBook, EndsWell};
 ghost use Rattle.mc_top.specs.Statuses.{number_of};
 
 use crate::command::Command;
-use crate::desk::keep_book;
 use crate::init::found_book;
+use crate::operator::operate_book;
 use crate::serving::serve_book;
 use crate::shop::Shop;
 use crate::status::Status;
@@ -35,7 +35,7 @@ pub struct Ran<O, D> {
 /// disk. `vendor init BOOK NAME PERIOD LIFE SCRIP CUSTOMER [--keep S] [--clear]` founds a vendor in the
 /// book on the outside's disk. `vendor serve BOOK LISTEN LINKS` serves so many links by the house of that
 /// book, or all that come. `vendor goods`, `vendor price`, `vendor licence` and `vendor mint` enter into that
-/// book what its keeper says, at the reading of the clock; the contents of goods come on one link.
+/// book what its operator says, at the reading of the clock; the contents of goods come on one link.
 ///
 /// 0: it is done. 2: the words are of no command, or there are books; nothing was touched but what is said.
 /// 3: the book that is opened is no journal, or has bytes that can't stand, or an entry that may not follow.
@@ -83,7 +83,7 @@ fn obey<O: Outside>(alloc: Global, command: &Command<'_>, out: O) -> (O, Status)
         }
         Command::Init(founder) => found_book(alloc, founder, out),
         Command::Serve(server) => serve_book(alloc, server.links(), out),
-        Command::Desk(order) => keep_book(alloc, order, out),
+        Command::Operate(operation) => operate_book(alloc, operation, out),
     }
 }
 

@@ -1,6 +1,6 @@
 ghost use Rattle.std.specs.Prelude.{◌≡◌, ◌-◌, ◌^◌};
 ghost use Rattle.mc_fields.specs.Texts.{IsNumber};
-ghost use Rattle.mc_top.specs.Words.{IsPlace};
+ghost use Rattle.mc_top.specs.Words.{IsPathOrAddress};
 
 use std::marker::Model;
 
@@ -25,8 +25,8 @@ impl<'a> Model for Server<'a> {
 impl<'a> Server<'a> {
     /// The server of these texts and this number.
     pub(crate) fn new(book: &'a [u8], listen: &'a [u8], links: u32) -> Server<'a>
-        requires book { IsPlace book.now }
-        requires listen { IsPlace listen.now }
+        requires book { IsPathOrAddress book.now }
+        requires listen { IsPathOrAddress listen.now }
         requires links { IsNumber (2 ^ 32 - 1) links }
         ensures { result ≡ record { book = book.entry.now; listen = listen.entry.now; links = links } }
     {

@@ -4,7 +4,7 @@ ghost use Rattle.scrip_form.specs.Texts.{IsName, IsTarget};
 ghost use Rattle.scrip_form.specs.Scrip.{IsCert};
 ghost use Rattle.mc_records.specs.Entry.{Fits, moment_of};
 ghost use Rattle.mc_records.specs.Views.{entry};
-ghost use Rattle.house_core.specs.Noting.{IsCommand};
+ghost use Rattle.house_core.specs.CommandEntries.{IsCommand};
 ghost use Rattle.ledger_model.specs.Histories.{History};
 ghost use Rattle.mc_top.specs.Words.{terms_of};
 ghost use Rattle.mc_top.specs.Opening.{founding, opening, IsOpen, MayEnter};

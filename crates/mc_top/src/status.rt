@@ -16,7 +16,7 @@ pub(crate) enum Status {
     Served(u32),
     /// A site of this name was founded.
     Founded(Name),
-    /// What the keeper of a book has said was done. This is said of it.
+    /// What the operator of a book has said was done. This is said of it.
     Did(List<u8>),
     BadWords,
     NotJournal,

@@ -1,5 +1,5 @@
 ghost use Rattle.std.specs.Prelude.{◌≡◌, ◌≢◌, ◌↔◌, map, length, string_bytes, IfSome, IsNone, IsTrue};
-ghost use Rattle.mc_top.specs.Words.{AreWordsOf, AreBadWords, IsPlace};
+ghost use Rattle.mc_top.specs.Words.{AreWordsOf, AreBadWords, IsPathOrAddress};
 ghost use Rattle.mc_top.specs.Commands.{AreWords, AreNoWords};
 ghost use Rattle.mc_top.specs.WordLists.{once_words};
 
@@ -9,8 +9,8 @@ mod kind;
 mod licence;
 mod mint;
 mod number;
+mod operation;
 mod options;
-mod order;
 mod secrets;
 mod serve;
 mod terms;
@@ -19,7 +19,7 @@ use crate::command::Command;
 use crate::shop::Shop;
 use init::founder_of;
 use number::amount_of;
-use order::order_of;
+use operation::operation_of;
 use scrip_certs::of_hex;
 use scrip_form::{Name, Target};
 use serve::server_of;
@@ -44,12 +44,12 @@ pub(crate) fn command_of(words: &[String]) -> Option<Command<'_>>
     if let Some(server) = server_of(words) {
         return Some(Command::Serve(server));
     }
-    Some(Command::Desk(order_of(words)?))
+    Some(Command::Operate(operation_of(words)?))
 }
 
 /// Whether the word can name a book or a place to listen at.
 fn is_place(word: &[u8]) -> bool
-    ensures { IsTrue result ↔ IsPlace word.now }
+    ensures { IsTrue result ↔ IsPathOrAddress word.now }
 {
     !word.is_empty() && word.len() <= MOST_PLACE
 }

@@ -173,7 +173,7 @@ impl<F: OpenFile + FileExt> Book<F> {
 
     /// `sync_data` (`fdatasync`) makes the bytes last and what is needed to read them, so the length too,
     /// whether it grew or was cut; `sync_all` would write the times as well.
-    fn settle(&self) -> io::Result<()> {
+    fn sync_data(&self) -> io::Result<()> {
         self.opened()?.sync_data()
     }
 }
@@ -214,7 +214,7 @@ impl<F: OpenFile + FileExt> Disk for Book<F> {
     }
 
     fn sync(&mut self) -> Result<(), DiskFault> {
-        let answer = self.settle();
+        let answer = self.sync_data();
         counted(&mut self.faults, answer, DiskFault)
     }
 }

@@ -4,7 +4,7 @@ use Rattle.std.specs.Prelude.{slice_range}
 use Rattle.mc_records.specs.declared.refusal.Refusal.TheVariants.{HeadTooLarge}
 use Rattle.millicent_http.specs.HeadEnds.{line_ends, HasNoEnd, IsFirstEnd}
 use Rattle.millicent_http.specs.Items.{Item, refused, max_head, ReadsItem, NextItem}
-use Rattle.mc_outside.specs.LinkView.{LinkView, heard}
+use Rattle.mc_outside.specs.LinkView.{LinkView, after_recv}
 use Rattle.millicent_http.specs.Held.{Held, IsBuffer}
 use Rattle.millicent_http.specs.declared.item.HeadOut.{HeadOut}
 use Rattle.millicent_http.specs.declared.item.HeadOut.TheVariants.{Head, Refused, End, Fault}
@@ -63,12 +63,12 @@ leads_on old Fault new before link g e = absurd g
 
 -- bytes came, and then an item of the bytes held was given
 pub took_item : (old mid : Held) (before link : LinkView) (out : HeadOut) (new : Held) (got : List ℕ) → mid.bytes ≡ old.bytes ++ got → mid.given ≡ old.given
-    → length got ≤ max_head → WaitedFor old.bytes got → link ≡ heard got before → Gave mid out new → Took old before out new link
+    → length got ≤ max_head → WaitedFor old.bytes got → link ≡ after_recv got before → Gave mid out new → Took old before out new link
 took_item old mid before link out new got bytes given few waited came gave =
     let same : mid ≡ with_more old got = λ i. record { bytes = bytes i; given = given i } in
     record {
       got = got;
       few = few;
       waited = waited;
-      leads = leads_on (with_more old got) out new (heard got before) link (subst (λ (h : Held). Gave h out new) same gave) came;
+      leads = leads_on (with_more old got) out new (after_recv got before) link (subst (λ (h : Held). Gave h out new) same gave) came;
     }

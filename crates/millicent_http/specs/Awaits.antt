@@ -4,21 +4,21 @@ use Rattle.millicent_http.specs.declared.reader.Awaited.{Awaited}
 use Rattle.millicent_http.specs.declared.reader.Awaited.TheVariants.{Head, TooLarge, End, Fault}
 use Rattle.millicent_http.specs.HeadEnds.{HasNoEnd, IsFirstEnd}
 use Rattle.millicent_http.specs.Items.{max_head, EndsNoItem}
-use Rattle.mc_outside.specs.LinkView.{LinkView, heard, finished, Failed}
+use Rattle.mc_outside.specs.LinkView.{LinkView, after_recv, after_eof, Failed}
 use Rattle.millicent_http.specs.Takes.{WaitedFor}
 
 -- these bytes came from the link, and are held behind the old ones
 pub record Came (old : List ℕ) (before : LinkView) (new : List ℕ) (after : LinkView) : Type 0 where
   pub got : List ℕ
   pub held : new ≡ old ++ got
-  pub link : after ≡ heard got before
+  pub link : after ≡ after_recv got before
   pub waited : WaitedFor old got
 
 -- from the link before to the link after
 abbrev pub Leads : Awaited → LinkView → LinkView → Type 0
 Leads (Head end) before after = after ≡ before
 Leads TooLarge before after = after ≡ before
-Leads End before after = after ≡ finished before
+Leads End before after = after ≡ after_eof before
 Leads Fault before after = Failed before after
 
 -- what the bytes held are then
@@ -32,7 +32,7 @@ Stops Fault bytes = EndsNoItem bytes
 pub record Awaits (old : List ℕ) (before : LinkView) (result : Awaited) (new : List ℕ) (after : LinkView) : Type 0 where
   pub got : List ℕ
   pub held : new ≡ old ++ got
-  pub leads : Leads result (heard got before) after
+  pub leads : Leads result (after_recv got before) after
   pub stops : Stops result new
   pub within : length new ≤ max_head
   pub few : length got ≤ max_head

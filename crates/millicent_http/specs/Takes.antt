@@ -1,6 +1,6 @@
 -- What a reader of heads gives, as items of the link.
 use Rattle.std.specs.Prelude.{◌≡◌, ◌↔◌, ◌⊎◌, ℕ, ◌+◌, ◌≤◌, length, min, Bool, true, List, [], ◌++◌}
-use Rattle.mc_outside.specs.LinkView.{LinkView, heard, finished, Failed}
+use Rattle.mc_outside.specs.LinkView.{LinkView, after_recv, after_eof, Failed}
 use Rattle.mc_records.specs.Requests.{asked_of}
 use Rattle.millicent_http.specs.declared.item.ItemRef.{ItemRef}
 use Rattle.millicent_http.specs.declared.item.ItemRef.TheVariants.{Request as RequestItem, Refused as RefusedItem}
@@ -35,7 +35,7 @@ Gave old Fault new = ⊥
 abbrev pub LeadsTo : Held → HeadOut → Held → LinkView → LinkView → Type 0
 LeadsTo old (Head q after) new before link = Gave old (Head q after) new × (link ≡ before)
 LeadsTo old (Refused f after) new before link = Gave old (Refused f after) new × (link ≡ before)
-LeadsTo old End new before link = (new ≡ old) × EndsNoItem old.bytes × (link ≡ finished before)
+LeadsTo old End new before link = (new ≡ old) × EndsNoItem old.bytes × (link ≡ after_eof before)
 LeadsTo old Fault new before link = (new ≡ old) × EndsNoItem old.bytes × Failed before link
 
 -- the bytes held, with these received behind them
@@ -52,4 +52,4 @@ pub record Took (old : Held) (before : LinkView) (out : HeadOut) (new : Held) (l
   pub got : List ℕ
   pub few : length got ≤ max_head
   pub waited : WaitedFor old.bytes got
-  pub leads : LeadsTo (with_more old got) out new (heard got before) link
+  pub leads : LeadsTo (with_more old got) out new (after_recv got before) link

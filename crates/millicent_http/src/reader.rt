@@ -55,7 +55,7 @@ impl HeadReader {
     ghost use Rattle.std.specs.Prelude.{◌≡◌, ◌↔◌, true, false, min, ⊤, ◌+◌, ◌<◌, ◌≤◌, ◌++◌, [], List, ℕ, length, take, drop, IfOk, OnErr, IfSome, IfNone, IsTrue};
     ghost use Rattle.millicent_http.specs.HeadEnds.{line_ends, HasNoEnd, IsFirstEnd};
     ghost use Rattle.millicent_http.specs.Items.{max_head, EndsNoItem};
-    ghost use Rattle.mc_outside.specs.LinkView.{heard, finished, Failed};
+    ghost use Rattle.mc_outside.specs.LinkView.{after_recv, after_eof, Failed};
     ghost use Rattle.millicent_http.specs.Held.{Held, nothing_held};
     ghost use Rattle.millicent_http.specs.Awaits.{Awaits};
     ghost use Rattle.millicent_http.specs.Takes.{Gave, Took};
@@ -214,8 +214,8 @@ impl HeadReader {
         ensures moved { K.link_moved k.old k.new }
         ensures given { self.new.given ≡ self.old.given }
         ensures piece { IfOk result (λ n. 0 < n → (piece : List ℕ) × (length piece ≡ n)
-            × (self.new.bytes ≡ self.old.bytes ++ piece) × (K.link k.new ≡ heard piece (K.link k.old))) }
-        ensures end { IfOk result (λ n. n ≡ 0 → (self.new.bytes ≡ self.old.bytes) × (K.link k.new ≡ finished (K.link k.old))) }
+            × (self.new.bytes ≡ self.old.bytes ++ piece) × (K.link k.new ≡ after_recv piece (K.link k.old))) }
+        ensures end { IfOk result (λ n. n ≡ 0 → (self.new.bytes ≡ self.old.bytes) × (K.link k.new ≡ after_eof (K.link k.old))) }
         ensures fault { OnErr result ((self.new.bytes ≡ self.old.bytes) × Failed (K.link k.old) (K.link k.new)) }
     {
         move_to_front(&mut self.buf, self.start, self.end);
@@ -228,7 +228,7 @@ impl HeadReader {
 }
 
 ghost use Rattle.std.specs.Prelude.{◌≡◌, ◌+◌, ◌-◌, ◌<◌, ◌≤◌, length, take, slice_range, vec_len, IfOk, OnErr, IsTrue};
-ghost use Rattle.mc_outside.specs.LinkView.{heard, finished, Failed};
+ghost use Rattle.mc_outside.specs.LinkView.{after_recv, after_eof, Failed};
 
 /// Moves the bytes from `start` to `end` to the front.
 fn move_to_front(buf: &mut Vec<u8>, start: usize, end: usize)
@@ -250,8 +250,8 @@ fn receive_at<K: Link>(k: &mut K, buf: &mut Vec<u8>, at: usize) -> Result<usize,
     ensures len { length buf.new.items ≡ length buf.old.items }
     ensures front { take at buf.new.items ≡ take at buf.old.items }
     ensures within { IfOk result (λ n. at + n ≤ length buf.new.items) }
-    ensures piece { IfOk result (λ n. 0 < n → K.link k.new ≡ heard (slice_range buf.new.items at (at + n)) (K.link k.old)) }
-    ensures end { IfOk result (λ n. n ≡ 0 → K.link k.new ≡ finished (K.link k.old)) }
+    ensures piece { IfOk result (λ n. 0 < n → K.link k.new ≡ after_recv (slice_range buf.new.items at (at + n)) (K.link k.old)) }
+    ensures end { IfOk result (λ n. n ≡ 0 → K.link k.new ≡ after_eof (K.link k.old)) }
     ensures fault { OnErr result (Failed (K.link k.old) (K.link k.new)) }
 {
     k.recv(&mut buf[at..])

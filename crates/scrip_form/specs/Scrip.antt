@@ -63,7 +63,7 @@ IsScripText bytes = (p : Scrip) × (cert : List ℕ) × IsTextOf bytes p cert
 abbrev pub BeginsScripText : List ℕ → Type 0
 BeginsScripText front = (rest : List ℕ) × IsScripText (front ++ rest)
 
--- the first bytes, as many as place says, are the longest front that begins a scrip text
+-- the first bytes, as many as place says, are the longest prefix that begins a scrip text
 pub record IsFaultPlace (bytes : List ℕ) (place : ℕ) : Type 0 where
   pub within : place ≤ length bytes
   pub begins : BeginsScripText (take place bytes)

@@ -4,7 +4,7 @@ use Rattle.std.specs.Prelude.{option_map}
 use Rattle.mc_outside.specs.Bytes.{put}
 use Rattle.mc_outside.specs.DiskView.{DiskView, DiskGoes, CallPairs, Follows, LeavesNoMore, IsSynced, Torn, CutShort, Ran}
 use Rattle.mc_outside.proofs.Runs.{ran_quiet, ran_then}
-use Rattle.scrip_journal.specs.Layout.{header, body, Stands}
+use Rattle.scrip_journal.specs.Layout.{header, body, Encodes}
 use Rattle.scrip_journal.specs.States.{AtRest, IsJournal}
 use Rattle.scrip_journal.specs.Opens.{NoLonger}
 
@@ -44,8 +44,8 @@ module _ (a b : DiskView) (goes : DiskGoes a b) (pairs : CallPairs a b) (cut : F
         ran_then a w s (NoLonger a) write_ran
         (quietly a s w (goes_on.aside ∙ goes.aside) last last_pairs (after_write a b w cut written) (λ c l. after_write a b w cut written c (less c l)))
 
--- the header and a closed gate stand for no entries
-pub empty_stands : Stands [] (77 ∷ 67 ∷ 74 ∷ 82 ∷ 78 ∷ 76 ∷ 49 ∷ 10 ∷ 0 ∷ [])
+-- the header and a closed gate encode no entries
+pub empty_stands : Encodes [] (77 ∷ 67 ∷ 74 ∷ 82 ∷ 78 ∷ 76 ∷ 49 ∷ 10 ∷ 0 ∷ [])
 unfolding header
 empty_stands = record { fits = tt; most = omega arith; gate = 0; rest = []; closed = λ e. absurd (cc e); shape = refl }
 

@@ -6,7 +6,7 @@ use Rattle.mc_outside.specs.Bytes.{BeginsWith}
 use Rattle.mc_outside.specs.DiskView.{DiskView}
 use Rattle.mc_records.specs.Entry.{Entry, Fits, payload}
 use Rattle.mc_records.specs.Sizes.{tail, entry_size, size}
-use Rattle.scrip_journal.specs.Layout.{body, framed, next_of, at_end, spoiled, Stands, Reads, IsSpoiled}
+use Rattle.scrip_journal.specs.Layout.{body, framed, next_of, at_end, spoiled, Encodes, Reads, IsSpoiled}
 use Rattle.scrip_journal.specs.States.{Reading, AtRest, IsReading, IsJournal, EndedBy}
 use Rattle.scrip_journal.specs.Replays.{SameBut, HeldOf, ReadAhead, IsFrame, EndsHere}
 use Rattle.scrip_journal.specs.declared.ending.Ending.{Ending}
@@ -91,7 +91,7 @@ module _ {D : Type 0} (view : D → DiskView) (a : Reading D) (h : List Entry) (
       })
 
   -- at a closed gate
-  pub stands_here : next_of h r.rest ≡ at_end → Stands h r.bytes
+  pub stands_here : next_of h r.rest ≡ at_end → Encodes h r.bytes
   stands_here e =
       let g = at_end_is h r.rest e in
       record { fits = r.fits; most = r.most; gate = g.0; rest = g.1; closed = g.2; shape = r.shape ∙ ap (λ (l : List ℕ). body h ++ l) g.3 }

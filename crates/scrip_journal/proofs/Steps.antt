@@ -6,9 +6,9 @@ use Rattle.mc_outside.specs.DiskView.{DiskView, DiskGoes, CallPairs, Follows, Le
 use Rattle.mc_outside.proofs.Runs.{ran_quiet, ran_then}
 use Rattle.mc_records.specs.Entry.{Entry, Fits}
 use Rattle.mc_records.specs.Sizes.{size, entry_size}
-use Rattle.scrip_journal.specs.Layout.{framed, body, Stands}
+use Rattle.scrip_journal.specs.Layout.{framed, body, Encodes}
 use Rattle.scrip_journal.specs.States.{AtRest, WithNext, IsJournal, IsStaged}
-use Rattle.scrip_journal.specs.Exits.{StandsQuiet, EitherQuiet}
+use Rattle.scrip_journal.specs.Exits.{EncodesNoOutput, EitherNoOutput}
 use Rattle.scrip_journal.proofs.Bytes.{torn_behind, written_behind, torn_gate, written_gate}
 use Rattle.scrip_journal.proofs.Bodies.{stands_either, stands_more, body_long, size_more, framed_long}
 
@@ -16,11 +16,11 @@ module _ {D : Type 0} (view : D → DiskView) (j : AtRest D) (h : List Entry) (i
   place : gate ≡ length (body h)
   place = omega (arith, gate_is, is.size_is, body_long h)
 
-  pub now_stands : (c : List ℕ) → (view j.disk).leaves c → Stands h c
-  now_stands c l = subst (Stands h) (sym (is.synced c l)) is.stands
+  pub now_stands : (c : List ℕ) → (view j.disk).leaves c → Encodes h c
+  now_stands c l = subst (Encodes h) (sym (is.synced c l)) is.stands
 
   -- after the write behind the gate
-  pub stage_leaves : (b : DiskView) (n : ℕ) → Follows (Torn (gate + 1) n) (view j.disk) b → (c : List ℕ) → b.leaves c → Stands h c
+  pub stage_leaves : (b : DiskView) (n : ℕ) → Follows (Torn (gate + 1) n) (view j.disk) b → (c : List ℕ) → b.leaves c → Encodes h c
   stage_leaves b n follows c l =
       let from = follows c l in
       let torn : Torn (gate + 1) n is.bytes c = subst (λ (d : List ℕ). Torn (gate + 1) n d c) (is.synced from.0 from.1) from.2 in
@@ -28,15 +28,15 @@ module _ {D : Type 0} (view : D → DiskView) (j : AtRest D) (h : List Entry) (i
       record { fits = is.stands.fits; most = is.stands.most; gate = is.stands.gate; rest = t.0; closed = is.stands.closed; shape = t.1 }
 
   pub stage_ran : (b : DiskView) (n : ℕ) → DiskGoes (view j.disk) b → CallPairs (view j.disk) b → Follows (Torn (gate + 1) n) (view j.disk) b
-      → Ran (view j.disk) b (StandsQuiet h (view j.disk).aside)
-  stage_ran b n g pairs follows = ran_quiet (view j.disk) b (Stands h) (view j.disk).aside refl g pairs now_stands (stage_leaves b n follows)
+      → Ran (view j.disk) b (EncodesNoOutput h (view j.disk).aside)
+  stage_ran b n g pairs follows = ran_quiet (view j.disk) b (Encodes h) (view j.disk).aside refl g pairs now_stands (stage_leaves b n follows)
 
   -- and after the sync
   pub stage_sync_ran : (b c : DiskView) (n : ℕ) → DiskGoes (view j.disk) b → CallPairs (view j.disk) b → Follows (Torn (gate + 1) n) (view j.disk) b
-      → DiskGoes b c → CallPairs b c → LeavesNoMore b c → Ran (view j.disk) c (StandsQuiet h (view j.disk).aside)
+      → DiskGoes b c → CallPairs b c → LeavesNoMore b c → Ran (view j.disk) c (EncodesNoOutput h (view j.disk).aside)
   stage_sync_ran b c n g pairs follows g2 pairs2 less =
-      ran_then (view j.disk) b c (StandsQuiet h (view j.disk).aside) (stage_ran b n g pairs follows)
-      (ran_quiet b c (Stands h) (view j.disk).aside g.aside g2 pairs2 (stage_leaves b n follows) (λ i l. stage_leaves b n follows i (less i l)))
+      ran_then (view j.disk) b c (EncodesNoOutput h (view j.disk).aside) (stage_ran b n g pairs follows)
+      (ran_quiet b c (Encodes h) (view j.disk).aside g.aside g2 pairs2 (stage_leaves b n follows) (λ i l. stage_leaves b n follows i (less i l)))
 
   pub is_staged : (b : DiskView) (c : D) (block : List ℕ) (n : ℕ) (e : Entry) (s : WithNext D) → b.contents ≡ option_map (put (gate + 1) block) (view j.disk).contents → (view c).contents ≡ b.contents
       → IsSynced (view c) → Fits e → block ≡ framed h e ++ 0 ∷ [] → length block ≡ n → s ≡ record { disk = c; gate = gate; size = gate + n + 1; entries = j.entries; limit = j.limit } → IsStaged view s h e
@@ -71,24 +71,24 @@ module _ {D : Type 0} (view : D → DiskView) (s : WithNext D) (h : List Entry) 
   new_most : size (h ++ e ∷ []) ≤ 2 ^ 40
   new_most = omega (arith, k.size_is, most)
 
-  pub staged_stands : (c : List ℕ) → (view s.disk).leaves c → Stands h c ⊎ Stands (h ++ e ∷ []) c
+  pub staged_stands : (c : List ℕ) → (view s.disk).leaves c → Encodes h c ⊎ Encodes (h ++ e ∷ []) c
   staged_stands c l = inl (record { fits = k.fits; most = least; gate = k.gate; rest = framed h e ++ 0 ∷ k.rest; closed = k.closed; shape = k.synced c l ∙ k.shape })
 
-  pub open_leaves : (b : DiskView) → Follows (Torn s.gate 1) (view s.disk) b → (c : List ℕ) → b.leaves c → Stands h c ⊎ Stands (h ++ e ∷ []) c
+  pub open_leaves : (b : DiskView) → Follows (Torn s.gate 1) (view s.disk) b → (c : List ℕ) → b.leaves c → Encodes h c ⊎ Encodes (h ++ e ∷ []) c
   open_leaves b follows c l =
       let from = follows c l in
       let torn : Torn s.gate 1 k.bytes c = subst (λ (d : List ℕ). Torn s.gate 1 d c) (k.synced from.0 from.1) from.2 in
       let is = torn_gate (body h) s.gate place_of k.gate (framed h e ++ 0 ∷ k.rest) k.bytes k.shape c torn in
       stands_either h e (k.rest ++ is.1) c is.0 k.fits k.next_fits least new_most (is.2 ∙ ap (λ (l : List ℕ). body h ++ is.0 ∷ l) (append_assoc (framed h e) (0 ∷ k.rest) is.1))
 
-  pub open_ran : (b : DiskView) → DiskGoes (view s.disk) b → CallPairs (view s.disk) b → Follows (Torn s.gate 1) (view s.disk) b → Ran (view s.disk) b (EitherQuiet h e (view s.disk).aside)
-  open_ran b g pairs follows = ran_quiet (view s.disk) b (λ c. Stands h c ⊎ Stands (h ++ e ∷ []) c) (view s.disk).aside refl g pairs staged_stands (open_leaves b follows)
+  pub open_ran : (b : DiskView) → DiskGoes (view s.disk) b → CallPairs (view s.disk) b → Follows (Torn s.gate 1) (view s.disk) b → Ran (view s.disk) b (EitherNoOutput h e (view s.disk).aside)
+  open_ran b g pairs follows = ran_quiet (view s.disk) b (λ c. Encodes h c ⊎ Encodes (h ++ e ∷ []) c) (view s.disk).aside refl g pairs staged_stands (open_leaves b follows)
 
   pub open_sync_ran : (b c : DiskView) → DiskGoes (view s.disk) b → CallPairs (view s.disk) b → Follows (Torn s.gate 1) (view s.disk) b
-      → DiskGoes b c → CallPairs b c → LeavesNoMore b c → Ran (view s.disk) c (EitherQuiet h e (view s.disk).aside)
+      → DiskGoes b c → CallPairs b c → LeavesNoMore b c → Ran (view s.disk) c (EitherNoOutput h e (view s.disk).aside)
   open_sync_ran b c g pairs follows g2 pairs2 less =
-      ran_then (view s.disk) b c (EitherQuiet h e (view s.disk).aside) (open_ran b g pairs follows)
-      (ran_quiet b c (λ i. Stands h i ⊎ Stands (h ++ e ∷ []) i) (view s.disk).aside g.aside g2 pairs2 (open_leaves b follows) (λ i l. open_leaves b follows i (less i l)))
+      ran_then (view s.disk) b c (EitherNoOutput h e (view s.disk).aside) (open_ran b g pairs follows)
+      (ran_quiet b c (λ i. Encodes h i ⊎ Encodes (h ++ e ∷ []) i) (view s.disk).aside g.aside g2 pairs2 (open_leaves b follows) (λ i l. open_leaves b follows i (less i l)))
 
   pub is_opened : (b : DiskView) (c : D) (j : AtRest D) → b.contents ≡ option_map (put s.gate (1 ∷ [])) (view s.disk).contents → (view c).contents ≡ b.contents → IsSynced (view c)
       → j ≡ record { disk = c; size = s.size; entries = s.entries + 1; limit = s.limit } → IsJournal view j (h ++ e ∷ [])

@@ -1,4 +1,4 @@
--- Bytes are read in one way: they stand for one list of entries at most, and what spoils them has one
+-- Bytes are read in one way: they encode one list of entries at most, and what spoils them has one
 -- place.
 use Rattle.std.proofs.Common.{◌≡◌, ◌≢◌, ℕ, ◌+◌, ◌^◌, ◌≤◌, ◌<◌, List, [], ◌∷◌, ◌++◌, length, take, drop, Result, Ok, Err, refl, sym, ◌∙◌, ap, subst, arith, append_assoc, append-nil, length-append}
 use Rattle.std.specs.Int.{to_be_bytes, from_be_bytes, w32}
@@ -10,7 +10,7 @@ use Rattle.mc_records.specs.Sizes.{tail, entry_size, size_from, size}
 use Rattle.mc_records.specs.Forms.{entry_of}
 use Rattle.mc_records.proofs.EntryLaws.{no_prefix, payload_only}
 use Rattle.mc_records.proofs.PayloadSizes.{payload_is_short}
-use Rattle.scrip_journal.specs.Layout.{header, framed, gated, body, Next, at_end, entered, spoiled, next_of, Stands, Reads}
+use Rattle.scrip_journal.specs.Layout.{header, framed, gated, body, Next, at_end, entered, spoiled, next_of, Encodes, Reads}
 use Rattle.scrip_journal.proofs.Bodies.{body_long, size_more, framed_long}
 use Rattle.scrip_journal.proofs.Nexts.{payload_there, closed_there}
 
@@ -112,14 +112,14 @@ reads_one h g bytes m n a b x y =
 
 -- ---- the laws
 
-pub stands_read : (h : List Entry) (bytes : List ℕ) → Stands h bytes → Reads h bytes at_end
+pub stands_read : (h : List Entry) (bytes : List ℕ) → Encodes h bytes → Reads h bytes at_end
 stands_read h bytes s = record { fits = s.fits; most = s.most; rest = s.gate ∷ s.rest; shape = s.shape; next_is = closed_there h (length (body h)) refl s.gate s.rest s.closed }
 
-pub one_history : (h g : List Entry) (bytes : List ℕ) → Stands h bytes → Stands g bytes → h ≡ g
+pub one_history : (h g : List Entry) (bytes : List ℕ) → Encodes h bytes → Encodes g bytes → h ≡ g
 one_history h g bytes s t = (reads_one h g bytes at_end at_end (stands_read h bytes s) (stands_read g bytes t) tt tt).0
 
 pub one_place : (h g : List Entry) (bytes : List ℕ) (p q : ℕ) → Reads h bytes (spoiled p) → Reads g bytes (spoiled q) → (h ≡ g) × (p ≡ q)
 one_place h g bytes p q s t = let one = reads_one h g bytes (spoiled p) (spoiled q) s t tt tt in (one.0, cc one.1)
 
-pub not_both : (h g : List Entry) (bytes : List ℕ) (p : ℕ) → Reads h bytes (spoiled p) → Stands g bytes → ⊥
+pub not_both : (h g : List Entry) (bytes : List ℕ) (p : ℕ) → Reads h bytes (spoiled p) → Encodes g bytes → ⊥
 not_both h g bytes p s t = cc (reads_one h g bytes (spoiled p) at_end s (stands_read g bytes t) tt tt).1

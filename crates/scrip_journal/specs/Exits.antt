@@ -1,7 +1,7 @@
 -- What calls hand back, and what a crash in them leaves.
 use Rattle.std.specs.Prelude.{◌≡◌, ◌⊎◌, ℕ, List, [], ◌∷◌, ◌++◌, Result, Ok, Err}
 use Rattle.mc_records.specs.Entry.{Entry}
-use Rattle.scrip_journal.specs.Layout.{Stands}
+use Rattle.scrip_journal.specs.Layout.{Encodes}
 use Rattle.scrip_journal.specs.States.{AtRest, WithNext}
 use Rattle.scrip_journal.specs.declared.journal.StageFault.{StageFault}
 use Rattle.scrip_journal.specs.declared.journal.StageFault.TheVariants.{Full, Disk}
@@ -27,10 +27,10 @@ abbrev pub IsFull : {D : Type 0} → Result (WithNext D) (StageFault D) → Type
 IsFull (Err (Full j)) = Unit {0}
 IsFull _ = ⊥
 
--- a crash pair that stands for these entries, with nothing sent
-abbrev pub StandsQuiet : List Entry → List ℕ → List ℕ → List ℕ → Type 0
-StandsQuiet h aside c s = Stands h c × (s ≡ aside)
+-- a crash pair that encodes these entries, with nothing sent
+abbrev pub EncodesNoOutput : List Entry → List ℕ → List ℕ → List ℕ → Type 0
+EncodesNoOutput h aside c s = Encodes h c × (s ≡ aside)
 
 -- with the new entry or without it, with nothing sent
-abbrev pub EitherQuiet : List Entry → Entry → List ℕ → List ℕ → List ℕ → Type 0
-EitherQuiet h e aside c s = (Stands h c ⊎ Stands (h ++ e ∷ []) c) × (s ≡ aside)
+abbrev pub EitherNoOutput : List Entry → Entry → List ℕ → List ℕ → List ℕ → Type 0
+EitherNoOutput h e aside c s = (Encodes h c ⊎ Encodes (h ++ e ∷ []) c) × (s ≡ aside)

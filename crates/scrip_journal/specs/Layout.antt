@@ -1,4 +1,4 @@
--- What the bytes of a journal stand for.
+-- What the bytes of a journal encode.
 use Rattle.std.specs.Prelude.{◌≡◌, ◌≢◌, ℕ, ◌+◌, ◌^◌, ◌≤◌, ◌<◌, nat_lt, nat_le, ◌==◌, if◌then◌else◌, List, [], ◌∷◌, ◌++◌, length, take, drop, Result, Ok, Err}
 use Rattle.std.specs.Int.{w32, to_be_bytes, from_be_bytes}
 use Rattle.std.specs.List.{AllByRecursion}
@@ -23,9 +23,9 @@ gated before (e ∷ es) = 1 ∷ (framed before e ++ gated (before ++ e ∷ []) e
 abbrev pub body : List Entry → List ℕ
 body h = header ++ gated [] h
 
--- The bytes stand for these entries: behind them comes a closed gate, at a place below 2^40. A gate is
+-- The bytes encode these entries: behind them comes a closed gate, at a place below 2^40. A gate is
 -- closed where its byte is any other than 1. What follows a closed gate means nothing.
-pub record Stands (h : List Entry) (bytes : List ℕ) : Type 0 where
+pub record Encodes (h : List Entry) (bytes : List ℕ) : Type 0 where
   pub fits : AllByRecursion Fits h
   pub most : size h ≤ 2 ^ 40
   pub gate : ℕ
@@ -76,6 +76,6 @@ pub record Reads (h : List Entry) (bytes : List ℕ) (next : Next) : Type 0 wher
   pub next_is : next_of h rest ≡ next
 
 -- The bytes begin with these entries, and what comes behind them can't stand, from this place on. So
--- they stand for no entries.
+-- they encode no entries.
 abbrev pub IsSpoiled : List Entry → List ℕ → ℕ → Type 0
 IsSpoiled h bytes place = Reads h bytes (spoiled place)

@@ -4,7 +4,7 @@ use Rattle.std.specs.Int.{w32, to_be_bytes}
 use Rattle.mc_outside.specs.Bytes.{BeginsWith, Rose}
 use Rattle.mc_outside.specs.DiskView.{DiskView, OnlyRead}
 use Rattle.mc_records.specs.Entry.{Entry, Fits, payload}
-use Rattle.scrip_journal.specs.Layout.{body, next_of, Stands, IsSpoiled}
+use Rattle.scrip_journal.specs.Layout.{body, next_of, Encodes, IsSpoiled}
 use Rattle.scrip_journal.specs.States.{Reading, IsReading, EndedBy}
 use Rattle.scrip_journal.specs.Answers.{Given, answer_of}
 use Rattle.scrip_journal.specs.declared.ending.Ending.{Ending}
@@ -19,10 +19,10 @@ ending_of (Ok (Some x)) = None
 ending_of (Err (BadRecord place)) = Some (Spoiled place)
 ending_of (Err Disk) = Some Failed
 
--- A reading of some bytes behind these entries: none where the bytes stand for them, and the next one
+-- A reading of some bytes behind these entries: none where the bytes encode them, and the next one
 -- where it is there; a bad record where they can't stand.
 abbrev pub ReadsOn : {D : Type 0} → (D → DiskView) → List Entry → List ℕ → ℕ → Given → Reading D → Type 0
-ReadsOn view h bytes gate (Ok None) new = Stands h bytes × IsReading view new h
+ReadsOn view h bytes gate (Ok None) new = Encodes h bytes × IsReading view new h
 ReadsOn view h bytes gate (Ok (Some place)) new = (place ≡ gate) × (e : Entry) × Fits e × (new.last ≡ payload e) × IsReading view new (h ++ e ∷ [])
 ReadsOn view h bytes gate (Err (BadRecord place)) new = IsSpoiled h bytes place × IsReading view new h
 ReadsOn view h bytes gate (Err Disk) new = IsReading view new h

@@ -4,7 +4,7 @@ use Rattle.std.proofs.Common.{◌∙◌}
 use Rattle.std.proofs.Common.{subst, sym}
 use Rattle.mc_outside.specs.DiskView.{DiskView, LinkKeeps}
 use Rattle.mc_records.specs.Entry.{Entry}
-use Rattle.scrip_journal.specs.Layout.{Stands}
+use Rattle.scrip_journal.specs.Layout.{Encodes}
 use Rattle.scrip_journal.specs.States.{AtRest, IsJournal}
 
 -- only the disk may have changed
@@ -19,9 +19,9 @@ rests_none a = record { size = refl; entries = refl; limit = refl }
 pub rests_then : {D : Type 0} (a b c : AtRest D) → RestsAs a b → RestsAs b c → RestsAs a c
 rests_then a b c m n = record { size = n.size ∙ m.size; entries = n.entries ∙ m.entries; limit = n.limit ∙ m.limit }
 
--- a crash now leaves what stands for the entries
-pub journal_leaves : {D : Type 0} (view : D → DiskView) (j : AtRest D) (h : List Entry) → IsJournal view j h → (c : List ℕ) → (view j.disk).leaves c → Stands h c
-journal_leaves view j h is c l = subst (Stands h) (sym (is.synced c l)) is.stands
+-- a crash now leaves what encodes the entries
+pub journal_leaves : {D : Type 0} (view : D → DiskView) (j : AtRest D) (h : List Entry) → IsJournal view j h → (c : List ℕ) → (view j.disk).leaves c → Encodes h c
+journal_leaves view j h is c l = subst (Encodes h) (sym (is.synced c l)) is.stands
 
 -- what links do leaves the journal
 pub journal_keeps : {D : Type 0} (view : D → DiskView) (j k : AtRest D) (h : List Entry) → IsJournal view j h → LinkKeeps (view j.disk) (view k.disk) → RestsAs j k → IsJournal view k h

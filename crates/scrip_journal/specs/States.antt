@@ -5,7 +5,7 @@ use Rattle.mc_outside.specs.DiskView.{DiskView}
 use Rattle.mc_records.specs.Entry.{Entry, Fits}
 use Rattle.mc_records.specs.Sizes.{size}
 use Rattle.mc_outside.specs.Bytes.{BeginsWith}
-use Rattle.scrip_journal.specs.Layout.{body, framed, Stands, Next, at_end, spoiled, next_of}
+use Rattle.scrip_journal.specs.Layout.{body, framed, Encodes, Next, at_end, spoiled, next_of}
 use Rattle.scrip_journal.specs.declared.ending.Ending.{Ending}
 use Rattle.scrip_journal.specs.declared.ending.Ending.TheVariants.{Closed, Spoiled, Failed}
 
@@ -39,11 +39,11 @@ pub record Reading (D : Type 0) : Type 0 where
   pub last : List ℕ
   pub ended : Option Ending
 
--- The disk tells its bytes, which stand for these entries, and a crash now leaves just them.
+-- The disk tells its bytes, which encode these entries, and a crash now leaves just them.
 pub record IsJournal {D : Type 0} (view : D → DiskView) (j : AtRest D) (h : List Entry) : Type 0 where
   pub bytes : List ℕ
   pub told : (view j.disk).contents ≡ Some bytes
-  pub stands : Stands h bytes
+  pub stands : Encodes h bytes
   pub size_is : j.size ≡ size h
   pub entries_is : j.entries ≡ length h
   pub synced : (c : List ℕ) → (view j.disk).leaves c → c ≡ bytes

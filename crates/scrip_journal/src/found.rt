@@ -7,9 +7,9 @@ ghost use Rattle.mc_records.specs.Limits.{AreInRange};
 ghost use Rattle.scrip_journal.specs.States.{IsJournal};
 ghost use Rattle.scrip_journal.specs.Opens.{found_disk, MatchOpenFault, NoLonger};
 
+use crate::cursor::{Cursor, new_buffer};
 use crate::fault::OpenFault;
 use crate::journal::Journal;
-use crate::place::{Place, reserved};
 use mc_base::NoMemory;
 use mc_outside::Disk;
 use mc_records::Limits;
@@ -41,7 +41,7 @@ pub fn found_journal<D: Disk>(
     ensures same_count { OnOk result ((D.disk (found_disk result)).faults ≡ (D.disk disk).faults) }
 {
     let mut disk = disk;
-    let buf = match reserved(alloc) {
+    let buf = match new_buffer(alloc) {
         Ok(buf) => buf,
         Err(NoMemory) => return Err(OpenFault::NoMemory(disk)),
     };
@@ -54,7 +54,7 @@ pub fn found_journal<D: Disk>(
     if disk.sync().is_err() {
         return Err(OpenFault::Disk(disk));
     }
-    let at = Place {
+    let at = Cursor {
         gate: 8,
         entries: 0,
         limit: limits.journal,

@@ -7,9 +7,9 @@ ghost use Rattle.mc_records.specs.Entry.{Entry, Fits};
 ghost use Rattle.mc_records.specs.Sizes.{size, entry_size};
 ghost use Rattle.mc_records.specs.Views.{entry};
 ghost use Rattle.scrip_journal.specs.States.{IsJournal, IsStaged};
-ghost use Rattle.scrip_journal.specs.Exits.{staged_disk, IsFull, MatchStageFault, StandsQuiet};
+ghost use Rattle.scrip_journal.specs.Exits.{staged_disk, IsFull, MatchStageFault, EncodesNoOutput};
 
-use crate::place::{Place, put_block};
+use crate::cursor::{Cursor, put_block};
 use crate::staged::Staged;
 use mc_outside::Disk;
 use mc_records::Record;
@@ -19,7 +19,7 @@ use std::marker::Model;
 /// the closed gate as its size, how many entries there are, and how many bytes it may have.
 pub struct Journal<D> {
     pub(crate) disk: D,
-    pub(crate) at: Place,
+    pub(crate) at: Cursor,
 }
 
 impl<D> Model for Journal<D> {
@@ -80,9 +80,9 @@ impl<D: Disk> Journal<D> {
         ensures moved { D.disk_moved self.disk (staged_disk result) }
         ensures staged { IfOk result (λ s. (h : List Entry) → IsJournal D.disk self h → IsStaged D.disk s h (entry r.now)) }
         ensures limit { IfOk result (λ s. (s.limit ≡ self.limit) × (s.entries ≡ self.entries)) }
-        // Each crash pair of the call stands for the entries as they were, and nothing is sent.
+        // Each crash pair of the call encodes the entries as they were, and nothing is sent.
         ensures ran { (h : List Entry) → IsJournal D.disk self h
-            → Ran (D.disk self.disk) (D.disk (staged_disk result)) (StandsQuiet h (D.disk self.disk).aside) }
+            → Ran (D.disk self.disk) (D.disk (staged_disk result)) (EncodesNoOutput h (D.disk self.disk).aside) }
         ensures full { (h : List Entry) → self.size ≡ size h → IsFull result ↔ (self.limit < size h + entry_size h (entry r.now)) }
         ensures fault { IfErr result (λ f. MatchStageFault f
             (λ j. j ≡ self)

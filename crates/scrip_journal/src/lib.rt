@@ -6,6 +6,7 @@
 //! leaves the disk's count of faults as it was.
 #![tactic(auto)]
 
+mod cursor;
 mod ending;
 mod fault;
 mod found;
@@ -13,7 +14,6 @@ mod journal;
 mod law;
 mod links;
 mod open;
-mod place;
 mod replay;
 mod staged;
 

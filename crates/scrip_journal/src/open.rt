@@ -7,8 +7,8 @@ ghost use Rattle.mc_records.specs.Limits.{AreInRange};
 ghost use Rattle.scrip_journal.specs.States.{IsReading};
 ghost use Rattle.scrip_journal.specs.Opens.{open_disk, MatchOpenFault, OpensBy};
 
+use crate::cursor::new_buffer;
 use crate::fault::OpenFault;
-use crate::place::reserved;
 use crate::replay::Replay;
 use mc_base::NoMemory;
 use mc_outside::{Disk, DiskFault};
@@ -40,7 +40,7 @@ pub fn open_journal<D: Disk>(
     ensures same_count { OnOk result ((D.disk (open_disk result)).faults ≡ (D.disk disk).faults) }
 {
     let mut disk = disk;
-    let buf = match reserved(alloc) {
+    let buf = match new_buffer(alloc) {
         Ok(buf) => buf,
         Err(NoMemory) => return Err(OpenFault::NoMemory(disk)),
     };

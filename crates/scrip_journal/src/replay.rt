@@ -12,9 +12,9 @@ ghost use Rattle.scrip_journal.specs.Layout.{header};
 ghost use Rattle.scrip_journal.specs.Replays.{Advanced, ReadAhead, FaultsBy, IsFrame, EndsHere, IsCut, AllHeld, TookEntry, FoundHeader};
 ghost use Rattle.scrip_journal.specs.declared.ending.Ending.TheVariants.{Closed};
 
+use crate::cursor::{BUFFER, Cursor};
 use crate::ending::{Ending, ReplayFault};
 use crate::journal::Journal;
-use crate::place::{BUFFER, Place};
 use mc_outside::{Disk, DiskFault};
 use mc_records::{Record, read_record};
 use std::marker::Model;
@@ -167,7 +167,7 @@ impl<D: Disk> Replay<D> {
             last: _,
             ended: _,
         } = self;
-        let at = Place {
+        let at = Cursor {
             gate,
             entries,
             limit,
@@ -220,7 +220,7 @@ impl<D: Disk> Replay<D> {
         if let Err(ending) = self.hold(length + 5) {
             return Err(ending);
         }
-        if let Some(place) = self.malformed(length) {
+        if let Some(place) = self.fault_place(length) {
             return Err(Ending::Spoiled(self.gate + 5 + place as u64));
         }
         Ok(length)
@@ -293,7 +293,7 @@ impl<D: Disk> Replay<D> {
     }
 
     /// Where the payload of this length behind the gate is malformed, from its front on.
-    fn malformed(&self, count: usize) -> Option<usize>
+    fn fault_place(&self, count: usize) -> Option<usize>
         requires { count + 5 ≤ length self.now.held }
         ensures fault { IfSome result (λ place. entry_of (take count (drop 5 self.now.held)) ≡ Err place) }
         ensures payload { IfNone result ((e : Entry) × Fits e × (take count (drop 5 self.now.held) ≡ payload e)) }

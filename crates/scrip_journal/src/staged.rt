@@ -5,17 +5,17 @@ ghost use Rattle.mc_outside.specs.Bytes.{Rose};
 ghost use Rattle.mc_outside.specs.DiskView.{Ran};
 ghost use Rattle.mc_records.specs.Entry.{Entry};
 ghost use Rattle.scrip_journal.specs.States.{IsJournal, IsStaged};
-ghost use Rattle.scrip_journal.specs.Exits.{opened_disk, EitherQuiet};
+ghost use Rattle.scrip_journal.specs.Exits.{opened_disk, EitherNoOutput};
 
+use crate::cursor::Cursor;
 use crate::journal::{Halted, Journal, Receipt};
-use crate::place::Place;
 use mc_outside::Disk;
 use std::marker::Model;
 
 /// A journal with a next entry on the disk, behind the gate that is still closed.
 pub struct Staged<D> {
     pub(crate) disk: D,
-    pub(crate) at: Place,
+    pub(crate) at: Cursor,
     pub(crate) next: u64,
 }
 
@@ -41,10 +41,10 @@ impl<D: Disk> Staged<D> {
             → IsJournal D.disk r.0 (h ++ e ∷ [])) }
         ensures number { IfOk result (λ r. (r.1 ≡ self.entries) × (r.0.entries ≡ self.entries + 1)) }
         ensures limit { IfOk result (λ r. r.0.limit ≡ self.limit) }
-        // Each crash pair of the call stands for the entries with the new one or without it, and nothing is
+        // Each crash pair of the call encodes the entries with the new one or without it, and nothing is
         // sent.
         ensures ran { (h : List Entry) (e : Entry) → IsStaged D.disk self h e
-            → Ran (D.disk self.disk) (D.disk (opened_disk result)) (EitherQuiet h e (D.disk self.disk).aside) }
+            → Ran (D.disk self.disk) (D.disk (opened_disk result)) (EitherNoOutput h e (D.disk self.disk).aside) }
         ensures fault { OnErr result (Rose (D.disk self.disk).faults (D.disk (opened_disk result)).faults) }
         ensures same_count { OnOk result ((D.disk (opened_disk result)).faults ≡ (D.disk self.disk).faults) }
     {

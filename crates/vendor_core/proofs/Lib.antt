@@ -1,6 +1,6 @@
 pub mod ListLemmas
 pub mod GoodsLaws
-pub mod WareLaws
+pub mod EditionLaws
 pub mod ShelfLaws
 pub mod LineLemmas
-pub mod DeskLemmas
+pub mod OperatorLemmas

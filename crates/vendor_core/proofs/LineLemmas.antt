@@ -14,7 +14,7 @@ use Rattle.ledger_model.specs.Histories.{History}
 use Rattle.ledger_model.specs.Houses.{site_name, site_kind, own_series, terms_of, all_terms, terms_by, terms_in, version}
 use Rattle.ledger_model.specs.Lawful.{MayFollow, AllFollow, IsLawful}
 use Rattle.ledger_model.specs.Pieces.{first_hand, run_from, minted_pieces, own_count}
-use Rattle.vendor_core.specs.Desk.{mint_lines}
+use Rattle.vendor_core.specs.Tasks.{mint_lines}
 use Rattle.vendor_core.specs.Lines.{piece_line, piece_lines}
 
 -- the end of the series of an epoch below 2^24 is one that a piece may have

@@ -1,4 +1,4 @@
-pub mod Wares
+pub mod Editions
 pub mod Shelf
 pub mod Lines
-pub mod Desk
+pub mod Tasks

@@ -1,4 +1,4 @@
--- What a shelf stands for.
+-- What a shelf represents.
 use Rattle.std.specs.Prelude.{◌≡◌, ℕ, ◌<◌, ◌≤◌, ◌^◌, ◌==◌, IsTrue, IsFalse, List, map, filter_map, find, Option, Some, None, option_map, slice_get, vec_len, vec_capacity, All}
 use Rattle.std.specs.List.{list_any}
 use Rattle.mc_records.specs.Entry.{Entry, Site, AddTerms, Goods, Mint}
@@ -11,39 +11,39 @@ use Rattle.house_core.specs.declared.offer.Body.{Body}
 use Rattle.vendor_core.specs.declared.minted.Minted.{Minted}
 use Rattle.vendor_core.specs.declared.minted.Minting.{Minting}
 use Rattle.vendor_core.specs.declared.shelf.Shelf.{Shelf}
-use Rattle.vendor_core.specs.Wares.{WareView, goods_entry, sold_by_entry, sold_by, is_on_sale, IsWareOf}
+use Rattle.vendor_core.specs.Editions.{EditionView, goods_entry, sold_by_entry, sold_by, is_on_sale, IsEditionOf}
 
 -- what was minted under a reference is what the entry of its number says
 pub record IsMintOf (h : History) (m : Minted) : Type 0 where
   pub moment : ℕ
   pub entry : slice_get h m.minting.number ≡ Some (Mint moment m.reference.items m.minting.count m.minting.value m.minting.first)
 
--- Wares, issuers, mints and bytes of contents are what a history says of them. Of goods that were replaced
+-- Editions, issuers, mints and bytes of contents are what a history says of them. Of goods that were replaced
 -- some may be missing.
-pub record Shows (wares : List WareView) (issuers : List ℕ) (mints : List Minted) (bytes : ℕ) (h : History) : Type 0 where
-  pub of_entries : All (IsWareOf h) wares
-  pub on_sale : (target : List ℕ) → option_map sold_by_entry (goods_in h target) ≡ option_map sold_by (find (is_on_sale target) wares)
+pub record Shows (editions : List EditionView) (issuers : List ℕ) (mints : List Minted) (bytes : ℕ) (h : History) : Type 0 where
+  pub of_entries : All (IsEditionOf h) editions
+  pub on_sale : (target : List ℕ) → option_map sold_by_entry (goods_in h target) ≡ option_map sold_by (find (is_on_sale target) editions)
   pub all_issuers : map (λ t. t.issuer) (all_terms h) ≡ issuers
   pub all_references : filter_map reference_of h ≡ map (λ m. m.reference.items) mints
   pub of_mints : All (IsMintOf h) mints
   pub in_force : goods.in_force h ≡ bytes
   pub most : bytes ≤ 2 ^ 26
 
--- a shelf stands for a history
-abbrev pub Stands : Shelf → History → Type 0
-Stands s h = Shows s.wares.items s.issuers.items s.mints.items s.in_force h
+-- a shelf represents a history
+abbrev pub ShelfRepresents : Shelf → History → Type 0
+ShelfRepresents s h = Shows s.editions.items s.issuers.items s.mints.items s.in_force h
 
--- the ware of the entry of this number is there
-abbrev pub HasNumber : List WareView → ℕ → Type 0
-HasNumber wares number = IsTrue (list_any (λ w. w.number == number) wares)
+-- the edition of the entry of this number is there
+abbrev pub HasNumber : List EditionView → ℕ → Type 0
+HasNumber editions number = IsTrue (list_any (λ w. w.number == number) editions)
 
 -- a shelf has the contents of the Goods entry of this number
-abbrev pub Holds : Shelf → ℕ → Type 0
-Holds s number = HasNumber s.wares.items number
+abbrev pub HasGoods : Shelf → ℕ → Type 0
+HasGoods s number = HasNumber s.editions.items number
 
--- room for a ware, with the article ready
+-- room for an edition, with the article ready
 pub record HasRoomForGoods (s : Shelf) (e : Entry) (m : ℕ) : Type 0 where
-  pub place : vec_len s.wares < vec_capacity s.wares
+  pub place : vec_len s.editions < vec_capacity s.editions
   pub ready : option_map (goods_entry m) s.next_article ≡ Some e
 
 -- room for a mint, with the bytes of its reference ready

@@ -5,9 +5,11 @@ ghost use Rattle.ledger_model.specs.Goods as goods;
 ghost use Rattle.ledger_model.specs.Pieces.{has_reference};
 ghost use Rattle.house_core.specs.Replying.{AreContents};
 
+use crate::edition::{Article, Edition};
+use crate::editions::{
+    bytes_on_sale, edition_of_number, edition_on_sale, keep_needed, put_on_sale,
+};
 use crate::minted::{Minted, Minting, minted_under};
-use crate::ware::{Article, Ware};
-use crate::wares::{bytes_on_sale, keep_needed, put_on_sale, ware_of_number, ware_on_sale};
 use house_core::{Body, DrawAsk, Offer, SiteKind, Trade, Unlawful, body_of_deed};
 use kept_replies::Deed;
 use mc_base::{Amount, Moment, NoMemory};
@@ -22,7 +24,7 @@ pub(crate) const MOST_IN_FORCE: u64 = 1 << 26;
 /// `forget` lets them go.
 #[derive(Drop)]
 pub struct Shelf {
-    wares: Vec<Ware>,
+    editions: Vec<Edition>,
     issuers: Vec<u8>,
     mints: Vec<Minted>,
     /// How many bytes of contents are on sale.
@@ -35,15 +37,15 @@ pub struct Shelf {
 }
 
 impl Shelf {
-    ghost use Rattle.vendor_core.specs.Wares.{goods_entry, IsInRange};
-    ghost use Rattle.vendor_core.specs.Shelf.{Stands, Holds, HasRoomForMint, IsMinting, AreGoods};
+    ghost use Rattle.vendor_core.specs.Editions.{goods_entry, IsInRange};
+    ghost use Rattle.vendor_core.specs.Shelf.{ShelfRepresents, HasGoods, HasRoomForMint, IsMinting, AreGoods};
 
     /// The shelf of an empty history. It takes no memory.
     pub fn new(alloc: Global) -> Shelf
-        ensures { Stands result [] }
+        ensures { ShelfRepresents result [] }
     {
         Shelf {
-            wares: Vec::new(alloc),
+            editions: Vec::new(alloc),
             issuers: Vec::new(alloc),
             mints: Vec::new(alloc),
             in_force: 0,
@@ -56,28 +58,28 @@ impl Shelf {
     /// How many bytes of contents are on sale once a target sells these.
     pub(crate) fn in_force_with(&self, target: &[u8], contents: &[u8]) -> u64
         requires { length contents.now ≤ 65536 }
-        ensures { (h : History) (m price kind : ℕ) → Stands self.now h → result ≡ goods.in_force (h ++ Goods m target.now price kind contents.now ∷ []) }
+        ensures { (h : History) (m price kind : ℕ) → ShelfRepresents self.now h → result ≡ goods.in_force (h ++ Goods m target.now price kind contents.now ∷ []) }
     {
         let others = self
             .in_force
-            .saturating_sub(bytes_on_sale(&self.wares, target));
+            .saturating_sub(bytes_on_sale(&self.editions, target));
         others.saturating_add(contents.len() as u64)
     }
 
     /// The goods on sale at a target, of which the shelf has the contents.
     pub(crate) fn goods(&self, target: &[u8]) -> Option<Body<'_>>
         ensures range { IfSome result AreContents }
-        ensures goods { (h : History) → Stands self.now h → AreGoods h target.now result }
+        ensures goods { (h : History) → ShelfRepresents self.now h → AreGoods h target.now result }
     {
-        match ware_on_sale(&self.wares, target) {
-            Some(ware) => Some(ware.body()),
+        match edition_on_sale(&self.editions, target) {
+            Some(edition) => Some(edition.body()),
             None => None,
         }
     }
 
     /// What was minted under a reference; None exactly where the reference is new.
     pub(crate) fn minted(&self, reference: &[u8]) -> Option<Minting>
-        ensures { (h : History) → Stands self.now h → IsMinting h reference.now result }
+        ensures { (h : History) → ShelfRepresents self.now h → IsMinting h reference.now result }
     {
         match minted_under(&self.mints, reference) {
             Some(minted) => Some(minted.minting),
@@ -87,25 +89,26 @@ impl Shelf {
 
     /// Learns the Goods entry of a number, for which there is room.
     fn learn_goods(&mut self, number: u64, target: &[u8], contents: &[u8]) -> Result<(), Unlawful>
-        requires place { vec_len self.old.wares < vec_capacity self.old.wares }
+        requires place { vec_len self.old.editions < vec_capacity self.old.editions }
         requires ready { IsSome self.old.next_article }
         requires range { IfSome self.old.next_article IsInRange }
         requires short { length contents.now ≤ 65536 }
-        ensures held { (n : ℕ) → Holds self.old n → Holds self.new n }
-        ensures goods { OnOk result (Holds self.new number) }
-        ensures learned { OnOk result ((h : History) (m price kind : ℕ) → Stands self.old h → number ≡ length h
+        ensures held { (n : ℕ) → HasGoods self.old n → HasGoods self.new n }
+        ensures goods { OnOk result (HasGoods self.new number) }
+        ensures learned { OnOk result ((h : History) (m price kind : ℕ) → ShelfRepresents self.old h → number ≡ length h
             → option_map (goods_entry m) self.old.next_article ≡ Some (Goods m target.now price kind contents.now)
-            → Stands self.new (h ++ Goods m target.now price kind contents.now ∷ [])) }
-        ensures exact { (h : History) (m price kind : ℕ) → Stands self.old h
+            → ShelfRepresents self.new (h ++ Goods m target.now price kind contents.now ∷ [])) }
+        ensures exact { (h : History) (m price kind : ℕ) → ShelfRepresents self.old h
             → IsOk result ↔ (goods.in_force (h ++ Goods m target.now price kind contents.now ∷ []) ≤ 2 ^ 26) }
-        ensures same { OnErr result ((h : History) → Stands self.old h → Stands self.new h) }
+        ensures same { OnErr result ((h : History) → ShelfRepresents self.old h
+            → ShelfRepresents self.new h) }
     {
         let bytes = self.in_force_with(target, contents);
         if bytes > MOST_IN_FORCE {
             return Err(Unlawful);
         }
         let article = self.next_article.take().unwrap();
-        put_on_sale(&mut self.wares, number, article);
+        put_on_sale(&mut self.editions, number, article);
         self.in_force = bytes;
         Ok(())
     }
@@ -113,11 +116,12 @@ impl Shelf {
     /// Learns a Mint entry, for which there is room.
     fn learn_mint(&mut self, reference: &[u8], minting: Minting) -> Result<(), Unlawful>
         requires room { HasRoomForMint self.old reference.now }
-        ensures held { (n : ℕ) → Holds self.old n → Holds self.new n }
-        ensures learned { OnOk result ((h : History) (m : ℕ) → Stands self.old h → minting.number ≡ length h
-            → Stands self.new (h ++ Mint m reference.now minting.count minting.value minting.first ∷ [])) }
-        ensures exact { (h : History) → Stands self.old h → IsOk result ↔ IsFalse (has_reference h reference.now) }
-        ensures same { OnErr result ((h : History) → Stands self.old h → Stands self.new h) }
+        ensures held { (n : ℕ) → HasGoods self.old n → HasGoods self.new n }
+        ensures learned { OnOk result ((h : History) (m : ℕ) → ShelfRepresents self.old h → minting.number ≡ length h
+            → ShelfRepresents self.new (h ++ Mint m reference.now minting.count minting.value minting.first ∷ [])) }
+        ensures exact { (h : History) → ShelfRepresents self.old h → IsOk result ↔ IsFalse (has_reference h reference.now) }
+        ensures same { OnErr result ((h : History) → ShelfRepresents self.old h
+            → ShelfRepresents self.new h) }
     {
         if minted_under(&self.mints, reference).is_some() {
             return Err(Unlawful);
@@ -130,15 +134,15 @@ impl Shelf {
 
 impl Trade for Shelf {
     ghost use Rattle.house_core.specs.Trade.{IsKeptFrom};
-    ghost use Rattle.vendor_core.specs.Shelf.{Stands, HasRoom, Holds};
+    ghost use Rattle.vendor_core.specs.Shelf.{ShelfRepresents, HasRoom, HasGoods};
 
-    ghost stands = { Stands };
+    ghost stands = { ShelfRepresents };
 
     ghost site = { λ s. 0 };
 
     ghost has_room = { HasRoom };
 
-    ghost holds = { Holds };
+    ghost holds = { HasGoods };
 
     ghost passes = { λ h e. Unit {0} };
 
@@ -147,8 +151,8 @@ impl Trade for Shelf {
     }
 
     fn price(&self, target: &[u8]) -> Option<u64> {
-        match ware_on_sale(&self.wares, target) {
-            Some(ware) => Some(ware.price()),
+        match edition_on_sale(&self.editions, target) {
+            Some(edition) => Some(edition.price()),
             None => None,
         }
     }
@@ -160,17 +164,17 @@ impl Trade for Shelf {
         target: &[u8],
         value: Amount,
     ) -> Result<Offer, Refusal> {
-        let Some(ware) = ware_on_sale(&self.wares, target) else {
+        let Some(edition) = edition_on_sale(&self.editions, target) else {
             return Err(Refusal::NoSuchGoods);
         };
-        let price = ware.price();
+        let price = edition.price();
         if value.get() < price {
             return Err(Refusal::TooLittle(price));
         }
         Ok(Offer {
             price,
             deed: Deed::Goods {
-                goods: ware.number(),
+                goods: edition.number(),
             },
         })
     }
@@ -189,7 +193,7 @@ impl Trade for Shelf {
                 contents,
                 ..
             } => {
-                self.wares.reserve(1)?;
+                self.editions.reserve(1)?;
                 self.next_article = Some(Article::copy_of(
                     self.alloc, target, price, kind, contents,
                 )?);
@@ -248,18 +252,18 @@ impl Trade for Shelf {
         let Deed::Goods { goods } = *deed else {
             return body_of_deed(deed, room);
         };
-        match ware_of_number(&self.wares, goods) {
-            Some(ware) => ware.body(),
+        match edition_of_number(&self.editions, goods) {
+            Some(edition) => edition.body(),
             None => body_of_deed(deed, room),
         }
     }
 
     fn forget(&mut self, kept_from: Option<u64>)
-        ensures same { (h : History) → Stands self.old h → Stands self.new h }
-        ensures held { (h : History) (n : ℕ) → Stands self.old h → IsKeptFrom h kept_from n → Holds self.old n → Holds self.new n }
+        ensures same { (h : History) → ShelfRepresents self.old h → ShelfRepresents self.new h }
+        ensures held { (h : History) (n : ℕ) → ShelfRepresents self.old h → IsKeptFrom h kept_from n → HasGoods self.old n → HasGoods self.new n }
         // No other contents stay.
-        ensures freed { (h : History) (n : ℕ) → Stands self.old h → Holds self.new n → IsKeptFrom h kept_from n }
+        ensures freed { (h : History) (n : ℕ) → ShelfRepresents self.old h → HasGoods self.new n → IsKeptFrom h kept_from n }
     {
-        keep_needed(&mut self.wares, kept_from);
+        keep_needed(&mut self.editions, kept_from);
     }
 }

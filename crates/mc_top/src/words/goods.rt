@@ -2,7 +2,7 @@ ghost use Rattle.std.specs.Prelude.{◌≡◌, ◌<◌, ◌∷◌, [], map, leng
 ghost use Rattle.mc_top.specs.Words.{Listing as Listed, Pricing as Priced, AreGoodsWords, ArePriceWords, AreOfferWords};
 ghost use Rattle.mc_top.specs.WordLists.{offer_words};
 
-use crate::order::{Listing, Pricing};
+use crate::operation::{Listing, Pricing};
 use crate::words::is_place;
 use crate::words::kind::goods_options_of;
 use crate::words::number::amount_of;

@@ -2,7 +2,7 @@ ghost use Rattle.std.specs.Prelude.{◌≡◌, ◌≢◌, map, length, string_by
 ghost use Rattle.mc_top.specs.Words.{Licensing as Licensed, AreLicenceWords};
 ghost use Rattle.mc_top.specs.WordLists.{licence_words};
 
-use crate::order::Licensing;
+use crate::operation::Licensing;
 use crate::words::is_place;
 use crate::words::terms::{TermsWords, terms_of, terms_words_of};
 use mc_fields::number_of;

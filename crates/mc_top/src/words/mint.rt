@@ -2,7 +2,7 @@ ghost use Rattle.std.specs.Prelude.{◌≡◌, ◌≢◌, map, length, string_by
 ghost use Rattle.mc_top.specs.Words.{Minting as Minted, AreMintWords};
 ghost use Rattle.mc_top.specs.WordLists.{mint_words};
 
-use crate::order::Minting;
+use crate::operation::Minting;
 use crate::words::is_place;
 use crate::words::number::amount_of;
 use mc_fields::number_of;

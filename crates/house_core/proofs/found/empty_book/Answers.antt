@@ -1,5 +1,5 @@
 use Rattle.std.proofs.Common.{[], List, ℕ, Option, Ok, inl, ap, ◌∙◌, subst}
-use Rattle.scrip_journal.specs.Layout.{Stands, IsSpoiled}
+use Rattle.scrip_journal.specs.Layout.{Encodes, IsSpoiled}
 use Rattle.scrip_journal.specs.Replays.{ReadsOn}
 use Rattle.scrip_journal.proofs.Unique.{not_both}
 use Rattle.house_core.proofs.OpeningLemmas.{bytes_told}
@@ -11,7 +11,7 @@ returns-in-Ok-None-clause-exact g c x told =
     let r = c.in-Ok.ensures.opened x told in
     let here = c.in-Ok.ensures.read.contents ∙ told in
     let reads = subst (λ (o : Option ℕ). ReadsOn g.D.Disk.disk [] r.bytes c.in-Ok.replay.gate (Ok o) c.next_record.new.self) c.in-Ok-None.field-0-is (c.in-Ok-None.ensures.reads [] r) in
-    (c.finish.ensures.journal [] reads.1, inl (subst (Stands []) (bytes_told g.D.Disk.disk c.in-Ok.replay [] x r here) reads.0))
+    (c.finish.ensures.journal [] reads.1, inl (subst (Encodes []) (bytes_told g.D.Disk.disk c.in-Ok.replay [] x r here) reads.0))
 
 pub returns-in-Ok-Some-clause-exact : goal.returns-in-Ok-Some-clause-exact
 returns-in-Ok-Some-clause-exact g c x told =

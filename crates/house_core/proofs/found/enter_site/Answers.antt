@@ -1,6 +1,6 @@
 use Rattle.std.proofs.Common.{◌∷◌, [], ◌∙◌, arith}
 use Rattle.mc_records.specs.Views.{entry}
-use Rattle.scrip_journal.specs.Exits.{EitherQuiet}
+use Rattle.scrip_journal.specs.Exits.{EitherNoOutput}
 use Rattle.house_core.proofs.FoundLemmas.{ran_at}
 use Rattle.house_core.proofs.found.enter_site.Goals as goal
 
@@ -9,12 +9,12 @@ returns-in-Ok-clause-exact g c j house limit = c.new.ensures.stands (entry c.arg
 
 pub returns-in-Ok-clause-ran : goal.returns-in-Ok-clause-ran
 returns-in-Ok-clause-ran g c j =
-    ran_at g.D.Disk.disk (g.D.Disk.disk c.args.journal.disk) c.in-Ok.journal.disk c.new.result.journal.disk (EitherQuiet [] (entry c.args.site.now) (g.D.Disk.disk c.args.journal.disk).aside) c.new.ensures.disk (c.in-Ok.ensures.ran [] j)
+    ran_at g.D.Disk.disk (g.D.Disk.disk c.args.journal.disk) c.in-Ok.journal.disk c.new.result.journal.disk (EitherNoOutput [] (entry c.args.site.now) (g.D.Disk.disk c.args.journal.disk).aside) c.new.ensures.disk (c.in-Ok.ensures.ran [] j)
 
 pub returns-in-Err-Disk-clause-ran : goal.returns-in-Err-Disk-clause-ran
 returns-in-Err-Disk-clause-ran g c j =
     let ran = rw c.in-Err-Disk.field-0-is at c.in-Err-Disk.ensures.ran [] j in
-    ran_at g.D.Disk.disk (g.D.Disk.disk c.args.journal.disk) c.in-Err-Disk.halted c.close.result (EitherQuiet [] (entry c.args.site.now) (g.D.Disk.disk c.args.journal.disk).aside) c.close.ensures ran
+    ran_at g.D.Disk.disk (g.D.Disk.disk c.args.journal.disk) c.in-Err-Disk.halted c.close.result (EitherNoOutput [] (entry c.args.site.now) (g.D.Disk.disk c.args.journal.disk).aside) c.close.ensures ran
 
 -- the journal has room for its first entry
 pub unreachable-requires : goal.unreachable-requires

@@ -1,7 +1,7 @@
 use Rattle.std.proofs.Common.{◌-◌, ◌≡◌, ◌≤◌}
 use Rattle.ledger_model.specs.Histories.{History}
 use Rattle.house_core.specs.Bench.{limits_of, state_of}
-use Rattle.house_core.specs.House.{StandsFor}
+use Rattle.house_core.specs.House.{HouseRepresents}
 use Rattle.house_serving.specs.Links.{KeptCounts}
 use Rattle.house_serving.proofs.HouseLinkLemmas.{LinkedHouse}
 use Rattle.house_serving.proofs.links.serve_links.Given as goal
@@ -11,7 +11,7 @@ invariant-links g l = record {
   few : l.served ≤ l.fn.links;
   counts : KeptCounts g.O.Link.link g.O.Disk.disk l.fn.house.journal.disk l.house.journal.disk;
   limits : limits_of l.house.bench ≡ limits_of l.fn.house.bench;
-  linked : (h : History) → StandsFor g.O.Disk.disk g.T.Trade.stands g.T.Trade.site g.T.Trade.holds l.fn.house h
+  linked : (h : History) → HouseRepresents g.O.Disk.disk g.T.Trade.stands g.T.Trade.site g.T.Trade.holds l.fn.house h
       → LinkedHouse g.O.Link.link g.O.Disk.disk g.T.Trade.stands g.T.Trade.site g.T.Trade.holds (limits_of l.fn.house.bench) l.served l.fn.house.journal.disk (state_of h l.fn.house.bench) l.house;
 }
 

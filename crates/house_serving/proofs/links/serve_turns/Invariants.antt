@@ -2,7 +2,7 @@ use Rattle.std.proofs.Common.{◌-◌, ◌≡◌}
 use Rattle.std.specs.Prelude.{IsTrue}
 use Rattle.ledger_model.specs.Histories.{History}
 use Rattle.house_core.specs.Bench.{limits_of, state_of}
-use Rattle.house_core.specs.House.{StandsFor}
+use Rattle.house_core.specs.House.{HouseRepresents}
 use Rattle.house_serving.specs.Links.{KeptCounts}
 use Rattle.house_serving.proofs.HouseLinkLemmas.{ServingHouse}
 use Rattle.house_serving.proofs.links.serve_turns.Given as goal
@@ -12,7 +12,7 @@ invariant-turns g l = record {
   stands : IsTrue (g.O.Link.link l.house.journal.disk).stands;
   counts : KeptCounts g.O.Link.link g.O.Disk.disk l.fn.house.journal.disk l.house.journal.disk;
   limits : limits_of l.house.bench ≡ limits_of l.fn.house.bench;
-  serving : (h : History) → StandsFor g.O.Disk.disk g.T.Trade.stands g.T.Trade.site g.T.Trade.holds l.fn.house h
+  serving : (h : History) → HouseRepresents g.O.Disk.disk g.T.Trade.stands g.T.Trade.site g.T.Trade.holds l.fn.house h
       → ServingHouse g.O.Link.link g.O.Disk.disk g.T.Trade.stands g.T.Trade.site g.T.Trade.holds (limits_of l.fn.house.bench) l.fn.house.journal.disk (state_of h l.fn.house.bench) l.house l.reader;
 }
 

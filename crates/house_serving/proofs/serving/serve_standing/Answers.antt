@@ -5,7 +5,7 @@ use Rattle.house_serving.specs.Steps.{Did}
 use Rattle.house_serving.specs.Course.{HadLink}
 use Rattle.house_serving.specs.Turns.{Ended}
 use Rattle.house_serving.proofs.LinksLemmas.{had_link}
-use Rattle.house_serving.proofs.WentLemmas.{stepped_so}
+use Rattle.house_serving.proofs.RefinesLemmas.{stepped_so}
 use Rattle.house_serving.proofs.serving.serve_standing.Goals as goal
 
 pub returns-clause-course : goal.returns-clause-course

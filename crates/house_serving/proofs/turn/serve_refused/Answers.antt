@@ -16,12 +16,12 @@ returns-clause-answered g c h house =
     record {
       history = came.history;
       house = came.house;
-      leads = (
+      related = (
         record { sent = c.send.ensures.sent.0; after = t },
         refl,
         λ (closes : Bool).
             item_answered (limits_of c.args.bench.now) c.args.clock.now (refused (as_refusal c.args.head) closes) c.args.after c.send.result s t (g.K.Link.link c.args.k.now) (g.K.Link.link c.read_clock-reading.new.k) (g.K.Link.link c.send.new.k) reading
             c.refuse_head.result c.send.ensures.sent.0 c.read_clock-reading.ensures.read c.read_clock-reading.ensures.rest
-            (c.refuse_head.ensures.reply ∙ ap (λ (u : State). head_refusal u.time (as_refusal c.args.head)) came.leads, came.leads) c.send.ensures.sent.1,
+            (c.refuse_head.ensures.reply ∙ ap (λ (u : State). head_refusal u.time (as_refusal c.args.head)) came.related, came.related) c.send.ensures.sent.1,
       );
     }

@@ -20,13 +20,13 @@ returns-clause-answered g c h house =
     record {
       history = came.history;
       house = came.house;
-      leads = (
+      related = (
         record { sent = c.send.ensures.sent.0; after = t },
         refl,
         λ (closes : Bool).
             item_answered limits c.args.clock.now (request q closes) c.args.after c.send.result s t (g.K.Link.link c.args.k.now) (g.K.Link.link c.read_clock-reading.new.k) (g.K.Link.link c.send.new.k) reading reply c.send.ensures.sent.0
             c.read_clock-reading.ensures.read c.read_clock-reading.ensures.rest
-            (says_gives (raised s reading) t q (answer (raised s reading).history (raised s reading).time limits q) c.answer-said.result came.leads)
+            (says_gives (raised s reading) t q (answer (raised s reading).history (raised s reading).time limits q) c.answer-said.result came.related)
             (subst (λ (l : List ℕ). Sent c.args.after l c.send.result c.send.ensures.sent.0 (g.K.Link.link c.read_clock-reading.new.k) (g.K.Link.link c.send.new.k)) (c.reply.ensures came.history came.house) c.send.ensures.sent.1),
       );
     }

@@ -4,7 +4,7 @@ use Rattle.ledger_model.specs.Answer.{answer}
 use Rattle.millicent_http.specs.Items.{request}
 use Rattle.millicent_http.specs.Takes.{item_of}
 use Rattle.millicent_http.specs.declared.item.ItemRef.{ItemRef}
-use Rattle.house_core.specs.Bench.{Went, limits_of, state_of}
+use Rattle.house_core.specs.Bench.{Refines, limits_of, state_of}
 use Rattle.house_core.specs.Session.{State, Step, raised, said_reply}
 use Rattle.house_serving.proofs.ItemLemmas.{says_gives, on_ok}
 use Rattle.house_serving.proofs.ReplyingLemmas.{Stepped}
@@ -17,18 +17,18 @@ returns-in-Request-clause-stepped g c =
     let old : List ℕ = c.args.out.now.items in
     let new : List ℕ = c.append_to.new.out.items in
     on_ok c.append_to.result (new ≡ old ++ c.reply.result)
-    (Went g.T.Trade.stands g.T.Trade.site g.T.Trade.holds (λ (s t : State). Stepped limits c.args.moment (item_of c.args.item.now) old new s t) c.args.bench.now c.answer-said.new.self)
+    (Refines g.T.Trade.stands g.T.Trade.site g.T.Trade.holds (λ (s t : State). Stepped limits c.args.moment (item_of c.args.item.now) old new s t) c.args.bench.now c.answer-said.new.self)
     (λ (e : new ≡ old ++ c.reply.result) h house.
     let s = state_of h c.args.bench.now in
     let came = c.answer-said.ensures.went h house in
     let t = state_of came.history c.answer-said.new.self in
     let reply : List ℕ = said_reply t q c.answer-said.result in
     let step : Step limits s c.args.moment (request q c.in-Request.field-1) reply t =
-    says_gives (raised s c.args.moment) t q (answer (raised s c.args.moment).history (raised s c.args.moment).time limits q) c.answer-said.result came.leads in
+    says_gives (raised s c.args.moment) t q (answer (raised s c.args.moment).history (raised s c.args.moment).time limits q) c.answer-said.result came.related in
     record {
       history = came.history;
       house = came.house;
-      leads = (
+      related = (
         reply,
         subst (λ (i : ItemRef). Step limits s c.args.moment (item_of i) reply t) (sym c.in-Request.is) step,
         e ∙ ap (λ (l : List ℕ). old ++ l) (c.reply.ensures came.history came.house),

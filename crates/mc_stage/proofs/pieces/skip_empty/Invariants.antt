@@ -1,5 +1,5 @@
 use Rattle.std.proofs.Common.{◌≡◌, ◌-◌, ℕ, length, map, Vec, Global}
-use Rattle.mc_stage.specs.Script.{pieces_from, without_empty}
+use Rattle.mc_stage.specs.Scenario.{pieces_from, without_empty}
 use Rattle.mc_stage.proofs.pieces.skip_empty.Given as goal
 
 abbrev pub invariant-pieces : goal.invariant-pieces

@@ -1,5 +1,5 @@
 use Rattle.std.proofs.Common.{◌∙◌, sym, ap, drop, List, ℕ}
-use Rattle.mc_stage.specs.Script.{without_empty, first_link, links_of}
+use Rattle.mc_stage.specs.Scenario.{without_empty, first_link, links_of}
 use Rattle.mc_stage.proofs.Links.{links_last}
 use Rattle.mc_stage.proofs.stage.take_pieces.Goals as goal
 

@@ -3,10 +3,10 @@ use Rattle.mc_outside.specs.LinkView.{LinkView}
 use Rattle.mc_records.specs.Entry.{Entry}
 use Rattle.mc_outside.specs.DiskView.{Ran}
 use Rattle.house_core.specs.declared.house.House.{House}
-use Rattle.house_core.specs.Found.{FoundsHouseBy, FoundQuiet, CountsBy}
+use Rattle.house_core.specs.Found.{FoundsHouseBy, FoundNoOutput, CountsBy}
 use Rattle.house_core.specs.Opening.{fault_disk}
 use Rattle.vendor_core.specs.declared.shelf.Shelf.{Shelf}
-use Rattle.vendor_core.specs.Shelf.{Stands, Holds}
+use Rattle.vendor_core.specs.Shelf.{ShelfRepresents, HasGoods}
 use Rattle.house_serving.specs.declared.serving.Clock.TheVariants.{OfLinks}
 use Rattle.house_serving.specs.Course.{AreRead, with_readings}
 use Rattle.mc_top.specs.Founding.{site_of}
@@ -43,13 +43,13 @@ returns-in-Ok-clause-founded g c x told =
     let at : (g.O.Disk.disk m).contents ≡ Some x = keeps.contents ∙ told in
     let same : g.O.Link.link b ≡ g.O.Link.link m = g.met.O.Outside.disk_keeps _ _ c.in-Ok.ensures.moved in
     let e : Entry = site_of c.args.founder.now c.now-moment.result in
-    let by = subst (λ (f : Entry). FoundsHouseBy {D = g.row.O.Denot} {T = Shelf} g.O.Disk.disk Stands (λ s. 0) Holds full f x (Ok c.in-Ok.house)) c.site-site.ensures.site (c.in-Ok.ensures.exact x at) in
+    let by = subst (λ (f : Entry). FoundsHouseBy {D = g.row.O.Denot} {T = Shelf} g.O.Disk.disk ShelfRepresents (λ s. 0) HasGoods full f x (Ok c.in-Ok.house)) c.site-site.ensures.site (c.in-Ok.ensures.exact x at) in
     let found : FoundAt g.O.Link.link g.O.Disk.disk c.args.founder.now c.args.out b c.now-moment.result = record {
       read = subst (λ (v : LinkView). AreRead OfLinks (c.now-moment.result ∷ []) (g.O.Link.link c.args.out).readings v.readings) (sym same) c.now-moment.ensures.read;
       rest = subst (λ (v : LinkView). v ≡ with_readings v.readings (g.O.Link.link c.args.out)) (sym same) c.now-moment.ensures.rest;
-      pairs = found_pairs g.O.Link.link g.O.Disk.disk c.args.out m b e g.met.O.Outside.sent_aside keeps c.now-moment.ensures.rest (subst (λ (f : Entry). Ran (g.O.Disk.disk m) (g.O.Disk.disk b) (FoundQuiet (g.O.Disk.disk m) f)) c.site-site.ensures.site (c.in-Ok.ensures.ran x at));
+      pairs = found_pairs g.O.Link.link g.O.Disk.disk c.args.out m b e g.met.O.Outside.sent_aside keeps c.now-moment.ensures.rest (subst (λ (f : Entry). Ran (g.O.Disk.disk m) (g.O.Disk.disk b) (FoundNoOutput (g.O.Disk.disk m) f)) c.site-site.ensures.site (c.in-Ok.ensures.ran x at));
     } in
-    rw c.close.ensures (c.now-moment.result, found, (c.name.ensures, by.free, founded_for g.O.Disk.disk Stands (λ s. 0) Holds e x c.in-Ok.house by))
+    rw c.close.ensures (c.now-moment.result, found, (c.name.ensures, by.free, founded_for g.O.Disk.disk ShelfRepresents (λ s. 0) HasGoods e x c.in-Ok.house by))
 
 pub returns-in-Err-clause-founded : goal.returns-in-Err-clause-founded
 returns-in-Err-clause-founded g c x told =
@@ -62,11 +62,11 @@ returns-in-Err-clause-founded g c x told =
     let found : FoundAt g.O.Link.link g.O.Disk.disk c.args.founder.now c.args.out b c.now-moment.result = record {
       read = subst (λ (v : LinkView). AreRead OfLinks (c.now-moment.result ∷ []) (g.O.Link.link c.args.out).readings v.readings) (sym same) c.now-moment.ensures.read;
       rest = subst (λ (v : LinkView). v ≡ with_readings v.readings (g.O.Link.link c.args.out)) (sym same) c.now-moment.ensures.rest;
-      pairs = found_pairs g.O.Link.link g.O.Disk.disk c.args.out m b e g.met.O.Outside.sent_aside keeps c.now-moment.ensures.rest (subst (λ (d : g.row.O.Denot). Ran (g.O.Disk.disk m) (g.O.Disk.disk d) (FoundQuiet (g.O.Disk.disk m) e)) (sym c.not_opened.ensures.disk)
-          (subst (λ (f : Entry). Ran (g.O.Disk.disk m) (g.O.Disk.disk (fault_disk c.in-Err.fault)) (FoundQuiet (g.O.Disk.disk m) f)) c.site-site.ensures.site (c.in-Err.ensures.ran x at)));
+      pairs = found_pairs g.O.Link.link g.O.Disk.disk c.args.out m b e g.met.O.Outside.sent_aside keeps c.now-moment.ensures.rest (subst (λ (d : g.row.O.Denot). Ran (g.O.Disk.disk m) (g.O.Disk.disk d) (FoundNoOutput (g.O.Disk.disk m) e)) (sym c.not_opened.ensures.disk)
+          (subst (λ (f : Entry). Ran (g.O.Disk.disk m) (g.O.Disk.disk (fault_disk c.in-Err.fault)) (FoundNoOutput (g.O.Disk.disk m) f)) c.site-site.ensures.site (c.in-Err.ensures.ran x at)));
     } in (
       c.now-moment.result,
       found,
       subst (λ (d : g.row.O.Denot). FoundsBy (g.O.Disk.disk c.args.out) c.args.founder.now x c.now-moment.result c.not_opened.result.1 (g.O.Disk.disk d)) (sym c.not_opened.ensures.disk)
-          (subst (λ (s : Status). FoundsBy (g.O.Disk.disk c.args.out) c.args.founder.now x c.now-moment.result s (g.O.Disk.disk (fault_disk c.in-Err.fault))) (sym c.not_opened.ensures.status) (not_founded g.O.Disk.disk Stands (λ s. 0) Holds c.args.founder.now c.now-moment.result x c.args.out m c.in-Err.fault keeps (subst (λ (f : Entry). FoundsHouseBy {D = g.row.O.Denot} {T = Shelf} g.O.Disk.disk Stands (λ s. 0) Holds full f x (Err c.in-Err.fault)) c.site-site.ensures.site (c.in-Err.ensures.exact x at)) c.in-Err.ensures.read)),
+          (subst (λ (s : Status). FoundsBy (g.O.Disk.disk c.args.out) c.args.founder.now x c.now-moment.result s (g.O.Disk.disk (fault_disk c.in-Err.fault))) (sym c.not_opened.ensures.status) (not_founded g.O.Disk.disk ShelfRepresents (λ s. 0) HasGoods c.args.founder.now c.now-moment.result x c.args.out m c.in-Err.fault keeps (subst (λ (f : Entry). FoundsHouseBy {D = g.row.O.Denot} {T = Shelf} g.O.Disk.disk ShelfRepresents (λ s. 0) HasGoods full f x (Err c.in-Err.fault)) c.site-site.ensures.site (c.in-Err.ensures.exact x at)) c.in-Err.ensures.read)),
     )

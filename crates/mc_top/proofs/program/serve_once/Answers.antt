@@ -12,7 +12,7 @@ returns-in-Ok-serve_bench_by-clause-ended g c =
     let n = c.in-Ok-serve_bench_by.field-0 in
     let before = g.K.Link.link c.args.k.now in
     let after = g.K.Link.link c.serve_bench_by.new.k in
-    let by = (c.in-Ok-serve_bench_by.ensures.served h is.house).leads in
+    let by = (c.in-Ok-serve_bench_by.ensures.served h is.house).related in
     (n, by.0, at_opening (λ limits moment s. Served limits (At moment) 1 (Ok n) by.0 s before after) h _ _ _ is.limits c.clamped.ensures is.time by.2)
 
 pub returns-clause-ended : goal.returns-clause-ended
@@ -22,7 +22,7 @@ returns-clause-ended g c =
     let end = c.in-Err-serve_bench_by.end in
     let before = g.K.Link.link c.args.k.now in
     let after = g.K.Link.link c.serve_bench_by.new.k in
-    let by = (c.in-Err-serve_bench_by.ensures.served h is.house).leads in
+    let by = (c.in-Err-serve_bench_by.ensures.served h is.house).related in
     ended_early end c.args.shop.now by.0 before after (at_opening (λ limits moment s. Served limits (At moment) 1 (Err end) by.0 s before after) h _ _ _ is.limits c.clamped.ensures is.time by.2)
 
 pub returns-in-Ok-serve_bench_by-clause-grown : goal.returns-in-Ok-serve_bench_by-clause-grown

@@ -23,43 +23,43 @@ returns-in-Err-clause-exact g c h st =
     rw c.bad_scrip.ensures.same (refuses g.T.Trade.stands g.T.Trade.site c.args.self.now h (asked_of c.args.q.now) (BadScrip c.in-Err.fault.place) st
     (bad_scrip h (house_time c.args.self.now) (limits_of c.args.self.now) (asked_of c.args.q.now) c.in-Some.text.now c.in-Err.fault.place asked c.in-Err.ensures.same))
 
-pub returns-in-Err-weigh-clause-exact : goal.returns-in-Err-weigh-clause-exact
-returns-in-Err-weigh-clause-exact g c h st =
+pub returns-in-Err-evaluate-clause-exact : goal.returns-in-Err-evaluate-clause-exact
+returns-in-Err-evaluate-clause-exact g c h st =
     let asked : (asked_of c.args.q.now).scrip ≡ Some c.in-Ok.scrip.text = rw (c.in-Some.is, c.in-Ok.ensures.found.0) refl in
     let read : scrip_of c.in-Ok.scrip.text ≡ Ok (c.in-Ok.scrip.piece, c.in-Ok.scrip.cert) = rw c.in-Ok.ensures.found.0 c.in-Ok.ensures.same in
-    rw c.stopped_with.ensures (makes_none g.T.Trade.stands g.T.Trade.site c.args.self.now h (asked_of c.args.q.now) c.in-Err-weigh.stopped st
-    (answer_under h _ c.limits.result _ (asked_of c.args.q.now) c.in-Ok.scrip _ c.limits.ensures.limits asked read (c.in-Err-weigh.ensures.lines h st.books st.trade st.of_kind)))
+    rw c.stopped_with.ensures (makes_none g.T.Trade.stands g.T.Trade.site c.args.self.now h (asked_of c.args.q.now) c.in-Err-evaluate.stopped st
+    (answer_under h _ c.limits.result _ (asked_of c.args.q.now) c.in-Ok.scrip _ c.limits.ensures.limits asked read (c.in-Err-evaluate.ensures.lines h st.state st.trade st.of_kind)))
 
-pub returns-in-Ok-take-clause-exact : goal.returns-in-Ok-take-clause-exact
-returns-in-Ok-take-clause-exact g c h st =
+pub returns-in-Ok-commit-clause-exact : goal.returns-in-Ok-commit-clause-exact
+returns-in-Ok-commit-clause-exact g c h st =
     let asked : (asked_of c.args.q.now).scrip ≡ Some c.in-Ok.scrip.text = rw (c.in-Some.is, c.in-Ok.ensures.found.0) refl in
     let read : scrip_of c.in-Ok.scrip.text ≡ Ok (c.in-Ok.scrip.piece, c.in-Ok.scrip.cert) = rw c.in-Ok.ensures.found.0 c.in-Ok.ensures.same in
-    let is = answer_under h _ c.limits.result _ (asked_of c.args.q.now) c.in-Ok.scrip _ c.limits.ensures.limits asked read (c.in-Ok-weigh.ensures.lines h st.books st.trade st.of_kind) in
-    subst (λ (a : Answer). Accepts g.T.Trade.stands g.T.Trade.site c.take.new.self h a (Ok c.in-Ok-take.number)) is (c.in-Ok-take.ensures.exact (limits_of c.args.self.now) h st refl c.limits.ensures.sound.limits.journal_most (sym is))
+    let is = answer_under h _ c.limits.result _ (asked_of c.args.q.now) c.in-Ok.scrip _ c.limits.ensures.limits asked read (c.in-Ok-evaluate.ensures.lines h st.state st.trade st.of_kind) in
+    subst (λ (a : Answer). Accepts g.T.Trade.stands g.T.Trade.site c.commit.new.self h a (Ok c.in-Ok-commit.number)) is (c.in-Ok-commit.ensures.exact (limits_of c.args.self.now) h st refl c.limits.ensures.sound.limits.journal_most (sym is))
 
-pub returns-in-Err-take-clause-exact : goal.returns-in-Err-take-clause-exact
-returns-in-Err-take-clause-exact g c h st =
+pub returns-in-Err-commit-clause-exact : goal.returns-in-Err-commit-clause-exact
+returns-in-Err-commit-clause-exact g c h st =
     let asked : (asked_of c.args.q.now).scrip ≡ Some c.in-Ok.scrip.text = rw (c.in-Some.is, c.in-Ok.ensures.found.0) refl in
     let read : scrip_of c.in-Ok.scrip.text ≡ Ok (c.in-Ok.scrip.piece, c.in-Ok.scrip.cert) = rw c.in-Ok.ensures.found.0 c.in-Ok.ensures.same in
-    let is = answer_under h _ c.limits.result _ (asked_of c.args.q.now) c.in-Ok.scrip _ c.limits.ensures.limits asked read (c.in-Ok-weigh.ensures.lines h st.books st.trade st.of_kind) in
-    subst (λ (a : Answer). Accepts g.T.Trade.stands g.T.Trade.site c.take.new.self h a (Err faults.NoMemory)) is (c.in-Err-take.ensures.exact (limits_of c.args.self.now) h st refl c.limits.ensures.sound.limits.journal_most (sym is))
+    let is = answer_under h _ c.limits.result _ (asked_of c.args.q.now) c.in-Ok.scrip _ c.limits.ensures.limits asked read (c.in-Ok-evaluate.ensures.lines h st.state st.trade st.of_kind) in
+    subst (λ (a : Answer). Accepts g.T.Trade.stands g.T.Trade.site c.commit.new.self h a (Err faults.NoMemory)) is (c.in-Err-commit.ensures.exact (limits_of c.args.self.now) h st refl c.limits.ensures.sound.limits.journal_most (sym is))
 
-pub returns-in-Err-weigh-clause-contents : goal.returns-in-Err-weigh-clause-contents
-returns-in-Err-weigh-clause-contents g c h st has =
+pub returns-in-Err-evaluate-clause-contents : goal.returns-in-Err-evaluate-clause-contents
+returns-in-Err-evaluate-clause-contents g c h st has =
     let asked : (asked_of c.args.q.now).scrip ≡ Some c.in-Ok.scrip.text = rw (c.in-Some.is, c.in-Ok.ensures.found.0) refl in
     let read : scrip_of c.in-Ok.scrip.text ≡ Ok (c.in-Ok.scrip.piece, c.in-Ok.scrip.cert) = rw c.in-Ok.ensures.found.0 c.in-Ok.ensures.same in
-    rw c.stopped_with.ensures (keeps_all g.T.Trade.holds c.args.self.now h (asked_of c.args.q.now) c.in-Err-weigh.stopped has
-    (answer_under h _ c.limits.result _ (asked_of c.args.q.now) c.in-Ok.scrip _ c.limits.ensures.limits asked read (c.in-Err-weigh.ensures.lines h st.books st.trade st.of_kind)))
+    rw c.stopped_with.ensures (keeps_all g.T.Trade.holds c.args.self.now h (asked_of c.args.q.now) c.in-Err-evaluate.stopped has
+    (answer_under h _ c.limits.result _ (asked_of c.args.q.now) c.in-Ok.scrip _ c.limits.ensures.limits asked read (c.in-Err-evaluate.ensures.lines h st.state st.trade st.of_kind)))
 
-pub returns-in-Ok-take-clause-contents : goal.returns-in-Ok-take-clause-contents
-returns-in-Ok-take-clause-contents g c h st has =
+pub returns-in-Ok-commit-clause-contents : goal.returns-in-Ok-commit-clause-contents
+returns-in-Ok-commit-clause-contents g c h st has =
     let asked : (asked_of c.args.q.now).scrip ≡ Some c.in-Ok.scrip.text = rw (c.in-Some.is, c.in-Ok.ensures.found.0) refl in
     let read : scrip_of c.in-Ok.scrip.text ≡ Ok (c.in-Ok.scrip.piece, c.in-Ok.scrip.cert) = rw c.in-Ok.ensures.found.0 c.in-Ok.ensures.same in
-    let is = answer_under h _ c.limits.result _ (asked_of c.args.q.now) c.in-Ok.scrip _ c.limits.ensures.limits asked read (c.in-Ok-weigh.ensures.lines h st.books st.trade st.of_kind) in
-    subst (λ (a : Answer). KeepsContents g.T.Trade.holds c.take.new.self h a (Ok c.in-Ok-take.number)) is (c.in-Ok-take.ensures.contents h st has (c.in-Ok-weigh.ensures.in_force h st.trade st.of_kind))
+    let is = answer_under h _ c.limits.result _ (asked_of c.args.q.now) c.in-Ok.scrip _ c.limits.ensures.limits asked read (c.in-Ok-evaluate.ensures.lines h st.state st.trade st.of_kind) in
+    subst (λ (a : Answer). KeepsContents g.T.Trade.holds c.commit.new.self h a (Ok c.in-Ok-commit.number)) is (c.in-Ok-commit.ensures.contents h st has (c.in-Ok-evaluate.ensures.in_force h st.trade st.of_kind))
 
-pub returns-in-Err-weigh-clause-kept : goal.returns-in-Err-weigh-clause-kept
-returns-in-Err-weigh-clause-kept g c = rw c.stopped_with.ensures (stopped_kept c.args.self.now c.in-Err-weigh.stopped c.in-Err-weigh.ensures.again)
+pub returns-in-Err-evaluate-clause-kept : goal.returns-in-Err-evaluate-clause-kept
+returns-in-Err-evaluate-clause-kept g c = rw c.stopped_with.ensures (stopped_kept c.args.self.now c.in-Err-evaluate.stopped c.in-Err-evaluate.ensures.again)
 
-pub returns-in-Err-weigh-clause-site : goal.returns-in-Err-weigh-clause-site
-returns-in-Err-weigh-clause-site g c = rw c.stopped_with.ensures (stopped_site c.in-Err-weigh.stopped c.in-Err-weigh.ensures.site)
+pub returns-in-Err-evaluate-clause-site : goal.returns-in-Err-evaluate-clause-site
+returns-in-Err-evaluate-clause-site g c = rw c.stopped_with.ensures (stopped_site c.in-Err-evaluate.stopped c.in-Err-evaluate.ensures.site)

@@ -14,26 +14,26 @@ pub returns-in-Err-clause-contents : goal.returns-in-Err-clause-contents
 returns-in-Err-clause-contents g c h st has =
     contents_roomed g.T.Trade.stands g.T.Trade.site g.T.Trade.holds _ _ h c.in-Err.ensures.same (c.raise.ensures.contents h st has)
 
-pub returns-in-Ok-note-clause-exact : goal.returns-in-Ok-note-clause-exact
-returns-in-Ok-note-clause-exact g c h st =
+pub returns-in-Ok-apply_entry-clause-exact : goal.returns-in-Ok-apply_entry-clause-exact
+returns-in-Ok-apply_entry-clause-exact g c h st =
     let same = c.in-Ok.ensures.same in
-    let limits : limits_of c.make_room_for.new.self ≡ limits_of c.args.self.now = same.books.limits ∙ c.raise.ensures.limits in
-    rw limits at (c.in-Ok-note.ensures.exact h (holds_roomed g.T.Trade.stands g.T.Trade.site g.T.Trade.holds _ _ h same (c.raise.ensures.same h st)) (c.requires.order h st))
+    let limits : limits_of c.make_room_for.new.self ≡ limits_of c.args.self.now = same.state.limits ∙ c.raise.ensures.limits in
+    rw limits at (c.in-Ok-apply_entry.ensures.exact h (holds_roomed g.T.Trade.stands g.T.Trade.site g.T.Trade.holds _ _ h same (c.raise.ensures.same h st)) (c.requires.order h st))
 
-pub returns-in-Err-note-clause-exact : goal.returns-in-Err-note-clause-exact
-returns-in-Err-note-clause-exact g c h st =
+pub returns-in-Err-apply_entry-clause-exact : goal.returns-in-Err-apply_entry-clause-exact
+returns-in-Err-apply_entry-clause-exact g c h st =
     let same = c.in-Ok.ensures.same in
-    let limits : limits_of c.make_room_for.new.self ≡ limits_of c.args.self.now = same.books.limits ∙ c.raise.ensures.limits in
-    rw limits at (c.in-Err-note.ensures.exact h (holds_roomed g.T.Trade.stands g.T.Trade.site g.T.Trade.holds _ _ h same (c.raise.ensures.same h st)) (c.requires.order h st))
+    let limits : limits_of c.make_room_for.new.self ≡ limits_of c.args.self.now = same.state.limits ∙ c.raise.ensures.limits in
+    rw limits at (c.in-Err-apply_entry.ensures.exact h (holds_roomed g.T.Trade.stands g.T.Trade.site g.T.Trade.holds _ _ h same (c.raise.ensures.same h st)) (c.requires.order h st))
 
-pub returns-in-Ok-note-clause-contents : goal.returns-in-Ok-note-clause-contents
-returns-in-Ok-note-clause-contents g c h st has =
+pub returns-in-Ok-apply_entry-clause-contents : goal.returns-in-Ok-apply_entry-clause-contents
+returns-in-Ok-apply_entry-clause-contents g c h st has =
     let same = c.in-Ok.ensures.same in
-    c.in-Ok-note.ensures.contents h (holds_roomed g.T.Trade.stands g.T.Trade.site g.T.Trade.holds _ _ h same (c.raise.ensures.same h st))
+    c.in-Ok-apply_entry.ensures.contents h (holds_roomed g.T.Trade.stands g.T.Trade.site g.T.Trade.holds _ _ h same (c.raise.ensures.same h st))
     (contents_roomed g.T.Trade.stands g.T.Trade.site g.T.Trade.holds _ _ h same (c.raise.ensures.contents h st has))
 
-pub returns-in-Err-note-clause-contents : goal.returns-in-Err-note-clause-contents
-returns-in-Err-note-clause-contents g c h st has =
+pub returns-in-Err-apply_entry-clause-contents : goal.returns-in-Err-apply_entry-clause-contents
+returns-in-Err-apply_entry-clause-contents g c h st has =
     let same = c.in-Ok.ensures.same in
-    c.in-Err-note.ensures.contents h (holds_roomed g.T.Trade.stands g.T.Trade.site g.T.Trade.holds _ _ h same (c.raise.ensures.same h st))
+    c.in-Err-apply_entry.ensures.contents h (holds_roomed g.T.Trade.stands g.T.Trade.site g.T.Trade.holds _ _ h same (c.raise.ensures.same h st))
     (contents_roomed g.T.Trade.stands g.T.Trade.site g.T.Trade.holds _ _ h same (c.raise.ensures.contents h st has))

@@ -13,15 +13,15 @@ returns-clause-holds g c =
     let e = entry c.args.site.now in
     let kind : site_kind (e ∷ []) ≡ Some (g.T.Trade.site c.reserve.new.self) = rw c.in-Ok.ensures.site c.requires.kind in
     record {
-      books = stands_founded c.in_ok-books.books c.args.limits e c.in_ok-books.ensures c.requires.site c.requires.limits c.requires.first;
+      state = stands_founded c.in_ok-state.state c.args.limits e c.in_ok-state.ensures c.requires.site c.requires.limits c.requires.first;
       trade = c.in-Ok-learn.ensures.learned c.args.limits [] (c.in-Ok.ensures.same [] c.requires.trade) (learns_site c.args.limits (g.T.Trade.site c.reserve.new.self) e c.requires.site c.requires.first kind);
       of_kind = rw c.in-Ok-learn.ensures.site kind;
     }
 
 pub returns-clause-contents : goal.returns-clause-contents
 returns-clause-contents g c =
-    let made : Bench g.row.T.Denot = record { books = c.in_ok-books.books; trade = c.learn.new.self } in
-    contents_of_none g.T.Trade.holds made (entry c.args.site.now ∷ []) (none_kept c.in_ok-books.books c.args.limits (entry c.args.site.now) c.in_ok-books.ensures)
+    let made : Bench g.row.T.Denot = record { state = c.in_ok-state.state; trade = c.learn.new.self } in
+    contents_of_none g.T.Trade.holds made (entry c.args.site.now ∷ []) (none_kept c.in_ok-state.state c.args.limits (entry c.args.site.now) c.in_ok-state.ensures)
 
 pub learn-requires-clause-fits : goal.learn-requires-clause-fits
 learn-requires-clause-fits g c = founds_fit (entry c.args.site.now) c.requires.site

@@ -1,21 +1,21 @@
 use Rattle.std.proofs.Common.{◌≤◌, refl, sym, arith, subst}
 use Rattle.std.specs.Prelude.{max}
-use Rattle.house_core.specs.Books.{BooksView}
-use Rattle.house_core.specs.Stands.{Stands}
+use Rattle.house_core.specs.HouseState.{HouseStateView}
+use Rattle.house_core.specs.Representation.{StateRepresents}
 use Rattle.house_core.proofs.KeptLater.{stands_later, contents_later}
 use Rattle.house_core.proofs.bench.Bench.raise.Goals as goal
 
 pub returns-clause-same : goal.returns-clause-same
 returns-clause-same g c h st =
-    let later : c.args.self.now.books.time ≤ max c.args.self.now.books.time c.args.reading = omega arith in
+    let later : c.args.self.now.state.time ≤ max c.args.self.now.state.time c.args.reading = omega arith in
     record {
-      books = subst (λ (b : BooksView). Stands b h) (sym c.raise-time.ensures.rest)
-          (stands_later st.books (max c.args.self.now.books.time c.args.reading) c.raise-time.new.self.kept later c.raise-time.ensures.keep c.raise-time.ensures.replies);
+      state = subst (λ (b : HouseStateView). StateRepresents b h) (sym c.raise-time.ensures.rest)
+          (stands_later st.state (max c.args.self.now.state.time c.args.reading) c.raise-time.new.self.kept later c.raise-time.ensures.keep c.raise-time.ensures.replies);
       trade = c.forget.ensures.same h st.trade;
       of_kind = rw c.forget.ensures.site st.of_kind;
     }
 
 pub returns-clause-contents : goal.returns-clause-contents
 returns-clause-contents g c h st has =
-    contents_later g.T.Trade.holds c.args.self.now (record { books = c.raise-time.new.self; trade = c.forget.new.self }) h (max c.args.self.now.books.time c.args.reading) c.first_kept.result has
+    contents_later g.T.Trade.holds c.args.self.now (record { state = c.raise-time.new.self; trade = c.forget.new.self }) h (max c.args.self.now.state.time c.args.reading) c.first_kept.result has
     c.raise-time.ensures.replies c.first_kept.ensures.least (λ e. c.first_kept.ensures.none.0 (rw e refl)) (λ n kept held. c.forget.ensures.held h n st.trade kept held)

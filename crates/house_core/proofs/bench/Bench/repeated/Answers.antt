@@ -16,17 +16,17 @@ returns-in_default-clause-exact g c h st =
 pub returns-in-Ok-clause-kept : goal.returns-in-Ok-clause-kept
 returns-in-Ok-clause-kept g c = kept_so c.repeated.result c.repeated.ensures
   where
-    kept_so : (o : Option ℕ) → o ≡ option_map (λ e. e.number) (found c.args.self.now.books.kept c.args.self.now.books.time (asked_of c.request_with.result))
-        → IfSome o (λ n. IsTrue (has_number c.args.self.now.books.kept.replies n))
-    kept_so (Some n) is = found_number c.args.self.now.books.kept c.args.self.now.books.time (asked_of c.request_with.result) n is
+    kept_so : (o : Option ℕ) → o ≡ option_map (λ e. e.number) (found c.args.self.now.state.kept c.args.self.now.state.time (asked_of c.request_with.result))
+        → IfSome o (λ n. IsTrue (has_number c.args.self.now.state.kept.replies n))
+    kept_so (Some n) is = found_number c.args.self.now.state.kept c.args.self.now.state.time (asked_of c.request_with.result) n is
     kept_so None is = tt
 
 pub returns-in-Ok-clause-exact : goal.returns-in-Ok-clause-exact
 returns-in-Ok-clause-exact g c h st =
     let asked : (asked_of c.args.q.now).scrip ≡ Some c.in-Ok.scrip.text = rw (c.in-Some.is, c.in-Ok.ensures.found.0) refl in
     let read : scrip_of c.in-Ok.scrip.text ≡ Ok (c.in-Ok.scrip.piece, c.in-Ok.scrip.cert) = rw c.in-Ok.ensures.found.0 c.in-Ok.ensures.same in
-    number_at c.args.self.now.books (asked_of c.args.q.now) (asked_of c.request_with.result) c.in-Ok.scrip c.repeated.result c.request_with.ensures c.repeated.ensures
-    ∙ repeat_kept st.books (limits_of c.args.self.now) (asked_of c.args.q.now) c.in-Ok.scrip asked read
+    number_at c.args.self.now.state (asked_of c.args.q.now) (asked_of c.request_with.result) c.in-Ok.scrip c.repeated.result c.request_with.ensures c.repeated.ensures
+    ∙ repeat_kept st.state (limits_of c.args.self.now) (asked_of c.args.q.now) c.in-Ok.scrip asked read
 
 pub returns-in-Err-clause-exact : goal.returns-in-Err-clause-exact
 returns-in-Err-clause-exact g c h st =

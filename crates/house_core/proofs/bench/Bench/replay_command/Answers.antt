@@ -12,4 +12,4 @@ returns-in-Err-follow-clause-exact g c h st room =
 -- the entry fits the greatest journal
 pub returns-in-Err-fitted-clause-exact : goal.returns-in-Err-fitted-clause-exact
 returns-in-Err-fitted-clause-exact g c h st room =
-    λ may. absurd (omega (arith, c.in-Err-fitted.ensures.full, room, length-tail h (entry c.args.r.now), st.books.sized, st.books.tail, c.in-Ok.ensures.len))
+    λ may. absurd (omega (arith, c.in-Err-fitted.ensures.full, room, length-tail h (entry c.args.r.now), st.state.sized, st.state.tail, c.in-Ok.ensures.len))

@@ -4,7 +4,7 @@ use Rattle.scrip_form.specs.Reading.{scrip_of}
 use Rattle.mc_records.specs.declared.refusal.Refusal.TheVariants.{NoScrip, BadScrip}
 use Rattle.mc_records.specs.Requests.{asked_of}
 use Rattle.ledger_model.specs.Answer.{Answer}
-use Rattle.house_core.specs.declared.verdict.Stopped.TheVariants as stops
+use Rattle.house_core.specs.declared.verdict.NotAuthorized.TheVariants as stops
 use Rattle.house_core.specs.Bench.{house_time, limits_of}
 use Rattle.house_core.specs.House.{Accepted, Leaves, outcome_disk}
 use Rattle.house_core.proofs.Tabled.{answer_under}
@@ -34,35 +34,35 @@ pub returns-in-Err-clause-ran : goal.returns-in-Err-clause-ran
 returns-in-Err-clause-ran g c h st =
     ran_refused _ _ _ _ _ _ h _ (ran_nothing g.D.Disk.disk c.args.self.journal _ h (g.met.D.Disk.is_disk _) st.journal refl)
 
-pub returns-in-Ok-weigh-clause-exact : goal.returns-in-Ok-weigh-clause-exact
-returns-in-Ok-weigh-clause-exact g c h st =
+pub returns-in-Ok-evaluate-clause-exact : goal.returns-in-Ok-evaluate-clause-exact
+returns-in-Ok-evaluate-clause-exact g c h st =
     let asked : (asked_of c.args.q.now).scrip ≡ Some c.in-Ok.scrip.text = rw (c.in-Some.is, c.in-Ok.ensures.found.0) refl in
     let read : scrip_of c.in-Ok.scrip.text ≡ Ok (c.in-Ok.scrip.piece, c.in-Ok.scrip.cert) = rw c.in-Ok.ensures.found.0 c.in-Ok.ensures.same in
     let b = st.house.stands' in
-    let is = answer_under h _ c.limits.result _ (asked_of c.args.q.now) c.in-Ok.scrip _ c.limits.ensures.limits asked read (c.in-Ok-weigh.ensures.lines h b.books b.trade b.of_kind) in
-    subst (λ (a : Answer). Accepted g.D.Disk.disk g.T.Trade.stands g.T.Trade.site g.T.Trade.holds c.args.self.journal.disk h a c.take.result) is
-    (c.take.ensures.exact h st (c.in-Ok-weigh.ensures.in_force h b.trade b.of_kind) (c.in-Ok-weigh.ensures.brings h b.trade b.of_kind) (sym is))
+    let is = answer_under h _ c.limits.result _ (asked_of c.args.q.now) c.in-Ok.scrip _ c.limits.ensures.limits asked read (c.in-Ok-evaluate.ensures.lines h b.state b.trade b.of_kind) in
+    subst (λ (a : Answer). Accepted g.D.Disk.disk g.T.Trade.stands g.T.Trade.site g.T.Trade.holds c.args.self.journal.disk h a c.commit.result) is
+    (c.commit.ensures.exact h st (c.in-Ok-evaluate.ensures.in_force h b.trade b.of_kind) (c.in-Ok-evaluate.ensures.brings h b.trade b.of_kind) (sym is))
 
-pub returns-in-Ok-weigh-clause-ran : goal.returns-in-Ok-weigh-clause-ran
-returns-in-Ok-weigh-clause-ran g c h st =
+pub returns-in-Ok-evaluate-clause-ran : goal.returns-in-Ok-evaluate-clause-ran
+returns-in-Ok-evaluate-clause-ran g c h st =
     let asked : (asked_of c.args.q.now).scrip ≡ Some c.in-Ok.scrip.text = rw (c.in-Some.is, c.in-Ok.ensures.found.0) refl in
     let read : scrip_of c.in-Ok.scrip.text ≡ Ok (c.in-Ok.scrip.piece, c.in-Ok.scrip.cert) = rw c.in-Ok.ensures.found.0 c.in-Ok.ensures.same in
     let b = st.house.stands' in
-    let is = answer_under h _ c.limits.result _ (asked_of c.args.q.now) c.in-Ok.scrip _ c.limits.ensures.limits asked read (c.in-Ok-weigh.ensures.lines h b.books b.trade b.of_kind) in
-    subst (λ (a : Answer). Ran (g.D.Disk.disk c.args.self.journal.disk) (g.D.Disk.disk (outcome_disk c.take.result)) (Leaves a c.take.result h (g.D.Disk.disk c.args.self.journal.disk).aside)) is
-    (c.take.ensures.ran h st)
+    let is = answer_under h _ c.limits.result _ (asked_of c.args.q.now) c.in-Ok.scrip _ c.limits.ensures.limits asked read (c.in-Ok-evaluate.ensures.lines h b.state b.trade b.of_kind) in
+    subst (λ (a : Answer). Ran (g.D.Disk.disk c.args.self.journal.disk) (g.D.Disk.disk (outcome_disk c.commit.result)) (Leaves a c.commit.result h (g.D.Disk.disk c.args.self.journal.disk).aside)) is
+    (c.commit.ensures.ran h st)
 
-pub returns-in-Err-weigh-clause-moved : goal.returns-in-Err-weigh-clause-moved
-returns-in-Err-weigh-clause-moved g c = g.met.D.Disk.disk_stays c.args.self.journal.disk
+pub returns-in-Err-evaluate-clause-moved : goal.returns-in-Err-evaluate-clause-moved
+returns-in-Err-evaluate-clause-moved g c = g.met.D.Disk.disk_stays c.args.self.journal.disk
 
-pub returns-in-Err-weigh-clause-exact : goal.returns-in-Err-weigh-clause-exact
-returns-in-Err-weigh-clause-exact g c h st =
+pub returns-in-Err-evaluate-clause-exact : goal.returns-in-Err-evaluate-clause-exact
+returns-in-Err-evaluate-clause-exact g c h st =
     let asked : (asked_of c.args.q.now).scrip ≡ Some c.in-Ok.scrip.text = rw (c.in-Some.is, c.in-Ok.ensures.found.0) refl in
     let read : scrip_of c.in-Ok.scrip.text ≡ Ok (c.in-Ok.scrip.piece, c.in-Ok.scrip.cert) = rw c.in-Ok.ensures.found.0 c.in-Ok.ensures.same in
     let b = st.house.stands' in
-    not_accepted g.D.Disk.disk g.T.Trade.stands g.T.Trade.site g.T.Trade.holds c.args.self h _ c.in-Err-weigh.stopped c.refusal_of.result c.refusal_of.ensures.same
-    (answer_under h _ c.limits.result _ (asked_of c.args.q.now) c.in-Ok.scrip _ c.limits.ensures.limits asked read (c.in-Err-weigh.ensures.lines h b.books b.trade b.of_kind)) st
+    not_accepted g.D.Disk.disk g.T.Trade.stands g.T.Trade.site g.T.Trade.holds c.args.self h _ c.in-Err-evaluate.stopped c.refusal_of.result c.refusal_of.ensures.same
+    (answer_under h _ c.limits.result _ (asked_of c.args.q.now) c.in-Ok.scrip _ c.limits.ensures.limits asked read (c.in-Err-evaluate.ensures.lines h b.state b.trade b.of_kind)) st
 
-pub returns-in-Err-weigh-clause-ran : goal.returns-in-Err-weigh-clause-ran
-returns-in-Err-weigh-clause-ran g c h st =
+pub returns-in-Err-evaluate-clause-ran : goal.returns-in-Err-evaluate-clause-ran
+returns-in-Err-evaluate-clause-ran g c h st =
     ran_refused _ _ _ _ _ _ h _ (ran_nothing g.D.Disk.disk c.args.self.journal _ h (g.met.D.Disk.is_disk _) st.journal refl)

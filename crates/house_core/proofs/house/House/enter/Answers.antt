@@ -5,18 +5,18 @@ use Rattle.mc_records.specs.Sizes.{size, entry_size}
 use Rattle.mc_records.specs.declared.limits.Limits.{Limits}
 use Rattle.mc_records.specs.Views.{entry}
 use Rattle.scrip_journal.specs.States.{AtRest}
-use Rattle.scrip_journal.specs.Exits.{EitherQuiet}
+use Rattle.scrip_journal.specs.Exits.{EitherNoOutput}
 use Rattle.house_core.specs.declared.house.House.{House}
 use Rattle.house_core.specs.Bench.{house_time, limits_of}
 use Rattle.house_core.proofs.Accepting.{holds_roomed}
 use Rattle.house_core.proofs.Contents.{contents_roomed}
-use Rattle.house_core.proofs.HouseDisk.{ran_nothing, stands_with, as_roomed, has_entered, not_full_of, noted}
+use Rattle.house_core.proofs.HouseDisk.{ran_nothing, stands_with, as_roomed, has_entered, not_full_of, applied}
 use Rattle.house_core.proofs.house.House.enter.Goals as goal
 
 pub returns-in-Err-clause-keeps : goal.returns-in-Err-clause-keeps
 returns-in-Err-clause-keeps g c =
     let same = c.make_room_for.ensures.same in
-    record { time = same.books.time ∙ c.raise.ensures.raised ∙ ap (max (house_time c.args.self.bench)) c.moment_in.ensures; limits = same.books.limits ∙ c.raise.ensures.limits }
+    record { time = same.state.time ∙ c.raise.ensures.raised ∙ ap (max (house_time c.args.self.bench)) c.moment_in.ensures; limits = same.state.limits ∙ c.raise.ensures.limits }
 
 pub returns-in-Err-clause-exact : goal.returns-in-Err-clause-exact
 returns-in-Err-clause-exact g c h st =
@@ -30,23 +30,23 @@ returns-in-Err-clause-ran g c h st = ran_nothing g.D.Disk.disk c.args.self.journ
 pub returns-in-Ok-write_entry-clause-exact : goal.returns-in-Ok-write_entry-clause-exact
 returns-in-Ok-write_entry-clause-exact g c h st =
     let same = c.make_room_for.ensures.same in
-    let limits : limits_of c.make_room_for.new.self ≡ limits_of c.args.self.bench = same.books.limits ∙ c.raise.ensures.limits in
+    let limits : limits_of c.make_room_for.new.self ≡ limits_of c.args.self.bench = same.state.limits ∙ c.raise.ensures.limits in
     let st' = holds_roomed g.T.Trade.stands g.T.Trade.site g.T.Trade.holds _ _ h same (c.raise.ensures.same h st.house.stands') in
     let has = contents_roomed g.T.Trade.stands g.T.Trade.site g.T.Trade.holds _ _ h same (c.raise.ensures.contents h st.house.stands' st.house.contents) in
-    let after : House g.row.D.Denot g.row.T.Denot = record { journal = c.in-Ok-write_entry.journal; bench = c.note-noted.new.self } in
+    let after : House g.row.D.Denot g.row.T.Denot = record { journal = c.in-Ok-write_entry.journal; bench = c.apply_entry-applied.new.self } in
     let wrote = c.in-Ok-write_entry.ensures in
     let may = c.requires.may h st in
-    let both = noted c.note-noted.result _ _ _ _ _ _ may (rw limits at (c.note-noted.ensures.exact h st' may.in_order)) (c.note-noted.ensures.contents h st' has) in
+    let both = applied c.apply_entry-applied.result _ _ _ _ _ _ may (rw limits at (c.apply_entry-applied.ensures.exact h st' may.in_order)) (c.apply_entry-applied.ensures.contents h st' has) in
     has_entered g.D.Disk.disk g.T.Trade.stands g.T.Trade.site g.T.Trade.holds c.args.self after h (entry c.args.r.now) (entry c.args.r.now)
-    c.in-Ok-write_entry.receipt refl st (wrote.written h st.journal).0 wrote.limit (c.note-noted.ensures.limits ∙ limits) (wrote.written h st.journal).1 both.0 both.1
+    c.in-Ok-write_entry.receipt refl st (wrote.written h st.journal).0 wrote.limit (c.apply_entry-applied.ensures.limits ∙ limits) (wrote.written h st.journal).1 both.0 both.1
 
 pub returns-in-Err-Full-clause-exact : goal.returns-in-Err-Full-clause-exact
 returns-in-Err-Full-clause-exact g c h st =
     let same = c.make_room_for.ensures.same in
     let st' = holds_roomed g.T.Trade.stands g.T.Trade.site g.T.Trade.holds _ _ h same (c.raise.ensures.same h st.house.stands') in
     let full : c.args.self.journal.limit < size h + entry_size h (entry c.args.r.now) = rw c.in-Err-Full.field-0-is at (c.in-Err-Full.ensures.full h st.journal.size_is) in
-    absurd (not_full_of c.make_room_for.new.self.books h c.args.self.journal.limit c.in-Ok.bytes (entry c.args.r.now) st'.books c.in-Ok.ensures.len c.in-Ok.ensures.fits
-    (st.limit ∙ ap (λ (l : Limits). l.journal) (sym (same.books.limits ∙ c.raise.ensures.limits))) full)
+    absurd (not_full_of c.make_room_for.new.self.state h c.args.self.journal.limit c.in-Ok.bytes (entry c.args.r.now) st'.state c.in-Ok.ensures.len c.in-Ok.ensures.fits
+    (st.limit ∙ ap (λ (l : Limits). l.journal) (sym (same.state.limits ∙ c.raise.ensures.limits))) full)
 
 pub returns-in-Err-Full-clause-ran : goal.returns-in-Err-Full-clause-ran
 returns-in-Err-Full-clause-ran g c h st =
@@ -60,7 +60,7 @@ returns-in-Err-Disk-clause-exact g c h st =
 
 pub returns-in-Err-Disk-clause-ran : goal.returns-in-Err-Disk-clause-ran
 returns-in-Err-Disk-clause-ran g c h st =
-    let ran : Ran (g.D.Disk.disk c.args.self.journal.disk) (g.D.Disk.disk c.in-Err-Disk.halted) (EitherQuiet h (entry c.args.r.now) (g.D.Disk.disk c.args.self.journal.disk).aside) = rw c.in-Err-Disk.field-0-is at (c.in-Err-Disk.ensures.ran h st.journal) in
+    let ran : Ran (g.D.Disk.disk c.args.self.journal.disk) (g.D.Disk.disk c.in-Err-Disk.halted) (EitherNoOutput h (entry c.args.r.now) (g.D.Disk.disk c.args.self.journal.disk).aside) = rw c.in-Err-Disk.field-0-is at (c.in-Err-Disk.ensures.ran h st.journal) in
     ran
 
 pub returns-in-Ok-write_entry-clause-ran : goal.returns-in-Ok-write_entry-clause-ran

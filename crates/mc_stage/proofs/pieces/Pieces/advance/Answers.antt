@@ -1,6 +1,6 @@
 use Rattle.std.proofs.Common.{◌≡◌, ◌<◌, ◌+◌, ◌∙◌, ap, sym, arith, ℕ, List, length, map, Vec, Global, slice_index_or}
 use Rattle.std.proofs.lemmas.Bool.{ltb-true}
-use Rattle.mc_stage.specs.Script.{pieces_from, pieces_after}
+use Rattle.mc_stage.specs.Scenario.{pieces_from, pieces_after}
 use Rattle.mc_stage.proofs.Elements.{piece_open, piece_left, some_given, all_given, is_at}
 use Rattle.mc_stage.proofs.pieces.Pieces.advance.Goals as goal
 

@@ -1,5 +1,5 @@
 use Rattle.std.proofs.Common.{map, Vec, Global, ℕ}
-use Rattle.mc_stage.specs.Script.{pieces_from}
+use Rattle.mc_stage.specs.Scenario.{pieces_from}
 use Rattle.mc_stage.proofs.Elements.{is_at}
 use Rattle.mc_stage.proofs.pieces.Pieces.of.Goals as goal
 

@@ -1,6 +1,6 @@
 use Rattle.std.proofs.Common.{◌≡◌, ◌<◌, ◌++◌, ◌∙◌, ap, sym, ℕ, List, length, take, drop, min, Vec, Global, slice_index_or, length-drop}
 use Rattle.std.proofs.lemmas.Bool.{ltb-true}
-use Rattle.mc_stage.specs.Script.{first_piece}
+use Rattle.mc_stage.specs.Scenario.{first_piece}
 use Rattle.mc_stage.proofs.Elements.{piece_there}
 use Rattle.mc_stage.proofs.pieces.Pieces.peek.Goals as goal
 

@@ -1,10 +1,10 @@
 use Rattle.std.proofs.Common.{◌∙◌, ap}
-use Rattle.mc_stage.specs.Script.{links_of}
+use Rattle.mc_stage.specs.Scenario.{links_of}
 use Rattle.mc_stage.proofs.Links.{links_in_order}
 use Rattle.mc_stage.proofs.stage.Stage.start.Goals as goal
 
-pub returns-clause-script : goal.returns-clause-script
-returns-clause-script c = λ i. record {
+pub returns-clause-scenario : goal.returns-clause-scenario
+returns-clause-scenario c = λ i. record {
   disk = c.of.ensures i;
   link = c.of-2.ensures i;
   links = (ap links_of c.reverse.ensures.items ∙ links_in_order c.args.links.items) i;

@@ -4,15 +4,15 @@ use Rattle.mc_outside.proofs.Counts.{on_ok}
 use Rattle.mc_records.specs.Entry.{Entry}
 use Rattle.mc_records.specs.Sizes.{tail}
 use Rattle.scrip_journal.specs.States.{AtRest, IsJournal}
-use Rattle.scrip_journal.specs.Exits.{StandsQuiet}
+use Rattle.scrip_journal.specs.Exits.{EncodesNoOutput}
 use Rattle.scrip_journal.proofs.Steps.{stage_ran, stage_sync_ran, is_staged}
 use Rattle.scrip_journal.proofs.Bodies.{block_is, block_long}
 use Rattle.scrip_journal.proofs.journal.Journal.stage.Goals as goal
 
 -- from what the parts of the journal were to what it was
-of_parts : {D : Type 0} (view : D → DiskView) (b : DiskView) (h : List Entry) (v j : AtRest D) → v ≡ j → (IsJournal view v h → Ran (view v.disk) b (StandsQuiet h (view v.disk).aside))
-    → IsJournal view j h → Ran (view j.disk) b (StandsQuiet h (view j.disk).aside)
-of_parts {D = D} view b h v j is ran = subst (λ (k : AtRest D). IsJournal view k h → Ran (view k.disk) b (StandsQuiet h (view k.disk).aside)) is ran
+of_parts : {D : Type 0} (view : D → DiskView) (b : DiskView) (h : List Entry) (v j : AtRest D) → v ≡ j → (IsJournal view v h → Ran (view v.disk) b (EncodesNoOutput h (view v.disk).aside))
+    → IsJournal view j h → Ran (view j.disk) b (EncodesNoOutput h (view j.disk).aside)
+of_parts {D = D} view b h v j is ran = subst (λ (k : AtRest D). IsJournal view k h → Ran (view k.disk) b (EncodesNoOutput h (view k.disk).aside)) is ran
 
 pub returns-then-is_err-clause-full : goal.returns-then-is_err-clause-full
 unfolding tail

@@ -64,6 +64,6 @@ returns-clause-frame g c =
     let n_is = ap (λ (l : List ℕ). from_be_bytes w32 l) stays ∙ sym c.payload_length-length.ensures.value in
     let five = longer c.hold-2.new.self.held c.hold-3.new.self.held more 5 c.in_default-hold.ensures.enough in
     let here = ap (λ (v : Reading g.row.D.Denot). v.gate) c.self.view_is in
-    let found = c.in_default-malformed.ensures.payload in
+    let found = c.in_default-fault_place.ensures.payload in
     framed_here g.D.Disk.disk c.args.self.now c.hold-3.new.self ahead opened five c.payload_length-length.result n_is
     (omega (arith, c.if-self-length-gt-LAST_PLACE.false, here, c.hold-3.ensures.ahead.same.gate)) c.in_default-hold-2.ensures.enough (stays ∙ c.payload_length-length.ensures.bytes) found.0 found.1 found.2

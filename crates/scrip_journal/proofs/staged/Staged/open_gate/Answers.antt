@@ -3,14 +3,14 @@ use Rattle.mc_outside.specs.DiskView.{DiskView, Ran}
 use Rattle.mc_outside.proofs.Counts.{on_ok}
 use Rattle.mc_records.specs.Entry.{Entry}
 use Rattle.scrip_journal.specs.States.{WithNext, IsStaged}
-use Rattle.scrip_journal.specs.Exits.{EitherQuiet}
+use Rattle.scrip_journal.specs.Exits.{EitherNoOutput}
 use Rattle.scrip_journal.proofs.Steps.{open_ran, open_sync_ran, is_opened}
 use Rattle.scrip_journal.proofs.staged.Staged.open_gate.Goals as goal
 
 -- from what the parts of the staged journal were to what it was
-of_parts : {D : Type 0} (view : D → DiskView) (b : DiskView) (h : List Entry) (e : Entry) (v s : WithNext D) → v ≡ s → (IsStaged view v h e → Ran (view v.disk) b (EitherQuiet h e (view v.disk).aside))
-    → IsStaged view s h e → Ran (view s.disk) b (EitherQuiet h e (view s.disk).aside)
-of_parts {D = D} view b h e v s is ran = subst (λ (k : WithNext D). IsStaged view k h e → Ran (view k.disk) b (EitherQuiet h e (view k.disk).aside)) is ran
+of_parts : {D : Type 0} (view : D → DiskView) (b : DiskView) (h : List Entry) (e : Entry) (v s : WithNext D) → v ≡ s → (IsStaged view v h e → Ran (view v.disk) b (EitherNoOutput h e (view v.disk).aside))
+    → IsStaged view s h e → Ran (view s.disk) b (EitherNoOutput h e (view s.disk).aside)
+of_parts {D = D} view b h e v s is ran = subst (λ (k : WithNext D). IsStaged view k h e → Ran (view k.disk) b (EitherNoOutput h e (view k.disk).aside)) is ran
 
 pub returns-then-is_err-clause-ran : goal.returns-then-is_err-clause-ran
 returns-then-is_err-clause-ran g c h e =

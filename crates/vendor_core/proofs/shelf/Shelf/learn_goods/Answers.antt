@@ -1,15 +1,15 @@
 use Rattle.std.proofs.Common.{◌≡◌, Option, [], ◌∷◌, ◌++◌, sym, ap, subst, ◌∙◌, arith}
 use Rattle.std.specs.Prelude.{IfSome}
-use Rattle.vendor_core.specs.declared.ware.Article.{Article}
+use Rattle.vendor_core.specs.declared.edition.Article.{Article}
 use Rattle.mc_records.specs.Entry.{Entry, Goods}
 use Rattle.ledger_model.specs.Goods.{in_force}
-use Rattle.vendor_core.specs.Wares.{goods_entry, IsInRange}
-use Rattle.vendor_core.proofs.WareLaws.{has_more}
+use Rattle.vendor_core.specs.Editions.{goods_entry, IsInRange}
+use Rattle.vendor_core.proofs.EditionLaws.{has_more}
 use Rattle.vendor_core.proofs.ShelfLaws.{goods_learned, article_is}
 use Rattle.vendor_core.proofs.shelf.Shelf.learn_goods.Goals as goal
 
 pub returns-clause-held : goal.returns-clause-held
-returns-clause-held c n held = rw c.put_on_sale.ensures (has_more c.args.self.now.wares.items c.args.number n c.unwrap-article.result held)
+returns-clause-held c n held = rw c.put_on_sale.ensures (has_more c.args.self.now.editions.items c.args.number n c.unwrap-article.result held)
 
 pub returns-clause-learned : goal.returns-clause-learned
 returns-clause-learned c h m price kind stands is ready =

@@ -1,0 +1,188 @@
+-- What a house keeps in place of its history, without how it is stored.
+use Rattle.std.specs.Prelude.{◌≡◌, ℕ, ◌+◌, ◌-◌, ◌*◌, ◌<◌, ◌≤◌, ◌^◌, ◌==◌, ◌||◌, Bool, min, List, [], ◌∷◌, ◌++◌, All, IsTrue, Option, Some, None, option_map, MatchOption, if◌then◌else◌}
+use Rattle.scrip_form.specs.Identities.{series_of}
+use Rattle.scrip_form.specs.Issuing.{Issuing, epoch, series_at}
+use Rattle.scrip_form.specs.Scrip.{Scrip, scrip_body}
+use Rattle.mc_records.specs.declared.limits.Limits.{Limits}
+use Rattle.mc_records.specs.Limits.{AreInRange}
+use Rattle.mc_records.specs.Entry.{Entry, AddTerms, Mint}
+use Rattle.mc_records.specs.Requests.{Asked}
+use Rattle.mc_records.specs.Sizes.{tail_size, framed_size}
+use Rattle.ledger_model.specs.Houses.{version, certificate_in, all_terms}
+use Rattle.kept_replies.specs.declared.deed.KeptEntry.{KeptEntry}
+use Rattle.kept_replies.specs.Requests.{text_size}
+use Rattle.kept_replies.specs.Kept.{KeptView, is_in_time}
+use Rattle.change_issue.specs.Registers.{Register, has_room, count_in, issued_in, redeemed_in, next_in}
+use Rattle.change_issue.specs.IssuedPieces.{issued_piece}
+use Rattle.house_core.specs.declared.verdict.Authorization.{Authorization}
+use Rattle.house_core.specs.Spent.{SpentView, is_marked}
+
+-- The name, whether requests need no signature, the terms of all issuers, how many more there is room
+-- for, and the terms of the house itself; the house time; the identities that were accepted, the first replies, what was handed out in the
+-- house's own series, the takings; the number of entries and the bytes of their journal; the limits.
+pub record HouseStateView : Type 0 where
+  pub name : List ℕ
+  pub clear : Bool
+  pub terms : List Issuing
+  pub terms_room : ℕ
+  pub own_terms : Issuing
+  pub time : ℕ
+  pub spent : SpentView
+  pub kept : KeptView
+  pub own : Register
+  pub takings : ℕ
+  pub count : ℕ
+  pub size : ℕ
+  pub limits : Limits
+
+-- the series that change is handed out in at the house time
+abbrev pub series_now : HouseStateView → ℕ
+series_now b = series_at b.own.terms b.time
+
+-- the version of each of the house's series: the one from before any entry
+abbrev pub version_of : HouseStateView → ℕ → ℕ
+version_of b = version [] b.name
+
+-- how many bytes the tail of the next entry has: as many as that of the first
+abbrev pub tail_of : HouseStateView → ℕ
+tail_of b = tail_size []
+
+-- how many bytes the journal has with one entry more, with a payload of so many bytes
+abbrev pub size_with : HouseStateView → ℕ → ℕ
+size_with b payload_bytes = b.size + framed_size payload_bytes (tail_of b)
+
+-- what is true of every state of a house, whatever its history
+pub record IsSound (b : HouseStateView) : Type 0 where
+  pub terms : b.own.terms ≡ b.own_terms
+  pub limits : AreInRange b.limits
+  pub most : b.own.most ≡ b.limits.series
+  pub counted : b.count ≤ b.size
+  pub sized : b.size ≤ 2 ^ 40
+  pub keeps : 0 < b.kept.keep
+  pub numbers : All (λ r. r.entry.number < b.count) b.kept.replies
+  pub in_time : All (λ r. IsTrue (is_in_time b.kept.keep b.time r)) b.kept.replies
+  pub redeemed : (series : ℕ) → redeemed_in b.own series ≤ b.count * 2 ^ 40
+  pub takings : b.takings ≤ b.count * 2 ^ 40
+
+-- ---- an accepted piece
+
+-- there is room to enter this request with a piece of this identity at the house time
+pub record HasRoom (b : HouseStateView) (q : Asked) (id : ℕ) : Type 0 where
+  pub spent : 0 < b.spent.room
+  pub reply : text_size q < b.kept.room
+  pub change : IsTrue (has_room b.own (series_now b))
+  pub redeemed : IsTrue (has_room b.own (series_of id))
+
+-- There is change exactly where the value is above the price, with the next identity of a series that is
+-- not full.
+abbrev pub HasChange : HouseStateView → ℕ → ℕ → Option ℕ → Type 0
+HasChange b price value change = MatchOption change (value ≤ price) (λ id. (price < value) × (count_in b.own (series_now b) < b.own.most) × (id ≡ next_in b.own (series_now b)))
+
+-- the change of a piece at a price, under an identity, with its certificate
+abbrev pub change_made : HouseStateView → Scrip → ℕ → ℕ → Scrip
+change_made b paid price id = issued_piece b.own_terms b.time b.name (paid.value - price) id (Some paid.cust) paid.props
+
+abbrev pub certified_change : HouseStateView → Scrip → ℕ → ℕ → Scrip × List ℕ
+certified_change b paid price id = (change_made b paid price id, certificate_in (version_of b (series_of id)) b.own_terms (scrip_body (change_made b paid price id)) id)
+
+-- what is kept of the entry of an authorization
+abbrev pub kept_entry : HouseStateView → Scrip → Authorization → KeptEntry
+kept_entry b paid a = record {
+  number = b.count;
+  moment = b.time;
+  price = a.price;
+  change = option_map (certified_change b paid a.price) a.change;
+  secret = a.secret;
+  deed = a.deed;
+}
+
+-- a number at one series, 0 at the others
+abbrev pub at_series : ℕ → ℕ → ℕ → ℕ
+at_series series n s = if series == s then n else 0
+
+-- how many pieces of change there are, and the worth of it
+abbrev pub change_count : Option ℕ → ℕ
+change_count None = 0
+change_count (Some id) = 1
+
+abbrev pub change_worth : ℕ → ℕ → Option ℕ → ℕ
+change_worth price value None = 0
+change_worth price value (Some id) = value - price
+
+-- the state before and after an authorization of a request with a piece was entered
+pub record IsEntered (old new : HouseStateView) (q : Asked) (paid : Scrip) (a : Authorization) : Type 0 where
+  pub name : new.name ≡ old.name
+  pub clear : new.clear ≡ old.clear
+  pub terms : new.terms ≡ old.terms
+  pub own_terms : new.own_terms ≡ old.own_terms
+  pub time : new.time ≡ old.time
+  pub limits : new.limits ≡ old.limits
+  pub short : epoch old.own_terms old.time < 2 ^ 24
+  pub spent : (id : ℕ) → is_marked new.spent id ≡ (is_marked old.spent id || (paid.id == id))
+  pub keep : new.kept.keep ≡ old.kept.keep
+  pub replies : new.kept.replies ≡ old.kept.replies ++ record { asked = q; entry = kept_entry old paid a } ∷ []
+  pub issuer : new.own.terms ≡ old.own.terms
+  pub most : new.own.most ≡ old.own.most
+  pub issued : (s : ℕ) → count_in new.own s ≡ count_in old.own s + at_series (series_now old) (change_count a.change) s
+  pub worth : (s : ℕ) → issued_in new.own s ≡ issued_in old.own s + at_series (series_now old) (change_worth a.price paid.value a.change) s
+  pub redeemed : (s : ℕ) → redeemed_in new.own s ≡ redeemed_in old.own s + at_series (series_of paid.id) paid.value s
+  pub takings : new.takings ≡ old.takings + min a.price paid.value
+  pub counted : new.count ≡ old.count + 1
+  pub sized : new.size ≡ size_with old a.payload
+
+-- the state before and after room was made
+pub record IsAsBefore (old new : HouseStateView) : Type 0 where
+  pub name : new.name ≡ old.name
+  pub clear : new.clear ≡ old.clear
+  pub terms : new.terms ≡ old.terms
+  pub own_terms : new.own_terms ≡ old.own_terms
+  pub time : new.time ≡ old.time
+  pub limits : new.limits ≡ old.limits
+  pub spent : (id : ℕ) → is_marked new.spent id ≡ is_marked old.spent id
+  pub keep : new.kept.keep ≡ old.kept.keep
+  pub replies : new.kept.replies ≡ old.kept.replies
+  pub issuer : new.own.terms ≡ old.own.terms
+  pub most : new.own.most ≡ old.own.most
+  pub issued : (s : ℕ) → count_in new.own s ≡ count_in old.own s
+  pub worth : (s : ℕ) → issued_in new.own s ≡ issued_in old.own s
+  pub redeemed : (s : ℕ) → redeemed_in new.own s ≡ redeemed_in old.own s
+  pub takings : new.takings ≡ old.takings
+  pub counted : new.count ≡ old.count
+  pub sized : new.size ≡ old.size
+
+-- ---- an entry that accepts nothing
+
+-- how many pieces of a series an entry mints
+abbrev pub minted_count : Entry → ℕ → ℕ
+minted_count (Mint m reference count value first) s = at_series (series_of first) count s
+minted_count _ s = 0
+
+-- there is room to enter such an entry
+abbrev pub HasRoomFor : HouseStateView → Entry → Type 0
+HasRoomFor b (AddTerms m terms) = 0 < b.terms_room
+HasRoomFor b (Mint m reference count value first) = IsTrue (has_room b.own (series_of first))
+HasRoomFor b _ = Unit {0}
+
+-- minted pieces go on with the serials of the series of their moment, and fit the limit of it
+abbrev pub GoesOn : HouseStateView → Entry → Type 0
+GoesOn b (Mint m reference count value first) = (first ≡ next_in b.own (series_at b.own.terms m)) × (count_in b.own (series_at b.own.terms m) + count ≤ b.own.most)
+GoesOn b _ = Unit {0}
+
+-- the state before and after an entry that accepts nothing, with a payload of so many bytes, was entered
+pub record IsApplied (old new : HouseStateView) (e : Entry) (bytes : ℕ) : Type 0 where
+  pub name : new.name ≡ old.name
+  pub clear : new.clear ≡ old.clear
+  pub terms : new.terms ≡ old.terms ++ all_terms (e ∷ [])
+  pub own_terms : new.own_terms ≡ old.own_terms
+  pub time : new.time ≡ old.time
+  pub limits : new.limits ≡ old.limits
+  pub spent : new.spent ≡ old.spent
+  pub kept : new.kept ≡ old.kept
+  pub issuer : new.own.terms ≡ old.own.terms
+  pub most : new.own.most ≡ old.own.most
+  pub issued : (s : ℕ) → count_in new.own s ≡ count_in old.own s + minted_count e s
+  pub worth : (s : ℕ) → issued_in new.own s ≡ issued_in old.own s
+  pub redeemed : (s : ℕ) → redeemed_in new.own s ≡ redeemed_in old.own s
+  pub takings : new.takings ≡ old.takings
+  pub counted : new.count ≡ old.count + 1
+  pub sized : new.size ≡ size_with old bytes

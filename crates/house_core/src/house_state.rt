@@ -1,0 +1,403 @@
+ghost use Rattle.std.specs.Prelude.{◌≡◌, ◌+◌, ◌-◌, ◌≤◌, ◌<◌, Some, None, option_map, filter, max, All, IfSome, IsNone, ◌↔◌, ◌^◌, [], IsTrue, IsFalse, IfOk, MatchResult, OnOk};
+ghost use Rattle.scrip_form.specs.Identities.{series_of};
+ghost use Rattle.scrip_form.specs.Issuing.{epoch, series_at};
+ghost use Rattle.scrip_form.specs.Scrip.{scrip_body};
+ghost use Rattle.mc_records.specs.declared.refusal.Refusal.TheVariants.{SeriesFull};
+ghost use Rattle.mc_records.specs.Limits.{AreInRange};
+ghost use Rattle.change_issue.specs.Registers.{count_in, next_in};
+ghost use Rattle.mc_records.specs.Views.{house_of, entry};
+ghost use Rattle.mc_records.specs.Entry.{Fits};
+ghost use Rattle.ledger_model.specs.Houses.{certificate_in, secret_in};
+ghost use Rattle.house_core.specs.CommandEntries.{IsNoSite};
+ghost use Rattle.house_core.specs.Founding.{IsFounded};
+ghost use Rattle.mc_records.specs.Requests.{asked_of};
+ghost use Rattle.kept_replies.specs.Kept.{found, has_number, is_in_time, reply_of, with_number};
+ghost use Rattle.house_core.specs.Spent.{is_marked};
+ghost use Rattle.house_core.specs.HouseState.{IsSound, HasRoom, HasChange, HasRoomFor, GoesOn, IsEntered, IsApplied, IsAsBefore, version_of, size_with, series_now};
+
+use crate::money::{certificate_by, certified, certified_if, redeem, secret_by};
+use crate::spent::Spent;
+use crate::verdict::Authorization;
+use change_issue::Issuer;
+use kept_replies::{Kept, KeptEntry};
+use mc_base::{Moment, NoMemory, Total};
+use mc_records::{Limits, PieceList, Record, Refusal, Request, SiteTerms};
+use scrip_form::{Id, Name, Piece, Terms};
+use std::alloc::Global;
+use std::marker::Model;
+
+/// The bytes of a journal of no entries: the header and the first gate.
+const EMPTY_JOURNAL: u64 = 9;
+
+/// What an entry adds to a journal beside its payload: the payload's length, and the gate behind it.
+const FRAME: u64 = 5;
+
+/// What a house keeps in place of its history, beside its trade. Contracts see it as the record
+/// `HouseStateView`.
+#[derive(Drop)]
+pub struct HouseState {
+    name: Name,
+    /// It takes requests without a signature.
+    clear: bool,
+    /// The terms of all issuers whose scrip it takes.
+    terms: Vec<Terms>,
+    /// Those of the house itself.
+    own_terms: Terms,
+    /// The house time, which never goes back.
+    time: Moment,
+    spent: Spent,
+    kept: Kept,
+    /// What it hands out in its own series, and redeems.
+    own: Issuer,
+    /// What the accepted pieces were paid for.
+    takings: Total,
+    /// How many entries there are.
+    count: u64,
+    /// How many bytes a journal of the entries has.
+    size: u64,
+    limits: Limits,
+}
+
+impl Model for HouseState {
+    ghost use Rattle.std.specs.Prelude.{◌-◌, vec_len, vec_capacity};
+    ghost use Rattle.house_core.specs.HouseState.{HouseStateView, IsSound};
+
+    ghost Value = { HouseStateView };
+
+    ghost view = { λ b. record { name = b.name; clear = b.clear; terms = b.terms.items; terms_room = vec_capacity b.terms - vec_len b.terms; own_terms = b.own_terms; time = b.time; spent = b.spent; kept = b.kept; own = b.own; takings = b.takings; count = b.count; size = b.size; limits = b.limits } };
+
+    ghost invariant = { λ b. IsSound (record { name = b.name; clear = b.clear; terms = b.terms.items; terms_room = vec_capacity b.terms - vec_len b.terms; own_terms = b.own_terms; time = b.time; spent = b.spent; kept = b.kept; own = b.own; takings = b.takings; count = b.count; size = b.size; limits = b.limits }) };
+}
+
+impl HouseState {
+    /// The state of a house that is founded so, by an entry of so many bytes of payload.
+    #[tactic(auto, unfolding(mc_records::specs::Sizes::tail_size))]
+    pub(crate) fn found(
+        alloc: Global,
+        moment: Moment,
+        name: Name,
+        house: &SiteTerms,
+        limits: Limits,
+        payload: u64,
+    ) -> Result<HouseState, NoMemory>
+        requires limits { AreInRange limits }
+        requires keeps { 0 < house.now.keep }
+        requires short { payload < 2 ^ 32 }
+        ensures { IfOk result (λ b. IsFounded b moment name (house_of house.now) limits payload) }
+    {
+        let mut terms = Vec::with_capacity(alloc, 1)?;
+        terms.push_reserved(house.terms);
+        Ok(HouseState {
+            name,
+            clear: house.clear,
+            terms,
+            own_terms: house.terms,
+            time: moment,
+            spent: Spent::new(alloc),
+            kept: Kept::new(alloc, house.keep),
+            own: Issuer::new(alloc, house.terms, limits),
+            takings: Total::zero(),
+            count: 1,
+            size: EMPTY_JOURNAL + payload + FRAME,
+            limits,
+        })
+    }
+
+    pub(crate) fn name(&self) -> &[u8]
+        ensures { result.now ≡ self.now.name }
+    {
+        self.name.bytes()
+    }
+
+    pub(crate) fn site_name(&self) -> Name
+        ensures { result ≡ self.now.name }
+    {
+        self.name
+    }
+
+    pub(crate) fn own_terms(&self) -> Terms
+        ensures { result ≡ self.now.own_terms }
+    {
+        self.own_terms
+    }
+
+    pub(crate) fn is_clear(&self) -> bool
+        ensures { result ≡ self.now.clear }
+    {
+        self.clear
+    }
+
+    pub(crate) fn terms(&self) -> &[Terms]
+        ensures { result.now ≡ self.now.terms }
+    {
+        &self.terms
+    }
+
+    pub(crate) fn time(&self) -> Moment
+        ensures { result ≡ self.now.time }
+    {
+        self.time
+    }
+
+    pub(crate) fn limits(&self) -> Limits
+        ensures limits { result ≡ self.now.limits }
+        ensures sound { IsSound self.now }
+    {
+        self.limits
+    }
+
+    /// Where its memory comes from.
+    pub(crate) fn alloc(&self) -> Global {
+        *self.terms.allocator()
+    }
+
+    pub(crate) fn own(&self) -> &Issuer
+        ensures { result.now ≡ self.now.own }
+    {
+        &self.own
+    }
+
+    pub(crate) fn count(&self) -> u64
+        ensures { result ≡ self.now.count }
+    {
+        self.count
+    }
+
+    pub(crate) fn size(&self) -> u64
+        ensures { result ≡ self.now.size }
+    {
+        self.size
+    }
+
+    /// How many bytes the journal has with one entry more, with a payload of so many bytes.
+    #[tactic(auto, unfolding(mc_records::specs::Sizes::tail_size))]
+    pub(crate) fn size_with(&self, payload: u64) -> u64
+        requires { payload ≤ 2 ^ 40 }
+        ensures { result ≡ size_with self.now payload }
+    {
+        self.size + payload + FRAME
+    }
+
+    /// The certificate of a body under an identity of the house's name, by the terms of its issuer.
+    pub(crate) fn certificate_of(&self, terms: &Terms, body: &[u8], id: Id) -> [u8; 16]
+        ensures { result ≡ certificate_in (version_of self.now (series_of id)) terms.now body.now id }
+    {
+        certificate_by(terms, body, id)
+    }
+
+    /// The certificate of a piece of the house's own.
+    pub(crate) fn own_certificate(&self, piece: &Piece) -> [u8; 16]
+        ensures { result ≡ certificate_in (version_of self.now (series_of piece.now.id)) self.now.own_terms (scrip_body piece.now) piece.now.id }
+    {
+        let (_, cert) = certified(&self.own_terms, *piece);
+        cert
+    }
+
+    /// The secret of a customer, by the terms of the issuer of his identity.
+    pub(crate) fn secret_of(&self, terms: &Terms, cust: Id) -> [u8; 16]
+        ensures { result ≡ secret_in (version_of self.now (series_of cust)) terms.now cust }
+    {
+        secret_by(terms, cust)
+    }
+
+    /// Whether an identity was accepted.
+    pub(crate) fn has_spent(&self, id: Id) -> bool
+        ensures { result ≡ is_marked self.now.spent id }
+    {
+        self.spent.has(id)
+    }
+
+    /// The number of the entry of the same request, within the keeping time.
+    pub(crate) fn repeated(&self, q: &Request<'_>) -> Option<u64>
+        ensures { result ≡ option_map (λ e. e.number) (found self.now.kept self.now.time (asked_of q.now)) }
+    {
+        match self.kept.find(self.time, q) {
+            Some(entry) => Some(number_of(entry)),
+            None => None,
+        }
+    }
+
+    /// The request and what is kept of the entry of this number.
+    pub(crate) fn kept(&self, number: u64) -> Option<(Request<'_>, &KeptEntry)>
+        ensures reply { option_map reply_of result ≡ with_number self.now.kept.replies number }
+        ensures none { IsNone result ↔ IsFalse (has_number self.now.kept.replies number) }
+    {
+        self.kept.entry(number)
+    }
+
+    /// The least number of an entry whose reply is kept.
+    pub(crate) fn first_kept(&self) -> Option<u64>
+        ensures least { IfSome result (λ n. All (λ r. n ≤ r.entry.number) self.now.kept.replies) }
+        ensures none { IsNone result ↔ (self.now.kept.replies ≡ []) }
+    {
+        self.kept.first()
+    }
+
+    /// Raises the house time to a reading where that is later, and answers it. Replies whose keeping time
+    /// is over are let go.
+    pub(crate) fn raise(&mut self, reading: Moment) -> Moment
+        ensures time { result ≡ max self.old.time reading }
+        ensures rest { self.new ≡ record self.old { time = max self.old.time reading; kept = self.new.kept } }
+        ensures keep { self.new.kept.keep ≡ self.old.kept.keep }
+        ensures replies { self.new.kept.replies ≡ filter (is_in_time self.old.kept.keep (max self.old.time reading)) self.old.kept.replies }
+    {
+        let time = later(self.time, reading);
+        self.time = time;
+        self.kept.forget(time);
+        time
+    }
+
+    /// Makes room to enter a request with a piece of this identity at the house time. All that is kept
+    /// stays as it is, after an `Err` too.
+    pub(crate) fn reserve(&mut self, q: &Request<'_>, id: Id) -> Result<(), NoMemory>
+        ensures same { IsAsBefore self.old self.new }
+        ensures room { OnOk result (HasRoom self.new (asked_of q.now) id) }
+    {
+        let series = self.series_now();
+        self.spent.reserve()?;
+        self.kept.reserve(q)?;
+        self.own.reserve(id.series())?;
+        self.own.reserve(series)
+    }
+
+    /// Whether the pieces that an entry mints go on with the serials of the series of its moment and fit the
+    /// limit of it; of other entries it asks nothing.
+    pub(crate) fn goes_on(&self, r: &Record<'_>) -> bool
+        requires { Fits (entry r.now) }
+        ensures { IsTrue result ↔ GoesOn self.now (entry r.now) }
+    {
+        let _pieces: Option<PieceList<'_>> = None;
+        match r {
+            Record::Mint {
+                moment,
+                count,
+                first,
+                ..
+            } => {
+                let series = self.series_at(*moment);
+                let stand = self.own.count(series);
+                let (_, _, serial) = first.parts();
+                first.series() == series
+                    && u64::from(serial) == stand
+                    && stand <= self.limits.series
+                    && u64::from(*count) <= self.limits.series - stand
+            }
+            _ => true,
+        }
+    }
+
+    /// The identity of the first of so many next pieces of the house time's series; refused where the limit
+    /// of a series leaves no room for so many.
+    pub(crate) fn next_run(&self, count: u16) -> Result<Id, Refusal>
+        requires { 0 < count }
+        ensures { MatchResult result
+            (λ id. (id ≡ next_in self.now.own (series_now self.now)) × (count_in self.now.own (series_now self.now) + count ≤ self.now.own.most))
+            (λ f. (f ≡ SeriesFull (series_now self.now)) × (self.now.own.most < count_in self.now.own (series_now self.now) + count)) }
+    {
+        let series = self.series_now();
+        let stand = self.own.count(series);
+        match self.own.next(self.time) {
+            Ok(first) if u64::from(count) <= self.limits.series - stand => Ok(first),
+            _ => Err(Refusal::SeriesFull(u64::from(series))),
+        }
+    }
+
+    /// Makes room to enter an entry that accepts nothing. All that is kept stays as it is, after an `Err`
+    /// too.
+    pub(crate) fn reserve_for(&mut self, r: &Record<'_>) -> Result<(), NoMemory>
+        ensures same { IsAsBefore self.old self.new }
+        ensures room { OnOk result (HasRoomFor self.new (entry r.now)) }
+    {
+        match r {
+            Record::Terms { .. } => {
+                self.terms.reserve(1)?;
+                Ok(())
+            }
+            Record::Mint { first, .. } => self.own.reserve(first.series()),
+            _ => Ok(()),
+        }
+    }
+
+    /// Enters an entry that accepts nothing, with a payload of so many bytes, for which there is room. It
+    /// takes no memory.
+    pub(crate) fn apply_entry(&mut self, r: &Record<'_>, bytes: u64)
+        requires room { HasRoomFor self.old (entry r.now) }
+        requires goes_on { GoesOn self.old (entry r.now) }
+        requires payload { Fits (entry r.now) }
+        requires site { IsNoSite (entry r.now) }
+        requires fits { size_with self.old bytes ≤ 2 ^ 40 }
+        ensures { IsApplied self.old self.new (entry r.now) bytes }
+    {
+        let size = self.size_with(bytes);
+        match r {
+            Record::Terms { terms, .. } => self.terms.push_reserved(*terms),
+            Record::Mint { count, first, .. } => self.own.count_on(*first, u32::from(*count)),
+            _ => (),
+        }
+        self.count += 1;
+        self.size = size;
+    }
+
+    /// The series that the house hands out at the house time.
+    fn series_now(&self) -> u32
+        ensures series { result ≡ series_now self.now }
+        ensures short { epoch self.now.own_terms self.now.time < 2 ^ 24 }
+    {
+        self.series_at(self.time)
+    }
+
+    /// The series that the house hands out at a moment.
+    fn series_at(&self, moment: Moment) -> u32
+        ensures series { result ≡ series_at self.now.own.terms moment }
+        ensures short { epoch self.now.own_terms moment < 2 ^ 24 }
+    {
+        u32::from(self.own_terms.issuer()) * (1 << 24) + self.own_terms.epoch_of(moment)
+    }
+
+    /// Enters a request that is accepted with a piece, for which there is room. It takes no memory.
+    pub(crate) fn enter(&mut self, q: &Request<'_>, paid: &Piece, a: &Authorization)
+        requires room { HasRoom self.old (asked_of q.now) paid.now.id }
+        requires fresh { found self.old.kept self.old.time (asked_of q.now) ≡ None }
+        requires change { HasChange self.old a.now.price paid.now.value a.now.change }
+        requires fits { size_with self.old a.now.payload ≤ 2 ^ 40 }
+        ensures { IsEntered self.old self.new (asked_of q.now) paid.now a.now }
+    {
+        let _series = self.series_now();
+        let size = self.size_with(a.payload);
+        let piece = redeem(
+            &mut self.own,
+            &mut self.takings,
+            self.time,
+            self.name,
+            paid,
+            a.price,
+            a.change,
+        );
+        let change = certified_if(&self.own_terms, piece);
+        let entry = KeptEntry {
+            number: self.count,
+            moment: self.time,
+            price: a.price,
+            change,
+            secret: a.secret,
+            deed: a.deed,
+        };
+        self.kept.keep(q, entry);
+        self.spent.mark(paid.id());
+        self.count += 1;
+        self.size = size;
+    }
+}
+
+/// The later of two moments.
+fn later(a: Moment, b: Moment) -> Moment
+    ensures { result ≡ max a b }
+{
+    if a.seconds() < b.seconds() { b } else { a }
+}
+
+fn number_of(entry: &KeptEntry) -> u64
+    ensures { result ≡ entry.now.number }
+{
+    entry.number
+}

@@ -1,0 +1,139 @@
+-- What comes of a command of a vendor's operator: what there is to do, and what was done.
+use Rattle.std.specs.Prelude.{◌≡◌, ℕ, ◌+◌, ◌<◌, ◌≤◌, ◌^◌, ◌==◌, ◌&&◌, ◌⊎◌, nat_lt, IsFalse, Bool, if◌then◌else◌, List, [], ◌∷◌, ◌++◌, length, take, Option, Some, None, slice_get, option_map, unwrap_or, bytes_eq, Err, MatchOption}
+use Rattle.std.specs.Cmp.Lexicographic.{pointwise}
+use Rattle.mc_outside.specs.Bytes.{Rose}
+use Rattle.mc_outside.specs.DiskView.{DiskView, Ran}
+use Rattle.scrip_form.specs.Issuing.{Issuing}
+use Rattle.mc_records.specs.declared.limits.Limits.{Limits}
+use Rattle.mc_records.specs.declared.refusal.Refusal.{Refusal}
+use Rattle.mc_records.specs.declared.refusal.Refusal.TheVariants.{NoSuchGoods, SeriesFull, ContentsFull, IssuerTaken, RefUsed}
+use Rattle.mc_records.specs.Entry.{Entry, AddTerms, Goods, Mint}
+use Rattle.ledger_model.specs.Histories.{History}
+use Rattle.ledger_model.specs.Houses.{site_name, terms_in, version, own_series}
+use Rattle.ledger_model.specs.Goods.{goods_in, goods_kind, goods_contents, in_force}
+use Rattle.ledger_model.specs.Pieces.{own_count, next_identity, has_reference, minted_pieces}
+use Rattle.ledger_model.specs.Lawful.{MayFollow}
+use Rattle.ledger_model.specs.Lines as lines
+use Rattle.ledger_model.specs.Answer.{fitted}
+use Rattle.scrip_journal.specs.Exits.{EncodesNoOutput, EitherNoOutput}
+use Rattle.house_core.specs.declared.outcome.Outcome.{Outcome}
+use Rattle.house_core.specs.declared.outcome.Outcome.TheVariants as outcomes
+use Rattle.house_core.specs.House.{HouseRepresents, IsAsItWas, outcome_disk}
+use Rattle.vendor_core.specs.Lines.{piece_lines}
+
+-- ---- what there is to do
+
+-- to add an entry; nothing, since the same stands; or to refuse
+pub data Task : Type 0 where
+  Add : Entry → Task
+  Stays : Task
+  Refuse : Refusal → Task
+
+-- Goods are put on sale where the contents in force stay within 2^26 bytes. Else 54 ContentsFull tells how
+-- many bytes would be in force.
+abbrev pub goods_entered : Entry → ℕ → Task
+goods_entered e bytes = if nat_lt (2 ^ 26) bytes then Refuse (ContentsFull bytes) else Add e
+
+abbrev pub goods_task : History → ℕ → List ℕ → ℕ → ℕ → List ℕ → Task
+goods_task h t target price kind contents = goods_entered (Goods t target price kind contents) (in_force (h ++ Goods t target price kind contents ∷ []))
+
+-- Of a new price the goods of the target keep their kind and contents; 30 NoSuchGoods where it has none.
+abbrev pub repriced : ℕ → List ℕ → ℕ → Option Entry → Task
+repriced t target price None = Refuse NoSuchGoods
+repriced t target price (Some e) = Add (Goods t target price (goods_kind e) (goods_contents e))
+
+abbrev pub price_task : History → ℕ → List ℕ → ℕ → Task
+price_task h t target price = repriced t target price (goods_in h target)
+
+-- whether terms are the same, part by part
+abbrev pub are_same_terms : Issuing → Issuing → Bool
+are_same_terms a b =
+    a.issuer == b.issuer && a.period == b.period && a.life == b.life && pointwise bytes_eq a.scrip b.scrip && pointwise bytes_eq a.customer b.customer
+
+-- Terms are added where their issuer is new; 55 IssuerTaken where others of it stand.
+abbrev pub licensed : ℕ → Issuing → Option Issuing → Task
+licensed t terms None = Add (AddTerms t terms)
+licensed t terms (Some x) = if are_same_terms x terms then Stays else Refuse (IssuerTaken terms.issuer)
+
+abbrev pub terms_task : History → ℕ → Issuing → Task
+terms_task h t terms = licensed t terms (terms_in h terms.issuer)
+
+-- the entry of a number mints so many pieces of a value under a reference
+pub record IsMintAt (h : History) (reference : List ℕ) (count value number : ℕ) : Type 0 where
+  pub moment : ℕ
+  pub first : ℕ
+  pub entry : slice_get h number ≡ Some (Mint moment reference count value first)
+
+-- a reference stands with another count or value
+pub record IsUsed (h : History) (reference : List ℕ) (count value : ℕ) : Type 0 where
+  pub number : ℕ
+  pub count' : ℕ
+  pub value' : ℕ
+  pub mint : IsMintAt h reference count' value' number
+  pub other : (count' ≡ count) × (value' ≡ value) → ⊥
+
+-- A mint is added under a new reference, with the next identities of the house's own series, where the limit
+-- of a series leaves room; else 32 SeriesFull tells the series. Under a reference that stands with this count
+-- and value nothing is added; 56 RefUsed where it stands with others.
+abbrev pub IsMintTask : History → ℕ → Limits → List ℕ → ℕ → ℕ → Task → Type 0
+IsMintTask h t limits reference count value (Add e) =
+    IsFalse (has_reference h reference) × (own_count h (own_series h t) + count ≤ limits.series) × (e ≡ Mint t reference count value (next_identity h (own_series h t)))
+IsMintTask h t limits reference count value Stays = (number : ℕ) × IsMintAt h reference count value number
+IsMintTask h t limits reference count value (Refuse f) =
+    (IsUsed h reference count value × (f ≡ RefUsed reference))
+    ⊎ (IsFalse (has_reference h reference) × (limits.series < own_count h (own_series h t) + count) × (f ≡ SeriesFull (own_series h t)))
+
+-- ---- what was done
+
+-- What comes of a task over a history: an entry is on the disk and is entered; nothing was changed, where the
+-- same stands, where it is refused or does not fit the journal (33), or where memory was refused; or the disk
+-- failed, and then the entry may follow. `Told` holds of the task, of the history that stands then, and of what is answered.
+abbrev pub Does : {D T A : Type 0} → (D → DiskView) → (T → History → Type 0) → (T → ℕ) → (T → ℕ → Type 0) → (Task → History → A → Type 0) → Limits → D → History → Task → Outcome D T A → Type 0
+Does view stands site holds Told limits disk h (Add e) (outcomes.Done x a) = HouseRepresents view stands site holds x (h ++ e ∷ []) × Told (Add e) (h ++ e ∷ []) a
+Does view stands site holds Told limits disk h (Add e) (outcomes.Refused x f) = (fitted h limits e ≡ Err (lines.Refuse f)) × IsAsItWas view stands site holds disk x h
+Does view stands site holds Told limits disk h (Add e) (outcomes.NoMemory x) = IsAsItWas view stands site holds disk x h
+Does view stands site holds Told limits disk h (Add e) (outcomes.Halted d) = MayFollow limits h e × Rose (view disk).faults (view d).faults
+Does view stands site holds Told limits disk h Stays (outcomes.Done x a) = IsAsItWas view stands site holds disk x h × Told Stays h a
+Does view stands site holds Told limits disk h Stays (outcomes.NoMemory x) = IsAsItWas view stands site holds disk x h
+Does view stands site holds Told limits disk h (Refuse f) (outcomes.Refused x g) = (g ≡ f) × IsAsItWas view stands site holds disk x h
+Does view stands site holds Told limits disk h _ _ = ⊥
+
+-- The crash pairs of it: with the entry or without it where one was written, else with the entries as they
+-- were; and nothing was sent.
+abbrev pub LeavesBy : {D T A : Type 0} → Task → Outcome D T A → History → List ℕ → List ℕ → List ℕ → Type 0
+LeavesBy (Add e) (outcomes.Done x a) h aside c s = EitherNoOutput h e aside c s
+LeavesBy (Add e) (outcomes.Halted d) h aside c s = EitherNoOutput h e aside c s
+LeavesBy _ _ h aside c s = EncodesNoOutput h aside c s
+
+-- a task that this history asks for was done
+pub record Performs {D T A : Type 0} (view : D → DiskView) (stands : T → History → Type 0) (site : T → ℕ) (holds : T → ℕ → Type 0) (Asks : Task → Type 0) (Told : Task → History → A → Type 0) (limits : Limits) (disk : D) (h : History) (result : Outcome D T A) : Type 0 where
+  pub task : Task
+  pub asks : Asks task
+  pub does : Does view stands site holds Told limits disk h task result
+  pub ran : Ran (view disk) (view (outcome_disk result)) (LeavesBy task result h (view disk).aside)
+
+-- ---- what is answered
+
+-- the number of the last entry
+abbrev pub TellsLast : Task → History → ℕ → Type 0
+TellsLast task g number = number + 1 ≡ length g
+
+-- the number of the last entry where one was added
+abbrev pub TellsAdded : Task → History → Option ℕ → Type 0
+TellsAdded (Add e) g answer = MatchOption answer ⊥ (λ number. number + 1 ≡ length g)
+TellsAdded _ g answer = answer ≡ None
+
+-- the lines of the pieces that the entry of a number mints
+abbrev pub mint_lines : History → ℕ → List ℕ
+mint_lines h number =
+    let minted = unwrap_or (option_map (minted_pieces (take number h)) (slice_get h number)) [] in
+    unwrap_or (option_map (λ t. piece_lines (version h (site_name h)) t minted) (terms_in h 0)) []
+
+-- the number of the mint of this reference, and its lines
+abbrev pub TellsMint : List ℕ → ℕ → ℕ → List ℕ → Task → History → ℕ → Type 0
+TellsMint reference count value out task g number = IsMintAt g reference count value number × (out ≡ mint_lines g number)
+
+-- no lines where it is not done
+abbrev pub NoLines : {D T A : Type 0} → List ℕ → Outcome D T A → Type 0
+NoLines out (outcomes.Done x a) = Unit {0}
+NoLines out _ = out ≡ []
