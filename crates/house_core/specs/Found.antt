@@ -18,7 +18,7 @@ use Rattle.house_core.specs.Opening.{fault_disk}
 abbrev pub IsFree : List ℕ → Type 0
 IsFree bytes = layout.Encodes [] bytes ⊎ (length bytes ≤ 9)
 
--- The disk has so many bytes, more than nine, which don't encode no entries.
+-- The disk has so many bytes, more than nine, which don't encode the empty history.
 pub record IsTaken (bytes : List ℕ) (count : ℕ) : Type 0 where
   pub count_is : count ≡ length bytes
   pub many : 9 < count

@@ -18,7 +18,7 @@ pub enum HouseFault<D> {
     Unlawful(D, u64),
     /// The book is that of a site of another kind.
     WrongKind(D),
-    /// The book that was to be founded has so many bytes already, and doesn't encode no entries.
+    /// The book that was to be founded has so many bytes already, which don't encode the empty history.
     NotEmpty(D, u64),
     /// The disk failed.
     Disk(D),
