@@ -41,10 +41,10 @@ pub struct Ran<O, D> {
 /// 3: the book that is opened is no journal, or has bytes that can't stand, or an entry that may not follow.
 /// 4: the disk failed. 5: memory was refused before anything was done; memory that is refused later, to
 /// accept a request, is a reply with refusal 90 (`503`), and the link goes on. 6: `next_link` failed, or
-/// receiving the contents of goods, or saying the line of what is done. 7: a refusal is told: that the book to be founded has bytes already (50),
-/// that the book that is opened is of a site of another kind (52), or what `set_goods`, `set_price`,
-/// `add_terms` or `mint` refuses. Lines say how it ended; where they can't be said, the status stays. The
-/// outside and the books are handed back.
+/// receiving the contents of goods, or saying the line of what is done. 7: a refusal is told: that the book to
+/// be founded has bytes already (50), that the book that is opened is of a site of another kind (52), or what
+/// `set_goods`, `set_price`, `add_terms` or `mint` refuses. A line says how it ended; where it can't be said, 0
+/// becomes 6, and any other status stays. The outside and the books are handed back.
 pub fn run<O: Outside, D: Disk>(alloc: Global, words: &[String], out: O, books: Vec<D>) -> Ran<O, D>
     ensures books { result.books ≡ books }
     ensures words { (result.status ≡ 2) ↔ (AreNoWords (map string_bytes words.now) ⊎ (0 < length books.items)) }
