@@ -9,11 +9,16 @@ use Rattle.std.proofs.lemmas.Bool.Decides.{nat_tests}
 use Rattle.std.proofs.lemmas.List.Folds.{find_at, find-set, find_past, find-append}
 use Rattle.std.proofs.lemmas.List.Quantifiers.{position-Some}
 use Rattle.std.proofs.lemmas.Option.{slice_get_read, slice_get_past, slice_get-get_or}
+use Rattle.scrip_form.specs.Issuing.{series_at}
 use Rattle.change_issue.specs.Registers.{SeriesSheet, Register, is_of, sheet_of, on_sheet, has_room}
 
 -- a sheet on which nothing stands
 abbrev pub blank : ℕ → SeriesSheet
 blank s = record { series = s; count = 0; issued = 0; redeemed = 0 }
+
+-- the series of a moment, under the terms of a register that another is seen as
+pub series_is : {r view : Register} {series : ℕ} (now : ℕ) → view ≡ r → series ≡ series_at view.terms now → series ≡ series_at r.terms now
+series_is now view_is is = is ∙ ap (λ (t : Register). series_at t.terms now) view_is
 
 -- ---- the place of a sheet
 

@@ -86,7 +86,7 @@ impl Issuer {
         ensures next { IfOk result (λ id. id ≡ next_in self.now (series_at self.now.terms now)) }
         ensures limit { self.now.most ≤ 2 ^ 32 }
     {
-        let series = self.series_at(now);
+        let series = self.terms.series_at(now);
         let count = self.count(series);
         if count >= self.most {
             return Err(SeriesFull { series });
@@ -119,7 +119,7 @@ impl Issuer {
         ensures terms { self.new.terms ≡ self.old.terms }
         ensures most { self.new.most ≡ self.old.most }
     {
-        let series = self.series_at(now);
+        let series = self.terms.series_at(now);
         let place = place_of(&self.sheets, series).unwrap();
         let sheet = &mut self.sheets[place];
         let id = identity(series, sheet.count());
@@ -190,13 +190,6 @@ impl Issuer {
         ensures { result ≡ count_in self.now series }
     {
         sheet_of(&self.sheets, series).map_or(0, |sheet| sheet.count())
-    }
-
-    /// The series of a moment.
-    fn series_at(&self, now: Moment) -> u32
-        ensures { result ≡ series_at self.now.terms now }
-    {
-        u32::from(self.terms.issuer()) * (1 << 24) + self.terms.epoch_of(now)
     }
 }
 

@@ -351,7 +351,7 @@ impl HouseState {
         ensures series { result ≡ series_at self.now.own.terms moment }
         ensures short { epoch self.now.own_terms moment < 2 ^ 24 }
     {
-        u32::from(self.own_terms.issuer()) * (1 << 24) + self.own_terms.epoch_of(moment)
+        self.own_terms.series_at(moment)
     }
 
     /// Enters a request that is accepted with a piece, for which there is room. It takes no memory.

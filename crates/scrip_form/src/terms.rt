@@ -1,5 +1,5 @@
 ghost use Rattle.std.specs.Prelude.{◌≡◌, ◌↔◌, ◌<◌, ◌≤◌, ◌^◌, length, IsSome, IfSome};
-ghost use Rattle.scrip_form.specs.Issuing.{Issuing, HasPeriod, epoch, series_end};
+ghost use Rattle.scrip_form.specs.Issuing.{Issuing, HasPeriod, epoch, series_at, series_end};
 
 use crate::secrets::Secrets;
 use mc_base::Moment;
@@ -61,6 +61,14 @@ impl Terms {
         ensures small { result < 2 ^ 24 }
     {
         (m.seconds() / u64::from(self.period)) as u32
+    }
+
+    /// The series that the issuer hands out at a moment: its number times 2^24, and the epoch.
+    pub fn series_at(&self, m: Moment) -> u32
+        ensures series { result ≡ series_at self.now m }
+        ensures short { epoch self.now m < 2 ^ 24 }
+    {
+        u32::from(self.issuer) * (1 << 24) + self.epoch_of(m)
     }
 
     /// The end of the series of an epoch below 2^24, in seconds since 1970: the moment from which on
