@@ -28,7 +28,7 @@ use crate::founding::{found_state, payload_len};
 use crate::house_state::HouseState;
 use crate::offer::Unlawful;
 use crate::ranges::authorization_fits;
-use crate::replaying::{ReplayEnd, moment_in};
+use crate::replaying::ReplayEnd;
 use crate::stages::fitted;
 use crate::trade::Trade;
 use crate::verdict::{Authorization, BenchFault, EnterFault, NotAuthorized, Verdict};
@@ -189,7 +189,7 @@ impl<T: Trade> Bench<T> {
         ensures contents { (h : History) → Represents T.stands T.site self.old h → HasContents T.holds self.old h
             → MatchResult result (λ n. HasContents T.holds self.new (h ++ entry r.now ∷ [])) (λ f. HasContents T.holds self.new h) }
     {
-        self.raise(moment_in(r));
+        self.raise(r.moment());
         let bytes = match self.make_room_for(r) {
             Ok(bytes) => bytes,
             Err(fault) => return Err(fault),

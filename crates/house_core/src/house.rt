@@ -32,7 +32,6 @@ ghost use Rattle.house_core.specs.House.{HouseRepresents, HasRun, KeepsTime, Rai
 use crate::bench::{Bench, bad_scrip, entry_of};
 use crate::evaluate::evaluate;
 use crate::outcome::Outcome;
-use crate::replaying::moment_in;
 use crate::settled::Settled;
 use crate::stages::terms_of;
 use crate::trade::Trade;
@@ -269,7 +268,7 @@ impl<D: Disk, T: Trade> House<D, T> {
     {
         let House { journal, bench } = self;
         let mut bench = bench;
-        bench.raise(moment_in(r));
+        bench.raise(r.moment());
         let bytes = match bench.make_room_for(r) {
             Ok(bytes) => bytes,
             Err(EnterFault::Refused(refusal)) => {

@@ -72,7 +72,7 @@ impl<T: Trade> Bench<T> {
         ensures contents { (h : History) → Represents T.stands T.site self.old h → HasContents T.holds self.old h
             → IfOk result (λ u. HasContents T.holds self.new (h ++ entry r.now ∷ [])) }
     {
-        let moment = moment_in(r);
+        let moment = r.moment();
         if moment.seconds() < self.state.time().seconds() {
             return Err(ReplayEnd::Unlawful);
         }
@@ -153,29 +153,6 @@ impl<T: Trade> Bench<T> {
             Ok(_) => Ok(()),
             Err(NoMemory) => Err(ReplayEnd::NoMemory),
         }
-    }
-}
-
-/// The moment of an entry.
-pub(crate) fn moment_in(r: &Record<'_>) -> Moment
-    ensures { result ≡ moment_of (entry r.now) }
-{
-    match r {
-        Record::Site { moment, .. }
-        | Record::Terms { moment, .. }
-        | Record::Goods { moment, .. }
-        | Record::Accept { moment, .. }
-        | Record::Mint { moment, .. }
-        | Record::Account { moment, .. }
-        | Record::Deposit { moment, .. }
-        | Record::Withdraw { moment, .. }
-        | Record::Draw { moment, .. }
-        | Record::Licence { moment, .. }
-        | Record::Stock { moment, .. }
-        | Record::Got { moment, .. }
-        | Record::Pend { moment, .. }
-        | Record::Done { moment, .. }
-        | Record::Refused { moment, .. } => *moment,
     }
 }
 

@@ -1,3 +1,7 @@
+ghost use Rattle.std.specs.Prelude.{◌≡◌};
+ghost use Rattle.mc_records.specs.Entry.{moment_of};
+ghost use Rattle.mc_records.specs.Views.{entry};
+
 use crate::piece_list::PieceList;
 use mc_base::Moment;
 use scrip_form::{Id, Terms};
@@ -140,6 +144,31 @@ pub enum Record<'a> {
         number: u64,
         refusal: u16,
     },
+}
+
+impl Record<'_> {
+    /// The moment of the entry.
+    pub fn moment(&self) -> Moment
+        ensures { result ≡ moment_of (entry self.now) }
+    {
+        match self {
+            Record::Site { moment, .. }
+            | Record::Terms { moment, .. }
+            | Record::Goods { moment, .. }
+            | Record::Accept { moment, .. }
+            | Record::Mint { moment, .. }
+            | Record::Account { moment, .. }
+            | Record::Deposit { moment, .. }
+            | Record::Withdraw { moment, .. }
+            | Record::Draw { moment, .. }
+            | Record::Licence { moment, .. }
+            | Record::Stock { moment, .. }
+            | Record::Got { moment, .. }
+            | Record::Pend { moment, .. }
+            | Record::Done { moment, .. }
+            | Record::Refused { moment, .. } => *moment,
+        }
+    }
 }
 
 /// The bytes are no payload.

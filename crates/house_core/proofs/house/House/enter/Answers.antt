@@ -16,7 +16,7 @@ use Rattle.house_core.proofs.house.House.enter.Goals as goal
 pub returns-in-Err-clause-keeps : goal.returns-in-Err-clause-keeps
 returns-in-Err-clause-keeps g c =
     let same = c.make_room_for.ensures.same in
-    record { time = same.state.time ∙ c.raise.ensures.raised ∙ ap (max (house_time c.args.self.bench)) c.moment_in.ensures; limits = same.state.limits ∙ c.raise.ensures.limits }
+    record { time = same.state.time ∙ c.raise.ensures.raised ∙ ap (max (house_time c.args.self.bench)) c.moment.ensures; limits = same.state.limits ∙ c.raise.ensures.limits }
 
 pub returns-in-Err-clause-exact : goal.returns-in-Err-clause-exact
 returns-in-Err-clause-exact g c h st =
