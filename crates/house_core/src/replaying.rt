@@ -21,7 +21,7 @@ use crate::offer::Unlawful;
 use crate::stages::fitted;
 use crate::trade::Trade;
 use crate::verdict::Authorization;
-use mc_base::{Moment, NoMemory};
+use mc_base::NoMemory;
 use mc_records::{Limits, Record, RecordDeed, Request};
 use scrip_certs::hex_of;
 use scrip_form::{Id, read_scrip};

@@ -20,6 +20,7 @@ mod record;
 mod refusal;
 mod refusal_text;
 mod request;
+mod sizes;
 mod writing;
 
 pub use appending::write_record;

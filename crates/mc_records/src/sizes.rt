@@ -1,0 +1,64 @@
+//! The length of an entry's payload, by the table of its fields.
+
+ghost use Rattle.std.specs.Prelude.{◌≡◌, ◌<◌, ◌^◌, length, flat_map};
+ghost use Rattle.mc_fields.specs.Field.{spelled};
+ghost use Rattle.mc_records.specs.Entry.{Fits, payload, secrets_fields};
+ghost use Rattle.mc_records.specs.Views.{entry};
+ghost use Rattle.mc_records.specs.Cells.{cell_bytes, group_bytes};
+
+use crate::cells::{Cell, Group, table};
+use crate::record::Record;
+
+impl Record<'_> {
+    /// The length of the entry's payload in bytes, below 131,066. It takes no memory.
+    pub fn payload_len(&self) -> u64
+        requires { Fits (entry self.now) }
+        ensures { result ≡ length (payload (entry self.now)) }
+    {
+        groups_len(&table(self))
+    }
+}
+
+fn groups_len(groups: &[Group<'_>]) -> u64
+    requires { length (flat_map group_bytes groups.now) < 2 ^ 32 }
+    ensures { result ≡ length (flat_map group_bytes groups.now) }
+{
+    let mut len = 0;
+    for group in groups {
+        len += group_len(group);
+    }
+    len
+}
+
+fn group_len(group: &Group<'_>) -> u64
+    requires { length (group_bytes group.now) < 2 ^ 32 }
+    ensures { result ≡ length (group_bytes group.now) }
+{
+    cell_len(&group.0) + cell_len(&group.1) + cell_len(&group.2)
+}
+
+fn cell_len(cell: &Cell<'_>) -> u64
+    requires { length (cell_bytes cell.now) < 2 ^ 32 }
+    ensures { result ≡ length (cell_bytes cell.now) }
+{
+    match cell {
+        Cell::Nothing => 0,
+        Cell::Byte(_) | Cell::Flag(_) => 1,
+        Cell::Half(_) => 2,
+        Cell::Word(_) => 4,
+        Cell::Long(_) => 8,
+        Cell::Str(text) => 2 + text.len() as u64,
+        Cell::Plain(bytes) => bytes.len() as u64,
+        Cell::Contents(bytes) => 4 + bytes.len() as u64,
+        Cell::Secrets(secrets) => secrets_len(secrets),
+        Cell::Pieces(pieces) => 2 + pieces.bytes().len() as u64,
+    }
+}
+
+/// Secrets of 16 bytes, behind their count of one byte.
+fn secrets_len(secrets: &[[u8; 16]]) -> u64
+    requires { length (spelled (secrets_fields secrets.now)) < 2 ^ 32 }
+    ensures { result ≡ length (spelled (secrets_fields secrets.now)) }
+{
+    1 + 16 * secrets.len() as u64
+}
