@@ -2,11 +2,12 @@
 use Rattle.std.proofs.Common.{◌≡◌, ℕ, List, [], ◌++◌, refl, ap, ap₂, ◌∙◌, Option, None, unwrap_or}
 use Rattle.std.proofs.lemmas.List.{append-nil}
 use Rattle.mc_records.specs.declared.refusal.Refusal.{Refusal}
+use Rattle.mc_records.specs.Refusals.{is_signed}
 use Rattle.mc_records.specs.Requests.{Asked}
 use Rattle.mc_records.specs.declared.refusal.Refusal.TheVariants.{DiskFault}
 use Rattle.mc_records.specs.Replies.{Reply, reply_head}
 use Rattle.ledger_model.specs.Histories.{History}
-use Rattle.ledger_model.specs.Replies.{is_signed, secret_when, price_told, signed, refused_values, refusal_of}
+use Rattle.ledger_model.specs.Replies.{secret_when, price_told, signed, refused_values, refusal_of}
 
 -- it is made of the price that it tells, and of the secret that signs it
 pub refusal_is : (h : History) (t : ℕ) (q : Asked) (f : Refusal) (secret : Option (List ℕ)) (price : Option ℕ)

@@ -1,6 +1,7 @@
 //! What a house says to a request, and its reply.
 
 ghost use Rattle.std.specs.Prelude.{◌≡◌, IfOk, IfErr, option_map};
+ghost use Rattle.mc_records.specs.Refusals.{is_signed};
 ghost use Rattle.mc_records.specs.Requests.{asked_of, seen};
 ghost use Rattle.ledger_model.specs.Histories.{History};
 ghost use Rattle.ledger_model.specs.Answer.{answer};
@@ -12,7 +13,7 @@ ghost use Rattle.house_core.specs.Session.{raised, Says, said_reply, refused_rep
 
 use crate::bench::Bench;
 use crate::reply::{Reply, refusal_head};
-use crate::signing::{customer_of, is_signed, signed_refusal, taken_reply};
+use crate::signing::{customer_of, signed_refusal, taken_reply};
 use crate::trade::Trade;
 use crate::verdict::BenchFault;
 use mc_base::Moment;
@@ -116,9 +117,9 @@ impl<T: Trade> Bench<T> {
 
     /// The secret under which the reply to a refusal is signed, where it is signed.
     fn secret_when(&self, q: &Request<'_>, refusal: &Refusal) -> Option<[u8; 16]>
-        ensures { (h : History) → Represents T.stands T.site self.now h → result ≡ ledger.secret_when (ledger.is_signed refusal.now) h (seen q.now.scrip) }
+        ensures { (h : History) → Represents T.stands T.site self.now h → result ≡ ledger.secret_when (is_signed refusal.now) h (seen q.now.scrip) }
     {
-        if is_signed(refusal) {
+        if refusal.is_signed() {
             customer_of(&self.state, q)
         } else {
             None

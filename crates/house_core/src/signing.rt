@@ -93,14 +93,6 @@ fn sign(q: &Request<'_>, head: &ReplyHead<'_>, contents: &[u8], secret: &[u8; 16
     )
 }
 
-/// Whether the reply to a refusal is signed for the customer: the piece was found genuine before it.
-pub(crate) fn is_signed(refusal: &Refusal) -> bool
-    ensures { result ≡ ledger.is_signed refusal.now }
-{
-    let number = refusal.number();
-    (26 <= number && number <= 33) || (40 <= number && number <= 45)
-}
-
 /// The secret of the customer of a request's piece. None where the request has no scrip text, or there
 /// are no terms of the customer's issuer.
 pub(crate) fn customer_of(state: &HouseState, q: &Request<'_>) -> Option<[u8; 16]>

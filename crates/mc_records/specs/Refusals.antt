@@ -1,258 +1,100 @@
--- The numbers, statuses, names and kept values of refusals, and the text of one.
-use Rattle.std.specs.Prelude.{ℕ, List, [], ◌∷◌, ◌++◌, codes, decimal}
+-- The table of refusals, and the text of one.
+use Rattle.std.specs.Prelude.{ℕ, Bool, true, false, List, [], ◌∷◌, ◌++◌, codes, decimal}
 use Rattle.scrip_form.specs.Scrip.{id_digits}
 use Rattle.mc_records.specs.declared.refusal.Refusal.{Refusal}
 use Rattle.mc_records.specs.declared.refusal.Refusal.TheVariants.{BadHead, HeadTooLarge, NoHost, BodyRefused, BadTarget, BadMethod, RepeatedField, NoScrip, BadScrip, WrongVendor, UnknownIssuer, ExpiryMismatch, BadCertificate, Expired, Spent, NeedSignature, BadSignature, NoSuchGoods, TooLittle, SeriesFull, JournalFull, WrongVersion, NoAccount, StaleOrder, PoorAccount, NoVendor, NoStock, AccountFull, NotEmpty, WrongKind, BadInput, ContentsFull, IssuerTaken, RefUsed, StockTwice, LicenceTwice, AccountTaken, TwiceHeld, NoFunds, NoLink, NoReply, BadReply, Unproved, Nothing, SiteRefused, BadBooks, MissingBook, NoTerms, VersionSet, TooEarly, SeriesOpen, BadStatement, PaidTwice, OverSold, NotPlain, OverBudget, NothingDue, UpstreamFault, NoMemory, DiskFault}
 
-abbrev pub number_of : Refusal → ℕ
-number_of BadHead = 10
-number_of HeadTooLarge = 11
-number_of NoHost = 12
-number_of BodyRefused = 13
-number_of BadTarget = 14
-number_of BadMethod = 15
-number_of RepeatedField = 16
-number_of NoScrip = 20
-number_of (BadScrip a) = 21
-number_of WrongVendor = 22
-number_of UnknownIssuer = 23
-number_of (ExpiryMismatch a b) = 24
-number_of BadCertificate = 25
-number_of (Expired a b) = 26
-number_of Spent = 27
-number_of NeedSignature = 28
-number_of BadSignature = 29
-number_of NoSuchGoods = 30
-number_of (TooLittle a) = 31
-number_of (SeriesFull a) = 32
-number_of (JournalFull a b) = 33
-number_of (WrongVersion a) = 34
-number_of NoAccount = 40
-number_of (StaleOrder a) = 41
-number_of (PoorAccount a) = 42
-number_of NoVendor = 43
-number_of (NoStock a) = 44
-number_of (AccountFull a) = 45
-number_of (NotEmpty a) = 50
-number_of WrongKind = 52
-number_of (BadInput a) = 53
-number_of (ContentsFull a) = 54
-number_of (IssuerTaken a) = 55
-number_of (RefUsed a) = 56
-number_of (StockTwice a) = 57
-number_of (LicenceTwice a) = 59
-number_of AccountTaken = 60
-number_of (TwiceHeld a) = 61
-number_of (NoFunds a) = 62
-number_of NoLink = 63
-number_of NoReply = 64
-number_of BadReply = 65
-number_of Unproved = 66
-number_of Nothing = 67
-number_of (SiteRefused a) = 68
-number_of BadBooks = 69
-number_of (MissingBook a) = 70
-number_of NoTerms = 71
-number_of (VersionSet a) = 72
-number_of (TooEarly a) = 73
-number_of (SeriesOpen a b) = 74
-number_of BadStatement = 75
-number_of (PaidTwice a) = 76
-number_of (OverSold a) = 77
-number_of NotPlain = 78
-number_of (OverBudget a) = 79
-number_of NothingDue = 80
-number_of UpstreamFault = 81
-number_of NoMemory = 90
-number_of DiskFault = 91
+-- what the table says of a refusal: its number; its status in HTTP, 0 where a site never answers so; whether a reply
+-- that tells it is signed, as those are which come after a piece was found genuine; its name; and what is kept, as texts:
+-- identities in 16 hex digits, numbers in decimal
+pub record Row : Type 0 where
+  pub number : ℕ
+  pub status : ℕ
+  pub signed : Bool
+  pub name : List ℕ
+  pub kept : List (List ℕ)
 
--- the status in HTTP, 0 where a site never answers so
+abbrev pub row : ℕ → ℕ → Bool → List ℕ → List (List ℕ) → Row
+row n s b text texts = record { number = n; status = s; signed = b; name = text; kept = texts }
+
+-- the table of refusals
+abbrev pub row_of : Refusal → Row
+row_of BadHead = row 10 400 false (codes "BadHead") []
+row_of HeadTooLarge = row 11 431 false (codes "HeadTooLarge") []
+row_of NoHost = row 12 400 false (codes "NoHost") []
+row_of BodyRefused = row 13 413 false (codes "BodyRefused") []
+row_of BadTarget = row 14 400 false (codes "BadTarget") []
+row_of BadMethod = row 15 405 false (codes "BadMethod") []
+row_of RepeatedField = row 16 400 false (codes "RepeatedField") []
+row_of NoScrip = row 20 402 false (codes "NoScrip") []
+row_of (BadScrip a) = row 21 400 false (codes "BadScrip") (decimal a ∷ [])
+row_of WrongVendor = row 22 403 false (codes "WrongVendor") []
+row_of UnknownIssuer = row 23 403 false (codes "UnknownIssuer") []
+row_of (ExpiryMismatch a b) = row 24 403 false (codes "ExpiryMismatch") (decimal a ∷ decimal b ∷ [])
+row_of BadCertificate = row 25 403 false (codes "BadCertificate") []
+row_of (Expired a b) = row 26 410 true (codes "Expired") (decimal a ∷ decimal b ∷ [])
+row_of Spent = row 27 409 true (codes "Spent") []
+row_of NeedSignature = row 28 403 true (codes "NeedSignature") []
+row_of BadSignature = row 29 403 true (codes "BadSignature") []
+row_of NoSuchGoods = row 30 404 true (codes "NoSuchGoods") []
+row_of (TooLittle a) = row 31 402 true (codes "TooLittle") (decimal a ∷ [])
+row_of (SeriesFull a) = row 32 503 true (codes "SeriesFull") (decimal a ∷ [])
+row_of (JournalFull a b) = row 33 503 true (codes "JournalFull") (decimal a ∷ decimal b ∷ [])
+row_of (WrongVersion a) = row 34 403 false (codes "WrongVersion") (decimal a ∷ [])
+row_of NoAccount = row 40 404 true (codes "NoAccount") []
+row_of (StaleOrder a) = row 41 409 true (codes "StaleOrder") (decimal a ∷ [])
+row_of (PoorAccount a) = row 42 402 true (codes "PoorAccount") (decimal a ∷ [])
+row_of NoVendor = row 43 404 true (codes "NoVendor") []
+row_of (NoStock a) = row 44 404 true (codes "NoStock") (decimal a ∷ [])
+row_of (AccountFull a) = row 45 409 true (codes "AccountFull") (decimal a ∷ [])
+row_of (NotEmpty a) = row 50 0 false (codes "NotEmpty") (decimal a ∷ [])
+row_of WrongKind = row 52 0 false (codes "WrongKind") []
+row_of (BadInput a) = row 53 0 false (codes "BadInput") (decimal a ∷ [])
+row_of (ContentsFull a) = row 54 0 false (codes "ContentsFull") (decimal a ∷ [])
+row_of (IssuerTaken a) = row 55 0 false (codes "IssuerTaken") (decimal a ∷ [])
+row_of (RefUsed a) = row 56 0 false (codes "RefUsed") (a ∷ [])
+row_of (StockTwice a) = row 57 0 false (codes "StockTwice") (id_digits a ∷ [])
+row_of (LicenceTwice a) = row 59 0 false (codes "LicenceTwice") (decimal a ∷ [])
+row_of AccountTaken = row 60 0 false (codes "AccountTaken") []
+row_of (TwiceHeld a) = row 61 0 false (codes "TwiceHeld") (id_digits a ∷ [])
+row_of (NoFunds a) = row 62 0 false (codes "NoFunds") (decimal a ∷ [])
+row_of NoLink = row 63 0 false (codes "NoLink") []
+row_of NoReply = row 64 0 false (codes "NoReply") []
+row_of BadReply = row 65 0 false (codes "BadReply") []
+row_of Unproved = row 66 0 false (codes "Unproved") []
+row_of Nothing = row 67 0 false (codes "Nothing") []
+row_of (SiteRefused a) = row 68 0 false (codes "SiteRefused") (decimal a ∷ [])
+row_of BadBooks = row 69 0 false (codes "BadBooks") []
+row_of (MissingBook a) = row 70 0 false (codes "MissingBook") (a ∷ [])
+row_of NoTerms = row 71 0 false (codes "NoTerms") []
+row_of (VersionSet a) = row 72 0 false (codes "VersionSet") (decimal a ∷ [])
+row_of (TooEarly a) = row 73 0 false (codes "TooEarly") (decimal a ∷ [])
+row_of (SeriesOpen a b) = row 74 0 false (codes "SeriesOpen") (decimal a ∷ decimal b ∷ [])
+row_of BadStatement = row 75 0 false (codes "BadStatement") []
+row_of (PaidTwice a) = row 76 0 false (codes "PaidTwice") (decimal a ∷ [])
+row_of (OverSold a) = row 77 0 false (codes "OverSold") (decimal a ∷ [])
+row_of NotPlain = row 78 400 false (codes "NotPlain") []
+row_of (OverBudget a) = row 79 402 false (codes "OverBudget") (decimal a ∷ [])
+row_of NothingDue = row 80 0 false (codes "NothingDue") []
+row_of UpstreamFault = row 81 503 false (codes "UpstreamFault") []
+row_of NoMemory = row 90 503 false (codes "NoMemory") []
+row_of DiskFault = row 91 500 false (codes "DiskFault") []
+
+abbrev pub number_of : Refusal → ℕ
+number_of r = (row_of r).number
+
 abbrev pub status_of : Refusal → ℕ
-status_of BadHead = 400
-status_of HeadTooLarge = 431
-status_of NoHost = 400
-status_of BodyRefused = 413
-status_of BadTarget = 400
-status_of BadMethod = 405
-status_of RepeatedField = 400
-status_of NoScrip = 402
-status_of (BadScrip a) = 400
-status_of WrongVendor = 403
-status_of UnknownIssuer = 403
-status_of (ExpiryMismatch a b) = 403
-status_of BadCertificate = 403
-status_of (Expired a b) = 410
-status_of Spent = 409
-status_of NeedSignature = 403
-status_of BadSignature = 403
-status_of NoSuchGoods = 404
-status_of (TooLittle a) = 402
-status_of (SeriesFull a) = 503
-status_of (JournalFull a b) = 503
-status_of (WrongVersion a) = 403
-status_of NoAccount = 404
-status_of (StaleOrder a) = 409
-status_of (PoorAccount a) = 402
-status_of NoVendor = 404
-status_of (NoStock a) = 404
-status_of (AccountFull a) = 409
-status_of (NotEmpty a) = 0
-status_of WrongKind = 0
-status_of (BadInput a) = 0
-status_of (ContentsFull a) = 0
-status_of (IssuerTaken a) = 0
-status_of (RefUsed a) = 0
-status_of (StockTwice a) = 0
-status_of (LicenceTwice a) = 0
-status_of AccountTaken = 0
-status_of (TwiceHeld a) = 0
-status_of (NoFunds a) = 0
-status_of NoLink = 0
-status_of NoReply = 0
-status_of BadReply = 0
-status_of Unproved = 0
-status_of Nothing = 0
-status_of (SiteRefused a) = 0
-status_of BadBooks = 0
-status_of (MissingBook a) = 0
-status_of NoTerms = 0
-status_of (VersionSet a) = 0
-status_of (TooEarly a) = 0
-status_of (SeriesOpen a b) = 0
-status_of BadStatement = 0
-status_of (PaidTwice a) = 0
-status_of (OverSold a) = 0
-status_of NotPlain = 400
-status_of (OverBudget a) = 402
-status_of NothingDue = 0
-status_of UpstreamFault = 503
-status_of NoMemory = 503
-status_of DiskFault = 500
+status_of r = (row_of r).status
+
+-- 26 to 33, and a broker's 40 to 45; those of heads and of scrip that is not genuine are not, and 90 and 91 never
+abbrev pub is_signed : Refusal → Bool
+is_signed r = (row_of r).signed
 
 abbrev pub name_of : Refusal → List ℕ
-name_of BadHead = codes "BadHead"
-name_of HeadTooLarge = codes "HeadTooLarge"
-name_of NoHost = codes "NoHost"
-name_of BodyRefused = codes "BodyRefused"
-name_of BadTarget = codes "BadTarget"
-name_of BadMethod = codes "BadMethod"
-name_of RepeatedField = codes "RepeatedField"
-name_of NoScrip = codes "NoScrip"
-name_of (BadScrip a) = codes "BadScrip"
-name_of WrongVendor = codes "WrongVendor"
-name_of UnknownIssuer = codes "UnknownIssuer"
-name_of (ExpiryMismatch a b) = codes "ExpiryMismatch"
-name_of BadCertificate = codes "BadCertificate"
-name_of (Expired a b) = codes "Expired"
-name_of Spent = codes "Spent"
-name_of NeedSignature = codes "NeedSignature"
-name_of BadSignature = codes "BadSignature"
-name_of NoSuchGoods = codes "NoSuchGoods"
-name_of (TooLittle a) = codes "TooLittle"
-name_of (SeriesFull a) = codes "SeriesFull"
-name_of (JournalFull a b) = codes "JournalFull"
-name_of (WrongVersion a) = codes "WrongVersion"
-name_of NoAccount = codes "NoAccount"
-name_of (StaleOrder a) = codes "StaleOrder"
-name_of (PoorAccount a) = codes "PoorAccount"
-name_of NoVendor = codes "NoVendor"
-name_of (NoStock a) = codes "NoStock"
-name_of (AccountFull a) = codes "AccountFull"
-name_of (NotEmpty a) = codes "NotEmpty"
-name_of WrongKind = codes "WrongKind"
-name_of (BadInput a) = codes "BadInput"
-name_of (ContentsFull a) = codes "ContentsFull"
-name_of (IssuerTaken a) = codes "IssuerTaken"
-name_of (RefUsed a) = codes "RefUsed"
-name_of (StockTwice a) = codes "StockTwice"
-name_of (LicenceTwice a) = codes "LicenceTwice"
-name_of AccountTaken = codes "AccountTaken"
-name_of (TwiceHeld a) = codes "TwiceHeld"
-name_of (NoFunds a) = codes "NoFunds"
-name_of NoLink = codes "NoLink"
-name_of NoReply = codes "NoReply"
-name_of BadReply = codes "BadReply"
-name_of Unproved = codes "Unproved"
-name_of Nothing = codes "Nothing"
-name_of (SiteRefused a) = codes "SiteRefused"
-name_of BadBooks = codes "BadBooks"
-name_of (MissingBook a) = codes "MissingBook"
-name_of NoTerms = codes "NoTerms"
-name_of (VersionSet a) = codes "VersionSet"
-name_of (TooEarly a) = codes "TooEarly"
-name_of (SeriesOpen a b) = codes "SeriesOpen"
-name_of BadStatement = codes "BadStatement"
-name_of (PaidTwice a) = codes "PaidTwice"
-name_of (OverSold a) = codes "OverSold"
-name_of NotPlain = codes "NotPlain"
-name_of (OverBudget a) = codes "OverBudget"
-name_of NothingDue = codes "NothingDue"
-name_of UpstreamFault = codes "UpstreamFault"
-name_of NoMemory = codes "NoMemory"
-name_of DiskFault = codes "DiskFault"
+name_of r = (row_of r).name
 
--- what is kept, as texts: identities in 16 hex digits, numbers in decimal
 abbrev pub kept_of : Refusal → List (List ℕ)
-kept_of BadHead = []
-kept_of HeadTooLarge = []
-kept_of NoHost = []
-kept_of BodyRefused = []
-kept_of BadTarget = []
-kept_of BadMethod = []
-kept_of RepeatedField = []
-kept_of NoScrip = []
-kept_of (BadScrip a) = decimal a ∷ []
-kept_of WrongVendor = []
-kept_of UnknownIssuer = []
-kept_of (ExpiryMismatch a b) = decimal a ∷ decimal b ∷ []
-kept_of BadCertificate = []
-kept_of (Expired a b) = decimal a ∷ decimal b ∷ []
-kept_of Spent = []
-kept_of NeedSignature = []
-kept_of BadSignature = []
-kept_of NoSuchGoods = []
-kept_of (TooLittle a) = decimal a ∷ []
-kept_of (SeriesFull a) = decimal a ∷ []
-kept_of (JournalFull a b) = decimal a ∷ decimal b ∷ []
-kept_of (WrongVersion a) = decimal a ∷ []
-kept_of NoAccount = []
-kept_of (StaleOrder a) = decimal a ∷ []
-kept_of (PoorAccount a) = decimal a ∷ []
-kept_of NoVendor = []
-kept_of (NoStock a) = decimal a ∷ []
-kept_of (AccountFull a) = decimal a ∷ []
-kept_of (NotEmpty a) = decimal a ∷ []
-kept_of WrongKind = []
-kept_of (BadInput a) = decimal a ∷ []
-kept_of (ContentsFull a) = decimal a ∷ []
-kept_of (IssuerTaken a) = decimal a ∷ []
-kept_of (RefUsed a) = a ∷ []
-kept_of (StockTwice a) = id_digits a ∷ []
-kept_of (LicenceTwice a) = decimal a ∷ []
-kept_of AccountTaken = []
-kept_of (TwiceHeld a) = id_digits a ∷ []
-kept_of (NoFunds a) = decimal a ∷ []
-kept_of NoLink = []
-kept_of NoReply = []
-kept_of BadReply = []
-kept_of Unproved = []
-kept_of Nothing = []
-kept_of (SiteRefused a) = decimal a ∷ []
-kept_of BadBooks = []
-kept_of (MissingBook a) = a ∷ []
-kept_of NoTerms = []
-kept_of (VersionSet a) = decimal a ∷ []
-kept_of (TooEarly a) = decimal a ∷ []
-kept_of (SeriesOpen a b) = decimal a ∷ decimal b ∷ []
-kept_of BadStatement = []
-kept_of (PaidTwice a) = decimal a ∷ []
-kept_of (OverSold a) = decimal a ∷ []
-kept_of NotPlain = []
-kept_of (OverBudget a) = decimal a ∷ []
-kept_of NothingDue = []
-kept_of UpstreamFault = []
-kept_of NoMemory = []
-kept_of DiskFault = []
+kept_of r = (row_of r).kept
 
 -- each text behind a space
 abbrev pub spaced : List (List ℕ) → List ℕ

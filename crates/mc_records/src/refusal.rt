@@ -134,132 +134,21 @@ impl Refusal {
     pub fn number(&self) -> u16
         ensures { result ≡ refusals.number_of self.now }
     {
-        match self {
-            Refusal::BadHead => 10,
-            Refusal::HeadTooLarge => 11,
-            Refusal::NoHost => 12,
-            Refusal::BodyRefused => 13,
-            Refusal::BadTarget => 14,
-            Refusal::BadMethod => 15,
-            Refusal::RepeatedField => 16,
-            Refusal::NoScrip => 20,
-            Refusal::BadScrip(..) => 21,
-            Refusal::WrongVendor => 22,
-            Refusal::UnknownIssuer => 23,
-            Refusal::ExpiryMismatch(..) => 24,
-            Refusal::BadCertificate => 25,
-            Refusal::Expired(..) => 26,
-            Refusal::Spent => 27,
-            Refusal::NeedSignature => 28,
-            Refusal::BadSignature => 29,
-            Refusal::NoSuchGoods => 30,
-            Refusal::TooLittle(..) => 31,
-            Refusal::SeriesFull(..) => 32,
-            Refusal::JournalFull(..) => 33,
-            Refusal::WrongVersion(..) => 34,
-            Refusal::NoAccount => 40,
-            Refusal::StaleOrder(..) => 41,
-            Refusal::PoorAccount(..) => 42,
-            Refusal::NoVendor => 43,
-            Refusal::NoStock(..) => 44,
-            Refusal::AccountFull(..) => 45,
-            Refusal::NotEmpty(..) => 50,
-            Refusal::WrongKind => 52,
-            Refusal::BadInput(..) => 53,
-            Refusal::ContentsFull(..) => 54,
-            Refusal::IssuerTaken(..) => 55,
-            Refusal::RefUsed(..) => 56,
-            Refusal::StockTwice(..) => 57,
-            Refusal::LicenceTwice(..) => 59,
-            Refusal::AccountTaken => 60,
-            Refusal::TwiceHeld(..) => 61,
-            Refusal::NoFunds(..) => 62,
-            Refusal::NoLink => 63,
-            Refusal::NoReply => 64,
-            Refusal::BadReply => 65,
-            Refusal::Unproved => 66,
-            Refusal::Nothing => 67,
-            Refusal::SiteRefused(..) => 68,
-            Refusal::BadBooks => 69,
-            Refusal::MissingBook(..) => 70,
-            Refusal::NoTerms => 71,
-            Refusal::VersionSet(..) => 72,
-            Refusal::TooEarly(..) => 73,
-            Refusal::SeriesOpen(..) => 74,
-            Refusal::BadStatement => 75,
-            Refusal::PaidTwice(..) => 76,
-            Refusal::OverSold(..) => 77,
-            Refusal::NotPlain => 78,
-            Refusal::OverBudget(..) => 79,
-            Refusal::NothingDue => 80,
-            Refusal::UpstreamFault => 81,
-            Refusal::NoMemory => 90,
-            Refusal::DiskFault => 91,
-        }
+        self.row().0
     }
 
     /// The status in HTTP (RFC 9110, 15), or 0 where a site never answers so.
     pub fn status(&self) -> u16
         ensures { result ≡ refusals.status_of self.now }
     {
-        match self {
-            Refusal::BadHead
-            | Refusal::NoHost
-            | Refusal::BadTarget
-            | Refusal::RepeatedField
-            | Refusal::BadScrip(..)
-            | Refusal::NotPlain => 400,
-            Refusal::NoScrip
-            | Refusal::TooLittle(..)
-            | Refusal::PoorAccount(..)
-            | Refusal::OverBudget(..) => 402,
-            Refusal::WrongVendor
-            | Refusal::UnknownIssuer
-            | Refusal::ExpiryMismatch(..)
-            | Refusal::BadCertificate
-            | Refusal::NeedSignature
-            | Refusal::BadSignature
-            | Refusal::WrongVersion(..) => 403,
-            Refusal::NoSuchGoods | Refusal::NoAccount | Refusal::NoVendor | Refusal::NoStock(..) =>
-                404,
-            Refusal::BadMethod => 405,
-            Refusal::Spent | Refusal::StaleOrder(..) | Refusal::AccountFull(..) => 409,
-            Refusal::Expired(..) => 410,
-            Refusal::BodyRefused => 413,
-            Refusal::HeadTooLarge => 431,
-            Refusal::DiskFault => 500,
-            Refusal::SeriesFull(..)
-            | Refusal::JournalFull(..)
-            | Refusal::UpstreamFault
-            | Refusal::NoMemory => 503,
-            Refusal::NotEmpty(..)
-            | Refusal::WrongKind
-            | Refusal::BadInput(..)
-            | Refusal::ContentsFull(..)
-            | Refusal::IssuerTaken(..)
-            | Refusal::RefUsed(..)
-            | Refusal::StockTwice(..)
-            | Refusal::LicenceTwice(..)
-            | Refusal::AccountTaken
-            | Refusal::TwiceHeld(..)
-            | Refusal::NoFunds(..)
-            | Refusal::NoLink
-            | Refusal::NoReply
-            | Refusal::BadReply
-            | Refusal::Unproved
-            | Refusal::Nothing
-            | Refusal::SiteRefused(..)
-            | Refusal::BadBooks
-            | Refusal::MissingBook(..)
-            | Refusal::NoTerms
-            | Refusal::VersionSet(..)
-            | Refusal::TooEarly(..)
-            | Refusal::SeriesOpen(..)
-            | Refusal::BadStatement
-            | Refusal::PaidTwice(..)
-            | Refusal::OverSold(..)
-            | Refusal::NothingDue => 0,
-        }
+        self.row().1
+    }
+
+    /// Whether a reply that tells the refusal is signed for the customer of the piece.
+    pub fn is_signed(&self) -> bool
+        ensures { result ≡ refusals.is_signed self.now }
+    {
+        self.row().2
     }
 
     /// The name of the refusal.
@@ -267,67 +156,82 @@ impl Refusal {
         ensures name { result.now ≡ refusals.name_of self.now }
         ensures short { length result.now ≤ 15 }
     {
+        self.row().3
+    }
+
+    /// The row of the refusal in the table of refusals.
+    fn row(&self) -> Row
+        ensures number { result.0 ≡ refusals.number_of self.now }
+        ensures status { result.1 ≡ refusals.status_of self.now }
+        ensures signed { result.2 ≡ refusals.is_signed self.now }
+        ensures name { result.3.now ≡ refusals.name_of self.now }
+        ensures short { length result.3.now ≤ 15 }
+    {
         match self {
-            Refusal::BadHead => b"BadHead",
-            Refusal::HeadTooLarge => b"HeadTooLarge",
-            Refusal::NoHost => b"NoHost",
-            Refusal::BodyRefused => b"BodyRefused",
-            Refusal::BadTarget => b"BadTarget",
-            Refusal::BadMethod => b"BadMethod",
-            Refusal::RepeatedField => b"RepeatedField",
-            Refusal::NoScrip => b"NoScrip",
-            Refusal::BadScrip(..) => b"BadScrip",
-            Refusal::WrongVendor => b"WrongVendor",
-            Refusal::UnknownIssuer => b"UnknownIssuer",
-            Refusal::ExpiryMismatch(..) => b"ExpiryMismatch",
-            Refusal::BadCertificate => b"BadCertificate",
-            Refusal::Expired(..) => b"Expired",
-            Refusal::Spent => b"Spent",
-            Refusal::NeedSignature => b"NeedSignature",
-            Refusal::BadSignature => b"BadSignature",
-            Refusal::NoSuchGoods => b"NoSuchGoods",
-            Refusal::TooLittle(..) => b"TooLittle",
-            Refusal::SeriesFull(..) => b"SeriesFull",
-            Refusal::JournalFull(..) => b"JournalFull",
-            Refusal::WrongVersion(..) => b"WrongVersion",
-            Refusal::NoAccount => b"NoAccount",
-            Refusal::StaleOrder(..) => b"StaleOrder",
-            Refusal::PoorAccount(..) => b"PoorAccount",
-            Refusal::NoVendor => b"NoVendor",
-            Refusal::NoStock(..) => b"NoStock",
-            Refusal::AccountFull(..) => b"AccountFull",
-            Refusal::NotEmpty(..) => b"NotEmpty",
-            Refusal::WrongKind => b"WrongKind",
-            Refusal::BadInput(..) => b"BadInput",
-            Refusal::ContentsFull(..) => b"ContentsFull",
-            Refusal::IssuerTaken(..) => b"IssuerTaken",
-            Refusal::RefUsed(..) => b"RefUsed",
-            Refusal::StockTwice(..) => b"StockTwice",
-            Refusal::LicenceTwice(..) => b"LicenceTwice",
-            Refusal::AccountTaken => b"AccountTaken",
-            Refusal::TwiceHeld(..) => b"TwiceHeld",
-            Refusal::NoFunds(..) => b"NoFunds",
-            Refusal::NoLink => b"NoLink",
-            Refusal::NoReply => b"NoReply",
-            Refusal::BadReply => b"BadReply",
-            Refusal::Unproved => b"Unproved",
-            Refusal::Nothing => b"Nothing",
-            Refusal::SiteRefused(..) => b"SiteRefused",
-            Refusal::BadBooks => b"BadBooks",
-            Refusal::MissingBook(..) => b"MissingBook",
-            Refusal::NoTerms => b"NoTerms",
-            Refusal::VersionSet(..) => b"VersionSet",
-            Refusal::TooEarly(..) => b"TooEarly",
-            Refusal::SeriesOpen(..) => b"SeriesOpen",
-            Refusal::BadStatement => b"BadStatement",
-            Refusal::PaidTwice(..) => b"PaidTwice",
-            Refusal::OverSold(..) => b"OverSold",
-            Refusal::NotPlain => b"NotPlain",
-            Refusal::OverBudget(..) => b"OverBudget",
-            Refusal::NothingDue => b"NothingDue",
-            Refusal::UpstreamFault => b"UpstreamFault",
-            Refusal::NoMemory => b"NoMemory",
-            Refusal::DiskFault => b"DiskFault",
+            Refusal::BadHead => Row(10, 400, false, b"BadHead"),
+            Refusal::HeadTooLarge => Row(11, 431, false, b"HeadTooLarge"),
+            Refusal::NoHost => Row(12, 400, false, b"NoHost"),
+            Refusal::BodyRefused => Row(13, 413, false, b"BodyRefused"),
+            Refusal::BadTarget => Row(14, 400, false, b"BadTarget"),
+            Refusal::BadMethod => Row(15, 405, false, b"BadMethod"),
+            Refusal::RepeatedField => Row(16, 400, false, b"RepeatedField"),
+            Refusal::NoScrip => Row(20, 402, false, b"NoScrip"),
+            Refusal::BadScrip(..) => Row(21, 400, false, b"BadScrip"),
+            Refusal::WrongVendor => Row(22, 403, false, b"WrongVendor"),
+            Refusal::UnknownIssuer => Row(23, 403, false, b"UnknownIssuer"),
+            Refusal::ExpiryMismatch(..) => Row(24, 403, false, b"ExpiryMismatch"),
+            Refusal::BadCertificate => Row(25, 403, false, b"BadCertificate"),
+            Refusal::Expired(..) => Row(26, 410, true, b"Expired"),
+            Refusal::Spent => Row(27, 409, true, b"Spent"),
+            Refusal::NeedSignature => Row(28, 403, true, b"NeedSignature"),
+            Refusal::BadSignature => Row(29, 403, true, b"BadSignature"),
+            Refusal::NoSuchGoods => Row(30, 404, true, b"NoSuchGoods"),
+            Refusal::TooLittle(..) => Row(31, 402, true, b"TooLittle"),
+            Refusal::SeriesFull(..) => Row(32, 503, true, b"SeriesFull"),
+            Refusal::JournalFull(..) => Row(33, 503, true, b"JournalFull"),
+            Refusal::WrongVersion(..) => Row(34, 403, false, b"WrongVersion"),
+            Refusal::NoAccount => Row(40, 404, true, b"NoAccount"),
+            Refusal::StaleOrder(..) => Row(41, 409, true, b"StaleOrder"),
+            Refusal::PoorAccount(..) => Row(42, 402, true, b"PoorAccount"),
+            Refusal::NoVendor => Row(43, 404, true, b"NoVendor"),
+            Refusal::NoStock(..) => Row(44, 404, true, b"NoStock"),
+            Refusal::AccountFull(..) => Row(45, 409, true, b"AccountFull"),
+            Refusal::NotEmpty(..) => Row(50, 0, false, b"NotEmpty"),
+            Refusal::WrongKind => Row(52, 0, false, b"WrongKind"),
+            Refusal::BadInput(..) => Row(53, 0, false, b"BadInput"),
+            Refusal::ContentsFull(..) => Row(54, 0, false, b"ContentsFull"),
+            Refusal::IssuerTaken(..) => Row(55, 0, false, b"IssuerTaken"),
+            Refusal::RefUsed(..) => Row(56, 0, false, b"RefUsed"),
+            Refusal::StockTwice(..) => Row(57, 0, false, b"StockTwice"),
+            Refusal::LicenceTwice(..) => Row(59, 0, false, b"LicenceTwice"),
+            Refusal::AccountTaken => Row(60, 0, false, b"AccountTaken"),
+            Refusal::TwiceHeld(..) => Row(61, 0, false, b"TwiceHeld"),
+            Refusal::NoFunds(..) => Row(62, 0, false, b"NoFunds"),
+            Refusal::NoLink => Row(63, 0, false, b"NoLink"),
+            Refusal::NoReply => Row(64, 0, false, b"NoReply"),
+            Refusal::BadReply => Row(65, 0, false, b"BadReply"),
+            Refusal::Unproved => Row(66, 0, false, b"Unproved"),
+            Refusal::Nothing => Row(67, 0, false, b"Nothing"),
+            Refusal::SiteRefused(..) => Row(68, 0, false, b"SiteRefused"),
+            Refusal::BadBooks => Row(69, 0, false, b"BadBooks"),
+            Refusal::MissingBook(..) => Row(70, 0, false, b"MissingBook"),
+            Refusal::NoTerms => Row(71, 0, false, b"NoTerms"),
+            Refusal::VersionSet(..) => Row(72, 0, false, b"VersionSet"),
+            Refusal::TooEarly(..) => Row(73, 0, false, b"TooEarly"),
+            Refusal::SeriesOpen(..) => Row(74, 0, false, b"SeriesOpen"),
+            Refusal::BadStatement => Row(75, 0, false, b"BadStatement"),
+            Refusal::PaidTwice(..) => Row(76, 0, false, b"PaidTwice"),
+            Refusal::OverSold(..) => Row(77, 0, false, b"OverSold"),
+            Refusal::NotPlain => Row(78, 400, false, b"NotPlain"),
+            Refusal::OverBudget(..) => Row(79, 402, false, b"OverBudget"),
+            Refusal::NothingDue => Row(80, 0, false, b"NothingDue"),
+            Refusal::UpstreamFault => Row(81, 503, false, b"UpstreamFault"),
+            Refusal::NoMemory => Row(90, 503, false, b"NoMemory"),
+            Refusal::DiskFault => Row(91, 500, false, b"DiskFault"),
         }
     }
 }
+
+/// What the table says of a refusal: its number, its status, whether it is signed, and its name.
+#[derive(Clone, Copy)]
+struct Row(u16, u16, bool, &'static [u8]);

@@ -1,7 +1,8 @@
 use Rattle.std.proofs.Common.{◌≡◌, Some, None, sym, ap, ◌∙◌, append-nil}
 use Rattle.mc_records.specs.Requests.{asked_of, seen}
 use Rattle.mc_records.specs.Replies.{reply_head}
-use Rattle.ledger_model.specs.Replies.{secret_when, is_signed}
+use Rattle.mc_records.specs.Refusals.{is_signed}
+use Rattle.ledger_model.specs.Replies.{secret_when}
 use Rattle.house_core.specs.Bench.{house_time}
 use Rattle.house_core.proofs.Refused.{refusal_is}
 use Rattle.house_core.proofs.bench.Bench.refusal_reply.Goals as goal
