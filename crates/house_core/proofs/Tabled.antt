@@ -21,8 +21,7 @@ use Rattle.ledger_model.specs.Houses.{site_name, keeping, all_terms, terms_by, t
 use Rattle.ledger_model.specs.Pieces.{is_spent}
 use Rattle.ledger_model.specs.Lines.{Stop, Repeat, ◌>>=◌, given, refused_if}
 use Rattle.ledger_model.specs.Stages.{is_repeat, is_right, genuine_by, spendable_by, Offer, next_by, needed, fitted_by}
-use Rattle.ledger_model.specs.Answer.{repeated, genuine, spendable, offer, next_own, fitted, taken, Answer, Refused, Again, Take, answered, answer}
-use Rattle.ledger_model.specs.Slow.{after_repeat, after_read}
+use Rattle.ledger_model.specs.Answer.{repeated, genuine, spendable, offer, next_own, fitted, taken, after_read, after_repeat, Answer, Refused, Again, Take, answered, answer}
 use Rattle.ledger_model.proofs.TableLaws.{line_ok, refused_ok, given_ok}
 use Rattle.ledger_model.proofs.RepeatLaws.{again_is_same}
 use Rattle.house_core.specs.HouseState.{HouseStateView, version_of, tail_of, series_now}
