@@ -15,7 +15,7 @@ use Rattle.scrip_form.specs.Scrip.{Scrip, Certified}
 use Rattle.scrip_form.specs.Reading.{scrip_of}
 use Rattle.mc_records.specs.declared.limits.Limits.{Limits}
 use Rattle.mc_records.specs.declared.refusal.Refusal.TheVariants.{TooLittle, NoSuchGoods}
-use Rattle.mc_records.specs.Entry.{House, Entry, Site, AddTerms, Goods, Accept, Mint, Account, Deposit, Withdraw, Draw, Licence, Stock, Got, Pend, Done, Refused, goods_deed, moment_of}
+use Rattle.mc_records.specs.Entry.{House, Entry, Site, Accept, Mint, moment_of}
 use Rattle.mc_records.specs.Requests.{Asked}
 use Rattle.kept_replies.specs.Requests.{is_same_text, is_same_request}
 use Rattle.kept_replies.specs.Kept.{KeptReply, is_in_time, found}
@@ -55,20 +55,7 @@ pub record SameHouse (h k : History) : Type 0 where
 pub same_house : (limits : Limits) (h : History) (e : Entry) → IsLawful limits h → SameHouse h (h ++ e ∷ [])
 same_house limits [] e lawful = absurd lawful
 same_house limits (Site m k name house ∷ xs) e lawful = record { name = refl; house = refl; kind = refl }
-same_house limits (AddTerms m terms ∷ xs) e lawful = record { name = refl; house = refl; kind = refl }
-same_house limits (Goods m target price k contents ∷ xs) e lawful = record { name = refl; house = refl; kind = refl }
-same_house limits (Accept m scrip target sign price change deed ∷ xs) e lawful = record { name = refl; house = refl; kind = refl }
-same_house limits (Mint m reference count value first ∷ xs) e lawful = record { name = refl; house = refl; kind = refl }
-same_house limits (Account m name key ∷ xs) e lawful = record { name = refl; house = refl; kind = refl }
-same_house limits (Deposit m name amount reference ∷ xs) e lawful = record { name = refl; house = refl; kind = refl }
-same_house limits (Withdraw m name amount reference ∷ xs) e lawful = record { name = refl; house = refl; kind = refl }
-same_house limits (Draw m target sign drawn ∷ xs) e lawful = record { name = refl; house = refl; kind = refl }
-same_house limits (Licence m vendor terms ∷ xs) e lawful = record { name = refl; house = refl; kind = refl }
-same_house limits (Stock m vendor pieces ∷ xs) e lawful = record { name = refl; house = refl; kind = refl }
-same_house limits (Got m pieces ∷ xs) e lawful = record { name = refl; house = refl; kind = refl }
-same_house limits (Pend m ask peer target scrip secret ∷ xs) e lawful = record { name = refl; house = refl; kind = refl }
-same_house limits (Done m n price change got ∷ xs) e lawful = record { name = refl; house = refl; kind = refl }
-same_house limits (Refused m n refusal ∷ xs) e lawful = record { name = refl; house = refl; kind = refl }
+same_house limits (x ∷ xs) e lawful = record { name = refl; house = refl; kind = refl }
 
 pub kind_stays : (limits : Limits) (h : History) (e : Entry) → IsLawful limits h → site_kind (h ++ e ∷ []) ≡ site_kind h
 kind_stays limits h e lawful = (same_house limits h e lawful).kind
@@ -281,21 +268,9 @@ same_series limits own h e same may = record { in_order = may.in_order; allowed 
     bounds series = record { journal = 2 ^ 40; series = series }
 
     allowed : (x : Entry) → IsAllowed limits h x → IsAllowed own h x
-    allowed (Site m kind name house) a = a
-    allowed (AddTerms m terms) a = a
-    allowed (Goods m target price kind contents) a = a
     allowed (Accept m scrip target sign price change deed) a = ap (λ (n : ℕ). answer h m (bounds n) (request_of scrip target sign)) (sym same) ∙ a
     allowed (Mint m reference count value first) a = (a.0, a.1, a.2, omega (arith, a.3, same))
-    allowed (Account m name key) a = a
-    allowed (Deposit m name amount reference) a = a
-    allowed (Withdraw m name amount reference) a = a
-    allowed (Draw m target sign drawn) a = a
-    allowed (Licence m vendor terms) a = a
-    allowed (Stock m vendor pieces) a = a
-    allowed (Got m pieces) a = a
-    allowed (Pend m ask peer target scrip secret) a = a
-    allowed (Done m n price change got) a = a
-    allowed (Refused m n refusal) a = a
+    allowed e a = a
 
 -- the entry that the answer takes may follow
 pub takes_follow : {b : HouseStateView} {h : History} → StateRepresents b h → (limits : Limits) (q : Asked) (text : List ℕ) (a : Authorization) → limits.series ≡ b.limits.series → limits.journal ≤ 2 ^ 40
