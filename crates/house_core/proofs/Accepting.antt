@@ -109,7 +109,7 @@ stands_as_before {old = old} {new = new} {h = h} st is = record {
   issuer = is.issuer ∙ st.issuer ∙ sym is.own_terms;
   in_time = omega (arith, st.in_time, is.time);
   spent = λ id live. st.spent id (subst (λ (t : ℕ). has_ended h t id ≡ false) is.time live) ∙ sym (is.spent id);
-  again = λ t text target sign later. st.again t text target sign (omega (arith, later, is.time)) ∙ same_found t (scrip_request text target sign);
+  again = λ t q later. st.again t q (omega (arith, later, is.time)) ∙ same_found t q;
   replies = rw is.replies st.replies;
   issued = λ s. st.issued s ∙ sym (is.issued s);
   most = is.most ∙ st.most ∙ ap (λ (l : Limits). l.series) (sym is.limits);

@@ -32,7 +32,7 @@ use Rattle.house_core.specs.Learning.{ByHouse, ByTrade, GoodsFit}
 use Rattle.house_core.specs.CommandEntries.{IsCommand}
 use Rattle.house_core.specs.Spent.{SpentView, is_marked}
 use Rattle.house_core.specs.HouseState.{HouseStateView, IsApplied, GoesOn, at_series, minted_count}
-use Rattle.house_core.specs.Representation.{StateRepresents, IsReply, has_ended, scrip_request, of_series}
+use Rattle.house_core.specs.Representation.{StateRepresents, IsReply, has_ended, of_series}
 use Rattle.house_core.proofs.Tabled.{series_stands}
 use Rattle.house_core.proofs.Replied.{reply_kept}
 use Rattle.std.proofs.Common.{All}
@@ -51,10 +51,10 @@ goes_on_own own series first n is fits some most =
 
 accepts_nothing : (e : Entry) → IsCommand e → AcceptsNothing e
 accepts_nothing (Site m kind name house) is = absurd is
-accepts_nothing (AddTerms m terms) is = record { piece = refl; change = λ before. refl; repeats = λ keep t text target sign. refl; price = refl; reply = λ before. refl }
-accepts_nothing (Goods m target price k contents) is = record { piece = refl; change = λ before. refl; repeats = λ keep t text target sign. refl; price = refl; reply = λ before. refl }
+accepts_nothing (AddTerms m terms) is = record { piece = refl; change = λ before. refl; repeats = λ keep t q. refl; price = refl; reply = λ before. refl }
+accepts_nothing (Goods m target price k contents) is = record { piece = refl; change = λ before. refl; repeats = λ keep t q. refl; price = refl; reply = λ before. refl }
 accepts_nothing (Accept m scrip target sign price change deed) is = absurd is
-accepts_nothing (Mint m reference count value first) is = record { piece = refl; change = λ before. refl; repeats = λ keep t text target sign. refl; price = refl; reply = λ before. refl }
+accepts_nothing (Mint m reference count value first) is = record { piece = refl; change = λ before. refl; repeats = λ keep t q. refl; price = refl; reply = λ before. refl }
 accepts_nothing e is = (quiet e (omega arith)).accepts_nothing
 
 -- ---- minted pieces
@@ -184,13 +184,13 @@ stands_applied {old = old} {new = new} {h = h} st e bytes command at goes may le
           live_by (terms_in h (issuer_of id)) (terms_by (all_terms (e ∷ [])) (issuer_of id)) id old.time
           (ap₂ (λ (o : Option Issuing) (t : ℕ). unwrap_or (option_map (λ x. leb (series_end x (epoch_of id)) t) o) false) (sym found) (sym is.time) ∙ live) in
           ap (list_any (λ p. p.id == id)) accepts ∙ st.spent id before ∙ ap (λ (s : SpentView). is_marked s id) (sym is.spent);
-      again = λ t text target sign later.
-          ap (λ (o : Option House). position (is_repeat (unwrap_or (option_map (λ x. x.keep) o) 0) t text target sign) (h ++ e ∷ [])) same.house
-          ∙ position_snoc (is_repeat (keeping h) t text target sign) h e
-          ∙ ap (λ (b : Bool). option_or (position (is_repeat (keeping h) t text target sign) h) (cond b (Some (length h)) None)) (still.repeats (keeping h) t text target sign)
-          ∙ or_none (position (is_repeat (keeping h) t text target sign) h)
-          ∙ st.again t text target sign (omega (arith, later, is.time))
-          ∙ ap (λ (k : KeptView). option_map (λ (x : KeptEntry). x.number) (found k t (scrip_request text target sign))) (sym is.kept);
+      again = λ t q later.
+          ap (λ (o : Option House). position (is_repeat (unwrap_or (option_map (λ x. x.keep) o) 0) t q) (h ++ e ∷ [])) same.house
+          ∙ position_snoc (is_repeat (keeping h) t q) h e
+          ∙ ap (λ (b : Bool). option_or (position (is_repeat (keeping h) t q) h) (cond b (Some (length h)) None)) (still.repeats (keeping h) t q)
+          ∙ or_none (position (is_repeat (keeping h) t q) h)
+          ∙ st.again t q (omega (arith, later, is.time))
+          ∙ ap (λ (k : KeptView). option_map (λ (x : KeptEntry). x.number) (found k t q)) (sym is.kept);
       replies = subst (λ (k : KeptView). All (IsReply (h ++ e ∷ [])) k.replies) (sym is.kept) (All-weaker (IsReply h) (IsReply (h ++ e ∷ [])) (λ r. reply_kept h e r) old.kept.replies st.replies);
       issued = λ s. own_count_more h old e s command goes most ∙ ap (λ (n : ℕ). n + minted_count e s) (st.issued s) ∙ sym (is.issued s);
       most = is.most ∙ st.most ∙ ap (λ (l : Limits). l.series) (sym is.limits);

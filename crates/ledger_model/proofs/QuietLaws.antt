@@ -12,7 +12,7 @@ quiet (Goods m target price kind contents) above = absurd (omega (arith, above))
 quiet (Accept m scrip target sign price change deed) above = absurd (omega (arith, above))
 quiet (Mint m reference count value first) above = absurd (omega (arith, above))
 quiet e above = record {
-  accepts_nothing = record { piece = refl; change = λ before. refl; repeats = λ keep t text target sign. refl; price = refl; reply = λ before. refl };
+  accepts_nothing = record { piece = refl; change = λ before. refl; repeats = λ keep t q. refl; price = refl; reply = λ before. refl };
   terms = refl;
   goods = λ target. refl;
   in_force = λ later. refl;

@@ -1,5 +1,6 @@
 -- Entries that no definition over histories sees.
 use Rattle.std.specs.Prelude.{◌≡◌, ℕ, false, List, [], ◌∷◌, Option, None}
+use Rattle.mc_records.specs.Requests.{Asked}
 use Rattle.mc_records.specs.Entry.{Entry}
 use Rattle.ledger_model.specs.Histories.{History}
 use Rattle.ledger_model.specs.Houses.{terms_of}
@@ -14,7 +15,7 @@ use Rattle.ledger_model.specs.Replies.{reply_after}
 pub record AcceptsNothing (e : Entry) : Type 0 where
   pub piece : accepted_piece e ≡ None
   pub change : (before : History) → change_piece before e ≡ None
-  pub repeats : (keep t : ℕ) (text target : List ℕ) (sign : Option (List ℕ)) → is_repeat keep t text target sign e ≡ false
+  pub repeats : (keep t : ℕ) (q : Asked) → is_repeat keep t q e ≡ false
   pub price : price_paid e ≡ 0
   pub reply : (before : History) → reply_after before e ≡ []
 
