@@ -17,7 +17,7 @@ use Rattle.kept_replies.specs.Kept.{KeptView, found}
 use Rattle.change_issue.specs.Registers.{Register, count_in, next_in}
 use Rattle.ledger_model.specs.Histories.{History}
 use Rattle.ledger_model.specs.Houses.{site_kind, house, keeping, is_vendor, terms_of, all_terms, terms_by, terms_in, version, own_series}
-use Rattle.ledger_model.specs.Pieces.{accepted_piece, accepted, change_piece, own_out, first_hand, run_from, minted_pieces, minted, own_count, next_identity}
+use Rattle.ledger_model.specs.Pieces.{accepted, own_out, first_hand, run_from, minted_pieces, minted, own_count, next_identity}
 use Rattle.ledger_model.specs.Sums.{price_paid, values}
 use Rattle.ledger_model.specs.Stages.{is_repeat}
 use Rattle.ledger_model.specs.Quiet.{AcceptsNothing}

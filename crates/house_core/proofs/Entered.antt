@@ -4,7 +4,7 @@ use Rattle.std.specs.Prelude.{◌&&◌, ◌||◌, ◌==◌, max, option_map, opt
 use Rattle.std.specs.Option.{option_or}
 use Rattle.std.specs.List.{list_any, cons_option, position_or_len}
 use Rattle.std.specs.Result.{result_ok}
-use Rattle.std.proofs.lemmas.Bool.{ltb-false, lt-ltb, le-ltb, eq-eqb, cases_lt}
+use Rattle.std.proofs.lemmas.Bool.{lt-ltb, le-ltb, eq-eqb, cases_lt}
 use Rattle.std.proofs.lemmas.List.Elements.{filter-append, filter_map-append, All-push, All-weaker}
 use Rattle.std.proofs.lemmas.List.Folds.{find-append, list_any-append, position_or_len_push}
 use Rattle.std.proofs.lemmas.List.Sums.{sum_by-append}
@@ -14,22 +14,19 @@ use Rattle.scrip_form.specs.Issuing.{Issuing, series_end}
 use Rattle.scrip_form.specs.Scrip.{Scrip, Certified}
 use Rattle.scrip_form.specs.Reading.{scrip_of}
 use Rattle.mc_records.specs.declared.limits.Limits.{Limits}
-use Rattle.mc_records.specs.declared.refusal.Refusal.TheVariants.{TooLittle, NoSuchGoods}
 use Rattle.mc_records.specs.Entry.{House, Entry, Site, Accept, Mint, moment_of}
 use Rattle.mc_records.specs.Requests.{Asked}
 use Rattle.kept_replies.specs.Requests.{is_same_text, is_same_request}
 use Rattle.kept_replies.specs.Kept.{KeptReply, is_in_time, found}
 use Rattle.change_issue.specs.Registers.{count_in, next_in}
 use Rattle.ledger_model.specs.Histories.{History, time}
-use Rattle.ledger_model.specs.Houses.{site_name, site_kind, house, keeping, is_vendor, terms_of, all_terms, terms_by, version}
-use Rattle.ledger_model.specs.Goods.{price_in}
+use Rattle.ledger_model.specs.Houses.{site_name, site_kind, house, keeping, terms_of, all_terms, terms_by, version}
 use Rattle.ledger_model.specs.Pieces.{piece_of, accepted, change_from, change_piece, own_out, minted, own_count}
 use Rattle.ledger_model.specs.Sums.{price_paid, values}
-use Rattle.ledger_model.specs.Lines.{given, refused_if, ◌>>=◌}
-use Rattle.ledger_model.specs.Stages.{Offer, is_same_scrip, is_repeat, is_same_sign, shelf_by}
-use Rattle.ledger_model.specs.Answer.{offer, answer, Take}
+use Rattle.ledger_model.specs.Stages.{is_same_scrip, is_repeat, is_same_sign}
+use Rattle.ledger_model.specs.Answer.{answer, Take}
 use Rattle.ledger_model.specs.Lawful.{IsLawful, MayFollow, IsAllowed, request_of}
-use Rattle.ledger_model.proofs.TableLaws.{line_ok, refused_ok, ok_is, answer_through}
+use Rattle.ledger_model.proofs.TableLaws.{answer_through}
 use Rattle.ledger_model.proofs.AcceptLaws.{accepted_snoc, offer_below}
 use Rattle.ledger_model.proofs.SerialLaws.{own_out_snoc, minted_snoc, count-append}
 use Rattle.mc_records.proofs.SizeLaws.{length-tail, tail_size-more}

@@ -1,5 +1,5 @@
 -- The first reply, from what is kept of its entry.
-use Rattle.std.proofs.Common.{◌≡◌, ℕ, Bool, true, false, cond, List, [], ◌∷◌, All, find, Option, Some, refl, sym, ap, ◌∙◌, option_map, unwrap_or}
+use Rattle.std.proofs.Common.{◌≡◌, ℕ, Bool, true, false, cond, List, [], ◌∷◌, All, find, Some, refl, sym, ap, ◌∙◌, option_map, unwrap_or}
 use Rattle.std.proofs.lemmas.List.Elements.{All-head, All-tail}
 use Rattle.scrip_form.specs.Scrip.{scrip_text}
 use Rattle.kept_replies.specs.Kept.{KeptReply}

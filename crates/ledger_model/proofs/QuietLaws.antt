@@ -1,10 +1,11 @@
--- The kinds of entries that no definition over histories sees.
-use Rattle.std.proofs.Common.{ℕ, ◌<◌, refl, arith}
+-- The kinds of entries that the pieces, the terms and the goods of a house do not see.
+use Rattle.std.proofs.Common.{◌<◌, refl, arith}
 use Rattle.mc_records.specs.Cells.{kind_of}
 use Rattle.mc_records.specs.Entry.{Entry, Site, AddTerms, Goods, Accept, Mint}
 use Rattle.ledger_model.specs.Quiet.{IsQuiet}
 
--- An entry of a kind above 5 is quiet. The other five are live: a kind that a definition begins to see joins them here.
+-- An entry of a kind above 5 is quiet; the other five are not. A kind that one of these definitions begins to
+-- see joins the five.
 pub quiet : (e : Entry) → 5 < kind_of e → IsQuiet e
 quiet (Site m kind name house) above = absurd (omega (arith, above))
 quiet (AddTerms m terms) above = absurd (omega (arith, above))

@@ -1,5 +1,5 @@
--- Entries that no definition over histories sees.
-use Rattle.std.specs.Prelude.{◌≡◌, ℕ, false, List, [], ◌∷◌, Option, None}
+-- Entries that the pieces, the terms and the goods of a house do not see.
+use Rattle.std.specs.Prelude.{◌≡◌, ℕ, false, List, [], ◌∷◌, None}
 use Rattle.mc_records.specs.Requests.{Asked}
 use Rattle.mc_records.specs.Entry.{Entry}
 use Rattle.ledger_model.specs.Histories.{History}
@@ -19,8 +19,8 @@ pub record AcceptsNothing (e : Entry) : Type 0 where
   pub price : price_paid e ≡ 0
   pub reply : (before : History) → reply_after before e ≡ []
 
--- An entry that a house makes nothing of: besides, it brings no terms and no goods, and mints nothing. (The
--- reference of a deposit or of a withdrawal is one that has been used, and so is that of a mint.)
+-- A quiet entry: it accepts nothing, brings no terms and no goods, and mints nothing. Deposits and withdrawals
+-- are quiet, though their references and amounts are seen; and each entry has its moment and its size.
 pub record IsQuiet (e : Entry) : Type 0 where
   pub accepts_nothing : AcceptsNothing e
   pub terms : terms_of e ≡ None
