@@ -13,7 +13,7 @@ use Rattle.scrip_form.specs.Reading.{scrip_of}
 use Rattle.mc_records.specs.declared.limits.Limits.{Limits}
 use Rattle.mc_records.specs.declared.refusal.Refusal.{Refusal}
 use Rattle.mc_records.specs.declared.refusal.Refusal.TheVariants.{NoScrip, BadScrip}
-use Rattle.mc_records.specs.Entry.{Entry, Site, AddTerms, Goods, Accept, Mint, Account, Deposit, Withdraw, Draw, Licence, Stock, Got, Pend, Done, Refused, payload}
+use Rattle.mc_records.specs.Entry.{Entry, Mint, payload}
 use Rattle.mc_records.specs.Requests.{Asked, seen}
 use Rattle.kept_replies.specs.declared.deed.KeptEntry.{KeptEntry}
 use Rattle.kept_replies.specs.Requests.{is_same_request}
@@ -109,7 +109,7 @@ stands_as_before {old = old} {new = new} {h = h} st is = record {
   issuer = is.issuer ∙ st.issuer ∙ sym is.own_terms;
   in_time = omega (arith, st.in_time, is.time);
   spent = λ id live. st.spent id (subst (λ (t : ℕ). has_ended h t id ≡ false) is.time live) ∙ sym (is.spent id);
-  again = λ t text target sign later. st.again t text target sign (omega (arith, later, is.time)) ∙ same_found t (scrip_request text target sign);
+  again = λ t q later. st.again t q (omega (arith, later, is.time)) ∙ same_found t q;
   replies = rw is.replies st.replies;
   issued = λ s. st.issued s ∙ sym (is.issued s);
   most = is.most ∙ st.most ∙ ap (λ (l : Limits). l.series) (sym is.limits);
@@ -166,24 +166,11 @@ stands_taken {old = old} {mid = mid} {new = new} {h = h} st before q c a read re
 -- ---- an entry that accepts nothing
 
 pub goes_as_before : {old new : HouseStateView} → IsAsBefore old new → (e : Entry) → GoesOn old e → GoesOn new e
-goes_as_before is (Site m kind name house) goes = tt
-goes_as_before is (AddTerms m terms) goes = tt
-goes_as_before is (Goods m target price k contents) goes = tt
-goes_as_before is (Accept m scrip target sign price change deed) goes = tt
 goes_as_before {old = old} {new = new} is (Mint m reference count value first) goes =
     let series : series_at new.own.terms m ≡ series_at old.own.terms m = ap (λ (t : Issuing). series_at t m) is.issuer in
     let stand : count_in new.own (series_at new.own.terms m) ≡ count_in old.own (series_at old.own.terms m) = ap (count_in new.own) series ∙ is.issued (series_at old.own.terms m) in
     (goes.0 ∙ sym (ap₂ numbered series stand), omega (arith, goes.1, stand, is.most))
-goes_as_before is (Account m name key) goes = tt
-goes_as_before is (Deposit m name amount reference) goes = tt
-goes_as_before is (Withdraw m name amount reference) goes = tt
-goes_as_before is (Draw m target sign drawn) goes = tt
-goes_as_before is (Licence m vendor terms) goes = tt
-goes_as_before is (Stock m vendor pieces) goes = tt
-goes_as_before is (Got m pieces) goes = tt
-goes_as_before is (Pend m ask peer target scrip secret) goes = tt
-goes_as_before is (Done m n price change got) goes = tt
-goes_as_before is (Refused m n refusal) goes = tt
+goes_as_before is e goes = tt
 
 -- ---- what is learned
 

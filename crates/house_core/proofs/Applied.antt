@@ -11,16 +11,18 @@ use Rattle.scrip_form.specs.Identities.{issuer_of, epoch_of, series_of, numbered
 use Rattle.scrip_form.specs.Issuing.{Issuing, series_at, series_end}
 use Rattle.scrip_form.specs.Scrip.{Scrip}
 use Rattle.mc_records.specs.declared.limits.Limits.{Limits}
-use Rattle.mc_records.specs.Entry.{House, Entry, Site, AddTerms, Goods, Accept, Mint, Account, Deposit, Withdraw, Draw, Licence, Stock, Got, Pend, Done, Refused, Fits, moment_of, payload}
+use Rattle.mc_records.specs.Entry.{House, Entry, Site, AddTerms, Goods, Accept, Mint, Draw, Fits, moment_of, payload}
 use Rattle.kept_replies.specs.declared.deed.KeptEntry.{KeptEntry}
 use Rattle.kept_replies.specs.Kept.{KeptView, found}
 use Rattle.change_issue.specs.Registers.{Register, count_in, next_in}
 use Rattle.ledger_model.specs.Histories.{History}
 use Rattle.ledger_model.specs.Houses.{site_kind, house, keeping, is_vendor, terms_of, all_terms, terms_by, terms_in, version, own_series}
-use Rattle.ledger_model.specs.Pieces.{accepted_piece, accepted, change_piece, own_out, first_hand, run_from, minted_pieces, minted, own_count, next_identity}
+use Rattle.ledger_model.specs.Pieces.{accepted, own_out, first_hand, run_from, minted_pieces, minted, own_count, next_identity}
 use Rattle.ledger_model.specs.Sums.{price_paid, values}
 use Rattle.ledger_model.specs.Stages.{is_repeat}
+use Rattle.ledger_model.specs.Quiet.{AcceptsNothing}
 use Rattle.ledger_model.specs.Lawful.{MayFollow, IsAllowed}
+use Rattle.ledger_model.proofs.QuietLaws.{quiet}
 use Rattle.ledger_model.proofs.AcceptLaws.{accepted_snoc}
 use Rattle.ledger_model.proofs.SerialLaws.{own_out_snoc, minted_snoc, count-append, count-cons}
 use Rattle.mc_records.proofs.SizeLaws.{length-tail, tail_size-more}
@@ -30,7 +32,7 @@ use Rattle.house_core.specs.Learning.{ByHouse, ByTrade, GoodsFit}
 use Rattle.house_core.specs.CommandEntries.{IsCommand}
 use Rattle.house_core.specs.Spent.{SpentView, is_marked}
 use Rattle.house_core.specs.HouseState.{HouseStateView, IsApplied, GoesOn, at_series, minted_count}
-use Rattle.house_core.specs.Representation.{StateRepresents, IsReply, has_ended, scrip_request, of_series}
+use Rattle.house_core.specs.Representation.{StateRepresents, IsReply, has_ended, of_series}
 use Rattle.house_core.proofs.Tabled.{series_stands}
 use Rattle.house_core.proofs.Replied.{reply_kept}
 use Rattle.std.proofs.Common.{All}
@@ -45,30 +47,15 @@ goes_on_own own series first n is fits some most =
     let same : series_of first ≡ series = omega (arith, is, fits, some, most) in
     (is ∙ ap (next_in own) (sym same), subst (λ (s : ℕ). count_in own s + n ≤ own.most) (sym same) fits)
 
--- ---- what an entry that accepts nothing leaves out
+-- ---- entries by a command
 
-pub record IsQuiet (e : Entry) : Type 0 where
-  pub piece : accepted_piece e ≡ None
-  pub change : (h : History) → change_piece h e ≡ None
-  pub repeats : (keep t : ℕ) (text target : List ℕ) (sign : Option (List ℕ)) → is_repeat keep t text target sign e ≡ false
-  pub price : price_paid e ≡ 0
-
-quiet : (e : Entry) → IsCommand e → IsQuiet e
-quiet (Site m kind name house) is = absurd is
-quiet (AddTerms m terms) is = record { piece = refl; change = λ h. refl; repeats = λ keep t text target sign. refl; price = refl }
-quiet (Goods m target price k contents) is = record { piece = refl; change = λ h. refl; repeats = λ keep t text target sign. refl; price = refl }
-quiet (Accept m scrip target sign price change deed) is = absurd is
-quiet (Mint m reference count value first) is = record { piece = refl; change = λ h. refl; repeats = λ keep t text target sign. refl; price = refl }
-quiet (Account m name key) is = record { piece = refl; change = λ h. refl; repeats = λ keep t text target sign. refl; price = refl }
-quiet (Deposit m name amount reference) is = record { piece = refl; change = λ h. refl; repeats = λ keep t text target sign. refl; price = refl }
-quiet (Withdraw m name amount reference) is = record { piece = refl; change = λ h. refl; repeats = λ keep t text target sign. refl; price = refl }
-quiet (Draw m target sign drawn) is = absurd is
-quiet (Licence m vendor terms) is = record { piece = refl; change = λ h. refl; repeats = λ keep t text target sign. refl; price = refl }
-quiet (Stock m vendor pieces) is = record { piece = refl; change = λ h. refl; repeats = λ keep t text target sign. refl; price = refl }
-quiet (Got m pieces) is = record { piece = refl; change = λ h. refl; repeats = λ keep t text target sign. refl; price = refl }
-quiet (Pend m ask peer target scrip secret) is = record { piece = refl; change = λ h. refl; repeats = λ keep t text target sign. refl; price = refl }
-quiet (Done m n price change got) is = record { piece = refl; change = λ h. refl; repeats = λ keep t text target sign. refl; price = refl }
-quiet (Refused m n refusal) is = record { piece = refl; change = λ h. refl; repeats = λ keep t text target sign. refl; price = refl }
+accepts_nothing : (e : Entry) → IsCommand e → AcceptsNothing e
+accepts_nothing (Site m kind name house) is = absurd is
+accepts_nothing (AddTerms m terms) is = record { piece = refl; change = λ before. refl; repeats = λ keep t q. refl; price = refl; reply = λ before. refl }
+accepts_nothing (Goods m target price k contents) is = record { piece = refl; change = λ before. refl; repeats = λ keep t q. refl; price = refl; reply = λ before. refl }
+accepts_nothing (Accept m scrip target sign price change deed) is = absurd is
+accepts_nothing (Mint m reference count value first) is = record { piece = refl; change = λ before. refl; repeats = λ keep t q. refl; price = refl; reply = λ before. refl }
+accepts_nothing e is = (quiet e (omega arith)).accepts_nothing
 
 -- ---- minted pieces
 
@@ -96,25 +83,14 @@ minted_by h value series c (suc n) first s is fits =
 
 minted_counted : (h : History) (b : HouseStateView) (e : Entry) (s : ℕ) → IsCommand e → GoesOn b e → b.own.most ≤ 2 ^ 32 → count_by (λ p. series_of p.id == s) (minted_pieces h e) ≡ minted_count e s
 minted_counted h b (Site m kind name house) s is on most = absurd is
-minted_counted h b (AddTerms m terms) s is on most = refl
-minted_counted h b (Goods m target price k contents) s is on most = refl
 minted_counted h b (Accept m scrip target sign price change deed) s is on most = absurd is
 minted_counted h b (Mint m reference count value first) s is on most = minted_by h value (series_at b.own.terms m) (count_in b.own (series_at b.own.terms m)) count first s on.0 (omega (arith, on.1, most))
-minted_counted h b (Account m name key) s is on most = refl
-minted_counted h b (Deposit m name amount reference) s is on most = refl
-minted_counted h b (Withdraw m name amount reference) s is on most = refl
-minted_counted h b (Draw m target sign drawn) s is on most = absurd is
-minted_counted h b (Licence m vendor terms) s is on most = refl
-minted_counted h b (Stock m vendor pieces) s is on most = refl
-minted_counted h b (Got m pieces) s is on most = refl
-minted_counted h b (Pend m ask peer target scrip secret) s is on most = refl
-minted_counted h b (Done m n price change got) s is on most = refl
-minted_counted h b (Refused m n refusal) s is on most = refl
+minted_counted h b e s is on most = refl
 
 own_count_more : (h : History) (b : HouseStateView) (e : Entry) (s : ℕ) → IsCommand e → GoesOn b e → b.own.most ≤ 2 ^ 32 → own_count (h ++ e ∷ []) s ≡ own_count h s + minted_count e s
 own_count_more h b e s is on most =
     let test : Scrip → Bool = λ p. series_of p.id == s in
-    let out : own_out (h ++ e ∷ []) ≡ own_out h = own_out_snoc [] h e ∙ ap (λ (o : Option Scrip). own_out h ++ option_to_list o) ((quiet e is).change h) ∙ append-nil (own_out h) in
+    let out : own_out (h ++ e ∷ []) ≡ own_out h = own_out_snoc [] h e ∙ ap (λ (o : Option Scrip). own_out h ++ option_to_list o) ((accepts_nothing e is).change h) ∙ append-nil (own_out h) in
     let made = minted_snoc [] h e in
     let longer : own_count (h ++ e ∷ []) s ≡ count_by test (own_out h ++ (minted h ++ minted_pieces h e)) = ap₂ (λ (ps qs : List Scrip). count_by test (ps ++ qs)) out made in
     omega (
@@ -130,24 +106,14 @@ own_count_more h b e s is on most =
 
 pub house_half : {b : HouseStateView} {h : History} → StateRepresents b h → (kind : ℕ) (e : Entry) → IsCommand e → GoesOn b e ↔ ByHouse b.limits kind h e
 house_half st kind (Site m k name house) is = absurd is
-house_half st kind (AddTerms m terms) is = (λ g. g, λ g. g)
-house_half st kind (Goods m target price k contents) is = (λ g. g, λ g. g)
 house_half st kind (Accept m scrip target sign price change deed) is = absurd is
 house_half {b = b} {h = h} st kind (Mint m reference count value first) is =
     let series : own_series h m ≡ series_at b.own.terms m = series_stands st m in
     let stand : own_count h (own_series h m) ≡ count_in b.own (series_at b.own.terms m) = ap (own_count h) series ∙ st.issued (series_at b.own.terms m) in
     let next : next_identity h (own_series h m) ≡ next_in b.own (series_at b.own.terms m) = ap₂ numbered series stand in
     (λ g. (g.0 ∙ sym next, omega (arith, g.1, stand, st.most)), λ f. (f.0 ∙ next, omega (arith, f.1, stand, st.most)))
-house_half st kind (Account m name key) is = (λ g. g, λ g. g)
-house_half st kind (Deposit m name amount reference) is = (λ g. g, λ g. g)
-house_half st kind (Withdraw m name amount reference) is = (λ g. g, λ g. g)
 house_half st kind (Draw m target sign drawn) is = absurd is
-house_half st kind (Licence m vendor terms) is = (λ g. g, λ g. g)
-house_half st kind (Stock m vendor pieces) is = (λ g. g, λ g. g)
-house_half st kind (Got m pieces) is = (λ g. g, λ g. g)
-house_half st kind (Pend m ask peer target scrip secret) is = (λ g. g, λ g. g)
-house_half st kind (Done m n price change got) is = (λ g. g, λ g. g)
-house_half st kind (Refused m n refusal) is = (λ g. g, λ g. g)
+house_half st kind e is = (λ g. g, λ g. g)
 
 vendor_by : (h : History) (kind : ℕ) → site_kind h ≡ Some kind → is_vendor h ≡ eqb kind 0
 vendor_by h kind same = ap (λ (k : Option ℕ). unwrap_or (option_map (λ n. n == 0) k) false) same
@@ -164,16 +130,8 @@ follows passes limits kind h (AddTerms m terms) same is a b = (is_vendors h kind
 follows passes limits kind h (Goods m target price k contents) same is a b = (is_vendors h kind same b.0, b.1)
 follows passes limits kind h (Accept m scrip target sign price change deed) same is a b = absurd is
 follows passes limits kind h (Mint m reference count value first) same is a b = (is_vendors h kind same b.0, b.1, a.0, a.1)
-follows passes limits kind h (Account m name key) same is a b = b
-follows passes limits kind h (Deposit m name amount reference) same is a b = b
-follows passes limits kind h (Withdraw m name amount reference) same is a b = b
 follows passes limits kind h (Draw m target sign drawn) same is a b = absurd is
-follows passes limits kind h (Licence m vendor terms) same is a b = b
-follows passes limits kind h (Stock m vendor pieces) same is a b = b
-follows passes limits kind h (Got m pieces) same is a b = b
-follows passes limits kind h (Pend m ask peer target scrip secret) same is a b = b
-follows passes limits kind h (Done m n price change got) same is a b = b
-follows passes limits kind h (Refused m n refusal) same is a b = b
+follows passes limits kind h e same is a b = absurd b
 
 pub halves : (passes : History → Entry → Type 0) (limits : Limits) (kind : ℕ) (h : History) (e : Entry) → site_kind h ≡ Some kind → IsCommand e → IsAllowed limits h e → ByHouse limits kind h e × ByTrade passes kind h e
 halves passes limits kind h (Site m k name house) same is a = absurd is
@@ -181,16 +139,7 @@ halves passes limits kind h (AddTerms m terms) same is a = (tt, (of_vendors h ki
 halves passes limits kind h (Goods m target price k contents) same is a = (tt, (of_vendors h kind same a.0, a.1))
 halves passes limits kind h (Accept m scrip target sign price change deed) same is a = absurd is
 halves passes limits kind h (Mint m reference count value first) same is a = ((a.2, a.3), (of_vendors h kind same a.0, a.1))
-halves passes limits kind h (Account m name key) same is a = absurd a
-halves passes limits kind h (Deposit m name amount reference) same is a = absurd a
-halves passes limits kind h (Withdraw m name amount reference) same is a = absurd a
-halves passes limits kind h (Draw m target sign drawn) same is a = absurd is
-halves passes limits kind h (Licence m vendor terms) same is a = absurd a
-halves passes limits kind h (Stock m vendor pieces) same is a = absurd a
-halves passes limits kind h (Got m pieces) same is a = absurd a
-halves passes limits kind h (Pend m ask peer target scrip secret) same is a = absurd a
-halves passes limits kind h (Done m n price change got) same is a = absurd a
-halves passes limits kind h (Refused m n refusal) same is a = absurd a
+halves passes limits kind h e same is a = absurd a
 
 -- ---- the goods
 
@@ -214,7 +163,7 @@ pub stands_applied : {old new : HouseStateView} {h : History} → StateRepresent
     → IsApplied old new e bytes → StateRepresents new (h ++ e ∷ [])
 stands_applied {old = old} {new = new} {h = h} st e bytes command at goes may len is =
     let same = same_house old.limits h e st.lawful in
-    let still = quiet e command in
+    let still = accepts_nothing e command in
     let most : old.own.most ≤ 2 ^ 32 = omega (arith, st.most, st.limits.series_most) in
     let accepts : accepted (h ++ e ∷ []) ≡ accepted h = accepted_snoc h e ∙ ap (λ (o : Option Scrip). accepted h ++ cons_option o []) still.piece ∙ append-nil (accepted h) in
     let out : own_out (h ++ e ∷ []) ≡ own_out h = own_out_snoc [] h e ∙ ap (λ (o : Option Scrip). own_out h ++ option_to_list o) (still.change h) ∙ append-nil (own_out h) in
@@ -235,13 +184,13 @@ stands_applied {old = old} {new = new} {h = h} st e bytes command at goes may le
           live_by (terms_in h (issuer_of id)) (terms_by (all_terms (e ∷ [])) (issuer_of id)) id old.time
           (ap₂ (λ (o : Option Issuing) (t : ℕ). unwrap_or (option_map (λ x. leb (series_end x (epoch_of id)) t) o) false) (sym found) (sym is.time) ∙ live) in
           ap (list_any (λ p. p.id == id)) accepts ∙ st.spent id before ∙ ap (λ (s : SpentView). is_marked s id) (sym is.spent);
-      again = λ t text target sign later.
-          ap (λ (o : Option House). position (is_repeat (unwrap_or (option_map (λ x. x.keep) o) 0) t text target sign) (h ++ e ∷ [])) same.house
-          ∙ position_snoc (is_repeat (keeping h) t text target sign) h e
-          ∙ ap (λ (b : Bool). option_or (position (is_repeat (keeping h) t text target sign) h) (cond b (Some (length h)) None)) (still.repeats (keeping h) t text target sign)
-          ∙ or_none (position (is_repeat (keeping h) t text target sign) h)
-          ∙ st.again t text target sign (omega (arith, later, is.time))
-          ∙ ap (λ (k : KeptView). option_map (λ (x : KeptEntry). x.number) (found k t (scrip_request text target sign))) (sym is.kept);
+      again = λ t q later.
+          ap (λ (o : Option House). position (is_repeat (unwrap_or (option_map (λ x. x.keep) o) 0) t q) (h ++ e ∷ [])) same.house
+          ∙ position_snoc (is_repeat (keeping h) t q) h e
+          ∙ ap (λ (b : Bool). option_or (position (is_repeat (keeping h) t q) h) (cond b (Some (length h)) None)) (still.repeats (keeping h) t q)
+          ∙ or_none (position (is_repeat (keeping h) t q) h)
+          ∙ st.again t q (omega (arith, later, is.time))
+          ∙ ap (λ (k : KeptView). option_map (λ (x : KeptEntry). x.number) (found k t q)) (sym is.kept);
       replies = subst (λ (k : KeptView). All (IsReply (h ++ e ∷ [])) k.replies) (sym is.kept) (All-weaker (IsReply h) (IsReply (h ++ e ∷ [])) (λ r. reply_kept h e r) old.kept.replies st.replies);
       issued = λ s. own_count_more h old e s command goes most ∙ ap (λ (n : ℕ). n + minted_count e s) (st.issued s) ∙ sym (is.issued s);
       most = is.most ∙ st.most ∙ ap (λ (l : Limits). l.series) (sym is.limits);

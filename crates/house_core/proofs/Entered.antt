@@ -4,7 +4,7 @@ use Rattle.std.specs.Prelude.{◌&&◌, ◌||◌, ◌==◌, max, option_map, opt
 use Rattle.std.specs.Option.{option_or}
 use Rattle.std.specs.List.{list_any, cons_option, position_or_len}
 use Rattle.std.specs.Result.{result_ok}
-use Rattle.std.proofs.lemmas.Bool.{ltb-false, lt-ltb, le-ltb, eq-eqb, cases_lt}
+use Rattle.std.proofs.lemmas.Bool.{lt-ltb, le-ltb, eq-eqb, cases_lt}
 use Rattle.std.proofs.lemmas.List.Elements.{filter-append, filter_map-append, All-push, All-weaker}
 use Rattle.std.proofs.lemmas.List.Folds.{find-append, list_any-append, position_or_len_push}
 use Rattle.std.proofs.lemmas.List.Sums.{sum_by-append}
@@ -14,22 +14,19 @@ use Rattle.scrip_form.specs.Issuing.{Issuing, series_end}
 use Rattle.scrip_form.specs.Scrip.{Scrip, Certified}
 use Rattle.scrip_form.specs.Reading.{scrip_of}
 use Rattle.mc_records.specs.declared.limits.Limits.{Limits}
-use Rattle.mc_records.specs.declared.refusal.Refusal.TheVariants.{TooLittle, NoSuchGoods}
-use Rattle.mc_records.specs.Entry.{House, Entry, Site, AddTerms, Goods, Accept, Mint, Account, Deposit, Withdraw, Draw, Licence, Stock, Got, Pend, Done, Refused, goods_deed, moment_of}
+use Rattle.mc_records.specs.Entry.{House, Entry, Site, Accept, Mint, moment_of}
 use Rattle.mc_records.specs.Requests.{Asked}
 use Rattle.kept_replies.specs.Requests.{is_same_text, is_same_request}
 use Rattle.kept_replies.specs.Kept.{KeptReply, is_in_time, found}
 use Rattle.change_issue.specs.Registers.{count_in, next_in}
 use Rattle.ledger_model.specs.Histories.{History, time}
-use Rattle.ledger_model.specs.Houses.{site_name, site_kind, house, keeping, is_vendor, terms_of, all_terms, terms_by, version}
-use Rattle.ledger_model.specs.Goods.{price_in}
+use Rattle.ledger_model.specs.Houses.{site_name, site_kind, house, keeping, terms_of, all_terms, terms_by, version}
 use Rattle.ledger_model.specs.Pieces.{piece_of, accepted, change_from, change_piece, own_out, minted, own_count}
 use Rattle.ledger_model.specs.Sums.{price_paid, values}
-use Rattle.ledger_model.specs.Lines.{given, refused_if, ◌>>=◌}
-use Rattle.ledger_model.specs.Stages.{Offer, is_repeat, is_same_sign, shelf_by}
-use Rattle.ledger_model.specs.Answer.{offer, answer, Take}
+use Rattle.ledger_model.specs.Stages.{is_same_scrip, is_repeat, is_same_sign}
+use Rattle.ledger_model.specs.Answer.{answer, Take}
 use Rattle.ledger_model.specs.Lawful.{IsLawful, MayFollow, IsAllowed, request_of}
-use Rattle.ledger_model.proofs.TableLaws.{line_ok, refused_ok, ok_is, answer_through}
+use Rattle.ledger_model.proofs.TableLaws.{answer_through}
 use Rattle.ledger_model.proofs.AcceptLaws.{accepted_snoc, offer_below}
 use Rattle.ledger_model.proofs.SerialLaws.{own_out_snoc, minted_snoc, count-append}
 use Rattle.mc_records.proofs.SizeLaws.{length-tail, tail_size-more}
@@ -55,20 +52,7 @@ pub record SameHouse (h k : History) : Type 0 where
 pub same_house : (limits : Limits) (h : History) (e : Entry) → IsLawful limits h → SameHouse h (h ++ e ∷ [])
 same_house limits [] e lawful = absurd lawful
 same_house limits (Site m k name house ∷ xs) e lawful = record { name = refl; house = refl; kind = refl }
-same_house limits (AddTerms m terms ∷ xs) e lawful = record { name = refl; house = refl; kind = refl }
-same_house limits (Goods m target price k contents ∷ xs) e lawful = record { name = refl; house = refl; kind = refl }
-same_house limits (Accept m scrip target sign price change deed ∷ xs) e lawful = record { name = refl; house = refl; kind = refl }
-same_house limits (Mint m reference count value first ∷ xs) e lawful = record { name = refl; house = refl; kind = refl }
-same_house limits (Account m name key ∷ xs) e lawful = record { name = refl; house = refl; kind = refl }
-same_house limits (Deposit m name amount reference ∷ xs) e lawful = record { name = refl; house = refl; kind = refl }
-same_house limits (Withdraw m name amount reference ∷ xs) e lawful = record { name = refl; house = refl; kind = refl }
-same_house limits (Draw m target sign drawn ∷ xs) e lawful = record { name = refl; house = refl; kind = refl }
-same_house limits (Licence m vendor terms ∷ xs) e lawful = record { name = refl; house = refl; kind = refl }
-same_house limits (Stock m vendor pieces ∷ xs) e lawful = record { name = refl; house = refl; kind = refl }
-same_house limits (Got m pieces ∷ xs) e lawful = record { name = refl; house = refl; kind = refl }
-same_house limits (Pend m ask peer target scrip secret ∷ xs) e lawful = record { name = refl; house = refl; kind = refl }
-same_house limits (Done m n price change got ∷ xs) e lawful = record { name = refl; house = refl; kind = refl }
-same_house limits (Refused m n refusal ∷ xs) e lawful = record { name = refl; house = refl; kind = refl }
+same_house limits (x ∷ xs) e lawful = record { name = refl; house = refl; kind = refl }
 
 pub kind_stays : (limits : Limits) (h : History) (e : Entry) → IsLawful limits h → site_kind (h ++ e ∷ []) ≡ site_kind h
 kind_stays limits h e lawful = (same_house limits h e lawful).kind
@@ -121,6 +105,10 @@ sign_as_text None None = refl
 sign_as_text None (Some t) = refl
 sign_as_text (Some s) None = refl
 sign_as_text (Some s) (Some t) = refl
+
+scrip_as_text : (text : List ℕ) (scrip : Option (List ℕ)) → is_same_scrip scrip text ≡ is_same_text (Some text) scrip
+scrip_as_text text None = refl
+scrip_as_text text (Some s) = refl
 
 swap_and : (a b c d : Bool) → (a && b && c && d) ≡ (b && a && c && d)
 swap_and true true c d = refl
@@ -246,28 +234,28 @@ accepted_more h b text target paid a piece =
     accepted_snoc h e ∙ ap (λ (o : Option Scrip). accepted h ++ cons_option o []) piece
 
 -- a repeat of the new entry is a repeat of its reply
-repeats_alike : (b : HouseStateView) (paid : Scrip) (a : Authorization) (t : ℕ) (text target : List ℕ) (own own_target : List ℕ) (own_sign sign : Option (List ℕ)) → option_map encode_lower a.sign ≡ own_sign
-    → is_repeat b.kept.keep t text target sign (accept_entry b.time own own_target a)
-    ≡ (is_same_request (scrip_request own own_target own_sign) (scrip_request text target sign) && is_in_time b.kept.keep t (record { asked = scrip_request own own_target own_sign; entry = kept_entry b paid a }))
-repeats_alike b paid a t text target own own_target own_sign sign same =
-    swap_and (bytes_eq own text) (bytes_eq own_target target) (is_same_sign a.sign sign) (ltb t (b.time + b.kept.keep))
-    ∙ ap (λ (x : Bool). bytes_eq own_target target && bytes_eq own text && x && ltb t (b.time + b.kept.keep)) (sym (sign_as_text a.sign sign) ∙ ap (λ (o : Option (List ℕ)). is_same_text o sign) same)
+repeats_alike : (b : HouseStateView) (paid : Scrip) (a : Authorization) (t : ℕ) (p : Asked) (own own_target : List ℕ) (own_sign : Option (List ℕ)) → option_map encode_lower a.sign ≡ own_sign
+    → is_repeat b.kept.keep t p (accept_entry b.time own own_target a)
+    ≡ (is_same_request (scrip_request own own_target own_sign) p && is_in_time b.kept.keep t (record { asked = scrip_request own own_target own_sign; entry = kept_entry b paid a }))
+repeats_alike b paid a t p own own_target own_sign same =
+    swap_and (is_same_scrip p.scrip own) (bytes_eq own_target p.target) (is_same_sign a.sign p.sign) (ltb t (b.time + b.kept.keep))
+    ∙ ap₂ (λ (x y : Bool). bytes_eq own_target p.target && x && y && ltb t (b.time + b.kept.keep)) (scrip_as_text own p.scrip)
+    (sym (sign_as_text a.sign p.sign) ∙ ap (λ (o : Option (List ℕ)). is_same_text o p.sign) same)
 
 again_more : {old new : HouseStateView} {h : History} → StateRepresents old h → (q : Asked) (c : Certified) (a : Authorization) → option_map encode_lower a.sign ≡ q.sign
     → IsEntered old new (scrip_request c.text q.target q.sign) c.piece a
-    → (t : ℕ) (text target : List ℕ) (sign : Option (List ℕ)) → old.time ≤ t
-    → position (is_repeat (keeping h) t text target sign) (h ++ accept_entry old.time c.text q.target a ∷ []) ≡ option_map (λ e. e.number) (found new.kept t (scrip_request text target sign))
-again_more {old = old} {new = new} {h = h} st q c a same is t text target sign later =
+    → (t : ℕ) (p : Asked) → old.time ≤ t
+    → position (is_repeat (keeping h) t p) (h ++ accept_entry old.time c.text q.target a ∷ []) ≡ option_map (λ e. e.number) (found new.kept t p)
+again_more {old = old} {new = new} {h = h} st q c a same is t p later =
     let e = accept_entry old.time c.text q.target a in
     let r : KeptReply = record { asked = scrip_request c.text q.target q.sign; entry = kept_entry old c.piece a } in
-    let asks : KeptReply → Bool = λ x. is_same_request x.asked (scrip_request text target sign) && is_in_time old.kept.keep t x in
+    let asks : KeptReply → Bool = λ x. is_same_request x.asked p && is_in_time old.kept.keep t x in
     let number : Option KeptReply → Option ℕ = λ o. option_map (λ x. x.number) (option_map (λ x. x.entry) o) in
-    let one : is_repeat (keeping h) t text target sign e ≡ asks r =
-    ap (λ (k : ℕ). is_repeat k t text target sign e) st.keep ∙ repeats_alike old c.piece a t text target c.text q.target q.sign sign same in
-    let kept : number (find asks (old.kept.replies ++ r ∷ [])) ≡ option_map (λ x. x.number) (found new.kept t (scrip_request text target sign)) =
-    ap₂ (λ (k : ℕ) (rs : List KeptReply). number (find (λ x. is_same_request x.asked (scrip_request text target sign) && is_in_time k t x) rs)) (sym is.keep) (sym is.replies) in
-    position_snoc (is_repeat (keeping h) t text target sign) h e
-    ∙ ap₂ (λ (o : Option ℕ) (b : Bool). option_or o (cond b (Some (length h)) None)) (st.again t text target sign later) one
+    let one : is_repeat (keeping h) t p e ≡ asks r = ap (λ (k : ℕ). is_repeat k t p e) st.keep ∙ repeats_alike old c.piece a t p c.text q.target q.sign same in
+    let kept : number (find asks (old.kept.replies ++ r ∷ [])) ≡ option_map (λ x. x.number) (found new.kept t p) =
+    ap₂ (λ (k : ℕ) (rs : List KeptReply). number (find (λ x. is_same_request x.asked p && is_in_time k t x) rs)) (sym is.keep) (sym is.replies) in
+    position_snoc (is_repeat (keeping h) t p) h e
+    ∙ ap₂ (λ (o : Option ℕ) (b : Bool). option_or o (cond b (Some (length h)) None)) (st.again t p later) one
     ∙ ap (λ (n : ℕ). option_or (number (find asks old.kept.replies)) (cond (asks r) (Some n) None)) st.counted
     ∙ number_or (find asks old.kept.replies) (asks r) r
     ∙ ap number (sym (find-append asks old.kept.replies (r ∷ [])))
@@ -281,21 +269,9 @@ same_series limits own h e same may = record { in_order = may.in_order; allowed 
     bounds series = record { journal = 2 ^ 40; series = series }
 
     allowed : (x : Entry) → IsAllowed limits h x → IsAllowed own h x
-    allowed (Site m kind name house) a = a
-    allowed (AddTerms m terms) a = a
-    allowed (Goods m target price kind contents) a = a
     allowed (Accept m scrip target sign price change deed) a = ap (λ (n : ℕ). answer h m (bounds n) (request_of scrip target sign)) (sym same) ∙ a
     allowed (Mint m reference count value first) a = (a.0, a.1, a.2, omega (arith, a.3, same))
-    allowed (Account m name key) a = a
-    allowed (Deposit m name amount reference) a = a
-    allowed (Withdraw m name amount reference) a = a
-    allowed (Draw m target sign drawn) a = a
-    allowed (Licence m vendor terms) a = a
-    allowed (Stock m vendor pieces) a = a
-    allowed (Got m pieces) a = a
-    allowed (Pend m ask peer target scrip secret) a = a
-    allowed (Done m n price change got) a = a
-    allowed (Refused m n refusal) a = a
+    allowed e a = a
 
 -- the entry that the answer takes may follow
 pub takes_follow : {b : HouseStateView} {h : History} → StateRepresents b h → (limits : Limits) (q : Asked) (text : List ℕ) (a : Authorization) → limits.series ≡ b.limits.series → limits.journal ≤ 2 ^ 40
@@ -327,9 +303,9 @@ stands_entered {old = old} {new = new} {h = h} st q c a read ready brings limits
           ap₂ (λ (ts : List Issuing) (t : ℕ). unwrap_or (option_map (λ x. leb (series_end x (epoch_of id)) t) (terms_by ts (issuer_of id))) false) terms is.time in
           ap (list_any (λ p. p.id == id)) accepts ∙ list_any-append (λ p. p.id == id) (accepted h) (c.piece ∷ [])
           ∙ ap₂ (λ (x y : Bool). x || y) (st.spent id (sym ends ∙ live)) (or_end (eqb c.piece.id id)) ∙ sym (is.spent id);
-      again = λ t text target sign later.
-          ap (λ (o : Option House). position (is_repeat (unwrap_or (option_map (λ x. x.keep) o) 0) t text target sign) (h ++ e ∷ [])) same.house
-          ∙ again_more st q c a taken.sign is t text target sign (omega (arith, later, is.time));
+      again = λ t p later.
+          ap (λ (o : Option House). position (is_repeat (unwrap_or (option_map (λ x. x.keep) o) 0) t p) (h ++ e ∷ [])) same.house
+          ∙ again_more st q c a taken.sign is t p (omega (arith, later, is.time));
       replies = subst (All (IsReply (h ++ e ∷ []))) (sym is.replies)
           (All-push (IsReply (h ++ e ∷ [])) old.kept.replies (record { asked = scrip_request c.text q.target q.sign; entry = kept_entry old c.piece a })
           (All-weaker (IsReply h) (IsReply (h ++ e ∷ [])) (λ r. reply_kept h e r) old.kept.replies st.replies) (reply_new st q c a taken.piece ready is.short most brings));

@@ -1,5 +1,5 @@
 -- The first reply, from what is kept of its entry.
-use Rattle.std.proofs.Common.{◌≡◌, ℕ, Bool, true, false, cond, List, [], ◌∷◌, All, find, Option, Some, refl, sym, ap, ap₂, ◌∙◌, option_map, unwrap_or}
+use Rattle.std.proofs.Common.{◌≡◌, ℕ, Bool, true, false, cond, List, [], ◌∷◌, All, find, Some, refl, sym, ap, ◌∙◌, option_map, unwrap_or}
 use Rattle.std.proofs.lemmas.List.Elements.{All-head, All-tail}
 use Rattle.scrip_form.specs.Scrip.{scrip_text}
 use Rattle.kept_replies.specs.Kept.{KeptReply}
@@ -24,6 +24,5 @@ pub first_reply_is : (h : History) (number : ℕ) (r : KeptReply) (body : Conten
     → taken_reply (Some r.entry.secret) (unwrap_or r.asked.scrip []) r.asked.target body (taken_values r.entry.moment body r.entry.price (option_map (λ c. scrip_text c.0 c.1) r.entry.change)) ≡ reply_of h number
 first_reply_is h number r body is of_number brings =
     let same : body ≡ brought_then h r = cc (is.brings, brings) in
-    let text : unwrap_or r.asked.scrip [] ≡ is.text = ap (λ (o : Option (List ℕ)). unwrap_or o []) is.scrip in
-    ap₂ (λ (t : List ℕ) (b : Contents). taken_reply (Some r.entry.secret) t r.asked.target b (taken_values r.entry.moment b r.entry.price (option_map (λ c. scrip_text c.0 c.1) r.entry.change))) text same
+    ap (λ (b : Contents). taken_reply (Some r.entry.secret) (unwrap_or r.asked.scrip []) r.asked.target b (taken_values r.entry.moment b r.entry.price (option_map (λ c. scrip_text c.0 c.1) r.entry.change))) same
     ∙ sym is.reply ∙ ap (reply_of h) of_number

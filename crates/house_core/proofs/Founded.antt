@@ -4,7 +4,7 @@ use Rattle.std.proofs.lemmas.Bool.{eq-eqb}
 use Rattle.scrip_form.specs.Issuing.{Issuing}
 use Rattle.mc_records.specs.declared.limits.Limits.{Limits}
 use Rattle.mc_records.specs.Limits.{AreInRange}
-use Rattle.mc_records.specs.Entry.{House, HouseFits, SiteFits, Entry, Site, AddTerms, Goods, Accept, Mint, Account, Deposit, Withdraw, Draw, Licence, Stock, Got, Pend, Done, Refused}
+use Rattle.mc_records.specs.Entry.{House, HouseFits, SiteFits, Entry, Site, Goods}
 use Rattle.mc_records.proofs.SizeLaws.{length-tail, tail_size-more}
 use Rattle.ledger_model.proofs.VersionLaws.{version-more}
 use Rattle.ledger_model.specs.Houses.{site_kind, terms_by}
@@ -37,7 +37,7 @@ of_site b limits m kind name h is fits range may =
       issuer = is.issuer ∙ sym is.own_terms;
       in_time = omega (arith, is.time);
       spent = λ id live. sym (is.spent id);
-      again = λ t text target sign later. rw is.replies refl;
+      again = λ t q later. rw is.replies refl;
       replies = rw is.replies (All-nil (IsReply (Site m kind name (Some h) ∷ [])));
       issued = λ s. sym (is.issued s);
       most = is.most ∙ ap (λ (l : Limits). l.series) (sym is.limits);
@@ -58,20 +58,7 @@ of_site b limits m kind name h is fits range may =
 pub stands_founded : (b : HouseStateView) (limits : Limits) (e : Entry) → IsStateOf b limits e → FoundsHouse e → AreInRange limits → MayFollow limits [] e → StateRepresents b (e ∷ [])
 stands_founded b limits (Site m kind name (Some h)) is fits range may = of_site b limits m kind name h is fits range may
 stands_founded b limits (Site m kind name None) is fits range may = absurd fits
-stands_founded b limits (AddTerms m terms) is fits range may = absurd fits
-stands_founded b limits (Goods m target price k contents) is fits range may = absurd fits
-stands_founded b limits (Accept m scrip target sign price change deed) is fits range may = absurd fits
-stands_founded b limits (Mint m reference count value first) is fits range may = absurd fits
-stands_founded b limits (Account m name key) is fits range may = absurd fits
-stands_founded b limits (Deposit m name amount reference) is fits range may = absurd fits
-stands_founded b limits (Withdraw m name amount reference) is fits range may = absurd fits
-stands_founded b limits (Draw m target sign drawn) is fits range may = absurd fits
-stands_founded b limits (Licence m vendor terms) is fits range may = absurd fits
-stands_founded b limits (Stock m vendor pieces) is fits range may = absurd fits
-stands_founded b limits (Got m pieces) is fits range may = absurd fits
-stands_founded b limits (Pend m ask peer target scrip secret) is fits range may = absurd fits
-stands_founded b limits (Done m n price change got) is fits range may = absurd fits
-stands_founded b limits (Refused m n refusal) is fits range may = absurd fits
+stands_founded b limits e is fits range may = absurd fits
 
 -- ---- the trade learns the entry
 

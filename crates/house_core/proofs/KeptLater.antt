@@ -16,7 +16,7 @@ use Rattle.ledger_model.specs.Houses.{terms_in}
 use Rattle.house_core.specs.HouseState.{HouseStateView}
 use Rattle.house_core.specs.declared.bench.Bench.{Bench}
 use Rattle.house_core.specs.Trade.{Replaces, LiesBehind, IsKeptFrom, OfGoods}
-use Rattle.house_core.specs.Representation.{StateRepresents, IsReply, has_ended, scrip_request}
+use Rattle.house_core.specs.Representation.{StateRepresents, IsReply, has_ended}
 use Rattle.house_core.specs.Bench.{IsInForceFor, HasContents}
 
 -- ---- replies
@@ -89,7 +89,7 @@ stands_later {b = b} {h = h} st t kept le keep replies = record {
   issuer = st.issuer;
   in_time = omega (arith, st.in_time, le);
   spent = λ id live. st.spent id (live_before h b.time t id le live);
-  again = λ u text target sign later. st.again u text target sign (omega (arith, later, le)) ∙ ap (option_map (λ (e : KeptEntry). e.number)) (sym (found_later b.kept kept t u (scrip_request text target sign) keep replies later));
+  again = λ u q later. st.again u q (omega (arith, later, le)) ∙ ap (option_map (λ (e : KeptEntry). e.number)) (sym (found_later b.kept kept t u q keep replies later));
   replies = subst (All (IsReply h)) (sym replies) (All-filter (is_in_time b.kept.keep t) (IsReply h) b.kept.replies st.replies);
   issued = st.issued;
   most = st.most;

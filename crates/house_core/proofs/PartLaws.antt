@@ -2,7 +2,7 @@
 use Rattle.std.proofs.Common.{⊎_elim, ℕ, ◌↔◌, IsTrue, refl, ap, Option, option_map, unwrap_or}
 use Rattle.std.specs.Prelude.{false, ◌==◌}
 use Rattle.mc_records.specs.declared.limits.Limits.{Limits}
-use Rattle.mc_records.specs.Entry.{Entry, Site, AddTerms, Goods, Accept, Mint, Account, Deposit, Withdraw, Draw, Licence, Stock, Got, Pend, Done, Refused}
+use Rattle.mc_records.specs.Entry.{Entry, Site, AddTerms, Goods, Accept, Mint, Draw}
 use Rattle.ledger_model.specs.Histories.{History}
 use Rattle.ledger_model.specs.Houses.{is_vendor}
 use Rattle.ledger_model.specs.Lawful.{MayFollow, IsAllowed}
@@ -20,16 +20,7 @@ told_by_house limits h (AddTerms m terms) a = tt
 told_by_house limits h (Goods m target price k contents) a = tt
 told_by_house limits h (Accept m scrip target sign price change deed) a = a
 told_by_house limits h (Mint m reference count value first) a = (a.2, a.3)
-told_by_house limits h (Account m name key) a = tt
-told_by_house limits h (Deposit m name amount reference) a = tt
-told_by_house limits h (Withdraw m name amount reference) a = tt
-told_by_house limits h (Draw m target sign drawn) a = a
-told_by_house limits h (Licence m vendor terms) a = tt
-told_by_house limits h (Stock m vendor pieces) a = tt
-told_by_house limits h (Got m pieces) a = tt
-told_by_house limits h (Pend m ask peer target scrip secret) a = tt
-told_by_house limits h (Done m n price change got) a = tt
-told_by_house limits h (Refused m n refusal) a = tt
+told_by_house limits h e a = absurd a
 
 told_by_trade : (passes : Test) (limits : Limits) (h : History) (e : Entry) → IsAllowed limits h e → ByTrade passes 0 h e
 told_by_trade passes limits h (Site m k name house) a = tt
@@ -37,16 +28,7 @@ told_by_trade passes limits h (AddTerms m terms) a = (refl, a.1)
 told_by_trade passes limits h (Goods m target price k contents) a = (refl, a.1)
 told_by_trade passes limits h (Accept m scrip target sign price change deed) a = tt
 told_by_trade passes limits h (Mint m reference count value first) a = (refl, a.1)
-told_by_trade passes limits h (Account m name key) a = a
-told_by_trade passes limits h (Deposit m name amount reference) a = a
-told_by_trade passes limits h (Withdraw m name amount reference) a = a
-told_by_trade passes limits h (Draw m target sign drawn) a = tt
-told_by_trade passes limits h (Licence m vendor terms) a = a
-told_by_trade passes limits h (Stock m vendor pieces) a = a
-told_by_trade passes limits h (Got m pieces) a = a
-told_by_trade passes limits h (Pend m ask peer target scrip secret) a = a
-told_by_trade passes limits h (Done m n price change got) a = a
-told_by_trade passes limits h (Refused m n refusal) a = a
+told_by_trade passes limits h e a = absurd a
 
 allowed : (passes : Test) (limits : Limits) (h : History) (e : Entry) → IsOfKind 0 h e → ByHouse limits 0 h e → ByTrade passes 0 h e → IsAllowed limits h e
 allowed passes limits h (Site m k name house) kind a b = a
@@ -54,16 +36,8 @@ allowed passes limits h (AddTerms m terms) kind a b = (is_vendors h (AddTerms m 
 allowed passes limits h (Goods m target price k contents) kind a b = (is_vendors h (Goods m target price k contents) kind (λ x. x), b.1)
 allowed passes limits h (Accept m scrip target sign price change deed) kind a b = a
 allowed passes limits h (Mint m reference count value first) kind a b = (is_vendors h (Mint m reference count value first) kind (λ x. x), b.1, a.0, a.1)
-allowed passes limits h (Account m name key) kind a b = b
-allowed passes limits h (Deposit m name amount reference) kind a b = b
-allowed passes limits h (Withdraw m name amount reference) kind a b = b
-allowed passes limits h (Draw m target sign drawn) kind a b = a
-allowed passes limits h (Licence m vendor terms) kind a b = b
-allowed passes limits h (Stock m vendor pieces) kind a b = b
-allowed passes limits h (Got m pieces) kind a b = b
-allowed passes limits h (Pend m ask peer target scrip secret) kind a b = b
-allowed passes limits h (Done m n price change got) kind a b = b
-allowed passes limits h (Refused m n refusal) kind a b = b
+allowed passes limits h (Draw m target sign drawn) kind a b = absurd a
+allowed passes limits h e kind a b = absurd b
 
 pub in_parts : (passes : Test) (limits : Limits) (h : History) (e : Entry) → IsOfKind 0 h e → MayFollow limits h e ↔ InParts passes limits 0 h e
 in_parts passes limits h e kind = (

@@ -7,11 +7,11 @@ use Rattle.mc_records.specs.Requests.{Asked}
 use Rattle.mc_records.specs.declared.refusal.Refusal.TheVariants.{DiskFault}
 use Rattle.mc_records.specs.Replies.{Reply, reply_head}
 use Rattle.ledger_model.specs.Histories.{History}
-use Rattle.ledger_model.specs.Replies.{secret_when, price_told, signed, refused_values, refusal_of}
+use Rattle.ledger_model.specs.Replies.{secret_of_refusal, price_told, signed, refused_values, refusal_of}
 
 -- it is made of the price that it tells, and of the secret that signs it
 pub refusal_is : (h : History) (t : ℕ) (q : Asked) (f : Refusal) (secret : Option (List ℕ)) (price : Option ℕ)
-    → secret ≡ secret_when (is_signed f) h q.scrip → price ≡ price_told h q.target f
+    → secret ≡ secret_of_refusal h q f → price ≡ price_told h q.target f
     → reply_head (signed secret (unwrap_or q.scrip []) q.target [] (refused_values t f price)) ≡ refusal_of h t q f
 unfolding refusal_of
 refusal_is h t q f secret price s p =

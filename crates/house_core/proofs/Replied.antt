@@ -37,11 +37,9 @@ reply_kept h e r is =
     let then' : brought_then (h ++ e ∷ []) r ≡ brought_then h r = ap (λ (f : History). brought f r.asked.target (entry_deed r.entry.deed)) (take-append-le n h (e ∷ []) below) in
     record {
       brings = contents_stay h (e ∷ []) r.entry.deed (brought_then h r) is.brings ∙ ap (λ (x : Contents). Some x) (sym then');
-      text = is.text;
-      scrip = is.scrip;
       within = omega (arith, is.within, length-append h (e ∷ []));
       reply = reply_stays h (e ∷ []) n is.within ∙ is.reply
-          ∙ ap (λ (x : Contents). taken_reply (Some r.entry.secret) is.text r.asked.target x (taken_values r.entry.moment x r.entry.price (option_map (λ c. scrip_text c.0 c.1) r.entry.change))) (sym then');
+          ∙ ap (λ (x : Contents). taken_reply (Some r.entry.secret) (unwrap_or r.asked.scrip []) r.asked.target x (taken_values r.entry.moment x r.entry.price (option_map (λ c. scrip_text c.0 c.1) r.entry.change))) (sym then');
     }
 
 -- ---- a new reply
@@ -105,8 +103,6 @@ reply_new {b = b} {h = h} st q c a piece ready short most brings =
     let said : Option (List ℕ) → Option (List ℕ) → History → List ℕ = λ s o f. taken_reply s c.text q.target (brought f q.target deed) (taken_values b.time (brought f q.target deed) a.price o) in
     record {
       brings = contents_stay h (e ∷ []) a.deed (brought h q.target deed) brings ∙ ap (λ (f : History). Some (brought f q.target deed)) front;
-      text = c.text;
-      scrip = refl;
       within = omega (arith, st.counted, length-append h (e ∷ []));
       reply = ap (reply_of longer) (sym st.counted) ∙ own_reply h [] e
           ∙ ap (λ (s : Option (List ℕ)). said s (option_map (own_text h) (change_piece h e)) h) secret

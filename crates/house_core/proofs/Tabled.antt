@@ -21,8 +21,7 @@ use Rattle.ledger_model.specs.Houses.{site_name, keeping, all_terms, terms_by, t
 use Rattle.ledger_model.specs.Pieces.{is_spent}
 use Rattle.ledger_model.specs.Lines.{Stop, Repeat, ◌>>=◌, given, refused_if}
 use Rattle.ledger_model.specs.Stages.{is_repeat, is_right, genuine_by, spendable_by, Offer, next_by, needed, fitted_by}
-use Rattle.ledger_model.specs.Answer.{repeated, genuine, spendable, offer, next_own, fitted, taken, Answer, Refused, Again, Take, answered, answer}
-use Rattle.ledger_model.specs.Slow.{after_repeat, after_read}
+use Rattle.ledger_model.specs.Answer.{repeated, genuine, spendable, offer, next_own, fitted, taken, after_read, after_repeat, Answer, Refused, Again, Take, answered, answer}
 use Rattle.ledger_model.proofs.TableLaws.{line_ok, refused_ok, given_ok}
 use Rattle.ledger_model.proofs.RepeatLaws.{again_is_same}
 use Rattle.house_core.specs.HouseState.{HouseStateView, version_of, tail_of, series_now}
@@ -165,7 +164,7 @@ pub number_at : (b : HouseStateView) (q asked : Asked) (c : Certified) (r : Opti
 number_at b q asked c r same e = e ∙ ap (λ (p : Asked). option_map (λ e. e.number) (found b.kept b.time p)) same
 
 again_is : {b : HouseStateView} {h : History} → StateRepresents b h → (q : Asked) (c : Certified) → repeated h b.time c q ≡ kept_number b q c
-again_is {b = b} st q c = st.again b.time c.text q.target q.sign (omega arith)
+again_is {b = b} st q c = st.again b.time (scrip_request c.text q.target q.sign) (omega arith)
 
 pub comes_again : {b : HouseStateView} {h : History} → StateRepresents b h → (limits : Limits) (q : Asked) (c : Certified) (n : ℕ) → Some n ≡ kept_number b q c → Err (Repeat n) ≡ after_read h b.time limits q c
 comes_again st limits q c n is = rw (again_is st q c, ← is) refl
@@ -222,9 +221,7 @@ repeat_kept {b = b} {h = h} st limits q c asked read = by_kept (kept_number b q 
     by_kept : (o : Option ℕ) → kept_number b q c ≡ o → o ≡ repeat_of (answer h b.time limits q)
     by_kept (Some n) is = ap repeat_of (answer_read h b.time limits q c (Err (Repeat n)) asked read (comes_again st limits q c n (sym is)))
     by_kept None is = not_again (answer h b.time limits q) λ n e.
-        let r = again_is_same h b.time limits q n e in
-        let same : r.0 ≡ c.text = cc (r.1, asked) in
-        let passes : option_map (is_repeat (keeping h) b.time c.text q.target q.sign) (slice_get h n) ≡ Some true =
-        subst (λ (text : List ℕ). option_map (is_repeat (keeping h) b.time text q.target q.sign) (slice_get h n) ≡ Some true) same r.2 in
-        let test = is_repeat (keeping h) b.time c.text q.target q.sign in
-        none_passes test h n (not_found test h (again_is st q c ∙ is)) passes
+        let test : Option (List ℕ) → Entry → Bool = λ scrip. is_repeat (keeping h) b.time (record q { scrip = scrip }) in
+        let passes : option_map (test (Some c.text)) (slice_get h n) ≡ Some true =
+        subst (λ (scrip : Option (List ℕ)). option_map (test scrip) (slice_get h n) ≡ Some true) asked (again_is_same h b.time limits q n e) in
+        none_passes (test (Some c.text)) h n (not_found (test (Some c.text)) h (again_is st q c ∙ is)) passes

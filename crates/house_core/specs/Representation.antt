@@ -1,5 +1,5 @@
 -- What a house keeps says what its history says, part by part.
-use Rattle.std.specs.Prelude.{◌≡◌, ℕ, ◌≤◌, ◌==◌, nat_le, Bool, false, List, filter, length, Option, Some, option_map, unwrap_or, position, ◌<◌, take, All}
+use Rattle.std.specs.Prelude.{◌≡◌, ℕ, ◌≤◌, ◌==◌, nat_le, Bool, false, List, [], filter, length, Option, Some, option_map, unwrap_or, position, ◌<◌, take, All}
 use Rattle.scrip_form.specs.Identities.{issuer_of, epoch_of, series_of}
 use Rattle.scrip_form.specs.Issuing.{series_end}
 use Rattle.scrip_form.specs.Scrip.{Scrip, scrip_text}
@@ -37,10 +37,8 @@ brought_then h r = brought (take r.entry.number h) r.asked.target (entry_deed r.
 -- what the kept deed brings.
 pub record IsReply (h : History) (r : KeptReply) : Type 0 where
   pub brings : brought_by h r.entry.deed ≡ Some (brought_then h r)
-  pub text : List ℕ
-  pub scrip : r.asked.scrip ≡ Some text
   pub within : r.entry.number < length h
-  pub reply : reply_of h r.entry.number ≡ taken_reply (Some r.entry.secret) text r.asked.target (brought_then h r) (taken_values r.entry.moment (brought_then h r) r.entry.price (option_map (λ c. scrip_text c.0 c.1) r.entry.change))
+  pub reply : reply_of h r.entry.number ≡ taken_reply (Some r.entry.secret) (unwrap_or r.asked.scrip []) r.asked.target (brought_then h r) (taken_values r.entry.moment (brought_then h r) r.entry.price (option_map (λ c. scrip_text c.0 c.1) r.entry.change))
 
 -- the pieces of a series
 abbrev pub of_series : ℕ → List Scrip → List Scrip
@@ -61,8 +59,7 @@ pub record StateRepresents (b : HouseStateView) (h : History) : Type 0 where
   -- of the identities whose series has not ended, those that were accepted
   pub spent : (id : ℕ) → has_ended h b.time id ≡ false → is_spent h id ≡ is_marked b.spent id
   -- the entry that a request repeats, at the house time and later
-  pub again : (t : ℕ) (text target : List ℕ) (sign : Option (List ℕ)) → b.time ≤ t
-      → position (is_repeat (keeping h) t text target sign) h ≡ option_map (λ e. e.number) (found b.kept t (scrip_request text target sign))
+  pub again : (t : ℕ) (q : Asked) → b.time ≤ t → position (is_repeat (keeping h) t q) h ≡ option_map (λ e. e.number) (found b.kept t q)
   -- what the replies are made of
   pub replies : All (IsReply h) b.kept.replies
   -- how many pieces of each series were handed out, by which the next one is numbered

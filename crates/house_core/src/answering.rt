@@ -1,8 +1,7 @@
 //! What a house says to a request, and its reply.
 
 ghost use Rattle.std.specs.Prelude.{◌≡◌, IfOk, IfErr, option_map};
-ghost use Rattle.mc_records.specs.Refusals.{is_signed};
-ghost use Rattle.mc_records.specs.Requests.{asked_of, seen};
+ghost use Rattle.mc_records.specs.Requests.{asked_of};
 ghost use Rattle.ledger_model.specs.Histories.{History};
 ghost use Rattle.ledger_model.specs.Answer.{answer};
 ghost use Rattle.ledger_model.specs.Replies as ledger;
@@ -85,7 +84,7 @@ impl<T: Trade> Bench<T> {
     {
         let time = self.state.time();
         let price = self.price_told(q.target, refusal);
-        match self.secret_when(q, refusal) {
+        match self.secret_of_refusal(q, refusal) {
             Some(secret) => signed_refusal(time, q, refusal, price, &secret),
             None => Reply::of(&refusal_head(time, refusal, price), b""),
         }
@@ -115,9 +114,9 @@ impl<T: Trade> Bench<T> {
         }
     }
 
-    /// The secret under which the reply to a refusal is signed, where it is signed.
-    fn secret_when(&self, q: &Request<'_>, refusal: &Refusal) -> Option<[u8; 16]>
-        ensures { (h : History) → Represents T.stands T.site self.now h → result ≡ ledger.secret_when (is_signed refusal.now) h (seen q.now.scrip) }
+    /// The secret under which the reply to the refusal of a request is signed, where it is signed.
+    fn secret_of_refusal(&self, q: &Request<'_>, refusal: &Refusal) -> Option<[u8; 16]>
+        ensures { (h : History) → Represents T.stands T.site self.now h → result ≡ ledger.secret_of_refusal h (asked_of q.now) refusal.now }
     {
         if refusal.is_signed() {
             customer_of(&self.state, q)

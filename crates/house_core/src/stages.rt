@@ -8,7 +8,7 @@ ghost use Rattle.mc_records.specs.Requests.{seen};
 ghost use Rattle.change_issue.specs.Registers.{count_in, next_in};
 ghost use Rattle.ledger_model.specs.Houses.{terms_by};
 ghost use Rattle.ledger_model.specs.Stages.{genuine_by, spendable_by, next_by, needed, fitted_by};
-ghost use Rattle.ledger_model.specs.Slow.{as_line};
+ghost use Rattle.ledger_model.specs.Lines.{as_line};
 ghost use Rattle.house_core.specs.HouseState.{version_of, tail_of, size_with};
 ghost use Rattle.house_core.specs.Replying.{IsOfSite};
 

@@ -6,7 +6,7 @@ ghost use Rattle.ledger_model.specs.Histories.{History};
 ghost use Rattle.ledger_model.specs.Houses.{site_kind};
 ghost use Rattle.ledger_model.specs.Answer as answers;
 ghost use Rattle.ledger_model.specs.Replies.{brought, price_asked};
-ghost use Rattle.ledger_model.specs.Slow.{as_line};
+ghost use Rattle.ledger_model.specs.Lines.{as_line};
 ghost use Rattle.house_core.specs.Views.{kind_number, entry_deed, offer_of, contents_of};
 ghost use Rattle.house_core.specs.Trade.{draw_asked, brought_by, OfGoods, IsInForce, IsKeptFrom};
 ghost use Rattle.house_core.specs.Learning.{ByTrade, GoodsFit, MayLearn, IsGoods};

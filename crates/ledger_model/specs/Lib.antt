@@ -12,3 +12,4 @@ pub mod Replies
 pub mod Laws
 pub mod Slow
 pub mod Shown
+pub mod Quiet

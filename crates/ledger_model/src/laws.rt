@@ -42,7 +42,7 @@ pub fn taken_requests_repeat()
     ensures again { (h more : History) (t later : ℕ) (limits others : Bounds) (q : Asked) (e : Entry)
         → answer h t limits q ≡ Take e → t ≤ later → later < t + keeping h → answer (h ++ e ∷ more) later others q ≡ Again (length h) }
     ensures same { (h : History) (t : ℕ) (limits : Bounds) (q : Asked) (n : ℕ) → answer h t limits q ≡ Again n
-        → (text : List ℕ) × (q.scrip ≡ Some text) × (option_map (is_repeat (keeping h) t text q.target q.sign) (slice_get h n) ≡ Some true) }
+        → option_map (is_repeat (keeping h) t q) (slice_get h n) ≡ Some true }
 {}
 
 /// The first reply of an entry does not depend on later entries: it is the reply after the entries
