@@ -10,3 +10,4 @@ pub mod Reading
 pub mod Pieces
 pub mod Advancing
 pub mod Heading
+pub mod Appending
