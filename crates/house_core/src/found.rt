@@ -10,10 +10,11 @@ ghost use Rattle.ledger_model.specs.Houses.{site_kind};
 ghost use Rattle.ledger_model.specs.Lawful.{MayFollow};
 ghost use Rattle.scrip_journal.specs.States.{IsJournal};
 ghost use Rattle.scrip_journal.specs.Exits.{EitherNoOutput};
+ghost use Rattle.scrip_journal.specs.Founds.{ShortNoOutput, FoundNoOutput};
 ghost use Rattle.house_core.specs.Founding.{FoundsHouse};
 ghost use Rattle.house_core.specs.Bench.{IsHouse, house_time, limits_of};
 ghost use Rattle.house_core.specs.Opening.{house_disk};
-ghost use Rattle.house_core.specs.Found.{FoundsHouseBy, CountsBy, ReadsOnly, ShortNoOutput, FoundNoOutput, book_disk, ClearsSmall, ClearsFree, EntersSite, IsOfWriting};
+ghost use Rattle.house_core.specs.Found.{FoundsHouseBy, CountsBy, ReadsOnly, book_disk, ClearsSmall, ClearsFree, EntersSite, IsOfWriting};
 
 use crate::bench::Bench;
 use crate::house::House;

@@ -4,6 +4,7 @@ pub mod Steps
 pub mod Founding
 pub mod Nexts
 pub mod Unique
+pub mod Beginnings
 pub mod Windows
 pub mod Looking
 pub mod Reading
