@@ -11,7 +11,8 @@ use Rattle.scrip_journal.specs.declared.fault.HouseFault.TheVariants.{NotJournal
 use Rattle.scrip_journal.specs.Opens.{NoLonger}
 use Rattle.scrip_journal.specs.Exits.{EitherNoOutput}
 use Rattle.house_core.proofs.OpeningLemmas.{bytes_told}
-use Rattle.house_core.specs.Found.{ReadsOnly, ShortNoOutput, FoundNoOutput, ClearsSmall, ClearsFree, IsOfWriting}
+use Rattle.scrip_journal.specs.Founds.{ShortNoOutput, FoundNoOutput}
+use Rattle.house_core.specs.Found.{ReadsOnly, ClearsSmall, ClearsFree, IsOfWriting}
 
 pub ran_at : {D : Type 0} (view : D → DiskView) (a : DiskView) (d e : D) (P : List ℕ → List ℕ → Type 0) → e ≡ d → Ran a (view d) P → Ran a (view e) P
 ran_at {D = D} view a d e P is ran = subst (λ (x : D). Ran a (view x) P) (sym is) ran

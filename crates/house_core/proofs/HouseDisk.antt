@@ -9,7 +9,7 @@ use Rattle.mc_records.specs.Sizes.{size, entry_size}
 use Rattle.mc_records.proofs.SizeLaws.{length-tail}
 use Rattle.scrip_journal.specs.States.{AtRest, IsJournal}
 use Rattle.scrip_journal.specs.Rests.{journal_leaves}
-use Rattle.scrip_journal.specs.Exits.{staged_disk, EncodesNoOutput, EitherNoOutput}
+use Rattle.scrip_journal.specs.Exits.{EncodesNoOutput, EitherNoOutput}
 use Rattle.scrip_journal.specs.declared.journal.StageFault.{StageFault}
 use Rattle.scrip_journal.specs.declared.journal.StageFault.TheVariants.{Full, Disk}
 use Rattle.mc_records.specs.declared.limits.Limits.{Limits}
@@ -21,7 +21,7 @@ use Rattle.house_core.specs.HouseState.{HouseStateView, size_with}
 use Rattle.house_core.specs.Representation.{StateRepresents}
 use Rattle.house_core.specs.Verdicts.{accept_entry, stop_of, IsReady}
 use Rattle.house_core.specs.Bench.{Represents, HasContents, IsRoomed, limits_of}
-use Rattle.house_core.specs.House.{HouseRepresents, IsAsItWas, HasEntered, Accepted, Leaves, Refuses, written_disk}
+use Rattle.house_core.specs.House.{HouseRepresents, IsAsItWas, HasEntered, Accepted, Leaves, Refuses}
 use Rattle.house_core.specs.declared.outcome.Outcome.TheVariants.{Refused}
 use Rattle.house_core.specs.declared.verdict.NotAuthorized.{NotAuthorized}
 use Rattle.house_core.specs.declared.verdict.NotAuthorized.TheVariants as stops
@@ -30,18 +30,6 @@ use Rattle.ledger_model.specs.Answer as answers
 use Rattle.ledger_model.specs.Answer.{Answer, answered}
 use Rattle.house_core.proofs.Accepting.{holds_roomed}
 use Rattle.house_core.proofs.Contents.{contents_roomed}
-
--- first it was staged, and then its gate was opened
-pub ran_written : (a b d : DiskView) (h : List Entry) (e : Entry) → DiskGoes a b → Ran a b (EncodesNoOutput h a.aside) → Ran b d (EitherNoOutput h e b.aside) → Ran a d (EitherNoOutput h e a.aside)
-ran_written a b d h e goes first then' =
-    ran_then a b d (EitherNoOutput h e a.aside) (ran_weaker a b (EncodesNoOutput h a.aside) (EitherNoOutput h e a.aside) first (λ c s quiet. (inl quiet.0, quiet.1)))
-    (subst (λ (x : List ℕ). Ran b d (EitherNoOutput h e x)) goes.aside then')
-
--- it was not staged
-pub ran_unstaged : {D : Type 0} (view : D → DiskView) (a : DiskView) (h : List Entry) (e : Entry) (aside : List ℕ) (f : StageFault D)
-    → Ran a (view (staged_disk (Err f))) (EncodesNoOutput h aside) → Ran a (view (written_disk (Err f))) (EitherNoOutput h e aside)
-ran_unstaged view a h e aside (Full j) ran = ran_weaker a (view j.disk) _ _ ran (λ c s quiet. (inl quiet.0, quiet.1))
-ran_unstaged view a h e aside (Disk d) ran = ran_weaker a (view d) _ _ ran (λ c s quiet. (inl quiet.0, quiet.1))
 
 -- nothing was written
 pub ran_nothing : {D : Type 0} (view : D → DiskView) (j : AtRest D) (d : D) (h : List Entry) → IsDisk (view j.disk) → IsJournal view j h → d ≡ j.disk → Ran (view j.disk) (view d) (EncodesNoOutput h (view j.disk).aside)

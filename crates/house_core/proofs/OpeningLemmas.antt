@@ -27,8 +27,10 @@ use Rattle.house_core.specs.declared.bench.Bench.{Bench}
 use Rattle.house_core.specs.Bench.{HasContents, Replays, limits_of}
 use Rattle.house_core.specs.declared.opening.Halt.{Halt}
 use Rattle.house_core.specs.declared.opening.Halt.TheVariants as halts
-use Rattle.house_core.specs.Opening.{IsOfKind, IsOfOtherKind, BeginsWithEntries, SpoilsAt, IsUnlawfulAt, HaltsBy, FoundsBy, ReadOn, Learned, LearnedSome, LearnedAll}
-use Rattle.house_core.proofs.Beginnings.{first_tells, kind_tells, empty_tells}
+use Rattle.scrip_journal.specs.Causes.{Only, IsOfOtherKind, BeginsWithEntries}
+use Rattle.scrip_journal.proofs.Beginnings.{first_tells, empty_tells}
+use Rattle.house_core.specs.Opening.{SpoilsAt, IsUnlawfulAt, HaltsBy, FoundsBy, ReadOn, Learned, LearnedSome, LearnedAll}
+use Rattle.house_core.proofs.Beginnings.{kind_of_first, kind_tells}
 use Rattle.house_core.proofs.Entered.{kind_stays, time_snoc}
 
 abbrev some : {A : Type 0} → A → Option A
@@ -40,10 +42,6 @@ some_same x y e = cc
 all_follow : (limits : Limits) (h : History) → IsLawful limits h → AllFollow limits [] h
 all_follow limits [] lawful = tt
 all_follow limits (e ∷ es) lawful = lawful
-
-kind_of_first : (kind : ℕ) (h : History) → site_kind h ≡ Some kind → IsOfKind kind h
-kind_of_first kind [] is = tt
-kind_of_first kind (e ∷ es) is = is
 
 -- the bytes of a reading are those of its disk
 pub bytes_told : {D : Type 0} (view : D → DiskView) (r : Reading D) (h : History) (x : List ℕ) (is : IsReading view r h) → (view r.disk).contents ≡ Some x → is.bytes ≡ x
@@ -116,7 +114,7 @@ module _ {D : Type 0} (view : D → DiskView) (limits : Limits) (kind : ℕ) (x 
   pub no_entries : ReadsOn view [] r.bytes old.gate (Ok None) new → IsUnlawfulAt limits kind x 8
   no_entries reads =
       let stands : layout.Encodes [] x = subst (layout.Encodes []) (bytes_told view old [] x r told) reads.0 in
-      (λ other. empty_tells kind x stands other, inl (stands, refl))
+      (λ other. empty_tells (Only kind) x stands other, inl (stands, refl))
 
   pub spoils_first : (place : ℕ) → ReadsOn view [] r.bytes old.gate (Err (BadRecord place)) new → SpoilsAt limits kind x place
   spoils_first place reads = record {
@@ -133,7 +131,7 @@ module _ {D T : Type 0} (view : D → DiskView) (stands : T → History → Type
   first_learned (Err (halts.BadRecord place)) founds = absurd founds
   first_learned (Err (halts.Unlawful place)) founds =
       let begins = begins_so view new (e ∷ []) x is (read.contents ∙ told) in (
-        λ other. first_tells kind e [] x begins founds.2 other,
+        λ other. first_tells (Only kind) e [] x begins founds.2 other,
         inr (record {
           before = [];
           next = e;
@@ -149,7 +147,7 @@ module _ {D T : Type 0} (view : D → DiskView) (stands : T → History → Type
   first_learned (Err halts.NoMemory) founds = tt
 
 -- no entry but a Site entry comes first, or is of a kind of site
-pub no_other_first : (limits : Limits) (kind : ℕ) (r : Record) → ((m k : ℕ) (name : Bor (List ℕ)) (house : Option SiteTerms) → r ≡ records.Site m k name house → ⊥) → (MayFollow limits [] (entry r) → ⊥) × (IsOfOtherKind kind (entry r) → ⊥)
+pub no_other_first : (limits : Limits) (kind : ℕ) (r : Record) → ((m k : ℕ) (name : Bor (List ℕ)) (house : Option SiteTerms) → r ≡ records.Site m k name house → ⊥) → (MayFollow limits [] (entry r) → ⊥) × (IsOfOtherKind (Only kind) (entry r) → ⊥)
 no_other_first limits kind (records.Site m k name house) other = absurd (other m k name house refl)
 no_other_first limits kind (records.Terms m terms) other = (λ may. absurd (cc may.allowed.0), λ o. o)
 no_other_first limits kind (records.Goods m target price k contents) other = (λ may. absurd (cc may.allowed.0), λ o. o)

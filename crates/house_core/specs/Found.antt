@@ -1,28 +1,18 @@
--- What founding the book of a house answers, and what a crash in it leaves.
-use Rattle.std.specs.Prelude.{◌≡◌, ◌⊎◌, ℕ, ◌<◌, ◌≤◌, List, [], ◌∷◌, length, Result, Ok, Err}
+-- What founding the book of a house answers.
+use Rattle.std.specs.Prelude.{◌≡◌, ℕ, ◌<◌, ◌≤◌, List, [], ◌∷◌, length, Result, Ok, Err}
 use Rattle.mc_outside.specs.DiskView.{DiskView, OnlyRead}
 use Rattle.mc_records.specs.declared.limits.Limits.{Limits}
 use Rattle.mc_records.specs.Entry.{Entry, moment_of}
 use Rattle.ledger_model.specs.Histories.{History}
 use Rattle.mc_outside.specs.Bytes.{Rose}
-use Rattle.scrip_journal.specs.Layout as layout
 use Rattle.scrip_journal.specs.States.{AtRest, IsJournal}
+use Rattle.scrip_journal.specs.Founds.{IsFree, IsTaken}
 use Rattle.scrip_journal.specs.declared.fault.HouseFault.{HouseFault}
 use Rattle.scrip_journal.specs.declared.fault.HouseFault.TheVariants.{NotEmpty, Disk, NoMemory}
 use Rattle.house_core.specs.declared.house.House.{House}
 use Rattle.house_core.specs.Bench.{house_time, limits_of}
 use Rattle.house_core.specs.House.{HouseRepresents}
 use Rattle.house_core.specs.Opening.{fault_disk}
-
--- The disk may be founded on: its bytes encode no entries, or are nine at most.
-abbrev pub IsFree : List ℕ → Type 0
-IsFree bytes = layout.Encodes [] bytes ⊎ (length bytes ≤ 9)
-
--- The disk has so many bytes, more than nine, which don't encode the empty history.
-pub record IsTaken (bytes : List ℕ) (count : ℕ) : Type 0 where
-  pub count_is : count ≡ length bytes
-  pub many : 9 < count
-  pub other : layout.Encodes [] bytes → ⊥
 
 -- The house represents this entry alone, at its moment, on a disk that was free.
 pub record FoundedFor {D T : Type 0} (view : D → DiskView) (stands : T → History → Type 0) (site : T → ℕ) (holds : T → ℕ → Type 0) (limits : Limits) (e : Entry) (bytes : List ℕ) (x : House D T) : Type 0 where
@@ -53,20 +43,6 @@ abbrev pub ReadsOnly : {D A : Type 0} → (D → DiskView) → D → Result A (H
 ReadsOnly view disk (Err (NotEmpty d count)) = OnlyRead (view disk) (view d)
 ReadsOnly view disk (Err (NoMemory d)) = OnlyRead (view disk) (view d)
 ReadsOnly view disk _ = Unit {0}
-
--- A crash pair whose image has at most nine bytes, or is one that a crash before could have left, with
--- nothing sent.
-abbrev pub ShortNoOutput : DiskView → List ℕ → List ℕ → Type 0
-ShortNoOutput before c s = ((length c ≤ 9) ⊎ before.leaves c) × (s ≡ before.aside)
-
--- an image of at most nine bytes, or one that a crash before could have left, or one that encodes no
--- entries or for this one alone
-abbrev pub FoundImage : DiskView → Entry → List ℕ → Type 0
-FoundImage before e c = ((length c ≤ 9) ⊎ before.leaves c) ⊎ (layout.Encodes [] c ⊎ layout.Encodes (e ∷ []) c)
-
--- a crash pair of such an image, with nothing sent
-abbrev pub FoundNoOutput : DiskView → Entry → List ℕ → List ℕ → Type 0
-FoundNoOutput before e c s = FoundImage before e c × (s ≡ before.aside)
 
 -- ---- its steps
 

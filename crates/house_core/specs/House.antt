@@ -44,12 +44,6 @@ HasRun h t limits count (Err f) = (f ≡ SeriesFull (own_series h t)) × (limits
 
 -- ---- what an entry that was written left
 
--- the disk that comes back from writing an entry, whatever is answered
-abbrev pub written_disk : {D : Type 0} → Result (AtRest D × ℕ) (StageFault D) → D
-written_disk (Ok w) = w.0.disk
-written_disk (Err (Full j)) = j.disk
-written_disk (Err (Disk d)) = d
-
 -- ---- what comes of a call
 
 -- the disk that comes back, whatever the outcome

@@ -1,17 +1,17 @@
 -- What opening a book as a house answers.
-use Rattle.std.specs.Prelude.{◌≡◌, ◌≢◌, ◌⊎◌, ℕ, ◌+◌, ◌≤◌, ◌<◌, ◌^◌, true, false, Bool, List, [], ◌∷◌, ◌++◌, Some, None, Result, Ok, Err}
-use Rattle.std.specs.List.{AllByRecursion}
+use Rattle.std.specs.Prelude.{◌≡◌, ℕ, ◌<◌, ◌^◌, true, false, Bool, List, [], ◌∷◌, Some, None, Result, Ok, Err}
 use Rattle.mc_outside.specs.Bytes.{BeginsWith, Rose}
 use Rattle.mc_outside.specs.DiskView.{DiskView, OnlyRead}
 use Rattle.mc_records.specs.declared.limits.Limits.{Limits}
-use Rattle.mc_records.specs.Entry.{Entry, Site, Fits}
-use Rattle.mc_records.specs.Sizes.{size}
+use Rattle.mc_records.specs.Entry.{Entry}
 use Rattle.ledger_model.specs.Histories.{History, time}
 use Rattle.ledger_model.specs.Houses.{site_kind}
-use Rattle.ledger_model.specs.Lawful.{MayFollow, AllFollow}
+use Rattle.ledger_model.specs.Lawful.{MayFollow}
 use Rattle.scrip_journal.specs.Layout as layout
-use Rattle.scrip_journal.specs.Layout.{header, body, IsSpoiled}
+use Rattle.scrip_journal.specs.Layout.{header}
 use Rattle.scrip_journal.specs.States.{Reading, IsReading}
+use Rattle.scrip_journal.specs.Causes as causes
+use Rattle.scrip_journal.specs.Causes.{Only, IsOfOtherKind}
 use Rattle.scrip_journal.specs.declared.ending.Ending.TheVariants.{Closed}
 use Rattle.scrip_journal.specs.declared.fault.HouseFault.{HouseFault}
 use Rattle.scrip_journal.specs.declared.fault.HouseFault.TheVariants.{NotJournal, BadRecord, Unlawful, WrongKind, NotEmpty, Disk, NoMemory}
@@ -44,51 +44,21 @@ CountedBy (Err (Disk d)) before after = Rose before after
 CountedBy (Err (NotEmpty d count)) before after = ⊥
 CountedBy _ before after = after ≡ before
 
--- ---- what a book is
+-- ---- why a book is not opened, with a trade of this kind of site
 
--- the first entry, where there is one, founds a site of this kind
-abbrev pub IsOfKind : ℕ → History → Type 0
-IsOfKind kind [] = Unit {0}
-IsOfKind kind (e ∷ es) = site_kind (e ∷ es) ≡ Some kind
+-- behind entries that may follow one another its bytes can't stand, from this place on
+abbrev pub SpoilsAt : Limits → ℕ → List ℕ → ℕ → Type 0
+SpoilsAt limits kind bytes place = causes.SpoilsAt (MayFollow limits) (Only kind) bytes place
 
--- an entry that founds a site of another kind
-abbrev pub IsOfOtherKind : ℕ → Entry → Type 0
-IsOfOtherKind kind (Site m other name house) = other ≢ kind
-IsOfOtherKind kind _ = ⊥
-
--- the bytes begin with the header and these entries, each behind an open gate
-pub record BeginsWithEntries (h : History) (bytes : List ℕ) : Type 0 where
-  pub fits : AllByRecursion Fits h
-  pub most : size h ≤ 2 ^ 40
-  pub begins : BeginsWith (body h) bytes
-
--- Behind entries that may follow one another the bytes can't stand, from this place on.
-pub record SpoilsAt (limits : Limits) (kind : ℕ) (bytes : List ℕ) (place : ℕ) : Type 0 where
-  pub before : History
-  pub follow : AllFollow limits [] before
-  pub of_kind : IsOfKind kind before
-  pub spoiled : IsSpoiled before bytes place
-
--- Behind entries that may follow one another comes one at this place that may not follow them.
-pub record BreaksAt (limits : Limits) (kind : ℕ) (bytes : List ℕ) (place : ℕ) : Type 0 where
-  pub before : History
-  pub next : Entry
-  pub follow : AllFollow limits [] before
-  pub of_kind : IsOfKind kind before
-  pub begins : BeginsWithEntries (before ++ next ∷ []) bytes
-  pub place_is : place + 1 ≡ size before
-  pub breaks : MayFollow limits before next → ⊥
-
--- the book is that of a site of another kind
-pub record IsOfOther (kind : ℕ) (bytes : List ℕ) : Type 0 where
-  pub first : Entry
-  pub other : IsOfOtherKind kind first
-  pub begins : BeginsWithEntries (first ∷ []) bytes
-
--- The first entry that may not follow is behind the gate at this place, in a book that is of no site of
--- another kind. A book without entries breaks at its only gate.
+-- the first entry that may not follow is behind the gate at this place
 abbrev pub IsUnlawfulAt : Limits → ℕ → List ℕ → ℕ → Type 0
-IsUnlawfulAt limits kind bytes place = (IsOfOther kind bytes → ⊥) × ((layout.Encodes [] bytes × (place ≡ 8)) ⊎ BreaksAt limits kind bytes place)
+IsUnlawfulAt limits kind bytes place = causes.IsUnlawfulAt (MayFollow limits) (Only kind) bytes place
+
+-- it is that of a site of another kind
+abbrev pub IsOfOther : ℕ → List ℕ → Type 0
+IsOfOther kind bytes = causes.IsOfOther (Only kind) bytes
+
+-- ---- what is answered
 
 -- The bytes encode a history, and the house represents it too, at the time of the history.
 pub record OpenedFor {D T : Type 0} (view : D → DiskView) (stands : T → History → Type 0) (site : T → ℕ) (holds : T → ℕ → Type 0) (limits : Limits) (bytes : List ℕ) (x : House D T) : Type 0 where
@@ -163,8 +133,8 @@ pub record IsFoundedBy {T : Type 0} (stands : T → History → Type 0) (site : 
 abbrev pub FoundsBy : {T : Type 0} → (T → History → Type 0) → (T → ℕ) → (T → ℕ → Type 0) → Limits → ℕ → Entry → Result (Bench T) Halt → Type 0
 FoundsBy stands site holds limits kind e (Ok b) = IsFoundedBy stands site holds limits kind e b
 FoundsBy stands site holds limits kind e (Err (halts.BadRecord place)) = ⊥
-FoundsBy stands site holds limits kind e (Err (halts.Unlawful place)) = (place ≡ 8) × (MayFollow limits [] e → ⊥) × (IsOfOtherKind kind e → ⊥)
-FoundsBy stands site holds limits kind e (Err halts.WrongKind) = IsOfOtherKind kind e
+FoundsBy stands site holds limits kind e (Err (halts.Unlawful place)) = (place ≡ 8) × (MayFollow limits [] e → ⊥) × (IsOfOtherKind (Only kind) e → ⊥)
+FoundsBy stands site holds limits kind e (Err halts.WrongKind) = IsOfOtherKind (Only kind) e
 FoundsBy stands site holds limits kind e (Err halts.Disk) = ⊥
 FoundsBy stands site holds limits kind e (Err halts.NoMemory) = Unit {0}
 

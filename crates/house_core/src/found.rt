@@ -10,13 +10,14 @@ ghost use Rattle.ledger_model.specs.Houses.{site_kind};
 ghost use Rattle.ledger_model.specs.Lawful.{MayFollow};
 ghost use Rattle.scrip_journal.specs.States.{IsJournal};
 ghost use Rattle.scrip_journal.specs.Exits.{EitherNoOutput};
+ghost use Rattle.scrip_journal.specs.Founds.{ShortNoOutput, FoundNoOutput};
 ghost use Rattle.house_core.specs.Founding.{FoundsHouse};
 ghost use Rattle.house_core.specs.Bench.{IsHouse, house_time, limits_of};
 ghost use Rattle.house_core.specs.Opening.{house_disk};
-ghost use Rattle.house_core.specs.Found.{FoundsHouseBy, CountsBy, ReadsOnly, ShortNoOutput, FoundNoOutput, book_disk, ClearsSmall, ClearsFree, EntersSite, IsOfWriting};
+ghost use Rattle.house_core.specs.Found.{FoundsHouseBy, CountsBy, ReadsOnly, book_disk, ClearsSmall, ClearsFree, EntersSite, IsOfWriting};
 
 use crate::bench::Bench;
-use crate::house::{House, write_entry};
+use crate::house::House;
 use crate::trade::Trade;
 use mc_base::NoMemory;
 use mc_outside::{Disk, DiskFault};
@@ -134,7 +135,7 @@ fn enter_site<D: Disk, T: Trade>(
     ensures ran { IsJournal D.disk journal [] → Ran (D.disk journal.disk) (D.disk (house_disk result)) (EitherNoOutput [] (entry site.now) (D.disk journal.disk).aside) }
     ensures fault { CountsBy result (D.disk journal.disk).faults (D.disk (house_disk result)).faults }
 {
-    match write_entry(journal, site) {
+    match journal.append(site) {
         Ok((journal, _)) => Ok(House::new(journal, bench)),
         Err(StageFault::Full(_journal)) => unreachable!(),
         Err(StageFault::Disk(halted)) => Err(HouseFault::Disk(halted.close())),

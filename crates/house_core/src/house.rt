@@ -27,7 +27,7 @@ ghost use Rattle.house_core.specs.Trade.{OfGoods, NamesInForce, BringsFor};
 ghost use Rattle.house_core.specs.Replying.{IsOfSite};
 ghost use Rattle.house_core.specs.declared.verdict.Verdict.TheVariants as verdicts;
 ghost use Rattle.house_core.specs.Verdicts.{judged, judged_of, repeat_of, accept_entry, IsReady, StopIsOfSite};
-ghost use Rattle.house_core.specs.House.{HouseRepresents, HasRun, KeepsTime, RaisedTo, OfHouse, IfDone, IfRefused, CountsFaults, Accepted, Entered, Leaves, Refuses, written_disk, outcome_disk};
+ghost use Rattle.house_core.specs.House.{HouseRepresents, HasRun, KeepsTime, RaisedTo, OfHouse, IfDone, IfRefused, CountsFaults, Accepted, Entered, Leaves, Refuses, outcome_disk};
 
 use crate::bench::{Bench, bad_scrip, entry_of};
 use crate::evaluate::evaluate;
@@ -237,7 +237,7 @@ impl<D: Disk, T: Trade> House<D, T> {
         // The check lets a record go only where the types of its parts are named.
         let _pieces: Option<PieceList<'_>> = None;
         let record = entry_of(bench.state.time(), q, scrip, authorization);
-        match write_entry(journal, &record) {
+        match journal.append(&record) {
             Ok((journal, receipt)) => {
                 let number = bench.apply_accept(q, scrip, authorization);
                 Outcome::Done(House { journal, bench }, Settled { receipt, number })
@@ -276,7 +276,7 @@ impl<D: Disk, T: Trade> House<D, T> {
             }
             Err(_) => return Outcome::NoMemory(House { journal, bench }),
         };
-        match write_entry(journal, r) {
+        match journal.append(r) {
             Ok((journal, receipt)) => {
                 let _applied = bench.apply_entry(r, bytes);
                 Outcome::Done(House { journal, bench }, receipt)
@@ -308,34 +308,5 @@ fn refusal_of(stopped: NotAuthorized) -> Refusal
     match stopped {
         NotAuthorized::Refused(refusal) => refusal,
         NotAuthorized::Again(_) => Refusal::Spent,
-    }
-}
-
-/// Writes an entry behind the closed gate, and opens the gate. It takes no memory. `Full` comes only
-/// where the journal would pass its limit, and hands it back unchanged; `Disk` only where the disk failed.
-pub(crate) fn write_entry<D: Disk>(
-    journal: Journal<D>,
-    r: &Record<'_>,
-) -> Result<(Journal<D>, Receipt), StageFault<D>>
-    requires { Fits (entry r.now) }
-    ensures moved { D.disk_moved journal.disk (written_disk result) }
-    ensures written { IfOk result (λ w. (h : List Entry) → IsJournal D.disk journal h → IsJournal D.disk w.0 (h ++ entry r.now ∷ []) × (w.1 ≡ length h)) }
-    ensures limit { IfOk result (λ w. w.0.limit ≡ journal.limit) }
-    ensures ran { (h : List Entry) → IsJournal D.disk journal h
-        → Ran (D.disk journal.disk) (D.disk (written_disk result)) (EitherNoOutput h (entry r.now) (D.disk journal.disk).aside) }
-    ensures full { (h : List Entry) → journal.size ≡ size h
-        → IfErr result (λ f. MatchStageFault f (λ j. journal.limit < size h + entry_size h (entry r.now)) (λ d. Unit {0})) }
-    ensures fault { IfErr result (λ f. MatchStageFault f
-        (λ j. j ≡ journal)
-        (λ d. Rose (D.disk journal.disk).faults (D.disk d).faults)) }
-    ensures same_count { OnOk result ((D.disk (written_disk result)).faults ≡ (D.disk journal.disk).faults) }
-{
-    let staged = match journal.stage(r) {
-        Ok(staged) => staged,
-        Err(fault) => return Err(fault),
-    };
-    match staged.open_gate() {
-        Ok(opened) => Ok(opened),
-        Err(halted) => Err(StageFault::Disk(halted)),
     }
 }

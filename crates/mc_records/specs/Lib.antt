@@ -5,6 +5,7 @@ pub mod Requests
 pub mod Dates
 pub mod Replies
 pub mod Entry
+pub mod Following
 pub mod Sizes
 pub mod Forms
 pub mod Pieces

@@ -15,7 +15,8 @@ use Rattle.ledger_model.specs.Lawful.{IsLawful}
 use Rattle.scrip_journal.specs.declared.fault.HouseFault.{HouseFault}
 use Rattle.scrip_journal.specs.declared.fault.HouseFault.TheVariants as faults
 use Rattle.house_core.specs.declared.house.House.{House}
-use Rattle.house_core.specs.Found.{FoundedFor, FoundsHouseBy, FoundNoOutput, CountsBy, ReadsOnly}
+use Rattle.scrip_journal.specs.Founds.{FoundNoOutput}
+use Rattle.house_core.specs.Found.{FoundedFor, FoundsHouseBy, CountsBy, ReadsOnly}
 use Rattle.house_core.specs.Opening.{fault_disk}
 use Rattle.house_serving.specs.Course.{with_readings}
 use Rattle.house_serving.proofs.AsideLemmas.{TellsAside, no_more_still, aside_still}

@@ -1,8 +1,8 @@
 -- What one call of `next_record` does, from its steps.
-use Rattle.std.proofs.Common.{◌≡◌, ℕ, ◌+◌, List, [], ◌∷◌, ◌++◌, drop, Option, Some, None, Result, Ok, Err, refl, sym, ◌∙◌, ap, subst, arith}
+use Rattle.std.proofs.Common.{◌≡◌, ℕ, List, drop, Option, Some, None, Ok, Err, refl, sym, ◌∙◌, subst, arith}
 use Rattle.mc_outside.specs.DiskView.{DiskView}
-use Rattle.mc_records.specs.Entry.{Entry, Fits, payload}
-use Rattle.scrip_journal.specs.Layout.{body, next_of}
+use Rattle.mc_records.specs.Entry.{Entry}
+use Rattle.scrip_journal.specs.Layout.{next_of}
 use Rattle.scrip_journal.specs.States.{Reading, IsReading, EndedBy}
 use Rattle.scrip_journal.specs.Answers.{Given, answer_of}
 use Rattle.scrip_journal.specs.Replays.{ReadAhead, FaultsBy, CausedBy, IsFrame, EndsHere, TookEntry, ReadsOn, Advanced, ending_of}

@@ -4,9 +4,11 @@ pub mod Steps
 pub mod Founding
 pub mod Nexts
 pub mod Unique
+pub mod Beginnings
 pub mod Windows
 pub mod Looking
 pub mod Reading
 pub mod Pieces
 pub mod Advancing
 pub mod Heading
+pub mod Appending

@@ -1,5 +1,5 @@
 -- How a reading ends at a gate, and what is held where it goes on.
-use Rattle.std.proofs.Common.{◌≡◌, ◌≢◌, ◌⊎◌, inl, inr, ⊎_elim, ℕ, ◌+◌, ◌^◌, ◌≤◌, ◌<◌, List, [], ◌∷◌, ◌++◌, length, take, drop, Some, Result, Ok, Err, refl, sym, ◌∙◌, ap, subst, arith, append_assoc, length-append}
+use Rattle.std.proofs.Common.{◌≡◌, ◌≢◌, ◌⊎◌, ⊎_elim, ℕ, ◌+◌, ◌^◌, ◌≤◌, ◌<◌, List, [], ◌∷◌, ◌++◌, length, take, drop, Some, Err, sym, ◌∙◌, ap, subst, arith, append_assoc, length-append}
 use Rattle.std.specs.Int.{to_be_bytes, from_be_bytes, w32}
 use Rattle.std.proofs.lemmas.List.{take-append-le, drop-append-le, take-append-drop, length-drop, length-take}
 use Rattle.std.proofs.lemmas.Bool.{cases_lt}
@@ -8,10 +8,9 @@ use Rattle.mc_outside.specs.DiskView.{DiskView}
 use Rattle.mc_outside.proofs.Runs.{read_then}
 use Rattle.mc_records.specs.Entry.{Entry, Fits, payload}
 use Rattle.mc_records.specs.Forms.{entry_of}
-use Rattle.mc_records.proofs.PayloadSizes.{payload_is_short}
-use Rattle.scrip_journal.specs.Layout.{body, at_end, spoiled, next_of}
-use Rattle.scrip_journal.specs.States.{Reading, EndedBy}
-use Rattle.scrip_journal.specs.Replays.{SameBut, HeldOf, ReadAhead, IsCut, AllHeld, IsFrame, EndsHere}
+use Rattle.scrip_journal.specs.Layout.{spoiled, next_of}
+use Rattle.scrip_journal.specs.States.{Reading}
+use Rattle.scrip_journal.specs.Replays.{HeldOf, ReadAhead, IsCut, AllHeld, IsFrame, EndsHere}
 use Rattle.scrip_journal.specs.declared.ending.Ending.{Ending}
 use Rattle.scrip_journal.specs.declared.ending.Ending.TheVariants.{Closed, Spoiled, Failed}
 use Rattle.scrip_journal.proofs.Nexts.{nothing_there, closed_there, length_cut, long_there, far_there, payload_cut, payload_there}

@@ -1,15 +1,11 @@
 -- What comes at a gate, case by case.
-use Rattle.std.proofs.Common.{◌≡◌, ◌≢◌, Bool, true, false, cond, ℕ, ◌+◌, ◌^◌, ◌≤◌, ◌<◌, List, [], ◌∷◌, ◌++◌, length, take, drop, Result, Ok, Err, refl, sym, ◌∙◌, ap, subst, arith, ltb, leb, eqb, append_assoc, length-append}
-use Rattle.std.specs.Int.{to_be_bytes, from_be_bytes, w32}
-use Rattle.std.proofs.lemmas.Bool.{lt-ltb, le-ltb, le-leb, lt-leb, ne_eqb, cases_lt}
-use Rattle.std.proofs.lemmas.List.{take_at, drop_at}
-use Rattle.std.proofs.lemmas.Nat.{from_be_bytes-to_be_bytes_4}
-use Rattle.mc_records.specs.Entry.{Entry, Fits, payload}
-use Rattle.mc_records.specs.Sizes.{tail_size, entry_size, size}
+use Rattle.std.proofs.Common.{◌≡◌, ◌≢◌, Bool, true, false, cond, ℕ, ◌+◌, ◌^◌, ◌≤◌, ◌<◌, List, [], ◌∷◌, length, take, drop, Result, Ok, Err, refl, sym, ◌∙◌, ap, subst, arith, ltb, leb}
+use Rattle.std.specs.Int.{from_be_bytes, w32}
+use Rattle.std.proofs.lemmas.Bool.{lt-ltb, le-ltb, le-leb, lt-leb, ne_eqb}
+use Rattle.mc_records.specs.Entry.{Entry}
+use Rattle.mc_records.specs.Sizes.{tail_size}
 use Rattle.mc_records.specs.Forms.{entry_of}
-use Rattle.mc_records.proofs.EntryLaws.{no_prefix}
-use Rattle.scrip_journal.specs.Layout.{framed, body, Next, at_end, entered, spoiled, next_payload, next_framed, next_behind, next_of}
-use Rattle.scrip_journal.proofs.Bodies.{body_long}
+use Rattle.scrip_journal.specs.Layout.{body, Next, at_end, entered, spoiled, next_payload, next_framed, next_behind, next_of}
 
 module _ (h : List Entry) (gate : ℕ) (place : gate ≡ length (body h)) where
   pub nothing_there : next_of h [] ≡ spoiled gate

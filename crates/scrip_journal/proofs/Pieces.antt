@@ -1,12 +1,12 @@
 -- What a piece read ahead and an entry taken off leave of a reading.
-use Rattle.std.proofs.Common.{◌≡◌, ℕ, ◌+◌, ◌-◌, ◌≤◌, List, [], ◌∷◌, ◌++◌, length, take, drop, Some, refl, sym, ◌∙◌, ap, subst, arith, append-nil, length-append, length-drop}
+use Rattle.std.proofs.Common.{◌≡◌, ℕ, ◌+◌, ◌≤◌, List, [], ◌∷◌, ◌++◌, length, take, drop, Some, refl, sym, ◌∙◌, ap, subst, arith, append-nil, length-append, length-drop}
 use Rattle.std.specs.Int.{to_be_bytes, w32}
 use Rattle.std.proofs.lemmas.List.{drop-drop, take_at, drop_at}
 use Rattle.mc_outside.specs.Bytes.{BeginsWith}
 use Rattle.mc_outside.specs.DiskView.{DiskView, OnlyRead}
 use Rattle.mc_records.specs.Entry.{payload}
 use Rattle.scrip_journal.specs.States.{Reading}
-use Rattle.scrip_journal.specs.Replays.{HeldOf, ReadAhead, AllHeld, IsFrame}
+use Rattle.scrip_journal.specs.Replays.{ReadAhead, AllHeld, IsFrame}
 use Rattle.scrip_journal.proofs.Windows.{held_grows, held_all}
 
 module _ {D : Type 0} (view : D → DiskView) (old new : Reading D) (n : ℕ) (piece : List ℕ) (gate : new.gate ≡ old.gate) (grown : new.held ≡ old.held ++ piece) (only : OnlyRead (view old.disk) (view new.disk)) where

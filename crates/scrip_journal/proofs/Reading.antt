@@ -1,17 +1,17 @@
 -- How a journal is read on.
-use Rattle.std.proofs.Common.{◌≡◌, ◌≢◌, ℕ, ◌+◌, ◌^◌, ◌≤◌, List, [], ◌∷◌, ◌++◌, length, take, drop, Option, Some, None, refl, sym, ◌∙◌, ap, subst, arith, append_assoc, append-nil, length-append}
+use Rattle.std.proofs.Common.{◌≡◌, ℕ, ◌+◌, List, [], ◌∷◌, ◌++◌, length, drop, Option, Some, None, sym, ◌∙◌, ap, subst, arith, append_assoc, append-nil, length-append}
 use Rattle.std.specs.Int.{to_be_bytes, w32}
 use Rattle.std.proofs.lemmas.List.{drop_at}
 use Rattle.mc_outside.specs.Bytes.{BeginsWith}
 use Rattle.mc_outside.specs.DiskView.{DiskView}
-use Rattle.mc_records.specs.Entry.{Entry, Fits, payload}
-use Rattle.mc_records.specs.Sizes.{tail, entry_size, size}
-use Rattle.scrip_journal.specs.Layout.{body, framed, next_of, at_end, spoiled, Encodes, Reads, IsSpoiled}
+use Rattle.mc_records.specs.Entry.{Entry, payload}
+use Rattle.mc_records.specs.Sizes.{tail, size}
+use Rattle.scrip_journal.specs.Layout.{body, framed, next_of, at_end, spoiled, Encodes, IsSpoiled}
 use Rattle.scrip_journal.specs.States.{Reading, AtRest, IsReading, IsJournal, EndedBy}
-use Rattle.scrip_journal.specs.Replays.{SameBut, HeldOf, ReadAhead, IsFrame, EndsHere}
+use Rattle.scrip_journal.specs.Replays.{HeldOf, ReadAhead, IsFrame}
 use Rattle.scrip_journal.specs.declared.ending.Ending.{Ending}
-use Rattle.scrip_journal.specs.declared.ending.Ending.TheVariants.{Closed, Spoiled, Failed}
-use Rattle.scrip_journal.proofs.Bodies.{body_long, body_more, size_more, fits_more, framed_long}
+use Rattle.scrip_journal.specs.declared.ending.Ending.TheVariants.{Closed}
+use Rattle.scrip_journal.proofs.Bodies.{body_long, body_more, size_more, fits_more}
 use Rattle.scrip_journal.proofs.Nexts.{at_end_is}
 
 -- a length and the payload of that length are the frame of an entry

@@ -1,11 +1,11 @@
 -- What the calls of a journal leave, from what the disk's calls promise.
-use Rattle.std.proofs.Common.{◌≡◌, ◌⊎◌, inl, inr, ℕ, ◌+◌, ◌≤◌, ◌^◌, List, [], ◌∷◌, ◌++◌, length, drop, Option, Some, refl, sym, ◌∙◌, ap, subst, arith, append_assoc, length-append}
+use Rattle.std.proofs.Common.{◌≡◌, ◌⊎◌, inl, ℕ, ◌+◌, ◌≤◌, ◌^◌, List, [], ◌∷◌, ◌++◌, length, drop, Option, Some, refl, sym, ◌∙◌, ap, subst, arith, append_assoc, length-append}
 use Rattle.std.specs.Prelude.{option_map}
 use Rattle.mc_outside.specs.Bytes.{put}
 use Rattle.mc_outside.specs.DiskView.{DiskView, DiskGoes, CallPairs, Follows, LeavesNoMore, IsSynced, Torn, Ran}
 use Rattle.mc_outside.proofs.Runs.{ran_quiet, ran_then}
 use Rattle.mc_records.specs.Entry.{Entry, Fits}
-use Rattle.mc_records.specs.Sizes.{size, entry_size}
+use Rattle.mc_records.specs.Sizes.{size}
 use Rattle.scrip_journal.specs.Layout.{framed, body, Encodes}
 use Rattle.scrip_journal.specs.States.{AtRest, WithNext, IsJournal, IsStaged}
 use Rattle.scrip_journal.specs.Exits.{EncodesNoOutput, EitherNoOutput}

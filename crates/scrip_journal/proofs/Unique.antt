@@ -1,6 +1,6 @@
 -- Bytes are read in one way: they encode one list of entries at most, and what spoils them has one
 -- place.
-use Rattle.std.proofs.Common.{◌≡◌, ◌≢◌, ℕ, ◌+◌, ◌^◌, ◌≤◌, ◌<◌, List, [], ◌∷◌, ◌++◌, length, take, drop, Result, Ok, Err, refl, sym, ◌∙◌, ap, subst, arith, append_assoc, append-nil, length-append}
+use Rattle.std.proofs.Common.{◌≡◌, ℕ, ◌+◌, ◌^◌, ◌≤◌, ◌<◌, List, [], ◌∷◌, ◌++◌, length, take, drop, Ok, refl, sym, ◌∙◌, ap, subst, arith, append_assoc, append-nil, length-append}
 use Rattle.std.specs.Int.{to_be_bytes, from_be_bytes, w32}
 use Rattle.std.specs.List.{AllByRecursion}
 use Rattle.std.proofs.lemmas.List.{take_at, drop_at}
@@ -11,7 +11,7 @@ use Rattle.mc_records.specs.Forms.{entry_of}
 use Rattle.mc_records.proofs.EntryLaws.{no_prefix, payload_only}
 use Rattle.mc_records.proofs.PayloadSizes.{payload_is_short}
 use Rattle.scrip_journal.specs.Layout.{header, framed, gated, body, Next, at_end, entered, spoiled, next_of, Encodes, Reads}
-use Rattle.scrip_journal.proofs.Bodies.{body_long, size_more, framed_long}
+use Rattle.scrip_journal.proofs.Bodies.{body_long}
 use Rattle.scrip_journal.proofs.Nexts.{payload_there, closed_there}
 
 -- two lists with fronts of one length are split in one way

@@ -17,6 +17,12 @@ abbrev pub opened_disk : {D : Type 0} → Result (AtRest D × ℕ) D → D
 opened_disk (Ok r) = r.0.disk
 opened_disk (Err d) = d
 
+-- and from staging an entry and opening its gate
+abbrev pub written_disk : {D : Type 0} → Result (AtRest D × ℕ) (StageFault D) → D
+written_disk (Ok w) = w.0.disk
+written_disk (Err (Full j)) = j.disk
+written_disk (Err (Disk d)) = d
+
 -- P of the journal that comes back, Q of the disk of a halted one
 abbrev pub MatchStageFault : {D : Type 0} → StageFault D → (AtRest D → Type 0) → (D → Type 0) → Type 0
 MatchStageFault (Full j) P Q = P j

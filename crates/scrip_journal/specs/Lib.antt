@@ -5,3 +5,5 @@ pub mod Replays
 pub mod Opens
 pub mod Rests
 pub mod Answers
+pub mod Causes
+pub mod Founds

@@ -9,7 +9,6 @@ use Rattle.scrip_journal.specs.States.{Reading, IsReading, EndedBy}
 use Rattle.scrip_journal.specs.Answers.{Given, answer_of}
 use Rattle.scrip_journal.specs.declared.ending.Ending.{Ending}
 use Rattle.scrip_journal.specs.declared.ending.Ending.TheVariants.{Closed, Spoiled, Failed}
-use Rattle.scrip_journal.specs.declared.ending.ReplayFault.{ReplayFault}
 use Rattle.scrip_journal.specs.declared.ending.ReplayFault.TheVariants.{BadRecord, Disk}
 
 -- a reading goes on behind an entry, and has ended else

@@ -1,13 +1,13 @@
 //! A journal at rest, and what its calls end as.
 
-ghost use Rattle.std.specs.Prelude.{◌≡◌, ◌↔◌, ◌+◌, ◌<◌, List, IfOk, IfErr, OnOk};
+ghost use Rattle.std.specs.Prelude.{◌≡◌, ◌↔◌, ◌+◌, ◌<◌, ◌∷◌, ◌++◌, [], List, length, IfOk, IfErr, OnOk};
 ghost use Rattle.mc_outside.specs.Bytes.{Rose};
 ghost use Rattle.mc_outside.specs.DiskView.{Ran};
 ghost use Rattle.mc_records.specs.Entry.{Entry, Fits};
 ghost use Rattle.mc_records.specs.Sizes.{size, entry_size};
 ghost use Rattle.mc_records.specs.Views.{entry};
 ghost use Rattle.scrip_journal.specs.States.{IsJournal, IsStaged};
-ghost use Rattle.scrip_journal.specs.Exits.{staged_disk, IsFull, MatchStageFault, EncodesNoOutput};
+ghost use Rattle.scrip_journal.specs.Exits.{staged_disk, written_disk, IsFull, MatchStageFault, EncodesNoOutput, EitherNoOutput};
 
 use crate::cursor::{Cursor, put_block};
 use crate::staged::Staged;
@@ -103,6 +103,36 @@ impl<D: Disk> Journal<D> {
         }
         let next = at.gate + block as u64;
         Ok(Staged { disk, at, next })
+    }
+
+    /// Writes an entry behind the closed gate, and opens the gate: it lasts then. It takes no memory.
+    ///
+    /// A crash in this call leaves the entries with the new one or without it. `Full` comes only where
+    /// the journal would pass its limit, and hands it back unchanged; `Disk` only where the disk failed.
+    pub fn append(self, r: &Record<'_>) -> Result<(Journal<D>, Receipt), StageFault<D>>
+        requires { Fits (entry r.now) }
+        ensures moved { D.disk_moved self.disk (written_disk result) }
+        ensures written { IfOk result (λ w. (h : List Entry) → IsJournal D.disk self h → IsJournal D.disk w.0 (h ++ entry r.now ∷ []) × (w.1 ≡ length h)) }
+        ensures limit { IfOk result (λ w. w.0.limit ≡ self.limit) }
+        // Each crash pair of the call encodes the entries with the new one or without it, and nothing is
+        // sent.
+        ensures ran { (h : List Entry) → IsJournal D.disk self h
+            → Ran (D.disk self.disk) (D.disk (written_disk result)) (EitherNoOutput h (entry r.now) (D.disk self.disk).aside) }
+        ensures full { (h : List Entry) → self.size ≡ size h
+            → IfErr result (λ f. MatchStageFault f (λ j. self.limit < size h + entry_size h (entry r.now)) (λ d. Unit {0})) }
+        ensures fault { IfErr result (λ f. MatchStageFault f
+            (λ j. j ≡ self)
+            (λ d. Rose (D.disk self.disk).faults (D.disk d).faults)) }
+        ensures same_count { OnOk result ((D.disk (written_disk result)).faults ≡ (D.disk self.disk).faults) }
+    {
+        let staged = match self.stage(r) {
+            Ok(staged) => staged,
+            Err(fault) => return Err(fault),
+        };
+        match staged.open_gate() {
+            Ok(opened) => Ok(opened),
+            Err(halted) => Err(StageFault::Disk(halted)),
+        }
     }
 
     /// The place after the closed gate: how many bytes of the disk mean something.

@@ -3,7 +3,8 @@ use Rattle.mc_outside.specs.LinkView.{LinkView}
 use Rattle.mc_records.specs.Entry.{Entry}
 use Rattle.mc_outside.specs.DiskView.{Ran}
 use Rattle.house_core.specs.declared.house.House.{House}
-use Rattle.house_core.specs.Found.{FoundsHouseBy, FoundNoOutput, CountsBy}
+use Rattle.scrip_journal.specs.Founds.{FoundNoOutput}
+use Rattle.house_core.specs.Found.{FoundsHouseBy, CountsBy}
 use Rattle.house_core.specs.Opening.{fault_disk}
 use Rattle.vendor_core.specs.declared.shelf.Shelf.{Shelf}
 use Rattle.vendor_core.specs.Shelf.{ShelfRepresents, HasGoods}

@@ -1,6 +1,6 @@
 use Rattle.std.proofs.Common.{refl, sym, ◌∙◌}
 use Rattle.mc_outside.proofs.Counts.{on_ok}
-use Rattle.scrip_journal.proofs.Founding.{cut_ran, write_ran, sync_ran, is_founded}
+use Rattle.scrip_journal.proofs.Founding.{write_ran, sync_ran, is_founded}
 use Rattle.scrip_journal.proofs.found.found_journal.Goals as goal
 
 pub returns-then-is_err-2-clause-ran : goal.returns-then-is_err-2-clause-ran

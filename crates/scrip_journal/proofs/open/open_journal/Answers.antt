@@ -1,4 +1,4 @@
-use Rattle.std.proofs.Common.{refl, sym, ◌∙◌, ap, Some}
+use Rattle.std.proofs.Common.{sym, ◌∙◌, ap}
 use Rattle.mc_outside.proofs.Counts.{on_ok}
 use Rattle.scrip_journal.specs.States.{Reading}
 use Rattle.scrip_journal.proofs.Heading.{opened_reading}

@@ -23,27 +23,27 @@ apply_accept-number-requires-clause-new g c =
     let same = c.in-Ok.ensures.same.state in
     rw (same.time, same.keep, same.replies) c.requires.new
 
-pub returns-in-Ok-write_entry-clause-exact : goal.returns-in-Ok-write_entry-clause-exact
-returns-in-Ok-write_entry-clause-exact g c h st in_force brings takes =
+pub returns-in-Ok-append-clause-exact : goal.returns-in-Ok-append-clause-exact
+returns-in-Ok-append-clause-exact g c h st in_force brings takes =
     let a = c.args.authorization.now in
     let same = c.in-Ok.ensures.same in
     let time : house_time c.make_room.new.self ≡ house_time c.args.self.bench = same.state.time in
     let limits : limits_of c.make_room.new.self ≡ limits_of c.args.self.bench = same.state.limits in
     let is : entry c.entry_of-record.result ≡ accept_entry (house_time c.args.self.bench) c.args.scrip.now.text c.args.q.now.target.now a = rw (c.entry_of-record.ensures.same, c.time.ensures, time) refl in
     let st' = holds_roomed g.T.Trade.stands g.T.Trade.site g.T.Trade.holds _ _ h same st.house.stands' in
-    let after : House g.row.D.Denot g.row.T.Denot = record { journal = c.in-Ok-write_entry.journal; bench = c.apply_accept-number.new.self } in
+    let after : House g.row.D.Denot g.row.T.Denot = record { journal = c.in-Ok-append.journal; bench = c.apply_accept-number.new.self } in
     let entered = (rw time at (c.apply_accept-number.ensures.exact (limits_of c.args.self.bench) h st' brings (ap (λ (l : Limits). l.series) (sym limits)) st.house.stands'.state.limits.journal_most)) takes in
     let contents = rw time at (c.apply_accept-number.ensures.contents h st' (contents_roomed g.T.Trade.stands g.T.Trade.site g.T.Trade.holds _ _ h same st.house.contents) in_force) in
-    let wrote = c.in-Ok-write_entry.ensures in
+    let wrote = c.in-Ok-append.ensures in
     has_entered g.D.Disk.disk g.T.Trade.stands g.T.Trade.site g.T.Trade.holds c.args.self after h (accept_entry (house_time c.args.self.bench) c.args.scrip.now.text c.args.q.now.target.now a) (entry c.entry_of-record.result)
     c.apply_accept-number.result is st (wrote.written h st.journal).0 wrote.limit (c.apply_accept-number.ensures.limits ∙ limits) entered.0 entered.1 contents
 
-pub returns-in-Ok-write_entry-clause-ran : goal.returns-in-Ok-write_entry-clause-ran
-returns-in-Ok-write_entry-clause-ran g c h st =
+pub returns-in-Ok-append-clause-ran : goal.returns-in-Ok-append-clause-ran
+returns-in-Ok-append-clause-ran g c h st =
     let same = c.in-Ok.ensures.same in
     let time : house_time c.make_room.new.self ≡ house_time c.args.self.bench = same.state.time in
     let is : entry c.entry_of-record.result ≡ accept_entry (house_time c.args.self.bench) c.args.scrip.now.text c.args.q.now.target.now c.args.authorization.now = rw (c.entry_of-record.ensures.same, c.time.ensures, time) refl in
-    subst (λ (e : Entry). Ran (g.D.Disk.disk c.args.self.journal.disk) (g.D.Disk.disk c.in-Ok-write_entry.journal.disk) (EitherNoOutput h e (g.D.Disk.disk c.args.self.journal.disk).aside)) is (c.in-Ok-write_entry.ensures.ran h st.journal)
+    subst (λ (e : Entry). Ran (g.D.Disk.disk c.args.self.journal.disk) (g.D.Disk.disk c.in-Ok-append.journal.disk) (EitherNoOutput h e (g.D.Disk.disk c.args.self.journal.disk).aside)) is (c.in-Ok-append.ensures.ran h st.journal)
 
 pub returns-in-Err-Full-clause-exact : goal.returns-in-Err-Full-clause-exact
 returns-in-Err-Full-clause-exact g c h st in_force brings takes =

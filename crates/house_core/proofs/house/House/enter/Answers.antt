@@ -27,18 +27,18 @@ returns-in-Err-clause-exact g c h st =
 pub returns-in-Err-clause-ran : goal.returns-in-Err-clause-ran
 returns-in-Err-clause-ran g c h st = ran_nothing g.D.Disk.disk c.args.self.journal _ h (g.met.D.Disk.is_disk _) st.journal refl
 
-pub returns-in-Ok-write_entry-clause-exact : goal.returns-in-Ok-write_entry-clause-exact
-returns-in-Ok-write_entry-clause-exact g c h st =
+pub returns-in-Ok-append-clause-exact : goal.returns-in-Ok-append-clause-exact
+returns-in-Ok-append-clause-exact g c h st =
     let same = c.make_room_for.ensures.same in
     let limits : limits_of c.make_room_for.new.self ≡ limits_of c.args.self.bench = same.state.limits ∙ c.raise.ensures.limits in
     let st' = holds_roomed g.T.Trade.stands g.T.Trade.site g.T.Trade.holds _ _ h same (c.raise.ensures.same h st.house.stands') in
     let has = contents_roomed g.T.Trade.stands g.T.Trade.site g.T.Trade.holds _ _ h same (c.raise.ensures.contents h st.house.stands' st.house.contents) in
-    let after : House g.row.D.Denot g.row.T.Denot = record { journal = c.in-Ok-write_entry.journal; bench = c.apply_entry-applied.new.self } in
-    let wrote = c.in-Ok-write_entry.ensures in
+    let after : House g.row.D.Denot g.row.T.Denot = record { journal = c.in-Ok-append.journal; bench = c.apply_entry-applied.new.self } in
+    let wrote = c.in-Ok-append.ensures in
     let may = c.requires.may h st in
     let both = applied c.apply_entry-applied.result _ _ _ _ _ _ may (rw limits at (c.apply_entry-applied.ensures.exact h st' may.in_order)) (c.apply_entry-applied.ensures.contents h st' has) in
     has_entered g.D.Disk.disk g.T.Trade.stands g.T.Trade.site g.T.Trade.holds c.args.self after h (entry c.args.r.now) (entry c.args.r.now)
-    c.in-Ok-write_entry.receipt refl st (wrote.written h st.journal).0 wrote.limit (c.apply_entry-applied.ensures.limits ∙ limits) (wrote.written h st.journal).1 both.0 both.1
+    c.in-Ok-append.receipt refl st (wrote.written h st.journal).0 wrote.limit (c.apply_entry-applied.ensures.limits ∙ limits) (wrote.written h st.journal).1 both.0 both.1
 
 pub returns-in-Err-Full-clause-exact : goal.returns-in-Err-Full-clause-exact
 returns-in-Err-Full-clause-exact g c h st =
@@ -63,5 +63,5 @@ returns-in-Err-Disk-clause-ran g c h st =
     let ran : Ran (g.D.Disk.disk c.args.self.journal.disk) (g.D.Disk.disk c.in-Err-Disk.halted) (EitherNoOutput h (entry c.args.r.now) (g.D.Disk.disk c.args.self.journal.disk).aside) = rw c.in-Err-Disk.field-0-is at (c.in-Err-Disk.ensures.ran h st.journal) in
     ran
 
-pub returns-in-Ok-write_entry-clause-ran : goal.returns-in-Ok-write_entry-clause-ran
-returns-in-Ok-write_entry-clause-ran g c h st = c.in-Ok-write_entry.ensures.ran h st.journal
+pub returns-in-Ok-append-clause-ran : goal.returns-in-Ok-append-clause-ran
+returns-in-Ok-append-clause-ran g c h st = c.in-Ok-append.ensures.ran h st.journal

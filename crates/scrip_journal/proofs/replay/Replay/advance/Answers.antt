@@ -1,4 +1,4 @@
-use Rattle.std.proofs.Common.{◌≡◌, ◌+◌, ◌-◌, ◌≤◌, sym, ◌∙◌, ap, arith, length, drop, List, ℕ}
+use Rattle.std.proofs.Common.{◌+◌, ◌-◌, sym, ◌∙◌, ap, arith, length, drop, List, ℕ}
 use Rattle.std.specs.Prelude.{slice_range}
 use Rattle.scrip_journal.specs.States.{Reading}
 use Rattle.scrip_journal.proofs.Windows.{part_of_held, back_of_window, window_long}

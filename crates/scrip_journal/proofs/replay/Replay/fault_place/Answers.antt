@@ -1,6 +1,5 @@
-use Rattle.std.proofs.Common.{◌≡◌, ◌+◌, sym, ◌∙◌, ap, arith, take, drop, List, ℕ, Result, Ok, Err}
+use Rattle.std.proofs.Common.{◌+◌, sym, ◌∙◌, ap, arith, List, ℕ}
 use Rattle.std.specs.Prelude.{slice_range}
-use Rattle.mc_records.specs.Entry.{Entry}
 use Rattle.mc_records.specs.Forms.{entry_of}
 use Rattle.mc_records.specs.Views.{entry}
 use Rattle.scrip_journal.specs.States.{Reading}

@@ -1,4 +1,4 @@
-use Rattle.std.proofs.Common.{◌≡◌, ◌+◌, ap}
+use Rattle.std.proofs.Common.{◌+◌, ap}
 use Rattle.scrip_journal.specs.States.{Reading, AtRest}
 use Rattle.scrip_journal.proofs.Reading.{finished}
 use Rattle.scrip_journal.proofs.replay.Replay.finish.Goals as goal

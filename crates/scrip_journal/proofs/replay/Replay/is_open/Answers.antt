@@ -1,4 +1,4 @@
-use Rattle.std.proofs.Common.{◌≡◌, ◌∷◌, [], ◌<◌, sym, ◌∙◌, ap, subst, arith, length, get_or, List, ℕ, nat_eq, true, false}
+use Rattle.std.proofs.Common.{◌∷◌, [], ◌<◌, sym, ◌∙◌, ap, subst, arith, length, get_or, List, ℕ}
 use Rattle.std.proofs.lemmas.Bool.{eqb-true, eqb-false}
 use Rattle.mc_outside.specs.Bytes.{BeginsWith}
 use Rattle.scrip_journal.specs.States.{Reading}

@@ -1,4 +1,4 @@
-use Rattle.std.proofs.Common.{◌≡◌, ◌+◌, ◌^◌, ◌≤◌, refl, sym, ◌∙◌, ap, subst, arith, take, drop, List, [], ◌∷◌, ℕ}
+use Rattle.std.proofs.Common.{◌≡◌, ◌+◌, refl, sym, ◌∙◌, ap, subst, arith, List, [], ◌∷◌, ℕ}
 use Rattle.std.specs.Int.{w32, from_be_bytes}
 use Rattle.scrip_journal.specs.States.{Reading}
 use Rattle.scrip_journal.specs.Replays.{EndsHere}

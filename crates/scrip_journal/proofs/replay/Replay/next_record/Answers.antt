@@ -1,4 +1,4 @@
-use Rattle.std.proofs.Common.{◌≡◌, ◌-◌, refl, ◌∙◌, sym, ap, subst, List, ℕ, Some, Err}
+use Rattle.std.proofs.Common.{◌-◌, ◌∙◌, sym, ap, subst, List, ℕ, Some, Err}
 use Rattle.std.specs.Prelude.{slice_range}
 use Rattle.scrip_journal.specs.States.{Reading}
 use Rattle.scrip_journal.specs.Replays.{ReadAhead, FaultsBy, EndsHere}

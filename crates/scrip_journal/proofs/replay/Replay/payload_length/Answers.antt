@@ -1,4 +1,4 @@
-use Rattle.std.proofs.Common.{◌≡◌, ◌+◌, sym, ◌∙◌, ap, arith, List, ℕ}
+use Rattle.std.proofs.Common.{◌+◌, sym, ◌∙◌, ap, arith, List, ℕ}
 use Rattle.std.specs.Prelude.{slice_range}
 use Rattle.std.specs.Int.{w32, from_be_bytes}
 use Rattle.scrip_journal.specs.States.{Reading}

@@ -1,5 +1,4 @@
-use Rattle.std.proofs.Common.{◌≡◌, ◌+◌, ◌≤◌, refl, sym, ◌∙◌, ap, subst, arith, length, drop, List, ℕ}
-use Rattle.std.specs.Prelude.{slice_range}
+use Rattle.std.proofs.Common.{◌+◌, ◌≤◌, refl, ◌∙◌, ap, arith, length, drop, List, ℕ}
 use Rattle.scrip_journal.specs.States.{Reading}
 use Rattle.scrip_journal.proofs.Heading.{cut_header, other_header, found_header}
 use Rattle.scrip_journal.proofs.Windows.{back_of_window, window_long}

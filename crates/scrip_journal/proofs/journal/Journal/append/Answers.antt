@@ -1,6 +1,6 @@
 use Rattle.mc_records.specs.Views.{entry}
-use Rattle.house_core.proofs.HouseDisk.{ran_written, ran_unstaged}
-use Rattle.house_core.proofs.house.write_entry.Goals as goal
+use Rattle.scrip_journal.proofs.Appending.{ran_written, ran_unstaged}
+use Rattle.scrip_journal.proofs.journal.Journal.append.Goals as goal
 
 pub returns-in-Ok-open_gate-clause-ran : goal.returns-in-Ok-open_gate-clause-ran
 returns-in-Ok-open_gate-clause-ran g c h is =
