@@ -11,43 +11,44 @@ use Rattle.mc_records.specs.Entry.{Entry}
 use Rattle.ledger_model.specs.Histories.{History}
 use Rattle.millicent_http.specs.Held.{Held, nothing_held}
 use Rattle.millicent_http.proofs.ReadLemmas.{read_more, read_item}
+use Rattle.millicent_http.specs.declared.clock.Clock.TheVariants.{OfLinks}
+use Rattle.millicent_http.specs.Steps.{Did, sent_of, state_after}
+use Rattle.millicent_http.specs.Courses.{HadLinks, NoLink}
+use Rattle.millicent_http.proofs.LinkCalls.{heard_on}
+use Rattle.millicent_http.proofs.CourseLemmas.{links_start, links_go_on}
 use Rattle.house_core.specs.declared.bench.Bench.{Bench}
 use Rattle.house_core.specs.declared.house.House.{House}
 use Rattle.house_core.specs.Bench.{house_time, limits_of, state_of}
 use Rattle.house_core.specs.House.{HouseRepresents}
-use Rattle.house_core.specs.Session.{State}
-use Rattle.house_serving.specs.declared.serving.Clock.TheVariants.{OfLinks}
+use Rattle.house_core.specs.Session.{State, Step}
 use Rattle.house_serving.specs.declared.turn.Turn.{Turn}
 use Rattle.house_serving.specs.declared.turn.Turn.TheVariants as turns
 use Rattle.house_serving.specs.declared.links.ServeOut.TheVariants as outs
-use Rattle.house_serving.specs.Steps.{Did, sent_of, state_after}
-use Rattle.house_serving.specs.Course.{HadLinks, NoLink}
 use Rattle.house_serving.specs.Orders.{RefinesBy, InDoubt, HaltedBy}
 use Rattle.house_serving.specs.InDoubt.{RequestInDoubt, InDoubtTurn, InDoubtLink}
 use Rattle.house_serving.specs.Links.{TurnsHouse, EndsTurns, ServesLink, ServesLinks}
-use Rattle.house_serving.proofs.LinkCalls.{heard_on}
 use Rattle.house_serving.proofs.ServingLemmas.{IsServing, serving_starts, serving_goes_on, serving_ended}
-use Rattle.house_serving.proofs.LinksLemmas.{had_link, links_start, links_go_on}
+use Rattle.house_serving.proofs.LinksLemmas.{had_link}
 use Rattle.house_serving.proofs.AsideLemmas.{TellsAside, SentNoMore, no_more_still, no_more_taken, aside_still}
 use Rattle.house_serving.proofs.OrderLemmas.{begins_then, house_keeps, went_nowhere, went_on, went_quiet, halted_later}
 use Rattle.house_serving.proofs.HouseTurnLemmas.{ReadOn}
 
 -- the state that a house is in after its steps
-went_at : {O T : Type 0} (link : O → LinkView) (disk : O → DiskView) (stands : T → History → Type 0) (site : T → ℕ) (holds : T → ℕ → Type 0) (a : O) (s : State) (xs : List Did) (x : House O T) → RefinesBy link disk stands site holds a s xs x
+went_at : {O T : Type 0} (link : O → LinkView) (disk : O → DiskView) (stands : T → History → Type 0) (site : T → ℕ) (holds : T → ℕ → Type 0) (a : O) (s : State) (xs : List (Did State)) (x : House O T) → RefinesBy link disk stands site holds a s xs x
     → state_of (state_after s xs).history x.bench ≡ state_after s xs
 went_at link disk stands site holds a s xs x went = ap (λ (t : ℕ). record { history = (state_after s xs).history; time = t }) went.time
 
 -- links did what sends nothing, after some steps
-pub went_still : {O T : Type 0} (link : O → LinkView) (disk : O → DiskView) (stands : T → History → Type 0) (site : T → ℕ) (holds : T → ℕ → Type 0) (a : O) (s : State) (xs : List Did) (x y : House O T) → ReadOn link disk x y
+pub went_still : {O T : Type 0} (link : O → LinkView) (disk : O → DiskView) (stands : T → History → Type 0) (site : T → ℕ) (holds : T → ℕ → Type 0) (a : O) (s : State) (xs : List (Did State)) (x y : House O T) → ReadOn link disk x y
     → SentNoMore (link x.journal.disk) (link y.journal.disk) → RefinesBy link disk stands site holds a s xs x → RefinesBy link disk stands site holds a s xs y
 went_still {T = T} link disk stands site holds a s xs x y on same went =
-    subst (λ (l : List Did). RefinesBy link disk stands site holds a s l y) (append-nil xs)
+    subst (λ (l : List (Did State)). RefinesBy link disk stands site holds a s l y) (append-nil xs)
     (went_on link disk stands site holds a s xs [] x y went
     (went_quiet link disk stands site holds x y (state_after s xs) on.tells went.house (ap (λ (b : Bench T). house_time b) on.rests.bench ∙ went.time) on.keeps on.goes
     (house_keeps disk stands site holds x y (state_after s xs).history went.house on.keeps on.rests) same))
 
 -- the same where the disk failed
-pub halted_still : {O : Type 0} (link : O → LinkView) (disk : O → DiskView) (a c d : O) (s : State) (xs : List Did) (e : Entry) (said : List ℕ) → TellsAside link (λ o. (disk o).aside) → LinkKeeps (disk c) (disk d) → LinkGoes (link c) (link d)
+pub halted_still : {O : Type 0} (link : O → LinkView) (disk : O → DiskView) (a c d : O) (s : State) (xs : List (Did State)) (e : Entry) (said : List ℕ) → TellsAside link (λ o. (disk o).aside) → LinkKeeps (disk c) (disk d) → LinkGoes (link c) (link d)
     → SentNoMore (link c) (link d) → HaltedBy link disk a s xs e said c → HaltedBy link disk a s xs e said d
 halted_still link disk a c d s xs e said tells keeps goes same halted =
     let quiet : IsSome (link a).sessions → (disk d).aside ≡ (disk c).aside = λ told'. aside_still link (λ o. (disk o).aside) c d tells (subst (λ (b : Bool). IsTrue b) (sym halted.tells) told') same in
@@ -74,18 +75,18 @@ halted_still link disk a c d s xs e said tells keeps goes same halted =
 -- by these turns a house came so far on a link
 abbrev pub ServingHouse : {O T : Type 0} → (O → LinkView) → (O → DiskView) → (T → History → Type 0) → (T → ℕ) → (T → ℕ → Type 0) → Limits → O → State → House O T → Held → Type 0
 ServingHouse link disk stands site holds limits a s x k =
-    (steps : List Did) × RefinesBy link disk stands site holds a s steps x × IsServing limits OfLinks steps s (link a) k (link x.journal.disk)
+    (steps : List (Did State)) × RefinesBy link disk stands site holds a s steps x × IsServing (Step limits) OfLinks steps s (link a) k (link x.journal.disk)
 
 pub house_starts : {O T : Type 0} (link : O → LinkView) (disk : O → DiskView) (stands : T → History → Type 0) (site : T → ℕ) (holds : T → ℕ → Type 0) (x : House O T) (h : History) (k : Held) → IsDisk (disk x.journal.disk) → k ≡ nothing_held
     → HouseRepresents disk stands site holds x h → ServingHouse link disk stands site holds (limits_of x.bench) x.journal.disk (state_of h x.bench) x k
 house_starts link disk stands site holds x h k is empty st = (
   [],
   went_nowhere link disk stands site holds x (state_of h x.bench) is st refl,
-  serving_starts (limits_of x.bench) OfLinks (state_of h x.bench) k (link x.journal.disk) empty,
+  serving_starts (Step (limits_of x.bench)) OfLinks (state_of h x.bench) k (link x.journal.disk) empty,
 )
 
 -- the next turn, from the state that the house is in
-turn_from : {O T : Type 0} (link : O → LinkView) (disk : O → DiskView) (stands : T → History → Type 0) (site : T → ℕ) (holds : T → ℕ → Type 0) (limits : Limits) (a : O) (s : State) (xs : List Did) (x : House O T) (k m : Held)
+turn_from : {O T : Type 0} (link : O → LinkView) (disk : O → DiskView) (stands : T → History → Type 0) (site : T → ℕ) (holds : T → ℕ → Type 0) (limits : Limits) (a : O) (s : State) (xs : List (Did State)) (x : House O T) (k m : Held)
     (r : Result (House O T × Turn) O) → RefinesBy link disk stands site holds a s xs x → limits_of x.bench ≡ limits
     → ((h : History) → HouseRepresents disk stands site holds x h → TurnsHouse link disk stands site holds (limits_of x.bench) x.journal.disk (state_of h x.bench) k m r)
     → TurnsHouse link disk stands site holds limits x.journal.disk (state_after s xs) k m r
@@ -98,11 +99,11 @@ pub house_goes_on : {O T : Type 0} (link : O → LinkView) (disk : O → DiskVie
     → ((h : History) → HouseRepresents disk stands site holds x h → TurnsHouse link disk stands site holds (limits_of x.bench) x.journal.disk (state_of h x.bench) k m (Ok (y, turns.GoOn)))
     → ServingHouse link disk stands site holds limits a s y m
 house_goes_on link disk stands site holds limits a s x y k m same so turned =
-    let xs : List Did = so.0 in
+    let xs : List (Did State) = so.0 in
     let next = turn_from link disk stands site holds limits a s xs x k m (Ok (y, turns.GoOn)) so.1 same turned in (
       xs ++ next.0,
       went_on link disk stands site holds a s xs next.0 x y so.1 next.1,
-      serving_goes_on limits OfLinks xs next.0 s (link a) k m (link x.journal.disk) (link y.journal.disk) so.2 next.2,
+      serving_goes_on (Step limits) OfLinks xs next.0 s (link a) k m (link x.journal.disk) (link y.journal.disk) so.2 next.2,
     )
 
 pub house_ends : {O T : Type 0} (link : O → LinkView) (disk : O → DiskView) (stands : T → History → Type 0) (site : T → ℕ) (holds : T → ℕ → Type 0) (limits : Limits) (a : O) (s : State) (x y : House O T) (k m : Held) (turn : Turn)
@@ -110,15 +111,15 @@ pub house_ends : {O T : Type 0} (link : O → LinkView) (disk : O → DiskView) 
     → ((h : History) → HouseRepresents disk stands site holds x h → TurnsHouse link disk stands site holds (limits_of x.bench) x.journal.disk (state_of h x.bench) k m (Ok (y, turn)))
     → EndsTurns link disk stands site holds limits a s (Ok (y, turn))
 house_ends link disk stands site holds limits a s x y k m turn same last so turned =
-    let xs : List Did = so.0 in
+    let xs : List (Did State) = so.0 in
     let next = turn_from link disk stands site holds limits a s xs x k m (Ok (y, turn)) so.1 same turned in (
       xs ++ next.0,
       went_on link disk stands site holds a s xs next.0 x y so.1 next.1,
-      serving_ended limits OfLinks turn xs next.0 s (link a) k m (link x.journal.disk) (link y.journal.disk) last so.2 next.2,
+      serving_ended (Step limits) OfLinks turn xs next.0 s (link a) k m (link x.journal.disk) (link y.journal.disk) last so.2 next.2,
     )
 
 -- a request whose entry is in doubt, after some items
-doubt_link : (limits : Limits) (xs : List Did) (s : State) (before now : LinkView) (k : Held) (e : Entry) (said : List ℕ) (after : LinkView) → IsServing limits OfLinks xs s before k now
+doubt_link : (limits : Limits) (xs : List (Did State)) (s : State) (before now : LinkView) (k : Held) (e : Entry) (said : List ℕ) (after : LinkView) → IsServing (Step limits) OfLinks xs s before k now
     → InDoubtTurn limits (state_after s xs) k now e said after → InDoubtLink limits xs s before e said after
 doubt_link limits xs s before now k e said after so doubt = record {
   got = so.got ++ doubt.more;
@@ -141,13 +142,13 @@ pub house_halts : {O T : Type 0} (link : O → LinkView) (disk : O → DiskView)
     → ((h : History) → HouseRepresents disk stands site holds x h → TurnsHouse link disk stands site holds (limits_of x.bench) x.journal.disk (state_of h x.bench) k m (Err d))
     → EndsTurns {O = O} {T = T} link disk stands site holds limits a s (Err d)
 house_halts link disk stands site holds limits a s x k m d same so turned =
-    let xs : List Did = so.0 in
+    let xs : List (Did State) = so.0 in
     let next = turn_from link disk stands site holds limits a s xs x k m (Err d) so.1 same turned in (
       xs ++ [],
       next.0,
       next.1,
       halted_later link disk stands site holds a s xs [] x next.0 next.1 d so.1 next.2,
-      subst (λ (l : List Did). InDoubtLink limits l s (link a) next.0 next.1 (link d)) (sym (append-nil xs)) (doubt_link limits xs s (link a) (link x.journal.disk) k next.0 next.1 (link d) so.2 next.3),
+      subst (λ (l : List (Did State)). InDoubtLink limits l s (link a) next.0 next.1 (link d)) (sym (append-nil xs)) (doubt_link limits xs s (link a) (link x.journal.disk) k next.0 next.1 (link d) so.2 next.3),
     )
 
 -- ---- a link
@@ -158,7 +159,7 @@ pub link_served : {O T : Type 0} (link : O → LinkView) (disk : O → DiskView)
 link_served link disk stands site holds limits a s x y turn on is ended = (
   ended.0,
   went_still link disk stands site holds a s ended.0 x y on (no_more_still (link x.journal.disk) (link y.journal.disk) (ap (λ (v : LinkView). v.sessions) is)) ended.1,
-  had_link limits OfLinks turn ended.0 s (link a) (link x.journal.disk) (link y.journal.disk) is ended.2,
+  had_link (Step limits) OfLinks turn ended.0 s (link a) (link x.journal.disk) (link y.journal.disk) is ended.2,
 )
 
 pub link_halted : {O T : Type 0} (link : O → LinkView) (disk : O → DiskView) (stands : T → History → Type 0) (site : T → ℕ) (holds : T → ℕ → Type 0) (limits : Limits) (a : O) (s : State) (c d : O) → TellsAside link (λ o. (disk o).aside)
@@ -177,18 +178,18 @@ link_halted link disk stands site holds limits a s c d tells keeps goes is ended
 
 abbrev pub LinkedHouse : {O T : Type 0} → (O → LinkView) → (O → DiskView) → (T → History → Type 0) → (T → ℕ) → (T → ℕ → Type 0) → Limits → ℕ → O → State → House O T → Type 0
 LinkedHouse link disk stands site holds limits n a s x =
-    (steps : List Did) × RefinesBy link disk stands site holds a s steps x × HadLinks limits OfLinks n steps s (link a) (link x.journal.disk)
+    (steps : List (Did State)) × RefinesBy link disk stands site holds a s steps x × HadLinks (Step limits) OfLinks n steps s (link a) (link x.journal.disk)
 
 pub linked_starts : {O T : Type 0} (link : O → LinkView) (disk : O → DiskView) (stands : T → History → Type 0) (site : T → ℕ) (holds : T → ℕ → Type 0) (limits : Limits) (x : House O T) (h : History) → IsDisk (disk x.journal.disk) → HouseRepresents disk stands site holds x h
     → LinkedHouse link disk stands site holds limits 0 x.journal.disk (state_of h x.bench) x
 linked_starts link disk stands site holds limits x h is st = (
   [],
   went_nowhere link disk stands site holds x (state_of h x.bench) is st refl,
-  links_start limits OfLinks (state_of h x.bench) (link x.journal.disk),
+  links_start (Step limits) OfLinks (state_of h x.bench) (link x.journal.disk),
 )
 
 -- the link that was taken was served, from the state that the house is in
-link_from : {O T : Type 0} (link : O → LinkView) (disk : O → DiskView) (stands : T → History → Type 0) (site : T → ℕ) (holds : T → ℕ → Type 0) (limits : Limits) (a : O) (s : State) (xs : List Did) (y : House O T) (r : Result (House O T) O)
+link_from : {O T : Type 0} (link : O → LinkView) (disk : O → DiskView) (stands : T → History → Type 0) (site : T → ℕ) (holds : T → ℕ → Type 0) (limits : Limits) (a : O) (s : State) (xs : List (Did State)) (y : House O T) (r : Result (House O T) O)
     → RefinesBy link disk stands site holds a s xs y → limits_of y.bench ≡ limits
     → ((h : History) → HouseRepresents disk stands site holds y h → ServesLink link disk stands site holds (limits_of y.bench) y.journal.disk (state_of h y.bench) r)
     → ServesLink link disk stands site holds limits y.journal.disk (state_after s xs) r
@@ -201,12 +202,12 @@ pub linked_goes_on : {O T : Type 0} (link : O → LinkView) (disk : O → DiskVi
     → ((h : History) → HouseRepresents disk stands site holds y h → ServesLink link disk stands site holds (limits_of y.bench) y.journal.disk (state_of h y.bench) (Ok z))
     → LinkedHouse link disk stands site holds limits m a s z
 linked_goes_on link disk stands site holds limits n m a s x y z more on taken same so served =
-    let xs : List Did = so.0 in
+    let xs : List (Did State) = so.0 in
     let went = went_still link disk stands site holds a s xs x y on (no_more_taken (link x.journal.disk) (link y.journal.disk) taken) so.1 in
     let had = link_from link disk stands site holds limits a s xs y (Ok z) went same served in (
       xs ++ had.0,
       went_on link disk stands site holds a s xs had.0 y z went had.1,
-      links_go_on limits OfLinks n m xs had.0 s (link a) (link x.journal.disk) (link y.journal.disk) (link z.journal.disk) more taken so.2 had.2,
+      links_go_on (Step limits) OfLinks n m xs had.0 s (link a) (link x.journal.disk) (link y.journal.disk) (link z.journal.disk) more taken so.2 had.2,
     )
 
 -- as many links as were asked for
@@ -238,7 +239,7 @@ pub linked_house_halts : {O T : Type 0} (link : O → LinkView) (disk : O → Di
     → ((h : History) → HouseRepresents disk stands site holds y h → ServesLink link disk stands site holds (limits_of y.bench) y.journal.disk (state_of h y.bench) (Err d))
     → ServesLinks {O = O} {T = T} link disk stands site holds limits links a s (outs.Halted d)
 linked_house_halts link disk stands site holds limits links n a s x y d few on taken same so served =
-    let xs : List Did = so.0 in
+    let xs : List (Did State) = so.0 in
     let went = went_still link disk stands site holds a s xs x y on (no_more_taken (link x.journal.disk) (link y.journal.disk) taken) so.1 in
     let had = link_from link disk stands site holds limits a s xs y (Err d) went same served in (
       xs ++ had.0,

@@ -28,6 +28,9 @@ use Rattle.millicent_http.specs.Items.{Item, request, refused}
 use Rattle.millicent_http.proofs.JudgeLemmas.{asks_a_target}
 use Rattle.scrip_journal.specs.Layout.{Encodes}
 use Rattle.scrip_journal.specs.Exits.{EitherNoOutput}
+use Rattle.millicent_http.specs.declared.clock.Clock.TheVariants.{OfLinks}
+use Rattle.millicent_http.specs.Steps.{Did}
+use Rattle.millicent_http.specs.Courses.{AreRead, with_readings}
 use Rattle.house_core.specs.declared.bench.Bench.{Bench}
 use Rattle.house_core.specs.declared.house.House.{House}
 use Rattle.house_core.specs.declared.settled.Settled.{Settled}
@@ -35,12 +38,9 @@ use Rattle.house_core.specs.declared.outcome.Outcome.TheVariants as outcomes
 use Rattle.house_core.specs.Verdicts.{repeat_of}
 use Rattle.house_core.specs.Bench.{house_time, limits_of, state_of}
 use Rattle.house_core.specs.House.{HouseRepresents, HouseRests, HasEntered, IsAsItWas, Accepted, Leaves}
-use Rattle.house_core.specs.Session.{State, Gives, entered, raised}
-use Rattle.house_serving.specs.declared.serving.Clock.TheVariants.{OfLinks}
+use Rattle.house_core.specs.Session.{State, Gives, entered, raised, Step}
 use Rattle.house_serving.specs.declared.turn.Turn.{Turn}
 use Rattle.house_serving.specs.declared.turn.Turn.TheVariants.{GoOn, Last, End, NotReceived, NotSent}
-use Rattle.house_serving.specs.Steps.{Did}
-use Rattle.house_serving.specs.Course.{AreRead, with_readings}
 use Rattle.house_serving.specs.Turns.{Sent, AnsweredItem, Turned, turn_after}
 use Rattle.house_serving.specs.Orders.{RefinesBy, HaltedBy}
 use Rattle.house_serving.specs.InDoubt.{Sends, RequestInDoubt}
@@ -130,7 +130,7 @@ pub replied_old : {O T : Type 0} (link : O → LinkView) (disk : O → DiskView)
     → RepliesTo link disk stands site holds limits q after y.journal.disk s (Ok (z, turn_after r after))
 replied_old {T = T} link disk stands site holds limits q after y z s reply r on st time gives sent fault =
     let was = sent_so after reply r (link y.journal.disk) (link z.journal.disk) sent fault in
-    let step : Did = record { sent = was.0; after = s } in (
+    let step : Did State = record { sent = was.0; after = s } in (
       step,
       reply,
       went_sent link disk stands site holds y z s step on.tells on.is_link on.standing st (house_keeps disk stands site holds y z s.history st on.keeps on.rests)
@@ -155,7 +155,7 @@ replied_new {T = T} link disk stands site holds limits q after a y z s settled r
     let st : HouseRepresents disk stands site holds y t.history = is.2.stands' in
     let reply : List ℕ = reply_of t.history settled.number in
     let was = sent_so after reply r (link y.journal.disk) (link z.journal.disk) (told_so r _ _ (λ f. f t.history st) sent) (failed_so r _ _ (λ f. f t.history st) fault) in
-    let step : Did = record { sent = was.0; after = t } in (
+    let step : Did State = record { sent = was.0; after = t } in (
       step,
       reply,
       went_written link disk stands site holds a y z s e step on.tells refl is.3 quiet calm same on.is_link on.standing st (house_keeps disk stands site holds y z t.history st on.keeps on.rests)
@@ -259,7 +259,7 @@ raised_quiet link disk stands site holds x y reading h up st =
     (no_more_still (link x.journal.disk) (link y.journal.disk) (ap (λ (v : LinkView). v.sessions) up.rest))
 
 -- a step after it, as a step from before
-raised_went : {O T : Type 0} (link : O → LinkView) (disk : O → DiskView) (stands : T → History → Type 0) (site : T → ℕ) (holds : T → ℕ → Type 0) (x y z : House O T) (reading : ℕ) (h : History) (step : Did)
+raised_went : {O T : Type 0} (link : O → LinkView) (disk : O → DiskView) (stands : T → History → Type 0) (site : T → ℕ) (holds : T → ℕ → Type 0) (x y z : House O T) (reading : ℕ) (h : History) (step : Did State)
     → RaisedBy link disk stands site holds x y reading → HouseRepresents disk stands site holds x h → RefinesBy link disk stands site holds y.journal.disk (state_of h y.bench) (step ∷ []) z
     → RefinesBy link disk stands site holds x.journal.disk (state_of h x.bench) (step ∷ []) z
 raised_went link disk stands site holds x y z reading h step up st went =
@@ -277,14 +277,14 @@ pub request_answered : {O T : Type 0} (link : O → LinkView) (disk : O → Disk
     → RepliesTo link disk stands site holds (limits_of y.bench) q after y.journal.disk (state_of h y.bench) r
     → AnswersRequest link disk stands site holds (limits_of x.bench) q after x.journal.disk (state_of h x.bench) r
 request_answered link disk stands site holds q after x y reading h (Ok r) up st replied =
-    let step : Did = replied.0 in
+    let step : Did State = replied.0 in
     let at : State = raised (state_of h x.bench) reading in
     let here : Answer = answer h (house_time y.bench) (limits_of y.bench) q in
     let there : Answer = answer at.history at.time (limits_of x.bench) q in
     let same : here ≡ there = ap₂ (λ (t : ℕ) (l : Limits). answer h t l q) up.time up.limits in (
       step,
       raised_went link disk stands site holds x y r.0 reading h step up st replied.2,
-      λ closes. item_answered (limits_of x.bench) OfLinks (request q closes) after r.1 (state_of h x.bench) step.after (link x.journal.disk) (link y.journal.disk) (link r.0.journal.disk) reading replied.1 step.sent up.read up.rest
+      λ closes. item_answered (Step (limits_of x.bench)) OfLinks (request q closes) after r.1 (state_of h x.bench) step.after (link x.journal.disk) (link y.journal.disk) (link r.0.journal.disk) reading replied.1 step.sent up.read up.rest
           (subst (λ (s : State). Gives s q there replied.1 step.after) (raised_is link disk stands site holds x y reading h up) (subst (λ (a : Answer). Gives (state_of h y.bench) q a replied.1 step.after) same replied.3)) replied.4,
     )
 request_answered link disk stands site holds q after x y reading h (Err d) up st replied =
@@ -317,12 +317,12 @@ head_answered {T = T} link disk stands site holds f after x y z reading h r up o
     let reply : List ℕ = head_refusal (house_time y.bench) f in
     let was = sent_so after reply r (link y.journal.disk) (link z.journal.disk) (told_so r _ _ (λ g. g h st') sent) (failed_so r _ _ (λ g. g h st') fault) in
     let t : State = state_of h y.bench in
-    let step : Did = record { sent = was.0; after = t } in (
+    let step : Did State = record { sent = was.0; after = t } in (
       step,
       raised_went link disk stands site holds x y z reading h step up st
           (went_sent link disk stands site holds y z t step on.tells on.is_link on.standing st' (house_keeps disk stands site holds y z h st' on.keeps on.rests)
           (ap (λ (b : Bench T). house_time b) on.rests.bench) on.keeps on.goes (sent_sessions after reply was.0 (turn_after r after) (link y.journal.disk) (link z.journal.disk) was.1)),
-      λ closes. item_answered (limits_of x.bench) OfLinks (refused f closes) after (turn_after r after) (state_of h x.bench) t (link x.journal.disk) (link y.journal.disk) (link z.journal.disk) reading reply was.0 up.read up.rest
+      λ closes. item_answered (Step (limits_of x.bench)) OfLinks (refused f closes) after (turn_after r after) (state_of h x.bench) t (link x.journal.disk) (link y.journal.disk) (link z.journal.disk) reading reply was.0 up.read up.rest
           (ap (λ (n : ℕ). head_refusal n f) up.time, raised_is link disk stands site holds x y reading h up) was.1,
     )
 
@@ -347,17 +347,17 @@ read_stands link disk stands site holds x y h on st = house_keeps disk stands si
 -- an item that was taken was answered
 item_turns : {O T : Type 0} (link : O → LinkView) (disk : O → DiskView) (stands : T → History → Type 0) (site : T → ℕ) (holds : T → ℕ → Type 0) (item : Bool → Item) (after : After) (x y z : House O T) (h : History) (old new : Held) (turn : Turn) (more : List ℕ) (closing : Bool)
     → ReadOn link disk x y → HouseRepresents disk stands site holds x h → TookItem (with_more old more).bytes old.given (item closing) after new → link y.journal.disk ≡ after_recv more (link x.journal.disk)
-    → ((step : Did) × RefinesBy link disk stands site holds y.journal.disk (state_of h y.bench) (step ∷ []) z × ((closes : Bool) → AnsweredItem (limits_of y.bench) OfLinks (item closes) after turn step (state_of h y.bench) (link y.journal.disk) (link z.journal.disk)))
-    → (steps : List Did) × RefinesBy link disk stands site holds x.journal.disk (state_of h x.bench) steps z × Turned (limits_of x.bench) OfLinks turn steps (state_of h x.bench) old (link x.journal.disk) new (link z.journal.disk)
+    → ((step : Did State) × RefinesBy link disk stands site holds y.journal.disk (state_of h y.bench) (step ∷ []) z × ((closes : Bool) → AnsweredItem (Step (limits_of y.bench)) OfLinks (item closes) after turn step (state_of h y.bench) (link y.journal.disk) (link z.journal.disk)))
+    → (steps : List (Did State)) × RefinesBy link disk stands site holds x.journal.disk (state_of h x.bench) steps z × Turned (Step (limits_of x.bench)) OfLinks turn steps (state_of h x.bench) old (link x.journal.disk) new (link z.journal.disk)
 item_turns {T = T} link disk stands site holds item after x y z h old new turn more closing on st took came did =
-    let step : Did = did.0 in
+    let step : Did State = did.0 in
     let from : RefinesBy link disk stands site holds y.journal.disk (state_of h x.bench) (step ∷ []) z = subst (λ (b : Bench T). RefinesBy link disk stands site holds y.journal.disk (state_of h b) (step ∷ []) z) on.rests.bench did.1 in
-    let answered : AnsweredItem (limits_of x.bench) OfLinks (item closing) after turn step (state_of h x.bench) (link y.journal.disk) (link z.journal.disk) =
-    subst (λ (b : Bench T). AnsweredItem (limits_of b) OfLinks (item closing) after turn step (state_of h b) (link y.journal.disk) (link z.journal.disk)) on.rests.bench (did.2 closing) in (
+    let answered : AnsweredItem (Step (limits_of x.bench)) OfLinks (item closing) after turn step (state_of h x.bench) (link y.journal.disk) (link z.journal.disk) =
+    subst (λ (b : Bench T). AnsweredItem (Step (limits_of b)) OfLinks (item closing) after turn step (state_of h b) (link y.journal.disk) (link z.journal.disk)) on.rests.bench (did.2 closing) in (
       step ∷ [],
       went_on link disk stands site holds x.journal.disk (state_of h x.bench) [] (step ∷ []) y z
           (read_quiet link disk stands site holds x y h on st (no_more_heard (link x.journal.disk) (link y.journal.disk) more (ap (λ (v : LinkView). v.sessions) came))) from,
-      item_turned (limits_of x.bench) OfLinks turn step (state_of h x.bench) old (link x.journal.disk) (link y.journal.disk) more (item closing) after new (link z.journal.disk) took came answered,
+      item_turned (Step (limits_of x.bench)) OfLinks turn step (state_of h x.bench) old (link x.journal.disk) (link y.journal.disk) more (item closing) after new (link z.journal.disk) took came answered,
     )
 
 pub head_turns : {O T : Type 0} (link : O → LinkView) (disk : O → DiskView) (stands : T → History → Type 0) (site : T → ℕ) (holds : T → ℕ → Type 0) (q : Request) (after : After) (x y : House O T) (h : History) (old new : Held) (out : HeadOut)

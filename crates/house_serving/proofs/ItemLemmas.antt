@@ -3,7 +3,6 @@ use Rattle.std.proofs.Common.{◌≡◌, inl, inr, ℕ, ◌<◌, List, [], ◌�
 use Rattle.std.specs.Prelude.{OnOk, OnErr}
 use Rattle.mc_outside.specs.declared.link.LinkFault.{LinkFault}
 use Rattle.mc_outside.specs.LinkView.{LinkView, after_send, Failed}
-use Rattle.mc_records.specs.declared.limits.Limits.{Limits}
 use Rattle.mc_records.specs.declared.refusal.Refusal.{Refusal}
 use Rattle.mc_records.specs.Requests.{Asked}
 use Rattle.ledger_model.specs.Answer as answers
@@ -12,11 +11,12 @@ use Rattle.ledger_model.specs.Replies.{reply_of, refusal_of}
 use Rattle.millicent_http.specs.declared.item.After.{After}
 use Rattle.millicent_http.specs.declared.item.After.TheVariants as afters
 use Rattle.millicent_http.specs.Items.{Item}
-use Rattle.house_serving.specs.declared.serving.Clock.{Clock}
+use Rattle.millicent_http.specs.declared.clock.Clock.{Clock}
+use Rattle.millicent_http.specs.Courses.{AreRead, with_readings}
+use Rattle.millicent_http.specs.Steps.{StepRelation}
 use Rattle.house_serving.specs.declared.turn.Turn.{Turn}
 use Rattle.house_serving.specs.declared.turn.Turn.TheVariants.{GoOn, Last, End, NotReceived, NotSent}
-use Rattle.house_core.specs.Session.{State, Gives, Says, Step, said_reply}
-use Rattle.house_serving.specs.Course.{AreRead, with_readings}
+use Rattle.house_core.specs.Session.{State, Gives, Says, said_reply}
 use Rattle.house_serving.specs.Turns.{AnsweredItem, Sent, turn_after}
 
 -- what is said to a request is its reply
@@ -45,10 +45,10 @@ sent_so afters.GoOn reply (Err e) v w sent fault = (take fault.0 reply, (fault.0
 sent_so afters.Close reply (Err e) v w sent fault = (take fault.0 reply, (fault.0, fault.1, refl, fault.2))
 
 -- the clock was read, the item was answered, and its reply was sent, or not the whole of it
-pub item_answered : (limits : Limits) (clock : Clock) (item : Item) (after : After) (turn : Turn) (s t : State) (before mid link : LinkView) (reading : ℕ) (reply part : List ℕ)
-    → AreRead clock (reading ∷ []) before.readings mid.readings → mid ≡ with_readings mid.readings before → Step limits s reading item reply t → Sent after reply turn part mid link
-    → AnsweredItem limits clock item after turn (record { sent = part; after = t }) s before link
-item_answered limits clock item after turn s t before mid link reading reply part read rest step sent =
+pub item_answered : {S : Type 0} (Step : StepRelation S) (clock : Clock) (item : Item) (after : After) (turn : Turn) (s t : S) (before mid link : LinkView) (reading : ℕ) (reply part : List ℕ)
+    → AreRead clock (reading ∷ []) before.readings mid.readings → mid ≡ with_readings mid.readings before → Step s reading item reply t → Sent after reply turn part mid link
+    → AnsweredItem Step clock item after turn (record { sent = part; after = t }) s before link
+item_answered Step clock item after turn s t before mid link reading reply part read rest step sent =
     let readings : link.readings ≡ mid.readings = sent_readings after reply turn part mid link sent in
     record {
       reply = reply;

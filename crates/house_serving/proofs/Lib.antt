@@ -1,6 +1,4 @@
-pub mod StepLemmas
 pub mod RefinesLemmas
-pub mod LinkCalls
 pub mod ServingLemmas
 pub mod TurnLemmas
 pub mod ItemLemmas

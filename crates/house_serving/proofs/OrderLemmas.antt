@@ -11,14 +11,14 @@ use Rattle.ledger_model.specs.Histories.{History}
 use Rattle.scrip_journal.specs.Layout.{Encodes}
 use Rattle.scrip_journal.specs.Rests.{journal_keeps, journal_leaves}
 use Rattle.scrip_journal.specs.Exits.{EitherNoOutput}
+use Rattle.millicent_http.specs.Steps.{Did, sent_of, state_after}
+use Rattle.millicent_http.proofs.StepLemmas.{sent_of-append, state_after-append}
 use Rattle.house_core.specs.declared.house.House.{House}
 use Rattle.house_core.specs.declared.bench.Bench.{Bench}
 use Rattle.house_core.specs.Bench.{IsHouse, house_time, limits_of}
 use Rattle.house_core.specs.House.{HouseRepresents, HouseRests}
 use Rattle.house_core.specs.Session.{State}
-use Rattle.house_serving.specs.Steps.{Did, sent_of, state_after}
 use Rattle.house_serving.specs.Orders.{InOrder, MovedBy, RefinesBy, IsEither, InDoubt, HaltedBy}
-use Rattle.house_serving.proofs.StepLemmas.{sent_of-append, state_after-append}
 use Rattle.house_serving.proofs.AsideLemmas.{TellsAside, SentNoMore, aside_still, aside_sent}
 
 -- ---- bytes
@@ -38,26 +38,26 @@ begins_same x y same = ([], sym same ∙ sym (append-nil x))
 -- ---- crash pairs
 
 -- what is in order stays in order as steps are added
-order_earlier : (tells : Type 0) (s : State) (before : List ℕ) (xs ys : List Did) (image sent : List ℕ) → InOrder tells s before xs image sent → InOrder tells s before (xs ++ ys) image sent
+order_earlier : (tells : Type 0) (s : State) (before : List ℕ) (xs ys : List (Did State)) (image sent : List ℕ) → InOrder tells s before xs image sent → InOrder tells s before (xs ++ ys) image sent
 order_earlier tells s before xs ys image sent o = record {
   done = o.done;
   rest = o.rest ++ ys;
-  split = ap (λ (l : List Did). l ++ ys) o.split ∙ append_assoc o.done o.rest ys;
+  split = ap (λ (l : List (Did State)). l ++ ys) o.split ∙ append_assoc o.done o.rest ys;
   stands = o.stands;
   began = o.began;
   part = o.part;
 }
 
 -- the bytes sent by the first steps and by the others
-sent_further : (before : List ℕ) (xs ys : List Did) → (before ++ sent_of xs) ++ sent_of ys ≡ before ++ sent_of (xs ++ ys)
+sent_further : (before : List ℕ) (xs ys : List (Did State)) → (before ++ sent_of xs) ++ sent_of ys ≡ before ++ sent_of (xs ++ ys)
 sent_further before xs ys = append_assoc before (sent_of xs) (sent_of ys) ∙ ap (λ (l : List ℕ). before ++ l) (sym (sent_of-append xs ys))
 
 -- what is in order of later steps is in order of all
-order_later : (tells : Type 0) (s : State) (before between : List ℕ) (xs ys : List Did) (image sent : List ℕ) → (tells → between ≡ before ++ sent_of xs) → InOrder tells (state_after s xs) between ys image sent → InOrder tells s before (xs ++ ys) image sent
+order_later : (tells : Type 0) (s : State) (before between : List ℕ) (xs ys : List (Did State)) (image sent : List ℕ) → (tells → between ≡ before ++ sent_of xs) → InOrder tells (state_after s xs) between ys image sent → InOrder tells s before (xs ++ ys) image sent
 order_later tells s before between xs ys image sent is o = record {
   done = xs ++ o.done;
   rest = o.rest;
-  split = ap (λ (l : List Did). xs ++ l) o.split ∙ sym (append_assoc xs o.done o.rest);
+  split = ap (λ (l : List (Did State)). xs ++ l) o.split ∙ sym (append_assoc xs o.done o.rest);
   stands = subst (λ (t : State). Encodes t.history image) (sym (state_after-append s xs o.done)) o.stands;
   began = λ t. begins_then before between sent (sent_of xs, is t) (o.began t);
   part = λ t. subst (λ (l : List ℕ). BeginsWith sent l) (ap (λ (l : List ℕ). l ++ sent_of o.done) (is t) ∙ sent_further before xs o.done) (o.part t);
@@ -65,7 +65,7 @@ order_later tells s before between xs ys image sent is o = record {
 
 -- ---- moments of the outside
 
-moved_then : (tells : Type 0) (a b c : DiskView) (s : State) (xs ys : List Did) → MovedBy tells a b s xs → MovedBy tells b c (state_after s xs) ys → MovedBy tells a c s (xs ++ ys)
+moved_then : (tells : Type 0) (a b c : DiskView) (s : State) (xs ys : List (Did State)) → MovedBy tells a b s xs → MovedBy tells b c (state_after s xs) ys → MovedBy tells a c s (xs ++ ys)
 moved_then tells a b c s xs ys first second = record {
   aside = λ t. second.aside t ∙ ap (λ (l : List ℕ). l ++ sent_of ys) (first.aside t) ∙ sent_further a.aside xs ys;
   ran = ran_then a b c (InOrder tells s a.aside (xs ++ ys))
@@ -74,7 +74,7 @@ moved_then tells a b c s xs ys first second = record {
 }
 
 -- where more is told, no less is in order
-order_told : (tells told' : Type 0) (s : State) (before : List ℕ) (ds : List Did) (image sent : List ℕ) → (tells → told') → InOrder told' s before ds image sent → InOrder tells s before ds image sent
+order_told : (tells told' : Type 0) (s : State) (before : List ℕ) (ds : List (Did State)) (image sent : List ℕ) → (tells → told') → InOrder told' s before ds image sent → InOrder tells s before ds image sent
 order_told tells told' s before ds image sent so o = record {
   done = o.done;
   rest = o.rest;
@@ -84,7 +84,7 @@ order_told tells told' s before ds image sent so o = record {
   part = λ t. o.part (so t);
 }
 
-moved_told : (tells told' : Type 0) (a b : DiskView) (s : State) (ds : List Did) → (tells → told') → MovedBy told' a b s ds → MovedBy tells a b s ds
+moved_told : (tells told' : Type 0) (a b : DiskView) (s : State) (ds : List (Did State)) → (tells → told') → MovedBy told' a b s ds → MovedBy tells a b s ds
 moved_told tells told' a b s ds so moved = record {
   aside = λ t. moved.aside (so t);
   ran = ran_weaker a b _ _ moved.ran (λ image sent. order_told tells told' s a.aside ds image sent so);
@@ -119,7 +119,7 @@ moved_quiet tells a b s keeps same stands = record {
 }
 
 -- calls of Link that sent a reply, or a prefix of it, when its entry was there
-moved_sent : (tells : Type 0) (a b : DiskView) (s : State) (d : Did) → LinkKeeps a b → (tells → b.aside ≡ a.aside ++ d.sent) → ((c : List ℕ) → a.leaves c → Encodes d.after.history c) → MovedBy tells a b s (d ∷ [])
+moved_sent : (tells : Type 0) (a b : DiskView) (s : State) (d : Did State) → LinkKeeps a b → (tells → b.aside ≡ a.aside ++ d.sent) → ((c : List ℕ) → a.leaves c → Encodes d.after.history c) → MovedBy tells a b s (d ∷ [])
 moved_sent tells a b s d keeps more stands =
     let all : tells → b.aside ≡ a.aside ++ sent_of (d ∷ []) = λ t. more t ∙ ap (λ (l : List ℕ). a.aside ++ l) (sym (append-nil d.sent)) in
     record {
@@ -135,7 +135,7 @@ moved_sent tells a b s d keeps more stands =
     }
 
 -- with the entry that a step gave, or without it, while nothing of its reply was sent
-either_order : (tells : Type 0) (s : State) (before : List ℕ) (e : Entry) (d : Did) (image sent : List ℕ) → d.after.history ≡ s.history ++ e ∷ [] → EitherNoOutput s.history e before image sent → InOrder tells s before (d ∷ []) image sent
+either_order : (tells : Type 0) (s : State) (before : List ℕ) (e : Entry) (d : Did State) (image sent : List ℕ) → d.after.history ≡ s.history ++ e ∷ [] → EitherNoOutput s.history e before image sent → InOrder tells s before (d ∷ []) image sent
 either_order tells s before e d image sent after quiet =
     let from : BeginsWith before sent = ([], quiet.1 ∙ sym (append-nil before)) in
     ⊎_elim
@@ -157,7 +157,7 @@ either_order tells s before e d image sent after quiet =
     }) quiet.0
 
 -- the entry was written first, and then its reply was sent, or a prefix of it
-moved_written : (tells : Type 0) (a b c : DiskView) (s : State) (e : Entry) (d : Did) → d.after.history ≡ s.history ++ e ∷ [] → Ran a b (EitherNoOutput s.history e a.aside) → b.aside ≡ a.aside
+moved_written : (tells : Type 0) (a b c : DiskView) (s : State) (e : Entry) (d : Did State) → d.after.history ≡ s.history ++ e ∷ [] → Ran a b (EitherNoOutput s.history e a.aside) → b.aside ≡ a.aside
     → LinkKeeps b c → (tells → c.aside ≡ b.aside ++ d.sent) → ((i : List ℕ) → b.leaves i → Encodes d.after.history i) → MovedBy tells a c s (d ∷ [])
 moved_written tells a b c s e d after written same keeps more stands =
     let sent = moved_sent tells b c s d keeps more stands in
@@ -185,7 +185,7 @@ house_keeps {T = T} disk stands site holds x y h st keeps rests = record {
 }
 
 -- where the links told what was sent, they still tell it
-pub told_on : {O T : Type 0} (link : O → LinkView) (disk : O → DiskView) (stands : T → History → Type 0) (site : T → ℕ) (holds : T → ℕ → Type 0) (a : O) (s : State) (xs : List Did) (x : House O T)
+pub told_on : {O T : Type 0} (link : O → LinkView) (disk : O → DiskView) (stands : T → History → Type 0) (site : T → ℕ) (holds : T → ℕ → Type 0) (a : O) (s : State) (xs : List (Did State)) (x : House O T)
     → RefinesBy link disk stands site holds a s xs x → IsSome (link a).sessions → IsSome (link x.journal.disk).sessions
 told_on link disk stands site holds a s xs x went told' = subst (λ (b : Bool). IsTrue b) (sym went.tells) told'
 
@@ -201,7 +201,7 @@ went_nowhere link disk stands site holds x s is st time = record {
 }
 
 -- steps, and others after them
-pub went_on : {O T : Type 0} (link : O → LinkView) (disk : O → DiskView) (stands : T → History → Type 0) (site : T → ℕ) (holds : T → ℕ → Type 0) (a : O) (s : State) (xs ys : List Did) (x y : House O T)
+pub went_on : {O T : Type 0} (link : O → LinkView) (disk : O → DiskView) (stands : T → History → Type 0) (site : T → ℕ) (holds : T → ℕ → Type 0) (a : O) (s : State) (xs ys : List (Did State)) (x y : House O T)
     → RefinesBy link disk stands site holds a s xs x → RefinesBy link disk stands site holds x.journal.disk (state_after s xs) ys y → RefinesBy link disk stands site holds a s (xs ++ ys) y
 went_on link disk stands site holds a s xs ys x y first second = record {
   house = subst (λ (t : State). HouseRepresents disk stands site holds y t.history) (sym (state_after-append s xs ys)) second.house;
@@ -225,7 +225,7 @@ went_quiet link disk stands site holds x y s tells st time keeps goes stands' sa
 }
 
 -- a reply was sent, or a prefix of it, when what it speaks of was there
-pub went_sent : {O T : Type 0} (link : O → LinkView) (disk : O → DiskView) (stands : T → History → Type 0) (site : T → ℕ) (holds : T → ℕ → Type 0) (x y : House O T) (s : State) (d : Did)
+pub went_sent : {O T : Type 0} (link : O → LinkView) (disk : O → DiskView) (stands : T → History → Type 0) (site : T → ℕ) (holds : T → ℕ → Type 0) (x y : House O T) (s : State) (d : Did State)
     → TellsAside link (λ o. (disk o).aside) → IsLink (link x.journal.disk) → IsTrue (link x.journal.disk).stands → HouseRepresents disk stands site holds x d.after.history → HouseRepresents disk stands site holds y d.after.history
     → house_time y.bench ≡ d.after.time → LinkKeeps (disk x.journal.disk) (disk y.journal.disk) → LinkGoes (link x.journal.disk) (link y.journal.disk)
     → (link y.journal.disk).sessions ≡ (after_send d.sent (link x.journal.disk)).sessions → RefinesBy link disk stands site holds x.journal.disk s (d ∷ []) y
@@ -239,7 +239,7 @@ went_sent link disk stands site holds x y s d tells is on st after time keeps go
 }
 
 -- an entry was written, and then its reply was sent, or a prefix of it
-pub went_written : {O T : Type 0} (link : O → LinkView) (disk : O → DiskView) (stands : T → History → Type 0) (site : T → ℕ) (holds : T → ℕ → Type 0) (a : O) (y z : House O T) (s : State) (e : Entry) (d : Did)
+pub went_written : {O T : Type 0} (link : O → LinkView) (disk : O → DiskView) (stands : T → History → Type 0) (site : T → ℕ) (holds : T → ℕ → Type 0) (a : O) (y z : House O T) (s : State) (e : Entry) (d : Did State)
     → TellsAside link (λ o. (disk o).aside) → d.after.history ≡ s.history ++ e ∷ [] → Ran (disk a) (disk y.journal.disk) (EitherNoOutput s.history e (disk a).aside) → (disk y.journal.disk).aside ≡ (disk a).aside
     → (disk y.journal.disk).faults ≡ (disk a).faults → link y.journal.disk ≡ link a → IsLink (link y.journal.disk) → IsTrue (link y.journal.disk).stands → HouseRepresents disk stands site holds y d.after.history → HouseRepresents disk stands site holds z d.after.history
     → house_time z.bench ≡ d.after.time → LinkKeeps (disk y.journal.disk) (disk z.journal.disk) → LinkGoes (link y.journal.disk) (link z.journal.disk)
@@ -297,7 +297,7 @@ doubt_told tells told' h g before e said image sent so same pair = record {
 }
 
 -- steps came before
-pub halted_later : {O T : Type 0} (link : O → LinkView) (disk : O → DiskView) (stands : T → History → Type 0) (site : T → ℕ) (holds : T → ℕ → Type 0) (a : O) (s : State) (xs ys : List Did) (x : House O T) (e : Entry) (said : List ℕ) (d : O)
+pub halted_later : {O T : Type 0} (link : O → LinkView) (disk : O → DiskView) (stands : T → History → Type 0) (site : T → ℕ) (holds : T → ℕ → Type 0) (a : O) (s : State) (xs ys : List (Did State)) (x : House O T) (e : Entry) (said : List ℕ) (d : O)
     → RefinesBy link disk stands site holds a s xs x → HaltedBy link disk x.journal.disk (state_after s xs) ys e said d → HaltedBy link disk a s (xs ++ ys) e said d
 halted_later link disk stands site holds a s xs ys x e said d went halted =
     let same : (state_after (state_after s xs) ys).history ≡ (state_after s (xs ++ ys)).history = ap (λ (t : State). t.history) (sym (state_after-append s xs ys)) in
@@ -317,11 +317,11 @@ halted_later link disk stands site holds a s xs ys x e said d went halted =
 
 -- ---- from another state with the same history
 
-same_history : (s t : State) → s.history ≡ t.history → (ds : List Did) → (state_after s ds).history ≡ (state_after t ds).history
+same_history : (s t : State) → s.history ≡ t.history → (ds : List (Did State)) → (state_after s ds).history ≡ (state_after t ds).history
 same_history s t same [] = same
 same_history s t same (d ∷ ds) = refl
 
-order_from : (tells : Type 0) (s t : State) → s.history ≡ t.history → (before : List ℕ) (ds : List Did) (image sent : List ℕ) → InOrder tells t before ds image sent → InOrder tells s before ds image sent
+order_from : (tells : Type 0) (s t : State) → s.history ≡ t.history → (before : List ℕ) (ds : List (Did State)) (image sent : List ℕ) → InOrder tells t before ds image sent → InOrder tells s before ds image sent
 order_from tells s t same before ds image sent o = record {
   done = o.done;
   rest = o.rest;
@@ -331,13 +331,13 @@ order_from tells s t same before ds image sent o = record {
   part = o.part;
 }
 
-moved_from : (tells : Type 0) (a b : DiskView) (s t : State) (ds : List Did) → s.history ≡ t.history → MovedBy tells a b t ds → MovedBy tells a b s ds
+moved_from : (tells : Type 0) (a b : DiskView) (s t : State) (ds : List (Did State)) → s.history ≡ t.history → MovedBy tells a b t ds → MovedBy tells a b s ds
 moved_from tells a b s t ds same moved = record {
   aside = moved.aside;
   ran = ran_weaker a b _ _ moved.ran (order_from tells s t same a.aside ds);
 }
 
-pub went_from : {O T : Type 0} (link : O → LinkView) (disk : O → DiskView) (stands : T → History → Type 0) (site : T → ℕ) (holds : T → ℕ → Type 0) (a : O) (s t : State) (d : Did) (ds : List Did) (x : House O T) → s.history ≡ t.history
+pub went_from : {O T : Type 0} (link : O → LinkView) (disk : O → DiskView) (stands : T → History → Type 0) (site : T → ℕ) (holds : T → ℕ → Type 0) (a : O) (s t : State) (d : Did State) (ds : List (Did State)) (x : House O T) → s.history ≡ t.history
     → RefinesBy link disk stands site holds a t (d ∷ ds) x → RefinesBy link disk stands site holds a s (d ∷ ds) x
 went_from link disk stands site holds a s t d ds x same went = record {
   house = went.house;
@@ -347,7 +347,7 @@ went_from link disk stands site holds a s t d ds x same went = record {
   moved = moved_from _ (disk a) (disk x.journal.disk) s t (d ∷ ds) same went.moved;
 }
 
-pub halted_from : {O : Type 0} (link : O → LinkView) (disk : O → DiskView) (a : O) (s t : State) (ds : List Did) (e : Entry) (said : List ℕ) (d : O) → s.history ≡ t.history → HaltedBy link disk a t ds e said d → HaltedBy link disk a s ds e said d
+pub halted_from : {O : Type 0} (link : O → LinkView) (disk : O → DiskView) (a : O) (s t : State) (ds : List (Did State)) (e : Entry) (said : List ℕ) (d : O) → s.history ≡ t.history → HaltedBy link disk a t ds e said d → HaltedBy link disk a s ds e said d
 halted_from link disk a s t ds e said d same halted =
     let here : (state_after t ds).history ≡ (state_after s ds).history = sym (same_history s t same ds) in
     record {

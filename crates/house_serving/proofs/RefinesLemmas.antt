@@ -1,11 +1,11 @@
 -- From state to state.
 use Rattle.std.proofs.Common.{ℕ, List, [], ◌++◌, refl}
 use Rattle.ledger_model.specs.Histories.{History}
+use Rattle.millicent_http.specs.Steps.{Did, state_after, BySteps}
+use Rattle.millicent_http.proofs.StepLemmas.{by_steps_so, by_steps_then}
 use Rattle.house_core.specs.declared.bench.Bench.{Bench}
 use Rattle.house_core.specs.Bench.{Reaches, Refines, state_of}
 use Rattle.house_core.specs.Session.{State}
-use Rattle.house_serving.specs.Steps.{Did, state_after, BySteps}
-use Rattle.house_serving.proofs.StepLemmas.{by_steps_so, by_steps_then}
 
 -- where one relation leads, another does
 pub came_so : {T : Type 0} (stands : T → History → Type 0) (site : T → ℕ) (holds : T → ℕ → Type 0) (P Q : State → Type 0) (b : Bench T)
@@ -32,18 +32,18 @@ went_nowhere stands site holds R b so h house = record { history = h; house = ho
 -- ---- by steps
 
 -- where steps have one property, they have another
-pub stepped_so : {T : Type 0} (stands : T → History → Type 0) (site : T → ℕ) (holds : T → ℕ → Type 0) (P Q : List Did → State → Type 0) (a b : Bench T)
-    → ((ds : List Did) (s : State) → P ds s → Q ds s) → Refines stands site holds (BySteps P) a b → Refines stands site holds (BySteps Q) a b
-stepped_so stands site holds P Q a b so went = went_so stands site holds (BySteps P) (BySteps Q) a b (λ (s t : State). by_steps_so P Q s t (λ (ds : List Did). so ds s)) went
+pub stepped_so : {T : Type 0} (stands : T → History → Type 0) (site : T → ℕ) (holds : T → ℕ → Type 0) (P Q : List (Did State) → State → Type 0) (a b : Bench T)
+    → ((ds : List (Did State)) (s : State) → P ds s → Q ds s) → Refines stands site holds (BySteps P) a b → Refines stands site holds (BySteps Q) a b
+stepped_so stands site holds P Q a b so went = went_so stands site holds (BySteps P) (BySteps Q) a b (λ (s t : State). by_steps_so P Q s t (λ (ds : List (Did State)). so ds s)) went
 
 -- steps and others after them
-pub stepped_then : {T : Type 0} (stands : T → History → Type 0) (site : T → ℕ) (holds : T → ℕ → Type 0) (P Q R : List Did → State → Type 0) (a b c : Bench T)
-    → ((ds es : List Did) (s : State) → P ds s → Q es (state_after s ds) → R (ds ++ es) s)
+pub stepped_then : {T : Type 0} (stands : T → History → Type 0) (site : T → ℕ) (holds : T → ℕ → Type 0) (P Q R : List (Did State) → State → Type 0) (a b c : Bench T)
+    → ((ds es : List (Did State)) (s : State) → P ds s → Q es (state_after s ds) → R (ds ++ es) s)
     → Refines stands site holds (BySteps P) a b → Refines stands site holds (BySteps Q) b c → Refines stands site holds (BySteps R) a c
 stepped_then stands site holds P Q R a b c so first second =
-    went_then stands site holds (BySteps P) (BySteps Q) (BySteps R) a b c (λ (s t u : State). by_steps_then P Q R s t u (λ (ds es : List Did). so ds es s)) first second
+    went_then stands site holds (BySteps P) (BySteps Q) (BySteps R) a b c (λ (s t u : State). by_steps_then P Q R s t u (λ (ds es : List (Did State)). so ds es s)) first second
 
 -- no step was done
-pub stepped_nowhere : {T : Type 0} (stands : T → History → Type 0) (site : T → ℕ) (holds : T → ℕ → Type 0) (P : List Did → State → Type 0) (b : Bench T)
+pub stepped_nowhere : {T : Type 0} (stands : T → History → Type 0) (site : T → ℕ) (holds : T → ℕ → Type 0) (P : List (Did State) → State → Type 0) (b : Bench T)
     → ((s : State) → P [] s) → Refines stands site holds (BySteps P) b b
 stepped_nowhere stands site holds P b so = went_nowhere stands site holds (BySteps P) b (λ (s : State). ([], refl, so s))

@@ -6,23 +6,23 @@ use Rattle.ledger_model.specs.Histories.{History}
 use Rattle.millicent_http.specs.Items.{Item, closes, NextItem, EndsNoItem}
 use Rattle.millicent_http.specs.Reads.{HaveRead, NoneCloses}
 use Rattle.millicent_http.proofs.ReadLemmas.{read_item, read_all, read_closed}
+use Rattle.millicent_http.specs.Steps.{Did, sent_of, state_after, BySteps, Run, IsSession}
+use Rattle.millicent_http.proofs.StepLemmas.{run_more, sent_one}
+use Rattle.millicent_http.proofs.CourseLemmas.{none_more}
 use Rattle.house_core.specs.declared.bench.Bench.{Bench}
 use Rattle.house_core.specs.Bench.{Refines}
 use Rattle.house_core.specs.Session.{State, Step}
-use Rattle.house_serving.specs.Steps.{Did, sent_of, state_after, BySteps, Run, IsSession}
-use Rattle.house_serving.proofs.StepLemmas.{run_more, sent_one}
-use Rattle.house_serving.proofs.ServingLemmas.{none_more}
 use Rattle.house_serving.proofs.RefinesLemmas.{went_so, stepped_so, stepped_then, stepped_nowhere}
 
 -- so far these steps wrote this, in reply to i items, none of which ends the link, and this is left of it
-pub record IsReplying (limits : Limits) (moment : ℕ) (link : List ℕ) (i : ℕ) (rest written : List ℕ) (steps : List Did) (s : State) : Type 0 where
+pub record IsReplying (limits : Limits) (moment : ℕ) (link : List ℕ) (i : ℕ) (rest written : List ℕ) (steps : List (Did State)) (s : State) : Type 0 where
   pub items : List Item
   pub read : HaveRead link items rest
   pub opens : NoneCloses items
   pub len : length items ≡ i
   pub readings : List ℕ
   pub same : All (λ reading. reading ≡ moment) readings
-  pub ran : Run limits s items readings steps
+  pub ran : Run (Step limits) s items readings steps
   pub wrote : written ≡ sent_of steps
 
 -- an item was replied to
@@ -30,35 +30,35 @@ abbrev pub Stepped : Limits → ℕ → Item → List ℕ → List ℕ → State
 Stepped limits moment item written more s t = (reply : List ℕ) × Step limits s moment item reply t × (more ≡ written ++ reply)
 
 -- as a step
-abbrev pub IsStep : Limits → ℕ → Item → List ℕ → List ℕ → List Did → State → Type 0
-IsStep limits moment item written more steps s = (step : Did) × (steps ≡ step ∷ []) × Step limits s moment item step.sent step.after × (more ≡ written ++ step.sent)
+abbrev pub IsStep : Limits → ℕ → Item → List ℕ → List ℕ → List (Did State) → State → Type 0
+IsStep limits moment item written more steps s = (step : Did State) × (steps ≡ step ∷ []) × Step limits s moment item step.sent step.after × (more ≡ written ++ step.sent)
 
 -- the replies to a link were written by these steps
-abbrev pub Wrote : Limits → ℕ → List ℕ → List ℕ → List Did → State → Type 0
-Wrote limits moment link written steps s = (written ≡ sent_of steps) × IsSession limits moment link s steps
+abbrev pub Wrote : Limits → ℕ → List ℕ → List ℕ → List (Did State) → State → Type 0
+Wrote limits moment link written steps s = (written ≡ sent_of steps) × IsSession (Step limits) moment link s steps
 
 as_step : (limits : Limits) (moment : ℕ) (item : Item) (written more : List ℕ) (s t : State) → Stepped limits moment item written more s t → BySteps (IsStep limits moment item written more) s t
 as_step limits moment item written more s t is =
-    let step : Did = record { sent = is.0; after = t } in
+    let step : Did State = record { sent = is.0; after = t } in
     (step ∷ [], refl, (step, refl, is.1, is.2))
 
 starts : (limits : Limits) (moment : ℕ) (link : List ℕ) (s : State) (written : List ℕ) → written ≡ [] → IsReplying limits moment link 0 link written [] s
 starts limits moment link s written empty = record { items = []; read = refl; opens = tt; len = refl; readings = []; same = All-nil (λ (reading : ℕ). reading ≡ moment); ran = tt; wrote = empty }
 
-ran_more : (limits : Limits) (moment : ℕ) (link : List ℕ) (i : ℕ) (rest written more : List ℕ) (item : Item) (ds es : List Did) (s : State) (so : IsReplying limits moment link i rest written ds s)
-    → IsStep limits moment item written more es (state_after s ds) → Run limits s (so.items ++ item ∷ []) (so.readings ++ moment ∷ []) (ds ++ es)
+ran_more : (limits : Limits) (moment : ℕ) (link : List ℕ) (i : ℕ) (rest written more : List ℕ) (item : Item) (ds es : List (Did State)) (s : State) (so : IsReplying limits moment link i rest written ds s)
+    → IsStep limits moment item written more es (state_after s ds) → Run (Step limits) s (so.items ++ item ∷ []) (so.readings ++ moment ∷ []) (ds ++ es)
 ran_more limits moment link i rest written more item ds es s so did =
-    run_more limits s so.items (item ∷ []) so.readings (moment ∷ []) ds es so.ran
-    (subst (λ (l : List Did). Run limits (state_after s ds) (item ∷ []) (moment ∷ []) l) (sym did.1) (did.2, tt))
+    run_more (Step limits) s so.items (item ∷ []) so.readings (moment ∷ []) ds es so.ran
+    (subst (λ (l : List (Did State)). Run (Step limits) (state_after s ds) (item ∷ []) (moment ∷ []) l) (sym did.1) (did.2, tt))
 
-wrote_more : (limits : Limits) (moment : ℕ) (item : Item) (written more : List ℕ) (ds es : List Did) (t : State) → written ≡ sent_of ds → IsStep limits moment item written more es t → more ≡ sent_of (ds ++ es)
+wrote_more : (limits : Limits) (moment : ℕ) (item : Item) (written more : List ℕ) (ds es : List (Did State)) (t : State) → written ≡ sent_of ds → IsStep limits moment item written more es t → more ≡ sent_of (ds ++ es)
 wrote_more limits moment item written more ds es t so did = did.3 ∙ ap (λ (l : List ℕ). l ++ did.0.sent) so ∙ sym (sent_one ds es did.0 did.1)
 
 same_more : (moment : ℕ) (readings : List ℕ) → All (λ reading. reading ≡ moment) readings → All (λ reading. reading ≡ moment) (readings ++ moment ∷ [])
 same_more moment readings same = All-push (λ (reading : ℕ). reading ≡ moment) readings moment same refl
 
 -- one more item, which leaves the link open
-goes_on : (limits : Limits) (moment : ℕ) (link : List ℕ) (i : ℕ) (rest tail written more : List ℕ) (item : Item) (ds es : List Did) (s : State) → NextItem rest item tail → closes item ≡ false
+goes_on : (limits : Limits) (moment : ℕ) (link : List ℕ) (i : ℕ) (rest tail written more : List ℕ) (item : Item) (ds es : List (Did State)) (s : State) → NextItem rest item tail → closes item ≡ false
     → IsReplying limits moment link i rest written ds s → IsStep limits moment item written more es (state_after s ds) → IsReplying limits moment link (i + 1) tail more (ds ++ es) s
 goes_on limits moment link i rest tail written more item ds es s next open' so did = record {
   items = so.items ++ item ∷ [];
@@ -72,7 +72,7 @@ goes_on limits moment link i rest tail written more item ds es s next open' so d
 }
 
 -- an item that ends the link
-closed : (limits : Limits) (moment : ℕ) (link : List ℕ) (i : ℕ) (rest tail written more : List ℕ) (item : Item) (ds es : List Did) (s : State) → i < 1000 → NextItem rest item tail → closes item ≡ true
+closed : (limits : Limits) (moment : ℕ) (link : List ℕ) (i : ℕ) (rest tail written more : List ℕ) (item : Item) (ds es : List (Did State)) (s : State) → i < 1000 → NextItem rest item tail → closes item ≡ true
     → IsReplying limits moment link i rest written ds s → IsStep limits moment item written more es (state_after s ds) → Wrote limits moment link more (ds ++ es) s
 closed limits moment link i rest tail written more item ds es s few next close so did = (
   wrote_more limits moment item written more ds es (state_after s ds) so.wrote did,
@@ -85,7 +85,7 @@ closed limits moment link i rest tail written more item ds es s few next close s
   },
 )
 
-ended : (limits : Limits) (moment : ℕ) (link : List ℕ) (i : ℕ) (rest written : List ℕ) (steps : List Did) (s : State) → i ≤ 1000 → (i ≡ 1000) ⊎ EndsNoItem rest
+ended : (limits : Limits) (moment : ℕ) (link : List ℕ) (i : ℕ) (rest written : List ℕ) (steps : List (Did State)) (s : State) → i ≤ 1000 → (i ≡ 1000) ⊎ EndsNoItem rest
     → IsReplying limits moment link i rest written steps s → Wrote limits moment link written steps s
 ended limits moment link i rest written steps s few ends so = (
   so.wrote,
@@ -123,17 +123,17 @@ pub replying_goes_on : {T : Type 0} (stands : T → History → Type 0) (site : 
     → Refines stands site holds (λ s t. Stepped now_limits moment item written more s t) b c → Replying stands site holds limits moment link (i + 1) a tail more c
 replying_goes_on stands site holds limits now_limits moment link i a b c rest tail written more item same next open' so stepped =
     stepped_then stands site holds (IsReplying limits moment link i rest written) (IsStep limits moment item written more) (IsReplying limits moment link (i + 1) tail more) a b c
-    (λ (ds es : List Did) (s : State). goes_on limits moment link i rest tail written more item ds es s next open') so (went_step stands site holds limits now_limits moment b c written more item same stepped)
+    (λ (ds es : List (Did State)) (s : State). goes_on limits moment link i rest tail written more item ds es s next open') so (went_step stands site holds limits now_limits moment b c written more item same stepped)
 
 pub replying_closes : {T : Type 0} (stands : T → History → Type 0) (site : T → ℕ) (holds : T → ℕ → Type 0) (limits now_limits : Limits) (moment : ℕ) (link : List ℕ) (i : ℕ) (a b c : Bench T) (rest tail written more : List ℕ) (item : Item)
     → now_limits ≡ limits → i < 1000 → NextItem rest item tail → closes item ≡ true → Replying stands site holds limits moment link i a rest written b
     → Refines stands site holds (λ s t. Stepped now_limits moment item written more s t) b c → Refines stands site holds (BySteps (Wrote limits moment link more)) a c
 replying_closes stands site holds limits now_limits moment link i a b c rest tail written more item same few next close so stepped =
     stepped_then stands site holds (IsReplying limits moment link i rest written) (IsStep limits moment item written more) (Wrote limits moment link more) a b c
-    (λ (ds es : List Did) (s : State). closed limits moment link i rest tail written more item ds es s few next close) so (went_step stands site holds limits now_limits moment b c written more item same stepped)
+    (λ (ds es : List (Did State)) (s : State). closed limits moment link i rest tail written more item ds es s few next close) so (went_step stands site holds limits now_limits moment b c written more item same stepped)
 
 pub replying_ends : {T : Type 0} (stands : T → History → Type 0) (site : T → ℕ) (holds : T → ℕ → Type 0) (limits : Limits) (moment : ℕ) (link : List ℕ) (i : ℕ) (a b : Bench T) (rest written : List ℕ)
     → i ≤ 1000 → (i ≡ 1000) ⊎ EndsNoItem rest → Replying stands site holds limits moment link i a rest written b → Refines stands site holds (BySteps (Wrote limits moment link written)) a b
 replying_ends stands site holds limits moment link i a b rest written few ends so =
     stepped_so stands site holds (IsReplying limits moment link i rest written) (Wrote limits moment link written) a b
-    (λ (steps : List Did) (s : State). ended limits moment link i rest written steps s few ends) so
+    (λ (steps : List (Did State)) (s : State). ended limits moment link i rest written steps s few ends) so

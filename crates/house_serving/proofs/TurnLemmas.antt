@@ -1,7 +1,6 @@
 -- One turn of serving a link.
 use Rattle.std.proofs.Common.{◌≡◌, ℕ, Bool, List, [], ◌∷◌, refl, subst}
 use Rattle.mc_outside.specs.LinkView.{LinkView, after_recv}
-use Rattle.mc_records.specs.declared.limits.Limits.{Limits}
 use Rattle.mc_records.specs.declared.request.Request.{Request}
 use Rattle.mc_records.specs.Requests.{asked_of}
 use Rattle.millicent_http.specs.declared.item.After.{After}
@@ -12,73 +11,72 @@ use Rattle.millicent_http.specs.Items.{Item, request, refused}
 use Rattle.millicent_http.specs.HeadRefusals.{as_refusal}
 use Rattle.millicent_http.specs.Held.{Held}
 use Rattle.millicent_http.specs.Takes.{Took, TookItem, LeadsTo, with_more}
-use Rattle.house_serving.specs.declared.serving.Clock.{Clock}
+use Rattle.millicent_http.specs.declared.clock.Clock.{Clock}
+use Rattle.millicent_http.specs.Steps.{Did, BySteps, StepRelation}
 use Rattle.house_serving.specs.declared.turn.Turn.{Turn}
 use Rattle.house_serving.specs.declared.turn.Turn.TheVariants.{GoOn, Last, End, NotReceived, NotSent}
-use Rattle.house_core.specs.Session.{State}
-use Rattle.house_serving.specs.Steps.{Did, BySteps}
 use Rattle.house_serving.specs.Turns.{Answered, AnsweredItem, Turned}
 
-turned : (limits : Limits) (clock : Clock) (turn : Turn) (steps : List Did) (s : State) (old : Held) (before : LinkView) (new : Held) (link : LinkView)
-    → Answered limits clock turn steps s old before new link → Turned limits clock turn steps s old before new link
-turned limits clock GoOn steps s old before new link x = x
-turned limits clock Last steps s old before new link x = x
-turned limits clock End steps s old before new link x = absurd x.answered.sent
-turned limits clock NotReceived steps s old before new link x = absurd x.answered.sent
-turned limits clock NotSent steps s old before new link x = x
+turned : {S : Type 0} (Step : StepRelation S) (clock : Clock) (turn : Turn) (steps : List (Did S)) (s : S) (old : Held) (before : LinkView) (new : Held) (link : LinkView)
+    → Answered Step clock turn steps s old before new link → Turned Step clock turn steps s old before new link
+turned Step clock GoOn steps s old before new link x = x
+turned Step clock Last steps s old before new link x = x
+turned Step clock End steps s old before new link x = absurd x.answered.sent
+turned Step clock NotReceived steps s old before new link x = absurd x.answered.sent
+turned Step clock NotSent steps s old before new link x = x
 
 -- an item was taken and answered
-pub item_turned : (limits : Limits) (clock : Clock) (turn : Turn) (step : Did) (s : State) (old : Held) (before mid : LinkView) (more : List ℕ) (item : Item) (after : After) (new : Held) (link : LinkView)
-    → TookItem (with_more old more).bytes old.given item after new → mid ≡ after_recv more before → AnsweredItem limits clock item after turn step s mid link
-    → Turned limits clock turn (step ∷ []) s old before new link
-item_turned limits clock turn step s old before mid more item after new link took came answered =
-    turned limits clock turn (step ∷ []) s old before new link (record {
+pub item_turned : {S : Type 0} (Step : StepRelation S) (clock : Clock) (turn : Turn) (step : Did S) (s : S) (old : Held) (before mid : LinkView) (more : List ℕ) (item : Item) (after : After) (new : Held) (link : LinkView)
+    → TookItem (with_more old more).bytes old.given item after new → mid ≡ after_recv more before → AnsweredItem Step clock item after turn step s mid link
+    → Turned Step clock turn (step ∷ []) s old before new link
+item_turned Step clock turn step s old before mid more item after new link took came answered =
+    turned Step clock turn (step ∷ []) s old before new link (record {
       more = more;
       item = item;
       after = after;
       took = took;
       step = step;
       one = refl;
-      answered = subst (λ (v : LinkView). AnsweredItem limits clock item after turn step s v link) came answered;
+      answered = subst (λ (v : LinkView). AnsweredItem Step clock item after turn step s v link) came answered;
     })
 
 pub leads_so : (old : Held) (before : LinkView) (out made : HeadOut) (new : Held) (mid : LinkView) (took : Took old before out new mid) → out ≡ made → LeadsTo (with_more old took.got) made new (after_recv took.got before) mid
 leads_so old before out made new mid took is = subst (λ (o : HeadOut). LeadsTo (with_more old took.got) o new (after_recv took.got before) mid) is took.leads
 
 -- so the turn's step leads from the one state to the other
-abbrev pub TurnedBy : Limits → Clock → Turn → State → Held → LinkView → State → Held → LinkView → Type 0
-TurnedBy limits clock turn s old before t new link = BySteps (λ steps s. Turned limits clock turn steps s old before new link) s t
+abbrev pub TurnedBy : {S : Type 0} → StepRelation S → Clock → Turn → S → Held → LinkView → S → Held → LinkView → Type 0
+TurnedBy Step clock turn s old before t new link = BySteps (λ steps s. Turned Step clock turn steps s old before new link) s t
 
-pub head_turned : (limits : Limits) (clock : Clock) (turn : Turn) (s : State) (old : Held) (before mid : LinkView) (out : HeadOut) (q : Request) (after : After) (t : State) (new : Held) (link : LinkView)
+pub head_turned : {S : Type 0} (Step : StepRelation S) (clock : Clock) (turn : Turn) (s : S) (old : Held) (before mid : LinkView) (out : HeadOut) (q : Request) (after : After) (t : S) (new : Held) (link : LinkView)
     → Took old before out new mid → out ≡ outs.Head q after
-    → ((step : Did) × (t ≡ step.after) × ((closes : Bool) → AnsweredItem limits clock (request (asked_of q) closes) after turn step s mid link))
-    → TurnedBy limits clock turn s old before t new link
-head_turned limits clock turn s old before mid out q after t new link took is did =
+    → ((step : Did S) × (t ≡ step.after) × ((closes : Bool) → AnsweredItem Step clock (request (asked_of q) closes) after turn step s mid link))
+    → TurnedBy Step clock turn s old before t new link
+head_turned Step clock turn s old before mid out q after t new link took is did =
     let leads = leads_so old before out (outs.Head q after) new mid took is in (
       did.0 ∷ [],
       did.1,
-      item_turned limits clock turn did.0 s old before mid took.got (request (asked_of q) leads.0.0) after new link leads.0.1 leads.1 (did.2 leads.0.0),
+      item_turned Step clock turn did.0 s old before mid took.got (request (asked_of q) leads.0.0) after new link leads.0.1 leads.1 (did.2 leads.0.0),
     )
 
-pub refused_turned : (limits : Limits) (clock : Clock) (turn : Turn) (s : State) (old : Held) (before mid : LinkView) (out : HeadOut) (f : HeadRefusal) (after : After) (t : State) (new : Held) (link : LinkView)
+pub refused_turned : {S : Type 0} (Step : StepRelation S) (clock : Clock) (turn : Turn) (s : S) (old : Held) (before mid : LinkView) (out : HeadOut) (f : HeadRefusal) (after : After) (t : S) (new : Held) (link : LinkView)
     → Took old before out new mid → out ≡ outs.Refused f after
-    → ((step : Did) × (t ≡ step.after) × ((closes : Bool) → AnsweredItem limits clock (refused (as_refusal f) closes) after turn step s mid link))
-    → TurnedBy limits clock turn s old before t new link
-refused_turned limits clock turn s old before mid out f after t new link took is did =
+    → ((step : Did S) × (t ≡ step.after) × ((closes : Bool) → AnsweredItem Step clock (refused (as_refusal f) closes) after turn step s mid link))
+    → TurnedBy Step clock turn s old before t new link
+refused_turned Step clock turn s old before mid out f after t new link took is did =
     let leads = leads_so old before out (outs.Refused f after) new mid took is in (
       did.0 ∷ [],
       did.1,
-      item_turned limits clock turn did.0 s old before mid took.got (refused (as_refusal f) leads.0.0) after new link leads.0.1 leads.1 (did.2 leads.0.0),
+      item_turned Step clock turn did.0 s old before mid took.got (refused (as_refusal f) leads.0.0) after new link leads.0.1 leads.1 (did.2 leads.0.0),
     )
 
-pub end_turned : (limits : Limits) (clock : Clock) (s : State) (old : Held) (before : LinkView) (out : HeadOut) (new : Held) (link : LinkView)
-    → Took old before out new link → out ≡ outs.End → TurnedBy limits clock End s old before s new link
-end_turned limits clock s old before out new link took is =
+pub end_turned : {S : Type 0} (Step : StepRelation S) (clock : Clock) (s : S) (old : Held) (before : LinkView) (out : HeadOut) (new : Held) (link : LinkView)
+    → Took old before out new link → out ≡ outs.End → TurnedBy Step clock End s old before s new link
+end_turned Step clock s old before out new link took is =
     let leads = leads_so old before out outs.End new link took is in
     ([], refl, record { none_done = refl; more = took.got; none = leads.1; then' = leads.2 })
 
-pub fault_turned : (limits : Limits) (clock : Clock) (s : State) (old : Held) (before : LinkView) (out : HeadOut) (new : Held) (link : LinkView)
-    → Took old before out new link → out ≡ outs.Fault → TurnedBy limits clock NotReceived s old before s new link
-fault_turned limits clock s old before out new link took is =
+pub fault_turned : {S : Type 0} (Step : StepRelation S) (clock : Clock) (s : S) (old : Held) (before : LinkView) (out : HeadOut) (new : Held) (link : LinkView)
+    → Took old before out new link → out ≡ outs.Fault → TurnedBy Step clock NotReceived s old before s new link
+fault_turned Step clock s old before out new link took is =
     let leads = leads_so old before out outs.Fault new link took is in
     ([], refl, record { none_done = refl; more = took.got; none = leads.1; then' = leads.2 })

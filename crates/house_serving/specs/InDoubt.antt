@@ -11,10 +11,10 @@ use Rattle.millicent_http.specs.declared.item.After.{After}
 use Rattle.millicent_http.specs.Items.{Item, request}
 use Rattle.millicent_http.specs.Held.{Held}
 use Rattle.millicent_http.specs.Takes.{TookItem}
-use Rattle.house_core.specs.Session.{State, raised}
-use Rattle.house_serving.specs.declared.serving.Clock.TheVariants.{OfLinks}
-use Rattle.house_serving.specs.Steps.{Did, sent_of, state_after}
-use Rattle.house_serving.specs.Course.{AreRead, with_readings, Replied, AreFirst, HadLinks}
+use Rattle.millicent_http.specs.declared.clock.Clock.TheVariants.{OfLinks}
+use Rattle.millicent_http.specs.Steps.{Did, sent_of, state_after}
+use Rattle.millicent_http.specs.Courses.{AreRead, with_readings, Replied, AreFirst, HadLinks}
+use Rattle.house_core.specs.Session.{State, raised, Step}
 
 -- a reply was sent, or a proper prefix of it where sending failed
 abbrev pub Sends : List ℕ → List ℕ → LinkView → LinkView → Type 0
@@ -40,26 +40,26 @@ pub record InDoubtTurn (limits : Limits) (s : State) (old : Held) (before : Link
   pub in_doubt : RequestInDoubt limits q s e said (after_recv more before) link
 
 -- The first items of a link were answered, and then came such a request.
-pub record InDoubtLink (limits : Limits) (steps : List Did) (s : State) (before : LinkView) (e : Entry) (said : List ℕ) (after : LinkView) : Type 0 where
+pub record InDoubtLink (limits : Limits) (steps : List (Did State)) (s : State) (before : LinkView) (e : Entry) (said : List ℕ) (after : LinkView) : Type 0 where
   pub got : List ℕ
   pub front : List Item
   pub q : Asked
   pub closes : Bool
   pub first : AreFirst got front (request q closes)
   pub between : Option (List ℕ)
-  pub replied : Replied limits OfLinks front steps s before.readings between
+  pub replied : Replied (Step limits) OfLinks front steps s before.readings between
   pub in_doubt : RequestInDoubt limits q (state_after s steps) e said (with_readings between (after_send (sent_of steps) (after_recv got before))) after
 
 -- Some links were served, fewer than were asked for, and on the next one came such a request. Then that
 -- link was ended.
-pub record InDoubtLinks (limits : Limits) (links : ℕ) (steps : List Did) (s : State) (before : LinkView) (e : Entry) (said : List ℕ) (after : LinkView) : Type 0 where
+pub record InDoubtLinks (limits : Limits) (links : ℕ) (steps : List (Did State)) (s : State) (before : LinkView) (e : Entry) (said : List ℕ) (after : LinkView) : Type 0 where
   pub n : ℕ
   pub few : n < links
-  pub front : List Did
-  pub last : List Did
+  pub front : List (Did State)
+  pub last : List (Did State)
   pub steps_are : steps ≡ front ++ last
   pub between : LinkView
-  pub links_had : HadLinks limits OfLinks n front s before between
+  pub links_had : HadLinks (Step limits) OfLinks n front s before between
   pub stopped : LinkView
   pub last_link : InDoubtLink limits last (state_after s front) (next_taken between) e said stopped
   pub ended : after ≡ record stopped { stands = false }

@@ -1,5 +1,4 @@
-pub mod Steps
-pub mod Course
+pub mod Served
 pub mod Turns
 pub mod Orders
 pub mod InDoubt

@@ -6,18 +6,18 @@ use Rattle.mc_outside.specs.LinkView.{LinkView}
 use Rattle.mc_records.specs.Entry.{Entry}
 use Rattle.ledger_model.specs.Histories.{History}
 use Rattle.scrip_journal.specs.Layout.{Encodes}
+use Rattle.millicent_http.specs.Steps.{Did, sent_of, state_after}
 use Rattle.house_core.specs.declared.house.House.{House}
 use Rattle.house_core.specs.Bench.{house_time}
 use Rattle.house_core.specs.House.{HouseRepresents}
 use Rattle.house_core.specs.Session.{State}
-use Rattle.house_serving.specs.Steps.{Did, sent_of, state_after}
 
 -- A crash pair is in order: after some first of the steps the image encodes the history. Where what was
 -- sent is told, by then no more was sent than those steps sent. So of the reply of a step that gave an entry
 -- no byte was sent before the entry was there.
-pub record InOrder (tells : Type 0) (s : State) (before : List ℕ) (steps : List Did) (image sent : List ℕ) : Type 0 where
-  pub done : List Did
-  pub rest : List Did
+pub record InOrder (tells : Type 0) (s : State) (before : List ℕ) (steps : List (Did State)) (image sent : List ℕ) : Type 0 where
+  pub done : List (Did State)
+  pub rest : List (Did State)
   pub split : steps ≡ done ++ rest
   pub stands : Encodes (state_after s done).history image
   pub began : tells → BeginsWith before sent
@@ -25,13 +25,13 @@ pub record InOrder (tells : Type 0) (s : State) (before : List ℕ) (steps : Lis
 
 -- From one moment of the outside to another these steps were done, and each crash pair is in order. Where
 -- what was sent is told, it is what they sent.
-pub record MovedBy (tells : Type 0) (a b : DiskView) (s : State) (steps : List Did) : Type 0 where
+pub record MovedBy (tells : Type 0) (a b : DiskView) (s : State) (steps : List (Did State)) : Type 0 where
   pub aside : tells → b.aside ≡ a.aside ++ sent_of steps
   pub ran : Ran a b (InOrder tells s a.aside steps)
 
 -- A house came from this state to what it is by these steps, while the disk did not fail, and each crash
 -- pair is in order.
-pub record RefinesBy {O T : Type 0} (link : O → LinkView) (disk : O → DiskView) (stands : T → History → Type 0) (site : T → ℕ) (holds : T → ℕ → Type 0) (a : O) (s : State) (steps : List Did) (x : House O T) : Type 0 where
+pub record RefinesBy {O T : Type 0} (link : O → LinkView) (disk : O → DiskView) (stands : T → History → Type 0) (site : T → ℕ) (holds : T → ℕ → Type 0) (a : O) (s : State) (steps : List (Did State)) (x : House O T) : Type 0 where
   pub house : HouseRepresents disk stands site holds x (state_after s steps).history
   pub time : house_time x.bench ≡ (state_after s steps).time
   pub tells : is_some (link x.journal.disk).sessions ≡ is_some (link a).sessions
@@ -53,7 +53,7 @@ pub record InDoubt (tells : Type 0) (h : History) (before : List ℕ) (e : Entry
 
 -- After some steps a request was taken, and up to that moment the disk had not failed and each crash pair is
 -- in order. Then the disk failed while this entry was written, and so much of the refusal was sent.
-pub record HaltedBy {O : Type 0} (link : O → LinkView) (disk : O → DiskView) (a : O) (s : State) (steps : List Did) (e : Entry) (said : List ℕ) (d : O) : Type 0 where
+pub record HaltedBy {O : Type 0} (link : O → LinkView) (disk : O → DiskView) (a : O) (s : State) (steps : List (Did State)) (e : Entry) (said : List ℕ) (d : O) : Type 0 where
   pub taken : O
   pub tells : is_some (link d).sessions ≡ is_some (link a).sessions
   pub quiet : (disk taken).faults ≡ (disk a).faults

@@ -7,11 +7,11 @@ ghost use Rattle.ledger_model.specs.Histories.{History};
 ghost use Rattle.ledger_model.specs.Answer.{answer, Again};
 ghost use Rattle.millicent_http.specs.declared.item.After.TheVariants.{Close};
 ghost use Rattle.millicent_http.specs.HeadRefusals.{as_refusal};
+ghost use Rattle.millicent_http.specs.declared.clock.Clock.TheVariants.{OfLinks};
+ghost use Rattle.millicent_http.specs.Courses.{AreRead, with_readings};
 ghost use Rattle.house_core.specs.Bench.{house_time, limits_of, state_of};
 ghost use Rattle.house_core.specs.House.{HouseRepresents};
-ghost use Rattle.house_serving.specs.declared.serving.Clock.TheVariants.{OfLinks};
 ghost use Rattle.house_serving.specs.declared.turn.Turn.TheVariants.{GoOn};
-ghost use Rattle.house_serving.specs.Course.{AreRead, with_readings};
 ghost use Rattle.house_serving.specs.Links.{KeptCounts, PartCauses, RepliesTo, AnswersRequest, RefusesHead, TurnsHouse};
 
 use crate::turn::{Turn, turn_of};

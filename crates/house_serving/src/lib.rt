@@ -12,5 +12,5 @@ mod whole;
 
 pub use house_turn::raise_by_clock;
 pub use links::{ServeOut, serve_links};
-pub use serving::{BenchEnd, Clock, serve_bench, serve_bench_by};
+pub use serving::{BenchEnd, serve_bench, serve_bench_by};
 pub use whole::reply_to_link;

@@ -3,25 +3,17 @@
 ghost use Rattle.std.specs.Prelude.{◌≡◌, IsTrue};
 ghost use Rattle.ledger_model.specs.Histories.{History};
 ghost use Rattle.millicent_http.specs.Held.{nothing_held};
+ghost use Rattle.millicent_http.specs.Steps.{BySteps};
+ghost use Rattle.millicent_http.specs.Courses.{HadLink};
 ghost use Rattle.house_core.specs.Bench.{IsHouse, Refines, limits_of};
-ghost use Rattle.house_serving.specs.Steps.{BySteps};
-ghost use Rattle.house_serving.specs.Course.{HadLink, Served};
+ghost use Rattle.house_core.specs.Session.{Step};
 ghost use Rattle.house_serving.specs.Turns.{Ended};
+ghost use Rattle.house_serving.specs.Served.{Served};
 
 use crate::turn::{Turn, serve_next};
 use house_core::{Bench, Trade};
-use mc_base::Moment;
 use mc_outside::Link;
-use millicent_http::HeadReader;
-
-/// The clock that a house is served by.
-#[derive(Clone, Copy, Debug, PartialEq, Eq)]
-pub enum Clock {
-    /// That of the links: it is read once for each item.
-    OfLinks,
-    /// It stands at a moment.
-    At(Moment),
-}
+use millicent_http::{Clock, HeadReader};
 
 /// Why fewer links were served than were asked for, though more may come.
 #[derive(Clone, Copy, Debug, PartialEq, Eq)]
@@ -43,7 +35,7 @@ pub fn serve_bench<K: Link, T: Trade>(
     requires house { (h : History) × IsHouse T.stands T.site T.holds bench.old h }
     ensures moved { K.link_moved k.old k.new }
     ensures limits { limits_of bench.new ≡ limits_of bench.old }
-    ensures served { Refines T.stands T.site T.holds (BySteps (λ steps s. Served (limits_of bench.old) Clock.OfLinks links result steps s (K.link k.old) (K.link k.new))) bench.old bench.new }
+    ensures served { Refines T.stands T.site T.holds (BySteps (λ steps s. Served (Step (limits_of bench.old)) Clock.OfLinks links result steps s (K.link k.old) (K.link k.new))) bench.old bench.new }
 {
     serve_bench_by(bench, k, links, &Clock::OfLinks)
 }
@@ -58,7 +50,7 @@ pub fn serve_bench_by<K: Link, T: Trade>(
     requires house { (h : History) × IsHouse T.stands T.site T.holds bench.old h }
     ensures moved { K.link_moved k.old k.new }
     ensures limits { limits_of bench.new ≡ limits_of bench.old }
-    ensures served { Refines T.stands T.site T.holds (BySteps (λ steps s. Served (limits_of bench.old) clock.now links result steps s (K.link k.old) (K.link k.new))) bench.old bench.new }
+    ensures served { Refines T.stands T.site T.holds (BySteps (λ steps s. Served (Step (limits_of bench.old)) clock.now links result steps s (K.link k.old) (K.link k.new))) bench.old bench.new }
 {
     let Ok(mut reader) = HeadReader::new(bench.alloc()) else {
         return Err(BenchEnd::NoMemory);
@@ -87,7 +79,7 @@ fn serve_standing<K: Link, T: Trade>(
     requires house { (h : History) × IsHouse T.stands T.site T.holds bench.old h }
     ensures moved { K.link_moved k.old k.new }
     ensures limits { limits_of bench.new ≡ limits_of bench.old }
-    ensures course { Refines T.stands T.site T.holds (BySteps (λ steps s. HadLink (limits_of bench.old) clock.now steps s (K.link k.old) (K.link k.new))) bench.old bench.new }
+    ensures course { Refines T.stands T.site T.holds (BySteps (λ steps s. HadLink (Step (limits_of bench.old)) clock.now steps s (K.link k.old) (K.link k.new))) bench.old bench.new }
 {
     reader.restart();
     serve_turns(bench, reader, k, clock);
@@ -106,7 +98,7 @@ fn serve_turns<K: Link, T: Trade>(
     requires house { (h : History) × IsHouse T.stands T.site T.holds bench.old h }
     ensures moved { K.link_moved k.old k.new }
     ensures limits { limits_of bench.new ≡ limits_of bench.old }
-    ensures ended { Refines T.stands T.site T.holds (BySteps (λ steps s. Ended (limits_of bench.old) clock.now result steps s (K.link k.old) (K.link k.new))) bench.old bench.new }
+    ensures ended { Refines T.stands T.site T.holds (BySteps (λ steps s. Ended (Step (limits_of bench.old)) clock.now result steps s (K.link k.old) (K.link k.new))) bench.old bench.new }
 {
     'turns: loop {
         match serve_next(bench, reader, k, clock) {

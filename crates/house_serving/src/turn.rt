@@ -5,19 +5,18 @@ ghost use Rattle.mc_records.specs.Requests.{asked_of};
 ghost use Rattle.millicent_http.specs.declared.item.After.TheVariants.{Close};
 ghost use Rattle.millicent_http.specs.HeadRefusals.{as_refusal};
 ghost use Rattle.millicent_http.specs.Items.{request, refused};
+ghost use Rattle.millicent_http.specs.Courses.{AreRead, with_readings};
+ghost use Rattle.millicent_http.specs.Steps.{Did, BySteps};
 ghost use Rattle.house_core.specs.Bench.{Refines, limits_of};
 ghost use Rattle.house_serving.specs.declared.turn.Turn.TheVariants.{GoOn};
-ghost use Rattle.house_serving.specs.Course.{AreRead, with_readings};
-ghost use Rattle.house_serving.specs.Steps.{Did, BySteps};
-ghost use Rattle.house_core.specs.Session.{State};
+ghost use Rattle.house_core.specs.Session.{State, Step};
 ghost use Rattle.house_serving.specs.Turns.{Sent, AnsweredItem, Turned, turn_after};
 
-use crate::serving::Clock;
 use house_core::{Bench, Reply, Trade};
 use mc_base::Moment;
 use mc_outside::{Link, LinkFault};
 use mc_records::Request;
-use millicent_http::{After, HeadOut, HeadReader, HeadRefusal};
+use millicent_http::{After, Clock, HeadOut, HeadReader, HeadRefusal};
 
 /// How one turn of serving a link ended.
 #[derive(Clone, Copy)]
@@ -42,7 +41,7 @@ pub(crate) fn serve_next<K: Link, T: Trade>(
     requires stands { IsTrue (K.link k.old).stands }
     ensures moved { K.link_moved k.old k.new }
     ensures limits { limits_of bench.new ≡ limits_of bench.old }
-    ensures turned { Refines T.stands T.site T.holds (BySteps (λ steps s. Turned (limits_of bench.old) clock.now result steps s reader.old (K.link k.old) reader.new (K.link k.new))) bench.old bench.new }
+    ensures turned { Refines T.stands T.site T.holds (BySteps (λ steps s. Turned (Step (limits_of bench.old)) clock.now result steps s reader.old (K.link k.old) reader.new (K.link k.new))) bench.old bench.new }
 {
     match reader.take(k) {
         HeadOut::Head(q, after) => serve_request(bench, &q, after, k, clock),
@@ -63,7 +62,7 @@ fn serve_request<K: Link, T: Trade>(
     requires stands { IsTrue (K.link k.old).stands }
     ensures moved { K.link_moved k.old k.new }
     ensures limits { limits_of bench.new ≡ limits_of bench.old }
-    ensures answered { Refines T.stands T.site T.holds (λ s t. (step : Did) × (t ≡ step.after) × ((closes : Bool) → AnsweredItem (limits_of bench.old) clock.now (request (asked_of q.now) closes) after result step s (K.link k.old) (K.link k.new))) bench.old bench.new }
+    ensures answered { Refines T.stands T.site T.holds (λ s t. (step : Did State) × (t ≡ step.after) × ((closes : Bool) → AnsweredItem (Step (limits_of bench.old)) clock.now (request (asked_of q.now) closes) after result step s (K.link k.old) (K.link k.new))) bench.old bench.new }
 {
     let reading = read_clock(k, clock);
     let said = bench.answer(reading, q);
@@ -82,7 +81,7 @@ fn serve_refused<K: Link, T: Trade>(
     requires stands { IsTrue (K.link k.old).stands }
     ensures moved { K.link_moved k.old k.new }
     ensures limits { limits_of bench.new ≡ limits_of bench.old }
-    ensures answered { Refines T.stands T.site T.holds (λ s t. (step : Did) × (t ≡ step.after) × ((closes : Bool) → AnsweredItem (limits_of bench.old) clock.now (refused (as_refusal head) closes) after result step s (K.link k.old) (K.link k.new))) bench.old bench.new }
+    ensures answered { Refines T.stands T.site T.holds (λ s t. (step : Did State) × (t ≡ step.after) × ((closes : Bool) → AnsweredItem (Step (limits_of bench.old)) clock.now (refused (as_refusal head) closes) after result step s (K.link k.old) (K.link k.new))) bench.old bench.new }
 {
     let reading = read_clock(k, clock);
     send(&bench.refuse_head(reading, head), after, k)

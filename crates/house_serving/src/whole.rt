@@ -2,9 +2,9 @@
 
 ghost use Rattle.std.specs.Prelude.{◌≡◌, ◌++◌, [], ℕ, List, OnOk};
 ghost use Rattle.millicent_http.specs.Takes.{item_of};
+ghost use Rattle.millicent_http.specs.Steps.{BySteps, IsSession, sent_of};
 ghost use Rattle.house_core.specs.Bench.{Refines, limits_of};
 ghost use Rattle.house_core.specs.Session.{Step};
-ghost use Rattle.house_serving.specs.Steps.{BySteps, IsSession, sent_of};
 
 use house_core::{Bench, Trade};
 use mc_base::{Moment, NoMemory};
@@ -23,7 +23,7 @@ pub fn reply_to_link<T: Trade>(
 ) -> Result<(), NoMemory>
     requires { out.old.items ≡ [] }
     ensures limits { limits_of bench.new ≡ limits_of bench.old }
-    ensures replied { OnOk result (Refines T.stands T.site T.holds (BySteps (λ steps s. (out.new.items ≡ sent_of steps) × IsSession (limits_of bench.old) moment link.now s steps)) bench.old bench.new) }
+    ensures replied { OnOk result (Refines T.stands T.site T.holds (BySteps (λ steps s. (out.new.items ≡ sent_of steps) × IsSession (Step (limits_of bench.old)) moment link.now s steps)) bench.old bench.new) }
 {
     let mut rest = link;
     for _ in 0..MOST_ITEMS {

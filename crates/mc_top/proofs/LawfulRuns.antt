@@ -11,13 +11,13 @@ use Rattle.ledger_model.specs.Lawful.{IsLawful}
 use Rattle.ledger_model.proofs.TableLaws.{answered_take, through}
 use Rattle.ledger_model.proofs.FollowLaws.{taken_lawful}
 use Rattle.millicent_http.specs.Items.{Item, request, refused}
+use Rattle.millicent_http.specs.declared.clock.Clock.TheVariants.{OfLinks}
+use Rattle.millicent_http.specs.Steps.{Did, state_after, Run}
+use Rattle.millicent_http.specs.Courses.{HadLink, HadLinks, ServedAll}
+use Rattle.millicent_http.proofs.StepLemmas.{state_after-append}
 use Rattle.house_core.specs.Session.{State, Gives, Step, raised, entered}
 use Rattle.house_core.proofs.Entered.{time_snoc}
-use Rattle.house_serving.specs.declared.serving.Clock.TheVariants.{OfLinks}
-use Rattle.house_serving.specs.Steps.{Did, state_after, Run}
-use Rattle.house_serving.specs.Course.{HadLink, HadLinks, ServedAll}
 use Rattle.house_serving.specs.InDoubt.{InDoubtLinks}
-use Rattle.house_serving.proofs.StepLemmas.{state_after-append}
 
 -- the history is lawful, and no entry is after the house time
 pub record IsSound (limits : Limits) (s : State) : Type 0 where
@@ -48,7 +48,7 @@ step_sound : (limits : Limits) (s : State) (reading : ℕ) (item : Item) (reply 
 step_sound limits s reading (request q closes) reply t small sound step = gives_sound limits (raised s reading) q _ reply t small (raised_sound limits s reading sound) refl step
 step_sound limits s reading (refused f closes) reply t small sound step = subst (λ (u : State). IsSound limits u) (sym step.1) (raised_sound limits s reading sound)
 
-run_sound : (limits : Limits) (s : State) (items : List Item) (readings : List ℕ) (steps : List Did) → limits.journal ≤ 2 ^ 40 → IsSound limits s → Run limits s items readings steps → IsSound limits (state_after s steps)
+run_sound : (limits : Limits) (s : State) (items : List Item) (readings : List ℕ) (steps : List (Did State)) → limits.journal ≤ 2 ^ 40 → IsSound limits s → Run (Step limits) s items readings steps → IsSound limits (state_after s steps)
 run_sound limits s [] [] [] small sound run = sound
 run_sound limits s [] [] (d ∷ ds) small sound run = absurd run
 run_sound limits s [] (r ∷ rs) steps small sound run = absurd run
@@ -57,7 +57,7 @@ run_sound limits s (i ∷ is) (r ∷ rs) [] small sound run = absurd run
 run_sound limits s (i ∷ is) (r ∷ rs) (d ∷ ds) small sound run = run_sound limits d.after is rs ds small (step_sound limits s r i d.sent d.after small sound run.0) run.1
 
 -- links that were served
-link_sound : (limits : Limits) (steps : List Did) (s : State) (before after : LinkView) → limits.journal ≤ 2 ^ 40 → IsSound limits s → HadLink limits OfLinks steps s before after → IsSound limits (state_after s steps)
+link_sound : (limits : Limits) (steps : List (Did State)) (s : State) (before after : LinkView) → limits.journal ≤ 2 ^ 40 → IsSound limits s → HadLink (Step limits) OfLinks steps s before after → IsSound limits (state_after s steps)
 link_sound limits steps s before after small sound had = elim had.course [
   | inl served ↦ run_sound limits s served.items served.replied.readings steps small sound served.replied.ran
   | inr broke ↦ elim broke [
@@ -65,24 +65,24 @@ link_sound limits steps s before after small sound had = elim had.course [
     | inr sending ↦
         let so = run_sound limits s sending.front sending.replied.readings sending.done small sound sending.replied.ran in
         let last = run_sound limits (state_after s sending.done) (sending.last ∷ []) sending.replied_last.readings _ small so sending.replied_last.ran in
-        subst (λ (l : List Did). IsSound limits (state_after s l)) (sym sending.steps_are)
+        subst (λ (l : List (Did State)). IsSound limits (state_after s l)) (sym sending.steps_are)
         (subst (λ (t : State). IsSound limits t) (sym (state_after-append s sending.done (sending.step ∷ []))) last)
   ]
 ]
 
-pub links_sound : (limits : Limits) (n : ℕ) (steps : List Did) (s : State) (before after : LinkView) → limits.journal ≤ 2 ^ 40 → IsSound limits s → HadLinks limits OfLinks n steps s before after → IsSound limits (state_after s steps)
-links_sound limits zero steps s before after small sound had = subst (λ (l : List Did). IsSound limits (state_after s l)) (sym had.0) sound
+pub links_sound : (limits : Limits) (n : ℕ) (steps : List (Did State)) (s : State) (before after : LinkView) → limits.journal ≤ 2 ^ 40 → IsSound limits s → HadLinks (Step limits) OfLinks n steps s before after → IsSound limits (state_after s steps)
+links_sound limits zero steps s before after small sound had = subst (λ (l : List (Did State)). IsSound limits (state_after s l)) (sym had.0) sound
 links_sound limits (suc n) steps s before after small sound had =
     let so = links_sound limits n had.0 s before had.2 small sound had.4 in
     let last = link_sound limits had.1 (state_after s had.0) (next_taken had.2) after small so had.5 in
-    subst (λ (l : List Did). IsSound limits (state_after s l)) (sym had.3) (subst (λ (t : State). IsSound limits t) (sym (state_after-append s had.0 had.1)) last)
+    subst (λ (l : List (Did State)). IsSound limits (state_after s l)) (sym had.3) (subst (λ (t : State). IsSound limits t) (sym (state_after-append s had.0 had.1)) last)
 
-pub all_sound : (limits : Limits) (links n : ℕ) (steps : List Did) (s : State) (before after : LinkView) → limits.journal ≤ 2 ^ 40 → IsSound limits s → ServedAll limits OfLinks links n steps s before after → IsSound limits (state_after s steps)
+pub all_sound : (limits : Limits) (links n : ℕ) (steps : List (Did State)) (s : State) (before after : LinkView) → limits.journal ≤ 2 ^ 40 → IsSound limits s → ServedAll (Step limits) OfLinks links n steps s before after → IsSound limits (state_after s steps)
 all_sound limits links n steps s before after small sound (inl all) = links_sound limits n steps s before after small sound all.1
 all_sound limits links n steps s before after small sound (inr over) = links_sound limits n steps s before over.1.0 small sound over.1.1
 
 -- links up to a request whose entry is in doubt: with the entry or without it
-pub doubt_sound : (limits : Limits) (links : ℕ) (steps : List Did) (s : State) (before : LinkView) (e : Entry) (said : List ℕ) (after : LinkView) → limits.journal ≤ 2 ^ 40 → IsSound limits s → InDoubtLinks limits links steps s before e said after
+pub doubt_sound : (limits : Limits) (links : ℕ) (steps : List (Did State)) (s : State) (before : LinkView) (e : Entry) (said : List ℕ) (after : LinkView) → limits.journal ≤ 2 ^ 40 → IsSound limits s → InDoubtLinks limits links steps s before e said after
     → IsSound limits (state_after s steps) × IsLawful limits ((state_after s steps).history ++ e ∷ [])
 doubt_sound limits links steps s before e said after small sound doubt =
     let front = links_sound limits doubt.n doubt.front s before doubt.between small sound doubt.links_had in
@@ -91,5 +91,5 @@ doubt_sound limits links steps s before e said after small sound doubt =
     let here = raised_sound limits (state_after (state_after s doubt.front) doubt.last) last.in_doubt.reading so in
     let both : IsSound limits (state_after (state_after s doubt.front) doubt.last) × IsLawful limits ((state_after (state_after s doubt.front) doubt.last).history ++ e ∷ []) =
     (so, (taken_sound limits (raised (state_after (state_after s doubt.front) doubt.last) last.in_doubt.reading) last.q e small here last.in_doubt.takes).lawful) in
-    subst (λ (l : List Did). IsSound limits (state_after s l) × IsLawful limits ((state_after s l).history ++ e ∷ [])) (sym doubt.steps_are)
+    subst (λ (l : List (Did State)). IsSound limits (state_after s l) × IsLawful limits ((state_after s l).history ++ e ∷ [])) (sym doubt.steps_are)
     (subst (λ (t : State). IsSound limits t × IsLawful limits (t.history ++ e ∷ [])) (sym (state_after-append s doubt.front doubt.last)) both)

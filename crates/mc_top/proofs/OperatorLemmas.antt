@@ -14,14 +14,14 @@ use Rattle.ledger_model.proofs.FollowLaws.{longer_lawful}
 use Rattle.ledger_model.specs.Lines as lines
 use Rattle.ledger_model.specs.Answer.{fitted}
 use Rattle.scrip_journal.specs.Layout.{Encodes}
+use Rattle.millicent_http.specs.declared.clock.Clock.TheVariants.{OfLinks}
+use Rattle.millicent_http.specs.Courses.{AreRead, with_readings}
 use Rattle.house_core.specs.declared.house.House.{House}
 use Rattle.house_core.specs.declared.outcome.Outcome.{Outcome}
 use Rattle.house_core.specs.declared.outcome.Outcome.TheVariants as outcomes
 use Rattle.house_core.specs.Bench.{house_time, limits_of}
 use Rattle.house_core.specs.House.{HouseRepresents, HouseRests, house_rests_none, KeepsTime, OfHouse, CountsFaults, outcome_disk}
 use Rattle.house_core.specs.Opening.{OpenedFor}
-use Rattle.house_serving.specs.declared.serving.Clock.TheVariants.{OfLinks}
-use Rattle.house_serving.specs.Course.{AreRead, with_readings}
 use Rattle.house_serving.proofs.AsideLemmas.{TellsAside, SentNoMore, no_more_then, no_more_still, no_more_heard, no_more_finished, no_more_taken, aside_still}
 use Rattle.house_serving.proofs.OrderLemmas.{house_keeps}
 use Rattle.vendor_core.specs.declared.shelf.Shelf.{Shelf}

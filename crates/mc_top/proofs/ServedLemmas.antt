@@ -10,6 +10,9 @@ use Rattle.mc_records.specs.Entry.{Entry}
 use Rattle.ledger_model.specs.Histories.{History}
 use Rattle.ledger_model.specs.Lawful.{IsLawful}
 use Rattle.ledger_model.proofs.AcceptLaws.{accepted_once}
+use Rattle.millicent_http.specs.declared.clock.Clock.TheVariants.{OfLinks}
+use Rattle.millicent_http.specs.Steps.{Did, sent_of, state_after}
+use Rattle.millicent_http.specs.Courses.{ServedAll, ServedSome}
 use Rattle.house_core.specs.declared.house.House.{House}
 use Rattle.house_core.specs.Bench.{limits_of, state_of}
 use Rattle.house_core.specs.House.{HouseRepresents}
@@ -17,12 +20,9 @@ use Rattle.scrip_journal.specs.Layout.{Encodes}
 use Rattle.scrip_journal.specs.declared.fault.HouseFault.{HouseFault}
 use Rattle.scrip_journal.specs.declared.fault.HouseFault.TheVariants as faults
 use Rattle.house_core.specs.Opening.{OpenedFor, OpensHouse, fault_disk}
-use Rattle.house_core.specs.Session.{State}
+use Rattle.house_core.specs.Session.{State, Step}
 use Rattle.house_serving.specs.declared.links.ServeOut.{ServeOut}
 use Rattle.house_serving.specs.declared.links.ServeOut.TheVariants as outs
-use Rattle.house_serving.specs.declared.serving.Clock.TheVariants.{OfLinks}
-use Rattle.house_serving.specs.Steps.{Did, sent_of, state_after}
-use Rattle.house_serving.specs.Course.{ServedAll, ServedSome}
 use Rattle.house_serving.specs.InDoubt.{InDoubtLinks}
 use Rattle.house_serving.specs.Orders.{InOrder, MovedBy, RefinesBy, InDoubt}
 use Rattle.house_serving.specs.Links.{ServesLinks, HaveCauses, served_outside}
@@ -49,7 +49,7 @@ serve_causes link disk a b (outs.Halted d) same links kept = subst (λ (n : ℕ)
 -- ---- from the opened house on
 
 -- the book was only read, and then the house went by these steps
-pub read_then_moved : (tells : Type 0) (a b c : DiskView) (s : State) (steps : List Did) → OnlyRead a b → MovedBy tells b c s steps → Ran a c (ServePair tells a s steps)
+pub read_then_moved : (tells : Type 0) (a b c : DiskView) (s : State) (steps : List (Did State)) → OnlyRead a b → MovedBy tells b c s steps → Ran a c (ServePair tells a s steps)
 read_then_moved tells a b c s steps read moved =
     ran_then a b c (ServePair tells a s steps) (ran_weaker a b _ _ read.ran (λ i x p. inl p))
     (subst (λ (l : List ℕ). Ran b c (λ i x. (a.leaves i × (x ≡ a.aside)) ⊎ InOrder tells s l steps i x)) read.aside (ran_weaker b c _ _ moved.ran (λ i x o. inr o)))
@@ -72,7 +72,7 @@ stands_lawful disk stands site holds x h st lawful = record {
   lasts = λ image left. subst (λ (x : List ℕ). Encodes h x) (sym (st.journal.synced image left)) st.journal.stands;
 }
 
-served_from : {O : Type 0} (link : O → LinkView) (disk : O → DiskView) (stands : Shelf → History → Type 0) (site : Shelf → ℕ) (holds : Shelf → ℕ → Type 0) (bytes : List ℕ) (a : O) (x y : House O Shelf) (steps : List Did)
+served_from : {O : Type 0} (link : O → LinkView) (disk : O → DiskView) (stands : Shelf → History → Type 0) (site : Shelf → ℕ) (holds : Shelf → ℕ → Type 0) (bytes : List ℕ) (a : O) (x y : House O Shelf) (steps : List (Did State))
     (at : OpenedFor disk stands site holds full bytes x) → OnlyRead (disk a) (disk x.journal.disk) → link x.journal.disk ≡ link a → RefinesBy link disk stands site holds x.journal.disk (state_of at.history x.bench) steps y
     → IsLawful full (state_after (state_of at.history x.bench) steps).history → ServedFrom link disk bytes a y.journal.disk (state_of at.history x.bench) steps
 served_from link disk stands site holds bytes a x y steps at read same went lawful = record {
@@ -101,15 +101,15 @@ pub serves_book : {O : Type 0} (link : O → LinkView) (disk : O → DiskView) (
 serves_book link disk stands site holds links bytes a x (outs.Done y n) at read calm same served =
     let s : State = state_of at.history x.bench in
     let by = served at.history at.house in
-    let all = subst (λ (v : LinkView). ServedAll full OfLinks links n by.0 s v (link y.journal.disk)) same
-    (subst (λ (l : Limits). ServedAll l OfLinks links n by.0 s (link x.journal.disk) (link y.journal.disk)) at.limits' by.2) in
+    let all = subst (λ (v : LinkView). ServedAll (Step full) OfLinks links n by.0 s v (link y.journal.disk)) same
+    (subst (λ (l : Limits). ServedAll (Step l) OfLinks links n by.0 s (link x.journal.disk) (link y.journal.disk)) at.limits' by.2) in
     let sound = all_sound full links n by.0 s (link a) (link y.journal.disk) (omega arith) (opened_sound disk stands site holds bytes x at) all in
     (s, by.0, served_from link disk stands site holds bytes a x y by.0 at read same by.1 sound.lawful, all)
 serves_book link disk stands site holds links bytes a x (outs.Link y) at read calm same served =
     let s : State = state_of at.history x.bench in
     let by = served at.history at.house in
-    let some = subst (λ (v : LinkView). ServedSome full OfLinks links by.0 s v (link y.journal.disk)) same
-    (subst (λ (l : Limits). ServedSome l OfLinks links by.0 s (link x.journal.disk) (link y.journal.disk)) at.limits' by.2) in
+    let some = subst (λ (v : LinkView). ServedSome (Step full) OfLinks links by.0 s v (link y.journal.disk)) same
+    (subst (λ (l : Limits). ServedSome (Step l) OfLinks links by.0 s (link x.journal.disk) (link y.journal.disk)) at.limits' by.2) in
     let sound = links_sound full some.n by.0 s (link a) some.between (omega arith) (opened_sound disk stands site holds bytes x at) some.links_had in
     (s, by.0, served_from link disk stands site holds bytes a x y by.0 at read same by.1 sound.lawful, some)
 serves_book {O = O} link disk stands site holds links bytes a x (outs.NoMemory y) at read calm same served =

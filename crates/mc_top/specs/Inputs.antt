@@ -1,7 +1,7 @@
 -- What is read of an operator's input.
 use Rattle.std.specs.Prelude.{◌≡◌, ◌⊎◌, ℕ, ◌+◌, ◌<◌, ◌≤◌, List, [], length}
 use Rattle.mc_outside.specs.LinkView.{LinkView, next_taken, none_left, after_recv, after_eof, Failed}
-use Rattle.house_serving.specs.Course.{NoLink}
+use Rattle.millicent_http.specs.Courses.{NoLink}
 use Rattle.mc_top.specs.declared.input.InputFault.{InputFault}
 use Rattle.mc_top.specs.declared.input.InputFault.TheVariants as faults
 

@@ -10,10 +10,10 @@ use Rattle.ledger_model.specs.Houses.{site_name}
 use Rattle.ledger_model.specs.Lines as lines
 use Rattle.ledger_model.specs.Answer.{fitted}
 use Rattle.scrip_journal.specs.Layout.{Encodes}
+use Rattle.millicent_http.specs.declared.clock.Clock.TheVariants.{OfLinks}
+use Rattle.millicent_http.specs.Courses.{AreRead, with_readings}
 use Rattle.house_core.specs.declared.house.House.{House}
 use Rattle.house_core.specs.Opening.{OpenedFor}
-use Rattle.house_serving.specs.declared.serving.Clock.TheVariants.{OfLinks}
-use Rattle.house_serving.specs.Course.{AreRead, with_readings}
 use Rattle.vendor_core.specs.declared.shelf.Shelf.{Shelf}
 use Rattle.vendor_core.specs.Shelf.{ShelfRepresents, HasGoods}
 use Rattle.vendor_core.specs.Tasks.{Task, Add, Stays, Refuse, goods_task, price_task, terms_task, IsMintTask, IsMintAt, mint_lines}

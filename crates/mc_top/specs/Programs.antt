@@ -6,7 +6,7 @@ use Rattle.ledger_model.specs.Histories.{History}
 use Rattle.ledger_model.specs.Houses.{site_kind}
 use Rattle.ledger_model.specs.Lawful.{IsLawful}
 use Rattle.scrip_journal.specs.Layout.{Encodes}
-use Rattle.house_serving.specs.Course.{NoLink}
+use Rattle.millicent_http.specs.Courses.{NoLink}
 use Rattle.mc_top.specs.declared.command.Command.{Command}
 use Rattle.mc_top.specs.declared.command.Command.TheVariants as commands
 use Rattle.mc_top.specs.declared.status.Status.{Status}

@@ -10,11 +10,11 @@ use Rattle.ledger_model.specs.Lawful.{IsLawful}
 use Rattle.ledger_model.specs.Laws.{AreDistinct}
 use Rattle.ledger_model.specs.Pieces.{accepted}
 use Rattle.scrip_journal.specs.Layout.{header, Encodes}
+use Rattle.millicent_http.specs.declared.clock.Clock.TheVariants.{OfLinks}
+use Rattle.millicent_http.specs.Steps.{Did, sent_of, state_after}
+use Rattle.millicent_http.specs.Courses.{ServedAll, ServedSome}
 use Rattle.house_core.specs.Opening.{SpoilsAt, IsUnlawfulAt, IsOfOther}
-use Rattle.house_core.specs.Session.{State}
-use Rattle.house_serving.specs.declared.serving.Clock.TheVariants.{OfLinks}
-use Rattle.house_serving.specs.Steps.{Did, sent_of, state_after}
-use Rattle.house_serving.specs.Course.{ServedAll, ServedSome}
+use Rattle.house_core.specs.Session.{State, Step}
 use Rattle.house_serving.specs.Orders.{InOrder, IsEither, InDoubt}
 use Rattle.house_serving.specs.InDoubt.{InDoubtLinks}
 use Rattle.house_serving.specs.Links.{TakesNoLink}
@@ -45,12 +45,12 @@ pub record EncodesEither (d : DiskView) (h : History) (e : Entry) : Type 0 where
   pub once : AreDistinct (accepted (h ++ e ∷ []))
 
 -- a crash pair: of before, with nothing sent, or in the order of these steps
-abbrev pub ServePair : Type 0 → DiskView → State → List Did → List ℕ → List ℕ → Type 0
+abbrev pub ServePair : Type 0 → DiskView → State → List (Did State) → List ℕ → List ℕ → Type 0
 ServePair tells before s steps image sent = (before.leaves image × (sent ≡ before.aside)) ⊎ InOrder tells s before.aside steps image sent
 
 -- From the history that the book encoded these steps led to the one that the disk encodes, and each
 -- crash pair is in order.
-pub record ServedFrom {O : Type 0} (link : O → LinkView) (disk : O → DiskView) (bytes : List ℕ) (a b : O) (s : State) (steps : List Did) : Type 0 where
+pub record ServedFrom {O : Type 0} (link : O → LinkView) (disk : O → DiskView) (bytes : List ℕ) (a b : O) (s : State) (steps : List (Did State)) : Type 0 where
   pub encoded : EncodesState bytes s
   pub left : EncodesLawful (disk b) (state_after s steps).history
   pub pairs : Ran (disk a) (disk b) (ServePair (IsSome (link a).sessions) (disk a) s steps)
@@ -58,7 +58,7 @@ pub record ServedFrom {O : Type 0} (link : O → LinkView) (disk : O → DiskVie
 -- After these steps a request was taken, and up to that moment the disk had not failed and each crash pair is
 -- in order. Then the disk failed while this entry was written, which may follow, and so much of the refusal
 -- was sent.
-pub record HaltedFrom {O : Type 0} (link : O → LinkView) (disk : O → DiskView) (bytes : List ℕ) (a b : O) (s : State) (steps : List Did) (e : Entry) (said : List ℕ) : Type 0 where
+pub record HaltedFrom {O : Type 0} (link : O → LinkView) (disk : O → DiskView) (bytes : List ℕ) (a b : O) (s : State) (steps : List (Did State)) (e : Entry) (said : List ℕ) : Type 0 where
   pub encoded : EncodesState bytes s
   pub left : EncodesEither (disk b) (state_after s steps).history e
   pub taken : O
@@ -87,11 +87,11 @@ NotOpened link disk bytes a _ b = ⊥
 -- how the links of a book that was opened were served
 abbrev pub ServesLinksOf : {O : Type 0} → (O → LinkView) → (O → DiskView) → ℕ → List ℕ → O → Status → O → Type 0
 ServesLinksOf link disk links bytes a (ends.Served n) b =
-    (s : State) × (steps : List Did) × ServedFrom link disk bytes a b s steps × ServedAll full OfLinks links n steps s (link a) (link b)
+    (s : State) × (steps : List (Did State)) × ServedFrom link disk bytes a b s steps × ServedAll (Step full) OfLinks links n steps s (link a) (link b)
 ServesLinksOf link disk links bytes a ends.LinkFault b =
-    (s : State) × (steps : List Did) × ServedFrom link disk bytes a b s steps × ServedSome full OfLinks links steps s (link a) (link b)
+    (s : State) × (steps : List (Did State)) × ServedFrom link disk bytes a b s steps × ServedSome (Step full) OfLinks links steps s (link a) (link b)
 ServesLinksOf link disk links bytes a ends.DiskFault b =
-    (s : State) × (steps : List Did) × (e : Entry) × (said : List ℕ) × HaltedFrom link disk bytes a b s steps e said × InDoubtLinks full links steps s (link a) e said (link b)
+    (s : State) × (steps : List (Did State)) × (e : Entry) × (said : List ℕ) × HaltedFrom link disk bytes a b s steps e said × InDoubtLinks full links steps s (link a) e said (link b)
 ServesLinksOf link disk links bytes a ends.NoMemory b = Unserved link disk a b
 ServesLinksOf link disk links bytes a _ b = ⊥
 

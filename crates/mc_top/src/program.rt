@@ -15,9 +15,10 @@ use crate::serving::serve_book;
 use crate::shop::Shop;
 use crate::status::Status;
 use crate::words::command_of;
-use house_serving::{BenchEnd, Clock, serve_bench_by};
+use house_serving::{BenchEnd, serve_bench_by};
 use mc_base::{Moment, NoMemory};
 use mc_outside::{Disk, Link, Outside};
+use millicent_http::Clock;
 use std::alloc::Global;
 
 /// How the program ended: its status, and the outside and the books that it was given.

@@ -9,3 +9,6 @@ pub mod WholeLemmas
 pub mod FieldLemmas
 pub mod JudgeLemmas
 pub mod ReadLemmas
+pub mod StepLemmas
+pub mod LinkCalls
+pub mod CourseLemmas

@@ -6,5 +6,7 @@ pub mod HeadRefusals
 pub mod Takes
 pub mod Awaits
 pub mod Reads
+pub mod Steps
+pub mod Courses
 pub mod Occurs
 pub mod ReplyHeads

@@ -1,6 +1,7 @@
 //! HTTP on a link: the heads of requests as they come in pieces, and the heads of replies.
 #![tactic(auto)]
 
+mod clock;
 mod fields;
 mod item;
 mod law;
@@ -14,6 +15,7 @@ mod scan;
 mod send;
 mod whole;
 
+pub use clock::Clock;
 pub use item::{After, HeadOut, HeadRefusal, ItemRef};
 pub use law::{a_refusal_has_a_status, a_request_asks_a_target, one_reading};
 pub use reader::{HeadReader, MAX_HEAD};

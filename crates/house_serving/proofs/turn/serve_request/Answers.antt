@@ -3,7 +3,7 @@ use Rattle.mc_records.specs.Requests.{asked_of}
 use Rattle.ledger_model.specs.Answer.{answer}
 use Rattle.millicent_http.specs.Items.{request}
 use Rattle.house_core.specs.Bench.{limits_of, state_of}
-use Rattle.house_core.specs.Session.{raised, said_reply}
+use Rattle.house_core.specs.Session.{raised, said_reply, Step}
 use Rattle.house_serving.specs.Turns.{Sent}
 use Rattle.house_serving.proofs.ItemLemmas.{says_gives, item_answered}
 use Rattle.house_serving.proofs.turn.serve_request.Goals as goal
@@ -24,7 +24,7 @@ returns-clause-answered g c h house =
         record { sent = c.send.ensures.sent.0; after = t },
         refl,
         λ (closes : Bool).
-            item_answered limits c.args.clock.now (request q closes) c.args.after c.send.result s t (g.K.Link.link c.args.k.now) (g.K.Link.link c.read_clock-reading.new.k) (g.K.Link.link c.send.new.k) reading reply c.send.ensures.sent.0
+            item_answered (Step limits) c.args.clock.now (request q closes) c.args.after c.send.result s t (g.K.Link.link c.args.k.now) (g.K.Link.link c.read_clock-reading.new.k) (g.K.Link.link c.send.new.k) reading reply c.send.ensures.sent.0
             c.read_clock-reading.ensures.read c.read_clock-reading.ensures.rest
             (says_gives (raised s reading) t q (answer (raised s reading).history (raised s reading).time limits q) c.answer-said.result came.related)
             (subst (λ (l : List ℕ). Sent c.args.after l c.send.result c.send.ensures.sent.0 (g.K.Link.link c.read_clock-reading.new.k) (g.K.Link.link c.send.new.k)) (c.reply.ensures came.history came.house) c.send.ensures.sent.1),

@@ -2,14 +2,14 @@ use Rattle.std.proofs.Common.{◌≡◌, ℕ, ◌∙◌, ◌∷◌, [], sym, ap,
 use Rattle.mc_outside.specs.LinkView.{LinkView}
 use Rattle.mc_records.specs.Entry.{Entry}
 use Rattle.mc_outside.specs.DiskView.{Ran}
+use Rattle.millicent_http.specs.declared.clock.Clock.TheVariants.{OfLinks}
+use Rattle.millicent_http.specs.Courses.{AreRead, with_readings}
 use Rattle.house_core.specs.declared.house.House.{House}
 use Rattle.scrip_journal.specs.Founds.{FoundNoOutput}
 use Rattle.house_core.specs.Found.{FoundsHouseBy, CountsBy}
 use Rattle.house_core.specs.Opening.{fault_disk}
 use Rattle.vendor_core.specs.declared.shelf.Shelf.{Shelf}
 use Rattle.vendor_core.specs.Shelf.{ShelfRepresents, HasGoods}
-use Rattle.house_serving.specs.declared.serving.Clock.TheVariants.{OfLinks}
-use Rattle.house_serving.specs.Course.{AreRead, with_readings}
 use Rattle.mc_top.specs.Founding.{site_of}
 use Rattle.mc_top.specs.declared.status.Status.{Status}
 use Rattle.mc_top.specs.Opening.{full}

@@ -1,6 +1,7 @@
 use Rattle.std.proofs.Common.{Ok, Err}
-use Rattle.house_serving.specs.declared.serving.Clock.TheVariants.{At}
-use Rattle.house_serving.specs.Course.{Served}
+use Rattle.millicent_http.specs.declared.clock.Clock.TheVariants.{At}
+use Rattle.house_core.specs.Session.{Step}
+use Rattle.house_serving.specs.Served.{Served}
 use Rattle.mc_top.specs.Opening.{opening}
 use Rattle.mc_top.proofs.CourseLemmas.{at_opening, ended_early}
 use Rattle.mc_top.proofs.program.serve_once.Goals as goal
@@ -13,7 +14,7 @@ returns-in-Ok-serve_bench_by-clause-ended g c =
     let before = g.K.Link.link c.args.k.now in
     let after = g.K.Link.link c.serve_bench_by.new.k in
     let by = (c.in-Ok-serve_bench_by.ensures.served h is.house).related in
-    (n, by.0, at_opening (λ limits moment s. Served limits (At moment) 1 (Ok n) by.0 s before after) h _ _ _ is.limits c.clamped.ensures is.time by.2)
+    (n, by.0, at_opening (λ limits moment s. Served (Step limits) (At moment) 1 (Ok n) by.0 s before after) h _ _ _ is.limits c.clamped.ensures is.time by.2)
 
 pub returns-clause-ended : goal.returns-clause-ended
 returns-clause-ended g c =
@@ -23,7 +24,7 @@ returns-clause-ended g c =
     let before = g.K.Link.link c.args.k.now in
     let after = g.K.Link.link c.serve_bench_by.new.k in
     let by = (c.in-Err-serve_bench_by.ensures.served h is.house).related in
-    ended_early end c.args.shop.now by.0 before after (at_opening (λ limits moment s. Served limits (At moment) 1 (Err end) by.0 s before after) h _ _ _ is.limits c.clamped.ensures is.time by.2)
+    ended_early end c.args.shop.now by.0 before after (at_opening (λ limits moment s. Served (Step limits) (At moment) 1 (Err end) by.0 s before after) h _ _ _ is.limits c.clamped.ensures is.time by.2)
 
 pub returns-in-Ok-serve_bench_by-clause-grown : goal.returns-in-Ok-serve_bench_by-clause-grown
 returns-in-Ok-serve_bench_by-clause-grown g c = (g.met.K.Link.link_goes _ _ c.serve_bench_by.ensures.moved).faults

@@ -1,4 +1,5 @@
-use Rattle.house_serving.specs.Steps.{IsSession}
+use Rattle.millicent_http.specs.Steps.{IsSession}
+use Rattle.house_core.specs.Session.{Step}
 use Rattle.mc_top.specs.Opening.{opening}
 use Rattle.mc_top.proofs.CourseLemmas.{at_opening, on_ok}
 use Rattle.mc_top.proofs.whole_link.reply_to_all.Goals as goal
@@ -9,5 +10,5 @@ returns c =
     let h = opening c.args.shop.now in
     on_ok (λ went.
     let by = (went h is.house).related in
-    (by.0, by.2.0, at_opening (λ limits moment s. IsSession limits moment c.args.link.now s by.0) h _ _ _ is.limits c.clamped.ensures is.time by.2.1))
+    (by.0, by.2.0, at_opening (λ limits moment s. IsSession (Step limits) moment c.args.link.now s by.0) h _ _ _ is.limits c.clamped.ensures is.time by.2.1))
     c.reply_to_link.result c.reply_to_link.ensures.replied

@@ -3,7 +3,7 @@ use Rattle.std.proofs.Common.{◌≡◌, ℕ, true, List, [], ◌∷◌, ◌++�
 use Rattle.std.specs.Prelude.{option_map}
 use Rattle.mc_outside.specs.LinkView.{Session, LinkView, on_last, hear, send, ended, after_recv, after_send, after_eof}
 use Rattle.mc_outside.proofs.Sessions.{heard_more, sent_step}
-use Rattle.house_serving.specs.Course.{with_readings}
+use Rattle.millicent_http.specs.Courses.{with_readings}
 
 on_last-swap : (f g : Session → Session) → ((s : Session) → f (g s) ≡ g (f s)) → (ss : List Session) → on_last f (on_last g ss) ≡ on_last g (on_last f ss)
 on_last-swap f g same [] = refl

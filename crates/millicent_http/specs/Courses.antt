@@ -1,16 +1,12 @@
--- How serving links goes, as what becomes of the links.
-use Rattle.std.specs.Prelude.{◌≡◌, ◌⊎◌, ℕ, zero, suc, ◌<◌, true, false, List, [], ◌∷◌, ◌++◌, length, take, All, Option, Some, Result, Ok, Err}
+-- What becomes of a link, and of links one after another, over any step relation.
+use Rattle.std.specs.Prelude.{◌≡◌, ◌⊎◌, ℕ, zero, suc, ◌<◌, true, false, List, [], ◌∷◌, ◌++◌, length, take, All, Option, Some}
 use Rattle.mc_outside.specs.Bytes.{Rose}
 use Rattle.mc_outside.specs.LinkView.{LinkView, next_taken, none_left, after_recv, after_send, after_eof, Failed}
-use Rattle.mc_records.specs.declared.limits.Limits.{Limits}
+use Rattle.millicent_http.specs.declared.clock.Clock.{Clock}
+use Rattle.millicent_http.specs.declared.clock.Clock.TheVariants.{OfLinks, At}
 use Rattle.millicent_http.specs.Items.{Item, closes, Heads}
 use Rattle.millicent_http.specs.Reads.{HaveRead, NoneCloses}
-use Rattle.house_serving.specs.declared.serving.Clock.{Clock}
-use Rattle.house_serving.specs.declared.serving.Clock.TheVariants.{OfLinks, At}
-use Rattle.house_serving.specs.declared.serving.BenchEnd.{BenchEnd}
-use Rattle.house_serving.specs.declared.serving.BenchEnd.TheVariants as ends
-use Rattle.house_core.specs.Session.{State}
-use Rattle.house_serving.specs.Steps.{Did, sent_of, state_after, Run}
+use Rattle.millicent_http.specs.Steps.{StepRelation, Did, sent_of, state_after, Run}
 
 -- ---- the clock
 
@@ -25,10 +21,10 @@ abbrev pub with_readings : Option (List ℕ) → LinkView → LinkView
 with_readings readings v = record v { readings = readings }
 
 -- these steps answered some items, at readings of the clock
-pub record Replied (limits : Limits) (clock : Clock) (items : List Item) (steps : List Did) (s : State) (before after : Option (List ℕ)) : Type 0 where
+pub record Replied {S : Type 0} (Step : StepRelation S) (clock : Clock) (items : List Item) (steps : List (Did S)) (s : S) (before after : Option (List ℕ)) : Type 0 where
   pub readings : List ℕ
   pub read : AreRead clock readings before after
-  pub ran : Run limits s items readings steps
+  pub ran : Run Step s items readings steps
 
 -- ---- one link
 
@@ -45,36 +41,36 @@ pub record AreFirst (got : List ℕ) (front : List Item) (last : Item) : Type 0 
 
 -- Every item of what was received was answered, and the link was read to its end, or to an item that
 -- ends it.
-pub record IsServed (limits : Limits) (clock : Clock) (steps : List Did) (s : State) (before after : LinkView) : Type 0 where
+pub record IsServed {S : Type 0} (Step : StepRelation S) (clock : Clock) (steps : List (Did S)) (s : S) (before after : LinkView) : Type 0 where
   pub got : List ℕ
   pub items : List Item
   pub heads : Heads got items
-  pub replied : Replied limits clock items steps s before.readings after.readings
+  pub replied : Replied Step clock items steps s before.readings after.readings
   pub read : LinkView
   pub to_end : (read ≡ after_eof (after_recv got before)) ⊎ ((read ≡ after_recv got before) × EndLink items)
   pub sent : after ≡ with_readings after.readings (after_send (sent_of steps) read)
 
 -- A `recv` failed when every item of what was received was answered.
-pub record BrokeReceiving (limits : Limits) (clock : Clock) (steps : List Did) (s : State) (before after : LinkView) : Type 0 where
+pub record BrokeReceiving {S : Type 0} (Step : StepRelation S) (clock : Clock) (steps : List (Did S)) (s : S) (before after : LinkView) : Type 0 where
   pub got : List ℕ
   pub items : List Item
   pub heads : Heads got items
-  pub replied : Replied limits clock items steps s before.readings after.readings
+  pub replied : Replied Step clock items steps s before.readings after.readings
   pub fault : Failed (with_readings after.readings (after_send (sent_of steps) (after_recv got before))) after
 
 -- A `send` failed: the replies to the first items were sent whole, and of the last one's a proper
 -- prefix.
-pub record BrokeSending (limits : Limits) (clock : Clock) (steps : List Did) (s : State) (before after : LinkView) : Type 0 where
+pub record BrokeSending {S : Type 0} (Step : StepRelation S) (clock : Clock) (steps : List (Did S)) (s : S) (before after : LinkView) : Type 0 where
   pub got : List ℕ
   pub front : List Item
   pub last : Item
   pub first : AreFirst got front last
-  pub done : List Did
+  pub done : List (Did S)
   pub between : Option (List ℕ)
-  pub replied : Replied limits clock front done s before.readings between
+  pub replied : Replied Step clock front done s before.readings between
   pub reply : List ℕ
-  pub step : Did
-  pub replied_last : Replied limits clock (last ∷ []) (record { sent = reply; after = step.after } ∷ []) (state_after s done) between after.readings
+  pub step : Did S
+  pub replied_last : Replied Step clock (last ∷ []) (record { sent = reply; after = step.after } ∷ []) (state_after s done) between after.readings
   pub n : ℕ
   pub part : n < length reply
   pub sent : step.sent ≡ take n reply
@@ -83,19 +79,19 @@ pub record BrokeSending (limits : Limits) (clock : Clock) (steps : List Did) (s 
 
 -- What becomes of a link that was taken: it is served whole, or up to a fault of one of its calls, and
 -- then ended.
-pub record HadLink (limits : Limits) (clock : Clock) (steps : List Did) (s : State) (before after : LinkView) : Type 0 where
+pub record HadLink {S : Type 0} (Step : StepRelation S) (clock : Clock) (steps : List (Did S)) (s : S) (before after : LinkView) : Type 0 where
   pub served : LinkView
-  pub course : IsServed limits clock steps s before served ⊎ (BrokeReceiving limits clock steps s before served ⊎ BrokeSending limits clock steps s before served)
+  pub course : IsServed Step clock steps s before served ⊎ (BrokeReceiving Step clock steps s before served ⊎ BrokeSending Step clock steps s before served)
   pub ended : after ≡ record served { stands = false }
 
 -- ---- links one after another
 
 -- so many links were taken, one after another
-abbrev pub HadLinks : Limits → Clock → ℕ → List Did → State → LinkView → LinkView → Type 0
-HadLinks limits clock zero steps s before after = (steps ≡ []) × (after ≡ before)
-HadLinks limits clock (suc n) steps s before after =
-    (front : List Did) × (last : List Did) × (between : LinkView) × (steps ≡ front ++ last)
-    × HadLinks limits clock n front s before between × HadLink limits clock last (state_after s front) (next_taken between) after
+abbrev pub HadLinks : {S : Type 0} → StepRelation S → Clock → ℕ → List (Did S) → S → LinkView → LinkView → Type 0
+HadLinks Step clock zero steps s before after = (steps ≡ []) × (after ≡ before)
+HadLinks {S} Step clock (suc n) steps s before after =
+    (front : List (Did S)) × (last : List (Did S)) × (between : LinkView) × (steps ≡ front ++ last)
+    × HadLinks Step clock n front s before between × HadLink Step clock last (state_after s front) (next_taken between) after
 
 -- `next_link` failed
 pub record NoLink (before after : LinkView) : Type 0 where
@@ -103,21 +99,15 @@ pub record NoLink (before after : LinkView) : Type 0 where
   pub rose : Rose before.faults after.faults
 
 -- so many links were served: as many as were asked for, or all that came
-abbrev pub ServedAll : Limits → Clock → ℕ → ℕ → List Did → State → LinkView → LinkView → Type 0
-ServedAll limits clock links n steps s before after =
-    ((n ≡ links) × HadLinks limits clock n steps s before after)
-    ⊎ ((n < links) × ((between : LinkView) × HadLinks limits clock n steps s before between × (after ≡ none_left between)))
+abbrev pub ServedAll : {S : Type 0} → StepRelation S → Clock → ℕ → ℕ → List (Did S) → S → LinkView → LinkView → Type 0
+ServedAll Step clock links n steps s before after =
+    ((n ≡ links) × HadLinks Step clock n steps s before after)
+    ⊎ ((n < links) × ((between : LinkView) × HadLinks Step clock n steps s before between × (after ≡ none_left between)))
 
 -- some links were served, fewer than were asked for, and then none could be taken
-pub record ServedSome (limits : Limits) (clock : Clock) (links : ℕ) (steps : List Did) (s : State) (before after : LinkView) : Type 0 where
+pub record ServedSome {S : Type 0} (Step : StepRelation S) (clock : Clock) (links : ℕ) (steps : List (Did S)) (s : S) (before after : LinkView) : Type 0 where
   pub n : ℕ
   pub few : n < links
   pub between : LinkView
-  pub links_had : HadLinks limits clock n steps s before between
+  pub links_had : HadLinks Step clock n steps s before between
   pub fault : NoLink between after
-
--- How serving links ended. Memory is refused before the first link alone.
-abbrev pub Served : Limits → Clock → ℕ → Result ℕ BenchEnd → List Did → State → LinkView → LinkView → Type 0
-Served limits clock links (Ok n) steps s before after = ServedAll limits clock links n steps s before after
-Served limits clock links (Err ends.NoMemory) steps s before after = (steps ≡ []) × (after ≡ before)
-Served limits clock links (Err ends.Link) steps s before after = ServedSome limits clock links steps s before after
