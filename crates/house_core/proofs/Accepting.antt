@@ -28,7 +28,7 @@ use Rattle.house_core.specs.declared.verdict.NotAuthorized.{NotAuthorized}
 use Rattle.house_core.specs.declared.verdict.NotAuthorized.TheVariants as stops
 use Rattle.house_core.specs.declared.verdict.BenchFault.TheVariants as faults
 use Rattle.house_core.specs.Learning.{MayLearn}
-use Rattle.house_core.specs.Trade.{BringsFor}
+use Rattle.house_core.specs.Trade.{BringsFor, TradeView}
 use Rattle.house_core.specs.HouseState.{HouseStateView, HasChange, GoesOn, IsEntered, IsAsBefore, series_now}
 use Rattle.house_core.specs.Representation.{StateRepresents, has_ended, scrip_request}
 use Rattle.house_core.specs.Verdicts.{accept_entry, stop_of, IsReady, RepeatsKept, StopIsOfSite}
@@ -49,14 +49,14 @@ pub bad_scrip : (h : History) (t : ℕ) (limits : Limits) (q : Asked) (text : Li
 unfolding answer
 bad_scrip h t limits q text place asked fault = rw (asked, fault) refl
 
-pub refuses : {T : Type 0} (stands : T → History → Type 0) (site : T → ℕ) (b : Bench T) (h : History) (q : Asked) (f : Refusal) → Represents stands site b h
-    → answers.Refused f ≡ answer h (house_time b) (limits_of b) q → Accepts stands site b h (answer h (house_time b) (limits_of b) q) (Err (faults.Refused f))
-refuses stands site b h q f st e = subst (λ (a : Answer). Accepts stands site b h a (Err (faults.Refused f))) e (refl, st)
+pub refuses : {T : Type 0} (trade : T → TradeView) (b : Bench T) (h : History) (q : Asked) (f : Refusal) → Represents trade b h
+    → answers.Refused f ≡ answer h (house_time b) (limits_of b) q → Accepts trade b h (answer h (house_time b) (limits_of b) q) (Err (faults.Refused f))
+refuses trade b h q f st e = subst (λ (a : Answer). Accepts trade b h a (Err (faults.Refused f))) e (refl, st)
 
-pub makes_none : {T : Type 0} (stands : T → History → Type 0) (site : T → ℕ) (b : Bench T) (h : History) (q : Asked) (s : NotAuthorized) → Represents stands site b h
-    → answered (Err (stop_of s)) ≡ answer h (house_time b) (limits_of b) q → Accepts stands site b h (answer h (house_time b) (limits_of b) q) (stopped_with s)
-makes_none stands site b h q (stops.Refused f) st e = subst (λ (a : Answer). Accepts stands site b h a (Err (faults.Refused f))) e (refl, st)
-makes_none stands site b h q (stops.Again n) st e = subst (λ (a : Answer). Accepts stands site b h a (Ok n)) e (refl, st)
+pub makes_none : {T : Type 0} (trade : T → TradeView) (b : Bench T) (h : History) (q : Asked) (s : NotAuthorized) → Represents trade b h
+    → answered (Err (stop_of s)) ≡ answer h (house_time b) (limits_of b) q → Accepts trade b h (answer h (house_time b) (limits_of b) q) (stopped_with s)
+makes_none trade b h q (stops.Refused f) st e = subst (λ (a : Answer). Accepts trade b h a (Err (faults.Refused f))) e (refl, st)
+makes_none trade b h q (stops.Again n) st e = subst (λ (a : Answer). Accepts trade b h a (Ok n)) e (refl, st)
 
 -- ---- replies that are kept
 
@@ -200,5 +200,5 @@ on_is_ok (Ok x) P is p = p
 on_is_ok (Err e) P is p = absurd (cc is)
 
 -- a house where room was made represents what it represented
-pub holds_roomed : {T : Type 0} (stands : T → History → Type 0) (site : T → ℕ) (holds : T → ℕ → Type 0) (old new : Bench T) (h : History) → IsRoomed stands site holds old new → Represents stands site old h → Represents stands site new h
-holds_roomed stands site holds old new h is st = record { state = stands_as_before st.state is.state; trade = is.stands' h st.trade; of_kind = rw is.site' st.of_kind }
+pub holds_roomed : {T : Type 0} (trade : T → TradeView) (old new : Bench T) (h : History) → IsRoomed trade old new → Represents trade old h → Represents trade new h
+holds_roomed trade old new h is st = record { state = stands_as_before st.state is.state; learned = is.represents h st.learned; of_kind = rw is.site' st.of_kind }

@@ -10,7 +10,7 @@ use Rattle.kept_replies.specs.Kept.{KeptReply}
 use Rattle.ledger_model.specs.Histories.{History}
 use Rattle.ledger_model.specs.Goods.{is_goods_of}
 use Rattle.house_core.specs.declared.bench.Bench.{Bench}
-use Rattle.house_core.specs.Trade.{Replaces, OfGoods, NamesInForce}
+use Rattle.house_core.specs.Trade.{Replaces, OfGoods, NamesInForce, TradeView}
 use Rattle.house_core.specs.declared.verdict.NotAuthorized.{NotAuthorized}
 use Rattle.house_core.specs.declared.verdict.NotAuthorized.TheVariants as stops
 use Rattle.house_core.specs.declared.verdict.BenchFault.TheVariants as faults
@@ -78,31 +78,31 @@ held_by old new keeps (kept.Credit balance) held = tt
 held_by old new keeps (kept.Draw piece cert secret) held = tt
 
 -- the kept replies are the same, and the trade holds what it held
-pub contents_as_before : {T : Type 0} (holds : T → ℕ → Type 0) (b c : Bench T) (h : History) → HasContents holds b h → c.state.kept.replies ≡ b.state.kept.replies
-    → ((n : ℕ) → holds b.trade n → holds c.trade n) → HasContents holds c h
-contents_as_before holds b c h has same keeps = record {
+pub contents_as_before : {T : Type 0} (trade : T → TradeView) (b c : Bench T) (h : History) → HasContents trade b h → c.state.kept.replies ≡ b.state.kept.replies
+    → ((n : ℕ) → (trade b.trade).holds n → (trade c.trade).holds n) → HasContents trade c h
+contents_as_before trade b c h has same keeps = record {
   in_force = subst (All (IsInForceFor h)) (sym same) has.in_force;
-  held = subst (All (λ r. OfGoods (holds c.trade) r.entry.deed)) (sym same)
-      (All-weaker (λ r. OfGoods (holds b.trade) r.entry.deed) (λ r. OfGoods (holds c.trade) r.entry.deed) (λ r. held_by (holds b.trade) (holds c.trade) keeps r.entry.deed) b.state.kept.replies has.held);
+  held = subst (All (λ r. OfGoods (trade c.trade).holds r.entry.deed)) (sym same)
+      (All-weaker (λ r. OfGoods (trade b.trade).holds r.entry.deed) (λ r. OfGoods (trade c.trade).holds r.entry.deed) (λ r. held_by (trade b.trade).holds (trade c.trade).holds keeps r.entry.deed) b.state.kept.replies has.held);
 }
 
 -- there is one reply more, of an entry that puts no goods
-pub contents_taken : {T : Type 0} (holds : T → ℕ → Type 0) (b c : Bench T) (h : History) (e : Entry) (r : KeptReply) → HasContents holds b h → ((target : List ℕ) → is_goods_of target e ≡ false)
-    → c.state.kept.replies ≡ b.state.kept.replies ++ r ∷ [] → ((n : ℕ) → holds b.trade n → holds c.trade n) → OfGoods (holds b.trade) r.entry.deed → NamesInForce h r.entry.deed
-    → HasContents holds c (h ++ e ∷ [])
-contents_taken holds b c h e r has quiet more keeps held in_force =
+pub contents_taken : {T : Type 0} (trade : T → TradeView) (b c : Bench T) (h : History) (e : Entry) (r : KeptReply) → HasContents trade b h → ((target : List ℕ) → is_goods_of target e ≡ false)
+    → c.state.kept.replies ≡ b.state.kept.replies ++ r ∷ [] → ((n : ℕ) → (trade b.trade).holds n → (trade c.trade).holds n) → OfGoods (trade b.trade).holds r.entry.deed → NamesInForce h r.entry.deed
+    → HasContents trade c (h ++ e ∷ [])
+contents_taken trade b c h e r has quiet more keeps held in_force =
     let later = All-weaker (IsInForceFor h) (IsInForceFor (h ++ e ∷ [])) (λ x. still_in_force h e x.entry.number quiet x.entry.deed) b.state.kept.replies has.in_force in
-    let still = All-weaker (λ x. OfGoods (holds b.trade) x.entry.deed) (λ x. OfGoods (holds c.trade) x.entry.deed) (λ x. held_by (holds b.trade) (holds c.trade) keeps x.entry.deed) b.state.kept.replies has.held in
+    let still = All-weaker (λ x. OfGoods (trade b.trade).holds x.entry.deed) (λ x. OfGoods (trade c.trade).holds x.entry.deed) (λ x. held_by (trade b.trade).holds (trade c.trade).holds keeps x.entry.deed) b.state.kept.replies has.held in
     record {
       in_force = subst (All (IsInForceFor (h ++ e ∷ []))) (sym more) (All-push (IsInForceFor (h ++ e ∷ [])) b.state.kept.replies r later (new_in_force h e r.entry.number quiet r.entry.deed in_force));
-      held = subst (All (λ x. OfGoods (holds c.trade) x.entry.deed)) (sym more) (All-push (λ x. OfGoods (holds c.trade) x.entry.deed) b.state.kept.replies r still (held_by (holds b.trade) (holds c.trade) keeps r.entry.deed held));
+      held = subst (All (λ x. OfGoods (trade c.trade).holds x.entry.deed)) (sym more) (All-push (λ x. OfGoods (trade c.trade).holds x.entry.deed) b.state.kept.replies r still (held_by (trade b.trade).holds (trade c.trade).holds keeps r.entry.deed held));
     }
 
 -- a request that makes no entry
-pub keeps_all : {T : Type 0} (holds : T → ℕ → Type 0) (b : Bench T) (h : History) (q : Asked) (s : NotAuthorized) → HasContents holds b h
-    → answered (Err (stop_of s)) ≡ answer h (house_time b) (limits_of b) q → KeepsContents holds b h (answer h (house_time b) (limits_of b) q) (stopped_with s)
-keeps_all holds b h q (stops.Refused f) has e = subst (λ (a : Answer). KeepsContents holds b h a (Err (faults.Refused f))) e has
-keeps_all holds b h q (stops.Again n) has e = subst (λ (a : Answer). KeepsContents holds b h a (Ok n)) e has
+pub keeps_all : {T : Type 0} (trade : T → TradeView) (b : Bench T) (h : History) (q : Asked) (s : NotAuthorized) → HasContents trade b h
+    → answered (Err (stop_of s)) ≡ answer h (house_time b) (limits_of b) q → KeepsContents trade b h (answer h (house_time b) (limits_of b) q) (stopped_with s)
+keeps_all holds b h q (stops.Refused f) has e = subst (λ (a : Answer). KeepsContents trade b h a (Err (faults.Refused f))) e has
+keeps_all holds b h q (stops.Again n) has e = subst (λ (a : Answer). KeepsContents trade b h a (Ok n)) e has
 
 -- ---- an entry that accepts nothing
 
@@ -132,22 +132,22 @@ in_force_by h e number within (kept.Sale piece cert secret stock) later = tt
 in_force_by h e number within (kept.Credit balance) later = tt
 in_force_by h e number within (kept.Draw piece cert secret) later = tt
 
-pub contents_applied : {T : Type 0} (holds : T → ℕ → Type 0) (b c : Bench T) (h : History) (e : Entry) → HasContents holds b h → All (IsReply h) b.state.kept.replies → c.state.kept.replies ≡ b.state.kept.replies
-    → ((n : ℕ) → holds b.trade n → holds c.trade n) → HasContents holds c (h ++ e ∷ [])
-contents_applied holds b c h e has replies same keeps =
-    let still = contents_as_before holds b c h has same keeps in
+pub contents_applied : {T : Type 0} (trade : T → TradeView) (b c : Bench T) (h : History) (e : Entry) → HasContents trade b h → All (IsReply h) b.state.kept.replies → c.state.kept.replies ≡ b.state.kept.replies
+    → ((n : ℕ) → (trade b.trade).holds n → (trade c.trade).holds n) → HasContents trade c (h ++ e ∷ [])
+contents_applied trade b c h e has replies same keeps =
+    let still = contents_as_before trade b c h has same keeps in
     record {
       in_force = subst (All (IsInForceFor (h ++ e ∷ []))) (sym same)
           (λ k d lt. in_force_by h e (get_or b.state.kept.replies k d).entry.number (replies k d lt).within (get_or b.state.kept.replies k d).entry.deed (has.in_force k d lt));
       held = still.held;
     }
 
-pub contents_of_none : {T : Type 0} (holds : T → ℕ → Type 0) (b : Bench T) (h : History) → b.state.kept.replies ≡ [] → HasContents holds b h
+pub contents_of_none : {T : Type 0} (trade : T → TradeView) (b : Bench T) (h : History) → b.state.kept.replies ≡ [] → HasContents trade b h
 contents_of_none holds b h none = record {
   in_force = subst (All (IsInForceFor h)) (sym none) (All-nil (IsInForceFor h));
-  held = subst (All (λ r. OfGoods (holds b.trade) r.entry.deed)) (sym none) (All-nil (λ r. OfGoods (holds b.trade) r.entry.deed));
+  held = subst (All (λ r. OfGoods (trade b.trade).holds r.entry.deed)) (sym none) (All-nil (λ r. OfGoods (trade b.trade).holds r.entry.deed));
 }
 
 -- and so is a house where room was made
-pub contents_roomed : {T : Type 0} (stands : T → History → Type 0) (site : T → ℕ) (holds : T → ℕ → Type 0) (b c : Bench T) (h : History) → IsRoomed stands site holds b c → HasContents holds b h → HasContents holds c h
-contents_roomed stands site holds b c h is has = contents_as_before holds b c h has is.state.replies is.held
+pub contents_roomed : {T : Type 0} (trade : T → TradeView) (b c : Bench T) (h : History) → IsRoomed trade b c → HasContents trade b h → HasContents trade c h
+contents_roomed trade b c h is has = contents_as_before trade b c h has is.state.replies is.held

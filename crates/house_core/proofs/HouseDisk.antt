@@ -30,6 +30,7 @@ use Rattle.ledger_model.specs.Answer as answers
 use Rattle.ledger_model.specs.Answer.{Answer, answered}
 use Rattle.house_core.proofs.Accepting.{holds_roomed}
 use Rattle.house_core.proofs.Contents.{contents_roomed}
+use Rattle.house_core.specs.Trade.{TradeView}
 
 -- nothing was written
 pub ran_nothing : {D : Type 0} (view : D → DiskView) (j : AtRest D) (d : D) (h : List Entry) → IsDisk (view j.disk) → IsJournal view j h → d ≡ j.disk → Ran (view j.disk) (view d) (EncodesNoOutput h (view j.disk).aside)
@@ -40,41 +41,41 @@ ran_nothing {D = D} view j d h disk is same =
 -- ---- the house
 
 -- the bench is another one that represents the history, too
-pub stands_with : {D T : Type 0} (view : D → DiskView) (stands : T → History → Type 0) (site : T → ℕ) (holds : T → ℕ → Type 0) (x : House D T) (b : Bench T) (h : History)
-    → HouseRepresents view stands site holds x h → Represents stands site b h → HasContents holds b h → limits_of b ≡ limits_of x.bench → HouseRepresents {D = D} {T = T} view stands site holds (record { journal = x.journal; bench = b }) h
-stands_with view stands site holds x b h st has contents limits = record {
+pub stands_with : {D T : Type 0} (view : D → DiskView) (trade : T → TradeView) (x : House D T) (b : Bench T) (h : History)
+    → HouseRepresents view trade x h → Represents trade b h → HasContents trade b h → limits_of b ≡ limits_of x.bench → HouseRepresents {D = D} {T = T} view trade (record { journal = x.journal; bench = b }) h
+stands_with view trade x b h st has contents limits = record {
   journal = st.journal;
-  house = record { stands' = has; contents = contents };
+  house = record { represents = has; contents = contents };
   limit = st.limit ∙ ap (λ (l : Limits). l.journal) (sym limits);
 }
 
 -- room was made
-pub stands_roomed : {D T : Type 0} (view : D → DiskView) (stands : T → History → Type 0) (site : T → ℕ) (holds : T → ℕ → Type 0) (x y : House D T) (h : History)
-    → y.journal ≡ x.journal → IsRoomed stands site holds x.bench y.bench → HouseRepresents view stands site holds x h → HouseRepresents view stands site holds y h
-stands_roomed {D = D} view stands site holds x y h same roomed st = record {
+pub stands_roomed : {D T : Type 0} (view : D → DiskView) (trade : T → TradeView) (x y : House D T) (h : History)
+    → y.journal ≡ x.journal → IsRoomed trade x.bench y.bench → HouseRepresents view trade x h → HouseRepresents view trade y h
+stands_roomed {D = D} view trade x y h same roomed st = record {
   journal = rw same st.journal;
   house = record {
-    stands' = holds_roomed stands site holds x.bench y.bench h roomed st.house.stands';
-    contents = contents_roomed stands site holds x.bench y.bench h roomed st.house.contents;
+    represents = holds_roomed trade x.bench y.bench h roomed st.house.represents;
+    contents = contents_roomed trade x.bench y.bench h roomed st.house.contents;
   };
   limit = ap (λ (j : AtRest D). j.limit) same ∙ st.limit ∙ ap (λ (l : Limits). l.journal) (sym roomed.state.limits);
 }
 
-pub as_roomed : {D T : Type 0} (view : D → DiskView) (stands : T → History → Type 0) (site : T → ℕ) (holds : T → ℕ → Type 0) (x y : House D T) (h : History)
-    → y.journal ≡ x.journal → IsRoomed stands site holds x.bench y.bench → HouseRepresents view stands site holds x h → IsAsItWas view stands site holds x.journal.disk y h
-as_roomed {D = D} view stands site holds x y h same roomed st = record {
-  stands' = stands_roomed view stands site holds x y h same roomed st;
+pub as_roomed : {D T : Type 0} (view : D → DiskView) (trade : T → TradeView) (x y : House D T) (h : History)
+    → y.journal ≡ x.journal → IsRoomed trade x.bench y.bench → HouseRepresents view trade x h → IsAsItWas view trade x.journal.disk y h
+as_roomed {D = D} view trade x y h same roomed st = record {
+  represents = stands_roomed view trade x y h same roomed st;
   disk' = ap (λ (j : AtRest D). j.disk) same;
 }
 
 -- an entry was written and entered
-pub has_entered : {D T : Type 0} (view : D → DiskView) (stands : T → History → Type 0) (site : T → ℕ) (holds : T → ℕ → Type 0) (x y : House D T) (h : History) (e f : Entry) (number : ℕ) → f ≡ e
-    → HouseRepresents view stands site holds x h → IsJournal view y.journal (h ++ f ∷ []) → y.journal.limit ≡ x.journal.limit → limits_of y.bench ≡ limits_of x.bench
-    → number ≡ length h → Represents stands site y.bench (h ++ e ∷ []) → HasContents holds y.bench (h ++ e ∷ []) → HasEntered view stands site holds y h e number
-has_entered view stands site holds x y h e f number same st written limit limits counted entered contents = record {
-  stands' = record {
+pub has_entered : {D T : Type 0} (view : D → DiskView) (trade : T → TradeView) (x y : House D T) (h : History) (e f : Entry) (number : ℕ) → f ≡ e
+    → HouseRepresents view trade x h → IsJournal view y.journal (h ++ f ∷ []) → y.journal.limit ≡ x.journal.limit → limits_of y.bench ≡ limits_of x.bench
+    → number ≡ length h → Represents trade y.bench (h ++ e ∷ []) → HasContents trade y.bench (h ++ e ∷ []) → HasEntered view trade y h e number
+has_entered view trade x y h e f number same st written limit limits counted entered contents = record {
+  represents = record {
     journal = subst (λ (g : Entry). IsJournal view y.journal (h ++ g ∷ [])) same written;
-    house = record { stands' = entered; contents = contents };
+    house = record { represents = entered; contents = contents };
     limit = limit ∙ st.limit ∙ ap (λ (l : Limits). l.journal) (sym limits);
   };
   number' = counted;
@@ -90,15 +91,15 @@ not_full b h c target a limit f st ready room limits same full =
 
 -- ---- a request that makes no entry
 
-pub as_it_stood : {D T : Type 0} (view : D → DiskView) (stands : T → History → Type 0) (site : T → ℕ) (holds : T → ℕ → Type 0) (x : House D T) (h : History) → HouseRepresents view stands site holds x h → IsAsItWas view stands site holds x.journal.disk x h
-as_it_stood view stands site holds x h st = record { stands' = st; disk' = refl }
+pub as_it_stood : {D T : Type 0} (view : D → DiskView) (trade : T → TradeView) (x : House D T) (h : History) → HouseRepresents view trade x h → IsAsItWas view trade x.journal.disk x h
+as_it_stood view trade x h st = record { represents = st; disk' = refl }
 
-pub not_accepted : {D T : Type 0} (view : D → DiskView) (stands : T → History → Type 0) (site : T → ℕ) (holds : T → ℕ → Type 0) (x : House D T) (h : History) (a : Answer) (s : NotAuthorized) (f : Refusal) → Refuses f s → answered (Err (stop_of s)) ≡ a
-    → HouseRepresents view stands site holds x h → Accepted view stands site holds x.journal.disk h a (Refused x f)
-not_accepted view stands site holds x h a (stops.Refused g) f same e st =
-    subst (λ (b : Answer). Accepted view stands site holds x.journal.disk h b (Refused x f)) e (same, as_it_stood view stands site holds x h st)
-not_accepted view stands site holds x h a (stops.Again n) f same e st =
-    subst (λ (b : Answer). Accepted view stands site holds x.journal.disk h b (Refused x f)) e (same, as_it_stood view stands site holds x h st)
+pub not_accepted : {D T : Type 0} (view : D → DiskView) (trade : T → TradeView) (x : House D T) (h : History) (a : Answer) (s : NotAuthorized) (f : Refusal) → Refuses f s → answered (Err (stop_of s)) ≡ a
+    → HouseRepresents view trade x h → Accepted view trade x.journal.disk h a (Refused x f)
+not_accepted view trade x h a (stops.Refused g) f same e st =
+    subst (λ (b : Answer). Accepted view trade x.journal.disk h b (Refused x f)) e (same, as_it_stood view trade x h st)
+not_accepted view trade x h a (stops.Again n) f same e st =
+    subst (λ (b : Answer). Accepted view trade x.journal.disk h b (Refused x f)) e (same, as_it_stood view trade x h st)
 
 pub ran_refused : {D T : Type 0} (A : Type 0) (u v : DiskView) (a : Answer) (x : House D T) (f : Refusal) (h : History) (aside : List ℕ) → Ran u v (EncodesNoOutput h aside) → Ran u v (Leaves {D = D} {T = T} {A = A} a (Refused x f) h aside)
 ran_refused A u v (answers.Refused g) x f h aside ran = ran

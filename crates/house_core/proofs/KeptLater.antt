@@ -15,7 +15,7 @@ use Rattle.ledger_model.specs.Histories.{History}
 use Rattle.ledger_model.specs.Houses.{terms_in}
 use Rattle.house_core.specs.HouseState.{HouseStateView}
 use Rattle.house_core.specs.declared.bench.Bench.{Bench}
-use Rattle.house_core.specs.Trade.{Replaces, LiesBehind, IsKeptFrom, OfGoods}
+use Rattle.house_core.specs.Trade.{Replaces, LiesBehind, IsKeptFrom, OfGoods, TradeView}
 use Rattle.house_core.specs.Representation.{StateRepresents, IsReply, has_ended}
 use Rattle.house_core.specs.Bench.{IsInForceFor, HasContents}
 
@@ -104,13 +104,13 @@ stands_later {b = b} {h = h} st t kept le keep replies = record {
   lawful = st.lawful;
 }
 
-pub contents_later : {T : Type 0} (holds : T → ℕ → Type 0) (b c : Bench T) (h : History) (t : ℕ) (from : Option ℕ)
-    → HasContents holds b h → c.state.kept.replies ≡ filter (is_in_time b.state.kept.keep t) b.state.kept.replies
+pub contents_later : {T : Type 0} (trade : T → TradeView) (b c : Bench T) (h : History) (t : ℕ) (from : Option ℕ)
+    → HasContents trade b h → c.state.kept.replies ≡ filter (is_in_time b.state.kept.keep t) b.state.kept.replies
     → IfSome from (λ n. All (λ r. n ≤ r.entry.number) c.state.kept.replies) → (from ≡ None → c.state.kept.replies ≡ [])
-    → ((n : ℕ) → IsKeptFrom h from n → holds b.trade n → holds c.trade n) → HasContents holds c h
+    → ((n : ℕ) → IsKeptFrom h from n → (trade b.trade).holds n → (trade c.trade).holds n) → HasContents trade c h
 contents_later {T = T} holds b c h t from has replies least none keeps =
     let of_rest : (P : KeptReply → Type 0) → All P b.state.kept.replies → All P c.state.kept.replies =
     λ P all. subst (All P) (sym replies) (All-filter (is_in_time b.state.kept.keep t) P b.state.kept.replies all) in
     let in_force = of_rest (IsInForceFor h) has.in_force in
-    let held = of_rest (λ r. OfGoods (holds b.trade) r.entry.deed) has.held in
-    record { in_force = in_force; held = all_held (holds b.trade) (holds c.trade) h from c.state.kept.replies keeps least none in_force held }
+    let held = of_rest (λ r. OfGoods (trade b.trade).holds r.entry.deed) has.held in
+    record { in_force = in_force; held = all_held (trade b.trade).holds (trade c.trade).holds h from c.state.kept.replies keeps least none in_force held }

@@ -32,6 +32,7 @@ use Rattle.scrip_journal.proofs.Beginnings.{first_tells, empty_tells}
 use Rattle.house_core.specs.Opening.{SpoilsAt, IsUnlawfulAt, HaltsBy, FoundsBy, ReadOn, Learned, LearnedSome, LearnedAll}
 use Rattle.house_core.proofs.Beginnings.{kind_of_first, kind_tells}
 use Rattle.house_core.proofs.Entered.{kind_stays, time_snoc}
+use Rattle.house_core.specs.Trade.{TradeView}
 
 abbrev some : {A : Type 0} → A → Option A
 some x = Some x
@@ -61,9 +62,9 @@ read_entry view h bytes gate place new f reads value =
 pub entry_fits : {D : Type 0} (view : D → DiskView) (h : History) (new : Reading D) (f : Entry) → IsReading view new (h ++ f ∷ []) → size h + entry_size h f ≤ 2 ^ 40
 entry_fits view h new f is = omega (arith, size_snoc h f, is.most)
 
-module _ {D T : Type 0} (view : D → DiskView) (stands : T → History → Type 0) (site : T → ℕ) (holds : T → ℕ → Type 0) (kind : ℕ) (x : List ℕ) (old new : Reading D) (b : Bench T)
-    (told : (view old.disk).contents ≡ Some x) (h : History) (l : Learned view stands site holds kind old b h) where
-  pub none_left : ReadsOn view h l.reading.bytes old.gate (Ok None) new → LearnedAll view stands site holds kind x new b
+module _ {D T : Type 0} (view : D → DiskView) (trade : T → TradeView) (kind : ℕ) (x : List ℕ) (old new : Reading D) (b : Bench T)
+    (told : (view old.disk).contents ≡ Some x) (h : History) (l : Learned view trade kind old b h) where
+  pub none_left : ReadsOn view h l.reading.bytes old.gate (Ok None) new → LearnedAll view trade kind x new b
   none_left reads = (
     h,
     subst (layout.Encodes h) (bytes_told view old h x l.reading told) reads.0,
@@ -73,18 +74,18 @@ module _ {D T : Type 0} (view : D → DiskView) (stands : T → History → Type
   pub spoils_here : (place : ℕ) → ReadsOn view h l.reading.bytes old.gate (Err (BadRecord place)) new → SpoilsAt (limits_of b) kind x place
   spoils_here place reads = record {
     before = h;
-    follow = all_follow (limits_of b) h l.house.stands'.state.lawful;
+    follow = all_follow (limits_of b) h l.house.represents.state.lawful;
     of_kind = kind_of_first kind h l.of_kind;
     spoiled = subst (λ (bytes : List ℕ). IsSpoiled h bytes place) (bytes_told view old h x l.reading told) reads.0;
   }
 
-  pub learned_more : (c : Bench T) (f : Entry) → IsReading view new (h ++ f ∷ []) → Replays stands site c (limits_of b) h f (Ok tt) → HasContents holds c (h ++ f ∷ []) → LearnedSome view stands site holds kind new c
+  pub learned_more : (c : Bench T) (f : Entry) → IsReading view new (h ++ f ∷ []) → Replays trade c (limits_of b) h f (Ok tt) → HasContents trade c (h ++ f ∷ []) → LearnedSome view trade kind new c
   learned_more c f is replays contents = (
     h ++ f ∷ [],
     record {
       reading = is;
-      house = record { stands' = replays.1; contents = contents };
-      of_kind = kind_stays (limits_of b) h f l.house.stands'.state.lawful ∙ l.of_kind;
+      house = record { represents = replays.1; contents = contents };
+      of_kind = kind_stays (limits_of b) h f l.house.represents.state.lawful ∙ l.of_kind;
       time' = omega (arith, replays.2, time_snoc h f, replays.0.in_order);
     },
   )
@@ -92,11 +93,11 @@ module _ {D T : Type 0} (view : D → DiskView) (stands : T → History → Type
   pub breaks_here : (place : ℕ) (f : Entry) → OnlyRead (view old.disk) (view new.disk) → place ≡ old.gate → IsReading view new (h ++ f ∷ []) → (MayFollow (limits_of b) h f → ⊥) → IsUnlawfulAt (limits_of b) kind x place
   breaks_here place f read at is breaks =
       let begins = begins_so view new (h ++ f ∷ []) x is (read.contents ∙ told) in (
-        λ other. kind_tells kind (h ++ f ∷ []) x (kind_stays (limits_of b) h f l.house.stands'.state.lawful ∙ l.of_kind) begins other,
+        λ other. kind_tells kind (h ++ f ∷ []) x (kind_stays (limits_of b) h f l.house.represents.state.lawful ∙ l.of_kind) begins other,
         inr (record {
           before = h;
           next = f;
-          follow = all_follow (limits_of b) h l.house.stands'.state.lawful;
+          follow = all_follow (limits_of b) h l.house.represents.state.lawful;
           of_kind = kind_of_first kind h l.of_kind;
           begins = begins;
           place_is = omega (arith, at, l.reading.gate_is);
@@ -124,9 +125,9 @@ module _ {D : Type 0} (view : D → DiskView) (limits : Limits) (kind : ℕ) (x 
     spoiled = subst (λ (bytes : List ℕ). IsSpoiled [] bytes place) (bytes_told view old [] x r told) reads.0;
   }
 
-module _ {D T : Type 0} (view : D → DiskView) (stands : T → History → Type 0) (site : T → ℕ) (holds : T → ℕ → Type 0) (limits : Limits) (kind : ℕ) (x : List ℕ) (old new : Reading D)
+module _ {D T : Type 0} (view : D → DiskView) (trade : T → TradeView) (limits : Limits) (kind : ℕ) (x : List ℕ) (old new : Reading D)
     (told : (view old.disk).contents ≡ Some x) (read : OnlyRead (view old.disk) (view new.disk)) (e : Entry) (is : IsReading view new (e ∷ [])) where
-  pub first_learned : (result : Result (Bench T) Halt) → FoundsBy stands site holds limits kind e result → MatchResult result (LearnedSome view stands site holds kind new) (HaltsBy limits kind x)
+  pub first_learned : (result : Result (Bench T) Halt) → FoundsBy trade limits kind e result → MatchResult result (LearnedSome view trade kind new) (HaltsBy limits kind x)
   first_learned (Ok b) founds = (e ∷ [], record { reading = is; house = founds.house; of_kind = founds.of_kind; time' = founds.time' })
   first_learned (Err (halts.BadRecord place)) founds = absurd founds
   first_learned (Err (halts.Unlawful place)) founds =

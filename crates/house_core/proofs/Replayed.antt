@@ -12,12 +12,13 @@ use Rattle.house_core.specs.declared.replaying.ReplayEnd.{ReplayEnd}
 use Rattle.house_core.specs.declared.replaying.ReplayEnd.TheVariants as ends
 use Rattle.house_core.specs.Bench.{Follows, Replays}
 use Rattle.house_core.specs.Verdicts.{accept_entry, IsSaid}
+use Rattle.house_core.specs.Trade.{TradeView}
 
 -- an entry that does not follow is not replayed
-pub follow_fails : {T : Type 0} (stands : T → History → Type 0) (site : T → ℕ) (b : Bench T) (limits : Limits) (h : History) (e : Entry) (end : ReplayEnd)
-    → Follows stands site b limits h e (Err end) → Replays stands site b limits h e (Err end)
-follow_fails stands site b limits h e ends.Unlawful f = f.0
-follow_fails stands site b limits h e ends.NoMemory f = tt
+pub follow_fails : {T : Type 0} (trade : T → TradeView) (b : Bench T) (limits : Limits) (h : History) (e : Entry) (end : ReplayEnd)
+    → Follows trade b limits h e (Err end) → Replays trade b limits h e (Err end)
+follow_fails trade b limits h e ends.Unlawful f = f.0
+follow_fails trade b limits h e ends.NoMemory f = tt
 
 -- what stops takes no entry
 pub stops : (s : Stop) (a : Answer) (e : Entry) → answered (Err s) ≡ a → a ≡ answers.Take e → ⊥

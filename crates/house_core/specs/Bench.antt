@@ -20,7 +20,7 @@ use Rattle.house_core.specs.declared.verdict.BenchFault.{BenchFault}
 use Rattle.house_core.specs.declared.verdict.BenchFault.TheVariants as faults
 use Rattle.house_core.specs.Representation.{StateRepresents}
 use Rattle.house_core.specs.HouseState.{IsAsBefore}
-use Rattle.house_core.specs.Trade.{OfGoods, Replaces}
+use Rattle.house_core.specs.Trade.{OfGoods, Replaces, TradeView}
 use Rattle.house_core.specs.Replying.{IsOfSite}
 use Rattle.house_core.specs.Session.{State}
 
@@ -35,20 +35,20 @@ abbrev pub IsInForceFor : History → KeptReply → Type 0
 IsInForceFor h r = OfGoods (λ n. (m : ℕ) → Replaces h n m → r.entry.number < m) r.entry.deed
 
 -- The state and the trade represent the history, which is of the trade's kind of site.
-pub record Represents {T : Type 0} (stands : T → History → Type 0) (site : T → ℕ) (b : Bench T) (h : History) : Type 0 where
+pub record Represents {T : Type 0} (trade : T → TradeView) (b : Bench T) (h : History) : Type 0 where
   pub state : StateRepresents b.state h
-  pub trade : stands b.trade h
-  pub of_kind : site_kind h ≡ Some (site b.trade)
+  pub trade : (trade b.trade).represents h
+  pub of_kind : site_kind h ≡ Some (trade b.trade).site
 
 -- The trade has what the kept replies bring, and no earlier entry replaces it.
-pub record HasContents {T : Type 0} (holds : T → ℕ → Type 0) (b : Bench T) (h : History) : Type 0 where
+pub record HasContents {T : Type 0} (trade : T → TradeView) (b : Bench T) (h : History) : Type 0 where
   pub in_force : All (IsInForceFor h) b.state.kept.replies
-  pub held : All (λ r. OfGoods (holds b.trade) r.entry.deed) b.state.kept.replies
+  pub held : All (λ r. OfGoods (trade b.trade).holds r.entry.deed) b.state.kept.replies
 
 -- the house represents the history, and can reply as it says
-pub record IsHouse {T : Type 0} (stands : T → History → Type 0) (site : T → ℕ) (holds : T → ℕ → Type 0) (b : Bench T) (h : History) : Type 0 where
-  pub stands' : Represents stands site b h
-  pub contents : HasContents holds b h
+pub record IsHouse {T : Type 0} (trade : T → TradeView) (b : Bench T) (h : History) : Type 0 where
+  pub represents : Represents trade b h
+  pub contents : HasContents trade b h
 
 -- the reply of the entry of this number is kept
 abbrev pub KeepsReply : {T : Type 0} → Bench T → ℕ → Type 0
@@ -56,11 +56,11 @@ KeepsReply b n = IsTrue (has_number b.state.kept.replies n)
 
 -- Room was made in the state and in the trade: the house represents what it represented, and has what it
 -- had.
-pub record IsRoomed {T : Type 0} (stands : T → History → Type 0) (site : T → ℕ) (holds : T → ℕ → Type 0) (old new : Bench T) : Type 0 where
+pub record IsRoomed {T : Type 0} (trade : T → TradeView) (old new : Bench T) : Type 0 where
   pub state : IsAsBefore old.state new.state
-  pub site' : site new.trade ≡ site old.trade
-  pub stands' : (h : History) → stands old.trade h → stands new.trade h
-  pub held : (n : ℕ) → holds old.trade n → holds new.trade n
+  pub site' : (trade new.trade).site ≡ (trade old.trade).site
+  pub represents : (h : History) → (trade old.trade).represents h → (trade new.trade).represents h
+  pub held : (n : ℕ) → (trade old.trade).holds n → (trade new.trade).holds n
 
 -- ---- from state to state
 
@@ -68,37 +68,37 @@ abbrev pub state_of : {T : Type 0} → History → Bench T → State
 state_of h b = record { history = h; time = house_time b }
 
 -- the house represents a history now, to whose state the relation leads
-pub record Reaches {T : Type 0} (stands : T → History → Type 0) (site : T → ℕ) (holds : T → ℕ → Type 0) (Relates : State → Type 0) (b : Bench T) : Type 0 where
+pub record Reaches {T : Type 0} (trade : T → TradeView) (Relates : State → Type 0) (b : Bench T) : Type 0 where
   pub history : History
-  pub house : IsHouse stands site holds b history
+  pub house : IsHouse trade b history
   pub related : Relates (state_of history b)
 
 -- from the state of each history that the house represented, to that of one that it represents now
-abbrev pub Refines : {T : Type 0} → (T → History → Type 0) → (T → ℕ) → (T → ℕ → Type 0) → (State → State → Type 0) → Bench T → Bench T → Type 0
-Refines stands site holds Relates a b = (h : History) → IsHouse stands site holds a h → Reaches stands site holds (Relates (state_of h a)) b
+abbrev pub Refines : {T : Type 0} → (T → TradeView) → (State → State → Type 0) → Bench T → Bench T → Type 0
+Refines trade Relates a b = (h : History) → IsHouse trade a h → Reaches trade (Relates (state_of h a)) b
 
 -- ---- what comes of a request
 
 -- of a request that the answer takes: its entry is entered under the next number, or want of memory
 -- leaves the house as it was
-abbrev pub Takes : {T : Type 0} → (T → History → Type 0) → (T → ℕ) → Bench T → History → Entry → Result ℕ NoMemory → Type 0
-Takes stands site b h e (Ok n) = (n ≡ length h) × Represents stands site b (h ++ e ∷ [])
-Takes stands site b h e (Err fault) = Represents stands site b h
+abbrev pub Takes : {T : Type 0} → (T → TradeView) → Bench T → History → Entry → Result ℕ NoMemory → Type 0
+Takes trade b h e (Ok n) = (n ≡ length h) × Represents trade b (h ++ e ∷ [])
+Takes trade b h e (Err fault) = Represents trade b h
 
 -- Of a request with this answer: its entry is entered under the next number, or there is no memory for
 -- it; a refusal and the number of a request that comes again are those of the answer, and leave the house
 -- as it was.
-abbrev pub Accepts : {T : Type 0} → (T → History → Type 0) → (T → ℕ) → Bench T → History → Answer → Result ℕ BenchFault → Type 0
-Accepts stands site b h (Take e) (Ok n) = (n ≡ length h) × Represents stands site b (h ++ e ∷ [])
-Accepts stands site b h (Take e) (Err faults.NoMemory) = Represents stands site b h
-Accepts stands site b h (Refused f) (Err (faults.Refused g)) = (g ≡ f) × Represents stands site b h
-Accepts stands site b h (Again m) (Ok n) = (n ≡ m) × Represents stands site b h
-Accepts stands site b h _ _ = ⊥
+abbrev pub Accepts : {T : Type 0} → (T → TradeView) → Bench T → History → Answer → Result ℕ BenchFault → Type 0
+Accepts trade b h (Take e) (Ok n) = (n ≡ length h) × Represents trade b (h ++ e ∷ [])
+Accepts trade b h (Take e) (Err faults.NoMemory) = Represents trade b h
+Accepts trade b h (Refused f) (Err (faults.Refused g)) = (g ≡ f) × Represents trade b h
+Accepts trade b h (Again m) (Ok n) = (n ≡ m) × Represents trade b h
+Accepts trade b h _ _ = ⊥
 
 -- the contents that kept replies bring are there, after a request with this answer too
-abbrev pub KeepsContents : {T : Type 0} → (T → ℕ → Type 0) → Bench T → History → Answer → Result ℕ BenchFault → Type 0
-KeepsContents holds b h (Take e) (Ok n) = HasContents holds b (h ++ e ∷ [])
-KeepsContents holds b h _ _ = HasContents holds b h
+abbrev pub KeepsContents : {T : Type 0} → (T → TradeView) → Bench T → History → Answer → Result ℕ BenchFault → Type 0
+KeepsContents trade b h (Take e) (Ok n) = HasContents trade b (h ++ e ∷ [])
+KeepsContents trade b h _ _ = HasContents trade b h
 
 -- a refusal of a request is one that a site replies with
 abbrev pub FaultIsOfSite : BenchFault → Type 0
@@ -112,22 +112,22 @@ stopped_with (stops.Again n) = Ok n
 
 -- Of an entry by a command: it may follow, and is entered under the next number; or it may not follow,
 -- does not fit, or there is no memory for it, and the house stays as it was.
-abbrev pub Enters : {T : Type 0} → (T → History → Type 0) → (T → ℕ) → Bench T → Limits → History → Entry → Result ℕ EnterFault → Type 0
-Enters stands site b limits h e (Ok n) = MayFollow limits h e × (n ≡ length h) × Represents stands site b (h ++ e ∷ [])
-Enters stands site b limits h e (Err enters.Unlawful) = (MayFollow limits h e → ⊥) × Represents stands site b h
-Enters stands site b limits h e (Err (enters.Refused f)) = (fitted h limits e ≡ Err (Refuse f)) × Represents stands site b h
-Enters stands site b limits h e (Err enters.NoMemory) = Represents stands site b h
+abbrev pub Enters : {T : Type 0} → (T → TradeView) → Bench T → Limits → History → Entry → Result ℕ EnterFault → Type 0
+Enters trade b limits h e (Ok n) = MayFollow limits h e × (n ≡ length h) × Represents trade b (h ++ e ∷ [])
+Enters trade b limits h e (Err enters.Unlawful) = (MayFollow limits h e → ⊥) × Represents trade b h
+Enters trade b limits h e (Err (enters.Refused f)) = (fitted h limits e ≡ Err (Refuse f)) × Represents trade b h
+Enters trade b limits h e (Err enters.NoMemory) = Represents trade b h
 
 -- Of an entry that accepts nothing and fits: it may follow, and is entered under the next number; or it
 -- may not follow, or there is no memory for it, and the house stays as it was.
-abbrev pub Follows : {T : Type 0} → (T → History → Type 0) → (T → ℕ) → Bench T → Limits → History → Entry → Result ℕ ReplayEnd → Type 0
-Follows stands site b limits h e (Ok n) = MayFollow limits h e × (n ≡ length h) × Represents stands site b (h ++ e ∷ [])
-Follows stands site b limits h e (Err ends.Unlawful) = (MayFollow limits h e → ⊥) × Represents stands site b h
-Follows stands site b limits h e (Err ends.NoMemory) = Represents stands site b h
+abbrev pub Follows : {T : Type 0} → (T → TradeView) → Bench T → Limits → History → Entry → Result ℕ ReplayEnd → Type 0
+Follows trade b limits h e (Ok n) = MayFollow limits h e × (n ≡ length h) × Represents trade b (h ++ e ∷ [])
+Follows trade b limits h e (Err ends.Unlawful) = (MayFollow limits h e → ⊥) × Represents trade b h
+Follows trade b limits h e (Err ends.NoMemory) = Represents trade b h
 
 -- Of the next entry of a history: it may follow, and the house represents the history with it, at its
 -- moment; or it may not follow; or there is no memory for it.
-abbrev pub Replays : {T : Type 0} → (T → History → Type 0) → (T → ℕ) → Bench T → Limits → History → Entry → Result (Unit {0}) ReplayEnd → Type 0
-Replays stands site b limits h e (Ok u) = MayFollow limits h e × Represents stands site b (h ++ e ∷ []) × (house_time b ≡ moment_of e)
-Replays stands site b limits h e (Err ends.Unlawful) = MayFollow limits h e → ⊥
-Replays stands site b limits h e (Err ends.NoMemory) = Unit {0}
+abbrev pub Replays : {T : Type 0} → (T → TradeView) → Bench T → Limits → History → Entry → Result (Unit {0}) ReplayEnd → Type 0
+Replays trade b limits h e (Ok u) = MayFollow limits h e × Represents trade b (h ++ e ∷ []) × (house_time b ≡ moment_of e)
+Replays trade b limits h e (Err ends.Unlawful) = MayFollow limits h e → ⊥
+Replays trade b limits h e (Err ends.NoMemory) = Unit {0}

@@ -13,21 +13,22 @@ use Rattle.house_core.specs.declared.house.House.{House}
 use Rattle.house_core.specs.Bench.{house_time, limits_of}
 use Rattle.house_core.specs.House.{HouseRepresents}
 use Rattle.house_core.specs.Opening.{fault_disk}
+use Rattle.house_core.specs.Trade.{TradeView}
 
 -- The house represents this entry alone, at its moment, on a disk that was free.
-pub record FoundedFor {D T : Type 0} (view : D → DiskView) (stands : T → History → Type 0) (site : T → ℕ) (holds : T → ℕ → Type 0) (limits : Limits) (e : Entry) (bytes : List ℕ) (x : House D T) : Type 0 where
+pub record FoundedFor {D T : Type 0} (view : D → DiskView) (trade : T → TradeView) (limits : Limits) (e : Entry) (bytes : List ℕ) (x : House D T) : Type 0 where
   pub free : IsFree bytes
-  pub house : HouseRepresents view stands site holds x (e ∷ [])
+  pub house : HouseRepresents view trade x (e ∷ [])
   pub time' : house_time x.bench ≡ moment_of e
   pub limits' : limits_of x.bench ≡ limits
 
 -- what is answered by the bytes of the disk
-abbrev pub FoundsHouseBy : {D T : Type 0} → (D → DiskView) → (T → History → Type 0) → (T → ℕ) → (T → ℕ → Type 0) → Limits → Entry → List ℕ → Result (House D T) (HouseFault D) → Type 0
-FoundsHouseBy view stands site holds limits e bytes (Ok x) = FoundedFor view stands site holds limits e bytes x
-FoundsHouseBy view stands site holds limits e bytes (Err (NotEmpty d count)) = IsTaken bytes count
-FoundsHouseBy view stands site holds limits e bytes (Err (Disk d)) = Unit {0}
-FoundsHouseBy view stands site holds limits e bytes (Err (NoMemory d)) = Unit {0}
-FoundsHouseBy view stands site holds limits e bytes (Err _) = ⊥
+abbrev pub FoundsHouseBy : {D T : Type 0} → (D → DiskView) → (T → TradeView) → Limits → Entry → List ℕ → Result (House D T) (HouseFault D) → Type 0
+FoundsHouseBy view trade limits e bytes (Ok x) = FoundedFor view trade limits e bytes x
+FoundsHouseBy view trade limits e bytes (Err (NotEmpty d count)) = IsTaken bytes count
+FoundsHouseBy view trade limits e bytes (Err (Disk d)) = Unit {0}
+FoundsHouseBy view trade limits e bytes (Err (NoMemory d)) = Unit {0}
+FoundsHouseBy view trade limits e bytes (Err _) = ⊥
 
 -- The count of faults rose where the disk failed, and stayed else. No other fault comes but that the disk
 -- has bytes already and that memory is refused.
@@ -68,10 +69,10 @@ ClearsFree view bytes (Err (NoMemory d)) = Unit {0}
 ClearsFree view bytes (Err _) = ⊥
 
 -- the entry stands in the journal, or the disk failed and no other fault came
-abbrev pub EntersSite : {D T : Type 0} → (D → DiskView) → (T → History → Type 0) → (T → ℕ) → (T → ℕ → Type 0) → Entry → Result (House D T) (HouseFault D) → Type 0
-EntersSite view stands site holds e (Ok x) = HouseRepresents view stands site holds x (e ∷ [])
-EntersSite view stands site holds e (Err (Disk d)) = Unit {0}
-EntersSite view stands site holds e (Err _) = ⊥
+abbrev pub EntersSite : {D T : Type 0} → (D → DiskView) → (T → TradeView) → Entry → Result (House D T) (HouseFault D) → Type 0
+EntersSite view trade e (Ok x) = HouseRepresents view trade x (e ∷ [])
+EntersSite view trade e (Err (Disk d)) = Unit {0}
+EntersSite view trade e (Err _) = ⊥
 
 -- no fault that leaves the disk unwritten
 abbrev pub IsOfWriting : {D A : Type 0} → Result A (HouseFault D) → Type 0

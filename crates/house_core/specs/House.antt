@@ -27,11 +27,12 @@ use Rattle.house_core.specs.declared.settled.Settled.{Settled}
 use Rattle.house_core.specs.declared.outcome.Outcome.{Outcome}
 use Rattle.house_core.specs.declared.outcome.Outcome.TheVariants.{Done, Refused, NoMemory, Halted}
 use Rattle.house_core.specs.Bench.{IsHouse, house_time, limits_of}
+use Rattle.house_core.specs.Trade.{TradeView}
 
 -- The journal and the bench represent the history, and the journal has the house's limit.
-pub record HouseRepresents {D T : Type 0} (view : D → DiskView) (stands : T → History → Type 0) (site : T → ℕ) (holds : T → ℕ → Type 0) (x : House D T) (h : History) : Type 0 where
+pub record HouseRepresents {D T : Type 0} (view : D → DiskView) (trade : T → TradeView) (x : House D T) (h : History) : Type 0 where
   pub journal : IsJournal view x.journal h
-  pub house : IsHouse stands site holds x.bench h
+  pub house : IsHouse trade x.bench h
   pub limit : x.journal.limit ≡ (limits_of x.bench).journal
 
 -- ---- what it can mint
@@ -90,32 +91,32 @@ pub record RaisedTo {D T : Type 0} (moment : ℕ) (old new : House D T) : Type 0
   pub limits : limits_of new.bench ≡ limits_of old.bench
 
 -- the house represents the history, and its disk was not touched
-pub record IsAsItWas {D T : Type 0} (view : D → DiskView) (stands : T → History → Type 0) (site : T → ℕ) (holds : T → ℕ → Type 0) (disk : D) (x : House D T) (h : History) : Type 0 where
-  pub stands' : HouseRepresents view stands site holds x h
+pub record IsAsItWas {D T : Type 0} (view : D → DiskView) (trade : T → TradeView) (disk : D) (x : House D T) (h : History) : Type 0 where
+  pub represents : HouseRepresents view trade x h
   pub disk' : x.journal.disk ≡ disk
 
 -- The entry is on the disk and is entered under the next number.
-pub record HasEntered {D T : Type 0} (view : D → DiskView) (stands : T → History → Type 0) (site : T → ℕ) (holds : T → ℕ → Type 0) (x : House D T) (h : History) (e : Entry) (number : ℕ) : Type 0 where
-  pub stands' : HouseRepresents view stands site holds x (h ++ e ∷ [])
+pub record HasEntered {D T : Type 0} (view : D → DiskView) (trade : T → TradeView) (x : House D T) (h : History) (e : Entry) (number : ℕ) : Type 0 where
+  pub represents : HouseRepresents view trade x (h ++ e ∷ [])
   pub number' : number ≡ length h
 
 -- Of a request with this answer: its entry is on the disk and entered; or memory was refused for it, or
 -- the disk failed; a refusal is that of the answer. A request that comes again is not for this call: it is
 -- refused as one whose piece is spent, and the house stays as it was.
-abbrev pub Accepted : {D T : Type 0} → (D → DiskView) → (T → History → Type 0) → (T → ℕ) → (T → ℕ → Type 0) → D → History → Answer → Outcome D T Settled → Type 0
-Accepted view stands site holds disk h (answers.Take e) (Done x s) = HasEntered view stands site holds x h e s.number
-Accepted view stands site holds disk h (answers.Take e) (NoMemory x) = IsAsItWas view stands site holds disk x h
-Accepted view stands site holds disk h (answers.Take e) (Halted d) = Rose (view disk).faults (view d).faults
-Accepted view stands site holds disk h (answers.Refused f) (Refused x g) = (g ≡ f) × IsAsItWas view stands site holds disk x h
-Accepted view stands site holds disk h (answers.Again n) (Refused x g) = (g ≡ Spent) × IsAsItWas view stands site holds disk x h
-Accepted view stands site holds disk h _ _ = ⊥
+abbrev pub Accepted : {D T : Type 0} → (D → DiskView) → (T → TradeView) → D → History → Answer → Outcome D T Settled → Type 0
+Accepted view trade disk h (answers.Take e) (Done x s) = HasEntered view trade x h e s.number
+Accepted view trade disk h (answers.Take e) (NoMemory x) = IsAsItWas view trade disk x h
+Accepted view trade disk h (answers.Take e) (Halted d) = Rose (view disk).faults (view d).faults
+Accepted view trade disk h (answers.Refused f) (Refused x g) = (g ≡ f) × IsAsItWas view trade disk x h
+Accepted view trade disk h (answers.Again n) (Refused x g) = (g ≡ Spent) × IsAsItWas view trade disk x h
+Accepted view trade disk h _ _ = ⊥
 
 -- Of an entry by a command, likewise. One that is in doubt since the disk failed may follow.
-abbrev pub Entered : {D T : Type 0} → (D → DiskView) → (T → History → Type 0) → (T → ℕ) → (T → ℕ → Type 0) → Limits → D → History → Entry → Outcome D T ℕ → Type 0
-Entered view stands site holds limits disk h e (Done x n) = HasEntered view stands site holds x h e n
-Entered view stands site holds limits disk h e (Refused x f) = (fitted h limits e ≡ Err (Refuse f)) × IsAsItWas view stands site holds disk x h
-Entered view stands site holds limits disk h e (NoMemory x) = IsAsItWas view stands site holds disk x h
-Entered view stands site holds limits disk h e (Halted d) = MayFollow limits h e × Rose (view disk).faults (view d).faults
+abbrev pub Entered : {D T : Type 0} → (D → DiskView) → (T → TradeView) → Limits → D → History → Entry → Outcome D T ℕ → Type 0
+Entered view trade limits disk h e (Done x n) = HasEntered view trade x h e n
+Entered view trade limits disk h e (Refused x f) = (fitted h limits e ≡ Err (Refuse f)) × IsAsItWas view trade disk x h
+Entered view trade limits disk h e (NoMemory x) = IsAsItWas view trade disk x h
+Entered view trade limits disk h e (Halted d) = MayFollow limits h e × Rose (view disk).faults (view d).faults
 
 -- The crash pairs of a call: with the new entry or without it where one was written, else with the
 -- entries as they were; and nothing was sent.

@@ -21,6 +21,7 @@ use Rattle.house_core.specs.declared.opening.Halt.{Halt}
 use Rattle.house_core.specs.declared.opening.Halt.TheVariants as halts
 use Rattle.house_core.specs.Bench.{IsHouse, house_time, limits_of}
 use Rattle.house_core.specs.House.{HouseRepresents}
+use Rattle.house_core.specs.Trade.{TradeView}
 
 -- the disk of a fault
 abbrev pub fault_disk : {D : Type 0} → HouseFault D → D
@@ -61,23 +62,23 @@ IsOfOther kind bytes = causes.IsOfOther (Only kind) bytes
 -- ---- what is answered
 
 -- The bytes encode a history, and the house represents it too, at the time of the history.
-pub record OpenedFor {D T : Type 0} (view : D → DiskView) (stands : T → History → Type 0) (site : T → ℕ) (holds : T → ℕ → Type 0) (limits : Limits) (bytes : List ℕ) (x : House D T) : Type 0 where
+pub record OpenedFor {D T : Type 0} (view : D → DiskView) (trade : T → TradeView) (limits : Limits) (bytes : List ℕ) (x : House D T) : Type 0 where
   pub history : History
   pub of_bytes : layout.Encodes history bytes
-  pub house : HouseRepresents view stands site holds x history
+  pub house : HouseRepresents view trade x history
   pub time' : house_time x.bench ≡ time history
   pub limits' : limits_of x.bench ≡ limits
 
 -- what is answered by the bytes of the disk, at a trade with this kind of site
-abbrev pub OpensHouse : {D T : Type 0} → (D → DiskView) → (T → History → Type 0) → (T → ℕ) → (T → ℕ → Type 0) → Limits → ℕ → List ℕ → Result (House D T) (HouseFault D) → Type 0
-OpensHouse view stands site holds limits kind bytes (Ok x) = OpenedFor view stands site holds limits bytes x
-OpensHouse view stands site holds limits kind bytes (Err (NotJournal d)) = BeginsWith header bytes → ⊥
-OpensHouse view stands site holds limits kind bytes (Err (BadRecord d place)) = SpoilsAt limits kind bytes place
-OpensHouse view stands site holds limits kind bytes (Err (Unlawful d place)) = IsUnlawfulAt limits kind bytes place
-OpensHouse view stands site holds limits kind bytes (Err (WrongKind d)) = IsOfOther kind bytes
-OpensHouse view stands site holds limits kind bytes (Err (NotEmpty d count)) = ⊥
-OpensHouse view stands site holds limits kind bytes (Err (Disk d)) = Unit {0}
-OpensHouse view stands site holds limits kind bytes (Err (NoMemory d)) = Unit {0}
+abbrev pub OpensHouse : {D T : Type 0} → (D → DiskView) → (T → TradeView) → Limits → ℕ → List ℕ → Result (House D T) (HouseFault D) → Type 0
+OpensHouse view trade limits kind bytes (Ok x) = OpenedFor view trade limits bytes x
+OpensHouse view trade limits kind bytes (Err (NotJournal d)) = BeginsWith header bytes → ⊥
+OpensHouse view trade limits kind bytes (Err (BadRecord d place)) = SpoilsAt limits kind bytes place
+OpensHouse view trade limits kind bytes (Err (Unlawful d place)) = IsUnlawfulAt limits kind bytes place
+OpensHouse view trade limits kind bytes (Err (WrongKind d)) = IsOfOther kind bytes
+OpensHouse view trade limits kind bytes (Err (NotEmpty d count)) = ⊥
+OpensHouse view trade limits kind bytes (Err (Disk d)) = Unit {0}
+OpensHouse view trade limits kind bytes (Err (NoMemory d)) = Unit {0}
 
 -- ---- its steps
 
@@ -88,19 +89,19 @@ pub record ReadOn {D : Type 0} (view : D → DiskView) (moved : D → D → Type
   pub limit : new.limit ≡ old.limit
 
 -- The entries that were read are of a site of this kind, and the house represents them at their time.
-pub record Learned {D T : Type 0} (view : D → DiskView) (stands : T → History → Type 0) (site : T → ℕ) (holds : T → ℕ → Type 0) (kind : ℕ) (r : Reading D) (b : Bench T) (h : History) : Type 0 where
+pub record Learned {D T : Type 0} (view : D → DiskView) (trade : T → TradeView) (kind : ℕ) (r : Reading D) (b : Bench T) (h : History) : Type 0 where
   pub reading : IsReading view r h
-  pub house : IsHouse stands site holds b h
+  pub house : IsHouse trade b h
   pub of_kind : site_kind h ≡ Some kind
   pub time' : house_time b ≡ time h
 
 -- the house represents entries that were read
-abbrev pub LearnedSome : {D T : Type 0} → (D → DiskView) → (T → History → Type 0) → (T → ℕ) → (T → ℕ → Type 0) → ℕ → Reading D → Bench T → Type 0
-LearnedSome view stands site holds kind r b = (h : History) × Learned view stands site holds kind r b h
+abbrev pub LearnedSome : {D T : Type 0} → (D → DiskView) → (T → TradeView) → ℕ → Reading D → Bench T → Type 0
+LearnedSome view trade kind r b = (h : History) × Learned view trade kind r b h
 
 -- the house represents the entries of the bytes
-abbrev pub LearnedAll : {D T : Type 0} → (D → DiskView) → (T → History → Type 0) → (T → ℕ) → (T → ℕ → Type 0) → ℕ → List ℕ → Reading D → Bench T → Type 0
-LearnedAll view stands site holds kind bytes r b = (h : History) × layout.Encodes h bytes × Learned view stands site holds kind r b h
+abbrev pub LearnedAll : {D T : Type 0} → (D → DiskView) → (T → TradeView) → ℕ → List ℕ → Reading D → Bench T → Type 0
+LearnedAll view trade kind bytes r b = (h : History) × layout.Encodes h bytes × Learned view trade kind r b h
 
 -- why a book was not learned, by its bytes
 abbrev pub HaltsBy : Limits → ℕ → List ℕ → Halt → Type 0
@@ -124,25 +125,25 @@ fault_with d halts.Disk = Disk d
 fault_with d halts.NoMemory = NoMemory d
 
 -- the house of its first entry
-pub record IsFoundedBy {T : Type 0} (stands : T → History → Type 0) (site : T → ℕ) (holds : T → ℕ → Type 0) (limits : Limits) (kind : ℕ) (e : Entry) (b : Bench T) : Type 0 where
-  pub house : IsHouse stands site holds b (e ∷ [])
+pub record IsFoundedBy {T : Type 0} (trade : T → TradeView) (limits : Limits) (kind : ℕ) (e : Entry) (b : Bench T) : Type 0 where
+  pub house : IsHouse trade b (e ∷ [])
   pub of_kind : site_kind (e ∷ []) ≡ Some kind
   pub time' : house_time b ≡ time (e ∷ [])
 
 -- what comes of the first entry
-abbrev pub FoundsBy : {T : Type 0} → (T → History → Type 0) → (T → ℕ) → (T → ℕ → Type 0) → Limits → ℕ → Entry → Result (Bench T) Halt → Type 0
-FoundsBy stands site holds limits kind e (Ok b) = IsFoundedBy stands site holds limits kind e b
-FoundsBy stands site holds limits kind e (Err (halts.BadRecord place)) = ⊥
-FoundsBy stands site holds limits kind e (Err (halts.Unlawful place)) = (place ≡ 8) × (MayFollow limits [] e → ⊥) × (IsOfOtherKind (Only kind) e → ⊥)
-FoundsBy stands site holds limits kind e (Err halts.WrongKind) = IsOfOtherKind (Only kind) e
-FoundsBy stands site holds limits kind e (Err halts.Disk) = ⊥
-FoundsBy stands site holds limits kind e (Err halts.NoMemory) = Unit {0}
+abbrev pub FoundsBy : {T : Type 0} → (T → TradeView) → Limits → ℕ → Entry → Result (Bench T) Halt → Type 0
+FoundsBy trade limits kind e (Ok b) = IsFoundedBy trade limits kind e b
+FoundsBy trade limits kind e (Err (halts.BadRecord place)) = ⊥
+FoundsBy trade limits kind e (Err (halts.Unlawful place)) = (place ≡ 8) × (MayFollow limits [] e → ⊥) × (IsOfOtherKind (Only kind) e → ⊥)
+FoundsBy trade limits kind e (Err halts.WrongKind) = IsOfOtherKind (Only kind) e
+FoundsBy trade limits kind e (Err halts.Disk) = ⊥
+FoundsBy trade limits kind e (Err halts.NoMemory) = Unit {0}
 
 -- what comes of the next entry: it is learned, or there is none, or the book is halted
-abbrev pub LearnsNext : {D T : Type 0} → (D → DiskView) → (T → History → Type 0) → (T → ℕ) → (T → ℕ → Type 0) → Limits → ℕ → List ℕ → Reading D → Bench T → Result Bool Halt → Type 0
-LearnsNext view stands site holds limits kind bytes r b (Ok true) = LearnedSome view stands site holds kind r b
-LearnsNext view stands site holds limits kind bytes r b (Ok false) = LearnedAll view stands site holds kind bytes r b
-LearnsNext view stands site holds limits kind bytes r b (Err halt) = HaltsBy limits kind bytes halt
+abbrev pub LearnsNext : {D T : Type 0} → (D → DiskView) → (T → TradeView) → Limits → ℕ → List ℕ → Reading D → Bench T → Result Bool Halt → Type 0
+LearnsNext view trade limits kind bytes r b (Ok true) = LearnedSome view trade kind r b
+LearnsNext view trade limits kind bytes r b (Ok false) = LearnedAll view trade kind bytes r b
+LearnsNext view trade limits kind bytes r b (Err halt) = HaltsBy limits kind bytes halt
 
 -- Where an entry was learned the next gate came further, and where there is none the reading ended.
 abbrev pub GoesFurther : {D : Type 0} → Reading D → Result Bool Halt → Reading D → Type 0

@@ -26,7 +26,7 @@ impl<T: Trade> Bench<T> {
         ensures limits { limits_of self.new ≡ limits_of self.old }
         ensures kept { IfOk result (KeepsReply self.new) }
         ensures site { IfErr result IsOfSite }
-        ensures went { Refines T.stands T.site T.holds (λ s t. Says (answer (raised s reading).history (raised s reading).time (limits_of self.old) (asked_of q.now)) result (raised s reading) t) self.old self.new }
+        ensures went { Refines T.trade (λ s t. Says (answer (raised s reading).history (raised s reading).time (limits_of self.old) (asked_of q.now)) result (raised s reading) t) self.old self.new }
     {
         self.raise(reading);
         match self.accept(q) {
@@ -45,7 +45,7 @@ impl<T: Trade> Bench<T> {
     ) -> Reply<'a>
         requires kept { IfOk said.now (KeepsReply self.now) }
         requires site { IfErr said.now IsOfSite }
-        ensures { (h : History) → IsHouse T.stands T.site T.holds self.now h → result ≡ said_reply (state_of h self.now) (asked_of q.now) said.now }
+        ensures { (h : History) → IsHouse T.trade self.now h → result ≡ said_reply (state_of h self.now) (asked_of q.now) said.now }
     {
         let number = match said {
             Ok(number) => *number,
@@ -59,7 +59,7 @@ impl<T: Trade> Bench<T> {
     pub fn refuse_head(&mut self, reading: Moment, head: HeadRefusal) -> Reply<'static>
         ensures limits { limits_of self.new ≡ limits_of self.old }
         ensures reply { result ≡ ledger.head_refusal (house_time self.new) (as_refusal head) }
-        ensures went { Refines T.stands T.site T.holds (λ s t. t ≡ raised s reading) self.old self.new }
+        ensures went { Refines T.trade (λ s t. t ≡ raised s reading) self.old self.new }
     {
         let time = self.raise(reading);
         Reply::of(&refusal_head(time, &Refusal::from(head), None), b"")
@@ -68,7 +68,7 @@ impl<T: Trade> Bench<T> {
     /// The first reply to the entry of a number, whose reply is kept.
     pub(crate) fn first_reply<'a>(&'a self, number: u64, room: &'a mut [u8; 512]) -> Reply<'a>
         requires kept { KeepsReply self.now number }
-        ensures { (h : History) → IsHouse T.stands T.site T.holds self.now h → result ≡ ledger.reply_of h number }
+        ensures { (h : History) → IsHouse T.trade self.now h → result ≡ ledger.reply_of h number }
     {
         let Some((q, entry)) = self.state.kept(number) else {
             unreachable!();
@@ -80,7 +80,7 @@ impl<T: Trade> Bench<T> {
     /// The reply to a request that is refused at the house time.
     fn refusal_reply(&self, q: &Request<'_>, refusal: &Refusal) -> Reply<'static>
         requires { IsOfSite refusal.now }
-        ensures { (h : History) → Represents T.stands T.site self.now h → result ≡ ledger.refusal_of h (house_time self.now) (asked_of q.now) refusal.now }
+        ensures { (h : History) → Represents T.trade self.now h → result ≡ ledger.refusal_of h (house_time self.now) (asked_of q.now) refusal.now }
     {
         let time = self.state.time();
         let price = self.price_told(q.target, refusal);
@@ -94,7 +94,7 @@ impl<T: Trade> Bench<T> {
     #[tactic(auto, unfolding(ledger_model::specs::Replies::head_refusal))]
     pub(crate) fn refused_reply(&self, q: Option<&Request<'_>>, refusal: &Refusal) -> Reply<'static>
         requires { IsOfSite refusal.now }
-        ensures { (h : History) → Represents T.stands T.site self.now h → result ≡ refused_reply h (house_time self.now) (option_map (λ q. asked_of q.now) q.entry) refusal.now }
+        ensures { (h : History) → Represents T.trade self.now h → result ≡ refused_reply h (house_time self.now) (option_map (λ q. asked_of q.now) q.entry) refusal.now }
     {
         match q {
             Some(q) => self.refusal_reply(q, refusal),
@@ -105,7 +105,7 @@ impl<T: Trade> Bench<T> {
     /// The price that the reply to a refusal tells: that of the target where there was no scrip, or the
     /// one that the piece is below.
     fn price_told(&self, target: &[u8], refusal: &Refusal) -> Option<u64>
-        ensures { (h : History) → Represents T.stands T.site self.now h → result ≡ ledger.price_told h target.now refusal.now }
+        ensures { (h : History) → Represents T.trade self.now h → result ≡ ledger.price_told h target.now refusal.now }
     {
         match refusal {
             Refusal::NoScrip => self.trade.price(target),
@@ -116,7 +116,7 @@ impl<T: Trade> Bench<T> {
 
     /// The secret under which the reply to the refusal of a request is signed, where it is signed.
     fn secret_of_refusal(&self, q: &Request<'_>, refusal: &Refusal) -> Option<[u8; 16]>
-        ensures { (h : History) → Represents T.stands T.site self.now h → result ≡ ledger.secret_of_refusal h (asked_of q.now) refusal.now }
+        ensures { (h : History) → Represents T.trade self.now h → result ≡ ledger.secret_of_refusal h (asked_of q.now) refusal.now }
     {
         if refusal.is_signed() {
             customer_of(&self.state, q)

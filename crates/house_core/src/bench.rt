@@ -57,10 +57,10 @@ impl<T: Trade> Bench<T> {
         requires limits { AreInRange limits }
         requires site { FoundsHouse (entry site.now) }
         requires first { MayFollow limits [] (entry site.now) }
-        requires kind { site_kind (entry site.now ∷ []) ≡ Some (T.site trade) }
-        requires trade { T.stands trade [] }
-        ensures holds { IfOk result (λ b. Represents T.stands T.site b (entry site.now ∷ [])) }
-        ensures contents { IfOk result (λ b. HasContents T.holds b (entry site.now ∷ [])) }
+        requires kind { site_kind (entry site.now ∷ []) ≡ Some (T.trade trade).site }
+        requires trade { (T.trade trade).represents [] }
+        ensures holds { IfOk result (λ b. Represents T.trade b (entry site.now ∷ [])) }
+        ensures contents { IfOk result (λ b. HasContents T.trade b (entry site.now ∷ [])) }
         ensures time { IfOk result (λ b. house_time b ≡ moment_of (entry site.now)) }
         ensures limits { IfOk result (λ b. limits_of b ≡ limits) }
     {
@@ -78,7 +78,7 @@ impl<T: Trade> Bench<T> {
 
     /// Its trade.
     pub fn trade(&self) -> &T
-        ensures { (h : History) → Represents T.stands T.site self.now h → T.stands result.now h }
+        ensures { (h : History) → Represents T.trade self.now h → (T.trade result.now).represents h }
     {
         &self.trade
     }
@@ -93,7 +93,7 @@ impl<T: Trade> Bench<T> {
     #[tactic(auto, unfolding(ledger_model::specs::Answer::answer))]
     pub fn judge(&self, q: &Request<'_>) -> Verdict
         ensures kept { (n : ℕ) → result ≡ verdicts.Again n → KeepsReply self.now n }
-        ensures exact { (h : History) → Represents T.stands T.site self.now h
+        ensures exact { (h : History) → Represents T.trade self.now h
             → judged_of result ≡ judged (model.answer h (house_time self.now) (limits_of self.now) (asked_of q.now)) }
     {
         let Some(text) = q.scrip else {
@@ -114,7 +114,7 @@ impl<T: Trade> Bench<T> {
     /// It takes no memory.
     pub fn repeated(&self, q: &Request<'_>) -> Option<u64>
         ensures kept { IfSome result (KeepsReply self.now) }
-        ensures exact { (h : History) → Represents T.stands T.site self.now h
+        ensures exact { (h : History) → Represents T.trade self.now h
             → result ≡ repeat_of (model.answer h (house_time self.now) (limits_of self.now) (asked_of q.now)) }
     {
         let Some(text) = q.scrip else {
@@ -133,8 +133,8 @@ impl<T: Trade> Bench<T> {
         ensures time { result ≡ max (house_time self.old) reading }
         ensures raised { house_time self.new ≡ max (house_time self.old) reading }
         ensures limits { limits_of self.new ≡ limits_of self.old }
-        ensures same { (h : History) → Represents T.stands T.site self.old h → Represents T.stands T.site self.new h }
-        ensures contents { (h : History) → Represents T.stands T.site self.old h → HasContents T.holds self.old h → HasContents T.holds self.new h }
+        ensures same { (h : History) → Represents T.trade self.old h → Represents T.trade self.new h }
+        ensures contents { (h : History) → Represents T.trade self.old h → HasContents T.trade self.old h → HasContents T.trade self.new h }
     {
         let time = self.state.raise(reading);
         self.trade.forget(self.state.first_kept());
@@ -149,9 +149,9 @@ impl<T: Trade> Bench<T> {
         ensures site { IfErr result FaultIsOfSite }
         ensures time { house_time self.new ≡ house_time self.old }
         ensures limits { limits_of self.new ≡ limits_of self.old }
-        ensures exact { (h : History) → Represents T.stands T.site self.old h
-            → Accepts T.stands T.site self.new h (model.answer h (house_time self.old) (limits_of self.old) (asked_of q.now)) result }
-        ensures contents { (h : History) → Represents T.stands T.site self.old h → HasContents T.holds self.old h → KeepsContents T.holds self.new h (model.answer h (house_time self.old) (limits_of self.old) (asked_of q.now)) result }
+        ensures exact { (h : History) → Represents T.trade self.old h
+            → Accepts T.trade self.new h (model.answer h (house_time self.old) (limits_of self.old) (asked_of q.now)) result }
+        ensures contents { (h : History) → Represents T.trade self.old h → HasContents T.trade self.old h → KeepsContents T.trade self.new h (model.answer h (house_time self.old) (limits_of self.old) (asked_of q.now)) result }
     {
         let Some(text) = q.scrip else {
             return Err(BenchFault::Refused(Refusal::NoScrip));
@@ -182,12 +182,12 @@ impl<T: Trade> Bench<T> {
     pub fn enter(&mut self, r: &Record<'_>) -> Result<u64, EnterFault>
         requires fits { Fits (entry r.now) }
         requires command { IsCommand (entry r.now) }
-        requires order { (h : History) → Represents T.stands T.site self.old h → time h ≤ moment_of (entry r.now) }
+        requires order { (h : History) → Represents T.trade self.old h → time h ≤ moment_of (entry r.now) }
         ensures time { house_time self.new ≡ max (house_time self.old) (moment_of (entry r.now)) }
         ensures limits { limits_of self.new ≡ limits_of self.old }
-        ensures exact { (h : History) → Represents T.stands T.site self.old h → Enters T.stands T.site self.new (limits_of self.old) h (entry r.now) result }
-        ensures contents { (h : History) → Represents T.stands T.site self.old h → HasContents T.holds self.old h
-            → MatchResult result (λ n. HasContents T.holds self.new (h ++ entry r.now ∷ [])) (λ f. HasContents T.holds self.new h) }
+        ensures exact { (h : History) → Represents T.trade self.old h → Enters T.trade self.new (limits_of self.old) h (entry r.now) result }
+        ensures contents { (h : History) → Represents T.trade self.old h → HasContents T.trade self.old h
+            → MatchResult result (λ n. HasContents T.trade self.new (h ++ entry r.now ∷ [])) (λ f. HasContents T.trade self.new h) }
     {
         self.raise(r.moment());
         let bytes = match self.make_room_for(r) {
@@ -205,14 +205,14 @@ impl<T: Trade> Bench<T> {
     pub(crate) fn make_room_for(&mut self, r: &Record<'_>) -> Result<u64, EnterFault>
         requires fits { Fits (entry r.now) }
         requires command { IsCommand (entry r.now) }
-        ensures same { IsRoomed T.stands T.site T.holds self.old self.new }
+        ensures same { IsRoomed T.trade self.old self.new }
         ensures len { IfOk result (λ n. n ≡ length (payload (entry r.now))) }
         ensures fits { IfOk result (λ n. size_with self.new.state n ≤ self.new.state.limits.journal) }
         ensures room { IfOk result (λ n. size_with self.new.state n ≤ 2 ^ 40) }
         ensures goes_on { OnOk result (GoesOn self.new.state (entry r.now)) }
-        ensures trade { OnOk result (T.has_room self.new.trade (entry r.now)) }
+        ensures trade { OnOk result ((T.trade self.new.trade).has_room (entry r.now)) }
         ensures state { OnOk result (HasRoomFor self.new.state (entry r.now)) }
-        ensures fault { (h : History) → Represents T.stands T.site self.old h → IfErr result (λ f. Enters T.stands T.site self.new (limits_of self.old) h (entry r.now) (Err f)) }
+        ensures fault { (h : History) → Represents T.trade self.old h → IfErr result (λ f. Enters T.trade self.new (limits_of self.old) h (entry r.now) (Err f)) }
     {
         let bytes = match payload_len(self.state.alloc(), r) {
             Ok(bytes) => bytes,
@@ -234,11 +234,11 @@ impl<T: Trade> Bench<T> {
     pub(crate) fn room_for(&mut self, r: &Record<'_>) -> Result<(), ReplayEnd>
         requires fits { Fits (entry r.now) }
         requires command { IsCommand (entry r.now) }
-        ensures same { IsRoomed T.stands T.site T.holds self.old self.new }
+        ensures same { IsRoomed T.trade self.old self.new }
         ensures goes_on { OnOk result (GoesOn self.new.state (entry r.now)) }
-        ensures trade { OnOk result (T.has_room self.new.trade (entry r.now)) }
+        ensures trade { OnOk result ((T.trade self.new.trade).has_room (entry r.now)) }
         ensures state { OnOk result (HasRoomFor self.new.state (entry r.now)) }
-        ensures end { (h : History) → Represents T.stands T.site self.old h → IfErr result (λ f. Follows T.stands T.site self.new (limits_of self.old) h (entry r.now) (Err f)) }
+        ensures end { (h : History) → Represents T.trade self.old h → IfErr result (λ f. Follows T.trade self.new (limits_of self.old) h (entry r.now) (Err f)) }
     {
         if !self.state.goes_on(r) {
             return Err(ReplayEnd::Unlawful);
@@ -263,16 +263,16 @@ impl<T: Trade> Bench<T> {
         requires len { bytes ≡ length (payload (entry r.now)) }
         requires room { size_with self.old.state bytes ≤ 2 ^ 40 }
         requires goes_on { GoesOn self.old.state (entry r.now) }
-        requires trade { T.has_room self.old.trade (entry r.now) }
+        requires trade { (T.trade self.old.trade).has_room (entry r.now) }
         requires state { HasRoomFor self.old.state (entry r.now) }
         ensures time { house_time self.new ≡ house_time self.old }
         ensures limits { limits_of self.new ≡ limits_of self.old }
-        ensures exact { (h : History) → Represents T.stands T.site self.old h → time h ≤ moment_of (entry r.now)
+        ensures exact { (h : History) → Represents T.trade self.old h → time h ≤ moment_of (entry r.now)
             → MatchResult result
-            (λ n. MayFollow (limits_of self.old) h (entry r.now) × (n ≡ length h) × Represents T.stands T.site self.new (h ++ entry r.now ∷ []))
-            (λ f. (MayFollow (limits_of self.old) h (entry r.now) → ⊥) × Represents T.stands T.site self.new h) }
-        ensures contents { (h : History) → Represents T.stands T.site self.old h → HasContents T.holds self.old h
-            → MatchResult result (λ n. HasContents T.holds self.new (h ++ entry r.now ∷ [])) (λ f. HasContents T.holds self.new h) }
+            (λ n. MayFollow (limits_of self.old) h (entry r.now) × (n ≡ length h) × Represents T.trade self.new (h ++ entry r.now ∷ []))
+            (λ f. (MayFollow (limits_of self.old) h (entry r.now) → ⊥) × Represents T.trade self.new h) }
+        ensures contents { (h : History) → Represents T.trade self.old h → HasContents T.trade self.old h
+            → MatchResult result (λ n. HasContents T.trade self.new (h ++ entry r.now ∷ [])) (λ f. HasContents T.trade self.new h) }
     {
         let number = self.state.count();
         match self.trade.learn(number, r) {
@@ -292,17 +292,17 @@ impl<T: Trade> Bench<T> {
     ) -> Result<u64, NoMemory>
         requires read { scrip_of scrip.now.text ≡ Ok (scrip.now.piece, scrip.now.cert) }
         requires new { found self.old.state.kept self.old.state.time (scrip_request scrip.now.text q.now.target.now (seen q.now.sign)) ≡ None }
-        requires held { OfGoods (T.holds self.old.trade) authorization.now.deed }
+        requires held { OfGoods (T.trade self.old.trade).holds authorization.now.deed }
         requires ready { IsReady self.old.state scrip.now q.now.target.now authorization.now }
-        requires brings { (h : History) → T.stands self.old.trade h → site_kind h ≡ Some (T.site self.old.trade) → BringsFor h q.now.target.now authorization.now.deed }
+        requires brings { (h : History) → (T.trade self.old.trade).represents h → site_kind h ≡ Some (T.trade self.old.trade).site → BringsFor h q.now.target.now authorization.now.deed }
         ensures kept { IfOk result (KeepsReply self.new) }
         ensures time { house_time self.new ≡ house_time self.old }
         ensures limits { limits_of self.new ≡ limits_of self.old }
-        ensures exact { (limits : Bounds) (h : History) → Represents T.stands T.site self.old h → limits.series ≡ (limits_of self.old).series → limits.journal ≤ 2 ^ 40
+        ensures exact { (limits : Bounds) (h : History) → Represents T.trade self.old h → limits.series ≡ (limits_of self.old).series → limits.journal ≤ 2 ^ 40
             → model.answer h (house_time self.old) limits (asked_of q.now) ≡ model.Take (accept_entry (house_time self.old) scrip.now.text q.now.target.now authorization.now)
-            → Takes T.stands T.site self.new h (accept_entry (house_time self.old) scrip.now.text q.now.target.now authorization.now) result }
-        ensures contents { (h : History) → Represents T.stands T.site self.old h → HasContents T.holds self.old h → NamesInForce h authorization.now.deed
-            → MatchResult result (λ n. HasContents T.holds self.new (h ++ accept_entry (house_time self.old) scrip.now.text q.now.target.now authorization.now ∷ [])) (λ f. HasContents T.holds self.new h) }
+            → Takes T.trade self.new h (accept_entry (house_time self.old) scrip.now.text q.now.target.now authorization.now) result }
+        ensures contents { (h : History) → Represents T.trade self.old h → HasContents T.trade self.old h → NamesInForce h authorization.now.deed
+            → MatchResult result (λ n. HasContents T.trade self.new (h ++ accept_entry (house_time self.old) scrip.now.text q.now.target.now authorization.now ∷ [])) (λ f. HasContents T.trade self.new h) }
     {
         match self.make_room(q, scrip, authorization) {
             Ok(()) => (),
@@ -319,8 +319,8 @@ impl<T: Trade> Bench<T> {
         scrip: &ScripRef<'_>,
         authorization: &Authorization,
     ) -> Result<(), NoMemory>
-        ensures same { IsRoomed T.stands T.site T.holds self.old self.new }
-        ensures trade { OnOk result (T.has_room self.new.trade (accept_entry (house_time self.old) scrip.now.text q.now.target.now authorization.now)) }
+        ensures same { IsRoomed T.trade self.old self.new }
+        ensures trade { OnOk result ((T.trade self.new.trade).has_room (accept_entry (house_time self.old) scrip.now.text q.now.target.now authorization.now)) }
         ensures state { OnOk result (HasRoom self.new.state (scrip_request scrip.now.text q.now.target.now (seen q.now.sign)) scrip.now.piece.id) }
     {
         let request = request_with(q, scrip);
@@ -344,19 +344,19 @@ impl<T: Trade> Bench<T> {
     ) -> u64
         requires read { scrip_of scrip.now.text ≡ Ok (scrip.now.piece, scrip.now.cert) }
         requires new { found self.old.state.kept self.old.state.time (scrip_request scrip.now.text q.now.target.now (seen q.now.sign)) ≡ None }
-        requires held { OfGoods (T.holds self.old.trade) authorization.now.deed }
+        requires held { OfGoods (T.trade self.old.trade).holds authorization.now.deed }
         requires ready { IsReady self.old.state scrip.now q.now.target.now authorization.now }
-        requires trade { T.has_room self.old.trade (accept_entry (house_time self.old) scrip.now.text q.now.target.now authorization.now) }
+        requires trade { (T.trade self.old.trade).has_room (accept_entry (house_time self.old) scrip.now.text q.now.target.now authorization.now) }
         requires state { HasRoom self.old.state (scrip_request scrip.now.text q.now.target.now (seen q.now.sign)) scrip.now.piece.id }
         ensures kept { KeepsReply self.new result }
         ensures time { house_time self.new ≡ house_time self.old }
         ensures limits { limits_of self.new ≡ limits_of self.old }
-        ensures exact { (limits : Bounds) (h : History) → Represents T.stands T.site self.old h → BringsFor h q.now.target.now authorization.now.deed
+        ensures exact { (limits : Bounds) (h : History) → Represents T.trade self.old h → BringsFor h q.now.target.now authorization.now.deed
             → limits.series ≡ (limits_of self.old).series → limits.journal ≤ 2 ^ 40
             → model.answer h (house_time self.old) limits (asked_of q.now) ≡ model.Take (accept_entry (house_time self.old) scrip.now.text q.now.target.now authorization.now)
-            → (result ≡ length h) × Represents T.stands T.site self.new (h ++ accept_entry (house_time self.old) scrip.now.text q.now.target.now authorization.now ∷ []) }
-        ensures contents { (h : History) → Represents T.stands T.site self.old h → HasContents T.holds self.old h → NamesInForce h authorization.now.deed
-            → HasContents T.holds self.new (h ++ accept_entry (house_time self.old) scrip.now.text q.now.target.now authorization.now ∷ []) }
+            → (result ≡ length h) × Represents T.trade self.new (h ++ accept_entry (house_time self.old) scrip.now.text q.now.target.now authorization.now ∷ []) }
+        ensures contents { (h : History) → Represents T.trade self.old h → HasContents T.trade self.old h → NamesInForce h authorization.now.deed
+            → HasContents T.trade self.new (h ++ accept_entry (house_time self.old) scrip.now.text q.now.target.now authorization.now ∷ []) }
     {
         let request = request_with(q, scrip);
         let number = self.state.count();

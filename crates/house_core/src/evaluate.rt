@@ -52,11 +52,11 @@ fn taken<T: Trade>(
     requires secret { genuine_by state.now.name (version_of state.now) state.now.terms scrip.now ≡ Ok secret.now }
     ensures ready { IfOk result (IsReady state.now scrip.now q.now.target.now) }
     ensures room { IfOk result (λ a. size_with state.now a.payload ≤ limits.journal) }
-    ensures held { IfOk result (λ a. OfGoods (T.holds trade.now) a.deed) }
-    ensures in_force { (h : History) → T.stands trade.now h → site_kind h ≡ Some (T.site trade.now) → IfOk result (λ a. NamesInForce h a.deed) }
-    ensures brings { (h : History) → T.stands trade.now h → site_kind h ≡ Some (T.site trade.now) → IfOk result (λ a. BringsFor h q.now.target.now a.deed) }
+    ensures held { IfOk result (λ a. OfGoods (T.trade trade.now).holds a.deed) }
+    ensures in_force { (h : History) → (T.trade trade.now).represents h → site_kind h ≡ Some (T.trade trade.now).site → IfOk result (λ a. NamesInForce h a.deed) }
+    ensures brings { (h : History) → (T.trade trade.now).represents h → site_kind h ≡ Some (T.trade trade.now).site → IfOk result (λ a. BringsFor h q.now.target.now a.deed) }
     ensures site { IfErr result IsOfSite }
-    ensures lines { (h : History) → StateRepresents state.now h → T.stands trade.now h → site_kind h ≡ Some (T.site trade.now)
+    ensures lines { (h : History) → StateRepresents state.now h → (T.trade trade.now).represents h → site_kind h ≡ Some (T.trade trade.now).site
         → as_line (accept_entry state.now.time scrip.now.text q.now.target.now) result ≡ model.taken h state.now.time limits (asked_of q.now) scrip.now sign.now }
 {
     let value = scrip.piece().value();
@@ -94,11 +94,11 @@ fn evaluate_new<T: Trade>(
     requires journal { limits.journal ≤ 2 ^ 40 }
     ensures ready { IfOk result (IsReady state.now scrip.now q.now.target.now) }
     ensures room { IfOk result (λ a. size_with state.now a.payload ≤ limits.journal) }
-    ensures held { IfOk result (λ a. OfGoods (T.holds trade.now) a.deed) }
-    ensures in_force { (h : History) → T.stands trade.now h → site_kind h ≡ Some (T.site trade.now) → IfOk result (λ a. NamesInForce h a.deed) }
-    ensures brings { (h : History) → T.stands trade.now h → site_kind h ≡ Some (T.site trade.now) → IfOk result (λ a. BringsFor h q.now.target.now a.deed) }
+    ensures held { IfOk result (λ a. OfGoods (T.trade trade.now).holds a.deed) }
+    ensures in_force { (h : History) → (T.trade trade.now).represents h → site_kind h ≡ Some (T.trade trade.now).site → IfOk result (λ a. NamesInForce h a.deed) }
+    ensures brings { (h : History) → (T.trade trade.now).represents h → site_kind h ≡ Some (T.trade trade.now).site → IfOk result (λ a. BringsFor h q.now.target.now a.deed) }
     ensures site { IfErr result IsOfSite }
-    ensures lines { (h : History) → StateRepresents state.now h → T.stands trade.now h → site_kind h ≡ Some (T.site trade.now)
+    ensures lines { (h : History) → StateRepresents state.now h → (T.trade trade.now).represents h → site_kind h ≡ Some (T.trade trade.now).site
         → as_line (accept_entry state.now.time scrip.now.text q.now.target.now) result ≡ after_repeat h state.now.time limits (asked_of q.now) scrip.now }
 {
     let secret = match genuine(state, scrip) {
@@ -127,12 +127,12 @@ pub(crate) fn evaluate<T: Trade>(
     ensures new { OnOk result (found state.now.kept state.now.time (scrip_request scrip.now.text q.now.target.now (seen q.now.sign)) ≡ None) }
     ensures ready { IfOk result (IsReady state.now scrip.now q.now.target.now) }
     ensures room { IfOk result (λ a. size_with state.now a.payload ≤ limits.journal) }
-    ensures held { IfOk result (λ a. OfGoods (T.holds trade.now) a.deed) }
-    ensures in_force { (h : History) → T.stands trade.now h → site_kind h ≡ Some (T.site trade.now) → IfOk result (λ a. NamesInForce h a.deed) }
-    ensures brings { (h : History) → T.stands trade.now h → site_kind h ≡ Some (T.site trade.now) → IfOk result (λ a. BringsFor h q.now.target.now a.deed) }
+    ensures held { IfOk result (λ a. OfGoods (T.trade trade.now).holds a.deed) }
+    ensures in_force { (h : History) → (T.trade trade.now).represents h → site_kind h ≡ Some (T.trade trade.now).site → IfOk result (λ a. NamesInForce h a.deed) }
+    ensures brings { (h : History) → (T.trade trade.now).represents h → site_kind h ≡ Some (T.trade trade.now).site → IfOk result (λ a. BringsFor h q.now.target.now a.deed) }
     ensures site { IfErr result StopIsOfSite }
     ensures again { IfErr result (RepeatsKept state.now) }
-    ensures lines { (h : History) → StateRepresents state.now h → T.stands trade.now h → site_kind h ≡ Some (T.site trade.now)
+    ensures lines { (h : History) → StateRepresents state.now h → (T.trade trade.now).represents h → site_kind h ≡ Some (T.trade trade.now).site
         → evaluated (accept_entry state.now.time scrip.now.text q.now.target.now) result ≡ after_read h state.now.time limits (asked_of q.now) scrip.now }
 {
     match state.repeated(&request_with(q, scrip)) {

@@ -47,11 +47,11 @@ pub fn found_house<D: Disk, T: Trade>(
     requires limits { AreInRange limits }
     requires site { FoundsHouse (entry site.now) }
     requires first { MayFollow limits [] (entry site.now) }
-    requires kind { site_kind (entry site.now ∷ []) ≡ Some (T.site trade) }
-    requires trade { T.stands trade [] }
+    requires kind { site_kind (entry site.now ∷ []) ≡ Some (T.trade trade).site }
+    requires trade { (T.trade trade).represents [] }
     requires room { 9 + entry_size [] (entry site.now) ≤ limits.journal }
     ensures moved { D.disk_moved disk (house_disk result) }
-    ensures exact { (x : List ℕ) → (D.disk disk).contents ≡ Some x → FoundsHouseBy D.disk T.stands T.site T.holds limits (entry site.now) x result }
+    ensures exact { (x : List ℕ) → (D.disk disk).contents ≡ Some x → FoundsHouseBy D.disk T.trade limits (entry site.now) x result }
     ensures ran { (x : List ℕ) → (D.disk disk).contents ≡ Some x → Ran (D.disk disk) (D.disk (house_disk result)) (FoundNoOutput (D.disk disk) (entry site.now)) }
     ensures read { ReadsOnly D.disk disk result }
     ensures fault { CountsBy result (D.disk disk).faults (D.disk (house_disk result)).faults }
@@ -127,8 +127,8 @@ fn enter_site<D: Disk, T: Trade>(
     requires empty { journal.size ≡ 9 }
     requires room { 9 + entry_size [] (entry site.now) ≤ journal.limit }
     ensures moved { D.disk_moved journal.disk (house_disk result) }
-    ensures exact { IsJournal D.disk journal [] → IsHouse T.stands T.site T.holds bench (entry site.now ∷ []) → journal.limit ≡ (limits_of bench).journal
-        → EntersSite D.disk T.stands T.site T.holds (entry site.now) result }
+    ensures exact { IsJournal D.disk journal [] → IsHouse T.trade bench (entry site.now ∷ []) → journal.limit ≡ (limits_of bench).journal
+        → EntersSite D.disk T.trade (entry site.now) result }
     ensures wrote { IsOfWriting result }
     ensures time { IfOk result (λ h. house_time h.bench ≡ house_time bench) }
     ensures limits { IfOk result (λ h. limits_of h.bench ≡ limits_of bench) }

@@ -53,8 +53,8 @@ pub struct House<D, T> {
 impl<D: Disk, T: Trade> House<D, T> {
     /// The house of a journal and of the bench that was made of its entries.
     pub(crate) fn new(journal: Journal<D>, bench: Bench<T>) -> House<D, T>
-        ensures stands { (h : History) → IsJournal D.disk journal h → IsHouse T.stands T.site T.holds bench h → journal.limit ≡ (limits_of bench).journal
-            → HouseRepresents D.disk T.stands T.site T.holds result h }
+        ensures stands { (h : History) → IsJournal D.disk journal h → IsHouse T.trade bench h → journal.limit ≡ (limits_of bench).journal
+            → HouseRepresents D.disk T.trade result h }
         ensures disk { result.journal.disk ≡ journal.disk }
         ensures time { house_time result.bench ≡ house_time bench }
         ensures limits { limits_of result.bench ≡ limits_of bench }
@@ -78,28 +78,28 @@ impl<D: Disk, T: Trade> House<D, T> {
 
     /// Its name.
     pub fn name(&self) -> Name
-        ensures { (h : History) → HouseRepresents D.disk T.stands T.site T.holds self.now h → result ≡ site_name h }
+        ensures { (h : History) → HouseRepresents D.disk T.trade self.now h → result ≡ site_name h }
     {
         self.bench.state.site_name()
     }
 
     /// The terms of an issuer; None exactly where it takes no scrip of that issuer.
     pub fn terms(&self, issuer: u8) -> Option<Terms>
-        ensures { (h : History) → HouseRepresents D.disk T.stands T.site T.holds self.now h → result ≡ terms_in h issuer }
+        ensures { (h : History) → HouseRepresents D.disk T.trade self.now h → result ≡ terms_in h issuer }
     {
         terms_of(self.bench.state.terms(), issuer).copied()
     }
 
     /// Its own terms, in whose series it hands out and mints.
     pub fn own_terms(&self) -> Terms
-        ensures { (h : History) → HouseRepresents D.disk T.stands T.site T.holds self.now h → terms_in h 0 ≡ Some result }
+        ensures { (h : History) → HouseRepresents D.disk T.trade self.now h → terms_in h 0 ≡ Some result }
     {
         self.bench.state.own_terms()
     }
 
     /// The certificate of a piece of its own, by its own terms.
     pub fn own_certificate(&self, piece: &Piece) -> [u8; 16]
-        ensures { (h : History) (terms : Issuing) → HouseRepresents D.disk T.stands T.site T.holds self.now h → terms_in h 0 ≡ Some terms
+        ensures { (h : History) (terms : Issuing) → HouseRepresents D.disk T.trade self.now h → terms_in h 0 ≡ Some terms
             → result ≡ certificate_in (version h (site_name h) (series_of piece.now.id)) terms (scrip_body piece.now) piece.now.id }
     {
         self.bench.state.own_certificate(piece)
@@ -107,7 +107,7 @@ impl<D: Disk, T: Trade> House<D, T> {
 
     /// The secret of a customer whose identity is of its own, by its own terms.
     pub fn own_secret(&self, cust: Id) -> [u8; 16]
-        ensures { (h : History) (terms : Issuing) → HouseRepresents D.disk T.stands T.site T.holds self.now h → terms_in h 0 ≡ Some terms
+        ensures { (h : History) (terms : Issuing) → HouseRepresents D.disk T.trade self.now h → terms_in h 0 ≡ Some terms
             → result ≡ secret_in (version h (site_name h) (series_of cust)) terms cust }
     {
         let state = &self.bench.state;
@@ -118,7 +118,7 @@ impl<D: Disk, T: Trade> House<D, T> {
     /// exactly where the limit of a series leaves no room for so many.
     pub fn next_run(&self, count: u16) -> Result<Id, Refusal>
         requires { 0 < count }
-        ensures { (h : History) → HouseRepresents D.disk T.stands T.site T.holds self.now h → HasRun h (house_time self.now.bench) (limits_of self.now.bench) count result }
+        ensures { (h : History) → HouseRepresents D.disk T.trade self.now h → HasRun h (house_time self.now.bench) (limits_of self.now.bench) count result }
     {
         self.bench.state.next_run(count)
     }
@@ -126,14 +126,14 @@ impl<D: Disk, T: Trade> House<D, T> {
     /// The identity of the next piece of its own series of the house time; refused with 32 exactly where the
     /// limit of a series leaves no room for one more.
     pub fn next(&self) -> Result<Id, Refusal>
-        ensures { (h : History) → HouseRepresents D.disk T.stands T.site T.holds self.now h → HasRun h (house_time self.now.bench) (limits_of self.now.bench) 1 result }
+        ensures { (h : History) → HouseRepresents D.disk T.trade self.now h → HasRun h (house_time self.now.bench) (limits_of self.now.bench) 1 result }
     {
         self.next_run(1)
     }
 
     /// Its trade.
     pub fn trade(&self) -> &T
-        ensures { (h : History) → HouseRepresents D.disk T.stands T.site T.holds self.now h → T.stands result.now h }
+        ensures { (h : History) → HouseRepresents D.disk T.trade self.now h → (T.trade result.now).represents h }
     {
         self.bench.trade()
     }
@@ -147,7 +147,7 @@ impl<D: Disk, T: Trade> House<D, T> {
     /// takes no memory.
     pub fn judge(&self, q: &Request<'_>) -> Verdict
         ensures kept { (n : ℕ) → result ≡ verdicts.Again n → KeepsReply self.now.bench n }
-        ensures exact { (h : History) → HouseRepresents D.disk T.stands T.site T.holds self.now h
+        ensures exact { (h : History) → HouseRepresents D.disk T.trade self.now h
             → judged_of result ≡ judged (model.answer h (house_time self.now.bench) (limits_of self.now.bench) (asked_of q.now)) }
     {
         self.bench.judge(q)
@@ -157,7 +157,7 @@ impl<D: Disk, T: Trade> House<D, T> {
     /// It takes no memory.
     pub fn repeated(&self, q: &Request<'_>) -> Option<u64>
         ensures kept { IfSome result (KeepsReply self.now.bench) }
-        ensures exact { (h : History) → HouseRepresents D.disk T.stands T.site T.holds self.now h
+        ensures exact { (h : History) → HouseRepresents D.disk T.trade self.now h
             → result ≡ repeat_of (model.answer h (house_time self.now.bench) (limits_of self.now.bench) (asked_of q.now)) }
     {
         self.bench.repeated(q)
@@ -170,7 +170,7 @@ impl<D: Disk, T: Trade> House<D, T> {
         ensures raised { house_time self.new.bench ≡ max (house_time self.old.bench) reading }
         ensures limits { limits_of self.new.bench ≡ limits_of self.old.bench }
         ensures journal { self.new.journal ≡ self.old.journal }
-        ensures same { (h : History) → HouseRepresents D.disk T.stands T.site T.holds self.old h → HouseRepresents D.disk T.stands T.site T.holds self.new h }
+        ensures same { (h : History) → HouseRepresents D.disk T.trade self.old h → HouseRepresents D.disk T.trade self.new h }
     {
         self.bench.raise(reading)
     }
@@ -185,9 +185,9 @@ impl<D: Disk, T: Trade> House<D, T> {
         ensures counts { CountsFaults result (D.disk self.journal.disk).faults (D.disk (outcome_disk result)).faults }
         ensures site { IfRefused IsOfSite result }
         ensures kept { IfDone (λ x s. KeepsReply x.bench s.number) result }
-        ensures exact { (h : History) → HouseRepresents D.disk T.stands T.site T.holds self h
-            → Accepted D.disk T.stands T.site T.holds self.journal.disk h (model.answer h (house_time self.bench) (limits_of self.bench) (asked_of q.now)) result }
-        ensures ran { (h : History) → HouseRepresents D.disk T.stands T.site T.holds self h
+        ensures exact { (h : History) → HouseRepresents D.disk T.trade self h
+            → Accepted D.disk T.trade self.journal.disk h (model.answer h (house_time self.bench) (limits_of self.bench) (asked_of q.now)) result }
+        ensures ran { (h : History) → HouseRepresents D.disk T.trade self h
             → Ran (D.disk self.journal.disk) (D.disk (outcome_disk result)) (Leaves (model.answer h (house_time self.bench) (limits_of self.bench) (asked_of q.now)) result h (D.disk self.journal.disk).aside) }
     {
         let House { journal, bench } = self;
@@ -214,7 +214,7 @@ impl<D: Disk, T: Trade> House<D, T> {
         requires target { IsTarget q.now.target.now }
         requires read { scrip_of scrip.now.text ≡ Ok (scrip.now.piece, scrip.now.cert) }
         requires new { found self.bench.state.kept self.bench.state.time (scrip_request scrip.now.text q.now.target.now (seen q.now.sign)) ≡ None }
-        requires held { OfGoods (T.holds self.bench.trade) authorization.now.deed }
+        requires held { OfGoods (T.trade self.bench.trade).holds authorization.now.deed }
         requires ready { IsReady self.bench.state scrip.now q.now.target.now authorization.now }
         requires room { size_with self.bench.state authorization.now.payload ≤ self.bench.state.limits.journal }
         ensures moved { D.disk_moved self.journal.disk (outcome_disk result) }
@@ -222,10 +222,10 @@ impl<D: Disk, T: Trade> House<D, T> {
         ensures counts { CountsFaults result (D.disk self.journal.disk).faults (D.disk (outcome_disk result)).faults }
         ensures site { IfRefused IsOfSite result }
         ensures kept { IfDone (λ x s. KeepsReply x.bench s.number) result }
-        ensures exact { (h : History) → HouseRepresents D.disk T.stands T.site T.holds self h → NamesInForce h authorization.now.deed → BringsFor h q.now.target.now authorization.now.deed
+        ensures exact { (h : History) → HouseRepresents D.disk T.trade self h → NamesInForce h authorization.now.deed → BringsFor h q.now.target.now authorization.now.deed
             → model.answer h (house_time self.bench) (limits_of self.bench) (asked_of q.now) ≡ model.Take (accept_entry (house_time self.bench) scrip.now.text q.now.target.now authorization.now)
-            → Accepted D.disk T.stands T.site T.holds self.journal.disk h (model.Take (accept_entry (house_time self.bench) scrip.now.text q.now.target.now authorization.now)) result }
-        ensures ran { (h : History) → HouseRepresents D.disk T.stands T.site T.holds self h
+            → Accepted D.disk T.trade self.journal.disk h (model.Take (accept_entry (house_time self.bench) scrip.now.text q.now.target.now authorization.now)) result }
+        ensures ran { (h : History) → HouseRepresents D.disk T.trade self h
             → Ran (D.disk self.journal.disk) (D.disk (outcome_disk result)) (Leaves (model.Take (accept_entry (house_time self.bench) scrip.now.text q.now.target.now authorization.now)) result h (D.disk self.journal.disk).aside) }
     {
         let House { journal, bench } = self;
@@ -257,13 +257,13 @@ impl<D: Disk, T: Trade> House<D, T> {
     pub fn enter(self, r: &Record<'_>) -> Outcome<D, T, Receipt>
         requires fits { Fits (entry r.now) }
         requires command { IsCommand (entry r.now) }
-        requires may { (h : History) → HouseRepresents D.disk T.stands T.site T.holds self h → MayFollow (limits_of self.bench) h (entry r.now) }
+        requires may { (h : History) → HouseRepresents D.disk T.trade self h → MayFollow (limits_of self.bench) h (entry r.now) }
         ensures moved { D.disk_moved self.journal.disk (outcome_disk result) }
         ensures keeps { OfHouse (RaisedTo (moment_of (entry r.now)) self) result }
         ensures counts { CountsFaults result (D.disk self.journal.disk).faults (D.disk (outcome_disk result)).faults }
-        ensures exact { (h : History) → HouseRepresents D.disk T.stands T.site T.holds self h
-            → Entered D.disk T.stands T.site T.holds (limits_of self.bench) self.journal.disk h (entry r.now) result }
-        ensures ran { (h : History) → HouseRepresents D.disk T.stands T.site T.holds self h
+        ensures exact { (h : History) → HouseRepresents D.disk T.trade self h
+            → Entered D.disk T.trade (limits_of self.bench) self.journal.disk h (entry r.now) result }
+        ensures ran { (h : History) → HouseRepresents D.disk T.trade self h
             → Ran (D.disk self.journal.disk) (D.disk (outcome_disk result)) (Leaves (model.Take (entry r.now)) result h (D.disk self.journal.disk).aside) }
     {
         let House { journal, bench } = self;

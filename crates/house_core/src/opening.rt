@@ -71,10 +71,10 @@ pub fn open_house<D: Disk, T: Trade>(
     trade: T,
 ) -> Result<House<D, T>, HouseFault<D>>
     requires limits { AreInRange limits }
-    requires trade { T.stands trade [] }
+    requires trade { (T.trade trade).represents [] }
     ensures moved { D.disk_moved disk (house_disk result) }
     ensures read { OnlyRead (D.disk disk) (D.disk (house_disk result)) }
-    ensures exact { (x : List ℕ) → (D.disk disk).contents ≡ Some x → OpensHouse D.disk T.stands T.site T.holds limits (T.site trade) x result }
+    ensures exact { (x : List ℕ) → (D.disk disk).contents ≡ Some x → OpensHouse D.disk T.trade limits (T.trade trade).site x result }
     ensures limits { IfOk result (λ h. limits_of h.bench ≡ limits) }
     ensures fault { CountedBy result (D.disk disk).faults (D.disk (house_disk result)).faults }
 {
@@ -99,7 +99,7 @@ fn learn_book<D: Disk, T: Trade>(
     trade: T,
 ) -> Result<Bench<T>, Halt>
     requires limits { AreInRange limits }
-    requires trade { T.stands trade [] }
+    requires trade { (T.trade trade).represents [] }
     requires going { replay.old.ended ≡ None }
     requires front { replay.old.gate ≡ 8 }
     ensures read { ReadOn D.disk D.disk_moved replay.old replay.new }
@@ -107,7 +107,7 @@ fn learn_book<D: Disk, T: Trade>(
     ensures limits { IfOk result (λ b. limits_of b ≡ limits) }
     ensures counts { HaltCounts result (D.disk replay.old.disk).faults (D.disk replay.new.disk).faults }
     ensures exact { (x : List ℕ) → (D.disk replay.old.disk).contents ≡ Some x → IsReading D.disk replay.old []
-        → MatchResult result (LearnedAll D.disk T.stands T.site T.holds (T.site trade) x replay.new) (HaltsBy limits (T.site trade) x) }
+        → MatchResult result (LearnedAll D.disk T.trade (T.trade trade).site x replay.new) (HaltsBy limits (T.trade trade).site x) }
 {
     let mut bench = match learn_first(alloc, replay, limits, trade) {
         Ok(bench) => bench,
@@ -127,7 +127,7 @@ fn learn_first<D: Disk, T: Trade>(
     trade: T,
 ) -> Result<Bench<T>, Halt>
     requires limits { AreInRange limits }
-    requires trade { T.stands trade [] }
+    requires trade { (T.trade trade).represents [] }
     requires going { replay.old.ended ≡ None }
     requires front { replay.old.gate ≡ 8 }
     ensures read { ReadOn D.disk D.disk_moved replay.old replay.new }
@@ -135,7 +135,7 @@ fn learn_first<D: Disk, T: Trade>(
     ensures limits { IfOk result (λ b. limits_of b ≡ limits) }
     ensures counts { HaltCounts result (D.disk replay.old.disk).faults (D.disk replay.new.disk).faults }
     ensures exact { (x : List ℕ) → (D.disk replay.old.disk).contents ≡ Some x → IsReading D.disk replay.old []
-        → MatchResult result (LearnedSome D.disk T.stands T.site T.holds (T.site trade) replay.new) (HaltsBy limits (T.site trade) x) }
+        → MatchResult result (LearnedSome D.disk T.trade (T.trade trade).site replay.new) (HaltsBy limits (T.trade trade).site x) }
 {
     match replay.next_record() {
         Ok(Some(_)) => {}
@@ -157,10 +157,10 @@ fn found_bench<T: Trade>(
     trade: T,
 ) -> Result<Bench<T>, Halt>
     requires limits { AreInRange limits }
-    requires trade { T.stands trade [] }
+    requires trade { (T.trade trade).represents [] }
     requires fits { Fits (entry site.now) }
     ensures limits { IfOk result (λ b. limits_of b ≡ limits) }
-    ensures exact { FoundsBy T.stands T.site T.holds limits (T.site trade) (entry site.now) result }
+    ensures exact { FoundsBy T.trade limits (T.trade trade).site (entry site.now) result }
 {
     let kind = match site {
         Record::Site { kind, .. } => *kind,
@@ -196,8 +196,8 @@ fn learn_rest<D: Disk, T: Trade>(replay: &mut Replay<D>, bench: &mut Bench<T>) -
     ensures closed { OnOk result (replay.new.ended ≡ Some Closed) }
     ensures limits { limits_of bench.new ≡ limits_of bench.old }
     ensures counts { HaltCounts result (D.disk replay.old.disk).faults (D.disk replay.new.disk).faults }
-    ensures exact { (kind : ℕ) (x : List ℕ) → (D.disk replay.old.disk).contents ≡ Some x → LearnedSome D.disk T.stands T.site T.holds kind replay.old bench.old
-        → MatchResult result (λ u. LearnedAll D.disk T.stands T.site T.holds kind x replay.new bench.new) (HaltsBy (limits_of bench.old) kind x) }
+    ensures exact { (kind : ℕ) (x : List ℕ) → (D.disk replay.old.disk).contents ≡ Some x → LearnedSome D.disk T.trade kind replay.old bench.old
+        → MatchResult result (λ u. LearnedAll D.disk T.trade kind x replay.new bench.new) (HaltsBy (limits_of bench.old) kind x) }
 {
     'entries: loop {
         match learn_next(replay, bench) {
@@ -215,8 +215,8 @@ fn learn_next<D: Disk, T: Trade>(replay: &mut Replay<D>, bench: &mut Bench<T>) -
     ensures further { GoesFurther replay.old result replay.new }
     ensures limits { limits_of bench.new ≡ limits_of bench.old }
     ensures counts { HaltCounts result (D.disk replay.old.disk).faults (D.disk replay.new.disk).faults }
-    ensures exact { (kind : ℕ) (x : List ℕ) → (D.disk replay.old.disk).contents ≡ Some x → LearnedSome D.disk T.stands T.site T.holds kind replay.old bench.old
-        → LearnsNext D.disk T.stands T.site T.holds (limits_of bench.old) kind x replay.new bench.new result }
+    ensures exact { (kind : ℕ) (x : List ℕ) → (D.disk replay.old.disk).contents ≡ Some x → LearnedSome D.disk T.trade kind replay.old bench.old
+        → LearnsNext D.disk T.trade (limits_of bench.old) kind x replay.new bench.new result }
 {
     let gate = match replay.next_record() {
         Ok(Some(gate)) => gate,

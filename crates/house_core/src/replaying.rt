@@ -46,9 +46,9 @@ impl<T: Trade> Bench<T> {
         requires room { size_with self.old.state bytes ≤ 2 ^ 40 }
         ensures time { house_time self.new ≡ house_time self.old }
         ensures limits { limits_of self.new ≡ limits_of self.old }
-        ensures exact { (h : History) → Represents T.stands T.site self.old h → Follows T.stands T.site self.new (limits_of self.old) h (entry r.now) result }
-        ensures contents { (h : History) → Represents T.stands T.site self.old h → HasContents T.holds self.old h
-            → MatchResult result (λ n. HasContents T.holds self.new (h ++ entry r.now ∷ [])) (λ f. HasContents T.holds self.new h) }
+        ensures exact { (h : History) → Represents T.trade self.old h → Follows T.trade self.new (limits_of self.old) h (entry r.now) result }
+        ensures contents { (h : History) → Represents T.trade self.old h → HasContents T.trade self.old h
+            → MatchResult result (λ n. HasContents T.trade self.new (h ++ entry r.now ∷ [])) (λ f. HasContents T.trade self.new h) }
     {
         match self.room_for(r) {
             Ok(()) => (),
@@ -67,10 +67,10 @@ impl<T: Trade> Bench<T> {
     pub(crate) fn replay(&mut self, r: &Record<'_>) -> Result<(), ReplayEnd>
         requires fits { Fits (entry r.now) }
         ensures limits { limits_of self.new ≡ limits_of self.old }
-        ensures exact { (h : History) → Represents T.stands T.site self.old h → house_time self.old ≡ time h → size h + entry_size h (entry r.now) ≤ 2 ^ 40
-            → Replays T.stands T.site self.new (limits_of self.old) h (entry r.now) result }
-        ensures contents { (h : History) → Represents T.stands T.site self.old h → HasContents T.holds self.old h
-            → IfOk result (λ u. HasContents T.holds self.new (h ++ entry r.now ∷ [])) }
+        ensures exact { (h : History) → Represents T.trade self.old h → house_time self.old ≡ time h → size h + entry_size h (entry r.now) ≤ 2 ^ 40
+            → Replays T.trade self.new (limits_of self.old) h (entry r.now) result }
+        ensures contents { (h : History) → Represents T.trade self.old h → HasContents T.trade self.old h
+            → IfOk result (λ u. HasContents T.trade self.new (h ++ entry r.now ∷ [])) }
     {
         let moment = r.moment();
         if moment.seconds() < self.state.time().seconds() {
@@ -99,10 +99,10 @@ impl<T: Trade> Bench<T> {
         requires command { IsCommand (entry r.now) }
         requires time { moment_of (entry r.now) ≡ house_time self.old }
         ensures limits { limits_of self.new ≡ limits_of self.old }
-        ensures exact { (h : History) → Represents T.stands T.site self.old h → size h + entry_size h (entry r.now) ≤ 2 ^ 40
-            → Replays T.stands T.site self.new (limits_of self.old) h (entry r.now) result }
-        ensures contents { (h : History) → Represents T.stands T.site self.old h → HasContents T.holds self.old h
-            → IfOk result (λ u. HasContents T.holds self.new (h ++ entry r.now ∷ [])) }
+        ensures exact { (h : History) → Represents T.trade self.old h → size h + entry_size h (entry r.now) ≤ 2 ^ 40
+            → Replays T.trade self.new (limits_of self.old) h (entry r.now) result }
+        ensures contents { (h : History) → Represents T.trade self.old h → HasContents T.trade self.old h
+            → IfOk result (λ u. HasContents T.trade self.new (h ++ entry r.now ∷ [])) }
     {
         let bytes = match payload_len(self.state.alloc(), r) {
             Ok(bytes) => bytes,
@@ -130,10 +130,10 @@ impl<T: Trade> Bench<T> {
         deed: &RecordDeed,
     ) -> Result<(), ReplayEnd>
         ensures limits { limits_of self.new ≡ limits_of self.old }
-        ensures exact { (h : History) → Represents T.stands T.site self.old h
-            → Replays T.stands T.site self.new (limits_of self.old) h (Accept (house_time self.old) scrip.now target.now sign.now price change (deed_of deed.now)) result }
-        ensures contents { (h : History) → Represents T.stands T.site self.old h → HasContents T.holds self.old h
-            → IfOk result (λ u. HasContents T.holds self.new (h ++ Accept (house_time self.old) scrip.now target.now sign.now price change (deed_of deed.now) ∷ [])) }
+        ensures exact { (h : History) → Represents T.trade self.old h
+            → Replays T.trade self.new (limits_of self.old) h (Accept (house_time self.old) scrip.now target.now sign.now price change (deed_of deed.now)) result }
+        ensures contents { (h : History) → Represents T.trade self.old h → HasContents T.trade self.old h
+            → IfOk result (λ u. HasContents T.trade self.new (h ++ Accept (house_time self.old) scrip.now target.now sign.now price change (deed_of deed.now) ∷ [])) }
     {
         let digits = digits_of(sign);
         let q = request_for(scrip, target, &digits);

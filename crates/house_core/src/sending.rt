@@ -73,13 +73,13 @@ pub fn send_settled<O: Outside, T: Trade>(
     ensures moved { O.link_moved house.old.journal.disk house.new.journal.disk }
     ensures standing { (O.link house.new.journal.disk).stands ≡ (O.link house.old.journal.disk).stands }
     ensures rests { HouseRests house.old house.new }
-    ensures stands { (h : History) → HouseRepresents O.disk T.stands T.site T.holds house.old h → HouseRepresents O.disk T.stands T.site T.holds house.new h }
-    ensures ran { (h : History) → HouseRepresents O.disk T.stands T.site T.holds house.old h
+    ensures stands { (h : History) → HouseRepresents O.disk T.trade house.old h → HouseRepresents O.disk T.trade house.new h }
+    ensures ran { (h : History) → HouseRepresents O.disk T.trade house.old h
         → Ran (O.disk house.old.journal.disk) (O.disk house.new.journal.disk) (SendsOn h (O.disk house.old.journal.disk).aside (O.disk house.new.journal.disk).aside) }
     ensures sent { OnOk result ((h : History)
-        → HouseRepresents O.disk T.stands T.site T.holds house.old h
+        → HouseRepresents O.disk T.trade house.old h
         → O.link house.new.journal.disk ≡ after_send (ledger.reply_of h s.number) (O.link house.old.journal.disk)) }
-    ensures fault { OnErr result ((h : History) → HouseRepresents O.disk T.stands T.site T.holds house.old h
+    ensures fault { OnErr result ((h : History) → HouseRepresents O.disk T.trade house.old h
         → (n : ℕ) × (n < length (ledger.reply_of h s.number)) × Failed (after_send (take n (ledger.reply_of h s.number)) (O.link house.old.journal.disk)) (O.link house.new.journal.disk)) }
 {
     let number = s.number();
@@ -98,13 +98,13 @@ pub fn send_again<O: Outside, T: Trade>(
     ensures moved { O.link_moved house.old.journal.disk house.new.journal.disk }
     ensures standing { (O.link house.new.journal.disk).stands ≡ (O.link house.old.journal.disk).stands }
     ensures rests { HouseRests house.old house.new }
-    ensures stands { (h : History) → HouseRepresents O.disk T.stands T.site T.holds house.old h → HouseRepresents O.disk T.stands T.site T.holds house.new h }
-    ensures ran { (h : History) → HouseRepresents O.disk T.stands T.site T.holds house.old h
+    ensures stands { (h : History) → HouseRepresents O.disk T.trade house.old h → HouseRepresents O.disk T.trade house.new h }
+    ensures ran { (h : History) → HouseRepresents O.disk T.trade house.old h
         → Ran (O.disk house.old.journal.disk) (O.disk house.new.journal.disk) (SendsOn h (O.disk house.old.journal.disk).aside (O.disk house.new.journal.disk).aside) }
     ensures sent { OnOk result ((h : History)
-        → HouseRepresents O.disk T.stands T.site T.holds house.old h
+        → HouseRepresents O.disk T.trade house.old h
         → O.link house.new.journal.disk ≡ after_send (ledger.reply_of h number) (O.link house.old.journal.disk)) }
-    ensures fault { OnErr result ((h : History) → HouseRepresents O.disk T.stands T.site T.holds house.old h
+    ensures fault { OnErr result ((h : History) → HouseRepresents O.disk T.trade house.old h
         → (n : ℕ) × (n < length (ledger.reply_of h number)) × Failed (after_send (take n (ledger.reply_of h number)) (O.link house.old.journal.disk)) (O.link house.new.journal.disk)) }
 {
     let mut room = [0; 512];
@@ -125,13 +125,13 @@ pub fn send_refusal<O: Outside, T: Trade>(
     ensures moved { O.link_moved house.old.journal.disk house.new.journal.disk }
     ensures standing { (O.link house.new.journal.disk).stands ≡ (O.link house.old.journal.disk).stands }
     ensures rests { HouseRests house.old house.new }
-    ensures stands { (h : History) → HouseRepresents O.disk T.stands T.site T.holds house.old h → HouseRepresents O.disk T.stands T.site T.holds house.new h }
-    ensures ran { (h : History) → HouseRepresents O.disk T.stands T.site T.holds house.old h
+    ensures stands { (h : History) → HouseRepresents O.disk T.trade house.old h → HouseRepresents O.disk T.trade house.new h }
+    ensures ran { (h : History) → HouseRepresents O.disk T.trade house.old h
         → Ran (O.disk house.old.journal.disk) (O.disk house.new.journal.disk) (SendsOn h (O.disk house.old.journal.disk).aside (O.disk house.new.journal.disk).aside) }
     ensures sent { OnOk result ((h : History)
-        → HouseRepresents O.disk T.stands T.site T.holds house.old h
+        → HouseRepresents O.disk T.trade house.old h
         → O.link house.new.journal.disk ≡ after_send (refused_reply h (house_time house.old.bench) (option_map (λ q. asked_of q.now) q.entry) refusal.now) (O.link house.old.journal.disk)) }
-    ensures fault { OnErr result ((h : History) → HouseRepresents O.disk T.stands T.site T.holds house.old h
+    ensures fault { OnErr result ((h : History) → HouseRepresents O.disk T.trade house.old h
         → (n : ℕ) × (n < length (refused_reply h (house_time house.old.bench) (option_map (λ q. asked_of q.now) q.entry) refusal.now))
         × Failed (after_send (take n (refused_reply h (house_time house.old.bench) (option_map (λ q. asked_of q.now) q.entry) refusal.now)) (O.link house.old.journal.disk)) (O.link house.new.journal.disk)) }
 {

@@ -32,20 +32,21 @@ use Rattle.house_serving.proofs.LinksLemmas.{had_link}
 use Rattle.house_serving.proofs.AsideLemmas.{TellsAside, SentNoMore, no_more_still, no_more_taken, aside_still}
 use Rattle.house_serving.proofs.OrderLemmas.{begins_then, house_keeps, went_nowhere, went_on, went_quiet, halted_later}
 use Rattle.house_serving.proofs.HouseTurnLemmas.{ReadOn}
+use Rattle.house_core.specs.Trade.{TradeView}
 
 -- the state that a house is in after its steps
-went_at : {O T : Type 0} (link : O → LinkView) (disk : O → DiskView) (stands : T → History → Type 0) (site : T → ℕ) (holds : T → ℕ → Type 0) (a : O) (s : State) (xs : List (Did State)) (x : House O T) → RefinesBy link disk stands site holds a s xs x
+went_at : {O T : Type 0} (link : O → LinkView) (disk : O → DiskView) (trade : T → TradeView) (a : O) (s : State) (xs : List (Did State)) (x : House O T) → RefinesBy link disk trade a s xs x
     → state_of (state_after s xs).history x.bench ≡ state_after s xs
-went_at link disk stands site holds a s xs x went = ap (λ (t : ℕ). record { history = (state_after s xs).history; time = t }) went.time
+went_at link disk trade a s xs x went = ap (λ (t : ℕ). record { history = (state_after s xs).history; time = t }) went.time
 
 -- links did what sends nothing, after some steps
-pub went_still : {O T : Type 0} (link : O → LinkView) (disk : O → DiskView) (stands : T → History → Type 0) (site : T → ℕ) (holds : T → ℕ → Type 0) (a : O) (s : State) (xs : List (Did State)) (x y : House O T) → ReadOn link disk x y
-    → SentNoMore (link x.journal.disk) (link y.journal.disk) → RefinesBy link disk stands site holds a s xs x → RefinesBy link disk stands site holds a s xs y
-went_still {T = T} link disk stands site holds a s xs x y on same went =
-    subst (λ (l : List (Did State)). RefinesBy link disk stands site holds a s l y) (append-nil xs)
-    (went_on link disk stands site holds a s xs [] x y went
-    (went_quiet link disk stands site holds x y (state_after s xs) on.tells went.house (ap (λ (b : Bench T). house_time b) on.rests.bench ∙ went.time) on.keeps on.goes
-    (house_keeps disk stands site holds x y (state_after s xs).history went.house on.keeps on.rests) same))
+pub went_still : {O T : Type 0} (link : O → LinkView) (disk : O → DiskView) (trade : T → TradeView) (a : O) (s : State) (xs : List (Did State)) (x y : House O T) → ReadOn link disk x y
+    → SentNoMore (link x.journal.disk) (link y.journal.disk) → RefinesBy link disk trade a s xs x → RefinesBy link disk trade a s xs y
+went_still {T = T} link disk trade a s xs x y on same went =
+    subst (λ (l : List (Did State)). RefinesBy link disk trade a s l y) (append-nil xs)
+    (went_on link disk trade a s xs [] x y went
+    (went_quiet link disk trade x y (state_after s xs) on.tells went.house (ap (λ (b : Bench T). house_time b) on.rests.bench ∙ went.time) on.keeps on.goes
+    (house_keeps disk trade x y (state_after s xs).history went.house on.keeps on.rests) same))
 
 -- the same where the disk failed
 pub halted_still : {O : Type 0} (link : O → LinkView) (disk : O → DiskView) (a c d : O) (s : State) (xs : List (Did State)) (e : Entry) (said : List ℕ) → TellsAside link (λ o. (disk o).aside) → LinkKeeps (disk c) (disk d) → LinkGoes (link c) (link d)
@@ -73,48 +74,48 @@ halted_still link disk a c d s xs e said tells keeps goes same halted =
 -- ---- the turns of a link
 
 -- by these turns a house came so far on a link
-abbrev pub ServingHouse : {O T : Type 0} → (O → LinkView) → (O → DiskView) → (T → History → Type 0) → (T → ℕ) → (T → ℕ → Type 0) → Limits → O → State → House O T → Held → Type 0
-ServingHouse link disk stands site holds limits a s x k =
-    (steps : List (Did State)) × RefinesBy link disk stands site holds a s steps x × IsServing (Step limits) OfLinks steps s (link a) k (link x.journal.disk)
+abbrev pub ServingHouse : {O T : Type 0} → (O → LinkView) → (O → DiskView) → (T → TradeView) → Limits → O → State → House O T → Held → Type 0
+ServingHouse link disk trade limits a s x k =
+    (steps : List (Did State)) × RefinesBy link disk trade a s steps x × IsServing (Step limits) OfLinks steps s (link a) k (link x.journal.disk)
 
-pub house_starts : {O T : Type 0} (link : O → LinkView) (disk : O → DiskView) (stands : T → History → Type 0) (site : T → ℕ) (holds : T → ℕ → Type 0) (x : House O T) (h : History) (k : Held) → IsDisk (disk x.journal.disk) → k ≡ nothing_held
-    → HouseRepresents disk stands site holds x h → ServingHouse link disk stands site holds (limits_of x.bench) x.journal.disk (state_of h x.bench) x k
-house_starts link disk stands site holds x h k is empty st = (
+pub house_starts : {O T : Type 0} (link : O → LinkView) (disk : O → DiskView) (trade : T → TradeView) (x : House O T) (h : History) (k : Held) → IsDisk (disk x.journal.disk) → k ≡ nothing_held
+    → HouseRepresents disk trade x h → ServingHouse link disk trade (limits_of x.bench) x.journal.disk (state_of h x.bench) x k
+house_starts link disk trade x h k is empty st = (
   [],
-  went_nowhere link disk stands site holds x (state_of h x.bench) is st refl,
+  went_nowhere link disk trade x (state_of h x.bench) is st refl,
   serving_starts (Step (limits_of x.bench)) OfLinks (state_of h x.bench) k (link x.journal.disk) empty,
 )
 
 -- the next turn, from the state that the house is in
-turn_from : {O T : Type 0} (link : O → LinkView) (disk : O → DiskView) (stands : T → History → Type 0) (site : T → ℕ) (holds : T → ℕ → Type 0) (limits : Limits) (a : O) (s : State) (xs : List (Did State)) (x : House O T) (k m : Held)
-    (r : Result (House O T × Turn) O) → RefinesBy link disk stands site holds a s xs x → limits_of x.bench ≡ limits
-    → ((h : History) → HouseRepresents disk stands site holds x h → TurnsHouse link disk stands site holds (limits_of x.bench) x.journal.disk (state_of h x.bench) k m r)
-    → TurnsHouse link disk stands site holds limits x.journal.disk (state_after s xs) k m r
-turn_from link disk stands site holds limits a s xs x k m r went same turned =
-    subst (λ (t : State). TurnsHouse link disk stands site holds limits x.journal.disk t k m r) (went_at link disk stands site holds a s xs x went)
-    (subst (λ (l : Limits). TurnsHouse link disk stands site holds l x.journal.disk (state_of (state_after s xs).history x.bench) k m r) same (turned (state_after s xs).history went.house))
+turn_from : {O T : Type 0} (link : O → LinkView) (disk : O → DiskView) (trade : T → TradeView) (limits : Limits) (a : O) (s : State) (xs : List (Did State)) (x : House O T) (k m : Held)
+    (r : Result (House O T × Turn) O) → RefinesBy link disk trade a s xs x → limits_of x.bench ≡ limits
+    → ((h : History) → HouseRepresents disk trade x h → TurnsHouse link disk trade (limits_of x.bench) x.journal.disk (state_of h x.bench) k m r)
+    → TurnsHouse link disk trade limits x.journal.disk (state_after s xs) k m r
+turn_from link disk trade limits a s xs x k m r went same turned =
+    subst (λ (t : State). TurnsHouse link disk trade limits x.journal.disk t k m r) (went_at link disk trade a s xs x went)
+    (subst (λ (l : Limits). TurnsHouse link disk trade l x.journal.disk (state_of (state_after s xs).history x.bench) k m r) same (turned (state_after s xs).history went.house))
 
-pub house_goes_on : {O T : Type 0} (link : O → LinkView) (disk : O → DiskView) (stands : T → History → Type 0) (site : T → ℕ) (holds : T → ℕ → Type 0) (limits : Limits) (a : O) (s : State) (x y : House O T) (k m : Held)
-    → limits_of x.bench ≡ limits → ServingHouse link disk stands site holds limits a s x k
-    → ((h : History) → HouseRepresents disk stands site holds x h → TurnsHouse link disk stands site holds (limits_of x.bench) x.journal.disk (state_of h x.bench) k m (Ok (y, turns.GoOn)))
-    → ServingHouse link disk stands site holds limits a s y m
-house_goes_on link disk stands site holds limits a s x y k m same so turned =
+pub house_goes_on : {O T : Type 0} (link : O → LinkView) (disk : O → DiskView) (trade : T → TradeView) (limits : Limits) (a : O) (s : State) (x y : House O T) (k m : Held)
+    → limits_of x.bench ≡ limits → ServingHouse link disk trade limits a s x k
+    → ((h : History) → HouseRepresents disk trade x h → TurnsHouse link disk trade (limits_of x.bench) x.journal.disk (state_of h x.bench) k m (Ok (y, turns.GoOn)))
+    → ServingHouse link disk trade limits a s y m
+house_goes_on link disk trade limits a s x y k m same so turned =
     let xs : List (Did State) = so.0 in
-    let next = turn_from link disk stands site holds limits a s xs x k m (Ok (y, turns.GoOn)) so.1 same turned in (
+    let next = turn_from link disk trade limits a s xs x k m (Ok (y, turns.GoOn)) so.1 same turned in (
       xs ++ next.0,
-      went_on link disk stands site holds a s xs next.0 x y so.1 next.1,
+      went_on link disk trade a s xs next.0 x y so.1 next.1,
       serving_goes_on (Step limits) OfLinks xs next.0 s (link a) k m (link x.journal.disk) (link y.journal.disk) so.2 next.2,
     )
 
-pub house_ends : {O T : Type 0} (link : O → LinkView) (disk : O → DiskView) (stands : T → History → Type 0) (site : T → ℕ) (holds : T → ℕ → Type 0) (limits : Limits) (a : O) (s : State) (x y : House O T) (k m : Held) (turn : Turn)
-    → limits_of x.bench ≡ limits → (turn ≡ turns.GoOn → ⊥) → ServingHouse link disk stands site holds limits a s x k
-    → ((h : History) → HouseRepresents disk stands site holds x h → TurnsHouse link disk stands site holds (limits_of x.bench) x.journal.disk (state_of h x.bench) k m (Ok (y, turn)))
-    → EndsTurns link disk stands site holds limits a s (Ok (y, turn))
-house_ends link disk stands site holds limits a s x y k m turn same last so turned =
+pub house_ends : {O T : Type 0} (link : O → LinkView) (disk : O → DiskView) (trade : T → TradeView) (limits : Limits) (a : O) (s : State) (x y : House O T) (k m : Held) (turn : Turn)
+    → limits_of x.bench ≡ limits → (turn ≡ turns.GoOn → ⊥) → ServingHouse link disk trade limits a s x k
+    → ((h : History) → HouseRepresents disk trade x h → TurnsHouse link disk trade (limits_of x.bench) x.journal.disk (state_of h x.bench) k m (Ok (y, turn)))
+    → EndsTurns link disk trade limits a s (Ok (y, turn))
+house_ends link disk trade limits a s x y k m turn same last so turned =
     let xs : List (Did State) = so.0 in
-    let next = turn_from link disk stands site holds limits a s xs x k m (Ok (y, turn)) so.1 same turned in (
+    let next = turn_from link disk trade limits a s xs x k m (Ok (y, turn)) so.1 same turned in (
       xs ++ next.0,
-      went_on link disk stands site holds a s xs next.0 x y so.1 next.1,
+      went_on link disk trade a s xs next.0 x y so.1 next.1,
       serving_ended (Step limits) OfLinks turn xs next.0 s (link a) k m (link x.journal.disk) (link y.journal.disk) last so.2 next.2,
     )
 
@@ -137,34 +138,34 @@ doubt_link limits xs s before now k e said after so doubt = record {
   in_doubt = subst (λ (v : LinkView). RequestInDoubt limits doubt.q (state_after s xs) e said v after) (heard_on before now so.got doubt.more (sent_of xs) now.readings so.link) doubt.in_doubt;
 }
 
-pub house_halts : {O T : Type 0} (link : O → LinkView) (disk : O → DiskView) (stands : T → History → Type 0) (site : T → ℕ) (holds : T → ℕ → Type 0) (limits : Limits) (a : O) (s : State) (x : House O T) (k m : Held) (d : O)
-    → limits_of x.bench ≡ limits → ServingHouse link disk stands site holds limits a s x k
-    → ((h : History) → HouseRepresents disk stands site holds x h → TurnsHouse link disk stands site holds (limits_of x.bench) x.journal.disk (state_of h x.bench) k m (Err d))
-    → EndsTurns {O = O} {T = T} link disk stands site holds limits a s (Err d)
-house_halts link disk stands site holds limits a s x k m d same so turned =
+pub house_halts : {O T : Type 0} (link : O → LinkView) (disk : O → DiskView) (trade : T → TradeView) (limits : Limits) (a : O) (s : State) (x : House O T) (k m : Held) (d : O)
+    → limits_of x.bench ≡ limits → ServingHouse link disk trade limits a s x k
+    → ((h : History) → HouseRepresents disk trade x h → TurnsHouse link disk trade (limits_of x.bench) x.journal.disk (state_of h x.bench) k m (Err d))
+    → EndsTurns {O = O} {T = T} link disk trade limits a s (Err d)
+house_halts link disk trade limits a s x k m d same so turned =
     let xs : List (Did State) = so.0 in
-    let next = turn_from link disk stands site holds limits a s xs x k m (Err d) so.1 same turned in (
+    let next = turn_from link disk trade limits a s xs x k m (Err d) so.1 same turned in (
       xs ++ [],
       next.0,
       next.1,
-      halted_later link disk stands site holds a s xs [] x next.0 next.1 d so.1 next.2,
+      halted_later link disk trade a s xs [] x next.0 next.1 d so.1 next.2,
       subst (λ (l : List (Did State)). InDoubtLink limits l s (link a) next.0 next.1 (link d)) (sym (append-nil xs)) (doubt_link limits xs s (link a) (link x.journal.disk) k next.0 next.1 (link d) so.2 next.3),
     )
 
 -- ---- a link
 
 -- a link was ended by its last turn
-pub link_served : {O T : Type 0} (link : O → LinkView) (disk : O → DiskView) (stands : T → History → Type 0) (site : T → ℕ) (holds : T → ℕ → Type 0) (limits : Limits) (a : O) (s : State) (x y : House O T) (turn : Turn) → ReadOn link disk x y
-    → link y.journal.disk ≡ record (link x.journal.disk) { stands = false } → EndsTurns link disk stands site holds limits a s (Ok (x, turn)) → ServesLink link disk stands site holds limits a s (Ok y)
-link_served link disk stands site holds limits a s x y turn on is ended = (
+pub link_served : {O T : Type 0} (link : O → LinkView) (disk : O → DiskView) (trade : T → TradeView) (limits : Limits) (a : O) (s : State) (x y : House O T) (turn : Turn) → ReadOn link disk x y
+    → link y.journal.disk ≡ record (link x.journal.disk) { stands = false } → EndsTurns link disk trade limits a s (Ok (x, turn)) → ServesLink link disk trade limits a s (Ok y)
+link_served link disk trade limits a s x y turn on is ended = (
   ended.0,
-  went_still link disk stands site holds a s ended.0 x y on (no_more_still (link x.journal.disk) (link y.journal.disk) (ap (λ (v : LinkView). v.sessions) is)) ended.1,
+  went_still link disk trade a s ended.0 x y on (no_more_still (link x.journal.disk) (link y.journal.disk) (ap (λ (v : LinkView). v.sessions) is)) ended.1,
   had_link (Step limits) OfLinks turn ended.0 s (link a) (link x.journal.disk) (link y.journal.disk) is ended.2,
 )
 
-pub link_halted : {O T : Type 0} (link : O → LinkView) (disk : O → DiskView) (stands : T → History → Type 0) (site : T → ℕ) (holds : T → ℕ → Type 0) (limits : Limits) (a : O) (s : State) (c d : O) → TellsAside link (λ o. (disk o).aside)
-    → LinkKeeps (disk c) (disk d) → LinkGoes (link c) (link d) → link d ≡ record (link c) { stands = false } → EndsTurns {O = O} {T = T} link disk stands site holds limits a s (Err c) → ServesLink {O = O} {T = T} link disk stands site holds limits a s (Err d)
-link_halted link disk stands site holds limits a s c d tells keeps goes is ended = (
+pub link_halted : {O T : Type 0} (link : O → LinkView) (disk : O → DiskView) (trade : T → TradeView) (limits : Limits) (a : O) (s : State) (c d : O) → TellsAside link (λ o. (disk o).aside)
+    → LinkKeeps (disk c) (disk d) → LinkGoes (link c) (link d) → link d ≡ record (link c) { stands = false } → EndsTurns {O = O} {T = T} link disk trade limits a s (Err c) → ServesLink {O = O} {T = T} link disk trade limits a s (Err d)
+link_halted link disk trade limits a s c d tells keeps goes is ended = (
   ended.0,
   ended.1,
   ended.2,
@@ -176,76 +177,76 @@ link_halted link disk stands site holds limits a s c d tells keeps goes is ended
 
 -- ---- links one after another
 
-abbrev pub LinkedHouse : {O T : Type 0} → (O → LinkView) → (O → DiskView) → (T → History → Type 0) → (T → ℕ) → (T → ℕ → Type 0) → Limits → ℕ → O → State → House O T → Type 0
-LinkedHouse link disk stands site holds limits n a s x =
-    (steps : List (Did State)) × RefinesBy link disk stands site holds a s steps x × HadLinks (Step limits) OfLinks n steps s (link a) (link x.journal.disk)
+abbrev pub LinkedHouse : {O T : Type 0} → (O → LinkView) → (O → DiskView) → (T → TradeView) → Limits → ℕ → O → State → House O T → Type 0
+LinkedHouse link disk trade limits n a s x =
+    (steps : List (Did State)) × RefinesBy link disk trade a s steps x × HadLinks (Step limits) OfLinks n steps s (link a) (link x.journal.disk)
 
-pub linked_starts : {O T : Type 0} (link : O → LinkView) (disk : O → DiskView) (stands : T → History → Type 0) (site : T → ℕ) (holds : T → ℕ → Type 0) (limits : Limits) (x : House O T) (h : History) → IsDisk (disk x.journal.disk) → HouseRepresents disk stands site holds x h
-    → LinkedHouse link disk stands site holds limits 0 x.journal.disk (state_of h x.bench) x
-linked_starts link disk stands site holds limits x h is st = (
+pub linked_starts : {O T : Type 0} (link : O → LinkView) (disk : O → DiskView) (trade : T → TradeView) (limits : Limits) (x : House O T) (h : History) → IsDisk (disk x.journal.disk) → HouseRepresents disk trade x h
+    → LinkedHouse link disk trade limits 0 x.journal.disk (state_of h x.bench) x
+linked_starts link disk trade limits x h is st = (
   [],
-  went_nowhere link disk stands site holds x (state_of h x.bench) is st refl,
+  went_nowhere link disk trade x (state_of h x.bench) is st refl,
   links_start (Step limits) OfLinks (state_of h x.bench) (link x.journal.disk),
 )
 
 -- the link that was taken was served, from the state that the house is in
-link_from : {O T : Type 0} (link : O → LinkView) (disk : O → DiskView) (stands : T → History → Type 0) (site : T → ℕ) (holds : T → ℕ → Type 0) (limits : Limits) (a : O) (s : State) (xs : List (Did State)) (y : House O T) (r : Result (House O T) O)
-    → RefinesBy link disk stands site holds a s xs y → limits_of y.bench ≡ limits
-    → ((h : History) → HouseRepresents disk stands site holds y h → ServesLink link disk stands site holds (limits_of y.bench) y.journal.disk (state_of h y.bench) r)
-    → ServesLink link disk stands site holds limits y.journal.disk (state_after s xs) r
-link_from link disk stands site holds limits a s xs y r went same served =
-    subst (λ (t : State). ServesLink link disk stands site holds limits y.journal.disk t r) (went_at link disk stands site holds a s xs y went)
-    (subst (λ (l : Limits). ServesLink link disk stands site holds l y.journal.disk (state_of (state_after s xs).history y.bench) r) same (served (state_after s xs).history went.house))
+link_from : {O T : Type 0} (link : O → LinkView) (disk : O → DiskView) (trade : T → TradeView) (limits : Limits) (a : O) (s : State) (xs : List (Did State)) (y : House O T) (r : Result (House O T) O)
+    → RefinesBy link disk trade a s xs y → limits_of y.bench ≡ limits
+    → ((h : History) → HouseRepresents disk trade y h → ServesLink link disk trade (limits_of y.bench) y.journal.disk (state_of h y.bench) r)
+    → ServesLink link disk trade limits y.journal.disk (state_after s xs) r
+link_from link disk trade limits a s xs y r went same served =
+    subst (λ (t : State). ServesLink link disk trade limits y.journal.disk t r) (went_at link disk trade a s xs y went)
+    (subst (λ (l : Limits). ServesLink link disk trade l y.journal.disk (state_of (state_after s xs).history y.bench) r) same (served (state_after s xs).history went.house))
 
-pub linked_goes_on : {O T : Type 0} (link : O → LinkView) (disk : O → DiskView) (stands : T → History → Type 0) (site : T → ℕ) (holds : T → ℕ → Type 0) (limits : Limits) (n m : ℕ) (a : O) (s : State) (x y z : House O T) → m ≡ suc n → ReadOn link disk x y
-    → link y.journal.disk ≡ next_taken (link x.journal.disk) → limits_of y.bench ≡ limits → LinkedHouse link disk stands site holds limits n a s x
-    → ((h : History) → HouseRepresents disk stands site holds y h → ServesLink link disk stands site holds (limits_of y.bench) y.journal.disk (state_of h y.bench) (Ok z))
-    → LinkedHouse link disk stands site holds limits m a s z
-linked_goes_on link disk stands site holds limits n m a s x y z more on taken same so served =
+pub linked_goes_on : {O T : Type 0} (link : O → LinkView) (disk : O → DiskView) (trade : T → TradeView) (limits : Limits) (n m : ℕ) (a : O) (s : State) (x y z : House O T) → m ≡ suc n → ReadOn link disk x y
+    → link y.journal.disk ≡ next_taken (link x.journal.disk) → limits_of y.bench ≡ limits → LinkedHouse link disk trade limits n a s x
+    → ((h : History) → HouseRepresents disk trade y h → ServesLink link disk trade (limits_of y.bench) y.journal.disk (state_of h y.bench) (Ok z))
+    → LinkedHouse link disk trade limits m a s z
+linked_goes_on link disk trade limits n m a s x y z more on taken same so served =
     let xs : List (Did State) = so.0 in
-    let went = went_still link disk stands site holds a s xs x y on (no_more_taken (link x.journal.disk) (link y.journal.disk) taken) so.1 in
-    let had = link_from link disk stands site holds limits a s xs y (Ok z) went same served in (
+    let went = went_still link disk trade a s xs x y on (no_more_taken (link x.journal.disk) (link y.journal.disk) taken) so.1 in
+    let had = link_from link disk trade limits a s xs y (Ok z) went same served in (
       xs ++ had.0,
-      went_on link disk stands site holds a s xs had.0 y z went had.1,
+      went_on link disk trade a s xs had.0 y z went had.1,
       links_go_on (Step limits) OfLinks n m xs had.0 s (link a) (link x.journal.disk) (link y.journal.disk) (link z.journal.disk) more taken so.2 had.2,
     )
 
 -- as many links as were asked for
-pub linked_house_all : {O T : Type 0} (link : O → LinkView) (disk : O → DiskView) (stands : T → History → Type 0) (site : T → ℕ) (holds : T → ℕ → Type 0) (limits : Limits) (links n : ℕ) (a : O) (s : State) (x : House O T) → n ≡ links
-    → LinkedHouse link disk stands site holds limits n a s x → ServesLinks link disk stands site holds limits links a s (outs.Done x n)
-linked_house_all link disk stands site holds limits links n a s x all so = (so.0, so.1, inl (all, so.2))
+pub linked_house_all : {O T : Type 0} (link : O → LinkView) (disk : O → DiskView) (trade : T → TradeView) (limits : Limits) (links n : ℕ) (a : O) (s : State) (x : House O T) → n ≡ links
+    → LinkedHouse link disk trade limits n a s x → ServesLinks link disk trade limits links a s (outs.Done x n)
+linked_house_all link disk trade limits links n a s x all so = (so.0, so.1, inl (all, so.2))
 
 -- all that came
-pub linked_house_over : {O T : Type 0} (link : O → LinkView) (disk : O → DiskView) (stands : T → History → Type 0) (site : T → ℕ) (holds : T → ℕ → Type 0) (limits : Limits) (links n : ℕ) (a : O) (s : State) (x y : House O T) → n < links → ReadOn link disk x y
-    → link y.journal.disk ≡ none_left (link x.journal.disk) → LinkedHouse link disk stands site holds limits n a s x → ServesLinks link disk stands site holds limits links a s (outs.Done y n)
-linked_house_over link disk stands site holds limits links n a s x y few on over so = (
+pub linked_house_over : {O T : Type 0} (link : O → LinkView) (disk : O → DiskView) (trade : T → TradeView) (limits : Limits) (links n : ℕ) (a : O) (s : State) (x y : House O T) → n < links → ReadOn link disk x y
+    → link y.journal.disk ≡ none_left (link x.journal.disk) → LinkedHouse link disk trade limits n a s x → ServesLinks link disk trade limits links a s (outs.Done y n)
+linked_house_over link disk trade limits links n a s x y few on over so = (
   so.0,
-  went_still link disk stands site holds a s so.0 x y on (no_more_still (link x.journal.disk) (link y.journal.disk) (ap (λ (v : LinkView). v.sessions) over)) so.1,
+  went_still link disk trade a s so.0 x y on (no_more_still (link x.journal.disk) (link y.journal.disk) (ap (λ (v : LinkView). v.sessions) over)) so.1,
   inr (few, (link x.journal.disk, so.2, over)),
 )
 
 -- the next one could not be taken
-pub linked_house_broke : {O T : Type 0} (link : O → LinkView) (disk : O → DiskView) (stands : T → History → Type 0) (site : T → ℕ) (holds : T → ℕ → Type 0) (limits : Limits) (links n : ℕ) (a : O) (s : State) (x y : House O T) → n < links → ReadOn link disk x y
-    → NoLink (link x.journal.disk) (link y.journal.disk) → LinkedHouse link disk stands site holds limits n a s x → ServesLinks link disk stands site holds limits links a s (outs.Link y)
-linked_house_broke link disk stands site holds limits links n a s x y few on fault so = (
+pub linked_house_broke : {O T : Type 0} (link : O → LinkView) (disk : O → DiskView) (trade : T → TradeView) (limits : Limits) (links n : ℕ) (a : O) (s : State) (x y : House O T) → n < links → ReadOn link disk x y
+    → NoLink (link x.journal.disk) (link y.journal.disk) → LinkedHouse link disk trade limits n a s x → ServesLinks link disk trade limits links a s (outs.Link y)
+linked_house_broke link disk trade limits links n a s x y few on fault so = (
   so.0,
-  went_still link disk stands site holds a s so.0 x y on (no_more_still (link x.journal.disk) (link y.journal.disk) (ap (λ (v : LinkView). v.sessions) fault.same)) so.1,
+  went_still link disk trade a s so.0 x y on (no_more_still (link x.journal.disk) (link y.journal.disk) (ap (λ (v : LinkView). v.sessions) fault.same)) so.1,
   record { n = n; few = few; between = link x.journal.disk; links_had = so.2; fault = fault },
 )
 
 -- the disk failed on the next one
-pub linked_house_halts : {O T : Type 0} (link : O → LinkView) (disk : O → DiskView) (stands : T → History → Type 0) (site : T → ℕ) (holds : T → ℕ → Type 0) (limits : Limits) (links n : ℕ) (a : O) (s : State) (x y : House O T) (d : O) → n < links → ReadOn link disk x y
-    → link y.journal.disk ≡ next_taken (link x.journal.disk) → limits_of y.bench ≡ limits → LinkedHouse link disk stands site holds limits n a s x
-    → ((h : History) → HouseRepresents disk stands site holds y h → ServesLink link disk stands site holds (limits_of y.bench) y.journal.disk (state_of h y.bench) (Err d))
-    → ServesLinks {O = O} {T = T} link disk stands site holds limits links a s (outs.Halted d)
-linked_house_halts link disk stands site holds limits links n a s x y d few on taken same so served =
+pub linked_house_halts : {O T : Type 0} (link : O → LinkView) (disk : O → DiskView) (trade : T → TradeView) (limits : Limits) (links n : ℕ) (a : O) (s : State) (x y : House O T) (d : O) → n < links → ReadOn link disk x y
+    → link y.journal.disk ≡ next_taken (link x.journal.disk) → limits_of y.bench ≡ limits → LinkedHouse link disk trade limits n a s x
+    → ((h : History) → HouseRepresents disk trade y h → ServesLink link disk trade (limits_of y.bench) y.journal.disk (state_of h y.bench) (Err d))
+    → ServesLinks {O = O} {T = T} link disk trade limits links a s (outs.Halted d)
+linked_house_halts link disk trade limits links n a s x y d few on taken same so served =
     let xs : List (Did State) = so.0 in
-    let went = went_still link disk stands site holds a s xs x y on (no_more_taken (link x.journal.disk) (link y.journal.disk) taken) so.1 in
-    let had = link_from link disk stands site holds limits a s xs y (Err d) went same served in (
+    let went = went_still link disk trade a s xs x y on (no_more_taken (link x.journal.disk) (link y.journal.disk) taken) so.1 in
+    let had = link_from link disk trade limits a s xs y (Err d) went same served in (
       xs ++ had.0,
       had.1,
       had.2,
-      halted_later link disk stands site holds a s xs had.0 y had.1 had.2 d went had.4,
+      halted_later link disk trade a s xs had.0 y had.1 had.2 d went had.4,
       record {
         n = n;
         few = few;

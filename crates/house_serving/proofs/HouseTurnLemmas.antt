@@ -49,6 +49,7 @@ use Rattle.house_serving.proofs.AsideLemmas.{TellsAside, SentNoMore, no_more_sti
 use Rattle.house_serving.proofs.TurnLemmas.{leads_so, item_turned}
 use Rattle.house_serving.proofs.ItemLemmas.{item_answered, sent_so}
 use Rattle.house_serving.proofs.OrderLemmas.{house_keeps, went_on, went_quiet, went_sent, went_written, went_from, halted_told, halted_later, halted_from}
+use Rattle.house_core.specs.Trade.{TradeView}
 
 -- ---- sending
 
@@ -85,31 +86,31 @@ said_readings reply said v w (inr fault) = ap (λ (u : LinkView). u.readings) fa
 
 -- ---- what an outcome says of the answer
 
-done_is : {D T : Type 0} (view : D → DiskView) (stands : T → History → Type 0) (site : T → ℕ) (holds : T → ℕ → Type 0) (d : D) (h : History) (a : Answer) (x : House D T) (s : Settled) (u v : DiskView) (aside : List ℕ)
-    → Accepted view stands site holds d h a (outcomes.Done x s) → Ran u v (Leaves {D = D} {T = T} {A = Settled} a (outcomes.Done x s) h aside)
-    → (e : Entry) × (a ≡ answers.Take e) × HasEntered view stands site holds x h e s.number × Ran u v (EitherNoOutput h e aside)
-done_is view stands site holds d h (answers.Take e) x s u v aside accepted ran = (e, refl, accepted, ran)
-done_is view stands site holds d h (answers.Refused f) x s u v aside accepted ran = absurd accepted
-done_is view stands site holds d h (answers.Again n) x s u v aside accepted ran = absurd accepted
+done_is : {D T : Type 0} (view : D → DiskView) (trade : T → TradeView) (d : D) (h : History) (a : Answer) (x : House D T) (s : Settled) (u v : DiskView) (aside : List ℕ)
+    → Accepted view trade d h a (outcomes.Done x s) → Ran u v (Leaves {D = D} {T = T} {A = Settled} a (outcomes.Done x s) h aside)
+    → (e : Entry) × (a ≡ answers.Take e) × HasEntered view trade x h e s.number × Ran u v (EitherNoOutput h e aside)
+done_is view trade d h (answers.Take e) x s u v aside accepted ran = (e, refl, accepted, ran)
+done_is view trade d h (answers.Refused f) x s u v aside accepted ran = absurd accepted
+done_is view trade d h (answers.Again n) x s u v aside accepted ran = absurd accepted
 
-refused_is : {D T : Type 0} (view : D → DiskView) (stands : T → History → Type 0) (site : T → ℕ) (holds : T → ℕ → Type 0) (d : D) (h : History) (a : Answer) (x : House D T) (f : Refusal)
-    → ((n : ℕ) → a ≡ answers.Again n → ⊥) → Accepted view stands site holds d h a (outcomes.Refused x f) → (a ≡ answers.Refused f) × IsAsItWas view stands site holds d x h
-refused_is view stands site holds d h (answers.Take e) x f new accepted = absurd accepted
-refused_is view stands site holds d h (answers.Refused g) x f new accepted = (ap (λ (r : Refusal). answers.Refused r) (sym accepted.0), accepted.1)
-refused_is view stands site holds d h (answers.Again n) x f new accepted = absurd (new n refl)
+refused_is : {D T : Type 0} (view : D → DiskView) (trade : T → TradeView) (d : D) (h : History) (a : Answer) (x : House D T) (f : Refusal)
+    → ((n : ℕ) → a ≡ answers.Again n → ⊥) → Accepted view trade d h a (outcomes.Refused x f) → (a ≡ answers.Refused f) × IsAsItWas view trade d x h
+refused_is view trade d h (answers.Take e) x f new accepted = absurd accepted
+refused_is view trade d h (answers.Refused g) x f new accepted = (ap (λ (r : Refusal). answers.Refused r) (sym accepted.0), accepted.1)
+refused_is view trade d h (answers.Again n) x f new accepted = absurd (new n refl)
 
-starved_is : {D T : Type 0} (view : D → DiskView) (stands : T → History → Type 0) (site : T → ℕ) (holds : T → ℕ → Type 0) (d : D) (h : History) (a : Answer) (x : House D T)
-    → Accepted view stands site holds d h a (outcomes.NoMemory x) → (e : Entry) × (a ≡ answers.Take e) × IsAsItWas view stands site holds d x h
-starved_is view stands site holds d h (answers.Take e) x accepted = (e, refl, accepted)
-starved_is view stands site holds d h (answers.Refused f) x accepted = absurd accepted
-starved_is view stands site holds d h (answers.Again n) x accepted = absurd accepted
+starved_is : {D T : Type 0} (view : D → DiskView) (trade : T → TradeView) (d : D) (h : History) (a : Answer) (x : House D T)
+    → Accepted view trade d h a (outcomes.NoMemory x) → (e : Entry) × (a ≡ answers.Take e) × IsAsItWas view trade d x h
+starved_is view trade d h (answers.Take e) x accepted = (e, refl, accepted)
+starved_is view trade d h (answers.Refused f) x accepted = absurd accepted
+starved_is view trade d h (answers.Again n) x accepted = absurd accepted
 
-halted_is : {D T : Type 0} (view : D → DiskView) (stands : T → History → Type 0) (site : T → ℕ) (holds : T → ℕ → Type 0) (d e' : D) (h : History) (a : Answer) (u v : DiskView) (aside : List ℕ)
-    → Accepted view stands site holds d h a (outcomes.Halted e') → Ran u v (Leaves {D = D} {T = T} {A = Settled} a (outcomes.Halted e') h aside)
+halted_is : {D T : Type 0} (view : D → DiskView) (trade : T → TradeView) (d e' : D) (h : History) (a : Answer) (u v : DiskView) (aside : List ℕ)
+    → Accepted view trade d h a (outcomes.Halted e') → Ran u v (Leaves {D = D} {T = T} {A = Settled} a (outcomes.Halted e') h aside)
     → (e : Entry) × (a ≡ answers.Take e) × Ran u v (EitherNoOutput h e aside) × Rose (view d).faults (view e').faults
-halted_is view stands site holds d e' h (answers.Take e) u v aside accepted ran = (e, refl, ran, accepted)
-halted_is view stands site holds d e' h (answers.Refused f) u v aside accepted ran = absurd accepted
-halted_is view stands site holds d e' h (answers.Again n) u v aside accepted ran = absurd accepted
+halted_is view trade d e' h (answers.Take e) u v aside accepted ran = (e, refl, ran, accepted)
+halted_is view trade d e' h (answers.Refused f) u v aside accepted ran = absurd accepted
+halted_is view trade d e' h (answers.Again n) u v aside accepted ran = absurd accepted
 
 -- ---- the reply to a request at the house time
 
@@ -123,102 +124,102 @@ pub record SentOn {O T : Type 0} (link : O → LinkView) (disk : O → DiskView)
   pub rests : HouseRests y z
 
 -- nothing new is entered: the reply is the first one of an entry, or a refusal
-pub replied_old : {O T : Type 0} (link : O → LinkView) (disk : O → DiskView) (stands : T → History → Type 0) (site : T → ℕ) (holds : T → ℕ → Type 0) (limits : Limits) (q : Asked) (after : After) (y z : House O T) (s : State)
-    (reply : List ℕ) (r : Result (Unit {0}) LinkFault) → SentOn link disk y z → HouseRepresents disk stands site holds y s.history → house_time y.bench ≡ s.time
+pub replied_old : {O T : Type 0} (link : O → LinkView) (disk : O → DiskView) (trade : T → TradeView) (limits : Limits) (q : Asked) (after : After) (y z : House O T) (s : State)
+    (reply : List ℕ) (r : Result (Unit {0}) LinkFault) → SentOn link disk y z → HouseRepresents disk trade y s.history → house_time y.bench ≡ s.time
     → Gives s q (answer s.history s.time limits q) reply s
     → OnOk r (link z.journal.disk ≡ after_send reply (link y.journal.disk)) → OnErr r ((n : ℕ) × (n < length reply) × Failed (after_send (take n reply) (link y.journal.disk)) (link z.journal.disk))
-    → RepliesTo link disk stands site holds limits q after y.journal.disk s (Ok (z, turn_after r after))
-replied_old {T = T} link disk stands site holds limits q after y z s reply r on st time gives sent fault =
+    → RepliesTo link disk trade limits q after y.journal.disk s (Ok (z, turn_after r after))
+replied_old {T = T} link disk trade limits q after y z s reply r on st time gives sent fault =
     let was = sent_so after reply r (link y.journal.disk) (link z.journal.disk) sent fault in
     let step : Did State = record { sent = was.0; after = s } in (
       step,
       reply,
-      went_sent link disk stands site holds y z s step on.tells on.is_link on.standing st (house_keeps disk stands site holds y z s.history st on.keeps on.rests)
+      went_sent link disk trade y z s step on.tells on.is_link on.standing st (house_keeps disk trade y z s.history st on.keeps on.rests)
           (ap (λ (b : Bench T). house_time b) on.rests.bench ∙ time) on.keeps on.goes (sent_sessions after reply was.0 (turn_after r after) (link y.journal.disk) (link z.journal.disk) was.1),
       gives,
       was.1,
     )
 
 -- the entry of the request was written and entered, and its first reply was sent
-pub replied_new : {O T : Type 0} (link : O → LinkView) (disk : O → DiskView) (stands : T → History → Type 0) (site : T → ℕ) (holds : T → ℕ → Type 0) (limits : Limits) (q : Asked) (after : After) (a : O) (y z : House O T) (s : State)
+pub replied_new : {O T : Type 0} (link : O → LinkView) (disk : O → DiskView) (trade : T → TradeView) (limits : Limits) (q : Asked) (after : After) (a : O) (y z : House O T) (s : State)
     (settled : Settled) (r : Result (Unit {0}) LinkFault) → SentOn link disk y z → house_time y.bench ≡ s.time → (disk y.journal.disk).aside ≡ (disk a).aside → (disk y.journal.disk).faults ≡ (disk a).faults → link y.journal.disk ≡ link a
-    → Accepted disk stands site holds a s.history (answer s.history s.time limits q) (outcomes.Done y settled)
+    → Accepted disk trade a s.history (answer s.history s.time limits q) (outcomes.Done y settled)
     → Ran (disk a) (disk y.journal.disk) (Leaves {D = O} {T = T} {A = Settled} (answer s.history s.time limits q) (outcomes.Done y settled) s.history (disk a).aside)
-    → OnOk r ((h : History) → HouseRepresents disk stands site holds y h → link z.journal.disk ≡ after_send (reply_of h settled.number) (link y.journal.disk))
-    → OnErr r ((h : History) → HouseRepresents disk stands site holds y h
+    → OnOk r ((h : History) → HouseRepresents disk trade y h → link z.journal.disk ≡ after_send (reply_of h settled.number) (link y.journal.disk))
+    → OnErr r ((h : History) → HouseRepresents disk trade y h
     → (n : ℕ) × (n < length (reply_of h settled.number)) × Failed (after_send (take n (reply_of h settled.number)) (link y.journal.disk)) (link z.journal.disk))
-    → RepliesTo link disk stands site holds limits q after a s (Ok (z, turn_after r after))
-replied_new {T = T} link disk stands site holds limits q after a y z s settled r on time quiet calm same accepted ran sent fault =
-    let is = done_is disk stands site holds a s.history (answer s.history s.time limits q) y settled (disk a) (disk y.journal.disk) (disk a).aside accepted ran in
+    → RepliesTo link disk trade limits q after a s (Ok (z, turn_after r after))
+replied_new {T = T} link disk trade limits q after a y z s settled r on time quiet calm same accepted ran sent fault =
+    let is = done_is disk trade a s.history (answer s.history s.time limits q) y settled (disk a) (disk y.journal.disk) (disk a).aside accepted ran in
     let e : Entry = is.0 in
     let t : State = entered s e in
-    let st : HouseRepresents disk stands site holds y t.history = is.2.stands' in
+    let st : HouseRepresents disk trade y t.history = is.2.represents in
     let reply : List ℕ = reply_of t.history settled.number in
     let was = sent_so after reply r (link y.journal.disk) (link z.journal.disk) (told_so r _ _ (λ f. f t.history st) sent) (failed_so r _ _ (λ f. f t.history st) fault) in
     let step : Did State = record { sent = was.0; after = t } in (
       step,
       reply,
-      went_written link disk stands site holds a y z s e step on.tells refl is.3 quiet calm same on.is_link on.standing st (house_keeps disk stands site holds y z t.history st on.keeps on.rests)
+      went_written link disk trade a y z s e step on.tells refl is.3 quiet calm same on.is_link on.standing st (house_keeps disk trade y z t.history st on.keeps on.rests)
           (ap (λ (b : Bench T). house_time b) on.rests.bench ∙ time) on.keeps on.goes (sent_sessions after reply was.0 (turn_after r after) (link y.journal.disk) (link z.journal.disk) was.1),
       subst (λ (b : Answer). Gives s q b reply t) (sym is.1) (inl (ap (λ (n : ℕ). reply_of t.history n) is.2.number', refl)),
       subst (λ (v : LinkView). Sent after reply (turn_after r after) was.0 v (link z.journal.disk)) same was.1,
     )
 
 -- the request is refused
-pub replied_refused : {O T : Type 0} (link : O → LinkView) (disk : O → DiskView) (stands : T → History → Type 0) (site : T → ℕ) (holds : T → ℕ → Type 0) (limits : Limits) (q : Asked) (after : After) (a : O) (y z : House O T) (s : State)
+pub replied_refused : {O T : Type 0} (link : O → LinkView) (disk : O → DiskView) (trade : T → TradeView) (limits : Limits) (q : Asked) (after : After) (a : O) (y z : House O T) (s : State)
     (f : Refusal) (r : Result (Unit {0}) LinkFault) → SentOn link disk y z → house_time y.bench ≡ s.time → ((n : ℕ) → answer s.history s.time limits q ≡ answers.Again n → ⊥)
-    → Accepted disk stands site holds a s.history (answer s.history s.time limits q) (outcomes.Refused y f)
-    → OnOk r ((h : History) → HouseRepresents disk stands site holds y h → link z.journal.disk ≡ after_send (refusal_of h (house_time y.bench) q f) (link y.journal.disk))
-    → OnErr r ((h : History) → HouseRepresents disk stands site holds y h
+    → Accepted disk trade a s.history (answer s.history s.time limits q) (outcomes.Refused y f)
+    → OnOk r ((h : History) → HouseRepresents disk trade y h → link z.journal.disk ≡ after_send (refusal_of h (house_time y.bench) q f) (link y.journal.disk))
+    → OnErr r ((h : History) → HouseRepresents disk trade y h
     → (n : ℕ) × (n < length (refusal_of h (house_time y.bench) q f)) × Failed (after_send (take n (refusal_of h (house_time y.bench) q f)) (link y.journal.disk)) (link z.journal.disk))
-    → RepliesTo link disk stands site holds limits q after a s (Ok (z, turn_after r after))
-replied_refused {O = O} link disk stands site holds limits q after a y z s f r on time new accepted sent fault =
-    let is = refused_is disk stands site holds a s.history (answer s.history s.time limits q) y f new accepted in
+    → RepliesTo link disk trade limits q after a s (Ok (z, turn_after r after))
+replied_refused {O = O} link disk trade limits q after a y z s f r on time new accepted sent fault =
+    let is = refused_is disk trade a s.history (answer s.history s.time limits q) y f new accepted in
     let reply : List ℕ = refusal_of s.history (house_time y.bench) q f in
-    subst (λ (d : O). RepliesTo link disk stands site holds limits q after d s (Ok (z, turn_after r after))) is.1.disk'
-    (replied_old link disk stands site holds limits q after y z s reply r on is.1.stands' time
+    subst (λ (d : O). RepliesTo link disk trade limits q after d s (Ok (z, turn_after r after))) is.1.disk'
+    (replied_old link disk trade limits q after y z s reply r on is.1.represents time
     (subst (λ (b : Answer). Gives s q b reply s) (sym is.0) (ap (λ (t : ℕ). refusal_of s.history t q f) time, refl))
-    (told_so r _ _ (λ g. g s.history is.1.stands') sent) (failed_so r _ _ (λ g. g s.history is.1.stands') fault))
+    (told_so r _ _ (λ g. g s.history is.1.represents) sent) (failed_so r _ _ (λ g. g s.history is.1.represents) fault))
 
 -- memory was refused for the request
-pub replied_starved : {O T : Type 0} (link : O → LinkView) (disk : O → DiskView) (stands : T → History → Type 0) (site : T → ℕ) (holds : T → ℕ → Type 0) (limits : Limits) (q : Asked) (after : After) (a : O) (y z : House O T) (s : State)
+pub replied_starved : {O T : Type 0} (link : O → LinkView) (disk : O → DiskView) (trade : T → TradeView) (limits : Limits) (q : Asked) (after : After) (a : O) (y z : House O T) (s : State)
     (r : Result (Unit {0}) LinkFault) → SentOn link disk y z → house_time y.bench ≡ s.time
-    → Accepted disk stands site holds a s.history (answer s.history s.time limits q) (outcomes.NoMemory y)
-    → OnOk r ((h : History) → HouseRepresents disk stands site holds y h → link z.journal.disk ≡ after_send (refusal_of h (house_time y.bench) q refusals.NoMemory) (link y.journal.disk))
-    → OnErr r ((h : History) → HouseRepresents disk stands site holds y h
+    → Accepted disk trade a s.history (answer s.history s.time limits q) (outcomes.NoMemory y)
+    → OnOk r ((h : History) → HouseRepresents disk trade y h → link z.journal.disk ≡ after_send (refusal_of h (house_time y.bench) q refusals.NoMemory) (link y.journal.disk))
+    → OnErr r ((h : History) → HouseRepresents disk trade y h
     → (n : ℕ) × (n < length (refusal_of h (house_time y.bench) q refusals.NoMemory)) × Failed (after_send (take n (refusal_of h (house_time y.bench) q refusals.NoMemory)) (link y.journal.disk)) (link z.journal.disk))
-    → RepliesTo link disk stands site holds limits q after a s (Ok (z, turn_after r after))
-replied_starved {O = O} link disk stands site holds limits q after a y z s r on time accepted sent fault =
-    let is = starved_is disk stands site holds a s.history (answer s.history s.time limits q) y accepted in
+    → RepliesTo link disk trade limits q after a s (Ok (z, turn_after r after))
+replied_starved {O = O} link disk trade limits q after a y z s r on time accepted sent fault =
+    let is = starved_is disk trade a s.history (answer s.history s.time limits q) y accepted in
     let reply : List ℕ = refusal_of s.history (house_time y.bench) q refusals.NoMemory in
-    subst (λ (d : O). RepliesTo link disk stands site holds limits q after d s (Ok (z, turn_after r after))) is.2.disk'
-    (replied_old link disk stands site holds limits q after y z s reply r on is.2.stands' time
+    subst (λ (d : O). RepliesTo link disk trade limits q after d s (Ok (z, turn_after r after))) is.2.disk'
+    (replied_old link disk trade limits q after y z s reply r on is.2.represents time
     (subst (λ (b : Answer). Gives s q b reply s) (sym is.1) (inr (ap (λ (t : ℕ). refusal_of s.history t q refusals.NoMemory) time, refl)))
-    (told_so r _ _ (λ g. g s.history is.2.stands') sent) (failed_so r _ _ (λ g. g s.history is.2.stands') fault))
+    (told_so r _ _ (λ g. g s.history is.2.represents) sent) (failed_so r _ _ (λ g. g s.history is.2.represents) fault))
 
 -- the request comes again, and gets the first reply of its entry
-pub replied_again : {O T : Type 0} (link : O → LinkView) (disk : O → DiskView) (stands : T → History → Type 0) (site : T → ℕ) (holds : T → ℕ → Type 0) (limits : Limits) (q : Asked) (after : After) (y z : House O T) (s : State)
-    (number : ℕ) (r : Result (Unit {0}) LinkFault) → SentOn link disk y z → HouseRepresents disk stands site holds y s.history → house_time y.bench ≡ s.time → answer s.history s.time limits q ≡ answers.Again number
-    → OnOk r ((h : History) → HouseRepresents disk stands site holds y h → link z.journal.disk ≡ after_send (reply_of h number) (link y.journal.disk))
-    → OnErr r ((h : History) → HouseRepresents disk stands site holds y h
+pub replied_again : {O T : Type 0} (link : O → LinkView) (disk : O → DiskView) (trade : T → TradeView) (limits : Limits) (q : Asked) (after : After) (y z : House O T) (s : State)
+    (number : ℕ) (r : Result (Unit {0}) LinkFault) → SentOn link disk y z → HouseRepresents disk trade y s.history → house_time y.bench ≡ s.time → answer s.history s.time limits q ≡ answers.Again number
+    → OnOk r ((h : History) → HouseRepresents disk trade y h → link z.journal.disk ≡ after_send (reply_of h number) (link y.journal.disk))
+    → OnErr r ((h : History) → HouseRepresents disk trade y h
     → (n : ℕ) × (n < length (reply_of h number)) × Failed (after_send (take n (reply_of h number)) (link y.journal.disk)) (link z.journal.disk))
-    → RepliesTo link disk stands site holds limits q after y.journal.disk s (Ok (z, turn_after r after))
-replied_again link disk stands site holds limits q after y z s number r on st time again sent fault =
+    → RepliesTo link disk trade limits q after y.journal.disk s (Ok (z, turn_after r after))
+replied_again link disk trade limits q after y z s number r on st time again sent fault =
     let reply : List ℕ = reply_of s.history number in
-    replied_old link disk stands site holds limits q after y z s reply r on st time
+    replied_old link disk trade limits q after y z s reply r on st time
     (subst (λ (b : Answer). Gives s q b reply s) (sym again) (refl, refl))
     (told_so r _ _ (λ g. g s.history st) sent) (failed_so r _ _ (λ g. g s.history st) fault)
 
 -- the disk failed while the entry of the request was written, and it was told so
-pub replied_halted : {O T : Type 0} (link : O → LinkView) (disk : O → DiskView) (stands : T → History → Type 0) (site : T → ℕ) (holds : T → ℕ → Type 0) (limits : Limits) (q : Asked) (after : After) (a b c : O) (s : State)
+pub replied_halted : {O T : Type 0} (link : O → LinkView) (disk : O → DiskView) (trade : T → TradeView) (limits : Limits) (q : Asked) (after : After) (a b c : O) (s : State)
     (r : Result (Unit {0}) LinkFault) → TellsAside link (λ o. (disk o).aside) → IsDisk (disk a) → ((i : List ℕ) → (disk a).leaves i → Encodes s.history i) → IsDisk (disk b) → IsLink (link b) → IsTrue (link b).stands → (disk b).aside ≡ (disk a).aside → link b ≡ link a → LinkKeeps (disk b) (disk c) → LinkGoes (link b) (link c)
-    → Accepted {D = O} {T = T} disk stands site holds a s.history (answer s.history s.time limits q) (outcomes.Halted b)
+    → Accepted {D = O} {T = T} disk trade a s.history (answer s.history s.time limits q) (outcomes.Halted b)
     → Ran (disk a) (disk b) (Leaves {D = O} {T = T} {A = Settled} (answer s.history s.time limits q) (outcomes.Halted b) s.history (disk a).aside)
     → OnOk r ((x : History × Asked) → link c ≡ after_send (refusal_of x.0 s.time x.1 refusals.DiskFault) (link b))
     → OnErr r ((x : History × Asked) → (n : ℕ) × (n < length (refusal_of x.0 s.time x.1 refusals.DiskFault)) × Failed (after_send (take n (refusal_of x.0 s.time x.1 refusals.DiskFault)) (link b)) (link c))
-    → RepliesTo {O = O} {T = T} link disk stands site holds limits q after a s (Err c)
-replied_halted link disk stands site holds limits q after a b c s r tells is_a stood is_b is_link on quiet same keeps goes accepted ran sent fault =
-    let taken = halted_is disk stands site holds a b s.history (answer s.history s.time limits q) (disk a) (disk b) (disk a).aside accepted ran in
+    → RepliesTo {O = O} {T = T} link disk trade limits q after a s (Err c)
+replied_halted link disk trade limits q after a b c s r tells is_a stood is_b is_link on quiet same keeps goes accepted ran sent fault =
+    let taken = halted_is disk trade a b s.history (answer s.history s.time limits q) (disk a) (disk b) (disk a).aside accepted ran in
     let reply : List ℕ = refusal_of s.history s.time q refusals.DiskFault in
     let was = sends_so reply r (link b) (link c) (told_so r _ _ (λ g. g (s.history, q)) sent) (failed_so r _ _ (λ g. g (s.history, q)) fault) in (
       taken.0,
@@ -241,53 +242,53 @@ not_again a none n again = absurd (cc (none, ap repeat_of again))
 -- ---- an item, at a reading of the clock
 
 -- A house was raised to a reading of the clock.
-pub record RaisedBy {O T : Type 0} (link : O → LinkView) (disk : O → DiskView) (stands : T → History → Type 0) (site : T → ℕ) (holds : T → ℕ → Type 0) (x y : House O T) (reading : ℕ) : Type 0 where
+pub record RaisedBy {O T : Type 0} (link : O → LinkView) (disk : O → DiskView) (trade : T → TradeView) (x y : House O T) (reading : ℕ) : Type 0 where
   pub tells : TellsAside link (λ o. (disk o).aside)
   pub keeps : LinkKeeps (disk x.journal.disk) (disk y.journal.disk)
   pub goes : LinkGoes (link x.journal.disk) (link y.journal.disk)
-  pub stands' : (h : History) → HouseRepresents disk stands site holds x h → HouseRepresents disk stands site holds y h
+  pub represents : (h : History) → HouseRepresents disk trade x h → HouseRepresents disk trade y h
   pub time : house_time y.bench ≡ max (house_time x.bench) reading
   pub limits : limits_of y.bench ≡ limits_of x.bench
   pub rest : link y.journal.disk ≡ with_readings (link y.journal.disk).readings (link x.journal.disk)
   pub read : AreRead OfLinks (reading ∷ []) (link x.journal.disk).readings (link y.journal.disk).readings
 
 -- nothing was sent while it was raised
-raised_quiet : {O T : Type 0} (link : O → LinkView) (disk : O → DiskView) (stands : T → History → Type 0) (site : T → ℕ) (holds : T → ℕ → Type 0) (x y : House O T) (reading : ℕ) (h : History)
-    → RaisedBy link disk stands site holds x y reading → HouseRepresents disk stands site holds x h → RefinesBy link disk stands site holds x.journal.disk (state_of h y.bench) [] y
-raised_quiet link disk stands site holds x y reading h up st =
-    went_quiet link disk stands site holds x y (state_of h y.bench) up.tells st refl up.keeps up.goes (up.stands' h st)
+raised_quiet : {O T : Type 0} (link : O → LinkView) (disk : O → DiskView) (trade : T → TradeView) (x y : House O T) (reading : ℕ) (h : History)
+    → RaisedBy link disk trade x y reading → HouseRepresents disk trade x h → RefinesBy link disk trade x.journal.disk (state_of h y.bench) [] y
+raised_quiet link disk trade x y reading h up st =
+    went_quiet link disk trade x y (state_of h y.bench) up.tells st refl up.keeps up.goes (up.represents h st)
     (no_more_still (link x.journal.disk) (link y.journal.disk) (ap (λ (v : LinkView). v.sessions) up.rest))
 
 -- a step after it, as a step from before
-raised_went : {O T : Type 0} (link : O → LinkView) (disk : O → DiskView) (stands : T → History → Type 0) (site : T → ℕ) (holds : T → ℕ → Type 0) (x y z : House O T) (reading : ℕ) (h : History) (step : Did State)
-    → RaisedBy link disk stands site holds x y reading → HouseRepresents disk stands site holds x h → RefinesBy link disk stands site holds y.journal.disk (state_of h y.bench) (step ∷ []) z
-    → RefinesBy link disk stands site holds x.journal.disk (state_of h x.bench) (step ∷ []) z
-raised_went link disk stands site holds x y z reading h step up st went =
-    went_from link disk stands site holds x.journal.disk (state_of h x.bench) (state_of h y.bench) step [] z refl
-    (went_on link disk stands site holds x.journal.disk (state_of h y.bench) [] (step ∷ []) y z (raised_quiet link disk stands site holds x y reading h up st) went)
+raised_went : {O T : Type 0} (link : O → LinkView) (disk : O → DiskView) (trade : T → TradeView) (x y z : House O T) (reading : ℕ) (h : History) (step : Did State)
+    → RaisedBy link disk trade x y reading → HouseRepresents disk trade x h → RefinesBy link disk trade y.journal.disk (state_of h y.bench) (step ∷ []) z
+    → RefinesBy link disk trade x.journal.disk (state_of h x.bench) (step ∷ []) z
+raised_went link disk trade x y z reading h step up st went =
+    went_from link disk trade x.journal.disk (state_of h x.bench) (state_of h y.bench) step [] z refl
+    (went_on link disk trade x.journal.disk (state_of h y.bench) [] (step ∷ []) y z (raised_quiet link disk trade x y reading h up st) went)
 
 -- the state at the reading
-raised_is : {O T : Type 0} (link : O → LinkView) (disk : O → DiskView) (stands : T → History → Type 0) (site : T → ℕ) (holds : T → ℕ → Type 0) (x y : House O T) (reading : ℕ) (h : History) → RaisedBy link disk stands site holds x y reading
+raised_is : {O T : Type 0} (link : O → LinkView) (disk : O → DiskView) (trade : T → TradeView) (x y : House O T) (reading : ℕ) (h : History) → RaisedBy link disk trade x y reading
     → state_of h y.bench ≡ raised (state_of h x.bench) reading
-raised_is link disk stands site holds x y reading h up = ap (λ (t : ℕ). record { history = h; time = t }) up.time
+raised_is link disk trade x y reading h up = ap (λ (t : ℕ). record { history = h; time = t }) up.time
 
 -- a request was answered
-pub request_answered : {O T : Type 0} (link : O → LinkView) (disk : O → DiskView) (stands : T → History → Type 0) (site : T → ℕ) (holds : T → ℕ → Type 0) (q : Asked) (after : After) (x y : House O T) (reading : ℕ) (h : History)
-    (r : Result (House O T × Turn) O) → RaisedBy link disk stands site holds x y reading → HouseRepresents disk stands site holds x h
-    → RepliesTo link disk stands site holds (limits_of y.bench) q after y.journal.disk (state_of h y.bench) r
-    → AnswersRequest link disk stands site holds (limits_of x.bench) q after x.journal.disk (state_of h x.bench) r
-request_answered link disk stands site holds q after x y reading h (Ok r) up st replied =
+pub request_answered : {O T : Type 0} (link : O → LinkView) (disk : O → DiskView) (trade : T → TradeView) (q : Asked) (after : After) (x y : House O T) (reading : ℕ) (h : History)
+    (r : Result (House O T × Turn) O) → RaisedBy link disk trade x y reading → HouseRepresents disk trade x h
+    → RepliesTo link disk trade (limits_of y.bench) q after y.journal.disk (state_of h y.bench) r
+    → AnswersRequest link disk trade (limits_of x.bench) q after x.journal.disk (state_of h x.bench) r
+request_answered link disk trade q after x y reading h (Ok r) up st replied =
     let step : Did State = replied.0 in
     let at : State = raised (state_of h x.bench) reading in
     let here : Answer = answer h (house_time y.bench) (limits_of y.bench) q in
     let there : Answer = answer at.history at.time (limits_of x.bench) q in
     let same : here ≡ there = ap₂ (λ (t : ℕ) (l : Limits). answer h t l q) up.time up.limits in (
       step,
-      raised_went link disk stands site holds x y r.0 reading h step up st replied.2,
+      raised_went link disk trade x y r.0 reading h step up st replied.2,
       λ closes. item_answered (Step (limits_of x.bench)) OfLinks (request q closes) after r.1 (state_of h x.bench) step.after (link x.journal.disk) (link y.journal.disk) (link r.0.journal.disk) reading replied.1 step.sent up.read up.rest
-          (subst (λ (s : State). Gives s q there replied.1 step.after) (raised_is link disk stands site holds x y reading h up) (subst (λ (a : Answer). Gives (state_of h y.bench) q a replied.1 step.after) same replied.3)) replied.4,
+          (subst (λ (s : State). Gives s q there replied.1 step.after) (raised_is link disk trade x y reading h up) (subst (λ (a : Answer). Gives (state_of h y.bench) q a replied.1 step.after) same replied.3)) replied.4,
     )
-request_answered link disk stands site holds q after x y reading h (Err d) up st replied =
+request_answered link disk trade q after x y reading h (Err d) up st replied =
     let e : Entry = replied.0 in
     let said : List ℕ = replied.1 in
     let mid : LinkView = link y.journal.disk in
@@ -295,7 +296,7 @@ request_answered link disk stands site holds q after x y reading h (Err d) up st
       e,
       said,
       halted_from link disk x.journal.disk (state_of h x.bench) (state_of h y.bench) [] e said d refl
-          (halted_later link disk stands site holds x.journal.disk (state_of h y.bench) [] [] y e said d (raised_quiet link disk stands site holds x y reading h up st) replied.2),
+          (halted_later link disk trade x.journal.disk (state_of h y.bench) [] [] y e said d (raised_quiet link disk trade x y reading h up st) replied.2),
       record {
         reading = reading;
         read = subst (λ (o : Option (List ℕ)). AreRead OfLinks (reading ∷ []) (link x.journal.disk).readings o) (sym readings) up.read;
@@ -306,24 +307,24 @@ request_answered link disk stands site holds q after x y reading h (Err d) up st
     )
 
 -- a head was refused
-pub head_answered : {O T : Type 0} (link : O → LinkView) (disk : O → DiskView) (stands : T → History → Type 0) (site : T → ℕ) (holds : T → ℕ → Type 0) (f : Refusal) (after : After) (x y z : House O T) (reading : ℕ) (h : History)
-    (r : Result (Unit {0}) LinkFault) → RaisedBy link disk stands site holds x y reading → SentOn link disk y z → HouseRepresents disk stands site holds x h
-    → OnOk r ((h : History) → HouseRepresents disk stands site holds y h → link z.journal.disk ≡ after_send (head_refusal (house_time y.bench) f) (link y.journal.disk))
-    → OnErr r ((h : History) → HouseRepresents disk stands site holds y h
+pub head_answered : {O T : Type 0} (link : O → LinkView) (disk : O → DiskView) (trade : T → TradeView) (f : Refusal) (after : After) (x y z : House O T) (reading : ℕ) (h : History)
+    (r : Result (Unit {0}) LinkFault) → RaisedBy link disk trade x y reading → SentOn link disk y z → HouseRepresents disk trade x h
+    → OnOk r ((h : History) → HouseRepresents disk trade y h → link z.journal.disk ≡ after_send (head_refusal (house_time y.bench) f) (link y.journal.disk))
+    → OnErr r ((h : History) → HouseRepresents disk trade y h
     → (n : ℕ) × (n < length (head_refusal (house_time y.bench) f)) × Failed (after_send (take n (head_refusal (house_time y.bench) f)) (link y.journal.disk)) (link z.journal.disk))
-    → RefusesHead link disk stands site holds (limits_of x.bench) f after x.journal.disk (state_of h x.bench) (z, turn_after r after)
-head_answered {T = T} link disk stands site holds f after x y z reading h r up on st sent fault =
-    let st' : HouseRepresents disk stands site holds y h = up.stands' h st in
+    → RefusesHead link disk trade (limits_of x.bench) f after x.journal.disk (state_of h x.bench) (z, turn_after r after)
+head_answered {T = T} link disk trade f after x y z reading h r up on st sent fault =
+    let st' : HouseRepresents disk trade y h = up.represents h st in
     let reply : List ℕ = head_refusal (house_time y.bench) f in
     let was = sent_so after reply r (link y.journal.disk) (link z.journal.disk) (told_so r _ _ (λ g. g h st') sent) (failed_so r _ _ (λ g. g h st') fault) in
     let t : State = state_of h y.bench in
     let step : Did State = record { sent = was.0; after = t } in (
       step,
-      raised_went link disk stands site holds x y z reading h step up st
-          (went_sent link disk stands site holds y z t step on.tells on.is_link on.standing st' (house_keeps disk stands site holds y z h st' on.keeps on.rests)
+      raised_went link disk trade x y z reading h step up st
+          (went_sent link disk trade y z t step on.tells on.is_link on.standing st' (house_keeps disk trade y z h st' on.keeps on.rests)
           (ap (λ (b : Bench T). house_time b) on.rests.bench) on.keeps on.goes (sent_sessions after reply was.0 (turn_after r after) (link y.journal.disk) (link z.journal.disk) was.1)),
       λ closes. item_answered (Step (limits_of x.bench)) OfLinks (refused f closes) after (turn_after r after) (state_of h x.bench) t (link x.journal.disk) (link y.journal.disk) (link z.journal.disk) reading reply was.0 up.read up.rest
-          (ap (λ (n : ℕ). head_refusal n f) up.time, raised_is link disk stands site holds x y reading h up) was.1,
+          (ap (λ (n : ℕ). head_refusal n f) up.time, raised_is link disk trade x y reading h up) was.1,
     )
 
 -- ---- a turn
@@ -335,39 +336,39 @@ pub record ReadOn {O T : Type 0} (link : O → LinkView) (disk : O → DiskView)
   pub goes : LinkGoes (link x.journal.disk) (link y.journal.disk)
   pub rests : HouseRests x y
 
-read_quiet : {O T : Type 0} (link : O → LinkView) (disk : O → DiskView) (stands : T → History → Type 0) (site : T → ℕ) (holds : T → ℕ → Type 0) (x y : House O T) (h : History) → ReadOn link disk x y → HouseRepresents disk stands site holds x h
-    → SentNoMore (link x.journal.disk) (link y.journal.disk) → RefinesBy link disk stands site holds x.journal.disk (state_of h x.bench) [] y
-read_quiet {T = T} link disk stands site holds x y h on st same =
-    went_quiet link disk stands site holds x y (state_of h x.bench) on.tells st (ap (λ (b : Bench T). house_time b) on.rests.bench) on.keeps on.goes (house_keeps disk stands site holds x y h st on.keeps on.rests) same
+read_quiet : {O T : Type 0} (link : O → LinkView) (disk : O → DiskView) (trade : T → TradeView) (x y : House O T) (h : History) → ReadOn link disk x y → HouseRepresents disk trade x h
+    → SentNoMore (link x.journal.disk) (link y.journal.disk) → RefinesBy link disk trade x.journal.disk (state_of h x.bench) [] y
+read_quiet {T = T} link disk trade x y h on st same =
+    went_quiet link disk trade x y (state_of h x.bench) on.tells st (ap (λ (b : Bench T). house_time b) on.rests.bench) on.keeps on.goes (house_keeps disk trade x y h st on.keeps on.rests) same
 
-pub read_stands : {O T : Type 0} (link : O → LinkView) (disk : O → DiskView) (stands : T → History → Type 0) (site : T → ℕ) (holds : T → ℕ → Type 0) (x y : House O T) (h : History) → ReadOn link disk x y → HouseRepresents disk stands site holds x h
-    → HouseRepresents disk stands site holds y h
-read_stands link disk stands site holds x y h on st = house_keeps disk stands site holds x y h st on.keeps on.rests
+pub read_stands : {O T : Type 0} (link : O → LinkView) (disk : O → DiskView) (trade : T → TradeView) (x y : House O T) (h : History) → ReadOn link disk x y → HouseRepresents disk trade x h
+    → HouseRepresents disk trade y h
+read_stands link disk trade x y h on st = house_keeps disk trade x y h st on.keeps on.rests
 
 -- an item that was taken was answered
-item_turns : {O T : Type 0} (link : O → LinkView) (disk : O → DiskView) (stands : T → History → Type 0) (site : T → ℕ) (holds : T → ℕ → Type 0) (item : Bool → Item) (after : After) (x y z : House O T) (h : History) (old new : Held) (turn : Turn) (more : List ℕ) (closing : Bool)
-    → ReadOn link disk x y → HouseRepresents disk stands site holds x h → TookItem (with_more old more).bytes old.given (item closing) after new → link y.journal.disk ≡ after_recv more (link x.journal.disk)
-    → ((step : Did State) × RefinesBy link disk stands site holds y.journal.disk (state_of h y.bench) (step ∷ []) z × ((closes : Bool) → AnsweredItem (Step (limits_of y.bench)) OfLinks (item closes) after turn step (state_of h y.bench) (link y.journal.disk) (link z.journal.disk)))
-    → (steps : List (Did State)) × RefinesBy link disk stands site holds x.journal.disk (state_of h x.bench) steps z × Turned (Step (limits_of x.bench)) OfLinks turn steps (state_of h x.bench) old (link x.journal.disk) new (link z.journal.disk)
-item_turns {T = T} link disk stands site holds item after x y z h old new turn more closing on st took came did =
+item_turns : {O T : Type 0} (link : O → LinkView) (disk : O → DiskView) (trade : T → TradeView) (item : Bool → Item) (after : After) (x y z : House O T) (h : History) (old new : Held) (turn : Turn) (more : List ℕ) (closing : Bool)
+    → ReadOn link disk x y → HouseRepresents disk trade x h → TookItem (with_more old more).bytes old.given (item closing) after new → link y.journal.disk ≡ after_recv more (link x.journal.disk)
+    → ((step : Did State) × RefinesBy link disk trade y.journal.disk (state_of h y.bench) (step ∷ []) z × ((closes : Bool) → AnsweredItem (Step (limits_of y.bench)) OfLinks (item closes) after turn step (state_of h y.bench) (link y.journal.disk) (link z.journal.disk)))
+    → (steps : List (Did State)) × RefinesBy link disk trade x.journal.disk (state_of h x.bench) steps z × Turned (Step (limits_of x.bench)) OfLinks turn steps (state_of h x.bench) old (link x.journal.disk) new (link z.journal.disk)
+item_turns {T = T} link disk trade item after x y z h old new turn more closing on st took came did =
     let step : Did State = did.0 in
-    let from : RefinesBy link disk stands site holds y.journal.disk (state_of h x.bench) (step ∷ []) z = subst (λ (b : Bench T). RefinesBy link disk stands site holds y.journal.disk (state_of h b) (step ∷ []) z) on.rests.bench did.1 in
+    let from : RefinesBy link disk trade y.journal.disk (state_of h x.bench) (step ∷ []) z = subst (λ (b : Bench T). RefinesBy link disk trade y.journal.disk (state_of h b) (step ∷ []) z) on.rests.bench did.1 in
     let answered : AnsweredItem (Step (limits_of x.bench)) OfLinks (item closing) after turn step (state_of h x.bench) (link y.journal.disk) (link z.journal.disk) =
     subst (λ (b : Bench T). AnsweredItem (Step (limits_of b)) OfLinks (item closing) after turn step (state_of h b) (link y.journal.disk) (link z.journal.disk)) on.rests.bench (did.2 closing) in (
       step ∷ [],
-      went_on link disk stands site holds x.journal.disk (state_of h x.bench) [] (step ∷ []) y z
-          (read_quiet link disk stands site holds x y h on st (no_more_heard (link x.journal.disk) (link y.journal.disk) more (ap (λ (v : LinkView). v.sessions) came))) from,
+      went_on link disk trade x.journal.disk (state_of h x.bench) [] (step ∷ []) y z
+          (read_quiet link disk trade x y h on st (no_more_heard (link x.journal.disk) (link y.journal.disk) more (ap (λ (v : LinkView). v.sessions) came))) from,
       item_turned (Step (limits_of x.bench)) OfLinks turn step (state_of h x.bench) old (link x.journal.disk) (link y.journal.disk) more (item closing) after new (link z.journal.disk) took came answered,
     )
 
-pub head_turns : {O T : Type 0} (link : O → LinkView) (disk : O → DiskView) (stands : T → History → Type 0) (site : T → ℕ) (holds : T → ℕ → Type 0) (q : Request) (after : After) (x y : House O T) (h : History) (old new : Held) (out : HeadOut)
-    (r : Result (House O T × Turn) O) → Took old (link x.journal.disk) out new (link y.journal.disk) → out ≡ outs.Head q after → ReadOn link disk x y → HouseRepresents disk stands site holds x h
-    → AnswersRequest link disk stands site holds (limits_of y.bench) (asked_of q) after y.journal.disk (state_of h y.bench) r
-    → TurnsHouse link disk stands site holds (limits_of x.bench) x.journal.disk (state_of h x.bench) old new r
-head_turns link disk stands site holds q after x y h old new out (Ok r) took is on st did =
+pub head_turns : {O T : Type 0} (link : O → LinkView) (disk : O → DiskView) (trade : T → TradeView) (q : Request) (after : After) (x y : House O T) (h : History) (old new : Held) (out : HeadOut)
+    (r : Result (House O T × Turn) O) → Took old (link x.journal.disk) out new (link y.journal.disk) → out ≡ outs.Head q after → ReadOn link disk x y → HouseRepresents disk trade x h
+    → AnswersRequest link disk trade (limits_of y.bench) (asked_of q) after y.journal.disk (state_of h y.bench) r
+    → TurnsHouse link disk trade (limits_of x.bench) x.journal.disk (state_of h x.bench) old new r
+head_turns link disk trade q after x y h old new out (Ok r) took is on st did =
     let leads = leads_so old (link x.journal.disk) out (outs.Head q after) new (link y.journal.disk) took is in
-    item_turns link disk stands site holds (request (asked_of q)) after x y r.0 h old new r.1 took.got leads.0.0 on st leads.0.1 leads.1 did
-head_turns {T = T} link disk stands site holds q after x y h old new out (Err d) took is on st did =
+    item_turns link disk trade (request (asked_of q)) after x y r.0 h old new r.1 took.got leads.0.0 on st leads.0.1 leads.1 did
+head_turns {T = T} link disk trade q after x y h old new out (Err d) took is on st did =
     let leads = leads_so old (link x.journal.disk) out (outs.Head q after) new (link y.journal.disk) took is in
     let e : Entry = did.0 in
     let said : List ℕ = did.1 in
@@ -376,8 +377,8 @@ head_turns {T = T} link disk stands site holds q after x y h old new out (Err d)
     subst (λ (b : Bench T). RequestInDoubt (limits_of b) (asked_of q) (state_of h b) e said (link y.journal.disk) (link d)) on.rests.bench did.3 in (
       e,
       said,
-      halted_later link disk stands site holds x.journal.disk (state_of h x.bench) [] [] y e said d
-          (read_quiet link disk stands site holds x y h on st (no_more_heard (link x.journal.disk) (link y.journal.disk) took.got (ap (λ (v : LinkView). v.sessions) leads.1))) halted,
+      halted_later link disk trade x.journal.disk (state_of h x.bench) [] [] y e said d
+          (read_quiet link disk trade x y h on st (no_more_heard (link x.journal.disk) (link y.journal.disk) took.got (ap (λ (v : LinkView). v.sessions) leads.1))) halted,
       record {
         more = took.got;
         q = asked_of q;
@@ -389,32 +390,32 @@ head_turns {T = T} link disk stands site holds q after x y h old new out (Err d)
       },
     )
 
-pub refused_turns : {O T : Type 0} (link : O → LinkView) (disk : O → DiskView) (stands : T → History → Type 0) (site : T → ℕ) (holds : T → ℕ → Type 0) (f : HeadRefusal) (after : After) (x y : House O T) (h : History) (old new : Held) (out : HeadOut)
-    (r : House O T × Turn) → Took old (link x.journal.disk) out new (link y.journal.disk) → out ≡ outs.Refused f after → ReadOn link disk x y → HouseRepresents disk stands site holds x h
-    → RefusesHead link disk stands site holds (limits_of y.bench) (as_refusal f) after y.journal.disk (state_of h y.bench) r
-    → TurnsHouse link disk stands site holds (limits_of x.bench) x.journal.disk (state_of h x.bench) old new (Ok r)
-refused_turns link disk stands site holds f after x y h old new out r took is on st did =
+pub refused_turns : {O T : Type 0} (link : O → LinkView) (disk : O → DiskView) (trade : T → TradeView) (f : HeadRefusal) (after : After) (x y : House O T) (h : History) (old new : Held) (out : HeadOut)
+    (r : House O T × Turn) → Took old (link x.journal.disk) out new (link y.journal.disk) → out ≡ outs.Refused f after → ReadOn link disk x y → HouseRepresents disk trade x h
+    → RefusesHead link disk trade (limits_of y.bench) (as_refusal f) after y.journal.disk (state_of h y.bench) r
+    → TurnsHouse link disk trade (limits_of x.bench) x.journal.disk (state_of h x.bench) old new (Ok r)
+refused_turns link disk trade f after x y h old new out r took is on st did =
     let leads = leads_so old (link x.journal.disk) out (outs.Refused f after) new (link y.journal.disk) took is in
-    item_turns link disk stands site holds (refused (as_refusal f)) after x y r.0 h old new r.1 took.got leads.0.0 on st leads.0.1 leads.1 did
+    item_turns link disk trade (refused (as_refusal f)) after x y r.0 h old new r.1 took.got leads.0.0 on st leads.0.1 leads.1 did
 
-pub end_turns : {O T : Type 0} (link : O → LinkView) (disk : O → DiskView) (stands : T → History → Type 0) (site : T → ℕ) (holds : T → ℕ → Type 0) (x y : House O T) (h : History) (old new : Held) (out : HeadOut)
-    → Took old (link x.journal.disk) out new (link y.journal.disk) → out ≡ outs.End → ReadOn link disk x y → HouseRepresents disk stands site holds x h
-    → TurnsHouse link disk stands site holds (limits_of x.bench) x.journal.disk (state_of h x.bench) old new (Ok (y, End))
-end_turns link disk stands site holds x y h old new out took is on st =
+pub end_turns : {O T : Type 0} (link : O → LinkView) (disk : O → DiskView) (trade : T → TradeView) (x y : House O T) (h : History) (old new : Held) (out : HeadOut)
+    → Took old (link x.journal.disk) out new (link y.journal.disk) → out ≡ outs.End → ReadOn link disk x y → HouseRepresents disk trade x h
+    → TurnsHouse link disk trade (limits_of x.bench) x.journal.disk (state_of h x.bench) old new (Ok (y, End))
+end_turns link disk trade x y h old new out took is on st =
     let leads = leads_so old (link x.journal.disk) out outs.End new (link y.journal.disk) took is in
     let same : SentNoMore (link x.journal.disk) (link y.journal.disk) =
     no_more_then (link x.journal.disk) (after_recv took.got (link x.journal.disk)) (link y.journal.disk)
     (no_more_heard (link x.journal.disk) (after_recv took.got (link x.journal.disk)) took.got refl)
     (no_more_finished (after_recv took.got (link x.journal.disk)) (link y.journal.disk) (ap (λ (v : LinkView). v.sessions) leads.2)) in
-    ([], read_quiet link disk stands site holds x y h on st same, record { none_done = refl; more = took.got; none = leads.1; then' = leads.2 })
+    ([], read_quiet link disk trade x y h on st same, record { none_done = refl; more = took.got; none = leads.1; then' = leads.2 })
 
-pub fault_turns : {O T : Type 0} (link : O → LinkView) (disk : O → DiskView) (stands : T → History → Type 0) (site : T → ℕ) (holds : T → ℕ → Type 0) (x y : House O T) (h : History) (old new : Held) (out : HeadOut)
-    → Took old (link x.journal.disk) out new (link y.journal.disk) → out ≡ outs.Fault → ReadOn link disk x y → HouseRepresents disk stands site holds x h
-    → TurnsHouse link disk stands site holds (limits_of x.bench) x.journal.disk (state_of h x.bench) old new (Ok (y, NotReceived))
-fault_turns link disk stands site holds x y h old new out took is on st =
+pub fault_turns : {O T : Type 0} (link : O → LinkView) (disk : O → DiskView) (trade : T → TradeView) (x y : House O T) (h : History) (old new : Held) (out : HeadOut)
+    → Took old (link x.journal.disk) out new (link y.journal.disk) → out ≡ outs.Fault → ReadOn link disk x y → HouseRepresents disk trade x h
+    → TurnsHouse link disk trade (limits_of x.bench) x.journal.disk (state_of h x.bench) old new (Ok (y, NotReceived))
+fault_turns link disk trade x y h old new out took is on st =
     let leads = leads_so old (link x.journal.disk) out outs.Fault new (link y.journal.disk) took is in
     let same : SentNoMore (link x.journal.disk) (link y.journal.disk) = no_more_heard (link x.journal.disk) (link y.journal.disk) took.got (ap (λ (v : LinkView). v.sessions) leads.2.same) in
-    ([], read_quiet link disk stands site holds x y h on st same, record { none_done = refl; more = took.got; none = leads.1; then' = leads.2 })
+    ([], read_quiet link disk trade x y h on st same, record { none_done = refl; more = took.got; none = leads.1; then' = leads.2 })
 
 item_given : (bytes : List ℕ) (old : Held) (item : Item) (after : After) (new : Held) → TookItem bytes old.given item after new → (after ≡ afters.Close → ⊥) → (new.given ≡ old.given + 1) × (old.given < 1000)
 item_given bytes old item after new took open' =

@@ -20,6 +20,7 @@ use Rattle.house_core.specs.House.{HouseRepresents, HouseRests}
 use Rattle.house_core.specs.Session.{State}
 use Rattle.house_serving.specs.Orders.{InOrder, MovedBy, RefinesBy, IsEither, InDoubt, HaltedBy}
 use Rattle.house_serving.proofs.AsideLemmas.{TellsAside, SentNoMore, aside_still, aside_sent}
+use Rattle.house_core.specs.Trade.{TradeView}
 
 -- ---- bytes
 
@@ -171,80 +172,80 @@ moved_written tells a b c s e d after written same keeps more stands =
 -- ---- houses
 
 -- a crash now leaves what encodes the history
-pub house_leaves : {O T : Type 0} (disk : O → DiskView) (stands : T → History → Type 0) (site : T → ℕ) (holds : T → ℕ → Type 0) (x : House O T) (h : History) → HouseRepresents disk stands site holds x h
+pub house_leaves : {O T : Type 0} (disk : O → DiskView) (trade : T → TradeView) (x : House O T) (h : History) → HouseRepresents disk trade x h
     → (c : List ℕ) → (disk x.journal.disk).leaves c → Encodes h c
-house_leaves disk stands site holds x h st = journal_leaves disk x.journal h st.journal
+house_leaves disk trade x h st = journal_leaves disk x.journal h st.journal
 
 -- what links do leaves the house
-pub house_keeps : {O T : Type 0} (disk : O → DiskView) (stands : T → History → Type 0) (site : T → ℕ) (holds : T → ℕ → Type 0) (x y : House O T) (h : History) → HouseRepresents disk stands site holds x h
-    → LinkKeeps (disk x.journal.disk) (disk y.journal.disk) → HouseRests x y → HouseRepresents disk stands site holds y h
-house_keeps {T = T} disk stands site holds x y h st keeps rests = record {
+pub house_keeps : {O T : Type 0} (disk : O → DiskView) (trade : T → TradeView) (x y : House O T) (h : History) → HouseRepresents disk trade x h
+    → LinkKeeps (disk x.journal.disk) (disk y.journal.disk) → HouseRests x y → HouseRepresents disk trade y h
+house_keeps {T = T} disk trade x y h st keeps rests = record {
   journal = journal_keeps disk x.journal y.journal h st.journal keeps rests.journal;
-  house = subst (λ (b : Bench T). IsHouse stands site holds b h) (sym rests.bench) st.house;
+  house = subst (λ (b : Bench T). IsHouse trade b h) (sym rests.bench) st.house;
   limit = rests.journal.limit ∙ st.limit ∙ ap (λ (b : Bench T). (limits_of b).journal) (sym rests.bench);
 }
 
 -- where the links told what was sent, they still tell it
-pub told_on : {O T : Type 0} (link : O → LinkView) (disk : O → DiskView) (stands : T → History → Type 0) (site : T → ℕ) (holds : T → ℕ → Type 0) (a : O) (s : State) (xs : List (Did State)) (x : House O T)
-    → RefinesBy link disk stands site holds a s xs x → IsSome (link a).sessions → IsSome (link x.journal.disk).sessions
-told_on link disk stands site holds a s xs x went told' = subst (λ (b : Bool). IsTrue b) (sym went.tells) told'
+pub told_on : {O T : Type 0} (link : O → LinkView) (disk : O → DiskView) (trade : T → TradeView) (a : O) (s : State) (xs : List (Did State)) (x : House O T)
+    → RefinesBy link disk trade a s xs x → IsSome (link a).sessions → IsSome (link x.journal.disk).sessions
+told_on link disk trade a s xs x went told' = subst (λ (b : Bool). IsTrue b) (sym went.tells) told'
 
 -- no step was taken
-pub went_nowhere : {O T : Type 0} (link : O → LinkView) (disk : O → DiskView) (stands : T → History → Type 0) (site : T → ℕ) (holds : T → ℕ → Type 0) (x : House O T) (s : State) → IsDisk (disk x.journal.disk)
-    → HouseRepresents disk stands site holds x s.history → house_time x.bench ≡ s.time → RefinesBy link disk stands site holds x.journal.disk s [] x
-went_nowhere link disk stands site holds x s is st time = record {
+pub went_nowhere : {O T : Type 0} (link : O → LinkView) (disk : O → DiskView) (trade : T → TradeView) (x : House O T) (s : State) → IsDisk (disk x.journal.disk)
+    → HouseRepresents disk trade x s.history → house_time x.bench ≡ s.time → RefinesBy link disk trade x.journal.disk s [] x
+went_nowhere link disk trade x s is st time = record {
   house = st;
   time = time;
   tells = refl;
   faults = refl;
-  moved = moved_nowhere _ (disk x.journal.disk) s is (house_leaves disk stands site holds x s.history st);
+  moved = moved_nowhere _ (disk x.journal.disk) s is (house_leaves disk trade x s.history st);
 }
 
 -- steps, and others after them
-pub went_on : {O T : Type 0} (link : O → LinkView) (disk : O → DiskView) (stands : T → History → Type 0) (site : T → ℕ) (holds : T → ℕ → Type 0) (a : O) (s : State) (xs ys : List (Did State)) (x y : House O T)
-    → RefinesBy link disk stands site holds a s xs x → RefinesBy link disk stands site holds x.journal.disk (state_after s xs) ys y → RefinesBy link disk stands site holds a s (xs ++ ys) y
-went_on link disk stands site holds a s xs ys x y first second = record {
-  house = subst (λ (t : State). HouseRepresents disk stands site holds y t.history) (sym (state_after-append s xs ys)) second.house;
+pub went_on : {O T : Type 0} (link : O → LinkView) (disk : O → DiskView) (trade : T → TradeView) (a : O) (s : State) (xs ys : List (Did State)) (x y : House O T)
+    → RefinesBy link disk trade a s xs x → RefinesBy link disk trade x.journal.disk (state_after s xs) ys y → RefinesBy link disk trade a s (xs ++ ys) y
+went_on link disk trade a s xs ys x y first second = record {
+  house = subst (λ (t : State). HouseRepresents disk trade y t.history) (sym (state_after-append s xs ys)) second.house;
   time = second.time ∙ ap (λ (t : State). t.time) (sym (state_after-append s xs ys));
   tells = second.tells ∙ first.tells;
   faults = second.faults ∙ first.faults;
   moved = moved_then _ (disk a) (disk x.journal.disk) (disk y.journal.disk) s xs ys first.moved
-      (moved_told (IsSome (link a).sessions) (IsSome (link x.journal.disk).sessions) (disk x.journal.disk) (disk y.journal.disk) (state_after s xs) ys (told_on link disk stands site holds a s xs x first) second.moved);
+      (moved_told (IsSome (link a).sessions) (IsSome (link x.journal.disk).sessions) (disk x.journal.disk) (disk y.journal.disk) (state_after s xs) ys (told_on link disk trade a s xs x first) second.moved);
 }
 
 -- links did what sends nothing
-pub went_quiet : {O T : Type 0} (link : O → LinkView) (disk : O → DiskView) (stands : T → History → Type 0) (site : T → ℕ) (holds : T → ℕ → Type 0) (x y : House O T) (s : State)
-    → TellsAside link (λ o. (disk o).aside) → HouseRepresents disk stands site holds x s.history → house_time y.bench ≡ s.time → LinkKeeps (disk x.journal.disk) (disk y.journal.disk) → LinkGoes (link x.journal.disk) (link y.journal.disk)
-    → HouseRepresents disk stands site holds y s.history → SentNoMore (link x.journal.disk) (link y.journal.disk) → RefinesBy link disk stands site holds x.journal.disk s [] y
-went_quiet link disk stands site holds x y s tells st time keeps goes stands' same = record {
-  house = stands';
+pub went_quiet : {O T : Type 0} (link : O → LinkView) (disk : O → DiskView) (trade : T → TradeView) (x y : House O T) (s : State)
+    → TellsAside link (λ o. (disk o).aside) → HouseRepresents disk trade x s.history → house_time y.bench ≡ s.time → LinkKeeps (disk x.journal.disk) (disk y.journal.disk) → LinkGoes (link x.journal.disk) (link y.journal.disk)
+    → HouseRepresents disk trade y s.history → SentNoMore (link x.journal.disk) (link y.journal.disk) → RefinesBy link disk trade x.journal.disk s [] y
+went_quiet link disk trade x y s tells st time keeps goes represents same = record {
+  house = represents;
   time = time;
   tells = goes.tells;
   faults = keeps.faults;
-  moved = moved_quiet _ (disk x.journal.disk) (disk y.journal.disk) s keeps (λ told'. aside_still link (λ o. (disk o).aside) x.journal.disk y.journal.disk tells told' same) (house_leaves disk stands site holds x s.history st);
+  moved = moved_quiet _ (disk x.journal.disk) (disk y.journal.disk) s keeps (λ told'. aside_still link (λ o. (disk o).aside) x.journal.disk y.journal.disk tells told' same) (house_leaves disk trade x s.history st);
 }
 
 -- a reply was sent, or a prefix of it, when what it speaks of was there
-pub went_sent : {O T : Type 0} (link : O → LinkView) (disk : O → DiskView) (stands : T → History → Type 0) (site : T → ℕ) (holds : T → ℕ → Type 0) (x y : House O T) (s : State) (d : Did State)
-    → TellsAside link (λ o. (disk o).aside) → IsLink (link x.journal.disk) → IsTrue (link x.journal.disk).stands → HouseRepresents disk stands site holds x d.after.history → HouseRepresents disk stands site holds y d.after.history
+pub went_sent : {O T : Type 0} (link : O → LinkView) (disk : O → DiskView) (trade : T → TradeView) (x y : House O T) (s : State) (d : Did State)
+    → TellsAside link (λ o. (disk o).aside) → IsLink (link x.journal.disk) → IsTrue (link x.journal.disk).stands → HouseRepresents disk trade x d.after.history → HouseRepresents disk trade y d.after.history
     → house_time y.bench ≡ d.after.time → LinkKeeps (disk x.journal.disk) (disk y.journal.disk) → LinkGoes (link x.journal.disk) (link y.journal.disk)
-    → (link y.journal.disk).sessions ≡ (after_send d.sent (link x.journal.disk)).sessions → RefinesBy link disk stands site holds x.journal.disk s (d ∷ []) y
-went_sent link disk stands site holds x y s d tells is on st after time keeps goes sent = record {
+    → (link y.journal.disk).sessions ≡ (after_send d.sent (link x.journal.disk)).sessions → RefinesBy link disk trade x.journal.disk s (d ∷ []) y
+went_sent link disk trade x y s d tells is on st after time keeps goes sent = record {
   house = after;
   time = time;
   tells = goes.tells;
   faults = keeps.faults;
   moved = moved_sent _ (disk x.journal.disk) (disk y.journal.disk) s d keeps
-      (λ told'. aside_sent link (λ o. (disk o).aside) x.journal.disk y.journal.disk d.sent tells told' is on sent) (house_leaves disk stands site holds x d.after.history st);
+      (λ told'. aside_sent link (λ o. (disk o).aside) x.journal.disk y.journal.disk d.sent tells told' is on sent) (house_leaves disk trade x d.after.history st);
 }
 
 -- an entry was written, and then its reply was sent, or a prefix of it
-pub went_written : {O T : Type 0} (link : O → LinkView) (disk : O → DiskView) (stands : T → History → Type 0) (site : T → ℕ) (holds : T → ℕ → Type 0) (a : O) (y z : House O T) (s : State) (e : Entry) (d : Did State)
+pub went_written : {O T : Type 0} (link : O → LinkView) (disk : O → DiskView) (trade : T → TradeView) (a : O) (y z : House O T) (s : State) (e : Entry) (d : Did State)
     → TellsAside link (λ o. (disk o).aside) → d.after.history ≡ s.history ++ e ∷ [] → Ran (disk a) (disk y.journal.disk) (EitherNoOutput s.history e (disk a).aside) → (disk y.journal.disk).aside ≡ (disk a).aside
-    → (disk y.journal.disk).faults ≡ (disk a).faults → link y.journal.disk ≡ link a → IsLink (link y.journal.disk) → IsTrue (link y.journal.disk).stands → HouseRepresents disk stands site holds y d.after.history → HouseRepresents disk stands site holds z d.after.history
+    → (disk y.journal.disk).faults ≡ (disk a).faults → link y.journal.disk ≡ link a → IsLink (link y.journal.disk) → IsTrue (link y.journal.disk).stands → HouseRepresents disk trade y d.after.history → HouseRepresents disk trade z d.after.history
     → house_time z.bench ≡ d.after.time → LinkKeeps (disk y.journal.disk) (disk z.journal.disk) → LinkGoes (link y.journal.disk) (link z.journal.disk)
-    → (link z.journal.disk).sessions ≡ (after_send d.sent (link y.journal.disk)).sessions → RefinesBy link disk stands site holds a s (d ∷ []) z
-went_written link disk stands site holds a y z s e d tells entered written quiet calm same is on st after time keeps goes sent =
+    → (link z.journal.disk).sessions ≡ (after_send d.sent (link y.journal.disk)).sessions → RefinesBy link disk trade a s (d ∷ []) z
+went_written link disk trade a y z s e d tells entered written quiet calm same is on st after time keeps goes sent =
     let tells_same : is_some (link y.journal.disk).sessions ≡ is_some (link a).sessions = ap (λ (v : LinkView). is_some v.sessions) same in
     record {
       house = after;
@@ -253,7 +254,7 @@ went_written link disk stands site holds a y z s e d tells entered written quiet
       faults = keeps.faults ∙ calm;
       moved = moved_written _ (disk a) (disk y.journal.disk) (disk z.journal.disk) s e d entered written quiet keeps
           (λ told'. aside_sent link (λ o. (disk o).aside) y.journal.disk z.journal.disk d.sent tells (subst (λ (b : Bool). IsTrue b) (sym tells_same) told') is on sent)
-          (house_leaves disk stands site holds y d.after.history st);
+          (house_leaves disk trade y d.after.history st);
     }
 
 -- ---- where the disk fails
@@ -297,11 +298,11 @@ doubt_told tells told' h g before e said image sent so same pair = record {
 }
 
 -- steps came before
-pub halted_later : {O T : Type 0} (link : O → LinkView) (disk : O → DiskView) (stands : T → History → Type 0) (site : T → ℕ) (holds : T → ℕ → Type 0) (a : O) (s : State) (xs ys : List (Did State)) (x : House O T) (e : Entry) (said : List ℕ) (d : O)
-    → RefinesBy link disk stands site holds a s xs x → HaltedBy link disk x.journal.disk (state_after s xs) ys e said d → HaltedBy link disk a s (xs ++ ys) e said d
-halted_later link disk stands site holds a s xs ys x e said d went halted =
+pub halted_later : {O T : Type 0} (link : O → LinkView) (disk : O → DiskView) (trade : T → TradeView) (a : O) (s : State) (xs ys : List (Did State)) (x : House O T) (e : Entry) (said : List ℕ) (d : O)
+    → RefinesBy link disk trade a s xs x → HaltedBy link disk x.journal.disk (state_after s xs) ys e said d → HaltedBy link disk a s (xs ++ ys) e said d
+halted_later link disk trade a s xs ys x e said d went halted =
     let same : (state_after (state_after s xs) ys).history ≡ (state_after s (xs ++ ys)).history = ap (λ (t : State). t.history) (sym (state_after-append s xs ys)) in
-    let on : IsSome (link a).sessions → IsSome (link x.journal.disk).sessions = told_on link disk stands site holds a s xs x went in
+    let on : IsSome (link a).sessions → IsSome (link x.journal.disk).sessions = told_on link disk trade a s xs x went in
     record {
       taken = halted.taken;
       tells = halted.tells ∙ went.tells;
@@ -337,9 +338,9 @@ moved_from tells a b s t ds same moved = record {
   ran = ran_weaker a b _ _ moved.ran (order_from tells s t same a.aside ds);
 }
 
-pub went_from : {O T : Type 0} (link : O → LinkView) (disk : O → DiskView) (stands : T → History → Type 0) (site : T → ℕ) (holds : T → ℕ → Type 0) (a : O) (s t : State) (d : Did State) (ds : List (Did State)) (x : House O T) → s.history ≡ t.history
-    → RefinesBy link disk stands site holds a t (d ∷ ds) x → RefinesBy link disk stands site holds a s (d ∷ ds) x
-went_from link disk stands site holds a s t d ds x same went = record {
+pub went_from : {O T : Type 0} (link : O → LinkView) (disk : O → DiskView) (trade : T → TradeView) (a : O) (s t : State) (d : Did State) (ds : List (Did State)) (x : House O T) → s.history ≡ t.history
+    → RefinesBy link disk trade a t (d ∷ ds) x → RefinesBy link disk trade a s (d ∷ ds) x
+went_from link disk trade a s t d ds x same went = record {
   house = went.house;
   time = went.time;
   tells = went.tells;

@@ -25,6 +25,7 @@ use Rattle.house_serving.specs.declared.links.ServeOut.TheVariants.{Done, Link, 
 use Rattle.house_serving.specs.Turns.{Sent, AnsweredItem, Turned, Ended}
 use Rattle.house_serving.specs.Orders.{RefinesBy, HaltedBy}
 use Rattle.house_serving.specs.InDoubt.{Sends, RequestInDoubt, InDoubtTurn, InDoubtLink, InDoubtLinks}
+use Rattle.house_core.specs.Trade.{TradeView}
 
 -- the outside that comes back, whatever is answered
 abbrev pub served_outside : {O T : Type 0} → ServeOut O T → O
@@ -36,13 +37,13 @@ served_outside (Halted d) = d
 -- Links were served from this state on, at the readings of the links' clock: so many, or all that came;
 -- or up to a failing `next_link`; or none for want of memory; or up to a request whose entry is in doubt
 -- since the disk failed.
-abbrev pub ServesLinks : {O T : Type 0} → (O → LinkView) → (O → DiskView) → (T → History → Type 0) → (T → ℕ) → (T → ℕ → Type 0) → Limits → ℕ → O → State → ServeOut O T → Type 0
-ServesLinks link disk stands site holds limits links a s (Done x n) =
-    (steps : List (Did State)) × RefinesBy link disk stands site holds a s steps x × ServedAll (Step limits) OfLinks links n steps s (link a) (link x.journal.disk)
-ServesLinks link disk stands site holds limits links a s (Link x) =
-    (steps : List (Did State)) × RefinesBy link disk stands site holds a s steps x × ServedSome (Step limits) OfLinks links steps s (link a) (link x.journal.disk)
-ServesLinks link disk stands site holds limits links a s (NoMemory x) = RefinesBy link disk stands site holds a s [] x × (x.journal.disk ≡ a)
-ServesLinks link disk stands site holds limits links a s (Halted d) =
+abbrev pub ServesLinks : {O T : Type 0} → (O → LinkView) → (O → DiskView) → (T → TradeView) → Limits → ℕ → O → State → ServeOut O T → Type 0
+ServesLinks link disk trade limits links a s (Done x n) =
+    (steps : List (Did State)) × RefinesBy link disk trade a s steps x × ServedAll (Step limits) OfLinks links n steps s (link a) (link x.journal.disk)
+ServesLinks link disk trade limits links a s (Link x) =
+    (steps : List (Did State)) × RefinesBy link disk trade a s steps x × ServedSome (Step limits) OfLinks links steps s (link a) (link x.journal.disk)
+ServesLinks link disk trade limits links a s (NoMemory x) = RefinesBy link disk trade a s [] x × (x.journal.disk ≡ a)
+ServesLinks link disk trade limits links a s (Halted d) =
     (steps : List (Did State)) × (e : Entry) × (said : List ℕ) × HaltedBy link disk a s steps e said d × InDoubtLinks limits links steps s (link a) e said (link d)
 
 -- The disk did not fail, and the count of the links' faults did not fall.
@@ -74,43 +75,43 @@ PartCauses link disk a house (Err d) = Rose (disk a).faults (disk d).faults
 
 -- A request was replied to at the house time: by its first reply or by its refusal, which was sent, or not
 -- the whole of it. Or the disk failed while its entry was written, and it was told so.
-abbrev pub RepliesTo : {O T : Type 0} → (O → LinkView) → (O → DiskView) → (T → History → Type 0) → (T → ℕ) → (T → ℕ → Type 0) → Limits → Asked → After → O → State → Result (House O T × Turn) O → Type 0
-RepliesTo link disk stands site holds limits q after a s (Ok r) =
-    (step : Did State) × (reply : List ℕ) × RefinesBy link disk stands site holds a s (step ∷ []) r.0 × Gives s q (answer s.history s.time limits q) reply step.after
+abbrev pub RepliesTo : {O T : Type 0} → (O → LinkView) → (O → DiskView) → (T → TradeView) → Limits → Asked → After → O → State → Result (House O T × Turn) O → Type 0
+RepliesTo link disk trade limits q after a s (Ok r) =
+    (step : Did State) × (reply : List ℕ) × RefinesBy link disk trade a s (step ∷ []) r.0 × Gives s q (answer s.history s.time limits q) reply step.after
     × Sent after reply r.1 step.sent (link a) (link r.0.journal.disk)
-RepliesTo link disk stands site holds limits q after a s (Err d) =
+RepliesTo link disk trade limits q after a s (Err d) =
     (e : Entry) × (said : List ℕ) × HaltedBy link disk a s [] e said d × (answer s.history s.time limits q ≡ Take e)
     × Sends (refusal_of s.history s.time q DiskFault) said (link a) (link d)
 
 -- one request that was taken
-abbrev pub AnswersRequest : {O T : Type 0} → (O → LinkView) → (O → DiskView) → (T → History → Type 0) → (T → ℕ) → (T → ℕ → Type 0) → Limits → Asked → After → O → State → Result (House O T × Turn) O → Type 0
-AnswersRequest link disk stands site holds limits q after a s (Ok r) =
-    (step : Did State) × RefinesBy link disk stands site holds a s (step ∷ []) r.0 × ((closes : Bool) → AnsweredItem (Step limits) OfLinks (request q closes) after r.1 step s (link a) (link r.0.journal.disk))
-AnswersRequest link disk stands site holds limits q after a s (Err d) =
+abbrev pub AnswersRequest : {O T : Type 0} → (O → LinkView) → (O → DiskView) → (T → TradeView) → Limits → Asked → After → O → State → Result (House O T × Turn) O → Type 0
+AnswersRequest link disk trade limits q after a s (Ok r) =
+    (step : Did State) × RefinesBy link disk trade a s (step ∷ []) r.0 × ((closes : Bool) → AnsweredItem (Step limits) OfLinks (request q closes) after r.1 step s (link a) (link r.0.journal.disk))
+AnswersRequest link disk trade limits q after a s (Err d) =
     (e : Entry) × (said : List ℕ) × HaltedBy link disk a s [] e said d × RequestInDoubt limits q s e said (link a) (link d)
 
 -- one head that was refused
-abbrev pub RefusesHead : {O T : Type 0} → (O → LinkView) → (O → DiskView) → (T → History → Type 0) → (T → ℕ) → (T → ℕ → Type 0) → Limits → Refusal → After → O → State → House O T × Turn → Type 0
-RefusesHead link disk stands site holds limits f after a s r =
-    (step : Did State) × RefinesBy link disk stands site holds a s (step ∷ []) r.0 × ((closes : Bool) → AnsweredItem (Step limits) OfLinks (refused f closes) after r.1 step s (link a) (link r.0.journal.disk))
+abbrev pub RefusesHead : {O T : Type 0} → (O → LinkView) → (O → DiskView) → (T → TradeView) → Limits → Refusal → After → O → State → House O T × Turn → Type 0
+RefusesHead link disk trade limits f after a s r =
+    (step : Did State) × RefinesBy link disk trade a s (step ∷ []) r.0 × ((closes : Bool) → AnsweredItem (Step limits) OfLinks (refused f closes) after r.1 step s (link a) (link r.0.journal.disk))
 
 -- one turn
-abbrev pub TurnsHouse : {O T : Type 0} → (O → LinkView) → (O → DiskView) → (T → History → Type 0) → (T → ℕ) → (T → ℕ → Type 0) → Limits → O → State → Held → Held → Result (House O T × Turn) O → Type 0
-TurnsHouse link disk stands site holds limits a s old new (Ok r) =
-    (steps : List (Did State)) × RefinesBy link disk stands site holds a s steps r.0 × Turned (Step limits) OfLinks r.1 steps s old (link a) new (link r.0.journal.disk)
-TurnsHouse link disk stands site holds limits a s old new (Err d) =
+abbrev pub TurnsHouse : {O T : Type 0} → (O → LinkView) → (O → DiskView) → (T → TradeView) → Limits → O → State → Held → Held → Result (House O T × Turn) O → Type 0
+TurnsHouse link disk trade limits a s old new (Ok r) =
+    (steps : List (Did State)) × RefinesBy link disk trade a s steps r.0 × Turned (Step limits) OfLinks r.1 steps s old (link a) new (link r.0.journal.disk)
+TurnsHouse link disk trade limits a s old new (Err d) =
     (e : Entry) × (said : List ℕ) × HaltedBy link disk a s [] e said d × InDoubtTurn limits s old (link a) e said (link d)
 
 -- the turns of a link
-abbrev pub EndsTurns : {O T : Type 0} → (O → LinkView) → (O → DiskView) → (T → History → Type 0) → (T → ℕ) → (T → ℕ → Type 0) → Limits → O → State → Result (House O T × Turn) O → Type 0
-EndsTurns link disk stands site holds limits a s (Ok r) =
-    (steps : List (Did State)) × RefinesBy link disk stands site holds a s steps r.0 × Ended (Step limits) OfLinks r.1 steps s (link a) (link r.0.journal.disk)
-EndsTurns link disk stands site holds limits a s (Err d) =
+abbrev pub EndsTurns : {O T : Type 0} → (O → LinkView) → (O → DiskView) → (T → TradeView) → Limits → O → State → Result (House O T × Turn) O → Type 0
+EndsTurns link disk trade limits a s (Ok r) =
+    (steps : List (Did State)) × RefinesBy link disk trade a s steps r.0 × Ended (Step limits) OfLinks r.1 steps s (link a) (link r.0.journal.disk)
+EndsTurns link disk trade limits a s (Err d) =
     (steps : List (Did State)) × (e : Entry) × (said : List ℕ) × HaltedBy link disk a s steps e said d × InDoubtLink limits steps s (link a) e said (link d)
 
 -- a link
-abbrev pub ServesLink : {O T : Type 0} → (O → LinkView) → (O → DiskView) → (T → History → Type 0) → (T → ℕ) → (T → ℕ → Type 0) → Limits → O → State → Result (House O T) O → Type 0
-ServesLink link disk stands site holds limits a s (Ok x) =
-    (steps : List (Did State)) × RefinesBy link disk stands site holds a s steps x × HadLink (Step limits) OfLinks steps s (link a) (link x.journal.disk)
-ServesLink link disk stands site holds limits a s (Err d) =
+abbrev pub ServesLink : {O T : Type 0} → (O → LinkView) → (O → DiskView) → (T → TradeView) → Limits → O → State → Result (House O T) O → Type 0
+ServesLink link disk trade limits a s (Ok x) =
+    (steps : List (Did State)) × RefinesBy link disk trade a s steps x × HadLink (Step limits) OfLinks steps s (link a) (link x.journal.disk)
+ServesLink link disk trade limits a s (Err d) =
     (steps : List (Did State)) × (e : Entry) × (said : List ℕ) × (stopped : LinkView) × HaltedBy link disk a s steps e said d × InDoubtLink limits steps s (link a) e said stopped × (link d ≡ record stopped { stands = false })

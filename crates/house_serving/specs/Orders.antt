@@ -11,6 +11,7 @@ use Rattle.house_core.specs.declared.house.House.{House}
 use Rattle.house_core.specs.Bench.{house_time}
 use Rattle.house_core.specs.House.{HouseRepresents}
 use Rattle.house_core.specs.Session.{State}
+use Rattle.house_core.specs.Trade.{TradeView}
 
 -- A crash pair is in order: after some first of the steps the image encodes the history. Where what was
 -- sent is told, by then no more was sent than those steps sent. So of the reply of a step that gave an entry
@@ -31,8 +32,8 @@ pub record MovedBy (tells : Type 0) (a b : DiskView) (s : State) (steps : List (
 
 -- A house came from this state to what it is by these steps, while the disk did not fail, and each crash
 -- pair is in order.
-pub record RefinesBy {O T : Type 0} (link : O → LinkView) (disk : O → DiskView) (stands : T → History → Type 0) (site : T → ℕ) (holds : T → ℕ → Type 0) (a : O) (s : State) (steps : List (Did State)) (x : House O T) : Type 0 where
-  pub house : HouseRepresents disk stands site holds x (state_after s steps).history
+pub record RefinesBy {O T : Type 0} (link : O → LinkView) (disk : O → DiskView) (trade : T → TradeView) (a : O) (s : State) (steps : List (Did State)) (x : House O T) : Type 0 where
+  pub house : HouseRepresents disk trade x (state_after s steps).history
   pub time : house_time x.bench ≡ (state_after s steps).time
   pub tells : is_some (link x.journal.disk).sessions ≡ is_some (link a).sessions
   pub faults : (disk x.journal.disk).faults ≡ (disk a).faults

@@ -32,8 +32,8 @@ pub(crate) fn take_turn<O: Outside, T: Trade>(
     ensures limits { IfOk result (λ r. limits_of r.0.bench ≡ limits_of house.bench) }
     ensures stands { IfOk result (λ r. r.1 ≡ GoOn → IsTrue (O.link r.0.journal.disk).stands) }
     ensures given { IfOk result (λ r. r.1 ≡ GoOn → (reader.new.given ≡ reader.old.given + 1) × (reader.old.given < 1000)) }
-    ensures turned { (h : History) → HouseRepresents O.disk T.stands T.site T.holds house h
-        → TurnsHouse O.link O.disk T.stands T.site T.holds (limits_of house.bench) house.journal.disk (state_of h house.bench) reader.old reader.new result }
+    ensures turned { (h : History) → HouseRepresents O.disk T.trade house h
+        → TurnsHouse O.link O.disk T.trade (limits_of house.bench) house.journal.disk (state_of h house.bench) reader.old reader.new result }
 {
     let mut house = house;
     match reader.take(&mut house) {
@@ -56,8 +56,8 @@ fn answer_request<O: Outside, T: Trade>(
     ensures limits { IfOk result (λ r. limits_of r.0.bench ≡ limits_of house.bench) }
     ensures stands { IfOk result (λ r. r.1 ≡ GoOn → IsTrue (O.link r.0.journal.disk).stands) }
     ensures open { IfOk result (λ r. r.1 ≡ GoOn → after ≡ Close → ⊥) }
-    ensures answered { (h : History) → HouseRepresents O.disk T.stands T.site T.holds house h
-        → AnswersRequest O.link O.disk T.stands T.site T.holds (limits_of house.bench) (asked_of q.now) after house.journal.disk (state_of h house.bench) result }
+    ensures answered { (h : History) → HouseRepresents O.disk T.trade house h
+        → AnswersRequest O.link O.disk T.trade (limits_of house.bench) (asked_of q.now) after house.journal.disk (state_of h house.bench) result }
 {
     let mut house = house;
     let _reading = raise_by_clock(&mut house);
@@ -75,8 +75,8 @@ fn answer_refused<O: Outside, T: Trade>(
     ensures limits { limits_of result.0.bench ≡ limits_of house.bench }
     ensures stands { result.1 ≡ GoOn → IsTrue (O.link result.0.journal.disk).stands }
     ensures open { result.1 ≡ GoOn → after ≡ Close → ⊥ }
-    ensures answered { (h : History) → HouseRepresents O.disk T.stands T.site T.holds house h
-        → RefusesHead O.link O.disk T.stands T.site T.holds (limits_of house.bench) (as_refusal head) after house.journal.disk (state_of h house.bench) result }
+    ensures answered { (h : History) → HouseRepresents O.disk T.trade house h
+        → RefusesHead O.link O.disk T.trade (limits_of house.bench) (as_refusal head) after house.journal.disk (state_of h house.bench) result }
 {
     let mut house = house;
     let _reading = raise_by_clock(&mut house);
@@ -88,7 +88,7 @@ fn answer_refused<O: Outside, T: Trade>(
 /// memory.
 pub fn raise_by_clock<O: Outside, T: Trade>(house: &mut House<O, T>) -> Moment
     ensures moved { O.link_moved house.old.journal.disk house.new.journal.disk }
-    ensures stands { (h : History) → HouseRepresents O.disk T.stands T.site T.holds house.old h → HouseRepresents O.disk T.stands T.site T.holds house.new h }
+    ensures stands { (h : History) → HouseRepresents O.disk T.trade house.old h → HouseRepresents O.disk T.trade house.new h }
     ensures time { house_time house.new.bench ≡ max (house_time house.old.bench) result }
     ensures limits { limits_of house.new.bench ≡ limits_of house.old.bench }
     ensures rest { O.link house.new.journal.disk ≡ with_readings (O.link house.new.journal.disk).readings (O.link house.old.journal.disk) }
@@ -111,8 +111,8 @@ fn reply_to<O: Outside, T: Trade>(
     ensures limits { IfOk result (λ r. limits_of r.0.bench ≡ limits_of house.bench) }
     ensures stands { IfOk result (λ r. r.1 ≡ GoOn → IsTrue (O.link r.0.journal.disk).stands) }
     ensures open { IfOk result (λ r. r.1 ≡ GoOn → after ≡ Close → ⊥) }
-    ensures replied { (h : History) → HouseRepresents O.disk T.stands T.site T.holds house h
-        → RepliesTo O.link O.disk T.stands T.site T.holds (limits_of house.bench) (asked_of q.now) after house.journal.disk (state_of h house.bench) result }
+    ensures replied { (h : History) → HouseRepresents O.disk T.trade house h
+        → RepliesTo O.link O.disk T.trade (limits_of house.bench) (asked_of q.now) after house.journal.disk (state_of h house.bench) result }
 {
     match house.repeated(q) {
         Some(number) => {
@@ -136,9 +136,9 @@ fn reply_to_new<O: Outside, T: Trade>(
     ensures limits { IfOk result (λ r. limits_of r.0.bench ≡ limits_of house.bench) }
     ensures stands { IfOk result (λ r. r.1 ≡ GoOn → IsTrue (O.link r.0.journal.disk).stands) }
     ensures open { IfOk result (λ r. r.1 ≡ GoOn → after ≡ Close → ⊥) }
-    ensures replied { (h : History) → HouseRepresents O.disk T.stands T.site T.holds house h
+    ensures replied { (h : History) → HouseRepresents O.disk T.trade house h
         → ((n : ℕ) → answer h (house_time house.bench) (limits_of house.bench) (asked_of q.now) ≡ Again n → ⊥)
-        → RepliesTo O.link O.disk T.stands T.site T.holds (limits_of house.bench) (asked_of q.now) after house.journal.disk (state_of h house.bench) result }
+        → RepliesTo O.link O.disk T.trade (limits_of house.bench) (asked_of q.now) after house.journal.disk (state_of h house.bench) result }
 {
     let time = house.time();
     match house.accept(q) {

@@ -36,8 +36,8 @@ pub enum ServeOut<O, T> {
 /// where the disk failed.
 pub fn serve_links<O: Outside, T: Trade>(house: House<O, T>, links: u32) -> ServeOut<O, T>
     ensures causes { HaveCauses O.link O.disk house.journal.disk result }
-    ensures served { (h : History) → HouseRepresents O.disk T.stands T.site T.holds house h
-        → ServesLinks O.link O.disk T.stands T.site T.holds (limits_of house.bench) links house.journal.disk (state_of h house.bench) result }
+    ensures served { (h : History) → HouseRepresents O.disk T.trade house h
+        → ServesLinks O.link O.disk T.trade (limits_of house.bench) links house.journal.disk (state_of h house.bench) result }
 {
     let Ok(mut reader) = HeadReader::new(house.alloc()) else {
         return ServeOut::NoMemory(house);
@@ -67,8 +67,8 @@ fn serve_link<O: Outside, T: Trade>(
     requires stands { IsTrue (O.link house.journal.disk).stands }
     ensures causes { PartCauses O.link O.disk house.journal.disk (λ x. x) result }
     ensures limits { IfOk result (λ x. limits_of x.bench ≡ limits_of house.bench) }
-    ensures served { (h : History) → HouseRepresents O.disk T.stands T.site T.holds house h
-        → ServesLink O.link O.disk T.stands T.site T.holds (limits_of house.bench) house.journal.disk (state_of h house.bench) result }
+    ensures served { (h : History) → HouseRepresents O.disk T.trade house h
+        → ServesLink O.link O.disk T.trade (limits_of house.bench) house.journal.disk (state_of h house.bench) result }
 {
     reader.restart();
     match serve_turns(house, reader) {
@@ -94,8 +94,8 @@ fn serve_turns<O: Outside, T: Trade>(
     requires empty { reader.old ≡ nothing_held }
     ensures causes { PartCauses O.link O.disk house.journal.disk (λ r. r.0) result }
     ensures limits { IfOk result (λ r. limits_of r.0.bench ≡ limits_of house.bench) }
-    ensures ended { (h : History) → HouseRepresents O.disk T.stands T.site T.holds house h
-        → EndsTurns O.link O.disk T.stands T.site T.holds (limits_of house.bench) house.journal.disk (state_of h house.bench) result }
+    ensures ended { (h : History) → HouseRepresents O.disk T.trade house h
+        → EndsTurns O.link O.disk T.trade (limits_of house.bench) house.journal.disk (state_of h house.bench) result }
 {
     let mut house = house;
     'turns: loop {

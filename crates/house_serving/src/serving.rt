@@ -32,10 +32,10 @@ pub fn serve_bench<K: Link, T: Trade>(
     k: &mut K,
     links: u32,
 ) -> Result<u32, BenchEnd>
-    requires house { (h : History) × IsHouse T.stands T.site T.holds bench.old h }
+    requires house { (h : History) × IsHouse T.trade bench.old h }
     ensures moved { K.link_moved k.old k.new }
     ensures limits { limits_of bench.new ≡ limits_of bench.old }
-    ensures served { Refines T.stands T.site T.holds (BySteps (λ steps s. Served (Step (limits_of bench.old)) Clock.OfLinks links result steps s (K.link k.old) (K.link k.new))) bench.old bench.new }
+    ensures served { Refines T.trade (BySteps (λ steps s. Served (Step (limits_of bench.old)) Clock.OfLinks links result steps s (K.link k.old) (K.link k.new))) bench.old bench.new }
 {
     serve_bench_by(bench, k, links, &Clock::OfLinks)
 }
@@ -47,10 +47,10 @@ pub fn serve_bench_by<K: Link, T: Trade>(
     links: u32,
     clock: &Clock,
 ) -> Result<u32, BenchEnd>
-    requires house { (h : History) × IsHouse T.stands T.site T.holds bench.old h }
+    requires house { (h : History) × IsHouse T.trade bench.old h }
     ensures moved { K.link_moved k.old k.new }
     ensures limits { limits_of bench.new ≡ limits_of bench.old }
-    ensures served { Refines T.stands T.site T.holds (BySteps (λ steps s. Served (Step (limits_of bench.old)) clock.now links result steps s (K.link k.old) (K.link k.new))) bench.old bench.new }
+    ensures served { Refines T.trade (BySteps (λ steps s. Served (Step (limits_of bench.old)) clock.now links result steps s (K.link k.old) (K.link k.new))) bench.old bench.new }
 {
     let Ok(mut reader) = HeadReader::new(bench.alloc()) else {
         return Err(BenchEnd::NoMemory);
@@ -76,10 +76,10 @@ fn serve_standing<K: Link, T: Trade>(
     clock: &Clock,
 )
     requires stands { IsTrue (K.link k.old).stands }
-    requires house { (h : History) × IsHouse T.stands T.site T.holds bench.old h }
+    requires house { (h : History) × IsHouse T.trade bench.old h }
     ensures moved { K.link_moved k.old k.new }
     ensures limits { limits_of bench.new ≡ limits_of bench.old }
-    ensures course { Refines T.stands T.site T.holds (BySteps (λ steps s. HadLink (Step (limits_of bench.old)) clock.now steps s (K.link k.old) (K.link k.new))) bench.old bench.new }
+    ensures course { Refines T.trade (BySteps (λ steps s. HadLink (Step (limits_of bench.old)) clock.now steps s (K.link k.old) (K.link k.new))) bench.old bench.new }
 {
     reader.restart();
     serve_turns(bench, reader, k, clock);
@@ -95,10 +95,10 @@ fn serve_turns<K: Link, T: Trade>(
 ) -> Turn
     requires stands { IsTrue (K.link k.old).stands }
     requires empty { reader.old ≡ nothing_held }
-    requires house { (h : History) × IsHouse T.stands T.site T.holds bench.old h }
+    requires house { (h : History) × IsHouse T.trade bench.old h }
     ensures moved { K.link_moved k.old k.new }
     ensures limits { limits_of bench.new ≡ limits_of bench.old }
-    ensures ended { Refines T.stands T.site T.holds (BySteps (λ steps s. Ended (Step (limits_of bench.old)) clock.now result steps s (K.link k.old) (K.link k.new))) bench.old bench.new }
+    ensures ended { Refines T.trade (BySteps (λ steps s. Ended (Step (limits_of bench.old)) clock.now result steps s (K.link k.old) (K.link k.new))) bench.old bench.new }
 {
     'turns: loop {
         match serve_next(bench, reader, k, clock) {

@@ -41,7 +41,7 @@ pub(crate) fn serve_next<K: Link, T: Trade>(
     requires stands { IsTrue (K.link k.old).stands }
     ensures moved { K.link_moved k.old k.new }
     ensures limits { limits_of bench.new ≡ limits_of bench.old }
-    ensures turned { Refines T.stands T.site T.holds (BySteps (λ steps s. Turned (Step (limits_of bench.old)) clock.now result steps s reader.old (K.link k.old) reader.new (K.link k.new))) bench.old bench.new }
+    ensures turned { Refines T.trade (BySteps (λ steps s. Turned (Step (limits_of bench.old)) clock.now result steps s reader.old (K.link k.old) reader.new (K.link k.new))) bench.old bench.new }
 {
     match reader.take(k) {
         HeadOut::Head(q, after) => serve_request(bench, &q, after, k, clock),
@@ -62,7 +62,7 @@ fn serve_request<K: Link, T: Trade>(
     requires stands { IsTrue (K.link k.old).stands }
     ensures moved { K.link_moved k.old k.new }
     ensures limits { limits_of bench.new ≡ limits_of bench.old }
-    ensures answered { Refines T.stands T.site T.holds (λ s t. (step : Did State) × (t ≡ step.after) × ((closes : Bool) → AnsweredItem (Step (limits_of bench.old)) clock.now (request (asked_of q.now) closes) after result step s (K.link k.old) (K.link k.new))) bench.old bench.new }
+    ensures answered { Refines T.trade (λ s t. (step : Did State) × (t ≡ step.after) × ((closes : Bool) → AnsweredItem (Step (limits_of bench.old)) clock.now (request (asked_of q.now) closes) after result step s (K.link k.old) (K.link k.new))) bench.old bench.new }
 {
     let reading = read_clock(k, clock);
     let said = bench.answer(reading, q);
@@ -81,7 +81,7 @@ fn serve_refused<K: Link, T: Trade>(
     requires stands { IsTrue (K.link k.old).stands }
     ensures moved { K.link_moved k.old k.new }
     ensures limits { limits_of bench.new ≡ limits_of bench.old }
-    ensures answered { Refines T.stands T.site T.holds (λ s t. (step : Did State) × (t ≡ step.after) × ((closes : Bool) → AnsweredItem (Step (limits_of bench.old)) clock.now (refused (as_refusal head) closes) after result step s (K.link k.old) (K.link k.new))) bench.old bench.new }
+    ensures answered { Refines T.trade (λ s t. (step : Did State) × (t ≡ step.after) × ((closes : Bool) → AnsweredItem (Step (limits_of bench.old)) clock.now (refused (as_refusal head) closes) after result step s (K.link k.old) (K.link k.new))) bench.old bench.new }
 {
     let reading = read_clock(k, clock);
     send(&bench.refuse_head(reading, head), after, k)

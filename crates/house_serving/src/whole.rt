@@ -23,7 +23,7 @@ pub fn reply_to_link<T: Trade>(
 ) -> Result<(), NoMemory>
     requires { out.old.items ≡ [] }
     ensures limits { limits_of bench.new ≡ limits_of bench.old }
-    ensures replied { OnOk result (Refines T.stands T.site T.holds (BySteps (λ steps s. (out.new.items ≡ sent_of steps) × IsSession (Step (limits_of bench.old)) moment link.now s steps)) bench.old bench.new) }
+    ensures replied { OnOk result (Refines T.trade (BySteps (λ steps s. (out.new.items ≡ sent_of steps) × IsSession (Step (limits_of bench.old)) moment link.now s steps)) bench.old bench.new) }
 {
     let mut rest = link;
     for _ in 0..MOST_ITEMS {
@@ -47,7 +47,7 @@ fn reply_to<T: Trade>(
     out: &mut Vec<u8>,
 ) -> Result<(), NoMemory>
     ensures limits { limits_of bench.new ≡ limits_of bench.old }
-    ensures stepped { OnOk result (Refines T.stands T.site T.holds (λ s t. (reply : List ℕ) × Step (limits_of bench.old) s moment (item_of item.now) reply t × (out.new.items ≡ out.old.items ++ reply)) bench.old bench.new) }
+    ensures stepped { OnOk result (Refines T.trade (λ s t. (reply : List ℕ) × Step (limits_of bench.old) s moment (item_of item.now) reply t × (out.new.items ≡ out.old.items ++ reply)) bench.old bench.new) }
 {
     match item {
         ItemRef::Request(q, _) => {

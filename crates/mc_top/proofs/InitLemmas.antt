@@ -28,6 +28,7 @@ use Rattle.mc_top.specs.Endings.{fault_status}
 use Rattle.mc_top.specs.Init.{FoundPair, FoundsBy, FoundCauses}
 use Rattle.mc_top.specs.Serving.{EncodesLawful}
 use Rattle.mc_top.proofs.ServedLemmas.{stands_lawful}
+use Rattle.house_core.specs.Trade.{TradeView}
 
 -- any entry that fits has room as the first
 pub first_has_room : (e : Entry) → Fits e → empty_size + entry_size [] e ≤ 2 ^ 40
@@ -68,18 +69,18 @@ fault_causes A disk before (faults.Unlawful d place) counts = absurd counts
 fault_causes A disk before (faults.WrongKind d) counts = absurd counts
 
 -- the disk encodes the Site entry
-pub founded_for : {O : Type 0} (disk : O → DiskView) (stands : Shelf → History → Type 0) (site : Shelf → ℕ) (holds : Shelf → ℕ → Type 0) (e : Entry) (bytes : List ℕ) (x : House O Shelf) → FoundedFor disk stands site holds full e bytes x
+pub founded_for : {O : Type 0} (disk : O → DiskView) (trade : Shelf → TradeView) (e : Entry) (bytes : List ℕ) (x : House O Shelf) → FoundedFor disk trade full e bytes x
     → EncodesLawful (disk x.journal.disk) (e ∷ [])
-founded_for disk stands site holds e bytes x at =
-    stands_lawful disk stands site holds x (e ∷ []) at.house (subst (λ (l : Limits). IsLawful l (e ∷ [])) at.limits' at.house.house.stands'.state.lawful)
+founded_for disk trade e bytes x at =
+    stands_lawful disk trade x (e ∷ []) at.house (subst (λ (l : Limits). IsLawful l (e ∷ [])) at.limits' at.house.house.represents.state.lawful)
 
 -- nothing was founded
-pub not_founded : {O : Type 0} (disk : O → DiskView) (stands : Shelf → History → Type 0) (site : Shelf → ℕ) (holds : Shelf → ℕ → Type 0) (founder : Founder) (moment : ℕ) (bytes : List ℕ) (a m : O) (fault : HouseFault O) → LinkKeeps (disk a) (disk m)
-    → FoundsHouseBy {D = O} {T = Shelf} disk stands site holds full (site_of founder moment) bytes (Err fault) → ReadsOnly {D = O} {A = House O Shelf} disk m (Err fault) → FoundsBy (disk a) founder bytes moment (fault_status fault) (disk (fault_disk fault))
-not_founded disk stands site holds founder moment bytes a m (faults.NotEmpty d size) keeps by read = (size, refl, by, read.contents ∙ keeps.contents)
-not_founded disk stands site holds founder moment bytes a m (faults.NoMemory d) keeps by read = read.contents ∙ keeps.contents
-not_founded disk stands site holds founder moment bytes a m (faults.Disk d) keeps by read = tt
-not_founded disk stands site holds founder moment bytes a m (faults.NotJournal d) keeps by read = absurd by
-not_founded disk stands site holds founder moment bytes a m (faults.BadRecord d place) keeps by read = absurd by
-not_founded disk stands site holds founder moment bytes a m (faults.Unlawful d place) keeps by read = absurd by
-not_founded disk stands site holds founder moment bytes a m (faults.WrongKind d) keeps by read = absurd by
+pub not_founded : {O : Type 0} (disk : O → DiskView) (trade : Shelf → TradeView) (founder : Founder) (moment : ℕ) (bytes : List ℕ) (a m : O) (fault : HouseFault O) → LinkKeeps (disk a) (disk m)
+    → FoundsHouseBy {D = O} {T = Shelf} disk trade full (site_of founder moment) bytes (Err fault) → ReadsOnly {D = O} {A = House O Shelf} disk m (Err fault) → FoundsBy (disk a) founder bytes moment (fault_status fault) (disk (fault_disk fault))
+not_founded disk trade founder moment bytes a m (faults.NotEmpty d size) keeps by read = (size, refl, by, read.contents ∙ keeps.contents)
+not_founded disk trade founder moment bytes a m (faults.NoMemory d) keeps by read = read.contents ∙ keeps.contents
+not_founded disk trade founder moment bytes a m (faults.Disk d) keeps by read = tt
+not_founded disk trade founder moment bytes a m (faults.NotJournal d) keeps by read = absurd by
+not_founded disk trade founder moment bytes a m (faults.BadRecord d place) keeps by read = absurd by
+not_founded disk trade founder moment bytes a m (faults.Unlawful d place) keeps by read = absurd by
+not_founded disk trade founder moment bytes a m (faults.WrongKind d) keeps by read = absurd by

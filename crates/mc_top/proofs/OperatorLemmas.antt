@@ -25,7 +25,7 @@ use Rattle.house_core.specs.Opening.{OpenedFor}
 use Rattle.house_serving.proofs.AsideLemmas.{TellsAside, SentNoMore, no_more_then, no_more_still, no_more_heard, no_more_finished, no_more_taken, aside_still}
 use Rattle.house_serving.proofs.OrderLemmas.{house_keeps}
 use Rattle.vendor_core.specs.declared.shelf.Shelf.{Shelf}
-use Rattle.vendor_core.specs.Shelf.{ShelfRepresents, HasGoods}
+use Rattle.vendor_core.specs.Shelf.{shelf_view}
 use Rattle.vendor_core.specs.Tasks.{Task, Add, Stays, Refuse, IsMintTask, IsMintAt, mint_lines, Does, LeavesBy, Performs}
 use Rattle.mc_top.specs.Words.{Listing}
 use Rattle.mc_top.specs.declared.operation.Operation.{Operation}
@@ -42,10 +42,10 @@ use Rattle.mc_top.proofs.ServedLemmas.{stands_lawful}
 
 -- the house of a vendor represents a history
 abbrev pub Vendor : {O : Type 0} → (O → DiskView) → House O Shelf → History → Type 0
-Vendor disk x h = HouseRepresents disk ShelfRepresents (λ s. 0) HasGoods x h
+Vendor disk x h = HouseRepresents disk shelf_view x h
 
 lawful_in : {O : Type 0} (disk : O → DiskView) (x : House O Shelf) (h : History) → limits_of x.bench ≡ full → Vendor disk x h → EncodesLawful (disk x.journal.disk) h
-lawful_in disk x h limits st = stands_lawful disk ShelfRepresents (λ s. 0) HasGoods x h st (subst (λ (l : Limits). IsLawful l h) limits st.house.stands'.state.lawful)
+lawful_in disk x h limits st = stands_lawful disk shelf_view x h st (subst (λ (l : Limits). IsLawful l h) limits st.house.represents.state.lawful)
 
 -- ---- up to the task
 
@@ -61,14 +61,14 @@ Tells link a = IsSome (link a).sessions
 pub record Worked {O : Type 0} (link : O → LinkView) (disk : O → DiskView) (x y : House O Shelf) : Type 0 where
   pub quiet : SentNoMore (link x.journal.disk) (link y.journal.disk)
   pub keeps : LinkKeeps (disk x.journal.disk) (disk y.journal.disk)
-  pub stands' : (h : History) → Vendor disk x h → Vendor disk y h
+  pub represents : (h : History) → Vendor disk x h → Vendor disk y h
   pub limits' : limits_of y.bench ≡ limits_of x.bench
 
 pub worked_then : {O : Type 0} (link : O → LinkView) (disk : O → DiskView) (x y z : House O Shelf) → Worked link disk x y → LinkKeeps (disk x.journal.disk) (disk z.journal.disk) → Worked link disk y z → Worked link disk x z
 worked_then link disk x y z a keeps b = record {
   quiet = no_more_then (link x.journal.disk) (link y.journal.disk) (link z.journal.disk) a.quiet b.quiet;
   keeps = keeps;
-  stands' = λ h st. b.stands' h (a.stands' h st);
+  represents = λ h st. b.represents h (a.represents h st);
   limits' = b.limits' ∙ a.limits';
 }
 
@@ -109,14 +109,14 @@ before_pairs link disk a x y tells read same worked =
     )
 
 pub ready : {O : Type 0} (link : O → LinkView) (disk : O → DiskView) (operation : Operation) (bytes input : List ℕ) (a : O) (x m y : House O Shelf) (moment : ℕ) → TellsAside link (λ o. (disk o).aside)
-    → OpenedFor disk ShelfRepresents (λ s. 0) HasGoods full bytes x → OnlyRead (disk a) (disk x.journal.disk) → link x.journal.disk ≡ link a
+    → OpenedFor disk shelf_view full bytes x → OnlyRead (disk a) (disk x.journal.disk) → link x.journal.disk ≡ link a
     → TakesInput operation (link x.journal.disk) input (link m.journal.disk) → house_time m.bench ≡ house_time x.bench
     → Worked link disk x y → AreRead OfLinks (moment ∷ []) (link m.journal.disk).readings (link y.journal.disk).readings → link y.journal.disk ≡ with_readings (link y.journal.disk).readings (link m.journal.disk)
     → house_time y.bench ≡ max (house_time m.bench) moment → Ready link disk operation bytes input a y
 ready link disk operation bytes input a x m y moment tells at read_only same takes kept_time worked read rest raised = record {
   history = at.history;
   of_bytes = at.of_bytes;
-  house = worked.stands' at.history at.house;
+  house = worked.represents at.history at.house;
   limits' = worked.limits' ∙ at.limits';
   taken = link m.journal.disk;
   takes = subst (λ (v : LinkView). TakesInput operation v input (link m.journal.disk)) same takes;
@@ -133,7 +133,7 @@ pub by_clock : {O : Type 0} (link : O → LinkView) (disk : O → DiskView) (x y
 by_clock link disk x y keeps rest stands limits = record {
   quiet = no_more_still (link x.journal.disk) (link y.journal.disk) (ap (λ (v : LinkView). v.sessions) rest);
   keeps = keeps;
-  stands' = stands;
+  represents = stands;
   limits' = limits;
 }
 
@@ -174,7 +174,7 @@ pub by_links : {O : Type 0} (link : O → LinkView) (disk : O → DiskView) (x y
 by_links link disk x y quiet keeps rests = record {
   quiet = quiet;
   keeps = keeps;
-  stands' = λ h st. house_keeps disk ShelfRepresents (λ s. 0) HasGoods x y h st keeps rests;
+  represents = λ h st. house_keeps disk shelf_view x y h st keeps rests;
   limits' = ap limits_of rests.bench;
 }
 
@@ -193,7 +193,7 @@ pub unread : {O : Type 0} (link : O → LinkView) (disk : O → DiskView) (opera
 unread link disk operation bytes a x y status tells at worked lost = record {
   history = at.house.history;
   stands = at.house.of_bytes;
-  left = lawful_in disk y at.house.history (worked.limits' ∙ at.house.limits') (worked.stands' at.house.history at.house.house);
+  left = lawful_in disk y at.house.history (worked.limits' ∙ at.house.limits') (worked.represents at.house.history at.house.house);
   pairs = ran_weaker (disk a) (disk y.journal.disk) _ _ (before_pairs link disk a x y tells at.read at.link' worked).0 (λ i s p. (inl p.0, p.1));
   lost = ⊎_elim
       (λ l. inl (l.0, subst (λ (v : LinkView). LosesInput operation v (link y.journal.disk)) at.link' l.1))
@@ -211,21 +211,21 @@ unread_at_once link disk operation bytes a x tells keeps at =
 -- how the disk is left, by what was done
 did : {O A : Type 0} (disk : O → DiskView) (operation : Operation) (line : List ℕ) (Told : Task → History → A → Type 0) (y : House O Shelf) (h : History) (task : Task) (out : Outcome O Shelf A) → limits_of y.bench ≡ full → IsLawful full h
     → ((o : O) → IsDisk (disk o)) → ((answer : A) → IsDoable task → Told task (after task h) answer → IsLine operation h task line) → OfHouse (KeepsTime y) out
-    → Does disk ShelfRepresents (λ s. 0) HasGoods Told (limits_of y.bench) y.journal.disk h task out → Ran (disk y.journal.disk) (disk (outcome_disk out)) (LeavesBy task out h (disk y.journal.disk).aside)
+    → Does disk shelf_view Told (limits_of y.bench) y.journal.disk h task out → Ran (disk y.journal.disk) (disk (outcome_disk out)) (LeavesBy task out h (disk y.journal.disk).aside)
     → DidBy (disk (outcome_disk out)) operation h task (outcome_status out line)
 did disk operation line Told y h (Add e) (outcomes.Done x n) limits lawful is_disk says keeps does ran = (tt, says n tt does.1, lawful_in disk x (h ++ e ∷ []) (keeps.limits ∙ limits) does.0)
 did disk operation line Told y h (Add e) (outcomes.Refused x f) limits lawful is_disk says keeps does ran =
-    (subst (λ (l : Limits). fitted h l e ≡ Err (lines.Refuse f)) limits does.0, lawful_in disk x h (keeps.limits ∙ limits) does.1.stands')
-did disk operation line Told y h (Add e) (outcomes.NoMemory x) limits lawful is_disk says keeps does ran = lawful_in disk x h (keeps.limits ∙ limits) does.stands'
+    (subst (λ (l : Limits). fitted h l e ≡ Err (lines.Refuse f)) limits does.0, lawful_in disk x h (keeps.limits ∙ limits) does.1.represents)
+did disk operation line Told y h (Add e) (outcomes.NoMemory x) limits lawful is_disk says keeps does ran = lawful_in disk x h (keeps.limits ∙ limits) does.represents
 did disk operation line Told y h (Add e) (outcomes.Halted d) limits lawful is_disk says keeps does ran =
     let more : IsLawful full (h ++ e ∷ []) = longer_lawful full h e lawful (subst (λ (l : Limits). MayFollow l h e) limits does.0) in
     record { leaves = λ image l. (ran_now (disk y.journal.disk) (disk d) _ (is_disk d) ran image l).0; lawful = more; once = accepted_once full (h ++ e ∷ []) more }
-did disk operation line Told y h Stays (outcomes.Done x n) limits lawful is_disk says keeps does ran = (tt, says n tt does.1, lawful_in disk x h (keeps.limits ∙ limits) does.0.stands')
+did disk operation line Told y h Stays (outcomes.Done x n) limits lawful is_disk says keeps does ran = (tt, says n tt does.1, lawful_in disk x h (keeps.limits ∙ limits) does.0.represents)
 did disk operation line Told y h Stays (outcomes.Refused x f) limits lawful is_disk says keeps does ran = absurd does
-did disk operation line Told y h Stays (outcomes.NoMemory x) limits lawful is_disk says keeps does ran = lawful_in disk x h (keeps.limits ∙ limits) does.stands'
+did disk operation line Told y h Stays (outcomes.NoMemory x) limits lawful is_disk says keeps does ran = lawful_in disk x h (keeps.limits ∙ limits) does.represents
 did disk operation line Told y h Stays (outcomes.Halted d) limits lawful is_disk says keeps does ran = absurd does
 did disk operation line Told y h (Refuse g) (outcomes.Done x n) limits lawful is_disk says keeps does ran = absurd does
-did disk operation line Told y h (Refuse g) (outcomes.Refused x f) limits lawful is_disk says keeps does ran = (does.0, lawful_in disk x h (keeps.limits ∙ limits) does.1.stands')
+did disk operation line Told y h (Refuse g) (outcomes.Refused x f) limits lawful is_disk says keeps does ran = (does.0, lawful_in disk x h (keeps.limits ∙ limits) does.1.represents)
 did disk operation line Told y h (Refuse g) (outcomes.NoMemory x) limits lawful is_disk says keeps does ran = absurd does
 did disk operation line Told y h (Refuse g) (outcomes.Halted d) limits lawful is_disk says keeps does ran = absurd does
 
@@ -243,7 +243,7 @@ pub operated : {O A : Type 0} (link : O → LinkView) (disk : O → DiskView) (o
     (at : Ready link disk operation bytes input a y) → ((o : O) → IsDisk (disk o)) → link (outcome_disk out) ≡ link y.journal.disk
     → ((task : Task) → Asked at.history task → Asks operation input at.history (house_time y.bench) task)
     → ((task : Task) (answer : A) → Asked at.history task → IsDoable task → Told task (after task at.history) answer → IsLine operation at.history task line) → OfHouse (KeepsTime y) out
-    → Performs disk ShelfRepresents (λ s. 0) HasGoods (Asked at.history) Told (limits_of y.bench) y.journal.disk at.history out
+    → Performs disk shelf_view (Asked at.history) Told (limits_of y.bench) y.journal.disk at.history out
     → Operated link disk operation bytes a (outcome_status out line) (outcome_disk out)
 operated link disk operation bytes input line Told a y out Asked at is_disk same asks says keeps does = record {
   history = at.history;
@@ -256,7 +256,7 @@ operated link disk operation bytes input line Told a y out Asked at is_disk same
   rest = subst (λ (v : LinkView). v ≡ with_readings v.readings at.taken) (sym same) at.rest;
   task = does.task;
   asks = subst (λ (t : ℕ). Asks operation input at.history t does.task) at.time' (asks does.task does.asks);
-  did = did disk operation line Told y at.history does.task out at.limits' (subst (λ (l : Limits). IsLawful l at.history) at.limits' at.house.house.stands'.state.lawful) is_disk (λ answer doable told'. says does.task answer does.asks doable told') keeps does.does does.ran;
+  did = did disk operation line Told y at.history does.task out at.limits' (subst (λ (l : Limits). IsLawful l at.history) at.limits' at.house.house.represents.state.lawful) is_disk (λ answer doable told'. says does.task answer does.asks doable told') keeps does.does does.ran;
   pairs = ran_then (disk a) (disk y.journal.disk) (disk (outcome_disk out)) (OperatePair (Tells link a) (disk a) does.task at.history)
       (ran_weaker (disk a) (disk y.journal.disk) _ _ at.pairs.0 (λ i s p. (inl p.0, p.1)))
       (ran_weaker (disk y.journal.disk) (disk (outcome_disk out)) _ _ does.ran (λ i s p. leaves_pair (Tells link a) (disk a) does.task out at.history (disk y.journal.disk).aside i s at.pairs.1 p));

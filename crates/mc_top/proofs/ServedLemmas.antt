@@ -31,6 +31,7 @@ use Rattle.mc_top.specs.Opening.{full}
 use Rattle.mc_top.specs.Endings.{served_status, fault_status}
 use Rattle.mc_top.specs.Serving.{EncodesLawful, ServePair, ServedFrom, Unserved, NotOpened, ServesLinksOf, ServeCauses}
 use Rattle.mc_top.proofs.LawfulRuns.{IsSound, all_sound, links_sound, doubt_sound}
+use Rattle.house_core.specs.Trade.{TradeView}
 
 -- ---- counts
 
@@ -55,15 +56,15 @@ read_then_moved tells a b c s steps read moved =
     (subst (λ (l : List ℕ). Ran b c (λ i x. (a.leaves i × (x ≡ a.aside)) ⊎ InOrder tells s l steps i x)) read.aside (ran_weaker b c _ _ moved.ran (λ i x o. inr o)))
 
 -- the state of the house that was opened
-opened_sound : {O : Type 0} (disk : O → DiskView) (stands : Shelf → History → Type 0) (site : Shelf → ℕ) (holds : Shelf → ℕ → Type 0) (bytes : List ℕ) (x : House O Shelf) (at : OpenedFor disk stands site holds full bytes x)
+opened_sound : {O : Type 0} (disk : O → DiskView) (trade : Shelf → TradeView) (bytes : List ℕ) (x : House O Shelf) (at : OpenedFor disk trade full bytes x)
     → IsSound full (state_of at.history x.bench)
-opened_sound disk stands site holds bytes x at = record {
-  lawful = subst (λ (l : Limits). IsLawful l at.history) at.limits' at.house.house.stands'.state.lawful;
-  in_time = at.house.house.stands'.state.in_time;
+opened_sound disk trade bytes x at = record {
+  lawful = subst (λ (l : Limits). IsLawful l at.history) at.limits' at.house.house.represents.state.lawful;
+  in_time = at.house.house.represents.state.in_time;
 }
 
-pub stands_lawful : {O : Type 0} (disk : O → DiskView) (stands : Shelf → History → Type 0) (site : Shelf → ℕ) (holds : Shelf → ℕ → Type 0) (x : House O Shelf) (h : History) → HouseRepresents disk stands site holds x h → IsLawful full h → EncodesLawful (disk x.journal.disk) h
-stands_lawful disk stands site holds x h st lawful = record {
+pub stands_lawful : {O : Type 0} (disk : O → DiskView) (trade : Shelf → TradeView) (x : House O Shelf) (h : History) → HouseRepresents disk trade x h → IsLawful full h → EncodesLawful (disk x.journal.disk) h
+stands_lawful disk trade x h st lawful = record {
   bytes = st.journal.bytes;
   told = st.journal.told;
   stands = st.journal.stands;
@@ -72,50 +73,50 @@ stands_lawful disk stands site holds x h st lawful = record {
   lasts = λ image left. subst (λ (x : List ℕ). Encodes h x) (sym (st.journal.synced image left)) st.journal.stands;
 }
 
-served_from : {O : Type 0} (link : O → LinkView) (disk : O → DiskView) (stands : Shelf → History → Type 0) (site : Shelf → ℕ) (holds : Shelf → ℕ → Type 0) (bytes : List ℕ) (a : O) (x y : House O Shelf) (steps : List (Did State))
-    (at : OpenedFor disk stands site holds full bytes x) → OnlyRead (disk a) (disk x.journal.disk) → link x.journal.disk ≡ link a → RefinesBy link disk stands site holds x.journal.disk (state_of at.history x.bench) steps y
+served_from : {O : Type 0} (link : O → LinkView) (disk : O → DiskView) (trade : Shelf → TradeView) (bytes : List ℕ) (a : O) (x y : House O Shelf) (steps : List (Did State))
+    (at : OpenedFor disk trade full bytes x) → OnlyRead (disk a) (disk x.journal.disk) → link x.journal.disk ≡ link a → RefinesBy link disk trade x.journal.disk (state_of at.history x.bench) steps y
     → IsLawful full (state_after (state_of at.history x.bench) steps).history → ServedFrom link disk bytes a y.journal.disk (state_of at.history x.bench) steps
-served_from link disk stands site holds bytes a x y steps at read same went lawful = record {
+served_from link disk trade bytes a x y steps at read same went lawful = record {
   encoded = record { stands = at.of_bytes; time' = at.time' };
-  left = stands_lawful disk stands site holds y (state_after (state_of at.history x.bench) steps).history went.house lawful;
+  left = stands_lawful disk trade y (state_after (state_of at.history x.bench) steps).history went.house lawful;
   pairs = read_then_moved (IsSome (link a).sessions) (disk a) (disk x.journal.disk) (disk y.journal.disk) (state_of at.history x.bench) steps read
       (subst (λ (v : LinkView). MovedBy (IsSome v.sessions) (disk x.journal.disk) (disk y.journal.disk) (state_of at.history x.bench) steps) same went.moved);
 }
 
 -- why a book was not opened
-pub not_opened : {O : Type 0} (link : O → LinkView) (disk : O → DiskView) (stands : Shelf → History → Type 0) (site : Shelf → ℕ) (holds : Shelf → ℕ → Type 0) (bytes : List ℕ) (a : O) (fault : HouseFault O)
-    → OpensHouse {D = O} {T = Shelf} disk stands site holds full 0 bytes (Err fault) → link (fault_disk fault) ≡ link a → OnlyRead (disk a) (disk (fault_disk fault)) → NotOpened link disk bytes a (fault_status fault) (fault_disk fault)
-not_opened link disk stands site holds bytes a (faults.NotJournal d) by same read = (by, record { link' = same; read = read })
-not_opened link disk stands site holds bytes a (faults.BadRecord d place) by same read = (by, record { link' = same; read = read })
-not_opened link disk stands site holds bytes a (faults.Unlawful d place) by same read = (by, record { link' = same; read = read })
-not_opened link disk stands site holds bytes a (faults.WrongKind d) by same read = (refl, by, record { link' = same; read = read })
-not_opened link disk stands site holds bytes a (faults.NotEmpty d size) by same read = absurd by
-not_opened link disk stands site holds bytes a (faults.Disk d) by same read = record { link' = same; read = read }
-not_opened link disk stands site holds bytes a (faults.NoMemory d) by same read = record { link' = same; read = read }
+pub not_opened : {O : Type 0} (link : O → LinkView) (disk : O → DiskView) (trade : Shelf → TradeView) (bytes : List ℕ) (a : O) (fault : HouseFault O)
+    → OpensHouse {D = O} {T = Shelf} disk trade full 0 bytes (Err fault) → link (fault_disk fault) ≡ link a → OnlyRead (disk a) (disk (fault_disk fault)) → NotOpened link disk bytes a (fault_status fault) (fault_disk fault)
+not_opened link disk trade bytes a (faults.NotJournal d) by same read = (by, record { link' = same; read = read })
+not_opened link disk trade bytes a (faults.BadRecord d place) by same read = (by, record { link' = same; read = read })
+not_opened link disk trade bytes a (faults.Unlawful d place) by same read = (by, record { link' = same; read = read })
+not_opened link disk trade bytes a (faults.WrongKind d) by same read = (refl, by, record { link' = same; read = read })
+not_opened link disk trade bytes a (faults.NotEmpty d size) by same read = absurd by
+not_opened link disk trade bytes a (faults.Disk d) by same read = record { link' = same; read = read }
+not_opened link disk trade bytes a (faults.NoMemory d) by same read = record { link' = same; read = read }
 
 -- the book of the house that was opened is served
-pub serves_book : {O : Type 0} (link : O → LinkView) (disk : O → DiskView) (stands : Shelf → History → Type 0) (site : Shelf → ℕ) (holds : Shelf → ℕ → Type 0) (links : ℕ) (bytes : List ℕ) (a : O) (x : House O Shelf) (out : ServeOut O Shelf)
-    (at : OpenedFor disk stands site holds full bytes x) → OnlyRead (disk a) (disk x.journal.disk) → (disk x.journal.disk).faults ≡ (disk a).faults → link x.journal.disk ≡ link a
-    → ((h : History) → HouseRepresents disk stands site holds x h → ServesLinks link disk stands site holds (limits_of x.bench) links x.journal.disk (state_of h x.bench) out)
+pub serves_book : {O : Type 0} (link : O → LinkView) (disk : O → DiskView) (trade : Shelf → TradeView) (links : ℕ) (bytes : List ℕ) (a : O) (x : House O Shelf) (out : ServeOut O Shelf)
+    (at : OpenedFor disk trade full bytes x) → OnlyRead (disk a) (disk x.journal.disk) → (disk x.journal.disk).faults ≡ (disk a).faults → link x.journal.disk ≡ link a
+    → ((h : History) → HouseRepresents disk trade x h → ServesLinks link disk trade (limits_of x.bench) links x.journal.disk (state_of h x.bench) out)
     → ServesLinksOf link disk links bytes a (served_status out) (served_outside out)
-serves_book link disk stands site holds links bytes a x (outs.Done y n) at read calm same served =
+serves_book link disk trade links bytes a x (outs.Done y n) at read calm same served =
     let s : State = state_of at.history x.bench in
     let by = served at.history at.house in
     let all = subst (λ (v : LinkView). ServedAll (Step full) OfLinks links n by.0 s v (link y.journal.disk)) same
     (subst (λ (l : Limits). ServedAll (Step l) OfLinks links n by.0 s (link x.journal.disk) (link y.journal.disk)) at.limits' by.2) in
-    let sound = all_sound full links n by.0 s (link a) (link y.journal.disk) (omega arith) (opened_sound disk stands site holds bytes x at) all in
-    (s, by.0, served_from link disk stands site holds bytes a x y by.0 at read same by.1 sound.lawful, all)
-serves_book link disk stands site holds links bytes a x (outs.Link y) at read calm same served =
+    let sound = all_sound full links n by.0 s (link a) (link y.journal.disk) (omega arith) (opened_sound disk trade bytes x at) all in
+    (s, by.0, served_from link disk trade bytes a x y by.0 at read same by.1 sound.lawful, all)
+serves_book link disk trade links bytes a x (outs.Link y) at read calm same served =
     let s : State = state_of at.history x.bench in
     let by = served at.history at.house in
     let some = subst (λ (v : LinkView). ServedSome (Step full) OfLinks links by.0 s v (link y.journal.disk)) same
     (subst (λ (l : Limits). ServedSome (Step l) OfLinks links by.0 s (link x.journal.disk) (link y.journal.disk)) at.limits' by.2) in
-    let sound = links_sound full some.n by.0 s (link a) some.between (omega arith) (opened_sound disk stands site holds bytes x at) some.links_had in
-    (s, by.0, served_from link disk stands site holds bytes a x y by.0 at read same by.1 sound.lawful, some)
-serves_book {O = O} link disk stands site holds links bytes a x (outs.NoMemory y) at read calm same served =
+    let sound = links_sound full some.n by.0 s (link a) some.between (omega arith) (opened_sound disk trade bytes x at) some.links_had in
+    (s, by.0, served_from link disk trade bytes a x y by.0 at read same by.1 sound.lawful, some)
+serves_book {O = O} link disk trade links bytes a x (outs.NoMemory y) at read calm same served =
     let by = served at.history at.house in
     subst (λ (d : O). Unserved link disk a d) (sym by.1) (record { link' = same; read = read })
-serves_book link disk stands site holds links bytes a x (outs.Halted d) at read calm same served =
+serves_book link disk trade links bytes a x (outs.Halted d) at read calm same served =
     let s : State = state_of at.history x.bench in
     let by = served at.history at.house in
     let halted = by.3 in
@@ -124,7 +125,7 @@ serves_book link disk stands site holds links bytes a x (outs.Halted d) at read 
     subst (λ (v : LinkView). MovedBy (IsSome v.sessions) (disk x.journal.disk) (disk halted.taken) s by.0) same halted.until in
     let doubt = subst (λ (v : LinkView). InDoubtLinks full links by.0 s v by.1 by.2 (link d)) same
     (subst (λ (l : Limits). InDoubtLinks l links by.0 s (link x.journal.disk) by.1 by.2 (link d)) at.limits' by.4) in
-    let sound = doubt_sound full links by.0 s (link a) by.1 by.2 (link d) (omega arith) (opened_sound disk stands site holds bytes x at) doubt in (
+    let sound = doubt_sound full links by.0 s (link a) by.1 by.2 (link d) (omega arith) (opened_sound disk trade bytes x at) doubt in (
       s,
       by.0,
       by.1,

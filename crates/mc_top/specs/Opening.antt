@@ -9,7 +9,7 @@ use Rattle.house_core.specs.declared.bench.Bench.{Bench}
 use Rattle.house_core.specs.Bench.{IsHouse, house_time, limits_of}
 use Rattle.house_core.specs.Session.{State}
 use Rattle.vendor_core.specs.declared.shelf.Shelf.{Shelf}
-use Rattle.vendor_core.specs.Shelf.{ShelfRepresents, HasGoods}
+use Rattle.vendor_core.specs.Shelf.{shelf_view}
 use Rattle.mc_top.specs.Words.{Shop, terms_of}
 
 -- A shop is founded at moment 0 as a vendor's site, with the clear flag and a keeping time of 600
@@ -39,7 +39,7 @@ full = record { journal = 2 ^ 40; series = 2 ^ 32 }
 
 -- a house of the trade of a vendor represents a history
 abbrev pub IsVendor : Bench Shelf → History → Type 0
-IsVendor b h = IsHouse ShelfRepresents (λ s. 0) HasGoods b h
+IsVendor b h = IsHouse shelf_view b h
 
 -- a house that just opened, with this history
 pub record IsOpen (b : Bench Shelf) (h : History) : Type 0 where

@@ -15,7 +15,7 @@ use Rattle.millicent_http.specs.Courses.{AreRead, with_readings}
 use Rattle.house_core.specs.declared.house.House.{House}
 use Rattle.house_core.specs.Opening.{OpenedFor}
 use Rattle.vendor_core.specs.declared.shelf.Shelf.{Shelf}
-use Rattle.vendor_core.specs.Shelf.{ShelfRepresents, HasGoods}
+use Rattle.vendor_core.specs.Shelf.{shelf_view}
 use Rattle.vendor_core.specs.Tasks.{Task, Add, Stays, Refuse, goods_task, price_task, terms_task, IsMintTask, IsMintAt, mint_lines}
 use Rattle.mc_top.specs.declared.operation.Operation.{Operation}
 use Rattle.mc_top.specs.declared.operation.Operation.TheVariants as operations
@@ -103,7 +103,7 @@ OperatePair tells before task h image sent = (before.leaves image ⊎ (Encodes h
 
 -- a house was made of the book's bytes, which were only read
 pub record Opened {O : Type 0} (link : O → LinkView) (disk : O → DiskView) (bytes : List ℕ) (a : O) (x : House O Shelf) : Type 0 where
-  pub house : OpenedFor disk ShelfRepresents (λ s. 0) HasGoods full bytes x
+  pub house : OpenedFor disk shelf_view full bytes x
   pub read : OnlyRead (disk a) (disk x.journal.disk)
   pub link' : link x.journal.disk ≡ link a
 

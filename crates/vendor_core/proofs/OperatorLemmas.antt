@@ -27,6 +27,7 @@ use Rattle.vendor_core.specs.Tasks.{Task, Add, Stays, Refuse, Performs, TellsLas
 use Rattle.vendor_core.specs.Lines.{piece_lines}
 use Rattle.vendor_core.proofs.GoodsLaws.{bytes_of, in_force_goods}
 use Rattle.vendor_core.proofs.LineLemmas.{lines_of_mint, terms_under_mint}
+use Rattle.house_core.specs.Trade.{TradeView}
 
 -- ---- the house time
 
@@ -56,44 +57,44 @@ abbrev pub IsGranted : Task → Type 0
 IsGranted (Refuse f) = ⊥
 IsGranted _ = Unit {0}
 
-module _ {D T A : Type 0} (view : D → DiskView) (stands : T → History → Type 0) (site : T → ℕ) (holds : T → ℕ → Type 0) (Asks : Task → Type 0) (Told : Task → History → A → Type 0) (limits : Limits) where
+module _ {D T A : Type 0} (view : D → DiskView) (trade : T → TradeView) (Asks : Task → Type 0) (Told : Task → History → A → Type 0) (limits : Limits) where
   -- an entry was asked for, and it was entered as it is by a house
   pub enters : (f : ℕ → A) (disk : D) (h : History) (e : Entry) (r : Outcome D T ℕ) → Asks (Add e) → (IsDone r → (n : ℕ) → n ≡ length h → Told (Add e) (h ++ e ∷ []) (f n))
-      → Entered view stands site holds limits disk h e r → Ran (view disk) (view (outcome_disk r)) (Leaves (answers.Take e) r h (view disk).aside)
-      → Performs view stands site holds Asks Told limits disk h (answered_as f r)
-  enters f disk h e (outcomes.Done x n) asks told is ran = record { task = Add e; asks = asks; does = (is.stands', told tt n is.number'); ran = ran }
+      → Entered view trade limits disk h e r → Ran (view disk) (view (outcome_disk r)) (Leaves (answers.Take e) r h (view disk).aside)
+      → Performs view trade Asks Told limits disk h (answered_as f r)
+  enters f disk h e (outcomes.Done x n) asks told is ran = record { task = Add e; asks = asks; does = (is.represents, told tt n is.number'); ran = ran }
   enters f disk h e (outcomes.Refused x g) asks told is ran = record { task = Add e; asks = asks; does = is; ran = ran }
   enters f disk h e (outcomes.NoMemory x) asks told is ran = record { task = Add e; asks = asks; does = is; ran = ran }
   enters f disk h e (outcomes.Halted d) asks told is ran = record { task = Add e; asks = asks; does = is; ran = ran }
 
-  module _ (x : House D T) (h : History) (disk : IsDisk (view x.journal.disk)) (st : HouseRepresents view stands site holds x h) where
-    pub refuses : (f : Refusal) → Asks (Refuse f) → Performs view stands site holds Asks Told limits x.journal.disk h (outcomes.Refused x f)
+  module _ (x : House D T) (h : History) (disk : IsDisk (view x.journal.disk)) (st : HouseRepresents view trade x h) where
+    pub refuses : (f : Refusal) → Asks (Refuse f) → Performs view trade Asks Told limits x.journal.disk h (outcomes.Refused x f)
     refuses f asks = record {
       task = Refuse f;
       asks = asks;
-      does = (refl, as_it_stood view stands site holds x h st);
+      does = (refl, as_it_stood view trade x h st);
       ran = ran_nothing view x.journal x.journal.disk h disk st.journal refl;
     }
 
-    pub stays : (a : A) → Asks Stays → Told Stays h a → Performs view stands site holds Asks Told limits x.journal.disk h (outcomes.Done x a)
+    pub stays : (a : A) → Asks Stays → Told Stays h a → Performs view trade Asks Told limits x.journal.disk h (outcomes.Done x a)
     stays a asks told = record {
       task = Stays;
       asks = asks;
-      does = (as_it_stood view stands site holds x h st, told);
+      does = (as_it_stood view trade x h st, told);
       ran = ran_nothing view x.journal x.journal.disk h disk st.journal refl;
     }
 
-    pub wants_memory : (task : Task) → IsGranted task → Asks task → Performs view stands site holds Asks Told limits x.journal.disk h (outcomes.NoMemory x)
+    pub wants_memory : (task : Task) → IsGranted task → Asks task → Performs view trade Asks Told limits x.journal.disk h (outcomes.NoMemory x)
     wants_memory (Add e) granted asks = record {
       task = Add e;
       asks = asks;
-      does = as_it_stood view stands site holds x h st;
+      does = as_it_stood view trade x h st;
       ran = ran_nothing view x.journal x.journal.disk h disk st.journal refl;
     }
     wants_memory Stays granted asks = record {
       task = Stays;
       asks = asks;
-      does = as_it_stood view stands site holds x h st;
+      does = as_it_stood view trade x h st;
       ran = ran_nothing view x.journal x.journal.disk h disk st.journal refl;
     }
     wants_memory (Refuse f) granted asks = absurd granted
@@ -102,13 +103,13 @@ pub tells_last : (h : History) (e : Entry) (n : ℕ) → n ≡ length h → n + 
 tells_last h e n is = omega (arith, is, length-append h (e ∷ []))
 
 -- an entry was asked for, of which the number is answered
-pub enters_last : {D T : Type 0} (view : D → DiskView) (stands : T → History → Type 0) (site : T → ℕ) (holds : T → ℕ → Type 0) (Asks : Task → Type 0) (limits : Limits)
+pub enters_last : {D T : Type 0} (view : D → DiskView) (trade : T → TradeView) (Asks : Task → Type 0) (limits : Limits)
     (disk : D) (h : History) (e : Entry) (r : Outcome D T ℕ) → Asks (Add e)
-    → Entered view stands site holds limits disk h e r → Ran (view disk) (view (outcome_disk r)) (Leaves (answers.Take e) r h (view disk).aside)
-    → Performs view stands site holds Asks TellsLast limits disk h r
-enters_last {D = D} {T = T} view stands site holds Asks limits disk h e r asks is ran = go r (enters view stands site holds Asks TellsLast limits (λ n. n) disk h e r asks (λ done. tells_last h e) is ran)
+    → Entered view trade limits disk h e r → Ran (view disk) (view (outcome_disk r)) (Leaves (answers.Take e) r h (view disk).aside)
+    → Performs view trade Asks TellsLast limits disk h r
+enters_last {D = D} {T = T} view trade Asks limits disk h e r asks is ran = go r (enters view trade Asks TellsLast limits (λ n. n) disk h e r asks (λ done. tells_last h e) is ran)
   where
-    go : (s : Outcome D T ℕ) → Performs view stands site holds Asks TellsLast limits disk h (answered_as (λ n. n) s) → Performs view stands site holds Asks TellsLast limits disk h s
+    go : (s : Outcome D T ℕ) → Performs view trade Asks TellsLast limits disk h (answered_as (λ n. n) s) → Performs view trade Asks TellsLast limits disk h s
     go (outcomes.Done x n) p = p
     go (outcomes.Refused x g) p = p
     go (outcomes.NoMemory x) p = p
@@ -174,10 +175,10 @@ module _ (limits : Limits) (h : History) (t : ℕ) (reference : List ℕ) (count
             ∙ ap₂ (λ (v : ℕ → ℕ) (g : History). piece_lines v terms (run_from g value first count)) versions before),
       )
 
-  pub mint_enters : {D T : Type 0} (view : D → DiskView) (stands : T → History → Type 0) (site : T → ℕ) (holds : T → ℕ → Type 0) (disk : D) (terms : Issuing) (out : List ℕ) (r : Outcome D T ℕ)
+  pub mint_enters : {D T : Type 0} (view : D → DiskView) (trade : T → TradeView) (disk : D) (terms : Issuing) (out : List ℕ) (r : Outcome D T ℕ)
       → site_name (h ++ e ∷ []) ≡ site_name h → terms_in h 0 ≡ Some terms → (IsDone r → out ≡ piece_lines (version h (site_name h)) terms (run_from h value first count))
-      → Entered view stands site holds limits disk h e r → Ran (view disk) (view (outcome_disk r)) (Leaves (answers.Take e) r h (view disk).aside)
-      → Performs view stands site holds (IsMintTask h t limits reference count value) (TellsMint reference count value out) limits disk h (answered_as (λ n. n) r)
-  mint_enters view stands site holds disk terms out r named own lines is ran =
-      enters view stands site holds (IsMintTask h t limits reference count value) (TellsMint reference count value out) limits (λ n. n) disk h e r
+      → Entered view trade limits disk h e r → Ran (view disk) (view (outcome_disk r)) (Leaves (answers.Take e) r h (view disk).aside)
+      → Performs view trade (IsMintTask h t limits reference count value) (TellsMint reference count value out) limits disk h (answered_as (λ n. n) r)
+  mint_enters view trade disk terms out r named own lines is ran =
+      enters view trade (IsMintTask h t limits reference count value) (TellsMint reference count value out) limits (λ n. n) disk h e r
       (new, run.1, same ∙ ap (λ (id : ℕ). Mint t reference count value id) run.0) (λ done n number. mint_tells terms out n named own (lines done) number) is ran

@@ -20,6 +20,7 @@ use Rattle.house_core.specs.declared.outcome.Outcome.{Outcome}
 use Rattle.house_core.specs.declared.outcome.Outcome.TheVariants as outcomes
 use Rattle.house_core.specs.House.{HouseRepresents, IsAsItWas, outcome_disk}
 use Rattle.vendor_core.specs.Lines.{piece_lines}
+use Rattle.house_core.specs.Trade.{TradeView}
 
 -- ---- what there is to do
 
@@ -88,15 +89,15 @@ IsMintTask h t limits reference count value (Refuse f) =
 -- What comes of a task over a history: an entry is on the disk and is entered; nothing was changed, where the
 -- same stands, where it is refused or does not fit the journal (33), or where memory was refused; or the disk
 -- failed, and then the entry may follow. `Told` holds of the task, of the history that stands then, and of what is answered.
-abbrev pub Does : {D T A : Type 0} → (D → DiskView) → (T → History → Type 0) → (T → ℕ) → (T → ℕ → Type 0) → (Task → History → A → Type 0) → Limits → D → History → Task → Outcome D T A → Type 0
-Does view stands site holds Told limits disk h (Add e) (outcomes.Done x a) = HouseRepresents view stands site holds x (h ++ e ∷ []) × Told (Add e) (h ++ e ∷ []) a
-Does view stands site holds Told limits disk h (Add e) (outcomes.Refused x f) = (fitted h limits e ≡ Err (lines.Refuse f)) × IsAsItWas view stands site holds disk x h
-Does view stands site holds Told limits disk h (Add e) (outcomes.NoMemory x) = IsAsItWas view stands site holds disk x h
-Does view stands site holds Told limits disk h (Add e) (outcomes.Halted d) = MayFollow limits h e × Rose (view disk).faults (view d).faults
-Does view stands site holds Told limits disk h Stays (outcomes.Done x a) = IsAsItWas view stands site holds disk x h × Told Stays h a
-Does view stands site holds Told limits disk h Stays (outcomes.NoMemory x) = IsAsItWas view stands site holds disk x h
-Does view stands site holds Told limits disk h (Refuse f) (outcomes.Refused x g) = (g ≡ f) × IsAsItWas view stands site holds disk x h
-Does view stands site holds Told limits disk h _ _ = ⊥
+abbrev pub Does : {D T A : Type 0} → (D → DiskView) → (T → TradeView) → (Task → History → A → Type 0) → Limits → D → History → Task → Outcome D T A → Type 0
+Does view trade Told limits disk h (Add e) (outcomes.Done x a) = HouseRepresents view trade x (h ++ e ∷ []) × Told (Add e) (h ++ e ∷ []) a
+Does view trade Told limits disk h (Add e) (outcomes.Refused x f) = (fitted h limits e ≡ Err (lines.Refuse f)) × IsAsItWas view trade disk x h
+Does view trade Told limits disk h (Add e) (outcomes.NoMemory x) = IsAsItWas view trade disk x h
+Does view trade Told limits disk h (Add e) (outcomes.Halted d) = MayFollow limits h e × Rose (view disk).faults (view d).faults
+Does view trade Told limits disk h Stays (outcomes.Done x a) = IsAsItWas view trade disk x h × Told Stays h a
+Does view trade Told limits disk h Stays (outcomes.NoMemory x) = IsAsItWas view trade disk x h
+Does view trade Told limits disk h (Refuse f) (outcomes.Refused x g) = (g ≡ f) × IsAsItWas view trade disk x h
+Does view trade Told limits disk h _ _ = ⊥
 
 -- The crash pairs of it: with the entry or without it where one was written, else with the entries as they
 -- were; and nothing was sent.
@@ -106,10 +107,10 @@ LeavesBy (Add e) (outcomes.Halted d) h aside c s = EitherNoOutput h e aside c s
 LeavesBy _ _ h aside c s = EncodesNoOutput h aside c s
 
 -- a task that this history asks for was done
-pub record Performs {D T A : Type 0} (view : D → DiskView) (stands : T → History → Type 0) (site : T → ℕ) (holds : T → ℕ → Type 0) (Asks : Task → Type 0) (Told : Task → History → A → Type 0) (limits : Limits) (disk : D) (h : History) (result : Outcome D T A) : Type 0 where
+pub record Performs {D T A : Type 0} (view : D → DiskView) (trade : T → TradeView) (Asks : Task → Type 0) (Told : Task → History → A → Type 0) (limits : Limits) (disk : D) (h : History) (result : Outcome D T A) : Type 0 where
   pub task : Task
   pub asks : Asks task
-  pub does : Does view stands site holds Told limits disk h task result
+  pub does : Does view trade Told limits disk h task result
   pub ran : Ran (view disk) (view (outcome_disk result)) (LeavesBy task result h (view disk).aside)
 
 -- ---- what is answered

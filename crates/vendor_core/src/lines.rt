@@ -7,7 +7,7 @@ ghost use Rattle.ledger_model.specs.Houses.{site_name, terms_in, version};
 ghost use Rattle.ledger_model.specs.Pieces.{first_hand, run_from};
 ghost use Rattle.house_core.specs.House.{HouseRepresents};
 ghost use Rattle.vendor_core.specs.Lines.{piece_line, piece_lines};
-ghost use Rattle.vendor_core.specs.Shelf.{ShelfRepresents, HasGoods};
+ghost use Rattle.vendor_core.specs.Shelf.{shelf_view};
 
 use crate::shelf::Shelf;
 use house_core::House;
@@ -28,7 +28,7 @@ pub(crate) fn put_lines<D: Disk>(
 ) -> Result<(), NoMemory>
     requires value { 0 < value }
     requires empty { out.old.items ≡ [] }
-    ensures lines { OnOk result ((h g : History) (terms : Issuing) → HouseRepresents D.disk ShelfRepresents (λ s. 0) HasGoods house.now h → terms_in h 0 ≡ Some terms
+    ensures lines { OnOk result ((h g : History) (terms : Issuing) → HouseRepresents D.disk shelf_view house.now h → terms_in h 0 ≡ Some terms
         → site_name g ≡ site_name h → terms_in g 0 ≡ terms_in h 0 → first + count ≤ 2 ^ 64
         → out.new.items ≡ piece_lines (version h (site_name h)) terms (run_from g value first count)) }
     ensures empty { OnErr result (out.new.items ≡ []) }
@@ -66,7 +66,7 @@ fn put_line<D: Disk>(
     piece: &Piece,
     out: &mut Vec<u8>,
 ) -> Result<(), NoMemory>
-    ensures { OnOk result ((h : History) (terms : Issuing) → HouseRepresents D.disk ShelfRepresents (λ s. 0) HasGoods house.now h → terms_in h 0 ≡ Some terms
+    ensures { OnOk result ((h : History) (terms : Issuing) → HouseRepresents D.disk shelf_view house.now h → terms_in h 0 ≡ Some terms
         → out.new.items ≡ out.old.items ++ piece_line (version h (site_name h)) terms piece.now) }
 {
     let cert = house.own_certificate(piece);

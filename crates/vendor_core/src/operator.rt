@@ -10,7 +10,7 @@ ghost use Rattle.ledger_model.specs.Pieces.{has_reference, run_from};
 ghost use Rattle.house_core.specs.Bench.{house_time, limits_of};
 ghost use Rattle.house_core.specs.House.{HouseRepresents, HasRun, KeepsTime, OfHouse, CountsFaults, outcome_disk};
 ghost use Rattle.vendor_core.specs.Lines.{piece_lines};
-ghost use Rattle.vendor_core.specs.Shelf.{ShelfRepresents, HasGoods};
+ghost use Rattle.vendor_core.specs.Shelf.{shelf_view};
 ghost use Rattle.vendor_core.specs.Tasks.{goods_task, price_task, are_same_terms, terms_task, IsMintTask, Performs, TellsLast, TellsAdded, TellsMint, NoLines};
 
 use crate::lines::put_lines;
@@ -40,8 +40,8 @@ pub fn set_goods<D: Disk>(
     ensures moved { D.disk_moved house.journal.disk (outcome_disk result) }
     ensures keeps { OfHouse (KeepsTime house) result }
     ensures counts { CountsFaults result (D.disk house.journal.disk).faults (D.disk (outcome_disk result)).faults }
-    ensures exact { (h : History) → HouseRepresents D.disk ShelfRepresents (λ s. 0) HasGoods house h
-        → Performs D.disk ShelfRepresents (λ s. 0) HasGoods (λ task. task ≡ goods_task h (house_time house.bench) target.now price kind contents.now) TellsLast
+    ensures exact { (h : History) → HouseRepresents D.disk shelf_view house h
+        → Performs D.disk shelf_view (λ task. task ≡ goods_task h (house_time house.bench) target.now price kind contents.now) TellsLast
         (limits_of house.bench) house.journal.disk h result }
 {
     // The check lets a record go only where the types of its parts are named.
@@ -72,8 +72,8 @@ pub fn set_price<D: Disk>(
     ensures moved { D.disk_moved house.journal.disk (outcome_disk result) }
     ensures keeps { OfHouse (KeepsTime house) result }
     ensures counts { CountsFaults result (D.disk house.journal.disk).faults (D.disk (outcome_disk result)).faults }
-    ensures exact { (h : History) → HouseRepresents D.disk ShelfRepresents (λ s. 0) HasGoods house h
-        → Performs D.disk ShelfRepresents (λ s. 0) HasGoods (λ task. task ≡ price_task h (house_time house.bench) target.now price) TellsLast
+    ensures exact { (h : History) → HouseRepresents D.disk shelf_view house h
+        → Performs D.disk shelf_view (λ task. task ≡ price_task h (house_time house.bench) target.now price) TellsLast
         (limits_of house.bench) house.journal.disk h result }
 {
     let Some(goods) = house.trade().goods(target.bytes()) else {
@@ -99,8 +99,8 @@ pub fn add_terms<D: Disk>(
     ensures moved { D.disk_moved house.journal.disk (outcome_disk result) }
     ensures keeps { OfHouse (KeepsTime house) result }
     ensures counts { CountsFaults result (D.disk house.journal.disk).faults (D.disk (outcome_disk result)).faults }
-    ensures exact { (h : History) → HouseRepresents D.disk ShelfRepresents (λ s. 0) HasGoods house h
-        → Performs D.disk ShelfRepresents (λ s. 0) HasGoods (λ task. task ≡ terms_task h (house_time house.bench) terms.now) TellsAdded
+    ensures exact { (h : History) → HouseRepresents D.disk shelf_view house h
+        → Performs D.disk shelf_view (λ task. task ≡ terms_task h (house_time house.bench) terms.now) TellsAdded
         (limits_of house.bench) house.journal.disk h result }
 {
     if let Some(standing) = house.terms(terms.issuer()) {
@@ -163,8 +163,8 @@ pub fn mint<D: Disk>(
     ensures keeps { OfHouse (KeepsTime house) result }
     ensures counts { CountsFaults result (D.disk house.journal.disk).faults (D.disk (outcome_disk result)).faults }
     ensures empty { NoLines out.new.items result }
-    ensures exact { (h : History) → HouseRepresents D.disk ShelfRepresents (λ s. 0) HasGoods house h
-        → Performs D.disk ShelfRepresents (λ s. 0) HasGoods (IsMintTask h (house_time house.bench) (limits_of house.bench) reference.now count value) (TellsMint reference.now count value out.new.items)
+    ensures exact { (h : History) → HouseRepresents D.disk shelf_view house h
+        → Performs D.disk shelf_view (IsMintTask h (house_time house.bench) (limits_of house.bench) reference.now count value) (TellsMint reference.now count value out.new.items)
         (limits_of house.bench) house.journal.disk h result }
 {
     if let Some(minted) = house.trade().minted(reference.bytes()) {
@@ -200,14 +200,14 @@ fn enter_mint<D: Disk>(
     requires some { 0 < count }
     requires few { count ≤ 256 }
     requires value { 0 < value }
-    requires new { (h : History) → HouseRepresents D.disk ShelfRepresents (λ s. 0) HasGoods house h → IsFalse (has_reference h reference.now) }
-    requires run { (h : History) → HouseRepresents D.disk ShelfRepresents (λ s. 0) HasGoods house h → HasRun h (house_time house.bench) (limits_of house.bench) count (Ok first) }
+    requires new { (h : History) → HouseRepresents D.disk shelf_view house h → IsFalse (has_reference h reference.now) }
+    requires run { (h : History) → HouseRepresents D.disk shelf_view house h → HasRun h (house_time house.bench) (limits_of house.bench) count (Ok first) }
     ensures moved { D.disk_moved house.journal.disk (outcome_disk result) }
     ensures keeps { OfHouse (KeepsTime house) result }
     ensures counts { CountsFaults result (D.disk house.journal.disk).faults (D.disk (outcome_disk result)).faults }
     ensures empty { NoLines out.new.items result }
-    ensures exact { (h : History) (terms : Issuing) → HouseRepresents D.disk ShelfRepresents (λ s. 0) HasGoods house h → terms_in h 0 ≡ Some terms → out.old.items ≡ piece_lines (version h (site_name h)) terms (run_from h value first count)
-        → Performs D.disk ShelfRepresents (λ s. 0) HasGoods (IsMintTask h (house_time house.bench) (limits_of house.bench) reference.now count value) (TellsMint reference.now count value out.new.items)
+    ensures exact { (h : History) (terms : Issuing) → HouseRepresents D.disk shelf_view house h → terms_in h 0 ≡ Some terms → out.old.items ≡ piece_lines (version h (site_name h)) terms (run_from h value first count)
+        → Performs D.disk shelf_view (IsMintTask h (house_time house.bench) (limits_of house.bench) reference.now count value) (TellsMint reference.now count value out.new.items)
         (limits_of house.bench) house.journal.disk h result }
 {
     let _pieces: Option<PieceList<'_>> = None;

@@ -10,5 +10,5 @@ returns-in-Ok-learn_rest-clause-read g c =
 
 pub returns-in-Err-learn_rest-clause-exact : goal.returns-in-Err-learn_rest-clause-exact
 returns-in-Err-learn_rest-clause-exact g c x told r =
-    subst (λ (b : Limits). HaltsBy b (g.T.Trade.site c.args.trade) x c.in-Err-learn_rest.halt) c.in-Ok.ensures.limits
-    (c.in-Err-learn_rest.ensures.exact (g.T.Trade.site c.args.trade) x (c.learn_first.ensures.read.only_read.contents ∙ told) (c.in-Ok.ensures.exact x told r))
+    subst (λ (b : Limits). HaltsBy b (g.T.Trade.trade c.args.trade).site x c.in-Err-learn_rest.halt) c.in-Ok.ensures.limits
+    (c.in-Err-learn_rest.ensures.exact (g.T.Trade.trade c.args.trade).site x (c.learn_first.ensures.read.only_read.contents ∙ told) (c.in-Ok.ensures.exact x told r))

@@ -6,26 +6,26 @@ use Rattle.house_core.proofs.opening.learn_next.Goals as goal
 
 pub returns-in-Ok-None-clause-exact : goal.returns-in-Ok-None-clause-exact
 returns-in-Ok-None-clause-exact g c kind x told l =
-    none_left g.D.Disk.disk g.T.Trade.stands g.T.Trade.site g.T.Trade.holds kind x c.args.replay.now c.next_record.new.self c.args.bench.now told l.0 l.1
+    none_left g.D.Disk.disk g.T.Trade.trade kind x c.args.replay.now c.next_record.new.self c.args.bench.now told l.0 l.1
     (subst (λ (o : Option ℕ). ReadsOn g.D.Disk.disk l.0 l.1.reading.bytes c.args.replay.now.gate (Ok o) c.next_record.new.self) c.in-Ok-None.field-0-is (c.in-Ok-None.ensures.reads l.0 l.1.reading))
 
 pub returns-in-Err-BadRecord-clause-exact : goal.returns-in-Err-BadRecord-clause-exact
 returns-in-Err-BadRecord-clause-exact g c kind x told l =
     let reads = rw c.in-Err-BadRecord.field-0-is at c.in-Err-BadRecord.ensures.reads l.0 l.1.reading in
-    spoils_here g.D.Disk.disk g.T.Trade.stands g.T.Trade.site g.T.Trade.holds kind x c.args.replay.now c.next_record.new.self c.args.bench.now told l.0 l.1 c.in-Err-BadRecord.place reads
+    spoils_here g.D.Disk.disk g.T.Trade.trade kind x c.args.replay.now c.next_record.new.self c.args.bench.now told l.0 l.1 c.in-Err-BadRecord.place reads
 
 pub returns-in-Ok-clause-exact : goal.returns-in-Ok-clause-exact
 returns-in-Ok-clause-exact g c kind x told l =
     let e = entry c.in-Some.record in
     let reads = subst (λ (o : Option ℕ). ReadsOn g.D.Disk.disk l.0 l.1.reading.bytes c.args.replay.now.gate (Ok o) c.next_record.new.self) c.in-Ok-Some.field-0-is (c.in-Ok-Some.ensures.reads l.0 l.1.reading) in
     let read = read_entry g.D.Disk.disk l.0 l.1.reading.bytes c.args.replay.now.gate c.in-Ok-Some.gate c.next_record.new.self e reads c.in-Some.ensures.value in
-    learned_more g.D.Disk.disk g.T.Trade.stands g.T.Trade.site g.T.Trade.holds kind x c.args.replay.now c.next_record.new.self c.args.bench.now told l.0 l.1 c.replay.new.self e read.1
-    (c.in-Ok.ensures.exact l.0 l.1.house.stands' l.1.time' (entry_fits g.D.Disk.disk l.0 c.next_record.new.self e read.1)) (c.in-Ok.ensures.contents l.0 l.1.house.stands' l.1.house.contents)
+    learned_more g.D.Disk.disk g.T.Trade.trade kind x c.args.replay.now c.next_record.new.self c.args.bench.now told l.0 l.1 c.replay.new.self e read.1
+    (c.in-Ok.ensures.exact l.0 l.1.house.represents l.1.time' (entry_fits g.D.Disk.disk l.0 c.next_record.new.self e read.1)) (c.in-Ok.ensures.contents l.0 l.1.house.represents l.1.house.contents)
 
 pub returns-in-Err-Unlawful-clause-exact : goal.returns-in-Err-Unlawful-clause-exact
 returns-in-Err-Unlawful-clause-exact g c kind x told l =
     let e = entry c.in-Some.record in
     let reads = subst (λ (o : Option ℕ). ReadsOn g.D.Disk.disk l.0 l.1.reading.bytes c.args.replay.now.gate (Ok o) c.next_record.new.self) c.in-Ok-Some.field-0-is (c.in-Ok-Some.ensures.reads l.0 l.1.reading) in
     let read = read_entry g.D.Disk.disk l.0 l.1.reading.bytes c.args.replay.now.gate c.in-Ok-Some.gate c.next_record.new.self e reads c.in-Some.ensures.value in
-    let replays = rw c.in-Err-Unlawful.field-0-is at c.in-Err-Unlawful.ensures.exact l.0 l.1.house.stands' l.1.time' (entry_fits g.D.Disk.disk l.0 c.next_record.new.self e read.1) in
-    breaks_here g.D.Disk.disk g.T.Trade.stands g.T.Trade.site g.T.Trade.holds kind x c.args.replay.now c.next_record.new.self c.args.bench.now told l.0 l.1 c.in-Ok-Some.gate e c.next_record.ensures.only_read read.0 read.1 replays
+    let replays = rw c.in-Err-Unlawful.field-0-is at c.in-Err-Unlawful.ensures.exact l.0 l.1.house.represents l.1.time' (entry_fits g.D.Disk.disk l.0 c.next_record.new.self e read.1) in
+    breaks_here g.D.Disk.disk g.T.Trade.trade kind x c.args.replay.now c.next_record.new.self c.args.bench.now told l.0 l.1 c.in-Ok-Some.gate e c.next_record.ensures.only_read read.0 read.1 replays

@@ -9,8 +9,8 @@ invariant-entries g l = record {
   going : l.replay.ended ≡ None;
   limits : limits_of l.bench ≡ limits_of l.fn.bench;
   faults : (g.D.Disk.disk l.replay.disk).faults ≡ (g.D.Disk.disk l.fn.replay.disk).faults;
-  learned : (kind : ℕ) (x : List ℕ) → (g.D.Disk.disk l.fn.replay.disk).contents ≡ Some x → LearnedSome g.D.Disk.disk g.T.Trade.stands g.T.Trade.site g.T.Trade.holds kind l.fn.replay l.fn.bench
-      → LearnedSome g.D.Disk.disk g.T.Trade.stands g.T.Trade.site g.T.Trade.holds kind l.replay l.bench;
+  learned : (kind : ℕ) (x : List ℕ) → (g.D.Disk.disk l.fn.replay.disk).contents ≡ Some x → LearnedSome g.D.Disk.disk g.T.Trade.trade kind l.fn.replay l.fn.bench
+      → LearnedSome g.D.Disk.disk g.T.Trade.trade kind l.replay l.bench;
 }
 
 abbrev pub decreases-entries : goal.decreases-entries

@@ -23,11 +23,11 @@ returns-clause-answered g c h st =
     let y = c.raise_by_clock-reading.new.house in
     let z = c.send_refusal-sent.new.house in
     let was = c.raise_by_clock-reading.ensures in
-    let up : RaisedBy g.O.Link.link g.O.Disk.disk g.T.Trade.stands g.T.Trade.site g.T.Trade.holds x y c.raise_by_clock-reading.result = record {
+    let up : RaisedBy g.O.Link.link g.O.Disk.disk g.T.Trade.trade x y c.raise_by_clock-reading.result = record {
       tells = g.met.O.Outside.sent_aside;
       keeps = g.met.O.Outside.link_keeps _ _ was.moved;
       goes = g.met.O.Link.link_goes _ _ was.moved;
-      stands' = was.stands;
+      represents = was.stands;
       time = was.time;
       limits = was.limits;
       rest = was.rest;
@@ -41,6 +41,6 @@ returns-clause-answered g c h st =
       goes = g.met.O.Link.link_goes _ _ c.send_refusal-sent.ensures.moved;
       rests = c.send_refusal-sent.ensures.rests;
     } in
-    subst (λ (t : Turn). RefusesHead g.O.Link.link g.O.Disk.disk g.T.Trade.stands g.T.Trade.site g.T.Trade.holds (limits_of x.bench) (as_refusal c.args.head) c.args.after x.journal.disk (state_of h x.bench) (z, t)) (sym c.turn_of.ensures.turn)
-    (head_answered g.O.Link.link g.O.Disk.disk g.T.Trade.stands g.T.Trade.site g.T.Trade.holds (as_refusal c.args.head) c.args.after x y z c.raise_by_clock-reading.result h c.send_refusal-sent.result up on st
+    subst (λ (t : Turn). RefusesHead g.O.Link.link g.O.Disk.disk g.T.Trade.trade (limits_of x.bench) (as_refusal c.args.head) c.args.after x.journal.disk (state_of h x.bench) (z, t)) (sym c.turn_of.ensures.turn)
+    (head_answered g.O.Link.link g.O.Disk.disk g.T.Trade.trade (as_refusal c.args.head) c.args.after x y z c.raise_by_clock-reading.result h c.send_refusal-sent.result up on st
     (rw c.from.ensures at c.send_refusal-sent.ensures.sent) (rw c.from.ensures at c.send_refusal-sent.ensures.fault))

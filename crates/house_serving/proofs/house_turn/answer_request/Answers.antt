@@ -13,14 +13,14 @@ returns-clause-answered g c h st =
     let x = c.args.house in
     let y = c.raise_by_clock-reading.new.house in
     let was = c.raise_by_clock-reading.ensures in
-    let up : RaisedBy g.O.Link.link g.O.Disk.disk g.T.Trade.stands g.T.Trade.site g.T.Trade.holds x y c.raise_by_clock-reading.result = record {
+    let up : RaisedBy g.O.Link.link g.O.Disk.disk g.T.Trade.trade x y c.raise_by_clock-reading.result = record {
       tells = g.met.O.Outside.sent_aside;
       keeps = g.met.O.Outside.link_keeps _ _ was.moved;
       goes = g.met.O.Link.link_goes _ _ was.moved;
-      stands' = was.stands;
+      represents = was.stands;
       time = was.time;
       limits = was.limits;
       rest = was.rest;
       read = was.read;
     } in
-    request_answered g.O.Link.link g.O.Disk.disk g.T.Trade.stands g.T.Trade.site g.T.Trade.holds (asked_of c.args.q.now) c.args.after x y c.raise_by_clock-reading.result h c.reply_to.result up st (c.reply_to.ensures.replied h (was.stands h st))
+    request_answered g.O.Link.link g.O.Disk.disk g.T.Trade.trade (asked_of c.args.q.now) c.args.after x y c.raise_by_clock-reading.result h c.reply_to.result up st (c.reply_to.ensures.replied h (was.stands h st))

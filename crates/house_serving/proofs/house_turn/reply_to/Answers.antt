@@ -18,8 +18,8 @@ returns-in-Some-clause-replied g c h st =
       goes = g.met.O.Link.link_goes _ _ c.send_again-sent.ensures.moved;
       rests = c.send_again-sent.ensures.rests;
     } in
-    subst (λ (t : Turn). RepliesTo g.O.Link.link g.O.Disk.disk g.T.Trade.stands g.T.Trade.site g.T.Trade.holds (limits_of y.bench) (asked_of c.args.q.now) c.args.after y.journal.disk (state_of h y.bench) (Ok (z, t))) (sym c.turn_of.ensures.turn)
-    (replied_again g.O.Link.link g.O.Disk.disk g.T.Trade.stands g.T.Trade.site g.T.Trade.holds (limits_of y.bench) (asked_of c.args.q.now) c.args.after y z (state_of h y.bench) c.in-Some.number c.send_again-sent.result on st refl
+    subst (λ (t : Turn). RepliesTo g.O.Link.link g.O.Disk.disk g.T.Trade.trade (limits_of y.bench) (asked_of c.args.q.now) c.args.after y.journal.disk (state_of h y.bench) (Ok (z, t))) (sym c.turn_of.ensures.turn)
+    (replied_again g.O.Link.link g.O.Disk.disk g.T.Trade.trade (limits_of y.bench) (asked_of c.args.q.now) c.args.after y z (state_of h y.bench) c.in-Some.number c.send_again-sent.result on st refl
     (again_is _ c.in-Some.number (c.in-Some.ensures.exact h st)) c.send_again-sent.ensures.sent c.send_again-sent.ensures.fault)
 
 pub returns-in-None-clause-replied : goal.returns-in-None-clause-replied

@@ -23,8 +23,8 @@ returns-in-Done-clause-replied g c h st new =
       goes = g.met.O.Link.link_goes _ _ c.send_settled-sent.ensures.moved;
       rests = c.send_settled-sent.ensures.rests;
     } in
-    subst (λ (t : Turn). RepliesTo g.O.Link.link g.O.Disk.disk g.T.Trade.stands g.T.Trade.site g.T.Trade.holds (limits_of c.args.house.bench) (asked_of c.args.q.now) c.args.after a (state_of h c.args.house.bench) (Ok (z, t))) (sym c.turn_of.ensures.turn)
-    (replied_new g.O.Link.link g.O.Disk.disk g.T.Trade.stands g.T.Trade.site g.T.Trade.holds (limits_of c.args.house.bench) (asked_of c.args.q.now) c.args.after a y z (state_of h c.args.house.bench) c.in-Done.settled c.send_settled-sent.result on
+    subst (λ (t : Turn). RepliesTo g.O.Link.link g.O.Disk.disk g.T.Trade.trade (limits_of c.args.house.bench) (asked_of c.args.q.now) c.args.after a (state_of h c.args.house.bench) (Ok (z, t))) (sym c.turn_of.ensures.turn)
+    (replied_new g.O.Link.link g.O.Disk.disk g.T.Trade.trade (limits_of c.args.house.bench) (asked_of c.args.q.now) c.args.after a y z (state_of h c.args.house.bench) c.in-Done.settled c.send_settled-sent.result on
     c.in-Done.ensures.keeps.time (g.met.O.Disk.disk_goes _ _ c.in-Done.ensures.moved).aside c.in-Done.ensures.counts same (c.in-Done.ensures.exact h st) (c.in-Done.ensures.ran h st) c.send_settled-sent.ensures.sent c.send_settled-sent.ensures.fault)
 
 pub returns-in-Refused-clause-replied : goal.returns-in-Refused-clause-replied
@@ -41,8 +41,8 @@ returns-in-Refused-clause-replied g c h st new =
       goes = g.met.O.Link.link_goes _ _ c.send_refusal-sent.ensures.moved;
       rests = c.send_refusal-sent.ensures.rests;
     } in
-    subst (λ (t : Turn). RepliesTo g.O.Link.link g.O.Disk.disk g.T.Trade.stands g.T.Trade.site g.T.Trade.holds (limits_of c.args.house.bench) (asked_of c.args.q.now) c.args.after a (state_of h c.args.house.bench) (Ok (z, t))) (sym c.turn_of-in-Refused.ensures.turn)
-    (replied_refused g.O.Link.link g.O.Disk.disk g.T.Trade.stands g.T.Trade.site g.T.Trade.holds (limits_of c.args.house.bench) (asked_of c.args.q.now) c.args.after a y z (state_of h c.args.house.bench) c.in-Refused.refusal c.send_refusal-sent.result on
+    subst (λ (t : Turn). RepliesTo g.O.Link.link g.O.Disk.disk g.T.Trade.trade (limits_of c.args.house.bench) (asked_of c.args.q.now) c.args.after a (state_of h c.args.house.bench) (Ok (z, t))) (sym c.turn_of-in-Refused.ensures.turn)
+    (replied_refused g.O.Link.link g.O.Disk.disk g.T.Trade.trade (limits_of c.args.house.bench) (asked_of c.args.q.now) c.args.after a y z (state_of h c.args.house.bench) c.in-Refused.refusal c.send_refusal-sent.result on
     c.in-Refused.ensures.keeps.time new (c.in-Refused.ensures.exact h st) c.send_refusal-sent.ensures.sent c.send_refusal-sent.ensures.fault)
 
 pub returns-in-NoMemory-clause-replied : goal.returns-in-NoMemory-clause-replied
@@ -59,8 +59,8 @@ returns-in-NoMemory-clause-replied g c h st new =
       goes = g.met.O.Link.link_goes _ _ c.send_refusal-sent-in-NoMemory.ensures.moved;
       rests = c.send_refusal-sent-in-NoMemory.ensures.rests;
     } in
-    subst (λ (t : Turn). RepliesTo g.O.Link.link g.O.Disk.disk g.T.Trade.stands g.T.Trade.site g.T.Trade.holds (limits_of c.args.house.bench) (asked_of c.args.q.now) c.args.after a (state_of h c.args.house.bench) (Ok (z, t))) (sym c.turn_of-in-NoMemory.ensures.turn)
-    (replied_starved g.O.Link.link g.O.Disk.disk g.T.Trade.stands g.T.Trade.site g.T.Trade.holds (limits_of c.args.house.bench) (asked_of c.args.q.now) c.args.after a y z (state_of h c.args.house.bench) c.send_refusal-sent-in-NoMemory.result on
+    subst (λ (t : Turn). RepliesTo g.O.Link.link g.O.Disk.disk g.T.Trade.trade (limits_of c.args.house.bench) (asked_of c.args.q.now) c.args.after a (state_of h c.args.house.bench) (Ok (z, t))) (sym c.turn_of-in-NoMemory.ensures.turn)
+    (replied_starved g.O.Link.link g.O.Disk.disk g.T.Trade.trade (limits_of c.args.house.bench) (asked_of c.args.q.now) c.args.after a y z (state_of h c.args.house.bench) c.send_refusal-sent-in-NoMemory.result on
     c.in-NoMemory.ensures.keeps.time (c.in-NoMemory.ensures.exact h st) c.send_refusal-sent-in-NoMemory.ensures.sent c.send_refusal-sent-in-NoMemory.ensures.fault)
 
 pub returns-in-Halted-clause-replied : goal.returns-in-Halted-clause-replied
@@ -69,6 +69,6 @@ returns-in-Halted-clause-replied g c h st new =
     let b = c.in-Halted.halted in
     let d = c.send_disk_fault-told.new.halted in
     let same = g.met.O.Outside.disk_keeps _ _ c.in-Halted.ensures.moved in
-    replied_halted g.O.Link.link g.O.Disk.disk g.T.Trade.stands g.T.Trade.site g.T.Trade.holds (limits_of c.args.house.bench) (asked_of c.args.q.now) c.args.after a b d (state_of h c.args.house.bench) c.send_disk_fault-told.result
-    g.met.O.Outside.sent_aside (g.met.O.Disk.is_disk a) (house_leaves g.O.Disk.disk g.T.Trade.stands g.T.Trade.site g.T.Trade.holds c.args.house h st) (g.met.O.Disk.is_disk b) (g.met.O.Link.is_link b) (subst (λ (v : LinkView). IsTrue v.stands) (sym same) c.requires.stands) (g.met.O.Disk.disk_goes _ _ c.in-Halted.ensures.moved).aside same
+    replied_halted g.O.Link.link g.O.Disk.disk g.T.Trade.trade (limits_of c.args.house.bench) (asked_of c.args.q.now) c.args.after a b d (state_of h c.args.house.bench) c.send_disk_fault-told.result
+    g.met.O.Outside.sent_aside (g.met.O.Disk.is_disk a) (house_leaves g.O.Disk.disk g.T.Trade.trade c.args.house h st) (g.met.O.Disk.is_disk b) (g.met.O.Link.is_link b) (subst (λ (v : LinkView). IsTrue v.stands) (sym same) c.requires.stands) (g.met.O.Disk.disk_goes _ _ c.in-Halted.ensures.moved).aside same
     (g.met.O.Outside.link_keeps _ _ c.send_disk_fault-told.ensures.moved) (g.met.O.Link.link_goes _ _ c.send_disk_fault-told.ensures.moved) (c.in-Halted.ensures.exact h st) (c.in-Halted.ensures.ran h st) (rw c.time-time.ensures at c.send_disk_fault-told.ensures.sent) (rw c.time-time.ensures at c.send_disk_fault-told.ensures.fault)

@@ -25,8 +25,8 @@ returns-in-Head-clause-turned g c h st =
       goes = g.met.O.Link.link_goes _ _ c.take.ensures.moved.0;
       rests = c.take.ensures.moved.1;
     } in
-    head_turns g.O.Link.link g.O.Disk.disk g.T.Trade.stands g.T.Trade.site g.T.Trade.holds c.in-Head.q c.in-Head.after x y h c.args.reader.now c.take.follows.lender-at-none c.take.result c.answer_request.result
-    c.take.follows.holds-at-none c.in-Head.is on st (c.answer_request.ensures.answered h (read_stands g.O.Link.link g.O.Disk.disk g.T.Trade.stands g.T.Trade.site g.T.Trade.holds x y h on st))
+    head_turns g.O.Link.link g.O.Disk.disk g.T.Trade.trade c.in-Head.q c.in-Head.after x y h c.args.reader.now c.take.follows.lender-at-none c.take.result c.answer_request.result
+    c.take.follows.holds-at-none c.in-Head.is on st (c.answer_request.ensures.answered h (read_stands g.O.Link.link g.O.Disk.disk g.T.Trade.trade x y h on st))
 
 pub returns-in-Refused-clause-causes : goal.returns-in-Refused-clause-causes
 returns-in-Refused-clause-causes g c =
@@ -47,8 +47,8 @@ returns-in-Refused-clause-turned g c h st =
       goes = g.met.O.Link.link_goes _ _ c.take.ensures.moved.0;
       rests = c.take.ensures.moved.1;
     } in
-    refused_turns g.O.Link.link g.O.Disk.disk g.T.Trade.stands g.T.Trade.site g.T.Trade.holds c.in-Refused.head c.in-Refused.after x y h c.args.reader.now c.take.follows.lender-at-none c.take.result c.answer_refused.result
-    c.take.follows.holds-at-none c.in-Refused.is on st (c.answer_refused.ensures.answered h (read_stands g.O.Link.link g.O.Disk.disk g.T.Trade.stands g.T.Trade.site g.T.Trade.holds x y h on st))
+    refused_turns g.O.Link.link g.O.Disk.disk g.T.Trade.trade c.in-Refused.head c.in-Refused.after x y h c.args.reader.now c.take.follows.lender-at-none c.take.result c.answer_refused.result
+    c.take.follows.holds-at-none c.in-Refused.is on st (c.answer_refused.ensures.answered h (read_stands g.O.Link.link g.O.Disk.disk g.T.Trade.trade x y h on st))
 
 pub returns-in-End-clause-causes : goal.returns-in-End-clause-causes
 returns-in-End-clause-causes g c =
@@ -65,7 +65,7 @@ returns-in-End-clause-turned g c h st =
       goes = g.met.O.Link.link_goes _ _ c.take.ensures.moved.0;
       rests = c.take.ensures.moved.1;
     } in
-    end_turns g.O.Link.link g.O.Disk.disk g.T.Trade.stands g.T.Trade.site g.T.Trade.holds x y h c.args.reader.now c.take.follows.lender-at-none c.take.result c.take.follows.holds-at-none c.in-End.is on st
+    end_turns g.O.Link.link g.O.Disk.disk g.T.Trade.trade x y h c.args.reader.now c.take.follows.lender-at-none c.take.result c.take.follows.holds-at-none c.in-End.is on st
 
 pub returns-in-Fault-clause-causes : goal.returns-in-Fault-clause-causes
 returns-in-Fault-clause-causes g c =
@@ -82,4 +82,4 @@ returns-in-Fault-clause-turned g c h st =
       goes = g.met.O.Link.link_goes _ _ c.take.ensures.moved.0;
       rests = c.take.ensures.moved.1;
     } in
-    fault_turns g.O.Link.link g.O.Disk.disk g.T.Trade.stands g.T.Trade.site g.T.Trade.holds x y h c.args.reader.now c.take.follows.lender-at-none c.take.result c.take.follows.holds-at-none c.in-Fault.is on st
+    fault_turns g.O.Link.link g.O.Disk.disk g.T.Trade.trade x y h c.args.reader.now c.take.follows.lender-at-none c.take.result c.take.follows.holds-at-none c.in-Fault.is on st

@@ -13,10 +13,10 @@ returns-in-Ok-clause-served g c h st =
       goes = g.met.O.Link.link_goes _ _ c.end_link.ensures.moved.0;
       rests = c.end_link.ensures.moved.1;
     } in
-    link_served g.O.Link.link g.O.Disk.disk g.T.Trade.stands g.T.Trade.site g.T.Trade.holds (limits_of c.args.house.bench) c.args.house.journal.disk (state_of h c.args.house.bench) x y _ on c.end_link.ensures.ended (c.in-Ok.ensures.ended h st)
+    link_served g.O.Link.link g.O.Disk.disk g.T.Trade.trade (limits_of c.args.house.bench) c.args.house.journal.disk (state_of h c.args.house.bench) x y _ on c.end_link.ensures.ended (c.in-Ok.ensures.ended h st)
 
 pub returns-in-Err-clause-served : goal.returns-in-Err-clause-served
 returns-in-Err-clause-served g c h st =
     let moved = c.end_link-in-Err.ensures.moved in
-    link_halted g.O.Link.link g.O.Disk.disk g.T.Trade.stands g.T.Trade.site g.T.Trade.holds (limits_of c.args.house.bench) c.args.house.journal.disk (state_of h c.args.house.bench) c.in-Err.halted _
+    link_halted g.O.Link.link g.O.Disk.disk g.T.Trade.trade (limits_of c.args.house.bench) c.args.house.journal.disk (state_of h c.args.house.bench) c.in-Err.halted _
     g.met.O.Outside.sent_aside (g.met.O.Outside.link_keeps _ _ moved) (g.met.O.Link.link_goes _ _ moved) c.end_link-in-Err.ensures.ended (c.in-Err.ensures.ended h st)

@@ -9,14 +9,14 @@ use Rattle.house_serving.proofs.links.serve_links.Goals as goal
 
 pub returns-in_default-clause-served : goal.returns-in_default-clause-served
 returns-in_default-clause-served g c h st =
-    (went_nowhere g.O.Link.link g.O.Disk.disk g.T.Trade.stands g.T.Trade.site g.T.Trade.holds c.args.house (state_of h c.args.house.bench) (g.met.O.Disk.is_disk _) st refl, refl)
+    (went_nowhere g.O.Link.link g.O.Disk.disk g.T.Trade.trade c.args.house (state_of h c.args.house.bench) (g.met.O.Disk.is_disk _) st refl, refl)
 
 pub links-init : goal.links-init
 links-init g c = record {
   few = omega arith;
   counts = counts_none g.O.Link.link g.O.Disk.disk c.args.house.journal.disk;
   limits = refl;
-  linked = λ h st. linked_starts g.O.Link.link g.O.Disk.disk g.T.Trade.stands g.T.Trade.site g.T.Trade.holds (limits_of c.args.house.bench) c.args.house h (g.met.O.Disk.is_disk _) st;
+  linked = λ h st. linked_starts g.O.Link.link g.O.Disk.disk g.T.Trade.trade (limits_of c.args.house.bench) c.args.house h (g.met.O.Disk.is_disk _) st;
 }
 
 pub links-preserved : goal.links-preserved
@@ -35,7 +35,7 @@ links-preserved g c =
       few = omega (arith, c.links-test.true);
       counts = counts_then g.O.Link.link g.O.Disk.disk _ _ _ c.links.invariant.counts (counts_then g.O.Link.link g.O.Disk.disk _ _ _ (counts_link g.O.Link.link g.O.Disk.disk _ _ on.keeps on.goes) c.in-Ok-serve_link.ensures.causes);
       limits = c.in-Ok-serve_link.ensures.limits ∙ same;
-      linked = λ h st. linked_goes_on g.O.Link.link g.O.Disk.disk g.T.Trade.stands g.T.Trade.site g.T.Trade.holds (limits_of c.args.house.bench) c.links.served (c.links.served + 1) c.args.house.journal.disk (state_of h c.args.house.bench) x y _
+      linked = λ h st. linked_goes_on g.O.Link.link g.O.Disk.disk g.T.Trade.trade (limits_of c.args.house.bench) c.links.served (c.links.served + 1) c.args.house.journal.disk (state_of h c.args.house.bench) x y _
           (omega arith) on taken same (c.links.invariant.linked h st) c.in-Ok-serve_link.ensures.served;
     }
 
@@ -63,7 +63,7 @@ returns-in-Err-serve_link-clause-served g c h st =
     } in
     let taken = rw c.in-Ok-true.field-0-test at c.in-Ok-true.ensures.taken in
     let same : limits_of y.bench ≡ limits_of c.args.house.bench = ap (λ (b : Bench g.row.T.Denot). limits_of b) on.rests.bench ∙ c.links.invariant.limits in
-    linked_house_halts g.O.Link.link g.O.Disk.disk g.T.Trade.stands g.T.Trade.site g.T.Trade.holds (limits_of c.args.house.bench) c.args.links c.links.served c.args.house.journal.disk (state_of h c.args.house.bench) x y _
+    linked_house_halts g.O.Link.link g.O.Disk.disk g.T.Trade.trade (limits_of c.args.house.bench) c.args.links c.links.served c.args.house.journal.disk (state_of h c.args.house.bench) x y _
     c.links-test.true on taken same (c.links.invariant.linked h st) c.in-Err-serve_link.ensures.served
 
 pub returns-in-Ok-false-clause-served : goal.returns-in-Ok-false-clause-served
@@ -77,7 +77,7 @@ returns-in-Ok-false-clause-served g c h st =
       rests = c.next_link.ensures.moved.1;
     } in
     let over = rw c.in-Ok-false.field-0-test at c.in-Ok-false.ensures.taken in
-    linked_house_over g.O.Link.link g.O.Disk.disk g.T.Trade.stands g.T.Trade.site g.T.Trade.holds (limits_of c.args.house.bench) c.args.links c.links.served c.args.house.journal.disk (state_of h c.args.house.bench) x y
+    linked_house_over g.O.Link.link g.O.Disk.disk g.T.Trade.trade (limits_of c.args.house.bench) c.args.links c.links.served c.args.house.journal.disk (state_of h c.args.house.bench) x y
     c.links-test.true on over (c.links.invariant.linked h st)
 
 pub returns-in-Err-clause-causes : goal.returns-in-Err-clause-causes
@@ -98,10 +98,10 @@ returns-in-Err-clause-served g c h st =
       goes = g.met.O.Link.link_goes _ _ c.next_link.ensures.moved.0;
       rests = c.next_link.ensures.moved.1;
     } in
-    linked_house_broke g.O.Link.link g.O.Disk.disk g.T.Trade.stands g.T.Trade.site g.T.Trade.holds (limits_of c.args.house.bench) c.args.links c.links.served c.args.house.journal.disk (state_of h c.args.house.bench) x y
+    linked_house_broke g.O.Link.link g.O.Disk.disk g.T.Trade.trade (limits_of c.args.house.bench) c.args.links c.links.served c.args.house.journal.disk (state_of h c.args.house.bench) x y
     c.links-test.true on (record { same = c.in-Err.ensures.failed; rose = c.in-Err.ensures.cause.rose }) (c.links.invariant.linked h st)
 
 pub returns-clause-served : goal.returns-clause-served
 returns-clause-served g c h st =
-    linked_house_all g.O.Link.link g.O.Disk.disk g.T.Trade.stands g.T.Trade.site g.T.Trade.holds (limits_of c.args.house.bench) c.args.links c.links.served c.args.house.journal.disk (state_of h c.args.house.bench) c.links.house
+    linked_house_all g.O.Link.link g.O.Disk.disk g.T.Trade.trade (limits_of c.args.house.bench) c.args.links c.links.served c.args.house.journal.disk (state_of h c.args.house.bench) c.links.house
     (omega (arith, c.links-test.false, c.links.invariant.few)) (c.links.invariant.linked h st)

@@ -11,8 +11,8 @@ invariant-links g l = record {
   few : l.served ≤ l.fn.links;
   counts : KeptCounts g.O.Link.link g.O.Disk.disk l.fn.house.journal.disk l.house.journal.disk;
   limits : limits_of l.house.bench ≡ limits_of l.fn.house.bench;
-  linked : (h : History) → HouseRepresents g.O.Disk.disk g.T.Trade.stands g.T.Trade.site g.T.Trade.holds l.fn.house h
-      → LinkedHouse g.O.Link.link g.O.Disk.disk g.T.Trade.stands g.T.Trade.site g.T.Trade.holds (limits_of l.fn.house.bench) l.served l.fn.house.journal.disk (state_of h l.fn.house.bench) l.house;
+  linked : (h : History) → HouseRepresents g.O.Disk.disk g.T.Trade.trade l.fn.house h
+      → LinkedHouse g.O.Link.link g.O.Disk.disk g.T.Trade.trade (limits_of l.fn.house.bench) l.served l.fn.house.journal.disk (state_of h l.fn.house.bench) l.house;
 }
 
 abbrev pub decreases-links : goal.decreases-links

@@ -12,8 +12,8 @@ invariant-turns g l = record {
   stands : IsTrue (g.O.Link.link l.house.journal.disk).stands;
   counts : KeptCounts g.O.Link.link g.O.Disk.disk l.fn.house.journal.disk l.house.journal.disk;
   limits : limits_of l.house.bench ≡ limits_of l.fn.house.bench;
-  serving : (h : History) → HouseRepresents g.O.Disk.disk g.T.Trade.stands g.T.Trade.site g.T.Trade.holds l.fn.house h
-      → ServingHouse g.O.Link.link g.O.Disk.disk g.T.Trade.stands g.T.Trade.site g.T.Trade.holds (limits_of l.fn.house.bench) l.fn.house.journal.disk (state_of h l.fn.house.bench) l.house l.reader;
+  serving : (h : History) → HouseRepresents g.O.Disk.disk g.T.Trade.trade l.fn.house h
+      → ServingHouse g.O.Link.link g.O.Disk.disk g.T.Trade.trade (limits_of l.fn.house.bench) l.fn.house.journal.disk (state_of h l.fn.house.bench) l.house l.reader;
 }
 
 abbrev pub decreases-turns : goal.decreases-turns

@@ -8,7 +8,7 @@ links-init g c = record {
   few = omega arith;
   moved = g.met.K.Link.link_stays c.args.k.now;
   limits = refl;
-  linked = linked_none g.T.Trade.stands g.T.Trade.site g.T.Trade.holds (limits_of c.args.bench.now) c.args.clock.now c.args.bench.now (g.K.Link.link c.args.k.now);
+  linked = linked_none g.T.Trade.trade (limits_of c.args.bench.now) c.args.clock.now c.args.bench.now (g.K.Link.link c.args.k.now);
 }
 
 pub links-preserved : goal.links-preserved
@@ -18,23 +18,23 @@ links-preserved g c =
       few = omega (arith, c.links-test.true);
       moved = g.met.K.Link.link_goes_on c.args.k.now c.next_link.new.self c.serve_standing.new.k (g.met.K.Link.link_goes_on c.args.k.now c.links.k c.next_link.new.self c.links.invariant.moved c.next_link.ensures.moved) c.serve_standing.ensures.moved;
       limits = c.serve_standing.ensures.limits ∙ c.links.invariant.limits;
-      linked = linked_more g.T.Trade.stands g.T.Trade.site g.T.Trade.holds (limits_of c.args.bench.now) (limits_of c.links.bench) c.args.clock.now c.links.served (c.links.served + 1) c.args.bench.now c.links.bench c.serve_standing.new.bench
+      linked = linked_more g.T.Trade.trade (limits_of c.args.bench.now) (limits_of c.links.bench) c.args.clock.now c.links.served (c.links.served + 1) c.args.bench.now c.links.bench c.serve_standing.new.bench
           (g.K.Link.link c.args.k.now) (g.K.Link.link c.links.k) (g.K.Link.link c.next_link.new.self) (g.K.Link.link c.serve_standing.new.k) c.links.invariant.limits (omega arith) taken c.links.invariant.linked c.serve_standing.ensures.course;
     }
 
 pub returns-in-Ok-false-clause-served : goal.returns-in-Ok-false-clause-served
 returns-in-Ok-false-clause-served g c =
     let over = rw c.in-Ok-false.field-0-test at c.in-Ok-false.ensures.taken in
-    linked_over g.T.Trade.stands g.T.Trade.site g.T.Trade.holds (limits_of c.args.bench.now) c.args.clock.now c.args.links c.links.served c.args.bench.now c.links.bench
+    linked_over g.T.Trade.trade (limits_of c.args.bench.now) c.args.clock.now c.args.links c.links.served c.args.bench.now c.links.bench
     (g.K.Link.link c.args.k.now) (g.K.Link.link c.links.k) (g.K.Link.link c.next_link.new.self) c.links-test.true over c.links.invariant.linked
 
 pub returns-in-Err-clause-served : goal.returns-in-Err-clause-served
 returns-in-Err-clause-served g c =
-    linked_broke g.T.Trade.stands g.T.Trade.site g.T.Trade.holds (limits_of c.args.bench.now) c.args.clock.now c.args.links c.links.served c.args.bench.now c.links.bench
+    linked_broke g.T.Trade.trade (limits_of c.args.bench.now) c.args.clock.now c.args.links c.links.served c.args.bench.now c.links.bench
     (g.K.Link.link c.args.k.now) (g.K.Link.link c.links.k) (g.K.Link.link c.next_link.new.self) c.links-test.true
     (record { same = c.in-Err.ensures.failed; rose = c.in-Err.ensures.cause.rose }) c.links.invariant.linked
 
 pub returns-clause-served : goal.returns-clause-served
 returns-clause-served g c =
-    linked_all g.T.Trade.stands g.T.Trade.site g.T.Trade.holds (limits_of c.args.bench.now) c.args.clock.now c.args.links c.links.served c.args.bench.now c.links.bench
+    linked_all g.T.Trade.trade (limits_of c.args.bench.now) c.args.clock.now c.args.links c.links.served c.args.bench.now c.links.bench
     (g.K.Link.link c.args.k.now) (g.K.Link.link c.links.k) (omega (arith, c.links-test.false, c.links.invariant.few)) c.links.invariant.linked

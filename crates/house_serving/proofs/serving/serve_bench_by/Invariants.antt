@@ -8,7 +8,7 @@ invariant-links g l = record {
   few : l.served ≤ l.fn.links;
   moved : g.K.Link.link_moved l.fn.k l.k;
   limits : limits_of l.bench ≡ limits_of l.fn.bench;
-  linked : Linked g.T.Trade.stands g.T.Trade.site g.T.Trade.holds (limits_of l.fn.bench) l.fn.clock l.served l.fn.bench (g.K.Link.link l.fn.k) l.bench (g.K.Link.link l.k);
+  linked : Linked g.T.Trade.trade (limits_of l.fn.bench) l.fn.clock l.served l.fn.bench (g.K.Link.link l.fn.k) l.bench (g.K.Link.link l.k);
 }
 
 abbrev pub decreases-links : goal.decreases-links

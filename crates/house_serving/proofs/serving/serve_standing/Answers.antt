@@ -14,6 +14,6 @@ returns-clause-course g c =
     let before = g.K.Link.link c.args.k.now in
     let served = g.K.Link.link c.serve_turns.new.k in
     let after = g.K.Link.link c.end_link.new.self in
-    stepped_so g.T.Trade.stands g.T.Trade.site g.T.Trade.holds (λ (steps : List (Did State)) (s : State). Ended (Step limits) c.args.clock.now c.serve_turns.result steps s before served)
+    stepped_so g.T.Trade.trade (λ (steps : List (Did State)) (s : State). Ended (Step limits) c.args.clock.now c.serve_turns.result steps s before served)
     (λ (steps : List (Did State)) (s : State). HadLink (Step limits) c.args.clock.now steps s before after) c.args.bench.now c.serve_turns.new.bench
     (λ (steps : List (Did State)) (s : State). had_link (Step limits) c.args.clock.now c.serve_turns.result steps s before served after c.end_link.ensures.ended) c.serve_turns.ensures.ended

@@ -7,7 +7,7 @@ abbrev pub invariant-turns : goal.invariant-turns
 invariant-turns g l = record {
   moved : g.K.Link.link_moved l.fn.k l.k;
   limits : limits_of l.bench ≡ limits_of l.fn.bench;
-  serving : Serving g.T.Trade.stands g.T.Trade.site g.T.Trade.holds (limits_of l.fn.bench) l.fn.clock l.fn.bench (g.K.Link.link l.fn.k) l.bench l.reader (g.K.Link.link l.k);
+  serving : Serving g.T.Trade.trade (limits_of l.fn.bench) l.fn.clock l.fn.bench (g.K.Link.link l.fn.k) l.bench l.reader (g.K.Link.link l.k);
 }
 
 abbrev pub decreases-turns : goal.decreases-turns

@@ -17,7 +17,7 @@ returns-in-Request-clause-stepped g c =
     let old : List ℕ = c.args.out.now.items in
     let new : List ℕ = c.append_to.new.out.items in
     on_ok c.append_to.result (new ≡ old ++ c.reply.result)
-    (Refines g.T.Trade.stands g.T.Trade.site g.T.Trade.holds (λ (s t : State). Stepped limits c.args.moment (item_of c.args.item.now) old new s t) c.args.bench.now c.answer-said.new.self)
+    (Refines g.T.Trade.trade (λ (s t : State). Stepped limits c.args.moment (item_of c.args.item.now) old new s t) c.args.bench.now c.answer-said.new.self)
     (λ (e : new ≡ old ++ c.reply.result) h house.
     let s = state_of h c.args.bench.now in
     let came = c.answer-said.ensures.went h house in

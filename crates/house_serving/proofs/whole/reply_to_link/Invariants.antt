@@ -6,5 +6,5 @@ use Rattle.house_serving.proofs.whole.reply_to_link.Given as goal
 abbrev pub invariant-loop : goal.invariant-loop
 invariant-loop g l = record {
   limits : limits_of l.bench ≡ limits_of l.fn.bench;
-  replying : Replying g.T.Trade.stands g.T.Trade.site g.T.Trade.holds (limits_of l.fn.bench) l.moment l.link l.counter l.fn.bench l.rest l.out.items l.bench;
+  replying : Replying g.T.Trade.trade (limits_of l.fn.bench) l.moment l.link l.counter l.fn.bench l.rest l.out.items l.bench;
 }

@@ -9,7 +9,7 @@ use Rattle.scrip_journal.specs.Founds.{FoundNoOutput}
 use Rattle.house_core.specs.Found.{FoundsHouseBy, CountsBy}
 use Rattle.house_core.specs.Opening.{fault_disk}
 use Rattle.vendor_core.specs.declared.shelf.Shelf.{Shelf}
-use Rattle.vendor_core.specs.Shelf.{ShelfRepresents, HasGoods}
+use Rattle.vendor_core.specs.Shelf.{shelf_view}
 use Rattle.mc_top.specs.Founding.{site_of}
 use Rattle.mc_top.specs.declared.status.Status.{Status}
 use Rattle.mc_top.specs.Opening.{full}
@@ -44,13 +44,13 @@ returns-in-Ok-clause-founded g c x told =
     let at : (g.O.Disk.disk m).contents ≡ Some x = keeps.contents ∙ told in
     let same : g.O.Link.link b ≡ g.O.Link.link m = g.met.O.Outside.disk_keeps _ _ c.in-Ok.ensures.moved in
     let e : Entry = site_of c.args.founder.now c.now-moment.result in
-    let by = subst (λ (f : Entry). FoundsHouseBy {D = g.row.O.Denot} {T = Shelf} g.O.Disk.disk ShelfRepresents (λ s. 0) HasGoods full f x (Ok c.in-Ok.house)) c.site-site.ensures.site (c.in-Ok.ensures.exact x at) in
+    let by = subst (λ (f : Entry). FoundsHouseBy {D = g.row.O.Denot} {T = Shelf} g.O.Disk.disk shelf_view full f x (Ok c.in-Ok.house)) c.site-site.ensures.site (c.in-Ok.ensures.exact x at) in
     let found : FoundAt g.O.Link.link g.O.Disk.disk c.args.founder.now c.args.out b c.now-moment.result = record {
       read = subst (λ (v : LinkView). AreRead OfLinks (c.now-moment.result ∷ []) (g.O.Link.link c.args.out).readings v.readings) (sym same) c.now-moment.ensures.read;
       rest = subst (λ (v : LinkView). v ≡ with_readings v.readings (g.O.Link.link c.args.out)) (sym same) c.now-moment.ensures.rest;
       pairs = found_pairs g.O.Link.link g.O.Disk.disk c.args.out m b e g.met.O.Outside.sent_aside keeps c.now-moment.ensures.rest (subst (λ (f : Entry). Ran (g.O.Disk.disk m) (g.O.Disk.disk b) (FoundNoOutput (g.O.Disk.disk m) f)) c.site-site.ensures.site (c.in-Ok.ensures.ran x at));
     } in
-    rw c.close.ensures (c.now-moment.result, found, (c.name.ensures, by.free, founded_for g.O.Disk.disk ShelfRepresents (λ s. 0) HasGoods e x c.in-Ok.house by))
+    rw c.close.ensures (c.now-moment.result, found, (c.name.ensures, by.free, founded_for g.O.Disk.disk shelf_view e x c.in-Ok.house by))
 
 pub returns-in-Err-clause-founded : goal.returns-in-Err-clause-founded
 returns-in-Err-clause-founded g c x told =
@@ -69,5 +69,5 @@ returns-in-Err-clause-founded g c x told =
       c.now-moment.result,
       found,
       subst (λ (d : g.row.O.Denot). FoundsBy (g.O.Disk.disk c.args.out) c.args.founder.now x c.now-moment.result c.not_opened.result.1 (g.O.Disk.disk d)) (sym c.not_opened.ensures.disk)
-          (subst (λ (s : Status). FoundsBy (g.O.Disk.disk c.args.out) c.args.founder.now x c.now-moment.result s (g.O.Disk.disk (fault_disk c.in-Err.fault))) (sym c.not_opened.ensures.status) (not_founded g.O.Disk.disk ShelfRepresents (λ s. 0) HasGoods c.args.founder.now c.now-moment.result x c.args.out m c.in-Err.fault keeps (subst (λ (f : Entry). FoundsHouseBy {D = g.row.O.Denot} {T = Shelf} g.O.Disk.disk ShelfRepresents (λ s. 0) HasGoods full f x (Err c.in-Err.fault)) c.site-site.ensures.site (c.in-Err.ensures.exact x at)) c.in-Err.ensures.read)),
+          (subst (λ (s : Status). FoundsBy (g.O.Disk.disk c.args.out) c.args.founder.now x c.now-moment.result s (g.O.Disk.disk (fault_disk c.in-Err.fault))) (sym c.not_opened.ensures.status) (not_founded g.O.Disk.disk shelf_view c.args.founder.now c.now-moment.result x c.args.out m c.in-Err.fault keeps (subst (λ (f : Entry). FoundsHouseBy {D = g.row.O.Denot} {T = Shelf} g.O.Disk.disk shelf_view full f x (Err c.in-Err.fault)) c.site-site.ensures.site (c.in-Err.ensures.exact x at)) c.in-Err.ensures.read)),
     )

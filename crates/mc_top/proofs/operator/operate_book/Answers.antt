@@ -1,5 +1,5 @@
 use Rattle.std.proofs.Common.{inl, inr}
-use Rattle.vendor_core.specs.Shelf.{ShelfRepresents, HasGoods}
+use Rattle.vendor_core.specs.Shelf.{shelf_view}
 use Rattle.mc_top.specs.declared.operation.Operation.TheVariants as operations
 use Rattle.mc_top.proofs.ServedLemmas.{not_opened}
 use Rattle.mc_top.proofs.OperatorLemmas.{causes_opened}
@@ -8,7 +8,7 @@ use Rattle.mc_top.proofs.operator.operate_book.Goals as goal
 pub returns-in-Err-clause-operated : goal.returns-in-Err-clause-operated
 returns-in-Err-clause-operated g c x told =
     rw (c.not_opened.ensures.disk, c.not_opened.ensures.status)
-    (inl (not_opened g.O.Link.link g.O.Disk.disk ShelfRepresents (λ s. 0) HasGoods x c.args.out c.in-Err.fault (c.in-Err.ensures.exact x told) (g.met.O.Outside.disk_keeps _ _ c.in-Err.ensures.moved) c.in-Err.ensures.read))
+    (inl (not_opened g.O.Link.link g.O.Disk.disk shelf_view x c.args.out c.in-Err.fault (c.in-Err.ensures.exact x told) (g.met.O.Outside.disk_keeps _ _ c.in-Err.ensures.moved) c.in-Err.ensures.read))
 
 pub returns-in-Goods-clause-causes : goal.returns-in-Goods-clause-causes
 returns-in-Goods-clause-causes g c =

@@ -1,5 +1,5 @@
 use Rattle.std.proofs.Common.{inl, inr}
-use Rattle.vendor_core.specs.Shelf.{ShelfRepresents, HasGoods}
+use Rattle.vendor_core.specs.Shelf.{shelf_view}
 use Rattle.mc_top.proofs.ServedLemmas.{serve_causes, not_opened, serves_book}
 use Rattle.mc_top.proofs.serving.serve_book.Goals as goal
 
@@ -15,4 +15,4 @@ returns-in-Ok-clause-served g c x told =
 pub returns-in-Err-clause-served : goal.returns-in-Err-clause-served
 returns-in-Err-clause-served g c x told =
     rw (c.not_opened.ensures.disk, c.not_opened.ensures.status)
-    (inl (not_opened g.O.Link.link g.O.Disk.disk ShelfRepresents (λ s. 0) HasGoods x c.args.out c.in-Err.fault (c.in-Err.ensures.exact x told) (g.met.O.Outside.disk_keeps _ _ c.in-Err.ensures.moved) c.in-Err.ensures.read))
+    (inl (not_opened g.O.Link.link g.O.Disk.disk shelf_view x c.args.out c.in-Err.fault (c.in-Err.ensures.exact x told) (g.met.O.Outside.disk_keeps _ _ c.in-Err.ensures.moved) c.in-Err.ensures.read))

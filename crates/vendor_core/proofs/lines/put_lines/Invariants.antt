@@ -5,10 +5,10 @@ use Rattle.ledger_model.specs.Houses.{site_name, terms_in, version}
 use Rattle.ledger_model.specs.Pieces.{run_from}
 use Rattle.house_core.specs.House.{HouseRepresents}
 use Rattle.vendor_core.specs.Lines.{piece_lines}
-use Rattle.vendor_core.specs.Shelf.{ShelfRepresents, HasGoods}
+use Rattle.vendor_core.specs.Shelf.{shelf_view}
 use Rattle.vendor_core.proofs.lines.put_lines.Given as goal
 
 abbrev pub invariant-loop-i : goal.invariant-loop-i
-invariant-loop-i g l = (h f : History) (terms : Issuing) → HouseRepresents g.D.Disk.disk ShelfRepresents (λ s. 0) HasGoods l.house h → terms_in h 0 ≡ Some terms
+invariant-loop-i g l = (h f : History) (terms : Issuing) → HouseRepresents g.D.Disk.disk shelf_view l.house h → terms_in h 0 ≡ Some terms
     → site_name f ≡ site_name h → terms_in f 0 ≡ terms_in h 0 → l.first + l.count ≤ 2 ^ 64
     → l.out.items ≡ piece_lines (version h (site_name h)) terms (run_from f l.value l.first l.i)

@@ -5,7 +5,7 @@ use Rattle.mc_records.specs.Views.{entry}
 use Rattle.ledger_model.specs.Houses.{terms_in}
 use Rattle.house_core.specs.Bench.{house_time, limits_of}
 use Rattle.house_core.specs.declared.outcome.Outcome.TheVariants.{Done, Halted}
-use Rattle.vendor_core.specs.Shelf.{ShelfRepresents, HasGoods}
+use Rattle.vendor_core.specs.Shelf.{shelf_view}
 use Rattle.vendor_core.specs.Tasks.{Add, terms_task, TellsAdded}
 use Rattle.vendor_core.proofs.OperatorLemmas.{enters, refuses, stays, same_licensed, other_licensed, new_licensed, tells_last}
 use Rattle.vendor_core.proofs.operator.add_terms.Goals as goal
@@ -13,13 +13,13 @@ use Rattle.vendor_core.proofs.operator.add_terms.Goals as goal
 pub returns-then-are_same-clause-exact : goal.returns-then-are_same-clause-exact
 returns-then-are_same-clause-exact g c h st =
     let standing : terms_in h c.args.terms.now.issuer ≡ Some c.in-Some.standing = rw c.issuer.ensures at (sym (c.in-Some.ensures h st)) in
-    stays g.D.Disk.disk ShelfRepresents (λ s. 0) HasGoods _ TellsAdded (limits_of c.args.house.bench) c.args.house h (g.met.D.Disk.is_disk _) st _
+    stays g.D.Disk.disk shelf_view _ TellsAdded (limits_of c.args.house.bench) c.args.house h (g.met.D.Disk.is_disk _) st _
     (same_licensed (house_time c.args.house.bench) c.args.terms.now c.in-Some.standing _ standing (sym c.if-are_same.ensures)) refl
 
 pub returns-else-are_same-clause-exact : goal.returns-else-are_same-clause-exact
 returns-else-are_same-clause-exact g c h st =
     let standing : terms_in h c.args.terms.now.issuer ≡ Some c.in-Some.standing = rw c.issuer.ensures at (sym (c.in-Some.ensures h st)) in
-    refuses g.D.Disk.disk ShelfRepresents (λ s. 0) HasGoods _ TellsAdded (limits_of c.args.house.bench) c.args.house h (g.met.D.Disk.is_disk _) st _
+    refuses g.D.Disk.disk shelf_view _ TellsAdded (limits_of c.args.house.bench) c.args.house h (g.met.D.Disk.is_disk _) st _
     (other_licensed (house_time c.args.house.bench) c.args.terms.now c.in-Some.standing _ _ standing (sym c.if-are_same.ensures) (c.from.ensures ∙ c.issuer-else-are_same.ensures))
 
 pub returns-in-Done-clause-exact : goal.returns-in-Done-clause-exact
@@ -29,7 +29,7 @@ returns-in-Done-clause-exact g c h st =
     let same : e ≡ AddTerms t c.args.terms.now = c.terms_record-record.ensures.entry ∙ ap (λ (m : ℕ). AddTerms m c.args.terms.now) c.time.ensures in
     let none : terms_in h c.args.terms.now.issuer ≡ None = rw c.issuer.ensures at (sym (c.in_default.ensures h st)) in
     let asks : Add e ≡ terms_task h t c.args.terms.now = ap (λ (x : Entry). Add x) same ∙ new_licensed t c.args.terms.now _ none in
-    enters g.D.Disk.disk ShelfRepresents (λ s. 0) HasGoods (λ task. task ≡ terms_task h t c.args.terms.now) TellsAdded (limits_of c.args.house.bench) (λ n. Some n)
+    enters g.D.Disk.disk shelf_view (λ task. task ≡ terms_task h t c.args.terms.now) TellsAdded (limits_of c.args.house.bench) (λ n. Some n)
     c.args.house.journal.disk h e (Done c.in-Done.house c.in-Done.receipt) asks (λ done. tells_last h e) (c.in-Done.ensures.exact h st) (c.in-Done.ensures.ran h st)
 
 -- the entry is of the house time
@@ -61,5 +61,5 @@ returns-in-Halted-clause-exact g c h st =
     let same : e ≡ AddTerms t c.args.terms.now = c.terms_record-record.ensures.entry ∙ ap (λ (m : ℕ). AddTerms m c.args.terms.now) c.time.ensures in
     let none : terms_in h c.args.terms.now.issuer ≡ None = rw c.issuer.ensures at (sym (c.in_default.ensures h st)) in
     let asks : Add e ≡ terms_task h t c.args.terms.now = ap (λ (x : Entry). Add x) same ∙ new_licensed t c.args.terms.now _ none in
-    enters g.D.Disk.disk ShelfRepresents (λ s. 0) HasGoods (λ task. task ≡ terms_task h t c.args.terms.now) TellsAdded (limits_of c.args.house.bench) (λ n. Some n)
+    enters g.D.Disk.disk shelf_view (λ task. task ≡ terms_task h t c.args.terms.now) TellsAdded (limits_of c.args.house.bench) (λ n. Some n)
     c.args.house.journal.disk h e (Halted c.in-Halted.halted) asks (λ done. absurd done) (c.in-Halted.ensures.exact h st) (c.in-Halted.ensures.ran h st)

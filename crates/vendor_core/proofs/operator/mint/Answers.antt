@@ -3,7 +3,7 @@ use Rattle.mc_records.specs.Entry.{Mint}
 use Rattle.ledger_model.specs.Houses.{own_series}
 use Rattle.ledger_model.specs.Pieces.{next_identity, own_count}
 use Rattle.house_core.specs.Bench.{house_time, limits_of}
-use Rattle.vendor_core.specs.Shelf.{ShelfRepresents, HasGoods}
+use Rattle.vendor_core.specs.Shelf.{shelf_view}
 use Rattle.vendor_core.specs.Tasks.{Add, Stays, IsMintAt, IsUsed}
 use Rattle.vendor_core.proofs.LineLemmas.{lines_of_mint, earlier_mint, run_in_range}
 use Rattle.vendor_core.proofs.OperatorLemmas.{refuses, stays, wants_memory}
@@ -25,7 +25,7 @@ returns-then-minted-count-clause-exact g c h st =
       mint = record { moment = is.0; first = c.in-Some.minted.first; entry = is.1 };
       other = other;
     } in
-    refuses g.D.Disk.disk ShelfRepresents (λ s. 0) HasGoods _ _ (limits_of c.args.house.bench) c.args.house h (g.met.D.Disk.is_disk _) st _ (inl (used, refl))
+    refuses g.D.Disk.disk shelf_view _ _ (limits_of c.args.house.bench) c.args.house h (g.met.D.Disk.is_disk _) st _ (inl (used, refl))
 
 pub returns-in-Ok-clause-exact : goal.returns-in-Ok-clause-exact
 returns-in-Ok-clause-exact g c h st =
@@ -33,38 +33,38 @@ returns-in-Ok-clause-exact g c h st =
     let entry = rw (c.if-minted-count.false, c.if-minted-get.false ∙ c.get.ensures.units) at is.1 in
     let number = c.in-Some.minted.number in
     let at : IsMintAt h c.args.reference.now c.args.count c.args.value number = record { moment = is.0; first = c.in-Some.minted.first; entry = entry } in
-    let state = st.house.stands'.state in
+    let state = st.house.represents.state in
     let own = state.own_terms in
     let earlier = earlier_mint (limits_of c.args.house.bench) h number is.0 c.args.reference.now c.args.count c.args.value c.in-Some.minted.first
-    state.limits.series_most state.lawful st.journal.stands.fits st.house.stands'.of_kind entry in
+    state.limits.series_most state.lawful st.journal.stands.fits st.house.represents.of_kind entry in
     let lines = c.in-Ok.ensures.lines h (take number h) c.args.house.bench.state.own_terms st own earlier.name earlier.terms earlier.fits in
-    stays g.D.Disk.disk ShelfRepresents (λ s. 0) HasGoods _ _ (limits_of c.args.house.bench) c.args.house h (g.met.D.Disk.is_disk _) st _ (number, at)
+    stays g.D.Disk.disk shelf_view _ _ (limits_of c.args.house.bench) c.args.house h (g.met.D.Disk.is_disk _) st _ (number, at)
     (at, lines ∙ sym (lines_of_mint h c.args.house.bench.state.own_terms number is.0 c.args.reference.now c.args.count c.args.value c.in-Some.minted.first own entry))
 
 pub returns-in-Err-clause-exact : goal.returns-in-Err-clause-exact
 returns-in-Err-clause-exact g c h st =
     let is = rw c.bytes.ensures.value at (c.in-Some.ensures h (c.trade.ensures h st)) in
     let entry = rw (c.if-minted-count.false, c.if-minted-get.false ∙ c.get.ensures.units) at is.1 in
-    wants_memory g.D.Disk.disk ShelfRepresents (λ s. 0) HasGoods _ _ (limits_of c.args.house.bench) c.args.house h (g.met.D.Disk.is_disk _) st Stays tt
+    wants_memory g.D.Disk.disk shelf_view _ _ (limits_of c.args.house.bench) c.args.house h (g.met.D.Disk.is_disk _) st Stays tt
     (c.in-Some.minted.number, record { moment = is.0; first = c.in-Some.minted.first; entry = entry })
 
 pub returns-in-Err-next_run-clause-exact : goal.returns-in-Err-next_run-clause-exact
 returns-in-Err-next_run-clause-exact g c h st =
     let new = rw c.bytes.ensures.value at (c.in_default.ensures h (c.trade.ensures h st)) in
     let run = c.in-Err-next_run.ensures h st in
-    refuses g.D.Disk.disk ShelfRepresents (λ s. 0) HasGoods _ _ (limits_of c.args.house.bench) c.args.house h (g.met.D.Disk.is_disk _) st _ (inr (new, run.1, run.0))
+    refuses g.D.Disk.disk shelf_view _ _ (limits_of c.args.house.bench) c.args.house h (g.met.D.Disk.is_disk _) st _ (inr (new, run.1, run.0))
 
 pub returns-in-Err-put_lines-clause-exact : goal.returns-in-Err-put_lines-clause-exact
 returns-in-Err-put_lines-clause-exact g c h st =
     let t = house_time c.args.house.bench in
     let new = rw c.bytes.ensures.value at (c.in_default.ensures h (c.trade.ensures h st)) in
     let run = c.in-Ok-next_run.ensures h st in
-    wants_memory g.D.Disk.disk ShelfRepresents (λ s. 0) HasGoods _ _ (limits_of c.args.house.bench) c.args.house h (g.met.D.Disk.is_disk _) st
+    wants_memory g.D.Disk.disk shelf_view _ _ (limits_of c.args.house.bench) c.args.house h (g.met.D.Disk.is_disk _) st
     (Add (Mint t c.args.reference.now c.args.count c.args.value (next_identity h (own_series h t)))) tt (new, run.1, refl)
 
 pub returns-in-Ok-put_lines-clause-exact : goal.returns-in-Ok-put_lines-clause-exact
 returns-in-Ok-put_lines-clause-exact g c h st =
-    let state = st.house.stands'.state in
+    let state = st.house.represents.state in
     let series = own_series h (house_time c.args.house.bench) in
     let run = c.in-Ok-next_run.ensures h st in
     let long : c.in-Ok-next_run.first < 2 ^ 64 = search rules in

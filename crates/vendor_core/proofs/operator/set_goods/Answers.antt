@@ -2,7 +2,7 @@ use Rattle.std.proofs.Common.{◌≡◌, [], ◌∷◌, ◌++◌, ap, ◌∙◌}
 use Rattle.mc_records.specs.Entry.{Entry, Goods}
 use Rattle.ledger_model.specs.Goods.{in_force}
 use Rattle.house_core.specs.Bench.{house_time, limits_of}
-use Rattle.vendor_core.specs.Shelf.{ShelfRepresents, HasGoods}
+use Rattle.vendor_core.specs.Shelf.{shelf_view}
 use Rattle.vendor_core.specs.Tasks.{Add, goods_task, TellsLast}
 use Rattle.vendor_core.proofs.OperatorLemmas.{kept_time, enters_last, refuses, goods_refused, goods_added}
 use Rattle.vendor_core.proofs.operator.set_goods.Goals as goal
@@ -13,7 +13,7 @@ returns-then-bytes-gt-MOST_IN_FORCE-clause-exact g c h st =
     let t = house_time c.args.house.bench in
     let bytes : c.in_force_with-bytes.result ≡ in_force (h ++ Goods t c.args.target.now c.args.price c.args.kind c.args.contents.now ∷ []) =
     rw c.bytes.ensures.value at (c.in_force_with-bytes.ensures h t c.args.price c.args.kind (c.trade.ensures h st)) in
-    refuses g.D.Disk.disk ShelfRepresents (λ s. 0) HasGoods _ TellsLast (limits_of c.args.house.bench) c.args.house h (g.met.D.Disk.is_disk _) st _
+    refuses g.D.Disk.disk shelf_view _ TellsLast (limits_of c.args.house.bench) c.args.house h (g.met.D.Disk.is_disk _) st _
     (goods_refused _ _ _ bytes c.if-bytes-gt-MOST_IN_FORCE.true)
 
 pub returns-clause-keeps : goal.returns-clause-keeps
@@ -28,5 +28,5 @@ returns-clause-exact g c h st =
     let same : e ≡ Goods t c.args.target.now c.args.price c.args.kind c.args.contents.now = cc (c.time.ensures, c.bytes-2.ensures.value, c.get.ensures.units) in
     let asks : Add e ≡ goods_task h t c.args.target.now c.args.price c.args.kind c.args.contents.now =
     ap (λ (x : Entry). Add x) same ∙ goods_added _ _ _ bytes c.if-bytes-gt-MOST_IN_FORCE.false in
-    enters_last g.D.Disk.disk ShelfRepresents (λ s. 0) HasGoods (λ task. task ≡ goods_task h t c.args.target.now c.args.price c.args.kind c.args.contents.now) (limits_of c.args.house.bench)
+    enters_last g.D.Disk.disk shelf_view (λ task. task ≡ goods_task h t c.args.target.now c.args.price c.args.kind c.args.contents.now) (limits_of c.args.house.bench)
     c.args.house.journal.disk h e c.enter.result asks (c.enter.ensures.exact h st) (c.enter.ensures.ran h st)

@@ -2,7 +2,7 @@ use Rattle.std.proofs.Common.{◌≡◌, ◌≤◌, ◌^◌, Option, sym, ap, �
 use Rattle.mc_records.specs.Entry.{Entry, Goods}
 use Rattle.ledger_model.specs.Goods.{goods_kind, goods_contents, in_force}
 use Rattle.house_core.specs.Bench.{house_time, limits_of}
-use Rattle.vendor_core.specs.Shelf.{ShelfRepresents, HasGoods}
+use Rattle.vendor_core.specs.Shelf.{shelf_view}
 use Rattle.vendor_core.specs.Tasks.{Add, repriced, goods_task, price_task, TellsLast}
 use Rattle.vendor_core.proofs.OperatorLemmas.{refuses, wants_memory, repriced_is_goods}
 use Rattle.vendor_core.proofs.operator.set_price.Goals as goal
@@ -10,14 +10,14 @@ use Rattle.vendor_core.proofs.operator.set_price.Goals as goal
 pub returns-in_default-clause-exact : goal.returns-in_default-clause-exact
 returns-in_default-clause-exact g c h st =
     let none = rw c.bytes.ensures.value at (c.in_default.ensures.goods h (c.trade.ensures h st)) in
-    refuses g.D.Disk.disk ShelfRepresents (λ s. 0) HasGoods _ TellsLast (limits_of c.args.house.bench) c.args.house h (g.met.D.Disk.is_disk _) st _
+    refuses g.D.Disk.disk shelf_view _ TellsLast (limits_of c.args.house.bench) c.args.house h (g.met.D.Disk.is_disk _) st _
     (sym (ap (λ (o : Option Entry). repriced (house_time c.args.house.bench) c.args.target.now c.args.price o) none))
 
 pub returns-in-Err-clause-exact : goal.returns-in-Err-clause-exact
 returns-in-Err-clause-exact g c h st =
     let t = house_time c.args.house.bench in
     let goods = rw c.bytes.ensures.value at (c.in-Some.ensures.goods h (c.trade.ensures h st)) in
-    wants_memory g.D.Disk.disk ShelfRepresents (λ s. 0) HasGoods _ TellsLast (limits_of c.args.house.bench) c.args.house h (g.met.D.Disk.is_disk _) st
+    wants_memory g.D.Disk.disk shelf_view _ TellsLast (limits_of c.args.house.bench) c.args.house h (g.met.D.Disk.is_disk _) st
     (Add (Goods t c.args.target.now c.args.price (goods_kind goods.0) (goods_contents goods.0))) tt
     (sym (ap (λ (o : Option Entry). repriced t c.args.target.now c.args.price o) goods.1))
 

@@ -13,31 +13,31 @@ pub returns-in-Err-clause-exact : goal.returns-in-Err-clause-exact
 returns-in-Err-clause-exact g c h st in_order =
     let e = entry c.args.r.now in
     let b = c.args.self.now.state in
-    let kind = g.T.Trade.site c.args.self.now.trade in
+    let kind = (g.T.Trade.trade c.args.self.now.trade).site in
     let half = house_half st.state kind e c.requires.command in
     let counted = c.count-number.ensures ∙ sym st.state.counted in
     let may : MayLearn b.limits kind c.count-number.result h e = record { counted = counted; in_order = in_order; by_house = half.0 c.requires.goes_on } in (
       λ follows'.
-          let ok = (c.in-Err.ensures.exact b.limits h st.trade may).1 (halves g.T.Trade.passes b.limits kind h e st.of_kind c.requires.command follows'.allowed).1 in
+          let ok = (c.in-Err.ensures.exact b.limits h st.learned may).1 (halves g.T.Trade.passes b.limits kind h e st.of_kind c.requires.command follows'.allowed).1 in
           absurd (cc),
-      record { state = st.state; trade = c.in-Err.ensures.same h st.trade; of_kind = rw c.in-Err.ensures.site st.of_kind },
+      record { state = st.state; learned = c.in-Err.ensures.same h st.learned; of_kind = rw c.in-Err.ensures.site st.of_kind },
     )
 
 pub returns-clause-exact : goal.returns-clause-exact
 returns-clause-exact g c h st in_order =
     let e = entry c.args.r.now in
     let b = c.args.self.now.state in
-    let kind = g.T.Trade.site c.args.self.now.trade in
+    let kind = (g.T.Trade.trade c.args.self.now.trade).site in
     let half = house_half st.state kind e c.requires.command in
     let counted = c.count-number.ensures ∙ sym st.state.counted in
     let may : MayLearn b.limits kind c.count-number.result h e = record { counted = counted; in_order = in_order; by_house = half.0 c.requires.goes_on } in
-    let trades = (c.in-Ok.ensures.exact b.limits h st.trade may).0 refl in
+    let trades = (c.in-Ok.ensures.exact b.limits h st.learned may).0 refl in
     let follow : MayFollow b.limits h e = record { in_order = in_order; allowed = follows g.T.Trade.passes b.limits kind h e st.of_kind c.requires.command (half.0 c.requires.goes_on) trades } in (
       follow,
       counted,
       record {
         state = stands_applied st.state e c.args.bytes c.requires.command c.requires.time c.requires.goes_on follow c.requires.len c.apply_entry.ensures;
-        trade = c.in-Ok.ensures.learned b.limits h st.trade may;
+        learned = c.in-Ok.ensures.learned b.limits h st.learned may;
         of_kind = kind_stays b.limits h e st.state.lawful ∙ rw c.in-Ok.ensures.site st.of_kind;
       },
     )
@@ -45,13 +45,13 @@ returns-clause-exact g c h st in_order =
 pub returns-clause-contents : goal.returns-clause-contents
 returns-clause-contents g c h st has =
     let after : Bench g.row.T.Denot = record { state = c.apply_entry.new.self; trade = c.learn.new.self } in
-    contents_applied g.T.Trade.holds c.args.self.now after h (entry c.args.r.now) has st.state.replies
+    contents_applied g.T.Trade.trade c.args.self.now after h (entry c.args.r.now) has st.state.replies
     (ap (λ (k : KeptView). k.replies) c.apply_entry.ensures.kept) c.in-Ok.ensures.held
 
 pub returns-in-Err-clause-contents : goal.returns-in-Err-clause-contents
 returns-in-Err-clause-contents g c h st has =
     let after : Bench g.row.T.Denot = record { state = c.args.self.now.state; trade = c.learn.new.self } in
-    contents_as_before g.T.Trade.holds c.args.self.now after h has refl c.in-Err.ensures.held
+    contents_as_before g.T.Trade.trade c.args.self.now after h has refl c.in-Err.ensures.held
 
 pub learn-requires-clause-fits : goal.learn-requires-clause-fits
 learn-requires-clause-fits g c = goods_fit (entry c.args.r.now) c.requires.fits

@@ -6,17 +6,17 @@ use Rattle.house_core.proofs.Contents.{contents_roomed}
 use Rattle.house_core.proofs.bench.Bench.commit.Goals as goal
 
 pub returns-in-Err-clause-exact : goal.returns-in-Err-clause-exact
-returns-in-Err-clause-exact g c limits h st series most takes = holds_roomed g.T.Trade.stands g.T.Trade.site g.T.Trade.holds _ _ h c.in-Err.ensures.same st
+returns-in-Err-clause-exact g c limits h st series most takes = holds_roomed g.T.Trade.trade _ _ h c.in-Err.ensures.same st
 
 pub returns-clause-exact : goal.returns-clause-exact
 returns-clause-exact g c limits h st series most takes =
     let same = c.in-Ok.ensures.same in
     let time : house_time c.make_room.new.self ≡ house_time c.args.self.now = same.state.time in
     let still : limits.series ≡ (limits_of c.make_room.new.self).series = series ∙ ap (λ (l : Limits). l.series) (sym same.state.limits) in
-    (rw time at (c.apply_accept.ensures.exact limits h (holds_roomed g.T.Trade.stands g.T.Trade.site g.T.Trade.holds _ _ h same st) (c.requires.brings h st.trade st.of_kind) still most)) takes
+    (rw time at (c.apply_accept.ensures.exact limits h (holds_roomed g.T.Trade.trade _ _ h same st) (c.requires.brings h st.learned st.of_kind) still most)) takes
 
 pub returns-clause-contents : goal.returns-clause-contents
 returns-clause-contents g c h st has in_force =
     let same = c.in-Ok.ensures.same in
     let time : house_time c.make_room.new.self ≡ house_time c.args.self.now = same.state.time in
-    rw time at (c.apply_accept.ensures.contents h (holds_roomed g.T.Trade.stands g.T.Trade.site g.T.Trade.holds _ _ h same st) (contents_roomed g.T.Trade.stands g.T.Trade.site g.T.Trade.holds _ _ h same has) in_force)
+    rw time at (c.apply_accept.ensures.contents h (holds_roomed g.T.Trade.trade _ _ h same st) (contents_roomed g.T.Trade.trade _ _ h same has) in_force)

@@ -12,21 +12,21 @@ returns-in-Ok-apply_entry-clause-exact g c h st =
     let same = c.in-Ok.ensures.same in
     let limits : limits_of c.room_for.new.self ≡ limits_of c.args.self.now = same.state.limits in
     let order : time h ≤ moment_of (entry c.args.r.now) = omega (arith, st.state.in_time, c.requires.time) in
-    rw limits at (c.in-Ok-apply_entry.ensures.exact h (holds_roomed g.T.Trade.stands g.T.Trade.site g.T.Trade.holds _ _ h same st) order)
+    rw limits at (c.in-Ok-apply_entry.ensures.exact h (holds_roomed g.T.Trade.trade _ _ h same st) order)
 
 pub returns-in-Err-apply_entry-clause-exact : goal.returns-in-Err-apply_entry-clause-exact
 returns-in-Err-apply_entry-clause-exact g c h st =
     let same = c.in-Ok.ensures.same in
     let limits : limits_of c.room_for.new.self ≡ limits_of c.args.self.now = same.state.limits in
     let order : time h ≤ moment_of (entry c.args.r.now) = omega (arith, st.state.in_time, c.requires.time) in
-    rw limits at (c.in-Err-apply_entry.ensures.exact h (holds_roomed g.T.Trade.stands g.T.Trade.site g.T.Trade.holds _ _ h same st) order)
+    rw limits at (c.in-Err-apply_entry.ensures.exact h (holds_roomed g.T.Trade.trade _ _ h same st) order)
 
 pub returns-in-Ok-apply_entry-clause-contents : goal.returns-in-Ok-apply_entry-clause-contents
 returns-in-Ok-apply_entry-clause-contents g c h st has =
     let same = c.in-Ok.ensures.same in
-    c.in-Ok-apply_entry.ensures.contents h (holds_roomed g.T.Trade.stands g.T.Trade.site g.T.Trade.holds _ _ h same st) (contents_roomed g.T.Trade.stands g.T.Trade.site g.T.Trade.holds _ _ h same has)
+    c.in-Ok-apply_entry.ensures.contents h (holds_roomed g.T.Trade.trade _ _ h same st) (contents_roomed g.T.Trade.trade _ _ h same has)
 
 pub returns-in-Err-apply_entry-clause-contents : goal.returns-in-Err-apply_entry-clause-contents
 returns-in-Err-apply_entry-clause-contents g c h st has =
     let same = c.in-Ok.ensures.same in
-    c.in-Err-apply_entry.ensures.contents h (holds_roomed g.T.Trade.stands g.T.Trade.site g.T.Trade.holds _ _ h same st) (contents_roomed g.T.Trade.stands g.T.Trade.site g.T.Trade.holds _ _ h same has)
+    c.in-Err-apply_entry.ensures.contents h (holds_roomed g.T.Trade.trade _ _ h same st) (contents_roomed g.T.Trade.trade _ _ h same has)

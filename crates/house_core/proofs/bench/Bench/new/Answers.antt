@@ -11,17 +11,17 @@ use Rattle.house_core.proofs.bench.Bench.new.Goals as goal
 pub returns-clause-holds : goal.returns-clause-holds
 returns-clause-holds g c =
     let e = entry c.args.site.now in
-    let kind : site_kind (e ∷ []) ≡ Some (g.T.Trade.site c.reserve.new.self) = rw c.in-Ok.ensures.site c.requires.kind in
+    let kind : site_kind (e ∷ []) ≡ Some (g.T.Trade.trade c.reserve.new.self).site = rw c.in-Ok.ensures.site c.requires.kind in
     record {
       state = stands_founded c.in_ok-state.state c.args.limits e c.in_ok-state.ensures c.requires.site c.requires.limits c.requires.first;
-      trade = c.in-Ok-learn.ensures.learned c.args.limits [] (c.in-Ok.ensures.same [] c.requires.trade) (learns_site c.args.limits (g.T.Trade.site c.reserve.new.self) e c.requires.site c.requires.first kind);
+      learned = c.in-Ok-learn.ensures.learned c.args.limits [] (c.in-Ok.ensures.same [] c.requires.trade) (learns_site c.args.limits (g.T.Trade.trade c.reserve.new.self).site e c.requires.site c.requires.first kind);
       of_kind = rw c.in-Ok-learn.ensures.site kind;
     }
 
 pub returns-clause-contents : goal.returns-clause-contents
 returns-clause-contents g c =
     let made : Bench g.row.T.Denot = record { state = c.in_ok-state.state; trade = c.learn.new.self } in
-    contents_of_none g.T.Trade.holds made (entry c.args.site.now ∷ []) (none_kept c.in_ok-state.state c.args.limits (entry c.args.site.now) c.in_ok-state.ensures)
+    contents_of_none g.T.Trade.trade made (entry c.args.site.now ∷ []) (none_kept c.in_ok-state.state c.args.limits (entry c.args.site.now) c.in_ok-state.ensures)
 
 pub learn-requires-clause-fits : goal.learn-requires-clause-fits
 learn-requires-clause-fits g c = founds_fit (entry c.args.site.now) c.requires.site
@@ -30,7 +30,7 @@ learn-requires-clause-fits g c = founds_fit (entry c.args.site.now) c.requires.s
 pub unreachable-requires : goal.unreachable-requires
 unreachable-requires g c =
     let e = entry c.args.site.now in
-    let kind : site_kind (e ∷ []) ≡ Some (g.T.Trade.site c.reserve.new.self) = rw c.in-Ok.ensures.site c.requires.kind in
-    let may = learns_site c.args.limits (g.T.Trade.site c.reserve.new.self) e c.requires.site c.requires.first kind in
-    let learned = (c.in-Err-learn.ensures.exact c.args.limits [] (c.in-Ok.ensures.same [] c.requires.trade) may).1 (founds_by_trade g.T.Trade.passes (g.T.Trade.site c.reserve.new.self) e c.requires.site) in
+    let kind : site_kind (e ∷ []) ≡ Some (g.T.Trade.trade c.reserve.new.self).site = rw c.in-Ok.ensures.site c.requires.kind in
+    let may = learns_site c.args.limits (g.T.Trade.trade c.reserve.new.self).site e c.requires.site c.requires.first kind in
+    let learned = (c.in-Err-learn.ensures.exact c.args.limits [] (c.in-Ok.ensures.same [] c.requires.trade) may).1 (founds_by_trade g.T.Trade.passes (g.T.Trade.trade c.reserve.new.self).site e c.requires.site) in
     absurd (cc learned)

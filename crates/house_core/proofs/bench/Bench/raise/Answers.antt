@@ -11,11 +11,11 @@ returns-clause-same g c h st =
     record {
       state = subst (λ (b : HouseStateView). StateRepresents b h) (sym c.raise-time.ensures.rest)
           (stands_later st.state (max c.args.self.now.state.time c.args.reading) c.raise-time.new.self.kept later c.raise-time.ensures.keep c.raise-time.ensures.replies);
-      trade = c.forget.ensures.same h st.trade;
+      learned = c.forget.ensures.same h st.learned;
       of_kind = rw c.forget.ensures.site st.of_kind;
     }
 
 pub returns-clause-contents : goal.returns-clause-contents
 returns-clause-contents g c h st has =
-    contents_later g.T.Trade.holds c.args.self.now (record { state = c.raise-time.new.self; trade = c.forget.new.self }) h (max c.args.self.now.state.time c.args.reading) c.first_kept.result has
-    c.raise-time.ensures.replies c.first_kept.ensures.least (λ e. c.first_kept.ensures.none.0 (rw e refl)) (λ n kept held. c.forget.ensures.held h n st.trade kept held)
+    contents_later g.T.Trade.trade c.args.self.now (record { state = c.raise-time.new.self; trade = c.forget.new.self }) h (max c.args.self.now.state.time c.args.reading) c.first_kept.result has
+    c.raise-time.ensures.replies c.first_kept.ensures.least (λ e. c.first_kept.ensures.none.0 (rw e refl)) (λ n kept held. c.forget.ensures.held h n st.learned kept held)

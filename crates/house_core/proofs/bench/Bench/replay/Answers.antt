@@ -9,5 +9,5 @@ returns-in-Accept-clause-contents g c h st has =
     let is : c.moment-moment.result ≡ c.in-Accept.moment = rw c.in-Accept.is at c.moment-moment.ensures in
     let at : house_time c.raise.new.self ≡ c.in-Accept.moment = omega (arith, is, c.raise.ensures.raised, c.if-seconds.false, c.seconds.ensures.seconds, c.seconds-2.ensures.seconds, c.time.ensures) in
     rw c.in-Accept.is (subst
-    (λ (m : ℕ). IfOk c.replay_accept.result (λ u. HasContents g.T.Trade.holds c.replay_accept.new.self (h ++ Accept m c.in-Accept.scrip.now c.in-Accept.target.now c.in-Accept.sign c.in-Accept.price c.in-Accept.change (deed_of c.in-Accept.deed) ∷ [])))
+    (λ (m : ℕ). IfOk c.replay_accept.result (λ u. HasContents g.T.Trade.trade c.replay_accept.new.self (h ++ Accept m c.in-Accept.scrip.now c.in-Accept.target.now c.in-Accept.sign c.in-Accept.price c.in-Accept.change (deed_of c.in-Accept.deed) ∷ [])))
     at (c.replay_accept.ensures.contents h (c.raise.ensures.same h st) (c.raise.ensures.contents h st has)))

@@ -33,7 +33,7 @@ returns-in-Err-evaluate-clause-exact g c h st =
     let text : (asked_of c.request_for-q.result).scrip ≡ Some c.in-Ok.read.text = rw c.in-Ok.ensures.found.0 (ap (λ (a : Asked). a.scrip) asked) in
     let read : scrip_of c.in-Ok.read.text ≡ Ok (c.in-Ok.read.piece, c.in-Ok.read.cert) = rw c.in-Ok.ensures.found.0 c.in-Ok.ensures.same in
     let is = answer_under h t c.unbounded_of-limits.result bounds (asked_of c.request_for-q.result) c.in-Ok.read _ (c.unbounded_of-limits.ensures ∙ ap unbounded c.limits.ensures.limits) text read
-    (c.in-Err-evaluate.ensures.lines h st.state st.trade st.of_kind) in
+    (c.in-Err-evaluate.ensures.lines h st.state st.learned st.of_kind) in
     stops (stop_of c.in-Err-evaluate.field-0) (answer h t bounds (request_of c.args.scrip.now c.args.target.now c.args.sign.now)) _ (is ∙ ap (answer h t bounds) asked) may.allowed
 
 pub returns-then-not-is_said-clause-exact : goal.returns-then-not-is_said-clause-exact
@@ -45,7 +45,7 @@ returns-then-not-is_said-clause-exact g c h st =
     let text : (asked_of c.request_for-q.result).scrip ≡ Some c.in-Ok.read.text = rw c.in-Ok.ensures.found.0 (ap (λ (a : Asked). a.scrip) asked) in
     let read : scrip_of c.in-Ok.read.text ≡ Ok (c.in-Ok.read.piece, c.in-Ok.read.cert) = rw c.in-Ok.ensures.found.0 c.in-Ok.ensures.same in
     let is = answer_under h t c.unbounded_of-limits.result bounds (asked_of c.request_for-q.result) c.in-Ok.read _ (c.unbounded_of-limits.ensures ∙ ap unbounded c.limits.ensures.limits) text read
-    (c.in-Ok-evaluate.ensures.lines h st.state st.trade st.of_kind) in
+    (c.in-Ok-evaluate.ensures.lines h st.state st.learned st.of_kind) in
     let said = is_said t t c.in-Ok.read.text c.args.scrip.now c.request_for-q.result.target.now c.args.target.now c.in-Ok-evaluate.authorization c.args.sign.now c.args.price c.args.change (deed_of c.args.deed.now)
     (answer h t bounds (request_of c.args.scrip.now c.args.target.now c.args.sign.now)) (is ∙ ap (answer h t bounds) asked) may.allowed in
     let yes' = c.is_said.ensures.1 said in
@@ -61,14 +61,14 @@ returns-in-Ok-commit-clause-exact g c h st =
     let text : (asked_of c.request_for-q.result).scrip ≡ Some c.in-Ok.read.text = rw c.in-Ok.ensures.found.0 (ap (λ (a : Asked). a.scrip) asked) in
     let read : scrip_of c.in-Ok.read.text ≡ Ok (c.in-Ok.read.piece, c.in-Ok.read.cert) = rw c.in-Ok.ensures.found.0 c.in-Ok.ensures.same in
     let is = answer_under h t c.unbounded_of-limits.result bounds (asked_of c.request_for-q.result) c.in-Ok.read _ (c.unbounded_of-limits.ensures ∙ ap unbounded c.limits.ensures.limits) text read
-    (c.in-Ok-evaluate.ensures.lines h st.state st.trade st.of_kind) in
+    (c.in-Ok-evaluate.ensures.lines h st.state st.learned st.of_kind) in
     let same : accept_entry t c.in-Ok.read.text c.request_for-q.result.target.now c.in-Ok-evaluate.authorization ≡ e =
     said_entry t c.in-Ok.read.text c.args.scrip.now c.request_for-q.result.target.now c.args.target.now c.in-Ok-evaluate.authorization c.args.sign.now c.args.price c.args.change (deed_of c.args.deed.now)
     c.in-Ok.ensures.found.0 (ap (λ (a : Asked). a.target) asked) (c.is_said.ensures.0 c.if-not-is_said.false) in
     let most : 2 ^ 40 ≤ 2 ^ 40 = omega arith in
     let taken = c.in-Ok-commit.ensures.exact bounds h st refl most (sym is) in (
       record { in_order = st.state.in_time; allowed = sym (is ∙ ap (answer h t bounds) asked) ∙ ap (λ (x : Entry). answers.Take x) same },
-      subst (λ (x : Entry). Represents g.T.Trade.stands g.T.Trade.site c.commit.new.self (h ++ x ∷ [])) same taken.1,
+      subst (λ (x : Entry). Represents g.T.Trade.trade c.commit.new.self (h ++ x ∷ [])) same taken.1,
       c.in-Ok-commit.ensures.time,
     )
 
@@ -80,4 +80,4 @@ returns-in-Ok-commit-clause-contents g c h st has =
     let same : accept_entry t c.in-Ok.read.text c.request_for-q.result.target.now c.in-Ok-evaluate.authorization ≡ e =
     said_entry t c.in-Ok.read.text c.args.scrip.now c.request_for-q.result.target.now c.args.target.now c.in-Ok-evaluate.authorization c.args.sign.now c.args.price c.args.change (deed_of c.args.deed.now)
     c.in-Ok.ensures.found.0 (ap (λ (a : Asked). a.target) asked) (c.is_said.ensures.0 c.if-not-is_said.false) in
-    subst (λ (x : Entry). HasContents g.T.Trade.holds c.commit.new.self (h ++ x ∷ [])) same (c.in-Ok-commit.ensures.contents h st has (c.in-Ok-evaluate.ensures.in_force h st.trade st.of_kind))
+    subst (λ (x : Entry). HasContents g.T.Trade.trade c.commit.new.self (h ++ x ∷ [])) same (c.in-Ok-commit.ensures.contents h st has (c.in-Ok-evaluate.ensures.in_force h st.learned st.of_kind))

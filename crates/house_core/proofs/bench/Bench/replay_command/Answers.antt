@@ -7,7 +7,7 @@ use Rattle.house_core.proofs.bench.Bench.replay_command.Goals as goal
 
 pub returns-in-Err-follow-clause-exact : goal.returns-in-Err-follow-clause-exact
 returns-in-Err-follow-clause-exact g c h st room =
-    follow_fails g.T.Trade.stands g.T.Trade.site c.follow.new.self (limits_of c.args.self.now) h (entry c.args.r.now) c.in-Err-follow.end (c.in-Err-follow.ensures.exact h st)
+    follow_fails g.T.Trade.trade c.follow.new.self (limits_of c.args.self.now) h (entry c.args.r.now) c.in-Err-follow.end (c.in-Err-follow.ensures.exact h st)
 
 -- the entry fits the greatest journal
 pub returns-in-Err-fitted-clause-exact : goal.returns-in-Err-fitted-clause-exact

@@ -7,8 +7,8 @@ pub returns-then-not-goes_on-clause-end : goal.returns-then-not-goes_on-clause-e
 returns-then-not-goes_on-clause-end g c h st = (
   λ may.
       let e = entry c.args.r.now in
-      let half = house_half st.state (g.T.Trade.site c.args.self.now.trade) e c.requires.command in
-      let goes = half.1 (halves g.T.Trade.passes c.args.self.now.state.limits (g.T.Trade.site c.args.self.now.trade) h e st.of_kind c.requires.command may.allowed).0 in
+      let half = house_half st.state (g.T.Trade.trade c.args.self.now.trade).site e c.requires.command in
+      let goes = half.1 (halves g.T.Trade.passes c.args.self.now.state.limits (g.T.Trade.trade c.args.self.now.trade).site h e st.of_kind c.requires.command may.allowed).0 in
       let yes' = c.goes_on.ensures.1 goes in
       absurd (cc),
   st,
@@ -16,4 +16,4 @@ returns-then-not-goes_on-clause-end g c h st = (
 
 pub returns-in-Err-reserve_for-clause-end : goal.returns-in-Err-reserve_for-clause-end
 returns-in-Err-reserve_for-clause-end g c h st =
-    record { state = stands_as_before st.state c.in-Err-reserve_for.ensures.same; trade = c.in-Ok.ensures.same h st.trade; of_kind = rw c.in-Ok.ensures.site st.of_kind }
+    record { state = stands_as_before st.state c.in-Err-reserve_for.ensures.same; learned = c.in-Ok.ensures.same h st.learned; of_kind = rw c.in-Ok.ensures.site st.of_kind }

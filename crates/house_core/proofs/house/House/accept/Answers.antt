@@ -14,7 +14,7 @@ use Rattle.house_core.proofs.house.House.accept.Goals as goal
 
 pub returns-in_default-clause-exact : goal.returns-in_default-clause-exact
 returns-in_default-clause-exact g c h st =
-    not_accepted g.D.Disk.disk g.T.Trade.stands g.T.Trade.site g.T.Trade.holds c.args.self h _ (stops.Refused NoScrip) NoScrip refl
+    not_accepted g.D.Disk.disk g.T.Trade.trade c.args.self h _ (stops.Refused NoScrip) NoScrip refl
     (no_scrip h (house_time c.args.self.bench) (limits_of c.args.self.bench) (asked_of c.args.q.now) (none_seen c.args.q.now.scrip c.in_default.not-Some)) st
 
 pub returns-in_default-clause-ran : goal.returns-in_default-clause-ran
@@ -27,7 +27,7 @@ returns-in-Err-clause-moved g c = g.met.D.Disk.disk_stays c.args.self.journal.di
 pub returns-in-Err-clause-exact : goal.returns-in-Err-clause-exact
 returns-in-Err-clause-exact g c h st =
     let asked : (asked_of c.args.q.now).scrip ≡ Some c.in-Some.text.now = rw c.in-Some.is refl in
-    not_accepted g.D.Disk.disk g.T.Trade.stands g.T.Trade.site g.T.Trade.holds c.args.self h _ (stops.Refused (BadScrip c.in-Err.fault.place)) c.bad_scrip.result c.bad_scrip.ensures.same
+    not_accepted g.D.Disk.disk g.T.Trade.trade c.args.self h _ (stops.Refused (BadScrip c.in-Err.fault.place)) c.bad_scrip.result c.bad_scrip.ensures.same
     (bad_scrip h (house_time c.args.self.bench) (limits_of c.args.self.bench) (asked_of c.args.q.now) c.in-Some.text.now c.in-Err.fault.place asked c.in-Err.ensures.same) st
 
 pub returns-in-Err-clause-ran : goal.returns-in-Err-clause-ran
@@ -38,16 +38,16 @@ pub returns-in-Ok-evaluate-clause-exact : goal.returns-in-Ok-evaluate-clause-exa
 returns-in-Ok-evaluate-clause-exact g c h st =
     let asked : (asked_of c.args.q.now).scrip ≡ Some c.in-Ok.scrip.text = rw (c.in-Some.is, c.in-Ok.ensures.found.0) refl in
     let read : scrip_of c.in-Ok.scrip.text ≡ Ok (c.in-Ok.scrip.piece, c.in-Ok.scrip.cert) = rw c.in-Ok.ensures.found.0 c.in-Ok.ensures.same in
-    let b = st.house.stands' in
+    let b = st.house.represents in
     let is = answer_under h _ c.limits.result _ (asked_of c.args.q.now) c.in-Ok.scrip _ c.limits.ensures.limits asked read (c.in-Ok-evaluate.ensures.lines h b.state b.trade b.of_kind) in
-    subst (λ (a : Answer). Accepted g.D.Disk.disk g.T.Trade.stands g.T.Trade.site g.T.Trade.holds c.args.self.journal.disk h a c.commit.result) is
+    subst (λ (a : Answer). Accepted g.D.Disk.disk g.T.Trade.trade c.args.self.journal.disk h a c.commit.result) is
     (c.commit.ensures.exact h st (c.in-Ok-evaluate.ensures.in_force h b.trade b.of_kind) (c.in-Ok-evaluate.ensures.brings h b.trade b.of_kind) (sym is))
 
 pub returns-in-Ok-evaluate-clause-ran : goal.returns-in-Ok-evaluate-clause-ran
 returns-in-Ok-evaluate-clause-ran g c h st =
     let asked : (asked_of c.args.q.now).scrip ≡ Some c.in-Ok.scrip.text = rw (c.in-Some.is, c.in-Ok.ensures.found.0) refl in
     let read : scrip_of c.in-Ok.scrip.text ≡ Ok (c.in-Ok.scrip.piece, c.in-Ok.scrip.cert) = rw c.in-Ok.ensures.found.0 c.in-Ok.ensures.same in
-    let b = st.house.stands' in
+    let b = st.house.represents in
     let is = answer_under h _ c.limits.result _ (asked_of c.args.q.now) c.in-Ok.scrip _ c.limits.ensures.limits asked read (c.in-Ok-evaluate.ensures.lines h b.state b.trade b.of_kind) in
     subst (λ (a : Answer). Ran (g.D.Disk.disk c.args.self.journal.disk) (g.D.Disk.disk (outcome_disk c.commit.result)) (Leaves a c.commit.result h (g.D.Disk.disk c.args.self.journal.disk).aside)) is
     (c.commit.ensures.ran h st)
@@ -59,8 +59,8 @@ pub returns-in-Err-evaluate-clause-exact : goal.returns-in-Err-evaluate-clause-e
 returns-in-Err-evaluate-clause-exact g c h st =
     let asked : (asked_of c.args.q.now).scrip ≡ Some c.in-Ok.scrip.text = rw (c.in-Some.is, c.in-Ok.ensures.found.0) refl in
     let read : scrip_of c.in-Ok.scrip.text ≡ Ok (c.in-Ok.scrip.piece, c.in-Ok.scrip.cert) = rw c.in-Ok.ensures.found.0 c.in-Ok.ensures.same in
-    let b = st.house.stands' in
-    not_accepted g.D.Disk.disk g.T.Trade.stands g.T.Trade.site g.T.Trade.holds c.args.self h _ c.in-Err-evaluate.stopped c.refusal_of.result c.refusal_of.ensures.same
+    let b = st.house.represents in
+    not_accepted g.D.Disk.disk g.T.Trade.trade c.args.self h _ c.in-Err-evaluate.stopped c.refusal_of.result c.refusal_of.ensures.same
     (answer_under h _ c.limits.result _ (asked_of c.args.q.now) c.in-Ok.scrip _ c.limits.ensures.limits asked read (c.in-Err-evaluate.ensures.lines h b.state b.trade b.of_kind)) st
 
 pub returns-in-Err-evaluate-clause-ran : goal.returns-in-Err-evaluate-clause-ran

@@ -16,7 +16,7 @@ use Rattle.house_core.proofs.house.House.commit.Goals as goal
 
 pub returns-in-Err-clause-exact : goal.returns-in-Err-clause-exact
 returns-in-Err-clause-exact g c h st in_force brings takes =
-    as_roomed g.D.Disk.disk g.T.Trade.stands g.T.Trade.site g.T.Trade.holds c.args.self _ h refl c.in-Err.ensures.same st
+    as_roomed g.D.Disk.disk g.T.Trade.trade c.args.self _ h refl c.in-Err.ensures.same st
 
 pub apply_accept-number-requires-clause-new : goal.apply_accept-number-requires-clause-new
 apply_accept-number-requires-clause-new g c =
@@ -30,12 +30,12 @@ returns-in-Ok-append-clause-exact g c h st in_force brings takes =
     let time : house_time c.make_room.new.self ≡ house_time c.args.self.bench = same.state.time in
     let limits : limits_of c.make_room.new.self ≡ limits_of c.args.self.bench = same.state.limits in
     let is : entry c.entry_of-record.result ≡ accept_entry (house_time c.args.self.bench) c.args.scrip.now.text c.args.q.now.target.now a = rw (c.entry_of-record.ensures.same, c.time.ensures, time) refl in
-    let st' = holds_roomed g.T.Trade.stands g.T.Trade.site g.T.Trade.holds _ _ h same st.house.stands' in
+    let st' = holds_roomed g.T.Trade.trade _ _ h same st.house.represents in
     let after : House g.row.D.Denot g.row.T.Denot = record { journal = c.in-Ok-append.journal; bench = c.apply_accept-number.new.self } in
-    let entered = (rw time at (c.apply_accept-number.ensures.exact (limits_of c.args.self.bench) h st' brings (ap (λ (l : Limits). l.series) (sym limits)) st.house.stands'.state.limits.journal_most)) takes in
-    let contents = rw time at (c.apply_accept-number.ensures.contents h st' (contents_roomed g.T.Trade.stands g.T.Trade.site g.T.Trade.holds _ _ h same st.house.contents) in_force) in
+    let entered = (rw time at (c.apply_accept-number.ensures.exact (limits_of c.args.self.bench) h st' brings (ap (λ (l : Limits). l.series) (sym limits)) st.house.represents.state.limits.journal_most)) takes in
+    let contents = rw time at (c.apply_accept-number.ensures.contents h st' (contents_roomed g.T.Trade.trade _ _ h same st.house.contents) in_force) in
     let wrote = c.in-Ok-append.ensures in
-    has_entered g.D.Disk.disk g.T.Trade.stands g.T.Trade.site g.T.Trade.holds c.args.self after h (accept_entry (house_time c.args.self.bench) c.args.scrip.now.text c.args.q.now.target.now a) (entry c.entry_of-record.result)
+    has_entered g.D.Disk.disk g.T.Trade.trade c.args.self after h (accept_entry (house_time c.args.self.bench) c.args.scrip.now.text c.args.q.now.target.now a) (entry c.entry_of-record.result)
     c.apply_accept-number.result is st (wrote.written h st.journal).0 wrote.limit (c.apply_accept-number.ensures.limits ∙ limits) entered.0 entered.1 contents
 
 pub returns-in-Ok-append-clause-ran : goal.returns-in-Ok-append-clause-ran
@@ -50,7 +50,7 @@ returns-in-Err-Full-clause-exact g c h st in_force brings takes =
     let time : house_time c.make_room.new.self ≡ house_time c.args.self.bench = c.in-Ok.ensures.same.state.time in
     let is : entry c.entry_of-record.result ≡ accept_entry (house_time c.args.self.bench) c.args.scrip.now.text c.args.q.now.target.now c.args.authorization.now = rw (c.entry_of-record.ensures.same, c.time.ensures, time) refl in
     let full : c.args.self.journal.limit < size h + entry_size h (entry c.entry_of-record.result) = rw c.in-Err-Full.field-0-is at (c.in-Err-Full.ensures.full h st.journal.size_is) in
-    not_full c.args.self.bench.state h c.args.scrip.now c.args.q.now.target.now c.args.authorization.now c.args.self.journal.limit (entry c.entry_of-record.result) st.house.stands'.state c.requires.ready c.requires.room st.limit is full
+    not_full c.args.self.bench.state h c.args.scrip.now c.args.q.now.target.now c.args.authorization.now c.args.self.journal.limit (entry c.entry_of-record.result) st.house.represents.state c.requires.ready c.requires.room st.limit is full
 
 pub returns-in-Err-Full-clause-ran : goal.returns-in-Err-Full-clause-ran
 returns-in-Err-Full-clause-ran g c h st =

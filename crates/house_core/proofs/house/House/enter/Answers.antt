@@ -21,8 +21,8 @@ returns-in-Err-clause-keeps g c =
 pub returns-in-Err-clause-exact : goal.returns-in-Err-clause-exact
 returns-in-Err-clause-exact g c h st =
     let raised : House g.row.D.Denot g.row.T.Denot = record { journal = c.args.self.journal; bench = c.raise.new.self } in
-    let st' = stands_with g.D.Disk.disk g.T.Trade.stands g.T.Trade.site g.T.Trade.holds c.args.self c.raise.new.self h st (c.raise.ensures.same h st.house.stands') (c.raise.ensures.contents h st.house.stands' st.house.contents) c.raise.ensures.limits in
-    as_roomed g.D.Disk.disk g.T.Trade.stands g.T.Trade.site g.T.Trade.holds raised _ h refl c.make_room_for.ensures.same st'
+    let st' = stands_with g.D.Disk.disk g.T.Trade.trade c.args.self c.raise.new.self h st (c.raise.ensures.same h st.house.represents) (c.raise.ensures.contents h st.house.represents st.house.contents) c.raise.ensures.limits in
+    as_roomed g.D.Disk.disk g.T.Trade.trade raised _ h refl c.make_room_for.ensures.same st'
 
 pub returns-in-Err-clause-ran : goal.returns-in-Err-clause-ran
 returns-in-Err-clause-ran g c h st = ran_nothing g.D.Disk.disk c.args.self.journal _ h (g.met.D.Disk.is_disk _) st.journal refl
@@ -31,19 +31,19 @@ pub returns-in-Ok-append-clause-exact : goal.returns-in-Ok-append-clause-exact
 returns-in-Ok-append-clause-exact g c h st =
     let same = c.make_room_for.ensures.same in
     let limits : limits_of c.make_room_for.new.self ≡ limits_of c.args.self.bench = same.state.limits ∙ c.raise.ensures.limits in
-    let st' = holds_roomed g.T.Trade.stands g.T.Trade.site g.T.Trade.holds _ _ h same (c.raise.ensures.same h st.house.stands') in
-    let has = contents_roomed g.T.Trade.stands g.T.Trade.site g.T.Trade.holds _ _ h same (c.raise.ensures.contents h st.house.stands' st.house.contents) in
+    let st' = holds_roomed g.T.Trade.trade _ _ h same (c.raise.ensures.same h st.house.represents) in
+    let has = contents_roomed g.T.Trade.trade _ _ h same (c.raise.ensures.contents h st.house.represents st.house.contents) in
     let after : House g.row.D.Denot g.row.T.Denot = record { journal = c.in-Ok-append.journal; bench = c.apply_entry-applied.new.self } in
     let wrote = c.in-Ok-append.ensures in
     let may = c.requires.may h st in
     let both = applied c.apply_entry-applied.result _ _ _ _ _ _ may (rw limits at (c.apply_entry-applied.ensures.exact h st' may.in_order)) (c.apply_entry-applied.ensures.contents h st' has) in
-    has_entered g.D.Disk.disk g.T.Trade.stands g.T.Trade.site g.T.Trade.holds c.args.self after h (entry c.args.r.now) (entry c.args.r.now)
+    has_entered g.D.Disk.disk g.T.Trade.trade c.args.self after h (entry c.args.r.now) (entry c.args.r.now)
     c.in-Ok-append.receipt refl st (wrote.written h st.journal).0 wrote.limit (c.apply_entry-applied.ensures.limits ∙ limits) (wrote.written h st.journal).1 both.0 both.1
 
 pub returns-in-Err-Full-clause-exact : goal.returns-in-Err-Full-clause-exact
 returns-in-Err-Full-clause-exact g c h st =
     let same = c.make_room_for.ensures.same in
-    let st' = holds_roomed g.T.Trade.stands g.T.Trade.site g.T.Trade.holds _ _ h same (c.raise.ensures.same h st.house.stands') in
+    let st' = holds_roomed g.T.Trade.trade _ _ h same (c.raise.ensures.same h st.house.represents) in
     let full : c.args.self.journal.limit < size h + entry_size h (entry c.args.r.now) = rw c.in-Err-Full.field-0-is at (c.in-Err-Full.ensures.full h st.journal.size_is) in
     absurd (not_full_of c.make_room_for.new.self.state h c.args.self.journal.limit c.in-Ok.bytes (entry c.args.r.now) st'.state c.in-Ok.ensures.len c.in-Ok.ensures.fits
     (st.limit ∙ ap (λ (l : Limits). l.journal) (sym (same.state.limits ∙ c.raise.ensures.limits))) full)

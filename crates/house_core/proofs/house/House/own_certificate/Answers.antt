@@ -8,7 +8,7 @@ use Rattle.house_core.proofs.house.House.own_certificate.Goals as goal
 
 pub returns : goal.returns
 returns g c h terms st own =
-    let state = st.house.stands'.state in
+    let state = st.house.represents.state in
     let p = c.args.piece.now in
     c.own_certificate.ensures
     ∙ ap₂ (λ (v : ℕ → ℕ) (t : Issuing). certificate_in (v (series_of p.id)) t (scrip_body p) p.id) (sym state.version) (own_terms_are state terms own)
