@@ -101,8 +101,8 @@ contents_taken trade b c h e r has quiet more keeps held in_force =
 -- a request that makes no entry
 pub keeps_all : {T : Type 0} (trade : T → TradeView) (b : Bench T) (h : History) (q : Asked) (s : NotAuthorized) → HasContents trade b h
     → answered (Err (stop_of s)) ≡ answer h (house_time b) (limits_of b) q → KeepsContents trade b h (answer h (house_time b) (limits_of b) q) (stopped_with s)
-keeps_all holds b h q (stops.Refused f) has e = subst (λ (a : Answer). KeepsContents trade b h a (Err (faults.Refused f))) e has
-keeps_all holds b h q (stops.Again n) has e = subst (λ (a : Answer). KeepsContents trade b h a (Ok n)) e has
+keeps_all trade b h q (stops.Refused f) has e = subst (λ (a : Answer). KeepsContents trade b h a (Err (faults.Refused f))) e has
+keeps_all trade b h q (stops.Again n) has e = subst (λ (a : Answer). KeepsContents trade b h a (Ok n)) e has
 
 -- ---- an entry that accepts nothing
 
@@ -143,7 +143,7 @@ contents_applied trade b c h e has replies same keeps =
     }
 
 pub contents_of_none : {T : Type 0} (trade : T → TradeView) (b : Bench T) (h : History) → b.state.kept.replies ≡ [] → HasContents trade b h
-contents_of_none holds b h none = record {
+contents_of_none trade b h none = record {
   in_force = subst (All (IsInForceFor h)) (sym none) (All-nil (IsInForceFor h));
   held = subst (All (λ r. OfGoods (trade b.trade).holds r.entry.deed)) (sym none) (All-nil (λ r. OfGoods (trade b.trade).holds r.entry.deed));
 }

@@ -108,7 +108,7 @@ pub contents_later : {T : Type 0} (trade : T → TradeView) (b c : Bench T) (h :
     → HasContents trade b h → c.state.kept.replies ≡ filter (is_in_time b.state.kept.keep t) b.state.kept.replies
     → IfSome from (λ n. All (λ r. n ≤ r.entry.number) c.state.kept.replies) → (from ≡ None → c.state.kept.replies ≡ [])
     → ((n : ℕ) → IsKeptFrom h from n → (trade b.trade).holds n → (trade c.trade).holds n) → HasContents trade c h
-contents_later {T = T} holds b c h t from has replies least none keeps =
+contents_later {T = T} trade b c h t from has replies least none keeps =
     let of_rest : (P : KeptReply → Type 0) → All P b.state.kept.replies → All P c.state.kept.replies =
     λ P all. subst (All P) (sym replies) (All-filter (is_in_time b.state.kept.keep t) P b.state.kept.replies all) in
     let in_force = of_rest (IsInForceFor h) has.in_force in

@@ -37,7 +37,7 @@ IsInForceFor h r = OfGoods (λ n. (m : ℕ) → Replaces h n m → r.entry.numbe
 -- The state and the trade represent the history, which is of the trade's kind of site.
 pub record Represents {T : Type 0} (trade : T → TradeView) (b : Bench T) (h : History) : Type 0 where
   pub state : StateRepresents b.state h
-  pub trade : (trade b.trade).represents h
+  pub learned : (trade b.trade).represents h
   pub of_kind : site_kind h ≡ Some (trade b.trade).site
 
 -- The trade has what the kept replies bring, and no earlier entry replaces it.

@@ -11,6 +11,19 @@ use Rattle.ledger_model.specs.Replies.{Contents, brought, no_contents}
 use Rattle.house_core.specs.declared.offer.DrawAsk.{DrawAsk}
 use Rattle.house_core.specs.Views.{entry_deed}
 
+-- ---- what a trade means
+
+-- What a trade means to the house that carries it.
+pub record TradeView : Type 1 where
+  -- what it says is what this history says
+  pub represents : History → Type 0
+  -- the number of the kind of its site
+  pub site : ℕ
+  -- there is room to learn this entry
+  pub has_room : Entry → Type 0
+  -- it still has the contents of the Goods entry of this number
+  pub holds : ℕ → Type 0
+
 -- ---- what is asked and brought
 
 -- a broker's targets of draws and its accounts stand here

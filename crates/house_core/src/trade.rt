@@ -8,7 +8,7 @@ ghost use Rattle.ledger_model.specs.Answer as answers;
 ghost use Rattle.ledger_model.specs.Replies.{brought, price_asked};
 ghost use Rattle.ledger_model.specs.Lines.{as_line};
 ghost use Rattle.house_core.specs.Views.{kind_number, entry_deed, offer_of, contents_of};
-ghost use Rattle.house_core.specs.Trade.{draw_asked, brought_by, OfGoods, IsInForce, IsKeptFrom};
+ghost use Rattle.house_core.specs.Trade.{TradeView, draw_asked, brought_by, OfGoods, IsInForce, IsKeptFrom};
 ghost use Rattle.house_core.specs.Learning.{ByTrade, GoodsFit, MayLearn, IsGoods};
 ghost use Rattle.house_core.specs.Replying.{AreContents, IsOfSite};
 
@@ -21,28 +21,19 @@ use mc_records::{Limits, Record, Refusal};
 /// and stock. A trade represents a history, whose entries it learns one by one, and answers as the
 /// ledger does for that history.
 pub trait Trade: Drop {
-    // What the trade says is what this history says.
-    ghost stands: { Self → History → Type 0 };
-
-    // The number of the kind of its site, which no call changes.
-    ghost site: { Self → ℕ };
-
-    // There is room to learn this entry.
-    ghost has_room: { Self → Entry → Type 0 };
-
-    // It still has the contents of the Goods entry of this number.
-    ghost holds: { Self → ℕ → Type 0 };
+    // What the trade means now. No call changes the kind of its site.
+    ghost trade: { Self → TradeView };
 
     // Its own test of a note that follows a history.
     ghost passes: { History → Entry → Type 0 };
 
     /// The kind of its site.
     fn kind(&self) -> SiteKind
-        ensures { kind_number result ≡ site self.now };
+        ensures { kind_number result ≡ (trade self.now).site };
 
     /// The price of a target, in units; None where nothing is sold there.
     fn price(&self, target: &[u8]) -> Option<u64>
-        ensures { (h : History) → stands self.now h → site_kind h ≡ Some (site self.now) → result ≡ price_asked h target.now };
+        ensures { (h : History) → (trade self.now).represents h → site_kind h ≡ Some (trade self.now).site → result ≡ price_asked h target.now };
 
     /// What is given for a piece of this value, or why nothing is.
     fn offer(
@@ -53,52 +44,52 @@ pub trait Trade: Drop {
         value: Amount,
     ) -> Result<Offer, Refusal>
         // The price and the deed of the entry, or the refusal, are the ledger's.
-        ensures offer { (h : History) → stands self.now h → site_kind h ≡ Some (site self.now)
+        ensures offer { (h : History) → (trade self.now).represents h → site_kind h ≡ Some (trade self.now).site
             → as_line offer_of result ≡ answers.offer h time limits target.now value }
         ensures site { IfErr result IsOfSite }
         // What the kept deed names is what the entry's deed brings, and what is in force.
-        ensures brings { (h : History) → stands self.now h → site_kind h ≡ Some (site self.now)
+        ensures brings { (h : History) → (trade self.now).represents h → site_kind h ≡ Some (trade self.now).site
             → IfOk result (λ o. brought_by h o.deed ≡ Some (brought h target.now (entry_deed o.deed))) }
-        ensures in_force { (h : History) → stands self.now h → site_kind h ≡ Some (site self.now) → IfOk result (λ o. OfGoods (IsInForce h) o.deed) }
-        ensures held { IfOk result (λ o. OfGoods (holds self.now) o.deed) };
+        ensures in_force { (h : History) → (trade self.now).represents h → site_kind h ≡ Some (trade self.now).site → IfOk result (λ o. OfGoods (IsInForce h) o.deed) }
+        ensures held { IfOk result (λ o. OfGoods (trade self.now).holds o.deed) };
 
     /// The draw that a target asks for, with what is known of its account; None where it asks for none.
     fn draw(&self, target: &[u8]) -> Option<DrawAsk>
-        ensures { (h : History) → stands self.now h → site_kind h ≡ Some (site self.now) → result ≡ draw_asked h target.now };
+        ensures { (h : History) → (trade self.now).represents h → site_kind h ≡ Some (trade self.now).site → result ≡ draw_asked h target.now };
 
     /// Makes room to learn an entry. The trade represents what it represented, also after an `Err`.
     fn reserve(&mut self, r: &Record<'_>) -> Result<(), NoMemory>
-        ensures site { site self.new ≡ site self.old }
-        ensures same { (h : History) → stands self.old h → stands self.new h }
-        ensures held { (n : ℕ) → holds self.old n → holds self.new n }
-        ensures room { OnOk result (has_room self.new (entry r.now)) };
+        ensures site { (trade self.new).site ≡ (trade self.old).site }
+        ensures same { (h : History) → (trade self.old).represents h → (trade self.new).represents h }
+        ensures held { (n : ℕ) → (trade self.old).holds n → (trade self.new).holds n }
+        ensures room { OnOk result ((trade self.new).has_room (entry r.now)) };
 
     /// Learns the next entry, of which the house has told its half of what makes it lawful. `Err` comes
     /// exactly where the trade's half does not hold, and leaves the trade representing what it represented.
     fn learn(&mut self, number: u64, r: &Record<'_>) -> Result<(), Unlawful>
-        requires room { has_room self.old (entry r.now) }
+        requires room { (trade self.old).has_room (entry r.now) }
         requires fits { GoodsFit (entry r.now) }
-        ensures site { site self.new ≡ site self.old }
-        ensures held { (n : ℕ) → holds self.old n → holds self.new n }
-        ensures learned { OnOk result ((limits : Bounds) (h : History) → stands self.old h
-            → MayLearn limits (site self.old) number h (entry r.now) → stands self.new (h ++ entry r.now ∷ [])) }
-        ensures goods { OnOk result ((limits : Bounds) (h : History) → stands self.old h
-            → MayLearn limits (site self.old) number h (entry r.now) → IsGoods (entry r.now) → holds self.new number) }
-        ensures exact { (limits : Bounds) (h : History) → stands self.old h
-            → MayLearn limits (site self.old) number h (entry r.now) → IsOk result ↔ ByTrade passes (site self.old) h (entry r.now) }
-        ensures same { OnErr result ((h : History) → stands self.old h → stands self.new h) };
+        ensures site { (trade self.new).site ≡ (trade self.old).site }
+        ensures held { (n : ℕ) → (trade self.old).holds n → (trade self.new).holds n }
+        ensures learned { OnOk result ((limits : Bounds) (h : History) → (trade self.old).represents h
+            → MayLearn limits (trade self.old).site number h (entry r.now) → (trade self.new).represents (h ++ entry r.now ∷ [])) }
+        ensures goods { OnOk result ((limits : Bounds) (h : History) → (trade self.old).represents h
+            → MayLearn limits (trade self.old).site number h (entry r.now) → IsGoods (entry r.now) → (trade self.new).holds number) }
+        ensures exact { (limits : Bounds) (h : History) → (trade self.old).represents h
+            → MayLearn limits (trade self.old).site number h (entry r.now) → IsOk result ↔ ByTrade passes (trade self.old).site h (entry r.now) }
+        ensures same { OnErr result ((h : History) → (trade self.old).represents h → (trade self.new).represents h) };
 
     /// What a reply with this deed brings, where the trade holds the goods that the deed names. `room` is
     /// for contents that are made of the deed itself.
     fn body<'a>(&'a self, deed: &Deed, room: &'a mut [u8; 512]) -> Body<'a>
         ensures range { AreContents result }
-        ensures brought { (h : History) → stands self.now h → site_kind h ≡ Some (site self.now)
-            → OfGoods (holds self.now) deed.now → brought_by h deed.now ≡ Some (contents_of result) };
+        ensures brought { (h : History) → (trade self.now).represents h → site_kind h ≡ Some (trade self.now).site
+            → OfGoods (trade self.now).holds deed.now → brought_by h deed.now ≡ Some (contents_of result) };
 
     /// Lets contents go that no reply of an entry from this number on brings, and that are not in force.
     /// With None no reply is kept.
     fn forget(&mut self, kept_from: Option<u64>)
-        ensures site { site self.new ≡ site self.old }
-        ensures same { (h : History) → stands self.old h → stands self.new h }
-        ensures held { (h : History) (n : ℕ) → stands self.old h → IsKeptFrom h kept_from n → holds self.old n → holds self.new n };
+        ensures site { (trade self.new).site ≡ (trade self.old).site }
+        ensures same { (h : History) → (trade self.old).represents h → (trade self.new).represents h }
+        ensures held { (h : History) (n : ℕ) → (trade self.old).represents h → IsKeptFrom h kept_from n → (trade self.old).holds n → (trade self.new).holds n };
 }

@@ -8,6 +8,7 @@ use Rattle.ledger_model.specs.Goods as goods
 use Rattle.ledger_model.specs.Goods.{goods_in, goods_kind, goods_contents}
 use Rattle.ledger_model.specs.Pieces.{reference_of, has_reference}
 use Rattle.house_core.specs.declared.offer.Body.{Body}
+use Rattle.house_core.specs.Trade.{TradeView}
 use Rattle.vendor_core.specs.declared.minted.Minted.{Minted}
 use Rattle.vendor_core.specs.declared.minted.Minting.{Minting}
 use Rattle.vendor_core.specs.declared.shelf.Shelf.{Shelf}
@@ -58,6 +59,10 @@ HasRoom s (AddTerms m terms) = vec_len s.issuers < vec_capacity s.issuers
 HasRoom s (Goods m target price kind contents) = HasRoomForGoods s (Goods m target price kind contents) m
 HasRoom s (Mint m reference count value first) = HasRoomForMint s reference
 HasRoom s _ = Unit {0}
+
+-- what a shelf means: the trade of a vendor, whose kind of site is 0
+abbrev pub shelf_view : Shelf → TradeView
+shelf_view s = record { represents = ShelfRepresents s; site = 0; has_room = HasRoom s; holds = HasGoods s }
 
 -- ---- what it is asked
 

@@ -134,15 +134,9 @@ impl Shelf {
 
 impl Trade for Shelf {
     ghost use Rattle.house_core.specs.Trade.{IsKeptFrom};
-    ghost use Rattle.vendor_core.specs.Shelf.{ShelfRepresents, HasRoom, HasGoods};
+    ghost use Rattle.vendor_core.specs.Shelf.{ShelfRepresents, HasGoods, shelf_view};
 
-    ghost stands = { ShelfRepresents };
-
-    ghost site = { λ s. 0 };
-
-    ghost has_room = { HasRoom };
-
-    ghost holds = { HasGoods };
+    ghost trade = { shelf_view };
 
     ghost passes = { λ h e. Unit {0} };
 

@@ -39,16 +39,16 @@ returns-in-Ok-evaluate-clause-exact g c h st =
     let asked : (asked_of c.args.q.now).scrip ≡ Some c.in-Ok.scrip.text = rw (c.in-Some.is, c.in-Ok.ensures.found.0) refl in
     let read : scrip_of c.in-Ok.scrip.text ≡ Ok (c.in-Ok.scrip.piece, c.in-Ok.scrip.cert) = rw c.in-Ok.ensures.found.0 c.in-Ok.ensures.same in
     let b = st.house.represents in
-    let is = answer_under h _ c.limits.result _ (asked_of c.args.q.now) c.in-Ok.scrip _ c.limits.ensures.limits asked read (c.in-Ok-evaluate.ensures.lines h b.state b.trade b.of_kind) in
+    let is = answer_under h _ c.limits.result _ (asked_of c.args.q.now) c.in-Ok.scrip _ c.limits.ensures.limits asked read (c.in-Ok-evaluate.ensures.lines h b.state b.learned b.of_kind) in
     subst (λ (a : Answer). Accepted g.D.Disk.disk g.T.Trade.trade c.args.self.journal.disk h a c.commit.result) is
-    (c.commit.ensures.exact h st (c.in-Ok-evaluate.ensures.in_force h b.trade b.of_kind) (c.in-Ok-evaluate.ensures.brings h b.trade b.of_kind) (sym is))
+    (c.commit.ensures.exact h st (c.in-Ok-evaluate.ensures.in_force h b.learned b.of_kind) (c.in-Ok-evaluate.ensures.brings h b.learned b.of_kind) (sym is))
 
 pub returns-in-Ok-evaluate-clause-ran : goal.returns-in-Ok-evaluate-clause-ran
 returns-in-Ok-evaluate-clause-ran g c h st =
     let asked : (asked_of c.args.q.now).scrip ≡ Some c.in-Ok.scrip.text = rw (c.in-Some.is, c.in-Ok.ensures.found.0) refl in
     let read : scrip_of c.in-Ok.scrip.text ≡ Ok (c.in-Ok.scrip.piece, c.in-Ok.scrip.cert) = rw c.in-Ok.ensures.found.0 c.in-Ok.ensures.same in
     let b = st.house.represents in
-    let is = answer_under h _ c.limits.result _ (asked_of c.args.q.now) c.in-Ok.scrip _ c.limits.ensures.limits asked read (c.in-Ok-evaluate.ensures.lines h b.state b.trade b.of_kind) in
+    let is = answer_under h _ c.limits.result _ (asked_of c.args.q.now) c.in-Ok.scrip _ c.limits.ensures.limits asked read (c.in-Ok-evaluate.ensures.lines h b.state b.learned b.of_kind) in
     subst (λ (a : Answer). Ran (g.D.Disk.disk c.args.self.journal.disk) (g.D.Disk.disk (outcome_disk c.commit.result)) (Leaves a c.commit.result h (g.D.Disk.disk c.args.self.journal.disk).aside)) is
     (c.commit.ensures.ran h st)
 
@@ -61,7 +61,7 @@ returns-in-Err-evaluate-clause-exact g c h st =
     let read : scrip_of c.in-Ok.scrip.text ≡ Ok (c.in-Ok.scrip.piece, c.in-Ok.scrip.cert) = rw c.in-Ok.ensures.found.0 c.in-Ok.ensures.same in
     let b = st.house.represents in
     not_accepted g.D.Disk.disk g.T.Trade.trade c.args.self h _ c.in-Err-evaluate.stopped c.refusal_of.result c.refusal_of.ensures.same
-    (answer_under h _ c.limits.result _ (asked_of c.args.q.now) c.in-Ok.scrip _ c.limits.ensures.limits asked read (c.in-Err-evaluate.ensures.lines h b.state b.trade b.of_kind)) st
+    (answer_under h _ c.limits.result _ (asked_of c.args.q.now) c.in-Ok.scrip _ c.limits.ensures.limits asked read (c.in-Err-evaluate.ensures.lines h b.state b.learned b.of_kind)) st
 
 pub returns-in-Err-evaluate-clause-ran : goal.returns-in-Err-evaluate-clause-ran
 returns-in-Err-evaluate-clause-ran g c h st =
