@@ -80,6 +80,13 @@ abbrev pub CountsFaults : {D T A : Type 0} → Outcome D T A → ℕ → ℕ →
 CountsFaults (Halted d) before after = Rose before after
 CountsFaults _ before after = after ≡ before
 
+-- What each call that may write an entry hands back: the house, which keeps what this says, or the disk where that failed.
+-- Calls of Disk alone led there, and the count of faults rose exactly where the house halted.
+pub record HandsBack {D T A : Type 0} (view : D → DiskView) (moved : D → D → Type 0) (Keeps : House D T → Type 0) (disk : D) (result : Outcome D T A) : Type 0 where
+  pub moved' : moved disk (outcome_disk result)
+  pub keeps : OfHouse Keeps result
+  pub counts : CountsFaults result (view disk).faults (view (outcome_disk result)).faults
+
 -- the house has the time and the limits of this one
 pub record KeepsTime {D T : Type 0} (old new : House D T) : Type 0 where
   pub time : house_time new.bench ≡ house_time old.bench

@@ -27,7 +27,7 @@ ghost use Rattle.house_core.specs.Trade.{OfGoods, NamesInForce, BringsFor};
 ghost use Rattle.house_core.specs.Replying.{IsOfSite};
 ghost use Rattle.house_core.specs.declared.verdict.Verdict.TheVariants as verdicts;
 ghost use Rattle.house_core.specs.Verdicts.{judged, judged_of, repeat_of, accept_entry, IsReady, StopIsOfSite};
-ghost use Rattle.house_core.specs.House.{HouseRepresents, HasRun, KeepsTime, RaisedTo, OfHouse, IfDone, IfRefused, CountsFaults, Accepted, Entered, Leaves, Refuses, outcome_disk};
+ghost use Rattle.house_core.specs.House.{HouseRepresents, HandsBack, HasRun, KeepsTime, RaisedTo, IfDone, IfRefused, Accepted, Entered, Leaves, Refuses, outcome_disk};
 
 use crate::bench::{Bench, bad_scrip, entry_of};
 use crate::evaluate::evaluate;
@@ -180,9 +180,7 @@ impl<D: Disk, T: Trade> House<D, T> {
     /// this call: `repeated` tells it, and here it is refused as one whose piece is spent.
     pub fn accept(self, q: &Request<'_>) -> Outcome<D, T, Settled>
         requires target { IsTarget q.now.target.now }
-        ensures moved { D.disk_moved self.journal.disk (outcome_disk result) }
-        ensures keeps { OfHouse (KeepsTime self) result }
-        ensures counts { CountsFaults result (D.disk self.journal.disk).faults (D.disk (outcome_disk result)).faults }
+        ensures back { HandsBack D.disk D.disk_moved (KeepsTime self) self.journal.disk result }
         ensures site { IfRefused IsOfSite result }
         ensures kept { IfDone (λ x s. KeepsReply x.bench s.number) result }
         ensures exact { (h : History) → HouseRepresents D.disk T.trade self h
@@ -217,9 +215,7 @@ impl<D: Disk, T: Trade> House<D, T> {
         requires held { OfGoods (T.trade self.bench.trade).holds authorization.now.deed }
         requires ready { IsReady self.bench.state scrip.now q.now.target.now authorization.now }
         requires room { size_with self.bench.state authorization.now.payload ≤ self.bench.state.limits.journal }
-        ensures moved { D.disk_moved self.journal.disk (outcome_disk result) }
-        ensures keeps { OfHouse (KeepsTime self) result }
-        ensures counts { CountsFaults result (D.disk self.journal.disk).faults (D.disk (outcome_disk result)).faults }
+        ensures back { HandsBack D.disk D.disk_moved (KeepsTime self) self.journal.disk result }
         ensures site { IfRefused IsOfSite result }
         ensures kept { IfDone (λ x s. KeepsReply x.bench s.number) result }
         ensures exact { (h : History) → HouseRepresents D.disk T.trade self h → NamesInForce h authorization.now.deed → BringsFor h q.now.target.now authorization.now.deed
@@ -258,9 +254,7 @@ impl<D: Disk, T: Trade> House<D, T> {
         requires fits { Fits (entry r.now) }
         requires command { IsCommand (entry r.now) }
         requires may { (h : History) → HouseRepresents D.disk T.trade self h → MayFollow (limits_of self.bench) h (entry r.now) }
-        ensures moved { D.disk_moved self.journal.disk (outcome_disk result) }
-        ensures keeps { OfHouse (RaisedTo (moment_of (entry r.now)) self) result }
-        ensures counts { CountsFaults result (D.disk self.journal.disk).faults (D.disk (outcome_disk result)).faults }
+        ensures back { HandsBack D.disk D.disk_moved (RaisedTo (moment_of (entry r.now)) self) self.journal.disk result }
         ensures exact { (h : History) → HouseRepresents D.disk T.trade self h
             → Entered D.disk T.trade (limits_of self.bench) self.journal.disk h (entry r.now) result }
         ensures ran { (h : History) → HouseRepresents D.disk T.trade self h

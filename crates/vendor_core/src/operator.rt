@@ -8,7 +8,7 @@ ghost use Rattle.ledger_model.specs.Histories.{History};
 ghost use Rattle.ledger_model.specs.Houses.{site_name, terms_in, version};
 ghost use Rattle.ledger_model.specs.Pieces.{has_reference, run_from};
 ghost use Rattle.house_core.specs.Bench.{house_time, limits_of};
-ghost use Rattle.house_core.specs.House.{HouseRepresents, HasRun, KeepsTime, OfHouse, CountsFaults, outcome_disk};
+ghost use Rattle.house_core.specs.House.{HouseRepresents, HandsBack, HasRun, KeepsTime};
 ghost use Rattle.vendor_core.specs.Lines.{piece_lines};
 ghost use Rattle.vendor_core.specs.Shelf.{shelf_view};
 ghost use Rattle.vendor_core.specs.Tasks.{goods_task, price_task, are_same_terms, terms_task, IsMintTask, Performs, TellsLast, TellsAdded, TellsMint, NoLines};
@@ -37,9 +37,7 @@ pub fn set_goods<D: Disk>(
     requires price { 0 < price }
     requires kind { kind < 3 }
     requires short { length contents.now ≤ 65536 }
-    ensures moved { D.disk_moved house.journal.disk (outcome_disk result) }
-    ensures keeps { OfHouse (KeepsTime house) result }
-    ensures counts { CountsFaults result (D.disk house.journal.disk).faults (D.disk (outcome_disk result)).faults }
+    ensures back { HandsBack D.disk D.disk_moved (KeepsTime house) house.journal.disk result }
     ensures exact { (h : History) → HouseRepresents D.disk shelf_view house h
         → Performs D.disk shelf_view (λ task. task ≡ goods_task h (house_time house.bench) target.now price kind contents.now) TellsLast
         (limits_of house.bench) house.journal.disk h result }
@@ -69,9 +67,7 @@ pub fn set_price<D: Disk>(
     price: Amount,
 ) -> Outcome<D, Shelf, Receipt>
     requires price { 0 < price }
-    ensures moved { D.disk_moved house.journal.disk (outcome_disk result) }
-    ensures keeps { OfHouse (KeepsTime house) result }
-    ensures counts { CountsFaults result (D.disk house.journal.disk).faults (D.disk (outcome_disk result)).faults }
+    ensures back { HandsBack D.disk D.disk_moved (KeepsTime house) house.journal.disk result }
     ensures exact { (h : History) → HouseRepresents D.disk shelf_view house h
         → Performs D.disk shelf_view (λ task. task ≡ price_task h (house_time house.bench) target.now price) TellsLast
         (limits_of house.bench) house.journal.disk h result }
@@ -96,9 +92,7 @@ pub fn add_terms<D: Disk>(
     terms: &Terms,
 ) -> Outcome<D, Shelf, Option<Receipt>>
     requires issuer { 0 < terms.now.issuer }
-    ensures moved { D.disk_moved house.journal.disk (outcome_disk result) }
-    ensures keeps { OfHouse (KeepsTime house) result }
-    ensures counts { CountsFaults result (D.disk house.journal.disk).faults (D.disk (outcome_disk result)).faults }
+    ensures back { HandsBack D.disk D.disk_moved (KeepsTime house) house.journal.disk result }
     ensures exact { (h : History) → HouseRepresents D.disk shelf_view house h
         → Performs D.disk shelf_view (λ task. task ≡ terms_task h (house_time house.bench) terms.now) TellsAdded
         (limits_of house.bench) house.journal.disk h result }
@@ -159,9 +153,7 @@ pub fn mint<D: Disk>(
     requires few { count ≤ 256 }
     requires value { 0 < value }
     requires empty { out.old.items ≡ [] }
-    ensures moved { D.disk_moved house.journal.disk (outcome_disk result) }
-    ensures keeps { OfHouse (KeepsTime house) result }
-    ensures counts { CountsFaults result (D.disk house.journal.disk).faults (D.disk (outcome_disk result)).faults }
+    ensures back { HandsBack D.disk D.disk_moved (KeepsTime house) house.journal.disk result }
     ensures empty { NoLines out.new.items result }
     ensures exact { (h : History) → HouseRepresents D.disk shelf_view house h
         → Performs D.disk shelf_view (IsMintTask h (house_time house.bench) (limits_of house.bench) reference.now count value) (TellsMint reference.now count value out.new.items)
@@ -202,9 +194,7 @@ fn enter_mint<D: Disk>(
     requires value { 0 < value }
     requires new { (h : History) → HouseRepresents D.disk shelf_view house h → IsFalse (has_reference h reference.now) }
     requires run { (h : History) → HouseRepresents D.disk shelf_view house h → HasRun h (house_time house.bench) (limits_of house.bench) count (Ok first) }
-    ensures moved { D.disk_moved house.journal.disk (outcome_disk result) }
-    ensures keeps { OfHouse (KeepsTime house) result }
-    ensures counts { CountsFaults result (D.disk house.journal.disk).faults (D.disk (outcome_disk result)).faults }
+    ensures back { HandsBack D.disk D.disk_moved (KeepsTime house) house.journal.disk result }
     ensures empty { NoLines out.new.items result }
     ensures exact { (h : History) (terms : Issuing) → HouseRepresents D.disk shelf_view house h → terms_in h 0 ≡ Some terms → out.old.items ≡ piece_lines (version h (site_name h)) terms (run_from h value first count)
         → Performs D.disk shelf_view (IsMintTask h (house_time house.bench) (limits_of house.bench) reference.now count value) (TellsMint reference.now count value out.new.items)

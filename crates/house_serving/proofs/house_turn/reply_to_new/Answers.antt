@@ -14,7 +14,7 @@ returns-in-Done-clause-replied g c h st new =
     let a = c.args.house.journal.disk in
     let y = c.in-Done.house in
     let z = c.send_settled-sent.new.house in
-    let same = g.met.O.Outside.disk_keeps _ _ c.in-Done.ensures.moved in
+    let same = g.met.O.Outside.disk_keeps _ _ c.in-Done.ensures.back.moved' in
     let on : SentOn g.O.Link.link g.O.Disk.disk y z = record {
       tells = g.met.O.Outside.sent_aside;
       is_link = g.met.O.Link.is_link y.journal.disk;
@@ -25,14 +25,14 @@ returns-in-Done-clause-replied g c h st new =
     } in
     subst (λ (t : Turn). RepliesTo g.O.Link.link g.O.Disk.disk g.T.Trade.trade (limits_of c.args.house.bench) (asked_of c.args.q.now) c.args.after a (state_of h c.args.house.bench) (Ok (z, t))) (sym c.turn_of.ensures.turn)
     (replied_new g.O.Link.link g.O.Disk.disk g.T.Trade.trade (limits_of c.args.house.bench) (asked_of c.args.q.now) c.args.after a y z (state_of h c.args.house.bench) c.in-Done.settled c.send_settled-sent.result on
-    c.in-Done.ensures.keeps.time (g.met.O.Disk.disk_goes _ _ c.in-Done.ensures.moved).aside c.in-Done.ensures.counts same (c.in-Done.ensures.exact h st) (c.in-Done.ensures.ran h st) c.send_settled-sent.ensures.sent c.send_settled-sent.ensures.fault)
+    c.in-Done.ensures.back.keeps.time (g.met.O.Disk.disk_goes _ _ c.in-Done.ensures.back.moved').aside c.in-Done.ensures.back.counts same (c.in-Done.ensures.exact h st) (c.in-Done.ensures.ran h st) c.send_settled-sent.ensures.sent c.send_settled-sent.ensures.fault)
 
 pub returns-in-Refused-clause-replied : goal.returns-in-Refused-clause-replied
 returns-in-Refused-clause-replied g c h st new =
     let a = c.args.house.journal.disk in
     let y = c.in-Refused.house in
     let z = c.send_refusal-sent.new.house in
-    let same = g.met.O.Outside.disk_keeps _ _ c.in-Refused.ensures.moved in
+    let same = g.met.O.Outside.disk_keeps _ _ c.in-Refused.ensures.back.moved' in
     let on : SentOn g.O.Link.link g.O.Disk.disk y z = record {
       tells = g.met.O.Outside.sent_aside;
       is_link = g.met.O.Link.is_link y.journal.disk;
@@ -43,14 +43,14 @@ returns-in-Refused-clause-replied g c h st new =
     } in
     subst (λ (t : Turn). RepliesTo g.O.Link.link g.O.Disk.disk g.T.Trade.trade (limits_of c.args.house.bench) (asked_of c.args.q.now) c.args.after a (state_of h c.args.house.bench) (Ok (z, t))) (sym c.turn_of-in-Refused.ensures.turn)
     (replied_refused g.O.Link.link g.O.Disk.disk g.T.Trade.trade (limits_of c.args.house.bench) (asked_of c.args.q.now) c.args.after a y z (state_of h c.args.house.bench) c.in-Refused.refusal c.send_refusal-sent.result on
-    c.in-Refused.ensures.keeps.time new (c.in-Refused.ensures.exact h st) c.send_refusal-sent.ensures.sent c.send_refusal-sent.ensures.fault)
+    c.in-Refused.ensures.back.keeps.time new (c.in-Refused.ensures.exact h st) c.send_refusal-sent.ensures.sent c.send_refusal-sent.ensures.fault)
 
 pub returns-in-NoMemory-clause-replied : goal.returns-in-NoMemory-clause-replied
 returns-in-NoMemory-clause-replied g c h st new =
     let a = c.args.house.journal.disk in
     let y = c.in-NoMemory.house in
     let z = c.send_refusal-sent-in-NoMemory.new.house in
-    let same = g.met.O.Outside.disk_keeps _ _ c.in-NoMemory.ensures.moved in
+    let same = g.met.O.Outside.disk_keeps _ _ c.in-NoMemory.ensures.back.moved' in
     let on : SentOn g.O.Link.link g.O.Disk.disk y z = record {
       tells = g.met.O.Outside.sent_aside;
       is_link = g.met.O.Link.is_link y.journal.disk;
@@ -61,14 +61,14 @@ returns-in-NoMemory-clause-replied g c h st new =
     } in
     subst (λ (t : Turn). RepliesTo g.O.Link.link g.O.Disk.disk g.T.Trade.trade (limits_of c.args.house.bench) (asked_of c.args.q.now) c.args.after a (state_of h c.args.house.bench) (Ok (z, t))) (sym c.turn_of-in-NoMemory.ensures.turn)
     (replied_starved g.O.Link.link g.O.Disk.disk g.T.Trade.trade (limits_of c.args.house.bench) (asked_of c.args.q.now) c.args.after a y z (state_of h c.args.house.bench) c.send_refusal-sent-in-NoMemory.result on
-    c.in-NoMemory.ensures.keeps.time (c.in-NoMemory.ensures.exact h st) c.send_refusal-sent-in-NoMemory.ensures.sent c.send_refusal-sent-in-NoMemory.ensures.fault)
+    c.in-NoMemory.ensures.back.keeps.time (c.in-NoMemory.ensures.exact h st) c.send_refusal-sent-in-NoMemory.ensures.sent c.send_refusal-sent-in-NoMemory.ensures.fault)
 
 pub returns-in-Halted-clause-replied : goal.returns-in-Halted-clause-replied
 returns-in-Halted-clause-replied g c h st new =
     let a = c.args.house.journal.disk in
     let b = c.in-Halted.halted in
     let d = c.send_disk_fault-told.new.halted in
-    let same = g.met.O.Outside.disk_keeps _ _ c.in-Halted.ensures.moved in
+    let same = g.met.O.Outside.disk_keeps _ _ c.in-Halted.ensures.back.moved' in
     replied_halted g.O.Link.link g.O.Disk.disk g.T.Trade.trade (limits_of c.args.house.bench) (asked_of c.args.q.now) c.args.after a b d (state_of h c.args.house.bench) c.send_disk_fault-told.result
-    g.met.O.Outside.sent_aside (g.met.O.Disk.is_disk a) (house_leaves g.O.Disk.disk g.T.Trade.trade c.args.house h st) (g.met.O.Disk.is_disk b) (g.met.O.Link.is_link b) (subst (λ (v : LinkView). IsTrue v.stands) (sym same) c.requires.stands) (g.met.O.Disk.disk_goes _ _ c.in-Halted.ensures.moved).aside same
+    g.met.O.Outside.sent_aside (g.met.O.Disk.is_disk a) (house_leaves g.O.Disk.disk g.T.Trade.trade c.args.house h st) (g.met.O.Disk.is_disk b) (g.met.O.Link.is_link b) (subst (λ (v : LinkView). IsTrue v.stands) (sym same) c.requires.stands) (g.met.O.Disk.disk_goes _ _ c.in-Halted.ensures.back.moved').aside same
     (g.met.O.Outside.link_keeps _ _ c.send_disk_fault-told.ensures.moved) (g.met.O.Link.link_goes _ _ c.send_disk_fault-told.ensures.moved) (c.in-Halted.ensures.exact h st) (c.in-Halted.ensures.ran h st) (rw c.time-time.ensures at c.send_disk_fault-told.ensures.sent) (rw c.time-time.ensures at c.send_disk_fault-told.ensures.fault)

@@ -55,7 +55,7 @@ returns-clause-causes g c =
     let m = c.read_input.new.k.journal.disk in
     let y = c.raise_by_clock-reading.new.house.journal.disk in
     rw (c.closed_with.ensures.out, c.closed_with.ensures.status)
-    (operated_causes g.O.Link.link g.O.Disk.disk (operations.Goods c.args.listing.now) c.args.house.journal.disk y c.set_goods.result c.in-Ok.line ((g.met.O.Outside.link_keeps _ _ c.raise_by_clock-reading.ensures.moved).faults ∙ (g.met.O.Outside.link_keeps _ _ c.read_input.ensures.moved.0).faults) c.set_goods.ensures.counts)
+    (operated_causes g.O.Link.link g.O.Disk.disk (operations.Goods c.args.listing.now) c.args.house.journal.disk y c.set_goods.result c.in-Ok.line ((g.met.O.Outside.link_keeps _ _ c.raise_by_clock-reading.ensures.moved).faults ∙ (g.met.O.Outside.link_keeps _ _ c.read_input.ensures.moved.0).faults) c.set_goods.ensures.back.counts)
 
 pub returns-clause-operated : goal.returns-clause-operated
 returns-clause-operated g c a x at =
@@ -69,7 +69,7 @@ returns-clause-operated g c a x at =
     let input : List ℕ = c.in-Ok-read_input.contents.items in
     let asked : History → Task → Type 0 = λ h task. task ≡ goods_task h (house_time y.bench) c.target-2.result.now c.price-2.result c.kind.result c.deref.result.now in
     rw (c.closed_with.ensures.out, c.closed_with.ensures.status)
-    (inr (operated g.O.Link.link g.O.Disk.disk (operations.Goods c.args.listing.now) x input c.in-Ok.line TellsLast a y c.set_goods.result asked ready g.met.O.Disk.is_disk (g.met.O.Outside.disk_keeps _ _ c.set_goods.ensures.moved)
+    (inr (operated g.O.Link.link g.O.Disk.disk (operations.Goods c.args.listing.now) x input c.in-Ok.line TellsLast a y c.set_goods.result asked ready g.met.O.Disk.is_disk (g.met.O.Outside.disk_keeps _ _ c.set_goods.ensures.back.moved')
     (λ task is. inl (
       omega (arith, c.if-len-gt-MOST_CONTENTS.false, c.len.ensures),
       is
@@ -77,4 +77,4 @@ returns-clause-operated g c a x at =
           ∙ ap₂ (λ (kind : ℕ) (contents : List ℕ). goods_task ready.history (house_time y.bench) c.args.listing.now.target c.args.listing.now.price kind contents) c.kind.ensures.value c.deref.ensures.value,
     ))
     (λ task answer is doable told'. c.in-Ok.ensures ∙ ap₂ (λ (target : List ℕ) (price : ℕ). goods_line target price) c.target.ensures.value c.price.ensures.value)
-    c.set_goods.ensures.keeps (c.set_goods.ensures.exact ready.history ready.house)))
+    c.set_goods.ensures.back.keeps (c.set_goods.ensures.exact ready.history ready.house)))

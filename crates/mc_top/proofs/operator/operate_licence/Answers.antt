@@ -17,7 +17,7 @@ pub returns-clause-causes : goal.returns-clause-causes
 returns-clause-causes g c =
     let y = c.raise_by_clock-reading.new.house.journal.disk in
     rw (c.closed_with.ensures.out, c.closed_with.ensures.status)
-    (operated_causes g.O.Link.link g.O.Disk.disk (operations.Licence c.args.licensing.now) c.args.house.journal.disk y c.add_terms.result c.in-Ok.line (g.met.O.Outside.link_keeps _ _ c.raise_by_clock-reading.ensures.moved).faults c.add_terms.ensures.counts)
+    (operated_causes g.O.Link.link g.O.Disk.disk (operations.Licence c.args.licensing.now) c.args.house.journal.disk y c.add_terms.result c.in-Ok.line (g.met.O.Outside.link_keeps _ _ c.raise_by_clock-reading.ensures.moved).faults c.add_terms.ensures.back.counts)
 
 pub returns-clause-operated : goal.returns-clause-operated
 returns-clause-operated g c a x at =
@@ -30,8 +30,8 @@ returns-clause-operated g c a x at =
     let same : ready.history ≡ at.house.history = history_is link disk operation x a c.args.house y c.raise_by_clock-reading.result g.met.O.Outside.sent_aside at (refl, refl) (g.met.O.Outside.link_keeps _ _ raised.moved) raised.stands raised.limits raised.read raised.rest raised.time in
     let asked : History → Task → Type 0 = λ h task. task ≡ terms_task h (house_time y.bench) c.terms-2.result.now in
     rw (c.closed_with.ensures.out, c.closed_with.ensures.status)
-    (inr (operated link disk operation x [] c.in-Ok.line TellsAdded a y c.add_terms.result asked ready g.met.O.Disk.is_disk (g.met.O.Outside.disk_keeps _ _ c.add_terms.ensures.moved)
+    (inr (operated link disk operation x [] c.in-Ok.line TellsAdded a y c.add_terms.result asked ready g.met.O.Disk.is_disk (g.met.O.Outside.disk_keeps _ _ c.add_terms.ensures.back.moved')
     (λ task is. is ∙ ap (λ (t : Issuing). terms_task ready.history (house_time y.bench) t) c.terms-2.ensures.value)
     (λ task answer is doable told'. c.in-Ok.ensures
     ∙ ap₂ (λ (name : List ℕ) (t : Issuing). licence_line name t) (c.name.ensures at.house.history at.house.house ∙ ap site_name (sym same)) c.terms.ensures.value)
-    c.add_terms.ensures.keeps (c.add_terms.ensures.exact ready.history ready.house)))
+    c.add_terms.ensures.back.keeps (c.add_terms.ensures.exact ready.history ready.house)))

@@ -15,7 +15,7 @@ pub returns-clause-causes : goal.returns-clause-causes
 returns-clause-causes g c =
     let y = c.raise_by_clock-reading.new.house.journal.disk in
     rw (c.closed_with.ensures.out, c.closed_with.ensures.status)
-    (operated_causes g.O.Link.link g.O.Disk.disk (operations.Price c.args.pricing.now) c.args.house.journal.disk y c.set_price.result c.in-Ok.line (g.met.O.Outside.link_keeps _ _ c.raise_by_clock-reading.ensures.moved).faults c.set_price.ensures.counts)
+    (operated_causes g.O.Link.link g.O.Disk.disk (operations.Price c.args.pricing.now) c.args.house.journal.disk y c.set_price.result c.in-Ok.line (g.met.O.Outside.link_keeps _ _ c.raise_by_clock-reading.ensures.moved).faults c.set_price.ensures.back.counts)
 
 pub returns-clause-operated : goal.returns-clause-operated
 returns-clause-operated g c a x at =
@@ -27,7 +27,7 @@ returns-clause-operated g c a x at =
     let ready = ready_at_once link disk operation x a c.args.house y c.raise_by_clock-reading.result g.met.O.Outside.sent_aside at (refl, refl) (g.met.O.Outside.link_keeps _ _ raised.moved) raised.stands raised.limits raised.read raised.rest raised.time in
     let asked : History → Task → Type 0 = λ h task. task ≡ price_task h (house_time y.bench) c.target-2.result.now c.price-2.result in
     rw (c.closed_with.ensures.out, c.closed_with.ensures.status)
-    (inr (operated link disk operation x [] c.in-Ok.line TellsLast a y c.set_price.result asked ready g.met.O.Disk.is_disk (g.met.O.Outside.disk_keeps _ _ c.set_price.ensures.moved)
+    (inr (operated link disk operation x [] c.in-Ok.line TellsLast a y c.set_price.result asked ready g.met.O.Disk.is_disk (g.met.O.Outside.disk_keeps _ _ c.set_price.ensures.back.moved')
     (λ task is. is ∙ ap₂ (λ (target : List ℕ) (price : ℕ). price_task ready.history (house_time y.bench) target price) c.target-2.ensures.value c.price-2.ensures.value)
     (λ task answer is doable told'. c.in-Ok.ensures ∙ ap₂ (λ (target : List ℕ) (price : ℕ). goods_line target price) c.target.ensures.value c.price.ensures.value)
-    c.set_price.ensures.keeps (c.set_price.ensures.exact ready.history ready.house)))
+    c.set_price.ensures.back.keeps (c.set_price.ensures.exact ready.history ready.house)))

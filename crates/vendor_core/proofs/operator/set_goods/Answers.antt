@@ -16,9 +16,6 @@ returns-then-bytes-gt-MOST_IN_FORCE-clause-exact g c h st =
     refuses g.D.Disk.disk shelf_view _ TellsLast (limits_of c.args.house.bench) c.args.house h (g.met.D.Disk.is_disk _) st _
     (goods_refused _ _ _ bytes c.if-bytes-gt-MOST_IN_FORCE.true)
 
-pub returns-clause-keeps : goal.returns-clause-keeps
-returns-clause-keeps g c = kept_time c.args.house c.time.result c.enter.result c.time.ensures c.enter.ensures.keeps
-
 pub returns-clause-exact : goal.returns-clause-exact
 returns-clause-exact g c h st =
     let t = house_time c.args.house.bench in

@@ -21,8 +21,8 @@ pub returns-in_default-clause-ran : goal.returns-in_default-clause-ran
 returns-in_default-clause-ran g c h st =
     ran_refused _ _ _ _ _ _ h _ (ran_nothing g.D.Disk.disk c.args.self.journal _ h (g.met.D.Disk.is_disk _) st.journal refl)
 
-pub returns-in-Err-clause-moved : goal.returns-in-Err-clause-moved
-returns-in-Err-clause-moved g c = g.met.D.Disk.disk_stays c.args.self.journal.disk
+pub returns-in-Err-clause-back : goal.returns-in-Err-clause-back
+returns-in-Err-clause-back g c = record { moved' = g.met.D.Disk.disk_stays c.args.self.journal.disk; keeps = record { time = refl; limits = refl }; counts = refl }
 
 pub returns-in-Err-clause-exact : goal.returns-in-Err-clause-exact
 returns-in-Err-clause-exact g c h st =
@@ -52,8 +52,8 @@ returns-in-Ok-evaluate-clause-ran g c h st =
     subst (λ (a : Answer). Ran (g.D.Disk.disk c.args.self.journal.disk) (g.D.Disk.disk (outcome_disk c.commit.result)) (Leaves a c.commit.result h (g.D.Disk.disk c.args.self.journal.disk).aside)) is
     (c.commit.ensures.ran h st)
 
-pub returns-in-Err-evaluate-clause-moved : goal.returns-in-Err-evaluate-clause-moved
-returns-in-Err-evaluate-clause-moved g c = g.met.D.Disk.disk_stays c.args.self.journal.disk
+pub returns-in-Err-evaluate-clause-back : goal.returns-in-Err-evaluate-clause-back
+returns-in-Err-evaluate-clause-back g c = record { moved' = g.met.D.Disk.disk_stays c.args.self.journal.disk; keeps = record { time = refl; limits = refl }; counts = refl }
 
 pub returns-in-Err-evaluate-clause-exact : goal.returns-in-Err-evaluate-clause-exact
 returns-in-Err-evaluate-clause-exact g c h st =

@@ -13,11 +13,6 @@ use Rattle.house_core.proofs.Contents.{contents_roomed}
 use Rattle.house_core.proofs.HouseDisk.{ran_nothing, stands_with, as_roomed, has_entered, not_full_of, applied}
 use Rattle.house_core.proofs.house.House.enter.Goals as goal
 
-pub returns-in-Err-clause-keeps : goal.returns-in-Err-clause-keeps
-returns-in-Err-clause-keeps g c =
-    let same = c.make_room_for.ensures.same in
-    record { time = same.state.time ∙ c.raise.ensures.raised ∙ ap (max (house_time c.args.self.bench)) c.moment.ensures; limits = same.state.limits ∙ c.raise.ensures.limits }
-
 pub returns-in-Err-clause-exact : goal.returns-in-Err-clause-exact
 returns-in-Err-clause-exact g c h st =
     let raised : House g.row.D.Denot g.row.T.Denot = record { journal = c.args.self.journal; bench = c.raise.new.self } in
