@@ -31,13 +31,6 @@ use Rattle.house_core.specs.Trade.{TradeView}
 
 -- ---- the house time
 
--- an entry of the house time raises nothing
-pub kept_time : {D T A : Type 0} (house : House D T) (moment : ℕ) (out : Outcome D T A) → moment ≡ house_time house.bench → OfHouse (RaisedTo moment house) out → OfHouse (KeepsTime house) out
-kept_time house moment (outcomes.Done x a) at raised = record { time = omega (arith, raised.time, at); limits = raised.limits }
-kept_time house moment (outcomes.Refused x f) at raised = record { time = omega (arith, raised.time, at); limits = raised.limits }
-kept_time house moment (outcomes.NoMemory x) at raised = record { time = omega (arith, raised.time, at); limits = raised.limits }
-kept_time house moment (outcomes.Halted d) at raised = tt
-
 -- ---- what is done
 
 -- an outcome, with what is answered in place of a number

@@ -32,28 +32,6 @@ returns-in-Done-clause-exact g c h st =
     enters g.D.Disk.disk shelf_view (λ task. task ≡ terms_task h t c.args.terms.now) TellsAdded (limits_of c.args.house.bench) (λ n. Some n)
     c.args.house.journal.disk h e (Done c.in-Done.house c.in-Done.receipt) asks (λ done. tells_last h e) (c.in-Done.ensures.exact h st) (c.in-Done.ensures.ran h st)
 
--- the entry is of the house time
-at_once : (e : Entry) (m t : ℕ) (terms : Issuing) → e ≡ AddTerms m terms → m ≡ t → moment_of e ≡ t
-at_once e m t terms is at = ap moment_of is ∙ at
-
-pub returns-in-Done-clause-keeps : goal.returns-in-Done-clause-keeps
-returns-in-Done-clause-keeps g c =
-    let raised = c.in-Done.ensures.keeps in
-    let at = at_once (entry c.terms_record-record.result) c.time.result (house_time c.args.house.bench) c.args.terms.now c.terms_record-record.ensures.entry c.time.ensures in
-    record { time = omega (arith, raised.time, at); limits = raised.limits }
-
-pub returns-in-Refused-clause-keeps : goal.returns-in-Refused-clause-keeps
-returns-in-Refused-clause-keeps g c =
-    let raised = c.in-Refused.ensures.keeps in
-    let at = at_once (entry c.terms_record-record.result) c.time.result (house_time c.args.house.bench) c.args.terms.now c.terms_record-record.ensures.entry c.time.ensures in
-    record { time = omega (arith, raised.time, at); limits = raised.limits }
-
-pub returns-in-NoMemory-clause-keeps : goal.returns-in-NoMemory-clause-keeps
-returns-in-NoMemory-clause-keeps g c =
-    let raised = c.in-NoMemory.ensures.keeps in
-    let at = at_once (entry c.terms_record-record.result) c.time.result (house_time c.args.house.bench) c.args.terms.now c.terms_record-record.ensures.entry c.time.ensures in
-    record { time = omega (arith, raised.time, at); limits = raised.limits }
-
 pub returns-in-Halted-clause-exact : goal.returns-in-Halted-clause-exact
 returns-in-Halted-clause-exact g c h st =
     let t = house_time c.args.house.bench in

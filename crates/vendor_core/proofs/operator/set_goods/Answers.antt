@@ -4,7 +4,7 @@ use Rattle.ledger_model.specs.Goods.{in_force}
 use Rattle.house_core.specs.Bench.{house_time, limits_of}
 use Rattle.vendor_core.specs.Shelf.{shelf_view}
 use Rattle.vendor_core.specs.Tasks.{Add, goods_task, TellsLast}
-use Rattle.vendor_core.proofs.OperatorLemmas.{kept_time, enters_last, refuses, goods_refused, goods_added}
+use Rattle.vendor_core.proofs.OperatorLemmas.{enters_last, refuses, goods_refused, goods_added}
 use Rattle.vendor_core.proofs.operator.set_goods.Goals as goal
 
 pub returns-then-bytes-gt-MOST_IN_FORCE-clause-exact :
