@@ -17,4 +17,3 @@ pub mod Said
 pub mod HouseDisk
 pub mod Beginnings
 pub mod OpeningLemmas
-pub mod FoundLemmas

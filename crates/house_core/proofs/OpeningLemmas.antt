@@ -28,6 +28,7 @@ use Rattle.house_core.specs.Bench.{HasContents, Replays, limits_of}
 use Rattle.house_core.specs.declared.opening.Halt.{Halt}
 use Rattle.house_core.specs.declared.opening.Halt.TheVariants as halts
 use Rattle.scrip_journal.specs.Causes.{Only, IsOfOtherKind, BeginsWithEntries}
+use Rattle.scrip_journal.proofs.Reading.{bytes_told}
 use Rattle.scrip_journal.proofs.Beginnings.{first_tells, empty_tells}
 use Rattle.house_core.specs.Opening.{SpoilsAt, IsUnlawfulAt, HaltsBy, FoundsBy, ReadOn, Learned, LearnedSome, LearnedAll}
 use Rattle.house_core.proofs.Beginnings.{kind_of_first, kind_tells}
@@ -44,11 +45,7 @@ all_follow : (limits : Limits) (h : History) → IsLawful limits h → AllFollow
 all_follow limits [] lawful = tt
 all_follow limits (e ∷ es) lawful = lawful
 
--- the bytes of a reading are those of its disk
-pub bytes_told : {D : Type 0} (view : D → DiskView) (r : Reading D) (h : History) (x : List ℕ) (is : IsReading view r h) → (view r.disk).contents ≡ Some x → is.bytes ≡ x
-bytes_told view r h x is told = some_same is.bytes x (sym is.told ∙ told)
-
--- and begin with the entries
+-- a reading begins with the entries that were read
 pub begins_so : {D : Type 0} (view : D → DiskView) (r : Reading D) (h : History) (x : List ℕ) (is : IsReading view r h) → (view r.disk).contents ≡ Some x → BeginsWithEntries h x
 begins_so view r h x is told = record { fits = is.fits; most = is.most; begins = (is.rest, sym (bytes_told view r h x is told) ∙ is.shape) }
 

@@ -10,6 +10,7 @@ use Rattle.ledger_model.specs.Lawful.{MayFollow}
 use Rattle.scrip_journal.specs.Layout as layout
 use Rattle.scrip_journal.specs.Layout.{header}
 use Rattle.scrip_journal.specs.States.{Reading, IsReading}
+use Rattle.scrip_journal.specs.Founds.{fault_disk}
 use Rattle.scrip_journal.specs.Causes as causes
 use Rattle.scrip_journal.specs.Causes.{Only, IsOfOtherKind}
 use Rattle.scrip_journal.specs.declared.ending.Ending.TheVariants.{Closed}
@@ -22,16 +23,6 @@ use Rattle.house_core.specs.declared.opening.Halt.TheVariants as halts
 use Rattle.house_core.specs.Bench.{IsHouse, house_time, limits_of}
 use Rattle.house_core.specs.House.{HouseRepresents}
 use Rattle.house_core.specs.Trade.{TradeView}
-
--- the disk of a fault
-abbrev pub fault_disk : {D : Type 0} → HouseFault D → D
-fault_disk (NotJournal d) = d
-fault_disk (BadRecord d place) = d
-fault_disk (Unlawful d place) = d
-fault_disk (WrongKind d) = d
-fault_disk (NotEmpty d count) = d
-fault_disk (Disk d) = d
-fault_disk (NoMemory d) = d
 
 -- the disk that comes back, whatever is answered
 abbrev pub house_disk : {D T : Type 0} → Result (House D T) (HouseFault D) → D

@@ -19,7 +19,8 @@ use Rattle.house_core.specs.House.{HouseRepresents}
 use Rattle.scrip_journal.specs.Layout.{Encodes}
 use Rattle.scrip_journal.specs.declared.fault.HouseFault.{HouseFault}
 use Rattle.scrip_journal.specs.declared.fault.HouseFault.TheVariants as faults
-use Rattle.house_core.specs.Opening.{OpenedFor, OpensHouse, fault_disk}
+use Rattle.scrip_journal.specs.Founds.{fault_disk}
+use Rattle.house_core.specs.Opening.{OpenedFor, OpensHouse}
 use Rattle.house_core.specs.Session.{State, Step}
 use Rattle.house_serving.specs.declared.links.ServeOut.{ServeOut}
 use Rattle.house_serving.specs.declared.links.ServeOut.TheVariants as outs

@@ -1,7 +1,7 @@
 //! Serving the vendor of a book.
 
 ghost use Rattle.std.specs.Prelude.{◌≡◌, List, ℕ, Some};
-ghost use Rattle.house_core.specs.Opening.{fault_disk};
+ghost use Rattle.scrip_journal.specs.Founds.{fault_disk};
 ghost use Rattle.house_serving.specs.Links.{served_outside};
 ghost use Rattle.mc_top.specs.Endings.{served_status, fault_status};
 ghost use Rattle.mc_top.specs.Serving.{ServesBook, ServeCauses};

@@ -12,3 +12,4 @@ pub mod Pieces
 pub mod Advancing
 pub mod Heading
 pub mod Appending
+pub mod FoundLemmas

@@ -19,6 +19,13 @@ frame_is : (before : List Entry) (e : Entry) (m : ℕ) → length (payload e) �
 unfolding framed tail
 frame_is before e m is = ap (λ (k : ℕ). 1 ∷ (to_be_bytes w32 k ++ payload e)) (sym is) ∙ ap (λ (l : List ℕ). 1 ∷ (to_be_bytes w32 (length (payload e)) ++ l)) (sym (append-nil (payload e)))
 
+some_same : (x y : List ℕ) → Some x ≡ Some y → x ≡ y
+some_same x y e = cc
+
+-- the bytes of a reading are those of its disk
+pub bytes_told : {D : Type 0} (view : D → DiskView) (r : Reading D) (h : List Entry) (x : List ℕ) (is : IsReading view r h) → (view r.disk).contents ≡ Some x → is.bytes ≡ x
+bytes_told view r h x is told = some_same is.bytes x (sym is.told ∙ told)
+
 module _ {D : Type 0} (view : D → DiskView) (a : Reading D) (h : List Entry) (r : IsReading view a h) where
   pub gate_place : a.gate ≡ length (body h)
   gate_place = omega (arith, r.gate_is, body_long h)

@@ -1,8 +1,12 @@
--- On which disks a book is founded, and what a crash in founding it leaves.
-use Rattle.std.specs.Prelude.{◌≡◌, ◌⊎◌, ℕ, ◌<◌, ◌≤◌, List, [], ◌∷◌, length}
-use Rattle.mc_outside.specs.DiskView.{DiskView}
+-- On which disks a book is founded, what founding it answers, and what a crash in it leaves.
+use Rattle.std.specs.Prelude.{◌≡◌, ◌⊎◌, ℕ, ◌<◌, ◌≤◌, List, [], ◌∷◌, length, Result, Ok, Err}
+use Rattle.mc_outside.specs.Bytes.{Rose}
+use Rattle.mc_outside.specs.DiskView.{DiskView, OnlyRead}
 use Rattle.mc_records.specs.Entry.{Entry}
 use Rattle.scrip_journal.specs.Layout.{Encodes}
+use Rattle.scrip_journal.specs.States.{AtRest, IsJournal}
+use Rattle.scrip_journal.specs.declared.fault.HouseFault.{HouseFault}
+use Rattle.scrip_journal.specs.declared.fault.HouseFault.TheVariants.{NotJournal, BadRecord, Unlawful, WrongKind, NotEmpty, Disk, NoMemory}
 
 -- The disk may be founded on: its bytes encode no entries, or are nine at most.
 abbrev pub IsFree : List ℕ → Type 0
@@ -27,3 +31,66 @@ FoundImage before e c = ((length c ≤ 9) ⊎ before.leaves c) ⊎ (Encodes [] c
 -- a crash pair of such an image, with nothing sent
 abbrev pub FoundNoOutput : DiskView → Entry → List ℕ → List ℕ → Type 0
 FoundNoOutput before e c s = FoundImage before e c × (s ≡ before.aside)
+
+-- ---- what is answered
+
+-- the disk of a fault
+abbrev pub fault_disk : {D : Type 0} → HouseFault D → D
+fault_disk (NotJournal d) = d
+fault_disk (BadRecord d place) = d
+fault_disk (Unlawful d place) = d
+fault_disk (WrongKind d) = d
+fault_disk (NotEmpty d count) = d
+fault_disk (Disk d) = d
+fault_disk (NoMemory d) = d
+
+-- the disk that comes back, whatever founding a book answers
+abbrev pub book_disk : {D : Type 0} → Result (AtRest D) (HouseFault D) → D
+book_disk (Ok j) = j.disk
+book_disk (Err f) = fault_disk f
+
+-- What is answered by the bytes of the disk: a free one is a journal of these entries now, and another is told to
+-- be taken.
+abbrev pub FoundsBookBy : {D : Type 0} → (D → DiskView) → List Entry → List ℕ → Result (AtRest D) (HouseFault D) → Type 0
+FoundsBookBy view h bytes (Ok j) = IsJournal view j h × IsFree bytes
+FoundsBookBy view h bytes (Err (NotEmpty d count)) = IsTaken bytes count
+FoundsBookBy view h bytes (Err (Disk d)) = Unit {0}
+FoundsBookBy view h bytes (Err (NoMemory d)) = Unit {0}
+FoundsBookBy view h bytes (Err _) = ⊥
+
+-- The count of faults rose where the disk failed, and stayed else. No other fault comes but that the disk
+-- has bytes already and that memory is refused.
+abbrev pub CountsBy : {D A : Type 0} → Result A (HouseFault D) → ℕ → ℕ → Type 0
+CountsBy (Ok x) before after = after ≡ before
+CountsBy (Err (NotEmpty d count)) before after = after ≡ before
+CountsBy (Err (NoMemory d)) before after = after ≡ before
+CountsBy (Err (Disk d)) before after = Rose before after
+CountsBy (Err _) before after = ⊥
+
+-- nothing is written where the disk is taken or memory is refused
+abbrev pub ReadsOnly : {D A : Type 0} → (D → DiskView) → D → Result A (HouseFault D) → Type 0
+ReadsOnly view disk (Err (NotEmpty d count)) = OnlyRead (view disk) (view d)
+ReadsOnly view disk (Err (NoMemory d)) = OnlyRead (view disk) (view d)
+ReadsOnly view disk _ = Unit {0}
+
+-- ---- its steps
+
+-- a disk of nine bytes at most is a journal without entries now; another is told to have more
+abbrev pub ClearsSmall : {D : Type 0} → (D → DiskView) → List ℕ → Result (AtRest D) (HouseFault D) → Type 0
+ClearsSmall view bytes (Ok j) = IsJournal view j [] × (length bytes ≤ 9)
+ClearsSmall view bytes (Err (NotEmpty d count)) = (count ≡ length bytes) × (9 < count)
+ClearsSmall view bytes (Err (Disk d)) = Unit {0}
+ClearsSmall view bytes (Err (NoMemory d)) = Unit {0}
+ClearsSmall view bytes (Err _) = ⊥
+
+-- the entry stands in the journal, or the disk failed and no other fault came
+abbrev pub EntersFirst : {D : Type 0} → (D → DiskView) → Entry → Result (AtRest D) (HouseFault D) → Type 0
+EntersFirst view e (Ok j) = IsJournal view j (e ∷ [])
+EntersFirst view e (Err (Disk d)) = Unit {0}
+EntersFirst view e (Err _) = ⊥
+
+-- no fault that leaves the disk unwritten
+abbrev pub IsOfWriting : {D A : Type 0} → Result A (HouseFault D) → Type 0
+IsOfWriting (Err (NotEmpty d count)) = ⊥
+IsOfWriting (Err (NoMemory d)) = ⊥
+IsOfWriting _ = Unit {0}

@@ -6,6 +6,7 @@
 //! leaves the disk's count of faults as it was.
 #![tactic(auto)]
 
+mod book;
 mod cursor;
 mod ending;
 mod fault;
@@ -17,6 +18,7 @@ mod open;
 mod replay;
 mod staged;
 
+pub use book::found_book;
 pub use ending::ReplayFault;
 pub use fault::{HouseFault, OpenFault};
 pub use found::found_journal;

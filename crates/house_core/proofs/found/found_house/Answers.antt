@@ -1,12 +1,22 @@
+use Rattle.std.proofs.Common.{[], ◌∷◌, ◌∙◌, ap, sym}
+use Rattle.mc_records.specs.declared.limits.Limits.{Limits}
 use Rattle.mc_records.specs.Views.{entry}
-use Rattle.house_core.specs.Opening.{house_disk}
-use Rattle.house_core.proofs.FoundLemmas.{found_quiet, wrote}
+use Rattle.scrip_journal.specs.Founds.{FoundNoOutput}
+use Rattle.scrip_journal.proofs.FoundLemmas.{ran_at}
 use Rattle.house_core.proofs.found.found_house.Goals as goal
 
-pub returns-in-Ok-empty_book-clause-ran : goal.returns-in-Ok-empty_book-clause-ran
-returns-in-Ok-empty_book-clause-ran g c x told =
-    found_quiet (g.D.Disk.disk c.args.disk) (g.D.Disk.disk c.in-Ok-empty_book.journal.disk) (g.D.Disk.disk (house_disk c.enter_site.result)) (entry c.args.site.now) (g.met.D.Disk.disk_goes _ _ c.in-Ok-empty_book.ensures.moved)
-    (c.in-Ok-empty_book.ensures.ran x told) (c.enter_site.ensures.ran (c.in-Ok-empty_book.ensures.exact x told).0)
+pub returns-in-Ok-found_book-clause-exact : goal.returns-in-Ok-found_book-clause-exact
+returns-in-Ok-found_book-clause-exact g c x told =
+    let made = c.in-Ok.ensures in
+    let found = c.in-Ok-found_book.ensures in
+    record {
+      free = (found.exact x told).1;
+      house = c.new-in-Ok-found_book.ensures.stands (entry c.args.site.now ∷ []) (found.exact x told).0 (record { represents = made.holds; contents = made.contents }) (found.limit ∙ ap (λ (l : Limits). l.journal) (sym made.limits));
+      time' = c.new-in-Ok-found_book.ensures.time ∙ made.time;
+      limits' = c.new-in-Ok-found_book.ensures.limits ∙ made.limits;
+    }
 
-pub returns-in-Ok-empty_book-clause-read : goal.returns-in-Ok-empty_book-clause-read
-returns-in-Ok-empty_book-clause-read g c = wrote g.D.Disk.disk c.args.disk c.enter_site.result c.enter_site.ensures.wrote
+pub returns-in-Ok-found_book-clause-ran : goal.returns-in-Ok-found_book-clause-ran
+returns-in-Ok-found_book-clause-ran g c x told =
+    ran_at g.D.Disk.disk (g.D.Disk.disk c.args.disk) c.in-Ok-found_book.journal.disk c.new-in-Ok-found_book.result.journal.disk (FoundNoOutput (g.D.Disk.disk c.args.disk) (entry c.args.site.now)) c.new-in-Ok-found_book.ensures.disk
+    (c.in-Ok-found_book.ensures.ran x told)

@@ -5,9 +5,8 @@ use Rattle.mc_outside.specs.DiskView.{Ran}
 use Rattle.millicent_http.specs.declared.clock.Clock.TheVariants.{OfLinks}
 use Rattle.millicent_http.specs.Courses.{AreRead, with_readings}
 use Rattle.house_core.specs.declared.house.House.{House}
-use Rattle.scrip_journal.specs.Founds.{FoundNoOutput}
-use Rattle.house_core.specs.Found.{FoundsHouseBy, CountsBy}
-use Rattle.house_core.specs.Opening.{fault_disk}
+use Rattle.scrip_journal.specs.Founds.{fault_disk, FoundNoOutput, CountsBy}
+use Rattle.house_core.specs.Found.{FoundsHouseBy}
 use Rattle.vendor_core.specs.declared.shelf.Shelf.{Shelf}
 use Rattle.vendor_core.specs.Shelf.{shelf_view}
 use Rattle.mc_top.specs.Founding.{site_of}

@@ -1,7 +1,7 @@
 use Rattle.std.proofs.Common.{◌≤◌, length, arith}
 use Rattle.mc_outside.proofs.Runs.{read_call}
-use Rattle.house_core.proofs.FoundLemmas.{founded_short}
-use Rattle.house_core.proofs.found.empty_small.Goals as goal
+use Rattle.scrip_journal.proofs.FoundLemmas.{founded_short}
+use Rattle.scrip_journal.proofs.book.empty_small.Goals as goal
 
 pub returns-in-Ok-found_journal-clause-ran : goal.returns-in-Ok-found_journal-clause-ran
 returns-in-Ok-found_journal-clause-ran g c x told synced =

@@ -1,4 +1,4 @@
--- What founding the book of a house leaves on the disk, step by step.
+-- What founding a book leaves on the disk, step by step.
 use Rattle.std.proofs.Common.{◌≡◌, inl, inr, ⊎_elim, ℕ, ◌≤◌, max, Some, Result, Ok, Err, List, [], ◌∷◌, ◌++◌, length, drop, sym, ◌∙◌, ap, subst, arith}
 use Rattle.mc_outside.specs.Bytes.{BeginsWith}
 use Rattle.mc_outside.specs.DiskView.{DiskView, DiskGoes, IsSynced, OnlyRead, Ran}
@@ -10,9 +10,8 @@ use Rattle.scrip_journal.specs.declared.fault.HouseFault.{HouseFault}
 use Rattle.scrip_journal.specs.declared.fault.HouseFault.TheVariants.{NotJournal, BadRecord, Unlawful, WrongKind, NotEmpty, Disk, NoMemory}
 use Rattle.scrip_journal.specs.Opens.{NoLonger}
 use Rattle.scrip_journal.specs.Exits.{EitherNoOutput}
-use Rattle.house_core.proofs.OpeningLemmas.{bytes_told}
-use Rattle.scrip_journal.specs.Founds.{ShortNoOutput, FoundNoOutput}
-use Rattle.house_core.specs.Found.{ReadsOnly, ClearsSmall, ClearsFree, IsOfWriting}
+use Rattle.scrip_journal.proofs.Reading.{bytes_told}
+use Rattle.scrip_journal.specs.Founds.{IsFree, FoundsBookBy, ReadsOnly, ShortNoOutput, FoundNoOutput, ClearsSmall, EntersFirst, IsOfWriting}
 
 pub ran_at : {D : Type 0} (view : D → DiskView) (a : DiskView) (d e : D) (P : List ℕ → List ℕ → Type 0) → e ≡ d → Ran a (view d) P → Ran a (view e) P
 ran_at {D = D} view a d e P is ran = subst (λ (x : D). Ran a (view x) P) (sym is) ran
@@ -66,7 +65,7 @@ pub reading_synced : {D : Type 0} (view : D → DiskView) (r : Reading D) (h : L
 reading_synced view r h x is told y told' c l = is.synced c l ∙ bytes_told view r h y is told'
 
 -- a small disk is free, and one that is not is taken, where it does not stand for no entries
-pub cleared : {D : Type 0} (view : D → DiskView) (x : List ℕ) (result : Result (AtRest D) (HouseFault D)) → (Encodes [] x → ⊥) → ClearsSmall view x result → ClearsFree view x result
+pub cleared : {D : Type 0} (view : D → DiskView) (x : List ℕ) (result : Result (AtRest D) (HouseFault D)) → (Encodes [] x → ⊥) → ClearsSmall view x result → FoundsBookBy view [] x result
 cleared view x (Ok j) other is = (is.0, inr is.1)
 cleared view x (Err (NotJournal d)) other is = is
 cleared view x (Err (BadRecord d place)) other is = is
@@ -75,6 +74,17 @@ cleared view x (Err (WrongKind d)) other is = is
 cleared view x (Err (NotEmpty d count)) other is = record { count_is = is.0; many = is.1; other = other }
 cleared view x (Err (Disk d)) other is = tt
 cleared view x (Err (NoMemory d)) other is = tt
+
+-- and where the first entry was written on a free disk the book is founded
+pub founded : {D : Type 0} (view : D → DiskView) (e : Entry) (x : List ℕ) (result : Result (AtRest D) (HouseFault D)) → IsFree x → EntersFirst view e result → FoundsBookBy view (e ∷ []) x result
+founded view e x (Ok j) free is = (is, free)
+founded view e x (Err (NotJournal d)) free is = is
+founded view e x (Err (BadRecord d place)) free is = is
+founded view e x (Err (Unlawful d place)) free is = is
+founded view e x (Err (WrongKind d)) free is = is
+founded view e x (Err (NotEmpty d count)) free is = absurd is
+founded view e x (Err (Disk d)) free is = tt
+founded view e x (Err (NoMemory d)) free is = tt
 
 -- what no fault leaves unwritten
 pub wrote : {D A : Type 0} (view : D → DiskView) (disk : D) (result : Result A (HouseFault D)) → IsOfWriting result → ReadsOnly view disk result

@@ -2,9 +2,9 @@ use Rattle.std.proofs.Common.{[], List, ℕ, Option, Ok, inl, ap, ◌∙◌, sub
 use Rattle.scrip_journal.specs.Layout.{Encodes, IsSpoiled}
 use Rattle.scrip_journal.specs.Replays.{ReadsOn}
 use Rattle.scrip_journal.proofs.Unique.{not_both}
-use Rattle.house_core.proofs.OpeningLemmas.{bytes_told}
-use Rattle.house_core.proofs.FoundLemmas.{no_more, cleared}
-use Rattle.house_core.proofs.found.empty_book.Goals as goal
+use Rattle.scrip_journal.proofs.Reading.{bytes_told}
+use Rattle.scrip_journal.proofs.FoundLemmas.{no_more, cleared}
+use Rattle.scrip_journal.proofs.book.empty_book.Goals as goal
 
 pub returns-in-Ok-None-clause-exact : goal.returns-in-Ok-None-clause-exact
 returns-in-Ok-None-clause-exact g c x told =
