@@ -4,7 +4,8 @@ ghost use Rattle.mc_records.specs.Limits.{AreInRange};
 
 use crate::program_verbs::unopened;
 use case_lines::{Asked, Fault, Lines, State, number};
-use house_core::{Verdict, open_house};
+use house_core::Verdict;
+use house_opening::open_house;
 use ledger_model::{History, ModelAnswer, slow_answer, slow_lawful};
 use mc_base::{List, Moment};
 use mc_records::{Limits, MOST_REFUSAL_BYTES, Refusal, Request, put_refusal_text};

@@ -1,7 +1,7 @@
 //! Lines that run the program over a stage, or a house that serves, and those that read words.
 
 use case_lines::{Fault, Lines, State, number, show_book, small};
-use house_core::open_house;
+use house_opening::open_house;
 use house_serving::{ServeOut, serve_links};
 use mc_base::List;
 use mc_stage::Stage;

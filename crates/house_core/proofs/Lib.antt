@@ -15,5 +15,3 @@ pub mod Refused
 pub mod FirstReply
 pub mod Said
 pub mod HouseDisk
-pub mod Beginnings
-pub mod OpeningLemmas

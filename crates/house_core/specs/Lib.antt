@@ -11,5 +11,3 @@ pub mod Replying
 pub mod Session
 pub mod Bench
 pub mod House
-pub mod Opening
-pub mod Found

@@ -52,7 +52,7 @@ pub struct House<D, T> {
 
 impl<D: Disk, T: Trade> House<D, T> {
     /// The house of a journal and of the bench that was made of its entries.
-    pub(crate) fn new(journal: Journal<D>, bench: Bench<T>) -> House<D, T>
+    pub fn new(journal: Journal<D>, bench: Bench<T>) -> House<D, T>
         ensures stands { (h : History) → IsJournal D.disk journal h → IsHouse T.trade bench h → journal.limit ≡ (limits_of bench).journal
             → HouseRepresents D.disk T.trade result h }
         ensures disk { result.journal.disk ≡ journal.disk }

@@ -1,15 +1,12 @@
 //! Laws over the definitions, each on a function that does nothing.
 
 ghost use Rattle.std.specs.Prelude.{◌≡◌, ◌≤◌, ◌↔◌, ℕ, List, ◌∷◌, ◌++◌, length, Some};
-ghost use Rattle.mc_outside.specs.Bytes.{BeginsWith};
 ghost use Rattle.kept_replies.specs.declared.deed.Deed.{Deed};
 ghost use Rattle.mc_records.specs.declared.limits.Limits.{Limits as Bounds};
 ghost use Rattle.mc_records.specs.Entry.{Entry};
 ghost use Rattle.ledger_model.specs.Histories.{History};
 ghost use Rattle.ledger_model.specs.Lawful.{MayFollow};
 ghost use Rattle.ledger_model.specs.Replies.{Contents};
-ghost use Rattle.scrip_journal.specs.Layout.{header};
-ghost use Rattle.house_core.specs.Opening.{SpoilsAt, IsUnlawfulAt, IsOfOther};
 ghost use Rattle.house_core.specs.Trade.{brought_by, IsInForce, IsKeptFrom};
 ghost use Rattle.house_core.specs.Learning.{IsGoods, IsOfKind, InParts};
 
@@ -30,12 +27,4 @@ pub fn contents_stay()
 /// are among those that `forget` leaves from its number on, or from a lower one.
 pub fn goods_in_force_are_kept()
     ensures { (h more : History) (e : Entry) (from n : ℕ) → IsInForce h n → (IsGoods e → ⊥) → from ≤ length h → IsKeptFrom (h ++ e ∷ more) (Some from) n }
-{}
-
-/// A book of a site of another kind gives no other cause to refuse it: it begins with the header, nothing in
-/// it can't stand, and it is told of no unlawful entry.
-pub fn books_of_another_kind_have_one_fault()
-    ensures header { (kind : ℕ) (bytes : List ℕ) → IsOfOther kind bytes → BeginsWith header bytes }
-    ensures whole { (limits : Bounds) (kind : ℕ) (bytes : List ℕ) (place : ℕ) → IsOfOther kind bytes → SpoilsAt limits kind bytes place → ⊥ }
-    ensures lawful { (limits : Bounds) (kind : ℕ) (bytes : List ℕ) (place : ℕ) → IsOfOther kind bytes → IsUnlawfulAt limits kind bytes place → ⊥ }
 {}

@@ -2,8 +2,7 @@
 //! trade that it carries, whether it sells goods or scrip, and the house itself: what it keeps beside
 //! its trade, what it says of a request, and how it takes an entry, in memory or over a journal.
 //!
-//! Founding and opening a house take memory, as `Bench::new` does, and so do the calls `accept`, `answer`
-//! and `enter` of a bench or of a house, `Reply::append_to`, and `reserve` of the spent identities and of
+//! `Bench::new` and `Bench::replay` take memory, and so do the calls `accept`, `answer` and `enter` of a bench or of a house, `Reply::append_to`, and `reserve` of the spent identities and of
 //! a trade. No other call of this crate does.
 #![tactic(auto)]
 
@@ -11,7 +10,6 @@ mod answering;
 mod bench;
 mod body;
 mod evaluate;
-mod found;
 mod founding;
 mod house;
 mod house_state;
@@ -19,7 +17,6 @@ mod law;
 mod lengths;
 mod money;
 mod offer;
-mod opening;
 mod outcome;
 mod ranges;
 mod replaying;
@@ -34,16 +31,12 @@ mod verdict;
 
 pub use bench::Bench;
 pub use body::body_of_deed;
-pub use found::found_house;
 pub use house::House;
 pub use house_state::HouseState;
-pub use law::{
-    books_of_another_kind_have_one_fault, contents_stay, entries_follow_in_parts,
-    goods_in_force_are_kept,
-};
+pub use law::{contents_stay, entries_follow_in_parts, goods_in_force_are_kept};
 pub use offer::{Body, DrawAsk, Offer, SiteKind, Unlawful};
-pub use opening::open_house;
 pub use outcome::Outcome;
+pub use replaying::ReplayEnd;
 pub use reply::Reply;
 pub use sending::{send_again, send_disk_fault, send_refusal, send_settled};
 pub use settled::{Settled, drop_settled};

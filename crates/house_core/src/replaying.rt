@@ -28,7 +28,7 @@ use scrip_form::{Id, read_scrip};
 
 /// Why an entry of a history was not learned.
 #[derive(Drop)]
-pub(crate) enum ReplayEnd {
+pub enum ReplayEnd {
     /// It may not follow the entries before it.
     Unlawful,
     /// Memory was refused.
@@ -64,7 +64,7 @@ impl<T: Trade> Bench<T> {
     /// entry's moment. `Err` has `Unlawful` exactly where the entry may not follow those before it. The
     /// house's own limit of the journal is not asked: a book above it is lawful. After an `Err` nothing is
     /// said of the house.
-    pub(crate) fn replay(&mut self, r: &Record<'_>) -> Result<(), ReplayEnd>
+    pub fn replay(&mut self, r: &Record<'_>) -> Result<(), ReplayEnd>
         requires fits { Fits (entry r.now) }
         ensures limits { limits_of self.new ≡ limits_of self.old }
         ensures exact { (h : History) → Represents T.trade self.old h → house_time self.old ≡ time h → size h + entry_size h (entry r.now) ≤ 2 ^ 40

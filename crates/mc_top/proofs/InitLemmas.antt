@@ -17,7 +17,7 @@ use Rattle.scrip_journal.specs.declared.fault.HouseFault.TheVariants as faults
 use Rattle.millicent_http.specs.Courses.{with_readings}
 use Rattle.house_core.specs.declared.house.House.{House}
 use Rattle.scrip_journal.specs.Founds.{fault_disk, FoundNoOutput, CountsBy, ReadsOnly}
-use Rattle.house_core.specs.Found.{FoundedFor, FoundsHouseBy}
+use Rattle.house_opening.specs.Found.{FoundedFor, FoundsHouseBy}
 use Rattle.house_serving.proofs.AsideLemmas.{TellsAside, no_more_still, aside_still}
 use Rattle.vendor_core.specs.declared.shelf.Shelf.{Shelf}
 use Rattle.mc_top.specs.Opening.{full}

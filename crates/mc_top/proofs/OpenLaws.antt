@@ -7,9 +7,9 @@ use Rattle.ledger_model.specs.Houses.{site_kind}
 use Rattle.ledger_model.specs.Lawful.{IsLawful, AllFollow, MayFollow}
 use Rattle.scrip_journal.specs.Layout.{header, gated, Encodes}
 use Rattle.scrip_journal.proofs.Unique.{stands_read, one_history, not_both}
-use Rattle.house_core.specs.Opening.{SpoilsAt, IsUnlawfulAt, IsOfOther}
+use Rattle.house_opening.specs.Opening.{SpoilsAt, IsUnlawfulAt, IsOfOther}
 use Rattle.scrip_journal.proofs.Beginnings.{begins_history}
-use Rattle.house_core.proofs.Beginnings.{kind_tells}
+use Rattle.house_opening.proofs.Beginnings.{kind_tells}
 use Rattle.mc_top.specs.Opening.{full}
 
 -- it begins with the header

@@ -21,7 +21,7 @@ use Rattle.house_core.specs.declared.outcome.Outcome.{Outcome}
 use Rattle.house_core.specs.declared.outcome.Outcome.TheVariants as outcomes
 use Rattle.house_core.specs.Bench.{house_time, limits_of}
 use Rattle.house_core.specs.House.{HouseRepresents, HouseRests, house_rests_none, KeepsTime, OfHouse, CountsFaults, outcome_disk}
-use Rattle.house_core.specs.Opening.{OpenedFor}
+use Rattle.house_opening.specs.Opening.{OpenedFor}
 use Rattle.house_serving.proofs.AsideLemmas.{TellsAside, SentNoMore, no_more_then, no_more_still, no_more_heard, no_more_finished, no_more_taken, aside_still}
 use Rattle.house_serving.proofs.OrderLemmas.{house_keeps}
 use Rattle.vendor_core.specs.declared.shelf.Shelf.{Shelf}

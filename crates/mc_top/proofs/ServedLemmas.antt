@@ -20,7 +20,7 @@ use Rattle.scrip_journal.specs.Layout.{Encodes}
 use Rattle.scrip_journal.specs.declared.fault.HouseFault.{HouseFault}
 use Rattle.scrip_journal.specs.declared.fault.HouseFault.TheVariants as faults
 use Rattle.scrip_journal.specs.Founds.{fault_disk}
-use Rattle.house_core.specs.Opening.{OpenedFor, OpensHouse}
+use Rattle.house_opening.specs.Opening.{OpenedFor, OpensHouse}
 use Rattle.house_core.specs.Session.{State, Step}
 use Rattle.house_serving.specs.declared.links.ServeOut.{ServeOut}
 use Rattle.house_serving.specs.declared.links.ServeOut.TheVariants as outs

@@ -13,7 +13,7 @@ use Rattle.scrip_journal.specs.Layout.{Encodes}
 use Rattle.millicent_http.specs.declared.clock.Clock.TheVariants.{OfLinks}
 use Rattle.millicent_http.specs.Courses.{AreRead, with_readings}
 use Rattle.house_core.specs.declared.house.House.{House}
-use Rattle.house_core.specs.Opening.{OpenedFor}
+use Rattle.house_opening.specs.Opening.{OpenedFor}
 use Rattle.vendor_core.specs.declared.shelf.Shelf.{Shelf}
 use Rattle.vendor_core.specs.Shelf.{shelf_view}
 use Rattle.vendor_core.specs.Tasks.{Task, Add, Stays, Refuse, goods_task, price_task, terms_task, IsMintTask, IsMintAt, mint_lines}

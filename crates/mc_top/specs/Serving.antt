@@ -13,7 +13,7 @@ use Rattle.scrip_journal.specs.Layout.{header, Encodes}
 use Rattle.millicent_http.specs.declared.clock.Clock.TheVariants.{OfLinks}
 use Rattle.millicent_http.specs.Steps.{Did, sent_of, state_after}
 use Rattle.millicent_http.specs.Courses.{ServedAll, ServedSome}
-use Rattle.house_core.specs.Opening.{SpoilsAt, IsUnlawfulAt, IsOfOther}
+use Rattle.house_opening.specs.Opening.{SpoilsAt, IsUnlawfulAt, IsOfOther}
 use Rattle.house_core.specs.Session.{State, Step}
 use Rattle.house_serving.specs.Orders.{InOrder, IsEither, InDoubt}
 use Rattle.house_serving.specs.InDoubt.{InDoubtLinks}

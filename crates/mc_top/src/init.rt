@@ -7,7 +7,7 @@ ghost use Rattle.mc_top.specs.Statuses.{number_of};
 use crate::founder::Founder;
 use crate::serving::not_opened;
 use crate::status::Status;
-use house_core::found_house;
+use house_opening::found_house;
 use mc_outside::{Link, Outside};
 use mc_records::{Limits, PieceList};
 use std::alloc::Global;

@@ -4,7 +4,7 @@ ghost use Rattle.ledger_model.specs.Histories.{History};
 ghost use Rattle.ledger_model.specs.Houses.{site_kind};
 ghost use Rattle.ledger_model.specs.Lawful.{IsLawful};
 ghost use Rattle.scrip_journal.specs.Layout.{header, Encodes};
-ghost use Rattle.house_core.specs.Opening.{SpoilsAt, IsUnlawfulAt, IsOfOther};
+ghost use Rattle.house_opening.specs.Opening.{SpoilsAt, IsUnlawfulAt, IsOfOther};
 ghost use Rattle.mc_top.specs.Commands.{AreWords};
 ghost use Rattle.mc_top.specs.Opening.{full};
 ghost use Rattle.mc_top.specs.declared.command.Command.{Command};

@@ -8,7 +8,7 @@ ghost use Rattle.mc_top.specs.Serving.{ServesBook, ServeCauses};
 ghost use Rattle.mc_top.specs.Statuses.{number_of};
 
 use crate::status::Status;
-use house_core::open_house;
+use house_opening::open_house;
 use house_serving::{ServeOut, serve_links};
 use mc_outside::Outside;
 use mc_records::{Limits, Refusal};

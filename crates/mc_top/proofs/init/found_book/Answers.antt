@@ -6,7 +6,7 @@ use Rattle.millicent_http.specs.declared.clock.Clock.TheVariants.{OfLinks}
 use Rattle.millicent_http.specs.Courses.{AreRead, with_readings}
 use Rattle.house_core.specs.declared.house.House.{House}
 use Rattle.scrip_journal.specs.Founds.{fault_disk, FoundNoOutput, CountsBy}
-use Rattle.house_core.specs.Found.{FoundsHouseBy}
+use Rattle.house_opening.specs.Found.{FoundsHouseBy}
 use Rattle.vendor_core.specs.declared.shelf.Shelf.{Shelf}
 use Rattle.vendor_core.specs.Shelf.{shelf_view}
 use Rattle.mc_top.specs.Founding.{site_of}

@@ -1,6 +1,6 @@
 use Rattle.std.proofs.Common.{refl}
-use Rattle.house_core.proofs.OpeningLemmas.{no_other_first}
-use Rattle.house_core.proofs.opening.found_bench.Goals as goal
+use Rattle.house_opening.proofs.OpeningLemmas.{no_other_first}
+use Rattle.house_opening.proofs.opening.found_bench.Goals as goal
 
 pub returns-in_default : goal.returns-in_default
 returns-in_default g c =

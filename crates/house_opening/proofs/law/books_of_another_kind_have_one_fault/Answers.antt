@@ -1,7 +1,7 @@
 use Rattle.ledger_model.specs.Lawful.{MayFollow}
 use Rattle.scrip_journal.specs.Causes.{Only}
 use Rattle.scrip_journal.proofs.Beginnings.{other_begins, other_is_whole}
-use Rattle.house_core.proofs.law.books_of_another_kind_have_one_fault.Goals as goal
+use Rattle.house_opening.proofs.law.books_of_another_kind_have_one_fault.Goals as goal
 
 pub returns-clause-header : goal.returns-clause-header
 returns-clause-header c kind = other_begins (Only kind)

@@ -1,9 +1,9 @@
 use Rattle.std.proofs.Common.{[], Option, Ok, ℕ, sym, subst}
 use Rattle.mc_records.specs.Views.{entry}
 use Rattle.scrip_journal.specs.Replays.{ReadsOn}
-use Rattle.house_core.specs.Opening.{SpoilsAt}
-use Rattle.house_core.proofs.OpeningLemmas.{no_entries, spoils_first, read_entry, first_learned}
-use Rattle.house_core.proofs.opening.learn_first.Goals as goal
+use Rattle.house_opening.specs.Opening.{SpoilsAt}
+use Rattle.house_opening.proofs.OpeningLemmas.{no_entries, spoils_first, read_entry, first_learned}
+use Rattle.house_opening.proofs.opening.learn_first.Goals as goal
 
 pub returns-in-Ok-None-clause-exact : goal.returns-in-Ok-None-clause-exact
 returns-in-Ok-None-clause-exact g c x told r =

@@ -5,7 +5,7 @@ use Rattle.ledger_model.specs.Histories.{History}
 use Rattle.ledger_model.specs.Houses.{site_kind}
 use Rattle.scrip_journal.specs.Causes.{Only, FoundsSite, IsOfKind, BeginsWithEntries}
 use Rattle.scrip_journal.proofs.Beginnings as beginnings
-use Rattle.house_core.specs.Opening.{IsOfOther}
+use Rattle.house_opening.specs.Opening.{IsOfOther}
 
 -- the first entry of a history of this kind founds a site of it
 founds_kind : (kind : ℕ) (e : Entry) (es : History) → site_kind (e ∷ es) ≡ Some kind → FoundsSite (Only kind) e

@@ -1,7 +1,7 @@
 use Rattle.std.proofs.Common.{◌-◌, ◌^◌, ◌≡◌, ℕ, List, Some, None}
 use Rattle.house_core.specs.Bench.{limits_of}
-use Rattle.house_core.specs.Opening.{ReadOn, LearnedSome}
-use Rattle.house_core.proofs.opening.learn_rest.Given as goal
+use Rattle.house_opening.specs.Opening.{ReadOn, LearnedSome}
+use Rattle.house_opening.proofs.opening.learn_rest.Given as goal
 
 abbrev pub invariant-entries : goal.invariant-entries
 invariant-entries g l = record {

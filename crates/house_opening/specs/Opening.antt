@@ -18,8 +18,8 @@ use Rattle.scrip_journal.specs.declared.fault.HouseFault.{HouseFault}
 use Rattle.scrip_journal.specs.declared.fault.HouseFault.TheVariants.{NotJournal, BadRecord, Unlawful, WrongKind, NotEmpty, Disk, NoMemory}
 use Rattle.house_core.specs.declared.bench.Bench.{Bench}
 use Rattle.house_core.specs.declared.house.House.{House}
-use Rattle.house_core.specs.declared.opening.Halt.{Halt}
-use Rattle.house_core.specs.declared.opening.Halt.TheVariants as halts
+use Rattle.house_opening.specs.declared.opening.Halt.{Halt}
+use Rattle.house_opening.specs.declared.opening.Halt.TheVariants as halts
 use Rattle.house_core.specs.Bench.{IsHouse, house_time, limits_of}
 use Rattle.house_core.specs.House.{HouseRepresents}
 use Rattle.house_core.specs.Trade.{TradeView}

@@ -25,13 +25,13 @@ use Rattle.scrip_journal.specs.Replays.{ReadsOn}
 use Rattle.scrip_journal.specs.declared.ending.ReplayFault.TheVariants.{BadRecord}
 use Rattle.house_core.specs.declared.bench.Bench.{Bench}
 use Rattle.house_core.specs.Bench.{HasContents, Replays, limits_of}
-use Rattle.house_core.specs.declared.opening.Halt.{Halt}
-use Rattle.house_core.specs.declared.opening.Halt.TheVariants as halts
+use Rattle.house_opening.specs.declared.opening.Halt.{Halt}
+use Rattle.house_opening.specs.declared.opening.Halt.TheVariants as halts
 use Rattle.scrip_journal.specs.Causes.{Only, IsOfOtherKind, BeginsWithEntries}
 use Rattle.scrip_journal.proofs.Reading.{bytes_told}
 use Rattle.scrip_journal.proofs.Beginnings.{first_tells, empty_tells}
-use Rattle.house_core.specs.Opening.{SpoilsAt, IsUnlawfulAt, HaltsBy, FoundsBy, ReadOn, Learned, LearnedSome, LearnedAll}
-use Rattle.house_core.proofs.Beginnings.{kind_of_first, kind_tells}
+use Rattle.house_opening.specs.Opening.{SpoilsAt, IsUnlawfulAt, HaltsBy, FoundsBy, ReadOn, Learned, LearnedSome, LearnedAll}
+use Rattle.house_opening.proofs.Beginnings.{kind_of_first, kind_tells}
 use Rattle.house_core.proofs.Entered.{kind_stays, time_snoc}
 use Rattle.house_core.specs.Trade.{TradeView}
 

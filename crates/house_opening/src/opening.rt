@@ -10,13 +10,9 @@ ghost use Rattle.scrip_journal.specs.States.{IsReading};
 ghost use Rattle.scrip_journal.specs.declared.ending.Ending.TheVariants.{Closed};
 ghost use Rattle.house_core.specs.Views.{kind_number};
 ghost use Rattle.house_core.specs.Bench.{limits_of};
-ghost use Rattle.house_core.specs.Opening.{house_disk, CountedBy, OpensHouse, ReadOn, Learned, LearnedSome, LearnedAll, HaltsBy, HaltCounts, FoundsBy, LearnsNext, GoesFurther, fault_with};
+ghost use Rattle.house_opening.specs.Opening.{house_disk, CountedBy, OpensHouse, ReadOn, Learned, LearnedSome, LearnedAll, HaltsBy, HaltCounts, FoundsBy, LearnsNext, GoesFurther, fault_with};
 
-use crate::bench::Bench;
-use crate::house::House;
-use crate::offer::SiteKind;
-use crate::replaying::ReplayEnd;
-use crate::trade::Trade;
+use house_core::{Bench, House, ReplayEnd, SiteKind, Trade};
 use mc_base::NoMemory;
 use mc_outside::Disk;
 use mc_records::{Limits, Record};

@@ -3,7 +3,7 @@ use Rattle.mc_records.specs.declared.limits.Limits.{Limits}
 use Rattle.mc_records.specs.Views.{entry}
 use Rattle.scrip_journal.specs.Founds.{FoundNoOutput}
 use Rattle.scrip_journal.proofs.FoundLemmas.{ran_at}
-use Rattle.house_core.proofs.found.found_house.Goals as goal
+use Rattle.house_opening.proofs.found.found_house.Goals as goal
 
 pub returns-in-Ok-found_book-clause-exact : goal.returns-in-Ok-found_book-clause-exact
 returns-in-Ok-found_book-clause-exact g c x told =

@@ -9,12 +9,10 @@ ghost use Rattle.ledger_model.specs.Houses.{site_kind};
 ghost use Rattle.ledger_model.specs.Lawful.{MayFollow};
 ghost use Rattle.scrip_journal.specs.Founds.{FoundNoOutput, CountsBy, ReadsOnly};
 ghost use Rattle.house_core.specs.Founding.{FoundsHouse};
-ghost use Rattle.house_core.specs.Opening.{house_disk};
-ghost use Rattle.house_core.specs.Found.{FoundsHouseBy};
+ghost use Rattle.house_opening.specs.Opening.{house_disk};
+ghost use Rattle.house_opening.specs.Found.{FoundsHouseBy};
 
-use crate::bench::Bench;
-use crate::house::House;
-use crate::trade::Trade;
+use house_core::{Bench, House, Trade};
 use mc_base::NoMemory;
 use mc_outside::Disk;
 use mc_records::{Limits, Record};

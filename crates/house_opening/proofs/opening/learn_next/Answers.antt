@@ -1,8 +1,8 @@
 use Rattle.std.proofs.Common.{Option, Ok, ℕ, subst}
 use Rattle.mc_records.specs.Views.{entry}
 use Rattle.scrip_journal.specs.Replays.{ReadsOn}
-use Rattle.house_core.proofs.OpeningLemmas.{none_left, spoils_here, read_entry, entry_fits, learned_more, breaks_here}
-use Rattle.house_core.proofs.opening.learn_next.Goals as goal
+use Rattle.house_opening.proofs.OpeningLemmas.{none_left, spoils_here, read_entry, entry_fits, learned_more, breaks_here}
+use Rattle.house_opening.proofs.opening.learn_next.Goals as goal
 
 pub returns-in-Ok-None-clause-exact : goal.returns-in-Ok-None-clause-exact
 returns-in-Ok-None-clause-exact g c kind x told l =

@@ -1,8 +1,8 @@
 use Rattle.std.proofs.Common.{◌∙◌, subst}
 use Rattle.mc_records.specs.declared.limits.Limits.{Limits}
-use Rattle.house_core.specs.Opening.{HaltsBy}
-use Rattle.house_core.proofs.OpeningLemmas.{read_on_then}
-use Rattle.house_core.proofs.opening.learn_book.Goals as goal
+use Rattle.house_opening.specs.Opening.{HaltsBy}
+use Rattle.house_opening.proofs.OpeningLemmas.{read_on_then}
+use Rattle.house_opening.proofs.opening.learn_book.Goals as goal
 
 pub returns-in-Ok-learn_rest-clause-read : goal.returns-in-Ok-learn_rest-clause-read
 returns-in-Ok-learn_rest-clause-read g c =
