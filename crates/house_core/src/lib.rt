@@ -2,8 +2,9 @@
 //! trade that it carries, whether it sells goods or scrip, and the house itself: what it keeps beside
 //! its trade, what it says of a request, and how it takes an entry, in memory or over a journal.
 //!
-//! `Bench::new` and `Bench::replay` take memory, and so do the calls `accept`, `answer` and `enter` of a bench or of a house, `Reply::append_to`, and `reserve` of the spent identities and of
-//! a trade. No other call of this crate does.
+//! `Bench::new` and `Bench::replay` take memory, and so do the calls `accept`, `answer` and `enter` of a
+//! bench or of a house, `Reply::append_to`, and `reserve` of the spent identities and of a trade. No other
+//! call of this crate does.
 #![tactic(auto)]
 
 mod answering;
