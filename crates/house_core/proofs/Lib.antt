@@ -15,3 +15,4 @@ pub mod Refused
 pub mod FirstReply
 pub mod Said
 pub mod HouseDisk
+pub mod TaskLemmas

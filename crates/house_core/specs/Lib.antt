@@ -11,3 +11,4 @@ pub mod Replying
 pub mod Session
 pub mod Bench
 pub mod House
+pub mod Tasks

@@ -1,3 +1,6 @@
+ghost use Rattle.std.specs.Prelude.{◌≡◌};
+ghost use Rattle.house_core.specs.Views.{kind_number};
+
 use kept_replies::Deed;
 use mc_base::Amount;
 use scrip_form::Name;
@@ -9,6 +12,19 @@ pub enum SiteKind {
     Vendor,
     Broker,
     Wallet,
+}
+
+impl SiteKind {
+    /// The number of the kind, as Site entries have it.
+    pub fn number(self) -> u8
+        ensures { result ≡ kind_number self }
+    {
+        match self {
+            SiteKind::Vendor => 0,
+            SiteKind::Broker => 1,
+            SiteKind::Wallet => 2,
+        }
+    }
 }
 
 /// What is given for a piece: its price in units, and the deed by which the reply is found again.

@@ -8,7 +8,6 @@ ghost use Rattle.mc_records.specs.Views.{entry};
 ghost use Rattle.ledger_model.specs.Histories.{History};
 ghost use Rattle.scrip_journal.specs.States.{IsReading};
 ghost use Rattle.scrip_journal.specs.declared.ending.Ending.TheVariants.{Closed};
-ghost use Rattle.house_core.specs.Views.{kind_number};
 ghost use Rattle.house_core.specs.Bench.{limits_of};
 ghost use Rattle.house_opening.specs.Opening.{house_disk, CountedBy, OpensHouse, ReadOn, Learned, LearnedSome, LearnedAll, HaltsBy, HaltCounts, FoundsBy, LearnsNext, GoesFurther, fault_with};
 
@@ -162,26 +161,15 @@ fn found_bench<T: Trade>(
         Record::Site { kind, .. } => *kind,
         _ => return Err(Halt::Unlawful(FIRST_GATE)),
     };
-    if kind != number_of(trade.kind()) {
+    if kind != trade.kind().number() {
         return Err(Halt::WrongKind);
     }
-    if kind != number_of(SiteKind::Vendor) {
+    if kind != SiteKind::Vendor.number() {
         return Err(Halt::Unlawful(FIRST_GATE));
     }
     match Bench::new(alloc, site, limits, trade) {
         Ok(bench) => Ok(bench),
         Err(NoMemory) => Err(Halt::NoMemory),
-    }
-}
-
-/// The number of a kind of site, as Site entries have it.
-fn number_of(kind: SiteKind) -> u8
-    ensures { result ≡ kind_number kind }
-{
-    match kind {
-        SiteKind::Vendor => 0,
-        SiteKind::Broker => 1,
-        SiteKind::Wallet => 2,
     }
 }
 

@@ -1,34 +1,18 @@
--- What comes of a command of a vendor's operator: what there is to do, and what was done.
-use Rattle.std.specs.Prelude.{◌≡◌, ℕ, ◌+◌, ◌<◌, ◌≤◌, ◌^◌, ◌==◌, ◌&&◌, ◌⊎◌, nat_lt, IsFalse, Bool, if◌then◌else◌, List, [], ◌∷◌, ◌++◌, length, take, Option, Some, None, slice_get, option_map, unwrap_or, bytes_eq, Err, MatchOption}
+-- What there is to do by a command of a vendor's operator, and what a mint answers.
+use Rattle.std.specs.Prelude.{◌≡◌, ℕ, ◌+◌, ◌<◌, ◌≤◌, ◌^◌, ◌==◌, ◌&&◌, ◌⊎◌, nat_lt, IsFalse, Bool, if◌then◌else◌, List, [], ◌∷◌, ◌++◌, take, Option, Some, None, slice_get, option_map, unwrap_or, bytes_eq}
 use Rattle.std.specs.Cmp.Lexicographic.{pointwise}
-use Rattle.mc_outside.specs.Bytes.{Rose}
-use Rattle.mc_outside.specs.DiskView.{DiskView, Ran}
 use Rattle.scrip_form.specs.Issuing.{Issuing}
 use Rattle.mc_records.specs.declared.limits.Limits.{Limits}
-use Rattle.mc_records.specs.declared.refusal.Refusal.{Refusal}
 use Rattle.mc_records.specs.declared.refusal.Refusal.TheVariants.{NoSuchGoods, SeriesFull, ContentsFull, IssuerTaken, RefUsed}
 use Rattle.mc_records.specs.Entry.{Entry, AddTerms, Goods, Mint}
 use Rattle.ledger_model.specs.Histories.{History}
 use Rattle.ledger_model.specs.Houses.{site_name, terms_in, version, own_series}
 use Rattle.ledger_model.specs.Goods.{goods_in, goods_kind, goods_contents, in_force}
 use Rattle.ledger_model.specs.Pieces.{own_count, next_identity, has_reference, minted_pieces}
-use Rattle.ledger_model.specs.Lawful.{MayFollow}
-use Rattle.ledger_model.specs.Lines as lines
-use Rattle.ledger_model.specs.Answer.{fitted}
-use Rattle.scrip_journal.specs.Exits.{EncodesNoOutput, EitherNoOutput}
-use Rattle.house_core.specs.declared.outcome.Outcome.{Outcome}
-use Rattle.house_core.specs.declared.outcome.Outcome.TheVariants as outcomes
-use Rattle.house_core.specs.House.{HouseRepresents, IsAsItWas, outcome_disk}
+use Rattle.house_core.specs.Tasks.{Task, Add, Stays, Refuse}
 use Rattle.vendor_core.specs.Lines.{piece_lines}
-use Rattle.house_core.specs.Trade.{TradeView}
 
 -- ---- what there is to do
-
--- to add an entry; nothing, since the same stands; or to refuse
-pub data Task : Type 0 where
-  Add : Entry → Task
-  Stays : Task
-  Refuse : Refusal → Task
 
 -- Goods are put on sale where the contents in force stay within 2^26 bytes. Else 54 ContentsFull tells how
 -- many bytes would be in force.
@@ -84,45 +68,7 @@ IsMintTask h t limits reference count value (Refuse f) =
     (IsUsed h reference count value × (f ≡ RefUsed reference))
     ⊎ (IsFalse (has_reference h reference) × (limits.series < own_count h (own_series h t) + count) × (f ≡ SeriesFull (own_series h t)))
 
--- ---- what was done
-
--- What comes of a task over a history: an entry is on the disk and is entered; nothing was changed, where the
--- same stands, where it is refused or does not fit the journal (33), or where memory was refused; or the disk
--- failed, and then the entry may follow. `Told` holds of the task, of the history that stands then, and of what is answered.
-abbrev pub Does : {D T A : Type 0} → (D → DiskView) → (T → TradeView) → (Task → History → A → Type 0) → Limits → D → History → Task → Outcome D T A → Type 0
-Does view trade Told limits disk h (Add e) (outcomes.Done x a) = HouseRepresents view trade x (h ++ e ∷ []) × Told (Add e) (h ++ e ∷ []) a
-Does view trade Told limits disk h (Add e) (outcomes.Refused x f) = (fitted h limits e ≡ Err (lines.Refuse f)) × IsAsItWas view trade disk x h
-Does view trade Told limits disk h (Add e) (outcomes.NoMemory x) = IsAsItWas view trade disk x h
-Does view trade Told limits disk h (Add e) (outcomes.Halted d) = MayFollow limits h e × Rose (view disk).faults (view d).faults
-Does view trade Told limits disk h Stays (outcomes.Done x a) = IsAsItWas view trade disk x h × Told Stays h a
-Does view trade Told limits disk h Stays (outcomes.NoMemory x) = IsAsItWas view trade disk x h
-Does view trade Told limits disk h (Refuse f) (outcomes.Refused x g) = (g ≡ f) × IsAsItWas view trade disk x h
-Does view trade Told limits disk h _ _ = ⊥
-
--- The crash pairs of it: with the entry or without it where one was written, else with the entries as they
--- were; and nothing was sent.
-abbrev pub LeavesBy : {D T A : Type 0} → Task → Outcome D T A → History → List ℕ → List ℕ → List ℕ → Type 0
-LeavesBy (Add e) (outcomes.Done x a) h aside c s = EitherNoOutput h e aside c s
-LeavesBy (Add e) (outcomes.Halted d) h aside c s = EitherNoOutput h e aside c s
-LeavesBy _ _ h aside c s = EncodesNoOutput h aside c s
-
--- a task that this history asks for was done
-pub record Performs {D T A : Type 0} (view : D → DiskView) (trade : T → TradeView) (Asks : Task → Type 0) (Told : Task → History → A → Type 0) (limits : Limits) (disk : D) (h : History) (result : Outcome D T A) : Type 0 where
-  pub task : Task
-  pub asks : Asks task
-  pub does : Does view trade Told limits disk h task result
-  pub ran : Ran (view disk) (view (outcome_disk result)) (LeavesBy task result h (view disk).aside)
-
 -- ---- what is answered
-
--- the number of the last entry
-abbrev pub TellsLast : Task → History → ℕ → Type 0
-TellsLast task g number = number + 1 ≡ length g
-
--- the number of the last entry where one was added
-abbrev pub TellsAdded : Task → History → Option ℕ → Type 0
-TellsAdded (Add e) g answer = MatchOption answer ⊥ (λ number. number + 1 ≡ length g)
-TellsAdded _ g answer = answer ≡ None
 
 -- the lines of the pieces that the entry of a number mints
 abbrev pub mint_lines : History → ℕ → List ℕ
@@ -133,8 +79,3 @@ mint_lines h number =
 -- the number of the mint of this reference, and its lines
 abbrev pub TellsMint : List ℕ → ℕ → ℕ → List ℕ → Task → History → ℕ → Type 0
 TellsMint reference count value out task g number = IsMintAt g reference count value number × (out ≡ mint_lines g number)
-
--- no lines where it is not done
-abbrev pub NoLines : {D T A : Type 0} → List ℕ → Outcome D T A → Type 0
-NoLines out (outcomes.Done x a) = Unit {0}
-NoLines out _ = out ≡ []

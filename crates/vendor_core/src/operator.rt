@@ -9,9 +9,10 @@ ghost use Rattle.ledger_model.specs.Houses.{site_name, terms_in, version};
 ghost use Rattle.ledger_model.specs.Pieces.{has_reference, run_from};
 ghost use Rattle.house_core.specs.Bench.{house_time, limits_of};
 ghost use Rattle.house_core.specs.House.{HouseRepresents, HandsBack, HasRun, KeepsTime};
+ghost use Rattle.house_core.specs.Tasks.{Performs, TellsLast, TellsAdded, NoLines};
 ghost use Rattle.vendor_core.specs.Lines.{piece_lines};
 ghost use Rattle.vendor_core.specs.Shelf.{shelf_view};
-ghost use Rattle.vendor_core.specs.Tasks.{goods_task, price_task, are_same_terms, terms_task, IsMintTask, Performs, TellsLast, TellsAdded, TellsMint, NoLines};
+ghost use Rattle.vendor_core.specs.Tasks.{goods_task, price_task, are_same_terms, terms_task, IsMintTask, TellsMint};
 
 use crate::lines::put_lines;
 use crate::shelf::{MOST_IN_FORCE, Shelf};

@@ -5,9 +5,11 @@ use Rattle.mc_records.specs.Views.{entry}
 use Rattle.ledger_model.specs.Houses.{terms_in}
 use Rattle.house_core.specs.Bench.{house_time, limits_of}
 use Rattle.house_core.specs.declared.outcome.Outcome.TheVariants.{Done, Halted}
+use Rattle.house_core.specs.Tasks.{Add, TellsAdded}
+use Rattle.house_core.proofs.TaskLemmas.{enters, refuses, stays, tells_last}
 use Rattle.vendor_core.specs.Shelf.{shelf_view}
-use Rattle.vendor_core.specs.Tasks.{Add, terms_task, TellsAdded}
-use Rattle.vendor_core.proofs.OperatorLemmas.{enters, refuses, stays, same_licensed, other_licensed, new_licensed, tells_last}
+use Rattle.vendor_core.specs.Tasks.{terms_task}
+use Rattle.vendor_core.proofs.OperatorLemmas.{same_licensed, other_licensed, new_licensed}
 use Rattle.vendor_core.proofs.operator.add_terms.Goals as goal
 
 pub returns-then-are_same-clause-exact : goal.returns-then-are_same-clause-exact

@@ -3,10 +3,11 @@ use Rattle.mc_records.specs.Entry.{Mint}
 use Rattle.ledger_model.specs.Houses.{own_series}
 use Rattle.ledger_model.specs.Pieces.{next_identity, own_count}
 use Rattle.house_core.specs.Bench.{house_time, limits_of}
+use Rattle.house_core.specs.Tasks.{Add, Stays}
+use Rattle.house_core.proofs.TaskLemmas.{refuses, stays, wants_memory}
 use Rattle.vendor_core.specs.Shelf.{shelf_view}
-use Rattle.vendor_core.specs.Tasks.{Add, Stays, IsMintAt, IsUsed}
+use Rattle.vendor_core.specs.Tasks.{IsMintAt, IsUsed}
 use Rattle.vendor_core.proofs.LineLemmas.{lines_of_mint, earlier_mint, run_in_range}
-use Rattle.vendor_core.proofs.OperatorLemmas.{refuses, stays, wants_memory}
 use Rattle.vendor_core.proofs.operator.mint.Goals as goal
 use Rattle.vendor_core.proofs.operator.mint.Goals.{then-minted-count-via-then-minted-count, then-minted-count-via-else-minted-count+then-minted-get}
 

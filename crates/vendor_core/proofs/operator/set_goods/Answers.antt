@@ -2,9 +2,11 @@ use Rattle.std.proofs.Common.{◌≡◌, [], ◌∷◌, ◌++◌, ap, ◌∙◌}
 use Rattle.mc_records.specs.Entry.{Entry, Goods}
 use Rattle.ledger_model.specs.Goods.{in_force}
 use Rattle.house_core.specs.Bench.{house_time, limits_of}
+use Rattle.house_core.specs.Tasks.{Add, TellsLast}
+use Rattle.house_core.proofs.TaskLemmas.{enters_last, refuses}
 use Rattle.vendor_core.specs.Shelf.{shelf_view}
-use Rattle.vendor_core.specs.Tasks.{Add, goods_task, TellsLast}
-use Rattle.vendor_core.proofs.OperatorLemmas.{enters_last, refuses, goods_refused, goods_added}
+use Rattle.vendor_core.specs.Tasks.{goods_task}
+use Rattle.vendor_core.proofs.OperatorLemmas.{goods_refused, goods_added}
 use Rattle.vendor_core.proofs.operator.set_goods.Goals as goal
 
 pub returns-then-bytes-gt-MOST_IN_FORCE-clause-exact :

@@ -2,9 +2,11 @@ use Rattle.std.proofs.Common.{◌≡◌, ◌≤◌, ◌^◌, Option, sym, ap, �
 use Rattle.mc_records.specs.Entry.{Entry, Goods}
 use Rattle.ledger_model.specs.Goods.{goods_kind, goods_contents, in_force}
 use Rattle.house_core.specs.Bench.{house_time, limits_of}
+use Rattle.house_core.specs.Tasks.{Add, TellsLast}
+use Rattle.house_core.proofs.TaskLemmas.{refuses, wants_memory}
 use Rattle.vendor_core.specs.Shelf.{shelf_view}
-use Rattle.vendor_core.specs.Tasks.{Add, repriced, goods_task, price_task, TellsLast}
-use Rattle.vendor_core.proofs.OperatorLemmas.{refuses, wants_memory, repriced_is_goods}
+use Rattle.vendor_core.specs.Tasks.{repriced, goods_task, price_task}
+use Rattle.vendor_core.proofs.OperatorLemmas.{repriced_is_goods}
 use Rattle.vendor_core.proofs.operator.set_price.Goals as goal
 
 pub returns-in_default-clause-exact : goal.returns-in_default-clause-exact
