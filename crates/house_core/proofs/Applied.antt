@@ -1,5 +1,5 @@
 -- What the state keeps after an entry that accepts nothing says what the longer history says.
-use Rattle.std.proofs.Common.{◌≡◌, ℕ, zero, suc, ◌+◌, ◌≤◌, ◌^◌, Bool, true, false, cond, List, [], ◌∷◌, ◌++◌, length, Option, Some, None, refl, sym, ap, ap₂, subst, ◌∙◌, arith, eqb, leb, append-nil, length-append}
+use Rattle.std.proofs.Common.{◌≡◌, ℕ, zero, suc, ◌+◌, ◌≤◌, ◌^◌, Bool, true, false, cond, List, [], ◌∷◌, ◌++◌, length, Option, Some, None, refl, sym, ap, ap₂, subst, ◌∙◌, arith, eqb, leb, append-nil, length-append, All}
 use Rattle.std.specs.Prelude.{◌==◌, option_map, option_to_list, unwrap_or, position, count_by, IsTrue, ◌↔◌}
 use Rattle.std.specs.Option.{option_or}
 use Rattle.std.specs.List.{list_any, cons_option}
@@ -35,7 +35,6 @@ use Rattle.house_core.specs.HouseState.{HouseStateView, IsApplied, GoesOn, at_se
 use Rattle.house_core.specs.Representation.{StateRepresents, IsReply, has_ended, of_series}
 use Rattle.house_core.proofs.Tabled.{series_stands}
 use Rattle.house_core.proofs.Replied.{reply_kept}
-use Rattle.std.proofs.Common.{All}
 use Rattle.house_core.proofs.Entering.{at_most}
 use Rattle.house_core.proofs.Entered.{same_house, time_snoc, position_snoc}
 

@@ -1,5 +1,5 @@
 -- The contents that kept replies bring, after one more entry.
-use Rattle.std.proofs.Common.{◌≡◌, ℕ, zero, suc, ◌<◌, ◌≤◌, true, false, List, [], ◌∷◌, ◌++◌, length, All, Some, None, refl, sym, ap, subst, ◌∙◌, arith, inl, inr}
+use Rattle.std.proofs.Common.{◌≡◌, ℕ, zero, suc, ◌<◌, ◌≤◌, true, false, List, [], ◌∷◌, ◌++◌, length, All, Some, None, refl, sym, ap, subst, ◌∙◌, arith, inl, inr, Ok, Err, get_or}
 use Rattle.std.specs.Prelude.{option_map, slice_get}
 use Rattle.std.proofs.lemmas.Bool.{cases_lt}
 use Rattle.std.proofs.lemmas.List.Elements.{All-nil, All-push, All-weaker}
@@ -14,7 +14,6 @@ use Rattle.house_core.specs.Trade.{Replaces, OfGoods, NamesInForce, TradeView}
 use Rattle.house_core.specs.declared.verdict.NotAuthorized.{NotAuthorized}
 use Rattle.house_core.specs.declared.verdict.NotAuthorized.TheVariants as stops
 use Rattle.house_core.specs.declared.verdict.BenchFault.TheVariants as faults
-use Rattle.std.proofs.Common.{Ok, Err, get_or}
 use Rattle.house_core.specs.Representation.{IsReply}
 use Rattle.mc_records.specs.Requests.{Asked}
 use Rattle.ledger_model.specs.Answer.{Answer, answer, answered}

@@ -1,5 +1,5 @@
 -- What the state keeps after an authorization was entered says what the longer history says.
-use Rattle.std.proofs.Common.{◌≡◌, ℕ, ◌+◌, ◌-◌, ◌<◌, ◌≤◌, ◌^◌, Bool, true, false, not, cond, List, [], ◌∷◌, ◌++◌, length, filter, find, Option, Some, None, Result, Ok, refl, sym, ap, ap₂, ◌∙◌, arith, eqb, ltb, leb, inl, inr, append-nil, length-append}
+use Rattle.std.proofs.Common.{◌≡◌, ℕ, ◌+◌, ◌-◌, ◌<◌, ◌≤◌, ◌^◌, Bool, true, false, not, cond, List, [], ◌∷◌, ◌++◌, length, filter, find, Option, Some, None, Result, Ok, refl, sym, ap, ap₂, ◌∙◌, arith, eqb, ltb, leb, inl, inr, append-nil, length-append, All, subst}
 use Rattle.std.specs.Prelude.{◌&&◌, ◌||◌, ◌==◌, max, option_map, option_to_list, unwrap_or, position, count_by, bytes_eq}
 use Rattle.std.specs.Option.{option_or}
 use Rattle.std.specs.List.{list_any, cons_option, position_or_len}
@@ -38,7 +38,6 @@ use Rattle.house_core.specs.Trade.{BringsFor}
 use Rattle.house_core.specs.HouseState.{HouseStateView, HasChange, IsEntered, series_now, kept_entry, at_series, change_count, change_worth}
 use Rattle.house_core.specs.Representation.{StateRepresents, IsReply, has_ended, scrip_request, of_series}
 use Rattle.house_core.specs.Verdicts.{accept_entry, IsReady}
-use Rattle.std.proofs.Common.{All, subst}
 use Rattle.house_core.proofs.Replied.{reply_kept, reply_new}
 use Rattle.house_core.proofs.Entering.{at_most}
 

@@ -8,8 +8,10 @@ use Rattle.ledger_model.specs.Histories.{History}
 use Rattle.ledger_model.specs.Houses.{site_kind}
 use Rattle.ledger_model.specs.Lawful.{IsLawful}
 use Rattle.scrip_journal.specs.Layout.{Encodes}
+use Rattle.house_core.specs.declared.offer.SiteKind.TheVariants.{Vendor}
+use Rattle.house_core.specs.Views.{kind_number}
+use Rattle.house_core.specs.Tasks.{Task}
 use Rattle.house_serving.specs.Links.{TakesNoLink}
-use Rattle.vendor_core.specs.Tasks.{Task}
 use Rattle.mc_top.specs.declared.command.Command.{Command}
 use Rattle.mc_top.specs.declared.command.Command.TheVariants as commands
 use Rattle.mc_top.specs.declared.operation.Operation.{Operation}
@@ -22,8 +24,9 @@ use Rattle.mc_top.specs.Course.{Says}
 use Rattle.mc_top.specs.Statuses.{number_of, line_of}
 use Rattle.mc_top.specs.Serving.{NotOpened, ServesLinksOf, BookCauses, ServeCauses}
 use Rattle.mc_top.specs.Init.{FoundCauses}
-use Rattle.mc_top.specs.Operator.{TakesInput, LosesInput, DidBy, OperatesBook, OperateCauses}
-use Rattle.mc_top.specs.Programs.{ServesOnce, Obeys, Ends, RunsAs, HasVendor, HasBook, EndsWell, answered}
+use Rattle.mc_top.specs.Operator.{OperationView, DidBy, OperatesBook, OperateCauses}
+use Rattle.mc_top.specs.Operations.{TakesInput, operation_view}
+use Rattle.mc_top.specs.Programs.{ServesOnce, Obeys, Ends, RunsAs, HasSite, HasBook, EndsWell, answered}
 use Rattle.mc_top.proofs.OpenLaws.{begins_with_header, not_spoiled, not_unlawful, not_of_other}
 
 -- a call that failed is seen at the end
@@ -53,19 +56,19 @@ is_calm link disk a b c status number ends no_disk no_link = record {
 same_count : (v w : LinkView) → w ≡ v → v.faults ≤ w.faults
 same_count v w same = let is : w.faults ≡ v.faults = ap (λ (u : LinkView). u.faults) same in omega (arith, is)
 
-unopened_grew : {O : Type 0} (link : O → LinkView) (disk : O → DiskView) (bytes : List ℕ) (a b : O) (status : Status) → NotOpened link disk bytes a status b → (link a).faults ≤ (link b).faults
-unopened_grew link disk bytes a b ends.Done not = absurd not
-unopened_grew link disk bytes a b (ends.Served n) not = absurd not
-unopened_grew link disk bytes a b (ends.Founded name) not = absurd not
-unopened_grew link disk bytes a b (ends.Did line) not = absurd not
-unopened_grew link disk bytes a b ends.BadWords not = absurd not
-unopened_grew link disk bytes a b ends.NotJournal not = same_count (link a) (link b) not.1.link'
-unopened_grew link disk bytes a b (ends.BadEntry place) not = same_count (link a) (link b) not.1.link'
-unopened_grew link disk bytes a b (ends.UnlawfulEntry place) not = same_count (link a) (link b) not.1.link'
-unopened_grew link disk bytes a b ends.DiskFault not = same_count (link a) (link b) not.link'
-unopened_grew link disk bytes a b ends.NoMemory not = same_count (link a) (link b) not.link'
-unopened_grew link disk bytes a b ends.LinkFault not = absurd not
-unopened_grew link disk bytes a b (ends.Refused f) not = same_count (link a) (link b) not.2.link'
+unopened_grew : {O : Type 0} (link : O → LinkView) (disk : O → DiskView) (kind : ℕ) (bytes : List ℕ) (a b : O) (status : Status) → NotOpened link disk kind bytes a status b → (link a).faults ≤ (link b).faults
+unopened_grew link disk kind bytes a b ends.Done not = absurd not
+unopened_grew link disk kind bytes a b (ends.Served n) not = absurd not
+unopened_grew link disk kind bytes a b (ends.Founded name) not = absurd not
+unopened_grew link disk kind bytes a b (ends.Did line) not = absurd not
+unopened_grew link disk kind bytes a b ends.BadWords not = absurd not
+unopened_grew link disk kind bytes a b ends.NotJournal not = same_count (link a) (link b) not.1.link'
+unopened_grew link disk kind bytes a b (ends.BadEntry place) not = same_count (link a) (link b) not.1.link'
+unopened_grew link disk kind bytes a b (ends.UnlawfulEntry place) not = same_count (link a) (link b) not.1.link'
+unopened_grew link disk kind bytes a b ends.DiskFault not = same_count (link a) (link b) not.link'
+unopened_grew link disk kind bytes a b ends.NoMemory not = same_count (link a) (link b) not.link'
+unopened_grew link disk kind bytes a b ends.LinkFault not = absurd not
+unopened_grew link disk kind bytes a b (ends.Refused f) not = same_count (link a) (link b) not.2.link'
 
 served_grew : {O : Type 0} (link : O → LinkView) (disk : O → DiskView) (links : ℕ) (bytes : List ℕ) (a b : O) (status : Status) → Calm link disk a b → ServeCauses link disk a status b → ServesLinksOf link disk links bytes a status b
     → (link a).faults ≤ (link b).faults
@@ -90,16 +93,17 @@ input_kept (operations.Price l) v input w is = ap (λ (u : LinkView). u.faults) 
 input_kept (operations.Licence l) v input w is = ap (λ (u : LinkView). u.faults) is.1
 input_kept (operations.Mint l) v input w is = ap (λ (u : LinkView). u.faults) is.1
 
-operated_grew : {O : Type 0} (link : O → LinkView) (disk : O → DiskView) (operation : Operation) (bytes : List ℕ) (a b : O) (status : Status) → Calm link disk a b → OperateCauses link disk operation a status b → OperatesBook link disk operation bytes a status b
+operated_grew : {O : Type 0} (link : O → LinkView) (disk : O → DiskView) (kind : ℕ) (operation : OperationView) (bytes : List ℕ) (a b : O) (status : Status) → ((v : LinkView) (input : List ℕ) (w : LinkView) → operation.takes v input w → w.faults ≡ v.faults)
+    → Calm link disk a b → OperateCauses link disk operation a status b → OperatesBook link disk kind operation bytes a status b
     → (link a).faults ≤ (link b).faults
-operated_grew link disk operation bytes a b status calm causes (inl not) = unopened_grew link disk bytes a b status not
-operated_grew link disk operation bytes a b status calm causes (inr (inr kept)) =
-    let taken : kept.taken.faults ≡ (link a).faults = input_kept operation (link a) kept.input kept.taken kept.takes in
+operated_grew link disk kind operation bytes a b status keeps calm causes (inl not) = unopened_grew link disk kind bytes a b status not
+operated_grew link disk kind operation bytes a b status keeps calm causes (inr (inr kept)) =
+    let taken : kept.taken.faults ≡ (link a).faults = keeps (link a) kept.input kept.taken kept.takes in
     let is : (link b).faults ≡ kept.taken.faults = ap (λ (u : LinkView). u.faults) kept.rest in
     omega (arith, taken, is)
-operated_grew link disk operation bytes a b status calm causes (inr (inl unread)) = go unread.lost
+operated_grew link disk kind operation bytes a b status keeps calm causes (inr (inl unread)) = go unread.lost
   where
-    go : ((status ≡ ends.LinkFault) × LosesInput operation (link a) (link b)) ⊎ ((status ≡ ends.NoMemory) × (link b ≡ link a)) → (link a).faults ≤ (link b).faults
+    go : ((status ≡ ends.LinkFault) × operation.loses (link a) (link b)) ⊎ ((status ≡ ends.NoMemory) × (link b ≡ link a)) → (link a).faults ≤ (link b).faults
     go (inl (is, lost)) = absurd (calm.link' (subst (λ (s : Status). OperateCauses link disk operation a s b) is causes).1)
     go (inr (is, same)) = same_count (link a) (link b) same
 
@@ -110,28 +114,28 @@ grew link disk (commands.Once shop) a b status has calm obeys = obeys.2
 grew link disk (commands.Init founder) a b status has calm obeys = omega (arith, obeys.0.1)
 grew link disk (commands.Serve server) a b status has calm obeys = go (obeys.1 has.bytes has.told)
   where
-    go : NotOpened link disk has.bytes a status b ⊎ ServesLinksOf link disk server.links has.bytes a status b → (link a).faults ≤ (link b).faults
-    go (inl not) = unopened_grew link disk has.bytes a b status not
+    go : NotOpened link disk (kind_number Vendor) has.bytes a status b ⊎ ServesLinksOf link disk server.links has.bytes a status b → (link a).faults ≤ (link b).faults
+    go (inl not) = unopened_grew link disk (kind_number Vendor) has.bytes a b status not
     go (inr served) = served_grew link disk server.links has.bytes a b status calm obeys.0 served
-grew link disk (commands.Operate operation) a b status has calm obeys = operated_grew link disk operation has.bytes a b status calm obeys.0 (obeys.1 has.bytes has.told)
+grew link disk (commands.Operate operation) a b status has calm obeys = operated_grew link disk (kind_number Vendor) (operation_view operation) has.bytes a b status (input_kept operation) calm obeys.0 (obeys.1 has.bytes has.told)
 
 -- ---- how it ends
 
 -- it was opened, unless memory was refused
-only_memory : {O : Type 0} (link : O → LinkView) (disk : O → DiskView) (Lost : O → O → Type 0) (h : History) (bytes : List ℕ) (a b : O) (status : Status) → Encodes h bytes → IsLawful full h → site_kind h ≡ Some 0 → Calm link disk a b
-    → BookCauses link disk Lost a status b → NotOpened link disk bytes a status b → number_of status ≡ 5
-only_memory link disk Lost h bytes a b ends.Done st lawful vendor calm causes not = absurd not
-only_memory link disk Lost h bytes a b (ends.Served n) st lawful vendor calm causes not = absurd not
-only_memory link disk Lost h bytes a b (ends.Founded name) st lawful vendor calm causes not = absurd not
-only_memory link disk Lost h bytes a b (ends.Did line) st lawful vendor calm causes not = absurd not
-only_memory link disk Lost h bytes a b ends.BadWords st lawful vendor calm causes not = absurd not
-only_memory link disk Lost h bytes a b ends.NotJournal st lawful vendor calm causes not = absurd (not.0 (begins_with_header h bytes st))
-only_memory link disk Lost h bytes a b (ends.BadEntry place) st lawful vendor calm causes not = absurd (not_spoiled h bytes place st not.0)
-only_memory link disk Lost h bytes a b (ends.UnlawfulEntry place) st lawful vendor calm causes not = absurd (not_unlawful h bytes place st lawful not.0)
-only_memory link disk Lost h bytes a b ends.DiskFault st lawful vendor calm causes not = absurd (calm.disk' causes)
-only_memory link disk Lost h bytes a b ends.NoMemory st lawful vendor calm causes not = refl
-only_memory link disk Lost h bytes a b ends.LinkFault st lawful vendor calm causes not = absurd not
-only_memory link disk Lost h bytes a b (ends.Refused f) st lawful vendor calm causes not = absurd (not_of_other h bytes st vendor not.1)
+only_memory : {O : Type 0} (link : O → LinkView) (disk : O → DiskView) (kind : ℕ) (Lost : O → O → Type 0) (h : History) (bytes : List ℕ) (a b : O) (status : Status) → Encodes h bytes → IsLawful full h → site_kind h ≡ Some kind → Calm link disk a b
+    → BookCauses link disk Lost a status b → NotOpened link disk kind bytes a status b → number_of status ≡ 5
+only_memory link disk kind Lost h bytes a b ends.Done st lawful of_kind calm causes not = absurd not
+only_memory link disk kind Lost h bytes a b (ends.Served n) st lawful of_kind calm causes not = absurd not
+only_memory link disk kind Lost h bytes a b (ends.Founded name) st lawful of_kind calm causes not = absurd not
+only_memory link disk kind Lost h bytes a b (ends.Did line) st lawful of_kind calm causes not = absurd not
+only_memory link disk kind Lost h bytes a b ends.BadWords st lawful of_kind calm causes not = absurd not
+only_memory link disk kind Lost h bytes a b ends.NotJournal st lawful of_kind calm causes not = absurd (not.0 (begins_with_header h bytes st))
+only_memory link disk kind Lost h bytes a b (ends.BadEntry place) st lawful of_kind calm causes not = absurd (not_spoiled kind h bytes place st not.0)
+only_memory link disk kind Lost h bytes a b (ends.UnlawfulEntry place) st lawful of_kind calm causes not = absurd (not_unlawful kind h bytes place st lawful not.0)
+only_memory link disk kind Lost h bytes a b ends.DiskFault st lawful of_kind calm causes not = absurd (calm.disk' causes)
+only_memory link disk kind Lost h bytes a b ends.NoMemory st lawful of_kind calm causes not = refl
+only_memory link disk kind Lost h bytes a b ends.LinkFault st lawful of_kind calm causes not = absurd not
+only_memory link disk kind Lost h bytes a b (ends.Refused f) st lawful of_kind calm causes not = absurd (not_of_other kind h bytes st of_kind not.1)
 
 once_well : (shop : Shop) (v w : LinkView) (status : Status) → (Rose v.faults w.faults → ⊥) → ServesOnce shop v status w → (number_of status ≡ 0) ⊎ (number_of status ≡ 5)
 once_well shop v w ends.Done calm served = inl refl
@@ -176,7 +180,7 @@ links_well link disk links bytes a b (ends.BadEntry place) calm causes served = 
 links_well link disk links bytes a b (ends.UnlawfulEntry place) calm causes served = absurd served
 links_well link disk links bytes a b (ends.Refused f) calm causes served = absurd served
 
-did_well : {O : Type 0} (link : O → LinkView) (disk : O → DiskView) (operation : Operation) (h : History) (task : Task) (a b : O) (status : Status) → Calm link disk a b → OperateCauses link disk operation a status b → DidBy (disk b) operation h task status
+did_well : {O : Type 0} (link : O → LinkView) (disk : O → DiskView) (operation : OperationView) (h : History) (task : Task) (a b : O) (status : Status) → Calm link disk a b → OperateCauses link disk operation a status b → DidBy (disk b) operation h task status
     → (number_of status ≡ 0) ⊎ ((number_of status ≡ 5) ⊎ (number_of status ≡ 7))
 did_well link disk operation h task a b ends.Done calm causes did = inl refl
 did_well link disk operation h task a b (ends.Served n) calm causes did = inl refl
@@ -191,13 +195,13 @@ did_well link disk operation h task a b ends.NotJournal calm causes did = absurd
 did_well link disk operation h task a b (ends.BadEntry place) calm causes did = absurd did
 did_well link disk operation h task a b (ends.UnlawfulEntry place) calm causes did = absurd did
 
-operated_well : {O : Type 0} (link : O → LinkView) (disk : O → DiskView) (operation : Operation) (a b : O) (status : Status) (has : HasVendor (disk a)) → Calm link disk a b → OperateCauses link disk operation a status b
-    → OperatesBook link disk operation has.bytes a status b → (number_of status ≡ 0) ⊎ ((number_of status ≡ 5) ⊎ (number_of status ≡ 7))
-operated_well link disk operation a b status has calm causes (inl not) = inr (inl (only_memory link disk (λ x y. LosesInput operation (link x) (link y)) has.history has.bytes a b status has.stands has.lawful has.vendor calm causes not))
-operated_well link disk operation a b status has calm causes (inr (inr kept)) = did_well link disk operation kept.history kept.task a b status calm causes kept.did
-operated_well link disk operation a b status has calm causes (inr (inl unread)) = go unread.lost
+operated_well : {O : Type 0} (link : O → LinkView) (disk : O → DiskView) (kind : ℕ) (operation : OperationView) (a b : O) (status : Status) (has : HasSite kind (disk a)) → Calm link disk a b → OperateCauses link disk operation a status b
+    → OperatesBook link disk kind operation has.bytes a status b → (number_of status ≡ 0) ⊎ ((number_of status ≡ 5) ⊎ (number_of status ≡ 7))
+operated_well link disk kind operation a b status has calm causes (inl not) = inr (inl (only_memory link disk kind (λ x y. operation.loses (link x) (link y)) has.history has.bytes a b status has.stands has.lawful has.of_kind calm causes not))
+operated_well link disk kind operation a b status has calm causes (inr (inr kept)) = did_well link disk operation kept.history kept.task a b status calm causes kept.did
+operated_well link disk kind operation a b status has calm causes (inr (inl unread)) = go unread.lost
   where
-    go : ((status ≡ ends.LinkFault) × LosesInput operation (link a) (link b)) ⊎ ((status ≡ ends.NoMemory) × (link b ≡ link a)) → (number_of status ≡ 0) ⊎ ((number_of status ≡ 5) ⊎ (number_of status ≡ 7))
+    go : ((status ≡ ends.LinkFault) × operation.loses (link a) (link b)) ⊎ ((status ≡ ends.NoMemory) × (link b ≡ link a)) → (number_of status ≡ 0) ⊎ ((number_of status ≡ 5) ⊎ (number_of status ≡ 7))
     go (inl (is, lost)) = absurd (calm.link' (subst (λ (s : Status). OperateCauses link disk operation a s b) is causes).1)
     go (inr (is, same)) = inr (inl (ap number_of is))
 
@@ -218,7 +222,7 @@ ends_well {O = O} link disk command a c number has no_disk no_link (b, status, o
     by_command (commands.Init founder) has obeys calm = init_well link disk a b status calm obeys.0.0
     by_command (commands.Serve server) has obeys calm = go (obeys.1 has.bytes has.told)
       where
-        go : NotOpened link disk has.bytes a status b ⊎ ServesLinksOf link disk server.links has.bytes a status b → (number_of status ≡ 0) ⊎ (number_of status ≡ 5)
-        go (inl not) = inr (only_memory link disk (TakesNoLink link disk) has.history has.bytes a b status has.stands has.lawful has.vendor calm obeys.0 not)
+        go : NotOpened link disk (kind_number Vendor) has.bytes a status b ⊎ ServesLinksOf link disk server.links has.bytes a status b → (number_of status ≡ 0) ⊎ (number_of status ≡ 5)
+        go (inl not) = inr (only_memory link disk (kind_number Vendor) (TakesNoLink link disk) has.history has.bytes a b status has.stands has.lawful has.of_kind calm obeys.0 not)
         go (inr served) = links_well link disk server.links has.bytes a b status calm obeys.0 served
-    by_command (commands.Operate operation) has obeys calm = operated_well link disk operation a b status has calm obeys.0 (obeys.1 has.bytes has.told)
+    by_command (commands.Operate operation) has obeys calm = operated_well link disk (kind_number Vendor) (operation_view operation) a b status has calm obeys.0 (obeys.1 has.bytes has.told)

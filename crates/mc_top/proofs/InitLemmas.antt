@@ -1,4 +1,4 @@
--- How founding a vendor in a book ends.
+-- How founding a site in a book ends.
 use Rattle.std.proofs.Common.{◌≡◌, inl, inr, ⊎_elim, ℕ, ◌+◌, ◌≤◌, ◌^◌, List, [], ◌∷◌, ◌++◌, length, refl, ap, ◌∙◌, subst, arith, length-append, Err}
 use Rattle.std.specs.Prelude.{IsSome}
 use Rattle.mc_outside.specs.Bytes.{BeginsWith}
@@ -19,7 +19,6 @@ use Rattle.house_core.specs.declared.house.House.{House}
 use Rattle.scrip_journal.specs.Founds.{fault_disk, FoundNoOutput, CountsBy, ReadsOnly}
 use Rattle.house_opening.specs.Found.{FoundedFor, FoundsHouseBy}
 use Rattle.house_serving.proofs.AsideLemmas.{TellsAside, no_more_still, aside_still}
-use Rattle.vendor_core.specs.declared.shelf.Shelf.{Shelf}
 use Rattle.mc_top.specs.Opening.{full}
 use Rattle.mc_top.specs.Words.{Founder}
 use Rattle.mc_top.specs.Founding.{site_of}
@@ -68,18 +67,18 @@ fault_causes A disk before (faults.Unlawful d place) counts = absurd counts
 fault_causes A disk before (faults.WrongKind d) counts = absurd counts
 
 -- the disk encodes the Site entry
-pub founded_for : {O : Type 0} (disk : O → DiskView) (trade : Shelf → TradeView) (e : Entry) (bytes : List ℕ) (x : House O Shelf) → FoundedFor disk trade full e bytes x
+pub founded_for : {O T : Type 0} (disk : O → DiskView) (trade : T → TradeView) (e : Entry) (bytes : List ℕ) (x : House O T) → FoundedFor disk trade full e bytes x
     → EncodesLawful (disk x.journal.disk) (e ∷ [])
 founded_for disk trade e bytes x at =
     stands_lawful disk trade x (e ∷ []) at.house (subst (λ (l : Limits). IsLawful l (e ∷ [])) at.limits' at.house.house.represents.state.lawful)
 
 -- nothing was founded
-pub not_founded : {O : Type 0} (disk : O → DiskView) (trade : Shelf → TradeView) (founder : Founder) (moment : ℕ) (bytes : List ℕ) (a m : O) (fault : HouseFault O) → LinkKeeps (disk a) (disk m)
-    → FoundsHouseBy {D = O} {T = Shelf} disk trade full (site_of founder moment) bytes (Err fault) → ReadsOnly {D = O} {A = House O Shelf} disk m (Err fault) → FoundsBy (disk a) founder bytes moment (fault_status fault) (disk (fault_disk fault))
-not_founded disk trade founder moment bytes a m (faults.NotEmpty d size) keeps by read = (size, refl, by, read.contents ∙ keeps.contents)
-not_founded disk trade founder moment bytes a m (faults.NoMemory d) keeps by read = read.contents ∙ keeps.contents
-not_founded disk trade founder moment bytes a m (faults.Disk d) keeps by read = tt
-not_founded disk trade founder moment bytes a m (faults.NotJournal d) keeps by read = absurd by
-not_founded disk trade founder moment bytes a m (faults.BadRecord d place) keeps by read = absurd by
-not_founded disk trade founder moment bytes a m (faults.Unlawful d place) keeps by read = absurd by
-not_founded disk trade founder moment bytes a m (faults.WrongKind d) keeps by read = absurd by
+pub not_founded : {O T : Type 0} (disk : O → DiskView) (trade : T → TradeView) (kind : ℕ) (founder : Founder) (moment : ℕ) (bytes : List ℕ) (a m : O) (fault : HouseFault O) → LinkKeeps (disk a) (disk m)
+    → FoundsHouseBy {D = O} {T = T} disk trade full (site_of kind founder moment) bytes (Err fault) → ReadsOnly {D = O} {A = House O T} disk m (Err fault) → FoundsBy (disk a) kind founder bytes moment (fault_status fault) (disk (fault_disk fault))
+not_founded disk trade kind founder moment bytes a m (faults.NotEmpty d size) keeps by read = (size, refl, by, read.contents ∙ keeps.contents)
+not_founded disk trade kind founder moment bytes a m (faults.NoMemory d) keeps by read = read.contents ∙ keeps.contents
+not_founded disk trade kind founder moment bytes a m (faults.Disk d) keeps by read = tt
+not_founded disk trade kind founder moment bytes a m (faults.NotJournal d) keeps by read = absurd by
+not_founded disk trade kind founder moment bytes a m (faults.BadRecord d place) keeps by read = absurd by
+not_founded disk trade kind founder moment bytes a m (faults.Unlawful d place) keeps by read = absurd by
+not_founded disk trade kind founder moment bytes a m (faults.WrongKind d) keeps by read = absurd by

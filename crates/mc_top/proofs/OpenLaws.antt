@@ -1,4 +1,4 @@
--- What encodes a lawful history of a vendor has no fault of a book.
+-- What encodes a lawful history of a site has no fault of a book.
 use Rattle.std.proofs.Common.{◌≡◌, inl, inr, ℕ, List, [], ◌∷◌, ◌++◌, Some, sym, ◌∙◌, subst, append-nil, append_assoc}
 use Rattle.mc_outside.specs.Bytes.{BeginsWith}
 use Rattle.mc_records.specs.Entry.{Entry}
@@ -17,8 +17,8 @@ pub begins_with_header : (h : History) (bytes : List ℕ) → Encodes h bytes �
 begins_with_header h bytes st = (gated [] h ++ st.gate ∷ st.rest, st.shape ∙ append_assoc header (gated [] h) (st.gate ∷ st.rest))
 
 -- no bytes of it can't stand
-pub not_spoiled : (h : History) (bytes : List ℕ) (place : ℕ) → Encodes h bytes → SpoilsAt full 0 bytes place → ⊥
-not_spoiled h bytes place st spoils = not_both spoils.before h bytes place spoils.spoiled st
+pub not_spoiled : (kind : ℕ) (h : History) (bytes : List ℕ) (place : ℕ) → Encodes h bytes → SpoilsAt full kind bytes place → ⊥
+not_spoiled kind h bytes place st spoils = not_both spoils.before h bytes place spoils.spoiled st
 
 follow_here : (before xs : History) (e : Entry) (ys : History) → AllFollow full before (xs ++ e ∷ ys) → MayFollow full (before ++ xs) e
 follow_here before [] e ys all = subst (λ (h : History). MayFollow full h e) (sym (append-nil before)) all.0
@@ -29,15 +29,15 @@ all_of [] lawful = absurd lawful
 all_of (e ∷ es) lawful = lawful
 
 -- no entry of it breaks
-pub not_unlawful : (h : History) (bytes : List ℕ) (place : ℕ) → Encodes h bytes → IsLawful full h → IsUnlawfulAt full 0 bytes place → ⊥
-not_unlawful h bytes place st lawful (other, inl empty) = subst (λ (g : History). IsLawful full g) (one_history h [] bytes st empty.0) lawful
-not_unlawful h bytes place st lawful (other, inr breaks) =
+pub not_unlawful : (kind : ℕ) (h : History) (bytes : List ℕ) (place : ℕ) → Encodes h bytes → IsLawful full h → IsUnlawfulAt full kind bytes place → ⊥
+not_unlawful kind h bytes place st lawful (other, inl empty) = subst (λ (g : History). IsLawful full g) (one_history h [] bytes st empty.0) lawful
+not_unlawful kind h bytes place st lawful (other, inr breaks) =
     let more = begins_history h (breaks.before ++ breaks.next ∷ []) bytes st breaks.begins in
     let is : h ≡ breaks.before ++ breaks.next ∷ more.0 = more.1 ∙ append_assoc breaks.before (breaks.next ∷ []) more.0 in
     breaks.breaks (follow_here [] breaks.before breaks.next more.0 (subst (λ (g : History). AllFollow full [] g) is (all_of h lawful)))
 
 -- it is of no other kind
-pub not_of_other : (h : History) (bytes : List ℕ) → Encodes h bytes → site_kind h ≡ Some 0 → IsOfOther 0 bytes → ⊥
-not_of_other h bytes st vendor other =
+pub not_of_other : (kind : ℕ) (h : History) (bytes : List ℕ) → Encodes h bytes → site_kind h ≡ Some kind → IsOfOther kind bytes → ⊥
+not_of_other kind h bytes st of_kind other =
     let read = stands_read h bytes st in
-    kind_tells 0 h bytes vendor (record { fits = read.fits; most = read.most; begins = (read.rest, read.shape) }) other
+    kind_tells kind h bytes of_kind (record { fits = read.fits; most = read.most; begins = (read.rest, read.shape) }) other

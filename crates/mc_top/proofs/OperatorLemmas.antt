@@ -21,31 +21,24 @@ use Rattle.house_core.specs.declared.outcome.Outcome.{Outcome}
 use Rattle.house_core.specs.declared.outcome.Outcome.TheVariants as outcomes
 use Rattle.house_core.specs.Bench.{house_time, limits_of}
 use Rattle.house_core.specs.House.{HouseRepresents, HouseRests, house_rests_none, KeepsTime, OfHouse, CountsFaults, outcome_disk}
+use Rattle.house_core.specs.Trade.{TradeView}
 use Rattle.house_opening.specs.Opening.{OpenedFor}
+use Rattle.house_core.specs.Tasks.{Task, Add, Stays, Refuse, after, IsDoable, Does, LeavesBy, Performs}
 use Rattle.house_serving.proofs.AsideLemmas.{TellsAside, SentNoMore, no_more_then, no_more_still, no_more_heard, no_more_finished, no_more_taken, aside_still}
 use Rattle.house_serving.proofs.OrderLemmas.{house_keeps}
-use Rattle.vendor_core.specs.declared.shelf.Shelf.{Shelf}
-use Rattle.vendor_core.specs.Shelf.{shelf_view}
-use Rattle.vendor_core.specs.Tasks.{Task, Add, Stays, Refuse, IsMintTask, IsMintAt, mint_lines, Does, LeavesBy, Performs}
-use Rattle.mc_top.specs.Words.{Listing}
-use Rattle.mc_top.specs.declared.operation.Operation.{Operation}
-use Rattle.mc_top.specs.declared.operation.Operation.TheVariants as operations
+use Rattle.vendor_core.specs.Tasks.{IsMintTask, IsMintAt, mint_lines}
 use Rattle.mc_top.specs.declared.status.Status.{Status}
 use Rattle.mc_top.specs.declared.status.Status.TheVariants as ends
 use Rattle.mc_top.specs.Inputs.{IsInput, LostInput}
 use Rattle.mc_top.specs.Opening.{full}
 use Rattle.mc_top.specs.Endings.{outcome_status}
 use Rattle.mc_top.specs.Serving.{EncodesLawful, EncodesEither}
-use Rattle.mc_top.specs.Operator.{TakesInput, Asks, after, IsLine, IsDoable, DidBy, OperatePair, OperateCauses, Operated, Opened, LosesInput, Unread}
+use Rattle.mc_top.specs.Operator.{OperationView, DidBy, OperatePair, OperateCauses, Operated, Opened, Unread}
 use Rattle.mc_top.proofs.InitLemmas.{none_between}
 use Rattle.mc_top.proofs.ServedLemmas.{stands_lawful}
 
--- the house of a vendor represents a history
-abbrev pub Vendor : {O : Type 0} → (O → DiskView) → House O Shelf → History → Type 0
-Vendor disk x h = HouseRepresents disk shelf_view x h
-
-lawful_in : {O : Type 0} (disk : O → DiskView) (x : House O Shelf) (h : History) → limits_of x.bench ≡ full → Vendor disk x h → EncodesLawful (disk x.journal.disk) h
-lawful_in disk x h limits st = stands_lawful disk shelf_view x h st (subst (λ (l : Limits). IsLawful l h) limits st.house.represents.state.lawful)
+lawful_in : {O T : Type 0} (disk : O → DiskView) (trade : T → TradeView) (x : House O T) (h : History) → limits_of x.bench ≡ full → HouseRepresents disk trade x h → EncodesLawful (disk x.journal.disk) h
+lawful_in disk trade x h limits st = stands_lawful disk trade x h st (subst (λ (l : Limits). IsLawful l h) limits st.house.represents.state.lawful)
 
 -- ---- up to the task
 
@@ -58,14 +51,14 @@ abbrev pub Tells : {O : Type 0} → (O → LinkView) → O → Type 0
 Tells link a = IsSome (link a).sessions
 
 -- Links worked on the outside of a house, which sent nothing: the house is what it was, but for its time.
-pub record Worked {O : Type 0} (link : O → LinkView) (disk : O → DiskView) (x y : House O Shelf) : Type 0 where
+pub record Worked {O T : Type 0} (link : O → LinkView) (disk : O → DiskView) (trade : T → TradeView) (x y : House O T) : Type 0 where
   pub quiet : SentNoMore (link x.journal.disk) (link y.journal.disk)
   pub keeps : LinkKeeps (disk x.journal.disk) (disk y.journal.disk)
-  pub represents : (h : History) → Vendor disk x h → Vendor disk y h
+  pub represents : (h : History) → HouseRepresents disk trade x h → HouseRepresents disk trade y h
   pub limits' : limits_of y.bench ≡ limits_of x.bench
 
-pub worked_then : {O : Type 0} (link : O → LinkView) (disk : O → DiskView) (x y z : House O Shelf) → Worked link disk x y → LinkKeeps (disk x.journal.disk) (disk z.journal.disk) → Worked link disk y z → Worked link disk x z
-worked_then link disk x y z a keeps b = record {
+pub worked_then : {O T : Type 0} (link : O → LinkView) (disk : O → DiskView) (trade : T → TradeView) (x y z : House O T) → Worked link disk trade x y → LinkKeeps (disk x.journal.disk) (disk z.journal.disk) → Worked link disk trade y z → Worked link disk trade x z
+worked_then link disk trade x y z a keeps b = record {
   quiet = no_more_then (link x.journal.disk) (link y.journal.disk) (link z.journal.disk) a.quiet b.quiet;
   keeps = keeps;
   represents = λ h st. b.represents h (a.represents h st);
@@ -73,9 +66,9 @@ worked_then link disk x y z a keeps b = record {
 }
 
 -- the crash pairs of it are of before
-worked_pairs : {O : Type 0} (link : O → LinkView) (disk : O → DiskView) (x y : House O Shelf) → TellsAside link (λ o. (disk o).aside) → Worked link disk x y
+worked_pairs : {O T : Type 0} (link : O → LinkView) (disk : O → DiskView) (trade : T → TradeView) (x y : House O T) → TellsAside link (λ o. (disk o).aside) → Worked link disk trade x y
     → Ran (disk x.journal.disk) (disk y.journal.disk) (BeforePair (Tells link x.journal.disk) (disk x.journal.disk)) × (Tells link x.journal.disk → (disk y.journal.disk).aside ≡ (disk x.journal.disk).aside)
-worked_pairs link disk x y tells worked =
+worked_pairs link disk trade x y tells worked =
     let same : Tells link x.journal.disk → (disk y.journal.disk).aside ≡ (disk x.journal.disk).aside = λ told'. aside_still link (λ o. (disk o).aside) x.journal.disk y.journal.disk tells told' worked.quiet in (
       ran_link (disk x.journal.disk) (disk y.journal.disk) (BeforePair (Tells link x.journal.disk) (disk x.journal.disk)) worked.keeps
           (λ i s l from upto. (l, λ told'. none_between (disk x.journal.disk).aside s from (subst (λ (z : List ℕ). BeginsWith s z) (same told') upto))),
@@ -83,13 +76,13 @@ worked_pairs link disk x y tells worked =
     )
 
 -- The house of a book, with its operation's input and the reading of the clock.
-pub record Ready {O : Type 0} (link : O → LinkView) (disk : O → DiskView) (operation : Operation) (bytes input : List ℕ) (a : O) (y : House O Shelf) : Type 0 where
+pub record Ready {O T : Type 0} (link : O → LinkView) (disk : O → DiskView) (trade : T → TradeView) (operation : OperationView) (bytes input : List ℕ) (a : O) (y : House O T) : Type 0 where
   pub history : History
   pub of_bytes : Encodes history bytes
-  pub house : Vendor disk y history
+  pub house : HouseRepresents disk trade y history
   pub limits' : limits_of y.bench ≡ full
   pub taken : LinkView
-  pub takes : TakesInput operation (link a) input taken
+  pub takes : operation.takes (link a) input taken
   pub moment : ℕ
   pub read : AreRead OfLinks (moment ∷ []) taken.readings (link y.journal.disk).readings
   pub rest : link y.journal.disk ≡ with_readings (link y.journal.disk).readings taken
@@ -97,40 +90,40 @@ pub record Ready {O : Type 0} (link : O → LinkView) (disk : O → DiskView) (o
   pub pairs : Ran (disk a) (disk y.journal.disk) (BeforePair (Tells link a) (disk a)) × (Tells link a → (disk y.journal.disk).aside ≡ (disk a).aside)
 
 -- the pairs from the outside that was handed in on
-pub before_pairs : {O : Type 0} (link : O → LinkView) (disk : O → DiskView) (a : O) (x y : House O Shelf) → TellsAside link (λ o. (disk o).aside) → OnlyRead (disk a) (disk x.journal.disk) → link x.journal.disk ≡ link a → Worked link disk x y
+pub before_pairs : {O T : Type 0} (link : O → LinkView) (disk : O → DiskView) (trade : T → TradeView) (a : O) (x y : House O T) → TellsAside link (λ o. (disk o).aside) → OnlyRead (disk a) (disk x.journal.disk) → link x.journal.disk ≡ link a → Worked link disk trade x y
     → Ran (disk a) (disk y.journal.disk) (BeforePair (Tells link a) (disk a)) × (Tells link a → (disk y.journal.disk).aside ≡ (disk a).aside)
-before_pairs link disk a x y tells read same worked =
+before_pairs link disk trade a x y tells read same worked =
     let on : Tells link a → Tells link x.journal.disk = λ told'. subst (λ (v : LinkView). IsSome v.sessions) (sym same) told' in
-    let pairs = worked_pairs link disk x y tells worked in (
+    let pairs = worked_pairs link disk trade x y tells worked in (
       ran_then (disk a) (disk x.journal.disk) (disk y.journal.disk) (BeforePair (Tells link a) (disk a))
           (ran_weaker (disk a) (disk x.journal.disk) _ _ read.ran (λ i s p. (p.0, λ told'. p.1)))
           (ran_weaker (disk x.journal.disk) (disk y.journal.disk) _ _ pairs.0 (λ i s p. (read.leaves i p.0, λ told'. p.1 (on told') ∙ read.aside))),
       λ told'. pairs.1 (on told') ∙ read.aside,
     )
 
-pub ready : {O : Type 0} (link : O → LinkView) (disk : O → DiskView) (operation : Operation) (bytes input : List ℕ) (a : O) (x m y : House O Shelf) (moment : ℕ) → TellsAside link (λ o. (disk o).aside)
-    → OpenedFor disk shelf_view full bytes x → OnlyRead (disk a) (disk x.journal.disk) → link x.journal.disk ≡ link a
-    → TakesInput operation (link x.journal.disk) input (link m.journal.disk) → house_time m.bench ≡ house_time x.bench
-    → Worked link disk x y → AreRead OfLinks (moment ∷ []) (link m.journal.disk).readings (link y.journal.disk).readings → link y.journal.disk ≡ with_readings (link y.journal.disk).readings (link m.journal.disk)
-    → house_time y.bench ≡ max (house_time m.bench) moment → Ready link disk operation bytes input a y
-ready link disk operation bytes input a x m y moment tells at read_only same takes kept_time worked read rest raised = record {
+pub ready : {O T : Type 0} (link : O → LinkView) (disk : O → DiskView) (trade : T → TradeView) (operation : OperationView) (bytes input : List ℕ) (a : O) (x m y : House O T) (moment : ℕ) → TellsAside link (λ o. (disk o).aside)
+    → OpenedFor disk trade full bytes x → OnlyRead (disk a) (disk x.journal.disk) → link x.journal.disk ≡ link a
+    → operation.takes (link x.journal.disk) input (link m.journal.disk) → house_time m.bench ≡ house_time x.bench
+    → Worked link disk trade x y → AreRead OfLinks (moment ∷ []) (link m.journal.disk).readings (link y.journal.disk).readings → link y.journal.disk ≡ with_readings (link y.journal.disk).readings (link m.journal.disk)
+    → house_time y.bench ≡ max (house_time m.bench) moment → Ready link disk trade operation bytes input a y
+ready link disk trade operation bytes input a x m y moment tells at read_only same takes kept_time worked read rest raised = record {
   history = at.history;
   of_bytes = at.of_bytes;
   house = worked.represents at.history at.house;
   limits' = worked.limits' ∙ at.limits';
   taken = link m.journal.disk;
-  takes = subst (λ (v : LinkView). TakesInput operation v input (link m.journal.disk)) same takes;
+  takes = subst (λ (v : LinkView). operation.takes v input (link m.journal.disk)) same takes;
   moment = moment;
   read = read;
   rest = rest;
   time' = raised ∙ ap (λ (n : ℕ). max n moment) (kept_time ∙ at.time');
-  pairs = before_pairs link disk a x y tells read_only same worked;
+  pairs = before_pairs link disk trade a x y tells read_only same worked;
 }
 
 -- the clock alone was read
-pub by_clock : {O : Type 0} (link : O → LinkView) (disk : O → DiskView) (x y : House O Shelf) → LinkKeeps (disk x.journal.disk) (disk y.journal.disk) → link y.journal.disk ≡ with_readings (link y.journal.disk).readings (link x.journal.disk)
-    → ((h : History) → Vendor disk x h → Vendor disk y h) → limits_of y.bench ≡ limits_of x.bench → Worked link disk x y
-by_clock link disk x y keeps rest stands limits = record {
+pub by_clock : {O T : Type 0} (link : O → LinkView) (disk : O → DiskView) (trade : T → TradeView) (x y : House O T) → LinkKeeps (disk x.journal.disk) (disk y.journal.disk) → link y.journal.disk ≡ with_readings (link y.journal.disk).readings (link x.journal.disk)
+    → ((h : History) → HouseRepresents disk trade x h → HouseRepresents disk trade y h) → limits_of y.bench ≡ limits_of x.bench → Worked link disk trade x y
+by_clock link disk trade x y keeps rest stands limits = record {
   quiet = no_more_still (link x.journal.disk) (link y.journal.disk) (ap (λ (v : LinkView). v.sessions) rest);
   keeps = keeps;
   represents = stands;
@@ -138,19 +131,19 @@ by_clock link disk x y keeps rest stands limits = record {
 }
 
 -- an operation that takes no link was ready at the reading of the clock
-pub ready_at_once : {O : Type 0} (link : O → LinkView) (disk : O → DiskView) (operation : Operation) (bytes : List ℕ) (a : O) (x y : House O Shelf) (moment : ℕ) → TellsAside link (λ o. (disk o).aside)
-    → Opened link disk bytes a x → TakesInput operation (link x.journal.disk) [] (link x.journal.disk) → LinkKeeps (disk x.journal.disk) (disk y.journal.disk)
-    → ((h : History) → Vendor disk x h → Vendor disk y h) → limits_of y.bench ≡ limits_of x.bench → AreRead OfLinks (moment ∷ []) (link x.journal.disk).readings (link y.journal.disk).readings → link y.journal.disk ≡ with_readings (link y.journal.disk).readings (link x.journal.disk)
-    → house_time y.bench ≡ max (house_time x.bench) moment → Ready link disk operation bytes [] a y
-ready_at_once link disk operation bytes a x y moment tells at takes keeps stands limits read rest raised =
-    ready link disk operation bytes [] a x x y moment tells at.house at.read at.link' takes refl (by_clock link disk x y keeps rest stands limits) read rest raised
+pub ready_at_once : {O T : Type 0} (link : O → LinkView) (disk : O → DiskView) (trade : T → TradeView) (operation : OperationView) (bytes : List ℕ) (a : O) (x y : House O T) (moment : ℕ) → TellsAside link (λ o. (disk o).aside)
+    → Opened link disk trade bytes a x → operation.takes (link x.journal.disk) [] (link x.journal.disk) → LinkKeeps (disk x.journal.disk) (disk y.journal.disk)
+    → ((h : History) → HouseRepresents disk trade x h → HouseRepresents disk trade y h) → limits_of y.bench ≡ limits_of x.bench → AreRead OfLinks (moment ∷ []) (link x.journal.disk).readings (link y.journal.disk).readings → link y.journal.disk ≡ with_readings (link y.journal.disk).readings (link x.journal.disk)
+    → house_time y.bench ≡ max (house_time x.bench) moment → Ready link disk trade operation bytes [] a y
+ready_at_once link disk trade operation bytes a x y moment tells at takes keeps stands limits read rest raised =
+    ready link disk trade operation bytes [] a x x y moment tells at.house at.read at.link' takes refl (by_clock link disk trade x y keeps rest stands limits) read rest raised
 
-pub history_is : {O : Type 0} (link : O → LinkView) (disk : O → DiskView) (operation : Operation) (bytes : List ℕ) (a : O) (x y : House O Shelf) (moment : ℕ) (tells : TellsAside link (λ o. (disk o).aside))
-    (at : Opened link disk bytes a x) (takes : TakesInput operation (link x.journal.disk) [] (link x.journal.disk)) (keeps : LinkKeeps (disk x.journal.disk) (disk y.journal.disk))
-    (stands : (h : History) → Vendor disk x h → Vendor disk y h) (limits : limits_of y.bench ≡ limits_of x.bench) (read : AreRead OfLinks (moment ∷ []) (link x.journal.disk).readings (link y.journal.disk).readings) (rest : link y.journal.disk ≡ with_readings (link y.journal.disk).readings (link x.journal.disk))
-    (raised : house_time y.bench ≡ max (house_time x.bench) moment) → (ready_at_once link disk operation bytes a x y moment tells at takes keeps stands limits read rest raised).history ≡ at.house.history
+pub history_is : {O T : Type 0} (link : O → LinkView) (disk : O → DiskView) (trade : T → TradeView) (operation : OperationView) (bytes : List ℕ) (a : O) (x y : House O T) (moment : ℕ) (tells : TellsAside link (λ o. (disk o).aside))
+    (at : Opened link disk trade bytes a x) (takes : operation.takes (link x.journal.disk) [] (link x.journal.disk)) (keeps : LinkKeeps (disk x.journal.disk) (disk y.journal.disk))
+    (stands : (h : History) → HouseRepresents disk trade x h → HouseRepresents disk trade y h) (limits : limits_of y.bench ≡ limits_of x.bench) (read : AreRead OfLinks (moment ∷ []) (link x.journal.disk).readings (link y.journal.disk).readings) (rest : link y.journal.disk ≡ with_readings (link y.journal.disk).readings (link x.journal.disk))
+    (raised : house_time y.bench ≡ max (house_time x.bench) moment) → (ready_at_once link disk trade operation bytes a x y moment tells at takes keeps stands limits read rest raised).history ≡ at.house.history
 unfolding ready_at_once ready
-history_is link disk operation bytes a x y moment tells at takes keeps stands limits read rest raised = refl
+history_is link disk trade operation bytes a x y moment tells at takes keeps stands limits read rest raised = refl
 
 -- ---- without the input
 
@@ -170,67 +163,67 @@ input_quiet most u v input (inr (inr long)) =
     no_more_then u (next_taken u) v (no_more_taken u (next_taken u) refl) (no_more_heard (next_taken u) v input (ap (λ (x : LinkView). x.sessions) long.1))
 
 -- links worked on the outside of a house
-pub by_links : {O : Type 0} (link : O → LinkView) (disk : O → DiskView) (x y : House O Shelf) → SentNoMore (link x.journal.disk) (link y.journal.disk) → LinkKeeps (disk x.journal.disk) (disk y.journal.disk) → HouseRests x y → Worked link disk x y
-by_links link disk x y quiet keeps rests = record {
+pub by_links : {O T : Type 0} (link : O → LinkView) (disk : O → DiskView) (trade : T → TradeView) (x y : House O T) → SentNoMore (link x.journal.disk) (link y.journal.disk) → LinkKeeps (disk x.journal.disk) (disk y.journal.disk) → HouseRests x y → Worked link disk trade x y
+by_links link disk trade x y quiet keeps rests = record {
   quiet = quiet;
   keeps = keeps;
-  represents = λ h st. house_keeps disk shelf_view x y h st keeps rests;
+  represents = λ h st. house_keeps disk trade x y h st keeps rests;
   limits' = ap limits_of rests.bench;
 }
 
--- goods were ready once their contents were read, and the clock
-pub ready_by : {O : Type 0} (link : O → LinkView) (disk : O → DiskView) (l : Listing) (bytes input : List ℕ) (a : O) (x m y : House O Shelf) (moment : ℕ) → TellsAside link (λ o. (disk o).aside)
-    → Opened link disk bytes a x → IsInput 65536 (link x.journal.disk) input (link m.journal.disk) → LinkKeeps (disk x.journal.disk) (disk m.journal.disk) → HouseRests x m → LinkKeeps (disk x.journal.disk) (disk y.journal.disk) → LinkKeeps (disk m.journal.disk) (disk y.journal.disk)
-    → ((h : History) → Vendor disk m h → Vendor disk y h) → limits_of y.bench ≡ limits_of m.bench → AreRead OfLinks (moment ∷ []) (link m.journal.disk).readings (link y.journal.disk).readings → link y.journal.disk ≡ with_readings (link y.journal.disk).readings (link m.journal.disk)
-    → house_time y.bench ≡ max (house_time m.bench) moment → Ready link disk (operations.Goods l) bytes input a y
-ready_by link disk l bytes input a x m y moment tells at takes kept_so_far rests kept_both kept_then stands limits read rest raised =
-    ready link disk (operations.Goods l) bytes input a x m y moment tells at.house at.read at.link' takes (ap house_time rests.bench)
-    (worked_then link disk x m y (by_links link disk x m (input_quiet 65536 (link x.journal.disk) (link m.journal.disk) input takes) kept_so_far rests) kept_both (by_clock link disk m y kept_then rest stands limits)) read rest raised
+-- an operation was ready once its input was read, and the clock
+pub ready_by : {O T : Type 0} (link : O → LinkView) (disk : O → DiskView) (trade : T → TradeView) (operation : OperationView) (most : ℕ) (bytes input : List ℕ) (a : O) (x m y : House O T) (moment : ℕ) → TellsAside link (λ o. (disk o).aside)
+    → Opened link disk trade bytes a x → operation.takes (link x.journal.disk) input (link m.journal.disk) → IsInput most (link x.journal.disk) input (link m.journal.disk) → LinkKeeps (disk x.journal.disk) (disk m.journal.disk) → HouseRests x m → LinkKeeps (disk x.journal.disk) (disk y.journal.disk) → LinkKeeps (disk m.journal.disk) (disk y.journal.disk)
+    → ((h : History) → HouseRepresents disk trade m h → HouseRepresents disk trade y h) → limits_of y.bench ≡ limits_of m.bench → AreRead OfLinks (moment ∷ []) (link m.journal.disk).readings (link y.journal.disk).readings → link y.journal.disk ≡ with_readings (link y.journal.disk).readings (link m.journal.disk)
+    → house_time y.bench ≡ max (house_time m.bench) moment → Ready link disk trade operation bytes input a y
+ready_by link disk trade operation most bytes input a x m y moment tells at takes is_input kept_so_far rests kept_both kept_then stands limits read rest raised =
+    ready link disk trade operation bytes input a x m y moment tells at.house at.read at.link' takes (ap house_time rests.bench)
+    (worked_then link disk trade x m y (by_links link disk trade x m (input_quiet most (link x.journal.disk) (link m.journal.disk) input is_input) kept_so_far rests) kept_both (by_clock link disk trade m y kept_then rest stands limits)) read rest raised
 
 -- nothing was done to the book
-pub unread : {O : Type 0} (link : O → LinkView) (disk : O → DiskView) (operation : Operation) (bytes : List ℕ) (a : O) (x y : House O Shelf) (status : Status) → TellsAside link (λ o. (disk o).aside) → Opened link disk bytes a x → Worked link disk x y
-    → ((status ≡ ends.LinkFault) × LosesInput operation (link x.journal.disk) (link y.journal.disk)) ⊎ ((status ≡ ends.NoMemory) × (link y.journal.disk ≡ link x.journal.disk)) → Unread link disk operation bytes a status y.journal.disk
-unread link disk operation bytes a x y status tells at worked lost = record {
+pub unread : {O T : Type 0} (link : O → LinkView) (disk : O → DiskView) (trade : T → TradeView) (operation : OperationView) (bytes : List ℕ) (a : O) (x y : House O T) (status : Status) → TellsAside link (λ o. (disk o).aside) → Opened link disk trade bytes a x → Worked link disk trade x y
+    → ((status ≡ ends.LinkFault) × operation.loses (link x.journal.disk) (link y.journal.disk)) ⊎ ((status ≡ ends.NoMemory) × (link y.journal.disk ≡ link x.journal.disk)) → Unread link disk operation bytes a status y.journal.disk
+unread link disk trade operation bytes a x y status tells at worked lost = record {
   history = at.house.history;
   stands = at.house.of_bytes;
-  left = lawful_in disk y at.house.history (worked.limits' ∙ at.house.limits') (worked.represents at.house.history at.house.house);
-  pairs = ran_weaker (disk a) (disk y.journal.disk) _ _ (before_pairs link disk a x y tells at.read at.link' worked).0 (λ i s p. (inl p.0, p.1));
+  left = lawful_in disk trade y at.house.history (worked.limits' ∙ at.house.limits') (worked.represents at.house.history at.house.house);
+  pairs = ran_weaker (disk a) (disk y.journal.disk) _ _ (before_pairs link disk trade a x y tells at.read at.link' worked).0 (λ i s p. (inl p.0, p.1));
   lost = ⊎_elim
-      (λ l. inl (l.0, subst (λ (v : LinkView). LosesInput operation v (link y.journal.disk)) at.link' l.1))
+      (λ l. inl (l.0, subst (λ (v : LinkView). operation.loses v (link y.journal.disk)) at.link' l.1))
       (λ l. inr (l.0, l.1 ∙ at.link')) lost;
 }
 
 -- memory was refused before anything was done
-pub unread_at_once : {O : Type 0} (link : O → LinkView) (disk : O → DiskView) (operation : Operation) (bytes : List ℕ) (a : O) (x : House O Shelf) → TellsAside link (λ o. (disk o).aside) → LinkKeeps (disk x.journal.disk) (disk x.journal.disk) → Opened link disk bytes a x
+pub unread_at_once : {O T : Type 0} (link : O → LinkView) (disk : O → DiskView) (trade : T → TradeView) (operation : OperationView) (bytes : List ℕ) (a : O) (x : House O T) → TellsAside link (λ o. (disk o).aside) → LinkKeeps (disk x.journal.disk) (disk x.journal.disk) → Opened link disk trade bytes a x
     → Unread link disk operation bytes a ends.NoMemory x.journal.disk
-unread_at_once link disk operation bytes a x tells keeps at =
-    unread link disk operation bytes a x x ends.NoMemory tells at (by_links link disk x x (no_more_still (link x.journal.disk) (link x.journal.disk) refl) keeps (house_rests_none x)) (inr (refl, refl))
+unread_at_once link disk trade operation bytes a x tells keeps at =
+    unread link disk trade operation bytes a x x ends.NoMemory tells at (by_links link disk trade x x (no_more_still (link x.journal.disk) (link x.journal.disk) refl) keeps (house_rests_none x)) (inr (refl, refl))
 
 -- ---- the task
 
 -- how the disk is left, by what was done
-did : {O A : Type 0} (disk : O → DiskView) (operation : Operation) (line : List ℕ) (Told : Task → History → A → Type 0) (y : House O Shelf) (h : History) (task : Task) (out : Outcome O Shelf A) → limits_of y.bench ≡ full → IsLawful full h
-    → ((o : O) → IsDisk (disk o)) → ((answer : A) → IsDoable task → Told task (after task h) answer → IsLine operation h task line) → OfHouse (KeepsTime y) out
-    → Does disk shelf_view Told (limits_of y.bench) y.journal.disk h task out → Ran (disk y.journal.disk) (disk (outcome_disk out)) (LeavesBy task out h (disk y.journal.disk).aside)
+did : {O T A : Type 0} (disk : O → DiskView) (trade : T → TradeView) (operation : OperationView) (line : List ℕ) (Told : Task → History → A → Type 0) (y : House O T) (h : History) (task : Task) (out : Outcome O T A) → limits_of y.bench ≡ full → IsLawful full h
+    → ((o : O) → IsDisk (disk o)) → ((answer : A) → IsDoable task → Told task (after task h) answer → operation.says h task line) → OfHouse (KeepsTime y) out
+    → Does disk trade Told (limits_of y.bench) y.journal.disk h task out → Ran (disk y.journal.disk) (disk (outcome_disk out)) (LeavesBy task out h (disk y.journal.disk).aside)
     → DidBy (disk (outcome_disk out)) operation h task (outcome_status out line)
-did disk operation line Told y h (Add e) (outcomes.Done x n) limits lawful is_disk says keeps does ran = (tt, says n tt does.1, lawful_in disk x (h ++ e ∷ []) (keeps.limits ∙ limits) does.0)
-did disk operation line Told y h (Add e) (outcomes.Refused x f) limits lawful is_disk says keeps does ran =
-    (subst (λ (l : Limits). fitted h l e ≡ Err (lines.Refuse f)) limits does.0, lawful_in disk x h (keeps.limits ∙ limits) does.1.represents)
-did disk operation line Told y h (Add e) (outcomes.NoMemory x) limits lawful is_disk says keeps does ran = lawful_in disk x h (keeps.limits ∙ limits) does.represents
-did disk operation line Told y h (Add e) (outcomes.Halted d) limits lawful is_disk says keeps does ran =
+did disk trade operation line Told y h (Add e) (outcomes.Done x n) limits lawful is_disk says keeps does ran = (tt, says n tt does.1, lawful_in disk trade x (h ++ e ∷ []) (keeps.limits ∙ limits) does.0)
+did disk trade operation line Told y h (Add e) (outcomes.Refused x f) limits lawful is_disk says keeps does ran =
+    (subst (λ (l : Limits). fitted h l e ≡ Err (lines.Refuse f)) limits does.0, lawful_in disk trade x h (keeps.limits ∙ limits) does.1.represents)
+did disk trade operation line Told y h (Add e) (outcomes.NoMemory x) limits lawful is_disk says keeps does ran = lawful_in disk trade x h (keeps.limits ∙ limits) does.represents
+did disk trade operation line Told y h (Add e) (outcomes.Halted d) limits lawful is_disk says keeps does ran =
     let more : IsLawful full (h ++ e ∷ []) = longer_lawful full h e lawful (subst (λ (l : Limits). MayFollow l h e) limits does.0) in
     record { leaves = λ image l. (ran_now (disk y.journal.disk) (disk d) _ (is_disk d) ran image l).0; lawful = more; once = accepted_once full (h ++ e ∷ []) more }
-did disk operation line Told y h Stays (outcomes.Done x n) limits lawful is_disk says keeps does ran = (tt, says n tt does.1, lawful_in disk x h (keeps.limits ∙ limits) does.0.represents)
-did disk operation line Told y h Stays (outcomes.Refused x f) limits lawful is_disk says keeps does ran = absurd does
-did disk operation line Told y h Stays (outcomes.NoMemory x) limits lawful is_disk says keeps does ran = lawful_in disk x h (keeps.limits ∙ limits) does.represents
-did disk operation line Told y h Stays (outcomes.Halted d) limits lawful is_disk says keeps does ran = absurd does
-did disk operation line Told y h (Refuse g) (outcomes.Done x n) limits lawful is_disk says keeps does ran = absurd does
-did disk operation line Told y h (Refuse g) (outcomes.Refused x f) limits lawful is_disk says keeps does ran = (does.0, lawful_in disk x h (keeps.limits ∙ limits) does.1.represents)
-did disk operation line Told y h (Refuse g) (outcomes.NoMemory x) limits lawful is_disk says keeps does ran = absurd does
-did disk operation line Told y h (Refuse g) (outcomes.Halted d) limits lawful is_disk says keeps does ran = absurd does
+did disk trade operation line Told y h Stays (outcomes.Done x n) limits lawful is_disk says keeps does ran = (tt, says n tt does.1, lawful_in disk trade x h (keeps.limits ∙ limits) does.0.represents)
+did disk trade operation line Told y h Stays (outcomes.Refused x f) limits lawful is_disk says keeps does ran = absurd does
+did disk trade operation line Told y h Stays (outcomes.NoMemory x) limits lawful is_disk says keeps does ran = lawful_in disk trade x h (keeps.limits ∙ limits) does.represents
+did disk trade operation line Told y h Stays (outcomes.Halted d) limits lawful is_disk says keeps does ran = absurd does
+did disk trade operation line Told y h (Refuse g) (outcomes.Done x n) limits lawful is_disk says keeps does ran = absurd does
+did disk trade operation line Told y h (Refuse g) (outcomes.Refused x f) limits lawful is_disk says keeps does ran = (does.0, lawful_in disk trade x h (keeps.limits ∙ limits) does.1.represents)
+did disk trade operation line Told y h (Refuse g) (outcomes.NoMemory x) limits lawful is_disk says keeps does ran = absurd does
+did disk trade operation line Told y h (Refuse g) (outcomes.Halted d) limits lawful is_disk says keeps does ran = absurd does
 
 -- the crash pairs of a task
-leaves_pair : {O A : Type 0} (tells : Type 0) (before : DiskView) (task : Task) (out : Outcome O Shelf A) (h : History) (aside image sent : List ℕ) → (tells → aside ≡ before.aside) → LeavesBy task out h aside image sent → OperatePair tells before task h image sent
+leaves_pair : {O T A : Type 0} (tells : Type 0) (before : DiskView) (task : Task) (out : Outcome O T A) (h : History) (aside image sent : List ℕ) → (tells → aside ≡ before.aside) → LeavesBy task out h aside image sent → OperatePair tells before task h image sent
 leaves_pair tells before (Add e) (outcomes.Done x n) h aside image sent same p = (inr p.0, λ t. p.1 ∙ same t)
 leaves_pair tells before (Add e) (outcomes.Refused x f) h aside image sent same p = (inr (inl p.0), λ t. p.1 ∙ same t)
 leaves_pair tells before (Add e) (outcomes.NoMemory x) h aside image sent same p = (inr (inl p.0), λ t. p.1 ∙ same t)
@@ -239,13 +232,13 @@ leaves_pair tells before Stays out h aside image sent same p = (inr (inl p.0), �
 leaves_pair tells before (Refuse f) out h aside image sent same p = (inr (inl p.0), λ t. p.1 ∙ same t)
 
 -- an operation that the book's house was ready for
-pub operated : {O A : Type 0} (link : O → LinkView) (disk : O → DiskView) (operation : Operation) (bytes input line : List ℕ) (Told : Task → History → A → Type 0) (a : O) (y : House O Shelf) (out : Outcome O Shelf A) (Asked : History → Task → Type 0)
-    (at : Ready link disk operation bytes input a y) → ((o : O) → IsDisk (disk o)) → link (outcome_disk out) ≡ link y.journal.disk
-    → ((task : Task) → Asked at.history task → Asks operation input at.history (house_time y.bench) task)
-    → ((task : Task) (answer : A) → Asked at.history task → IsDoable task → Told task (after task at.history) answer → IsLine operation at.history task line) → OfHouse (KeepsTime y) out
-    → Performs disk shelf_view (Asked at.history) Told (limits_of y.bench) y.journal.disk at.history out
+pub operated : {O T A : Type 0} (link : O → LinkView) (disk : O → DiskView) (trade : T → TradeView) (operation : OperationView) (bytes input line : List ℕ) (Told : Task → History → A → Type 0) (a : O) (y : House O T) (out : Outcome O T A) (Asked : History → Task → Type 0)
+    (at : Ready link disk trade operation bytes input a y) → ((o : O) → IsDisk (disk o)) → link (outcome_disk out) ≡ link y.journal.disk
+    → ((task : Task) → Asked at.history task → operation.asks input at.history (house_time y.bench) task)
+    → ((task : Task) (answer : A) → Asked at.history task → IsDoable task → Told task (after task at.history) answer → operation.says at.history task line) → OfHouse (KeepsTime y) out
+    → Performs disk trade (Asked at.history) Told (limits_of y.bench) y.journal.disk at.history out
     → Operated link disk operation bytes a (outcome_status out line) (outcome_disk out)
-operated link disk operation bytes input line Told a y out Asked at is_disk same asks says keeps does = record {
+operated link disk trade operation bytes input line Told a y out Asked at is_disk same asks says keeps does = record {
   history = at.history;
   stands = at.of_bytes;
   input = input;
@@ -255,17 +248,17 @@ operated link disk operation bytes input line Told a y out Asked at is_disk same
   read = subst (λ (v : LinkView). AreRead OfLinks (at.moment ∷ []) at.taken.readings v.readings) (sym same) at.read;
   rest = subst (λ (v : LinkView). v ≡ with_readings v.readings at.taken) (sym same) at.rest;
   task = does.task;
-  asks = subst (λ (t : ℕ). Asks operation input at.history t does.task) at.time' (asks does.task does.asks);
-  did = did disk operation line Told y at.history does.task out at.limits' (subst (λ (l : Limits). IsLawful l at.history) at.limits' at.house.house.represents.state.lawful) is_disk (λ answer doable told'. says does.task answer does.asks doable told') keeps does.does does.ran;
+  asks = subst (λ (t : ℕ). operation.asks input at.history t does.task) at.time' (asks does.task does.asks);
+  did = did disk trade operation line Told y at.history does.task out at.limits' (subst (λ (l : Limits). IsLawful l at.history) at.limits' at.house.house.represents.state.lawful) is_disk (λ answer doable told'. says does.task answer does.asks doable told') keeps does.does does.ran;
   pairs = ran_then (disk a) (disk y.journal.disk) (disk (outcome_disk out)) (OperatePair (Tells link a) (disk a) does.task at.history)
       (ran_weaker (disk a) (disk y.journal.disk) _ _ at.pairs.0 (λ i s p. (inl p.0, p.1)))
       (ran_weaker (disk y.journal.disk) (disk (outcome_disk out)) _ _ does.ran (λ i s p. leaves_pair (Tells link a) (disk a) does.task out at.history (disk y.journal.disk).aside i s at.pairs.1 p));
 }
 
 -- a task that is refused before the house is asked
-pub operated_refused : {O : Type 0} (link : O → LinkView) (disk : O → DiskView) (operation : Operation) (bytes input : List ℕ) (a : O) (y : House O Shelf) (f : Refusal) (at : Ready link disk operation bytes input a y)
-    → Asks operation input at.history (max (time at.history) at.moment) (Refuse f) → Operated link disk operation bytes a (ends.Refused f) y.journal.disk
-operated_refused link disk operation bytes input a y f at asks = record {
+pub operated_refused : {O T : Type 0} (link : O → LinkView) (disk : O → DiskView) (trade : T → TradeView) (operation : OperationView) (bytes input : List ℕ) (a : O) (y : House O T) (f : Refusal) (at : Ready link disk trade operation bytes input a y)
+    → operation.asks input at.history (max (time at.history) at.moment) (Refuse f) → Operated link disk operation bytes a (ends.Refused f) y.journal.disk
+operated_refused link disk trade operation bytes input a y f at asks = record {
   history = at.history;
   stands = at.of_bytes;
   input = input;
@@ -276,13 +269,13 @@ operated_refused link disk operation bytes input a y f at asks = record {
   rest = at.rest;
   task = Refuse f;
   asks = asks;
-  did = (refl, lawful_in disk y at.history at.limits' at.house);
+  did = (refl, lawful_in disk trade y at.history at.limits' at.house);
   pairs = ran_weaker (disk a) (disk y.journal.disk) _ _ at.pairs.0 (λ i s p. (inl p.0, p.1));
 }
 
 -- ---- causes
 
-pub operated_causes : {O A : Type 0} (link : O → LinkView) (disk : O → DiskView) (operation : Operation) (a y : O) (out : Outcome O Shelf A) (line : List ℕ) → (disk y).faults ≡ (disk a).faults → CountsFaults out (disk y).faults (disk (outcome_disk out)).faults
+pub operated_causes : {O T A : Type 0} (link : O → LinkView) (disk : O → DiskView) (operation : OperationView) (a y : O) (out : Outcome O T A) (line : List ℕ) → (disk y).faults ≡ (disk a).faults → CountsFaults out (disk y).faults (disk (outcome_disk out)).faults
     → OperateCauses link disk operation a (outcome_status out line) (outcome_disk out)
 operated_causes link disk operation a y (outcomes.Done x n) line same counts = counts ∙ same
 operated_causes link disk operation a y (outcomes.Refused x f) line same counts = counts ∙ same
@@ -295,7 +288,7 @@ lost_rose u v (inl none) = none.rose
 lost_rose u v (inr (got, failed)) = failed.rose
 
 -- the causes from the outside on that was opened
-pub causes_opened : {O : Type 0} (link : O → LinkView) (disk : O → DiskView) (operation : Operation) (a x : O) (status : Status) (b : O) → (disk x).faults ≡ (disk a).faults → link x ≡ link a → OperateCauses link disk operation x status b → OperateCauses link disk operation a status b
+pub causes_opened : {O : Type 0} (link : O → LinkView) (disk : O → DiskView) (operation : OperationView) (a x : O) (status : Status) (b : O) → (disk x).faults ≡ (disk a).faults → link x ≡ link a → OperateCauses link disk operation x status b → OperateCauses link disk operation a status b
 causes_opened link disk operation a x ends.Done b same links causes = causes ∙ same
 causes_opened link disk operation a x (ends.Served n) b same links causes = (causes.0 ∙ same, subst (λ (v : LinkView). v.faults ≤ (link b).faults) links causes.1)
 causes_opened link disk operation a x (ends.Founded name) b same links causes = causes ∙ same
@@ -309,7 +302,7 @@ causes_opened link disk operation a x ends.NoMemory b same links causes = causes
 causes_opened link disk operation a x ends.LinkFault b same links causes = (
   causes.0 ∙ same,
   subst (λ (v : LinkView). Rose v.faults (link b).faults) links causes.1,
-  subst (λ (v : LinkView). LosesInput operation v (link b)) links causes.2,
+  subst (λ (v : LinkView). operation.loses v (link b)) links causes.2,
 )
 causes_opened link disk operation a x (ends.Refused f) b same links causes = causes ∙ same
 

@@ -1,4 +1,4 @@
--- How serving the vendor of a book ends.
+-- How serving the book of a site ends.
 use Rattle.std.proofs.Common.{◌≤◌, ◌≡◌, ◌⊎◌, inl, inr, ℕ, List, ◌++◌, refl, sym, ap, ◌∙◌, subst, arith, Err}
 use Rattle.std.specs.Prelude.{IsSome}
 use Rattle.mc_outside.specs.Bytes.{Rose}
@@ -27,7 +27,6 @@ use Rattle.house_serving.specs.declared.links.ServeOut.TheVariants as outs
 use Rattle.house_serving.specs.InDoubt.{InDoubtLinks}
 use Rattle.house_serving.specs.Orders.{InOrder, MovedBy, RefinesBy, InDoubt}
 use Rattle.house_serving.specs.Links.{ServesLinks, HaveCauses, served_outside}
-use Rattle.vendor_core.specs.declared.shelf.Shelf.{Shelf}
 use Rattle.mc_top.specs.Opening.{full}
 use Rattle.mc_top.specs.Endings.{served_status, fault_status}
 use Rattle.mc_top.specs.Serving.{EncodesLawful, ServePair, ServedFrom, Unserved, NotOpened, ServesLinksOf, ServeCauses}
@@ -57,14 +56,14 @@ read_then_moved tells a b c s steps read moved =
     (subst (λ (l : List ℕ). Ran b c (λ i x. (a.leaves i × (x ≡ a.aside)) ⊎ InOrder tells s l steps i x)) read.aside (ran_weaker b c _ _ moved.ran (λ i x o. inr o)))
 
 -- the state of the house that was opened
-opened_sound : {O : Type 0} (disk : O → DiskView) (trade : Shelf → TradeView) (bytes : List ℕ) (x : House O Shelf) (at : OpenedFor disk trade full bytes x)
+opened_sound : {O T : Type 0} (disk : O → DiskView) (trade : T → TradeView) (bytes : List ℕ) (x : House O T) (at : OpenedFor disk trade full bytes x)
     → IsSound full (state_of at.history x.bench)
 opened_sound disk trade bytes x at = record {
   lawful = subst (λ (l : Limits). IsLawful l at.history) at.limits' at.house.house.represents.state.lawful;
   in_time = at.house.house.represents.state.in_time;
 }
 
-pub stands_lawful : {O : Type 0} (disk : O → DiskView) (trade : Shelf → TradeView) (x : House O Shelf) (h : History) → HouseRepresents disk trade x h → IsLawful full h → EncodesLawful (disk x.journal.disk) h
+pub stands_lawful : {O T : Type 0} (disk : O → DiskView) (trade : T → TradeView) (x : House O T) (h : History) → HouseRepresents disk trade x h → IsLawful full h → EncodesLawful (disk x.journal.disk) h
 stands_lawful disk trade x h st lawful = record {
   bytes = st.journal.bytes;
   told = st.journal.told;
@@ -74,7 +73,7 @@ stands_lawful disk trade x h st lawful = record {
   lasts = λ image left. subst (λ (x : List ℕ). Encodes h x) (sym (st.journal.synced image left)) st.journal.stands;
 }
 
-served_from : {O : Type 0} (link : O → LinkView) (disk : O → DiskView) (trade : Shelf → TradeView) (bytes : List ℕ) (a : O) (x y : House O Shelf) (steps : List (Did State))
+served_from : {O T : Type 0} (link : O → LinkView) (disk : O → DiskView) (trade : T → TradeView) (bytes : List ℕ) (a : O) (x y : House O T) (steps : List (Did State))
     (at : OpenedFor disk trade full bytes x) → OnlyRead (disk a) (disk x.journal.disk) → link x.journal.disk ≡ link a → RefinesBy link disk trade x.journal.disk (state_of at.history x.bench) steps y
     → IsLawful full (state_after (state_of at.history x.bench) steps).history → ServedFrom link disk bytes a y.journal.disk (state_of at.history x.bench) steps
 served_from link disk trade bytes a x y steps at read same went lawful = record {
@@ -85,18 +84,18 @@ served_from link disk trade bytes a x y steps at read same went lawful = record 
 }
 
 -- why a book was not opened
-pub not_opened : {O : Type 0} (link : O → LinkView) (disk : O → DiskView) (trade : Shelf → TradeView) (bytes : List ℕ) (a : O) (fault : HouseFault O)
-    → OpensHouse {D = O} {T = Shelf} disk trade full 0 bytes (Err fault) → link (fault_disk fault) ≡ link a → OnlyRead (disk a) (disk (fault_disk fault)) → NotOpened link disk bytes a (fault_status fault) (fault_disk fault)
-not_opened link disk trade bytes a (faults.NotJournal d) by same read = (by, record { link' = same; read = read })
-not_opened link disk trade bytes a (faults.BadRecord d place) by same read = (by, record { link' = same; read = read })
-not_opened link disk trade bytes a (faults.Unlawful d place) by same read = (by, record { link' = same; read = read })
-not_opened link disk trade bytes a (faults.WrongKind d) by same read = (refl, by, record { link' = same; read = read })
-not_opened link disk trade bytes a (faults.NotEmpty d size) by same read = absurd by
-not_opened link disk trade bytes a (faults.Disk d) by same read = record { link' = same; read = read }
-not_opened link disk trade bytes a (faults.NoMemory d) by same read = record { link' = same; read = read }
+pub not_opened : {O T : Type 0} (link : O → LinkView) (disk : O → DiskView) (trade : T → TradeView) (kind : ℕ) (bytes : List ℕ) (a : O) (fault : HouseFault O)
+    → OpensHouse {D = O} {T = T} disk trade full kind bytes (Err fault) → link (fault_disk fault) ≡ link a → OnlyRead (disk a) (disk (fault_disk fault)) → NotOpened link disk kind bytes a (fault_status fault) (fault_disk fault)
+not_opened link disk trade kind bytes a (faults.NotJournal d) by same read = (by, record { link' = same; read = read })
+not_opened link disk trade kind bytes a (faults.BadRecord d place) by same read = (by, record { link' = same; read = read })
+not_opened link disk trade kind bytes a (faults.Unlawful d place) by same read = (by, record { link' = same; read = read })
+not_opened link disk trade kind bytes a (faults.WrongKind d) by same read = (refl, by, record { link' = same; read = read })
+not_opened link disk trade kind bytes a (faults.NotEmpty d size) by same read = absurd by
+not_opened link disk trade kind bytes a (faults.Disk d) by same read = record { link' = same; read = read }
+not_opened link disk trade kind bytes a (faults.NoMemory d) by same read = record { link' = same; read = read }
 
 -- the book of the house that was opened is served
-pub serves_book : {O : Type 0} (link : O → LinkView) (disk : O → DiskView) (trade : Shelf → TradeView) (links : ℕ) (bytes : List ℕ) (a : O) (x : House O Shelf) (out : ServeOut O Shelf)
+pub serves_book : {O T : Type 0} (link : O → LinkView) (disk : O → DiskView) (trade : T → TradeView) (links : ℕ) (bytes : List ℕ) (a : O) (x : House O T) (out : ServeOut O T)
     (at : OpenedFor disk trade full bytes x) → OnlyRead (disk a) (disk x.journal.disk) → (disk x.journal.disk).faults ≡ (disk a).faults → link x.journal.disk ≡ link a
     → ((h : History) → HouseRepresents disk trade x h → ServesLinks link disk trade (limits_of x.bench) links x.journal.disk (state_of h x.bench) out)
     → ServesLinksOf link disk links bytes a (served_status out) (served_outside out)

@@ -1,4 +1,4 @@
--- How a vendor is founded.
+-- How a site is founded.
 use Rattle.std.specs.Prelude.{ℕ, Some, unwrap_or}
 use Rattle.scrip_form.specs.Issuing.{Issuing}
 use Rattle.mc_records.specs.Entry.{Entry, Site}
@@ -8,7 +8,7 @@ use Rattle.mc_top.specs.Words.{Founder}
 abbrev pub own_terms : Founder → Issuing
 own_terms founder = record { issuer = 0; period = founder.period; life = founder.life; scrip = founder.scrip; customer = founder.customer }
 
--- A vendor is founded at a moment as a site of kind 0, with no fee, and with a keeping time of 600
--- seconds where the words say none.
-abbrev pub site_of : Founder → ℕ → Entry
-site_of founder moment = Site moment 0 founder.name (Some (record { keep = unwrap_or founder.keep 600; fee = 0; clear = founder.clear; terms = own_terms founder }))
+-- A site of a kind is founded at a moment with no fee, and with a keeping time of 600 seconds where the
+-- words say none.
+abbrev pub site_of : ℕ → Founder → ℕ → Entry
+site_of kind founder moment = Site moment kind founder.name (Some (record { keep = unwrap_or founder.keep 600; fee = 0; clear = founder.clear; terms = own_terms founder }))

@@ -1,4 +1,4 @@
--- What `vendor init` does with the disk of a book, up to the line that it says.
+-- What founding a site does with the disk of its book, up to the line that is said.
 use Rattle.std.specs.Prelude.{◌≡◌, ℕ, List, [], ◌∷◌, IsSome}
 use Rattle.mc_outside.specs.Bytes.{Rose}
 use Rattle.mc_outside.specs.DiskView.{DiskView, Ran}
@@ -20,22 +20,22 @@ abbrev pub FoundPair : Type 0 → DiskView → Entry → List ℕ → List ℕ �
 FoundPair tells before site image sent = FoundImage before site image × (tells → sent ≡ before.aside)
 
 -- The clock was read once, and each crash pair is of the founding.
-pub record FoundAt {O : Type 0} (link : O → LinkView) (disk : O → DiskView) (founder : Founder) (a b : O) (moment : ℕ) : Type 0 where
+pub record FoundAt {O : Type 0} (link : O → LinkView) (disk : O → DiskView) (kind : ℕ) (founder : Founder) (a b : O) (moment : ℕ) : Type 0 where
   pub read : AreRead OfLinks (moment ∷ []) (link a).readings (link b).readings
   pub rest : link b ≡ with_readings (link b).readings (link a)
-  pub pairs : Ran (disk a) (disk b) (FoundPair (IsSome (link a).sessions) (disk a) (site_of founder moment))
+  pub pairs : Ran (disk a) (disk b) (FoundPair (IsSome (link a).sessions) (disk a) (site_of kind founder moment))
 
 -- what the disk is then, by how the command ended, where it had these bytes
-abbrev pub FoundsBy : DiskView → Founder → List ℕ → ℕ → Status → DiskView → Type 0
-FoundsBy before founder bytes moment (ends.Founded name) after = (name ≡ founder.name) × IsFree bytes × EncodesLawful after (site_of founder moment ∷ [])
-FoundsBy before founder bytes moment (ends.Refused f) after = (size : ℕ) × (f ≡ refusals.NotEmpty size) × IsTaken bytes size × (after.contents ≡ before.contents)
-FoundsBy before founder bytes moment ends.NoMemory after = after.contents ≡ before.contents
-FoundsBy before founder bytes moment ends.DiskFault after = Unit {0}
-FoundsBy before founder bytes moment _ after = ⊥
+abbrev pub FoundsBy : DiskView → ℕ → Founder → List ℕ → ℕ → Status → DiskView → Type 0
+FoundsBy before kind founder bytes moment (ends.Founded name) after = (name ≡ founder.name) × IsFree bytes × EncodesLawful after (site_of kind founder moment ∷ [])
+FoundsBy before kind founder bytes moment (ends.Refused f) after = (size : ℕ) × (f ≡ refusals.NotEmpty size) × IsTaken bytes size × (after.contents ≡ before.contents)
+FoundsBy before kind founder bytes moment ends.NoMemory after = after.contents ≡ before.contents
+FoundsBy before kind founder bytes moment ends.DiskFault after = Unit {0}
+FoundsBy before kind founder bytes moment _ after = ⊥
 
--- how founding a vendor ended
-abbrev pub FoundsBook : {O : Type 0} → (O → LinkView) → (O → DiskView) → Founder → List ℕ → O → Status → O → Type 0
-FoundsBook link disk founder bytes a status b = (moment : ℕ) × FoundAt link disk founder a b moment × FoundsBy (disk a) founder bytes moment status (disk b)
+-- how founding a site of a kind ended
+abbrev pub FoundsBook : {O : Type 0} → (O → LinkView) → (O → DiskView) → ℕ → Founder → List ℕ → O → Status → O → Type 0
+FoundsBook link disk kind founder bytes a status b = (moment : ℕ) × FoundAt link disk kind founder a b moment × FoundsBy (disk a) kind founder bytes moment status (disk b)
 
 -- The count of the disk's faults rose where the disk failed, and stayed else; it ends in no other way than
 -- these.

@@ -12,4 +12,5 @@ pub mod Serving
 pub mod Init
 pub mod Inputs
 pub mod Operator
+pub mod Operations
 pub mod Programs

@@ -6,6 +6,8 @@ use Rattle.ledger_model.specs.Histories.{History}
 use Rattle.ledger_model.specs.Houses.{site_kind}
 use Rattle.ledger_model.specs.Lawful.{IsLawful}
 use Rattle.scrip_journal.specs.Layout.{Encodes}
+use Rattle.house_core.specs.declared.offer.SiteKind.TheVariants.{Vendor}
+use Rattle.house_core.specs.Views.{kind_number}
 use Rattle.millicent_http.specs.Courses.{NoLink}
 use Rattle.mc_top.specs.declared.command.Command.{Command}
 use Rattle.mc_top.specs.declared.command.Command.TheVariants as commands
@@ -18,6 +20,7 @@ use Rattle.mc_top.specs.Statuses.{number_of, line_of}
 use Rattle.mc_top.specs.Serving.{ServesBook, ServeCauses}
 use Rattle.mc_top.specs.Init.{FoundsBook, InitCauses}
 use Rattle.mc_top.specs.Operator.{OperatesBook, OperateCauses}
+use Rattle.mc_top.specs.Operations.{operation_view}
 
 -- how a shop served its one link, or why it took none
 abbrev pub ServesOnce : Shop → LinkView → Status → LinkView → Type 0
@@ -31,11 +34,12 @@ ServesOnce shop before _ after = ⊥
 abbrev pub Obeys : {O : Type 0} → (O → LinkView) → (O → DiskView) → Command → O → Status → O → Type 0
 Obeys link disk (commands.Once shop) a status b = ServesOnce shop (link a) status (link b) × LinkKeeps (disk a) (disk b) × ((link a).faults ≤ (link b).faults)
 Obeys link disk (commands.Init founder) a status b =
-    InitCauses link disk a status b × ((bytes : List ℕ) → (disk a).contents ≡ Some bytes → FoundsBook link disk founder bytes a status b)
+    InitCauses link disk a status b × ((bytes : List ℕ) → (disk a).contents ≡ Some bytes → FoundsBook link disk (kind_number Vendor) founder bytes a status b)
 Obeys link disk (commands.Serve server) a status b =
-    ServeCauses link disk a status b × ((bytes : List ℕ) → (disk a).contents ≡ Some bytes → ServesBook link disk server.links bytes a status b)
+    ServeCauses link disk a status b × ((bytes : List ℕ) → (disk a).contents ≡ Some bytes → ServesBook link disk (kind_number Vendor) server.links bytes a status b)
 Obeys link disk (commands.Operate operation) a status b =
-    OperateCauses link disk operation a status b × ((bytes : List ℕ) → (disk a).contents ≡ Some bytes → OperatesBook link disk operation bytes a status b)
+    OperateCauses link disk (operation_view operation) a status b
+    × ((bytes : List ℕ) → (disk a).contents ≡ Some bytes → OperatesBook link disk (kind_number Vendor) (operation_view operation) bytes a status b)
 
 -- the number that is answered where the line was said; where it was not, a number other than 0 stays, and 6 takes the
 -- place of 0, so that nothing is told to be done whose line is lost
@@ -55,21 +59,21 @@ pub record Ends {O : Type 0} (link : O → LinkView) (disk : O → DiskView) (st
 abbrev pub RunsAs : {O : Type 0} → (O → LinkView) → (O → DiskView) → Command → O → ℕ → O → Type 0
 RunsAs {O} link disk command a number c = (b : O) × (status : Status) × Obeys link disk command a status b × Ends link disk status b c number
 
--- The disk tells bytes that encode a lawful history of a vendor.
-pub record HasVendor (d : DiskView) : Type 0 where
+-- The disk tells bytes that encode a lawful history of a site of this kind.
+pub record HasSite (kind : ℕ) (d : DiskView) : Type 0 where
   pub history : History
   pub bytes : List ℕ
   pub told : d.contents ≡ Some bytes
   pub stands : Encodes history bytes
   pub lawful : IsLawful full history
-  pub vendor : site_kind history ≡ Some 0
+  pub of_kind : site_kind history ≡ Some kind
 
 -- The book that a command opens is there. `vendor once` has none, and `vendor init` founds one on any disk.
 abbrev pub HasBook : DiskView → Command → Type 0
 HasBook d (commands.Once shop) = Unit {0}
 HasBook d (commands.Init founder) = Unit {0}
-HasBook d (commands.Serve server) = HasVendor d
-HasBook d (commands.Operate operation) = HasVendor d
+HasBook d (commands.Serve server) = HasSite (kind_number Vendor) d
+HasBook d (commands.Operate operation) = HasSite (kind_number Vendor) d
 
 -- the statuses of a command that has its book, where no call failed: it is done, memory was refused, or a
 -- refusal is told

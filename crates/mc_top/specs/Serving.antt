@@ -1,4 +1,4 @@
--- What `vendor serve` does with the book on a disk, up to the line that it says.
+-- What serving the book of a site does, up to the line that is said.
 use Rattle.std.specs.Prelude.{◌≤◌, ◌≡◌, ◌⊎◌, ℕ, List, [], ◌∷◌, ◌++◌, Some, IsSome}
 use Rattle.mc_outside.specs.Bytes.{Rose, BeginsWith}
 use Rattle.mc_outside.specs.DiskView.{DiskView, OnlyRead, Ran}
@@ -73,16 +73,16 @@ pub record Unserved {O : Type 0} (link : O → LinkView) (disk : O → DiskView)
   pub link' : link b ≡ link a
   pub read : OnlyRead (disk a) (disk b)
 
--- why a book was not opened: by its bytes, or since the disk failed or memory was refused; then it was only
--- read, and no link was taken
-abbrev pub NotOpened : {O : Type 0} → (O → LinkView) → (O → DiskView) → List ℕ → O → Status → O → Type 0
-NotOpened link disk bytes a ends.DiskFault b = Unserved link disk a b
-NotOpened link disk bytes a ends.NoMemory b = Unserved link disk a b
-NotOpened link disk bytes a ends.NotJournal b = (BeginsWith header bytes → ⊥) × Unserved link disk a b
-NotOpened link disk bytes a (ends.BadEntry place) b = SpoilsAt full 0 bytes place × Unserved link disk a b
-NotOpened link disk bytes a (ends.UnlawfulEntry place) b = IsUnlawfulAt full 0 bytes place × Unserved link disk a b
-NotOpened link disk bytes a (ends.Refused f) b = (f ≡ refusals.WrongKind) × IsOfOther 0 bytes × Unserved link disk a b
-NotOpened link disk bytes a _ b = ⊥
+-- why a book was not opened as that of a site of a kind: by its bytes, or since the disk failed or memory was
+-- refused; then it was only read, and no link was taken
+abbrev pub NotOpened : {O : Type 0} → (O → LinkView) → (O → DiskView) → ℕ → List ℕ → O → Status → O → Type 0
+NotOpened link disk kind bytes a ends.DiskFault b = Unserved link disk a b
+NotOpened link disk kind bytes a ends.NoMemory b = Unserved link disk a b
+NotOpened link disk kind bytes a ends.NotJournal b = (BeginsWith header bytes → ⊥) × Unserved link disk a b
+NotOpened link disk kind bytes a (ends.BadEntry place) b = SpoilsAt full kind bytes place × Unserved link disk a b
+NotOpened link disk kind bytes a (ends.UnlawfulEntry place) b = IsUnlawfulAt full kind bytes place × Unserved link disk a b
+NotOpened link disk kind bytes a (ends.Refused f) b = (f ≡ refusals.WrongKind) × IsOfOther kind bytes × Unserved link disk a b
+NotOpened link disk kind bytes a _ b = ⊥
 
 -- how the links of a book that was opened were served
 abbrev pub ServesLinksOf : {O : Type 0} → (O → LinkView) → (O → DiskView) → ℕ → List ℕ → O → Status → O → Type 0
@@ -95,9 +95,9 @@ ServesLinksOf link disk links bytes a ends.DiskFault b =
 ServesLinksOf link disk links bytes a ends.NoMemory b = Unserved link disk a b
 ServesLinksOf link disk links bytes a _ b = ⊥
 
--- how serving so many links ended, on an outside whose disk had these bytes
-abbrev pub ServesBook : {O : Type 0} → (O → LinkView) → (O → DiskView) → ℕ → List ℕ → O → Status → O → Type 0
-ServesBook link disk links bytes a status b = NotOpened link disk bytes a status b ⊎ ServesLinksOf link disk links bytes a status b
+-- how serving so many links by the book of a site of a kind ended, on an outside whose disk had these bytes
+abbrev pub ServesBook : {O : Type 0} → (O → LinkView) → (O → DiskView) → ℕ → ℕ → List ℕ → O → Status → O → Type 0
+ServesBook link disk kind links bytes a status b = NotOpened link disk kind bytes a status b ⊎ ServesLinksOf link disk links bytes a status b
 
 -- Of a command over a book that stands: the count of the disk's faults rose where the disk failed, and else it
 -- is what it was. Where a link failed that the command needs, it is lost so. Where links were served the count

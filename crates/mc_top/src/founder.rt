@@ -1,11 +1,13 @@
-ghost use Rattle.std.specs.Prelude.{◌≡◌, IfSome};
+ghost use Rattle.std.specs.Prelude.{◌≡◌, ◌<◌, IfSome};
 ghost use Rattle.scrip_form.specs.Texts.{IsName};
 ghost use Rattle.scrip_form.specs.Issuing.{HasPeriod};
 ghost use Rattle.mc_records.specs.Entry.{Fits};
 ghost use Rattle.mc_records.specs.Views.{entry};
+ghost use Rattle.house_core.specs.Views.{kind_number};
 ghost use Rattle.mc_top.specs.Words.{IsPathOrAddress, IsSecretList, IsKeepingTime};
 ghost use Rattle.mc_top.specs.Founding.{site_of};
 
+use house_core::SiteKind;
 use mc_base::Moment;
 use mc_records::{PieceList, Record, SiteTerms};
 use scrip_form::{Name, Terms};
@@ -14,7 +16,7 @@ use std::marker::Model;
 /// How long a request gets its first reply again where the words do not say it, in seconds.
 const KEEP: u32 = 600;
 
-/// What a vendor is founded with. Contracts see it as its texts and numbers.
+/// What a site is founded with. Contracts see it as its texts and numbers.
 #[derive(Drop)]
 pub(crate) struct Founder<'a> {
     book: &'a [u8],
@@ -62,7 +64,7 @@ impl<'a> Founder<'a> {
         }
     }
 
-    /// The book that the vendor is founded in.
+    /// The book that the site is founded in.
     pub(crate) fn book(&self) -> &'a [u8]
         ensures { result.now ≡ self.now.book }
     {
@@ -71,23 +73,24 @@ impl<'a> Founder<'a> {
 }
 
 impl Founder<'_> {
-    /// The vendor's name.
+    /// The site's name.
     pub(crate) fn name(&self) -> Name
         ensures { result ≡ self.now.name }
     {
         self.name
     }
 
-    /// The first entry of the vendor's book.
-    pub(crate) fn site(&self, moment: Moment) -> Record<'_>
-        ensures site { entry result ≡ site_of self.now moment }
-        ensures fits { Fits (site_of self.now moment) }
+    /// The first entry of its book, as a site of this kind, which is no wallet.
+    pub(crate) fn site(&self, kind: SiteKind, moment: Moment) -> Record<'_>
+        requires house { kind_number kind < 2 }
+        ensures site { entry result ≡ site_of (kind_number kind) self.now moment }
+        ensures fits { Fits (site_of (kind_number kind) self.now moment) }
     {
         // The check lets a record go only where the types of its parts are named.
         let _pieces: Option<PieceList<'_>> = None;
         Record::Site {
             moment,
-            kind: 0,
+            kind: kind.number(),
             name: self.name.bytes(),
             house: Some(SiteTerms {
                 keep: self.keep.unwrap_or(KEEP),

@@ -14,12 +14,12 @@ pub fn words_are_of_one_command()
     ensures { (words : List (List ℕ)) (a b : Command) → AreWords words a → AreWords words b → a ≡ b }
 {}
 
-/// Bytes that encode a lawful history of a vendor give no cause to refuse the book: they begin with the
-/// header, nothing in them can't stand, no entry breaks, and the site is of no other kind. So `vendor serve`
-/// ends on them with neither status 3 nor 7.
+/// Bytes that encode a lawful history of a site give no cause to refuse the book to one of its kind: they begin
+/// with the header, nothing in them can't stand, no entry breaks, and the site is of no other kind. So `vendor
+/// serve` ends on those of a vendor with neither status 3 nor 7.
 pub fn lawful_books_are_opened()
     ensures header { (h : History) (bytes : List ℕ) → Encodes h bytes → BeginsWith header bytes }
-    ensures whole { (h : History) (bytes : List ℕ) (place : ℕ) → Encodes h bytes → SpoilsAt full 0 bytes place → ⊥ }
-    ensures lawful { (h : History) (bytes : List ℕ) (place : ℕ) → Encodes h bytes → IsLawful full h → IsUnlawfulAt full 0 bytes place → ⊥ }
-    ensures kind { (h : History) (bytes : List ℕ) → Encodes h bytes → site_kind h ≡ Some 0 → IsOfOther 0 bytes → ⊥ }
+    ensures whole { (kind : ℕ) (h : History) (bytes : List ℕ) (place : ℕ) → Encodes h bytes → SpoilsAt full kind bytes place → ⊥ }
+    ensures lawful { (kind : ℕ) (h : History) (bytes : List ℕ) (place : ℕ) → Encodes h bytes → IsLawful full h → IsUnlawfulAt full kind bytes place → ⊥ }
+    ensures kind { (kind : ℕ) (h : History) (bytes : List ℕ) → Encodes h bytes → site_kind h ≡ Some kind → IsOfOther kind bytes → ⊥ }
 {}

@@ -2,7 +2,7 @@
 
 ghost use Rattle.std.specs.Prelude.{◌≡◌, ◌++◌, OnOk, IfOk, codes, decimal};
 ghost use Rattle.mc_top.specs.Words.{joined};
-ghost use Rattle.mc_top.specs.Operator.{goods_line, licence_line};
+ghost use Rattle.mc_top.specs.Operations.{goods_line, licence_line};
 
 use itoa::Buffer;
 use mc_base::{Amount, List, NoMemory};

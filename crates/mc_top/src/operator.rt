@@ -1,9 +1,13 @@
 //! What the operator of a vendor has done to its book.
 
 ghost use Rattle.std.specs.Prelude.{◌≡◌, List as Items, ℕ, Some};
+ghost use Rattle.house_core.specs.declared.offer.SiteKind.TheVariants.{Vendor};
 ghost use Rattle.house_core.specs.House.{outcome_disk};
+ghost use Rattle.house_core.specs.Views.{kind_number};
+ghost use Rattle.vendor_core.specs.Shelf.{shelf_view};
 ghost use Rattle.mc_top.specs.declared.operation.Operation.TheVariants as operations;
 ghost use Rattle.mc_top.specs.Operator.{OperatesBook, OperatesOpened, OperateCauses, Opened};
+ghost use Rattle.mc_top.specs.Operations.{operation_view};
 ghost use Rattle.mc_top.specs.Endings.{outcome_status};
 ghost use Rattle.mc_top.specs.Statuses.{number_of};
 
@@ -13,7 +17,7 @@ use crate::operation::{Licensing, Listing, Minting, Operation, Pricing};
 use crate::serving::not_opened;
 use crate::status::Status;
 use crate::words::MOST_CONTENTS;
-use house_core::{House, Outcome};
+use house_core::{House, Outcome, Trade};
 use house_opening::open_house;
 use house_serving::raise_by_clock;
 use mc_base::List;
@@ -30,8 +34,8 @@ pub(crate) fn operate_book<O: Outside>(
     out: O,
 ) -> (O, Status)
     ensures words { number_of result.1 ≡ 2 → ⊥ }
-    ensures causes { OperateCauses O.link O.disk operation.now out result.1 result.0 }
-    ensures operated { (x : Items ℕ) → (O.disk out).contents ≡ Some x → OperatesBook O.link O.disk operation.now x out result.1 result.0 }
+    ensures causes { OperateCauses O.link O.disk (operation_view operation.now) out result.1 result.0 }
+    ensures operated { (x : Items ℕ) → (O.disk out).contents ≡ Some x → OperatesBook O.link O.disk (kind_number Vendor) (operation_view operation.now) x out result.1 result.0 }
 {
     let house = match open_house(alloc, out, Limits::FULL, Shelf::new(alloc)) {
         Ok(house) => house,
@@ -52,8 +56,8 @@ fn operate_goods<O: Outside>(
     house: House<O, Shelf>,
 ) -> (O, Status)
     ensures words { number_of result.1 ≡ 2 → ⊥ }
-    ensures causes { OperateCauses O.link O.disk (operations.Goods listing.now) house.journal.disk result.1 result.0 }
-    ensures operated { (a : O) (x : Items ℕ) → Opened O.link O.disk x a house → OperatesOpened O.link O.disk (operations.Goods listing.now) x a result.1 result.0 }
+    ensures causes { OperateCauses O.link O.disk (operation_view (operations.Goods listing.now)) house.journal.disk result.1 result.0 }
+    ensures operated { (a : O) (x : Items ℕ) → Opened O.link O.disk shelf_view x a house → OperatesOpened O.link O.disk (operation_view (operations.Goods listing.now)) x a result.1 result.0 }
 {
     let Ok(line) = goods_line(alloc, listing.target(), listing.price()) else {
         return (house.close(), Status::NoMemory);
@@ -87,8 +91,8 @@ fn operate_price<O: Outside>(
     house: House<O, Shelf>,
 ) -> (O, Status)
     ensures words { number_of result.1 ≡ 2 → ⊥ }
-    ensures causes { OperateCauses O.link O.disk (operations.Price pricing.now) house.journal.disk result.1 result.0 }
-    ensures operated { (a : O) (x : Items ℕ) → Opened O.link O.disk x a house → OperatesOpened O.link O.disk (operations.Price pricing.now) x a result.1 result.0 }
+    ensures causes { OperateCauses O.link O.disk (operation_view (operations.Price pricing.now)) house.journal.disk result.1 result.0 }
+    ensures operated { (a : O) (x : Items ℕ) → Opened O.link O.disk shelf_view x a house → OperatesOpened O.link O.disk (operation_view (operations.Price pricing.now)) x a result.1 result.0 }
 {
     let Ok(line) = goods_line(alloc, pricing.target(), pricing.price()) else {
         return (house.close(), Status::NoMemory);
@@ -105,8 +109,8 @@ fn operate_licence<O: Outside>(
     house: House<O, Shelf>,
 ) -> (O, Status)
     ensures words { number_of result.1 ≡ 2 → ⊥ }
-    ensures causes { OperateCauses O.link O.disk (operations.Licence licensing.now) house.journal.disk result.1 result.0 }
-    ensures operated { (a : O) (x : Items ℕ) → Opened O.link O.disk x a house → OperatesOpened O.link O.disk (operations.Licence licensing.now) x a result.1 result.0 }
+    ensures causes { OperateCauses O.link O.disk (operation_view (operations.Licence licensing.now)) house.journal.disk result.1 result.0 }
+    ensures operated { (a : O) (x : Items ℕ) → Opened O.link O.disk shelf_view x a house → OperatesOpened O.link O.disk (operation_view (operations.Licence licensing.now)) x a result.1 result.0 }
 {
     let Ok(line) = licence_line(alloc, &house.name(), licensing.terms()) else {
         return (house.close(), Status::NoMemory);
@@ -123,8 +127,8 @@ fn operate_mint<O: Outside>(
     house: House<O, Shelf>,
 ) -> (O, Status)
     ensures words { number_of result.1 ≡ 2 → ⊥ }
-    ensures causes { OperateCauses O.link O.disk (operations.Mint minting.now) house.journal.disk result.1 result.0 }
-    ensures operated { (a : O) (x : Items ℕ) → Opened O.link O.disk x a house → OperatesOpened O.link O.disk (operations.Mint minting.now) x a result.1 result.0 }
+    ensures causes { OperateCauses O.link O.disk (operation_view (operations.Mint minting.now)) house.journal.disk result.1 result.0 }
+    ensures operated { (a : O) (x : Items ℕ) → Opened O.link O.disk shelf_view x a house → OperatesOpened O.link O.disk (operation_view (operations.Mint minting.now)) x a result.1 result.0 }
 {
     let mut house = house;
     let _reading = raise_by_clock(&mut house);
@@ -141,7 +145,10 @@ fn operate_mint<O: Outside>(
 
 /// The outside of a house that did what it was asked, or did not, and how that ended: with this line where it
 /// did.
-fn closed_with<O: Outside, A: Drop>(outcome: Outcome<O, Shelf, A>, line: List<u8>) -> (O, Status)
+fn closed_with<O: Outside, T: Trade, A: Drop>(
+    outcome: Outcome<O, T, A>,
+    line: List<u8>,
+) -> (O, Status)
     ensures out { result.0 ≡ outcome_disk outcome }
     ensures status { result.1 ≡ outcome_status outcome line }
     ensures words { number_of result.1 ≡ 2 → ⊥ }

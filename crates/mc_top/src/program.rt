@@ -20,6 +20,7 @@ use mc_base::{Moment, NoMemory};
 use mc_outside::{Disk, Link, Outside};
 use millicent_http::Clock;
 use std::alloc::Global;
+use vendor_core::Shelf;
 
 /// How the program ended: its status, and the outside and the books that it was given.
 #[derive(Drop)]
@@ -82,8 +83,8 @@ fn obey<O: Outside>(alloc: Global, command: &Command<'_>, out: O) -> (O, Status)
             };
             (out, status)
         }
-        Command::Init(founder) => found_book(alloc, founder, out),
-        Command::Serve(server) => serve_book(alloc, server.links(), out),
+        Command::Init(founder) => found_book(alloc, founder, Shelf::new(alloc), out),
+        Command::Serve(server) => serve_book(alloc, server.links(), Shelf::new(alloc), out),
         Command::Operate(operation) => operate_book(alloc, operation, out),
     }
 }

@@ -1,6 +1,6 @@
-//! Serving the vendor of a book.
+//! Serving the site of a book.
 
-ghost use Rattle.std.specs.Prelude.{◌≡◌, List, ℕ, Some};
+ghost use Rattle.std.specs.Prelude.{◌≡◌, [], List, ℕ, Some};
 ghost use Rattle.scrip_journal.specs.Founds.{fault_disk};
 ghost use Rattle.house_serving.specs.Links.{served_outside};
 ghost use Rattle.mc_top.specs.Endings.{served_status, fault_status};
@@ -8,29 +8,35 @@ ghost use Rattle.mc_top.specs.Serving.{ServesBook, ServeCauses};
 ghost use Rattle.mc_top.specs.Statuses.{number_of};
 
 use crate::status::Status;
+use house_core::Trade;
 use house_opening::open_house;
 use house_serving::{ServeOut, serve_links};
 use mc_outside::Outside;
 use mc_records::{Limits, Refusal};
 use scrip_journal::HouseFault;
 use std::alloc::Global;
-use vendor_core::Shelf;
 
-/// Opens the book on the outside's disk as that of a vendor, and serves so many links. Hands the outside
-/// back, and tells how it ended.
-pub(crate) fn serve_book<O: Outside>(alloc: Global, links: u32, out: O) -> (O, Status)
+/// Opens the book on the outside's disk as that of a site of the trade's kind, and serves so many links. The
+/// trade has learned nothing yet. Hands the outside back, and tells how it ended.
+pub(crate) fn serve_book<O: Outside, T: Trade>(
+    alloc: Global,
+    links: u32,
+    trade: T,
+    out: O,
+) -> (O, Status)
+    requires { (T.trade trade).represents [] }
     ensures words { number_of result.1 ≡ 2 → ⊥ }
     ensures causes { ServeCauses O.link O.disk out result.1 result.0 }
-    ensures served { (x : List ℕ) → (O.disk out).contents ≡ Some x → ServesBook O.link O.disk links x out result.1 result.0 }
+    ensures served { (x : List ℕ) → (O.disk out).contents ≡ Some x → ServesBook O.link O.disk (T.trade trade).site links x out result.1 result.0 }
 {
-    match open_house(alloc, out, Limits::FULL, Shelf::new(alloc)) {
+    match open_house(alloc, out, Limits::FULL, trade) {
         Ok(house) => ended(serve_links(house, links)),
         Err(fault) => not_opened(fault),
     }
 }
 
 /// The outside of a house that served, and how it ended.
-fn ended<O: Outside>(served: ServeOut<O, Shelf>) -> (O, Status)
+fn ended<O: Outside, T: Trade>(served: ServeOut<O, T>) -> (O, Status)
     ensures out { result.0 ≡ served_outside served }
     ensures status { result.1 ≡ served_status served }
     ensures words { number_of result.1 ≡ 2 → ⊥ }

@@ -1,21 +1,23 @@
 use Rattle.std.proofs.Common.{◌≡◌, List, ℕ, [], inl, inr, refl, ap₂, ◌∙◌}
 use Rattle.ledger_model.specs.Histories.{History}
 use Rattle.house_core.specs.Bench.{house_time}
-use Rattle.vendor_core.specs.Tasks.{Task, price_task, TellsLast}
+use Rattle.house_core.specs.Tasks.{Task, TellsLast}
+use Rattle.vendor_core.specs.Shelf.{shelf_view}
+use Rattle.vendor_core.specs.Tasks.{price_task}
 use Rattle.mc_top.specs.declared.operation.Operation.TheVariants as operations
-use Rattle.mc_top.specs.Operator.{goods_line}
+use Rattle.mc_top.specs.Operations.{goods_line, operation_view}
 use Rattle.mc_top.proofs.OperatorLemmas.{operated, operated_causes, ready_at_once, unread_at_once}
 use Rattle.mc_top.proofs.operator.operate_price.Goals as goal
 
 pub returns-in_default-clause-operated : goal.returns-in_default-clause-operated
 returns-in_default-clause-operated g c a x at =
-    rw c.close.ensures (inl (unread_at_once g.O.Link.link g.O.Disk.disk (operations.Price c.args.pricing.now) x a c.args.house g.met.O.Outside.sent_aside (g.met.O.Outside.link_keeps _ _ (g.met.O.Link.link_stays c.args.house.journal.disk)) at))
+    rw c.close.ensures (inl (unread_at_once g.O.Link.link g.O.Disk.disk shelf_view (operation_view (operations.Price c.args.pricing.now)) x a c.args.house g.met.O.Outside.sent_aside (g.met.O.Outside.link_keeps _ _ (g.met.O.Link.link_stays c.args.house.journal.disk)) at))
 
 pub returns-clause-causes : goal.returns-clause-causes
 returns-clause-causes g c =
     let y = c.raise_by_clock-reading.new.house.journal.disk in
     rw (c.closed_with.ensures.out, c.closed_with.ensures.status)
-    (operated_causes g.O.Link.link g.O.Disk.disk (operations.Price c.args.pricing.now) c.args.house.journal.disk y c.set_price.result c.in-Ok.line (g.met.O.Outside.link_keeps _ _ c.raise_by_clock-reading.ensures.moved).faults c.set_price.ensures.back.counts)
+    (operated_causes g.O.Link.link g.O.Disk.disk (operation_view (operations.Price c.args.pricing.now)) c.args.house.journal.disk y c.set_price.result c.in-Ok.line (g.met.O.Outside.link_keeps _ _ c.raise_by_clock-reading.ensures.moved).faults c.set_price.ensures.back.counts)
 
 pub returns-clause-operated : goal.returns-clause-operated
 returns-clause-operated g c a x at =
@@ -23,11 +25,11 @@ returns-clause-operated g c a x at =
     let disk = g.O.Disk.disk in
     let y = c.raise_by_clock-reading.new.house in
     let raised = c.raise_by_clock-reading.ensures in
-    let operation = operations.Price c.args.pricing.now in
-    let ready = ready_at_once link disk operation x a c.args.house y c.raise_by_clock-reading.result g.met.O.Outside.sent_aside at (refl, refl) (g.met.O.Outside.link_keeps _ _ raised.moved) raised.stands raised.limits raised.read raised.rest raised.time in
+    let operation = operation_view (operations.Price c.args.pricing.now) in
+    let ready = ready_at_once link disk shelf_view operation x a c.args.house y c.raise_by_clock-reading.result g.met.O.Outside.sent_aside at (refl, refl) (g.met.O.Outside.link_keeps _ _ raised.moved) raised.stands raised.limits raised.read raised.rest raised.time in
     let asked : History → Task → Type 0 = λ h task. task ≡ price_task h (house_time y.bench) c.target-2.result.now c.price-2.result in
     rw (c.closed_with.ensures.out, c.closed_with.ensures.status)
-    (inr (operated link disk operation x [] c.in-Ok.line TellsLast a y c.set_price.result asked ready g.met.O.Disk.is_disk (g.met.O.Outside.disk_keeps _ _ c.set_price.ensures.back.moved')
+    (inr (operated link disk shelf_view operation x [] c.in-Ok.line TellsLast a y c.set_price.result asked ready g.met.O.Disk.is_disk (g.met.O.Outside.disk_keeps _ _ c.set_price.ensures.back.moved')
     (λ task is. is ∙ ap₂ (λ (target : List ℕ) (price : ℕ). price_task ready.history (house_time y.bench) target price) c.target-2.ensures.value c.price-2.ensures.value)
     (λ task answer is doable told'. c.in-Ok.ensures ∙ ap₂ (λ (target : List ℕ) (price : ℕ). goods_line target price) c.target.ensures.value c.price.ensures.value)
     c.set_price.ensures.back.keeps (c.set_price.ensures.exact ready.history ready.house)))

@@ -1,5 +1,5 @@
-use Rattle.house_core.proofs.Accepting.{stopped_kept, stopped_site}
-use Rattle.house_core.specs.Bench.{KeepsContents}
+use Rattle.house_core.proofs.Accepting.{stopped_kept, stopped_site, none_seen, no_scrip, bad_scrip, refuses, makes_none}
+use Rattle.house_core.specs.Bench.{KeepsContents, Accepts, house_time, limits_of}
 use Rattle.house_core.proofs.Contents.{keeps_all}
 use Rattle.std.proofs.Common.{◌≡◌, refl, sym, subst, Some, Ok, Err}
 use Rattle.scrip_form.specs.Reading.{scrip_of}
@@ -7,9 +7,7 @@ use Rattle.mc_records.specs.declared.refusal.Refusal.TheVariants.{NoScrip, BadSc
 use Rattle.mc_records.specs.Requests.{asked_of}
 use Rattle.ledger_model.specs.Answer.{Answer}
 use Rattle.house_core.specs.declared.verdict.BenchFault.TheVariants as faults
-use Rattle.house_core.specs.Bench.{Accepts, house_time, limits_of}
 use Rattle.house_core.proofs.Tabled.{answer_under}
-use Rattle.house_core.proofs.Accepting.{none_seen, no_scrip, bad_scrip, refuses, makes_none}
 use Rattle.house_core.proofs.bench.Bench.accept.Goals as goal
 
 pub returns-in_default-clause-exact : goal.returns-in_default-clause-exact

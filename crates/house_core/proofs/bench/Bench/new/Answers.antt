@@ -1,11 +1,9 @@
-use Rattle.house_core.proofs.Founded.{founds_fit}
+use Rattle.house_core.proofs.Founded.{founds_fit, none_kept, stands_founded, learns_site, founds_by_trade}
 use Rattle.house_core.specs.declared.bench.Bench.{Bench}
 use Rattle.house_core.proofs.Contents.{contents_of_none}
-use Rattle.house_core.proofs.Founded.{none_kept}
 use Rattle.std.proofs.Common.{◌≡◌, [], ◌∷◌, Some}
 use Rattle.mc_records.specs.Views.{entry}
 use Rattle.ledger_model.specs.Houses.{site_kind}
-use Rattle.house_core.proofs.Founded.{stands_founded, learns_site, founds_by_trade}
 use Rattle.house_core.proofs.bench.Bench.new.Goals as goal
 
 pub returns-clause-holds : goal.returns-clause-holds
