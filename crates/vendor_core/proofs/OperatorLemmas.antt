@@ -1,5 +1,5 @@
 -- What there is to do by the calls of a vendor's operator.
-use Rattle.std.proofs.Common.{◌≡◌, ℕ, ◌+◌, ◌<◌, ◌≤◌, ◌^◌, true, false, [], ◌∷◌, ◌++◌, length, List, Option, Some, None, refl, sym, ap, ap₂, ◌∙◌, take, slice_get, eqb, subst, arith, length-append}
+use Rattle.std.proofs.Common.{◌≡◌, ℕ, ◌<◌, ◌≤◌, ◌^◌, true, false, [], ◌∷◌, ◌++◌, length, List, Option, Some, None, refl, sym, ap, ap₂, ◌∙◌, take, slice_get, eqb, subst, arith, length-append}
 use Rattle.std.specs.Prelude.{option_map, unwrap_or, IsFalse, Ok}
 use Rattle.std.proofs.lemmas.Option.{slice_get-get_or}
 use Rattle.std.proofs.Math.Seq.{get_or-append_seam, take-append_seam}

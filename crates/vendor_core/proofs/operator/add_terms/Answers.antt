@@ -1,6 +1,5 @@
-use Rattle.std.proofs.Common.{◌≡◌, ℕ, arith, None, Some, sym, ap, ◌∙◌, refl}
-use Rattle.scrip_form.specs.Issuing.{Issuing}
-use Rattle.mc_records.specs.Entry.{Entry, AddTerms, moment_of}
+use Rattle.std.proofs.Common.{◌≡◌, ℕ, None, Some, sym, ap, ◌∙◌, refl}
+use Rattle.mc_records.specs.Entry.{Entry, AddTerms}
 use Rattle.mc_records.specs.Views.{entry}
 use Rattle.ledger_model.specs.Houses.{terms_in}
 use Rattle.house_core.specs.Bench.{house_time, limits_of}
