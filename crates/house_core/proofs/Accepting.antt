@@ -4,17 +4,13 @@ use Rattle.std.specs.Prelude.{◌&&◌, ◌||◌, ◌==◌, option_map, IsTrue, 
 use Rattle.std.specs.List.{list_any}
 use Rattle.std.proofs.lemmas.Bool.{eq-eqb}
 use Rattle.std.proofs.lemmas.List.Folds.{list_any-append}
-use Rattle.std.specs.Borrow.{Bor}
 use Rattle.scrip_form.specs.Identities.{numbered}
 use Rattle.change_issue.specs.Registers.{count_in}
 use Rattle.scrip_form.specs.Issuing.{Issuing, series_at}
-use Rattle.scrip_form.specs.Scrip.{Certified}
-use Rattle.scrip_form.specs.Reading.{scrip_of}
 use Rattle.mc_records.specs.declared.limits.Limits.{Limits}
 use Rattle.mc_records.specs.declared.refusal.Refusal.{Refusal}
-use Rattle.mc_records.specs.declared.refusal.Refusal.TheVariants.{NoScrip, BadScrip}
 use Rattle.mc_records.specs.Entry.{Entry, Mint, payload}
-use Rattle.mc_records.specs.Requests.{Asked, seen}
+use Rattle.mc_records.specs.Requests.{Asked}
 use Rattle.kept_replies.specs.declared.deed.KeptEntry.{KeptEntry}
 use Rattle.kept_replies.specs.Requests.{is_same_request}
 use Rattle.kept_replies.specs.Kept.{KeptReply, KeptView, found, has_number, is_in_time}
@@ -22,6 +18,8 @@ use Rattle.ledger_model.specs.Histories.{History}
 use Rattle.ledger_model.specs.Answer as answers
 use Rattle.ledger_model.specs.Answer.{Answer, answer, answered}
 use Rattle.ledger_model.specs.Houses.{version}
+use Rattle.ledger_model.specs.Stages.{read_by}
+use Rattle.ledger_model.proofs.TableLaws.{read_ok}
 use Rattle.house_core.specs.declared.bench.Bench.{Bench}
 use Rattle.house_core.specs.declared.verdict.Authorization.{Authorization}
 use Rattle.house_core.specs.declared.verdict.NotAuthorized.{NotAuthorized}
@@ -34,20 +32,9 @@ use Rattle.house_core.specs.Representation.{StateRepresents, has_ended, scrip_re
 use Rattle.house_core.specs.Verdicts.{accept_entry, stop_of, IsReady, RepeatsKept, StopIsOfSite}
 use Rattle.house_core.specs.Bench.{Represents, IsRoomed, Accepts, KeepsReply, FaultIsOfSite, house_time, limits_of, stopped_with}
 use Rattle.house_core.proofs.Entered.{stands_entered, takes_follow}
+use Rattle.house_core.proofs.Tabled.{scrip_asked}
 
--- ---- refusals and repeats
-
-pub none_seen : (o : Option (Bor (List ℕ))) → ((x : Bor (List ℕ)) → o ≡ Some x → ⊥) → seen o ≡ None
-none_seen (Some x) not = absurd (not x refl)
-none_seen None not = refl
-
-pub no_scrip : (h : History) (t : ℕ) (limits : Limits) (q : Asked) → q.scrip ≡ None → answers.Refused NoScrip ≡ answer h t limits q
-unfolding answer
-no_scrip h t limits q none = rw none refl
-
-pub bad_scrip : (h : History) (t : ℕ) (limits : Limits) (q : Asked) (text : List ℕ) (place : ℕ) → q.scrip ≡ Some text → scrip_of text ≡ Err place → answers.Refused (BadScrip place) ≡ answer h t limits q
-unfolding answer
-bad_scrip h t limits q text place asked fault = rw (asked, fault) refl
+-- ---- a request that makes no entry
 
 pub refuses : {T : Type 0} (trade : T → TradeView) (b : Bench T) (h : History) (q : Asked) (f : Refusal) → Represents trade b h
     → answers.Refused f ≡ answer h (house_time b) (limits_of b) q → Accepts trade b h (answer h (house_time b) (limits_of b) q) (Err (faults.Refused f))
@@ -130,38 +117,39 @@ stands_as_before {old = old} {new = new} {h = h} st is = record {
     same_found : (t : ℕ) (q : Asked) → option_map (λ (e : KeptEntry). e.number) (found old.kept t q) ≡ option_map (λ e. e.number) (found new.kept t q)
     same_found t q = rw (is.keep, is.replies) refl
 
-pub ready_as_before : {old new : HouseStateView} → IsAsBefore old new → (c : Certified) (target : List ℕ) (a : Authorization) → IsReady old c target a → IsReady new c target a
-ready_as_before {old = old} {new = new} is c target a ready = record {
+pub ready_as_before : {old new : HouseStateView} → IsAsBefore old new → (target : List ℕ) (a : Authorization) → IsReady old target a → IsReady new target a
+ready_as_before {old = old} {new = new} is target a ready = record {
   secret = rw (is.name, is.terms) ready.secret;
   change = by_change a.change ready.change;
-  payload = subst (λ (t : ℕ). a.payload ≡ length (payload (accept_entry t c.text target a))) (sym is.time) ready.payload;
+  payload = subst (λ (t : ℕ). a.payload ≡ length (payload (accept_entry t target a))) (sym is.time) ready.payload;
   fits = omega (arith, ready.fits, is.sized);
 }
   where
     series : series_now new ≡ series_now old
     series = rw (is.issuer, is.time) refl
 
-    by_change : (o : Option ℕ) → HasChange old a.price c.piece.value o → HasChange new a.price c.piece.value o
+    by_change : (o : Option ℕ) → HasChange old a.price a.scrip.now.piece.value o → HasChange new a.price a.scrip.now.piece.value o
     by_change None has = has
     by_change (Some id) has = (has.0, rw (series, is.issued (series_now old), is.most) has.1, rw (series, is.issued (series_now old)) has.2)
 
 -- ---- the new entry
 
-pub may_learn : {b : HouseStateView} {h : History} → StateRepresents b h → (kind : ℕ) (limits : Limits) (q : Asked) (text : List ℕ) (a : Authorization) → limits.series ≡ b.limits.series → limits.journal ≤ 2 ^ 40
-    → answer h b.time limits q ≡ answers.Take (accept_entry b.time text q.target a) → MayLearn b.limits kind b.count h (accept_entry b.time text q.target a)
-may_learn {b = b} {h = h} st kind limits q text a series most takes =
-    let may = takes_follow st limits q text a series most takes in
+pub may_learn : {b : HouseStateView} {h : History} → StateRepresents b h → (kind : ℕ) (limits : Limits) (q : Asked) (a : Authorization) → limits.series ≡ b.limits.series → limits.journal ≤ 2 ^ 40
+    → answer h b.time limits q ≡ answers.Take (accept_entry b.time q.target a) → MayLearn b.limits kind b.count h (accept_entry b.time q.target a)
+may_learn {b = b} {h = h} st kind limits q a series most takes =
+    let may = takes_follow st limits q a series most takes in
     record { counted = sym st.counted; in_order = may.in_order; by_house = may.allowed }
 
-pub stands_taken : {old mid new : HouseStateView} {h : History} → StateRepresents old h → IsAsBefore old mid → (q : Asked) (c : Certified) (a : Authorization) → scrip_of c.text ≡ Ok (c.piece, c.cert)
-    → IsReady old c q.target a → BringsFor h q.target a.deed → (limits : Limits) → limits.series ≡ old.limits.series → limits.journal ≤ 2 ^ 40
-    → answer h old.time limits q ≡ answers.Take (accept_entry old.time c.text q.target a)
-    → IsEntered mid new (scrip_request c.text q.target q.sign) c.piece a → StateRepresents new (h ++ accept_entry old.time c.text q.target a ∷ [])
-stands_taken {old = old} {mid = mid} {new = new} {h = h} st before q c a read ready brings limits series most takes is =
-    let later : answer h mid.time limits q ≡ answers.Take (accept_entry mid.time c.text q.target a) = rw before.time takes in
+pub stands_taken : {old mid new : HouseStateView} {h : History} → StateRepresents old h → IsAsBefore old mid → (q : Asked) (a : Authorization) → Ok a.scrip.now ≡ read_by q.scrip
+    → IsReady old q.target a → BringsFor h q.target a.deed → (limits : Limits) → limits.series ≡ old.limits.series → limits.journal ≤ 2 ^ 40
+    → answer h old.time limits q ≡ answers.Take (accept_entry old.time q.target a)
+    → IsEntered mid new q a.scrip.now.piece a → StateRepresents new (h ++ accept_entry old.time q.target a ∷ [])
+stands_taken {old = old} {mid = mid} {new = new} {h = h} st before q a read ready brings limits series most takes is =
+    let later : answer h mid.time limits q ≡ answers.Take (accept_entry mid.time q.target a) = rw before.time takes in
     let same : limits.series ≡ mid.limits.series = series ∙ ap (λ (l : Limits). l.series) (sym before.limits) in
-    subst (λ (t : ℕ). StateRepresents new (h ++ accept_entry t c.text q.target a ∷ [])) before.time
-    (stands_entered (stands_as_before st before) q c a read (ready_as_before before c q.target a ready) brings limits same most later is)
+    subst (λ (t : ℕ). StateRepresents new (h ++ accept_entry t q.target a ∷ [])) before.time
+    (stands_entered (stands_as_before st before) q a (read_ok q.scrip a.scrip.now (sym read)).1 (ready_as_before before q.target a ready) brings limits same most later
+    (subst (λ (p : Asked). IsEntered mid new p a.scrip.now.piece a) (scrip_asked q a.scrip.now read) is))
 
 -- ---- an entry that accepts nothing
 

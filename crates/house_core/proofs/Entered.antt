@@ -11,7 +11,7 @@ use Rattle.std.proofs.lemmas.List.Sums.{sum_by-append}
 use Rattle.hex.specs.Hex.{encode_lower}
 use Rattle.scrip_form.specs.Identities.{issuer_of, epoch_of, series_of}
 use Rattle.scrip_form.specs.Issuing.{Issuing, series_end}
-use Rattle.scrip_form.specs.Scrip.{Scrip, Certified}
+use Rattle.scrip_form.specs.Scrip.{Scrip}
 use Rattle.scrip_form.specs.Reading.{scrip_of}
 use Rattle.mc_records.specs.declared.limits.Limits.{Limits}
 use Rattle.mc_records.specs.Entry.{House, Entry, Site, Accept, Mint, moment_of}
@@ -157,22 +157,22 @@ accept_sign (Accept m scrip target sign price change deed) = sign
 accept_sign _ = None
 
 -- what is known of an authorization that the answer takes
-record IsTaken (h : History) (t : ℕ) (q : Asked) (c : Certified) (a : Authorization) : Type 0 where
-  pub piece : piece_of c.text ≡ Some c.piece
-  pub price : a.price ≤ c.piece.value
+record IsTaken (h : History) (t : ℕ) (q : Asked) (a : Authorization) : Type 0 where
+  pub piece : piece_of a.scrip.now.text ≡ Some a.scrip.now.piece
+  pub price : a.price ≤ a.scrip.now.piece.value
   pub sign : option_map encode_lower a.sign ≡ q.sign
 
-is_taken : (h : History) (t : ℕ) (limits : Limits) (q : Asked) (c : Certified) (a : Authorization) → scrip_of c.text ≡ Ok (c.piece, c.cert)
-    → answer h t limits q ≡ Take (accept_entry t c.text q.target a) → IsTaken h t q c a
-is_taken h t limits q c a read takes =
-    let e = accept_entry t c.text q.target a in
+is_taken : (h : History) (t : ℕ) (limits : Limits) (q : Asked) (a : Authorization) → scrip_of a.scrip.now.text ≡ Ok (a.scrip.now.piece, a.scrip.now.cert)
+    → answer h t limits q ≡ Take (accept_entry t q.target a) → IsTaken h t q a
+is_taken h t limits q a read takes =
+    let e = accept_entry t q.target a in
     let x = answer_through h t limits q e takes in
-    let text : x.scrip.text ≡ c.text = ap accept_text x.is in
+    let text : x.scrip.text ≡ a.scrip.now.text = ap accept_text x.is in
     let sign : x.sign ≡ a.sign = ap accept_sign x.is in
     let price : x.offered.price ≡ a.price = ap price_paid x.is in
     let whole : Scrip × List ℕ = (x.scrip.piece, x.scrip.cert) in
-    let pair : whole ≡ (c.piece, c.cert) = cc (x.is_scrip, ap scrip_of text, read) in
-    let piece : x.scrip.piece ≡ c.piece = ap (λ (p : Scrip × List ℕ). p.0) pair in
+    let pair : whole ≡ (a.scrip.now.piece, a.scrip.now.cert) = cc (x.is_scrip, ap scrip_of text, read) in
+    let piece : x.scrip.piece ≡ a.scrip.now.piece = ap (λ (p : Scrip × List ℕ). p.0) pair in
     let below : x.offered.price ≤ x.scrip.piece.value = offer_below h t limits q.target x.scrip.piece.value x.offered x.is_offered in
     record {
       piece = ap (λ (r : Result (Scrip × List ℕ) ℕ). option_map (λ p. p.0) (result_ok r)) read;
@@ -186,34 +186,34 @@ is_taken h t limits q c a read takes =
 series_is : (b : HouseStateView) (id : ℕ) → count_in b.own (series_now b) < 2 ^ 32 → id ≡ next_in b.own (series_now b) → series_of id ≡ series_now b
 series_is b id below is = omega (arith, below, is)
 
-change_counted : (h : History) (b : HouseStateView) (text target : List ℕ) (paid : Scrip) (a : Authorization) (s : ℕ) → b.own.most ≤ 2 ^ 32 → piece_of text ≡ Some paid → HasChange b a.price paid.value a.change
-    → count_by (λ p. series_of p.id == s) (option_to_list (change_piece h (accept_entry b.time text target a))) ≡ at_series (series_now b) (change_count a.change) s
-change_counted h b text target paid a s most piece has = go a.change has
+change_counted : (h : History) (b : HouseStateView) (target : List ℕ) (paid : Scrip) (a : Authorization) (s : ℕ) → b.own.most ≤ 2 ^ 32 → piece_of a.scrip.now.text ≡ Some paid → HasChange b a.price paid.value a.change
+    → count_by (λ p. series_of p.id == s) (option_to_list (change_piece h (accept_entry b.time target a))) ≡ at_series (series_now b) (change_count a.change) s
+change_counted h b target paid a s most piece has = go a.change has
   where
     go : (o : Option ℕ) → HasChange b a.price paid.value o
-        → count_by (λ p. series_of p.id == s) (option_to_list (change_piece h (Accept b.time text target a.sign a.price o (entry_deed a.deed)))) ≡ at_series (series_now b) (change_count o) s
+        → count_by (λ p. series_of p.id == s) (option_to_list (change_piece h (Accept b.time a.scrip.now.text target a.sign a.price o (entry_deed a.deed)))) ≡ at_series (series_now b) (change_count o) s
     go None has = sym (zero_at (series_now b) s)
     go (Some id) has =
         let series : series_of id ≡ series_now b = series_is b id (omega (arith, most, has.1)) has.2 in
         ap (λ (o : Option Scrip). count_by (λ p. series_of p.id == s) (option_to_list (option_map (λ p. change_from h p a.price id) o))) piece
         ∙ one_count (series_now b) s (change_from h paid a.price id) series
 
-change_worthy : (h : History) (b : HouseStateView) (text target : List ℕ) (paid : Scrip) (a : Authorization) (s : ℕ) → b.own.most ≤ 2 ^ 32 → piece_of text ≡ Some paid → HasChange b a.price paid.value a.change
-    → values (of_series s (option_to_list (change_piece h (accept_entry b.time text target a)))) ≡ at_series (series_now b) (change_worth a.price paid.value a.change) s
-change_worthy h b text target paid a s most piece has = go a.change has
+change_worthy : (h : History) (b : HouseStateView) (target : List ℕ) (paid : Scrip) (a : Authorization) (s : ℕ) → b.own.most ≤ 2 ^ 32 → piece_of a.scrip.now.text ≡ Some paid → HasChange b a.price paid.value a.change
+    → values (of_series s (option_to_list (change_piece h (accept_entry b.time target a)))) ≡ at_series (series_now b) (change_worth a.price paid.value a.change) s
+change_worthy h b target paid a s most piece has = go a.change has
   where
     go : (o : Option ℕ) → HasChange b a.price paid.value o
-        → values (of_series s (option_to_list (change_piece h (Accept b.time text target a.sign a.price o (entry_deed a.deed))))) ≡ at_series (series_now b) (change_worth a.price paid.value o) s
+        → values (of_series s (option_to_list (change_piece h (Accept b.time a.scrip.now.text target a.sign a.price o (entry_deed a.deed))))) ≡ at_series (series_now b) (change_worth a.price paid.value o) s
     go None has = sym (zero_at (series_now b) s)
     go (Some id) has =
         let series : series_of id ≡ series_now b = series_is b id (omega (arith, most, has.1)) has.2 in
         ap (λ (o : Option Scrip). values (of_series s (option_to_list (option_map (λ p. change_from h p a.price id) o)))) piece
         ∙ one_value (series_now b) s (paid.value - a.price) (change_from h paid a.price id) series refl
 
-own_count_snoc : (h : History) (b : HouseStateView) (text target : List ℕ) (a : Authorization) (s : ℕ)
-    → own_count (h ++ accept_entry b.time text target a ∷ []) s ≡ own_count h s + count_by (λ p. series_of p.id == s) (option_to_list (change_piece h (accept_entry b.time text target a)))
-own_count_snoc h b text target a s =
-    let e = accept_entry b.time text target a in
+own_count_snoc : (h : History) (b : HouseStateView) (target : List ℕ) (a : Authorization) (s : ℕ)
+    → own_count (h ++ accept_entry b.time target a ∷ []) s ≡ own_count h s + count_by (λ p. series_of p.id == s) (option_to_list (change_piece h (accept_entry b.time target a)))
+own_count_snoc h b target a s =
+    let e = accept_entry b.time target a in
     let test : Scrip → Bool = λ p. series_of p.id == s in
     let change = option_to_list (change_piece h e) in
     let out = own_out_snoc [] h e in
@@ -223,34 +223,34 @@ own_count_snoc h b text target a s =
 
 -- ---- the state
 
-all_terms_stay : (h : History) (b : HouseStateView) (text target : List ℕ) (a : Authorization) → all_terms (h ++ accept_entry b.time text target a ∷ []) ≡ all_terms h
-all_terms_stay h b text target a = filter_map-append terms_of h (accept_entry b.time text target a ∷ []) ∙ append-nil (all_terms h)
+all_terms_stay : (h : History) (b : HouseStateView) (target : List ℕ) (a : Authorization) → all_terms (h ++ accept_entry b.time target a ∷ []) ≡ all_terms h
+all_terms_stay h b target a = filter_map-append terms_of h (accept_entry b.time target a ∷ []) ∙ append-nil (all_terms h)
 
-accepted_more : (h : History) (b : HouseStateView) (text target : List ℕ) (paid : Scrip) (a : Authorization) → piece_of text ≡ Some paid
-    → accepted (h ++ accept_entry b.time text target a ∷ []) ≡ accepted h ++ paid ∷ []
-accepted_more h b text target paid a piece =
-    let e = accept_entry b.time text target a in
+accepted_more : (h : History) (b : HouseStateView) (target : List ℕ) (paid : Scrip) (a : Authorization) → piece_of a.scrip.now.text ≡ Some paid
+    → accepted (h ++ accept_entry b.time target a ∷ []) ≡ accepted h ++ paid ∷ []
+accepted_more h b target paid a piece =
+    let e = accept_entry b.time target a in
     accepted_snoc h e ∙ ap (λ (o : Option Scrip). accepted h ++ cons_option o []) piece
 
 -- a repeat of the new entry is a repeat of its reply
-repeats_alike : (b : HouseStateView) (paid : Scrip) (a : Authorization) (t : ℕ) (p : Asked) (own own_target : List ℕ) (own_sign : Option (List ℕ)) → option_map encode_lower a.sign ≡ own_sign
-    → is_repeat b.kept.keep t p (accept_entry b.time own own_target a)
-    ≡ (is_same_request (scrip_request own own_target own_sign) p && is_in_time b.kept.keep t (record { asked = scrip_request own own_target own_sign; entry = kept_entry b paid a }))
-repeats_alike b paid a t p own own_target own_sign same =
-    swap_and (is_same_scrip p.scrip own) (bytes_eq own_target p.target) (is_same_sign a.sign p.sign) (ltb t (b.time + b.kept.keep))
-    ∙ ap₂ (λ (x y : Bool). bytes_eq own_target p.target && x && y && ltb t (b.time + b.kept.keep)) (scrip_as_text own p.scrip)
+repeats_alike : (b : HouseStateView) (paid : Scrip) (a : Authorization) (t : ℕ) (p : Asked) (own_target : List ℕ) (own_sign : Option (List ℕ)) → option_map encode_lower a.sign ≡ own_sign
+    → is_repeat b.kept.keep t p (accept_entry b.time own_target a)
+    ≡ (is_same_request (scrip_request a.scrip.now.text own_target own_sign) p && is_in_time b.kept.keep t (record { asked = scrip_request a.scrip.now.text own_target own_sign; entry = kept_entry b paid a }))
+repeats_alike b paid a t p own_target own_sign same =
+    swap_and (is_same_scrip p.scrip a.scrip.now.text) (bytes_eq own_target p.target) (is_same_sign a.sign p.sign) (ltb t (b.time + b.kept.keep))
+    ∙ ap₂ (λ (x y : Bool). bytes_eq own_target p.target && x && y && ltb t (b.time + b.kept.keep)) (scrip_as_text a.scrip.now.text p.scrip)
     (sym (sign_as_text a.sign p.sign) ∙ ap (λ (o : Option (List ℕ)). is_same_text o p.sign) same)
 
-again_more : {old new : HouseStateView} {h : History} → StateRepresents old h → (q : Asked) (c : Certified) (a : Authorization) → option_map encode_lower a.sign ≡ q.sign
-    → IsEntered old new (scrip_request c.text q.target q.sign) c.piece a
+again_more : {old new : HouseStateView} {h : History} → StateRepresents old h → (q : Asked) (a : Authorization) → option_map encode_lower a.sign ≡ q.sign
+    → IsEntered old new (scrip_request a.scrip.now.text q.target q.sign) a.scrip.now.piece a
     → (t : ℕ) (p : Asked) → old.time ≤ t
-    → position (is_repeat (keeping h) t p) (h ++ accept_entry old.time c.text q.target a ∷ []) ≡ option_map (λ e. e.number) (found new.kept t p)
-again_more {old = old} {new = new} {h = h} st q c a same is t p later =
-    let e = accept_entry old.time c.text q.target a in
-    let r : KeptReply = record { asked = scrip_request c.text q.target q.sign; entry = kept_entry old c.piece a } in
+    → position (is_repeat (keeping h) t p) (h ++ accept_entry old.time q.target a ∷ []) ≡ option_map (λ e. e.number) (found new.kept t p)
+again_more {old = old} {new = new} {h = h} st q a same is t p later =
+    let e = accept_entry old.time q.target a in
+    let r : KeptReply = record { asked = scrip_request a.scrip.now.text q.target q.sign; entry = kept_entry old a.scrip.now.piece a } in
     let asks : KeptReply → Bool = λ x. is_same_request x.asked p && is_in_time old.kept.keep t x in
     let number : Option KeptReply → Option ℕ = λ o. option_map (λ x. x.number) (option_map (λ x. x.entry) o) in
-    let one : is_repeat (keeping h) t p e ≡ asks r = ap (λ (k : ℕ). is_repeat k t p e) st.keep ∙ repeats_alike old c.piece a t p c.text q.target q.sign same in
+    let one : is_repeat (keeping h) t p e ≡ asks r = ap (λ (k : ℕ). is_repeat k t p e) st.keep ∙ repeats_alike old a.scrip.now.piece a t p q.target q.sign same in
     let kept : number (find asks (old.kept.replies ++ r ∷ [])) ≡ option_map (λ x. x.number) (found new.kept t p) =
     ap₂ (λ (k : ℕ) (rs : List KeptReply). number (find (λ x. is_same_request x.asked p && is_in_time k t x) rs)) (sym is.keep) (sym is.replies) in
     position_snoc (is_repeat (keeping h) t p) h e
@@ -273,22 +273,22 @@ same_series limits own h e same may = record { in_order = may.in_order; allowed 
     allowed e a = a
 
 -- the entry that the answer takes may follow
-pub takes_follow : {b : HouseStateView} {h : History} → StateRepresents b h → (limits : Limits) (q : Asked) (text : List ℕ) (a : Authorization) → limits.series ≡ b.limits.series → limits.journal ≤ 2 ^ 40
-    → answer h b.time limits q ≡ Take (accept_entry b.time text q.target a) → MayFollow b.limits h (accept_entry b.time text q.target a)
-takes_follow {b = b} {h = h} st limits q text a series most takes =
-    let e = accept_entry b.time text q.target a in
+pub takes_follow : {b : HouseStateView} {h : History} → StateRepresents b h → (limits : Limits) (q : Asked) (a : Authorization) → limits.series ≡ b.limits.series → limits.journal ≤ 2 ^ 40
+    → answer h b.time limits q ≡ Take (accept_entry b.time q.target a) → MayFollow b.limits h (accept_entry b.time q.target a)
+takes_follow {b = b} {h = h} st limits q a series most takes =
+    let e = accept_entry b.time q.target a in
     same_series limits b.limits h e series (may_follow h b.time limits q e st.in_time most takes)
 
-pub stands_entered : {old new : HouseStateView} {h : History} → StateRepresents old h → (q : Asked) (c : Certified) (a : Authorization) → scrip_of c.text ≡ Ok (c.piece, c.cert)
-    → IsReady old c q.target a → BringsFor h q.target a.deed → (limits : Limits) → limits.series ≡ old.limits.series → limits.journal ≤ 2 ^ 40 → answer h old.time limits q ≡ Take (accept_entry old.time c.text q.target a)
-    → IsEntered old new (scrip_request c.text q.target q.sign) c.piece a → StateRepresents new (h ++ accept_entry old.time c.text q.target a ∷ [])
-stands_entered {old = old} {new = new} {h = h} st q c a read ready brings limits series bound takes is =
-    let e = accept_entry old.time c.text q.target a in
-    let taken = is_taken h old.time limits q c a read takes in
+pub stands_entered : {old new : HouseStateView} {h : History} → StateRepresents old h → (q : Asked) (a : Authorization) → scrip_of a.scrip.now.text ≡ Ok (a.scrip.now.piece, a.scrip.now.cert)
+    → IsReady old q.target a → BringsFor h q.target a.deed → (limits : Limits) → limits.series ≡ old.limits.series → limits.journal ≤ 2 ^ 40 → answer h old.time limits q ≡ Take (accept_entry old.time q.target a)
+    → IsEntered old new (scrip_request a.scrip.now.text q.target q.sign) a.scrip.now.piece a → StateRepresents new (h ++ accept_entry old.time q.target a ∷ [])
+stands_entered {old = old} {new = new} {h = h} st q a read ready brings limits series bound takes is =
+    let e = accept_entry old.time q.target a in
+    let taken = is_taken h old.time limits q a read takes in
     let same = same_house old.limits h e st.lawful in
-    let terms = all_terms_stay h old c.text q.target a in
+    let terms = all_terms_stay h old q.target a in
     let most : old.own.most ≤ 2 ^ 32 = omega (arith, st.most, st.limits.series_most) in
-    let accepts = accepted_more h old c.text q.target c.piece a taken.piece in
+    let accepts = accepted_more h old q.target a.scrip.now.piece a taken.piece in
     record {
       name = same.name ∙ st.name ∙ sym is.name;
       clear = ap (λ (o : Option House). unwrap_or (option_map (λ x. x.clear) o) false) same.house ∙ st.clear ∙ sym is.clear;
@@ -300,27 +300,27 @@ stands_entered {old = old} {new = new} {h = h} st q c a read ready brings limits
       spent = λ id live.
           let ends : has_ended (h ++ e ∷ []) new.time id ≡ has_ended h old.time id =
           ap₂ (λ (ts : List Issuing) (t : ℕ). unwrap_or (option_map (λ x. leb (series_end x (epoch_of id)) t) (terms_by ts (issuer_of id))) false) terms is.time in
-          ap (list_any (λ p. p.id == id)) accepts ∙ list_any-append (λ p. p.id == id) (accepted h) (c.piece ∷ [])
-          ∙ ap₂ (λ (x y : Bool). x || y) (st.spent id (sym ends ∙ live)) (or_end (eqb c.piece.id id)) ∙ sym (is.spent id);
+          ap (list_any (λ p. p.id == id)) accepts ∙ list_any-append (λ p. p.id == id) (accepted h) (a.scrip.now.piece ∷ [])
+          ∙ ap₂ (λ (x y : Bool). x || y) (st.spent id (sym ends ∙ live)) (or_end (eqb a.scrip.now.piece.id id)) ∙ sym (is.spent id);
       again = λ t p later.
           ap (λ (o : Option House). position (is_repeat (unwrap_or (option_map (λ x. x.keep) o) 0) t p) (h ++ e ∷ [])) same.house
-          ∙ again_more st q c a taken.sign is t p (omega (arith, later, is.time));
+          ∙ again_more st q a taken.sign is t p (omega (arith, later, is.time));
       replies = subst (All (IsReply (h ++ e ∷ []))) (sym is.replies)
-          (All-push (IsReply (h ++ e ∷ [])) old.kept.replies (record { asked = scrip_request c.text q.target q.sign; entry = kept_entry old c.piece a })
-          (All-weaker (IsReply h) (IsReply (h ++ e ∷ [])) (λ r. reply_kept h e r) old.kept.replies st.replies) (reply_new st q c a taken.piece ready is.short most brings));
-      issued = λ s. own_count_snoc h old c.text q.target a s ∙ ap₂ (λ (m n : ℕ). m + n) (st.issued s) (change_counted h old c.text q.target c.piece a s most taken.piece ready.change) ∙ sym (is.issued s);
+          (All-push (IsReply (h ++ e ∷ [])) old.kept.replies (record { asked = scrip_request a.scrip.now.text q.target q.sign; entry = kept_entry old a.scrip.now.piece a })
+          (All-weaker (IsReply h) (IsReply (h ++ e ∷ [])) (λ r. reply_kept h e r) old.kept.replies st.replies) (reply_new st q a taken.piece ready is.short most brings));
+      issued = λ s. own_count_snoc h old q.target a s ∙ ap₂ (λ (m n : ℕ). m + n) (st.issued s) (change_counted h old q.target a.scrip.now.piece a s most taken.piece ready.change) ∙ sym (is.issued s);
       most = is.most ∙ st.most ∙ ap (λ (l : Limits). l.series) (sym is.limits);
-      redeemed = λ s. ap (λ (ps : List Scrip). values (of_series s ps)) accepts ∙ values_more s (accepted h) (c.piece ∷ [])
-          ∙ ap₂ (λ (m n : ℕ). m + n) (st.redeemed s) (one_value (series_of c.piece.id) s c.piece.value c.piece refl refl) ∙ sym (is.redeemed s);
+      redeemed = λ s. ap (λ (ps : List Scrip). values (of_series s ps)) accepts ∙ values_more s (accepted h) (a.scrip.now.piece ∷ [])
+          ∙ ap₂ (λ (m n : ℕ). m + n) (st.redeemed s) (one_value (series_of a.scrip.now.piece.id) s a.scrip.now.piece.value a.scrip.now.piece refl refl) ∙ sym (is.redeemed s);
       worth = λ s. ap (λ (ps : List Scrip). values (of_series s ps)) (own_out_snoc [] h e) ∙ values_more s (own_out h) (option_to_list (change_piece h e))
-          ∙ ap₂ (λ (m n : ℕ). m + n) (st.worth s) (change_worthy h old c.text q.target c.piece a s most taken.piece ready.change) ∙ sym (is.worth s);
+          ∙ ap₂ (λ (m n : ℕ). m + n) (st.worth s) (change_worthy h old q.target a.scrip.now.piece a s most taken.piece ready.change) ∙ sym (is.worth s);
       takings = omega (arith, sum_by-append price_paid h (e ∷ []), st.takings, is.takings, taken.price);
       counted = omega (arith, length-append h (e ∷ []), st.counted, is.counted);
       sized = omega (arith, size_snoc h e, length-tail h e, st.sized, st.tail, ready.payload, is.sized);
       tail = tail_size-more h e ∙ st.tail;
       version = ap₂ (λ (v : List ℕ → ℕ → ℕ) (n : List ℕ). v n) (version-more h e) same.name ∙ st.version ∙ ap (version []) (sym is.name);
       limits = rw is.limits st.limits;
-      lawful = rw is.limits (longer_lawful old.limits h e st.lawful (takes_follow st limits q c.text a series bound takes));
+      lawful = rw is.limits (longer_lawful old.limits h e st.lawful (takes_follow st limits q a series bound takes));
     }
   where
     some : Issuing → Option Issuing

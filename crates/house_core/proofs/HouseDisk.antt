@@ -3,7 +3,6 @@ use Rattle.std.proofs.Common.{◌≡◌, ◌∙◌, ℕ, ◌+◌, ◌<◌, ◌�
 use Rattle.std.specs.Prelude.{Result, MatchResult}
 use Rattle.mc_outside.specs.DiskView.{DiskView, DiskGoes, IsDisk, Ran}
 use Rattle.mc_outside.proofs.Runs.{ran_then, ran_weaker, ran_none}
-use Rattle.scrip_form.specs.Scrip.{Certified}
 use Rattle.mc_records.specs.Entry.{Entry, payload}
 use Rattle.mc_records.specs.Sizes.{size, entry_size}
 use Rattle.mc_records.proofs.SizeLaws.{length-tail}
@@ -19,15 +18,14 @@ use Rattle.house_core.specs.declared.house.House.{House}
 use Rattle.house_core.specs.declared.verdict.Authorization.{Authorization}
 use Rattle.house_core.specs.HouseState.{HouseStateView, size_with}
 use Rattle.house_core.specs.Representation.{StateRepresents}
-use Rattle.house_core.specs.Verdicts.{accept_entry, stop_of, IsReady}
+use Rattle.house_core.specs.Verdicts.{accept_entry, IsReady}
 use Rattle.house_core.specs.Bench.{Represents, HasContents, IsRoomed, limits_of}
-use Rattle.house_core.specs.House.{HouseRepresents, IsAsItWas, HasEntered, Accepted, Leaves, Refuses}
-use Rattle.house_core.specs.declared.outcome.Outcome.TheVariants.{Refused}
-use Rattle.house_core.specs.declared.verdict.NotAuthorized.{NotAuthorized}
-use Rattle.house_core.specs.declared.verdict.NotAuthorized.TheVariants as stops
+use Rattle.house_core.specs.House.{HouseRepresents, IsAsItWas, HasEntered, Responds, Leaves}
+use Rattle.house_core.specs.declared.outcome.Outcome.TheVariants.{Done, Refused}
+use Rattle.house_core.specs.declared.outcome.Response.TheVariants.{Again}
 use Rattle.mc_records.specs.declared.refusal.Refusal.{Refusal}
 use Rattle.ledger_model.specs.Answer as answers
-use Rattle.ledger_model.specs.Answer.{Answer, answered}
+use Rattle.ledger_model.specs.Answer.{Answer}
 use Rattle.house_core.proofs.Accepting.{holds_roomed}
 use Rattle.house_core.proofs.Contents.{contents_roomed}
 use Rattle.house_core.specs.Trade.{TradeView}
@@ -82,10 +80,10 @@ has_entered view trade x y h e f number same st written limit limits counted ent
 }
 
 -- the entry of an authorization that has room fits the journal
-pub not_full : (b : HouseStateView) (h : History) (c : Certified) (target : List ℕ) (a : Authorization) (limit : ℕ) (f : Entry) → StateRepresents b h → IsReady b c target a
+pub not_full : (b : HouseStateView) (h : History) (target : List ℕ) (a : Authorization) (limit : ℕ) (f : Entry) → StateRepresents b h → IsReady b target a
     → size_with b a.payload ≤ b.limits.journal → limit ≡ b.limits.journal
-    → f ≡ accept_entry b.time c.text target a → limit < size h + entry_size h f → ⊥
-not_full b h c target a limit f st ready room limits same full =
+    → f ≡ accept_entry b.time target a → limit < size h + entry_size h f → ⊥
+not_full b h target a limit f st ready room limits same full =
     let long : length (payload f) ≡ a.payload = ap (λ (e : Entry). length (payload e)) same ∙ sym ready.payload in
     omega (arith, long, room, length-tail h f, st.sized, st.tail, limits, full)
 
@@ -94,17 +92,25 @@ not_full b h c target a limit f st ready room limits same full =
 pub as_it_stood : {D T : Type 0} (view : D → DiskView) (trade : T → TradeView) (x : House D T) (h : History) → HouseRepresents view trade x h → IsAsItWas view trade x.journal.disk x h
 as_it_stood view trade x h st = record { represents = st; disk' = refl }
 
-pub not_accepted : {D T : Type 0} (view : D → DiskView) (trade : T → TradeView) (x : House D T) (h : History) (a : Answer) (s : NotAuthorized) (f : Refusal) → Refuses f s → answered (Err (stop_of s)) ≡ a
-    → HouseRepresents view trade x h → Accepted view trade x.journal.disk h a (Refused x f)
-not_accepted view trade x h a (stops.Refused g) f same e st =
-    subst (λ (b : Answer). Accepted view trade x.journal.disk h b (Refused x f)) e (same, as_it_stood view trade x h st)
-not_accepted view trade x h a (stops.Again n) f same e st =
-    subst (λ (b : Answer). Accepted view trade x.journal.disk h b (Refused x f)) e (same, as_it_stood view trade x h st)
+pub responds_refused : {D T : Type 0} (view : D → DiskView) (trade : T → TradeView) (x : House D T) (h : History) (a : Answer) (f : Refusal) → answers.Refused f ≡ a
+    → HouseRepresents view trade x h → Responds view trade x.journal.disk h a (Refused x f)
+responds_refused view trade x h a f e st =
+    subst (λ (b : Answer). Responds view trade x.journal.disk h b (Refused x f)) e (refl, as_it_stood view trade x h st)
+
+pub responds_again : {D T : Type 0} (view : D → DiskView) (trade : T → TradeView) (x : House D T) (h : History) (a : Answer) (n : ℕ) → answers.Again n ≡ a
+    → HouseRepresents view trade x h → Responds view trade x.journal.disk h a (Done x (Again n))
+responds_again view trade x h a n e st =
+    subst (λ (b : Answer). Responds view trade x.journal.disk h b (Done x (Again n))) e (refl, as_it_stood view trade x h st)
 
 pub ran_refused : {D T : Type 0} (A : Type 0) (u v : DiskView) (a : Answer) (x : House D T) (f : Refusal) (h : History) (aside : List ℕ) → Ran u v (EncodesNoOutput h aside) → Ran u v (Leaves {D = D} {T = T} {A = A} a (Refused x f) h aside)
 ran_refused A u v (answers.Refused g) x f h aside ran = ran
 ran_refused A u v (answers.Again n) x f h aside ran = ran
 ran_refused A u v (answers.Take e) x f h aside ran = ran
+
+pub ran_again : {D T : Type 0} (A : Type 0) (u v : DiskView) (a : Answer) (x : House D T) (r : A) (n : ℕ) (h : History) (aside : List ℕ) → answers.Again n ≡ a
+    → Ran u v (EncodesNoOutput h aside) → Ran u v (Leaves {D = D} {T = T} {A = A} a (Done x r) h aside)
+ran_again {D = D} {T = T} A u v a x r n h aside e ran =
+    subst (λ (b : Answer). Ran u v (Leaves {D = D} {T = T} {A = A} b (Done x r) h aside)) e ran
 
 -- ---- an entry that accepts nothing
 

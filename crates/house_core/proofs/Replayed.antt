@@ -26,17 +26,17 @@ stops (Refuse f) a e is takes = absurd cc
 stops (Repeat n) a e is takes = absurd cc
 
 -- the entry of an authorization, where an entry says the same
-pub said_entry : (t : ℕ) (text other target goal : List ℕ) (a : Authorization) (sign : Option (List ℕ)) (price : ℕ) (change : Option ℕ) (deed : Deed) → text ≡ other → target ≡ goal
-    → IsSaid a sign price change deed → accept_entry t text target a ≡ Accept t other goal sign price change deed
-said_entry t text other target goal a sign price change deed same at said =
+pub said_entry : (t : ℕ) (other target goal : List ℕ) (a : Authorization) (sign : Option (List ℕ)) (price : ℕ) (change : Option ℕ) (deed : Deed) → a.scrip.now.text ≡ other → target ≡ goal
+    → IsSaid a sign price change deed → accept_entry t target a ≡ Accept t other goal sign price change deed
+said_entry t other target goal a sign price change deed same at said =
     let s = said.sign in
     let p = said.price in
     let c = said.change in
     let d = said.deed in
     cc (same, at, s, p, c, d)
 
-pub is_said : (t u : ℕ) (text other target goal : List ℕ) (a : Authorization) (sign : Option (List ℕ)) (price : ℕ) (change : Option ℕ) (deed : Deed) (answer : Answer)
-    → answers.Take (accept_entry t text target a) ≡ answer → answer ≡ answers.Take (Accept u other goal sign price change deed) → IsSaid a sign price change deed
-is_said t u text other target goal a sign price change deed answer is takes =
-    let same : answers.Take (accept_entry t text target a) ≡ answers.Take (Accept u other goal sign price change deed) = is ∙ takes in
+pub is_said : (t u : ℕ) (other target goal : List ℕ) (a : Authorization) (sign : Option (List ℕ)) (price : ℕ) (change : Option ℕ) (deed : Deed) (answer : Answer)
+    → answers.Take (accept_entry t target a) ≡ answer → answer ≡ answers.Take (Accept u other goal sign price change deed) → IsSaid a sign price change deed
+is_said t u other target goal a sign price change deed answer is takes =
+    let same : answers.Take (accept_entry t target a) ≡ answers.Take (Accept u other goal sign price change deed) = is ∙ takes in
     record { sign = cc same; price = cc same; change = cc same; deed = cc same }

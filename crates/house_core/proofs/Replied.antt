@@ -72,17 +72,17 @@ change_is {b = b} {h = h} st paid price id short below is =
     ap (λ (o : Option Issuing). unwrap_or (option_map (λ t. series_end t (epoch_of id)) o) 0) st.own_terms ∙ ap (series_end b.own_terms) at in
     λ i. record { vendor = st.name i; value = paid.value - price; id = id; cust = paid.cust; expires = ends i; props = paid.props }
 
-changes_are : {b : HouseStateView} {h : History} → StateRepresents b h → (c : Certified) (target : List ℕ) (a : Authorization) → piece_of c.text ≡ Some c.piece → epoch b.own_terms b.time < 2 ^ 24 → b.own.most ≤ 2 ^ 32
-    → HasChange b a.price c.piece.value a.change
-    → option_map (own_text h) (change_piece h (accept_entry b.time c.text target a)) ≡ option_map (λ x. scrip_text x.0 x.1) (option_map (certified_change b c.piece a.price) a.change)
-changes_are {b = b} {h = h} st c target a piece short most has = go a.change has
+changes_are : {b : HouseStateView} {h : History} → StateRepresents b h → (target : List ℕ) (a : Authorization) → piece_of a.scrip.now.text ≡ Some a.scrip.now.piece → epoch b.own_terms b.time < 2 ^ 24 → b.own.most ≤ 2 ^ 32
+    → HasChange b a.price a.scrip.now.piece.value a.change
+    → option_map (own_text h) (change_piece h (accept_entry b.time target a)) ≡ option_map (λ x. scrip_text x.0 x.1) (option_map (certified_change b a.scrip.now.piece a.price) a.change)
+changes_are {b = b} {h = h} st target a piece short most has = go a.change has
   where
-    go : (o : Option ℕ) → HasChange b a.price c.piece.value o
-        → option_map (own_text h) (change_piece h (Accept b.time c.text target a.sign a.price o (entry_deed a.deed))) ≡ option_map (λ x. scrip_text x.0 x.1) (option_map (certified_change b c.piece a.price) o)
+    go : (o : Option ℕ) → HasChange b a.price a.scrip.now.piece.value o
+        → option_map (own_text h) (change_piece h (Accept b.time a.scrip.now.text target a.sign a.price o (entry_deed a.deed))) ≡ option_map (λ x. scrip_text x.0 x.1) (option_map (certified_change b a.scrip.now.piece a.price) o)
     go None has = refl
     go (Some id) has =
-        let made = change_made b c.piece a.price id in
-        let same : change_from h c.piece a.price id ≡ made = change_is st c.piece a.price id short (omega (arith, most, has.1)) has.2 in
+        let made = change_made b a.scrip.now.piece a.price id in
+        let same : change_from h a.scrip.now.piece a.price id ≡ made = change_is st a.scrip.now.piece a.price id short (omega (arith, most, has.1)) has.2 in
         let certified : (ℕ → ℕ) → Option Issuing → List ℕ = λ v o. scrip_text made (unwrap_or (option_map (λ t. certificate_in (v (series_of id)) t (scrip_body made) id) o) []) in
         let versions : version h b.name ≡ version_of b = ap (version h) (sym st.name) ∙ st.version in
         let text : own_text h made ≡ certified (version_of b) (Some b.own_terms) = ap₂ certified versions st.own_terms in
@@ -90,17 +90,17 @@ changes_are {b = b} {h = h} st c target a piece short most has = go a.change has
         ∙ ap (λ (p : Scrip). some (own_text h p)) same ∙ ap some text
 
 -- the reply to a new entry
-pub reply_new : {b : HouseStateView} {h : History} → StateRepresents b h → (q : Asked) (c : Certified) (a : Authorization) → piece_of c.text ≡ Some c.piece → IsReady b c q.target a → epoch b.own_terms b.time < 2 ^ 24 → b.own.most ≤ 2 ^ 32
-    → BringsFor h q.target a.deed → IsReply (h ++ accept_entry b.time c.text q.target a ∷ []) (record { asked = scrip_request c.text q.target q.sign; entry = kept_entry b c.piece a })
-reply_new {b = b} {h = h} st q c a piece ready short most brings =
-    let e = accept_entry b.time c.text q.target a in
+pub reply_new : {b : HouseStateView} {h : History} → StateRepresents b h → (q : Asked) (a : Authorization) → piece_of a.scrip.now.text ≡ Some a.scrip.now.piece → IsReady b q.target a → epoch b.own_terms b.time < 2 ^ 24 → b.own.most ≤ 2 ^ 32
+    → BringsFor h q.target a.deed → IsReply (h ++ accept_entry b.time q.target a ∷ []) (record { asked = scrip_request a.scrip.now.text q.target q.sign; entry = kept_entry b a.scrip.now.piece a })
+reply_new {b = b} {h = h} st q a piece ready short most brings =
+    let e = accept_entry b.time q.target a in
     let longer = h ++ e ∷ [] in
     let deed = entry_deed a.deed in
-    let change = option_map (λ x. scrip_text x.0 x.1) (option_map (certified_change b c.piece a.price) a.change) in
-    let secret : secret_for h c.text ≡ Some a.secret = secret_is h c a.secret piece (genuine_stands st c ∙ ready.secret) in
-    let changes = changes_are st c q.target a piece short most ready.change in
+    let change = option_map (λ x. scrip_text x.0 x.1) (option_map (certified_change b a.scrip.now.piece a.price) a.change) in
+    let secret : secret_for h a.scrip.now.text ≡ Some a.secret = secret_is h a.scrip.now a.secret piece (genuine_stands st a.scrip.now ∙ ready.secret) in
+    let changes = changes_are st q.target a piece short most ready.change in
     let front : h ≡ take b.count longer = sym (ap (λ (n : ℕ). take n longer) (sym st.counted) ∙ take-append-le (length h) h (e ∷ []) (omega arith) ∙ take_all (length h) h (omega arith)) in
-    let said : Option (List ℕ) → Option (List ℕ) → History → List ℕ = λ s o f. taken_reply s c.text q.target (brought f q.target deed) (taken_values b.time (brought f q.target deed) a.price o) in
+    let said : Option (List ℕ) → Option (List ℕ) → History → List ℕ = λ s o f. taken_reply s a.scrip.now.text q.target (brought f q.target deed) (taken_values b.time (brought f q.target deed) a.price o) in
     record {
       brings = contents_stay h (e ∷ []) a.deed (brought h q.target deed) brings ∙ ap (λ (f : History). Some (brought f q.target deed)) front;
       within = omega (arith, st.counted, length-append h (e ∷ []));

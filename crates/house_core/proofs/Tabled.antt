@@ -1,12 +1,10 @@
 -- The stages of the table over a history are those over what a house keeps of it.
-use Rattle.std.proofs.Common.{◌≡◌, ℕ, zero, suc, ◌+◌, ◌<◌, ◌≤◌, Bool, true, false, not, cond, List, [], ◌∷◌, length, Option, Some, None, Result, Ok, Err, refl, sym, ap, ap₂, subst, ◌∙◌, arith, leb, ltb, eqb, bytes_eq, slice_get}
-use Rattle.std.specs.Prelude.{◌&&◌, is_none, nat_lt, option_map, unwrap_or, position, MatchResult}
-use Rattle.std.specs.List.{position_or_len}
-use Rattle.std.proofs.lemmas.Bool.{eqb-true, ltb-false}
+use Rattle.std.proofs.Common.{◌≡◌, ℕ, ◌+◌, ◌<◌, ◌≤◌, Bool, true, false, not, cond, List, [], ◌∷◌, Option, Some, None, Result, Ok, Err, refl, sym, ap, ap₂, ◌∙◌, arith, leb, eqb, bytes_eq}
+use Rattle.std.specs.Prelude.{◌&&◌, is_none, nat_lt, option_map, unwrap_or, MatchResult}
+use Rattle.std.proofs.lemmas.Bool.{eqb-true}
 use Rattle.scrip_form.specs.Identities.{issuer_of, epoch_of}
 use Rattle.scrip_form.specs.Issuing.{Issuing, epoch, series_at, series_end}
 use Rattle.scrip_form.specs.Scrip.{Certified}
-use Rattle.scrip_form.specs.Reading.{scrip_of}
 use Rattle.scrip_certs.specs.Digests.{request_signature}
 use Rattle.mc_records.specs.declared.limits.Limits.{Limits}
 use Rattle.mc_records.specs.declared.refusal.Refusal.{Refusal}
@@ -17,18 +15,16 @@ use Rattle.mc_records.proofs.SizeLaws.{length-tail}
 use Rattle.kept_replies.specs.Kept.{found}
 use Rattle.change_issue.specs.Registers.{count_in, next_in}
 use Rattle.ledger_model.specs.Histories.{History}
-use Rattle.ledger_model.specs.Houses.{site_name, keeping, all_terms, terms_by, terms_in, version, own_series}
+use Rattle.ledger_model.specs.Houses.{site_name, all_terms, terms_by, terms_in, version, own_series}
 use Rattle.ledger_model.specs.Pieces.{is_spent}
-use Rattle.ledger_model.specs.Lines.{Stop, Repeat, ◌>>=◌, given, refused_if}
-use Rattle.ledger_model.specs.Stages.{is_repeat, is_right, genuine_by, spendable_by, Offer, next_by, needed, fitted_by}
-use Rattle.ledger_model.specs.Answer.{repeated, genuine, spendable, offer, next_own, fitted, taken, after_read, after_repeat, Answer, Refused, Again, Take, answered, answer}
-use Rattle.ledger_model.proofs.TableLaws.{line_ok, refused_ok, given_ok}
-use Rattle.ledger_model.proofs.RepeatLaws.{again_is_same}
+use Rattle.ledger_model.specs.Lines.{Stop, Repeat, ◌>>=◌, given, refused_if, again_if}
+use Rattle.ledger_model.specs.Stages.{read_by, is_right, genuine_by, spendable_by, Offer, next_by, needed, fitted_by}
+use Rattle.ledger_model.specs.Answer.{repeated, after_read, after_repeat, genuine, spendable, offer, next_own, fitted, taken, answered, answer}
+use Rattle.ledger_model.proofs.TableLaws.{line_ok, refused_ok, given_ok, read_ok}
 use Rattle.house_core.specs.HouseState.{HouseStateView, version_of, tail_of, series_now}
 use Rattle.house_core.specs.House.{HasRun}
 use Rattle.house_core.specs.Spent.{is_marked}
 use Rattle.house_core.specs.Representation.{StateRepresents, has_ended, scrip_request}
-use Rattle.house_core.specs.Verdicts.{repeat_of}
 
 -- ---- 22 to 25
 
@@ -153,75 +149,39 @@ takes {h = h} st limits q c secret sign r is may e =
     let genuine_is : genuine h c ≡ Ok secret = genuine_stands st c ∙ sym is in
     rw (genuine_is, spendable_stands st secret q c genuine_is, ← may) e
 
--- ---- repeats
-
-abbrev pub kept_number : HouseStateView → Asked → Certified → Option ℕ
-kept_number b q c = option_map (λ e. e.number) (found b.kept b.time (scrip_request c.text q.target q.sign))
-
--- the number that a search for the request with its text gives
-pub number_at : (b : HouseStateView) (q asked : Asked) (c : Certified) (r : Option ℕ) → asked ≡ scrip_request c.text q.target q.sign
-    → r ≡ option_map (λ e. e.number) (found b.kept b.time asked) → r ≡ kept_number b q c
-number_at b q asked c r same e = e ∙ ap (λ (p : Asked). option_map (λ e. e.number) (found b.kept b.time p)) same
-
-again_is : {b : HouseStateView} {h : History} → StateRepresents b h → (q : Asked) (c : Certified) → repeated h b.time c q ≡ kept_number b q c
-again_is {b = b} st q c = st.again b.time (scrip_request c.text q.target q.sign) (omega arith)
-
-pub comes_again : {b : HouseStateView} {h : History} → StateRepresents b h → (limits : Limits) (q : Asked) (c : Certified) (n : ℕ) → Some n ≡ kept_number b q c → Err (Repeat n) ≡ after_read h b.time limits q c
-comes_again st limits q c n is = rw (again_is st q c, ← is) refl
-
-pub is_new : {b : HouseStateView} {h : History} → StateRepresents b h → (limits : Limits) (q : Asked) (c : Certified) (r : Result Entry Stop) → None ≡ kept_number b q c
-    → r ≡ after_repeat h b.time limits q c → r ≡ after_read h b.time limits q c
-is_new st limits q c r none e = rw (again_is st q c, ← none) e
-
 -- ---- the whole table
 
-pub answer_read : (h : History) (t : ℕ) (limits : Limits) (q : Asked) (c : Certified) (r : Result Entry Stop) → q.scrip ≡ Some c.text → scrip_of c.text ≡ Ok (c.piece, c.cert)
-    → r ≡ after_read h t limits q c → answered r ≡ answer h t limits q
+-- a request whose scrip text was read is one with this text
+pub scrip_asked : (q : Asked) (c : Certified) → Ok c ≡ read_by q.scrip → q ≡ scrip_request c.text q.target q.sign
+scrip_asked q c read =
+    let text : q.scrip ≡ Some c.text = (read_ok q.scrip c (sym read)).0 in
+    λ i. record { target = q.target; scrip = text i; sign = q.sign }
+
+-- the number of the entry of the same request, by what is kept
+abbrev pub kept_number : HouseStateView → Asked → Option ℕ
+kept_number b q = option_map (λ e. e.number) (found b.kept b.time q)
+
+again_is : {b : HouseStateView} {h : History} → StateRepresents b h → (q : Asked) (c : Certified) → Ok c ≡ read_by q.scrip → repeated h b.time c q ≡ kept_number b q
+again_is {b = b} st q c read = st.again b.time (scrip_request c.text q.target q.sign) (omega arith) ∙ ap (kept_number b) (sym (scrip_asked q c read))
+
+-- there is no scrip text that can be read
+pub unread : (h : History) (t : ℕ) (limits : Limits) (q : Asked) (s : Stop) → Err s ≡ read_by q.scrip → answered (Err s) ≡ answer h t limits q
 unfolding answer
-answer_read h t limits q c r asked read e = rw (asked, read) (ap answered e)
+unread h t limits q s none = ap (λ (r : Result Certified Stop). answered (r >>= λ c. after_read h t limits q c)) none
 
--- the same where the limits are spelled in another way
-pub answer_under : (h : History) (t : ℕ) (limits own : Limits) (q : Asked) (c : Certified) (r : Result Entry Stop) → limits ≡ own → q.scrip ≡ Some c.text → scrip_of c.text ≡ Ok (c.piece, c.cert)
-    → r ≡ after_read h t limits q c → answered r ≡ answer h t own q
-answer_under h t limits own q c r same asked read e = answer_read h t limits q c r asked read e ∙ ap (λ (l : Limits). answer h t l q) same
+-- the same request was accepted within the keeping time
+pub comes_again : {b : HouseStateView} {h : History} → StateRepresents b h → (limits : Limits) (q : Asked) (c : Certified) (n : ℕ) → Ok c ≡ read_by q.scrip → Some n ≡ kept_number b q
+    → answered (Err (Repeat n)) ≡ answer h b.time limits q
+unfolding answer
+comes_again {b = b} {h = h} st limits q c n read is =
+    ap (λ (o : Option ℕ). answered (again_if o >>= λ _. after_repeat h b.time limits q c)) (is ∙ sym (again_is st q c read))
+    ∙ ap (λ (r : Result Certified Stop). answered (r >>= λ c. after_read h b.time limits q c)) read
 
--- ---- the number that a request comes again with
-
--- where no entry passes, none does at any place
-none_passes : (test : Entry → Bool) (h : History) (n : ℕ) → length h ≤ position_or_len test h → option_map test (slice_get h n) ≡ Some true → ⊥
-none_passes test [] n le is = absurd cc
-none_passes test (x ∷ xs) n le is = go (test x) refl n (none_passes test xs) le is
-  where
-    go : (b : Bool) → test x ≡ b → (n : ℕ) → ((m : ℕ) → length xs ≤ position_or_len test xs → option_map test (slice_get xs m) ≡ Some true → ⊥)
-        → suc (length xs) ≤ cond (not b) (1 + position_or_len test xs) 0 → option_map test (slice_get (x ∷ xs) n) ≡ Some true → ⊥
-    go true at n more le is = absurd (omega (arith, le))
-    go false at zero more le is = absurd (cc (at, is))
-    go false at (suc n) more le is = more n (omega (arith, le)) is
-
-not_found : (test : Entry → Bool) (h : History) → position test h ≡ None → length h ≤ position_or_len test h
-not_found test h is = go (ltb (position_or_len test h) (length h)) refl is
-  where
-    some : ℕ → Option ℕ
-    some n = Some n
-
-    go : (b : Bool) → ltb (position_or_len test h) (length h) ≡ b → cond b (some (position_or_len test h)) None ≡ None → length h ≤ position_or_len test h
-    go true lt e = absurd cc
-    go false lt e = ltb-false _ _ lt
-
-not_again : (a : Answer) → ((n : ℕ) → a ≡ Again n → ⊥) → None ≡ repeat_of a
-not_again (Refused f) not = refl
-not_again (Again n) not = absurd (not n refl)
-not_again (Take e) not = refl
-
--- what is kept of a request tells whether it comes again
-pub repeat_kept : {b : HouseStateView} {h : History} → StateRepresents b h → (limits : Limits) (q : Asked) (c : Certified) → q.scrip ≡ Some c.text → scrip_of c.text ≡ Ok (c.piece, c.cert)
-    → kept_number b q c ≡ repeat_of (answer h b.time limits q)
-repeat_kept {b = b} {h = h} st limits q c asked read = by_kept (kept_number b q c) refl
-  where
-    by_kept : (o : Option ℕ) → kept_number b q c ≡ o → o ≡ repeat_of (answer h b.time limits q)
-    by_kept (Some n) is = ap repeat_of (answer_read h b.time limits q c (Err (Repeat n)) asked read (comes_again st limits q c n (sym is)))
-    by_kept None is = not_again (answer h b.time limits q) λ n e.
-        let test : Option (List ℕ) → Entry → Bool = λ scrip. is_repeat (keeping h) b.time (record q { scrip = scrip }) in
-        let passes : option_map (test (Some c.text)) (slice_get h n) ≡ Some true =
-        subst (λ (scrip : Option (List ℕ)). option_map (test scrip) (slice_get h n) ≡ Some true) asked (again_is_same h b.time limits q n e) in
-        none_passes (test (Some c.text)) h n (not_found (test (Some c.text)) h (again_is st q c ∙ is)) passes
+-- it was not
+pub is_new : {b : HouseStateView} {h : History} → StateRepresents b h → (limits : Limits) (q : Asked) (c : Certified) (r : Result Entry Stop) → Ok c ≡ read_by q.scrip → None ≡ kept_number b q
+    → r ≡ after_repeat h b.time limits q c → answered r ≡ answer h b.time limits q
+unfolding answer
+is_new {b = b} {h = h} st limits q c r read none e =
+    ap answered e
+    ∙ ap (λ (o : Option ℕ). answered (again_if o >>= λ _. after_repeat h b.time limits q c)) (none ∙ sym (again_is st q c read))
+    ∙ ap (λ (r : Result Certified Stop). answered (r >>= λ c. after_read h b.time limits q c)) read

@@ -20,11 +20,11 @@ use Rattle.scrip_journal.specs.Rests.{RestsAs, rests_none, rests_then}
 use Rattle.scrip_journal.specs.Exits.{EncodesNoOutput, EitherNoOutput}
 use Rattle.scrip_journal.specs.declared.journal.StageFault.{StageFault}
 use Rattle.scrip_journal.specs.declared.journal.StageFault.TheVariants.{Full, Disk}
-use Rattle.house_core.specs.declared.verdict.NotAuthorized.{NotAuthorized}
-use Rattle.house_core.specs.declared.verdict.NotAuthorized.TheVariants as stops
 use Rattle.house_core.specs.declared.house.House.{House}
 use Rattle.house_core.specs.declared.settled.Settled.{Settled}
 use Rattle.house_core.specs.declared.outcome.Outcome.{Outcome}
+use Rattle.house_core.specs.declared.outcome.Response.{Response}
+use Rattle.house_core.specs.declared.outcome.Response.TheVariants.{New, Again}
 use Rattle.house_core.specs.declared.outcome.Outcome.TheVariants.{Done, Refused, NoMemory, Halted}
 use Rattle.house_core.specs.Bench.{IsHouse, house_time, limits_of}
 use Rattle.house_core.specs.Trade.{TradeView}
@@ -107,9 +107,24 @@ pub record HasEntered {D T : Type 0} (view : D → DiskView) (trade : T → Trad
   pub represents : HouseRepresents view trade x (h ++ e ∷ [])
   pub number' : number ≡ length h
 
+-- the number of the entry whose first reply a request gets
+abbrev pub number_in : Response → ℕ
+number_in (New s) = s.number
+number_in (Again n) = n
+
 -- Of a request with this answer: its entry is on the disk and entered; or memory was refused for it, or
--- the disk failed; a refusal is that of the answer. A request that comes again is not for this call: it is
--- refused as one whose piece is spent, and the house stays as it was.
+-- the disk failed. A refusal, and the number of a request that comes again, are those of the answer, and
+-- the house stays as it was.
+abbrev pub Responds : {D T : Type 0} → (D → DiskView) → (T → TradeView) → D → History → Answer → Outcome D T Response → Type 0
+Responds view trade disk h (answers.Take e) (Done x (New s)) = HasEntered view trade x h e s.number
+Responds view trade disk h (answers.Take e) (NoMemory x) = IsAsItWas view trade disk x h
+Responds view trade disk h (answers.Take e) (Halted d) = Rose (view disk).faults (view d).faults
+Responds view trade disk h (answers.Refused f) (Refused x g) = (g ≡ f) × IsAsItWas view trade disk x h
+Responds view trade disk h (answers.Again n) (Done x (Again m)) = (m ≡ n) × IsAsItWas view trade disk x h
+Responds view trade disk h _ _ = ⊥
+
+-- The same, where a request that comes again is not for the call: it is refused as one whose piece is
+-- spent, and the house stays as it was.
 abbrev pub Accepted : {D T : Type 0} → (D → DiskView) → (T → TradeView) → D → History → Answer → Outcome D T Settled → Type 0
 Accepted view trade disk h (answers.Take e) (Done x s) = HasEntered view trade x h e s.number
 Accepted view trade disk h (answers.Take e) (NoMemory x) = IsAsItWas view trade disk x h
@@ -136,11 +151,6 @@ Leaves _ _ h aside c s = EncodesNoOutput h aside c s
 -- from those sent before to those sent after, so that nothing is said of an entry that is not there.
 abbrev pub SendsOn : History → List ℕ → List ℕ → List ℕ → List ℕ → Type 0
 SendsOn h before after c s = Encodes h c × (BeginsWith before s × BeginsWith s after)
-
--- a refusal is that of what stopped a request; one that comes again is refused as one whose piece is spent
-abbrev pub Refuses : Refusal → NotAuthorized → Type 0
-Refuses f (stops.Refused g) = f ≡ g
-Refuses f (stops.Again n) = f ≡ Spent
 
 -- ---- while links work
 

@@ -6,8 +6,9 @@ pub mod HouseState
 pub mod Founding
 pub mod CommandEntries
 pub mod Representation
-pub mod Verdicts
 pub mod Replying
+pub mod Presented
+pub mod Verdicts
 pub mod Session
 pub mod Bench
 pub mod House

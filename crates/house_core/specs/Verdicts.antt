@@ -1,6 +1,5 @@
 -- What a house says of a request, as the ledger's answer to it.
-use Rattle.std.specs.Prelude.{◌≡◌, ℕ, ◌+◌, ◌≤◌, ◌^◌, List, Option, Some, None, length, IsTrue, Result, Ok, Err}
-use Rattle.scrip_form.specs.Scrip.{Certified}
+use Rattle.std.specs.Prelude.{◌≡◌, ℕ, ◌≤◌, ◌^◌, List, Option, Some, None, length, IsTrue, Result, Ok, Err}
 use Rattle.mc_records.specs.declared.refusal.Refusal.{Refusal}
 use Rattle.mc_records.specs.Entry.{Deed, Entry, Accept, payload}
 use Rattle.kept_replies.specs.Kept.{has_number}
@@ -35,24 +34,27 @@ judged_of (verdicts.Again number) = IsAgain number
 judged_of verdicts.Take = IsTaken
 
 -- the number of the entry whose reply comes again
+abbrev pub again_in : Judged → Option ℕ
+again_in (IsRefused refusal) = None
+again_in (IsAgain number) = Some number
+again_in IsTaken = None
+
 abbrev pub repeat_of : answers.Answer → Option ℕ
-repeat_of (answers.Refused refusal) = None
-repeat_of (answers.Again number) = Some number
-repeat_of (answers.Take e) = None
+repeat_of answer = again_in (judged answer)
 
 -- ---- entries
 
 -- the entry of an authorization
-abbrev pub accept_entry : ℕ → List ℕ → List ℕ → Authorization → Entry
-accept_entry moment text target a = Accept moment text target a.sign a.price a.change (entry_deed a.deed)
+abbrev pub accept_entry : ℕ → List ℕ → Authorization → Entry
+accept_entry moment target a = Accept moment a.scrip.now.text target a.sign a.price a.change (entry_deed a.deed)
 
 -- An authorization that may be entered: the secret is that of the customer of a genuine piece, there is
 -- change where there has to be, the length is that of the payload of its entry, and the entry fits the
 -- greatest journal.
-pub record IsReady (b : HouseStateView) (c : Certified) (target : List ℕ) (a : Authorization) : Type 0 where
-  pub secret : genuine_by b.name (version_of b) b.terms c ≡ Ok a.secret
-  pub change : HasChange b a.price c.piece.value a.change
-  pub payload : a.payload ≡ length (payload (accept_entry b.time c.text target a))
+pub record IsReady (b : HouseStateView) (target : List ℕ) (a : Authorization) : Type 0 where
+  pub secret : genuine_by b.name (version_of b) b.terms a.scrip.now ≡ Ok a.secret
+  pub change : HasChange b a.price a.scrip.now.piece.value a.change
+  pub payload : a.payload ≡ length (payload (accept_entry b.time target a))
   pub fits : size_with b a.payload ≤ 2 ^ 40
 
 -- an entry says what an authorization says: this signature, price, change and deed

@@ -1,7 +1,6 @@
 //! What a house says to a request, and its reply.
 
 ghost use Rattle.std.specs.Prelude.{◌≡◌, IfOk, IfErr, option_map};
-ghost use Rattle.mc_records.specs.Requests.{asked_of};
 ghost use Rattle.ledger_model.specs.Histories.{History};
 ghost use Rattle.ledger_model.specs.Answer.{answer};
 ghost use Rattle.ledger_model.specs.Replies as ledger;
@@ -11,25 +10,26 @@ ghost use Rattle.house_core.specs.Replying.{IsOfSite};
 ghost use Rattle.house_core.specs.Session.{raised, Says, said_reply, refused_reply};
 
 use crate::bench::Bench;
+use crate::presented::Presented;
 use crate::reply::{Reply, refusal_head};
 use crate::signing::{customer_of, signed_refusal, taken_reply};
 use crate::trade::Trade;
 use crate::verdict::BenchFault;
 use mc_base::Moment;
-use mc_records::{Refusal, Request};
+use mc_records::Refusal;
 use millicent_http::HeadRefusal;
 
 impl<T: Trade> Bench<T> {
     /// What is said to a request at a reading of the clock, to which the house time is raised: the number
     /// of the entry whose first reply it gets, or the refusal. Want of memory is refusal 90.
-    pub fn answer(&mut self, reading: Moment, q: &Request<'_>) -> Result<u64, Refusal>
+    pub fn answer(&mut self, reading: Moment, q: &Presented<'_>) -> Result<u64, Refusal>
         ensures limits { limits_of self.new ≡ limits_of self.old }
         ensures kept { IfOk result (KeepsReply self.new) }
         ensures site { IfErr result IsOfSite }
-        ensures went { Refines T.trade (λ s t. Says (answer (raised s reading).history (raised s reading).time (limits_of self.old) (asked_of q.now)) result (raised s reading) t) self.old self.new }
+        ensures went { Refines T.trade (λ s t. Says (answer (raised s reading).history (raised s reading).time (limits_of self.old) q.now) result (raised s reading) t) self.old self.new }
     {
         self.raise(reading);
-        match self.accept(q) {
+        match self.respond(q) {
             Ok(number) => Ok(number),
             Err(BenchFault::Refused(refusal)) => Err(refusal),
             Err(BenchFault::NoMemory) => Err(Refusal::NoMemory),
@@ -39,13 +39,13 @@ impl<T: Trade> Bench<T> {
     /// The reply to a request to which this is said. `room` is for contents that are made for the reply.
     pub fn reply<'a>(
         &'a self,
-        q: &Request<'_>,
+        q: &Presented<'_>,
         said: &Result<u64, Refusal>,
         room: &'a mut [u8; 512],
     ) -> Reply<'a>
         requires kept { IfOk said.now (KeepsReply self.now) }
         requires site { IfErr said.now IsOfSite }
-        ensures { (h : History) → IsHouse T.trade self.now h → result ≡ said_reply (state_of h self.now) (asked_of q.now) said.now }
+        ensures { (h : History) → IsHouse T.trade self.now h → result ≡ said_reply (state_of h self.now) q.now said.now }
     {
         let number = match said {
             Ok(number) => *number,
@@ -78,23 +78,28 @@ impl<T: Trade> Bench<T> {
     }
 
     /// The reply to a request that is refused at the house time.
-    fn refusal_reply(&self, q: &Request<'_>, refusal: &Refusal) -> Reply<'static>
+    fn refusal_reply(&self, q: &Presented<'_>, refusal: &Refusal) -> Reply<'static>
         requires { IsOfSite refusal.now }
-        ensures { (h : History) → Represents T.trade self.now h → result ≡ ledger.refusal_of h (house_time self.now) (asked_of q.now) refusal.now }
+        ensures { (h : History) → Represents T.trade self.now h → result ≡ ledger.refusal_of h (house_time self.now) q.now refusal.now }
     {
         let time = self.state.time();
-        let price = self.price_told(q.target, refusal);
+        let request = q.request();
+        let price = self.price_told(request.target, refusal);
         match self.secret_of_refusal(q, refusal) {
-            Some(secret) => signed_refusal(time, q, refusal, price, &secret),
+            Some(secret) => signed_refusal(time, request, refusal, price, &secret),
             None => Reply::of(&refusal_head(time, refusal, price), b""),
         }
     }
 
     /// The reply to a refusal at the house time: that of a request, or of a head that is no request.
     #[tactic(auto, unfolding(ledger_model::specs::Replies::head_refusal))]
-    pub(crate) fn refused_reply(&self, q: Option<&Request<'_>>, refusal: &Refusal) -> Reply<'static>
+    pub(crate) fn refused_reply(
+        &self,
+        q: Option<&Presented<'_>>,
+        refusal: &Refusal,
+    ) -> Reply<'static>
         requires { IsOfSite refusal.now }
-        ensures { (h : History) → Represents T.trade self.now h → result ≡ refused_reply h (house_time self.now) (option_map (λ q. asked_of q.now) q.entry) refusal.now }
+        ensures { (h : History) → Represents T.trade self.now h → result ≡ refused_reply h (house_time self.now) (option_map (λ q. q.now) q.entry) refusal.now }
     {
         match q {
             Some(q) => self.refusal_reply(q, refusal),
@@ -115,8 +120,8 @@ impl<T: Trade> Bench<T> {
     }
 
     /// The secret under which the reply to the refusal of a request is signed, where it is signed.
-    fn secret_of_refusal(&self, q: &Request<'_>, refusal: &Refusal) -> Option<[u8; 16]>
-        ensures { (h : History) → Represents T.trade self.now h → result ≡ ledger.secret_of_refusal h (asked_of q.now) refusal.now }
+    fn secret_of_refusal(&self, q: &Presented<'_>, refusal: &Refusal) -> Option<[u8; 16]>
+        ensures { (h : History) → Represents T.trade self.now h → result ≡ ledger.secret_of_refusal h q.now refusal.now }
     {
         if refusal.is_signed() {
             customer_of(&self.state, q)

@@ -6,27 +6,25 @@ ghost use Rattle.house_core.specs.CommandEntries.{IsCommand};
 ghost use Rattle.ledger_model.specs.Houses.{site_kind};
 ghost use Rattle.ledger_model.specs.Lawful.{MayFollow};
 ghost use Rattle.house_core.specs.Founding.{FoundsHouse};
-ghost use Rattle.scrip_form.specs.Reading.{scrip_of};
 ghost use Rattle.scrip_form.specs.Texts.{IsTarget};
-ghost use Rattle.mc_records.specs.declared.refusal.Refusal.TheVariants.{BadScrip};
-ghost use Rattle.mc_records.specs.Requests.{asked_of, seen};
+ghost use Rattle.mc_records.specs.Requests.{asked_of};
 ghost use Rattle.mc_records.specs.Views.{deed_of, entry};
 ghost use Rattle.kept_replies.specs.Kept.{found};
 ghost use Rattle.ledger_model.specs.Histories.{History, time};
 ghost use Rattle.ledger_model.specs.Answer as model;
+ghost use Rattle.ledger_model.specs.Stages.{read_by};
 ghost use Rattle.house_core.specs.Bench.{Represents, HasContents, IsRoomed, KeepsReply, Takes, Accepts, KeepsContents, FaultIsOfSite, Enters, Follows, stopped_with, house_time, limits_of};
 ghost use Rattle.house_core.specs.HouseState.{size_with, HasRoom, HasRoomFor, GoesOn};
 ghost use Rattle.house_core.specs.Views.{entry_deed};
-ghost use Rattle.house_core.specs.Representation.{scrip_request};
 ghost use Rattle.house_core.specs.Trade.{OfGoods, NamesInForce, BringsFor};
-ghost use Rattle.house_core.specs.Replying.{IsOfSite};
 ghost use Rattle.house_core.specs.declared.verdict.Verdict.TheVariants as verdicts;
 ghost use Rattle.house_core.specs.Verdicts.{judged, judged_of, repeat_of, accept_entry, IsReady};
 
-use crate::evaluate::{evaluate, request_with};
+use crate::evaluate::evaluate;
 use crate::founding::{found_state, payload_len};
 use crate::house_state::HouseState;
 use crate::offer::Unlawful;
+use crate::presented::Presented;
 use crate::ranges::authorization_fits;
 use crate::replaying::ReplayEnd;
 use crate::stages::fitted;
@@ -35,7 +33,6 @@ use crate::verdict::{Authorization, BenchFault, EnterFault, NotAuthorized, Verdi
 use kept_replies::Deed;
 use mc_base::{Moment, NoMemory};
 use mc_records::{Limits, PieceList, Record, RecordDeed, Refusal, Request};
-use scrip_form::{FormFault, ScripRef, read_scrip};
 use std::alloc::Global;
 
 /// A house without a journal: its state and the trade that it carries.
@@ -90,20 +87,13 @@ impl<T: Trade> Bench<T> {
 
     /// What the house says of a request at the house time: the ledger's answer without its entry. It
     /// takes no memory.
-    #[tactic(auto, unfolding(ledger_model::specs::Answer::answer))]
     pub fn judge(&self, q: &Request<'_>) -> Verdict
         ensures kept { (n : ℕ) → result ≡ verdicts.Again n → KeepsReply self.now n }
         ensures exact { (h : History) → Represents T.trade self.now h
             → judged_of result ≡ judged (model.answer h (house_time self.now) (limits_of self.now) (asked_of q.now)) }
     {
-        let Some(text) = q.scrip else {
-            return Verdict::Refused(Refusal::NoScrip);
-        };
-        let scrip = match read_scrip(text) {
-            Ok(scrip) => scrip,
-            Err(fault) => return Verdict::Refused(bad_scrip(fault)),
-        };
-        match evaluate(&self.state, self.state.limits(), &self.trade, q, &scrip) {
+        let q = Presented::of(*q);
+        match evaluate(&self.state, self.state.limits(), &self.trade, &q) {
             Ok(_) => Verdict::Take,
             Err(NotAuthorized::Refused(refusal)) => Verdict::Refused(refusal),
             Err(NotAuthorized::Again(number)) => Verdict::Again(number),
@@ -117,12 +107,10 @@ impl<T: Trade> Bench<T> {
         ensures exact { (h : History) → Represents T.trade self.now h
             → result ≡ repeat_of (model.answer h (house_time self.now) (limits_of self.now) (asked_of q.now)) }
     {
-        let Some(text) = q.scrip else {
-            return None;
-        };
-        match read_scrip(text) {
-            Ok(scrip) => self.state.repeated(&request_with(q, &scrip)),
-            Err(_) => None,
+        match self.judge(q) {
+            Verdict::Again(number) => Some(number),
+            Verdict::Refused(_) => None,
+            Verdict::Take => None,
         }
     }
 
@@ -153,24 +141,24 @@ impl<T: Trade> Bench<T> {
             → Accepts T.trade self.new h (model.answer h (house_time self.old) (limits_of self.old) (asked_of q.now)) result }
         ensures contents { (h : History) → Represents T.trade self.old h → HasContents T.trade self.old h → KeepsContents T.trade self.new h (model.answer h (house_time self.old) (limits_of self.old) (asked_of q.now)) result }
     {
-        let Some(text) = q.scrip else {
-            return Err(BenchFault::Refused(Refusal::NoScrip));
-        };
-        let scrip = match read_scrip(text) {
-            Ok(scrip) => scrip,
-            Err(fault) => return Err(BenchFault::Refused(bad_scrip(fault))),
-        };
-        let authorization = match evaluate(
-            &self.state,
-            self.state.limits(),
-            &self.trade,
-            q,
-            &scrip,
-        ) {
+        self.respond(&Presented::of(*q))
+    }
+
+    /// Accepts a request, as [`Bench::accept`] does.
+    pub fn respond(&mut self, q: &Presented<'_>) -> Result<u64, BenchFault>
+        ensures kept { IfOk result (KeepsReply self.new) }
+        ensures site { IfErr result FaultIsOfSite }
+        ensures time { house_time self.new ≡ house_time self.old }
+        ensures limits { limits_of self.new ≡ limits_of self.old }
+        ensures exact { (h : History) → Represents T.trade self.old h
+            → Accepts T.trade self.new h (model.answer h (house_time self.old) (limits_of self.old) q.now) result }
+        ensures contents { (h : History) → Represents T.trade self.old h → HasContents T.trade self.old h → KeepsContents T.trade self.new h (model.answer h (house_time self.old) (limits_of self.old) q.now) result }
+    {
+        let authorization = match evaluate(&self.state, self.state.limits(), &self.trade, q) {
             Ok(authorization) => authorization,
             Err(stopped) => return stopped_with(stopped),
         };
-        match self.commit(q, &scrip, &authorization) {
+        match self.commit(q, &authorization) {
             Ok(number) => Ok(number),
             Err(NoMemory) => Err(BenchFault::NoMemory),
         }
@@ -286,84 +274,83 @@ impl<T: Trade> Bench<T> {
     /// Enters the entry of an authorization, with room for it made first, and answers its number.
     pub(crate) fn commit(
         &mut self,
-        q: &Request<'_>,
-        scrip: &ScripRef<'_>,
-        authorization: &Authorization,
+        q: &Presented<'_>,
+        authorization: &Authorization<'_, '_>,
     ) -> Result<u64, NoMemory>
-        requires read { scrip_of scrip.now.text ≡ Ok (scrip.now.piece, scrip.now.cert) }
-        requires new { found self.old.state.kept self.old.state.time (scrip_request scrip.now.text q.now.target.now (seen q.now.sign)) ≡ None }
+        requires read { Ok authorization.now.scrip.now ≡ read_by q.now.scrip }
+        requires new { found self.old.state.kept self.old.state.time q.now ≡ None }
         requires held { OfGoods (T.trade self.old.trade).holds authorization.now.deed }
-        requires ready { IsReady self.old.state scrip.now q.now.target.now authorization.now }
-        requires brings { (h : History) → (T.trade self.old.trade).represents h → site_kind h ≡ Some (T.trade self.old.trade).site → BringsFor h q.now.target.now authorization.now.deed }
+        requires ready { IsReady self.old.state q.now.target authorization.now }
+        requires brings { (h : History) → (T.trade self.old.trade).represents h → site_kind h ≡ Some (T.trade self.old.trade).site → BringsFor h q.now.target authorization.now.deed }
         ensures kept { IfOk result (KeepsReply self.new) }
         ensures time { house_time self.new ≡ house_time self.old }
         ensures limits { limits_of self.new ≡ limits_of self.old }
         ensures exact { (limits : Bounds) (h : History) → Represents T.trade self.old h → limits.series ≡ (limits_of self.old).series → limits.journal ≤ 2 ^ 40
-            → model.answer h (house_time self.old) limits (asked_of q.now) ≡ model.Take (accept_entry (house_time self.old) scrip.now.text q.now.target.now authorization.now)
-            → Takes T.trade self.new h (accept_entry (house_time self.old) scrip.now.text q.now.target.now authorization.now) result }
+            → model.answer h (house_time self.old) limits q.now ≡ model.Take (accept_entry (house_time self.old) q.now.target authorization.now)
+            → Takes T.trade self.new h (accept_entry (house_time self.old) q.now.target authorization.now) result }
         ensures contents { (h : History) → Represents T.trade self.old h → HasContents T.trade self.old h → NamesInForce h authorization.now.deed
-            → MatchResult result (λ n. HasContents T.trade self.new (h ++ accept_entry (house_time self.old) scrip.now.text q.now.target.now authorization.now ∷ [])) (λ f. HasContents T.trade self.new h) }
+            → MatchResult result (λ n. HasContents T.trade self.new (h ++ accept_entry (house_time self.old) q.now.target authorization.now ∷ [])) (λ f. HasContents T.trade self.new h) }
     {
-        match self.make_room(q, scrip, authorization) {
+        // The check lets a record go only where the types of its parts are named.
+        let _pieces: Option<PieceList<'_>> = None;
+        let record = entry_of(self.state.time(), q.request(), authorization);
+        match self.make_room(q, authorization, &record) {
             Ok(()) => (),
             Err(NoMemory) => return Err(NoMemory),
         }
-        Ok(self.apply_accept(q, scrip, authorization))
+        Ok(self.apply_accept(q, authorization, &record))
     }
 
     /// Makes room to enter the entry of an authorization, in the trade and in the state. The house stays as it
     /// is, after an `Err` too.
     pub(crate) fn make_room(
         &mut self,
-        q: &Request<'_>,
-        scrip: &ScripRef<'_>,
-        authorization: &Authorization,
+        q: &Presented<'_>,
+        authorization: &Authorization<'_, '_>,
+        r: &Record<'_>,
     ) -> Result<(), NoMemory>
         ensures same { IsRoomed T.trade self.old self.new }
-        ensures trade { OnOk result ((T.trade self.new.trade).has_room (accept_entry (house_time self.old) scrip.now.text q.now.target.now authorization.now)) }
-        ensures state { OnOk result (HasRoom self.new.state (scrip_request scrip.now.text q.now.target.now (seen q.now.sign)) scrip.now.piece.id) }
+        ensures trade { OnOk result ((T.trade self.new.trade).has_room (entry r.now)) }
+        ensures state { OnOk result (HasRoom self.new.state q.now authorization.now.scrip.now.piece.id) }
     {
-        let request = request_with(q, scrip);
-        // The check lets a record go only where the types of its parts are named.
-        let _pieces: Option<PieceList<'_>> = None;
-        let record = entry_of(self.state.time(), q, scrip, authorization);
-        match self.trade.reserve(&record) {
+        match self.trade.reserve(r) {
             Ok(()) => (),
             Err(NoMemory) => return Err(NoMemory),
         }
-        self.state.reserve(&request, scrip.piece().id())
+        self.state
+            .reserve(q.request(), authorization.scrip.piece().id())
     }
 
     /// Enters the entry of an authorization, for which there is room, and answers its number. It takes no
     /// memory.
     pub(crate) fn apply_accept(
         &mut self,
-        q: &Request<'_>,
-        scrip: &ScripRef<'_>,
-        authorization: &Authorization,
+        q: &Presented<'_>,
+        authorization: &Authorization<'_, '_>,
+        r: &Record<'_>,
     ) -> u64
-        requires read { scrip_of scrip.now.text ≡ Ok (scrip.now.piece, scrip.now.cert) }
-        requires new { found self.old.state.kept self.old.state.time (scrip_request scrip.now.text q.now.target.now (seen q.now.sign)) ≡ None }
+        requires is { entry r.now ≡ accept_entry (house_time self.old) q.now.target authorization.now }
+        requires read { Ok authorization.now.scrip.now ≡ read_by q.now.scrip }
+        requires new { found self.old.state.kept self.old.state.time q.now ≡ None }
         requires held { OfGoods (T.trade self.old.trade).holds authorization.now.deed }
-        requires ready { IsReady self.old.state scrip.now q.now.target.now authorization.now }
-        requires trade { (T.trade self.old.trade).has_room (accept_entry (house_time self.old) scrip.now.text q.now.target.now authorization.now) }
-        requires state { HasRoom self.old.state (scrip_request scrip.now.text q.now.target.now (seen q.now.sign)) scrip.now.piece.id }
+        requires ready { IsReady self.old.state q.now.target authorization.now }
+        requires trade { (T.trade self.old.trade).has_room (entry r.now) }
+        requires state { HasRoom self.old.state q.now authorization.now.scrip.now.piece.id }
         ensures kept { KeepsReply self.new result }
         ensures time { house_time self.new ≡ house_time self.old }
         ensures limits { limits_of self.new ≡ limits_of self.old }
-        ensures exact { (limits : Bounds) (h : History) → Represents T.trade self.old h → BringsFor h q.now.target.now authorization.now.deed
+        ensures exact { (limits : Bounds) (h : History) → Represents T.trade self.old h → BringsFor h q.now.target authorization.now.deed
             → limits.series ≡ (limits_of self.old).series → limits.journal ≤ 2 ^ 40
-            → model.answer h (house_time self.old) limits (asked_of q.now) ≡ model.Take (accept_entry (house_time self.old) scrip.now.text q.now.target.now authorization.now)
-            → (result ≡ length h) × Represents T.trade self.new (h ++ accept_entry (house_time self.old) scrip.now.text q.now.target.now authorization.now ∷ []) }
+            → model.answer h (house_time self.old) limits q.now ≡ model.Take (accept_entry (house_time self.old) q.now.target authorization.now)
+            → (result ≡ length h) × Represents T.trade self.new (h ++ accept_entry (house_time self.old) q.now.target authorization.now ∷ []) }
         ensures contents { (h : History) → Represents T.trade self.old h → HasContents T.trade self.old h → NamesInForce h authorization.now.deed
-            → HasContents T.trade self.new (h ++ accept_entry (house_time self.old) scrip.now.text q.now.target.now authorization.now ∷ []) }
+            → HasContents T.trade self.new (h ++ accept_entry (house_time self.old) q.now.target authorization.now ∷ []) }
     {
-        let request = request_with(q, scrip);
         let number = self.state.count();
-        let _pieces: Option<PieceList<'_>> = None;
-        let record = entry_of(self.state.time(), q, scrip, authorization);
-        let _learned = self.trade.learn(number, &record);
-        self.state.enter(&request, &scrip.piece(), authorization);
+        // What the house answers is lawful, so a trade has nothing against it.
+        let _learned = self.trade.learn(number, r);
+        self.state
+            .enter(q.request(), &authorization.scrip.piece(), authorization);
         number
     }
 }
@@ -372,29 +359,21 @@ impl<T: Trade> Bench<T> {
 pub(crate) fn entry_of<'a>(
     time: Moment,
     q: &Request<'a>,
-    scrip: &ScripRef<'a>,
-    authorization: &Authorization,
+    authorization: &Authorization<'_, 'a>,
 ) -> Record<'a>
-    ensures same { entry result ≡ accept_entry time scrip.now.text q.now.target.now authorization.now }
+    ensures same { entry result ≡ accept_entry time q.now.target.now authorization.now }
     ensures fits { IsTarget q.now.target.now → Fits (entry result) }
 {
-    authorization_fits(time, scrip, q.target, authorization);
+    authorization_fits(time, q.target, authorization);
     Record::Accept {
         moment: time,
-        scrip: scrip.text(),
+        scrip: authorization.scrip.text(),
         target: q.target,
         sign: authorization.sign,
         price: authorization.price,
         change: authorization.change,
         deed: record_deed(&authorization.deed),
     }
-}
-
-pub(crate) fn bad_scrip(fault: FormFault) -> Refusal
-    ensures same { result ≡ BadScrip fault.place }
-    ensures site { IsOfSite result }
-{
-    Refusal::BadScrip(fault.place as u64)
 }
 
 /// What comes of a request that makes no entry.

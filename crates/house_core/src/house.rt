@@ -5,16 +5,16 @@ ghost use Rattle.mc_outside.specs.Bytes.{Rose};
 ghost use Rattle.mc_outside.specs.DiskView.{Ran};
 ghost use Rattle.scrip_form.specs.Identities.{series_of};
 ghost use Rattle.scrip_form.specs.Issuing.{Issuing};
-ghost use Rattle.scrip_form.specs.Reading.{scrip_of};
 ghost use Rattle.scrip_form.specs.Scrip.{scrip_body};
 ghost use Rattle.scrip_form.specs.Texts.{IsTarget};
 ghost use Rattle.mc_records.specs.Entry.{Entry, Fits, moment_of};
-ghost use Rattle.mc_records.specs.Requests.{asked_of, seen};
+ghost use Rattle.mc_records.specs.Requests.{asked_of};
 ghost use Rattle.mc_records.specs.Sizes.{size, entry_size};
 ghost use Rattle.mc_records.specs.Views.{entry};
 ghost use Rattle.kept_replies.specs.Kept.{found};
 ghost use Rattle.ledger_model.specs.Histories.{History};
 ghost use Rattle.ledger_model.specs.Answer as model;
+ghost use Rattle.ledger_model.specs.Stages.{read_by};
 ghost use Rattle.ledger_model.specs.Houses.{site_name, terms_in, version, certificate_in, secret_in};
 ghost use Rattle.ledger_model.specs.Lawful.{MayFollow};
 ghost use Rattle.house_core.specs.CommandEntries.{IsCommand};
@@ -22,16 +22,16 @@ ghost use Rattle.scrip_journal.specs.States.{IsJournal};
 ghost use Rattle.scrip_journal.specs.Exits.{EitherNoOutput, MatchStageFault};
 ghost use Rattle.house_core.specs.HouseState.{size_with};
 ghost use Rattle.house_core.specs.Bench.{IsHouse, KeepsReply, house_time, limits_of};
-ghost use Rattle.house_core.specs.Representation.{scrip_request};
 ghost use Rattle.house_core.specs.Trade.{OfGoods, NamesInForce, BringsFor};
 ghost use Rattle.house_core.specs.Replying.{IsOfSite};
 ghost use Rattle.house_core.specs.declared.verdict.Verdict.TheVariants as verdicts;
-ghost use Rattle.house_core.specs.Verdicts.{judged, judged_of, repeat_of, accept_entry, IsReady, StopIsOfSite};
-ghost use Rattle.house_core.specs.House.{HouseRepresents, HandsBack, HasRun, KeepsTime, RaisedTo, IfDone, IfRefused, Accepted, Entered, Leaves, Refuses, outcome_disk};
+ghost use Rattle.house_core.specs.Verdicts.{judged, judged_of, repeat_of, accept_entry, IsReady};
+ghost use Rattle.house_core.specs.House.{HouseRepresents, HandsBack, HasRun, KeepsTime, RaisedTo, IfDone, IfRefused, Accepted, Responds, Entered, Leaves, number_in, outcome_disk};
 
-use crate::bench::{Bench, bad_scrip, entry_of};
+use crate::bench::{Bench, entry_of};
 use crate::evaluate::evaluate;
-use crate::outcome::Outcome;
+use crate::outcome::{Outcome, Response};
+use crate::presented::Presented;
 use crate::settled::Settled;
 use crate::stages::terms_of;
 use crate::trade::Trade;
@@ -39,7 +39,7 @@ use crate::verdict::{Authorization, EnterFault, NotAuthorized, Verdict};
 use mc_base::{Moment, NoMemory};
 use mc_outside::Disk;
 use mc_records::{Limits, PieceList, Record, Refusal, Request};
-use scrip_form::{Id, Name, Piece, ScripRef, Terms, read_scrip};
+use scrip_form::{Id, Name, Piece, Terms};
 use scrip_journal::{Journal, Receipt, StageFault};
 use std::alloc::Global;
 
@@ -177,7 +177,7 @@ impl<D: Disk, T: Trade> House<D, T> {
 
     /// Accepts a request at the house time: its entry is on the disk behind an open gate, and then it is
     /// entered. All memory is taken before anything is written. A request that comes again is not for
-    /// this call: `repeated` tells it, and here it is refused as one whose piece is spent.
+    /// this call: `respond` tells it apart, and here it is refused as one whose piece is spent.
     pub fn accept(self, q: &Request<'_>) -> Outcome<D, T, Settled>
         requires target { IsTarget q.now.target.now }
         ensures back { HandsBack D.disk D.disk_moved (KeepsTime self) self.journal.disk result }
@@ -188,55 +188,77 @@ impl<D: Disk, T: Trade> House<D, T> {
         ensures ran { (h : History) → HouseRepresents D.disk T.trade self h
             → Ran (D.disk self.journal.disk) (D.disk (outcome_disk result)) (Leaves (model.answer h (house_time self.bench) (limits_of self.bench) (asked_of q.now)) result h (D.disk self.journal.disk).aside) }
     {
+        match self.respond(&Presented::of(*q)) {
+            Outcome::Done(house, response) => match response {
+                Response::New(settled) => Outcome::Done(house, settled),
+                Response::Again(_) => Outcome::Refused(house, Refusal::Spent),
+            },
+            Outcome::Refused(house, refusal) => Outcome::Refused(house, refusal),
+            Outcome::NoMemory(house) => Outcome::NoMemory(house),
+            Outcome::Halted(halted) => Outcome::Halted(halted),
+        }
+    }
+
+    /// Answers a request at the house time. Where it is new, its entry is on the disk behind an open gate,
+    /// and then it is entered; all memory is taken before anything is written. Where it comes again, it
+    /// gets the first reply of its entry, and nothing is written.
+    pub fn respond(self, q: &Presented<'_>) -> Outcome<D, T, Response>
+        requires target { IsTarget q.now.target }
+        ensures back { HandsBack D.disk D.disk_moved (KeepsTime self) self.journal.disk result }
+        ensures site { IfRefused IsOfSite result }
+        ensures kept { IfDone (λ x r. KeepsReply x.bench (number_in r)) result }
+        ensures exact { (h : History) → HouseRepresents D.disk T.trade self h
+            → Responds D.disk T.trade self.journal.disk h (model.answer h (house_time self.bench) (limits_of self.bench) q.now) result }
+        ensures ran { (h : History) → HouseRepresents D.disk T.trade self h
+            → Ran (D.disk self.journal.disk) (D.disk (outcome_disk result)) (Leaves (model.answer h (house_time self.bench) (limits_of self.bench) q.now) result h (D.disk self.journal.disk).aside) }
+    {
         let House { journal, bench } = self;
-        let Some(text) = q.scrip else {
-            return Outcome::Refused(House { journal, bench }, Refusal::NoScrip);
-        };
-        let scrip = match read_scrip(text) {
-            Ok(scrip) => scrip,
-            Err(fault) => return Outcome::Refused(House { journal, bench }, bad_scrip(fault)),
-        };
-        match evaluate(&bench.state, bench.state.limits(), &bench.trade, q, &scrip) {
-            Ok(authorization) => House { journal, bench }.commit(q, &scrip, &authorization),
-            Err(stopped) => Outcome::Refused(House { journal, bench }, refusal_of(stopped)),
+        match evaluate(&bench.state, bench.state.limits(), &bench.trade, q) {
+            Ok(authorization) => House { journal, bench }.commit(q, &authorization),
+            Err(NotAuthorized::Refused(refusal)) => {
+                Outcome::Refused(House { journal, bench }, refusal)
+            }
+            Err(NotAuthorized::Again(number)) => {
+                Outcome::Done(House { journal, bench }, Response::Again(number))
+            }
         }
     }
 
     /// Commits a request that was evaluated: makes room for its entry, writes it and enters it.
     fn commit(
         self,
-        q: &Request<'_>,
-        scrip: &ScripRef<'_>,
-        authorization: &Authorization,
-    ) -> Outcome<D, T, Settled>
-        requires target { IsTarget q.now.target.now }
-        requires read { scrip_of scrip.now.text ≡ Ok (scrip.now.piece, scrip.now.cert) }
-        requires new { found self.bench.state.kept self.bench.state.time (scrip_request scrip.now.text q.now.target.now (seen q.now.sign)) ≡ None }
+        q: &Presented<'_>,
+        authorization: &Authorization<'_, '_>,
+    ) -> Outcome<D, T, Response>
+        requires target { IsTarget q.now.target }
+        requires read { Ok authorization.now.scrip.now ≡ read_by q.now.scrip }
+        requires new { found self.bench.state.kept self.bench.state.time q.now ≡ None }
         requires held { OfGoods (T.trade self.bench.trade).holds authorization.now.deed }
-        requires ready { IsReady self.bench.state scrip.now q.now.target.now authorization.now }
+        requires ready { IsReady self.bench.state q.now.target authorization.now }
         requires room { size_with self.bench.state authorization.now.payload ≤ self.bench.state.limits.journal }
         ensures back { HandsBack D.disk D.disk_moved (KeepsTime self) self.journal.disk result }
         ensures site { IfRefused IsOfSite result }
-        ensures kept { IfDone (λ x s. KeepsReply x.bench s.number) result }
-        ensures exact { (h : History) → HouseRepresents D.disk T.trade self h → NamesInForce h authorization.now.deed → BringsFor h q.now.target.now authorization.now.deed
-            → model.answer h (house_time self.bench) (limits_of self.bench) (asked_of q.now) ≡ model.Take (accept_entry (house_time self.bench) scrip.now.text q.now.target.now authorization.now)
-            → Accepted D.disk T.trade self.journal.disk h (model.Take (accept_entry (house_time self.bench) scrip.now.text q.now.target.now authorization.now)) result }
+        ensures kept { IfDone (λ x r. KeepsReply x.bench (number_in r)) result }
+        ensures exact { (h : History) → HouseRepresents D.disk T.trade self h → NamesInForce h authorization.now.deed → BringsFor h q.now.target authorization.now.deed
+            → model.answer h (house_time self.bench) (limits_of self.bench) q.now ≡ model.Take (accept_entry (house_time self.bench) q.now.target authorization.now)
+            → Responds D.disk T.trade self.journal.disk h (model.Take (accept_entry (house_time self.bench) q.now.target authorization.now)) result }
         ensures ran { (h : History) → HouseRepresents D.disk T.trade self h
-            → Ran (D.disk self.journal.disk) (D.disk (outcome_disk result)) (Leaves (model.Take (accept_entry (house_time self.bench) scrip.now.text q.now.target.now authorization.now)) result h (D.disk self.journal.disk).aside) }
+            → Ran (D.disk self.journal.disk) (D.disk (outcome_disk result)) (Leaves (model.Take (accept_entry (house_time self.bench) q.now.target authorization.now)) result h (D.disk self.journal.disk).aside) }
     {
         let House { journal, bench } = self;
         let mut bench = bench;
-        match bench.make_room(q, scrip, authorization) {
+        // The check lets a record go only where the types of its parts are named.
+        let _pieces: Option<PieceList<'_>> = None;
+        let record = entry_of(bench.state.time(), q.request(), authorization);
+        match bench.make_room(q, authorization, &record) {
             Ok(()) => (),
             Err(NoMemory) => return Outcome::NoMemory(House { journal, bench }),
         }
-        // The check lets a record go only where the types of its parts are named.
-        let _pieces: Option<PieceList<'_>> = None;
-        let record = entry_of(bench.state.time(), q, scrip, authorization);
         match journal.append(&record) {
             Ok((journal, receipt)) => {
-                let number = bench.apply_accept(q, scrip, authorization);
-                Outcome::Done(House { journal, bench }, Settled { receipt, number })
+                let number = bench.apply_accept(q, authorization, &record);
+                let settled = Settled { receipt, number };
+                Outcome::Done(House { journal, bench }, Response::New(settled))
             }
             Err(StageFault::Full(journal)) => {
                 let full = Refusal::JournalFull(bench.state.size(), authorization.payload);
@@ -289,18 +311,5 @@ impl<D: Disk, T: Trade> House<D, T> {
     {
         let House { journal, bench: _ } = self;
         journal.close()
-    }
-}
-
-/// The refusal of a request that makes no entry. One that comes again is refused as one whose piece is
-/// spent.
-fn refusal_of(stopped: NotAuthorized) -> Refusal
-    requires { StopIsOfSite stopped }
-    ensures site { IsOfSite result }
-    ensures same { Refuses result stopped }
-{
-    match stopped {
-        NotAuthorized::Refused(refusal) => refusal,
-        NotAuthorized::Again(_) => Refusal::Spent,
     }
 }

@@ -355,7 +355,7 @@ impl HouseState {
     }
 
     /// Enters a request that is accepted with a piece, for which there is room. It takes no memory.
-    pub(crate) fn enter(&mut self, q: &Request<'_>, paid: &Piece, a: &Authorization)
+    pub(crate) fn enter(&mut self, q: &Request<'_>, paid: &Piece, a: &Authorization<'_, '_>)
         requires room { HasRoom self.old (asked_of q.now) paid.now.id }
         requires fresh { found self.old.kept self.old.time (asked_of q.now) ≡ None }
         requires change { HasChange self.old a.now.price paid.now.value a.now.change }

@@ -10,19 +10,14 @@ ghost use Rattle.house_core.specs.Verdicts.{accept_entry};
 use crate::verdict::Authorization;
 use kept_replies::Deed;
 use mc_base::Moment;
-use scrip_form::{Id, ScripRef};
+use scrip_form::Id;
 
 /// The entry of an authorization for a target that may be asked for has a payload.
-pub(crate) fn authorization_fits(
-    time: Moment,
-    scrip: &ScripRef<'_>,
-    target: &[u8],
-    a: &Authorization,
-)
-    ensures { IsTarget target.now → Fits (accept_entry time scrip.now.text target.now a.now) }
+pub(crate) fn authorization_fits(time: Moment, target: &[u8], a: &Authorization<'_, '_>)
+    ensures { IsTarget target.now → Fits (accept_entry time target.now a.now) }
 {
     let _seconds = time.seconds();
-    let _text = scrip.text();
+    let _text = a.scrip.text();
     let _price = a.price;
     keys(&a.sign);
     longs(&a.change);

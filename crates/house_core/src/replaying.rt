@@ -18,13 +18,14 @@ use crate::bench::{Bench, record_deed};
 use crate::evaluate::evaluate;
 use crate::founding::payload_len;
 use crate::offer::Unlawful;
+use crate::presented::Presented;
 use crate::stages::fitted;
 use crate::trade::Trade;
 use crate::verdict::Authorization;
 use mc_base::NoMemory;
 use mc_records::{Limits, Record, RecordDeed, Request};
 use scrip_certs::hex_of;
-use scrip_form::{Id, read_scrip};
+use scrip_form::Id;
 
 /// Why an entry of a history was not learned.
 #[derive(Drop)]
@@ -136,20 +137,16 @@ impl<T: Trade> Bench<T> {
             → IfOk result (λ u. HasContents T.trade self.new (h ++ Accept (house_time self.old) scrip.now target.now sign.now price change (deed_of deed.now) ∷ [])) }
     {
         let digits = digits_of(sign);
-        let q = request_for(scrip, target, &digits);
-        let read = match read_scrip(scrip) {
-            Ok(read) => read,
-            Err(_) => return Err(ReplayEnd::Unlawful),
-        };
+        let q = Presented::of(request_for(scrip, target, &digits));
         let limits = unbounded_of(self.state.limits());
-        let authorization = match evaluate(&self.state, limits, &self.trade, &q, &read) {
+        let authorization = match evaluate(&self.state, limits, &self.trade, &q) {
             Ok(authorization) => authorization,
             Err(_) => return Err(ReplayEnd::Unlawful),
         };
         if !is_said(&authorization, sign, price, &change, deed) {
             return Err(ReplayEnd::Unlawful);
         }
-        match self.commit(&q, &read, &authorization) {
+        match self.commit(&q, &authorization) {
             Ok(_) => Ok(()),
             Err(NoMemory) => Err(ReplayEnd::NoMemory),
         }
@@ -196,7 +193,7 @@ fn request_for<'a>(scrip: &'a [u8], target: &'a [u8], digits: &'a Option<[u8; 32
 
 /// Whether an entry says what an authorization says: the signature, the price, the change and the deed.
 fn is_said(
-    a: &Authorization,
+    a: &Authorization<'_, '_>,
     sign: &Option<[u8; 16]>,
     price: u64,
     change: &Option<Id>,

@@ -4,7 +4,7 @@ ghost use Rattle.std.specs.Prelude.{◌≡◌, ◌<◌, ℕ, length, take, IsTru
 ghost use Rattle.mc_outside.specs.DiskView.{Ran};
 ghost use Rattle.mc_outside.specs.LinkView.{after_send, Failed};
 ghost use Rattle.mc_records.specs.declared.refusal.Refusal.TheVariants as refusals;
-ghost use Rattle.mc_records.specs.Requests.{Asked, asked_of};
+ghost use Rattle.mc_records.specs.Requests.{Asked};
 ghost use Rattle.ledger_model.specs.Histories.{History};
 ghost use Rattle.ledger_model.specs.Replies as ledger;
 ghost use Rattle.house_core.specs.Bench.{KeepsReply, house_time};
@@ -13,12 +13,13 @@ ghost use Rattle.house_core.specs.Replying.{IsOfSite};
 ghost use Rattle.house_core.specs.Session.{refused_reply};
 
 use crate::house::House;
+use crate::presented::Presented;
 use crate::reply::{Reply, refusal_head};
 use crate::settled::{Settled, drop_settled};
 use crate::trade::Trade;
 use mc_base::Moment;
 use mc_outside::{Link, LinkFault, Outside};
-use mc_records::{Refusal, Request};
+use mc_records::Refusal;
 use scrip_journal::Halted;
 
 impl<O: Outside, T: Trade> Link for House<O, T> {
@@ -117,7 +118,7 @@ pub fn send_again<O: Outside, T: Trade>(
 /// memory.
 pub fn send_refusal<O: Outside, T: Trade>(
     house: &mut House<O, T>,
-    q: Option<&Request<'_>>,
+    q: Option<&Presented<'_>>,
     refusal: &Refusal,
 ) -> Result<(), LinkFault>
     requires link { IsTrue (O.link house.old.journal.disk).stands }
@@ -130,10 +131,10 @@ pub fn send_refusal<O: Outside, T: Trade>(
         → Ran (O.disk house.old.journal.disk) (O.disk house.new.journal.disk) (SendsOn h (O.disk house.old.journal.disk).aside (O.disk house.new.journal.disk).aside) }
     ensures sent { OnOk result ((h : History)
         → HouseRepresents O.disk T.trade house.old h
-        → O.link house.new.journal.disk ≡ after_send (refused_reply h (house_time house.old.bench) (option_map (λ q. asked_of q.now) q.entry) refusal.now) (O.link house.old.journal.disk)) }
+        → O.link house.new.journal.disk ≡ after_send (refused_reply h (house_time house.old.bench) (option_map (λ q. q.now) q.entry) refusal.now) (O.link house.old.journal.disk)) }
     ensures fault { OnErr result ((h : History) → HouseRepresents O.disk T.trade house.old h
-        → (n : ℕ) × (n < length (refused_reply h (house_time house.old.bench) (option_map (λ q. asked_of q.now) q.entry) refusal.now))
-        × Failed (after_send (take n (refused_reply h (house_time house.old.bench) (option_map (λ q. asked_of q.now) q.entry) refusal.now)) (O.link house.old.journal.disk)) (O.link house.new.journal.disk)) }
+        → (n : ℕ) × (n < length (refused_reply h (house_time house.old.bench) (option_map (λ q. q.now) q.entry) refusal.now))
+        × Failed (after_send (take n (refused_reply h (house_time house.old.bench) (option_map (λ q. q.now) q.entry) refusal.now)) (O.link house.old.journal.disk)) (O.link house.new.journal.disk)) }
 {
     let reply = house.bench.refused_reply(q, refusal);
     reply.send(&mut house.journal)

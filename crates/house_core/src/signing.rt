@@ -14,6 +14,7 @@ ghost use Rattle.house_core.specs.Representation.{StateRepresents};
 
 use crate::house_state::HouseState;
 use crate::offer::Body;
+use crate::presented::Presented;
 use crate::reply::{Reply, refusal_head};
 use crate::stages::terms_of;
 use kept_replies::KeptEntry;
@@ -21,7 +22,7 @@ use mc_base::Moment;
 use mc_records::{Refusal, Request};
 use millicent_http::{ReplyHead, write_reply_text};
 use scrip_certs::sign_reply;
-use scrip_form::{read_scrip, write_scrip};
+use scrip_form::write_scrip;
 
 /// The first reply to a request, from what is kept of its entry and what the entry brought.
 pub(crate) fn taken_reply<'a>(q: &Request<'_>, entry: &KeptEntry, body: &Body<'a>) -> Reply<'a>
@@ -95,11 +96,10 @@ fn sign(q: &Request<'_>, head: &ReplyHead<'_>, contents: &[u8], secret: &[u8; 16
 
 /// The secret of the customer of a request's piece. None where the request has no scrip text, or there
 /// are no terms of the customer's issuer.
-pub(crate) fn customer_of(state: &HouseState, q: &Request<'_>) -> Option<[u8; 16]>
-    ensures { (h : History) → StateRepresents state.now h → result ≡ option_and_then (ledger.secret_for h) (seen q.now.scrip) }
+pub(crate) fn customer_of(state: &HouseState, q: &Presented<'_>) -> Option<[u8; 16]>
+    ensures { (h : History) → StateRepresents state.now h → result ≡ option_and_then (ledger.secret_for h) q.now.scrip }
 {
-    let text = q.scrip?;
-    let Ok(scrip) = read_scrip(text) else {
+    let Ok(scrip) = q.scrip() else {
         return None;
     };
     let cust = scrip.piece().cust();

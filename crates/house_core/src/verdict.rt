@@ -1,6 +1,6 @@
 use kept_replies::Deed;
 use mc_records::Refusal;
-use scrip_form::Id;
+use scrip_form::{Id, ScripRef};
 
 /// What a house says of a request, before it enters anything.
 #[derive(Drop)]
@@ -32,17 +32,18 @@ pub enum EnterFault {
     NoMemory,
 }
 
-/// Why a request with a scrip text makes no entry.
+/// Why a request makes no entry.
 #[derive(Drop)]
 pub(crate) enum NotAuthorized {
     Refused(Refusal),
     Again(u64),
 }
 
-/// What an entry for a piece says beside the moment, the scrip text and the target, with the secret of
-/// the piece's customer and the length of the payload.
+/// What an entry for a piece says beside the moment and the target, with the secret of the piece's
+/// customer and the length of the payload.
 #[derive(Drop)]
-pub(crate) struct Authorization {
+pub(crate) struct Authorization<'q, 'a> {
+    pub(crate) scrip: &'q ScripRef<'a>,
     pub(crate) secret: [u8; 16],
     pub(crate) sign: Option<[u8; 16]>,
     pub(crate) price: u64,

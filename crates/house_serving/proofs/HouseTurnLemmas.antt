@@ -1,5 +1,5 @@
 -- One turn of a house over a journal.
-use Rattle.std.proofs.Common.{◌≡◌, inl, inr, ℕ, ◌+◌, ◌<◌, Bool, List, [], ◌∷◌, length, take, refl, sym, ap, ap₂, ◌∙◌, subst, arith, Option, Some, None, Result, Ok, Err}
+use Rattle.std.proofs.Common.{◌≡◌, inl, inr, ℕ, ◌+◌, ◌<◌, Bool, List, [], ◌∷◌, length, take, refl, sym, ap, ap₂, ◌∙◌, subst, arith, Option, Result, Ok, Err}
 use Rattle.std.specs.Prelude.{OnOk, OnErr, IfOk, IsTrue, max}
 use Rattle.mc_outside.specs.declared.link.LinkFault.{LinkFault}
 use Rattle.mc_outside.specs.Bytes.{Rose}
@@ -35,9 +35,10 @@ use Rattle.house_core.specs.declared.bench.Bench.{Bench}
 use Rattle.house_core.specs.declared.house.House.{House}
 use Rattle.house_core.specs.declared.settled.Settled.{Settled}
 use Rattle.house_core.specs.declared.outcome.Outcome.TheVariants as outcomes
-use Rattle.house_core.specs.Verdicts.{repeat_of}
+use Rattle.house_core.specs.declared.outcome.Response.{Response}
+use Rattle.house_core.specs.declared.outcome.Response.TheVariants.{New, Again}
 use Rattle.house_core.specs.Bench.{house_time, limits_of, state_of}
-use Rattle.house_core.specs.House.{HouseRepresents, HouseRests, HasEntered, IsAsItWas, Accepted, Leaves}
+use Rattle.house_core.specs.House.{HouseRepresents, HouseRests, HasEntered, IsAsItWas, Responds, Leaves}
 use Rattle.house_core.specs.Session.{State, Gives, entered, raised, Step}
 use Rattle.house_serving.specs.declared.turn.Turn.{Turn}
 use Rattle.house_serving.specs.declared.turn.Turn.TheVariants.{GoOn, Last, End, NotReceived, NotSent}
@@ -87,30 +88,36 @@ said_readings reply said v w (inr fault) = ap (λ (u : LinkView). u.readings) fa
 -- ---- what an outcome says of the answer
 
 done_is : {D T : Type 0} (view : D → DiskView) (trade : T → TradeView) (d : D) (h : History) (a : Answer) (x : House D T) (s : Settled) (u v : DiskView) (aside : List ℕ)
-    → Accepted view trade d h a (outcomes.Done x s) → Ran u v (Leaves {D = D} {T = T} {A = Settled} a (outcomes.Done x s) h aside)
+    → Responds view trade d h a (outcomes.Done x (New s)) → Ran u v (Leaves {D = D} {T = T} {A = Response} a (outcomes.Done x (New s)) h aside)
     → (e : Entry) × (a ≡ answers.Take e) × HasEntered view trade x h e s.number × Ran u v (EitherNoOutput h e aside)
-done_is view trade d h (answers.Take e) x s u v aside accepted ran = (e, refl, accepted, ran)
-done_is view trade d h (answers.Refused f) x s u v aside accepted ran = absurd accepted
-done_is view trade d h (answers.Again n) x s u v aside accepted ran = absurd accepted
+done_is view trade d h (answers.Take e) x s u v aside responds ran = (e, refl, responds, ran)
+done_is view trade d h (answers.Refused f) x s u v aside responds ran = absurd responds
+done_is view trade d h (answers.Again n) x s u v aside responds ran = absurd responds
+
+again_is : {D T : Type 0} (view : D → DiskView) (trade : T → TradeView) (d : D) (h : History) (a : Answer) (x : House D T) (n : ℕ)
+    → Responds view trade d h a (outcomes.Done x (Again n)) → (a ≡ answers.Again n) × IsAsItWas view trade d x h
+again_is view trade d h (answers.Take e) x n responds = absurd responds
+again_is view trade d h (answers.Refused f) x n responds = absurd responds
+again_is view trade d h (answers.Again m) x n responds = (ap (λ (k : ℕ). answers.Again k) (sym responds.0), responds.1)
 
 refused_is : {D T : Type 0} (view : D → DiskView) (trade : T → TradeView) (d : D) (h : History) (a : Answer) (x : House D T) (f : Refusal)
-    → ((n : ℕ) → a ≡ answers.Again n → ⊥) → Accepted view trade d h a (outcomes.Refused x f) → (a ≡ answers.Refused f) × IsAsItWas view trade d x h
-refused_is view trade d h (answers.Take e) x f new accepted = absurd accepted
-refused_is view trade d h (answers.Refused g) x f new accepted = (ap (λ (r : Refusal). answers.Refused r) (sym accepted.0), accepted.1)
-refused_is view trade d h (answers.Again n) x f new accepted = absurd (new n refl)
+    → Responds view trade d h a (outcomes.Refused x f) → (a ≡ answers.Refused f) × IsAsItWas view trade d x h
+refused_is view trade d h (answers.Take e) x f responds = absurd responds
+refused_is view trade d h (answers.Refused g) x f responds = (ap (λ (r : Refusal). answers.Refused r) (sym responds.0), responds.1)
+refused_is view trade d h (answers.Again n) x f responds = absurd responds
 
 starved_is : {D T : Type 0} (view : D → DiskView) (trade : T → TradeView) (d : D) (h : History) (a : Answer) (x : House D T)
-    → Accepted view trade d h a (outcomes.NoMemory x) → (e : Entry) × (a ≡ answers.Take e) × IsAsItWas view trade d x h
-starved_is view trade d h (answers.Take e) x accepted = (e, refl, accepted)
-starved_is view trade d h (answers.Refused f) x accepted = absurd accepted
-starved_is view trade d h (answers.Again n) x accepted = absurd accepted
+    → Responds view trade d h a (outcomes.NoMemory x) → (e : Entry) × (a ≡ answers.Take e) × IsAsItWas view trade d x h
+starved_is view trade d h (answers.Take e) x responds = (e, refl, responds)
+starved_is view trade d h (answers.Refused f) x responds = absurd responds
+starved_is view trade d h (answers.Again n) x responds = absurd responds
 
 halted_is : {D T : Type 0} (view : D → DiskView) (trade : T → TradeView) (d e' : D) (h : History) (a : Answer) (u v : DiskView) (aside : List ℕ)
-    → Accepted view trade d h a (outcomes.Halted e') → Ran u v (Leaves {D = D} {T = T} {A = Settled} a (outcomes.Halted e') h aside)
+    → Responds view trade d h a (outcomes.Halted e') → Ran u v (Leaves {D = D} {T = T} {A = Response} a (outcomes.Halted e') h aside)
     → (e : Entry) × (a ≡ answers.Take e) × Ran u v (EitherNoOutput h e aside) × Rose (view d).faults (view e').faults
-halted_is view trade d e' h (answers.Take e) u v aside accepted ran = (e, refl, ran, accepted)
-halted_is view trade d e' h (answers.Refused f) u v aside accepted ran = absurd accepted
-halted_is view trade d e' h (answers.Again n) u v aside accepted ran = absurd accepted
+halted_is view trade d e' h (answers.Take e) u v aside responds ran = (e, refl, ran, responds)
+halted_is view trade d e' h (answers.Refused f) u v aside responds ran = absurd responds
+halted_is view trade d e' h (answers.Again n) u v aside responds ran = absurd responds
 
 -- ---- the reply to a request at the house time
 
@@ -143,14 +150,14 @@ replied_old {T = T} link disk trade limits q after y z s reply r on st time give
 -- the entry of the request was written and entered, and its first reply was sent
 pub replied_new : {O T : Type 0} (link : O → LinkView) (disk : O → DiskView) (trade : T → TradeView) (limits : Limits) (q : Asked) (after : After) (a : O) (y z : House O T) (s : State)
     (settled : Settled) (r : Result (Unit {0}) LinkFault) → SentOn link disk y z → house_time y.bench ≡ s.time → (disk y.journal.disk).aside ≡ (disk a).aside → (disk y.journal.disk).faults ≡ (disk a).faults → link y.journal.disk ≡ link a
-    → Accepted disk trade a s.history (answer s.history s.time limits q) (outcomes.Done y settled)
-    → Ran (disk a) (disk y.journal.disk) (Leaves {D = O} {T = T} {A = Settled} (answer s.history s.time limits q) (outcomes.Done y settled) s.history (disk a).aside)
+    → Responds disk trade a s.history (answer s.history s.time limits q) (outcomes.Done y (New settled))
+    → Ran (disk a) (disk y.journal.disk) (Leaves {D = O} {T = T} {A = Response} (answer s.history s.time limits q) (outcomes.Done y (New settled)) s.history (disk a).aside)
     → OnOk r ((h : History) → HouseRepresents disk trade y h → link z.journal.disk ≡ after_send (reply_of h settled.number) (link y.journal.disk))
     → OnErr r ((h : History) → HouseRepresents disk trade y h
     → (n : ℕ) × (n < length (reply_of h settled.number)) × Failed (after_send (take n (reply_of h settled.number)) (link y.journal.disk)) (link z.journal.disk))
     → RepliesTo link disk trade limits q after a s (Ok (z, turn_after r after))
-replied_new {T = T} link disk trade limits q after a y z s settled r on time quiet calm same accepted ran sent fault =
-    let is = done_is disk trade a s.history (answer s.history s.time limits q) y settled (disk a) (disk y.journal.disk) (disk a).aside accepted ran in
+replied_new {T = T} link disk trade limits q after a y z s settled r on time quiet calm same responds ran sent fault =
+    let is = done_is disk trade a s.history (answer s.history s.time limits q) y settled (disk a) (disk y.journal.disk) (disk a).aside responds ran in
     let e : Entry = is.0 in
     let t : State = entered s e in
     let st : HouseRepresents disk trade y t.history = is.2.represents in
@@ -167,14 +174,14 @@ replied_new {T = T} link disk trade limits q after a y z s settled r on time qui
 
 -- the request is refused
 pub replied_refused : {O T : Type 0} (link : O → LinkView) (disk : O → DiskView) (trade : T → TradeView) (limits : Limits) (q : Asked) (after : After) (a : O) (y z : House O T) (s : State)
-    (f : Refusal) (r : Result (Unit {0}) LinkFault) → SentOn link disk y z → house_time y.bench ≡ s.time → ((n : ℕ) → answer s.history s.time limits q ≡ answers.Again n → ⊥)
-    → Accepted disk trade a s.history (answer s.history s.time limits q) (outcomes.Refused y f)
+    (f : Refusal) (r : Result (Unit {0}) LinkFault) → SentOn link disk y z → house_time y.bench ≡ s.time
+    → Responds disk trade a s.history (answer s.history s.time limits q) (outcomes.Refused y f)
     → OnOk r ((h : History) → HouseRepresents disk trade y h → link z.journal.disk ≡ after_send (refusal_of h (house_time y.bench) q f) (link y.journal.disk))
     → OnErr r ((h : History) → HouseRepresents disk trade y h
     → (n : ℕ) × (n < length (refusal_of h (house_time y.bench) q f)) × Failed (after_send (take n (refusal_of h (house_time y.bench) q f)) (link y.journal.disk)) (link z.journal.disk))
     → RepliesTo link disk trade limits q after a s (Ok (z, turn_after r after))
-replied_refused {O = O} link disk trade limits q after a y z s f r on time new accepted sent fault =
-    let is = refused_is disk trade a s.history (answer s.history s.time limits q) y f new accepted in
+replied_refused {O = O} link disk trade limits q after a y z s f r on time responds sent fault =
+    let is = refused_is disk trade a s.history (answer s.history s.time limits q) y f responds in
     let reply : List ℕ = refusal_of s.history (house_time y.bench) q f in
     subst (λ (d : O). RepliesTo link disk trade limits q after d s (Ok (z, turn_after r after))) is.1.disk'
     (replied_old link disk trade limits q after y z s reply r on is.1.represents time
@@ -184,13 +191,13 @@ replied_refused {O = O} link disk trade limits q after a y z s f r on time new a
 -- memory was refused for the request
 pub replied_starved : {O T : Type 0} (link : O → LinkView) (disk : O → DiskView) (trade : T → TradeView) (limits : Limits) (q : Asked) (after : After) (a : O) (y z : House O T) (s : State)
     (r : Result (Unit {0}) LinkFault) → SentOn link disk y z → house_time y.bench ≡ s.time
-    → Accepted disk trade a s.history (answer s.history s.time limits q) (outcomes.NoMemory y)
+    → Responds disk trade a s.history (answer s.history s.time limits q) (outcomes.NoMemory y)
     → OnOk r ((h : History) → HouseRepresents disk trade y h → link z.journal.disk ≡ after_send (refusal_of h (house_time y.bench) q refusals.NoMemory) (link y.journal.disk))
     → OnErr r ((h : History) → HouseRepresents disk trade y h
     → (n : ℕ) × (n < length (refusal_of h (house_time y.bench) q refusals.NoMemory)) × Failed (after_send (take n (refusal_of h (house_time y.bench) q refusals.NoMemory)) (link y.journal.disk)) (link z.journal.disk))
     → RepliesTo link disk trade limits q after a s (Ok (z, turn_after r after))
-replied_starved {O = O} link disk trade limits q after a y z s r on time accepted sent fault =
-    let is = starved_is disk trade a s.history (answer s.history s.time limits q) y accepted in
+replied_starved {O = O} link disk trade limits q after a y z s r on time responds sent fault =
+    let is = starved_is disk trade a s.history (answer s.history s.time limits q) y responds in
     let reply : List ℕ = refusal_of s.history (house_time y.bench) q refusals.NoMemory in
     subst (λ (d : O). RepliesTo link disk trade limits q after d s (Ok (z, turn_after r after))) is.2.disk'
     (replied_old link disk trade limits q after y z s reply r on is.2.represents time
@@ -198,28 +205,31 @@ replied_starved {O = O} link disk trade limits q after a y z s r on time accepte
     (told_so r _ _ (λ g. g s.history is.2.represents) sent) (failed_so r _ _ (λ g. g s.history is.2.represents) fault))
 
 -- the request comes again, and gets the first reply of its entry
-pub replied_again : {O T : Type 0} (link : O → LinkView) (disk : O → DiskView) (trade : T → TradeView) (limits : Limits) (q : Asked) (after : After) (y z : House O T) (s : State)
-    (number : ℕ) (r : Result (Unit {0}) LinkFault) → SentOn link disk y z → HouseRepresents disk trade y s.history → house_time y.bench ≡ s.time → answer s.history s.time limits q ≡ answers.Again number
+pub replied_again : {O T : Type 0} (link : O → LinkView) (disk : O → DiskView) (trade : T → TradeView) (limits : Limits) (q : Asked) (after : After) (a : O) (y z : House O T) (s : State)
+    (number : ℕ) (r : Result (Unit {0}) LinkFault) → SentOn link disk y z → house_time y.bench ≡ s.time
+    → Responds disk trade a s.history (answer s.history s.time limits q) (outcomes.Done y (Again number))
     → OnOk r ((h : History) → HouseRepresents disk trade y h → link z.journal.disk ≡ after_send (reply_of h number) (link y.journal.disk))
     → OnErr r ((h : History) → HouseRepresents disk trade y h
     → (n : ℕ) × (n < length (reply_of h number)) × Failed (after_send (take n (reply_of h number)) (link y.journal.disk)) (link z.journal.disk))
-    → RepliesTo link disk trade limits q after y.journal.disk s (Ok (z, turn_after r after))
-replied_again link disk trade limits q after y z s number r on st time again sent fault =
+    → RepliesTo link disk trade limits q after a s (Ok (z, turn_after r after))
+replied_again {O = O} link disk trade limits q after a y z s number r on time responds sent fault =
+    let is = again_is disk trade a s.history (answer s.history s.time limits q) y number responds in
     let reply : List ℕ = reply_of s.history number in
-    replied_old link disk trade limits q after y z s reply r on st time
-    (subst (λ (b : Answer). Gives s q b reply s) (sym again) (refl, refl))
-    (told_so r _ _ (λ g. g s.history st) sent) (failed_so r _ _ (λ g. g s.history st) fault)
+    subst (λ (d : O). RepliesTo link disk trade limits q after d s (Ok (z, turn_after r after))) is.1.disk'
+    (replied_old link disk trade limits q after y z s reply r on is.1.represents time
+    (subst (λ (b : Answer). Gives s q b reply s) (sym is.0) (refl, refl))
+    (told_so r _ _ (λ g. g s.history is.1.represents) sent) (failed_so r _ _ (λ g. g s.history is.1.represents) fault))
 
 -- the disk failed while the entry of the request was written, and it was told so
 pub replied_halted : {O T : Type 0} (link : O → LinkView) (disk : O → DiskView) (trade : T → TradeView) (limits : Limits) (q : Asked) (after : After) (a b c : O) (s : State)
     (r : Result (Unit {0}) LinkFault) → TellsAside link (λ o. (disk o).aside) → IsDisk (disk a) → ((i : List ℕ) → (disk a).leaves i → Encodes s.history i) → IsDisk (disk b) → IsLink (link b) → IsTrue (link b).stands → (disk b).aside ≡ (disk a).aside → link b ≡ link a → LinkKeeps (disk b) (disk c) → LinkGoes (link b) (link c)
-    → Accepted {D = O} {T = T} disk trade a s.history (answer s.history s.time limits q) (outcomes.Halted b)
-    → Ran (disk a) (disk b) (Leaves {D = O} {T = T} {A = Settled} (answer s.history s.time limits q) (outcomes.Halted b) s.history (disk a).aside)
+    → Responds {D = O} {T = T} disk trade a s.history (answer s.history s.time limits q) (outcomes.Halted b)
+    → Ran (disk a) (disk b) (Leaves {D = O} {T = T} {A = Response} (answer s.history s.time limits q) (outcomes.Halted b) s.history (disk a).aside)
     → OnOk r ((x : History × Asked) → link c ≡ after_send (refusal_of x.0 s.time x.1 refusals.DiskFault) (link b))
     → OnErr r ((x : History × Asked) → (n : ℕ) × (n < length (refusal_of x.0 s.time x.1 refusals.DiskFault)) × Failed (after_send (take n (refusal_of x.0 s.time x.1 refusals.DiskFault)) (link b)) (link c))
     → RepliesTo {O = O} {T = T} link disk trade limits q after a s (Err c)
-replied_halted link disk trade limits q after a b c s r tells is_a stood is_b is_link on quiet same keeps goes accepted ran sent fault =
-    let taken = halted_is disk trade a b s.history (answer s.history s.time limits q) (disk a) (disk b) (disk a).aside accepted ran in
+replied_halted link disk trade limits q after a b c s r tells is_a stood is_b is_link on quiet same keeps goes responds ran sent fault =
+    let taken = halted_is disk trade a b s.history (answer s.history s.time limits q) (disk a) (disk b) (disk a).aside responds ran in
     let reply : List ℕ = refusal_of s.history s.time q refusals.DiskFault in
     let was = sends_so reply r (link b) (link c) (told_so r _ _ (λ g. g (s.history, q)) sent) (failed_so r _ _ (λ g. g (s.history, q)) fault) in (
       taken.0,
@@ -228,16 +238,6 @@ replied_halted link disk trade limits q after a b c s r tells is_a stood is_b is
       taken.1,
       subst (λ (v : LinkView). Sends reply was.0 v (link c)) same was.1,
     )
-
--- ---- whether it comes again
-
-pub again_is : (a : Answer) (n : ℕ) → Some n ≡ repeat_of a → a ≡ answers.Again n
-again_is (answers.Refused f) n is = absurd cc
-again_is (answers.Again m) n is = cc is
-again_is (answers.Take e) n is = absurd cc
-
-pub not_again : (a : Answer) → None ≡ repeat_of a → (n : ℕ) → a ≡ answers.Again n → ⊥
-not_again a none n again = absurd (cc (none, ap repeat_of again))
 
 -- ---- an item, at a reading of the clock
 

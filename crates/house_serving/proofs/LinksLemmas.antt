@@ -2,7 +2,6 @@
 use Rattle.std.proofs.Common.{◌≡◌, inl, inr, ℕ, suc, ◌<◌, false, List, subst, Ok, Err}
 use Rattle.mc_outside.specs.LinkView.{LinkView, next_taken, none_left}
 use Rattle.mc_records.specs.declared.limits.Limits.{Limits}
-use Rattle.ledger_model.specs.Histories.{History}
 use Rattle.millicent_http.specs.declared.clock.Clock.{Clock}
 use Rattle.millicent_http.specs.Steps.{Did, state_after, BySteps, StepRelation}
 use Rattle.millicent_http.specs.Courses.{HadLink, HadLinks, NoLink}

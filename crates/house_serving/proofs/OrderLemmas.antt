@@ -1,5 +1,5 @@
 -- Crash pairs stay in order as a house goes on.
-use Rattle.std.proofs.Common.{◌≡◌, ◌⊎◌, inl, inr, ⊎_elim, ℕ, List, [], ◌∷◌, ◌++◌, refl, sym, ap, ◌∙◌, append_assoc, subst}
+use Rattle.std.proofs.Common.{◌≡◌, ⊎_elim, ℕ, List, [], ◌∷◌, ◌++◌, refl, sym, ap, ◌∙◌, append_assoc, subst}
 use Rattle.std.specs.Prelude.{IsSome, IsTrue, Bool, is_some}
 use Rattle.std.proofs.lemmas.List.{append-nil}
 use Rattle.mc_outside.specs.Bytes.{BeginsWith, Rose}

@@ -2,7 +2,6 @@
 use Rattle.std.proofs.Common.{◌≡◌, ◌⊎◌, inl, inr, ℕ, ◌+◌, ◌≤◌, ◌<◌, true, false, List, [], ◌∷◌, ◌++◌, length, All, refl, sym, ap, ◌∙◌, arith, length-append, subst}
 use Rattle.std.proofs.lemmas.List.Elements.{All-nil, All-push}
 use Rattle.mc_records.specs.declared.limits.Limits.{Limits}
-use Rattle.ledger_model.specs.Histories.{History}
 use Rattle.millicent_http.specs.Items.{Item, closes, NextItem, EndsNoItem}
 use Rattle.millicent_http.specs.Reads.{HaveRead, NoneCloses}
 use Rattle.millicent_http.proofs.ReadLemmas.{read_item, read_all, read_closed}

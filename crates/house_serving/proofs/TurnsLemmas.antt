@@ -1,5 +1,5 @@
 -- Turns one after another, from house to house.
-use Rattle.std.proofs.Common.{◌≡◌, ℕ, ◌+◌, ◌<◌, List, subst}
+use Rattle.std.proofs.Common.{◌≡◌, ◌+◌, ◌<◌, List, subst}
 use Rattle.std.specs.Prelude.{IsTrue}
 use Rattle.mc_outside.specs.LinkView.{LinkView}
 use Rattle.mc_records.specs.declared.limits.Limits.{Limits}

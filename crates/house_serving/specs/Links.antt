@@ -8,7 +8,6 @@ use Rattle.mc_records.specs.declared.refusal.Refusal.{Refusal}
 use Rattle.mc_records.specs.declared.refusal.Refusal.TheVariants.{DiskFault}
 use Rattle.mc_records.specs.Entry.{Entry}
 use Rattle.mc_records.specs.Requests.{Asked}
-use Rattle.ledger_model.specs.Histories.{History}
 use Rattle.ledger_model.specs.Answer.{answer, Take}
 use Rattle.ledger_model.specs.Replies.{refusal_of}
 use Rattle.millicent_http.specs.declared.item.After.{After}

@@ -1,10 +1,8 @@
 //! One turn of serving a link by a house over a journal.
 
 ghost use Rattle.std.specs.Prelude.{◌≡◌, ◌<◌, ◌+◌, [], ◌∷◌, ℕ, max, IsTrue, IfOk};
-ghost use Rattle.mc_records.specs.Requests.{asked_of};
 ghost use Rattle.scrip_form.specs.Texts.{IsTarget};
 ghost use Rattle.ledger_model.specs.Histories.{History};
-ghost use Rattle.ledger_model.specs.Answer.{answer, Again};
 ghost use Rattle.millicent_http.specs.declared.item.After.TheVariants.{Close};
 ghost use Rattle.millicent_http.specs.HeadRefusals.{as_refusal};
 ghost use Rattle.millicent_http.specs.declared.clock.Clock.TheVariants.{OfLinks};
@@ -15,10 +13,13 @@ ghost use Rattle.house_serving.specs.declared.turn.Turn.TheVariants.{GoOn};
 ghost use Rattle.house_serving.specs.Links.{KeptCounts, PartCauses, RepliesTo, AnswersRequest, RefusesHead, TurnsHouse};
 
 use crate::turn::{Turn, turn_of};
-use house_core::{House, Outcome, Trade, send_again, send_disk_fault, send_refusal, send_settled};
+use house_core::{
+    House, Outcome, Presented, Response, Trade, send_again, send_disk_fault, send_refusal,
+    send_settled,
+};
 use mc_base::Moment;
 use mc_outside::{Link, Outside};
-use mc_records::{Refusal, Request};
+use mc_records::Refusal;
 use millicent_http::{After, HeadOut, HeadReader, HeadRefusal};
 use scrip_journal::Halted;
 
@@ -37,7 +38,7 @@ pub(crate) fn take_turn<O: Outside, T: Trade>(
 {
     let mut house = house;
     match reader.take(&mut house) {
-        HeadOut::Head(q, after) => answer_request(house, &q, after),
+        HeadOut::Head(q, after) => answer_request(house, &Presented::of(q), after),
         HeadOut::Refused(head, after) => Ok(answer_refused(house, head, after)),
         HeadOut::End => Ok((house, Turn::End)),
         HeadOut::Fault => Ok((house, Turn::NotReceived)),
@@ -47,17 +48,17 @@ pub(crate) fn take_turn<O: Outside, T: Trade>(
 /// Answers a request at a reading of the clock.
 fn answer_request<O: Outside, T: Trade>(
     house: House<O, T>,
-    q: &Request<'_>,
+    q: &Presented<'_>,
     after: After,
 ) -> Result<(House<O, T>, Turn), Halted<O>>
     requires stands { IsTrue (O.link house.journal.disk).stands }
-    requires target { IsTarget q.now.target.now }
+    requires target { IsTarget q.now.target }
     ensures causes { PartCauses O.link O.disk house.journal.disk (λ r. r.0) result }
     ensures limits { IfOk result (λ r. limits_of r.0.bench ≡ limits_of house.bench) }
     ensures stands { IfOk result (λ r. r.1 ≡ GoOn → IsTrue (O.link r.0.journal.disk).stands) }
     ensures open { IfOk result (λ r. r.1 ≡ GoOn → after ≡ Close → ⊥) }
     ensures answered { (h : History) → HouseRepresents O.disk T.trade house h
-        → AnswersRequest O.link O.disk T.trade (limits_of house.bench) (asked_of q.now) after house.journal.disk (state_of h house.bench) result }
+        → AnswersRequest O.link O.disk T.trade (limits_of house.bench) q.now after house.journal.disk (state_of h house.bench) result }
 {
     let mut house = house;
     let _reading = raise_by_clock(&mut house);
@@ -102,50 +103,32 @@ pub fn raise_by_clock<O: Outside, T: Trade>(house: &mut House<O, T>) -> Moment
 /// Replies to a request at the house time.
 fn reply_to<O: Outside, T: Trade>(
     house: House<O, T>,
-    q: &Request<'_>,
+    q: &Presented<'_>,
     after: After,
 ) -> Result<(House<O, T>, Turn), Halted<O>>
     requires stands { IsTrue (O.link house.journal.disk).stands }
-    requires target { IsTarget q.now.target.now }
+    requires target { IsTarget q.now.target }
     ensures causes { PartCauses O.link O.disk house.journal.disk (λ r. r.0) result }
     ensures limits { IfOk result (λ r. limits_of r.0.bench ≡ limits_of house.bench) }
     ensures stands { IfOk result (λ r. r.1 ≡ GoOn → IsTrue (O.link r.0.journal.disk).stands) }
     ensures open { IfOk result (λ r. r.1 ≡ GoOn → after ≡ Close → ⊥) }
     ensures replied { (h : History) → HouseRepresents O.disk T.trade house h
-        → RepliesTo O.link O.disk T.trade (limits_of house.bench) (asked_of q.now) after house.journal.disk (state_of h house.bench) result }
-{
-    match house.repeated(q) {
-        Some(number) => {
-            let mut house = house;
-            let sent = send_again(&mut house, number);
-            Ok((house, turn_of(sent, after)))
-        }
-        None => reply_to_new(house, q, after),
-    }
-}
-
-/// Replies to a request that does not come again.
-fn reply_to_new<O: Outside, T: Trade>(
-    house: House<O, T>,
-    q: &Request<'_>,
-    after: After,
-) -> Result<(House<O, T>, Turn), Halted<O>>
-    requires stands { IsTrue (O.link house.journal.disk).stands }
-    requires target { IsTarget q.now.target.now }
-    ensures causes { PartCauses O.link O.disk house.journal.disk (λ r. r.0) result }
-    ensures limits { IfOk result (λ r. limits_of r.0.bench ≡ limits_of house.bench) }
-    ensures stands { IfOk result (λ r. r.1 ≡ GoOn → IsTrue (O.link r.0.journal.disk).stands) }
-    ensures open { IfOk result (λ r. r.1 ≡ GoOn → after ≡ Close → ⊥) }
-    ensures replied { (h : History) → HouseRepresents O.disk T.trade house h
-        → ((n : ℕ) → answer h (house_time house.bench) (limits_of house.bench) (asked_of q.now) ≡ Again n → ⊥)
-        → RepliesTo O.link O.disk T.trade (limits_of house.bench) (asked_of q.now) after house.journal.disk (state_of h house.bench) result }
+        → RepliesTo O.link O.disk T.trade (limits_of house.bench) q.now after house.journal.disk (state_of h house.bench) result }
 {
     let time = house.time();
-    match house.accept(q) {
-        Outcome::Done(house, settled) => {
+    match house.respond(q) {
+        Outcome::Done(house, response) => {
             let mut house = house;
-            let sent = send_settled(&mut house, settled);
-            Ok((house, turn_of(sent, after)))
+            match response {
+                Response::New(settled) => {
+                    let sent = send_settled(&mut house, settled);
+                    Ok((house, turn_of(sent, after)))
+                }
+                Response::Again(number) => {
+                    let sent = send_again(&mut house, number);
+                    Ok((house, turn_of(sent, after)))
+                }
+            }
         }
         Outcome::Refused(house, refusal) => {
             let mut house = house;

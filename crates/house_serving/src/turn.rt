@@ -1,7 +1,6 @@
 //! One turn of serving a link.
 
 ghost use Rattle.std.specs.Prelude.{◌≡◌, Bool, ℕ, List, [], ◌∷◌, IsTrue};
-ghost use Rattle.mc_records.specs.Requests.{asked_of};
 ghost use Rattle.millicent_http.specs.declared.item.After.TheVariants.{Close};
 ghost use Rattle.millicent_http.specs.HeadRefusals.{as_refusal};
 ghost use Rattle.millicent_http.specs.Items.{request, refused};
@@ -12,10 +11,9 @@ ghost use Rattle.house_serving.specs.declared.turn.Turn.TheVariants.{GoOn};
 ghost use Rattle.house_core.specs.Session.{State, Step};
 ghost use Rattle.house_serving.specs.Turns.{Sent, AnsweredItem, Turned, turn_after};
 
-use house_core::{Bench, Reply, Trade};
+use house_core::{Bench, Presented, Reply, Trade};
 use mc_base::Moment;
 use mc_outside::{Link, LinkFault};
-use mc_records::Request;
 use millicent_http::{After, Clock, HeadOut, HeadReader, HeadRefusal};
 
 /// How one turn of serving a link ended.
@@ -44,7 +42,7 @@ pub(crate) fn serve_next<K: Link, T: Trade>(
     ensures turned { Refines T.trade (BySteps (λ steps s. Turned (Step (limits_of bench.old)) clock.now result steps s reader.old (K.link k.old) reader.new (K.link k.new))) bench.old bench.new }
 {
     match reader.take(k) {
-        HeadOut::Head(q, after) => serve_request(bench, &q, after, k, clock),
+        HeadOut::Head(q, after) => serve_request(bench, &Presented::of(q), after, k, clock),
         HeadOut::Refused(head, after) => serve_refused(bench, head, after, k, clock),
         HeadOut::End => Turn::End,
         HeadOut::Fault => Turn::NotReceived,
@@ -54,7 +52,7 @@ pub(crate) fn serve_next<K: Link, T: Trade>(
 /// Answers a request.
 fn serve_request<K: Link, T: Trade>(
     bench: &mut Bench<T>,
-    q: &Request<'_>,
+    q: &Presented<'_>,
     after: After,
     k: &mut K,
     clock: &Clock,
@@ -62,7 +60,7 @@ fn serve_request<K: Link, T: Trade>(
     requires stands { IsTrue (K.link k.old).stands }
     ensures moved { K.link_moved k.old k.new }
     ensures limits { limits_of bench.new ≡ limits_of bench.old }
-    ensures answered { Refines T.trade (λ s t. (step : Did State) × (t ≡ step.after) × ((closes : Bool) → AnsweredItem (Step (limits_of bench.old)) clock.now (request (asked_of q.now) closes) after result step s (K.link k.old) (K.link k.new))) bench.old bench.new }
+    ensures answered { Refines T.trade (λ s t. (step : Did State) × (t ≡ step.after) × ((closes : Bool) → AnsweredItem (Step (limits_of bench.old)) clock.now (request q.now closes) after result step s (K.link k.old) (K.link k.new))) bench.old bench.new }
 {
     let reading = read_clock(k, clock);
     let said = bench.answer(reading, q);

@@ -6,7 +6,7 @@ ghost use Rattle.millicent_http.specs.Steps.{BySteps, IsSession, sent_of};
 ghost use Rattle.house_core.specs.Bench.{Refines, limits_of};
 ghost use Rattle.house_core.specs.Session.{Step};
 
-use house_core::{Bench, Trade};
+use house_core::{Bench, Presented, Trade};
 use mc_base::{Moment, NoMemory};
 use millicent_http::{ItemRef, next_item};
 
@@ -51,9 +51,10 @@ fn reply_to<T: Trade>(
 {
     match item {
         ItemRef::Request(q, _) => {
-            let said = bench.answer(moment, q);
+            let q = Presented::of(*q);
+            let said = bench.answer(moment, &q);
             let mut room = [0; 512];
-            bench.reply(q, &said, &mut room).append_to(out)
+            bench.reply(&q, &said, &mut room).append_to(out)
         }
         ItemRef::Refused(head, _) => bench.refuse_head(moment, *head).append_to(out),
     }

@@ -1,23 +1,38 @@
+use Rattle.std.proofs.Common.{◌≡◌, ap, subst, ◌∙◌, Ok, Err, Some, None}
+use Rattle.mc_records.specs.Requests.{Asked}
+use Rattle.ledger_model.specs.Lines.{Refuse}
+use Rattle.ledger_model.specs.Answer.{after_repeat}
+use Rattle.house_core.specs.Verdicts.{accept_entry}
 use Rattle.house_core.proofs.Accepting.{found_number}
-use Rattle.std.proofs.Common.{◌≡◌, Some, None}
-use Rattle.mc_records.specs.Requests.{asked_of}
-use Rattle.house_core.proofs.Tabled.{kept_number, number_at, comes_again, is_new}
+use Rattle.house_core.proofs.Tabled.{kept_number, unread, comes_again, is_new}
 use Rattle.house_core.proofs.evaluate.evaluate.Goals as goal
 
-pub returns-in-Some-clause-lines : goal.returns-in-Some-clause-lines
-returns-in-Some-clause-lines g c h st trade kind =
-    let is : Some c.in-Some.number ≡ kept_number c.args.state.now (asked_of c.args.q.now) c.args.scrip.now = number_at c.args.state.now (asked_of c.args.q.now) (asked_of c.request_with.result) c.args.scrip.now (Some c.in-Some.number) c.request_with.ensures c.in-Some.ensures in
-    comes_again st c.args.limits (asked_of c.args.q.now) c.args.scrip.now c.in-Some.number is
+pub returns-in-Err-clause-exact : goal.returns-in-Err-clause-exact
+returns-in-Err-clause-exact g c h st trade kind =
+    unread h c.args.state.now.time c.args.limits c.args.q.now (Refuse c.in-Err.refusal) c.in-Err.ensures.read
 
-pub returns-in-Ok-clause-lines : goal.returns-in-Ok-clause-lines
-returns-in-Ok-clause-lines g c h st trade kind =
-    let none : None ≡ kept_number c.args.state.now (asked_of c.args.q.now) c.args.scrip.now = number_at c.args.state.now (asked_of c.args.q.now) (asked_of c.request_with.result) c.args.scrip.now None c.request_with.ensures c.in-None.ensures in
-    is_new st c.args.limits (asked_of c.args.q.now) c.args.scrip.now _ none (c.in-Ok.ensures.lines h st trade kind)
-
-pub returns-in-Err-clause-lines : goal.returns-in-Err-clause-lines
-returns-in-Err-clause-lines g c h st trade kind =
-    let none : None ≡ kept_number c.args.state.now (asked_of c.args.q.now) c.args.scrip.now = number_at c.args.state.now (asked_of c.args.q.now) (asked_of c.request_with.result) c.args.scrip.now None c.request_with.ensures c.in-None.ensures in
-    is_new st c.args.limits (asked_of c.args.q.now) c.args.scrip.now _ none (c.in-Err.ensures.lines h st trade kind)
+pub returns-in-Some-clause-exact : goal.returns-in-Some-clause-exact
+returns-in-Some-clause-exact g c h st trade kind =
+    let is : Some c.in-Some.number ≡ kept_number c.args.state.now c.args.q.now = c.in-Some.ensures ∙ ap (kept_number c.args.state.now) c.request-request.ensures in
+    comes_again st c.args.limits c.args.q.now c.in-Ok.scrip.now c.in-Some.number c.in-Ok.ensures.read is
 
 pub returns-in-Some-clause-again : goal.returns-in-Some-clause-again
-returns-in-Some-clause-again g c = found_number c.args.state.now.kept c.args.state.now.time (asked_of c.request_with.result) c.in-Some.number c.in-Some.ensures
+returns-in-Some-clause-again g c =
+    let is : Some c.in-Some.number ≡ kept_number c.args.state.now c.args.q.now = c.in-Some.ensures ∙ ap (kept_number c.args.state.now) c.request-request.ensures in
+    found_number c.args.state.now.kept c.args.state.now.time c.args.q.now c.in-Some.number is
+
+pub returns-in-Ok-evaluate_new-clause-exact : goal.returns-in-Ok-evaluate_new-clause-exact
+returns-in-Ok-evaluate_new-clause-exact g c h st trade kind =
+    let b = c.args.state.now in
+    let none : None ≡ kept_number b c.args.q.now = c.in-None.ensures ∙ ap (kept_number b) c.request-request.ensures in
+    is_new st c.args.limits c.args.q.now c.in-Ok.scrip.now _ c.in-Ok.ensures.read none
+    (subst (λ (p : Asked). Ok (accept_entry b.time p.target c.in-Ok-evaluate_new.authorization) ≡ after_repeat h b.time c.args.limits p c.in-Ok.scrip.now) c.request-request.ensures
+    (c.in-Ok-evaluate_new.ensures.lines h st trade kind))
+
+pub returns-in-Err-evaluate_new-clause-exact : goal.returns-in-Err-evaluate_new-clause-exact
+returns-in-Err-evaluate_new-clause-exact g c h st trade kind =
+    let b = c.args.state.now in
+    let none : None ≡ kept_number b c.args.q.now = c.in-None.ensures ∙ ap (kept_number b) c.request-request.ensures in
+    is_new st c.args.limits c.args.q.now c.in-Ok.scrip.now _ c.in-Ok.ensures.read none
+    (subst (λ (p : Asked). Err (Refuse c.in-Err-evaluate_new.refusal) ≡ after_repeat h b.time c.args.limits p c.in-Ok.scrip.now) c.request-request.ensures
+    (c.in-Err-evaluate_new.ensures.lines h st trade kind))

@@ -1,4 +1,3 @@
-use Rattle.mc_records.specs.Requests.{asked_of}
 use Rattle.house_serving.proofs.CauseLemmas.{counts_link, causes_then}
 use Rattle.house_serving.proofs.HouseTurnLemmas.{RaisedBy, request_answered}
 use Rattle.house_serving.proofs.house_turn.answer_request.Goals as goal
@@ -23,4 +22,4 @@ returns-clause-answered g c h st =
       rest = was.rest;
       read = was.read;
     } in
-    request_answered g.O.Link.link g.O.Disk.disk g.T.Trade.trade (asked_of c.args.q.now) c.args.after x y c.raise_by_clock-reading.result h c.reply_to.result up st (c.reply_to.ensures.replied h (was.stands h st))
+    request_answered g.O.Link.link g.O.Disk.disk g.T.Trade.trade c.args.q.now c.args.after x y c.raise_by_clock-reading.result h c.reply_to.result up st (c.reply_to.ensures.replied h (was.stands h st))

@@ -1,9 +1,13 @@
+use Rattle.std.proofs.Common.{subst}
+use Rattle.mc_records.specs.Requests.{Asked}
+use Rattle.house_core.specs.Bench.{limits_of, state_of}
+use Rattle.house_serving.specs.Links.{AnswersRequest}
 use Rattle.house_serving.proofs.CauseLemmas.{counts_link, counts_then, causes_then}
 use Rattle.house_serving.proofs.HouseTurnLemmas.{ReadOn, head_turns, refused_turns, end_turns, fault_turns, head_target, head_given, refused_given, given_if, read_stands}
 use Rattle.house_serving.proofs.house_turn.take_turn.Goals as goal
 
 pub answer_request-requires-clause-target : goal.answer_request-requires-clause-target
-answer_request-requires-clause-target g c = head_target c.args.reader.now _ _ c.in-Head.q c.in-Head.after _ c.take.result c.take.follows.holds-at-none c.in-Head.is
+answer_request-requires-clause-target g c = rw c.of.ensures (head_target c.args.reader.now _ _ c.in-Head.q c.in-Head.after _ c.take.result c.take.follows.holds-at-none c.in-Head.is)
 
 pub returns-in-Head-clause-causes : goal.returns-in-Head-clause-causes
 returns-in-Head-clause-causes g c =
@@ -26,7 +30,9 @@ returns-in-Head-clause-turned g c h st =
       rests = c.take.ensures.moved.1;
     } in
     head_turns g.O.Link.link g.O.Disk.disk g.T.Trade.trade c.in-Head.q c.in-Head.after x y h c.args.reader.now c.take.follows.lender-at-none c.take.result c.answer_request.result
-    c.take.follows.holds-at-none c.in-Head.is on st (c.answer_request.ensures.answered h (read_stands g.O.Link.link g.O.Disk.disk g.T.Trade.trade x y h on st))
+    c.take.follows.holds-at-none c.in-Head.is on st
+    (subst (λ (q : Asked). AnswersRequest g.O.Link.link g.O.Disk.disk g.T.Trade.trade (limits_of y.bench) q c.in-Head.after y.journal.disk (state_of h y.bench) c.answer_request.result) c.of.ensures
+    (c.answer_request.ensures.answered h (read_stands g.O.Link.link g.O.Disk.disk g.T.Trade.trade x y h on st)))
 
 pub returns-in-Refused-clause-causes : goal.returns-in-Refused-clause-causes
 returns-in-Refused-clause-causes g c =

@@ -11,7 +11,7 @@ returns-in-Head-clause-turned g c h house =
       house = came.house;
       related = head_turned (Step (limits_of c.args.bench.now)) c.args.clock.now c.serve_request.result (state_of h c.args.bench.now) c.args.reader.now (g.K.Link.link c.args.k.now) (g.K.Link.link c.take.new.k)
           c.take.result c.in-Head.q c.in-Head.after (state_of came.history c.serve_request.new.bench) c.take.follows.lender-at-none (g.K.Link.link c.serve_request.new.k)
-          c.take.follows.holds-at-none c.in-Head.is came.related;
+          c.take.follows.holds-at-none c.in-Head.is (rw c.of.ensures at came.related);
     }
 
 pub returns-in-Refused-clause-turned : goal.returns-in-Refused-clause-turned

@@ -1,5 +1,4 @@
 use Rattle.std.proofs.Common.{Bool, refl, subst, List, ℕ}
-use Rattle.mc_records.specs.Requests.{asked_of}
 use Rattle.ledger_model.specs.Answer.{answer}
 use Rattle.millicent_http.specs.Items.{request}
 use Rattle.house_core.specs.Bench.{limits_of, state_of}
@@ -11,7 +10,7 @@ use Rattle.house_serving.proofs.turn.serve_request.Goals as goal
 pub returns-clause-answered : goal.returns-clause-answered
 returns-clause-answered g c h house =
     let limits = limits_of c.args.bench.now in
-    let q = asked_of c.args.q.now in
+    let q = c.args.q.now in
     let s = state_of h c.args.bench.now in
     let reading = c.read_clock-reading.result in
     let came = c.answer-said.ensures.went h house in

@@ -1,5 +1,5 @@
 use Rattle.std.proofs.Common.{◌≡◌, List, ℕ, ◌++◌, sym, ap, ◌∙◌, subst}
-use Rattle.mc_records.specs.Requests.{asked_of}
+use Rattle.mc_records.specs.Requests.{Asked, asked_of}
 use Rattle.ledger_model.specs.Answer.{answer}
 use Rattle.millicent_http.specs.Items.{request}
 use Rattle.millicent_http.specs.Takes.{item_of}
@@ -13,7 +13,7 @@ use Rattle.house_serving.proofs.whole.reply_to.Goals as goal
 pub returns-in-Request-clause-stepped : goal.returns-in-Request-clause-stepped
 returns-in-Request-clause-stepped g c =
     let limits = limits_of c.args.bench.now in
-    let q = asked_of c.in-Request.q in
+    let q = c.of-q.result in
     let old : List ℕ = c.args.out.now.items in
     let new : List ℕ = c.append_to.new.out.items in
     on_ok c.append_to.result (new ≡ old ++ c.reply.result)
@@ -23,8 +23,9 @@ returns-in-Request-clause-stepped g c =
     let came = c.answer-said.ensures.went h house in
     let t = state_of came.history c.answer-said.new.self in
     let reply : List ℕ = said_reply t q c.answer-said.result in
-    let step : Step limits s c.args.moment (request q c.in-Request.field-1) reply t =
-    says_gives (raised s c.args.moment) t q (answer (raised s c.args.moment).history (raised s c.args.moment).time limits q) c.answer-said.result came.related in
+    let step : Step limits s c.args.moment (request (asked_of c.in-Request.q) c.in-Request.field-1) reply t =
+    subst (λ (p : Asked). Step limits s c.args.moment (request p c.in-Request.field-1) reply t) c.of-q.ensures
+    (says_gives (raised s c.args.moment) t q (answer (raised s c.args.moment).history (raised s c.args.moment).time limits q) c.answer-said.result came.related) in
     record {
       history = came.history;
       house = came.house;

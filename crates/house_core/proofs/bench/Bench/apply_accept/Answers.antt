@@ -17,19 +17,18 @@ pub returns-clause-exact : goal.returns-clause-exact
 returns-clause-exact g c limits h st brings series most takes =
     let b = c.args.self.now.state in
     let a = c.args.authorization.now in
-    let text = c.args.scrip.now.text in
-    let target = c.args.q.now.target.now in
-    let is : entry c.entry_of-record.result ≡ accept_entry b.time text target a = rw (c.entry_of-record.ensures.same, c.time.ensures) refl in
-    let may : MayLearn b.limits (g.T.Trade.trade c.args.self.now.trade).site c.count-number.result h (entry c.entry_of-record.result) =
-    rw (is, c.count-number.ensures) (may_learn st.state (g.T.Trade.trade c.args.self.now.trade).site limits (asked_of c.args.q.now) text a series most takes) in
+    let e = accept_entry b.time c.args.q.now.target a in
+    let is : entry c.args.r.now ≡ e = c.requires.is in
+    let may : MayLearn b.limits (g.T.Trade.trade c.args.self.now.trade).site c.count-number.result h (entry c.args.r.now) =
+    rw (is, c.count-number.ensures) (may_learn st.state (g.T.Trade.trade c.args.self.now.trade).site limits c.args.q.now a series most takes) in
     let learned = on_is_ok c.learn-learned.result _ ((c.learn-learned.ensures.exact b.limits h st.learned may).1 (rw is tt)) c.learn-learned.ensures.learned b.limits h st.learned may in
-    let entered = subst (λ (p : Scrip). IsEntered b c.enter.new.self (asked_of c.request_with-request.result) p a) c.piece.ensures c.enter.ensures in (
+    let entered = subst (λ (p : Scrip). IsEntered b c.enter.new.self (asked_of c.request.result.now) p a) c.piece.ensures c.enter.ensures in (
       c.count-number.ensures ∙ sym st.state.counted,
       record {
-        state = stands_taken st.state (as_it_was b) (asked_of c.args.q.now) c.args.scrip.now a c.requires.read c.requires.ready brings limits series most takes
-            (subst (λ (p : Asked). IsEntered b c.enter.new.self p c.args.scrip.now.piece a) c.request_with-request.ensures entered);
+        state = stands_taken st.state (as_it_was b) c.args.q.now a c.requires.read c.requires.ready brings limits series most takes
+            (subst (λ (p : Asked). IsEntered b c.enter.new.self p a.scrip.now.piece a) c.request.ensures entered);
         learned = subst (λ (e : Entry). (g.T.Trade.trade c.learn-learned.new.self).represents (h ++ e ∷ [])) is learned;
-        of_kind = kind_stays b.limits h (accept_entry b.time text target a) st.state.lawful ∙ rw c.learn-learned.ensures.site st.of_kind;
+        of_kind = kind_stays b.limits h e st.state.lawful ∙ rw c.learn-learned.ensures.site st.of_kind;
       },
     )
 
@@ -38,6 +37,6 @@ returns-clause-contents g c h st has in_force =
     let b = c.args.self.now.state in
     let a = c.args.authorization.now in
     let after : Bench g.row.T.Denot = record { state = c.enter.new.self; trade = c.learn-learned.new.self } in
-    let r : KeptReply = record { asked = asked_of c.request_with-request.result; entry = kept_entry b c.piece.result a } in
-    contents_taken g.T.Trade.trade c.args.self.now after h (accept_entry b.time c.args.scrip.now.text c.args.q.now.target.now a) r has (λ target. refl)
+    let r : KeptReply = record { asked = asked_of c.request.result.now; entry = kept_entry b c.piece.result a } in
+    contents_taken g.T.Trade.trade c.args.self.now after h (accept_entry b.time c.args.q.now.target a) r has (λ target. refl)
     c.enter.ensures.replies c.learn-learned.ensures.held c.requires.held in_force

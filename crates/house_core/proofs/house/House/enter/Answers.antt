@@ -1,4 +1,4 @@
-use Rattle.std.proofs.Common.{◌≡◌, ◌∙◌, ◌<◌, ◌+◌, max, refl, sym, ap}
+use Rattle.std.proofs.Common.{◌≡◌, ◌∙◌, ◌<◌, ◌+◌, refl, sym, ap}
 use Rattle.mc_outside.specs.Bytes.{Rose}
 use Rattle.mc_outside.specs.DiskView.{Ran}
 use Rattle.mc_records.specs.Sizes.{size, entry_size}
@@ -7,7 +7,7 @@ use Rattle.mc_records.specs.Views.{entry}
 use Rattle.scrip_journal.specs.States.{AtRest}
 use Rattle.scrip_journal.specs.Exits.{EitherNoOutput}
 use Rattle.house_core.specs.declared.house.House.{House}
-use Rattle.house_core.specs.Bench.{house_time, limits_of}
+use Rattle.house_core.specs.Bench.{limits_of}
 use Rattle.house_core.proofs.Accepting.{holds_roomed}
 use Rattle.house_core.proofs.Contents.{contents_roomed}
 use Rattle.house_core.proofs.HouseDisk.{ran_nothing, stands_with, as_roomed, has_entered, not_full_of, applied}

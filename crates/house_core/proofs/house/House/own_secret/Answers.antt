@@ -1,4 +1,4 @@
-use Rattle.std.proofs.Common.{◌≡◌, ℕ, ◌∙◌, ap, ap₂, sym}
+use Rattle.std.proofs.Common.{ℕ, ◌∙◌, ap₂, sym}
 use Rattle.scrip_form.specs.Identities.{series_of}
 use Rattle.scrip_form.specs.Issuing.{Issuing}
 use Rattle.ledger_model.specs.Houses.{secret_in}

@@ -1,5 +1,5 @@
 use Rattle.scrip_form.specs.Issuing.{epoch}
-use Rattle.std.proofs.Common.{◌<◌, ◌^◌, ◌≡◌, ◌+◌, ◌≤◌, None, sym, subst, arith}
+use Rattle.std.proofs.Common.{◌<◌, ◌^◌, ◌≡◌, ◌+◌, ◌≤◌, None, sym, subst}
 use Rattle.std.specs.Prelude.{◌-◌, vec_len, vec_capacity}
 use Rattle.mc_records.specs.Requests.{asked_of}
 use Rattle.kept_replies.specs.Kept.{found}

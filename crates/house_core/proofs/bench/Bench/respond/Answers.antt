@@ -1,0 +1,41 @@
+use Rattle.std.proofs.Common.{refl, sym, ap, subst, ◌∙◌, Ok, Err}
+use Rattle.mc_records.specs.declared.limits.Limits.{Limits}
+use Rattle.ledger_model.specs.Answer.{Answer, answer}
+use Rattle.house_core.specs.declared.verdict.BenchFault.TheVariants as faults
+use Rattle.house_core.specs.Bench.{Accepts, KeepsContents, house_time}
+use Rattle.house_core.proofs.Accepting.{stopped_kept, stopped_site, makes_none}
+use Rattle.house_core.proofs.Contents.{keeps_all}
+use Rattle.house_core.proofs.bench.Bench.respond.Goals as goal
+
+pub returns-in-Err-clause-exact : goal.returns-in-Err-clause-exact
+returns-in-Err-clause-exact g c h st =
+    rw c.stopped_with.ensures (makes_none g.T.Trade.trade c.args.self.now h c.args.q.now c.in-Err.stopped st
+    (c.in-Err.ensures.exact h st.state st.learned st.of_kind ∙ ap (λ (l : Limits). answer h (house_time c.args.self.now) l c.args.q.now) c.limits.ensures.limits))
+
+pub returns-in-Err-clause-contents : goal.returns-in-Err-clause-contents
+returns-in-Err-clause-contents g c h st has =
+    rw c.stopped_with.ensures (keeps_all g.T.Trade.trade c.args.self.now h c.args.q.now c.in-Err.stopped has
+    (c.in-Err.ensures.exact h st.state st.learned st.of_kind ∙ ap (λ (l : Limits). answer h (house_time c.args.self.now) l c.args.q.now) c.limits.ensures.limits))
+
+pub returns-in-Err-clause-kept : goal.returns-in-Err-clause-kept
+returns-in-Err-clause-kept g c = rw c.stopped_with.ensures (stopped_kept c.args.self.now c.in-Err.stopped c.in-Err.ensures.again)
+
+pub returns-in-Err-clause-site : goal.returns-in-Err-clause-site
+returns-in-Err-clause-site g c = rw c.stopped_with.ensures (stopped_site c.in-Err.stopped c.in-Err.ensures.site)
+
+pub returns-in-Ok-commit-clause-exact : goal.returns-in-Ok-commit-clause-exact
+returns-in-Ok-commit-clause-exact g c h st =
+    let is = c.in-Ok.ensures.exact h st.state st.learned st.of_kind ∙ ap (λ (l : Limits). answer h (house_time c.args.self.now) l c.args.q.now) c.limits.ensures.limits in
+    subst (λ (a : Answer). Accepts g.T.Trade.trade c.commit.new.self h a (Ok c.in-Ok-commit.number)) is
+    (c.in-Ok-commit.ensures.exact c.args.self.now.state.limits h st refl c.limits.ensures.sound.limits.journal_most (sym is))
+
+pub returns-in-Ok-commit-clause-contents : goal.returns-in-Ok-commit-clause-contents
+returns-in-Ok-commit-clause-contents g c h st has =
+    let is = c.in-Ok.ensures.exact h st.state st.learned st.of_kind ∙ ap (λ (l : Limits). answer h (house_time c.args.self.now) l c.args.q.now) c.limits.ensures.limits in
+    subst (λ (a : Answer). KeepsContents g.T.Trade.trade c.commit.new.self h a (Ok c.in-Ok-commit.number)) is (c.in-Ok-commit.ensures.contents h st has (c.in-Ok.ensures.in_force h st.learned st.of_kind))
+
+pub returns-in-Err-commit-clause-exact : goal.returns-in-Err-commit-clause-exact
+returns-in-Err-commit-clause-exact g c h st =
+    let is = c.in-Ok.ensures.exact h st.state st.learned st.of_kind ∙ ap (λ (l : Limits). answer h (house_time c.args.self.now) l c.args.q.now) c.limits.ensures.limits in
+    subst (λ (a : Answer). Accepts g.T.Trade.trade c.commit.new.self h a (Err faults.NoMemory)) is
+    (c.in-Err-commit.ensures.exact c.args.self.now.state.limits h st refl c.limits.ensures.sound.limits.journal_most (sym is))
