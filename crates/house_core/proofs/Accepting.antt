@@ -28,7 +28,7 @@ use Rattle.house_core.specs.declared.verdict.BenchFault.TheVariants as faults
 use Rattle.house_core.specs.Learning.{MayLearn}
 use Rattle.house_core.specs.Trade.{BringsFor, TradeView}
 use Rattle.house_core.specs.HouseState.{HouseStateView, HasChange, GoesOn, IsEntered, IsAsBefore, series_now}
-use Rattle.house_core.specs.Representation.{StateRepresents, has_ended, scrip_request}
+use Rattle.house_core.specs.Representation.{StateRepresents, has_ended}
 use Rattle.house_core.specs.Verdicts.{accept_entry, stop_of, IsReady, RepeatsKept, StopIsOfSite}
 use Rattle.house_core.specs.Bench.{Represents, IsRoomed, Accepts, KeepsReply, FaultIsOfSite, house_time, limits_of, stopped_with}
 use Rattle.house_core.proofs.Entered.{stands_entered, takes_follow}

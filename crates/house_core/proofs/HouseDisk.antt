@@ -1,16 +1,14 @@
 -- The disk of a house, while an entry is written.
-use Rattle.std.proofs.Common.{◌≡◌, ◌∙◌, ℕ, ◌+◌, ◌<◌, ◌≤◌, arith, Ok, List, [], ◌∷◌, ◌++◌, length, Err, inl, subst, refl, sym, ap}
+use Rattle.std.proofs.Common.{◌≡◌, ◌∙◌, ℕ, ◌+◌, ◌<◌, ◌≤◌, arith, Ok, List, [], ◌∷◌, ◌++◌, length, Err, subst, refl, sym, ap}
 use Rattle.std.specs.Prelude.{Result, MatchResult}
-use Rattle.mc_outside.specs.DiskView.{DiskView, DiskGoes, IsDisk, Ran}
-use Rattle.mc_outside.proofs.Runs.{ran_then, ran_weaker, ran_none}
+use Rattle.mc_outside.specs.DiskView.{DiskView, IsDisk, Ran}
+use Rattle.mc_outside.proofs.Runs.{ran_none}
 use Rattle.mc_records.specs.Entry.{Entry, payload}
 use Rattle.mc_records.specs.Sizes.{size, entry_size}
 use Rattle.mc_records.proofs.SizeLaws.{length-tail}
 use Rattle.scrip_journal.specs.States.{AtRest, IsJournal}
 use Rattle.scrip_journal.specs.Rests.{journal_leaves}
-use Rattle.scrip_journal.specs.Exits.{EncodesNoOutput, EitherNoOutput}
-use Rattle.scrip_journal.specs.declared.journal.StageFault.{StageFault}
-use Rattle.scrip_journal.specs.declared.journal.StageFault.TheVariants.{Full, Disk}
+use Rattle.scrip_journal.specs.Exits.{EncodesNoOutput}
 use Rattle.mc_records.specs.declared.limits.Limits.{Limits}
 use Rattle.ledger_model.specs.Histories.{History}
 use Rattle.house_core.specs.declared.bench.Bench.{Bench}

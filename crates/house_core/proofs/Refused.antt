@@ -2,7 +2,6 @@
 use Rattle.std.proofs.Common.{◌≡◌, ℕ, List, [], ◌++◌, refl, ap, ap₂, ◌∙◌, Option, None, unwrap_or}
 use Rattle.std.proofs.lemmas.List.{append-nil}
 use Rattle.mc_records.specs.declared.refusal.Refusal.{Refusal}
-use Rattle.mc_records.specs.Refusals.{is_signed}
 use Rattle.mc_records.specs.Requests.{Asked}
 use Rattle.mc_records.specs.declared.refusal.Refusal.TheVariants.{DiskFault}
 use Rattle.mc_records.specs.Replies.{Reply, reply_head}

@@ -15,11 +15,9 @@ use Rattle.ledger_model.specs.Pieces.{own_count, next_identity}
 use Rattle.ledger_model.specs.Answer as answers
 use Rattle.ledger_model.specs.Answer.{Answer, fitted}
 use Rattle.scrip_journal.specs.Layout.{Encodes}
-use Rattle.scrip_journal.specs.States.{AtRest, IsJournal}
+use Rattle.scrip_journal.specs.States.{IsJournal}
 use Rattle.scrip_journal.specs.Rests.{RestsAs, rests_none, rests_then}
 use Rattle.scrip_journal.specs.Exits.{EncodesNoOutput, EitherNoOutput}
-use Rattle.scrip_journal.specs.declared.journal.StageFault.{StageFault}
-use Rattle.scrip_journal.specs.declared.journal.StageFault.TheVariants.{Full, Disk}
 use Rattle.house_core.specs.declared.house.House.{House}
 use Rattle.house_core.specs.declared.settled.Settled.{Settled}
 use Rattle.house_core.specs.declared.outcome.Outcome.{Outcome}
