@@ -1,9 +1,9 @@
 -- The entries of an opening have payloads, and each may follow those before it.
-use Rattle.std.proofs.Common.{◌≡◌, ℕ, ◌+◌, ◌≤◌, ◌^◌, false, List, [], ◌∷◌, ◌++◌, length, Ok, refl, sym, ap, ◌∙◌, subst, arith}
+use Rattle.std.proofs.Common.{◌≡◌, ℕ, ◌+◌, ◌≤◌, ◌^◌, false, List, [], ◌∷◌, ◌++◌, Ok, refl, sym, ap, ◌∙◌, subst, arith}
 use Rattle.std.specs.Prelude.{nat_lt}
 use Rattle.std.proofs.lemmas.Bool.{le-ltb}
 use Rattle.scrip_form.specs.Issuing.{Issuing}
-use Rattle.mc_records.specs.Entry.{Entry, AddTerms, Goods, AreSecrets, AreTerms, Fits, payload}
+use Rattle.mc_records.specs.Entry.{Entry, AddTerms, Goods, AreSecrets, AreTerms, Fits}
 use Rattle.mc_records.specs.Sizes.{size, entry_size}
 use Rattle.mc_records.proofs.SizeLaws.{tail_is_short}
 use Rattle.mc_records.proofs.PayloadSizes.{payload_is_short}

@@ -32,7 +32,7 @@ use Rattle.mc_top.specs.declared.status.Status.TheVariants as ends
 use Rattle.mc_top.specs.Inputs.{IsInput, LostInput}
 use Rattle.mc_top.specs.Opening.{full}
 use Rattle.mc_top.specs.Endings.{outcome_status}
-use Rattle.mc_top.specs.Serving.{EncodesLawful, EncodesEither}
+use Rattle.mc_top.specs.Serving.{EncodesLawful}
 use Rattle.mc_top.specs.Operator.{OperationView, DidBy, OperatePair, OperateCauses, Operated, Opened, Unread}
 use Rattle.mc_top.proofs.InitLemmas.{none_between}
 use Rattle.mc_top.proofs.ServedLemmas.{stands_lawful}

@@ -28,9 +28,6 @@ found_house-requires-clause-room g c = rw c.site-site.ensures.site (first_has_ro
 pub found_house-requires-clause-first : goal.found_house-requires-clause-first
 found_house-requires-clause-first g c = rw (c.site-site.ensures.site, c.kind-kind.ensures) (c.requires.first c.now-moment.result)
 
-pub found_house-requires-clause-kind : goal.found_house-requires-clause-kind
-found_house-requires-clause-kind g c = rw c.site-site.ensures.site (ap (λ (k : ℕ). Some k) c.kind-kind.ensures)
-
 pub returns-in-Ok-clause-causes : goal.returns-in-Ok-clause-causes
 returns-in-Ok-clause-causes g c =
     let keeps = g.met.O.Outside.link_keeps _ _ c.now-moment.ensures.moved in
