@@ -1,5 +1,5 @@
 -- From state to state.
-use Rattle.std.proofs.Common.{ℕ, List, [], ◌++◌, refl}
+use Rattle.std.proofs.Common.{List, [], ◌++◌, refl}
 use Rattle.millicent_http.specs.Steps.{Did, state_after, BySteps}
 use Rattle.millicent_http.proofs.StepLemmas.{by_steps_so, by_steps_then}
 use Rattle.house_core.specs.declared.bench.Bench.{Bench}
