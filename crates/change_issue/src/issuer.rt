@@ -61,7 +61,8 @@ impl Issuer {
     /// Makes room for a series. Where it has room it is `Ok` and takes no memory. It changes nothing
     /// else, and after an `Err` all is as it was.
     pub fn reserve(&mut self, series: u32) -> Result<(), NoMemory>
-        ensures ok { OnOk result ((s : ℕ) → has_room self.new s ≡ (series == s || has_room self.old s)) }
+        ensures ok { OnOk result ((s : ℕ)
+            → has_room self.new s ≡ (series == s || has_room self.old s)) }
         ensures err { OnErr result ((s : ℕ) → has_room self.new s ≡ has_room self.old s) }
         ensures again { IsTrue (has_room self.old series) → IsOk result }
 

@@ -26,7 +26,8 @@ impl<T: Trade> Bench<T> {
         ensures limits { limits_of self.new ≡ limits_of self.old }
         ensures kept { IfOk result (KeepsReply self.new) }
         ensures site { IfErr result IsOfSite }
-        ensures went { Refines T.trade (λ s t. Says (answer (raised s reading).history (raised s reading).time (limits_of self.old) q.now) result (raised s reading) t) self.old self.new }
+        ensures went { Refines T.trade
+            (λ s t. Says (answer (raised s reading).history (raised s reading).time (limits_of self.old) q.now) result (raised s reading) t) self.old self.new }
     {
         self.raise(reading);
         match self.respond(q) {
@@ -45,7 +46,8 @@ impl<T: Trade> Bench<T> {
     ) -> Reply<'a>
         requires kept { IfOk said.now (KeepsReply self.now) }
         requires site { IfErr said.now IsOfSite }
-        ensures { (h : History) → IsHouse T.trade self.now h → result ≡ said_reply (state_of h self.now) q.now said.now }
+        ensures { (h : History) → IsHouse T.trade self.now h
+            → result ≡ said_reply (state_of h self.now) q.now said.now }
     {
         let number = match said {
             Ok(number) => *number,
@@ -80,7 +82,8 @@ impl<T: Trade> Bench<T> {
     /// The reply to a request that is refused at the house time.
     fn refusal_reply(&self, q: &Presented<'_>, refusal: &Refusal) -> Reply<'static>
         requires { IsOfSite refusal.now }
-        ensures { (h : History) → Represents T.trade self.now h → result ≡ ledger.refusal_of h (house_time self.now) q.now refusal.now }
+        ensures { (h : History) → Represents T.trade self.now h
+            → result ≡ ledger.refusal_of h (house_time self.now) q.now refusal.now }
     {
         let time = self.state.time();
         let request = q.request();
@@ -99,7 +102,9 @@ impl<T: Trade> Bench<T> {
         refusal: &Refusal,
     ) -> Reply<'static>
         requires { IsOfSite refusal.now }
-        ensures { (h : History) → Represents T.trade self.now h → result ≡ refused_reply h (house_time self.now) (option_map (λ q. q.now) q.entry) refusal.now }
+        ensures { (h : History) → Represents T.trade self.now h
+            → result ≡ refused_reply h (house_time self.now) (option_map
+            (λ q. q.now) q.entry) refusal.now }
     {
         match q {
             Some(q) => self.refusal_reply(q, refusal),
@@ -110,7 +115,8 @@ impl<T: Trade> Bench<T> {
     /// The price that the reply to a refusal tells: that of the target where there was no scrip, or the
     /// one that the piece is below.
     fn price_told(&self, target: &[u8], refusal: &Refusal) -> Option<u64>
-        ensures { (h : History) → Represents T.trade self.now h → result ≡ ledger.price_told h target.now refusal.now }
+        ensures { (h : History) → Represents T.trade self.now h
+            → result ≡ ledger.price_told h target.now refusal.now }
     {
         match refusal {
             Refusal::NoScrip => self.trade.price(target),
@@ -121,7 +127,8 @@ impl<T: Trade> Bench<T> {
 
     /// The secret under which the reply to the refusal of a request is signed, where it is signed.
     fn secret_of_refusal(&self, q: &Presented<'_>, refusal: &Refusal) -> Option<[u8; 16]>
-        ensures { (h : History) → Represents T.trade self.now h → result ≡ ledger.secret_of_refusal h q.now refusal.now }
+        ensures { (h : History) → Represents T.trade self.now h
+            → result ≡ ledger.secret_of_refusal h q.now refusal.now }
     {
         if refusal.is_signed() {
             customer_of(&self.state, q)

@@ -75,7 +75,8 @@ impl<T: Trade> Bench<T> {
 
     /// Its trade.
     pub fn trade(&self) -> &T
-        ensures { (h : History) → Represents T.trade self.now h → (T.trade result.now).represents h }
+        ensures { (h : History) → Represents T.trade self.now h
+            → (T.trade result.now).represents h }
     {
         &self.trade
     }
@@ -121,8 +122,10 @@ impl<T: Trade> Bench<T> {
         ensures time { result ≡ max (house_time self.old) reading }
         ensures raised { house_time self.new ≡ max (house_time self.old) reading }
         ensures limits { limits_of self.new ≡ limits_of self.old }
-        ensures same { (h : History) → Represents T.trade self.old h → Represents T.trade self.new h }
-        ensures contents { (h : History) → Represents T.trade self.old h → HasContents T.trade self.old h → HasContents T.trade self.new h }
+        ensures same { (h : History) → Represents T.trade self.old h
+            → Represents T.trade self.new h }
+        ensures contents { (h : History) → Represents T.trade self.old h
+            → HasContents T.trade self.old h → HasContents T.trade self.new h }
     {
         let time = self.state.raise(reading);
         self.trade.forget(self.state.first_kept());
@@ -139,7 +142,9 @@ impl<T: Trade> Bench<T> {
         ensures limits { limits_of self.new ≡ limits_of self.old }
         ensures exact { (h : History) → Represents T.trade self.old h
             → Accepts T.trade self.new h (model.answer h (house_time self.old) (limits_of self.old) (asked_of q.now)) result }
-        ensures contents { (h : History) → Represents T.trade self.old h → HasContents T.trade self.old h → KeepsContents T.trade self.new h (model.answer h (house_time self.old) (limits_of self.old) (asked_of q.now)) result }
+        ensures contents { (h : History) → Represents T.trade self.old h
+            → HasContents T.trade self.old h
+            → KeepsContents T.trade self.new h (model.answer h (house_time self.old) (limits_of self.old) (asked_of q.now)) result }
     {
         self.respond(&Presented::of(*q))
     }
@@ -152,7 +157,9 @@ impl<T: Trade> Bench<T> {
         ensures limits { limits_of self.new ≡ limits_of self.old }
         ensures exact { (h : History) → Represents T.trade self.old h
             → Accepts T.trade self.new h (model.answer h (house_time self.old) (limits_of self.old) q.now) result }
-        ensures contents { (h : History) → Represents T.trade self.old h → HasContents T.trade self.old h → KeepsContents T.trade self.new h (model.answer h (house_time self.old) (limits_of self.old) q.now) result }
+        ensures contents { (h : History) → Represents T.trade self.old h
+            → HasContents T.trade self.old h
+            → KeepsContents T.trade self.new h (model.answer h (house_time self.old) (limits_of self.old) q.now) result }
     {
         let authorization = match evaluate(&self.state, self.state.limits(), &self.trade, q) {
             Ok(authorization) => authorization,
@@ -170,12 +177,16 @@ impl<T: Trade> Bench<T> {
     pub fn enter(&mut self, r: &Record<'_>) -> Result<u64, EnterFault>
         requires fits { Fits (entry r.now) }
         requires command { IsCommand (entry r.now) }
-        requires order { (h : History) → Represents T.trade self.old h → time h ≤ moment_of (entry r.now) }
+        requires order { (h : History) → Represents T.trade self.old h
+            → time h ≤ moment_of (entry r.now) }
         ensures time { house_time self.new ≡ max (house_time self.old) (moment_of (entry r.now)) }
         ensures limits { limits_of self.new ≡ limits_of self.old }
-        ensures exact { (h : History) → Represents T.trade self.old h → Enters T.trade self.new (limits_of self.old) h (entry r.now) result }
-        ensures contents { (h : History) → Represents T.trade self.old h → HasContents T.trade self.old h
-            → MatchResult result (λ n. HasContents T.trade self.new (h ++ entry r.now ∷ [])) (λ f. HasContents T.trade self.new h) }
+        ensures exact { (h : History) → Represents T.trade self.old h
+            → Enters T.trade self.new (limits_of self.old) h (entry r.now) result }
+        ensures contents { (h : History) → Represents T.trade self.old h
+            → HasContents T.trade self.old h
+            → MatchResult result (λ n. HasContents T.trade self.new (h ++ entry r.now ∷ []))
+            (λ f. HasContents T.trade self.new h) }
     {
         self.raise(r.moment());
         let bytes = match self.make_room_for(r) {
@@ -195,12 +206,15 @@ impl<T: Trade> Bench<T> {
         requires command { IsCommand (entry r.now) }
         ensures same { IsRoomed T.trade self.old self.new }
         ensures len { IfOk result (λ n. n ≡ length (payload (entry r.now))) }
-        ensures fits { IfOk result (λ n. size_with self.new.state n ≤ self.new.state.limits.journal) }
+        ensures fits { IfOk result
+            (λ n. size_with self.new.state n ≤ self.new.state.limits.journal) }
         ensures room { IfOk result (λ n. size_with self.new.state n ≤ 2 ^ 40) }
         ensures goes_on { OnOk result (GoesOn self.new.state (entry r.now)) }
         ensures trade { OnOk result ((T.trade self.new.trade).has_room (entry r.now)) }
         ensures state { OnOk result (HasRoomFor self.new.state (entry r.now)) }
-        ensures fault { (h : History) → Represents T.trade self.old h → IfErr result (λ f. Enters T.trade self.new (limits_of self.old) h (entry r.now) (Err f)) }
+        ensures fault { (h : History) → Represents T.trade self.old h
+            → IfErr result
+            (λ f. Enters T.trade self.new (limits_of self.old) h (entry r.now) (Err f)) }
     {
         let bytes = match payload_len(self.state.alloc(), r) {
             Ok(bytes) => bytes,
@@ -226,7 +240,9 @@ impl<T: Trade> Bench<T> {
         ensures goes_on { OnOk result (GoesOn self.new.state (entry r.now)) }
         ensures trade { OnOk result ((T.trade self.new.trade).has_room (entry r.now)) }
         ensures state { OnOk result (HasRoomFor self.new.state (entry r.now)) }
-        ensures end { (h : History) → Represents T.trade self.old h → IfErr result (λ f. Follows T.trade self.new (limits_of self.old) h (entry r.now) (Err f)) }
+        ensures end { (h : History) → Represents T.trade self.old h
+            → IfErr result
+            (λ f. Follows T.trade self.new (limits_of self.old) h (entry r.now) (Err f)) }
     {
         if !self.state.goes_on(r) {
             return Err(ReplayEnd::Unlawful);
@@ -255,12 +271,17 @@ impl<T: Trade> Bench<T> {
         requires state { HasRoomFor self.old.state (entry r.now) }
         ensures time { house_time self.new ≡ house_time self.old }
         ensures limits { limits_of self.new ≡ limits_of self.old }
-        ensures exact { (h : History) → Represents T.trade self.old h → time h ≤ moment_of (entry r.now)
+        ensures exact { (h : History) → Represents T.trade self.old h
+            → time h ≤ moment_of (entry r.now)
             → MatchResult result
-            (λ n. MayFollow (limits_of self.old) h (entry r.now) × (n ≡ length h) × Represents T.trade self.new (h ++ entry r.now ∷ []))
-            (λ f. (MayFollow (limits_of self.old) h (entry r.now) → ⊥) × Represents T.trade self.new h) }
-        ensures contents { (h : History) → Represents T.trade self.old h → HasContents T.trade self.old h
-            → MatchResult result (λ n. HasContents T.trade self.new (h ++ entry r.now ∷ [])) (λ f. HasContents T.trade self.new h) }
+            (λ n. MayFollow (limits_of self.old) h (entry r.now) × (n ≡ length h)
+            × Represents T.trade self.new (h ++ entry r.now ∷ []))
+            (λ f. (MayFollow (limits_of self.old) h (entry r.now) → ⊥)
+            × Represents T.trade self.new h) }
+        ensures contents { (h : History) → Represents T.trade self.old h
+            → HasContents T.trade self.old h
+            → MatchResult result (λ n. HasContents T.trade self.new (h ++ entry r.now ∷ []))
+            (λ f. HasContents T.trade self.new h) }
     {
         let number = self.state.count();
         match self.trade.learn(number, r) {
@@ -281,15 +302,20 @@ impl<T: Trade> Bench<T> {
         requires new { found self.old.state.kept self.old.state.time q.now ≡ None }
         requires held { OfGoods (T.trade self.old.trade).holds authorization.now.deed }
         requires ready { IsReady self.old.state q.now.target authorization.now }
-        requires brings { (h : History) → (T.trade self.old.trade).represents h → site_kind h ≡ Some (T.trade self.old.trade).site → BringsFor h q.now.target authorization.now.deed }
+        requires brings { (h : History) → (T.trade self.old.trade).represents h
+            → site_kind h ≡ Some (T.trade self.old.trade).site
+            → BringsFor h q.now.target authorization.now.deed }
         ensures kept { IfOk result (KeepsReply self.new) }
         ensures time { house_time self.new ≡ house_time self.old }
         ensures limits { limits_of self.new ≡ limits_of self.old }
-        ensures exact { (limits : Bounds) (h : History) → Represents T.trade self.old h → limits.series ≡ (limits_of self.old).series → limits.journal ≤ 2 ^ 40
+        ensures exact { (limits : Bounds) (h : History) → Represents T.trade self.old h
+            → limits.series ≡ (limits_of self.old).series → limits.journal ≤ 2 ^ 40
             → model.answer h (house_time self.old) limits q.now ≡ model.Take (accept_entry (house_time self.old) q.now.target authorization.now)
             → Takes T.trade self.new h (accept_entry (house_time self.old) q.now.target authorization.now) result }
-        ensures contents { (h : History) → Represents T.trade self.old h → HasContents T.trade self.old h → NamesInForce h authorization.now.deed
-            → MatchResult result (λ n. HasContents T.trade self.new (h ++ accept_entry (house_time self.old) q.now.target authorization.now ∷ [])) (λ f. HasContents T.trade self.new h) }
+        ensures contents { (h : History) → Represents T.trade self.old h
+            → HasContents T.trade self.old h → NamesInForce h authorization.now.deed
+            → MatchResult result
+            (λ n. HasContents T.trade self.new (h ++ accept_entry (house_time self.old) q.now.target authorization.now ∷ [])) (λ f. HasContents T.trade self.new h) }
     {
         // The check lets a record go only where the types of its parts are named.
         let _pieces: Option<PieceList<'_>> = None;
@@ -339,11 +365,14 @@ impl<T: Trade> Bench<T> {
         ensures kept { KeepsReply self.new result }
         ensures time { house_time self.new ≡ house_time self.old }
         ensures limits { limits_of self.new ≡ limits_of self.old }
-        ensures exact { (limits : Bounds) (h : History) → Represents T.trade self.old h → BringsFor h q.now.target authorization.now.deed
+        ensures exact { (limits : Bounds) (h : History) → Represents T.trade self.old h
+            → BringsFor h q.now.target authorization.now.deed
             → limits.series ≡ (limits_of self.old).series → limits.journal ≤ 2 ^ 40
             → model.answer h (house_time self.old) limits q.now ≡ model.Take (accept_entry (house_time self.old) q.now.target authorization.now)
-            → (result ≡ length h) × Represents T.trade self.new (h ++ accept_entry (house_time self.old) q.now.target authorization.now ∷ []) }
-        ensures contents { (h : History) → Represents T.trade self.old h → HasContents T.trade self.old h → NamesInForce h authorization.now.deed
+            → (result ≡ length h)
+            × Represents T.trade self.new (h ++ accept_entry (house_time self.old) q.now.target authorization.now ∷ []) }
+        ensures contents { (h : History) → Represents T.trade self.old h
+            → HasContents T.trade self.old h → NamesInForce h authorization.now.deed
             → HasContents T.trade self.new (h ++ accept_entry (house_time self.old) q.now.target authorization.now ∷ []) }
     {
         let number = self.state.count();

@@ -16,7 +16,8 @@ const TEXT: u8 = 1;
 #[tactic(auto, unfolding(crate::specs::Trade::piece_brought))]
 pub fn body_of_deed<'a>(deed: &Deed, room: &'a mut [u8; 512]) -> Body<'a>
     ensures range { AreContents result }
-    ensures brought { (h : History) → OfGoods (λ n. ⊥) deed.now → brought_by h deed.now ≡ Some (contents_of result) }
+    ensures brought { (h : History) → OfGoods (λ n. ⊥) deed.now
+        → brought_by h deed.now ≡ Some (contents_of result) }
 {
     match *deed {
         Deed::Credit { balance } => {

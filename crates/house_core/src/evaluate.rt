@@ -44,10 +44,14 @@ fn taken<'q, 'a, T: Trade>(
     ensures ready { IfOk result (IsReady state.now q.now.target.now) }
     ensures room { IfOk result (λ a. size_with state.now a.payload ≤ limits.journal) }
     ensures held { IfOk result (λ a. OfGoods (T.trade trade.now).holds a.deed) }
-    ensures in_force { (h : History) → (T.trade trade.now).represents h → site_kind h ≡ Some (T.trade trade.now).site → IfOk result (λ a. NamesInForce h a.deed) }
-    ensures brings { (h : History) → (T.trade trade.now).represents h → site_kind h ≡ Some (T.trade trade.now).site → IfOk result (λ a. BringsFor h q.now.target.now a.deed) }
+    ensures in_force { (h : History) → (T.trade trade.now).represents h
+        → site_kind h ≡ Some (T.trade trade.now).site → IfOk result (λ a. NamesInForce h a.deed) }
+    ensures brings { (h : History) → (T.trade trade.now).represents h
+        → site_kind h ≡ Some (T.trade trade.now).site
+        → IfOk result (λ a. BringsFor h q.now.target.now a.deed) }
     ensures site { IfErr result IsOfSite }
-    ensures lines { (h : History) → StateRepresents state.now h → (T.trade trade.now).represents h → site_kind h ≡ Some (T.trade trade.now).site
+    ensures lines { (h : History) → StateRepresents state.now h → (T.trade trade.now).represents h
+        → site_kind h ≡ Some (T.trade trade.now).site
         → as_line (accept_entry state.now.time q.now.target.now) result ≡ model.taken h state.now.time limits (asked_of q.now) scrip.now sign.now }
 {
     let value = scrip.piece().value();
@@ -88,10 +92,14 @@ fn evaluate_new<'q, 'a, T: Trade>(
     ensures ready { IfOk result (IsReady state.now q.now.target.now) }
     ensures room { IfOk result (λ a. size_with state.now a.payload ≤ limits.journal) }
     ensures held { IfOk result (λ a. OfGoods (T.trade trade.now).holds a.deed) }
-    ensures in_force { (h : History) → (T.trade trade.now).represents h → site_kind h ≡ Some (T.trade trade.now).site → IfOk result (λ a. NamesInForce h a.deed) }
-    ensures brings { (h : History) → (T.trade trade.now).represents h → site_kind h ≡ Some (T.trade trade.now).site → IfOk result (λ a. BringsFor h q.now.target.now a.deed) }
+    ensures in_force { (h : History) → (T.trade trade.now).represents h
+        → site_kind h ≡ Some (T.trade trade.now).site → IfOk result (λ a. NamesInForce h a.deed) }
+    ensures brings { (h : History) → (T.trade trade.now).represents h
+        → site_kind h ≡ Some (T.trade trade.now).site
+        → IfOk result (λ a. BringsFor h q.now.target.now a.deed) }
     ensures site { IfErr result IsOfSite }
-    ensures lines { (h : History) → StateRepresents state.now h → (T.trade trade.now).represents h → site_kind h ≡ Some (T.trade trade.now).site
+    ensures lines { (h : History) → StateRepresents state.now h → (T.trade trade.now).represents h
+        → site_kind h ≡ Some (T.trade trade.now).site
         → as_line (accept_entry state.now.time q.now.target.now) result ≡ after_repeat h state.now.time limits (asked_of q.now) scrip.now }
 {
     let secret = match genuine(state, scrip) {
@@ -121,11 +129,15 @@ pub(crate) fn evaluate<'q, 'a, T: Trade>(
     ensures ready { IfOk result (IsReady state.now q.now.target) }
     ensures room { IfOk result (λ a. size_with state.now a.payload ≤ limits.journal) }
     ensures held { IfOk result (λ a. OfGoods (T.trade trade.now).holds a.deed) }
-    ensures in_force { (h : History) → (T.trade trade.now).represents h → site_kind h ≡ Some (T.trade trade.now).site → IfOk result (λ a. NamesInForce h a.deed) }
-    ensures brings { (h : History) → (T.trade trade.now).represents h → site_kind h ≡ Some (T.trade trade.now).site → IfOk result (λ a. BringsFor h q.now.target a.deed) }
+    ensures in_force { (h : History) → (T.trade trade.now).represents h
+        → site_kind h ≡ Some (T.trade trade.now).site → IfOk result (λ a. NamesInForce h a.deed) }
+    ensures brings { (h : History) → (T.trade trade.now).represents h
+        → site_kind h ≡ Some (T.trade trade.now).site
+        → IfOk result (λ a. BringsFor h q.now.target a.deed) }
     ensures site { IfErr result StopIsOfSite }
     ensures again { IfErr result (RepeatsKept state.now) }
-    ensures exact { (h : History) → StateRepresents state.now h → (T.trade trade.now).represents h → site_kind h ≡ Some (T.trade trade.now).site
+    ensures exact { (h : History) → StateRepresents state.now h → (T.trade trade.now).represents h
+        → site_kind h ≡ Some (T.trade trade.now).site
         → answered (evaluated (accept_entry state.now.time q.now.target) result) ≡ model.answer h state.now.time limits q.now }
 {
     let scrip = match q.scrip() {

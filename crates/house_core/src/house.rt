@@ -53,7 +53,8 @@ pub struct House<D, T> {
 impl<D: Disk, T: Trade> House<D, T> {
     /// The house of a journal and of the bench that was made of its entries.
     pub fn new(journal: Journal<D>, bench: Bench<T>) -> House<D, T>
-        ensures stands { (h : History) → IsJournal D.disk journal h → IsHouse T.trade bench h → journal.limit ≡ (limits_of bench).journal
+        ensures stands { (h : History) → IsJournal D.disk journal h → IsHouse T.trade bench h
+            → journal.limit ≡ (limits_of bench).journal
             → HouseRepresents D.disk T.trade result h }
         ensures disk { result.journal.disk ≡ journal.disk }
         ensures time { house_time result.bench ≡ house_time bench }
@@ -85,21 +86,24 @@ impl<D: Disk, T: Trade> House<D, T> {
 
     /// The terms of an issuer; None exactly where it takes no scrip of that issuer.
     pub fn terms(&self, issuer: u8) -> Option<Terms>
-        ensures { (h : History) → HouseRepresents D.disk T.trade self.now h → result ≡ terms_in h issuer }
+        ensures { (h : History) → HouseRepresents D.disk T.trade self.now h
+            → result ≡ terms_in h issuer }
     {
         terms_of(self.bench.state.terms(), issuer).copied()
     }
 
     /// Its own terms, in whose series it hands out and mints.
     pub fn own_terms(&self) -> Terms
-        ensures { (h : History) → HouseRepresents D.disk T.trade self.now h → terms_in h 0 ≡ Some result }
+        ensures { (h : History) → HouseRepresents D.disk T.trade self.now h
+            → terms_in h 0 ≡ Some result }
     {
         self.bench.state.own_terms()
     }
 
     /// The certificate of a piece of its own, by its own terms.
     pub fn own_certificate(&self, piece: &Piece) -> [u8; 16]
-        ensures { (h : History) (terms : Issuing) → HouseRepresents D.disk T.trade self.now h → terms_in h 0 ≡ Some terms
+        ensures { (h : History) (terms : Issuing) → HouseRepresents D.disk T.trade self.now h
+            → terms_in h 0 ≡ Some terms
             → result ≡ certificate_in (version h (site_name h) (series_of piece.now.id)) terms (scrip_body piece.now) piece.now.id }
     {
         self.bench.state.own_certificate(piece)
@@ -107,7 +111,8 @@ impl<D: Disk, T: Trade> House<D, T> {
 
     /// The secret of a customer whose identity is of its own, by its own terms.
     pub fn own_secret(&self, cust: Id) -> [u8; 16]
-        ensures { (h : History) (terms : Issuing) → HouseRepresents D.disk T.trade self.now h → terms_in h 0 ≡ Some terms
+        ensures { (h : History) (terms : Issuing) → HouseRepresents D.disk T.trade self.now h
+            → terms_in h 0 ≡ Some terms
             → result ≡ secret_in (version h (site_name h) (series_of cust)) terms cust }
     {
         let state = &self.bench.state;
@@ -118,7 +123,8 @@ impl<D: Disk, T: Trade> House<D, T> {
     /// exactly where the limit of a series leaves no room for so many.
     pub fn next_run(&self, count: u16) -> Result<Id, Refusal>
         requires { 0 < count }
-        ensures { (h : History) → HouseRepresents D.disk T.trade self.now h → HasRun h (house_time self.now.bench) (limits_of self.now.bench) count result }
+        ensures { (h : History) → HouseRepresents D.disk T.trade self.now h
+            → HasRun h (house_time self.now.bench) (limits_of self.now.bench) count result }
     {
         self.bench.state.next_run(count)
     }
@@ -126,14 +132,16 @@ impl<D: Disk, T: Trade> House<D, T> {
     /// The identity of the next piece of its own series of the house time; refused with 32 exactly where the
     /// limit of a series leaves no room for one more.
     pub fn next(&self) -> Result<Id, Refusal>
-        ensures { (h : History) → HouseRepresents D.disk T.trade self.now h → HasRun h (house_time self.now.bench) (limits_of self.now.bench) 1 result }
+        ensures { (h : History) → HouseRepresents D.disk T.trade self.now h
+            → HasRun h (house_time self.now.bench) (limits_of self.now.bench) 1 result }
     {
         self.next_run(1)
     }
 
     /// Its trade.
     pub fn trade(&self) -> &T
-        ensures { (h : History) → HouseRepresents D.disk T.trade self.now h → (T.trade result.now).represents h }
+        ensures { (h : History) → HouseRepresents D.disk T.trade self.now h
+            → (T.trade result.now).represents h }
     {
         self.bench.trade()
     }
@@ -170,7 +178,8 @@ impl<D: Disk, T: Trade> House<D, T> {
         ensures raised { house_time self.new.bench ≡ max (house_time self.old.bench) reading }
         ensures limits { limits_of self.new.bench ≡ limits_of self.old.bench }
         ensures journal { self.new.journal ≡ self.old.journal }
-        ensures same { (h : History) → HouseRepresents D.disk T.trade self.old h → HouseRepresents D.disk T.trade self.new h }
+        ensures same { (h : History) → HouseRepresents D.disk T.trade self.old h
+            → HouseRepresents D.disk T.trade self.new h }
     {
         self.bench.raise(reading)
     }
@@ -186,7 +195,8 @@ impl<D: Disk, T: Trade> House<D, T> {
         ensures exact { (h : History) → HouseRepresents D.disk T.trade self h
             → Accepted D.disk T.trade self.journal.disk h (model.answer h (house_time self.bench) (limits_of self.bench) (asked_of q.now)) result }
         ensures ran { (h : History) → HouseRepresents D.disk T.trade self h
-            → Ran (D.disk self.journal.disk) (D.disk (outcome_disk result)) (Leaves (model.answer h (house_time self.bench) (limits_of self.bench) (asked_of q.now)) result h (D.disk self.journal.disk).aside) }
+            → Ran (D.disk self.journal.disk) (D.disk (outcome_disk result))
+            (Leaves (model.answer h (house_time self.bench) (limits_of self.bench) (asked_of q.now)) result h (D.disk self.journal.disk).aside) }
     {
         match self.respond(&Presented::of(*q)) {
             Outcome::Done(house, response) => match response {
@@ -210,7 +220,8 @@ impl<D: Disk, T: Trade> House<D, T> {
         ensures exact { (h : History) → HouseRepresents D.disk T.trade self h
             → Responds D.disk T.trade self.journal.disk h (model.answer h (house_time self.bench) (limits_of self.bench) q.now) result }
         ensures ran { (h : History) → HouseRepresents D.disk T.trade self h
-            → Ran (D.disk self.journal.disk) (D.disk (outcome_disk result)) (Leaves (model.answer h (house_time self.bench) (limits_of self.bench) q.now) result h (D.disk self.journal.disk).aside) }
+            → Ran (D.disk self.journal.disk) (D.disk (outcome_disk result))
+            (Leaves (model.answer h (house_time self.bench) (limits_of self.bench) q.now) result h (D.disk self.journal.disk).aside) }
     {
         let House { journal, bench } = self;
         match evaluate(&bench.state, bench.state.limits(), &bench.trade, q) {
@@ -239,11 +250,14 @@ impl<D: Disk, T: Trade> House<D, T> {
         ensures back { HandsBack D.disk D.disk_moved (KeepsTime self) self.journal.disk result }
         ensures site { IfRefused IsOfSite result }
         ensures kept { IfDone (λ x r. KeepsReply x.bench (number_in r)) result }
-        ensures exact { (h : History) → HouseRepresents D.disk T.trade self h → NamesInForce h authorization.now.deed → BringsFor h q.now.target authorization.now.deed
+        ensures exact { (h : History) → HouseRepresents D.disk T.trade self h
+            → NamesInForce h authorization.now.deed
+            → BringsFor h q.now.target authorization.now.deed
             → model.answer h (house_time self.bench) (limits_of self.bench) q.now ≡ model.Take (accept_entry (house_time self.bench) q.now.target authorization.now)
             → Responds D.disk T.trade self.journal.disk h (model.Take (accept_entry (house_time self.bench) q.now.target authorization.now)) result }
         ensures ran { (h : History) → HouseRepresents D.disk T.trade self h
-            → Ran (D.disk self.journal.disk) (D.disk (outcome_disk result)) (Leaves (model.Take (accept_entry (house_time self.bench) q.now.target authorization.now)) result h (D.disk self.journal.disk).aside) }
+            → Ran (D.disk self.journal.disk) (D.disk (outcome_disk result))
+            (Leaves (model.Take (accept_entry (house_time self.bench) q.now.target authorization.now)) result h (D.disk self.journal.disk).aside) }
     {
         let House { journal, bench } = self;
         let mut bench = bench;
@@ -275,12 +289,14 @@ impl<D: Disk, T: Trade> House<D, T> {
     pub fn enter(self, r: &Record<'_>) -> Outcome<D, T, Receipt>
         requires fits { Fits (entry r.now) }
         requires command { IsCommand (entry r.now) }
-        requires may { (h : History) → HouseRepresents D.disk T.trade self h → MayFollow (limits_of self.bench) h (entry r.now) }
+        requires may { (h : History) → HouseRepresents D.disk T.trade self h
+            → MayFollow (limits_of self.bench) h (entry r.now) }
         ensures back { HandsBack D.disk D.disk_moved (RaisedTo (moment_of (entry r.now)) self) self.journal.disk result }
         ensures exact { (h : History) → HouseRepresents D.disk T.trade self h
             → Entered D.disk T.trade (limits_of self.bench) self.journal.disk h (entry r.now) result }
         ensures ran { (h : History) → HouseRepresents D.disk T.trade self h
-            → Ran (D.disk self.journal.disk) (D.disk (outcome_disk result)) (Leaves (model.Take (entry r.now)) result h (D.disk self.journal.disk).aside) }
+            → Ran (D.disk self.journal.disk) (D.disk (outcome_disk result))
+            (Leaves (model.Take (entry r.now)) result h (D.disk self.journal.disk).aside) }
     {
         let House { journal, bench } = self;
         let mut bench = bench;

@@ -209,7 +209,8 @@ impl HouseState {
 
     /// The number of the entry of the same request, within the keeping time.
     pub(crate) fn repeated(&self, q: &Request<'_>) -> Option<u64>
-        ensures { result ≡ option_map (λ e. e.number) (found self.now.kept self.now.time (asked_of q.now)) }
+        ensures { result ≡ option_map
+            (λ e. e.number) (found self.now.kept self.now.time (asked_of q.now)) }
     {
         match self.kept.find(self.time, q) {
             Some(entry) => Some(number_of(entry)),
@@ -291,8 +292,10 @@ impl HouseState {
     pub(crate) fn next_run(&self, count: u16) -> Result<Id, Refusal>
         requires { 0 < count }
         ensures { MatchResult result
-            (λ id. (id ≡ next_in self.now.own (series_now self.now)) × (count_in self.now.own (series_now self.now) + count ≤ self.now.own.most))
-            (λ f. (f ≡ SeriesFull (series_now self.now)) × (self.now.own.most < count_in self.now.own (series_now self.now) + count)) }
+            (λ id. (id ≡ next_in self.now.own (series_now self.now))
+            × (count_in self.now.own (series_now self.now) + count ≤ self.now.own.most))
+            (λ f. (f ≡ SeriesFull (series_now self.now))
+            × (self.now.own.most < count_in self.now.own (series_now self.now) + count)) }
     {
         let series = self.series_now();
         let stand = self.own.count(series);

@@ -15,16 +15,19 @@ use crate::trade::Trade;
 /// In a vendor's history an entry may follow exactly where the house's half and the trade's half of
 /// what makes it lawful hold.
 pub fn entries_follow_in_parts<T: Trade>()
-    ensures { (limits : Bounds) (h : History) (e : Entry) → IsOfKind 0 h e → MayFollow limits h e ↔ InParts T.passes limits 0 h e }
+    ensures { (limits : Bounds) (h : History) (e : Entry) → IsOfKind 0 h e
+        → MayFollow limits h e ↔ InParts T.passes limits 0 h e }
 {}
 
 /// What a kept deed brings stays, whatever entries follow.
 pub fn contents_stay()
-    ensures { (h more : History) (deed : Deed) (contents : Contents) → brought_by h deed ≡ Some contents → brought_by (h ++ more) deed ≡ Some contents }
+    ensures { (h more : History) (deed : Deed) (contents : Contents)
+        → brought_by h deed ≡ Some contents → brought_by (h ++ more) deed ≡ Some contents }
 {}
 
 /// Goods that were in force before an entry other than a Goods entry are kept while its reply is: they
 /// are among those that `forget` leaves from its number on, or from a lower one.
 pub fn goods_in_force_are_kept()
-    ensures { (h more : History) (e : Entry) (from n : ℕ) → IsInForce h n → (IsGoods e → ⊥) → from ≤ length h → IsKeptFrom (h ++ e ∷ more) (Some from) n }
+    ensures { (h more : History) (e : Entry) (from n : ℕ) → IsInForce h n → (IsGoods e → ⊥)
+        → from ≤ length h → IsKeptFrom (h ++ e ∷ more) (Some from) n }
 {}

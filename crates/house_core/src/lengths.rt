@@ -18,7 +18,8 @@ pub(crate) fn accept_len(
     deed: &Deed,
 ) -> u64
     requires { IfSome sign.now IsKey }
-    ensures { (m price : ℕ) → result ≡ length (payload (Accept m scrip.now.text target.now sign.now price change.now (entry_deed deed.now))) }
+    ensures { (m price : ℕ)
+        → result ≡ length (payload (Accept m scrip.now.text target.now sign.now price change.now (entry_deed deed.now))) }
 {
     let texts = scrip.text().len() as u64 + target.len() as u64;
     21 + texts + sign_len(sign) + change_len(change) + deed_len(deed)

@@ -18,7 +18,8 @@ use scrip_form::{Id, Name, Piece, Terms, write_scrip};
 /// before any entry.
 #[tactic(auto, unfolding(ledger_model::specs::Houses::version, ledger_model::specs::Houses::certificate_in))]
 pub(crate) fn certificate_by(terms: &Terms, body: &[u8], id: Id) -> [u8; 16]
-    ensures { (site : List ℕ) → result ≡ certificate_in (version [] site (series_of id)) terms.now body.now id }
+    ensures { (site : List ℕ)
+        → result ≡ certificate_in (version [] site (series_of id)) terms.now body.now id }
 {
     certificate(terms, body, id)
 }
@@ -26,14 +27,16 @@ pub(crate) fn certificate_by(terms: &Terms, body: &[u8], id: Id) -> [u8; 16]
 /// The secret of a customer by the terms of the issuer, likewise.
 #[tactic(auto, unfolding(ledger_model::specs::Houses::version, ledger_model::specs::Houses::secret_in))]
 pub(crate) fn secret_by(terms: &Terms, cust: Id) -> [u8; 16]
-    ensures { (site : List ℕ) → result ≡ secret_in (version [] site (series_of cust)) terms.now cust }
+    ensures { (site : List ℕ)
+        → result ≡ secret_in (version [] site (series_of cust)) terms.now cust }
 {
     customer_secret(terms, cust)
 }
 
 /// A piece of the house's own with its certificate under these terms.
 pub(crate) fn certified(terms: &Terms, piece: Piece) -> (Piece, [u8; 16])
-    ensures { (site : List ℕ) → result ≡ (piece, certificate_in (version [] site (series_of piece.id)) terms.now (scrip_body piece) piece.id) }
+    ensures { (site : List ℕ)
+        → result ≡ (piece, certificate_in (version [] site (series_of piece.id)) terms.now (scrip_body piece) piece.id) }
 {
     let mut out = [0; 512];
     let len = write_scrip(&piece, &[0; 16], &mut out);
@@ -43,7 +46,8 @@ pub(crate) fn certified(terms: &Terms, piece: Piece) -> (Piece, [u8; 16])
 
 /// A piece that may be there, likewise.
 pub(crate) fn certified_if(terms: &Terms, piece: Option<Piece>) -> Option<(Piece, [u8; 16])>
-    ensures { (site : List ℕ) → result ≡ option_map (λ p. (p, certificate_in (version [] site (series_of p.id)) terms.now (scrip_body p) p.id)) piece }
+    ensures { (site : List ℕ) → result ≡ option_map
+        (λ p. (p, certificate_in (version [] site (series_of p.id)) terms.now (scrip_body p) p.id)) piece }
 {
     match piece {
         Some(piece) => Some(certified(terms, piece)),
@@ -77,13 +81,20 @@ pub(crate) fn redeem(
 ) -> Option<Piece>
     requires redeemed_room { IsTrue (has_room own.old (series_of paid.now.id)) }
     requires change_room { IsTrue (has_room own.old (series_at own.old.terms time)) }
-    requires change { MatchOption change (paid.now.value ≤ price) (λ id. (price < paid.now.value) × (count_in own.old (series_at own.old.terms time) < own.old.most) × (id ≡ next_in own.old (series_at own.old.terms time))) }
+    requires change { MatchOption change (paid.now.value ≤ price)
+        (λ id. (price < paid.now.value)
+        × (count_in own.old (series_at own.old.terms time) < own.old.most)
+        × (id ≡ next_in own.old (series_at own.old.terms time))) }
     requires redeemed_small { redeemed_in own.old (series_of paid.now.id) < 2 ^ 120 }
     requires takings_small { takings.old < 2 ^ 120 }
-    ensures piece { result ≡ option_map (λ id. issued_piece own.old.terms time vendor (paid.now.value - price) id (Some paid.now.cust) paid.now.props) change }
-    ensures count { (s : ℕ) → count_in own.new s ≡ count_in own.old s + at_series (series_at own.old.terms time) (change_count change) s }
-    ensures worth { (s : ℕ) → issued_in own.new s ≡ issued_in own.old s + at_series (series_at own.old.terms time) (change_worth price paid.now.value change) s }
-    ensures redeemed { (s : ℕ) → redeemed_in own.new s ≡ redeemed_in own.old s + at_series (series_of paid.now.id) paid.now.value s }
+    ensures piece { result ≡ option_map
+        (λ id. issued_piece own.old.terms time vendor (paid.now.value - price) id (Some paid.now.cust) paid.now.props) change }
+    ensures count { (s : ℕ)
+        → count_in own.new s ≡ count_in own.old s + at_series (series_at own.old.terms time) (change_count change) s }
+    ensures worth { (s : ℕ)
+        → issued_in own.new s ≡ issued_in own.old s + at_series (series_at own.old.terms time) (change_worth price paid.now.value change) s }
+    ensures redeemed { (s : ℕ)
+        → redeemed_in own.new s ≡ redeemed_in own.old s + at_series (series_of paid.now.id) paid.now.value s }
     ensures takings { takings.new ≡ takings.old + min price paid.now.value }
     ensures terms { own.new.terms ≡ own.old.terms }
     ensures most { own.new.most ≡ own.old.most }

@@ -47,9 +47,12 @@ impl<T: Trade> Bench<T> {
         requires room { size_with self.old.state bytes ≤ 2 ^ 40 }
         ensures time { house_time self.new ≡ house_time self.old }
         ensures limits { limits_of self.new ≡ limits_of self.old }
-        ensures exact { (h : History) → Represents T.trade self.old h → Follows T.trade self.new (limits_of self.old) h (entry r.now) result }
-        ensures contents { (h : History) → Represents T.trade self.old h → HasContents T.trade self.old h
-            → MatchResult result (λ n. HasContents T.trade self.new (h ++ entry r.now ∷ [])) (λ f. HasContents T.trade self.new h) }
+        ensures exact { (h : History) → Represents T.trade self.old h
+            → Follows T.trade self.new (limits_of self.old) h (entry r.now) result }
+        ensures contents { (h : History) → Represents T.trade self.old h
+            → HasContents T.trade self.old h
+            → MatchResult result (λ n. HasContents T.trade self.new (h ++ entry r.now ∷ []))
+            (λ f. HasContents T.trade self.new h) }
     {
         match self.room_for(r) {
             Ok(()) => (),
@@ -68,9 +71,11 @@ impl<T: Trade> Bench<T> {
     pub fn replay(&mut self, r: &Record<'_>) -> Result<(), ReplayEnd>
         requires fits { Fits (entry r.now) }
         ensures limits { limits_of self.new ≡ limits_of self.old }
-        ensures exact { (h : History) → Represents T.trade self.old h → house_time self.old ≡ time h → size h + entry_size h (entry r.now) ≤ 2 ^ 40
+        ensures exact { (h : History) → Represents T.trade self.old h → house_time self.old ≡ time h
+            → size h + entry_size h (entry r.now) ≤ 2 ^ 40
             → Replays T.trade self.new (limits_of self.old) h (entry r.now) result }
-        ensures contents { (h : History) → Represents T.trade self.old h → HasContents T.trade self.old h
+        ensures contents { (h : History) → Represents T.trade self.old h
+            → HasContents T.trade self.old h
             → IfOk result (λ u. HasContents T.trade self.new (h ++ entry r.now ∷ [])) }
     {
         let moment = r.moment();
@@ -100,9 +105,11 @@ impl<T: Trade> Bench<T> {
         requires command { IsCommand (entry r.now) }
         requires time { moment_of (entry r.now) ≡ house_time self.old }
         ensures limits { limits_of self.new ≡ limits_of self.old }
-        ensures exact { (h : History) → Represents T.trade self.old h → size h + entry_size h (entry r.now) ≤ 2 ^ 40
+        ensures exact { (h : History) → Represents T.trade self.old h
+            → size h + entry_size h (entry r.now) ≤ 2 ^ 40
             → Replays T.trade self.new (limits_of self.old) h (entry r.now) result }
-        ensures contents { (h : History) → Represents T.trade self.old h → HasContents T.trade self.old h
+        ensures contents { (h : History) → Represents T.trade self.old h
+            → HasContents T.trade self.old h
             → IfOk result (λ u. HasContents T.trade self.new (h ++ entry r.now ∷ [])) }
     {
         let bytes = match payload_len(self.state.alloc(), r) {
@@ -133,8 +140,10 @@ impl<T: Trade> Bench<T> {
         ensures limits { limits_of self.new ≡ limits_of self.old }
         ensures exact { (h : History) → Represents T.trade self.old h
             → Replays T.trade self.new (limits_of self.old) h (Accept (house_time self.old) scrip.now target.now sign.now price change (deed_of deed.now)) result }
-        ensures contents { (h : History) → Represents T.trade self.old h → HasContents T.trade self.old h
-            → IfOk result (λ u. HasContents T.trade self.new (h ++ Accept (house_time self.old) scrip.now target.now sign.now price change (deed_of deed.now) ∷ [])) }
+        ensures contents { (h : History) → Represents T.trade self.old h
+            → HasContents T.trade self.old h
+            → IfOk result
+            (λ u. HasContents T.trade self.new (h ++ Accept (house_time self.old) scrip.now target.now sign.now price change (deed_of deed.now) ∷ [])) }
     {
         let digits = digits_of(sign);
         let q = Presented::of(request_for(scrip, target, &digits));

@@ -69,7 +69,8 @@ impl<'a> Reply<'a> {
         ensures moved { K.link_moved k.old k.new }
         ensures standing { (K.link k.new).stands ≡ (K.link k.old).stands }
         ensures sent { OnOk result (K.link k.new ≡ after_send self.now (K.link k.old)) }
-        ensures fault { OnErr result ((n : ℕ) × (n < length self.now) × Failed (after_send (take n self.now) (K.link k.old)) (K.link k.new)) }
+        ensures fault { OnErr result ((n : ℕ) × (n < length self.now)
+            × Failed (after_send (take n self.now) (K.link k.old)) (K.link k.new)) }
     {
         send_all(k, &self.page[..self.len])?;
         send_all(k, self.rest)

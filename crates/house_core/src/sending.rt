@@ -74,14 +74,16 @@ pub fn send_settled<O: Outside, T: Trade>(
     ensures moved { O.link_moved house.old.journal.disk house.new.journal.disk }
     ensures standing { (O.link house.new.journal.disk).stands ≡ (O.link house.old.journal.disk).stands }
     ensures rests { HouseRests house.old house.new }
-    ensures stands { (h : History) → HouseRepresents O.disk T.trade house.old h → HouseRepresents O.disk T.trade house.new h }
+    ensures stands { (h : History) → HouseRepresents O.disk T.trade house.old h
+        → HouseRepresents O.disk T.trade house.new h }
     ensures ran { (h : History) → HouseRepresents O.disk T.trade house.old h
         → Ran (O.disk house.old.journal.disk) (O.disk house.new.journal.disk) (SendsOn h (O.disk house.old.journal.disk).aside (O.disk house.new.journal.disk).aside) }
     ensures sent { OnOk result ((h : History)
         → HouseRepresents O.disk T.trade house.old h
         → O.link house.new.journal.disk ≡ after_send (ledger.reply_of h s.number) (O.link house.old.journal.disk)) }
     ensures fault { OnErr result ((h : History) → HouseRepresents O.disk T.trade house.old h
-        → (n : ℕ) × (n < length (ledger.reply_of h s.number)) × Failed (after_send (take n (ledger.reply_of h s.number)) (O.link house.old.journal.disk)) (O.link house.new.journal.disk)) }
+        → (n : ℕ) × (n < length (ledger.reply_of h s.number))
+        × Failed (after_send (take n (ledger.reply_of h s.number)) (O.link house.old.journal.disk)) (O.link house.new.journal.disk)) }
 {
     let number = s.number();
     drop_settled(s);
@@ -99,14 +101,16 @@ pub fn send_again<O: Outside, T: Trade>(
     ensures moved { O.link_moved house.old.journal.disk house.new.journal.disk }
     ensures standing { (O.link house.new.journal.disk).stands ≡ (O.link house.old.journal.disk).stands }
     ensures rests { HouseRests house.old house.new }
-    ensures stands { (h : History) → HouseRepresents O.disk T.trade house.old h → HouseRepresents O.disk T.trade house.new h }
+    ensures stands { (h : History) → HouseRepresents O.disk T.trade house.old h
+        → HouseRepresents O.disk T.trade house.new h }
     ensures ran { (h : History) → HouseRepresents O.disk T.trade house.old h
         → Ran (O.disk house.old.journal.disk) (O.disk house.new.journal.disk) (SendsOn h (O.disk house.old.journal.disk).aside (O.disk house.new.journal.disk).aside) }
     ensures sent { OnOk result ((h : History)
         → HouseRepresents O.disk T.trade house.old h
         → O.link house.new.journal.disk ≡ after_send (ledger.reply_of h number) (O.link house.old.journal.disk)) }
     ensures fault { OnErr result ((h : History) → HouseRepresents O.disk T.trade house.old h
-        → (n : ℕ) × (n < length (ledger.reply_of h number)) × Failed (after_send (take n (ledger.reply_of h number)) (O.link house.old.journal.disk)) (O.link house.new.journal.disk)) }
+        → (n : ℕ) × (n < length (ledger.reply_of h number))
+        × Failed (after_send (take n (ledger.reply_of h number)) (O.link house.old.journal.disk)) (O.link house.new.journal.disk)) }
 {
     let mut room = [0; 512];
     let reply = house.bench.first_reply(number, &mut room);
@@ -126,7 +130,8 @@ pub fn send_refusal<O: Outside, T: Trade>(
     ensures moved { O.link_moved house.old.journal.disk house.new.journal.disk }
     ensures standing { (O.link house.new.journal.disk).stands ≡ (O.link house.old.journal.disk).stands }
     ensures rests { HouseRests house.old house.new }
-    ensures stands { (h : History) → HouseRepresents O.disk T.trade house.old h → HouseRepresents O.disk T.trade house.new h }
+    ensures stands { (h : History) → HouseRepresents O.disk T.trade house.old h
+        → HouseRepresents O.disk T.trade house.new h }
     ensures ran { (h : History) → HouseRepresents O.disk T.trade house.old h
         → Ran (O.disk house.old.journal.disk) (O.disk house.new.journal.disk) (SendsOn h (O.disk house.old.journal.disk).aside (O.disk house.new.journal.disk).aside) }
     ensures sent { OnOk result ((h : History)
@@ -146,9 +151,11 @@ pub fn send_disk_fault<O: Outside>(halted: &mut Halted<O>, time: Moment) -> Resu
     requires { IsTrue (O.link halted.old).stands }
     ensures moved { O.link_moved halted.old halted.new }
     ensures standing { (O.link halted.new).stands ≡ (O.link halted.old).stands }
-    ensures sent { OnOk result ((a : History × Asked) → O.link halted.new ≡ after_send (ledger.refusal_of a.0 time a.1 refusals.DiskFault) (O.link halted.old)) }
+    ensures sent { OnOk result ((a : History × Asked)
+        → O.link halted.new ≡ after_send (ledger.refusal_of a.0 time a.1 refusals.DiskFault) (O.link halted.old)) }
     ensures fault { OnErr result ((a : History × Asked)
-        → (n : ℕ) × (n < length (ledger.refusal_of a.0 time a.1 refusals.DiskFault)) × Failed (after_send (take n (ledger.refusal_of a.0 time a.1 refusals.DiskFault)) (O.link halted.old)) (O.link halted.new)) }
+        → (n : ℕ) × (n < length (ledger.refusal_of a.0 time a.1 refusals.DiskFault))
+        × Failed (after_send (take n (ledger.refusal_of a.0 time a.1 refusals.DiskFault)) (O.link halted.old)) (O.link halted.new)) }
 {
     let reply = Reply::of(&refusal_head(time, &Refusal::DiskFault, None), b"");
     reply.send(halted)

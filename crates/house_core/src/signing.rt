@@ -97,7 +97,8 @@ fn sign(q: &Request<'_>, head: &ReplyHead<'_>, contents: &[u8], secret: &[u8; 16
 /// The secret of the customer of a request's piece. None where the request has no scrip text, or there
 /// are no terms of the customer's issuer.
 pub(crate) fn customer_of(state: &HouseState, q: &Presented<'_>) -> Option<[u8; 16]>
-    ensures { (h : History) → StateRepresents state.now h → result ≡ option_and_then (ledger.secret_for h) q.now.scrip }
+    ensures { (h : History) → StateRepresents state.now h
+        → result ≡ option_and_then (ledger.secret_for h) q.now.scrip }
 {
     let Ok(scrip) = q.scrip() else {
         return None;

@@ -29,7 +29,8 @@ pub(crate) fn terms_of(terms: &[Terms], issuer: u8) -> Option<&Terms>
 /// The secret of a piece's customer; refused where the vendor, an issuer, the end of the series or the
 /// certificate is not right.
 pub(crate) fn genuine(state: &HouseState, scrip: &ScripRef<'_>) -> Result<[u8; 16], Refusal>
-    ensures lines { as_line (λ s. s) result ≡ genuine_by state.now.name (version_of state.now) state.now.terms scrip.now }
+    ensures lines { as_line
+        (λ s. s) result ≡ genuine_by state.now.name (version_of state.now) state.now.terms scrip.now }
     ensures site { IfErr result IsOfSite }
 {
     let piece = scrip.piece();
@@ -65,7 +66,8 @@ pub(crate) fn spendable(
     q: &Request<'_>,
     scrip: &ScripRef<'_>,
 ) -> Result<Option<[u8; 16]>, Refusal>
-    ensures lines { as_line (λ s. s) result ≡ spendable_by clear spent time secret.now q.now.target.now (seen q.now.sign) scrip.now }
+    ensures lines { as_line
+        (λ s. s) result ≡ spendable_by clear spent time secret.now q.now.target.now (seen q.now.sign) scrip.now }
     ensures sign { IfOk result (λ s. IfSome s IsKey) }
     ensures site { IfErr result IsOfSite }
 {
@@ -99,9 +101,12 @@ pub(crate) fn change(
     price: u64,
     value: u64,
 ) -> Result<Option<Id>, Refusal>
-    ensures lines { as_line (λ id. id) result ≡ needed (nat_lt price value) (next_by own.now.most (series_at own.now.terms time) (count_in own.now (series_at own.now.terms time))) }
+    ensures lines { as_line
+        (λ id. id) result ≡ needed (nat_lt price value) (next_by own.now.most (series_at own.now.terms time) (count_in own.now (series_at own.now.terms time))) }
     ensures site { IfErr result IsOfSite }
-    ensures next { IfOk result (λ c. MatchOption c (value ≤ price) (λ id. (price < value) × (count_in own.now (series_at own.now.terms time) < own.now.most) × (id ≡ next_in own.now (series_at own.now.terms time)))) }
+    ensures next { IfOk result (λ c. MatchOption c (value ≤ price) (λ id. (price < value)
+        × (count_in own.now (series_at own.now.terms time) < own.now.most)
+        × (id ≡ next_in own.now (series_at own.now.terms time)))) }
 {
     if value <= price {
         return Ok(None);
@@ -114,7 +119,8 @@ pub(crate) fn change(
 
 /// Refused where the journal would pass a limit with one entry more, with a payload of so many bytes.
 pub(crate) fn fitted(state: &HouseState, limit: u64, payload: u64) -> Result<(), Refusal>
-    ensures lines { (e : entries.Entry) → payload ≡ length (entries.payload e) → as_line (λ u. e) result ≡ fitted_by limit state.now.size (tail_of state.now) e }
+    ensures lines { (e : entries.Entry) → payload ≡ length (entries.payload e)
+        → as_line (λ u. e) result ≡ fitted_by limit state.now.size (tail_of state.now) e }
     ensures room { OnOk result (size_with state.now payload ≤ limit) }
     ensures full { OnErr result (limit < size_with state.now payload) }
     ensures site { IfErr result IsOfSite }

@@ -40,8 +40,10 @@ pub fn found_house<D: Disk, T: Trade>(
     requires trade { (T.trade trade).represents [] }
     requires room { 9 + entry_size [] (entry site.now) ≤ limits.journal }
     ensures moved { D.disk_moved disk (house_disk result) }
-    ensures exact { (x : List ℕ) → (D.disk disk).contents ≡ Some x → FoundsHouseBy D.disk T.trade limits (entry site.now) x result }
-    ensures ran { (x : List ℕ) → (D.disk disk).contents ≡ Some x → Ran (D.disk disk) (D.disk (house_disk result)) (FoundNoOutput (D.disk disk) (entry site.now)) }
+    ensures exact { (x : List ℕ) → (D.disk disk).contents ≡ Some x
+        → FoundsHouseBy D.disk T.trade limits (entry site.now) x result }
+    ensures ran { (x : List ℕ) → (D.disk disk).contents ≡ Some x
+        → Ran (D.disk disk) (D.disk (house_disk result)) (FoundNoOutput (D.disk disk) (entry site.now)) }
     ensures read { ReadsOnly D.disk disk result }
     ensures fault { CountsBy result (D.disk disk).faults (D.disk (house_disk result)).faults }
 {

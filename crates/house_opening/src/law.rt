@@ -10,6 +10,8 @@ ghost use Rattle.house_opening.specs.Opening.{SpoilsAt, IsUnlawfulAt, IsOfOther}
 /// it can't stand, and it is told of no unlawful entry.
 pub fn books_of_another_kind_have_one_fault()
     ensures header { (kind : ℕ) (bytes : List ℕ) → IsOfOther kind bytes → BeginsWith header bytes }
-    ensures whole { (limits : Bounds) (kind : ℕ) (bytes : List ℕ) (place : ℕ) → IsOfOther kind bytes → SpoilsAt limits kind bytes place → ⊥ }
-    ensures lawful { (limits : Bounds) (kind : ℕ) (bytes : List ℕ) (place : ℕ) → IsOfOther kind bytes → IsUnlawfulAt limits kind bytes place → ⊥ }
+    ensures whole { (limits : Bounds) (kind : ℕ) (bytes : List ℕ) (place : ℕ) → IsOfOther kind bytes
+        → SpoilsAt limits kind bytes place → ⊥ }
+    ensures lawful { (limits : Bounds) (kind : ℕ) (bytes : List ℕ) (place : ℕ)
+        → IsOfOther kind bytes → IsUnlawfulAt limits kind bytes place → ⊥ }
 {}

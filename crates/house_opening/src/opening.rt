@@ -69,7 +69,8 @@ pub fn open_house<D: Disk, T: Trade>(
     requires trade { (T.trade trade).represents [] }
     ensures moved { D.disk_moved disk (house_disk result) }
     ensures read { OnlyRead (D.disk disk) (D.disk (house_disk result)) }
-    ensures exact { (x : List ℕ) → (D.disk disk).contents ≡ Some x → OpensHouse D.disk T.trade limits (T.trade trade).site x result }
+    ensures exact { (x : List ℕ) → (D.disk disk).contents ≡ Some x
+        → OpensHouse D.disk T.trade limits (T.trade trade).site x result }
     ensures limits { IfOk result (λ h. limits_of h.bench ≡ limits) }
     ensures fault { CountedBy result (D.disk disk).faults (D.disk (house_disk result)).faults }
 {
@@ -101,7 +102,8 @@ fn learn_book<D: Disk, T: Trade>(
     ensures closed { OnOk result (replay.new.ended ≡ Some Closed) }
     ensures limits { IfOk result (λ b. limits_of b ≡ limits) }
     ensures counts { HaltCounts result (D.disk replay.old.disk).faults (D.disk replay.new.disk).faults }
-    ensures exact { (x : List ℕ) → (D.disk replay.old.disk).contents ≡ Some x → IsReading D.disk replay.old []
+    ensures exact { (x : List ℕ) → (D.disk replay.old.disk).contents ≡ Some x
+        → IsReading D.disk replay.old []
         → MatchResult result (LearnedAll D.disk T.trade (T.trade trade).site x replay.new) (HaltsBy limits (T.trade trade).site x) }
 {
     let mut bench = match learn_first(alloc, replay, limits, trade) {
@@ -129,7 +131,8 @@ fn learn_first<D: Disk, T: Trade>(
     ensures going { OnOk result (replay.new.ended ≡ None) }
     ensures limits { IfOk result (λ b. limits_of b ≡ limits) }
     ensures counts { HaltCounts result (D.disk replay.old.disk).faults (D.disk replay.new.disk).faults }
-    ensures exact { (x : List ℕ) → (D.disk replay.old.disk).contents ≡ Some x → IsReading D.disk replay.old []
+    ensures exact { (x : List ℕ) → (D.disk replay.old.disk).contents ≡ Some x
+        → IsReading D.disk replay.old []
         → MatchResult result (LearnedSome D.disk T.trade (T.trade trade).site replay.new) (HaltsBy limits (T.trade trade).site x) }
 {
     match replay.next_record() {
@@ -180,8 +183,10 @@ fn learn_rest<D: Disk, T: Trade>(replay: &mut Replay<D>, bench: &mut Bench<T>) -
     ensures closed { OnOk result (replay.new.ended ≡ Some Closed) }
     ensures limits { limits_of bench.new ≡ limits_of bench.old }
     ensures counts { HaltCounts result (D.disk replay.old.disk).faults (D.disk replay.new.disk).faults }
-    ensures exact { (kind : ℕ) (x : List ℕ) → (D.disk replay.old.disk).contents ≡ Some x → LearnedSome D.disk T.trade kind replay.old bench.old
-        → MatchResult result (λ u. LearnedAll D.disk T.trade kind x replay.new bench.new) (HaltsBy (limits_of bench.old) kind x) }
+    ensures exact { (kind : ℕ) (x : List ℕ) → (D.disk replay.old.disk).contents ≡ Some x
+        → LearnedSome D.disk T.trade kind replay.old bench.old
+        → MatchResult result
+        (λ u. LearnedAll D.disk T.trade kind x replay.new bench.new) (HaltsBy (limits_of bench.old) kind x) }
 {
     'entries: loop {
         match learn_next(replay, bench) {
@@ -199,7 +204,8 @@ fn learn_next<D: Disk, T: Trade>(replay: &mut Replay<D>, bench: &mut Bench<T>) -
     ensures further { GoesFurther replay.old result replay.new }
     ensures limits { limits_of bench.new ≡ limits_of bench.old }
     ensures counts { HaltCounts result (D.disk replay.old.disk).faults (D.disk replay.new.disk).faults }
-    ensures exact { (kind : ℕ) (x : List ℕ) → (D.disk replay.old.disk).contents ≡ Some x → LearnedSome D.disk T.trade kind replay.old bench.old
+    ensures exact { (kind : ℕ) (x : List ℕ) → (D.disk replay.old.disk).contents ≡ Some x
+        → LearnedSome D.disk T.trade kind replay.old bench.old
         → LearnsNext D.disk T.trade (limits_of bench.old) kind x replay.new bench.new result }
 {
     let gate = match replay.next_record() {

@@ -32,7 +32,8 @@ pub(crate) fn take_turn<O: Outside, T: Trade>(
     ensures causes { PartCauses O.link O.disk house.journal.disk (λ r. r.0) result }
     ensures limits { IfOk result (λ r. limits_of r.0.bench ≡ limits_of house.bench) }
     ensures stands { IfOk result (λ r. r.1 ≡ GoOn → IsTrue (O.link r.0.journal.disk).stands) }
-    ensures given { IfOk result (λ r. r.1 ≡ GoOn → (reader.new.given ≡ reader.old.given + 1) × (reader.old.given < 1000)) }
+    ensures given { IfOk result (λ r. r.1 ≡ GoOn → (reader.new.given ≡ reader.old.given + 1)
+        × (reader.old.given < 1000)) }
     ensures turned { (h : History) → HouseRepresents O.disk T.trade house h
         → TurnsHouse O.link O.disk T.trade (limits_of house.bench) house.journal.disk (state_of h house.bench) reader.old reader.new result }
 {
@@ -89,7 +90,8 @@ fn answer_refused<O: Outside, T: Trade>(
 /// memory.
 pub fn raise_by_clock<O: Outside, T: Trade>(house: &mut House<O, T>) -> Moment
     ensures moved { O.link_moved house.old.journal.disk house.new.journal.disk }
-    ensures stands { (h : History) → HouseRepresents O.disk T.trade house.old h → HouseRepresents O.disk T.trade house.new h }
+    ensures stands { (h : History) → HouseRepresents O.disk T.trade house.old h
+        → HouseRepresents O.disk T.trade house.new h }
     ensures time { house_time house.new.bench ≡ max (house_time house.old.bench) result }
     ensures limits { limits_of house.new.bench ≡ limits_of house.old.bench }
     ensures rest { O.link house.new.journal.disk ≡ with_readings (O.link house.new.journal.disk).readings (O.link house.old.journal.disk) }

@@ -60,7 +60,9 @@ fn serve_request<K: Link, T: Trade>(
     requires stands { IsTrue (K.link k.old).stands }
     ensures moved { K.link_moved k.old k.new }
     ensures limits { limits_of bench.new ≡ limits_of bench.old }
-    ensures answered { Refines T.trade (λ s t. (step : Did State) × (t ≡ step.after) × ((closes : Bool) → AnsweredItem (Step (limits_of bench.old)) clock.now (request q.now closes) after result step s (K.link k.old) (K.link k.new))) bench.old bench.new }
+    ensures answered { Refines T.trade (λ s t. (step : Did State) × (t ≡ step.after)
+        × ((closes : Bool)
+        → AnsweredItem (Step (limits_of bench.old)) clock.now (request q.now closes) after result step s (K.link k.old) (K.link k.new))) bench.old bench.new }
 {
     let reading = read_clock(k, clock);
     let said = bench.answer(reading, q);
@@ -79,7 +81,9 @@ fn serve_refused<K: Link, T: Trade>(
     requires stands { IsTrue (K.link k.old).stands }
     ensures moved { K.link_moved k.old k.new }
     ensures limits { limits_of bench.new ≡ limits_of bench.old }
-    ensures answered { Refines T.trade (λ s t. (step : Did State) × (t ≡ step.after) × ((closes : Bool) → AnsweredItem (Step (limits_of bench.old)) clock.now (refused (as_refusal head) closes) after result step s (K.link k.old) (K.link k.new))) bench.old bench.new }
+    ensures answered { Refines T.trade (λ s t. (step : Did State) × (t ≡ step.after)
+        × ((closes : Bool)
+        → AnsweredItem (Step (limits_of bench.old)) clock.now (refused (as_refusal head) closes) after result step s (K.link k.old) (K.link k.new))) bench.old bench.new }
 {
     let reading = read_clock(k, clock);
     send(&bench.refuse_head(reading, head), after, k)
@@ -101,7 +105,8 @@ fn read_clock<K: Link>(k: &mut K, clock: &Clock) -> Moment
 fn send<K: Link>(reply: &Reply<'_>, after: After, k: &mut K) -> Turn
     requires { IsTrue (K.link k.old).stands }
     ensures moved { K.link_moved k.old k.new }
-    ensures sent { (part : List ℕ) × Sent after reply.now result part (K.link k.old) (K.link k.new) }
+    ensures sent { (part : List ℕ)
+        × Sent after reply.now result part (K.link k.old) (K.link k.new) }
 {
     turn_of(reply.send(k), after)
 }

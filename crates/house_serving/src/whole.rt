@@ -47,7 +47,9 @@ fn reply_to<T: Trade>(
     out: &mut Vec<u8>,
 ) -> Result<(), NoMemory>
     ensures limits { limits_of bench.new ≡ limits_of bench.old }
-    ensures stepped { OnOk result (Refines T.trade (λ s t. (reply : List ℕ) × Step (limits_of bench.old) s moment (item_of item.now) reply t × (out.new.items ≡ out.old.items ++ reply)) bench.old bench.new) }
+    ensures stepped { OnOk result (Refines T.trade (λ s t. (reply : List ℕ)
+        × Step (limits_of bench.old) s moment (item_of item.now) reply t
+        × (out.new.items ≡ out.old.items ++ reply)) bench.old bench.new) }
 {
     match item {
         ItemRef::Request(q, _) => {

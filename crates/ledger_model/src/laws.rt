@@ -26,13 +26,16 @@ pub fn accepted_once()
 /// A prefix of a lawful history, from its first entry on, is lawful.
 #[tactic(auto, using(crate::proofs::FollowLaws::prefix_lawful))]
 pub fn prefixes_are_lawful()
-    ensures { (limits : Bounds) (e : Entry) (xs ys : History) → IsLawful limits ((e ∷ xs) ++ ys) → IsLawful limits (e ∷ xs) }
+    ensures { (limits : Bounds) (e : Entry) (xs ys : History) → IsLawful limits ((e ∷ xs) ++ ys)
+        → IsLawful limits (e ∷ xs) }
 {}
 
 /// A history with a first unlawful entry is not lawful, and there is one number of that entry.
 pub fn first_unlawful_is_one()
-    ensures unlawful { (limits : Bounds) (h : History) (n : ℕ) → IsFirstUnlawful limits h n → IsLawful limits h → ⊥ }
-    ensures one { (limits : Bounds) (h : History) (n m : ℕ) → IsFirstUnlawful limits h n → IsFirstUnlawful limits h m → n ≡ m }
+    ensures unlawful { (limits : Bounds) (h : History) (n : ℕ) → IsFirstUnlawful limits h n
+        → IsLawful limits h → ⊥ }
+    ensures one { (limits : Bounds) (h : History) (n m : ℕ) → IsFirstUnlawful limits h n
+        → IsFirstUnlawful limits h m → n ≡ m }
 {}
 
 /// After an entry was taken for a request, the same request is answered with that entry's number
@@ -40,16 +43,20 @@ pub fn first_unlawful_is_one()
 /// And an answer with a number is that of an entry of the same request, within the keeping time.
 pub fn taken_requests_repeat()
     ensures again { (h more : History) (t later : ℕ) (limits others : Bounds) (q : Asked) (e : Entry)
-        → answer h t limits q ≡ Take e → t ≤ later → later < t + keeping h → answer (h ++ e ∷ more) later others q ≡ Again (length h) }
-    ensures same { (h : History) (t : ℕ) (limits : Bounds) (q : Asked) (n : ℕ) → answer h t limits q ≡ Again n
+        → answer h t limits q ≡ Take e → t ≤ later → later < t + keeping h
+        → answer (h ++ e ∷ more) later others q ≡ Again (length h) }
+    ensures same { (h : History) (t : ℕ) (limits : Bounds) (q : Asked) (n : ℕ)
+        → answer h t limits q ≡ Again n
         → option_map (is_repeat (keeping h) t q) (slice_get h n) ≡ Some true }
 {}
 
 /// The first reply of an entry does not depend on later entries: it is the reply after the entries
 /// before it.
 pub fn first_replies_stay()
-    ensures own { (h more : History) (e : Entry) → reply_of (h ++ e ∷ more) (length h) ≡ reply_after h e }
-    ensures stays { (h more : History) (n : ℕ) → n < length h → reply_of (h ++ more) n ≡ reply_of h n }
+    ensures own { (h more : History) (e : Entry)
+        → reply_of (h ++ e ∷ more) (length h) ≡ reply_after h e }
+    ensures stays { (h more : History) (n : ℕ) → n < length h
+        → reply_of (h ++ more) n ≡ reply_of h n }
 {}
 
 /// In a lawful history the value that an entry accepts is its price and the value of its change.
@@ -62,28 +69,35 @@ pub fn values_are_paid()
 /// that were given as change.
 #[tactic(auto, using(crate::proofs::AcceptLaws::values_are_kept))]
 pub fn values_are_kept()
-    ensures { (limits : Bounds) (h : History) → IsLawful limits h → values (accepted h) ≡ takings h + values (own_out h) }
+    ensures { (limits : Bounds) (h : History) → IsLawful limits h
+        → values (accepted h) ≡ takings h + values (own_out h) }
 {}
 
 /// The pieces that a lawful history hands out and mints in a series of the house's own have the serials
 /// 0, 1, 2 and so on without a gap, and so no identity stands twice among them.
 pub fn serials_have_no_gap()
-    ensures serials { (limits : Bounds) (h : History) → limits.series ≤ 2 ^ 32 → IsLawful limits h → HaveNoGap (own_out h ++ minted h) }
-    ensures once { (limits : Bounds) (h : History) (id : ℕ) → limits.series ≤ 2 ^ 32 → IsLawful limits h → with_id (own_out h ++ minted h) id ≤ 1 }
+    ensures serials { (limits : Bounds) (h : History) → limits.series ≤ 2 ^ 32 → IsLawful limits h
+        → HaveNoGap (own_out h ++ minted h) }
+    ensures once { (limits : Bounds) (h : History) (id : ℕ) → limits.series ≤ 2 ^ 32
+        → IsLawful limits h → with_id (own_out h ++ minted h) id ≤ 1 }
 {}
 
 /// The entry that an answer takes may follow the history, and so makes a longer lawful one; it stays
 /// within the journal's limit.
 pub fn taken_entries_follow()
     ensures follows { (h : History) (t : ℕ) (limits : Bounds) (q : Asked) (e : Entry)
-        → time h ≤ t → limits.journal ≤ 2 ^ 40 → answer h t limits q ≡ Take e → MayFollow limits h e }
+        → time h ≤ t → limits.journal ≤ 2 ^ 40 → answer h t limits q ≡ Take e
+        → MayFollow limits h e }
     ensures lawful { (h : History) (t : ℕ) (limits : Bounds) (q : Asked) (e : Entry)
-        → IsLawful limits h → time h ≤ t → limits.journal ≤ 2 ^ 40 → answer h t limits q ≡ Take e → IsLawful limits (h ++ e ∷ []) }
-    ensures fits { (h : History) (t : ℕ) (limits : Bounds) (q : Asked) (e : Entry) → answer h t limits q ≡ Take e → size (h ++ e ∷ []) ≤ limits.journal }
+        → IsLawful limits h → time h ≤ t → limits.journal ≤ 2 ^ 40 → answer h t limits q ≡ Take e
+        → IsLawful limits (h ++ e ∷ []) }
+    ensures fits { (h : History) (t : ℕ) (limits : Bounds) (q : Asked) (e : Entry)
+        → answer h t limits q ≡ Take e → size (h ++ e ∷ []) ≤ limits.journal }
 {}
 
 /// A head that is refused gets the one reply of its refusal, whatever the history and the request.
 #[tactic(auto, using(crate::proofs::ReplyLaws::head_reply))]
 pub fn refused_heads_have_one_reply()
-    ensures { (h : History) (t : ℕ) (q : Asked) (f : Refusal) → number_of f ≤ 16 → refusal_of h t q f ≡ head_refusal t f }
+    ensures { (h : History) (t : ℕ) (q : Asked) (f : Refusal) → number_of f ≤ 16
+        → refusal_of h t q f ≡ head_refusal t f }
 {}

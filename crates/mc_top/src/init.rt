@@ -26,10 +26,12 @@ pub(crate) fn found_book<O: Outside, T: Trade>(
     out: O,
 ) -> (O, Status)
     requires trade { (T.trade trade).represents [] }
-    requires first { (moment : ℕ) → MayFollow full [] (site_of (T.trade trade).site founder.now moment) }
+    requires first { (moment : ℕ)
+        → MayFollow full [] (site_of (T.trade trade).site founder.now moment) }
     ensures words { number_of result.1 ≡ 2 → ⊥ }
     ensures causes { InitCauses O.link O.disk out result.1 result.0 }
-    ensures founded { (x : List ℕ) → (O.disk out).contents ≡ Some x → FoundsBook O.link O.disk (T.trade trade).site founder.now x out result.1 result.0 }
+    ensures founded { (x : List ℕ) → (O.disk out).contents ≡ Some x
+        → FoundsBook O.link O.disk (T.trade trade).site founder.now x out result.1 result.0 }
 {
     // The check lets a record go only where the types of its parts are named.
     let _pieces: Option<PieceList<'_>> = None;

@@ -55,8 +55,10 @@ fn receive<K: Link>(k: &mut K, buf: &mut [u8]) -> Result<usize, LinkFault>
     requires stands { IsTrue (K.link k.old).stands }
     ensures moved { K.link_moved k.old k.new }
     ensures len { length buf.new ≡ length buf.old }
-    ensures received { IfOk result (λ n. Receives (length buf.old) (K.link k.old) n (take n buf.new) (K.link k.new)) }
-    ensures failed { OnErr result ((got : List ℕ) × Failed (after_recv got (K.link k.old)) (K.link k.new)) }
+    ensures received { IfOk result
+        (λ n. Receives (length buf.old) (K.link k.old) n (take n buf.new) (K.link k.new)) }
+    ensures failed { OnErr result ((got : List ℕ)
+        × Failed (after_recv got (K.link k.old)) (K.link k.new)) }
 {
     let mut len = 0;
     while len < buf.len() {

@@ -11,7 +11,8 @@ ghost use Rattle.mc_top.specs.declared.command.Command.{Command};
 
 /// The words are of one command at most.
 pub fn words_are_of_one_command()
-    ensures { (words : List (List ℕ)) (a b : Command) → AreWords words a → AreWords words b → a ≡ b }
+    ensures { (words : List (List ℕ)) (a b : Command) → AreWords words a → AreWords words b
+        → a ≡ b }
 {}
 
 /// Bytes that encode a lawful history of a site give no cause to refuse the book to one of its kind: they begin
@@ -19,7 +20,10 @@ pub fn words_are_of_one_command()
 /// serve` ends on those of a vendor with neither status 3 nor 7.
 pub fn lawful_books_are_opened()
     ensures header { (h : History) (bytes : List ℕ) → Encodes h bytes → BeginsWith header bytes }
-    ensures whole { (kind : ℕ) (h : History) (bytes : List ℕ) (place : ℕ) → Encodes h bytes → SpoilsAt full kind bytes place → ⊥ }
-    ensures lawful { (kind : ℕ) (h : History) (bytes : List ℕ) (place : ℕ) → Encodes h bytes → IsLawful full h → IsUnlawfulAt full kind bytes place → ⊥ }
-    ensures kind { (kind : ℕ) (h : History) (bytes : List ℕ) → Encodes h bytes → site_kind h ≡ Some kind → IsOfOther kind bytes → ⊥ }
+    ensures whole { (kind : ℕ) (h : History) (bytes : List ℕ) (place : ℕ) → Encodes h bytes
+        → SpoilsAt full kind bytes place → ⊥ }
+    ensures lawful { (kind : ℕ) (h : History) (bytes : List ℕ) (place : ℕ) → Encodes h bytes
+        → IsLawful full h → IsUnlawfulAt full kind bytes place → ⊥ }
+    ensures kind { (kind : ℕ) (h : History) (bytes : List ℕ) → Encodes h bytes
+        → site_kind h ≡ Some kind → IsOfOther kind bytes → ⊥ }
 {}

@@ -35,7 +35,8 @@ pub(crate) fn operate_book<O: Outside>(
 ) -> (O, Status)
     ensures words { number_of result.1 ≡ 2 → ⊥ }
     ensures causes { OperateCauses O.link O.disk (operation_view operation.now) out result.1 result.0 }
-    ensures operated { (x : Items ℕ) → (O.disk out).contents ≡ Some x → OperatesBook O.link O.disk (kind_number Vendor) (operation_view operation.now) x out result.1 result.0 }
+    ensures operated { (x : Items ℕ) → (O.disk out).contents ≡ Some x
+        → OperatesBook O.link O.disk (kind_number Vendor) (operation_view operation.now) x out result.1 result.0 }
 {
     let house = match open_house(alloc, out, Limits::FULL, Shelf::new(alloc)) {
         Ok(house) => house,
@@ -57,7 +58,8 @@ fn operate_goods<O: Outside>(
 ) -> (O, Status)
     ensures words { number_of result.1 ≡ 2 → ⊥ }
     ensures causes { OperateCauses O.link O.disk (operation_view (operations.Goods listing.now)) house.journal.disk result.1 result.0 }
-    ensures operated { (a : O) (x : Items ℕ) → Opened O.link O.disk shelf_view x a house → OperatesOpened O.link O.disk (operation_view (operations.Goods listing.now)) x a result.1 result.0 }
+    ensures operated { (a : O) (x : Items ℕ) → Opened O.link O.disk shelf_view x a house
+        → OperatesOpened O.link O.disk (operation_view (operations.Goods listing.now)) x a result.1 result.0 }
 {
     let Ok(line) = goods_line(alloc, listing.target(), listing.price()) else {
         return (house.close(), Status::NoMemory);
@@ -92,7 +94,8 @@ fn operate_price<O: Outside>(
 ) -> (O, Status)
     ensures words { number_of result.1 ≡ 2 → ⊥ }
     ensures causes { OperateCauses O.link O.disk (operation_view (operations.Price pricing.now)) house.journal.disk result.1 result.0 }
-    ensures operated { (a : O) (x : Items ℕ) → Opened O.link O.disk shelf_view x a house → OperatesOpened O.link O.disk (operation_view (operations.Price pricing.now)) x a result.1 result.0 }
+    ensures operated { (a : O) (x : Items ℕ) → Opened O.link O.disk shelf_view x a house
+        → OperatesOpened O.link O.disk (operation_view (operations.Price pricing.now)) x a result.1 result.0 }
 {
     let Ok(line) = goods_line(alloc, pricing.target(), pricing.price()) else {
         return (house.close(), Status::NoMemory);
@@ -110,7 +113,8 @@ fn operate_licence<O: Outside>(
 ) -> (O, Status)
     ensures words { number_of result.1 ≡ 2 → ⊥ }
     ensures causes { OperateCauses O.link O.disk (operation_view (operations.Licence licensing.now)) house.journal.disk result.1 result.0 }
-    ensures operated { (a : O) (x : Items ℕ) → Opened O.link O.disk shelf_view x a house → OperatesOpened O.link O.disk (operation_view (operations.Licence licensing.now)) x a result.1 result.0 }
+    ensures operated { (a : O) (x : Items ℕ) → Opened O.link O.disk shelf_view x a house
+        → OperatesOpened O.link O.disk (operation_view (operations.Licence licensing.now)) x a result.1 result.0 }
 {
     let Ok(line) = licence_line(alloc, &house.name(), licensing.terms()) else {
         return (house.close(), Status::NoMemory);
@@ -128,7 +132,8 @@ fn operate_mint<O: Outside>(
 ) -> (O, Status)
     ensures words { number_of result.1 ≡ 2 → ⊥ }
     ensures causes { OperateCauses O.link O.disk (operation_view (operations.Mint minting.now)) house.journal.disk result.1 result.0 }
-    ensures operated { (a : O) (x : Items ℕ) → Opened O.link O.disk shelf_view x a house → OperatesOpened O.link O.disk (operation_view (operations.Mint minting.now)) x a result.1 result.0 }
+    ensures operated { (a : O) (x : Items ℕ) → Opened O.link O.disk shelf_view x a house
+        → OperatesOpened O.link O.disk (operation_view (operations.Mint minting.now)) x a result.1 result.0 }
 {
     let mut house = house;
     let _reading = raise_by_clock(&mut house);

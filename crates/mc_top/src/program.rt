@@ -49,11 +49,18 @@ pub struct Ran<O, D> {
 /// becomes 6, and any other status stays. The outside and the books are handed back.
 pub fn run<O: Outside, D: Disk>(alloc: Global, words: &[String], out: O, books: Vec<D>) -> Ran<O, D>
     ensures books { result.books ≡ books }
-    ensures words { (result.status ≡ 2) ↔ (AreNoWords (map string_bytes words.now) ⊎ (0 < length books.items)) }
-    ensures bad_words { result.status ≡ 2 → IsSaid (codes "bad words\n") (O.link out) (O.link result.out) × LinkKeeps (O.disk out) (O.disk result.out) }
-    ensures obeyed { (command : Commanded) → AreWords (map string_bytes words.now) command → length books.items ≡ 0 → RunsAs O.link O.disk command out result.status result.out }
-    ensures complete { (command : Commanded) → AreWords (map string_bytes words.now) command → length books.items ≡ 0 → HasBook (O.disk out) command
-        → (Rose (O.disk out).faults (O.disk result.out).faults → ⊥) → (Rose (O.link out).faults (O.link result.out).faults → ⊥) → EndsWell command result.status }
+    ensures words { (result.status ≡ 2) ↔ (AreNoWords (map string_bytes words.now)
+        ⊎ (0 < length books.items)) }
+    ensures bad_words { result.status ≡ 2
+        → IsSaid (codes "bad words\n") (O.link out) (O.link result.out)
+        × LinkKeeps (O.disk out) (O.disk result.out) }
+    ensures obeyed { (command : Commanded) → AreWords (map string_bytes words.now) command
+        → length books.items ≡ 0 → RunsAs O.link O.disk command out result.status result.out }
+    ensures complete { (command : Commanded) → AreWords (map string_bytes words.now) command
+        → length books.items ≡ 0 → HasBook (O.disk out) command
+        → (Rose (O.disk out).faults (O.disk result.out).faults → ⊥)
+        → (Rose (O.link out).faults (O.link result.out).faults → ⊥)
+        → EndsWell command result.status }
 {
     if !books.is_empty() {
         let (out, status) = end(out, Status::BadWords);

@@ -135,7 +135,8 @@ fn enter(bench: &mut Bench<Shelf>, r: &Record<'_>) -> Result<(), NoMemory>
     requires command { IsCommand (entry r.now) }
     requires time { moment_of (entry r.now) ≡ 0 }
     requires may { (h : History) × IsOpen bench.old h × MayEnter h (entry r.now) }
-    ensures { OnOk result ((h : History) → IsOpen bench.old h → IsOpen bench.new (h ++ entry r.now ∷ [])) }
+    ensures { OnOk result ((h : History) → IsOpen bench.old h
+        → IsOpen bench.new (h ++ entry r.now ∷ [])) }
 {
     match bench.enter(r) {
         Ok(_) => Ok(()),

@@ -20,7 +20,8 @@ pub fn once(alloc: Global, words: &[String], link: &[u8], reply: &mut Vec<u8>) -
     requires { reply.old.items ≡ [] }
     ensures statuses { (result ≡ 0) ⊎ ((result ≡ 2) ⊎ (result ≡ 5)) }
     ensures words { (result ≡ 2) ↔ AreBadWords (map string_bytes words.now) }
-    ensures served { result ≡ 0 → (shop : Shop) × AreWordsOf (map string_bytes words.now) shop × IsSession shop link.now reply.new.items }
+    ensures served { result ≡ 0 → (shop : Shop) × AreWordsOf (map string_bytes words.now) shop
+        × IsSession shop link.now reply.new.items }
     ensures nothing { result ≢ 0 → reply.new.items ≡ [] }
 {
     let Some(shop) = shop_of(words) else {

@@ -13,7 +13,8 @@ use scrip_form::TargetRule;
 
 /// Whether these Host fields are right for a head of this version.
 pub(crate) fn host_is_fit(minor: u8, hosts: Occurs<'_>) -> bool
-    ensures { (values : List (List ℕ)) → Occurred values hosts.entry → result ≡ host_is_fit minor values }
+    ensures { (values : List (List ℕ)) → Occurred values hosts.entry
+        → result ≡ host_is_fit minor values }
 {
     match hosts {
         Occurs::Never => minor == 0,
@@ -141,7 +142,9 @@ fn trim(buf: &[u8], mut start: usize, mut end: usize) -> Span
 
 /// Whether close stands between the commas.
 fn has_close_member(value: &[u8]) -> bool
-    ensures { result ≡ list_any (λ member. same_name (trim_ows member) (codes "close")) (slice_split (λ b. b == 44) value.now) }
+    ensures { result ≡ list_any
+        (λ member. same_name (trim_ows member) (codes "close")) (slice_split
+        (λ b. b == 44) value.now) }
 {
     value.split(|b| *b == b',').any(|member| is_close(member))
 }

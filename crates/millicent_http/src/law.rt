@@ -8,7 +8,8 @@ ghost use Rattle.millicent_http.specs.ReplyHeads.{is_status};
 
 /// The status of a refusal of a site is one of the twelve, and is not 200.
 pub fn a_refusal_has_a_status()
-    ensures { (f : Refusal) → status_of f ≢ 0 → IsTrue (is_status (status_of f)) × (status_of f ≢ 200) }
+    ensures { (f : Refusal) → status_of f ≢ 0 → IsTrue (is_status (status_of f))
+        × (status_of f ≢ 200) }
 {}
 
 /// The bytes of a link have one list of items.
@@ -18,5 +19,6 @@ pub fn one_reading()
 
 /// A request on a link asks a target.
 pub fn a_request_asks_a_target()
-    ensures { (bytes rest : List ℕ) (q : Asked) (closing : Bool) → NextItem bytes (request q closing) rest → IsTarget q.target }
+    ensures { (bytes rest : List ℕ) (q : Asked) (closing : Bool)
+        → NextItem bytes (request q closing) rest → IsTarget q.target }
 {}

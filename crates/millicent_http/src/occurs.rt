@@ -16,7 +16,8 @@ impl<'b> Occurs<'b> {
     pub(crate) fn at_most_one(self) -> Option<Option<&'b [u8]>>
         ensures some { IfSome result (λ v. (values : List (List ℕ)) → Occurred values self.entry
             → (at_most_one values ≡ true) × (seen v ≡ first_of values)) }
-        ensures none { IfNone result ((values : List (List ℕ)) → Occurred values self.entry → at_most_one values ≡ false) }
+        ensures none { IfNone result ((values : List (List ℕ)) → Occurred values self.entry
+            → at_most_one values ≡ false) }
     {
         match self {
             Occurs::Never => Some(None),
@@ -27,7 +28,8 @@ impl<'b> Occurs<'b> {
 
     /// The same with one more value.
     pub(crate) fn and(self, value: &'b [u8]) -> Occurs<'b>
-        ensures { (values : List (List ℕ)) → Occurred values self.entry → Occurred (values ++ value.now ∷ []) result }
+        ensures { (values : List (List ℕ)) → Occurred values self.entry
+            → Occurred (values ++ value.now ∷ []) result }
     {
         match self {
             Occurs::Never => Occurs::Once(value),

@@ -214,9 +214,12 @@ impl HeadReader {
         ensures moved { K.link_moved k.old k.new }
         ensures given { self.new.given ≡ self.old.given }
         ensures piece { IfOk result (λ n. 0 < n → (piece : List ℕ) × (length piece ≡ n)
-            × (self.new.bytes ≡ self.old.bytes ++ piece) × (K.link k.new ≡ after_recv piece (K.link k.old))) }
-        ensures end { IfOk result (λ n. n ≡ 0 → (self.new.bytes ≡ self.old.bytes) × (K.link k.new ≡ after_eof (K.link k.old))) }
-        ensures fault { OnErr result ((self.new.bytes ≡ self.old.bytes) × Failed (K.link k.old) (K.link k.new)) }
+            × (self.new.bytes ≡ self.old.bytes ++ piece)
+            × (K.link k.new ≡ after_recv piece (K.link k.old))) }
+        ensures end { IfOk result (λ n. n ≡ 0 → (self.new.bytes ≡ self.old.bytes)
+            × (K.link k.new ≡ after_eof (K.link k.old))) }
+        ensures fault { OnErr result ((self.new.bytes ≡ self.old.bytes)
+            × Failed (K.link k.old) (K.link k.new)) }
     {
         move_to_front(&mut self.buf, self.start, self.end);
         self.end -= self.start;
@@ -250,7 +253,8 @@ fn receive_at<K: Link>(k: &mut K, buf: &mut Vec<u8>, at: usize) -> Result<usize,
     ensures len { length buf.new.items ≡ length buf.old.items }
     ensures front { take at buf.new.items ≡ take at buf.old.items }
     ensures within { IfOk result (λ n. at + n ≤ length buf.new.items) }
-    ensures piece { IfOk result (λ n. 0 < n → K.link k.new ≡ after_recv (slice_range buf.new.items at (at + n)) (K.link k.old)) }
+    ensures piece { IfOk result
+        (λ n. 0 < n → K.link k.new ≡ after_recv (slice_range buf.new.items at (at + n)) (K.link k.old)) }
     ensures end { IfOk result (λ n. n ≡ 0 → K.link k.new ≡ after_eof (K.link k.old)) }
     ensures fault { OnErr result (Failed (K.link k.old) (K.link k.new)) }
 {

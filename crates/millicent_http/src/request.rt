@@ -60,7 +60,8 @@ fn judge<'b>(text: &'b [u8], head: RequestSpans, fields: &[HeaderSpan]) -> ItemR
 
 /// The request, if neither field is there more than once.
 fn ask<'b>(target: &'b [u8], scrip: Occurs<'b>, sign: Occurs<'b>, close: bool) -> ItemRef<'b>
-    ensures { (scrips signs : List (List ℕ)) → Occurred scrips scrip.entry → Occurred signs sign.entry
+    ensures { (scrips signs : List (List ℕ)) → Occurred scrips scrip.entry
+        → Occurred signs sign.entry
         → item_of result ≡ (if at_most_one scrips && at_most_one signs
         then request (record { target = target.now; scrip = first_of scrips; sign = first_of signs }) close
         else refused RepeatedField close) }

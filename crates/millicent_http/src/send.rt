@@ -9,7 +9,8 @@ pub fn send_all<K: Link>(k: &mut K, bytes: &[u8]) -> Result<(), LinkFault>
     requires { IsTrue (K.link k.old).stands }
     ensures moved { K.link_moved k.old k.new }
     ensures sent { OnOk result (K.link k.new ≡ after_send bytes.now (K.link k.old)) }
-    ensures fault { OnErr result ((n : ℕ) × (n < length bytes.now) × Failed (after_send (take n bytes.now) (K.link k.old)) (K.link k.new)) }
+    ensures fault { OnErr result ((n : ℕ) × (n < length bytes.now)
+        × Failed (after_send (take n bytes.now) (K.link k.old)) (K.link k.new)) }
 {
     let mut sent = 0;
     while sent < bytes.len() {

@@ -38,9 +38,11 @@ pub fn found_book<D: Disk>(
     requires fits { Fits (entry first.now) }
     requires room { 9 + entry_size [] (entry first.now) ≤ limits.journal }
     ensures moved { D.disk_moved disk (book_disk result) }
-    ensures exact { (x : List ℕ) → (D.disk disk).contents ≡ Some x → FoundsBookBy D.disk (entry first.now ∷ []) x result }
+    ensures exact { (x : List ℕ) → (D.disk disk).contents ≡ Some x
+        → FoundsBookBy D.disk (entry first.now ∷ []) x result }
     ensures limit { IfOk result (λ j. j.limit ≡ limits.journal) }
-    ensures ran { (x : List ℕ) → (D.disk disk).contents ≡ Some x → Ran (D.disk disk) (D.disk (book_disk result)) (FoundNoOutput (D.disk disk) (entry first.now)) }
+    ensures ran { (x : List ℕ) → (D.disk disk).contents ≡ Some x
+        → Ran (D.disk disk) (D.disk (book_disk result)) (FoundNoOutput (D.disk disk) (entry first.now)) }
     ensures read { ReadsOnly D.disk disk result }
     ensures fault { CountsBy result (D.disk disk).faults (D.disk (book_disk result)).faults }
 {
@@ -54,9 +56,11 @@ pub fn found_book<D: Disk>(
 fn empty_book<D: Disk>(alloc: Global, disk: D, limits: Limits) -> Result<Journal<D>, HouseFault<D>>
     requires limits { AreInRange limits }
     ensures moved { D.disk_moved disk (book_disk result) }
-    ensures exact { (x : List ℕ) → (D.disk disk).contents ≡ Some x → FoundsBookBy D.disk [] x result }
+    ensures exact { (x : List ℕ) → (D.disk disk).contents ≡ Some x
+        → FoundsBookBy D.disk [] x result }
     ensures fresh { IfOk result (λ j. (j.size ≡ 9) × (j.limit ≡ limits.journal)) }
-    ensures ran { (x : List ℕ) → (D.disk disk).contents ≡ Some x → Ran (D.disk disk) (D.disk (book_disk result)) (ShortNoOutput (D.disk disk)) }
+    ensures ran { (x : List ℕ) → (D.disk disk).contents ≡ Some x
+        → Ran (D.disk disk) (D.disk (book_disk result)) (ShortNoOutput (D.disk disk)) }
     ensures read { ReadsOnly D.disk disk result }
     ensures fault { CountsBy result (D.disk disk).faults (D.disk (book_disk result)).faults }
 {
@@ -81,7 +85,8 @@ fn empty_small<D: Disk>(alloc: Global, disk: D, limits: Limits) -> Result<Journa
     ensures moved { D.disk_moved disk (book_disk result) }
     ensures exact { (x : List ℕ) → (D.disk disk).contents ≡ Some x → ClearsSmall D.disk x result }
     ensures fresh { IfOk result (λ j. (j.size ≡ 9) × (j.limit ≡ limits.journal)) }
-    ensures ran { (x : List ℕ) → (D.disk disk).contents ≡ Some x → IsSynced (D.disk disk) → Ran (D.disk disk) (D.disk (book_disk result)) (ShortNoOutput (D.disk disk)) }
+    ensures ran { (x : List ℕ) → (D.disk disk).contents ≡ Some x → IsSynced (D.disk disk)
+        → Ran (D.disk disk) (D.disk (book_disk result)) (ShortNoOutput (D.disk disk)) }
     ensures read { ReadsOnly D.disk disk result }
     ensures fault { CountsBy result (D.disk disk).faults (D.disk (book_disk result)).faults }
 {
@@ -113,7 +118,8 @@ fn enter_first<D: Disk>(
     ensures exact { IsJournal D.disk journal [] → EntersFirst D.disk (entry first.now) result }
     ensures wrote { IsOfWriting result }
     ensures limit { IfOk result (λ j. j.limit ≡ journal.limit) }
-    ensures ran { IsJournal D.disk journal [] → Ran (D.disk journal.disk) (D.disk (book_disk result)) (EitherNoOutput [] (entry first.now) (D.disk journal.disk).aside) }
+    ensures ran { IsJournal D.disk journal []
+        → Ran (D.disk journal.disk) (D.disk (book_disk result)) (EitherNoOutput [] (entry first.now) (D.disk journal.disk).aside) }
     ensures fault { CountsBy result (D.disk journal.disk).faults (D.disk (book_disk result)).faults }
 {
     match journal.append(first) {

@@ -31,7 +31,8 @@ pub fn found_journal<D: Disk>(
 ) -> Result<Journal<D>, OpenFault<D>>
     requires { AreInRange limits }
     ensures moved { D.disk_moved disk (found_disk result) }
-    ensures founded { IfOk result (λ j. (x : List ℕ) → (D.disk disk).contents ≡ Some x → IsJournal D.disk j []) }
+    ensures founded { IfOk result (λ j. (x : List ℕ) → (D.disk disk).contents ≡ Some x
+        → IsJournal D.disk j []) }
     ensures fresh { IfOk result (λ j. (j.size ≡ 9) × (j.entries ≡ 0) × (j.limit ≡ limits.journal)) }
     ensures ran { Ran (D.disk disk) (D.disk (found_disk result)) (NoLonger (D.disk disk)) }
     ensures fault { IfErr result (λ f. MatchOpenFault f

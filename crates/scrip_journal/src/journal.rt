@@ -78,12 +78,14 @@ impl<D: Disk> Journal<D> {
     pub fn stage(self, r: &Record<'_>) -> Result<Staged<D>, StageFault<D>>
         requires { Fits (entry r.now) }
         ensures moved { D.disk_moved self.disk (staged_disk result) }
-        ensures staged { IfOk result (λ s. (h : List Entry) → IsJournal D.disk self h → IsStaged D.disk s h (entry r.now)) }
+        ensures staged { IfOk result (λ s. (h : List Entry) → IsJournal D.disk self h
+            → IsStaged D.disk s h (entry r.now)) }
         ensures limit { IfOk result (λ s. (s.limit ≡ self.limit) × (s.entries ≡ self.entries)) }
         // Each crash pair of the call encodes the entries as they were, and nothing is sent.
         ensures ran { (h : List Entry) → IsJournal D.disk self h
             → Ran (D.disk self.disk) (D.disk (staged_disk result)) (EncodesNoOutput h (D.disk self.disk).aside) }
-        ensures full { (h : List Entry) → self.size ≡ size h → IsFull result ↔ (self.limit < size h + entry_size h (entry r.now)) }
+        ensures full { (h : List Entry) → self.size ≡ size h
+            → IsFull result ↔ (self.limit < size h + entry_size h (entry r.now)) }
         ensures fault { IfErr result (λ f. MatchStageFault f
             (λ j. j ≡ self)
             (λ d. Rose (D.disk self.disk).faults (D.disk d).faults)) }
@@ -112,14 +114,16 @@ impl<D: Disk> Journal<D> {
     pub fn append(self, r: &Record<'_>) -> Result<(Journal<D>, Receipt), StageFault<D>>
         requires { Fits (entry r.now) }
         ensures moved { D.disk_moved self.disk (written_disk result) }
-        ensures written { IfOk result (λ w. (h : List Entry) → IsJournal D.disk self h → IsJournal D.disk w.0 (h ++ entry r.now ∷ []) × (w.1 ≡ length h)) }
+        ensures written { IfOk result (λ w. (h : List Entry) → IsJournal D.disk self h
+            → IsJournal D.disk w.0 (h ++ entry r.now ∷ []) × (w.1 ≡ length h)) }
         ensures limit { IfOk result (λ w. w.0.limit ≡ self.limit) }
         // Each crash pair of the call encodes the entries with the new one or without it, and nothing is
         // sent.
         ensures ran { (h : List Entry) → IsJournal D.disk self h
             → Ran (D.disk self.disk) (D.disk (written_disk result)) (EitherNoOutput h (entry r.now) (D.disk self.disk).aside) }
         ensures full { (h : List Entry) → self.size ≡ size h
-            → IfErr result (λ f. MatchStageFault f (λ j. self.limit < size h + entry_size h (entry r.now)) (λ d. Unit {0})) }
+            → IfErr result (λ f. MatchStageFault f
+            (λ j. self.limit < size h + entry_size h (entry r.now)) (λ d. Unit {0})) }
         ensures fault { IfErr result (λ f. MatchStageFault f
             (λ j. j ≡ self)
             (λ d. Rose (D.disk self.disk).faults (D.disk d).faults)) }

@@ -10,6 +10,8 @@ pub fn a_disk_stands_for_one_history()
 /// Bytes that can't stand from some place on have one such place, behind one list of entries, and stand
 /// for none.
 pub fn a_spoiled_disk_has_one_place()
-    ensures one { (h g : List Entry) (bytes : List ℕ) (p q : ℕ) → IsSpoiled h bytes p → IsSpoiled g bytes q → (h ≡ g) × (p ≡ q) }
-    ensures none { (h g : List Entry) (bytes : List ℕ) (p : ℕ) → IsSpoiled h bytes p → Encodes g bytes → ⊥ }
+    ensures one { (h g : List Entry) (bytes : List ℕ) (p q : ℕ) → IsSpoiled h bytes p
+        → IsSpoiled g bytes q → (h ≡ g) × (p ≡ q) }
+    ensures none { (h g : List Entry) (bytes : List ℕ) (p : ℕ) → IsSpoiled h bytes p
+        → Encodes g bytes → ⊥ }
 {}

@@ -29,14 +29,17 @@ pub fn open_journal<D: Disk>(
     requires { AreInRange limits }
     ensures moved { D.disk_moved disk (open_disk result) }
     ensures read { OnlyRead (D.disk disk) (D.disk (open_disk result)) }
-    ensures opened { IfOk result (λ r. (x : List ℕ) → (D.disk disk).contents ≡ Some x → IsReading D.disk r []) }
-    ensures fresh { IfOk result (λ r. (r.gate ≡ 8) × (r.entries ≡ 0) × (r.limit ≡ limits.journal) × (r.ended ≡ None)) }
+    ensures opened { IfOk result (λ r. (x : List ℕ) → (D.disk disk).contents ≡ Some x
+        → IsReading D.disk r []) }
+    ensures fresh { IfOk result (λ r. (r.gate ≡ 8) × (r.entries ≡ 0) × (r.limit ≡ limits.journal)
+        × (r.ended ≡ None)) }
     ensures exact { (x : List ℕ) → (D.disk disk).contents ≡ Some x → OpensBy x result }
     ensures fault { IfErr result (λ f. MatchOpenFault f
         (λ d. (D.disk d).faults ≡ (D.disk disk).faults)
         (λ d. Rose (D.disk disk).faults (D.disk d).faults)
         (λ d. d ≡ disk)) }
-    ensures synced { IfErr result (λ f. MatchOpenFault f (λ d. IsSynced (D.disk d)) (λ d. Unit {0}) (λ d. Unit {0})) }
+    ensures synced { IfErr result
+        (λ f. MatchOpenFault f (λ d. IsSynced (D.disk d)) (λ d. Unit {0}) (λ d. Unit {0})) }
     ensures same_count { OnOk result ((D.disk (open_disk result)).faults ≡ (D.disk disk).faults) }
 {
     let mut disk = disk;

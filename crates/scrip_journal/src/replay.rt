@@ -85,7 +85,8 @@ impl<D: Disk> Replay<D> {
     /// The entry that was read last, which lies in the buffer up to the next call of
     /// [`Replay::next_record`]; None where that call gave none. Its values are in the ranges of its kind.
     pub fn record(&self) -> Option<Record<'_>>
-        ensures value { (e : Entry) → Fits e → self.now.last ≡ payload e → option_map entry result ≡ Some e }
+        ensures value { (e : Entry) → Fits e → self.now.last ≡ payload e
+            → option_map entry result ≡ Some e }
         ensures fits { IfSome result (λ r. Fits (entry r)) }
         ensures none { self.now.last ≡ [] → result ≡ None }
     {
@@ -122,9 +123,11 @@ impl<D: Disk> Replay<D> {
         ensures only_read { OnlyRead (D.disk self.old.disk) (D.disk self.new.disk) }
         ensures cause { HasCause (D.disk self.old.disk).faults (D.disk self.new.disk).faults result }
         ensures found { IfOk result (λ found. found ≡ true → FoundHeader self.old self.new) }
-        ensures begins { IfOk result (λ found. found ≡ true → (x : List ℕ) → (D.disk self.old.disk).contents ≡ Some x
+        ensures begins { IfOk result (λ found. found ≡ true → (x : List ℕ)
+            → (D.disk self.old.disk).contents ≡ Some x
             → BeginsWith (header ++ self.new.held) x) }
-        ensures other { IfOk result (λ found. found ≡ false → (x : List ℕ) → (D.disk self.old.disk).contents ≡ Some x
+        ensures other { IfOk result (λ found. found ≡ false → (x : List ℕ)
+            → (D.disk self.old.disk).contents ≡ Some x
             → BeginsWith header x → ⊥) }
     {
         match self.hold(8) {
@@ -152,7 +155,8 @@ impl<D: Disk> Replay<D> {
     /// The journal at rest, behind its last entry.
     pub fn finish(self) -> Journal<D>
         requires { self.ended ≡ Some Closed }
-        ensures disk { (result.disk ≡ self.disk) × (result.limit ≡ self.limit) × (result.entries ≡ self.entries) }
+        ensures disk { (result.disk ≡ self.disk) × (result.limit ≡ self.limit)
+            × (result.entries ≡ self.entries) }
         ensures size { result.size ≡ self.gate + 1 }
         ensures journal { (h : List Entry) → IsReading D.disk self h → IsJournal D.disk result h }
     {
@@ -230,7 +234,8 @@ impl<D: Disk> Replay<D> {
     fn is_open(&self) -> bool
         requires { 1 ≤ length self.now.held }
         ensures opened { result ≡ true → BeginsWith (1 ∷ []) self.now.held }
-        ensures closed { result ≡ false → (byte : ℕ) × BeginsWith (byte ∷ []) self.now.held × (byte ≢ 1) }
+        ensures closed { result ≡ false → (byte : ℕ) × BeginsWith (byte ∷ []) self.now.held
+            × (byte ≢ 1) }
     {
         self.buf[self.start] == 1
     }
@@ -295,8 +300,10 @@ impl<D: Disk> Replay<D> {
     /// Where the payload of this length behind the gate is malformed, from its front on.
     fn fault_place(&self, count: usize) -> Option<usize>
         requires { count + 5 ≤ length self.now.held }
-        ensures fault { IfSome result (λ place. entry_of (take count (drop 5 self.now.held)) ≡ Err place) }
-        ensures payload { IfNone result ((e : Entry) × Fits e × (take count (drop 5 self.now.held) ≡ payload e)) }
+        ensures fault { IfSome result
+            (λ place. entry_of (take count (drop 5 self.now.held)) ≡ Err place) }
+        ensures payload { IfNone result ((e : Entry) × Fits e
+            × (take count (drop 5 self.now.held) ≡ payload e)) }
     {
         let from = self.start + 5;
         match read_record(&self.buf[from..from + count]) {
@@ -356,7 +363,8 @@ fn read_behind<D: Disk>(
     ensures within { IfOk result (λ n. at + n ≤ length buf.new.items) }
     ensures piece { IfOk result (λ n. (x : List ℕ) → (D.disk disk.old).contents ≡ Some x
         → slice_range buf.new.items at (at + n) ≡ take n (drop place x)) }
-    ensures end { IfOk result (λ n. n ≡ 0 → (x : List ℕ) → (D.disk disk.old).contents ≡ Some x → length x ≤ place) }
+    ensures end { IfOk result (λ n. n ≡ 0 → (x : List ℕ) → (D.disk disk.old).contents ≡ Some x
+        → length x ≤ place) }
 {
     disk.read(place, &mut buf[at..])
 }

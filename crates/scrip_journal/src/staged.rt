@@ -39,7 +39,8 @@ impl<D: Disk> Staged<D> {
         ensures moved { D.disk_moved self.disk (opened_disk result) }
         ensures opened { IfOk result (λ r. (h : List Entry) (e : Entry) → IsStaged D.disk self h e
             → IsJournal D.disk r.0 (h ++ e ∷ [])) }
-        ensures number { IfOk result (λ r. (r.1 ≡ self.entries) × (r.0.entries ≡ self.entries + 1)) }
+        ensures number { IfOk result (λ r. (r.1 ≡ self.entries)
+            × (r.0.entries ≡ self.entries + 1)) }
         ensures limit { IfOk result (λ r. r.0.limit ≡ self.limit) }
         // Each crash pair of the call encodes the entries with the new one or without it, and nothing is
         // sent.

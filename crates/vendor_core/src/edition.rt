@@ -27,7 +27,8 @@ impl Article {
         kind: u8,
         contents: &[u8],
     ) -> Result<Article, NoMemory>
-        ensures { IfOk result (λ a. (m : ℕ) → goods_entry m a ≡ Goods m target.now price kind contents.now) }
+        ensures { IfOk result
+            (λ a. (m : ℕ) → goods_entry m a ≡ Goods m target.now price kind contents.now) }
     {
         Ok(Article {
             target: Vec::from_slice(alloc, target)?,

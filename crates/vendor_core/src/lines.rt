@@ -28,7 +28,8 @@ pub(crate) fn put_lines<D: Disk>(
 ) -> Result<(), NoMemory>
     requires value { 0 < value }
     requires empty { out.old.items ≡ [] }
-    ensures lines { OnOk result ((h g : History) (terms : Issuing) → HouseRepresents D.disk shelf_view house.now h → terms_in h 0 ≡ Some terms
+    ensures lines { OnOk result ((h g : History) (terms : Issuing)
+        → HouseRepresents D.disk shelf_view house.now h → terms_in h 0 ≡ Some terms
         → site_name g ≡ site_name h → terms_in g 0 ≡ terms_in h 0 → first + count ≤ 2 ^ 64
         → out.new.items ≡ piece_lines (version h (site_name h)) terms (run_from g value first count)) }
     ensures empty { OnErr result (out.new.items ≡ []) }
@@ -51,7 +52,8 @@ pub(crate) fn put_lines<D: Disk>(
 /// The piece of an identity, as it is first handed out.
 fn new_piece(name: Name, terms: Terms, id: Id, value: Amount) -> Piece
     requires { 0 < value }
-    ensures { (h : History) → site_name h ≡ name → terms_in h 0 ≡ Some terms → result ≡ first_hand h value id }
+    ensures { (h : History) → site_name h ≡ name → terms_in h 0 ≡ Some terms
+        → result ≡ first_hand h value id }
 {
     let (_, epoch, _) = id.parts();
     let expires = terms.series_end(epoch);
@@ -66,7 +68,8 @@ fn put_line<D: Disk>(
     piece: &Piece,
     out: &mut Vec<u8>,
 ) -> Result<(), NoMemory>
-    ensures { OnOk result ((h : History) (terms : Issuing) → HouseRepresents D.disk shelf_view house.now h → terms_in h 0 ≡ Some terms
+    ensures { OnOk result ((h : History) (terms : Issuing)
+        → HouseRepresents D.disk shelf_view house.now h → terms_in h 0 ≡ Some terms
         → out.new.items ≡ out.old.items ++ piece_line (version h (site_name h)) terms piece.now) }
 {
     let cert = house.own_certificate(piece);

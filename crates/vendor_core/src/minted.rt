@@ -22,7 +22,8 @@ pub(crate) struct Minted {
 
 /// What was minted under a reference, where it stands among some.
 pub(crate) fn minted_under<'a>(mints: &'a [Minted], reference: &[u8]) -> Option<&'a Minted>
-    ensures { option_copied result ≡ find (λ m. bytes_eq m.reference.items reference.now) mints.now }
+    ensures { option_copied result ≡ find
+        (λ m. bytes_eq m.reference.items reference.now) mints.now }
 {
     mints
         .iter()

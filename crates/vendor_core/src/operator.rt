@@ -40,7 +40,8 @@ pub fn set_goods<D: Disk>(
     requires short { length contents.now ≤ 65536 }
     ensures back { HandsBack D.disk D.disk_moved (KeepsTime house) house.journal.disk result }
     ensures exact { (h : History) → HouseRepresents D.disk shelf_view house h
-        → Performs D.disk shelf_view (λ task. task ≡ goods_task h (house_time house.bench) target.now price kind contents.now) TellsLast
+        → Performs D.disk shelf_view
+        (λ task. task ≡ goods_task h (house_time house.bench) target.now price kind contents.now) TellsLast
         (limits_of house.bench) house.journal.disk h result }
 {
     // The check lets a record go only where the types of its parts are named.
@@ -70,7 +71,8 @@ pub fn set_price<D: Disk>(
     requires price { 0 < price }
     ensures back { HandsBack D.disk D.disk_moved (KeepsTime house) house.journal.disk result }
     ensures exact { (h : History) → HouseRepresents D.disk shelf_view house h
-        → Performs D.disk shelf_view (λ task. task ≡ price_task h (house_time house.bench) target.now price) TellsLast
+        → Performs D.disk shelf_view
+        (λ task. task ≡ price_task h (house_time house.bench) target.now price) TellsLast
         (limits_of house.bench) house.journal.disk h result }
 {
     let Some(goods) = house.trade().goods(target.bytes()) else {
@@ -95,7 +97,8 @@ pub fn add_terms<D: Disk>(
     requires issuer { 0 < terms.now.issuer }
     ensures back { HandsBack D.disk D.disk_moved (KeepsTime house) house.journal.disk result }
     ensures exact { (h : History) → HouseRepresents D.disk shelf_view house h
-        → Performs D.disk shelf_view (λ task. task ≡ terms_task h (house_time house.bench) terms.now) TellsAdded
+        → Performs D.disk shelf_view
+        (λ task. task ≡ terms_task h (house_time house.bench) terms.now) TellsAdded
         (limits_of house.bench) house.journal.disk h result }
 {
     if let Some(standing) = house.terms(terms.issuer()) {
@@ -193,11 +196,15 @@ fn enter_mint<D: Disk>(
     requires some { 0 < count }
     requires few { count ≤ 256 }
     requires value { 0 < value }
-    requires new { (h : History) → HouseRepresents D.disk shelf_view house h → IsFalse (has_reference h reference.now) }
-    requires run { (h : History) → HouseRepresents D.disk shelf_view house h → HasRun h (house_time house.bench) (limits_of house.bench) count (Ok first) }
+    requires new { (h : History) → HouseRepresents D.disk shelf_view house h
+        → IsFalse (has_reference h reference.now) }
+    requires run { (h : History) → HouseRepresents D.disk shelf_view house h
+        → HasRun h (house_time house.bench) (limits_of house.bench) count (Ok first) }
     ensures back { HandsBack D.disk D.disk_moved (KeepsTime house) house.journal.disk result }
     ensures empty { NoLines out.new.items result }
-    ensures exact { (h : History) (terms : Issuing) → HouseRepresents D.disk shelf_view house h → terms_in h 0 ≡ Some terms → out.old.items ≡ piece_lines (version h (site_name h)) terms (run_from h value first count)
+    ensures exact { (h : History) (terms : Issuing) → HouseRepresents D.disk shelf_view house h
+        → terms_in h 0 ≡ Some terms
+        → out.old.items ≡ piece_lines (version h (site_name h)) terms (run_from h value first count)
         → Performs D.disk shelf_view (IsMintTask h (house_time house.bench) (limits_of house.bench) reference.now count value) (TellsMint reference.now count value out.new.items)
         (limits_of house.bench) house.journal.disk h result }
 {

@@ -58,7 +58,8 @@ impl Shelf {
     /// How many bytes of contents are on sale once a target sells these.
     pub(crate) fn in_force_with(&self, target: &[u8], contents: &[u8]) -> u64
         requires { length contents.now ≤ 65536 }
-        ensures { (h : History) (m price kind : ℕ) → ShelfRepresents self.now h → result ≡ goods.in_force (h ++ Goods m target.now price kind contents.now ∷ []) }
+        ensures { (h : History) (m price kind : ℕ) → ShelfRepresents self.now h
+            → result ≡ goods.in_force (h ++ Goods m target.now price kind contents.now ∷ []) }
     {
         let others = self
             .in_force
@@ -95,7 +96,8 @@ impl Shelf {
         requires short { length contents.now ≤ 65536 }
         ensures held { (n : ℕ) → HasGoods self.old n → HasGoods self.new n }
         ensures goods { OnOk result (HasGoods self.new number) }
-        ensures learned { OnOk result ((h : History) (m price kind : ℕ) → ShelfRepresents self.old h → number ≡ length h
+        ensures learned { OnOk result ((h : History) (m price kind : ℕ) → ShelfRepresents self.old h
+            → number ≡ length h
             → option_map (goods_entry m) self.old.next_article ≡ Some (Goods m target.now price kind contents.now)
             → ShelfRepresents self.new (h ++ Goods m target.now price kind contents.now ∷ [])) }
         ensures exact { (h : History) (m price kind : ℕ) → ShelfRepresents self.old h
@@ -117,9 +119,11 @@ impl Shelf {
     fn learn_mint(&mut self, reference: &[u8], minting: Minting) -> Result<(), Unlawful>
         requires room { HasRoomForMint self.old reference.now }
         ensures held { (n : ℕ) → HasGoods self.old n → HasGoods self.new n }
-        ensures learned { OnOk result ((h : History) (m : ℕ) → ShelfRepresents self.old h → minting.number ≡ length h
+        ensures learned { OnOk result ((h : History) (m : ℕ) → ShelfRepresents self.old h
+            → minting.number ≡ length h
             → ShelfRepresents self.new (h ++ Mint m reference.now minting.count minting.value minting.first ∷ [])) }
-        ensures exact { (h : History) → ShelfRepresents self.old h → IsOk result ↔ IsFalse (has_reference h reference.now) }
+        ensures exact { (h : History) → ShelfRepresents self.old h
+            → IsOk result ↔ IsFalse (has_reference h reference.now) }
         ensures same { OnErr result ((h : History) → ShelfRepresents self.old h
             → ShelfRepresents self.new h) }
     {
@@ -254,9 +258,11 @@ impl Trade for Shelf {
 
     fn forget(&mut self, kept_from: Option<u64>)
         ensures same { (h : History) → ShelfRepresents self.old h → ShelfRepresents self.new h }
-        ensures held { (h : History) (n : ℕ) → ShelfRepresents self.old h → IsKeptFrom h kept_from n → HasGoods self.old n → HasGoods self.new n }
+        ensures held { (h : History) (n : ℕ) → ShelfRepresents self.old h → IsKeptFrom h kept_from n
+            → HasGoods self.old n → HasGoods self.new n }
         // No other contents stay.
-        ensures freed { (h : History) (n : ℕ) → ShelfRepresents self.old h → HasGoods self.new n → IsKeptFrom h kept_from n }
+        ensures freed { (h : History) (n : ℕ) → ShelfRepresents self.old h → HasGoods self.new n
+            → IsKeptFrom h kept_from n }
     {
         keep_needed(&mut self.editions, kept_from);
     }

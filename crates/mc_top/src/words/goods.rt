@@ -11,8 +11,10 @@ use scrip_form::Target;
 /// The listing that the words `vendor goods BOOK TARGET PRICE [--kind K]` give; None exactly where they
 /// are of no listing.
 pub(crate) fn listing_of(words: &[String]) -> Option<Listing<'_>>
-    ensures listing { IfSome result (λ listing. AreGoodsWords (map string_bytes words.now) listing) }
-    ensures none { IsNone result → (listing : Listed) → AreGoodsWords (map string_bytes words.now) listing → ⊥ }
+    ensures listing { IfSome result
+        (λ listing. AreGoodsWords (map string_bytes words.now) listing) }
+    ensures none { IsNone result → (listing : Listed)
+        → AreGoodsWords (map string_bytes words.now) listing → ⊥ }
 {
     listing_from(offer_words_of(words)?)
 }
@@ -20,8 +22,10 @@ pub(crate) fn listing_of(words: &[String]) -> Option<Listing<'_>>
 /// The pricing that the words `vendor price BOOK TARGET PRICE` give; None exactly where they are of no
 /// pricing.
 pub(crate) fn pricing_of(words: &[String]) -> Option<Pricing<'_>>
-    ensures pricing { IfSome result (λ pricing. ArePriceWords (map string_bytes words.now) pricing) }
-    ensures none { IsNone result → (pricing : Priced) → ArePriceWords (map string_bytes words.now) pricing → ⊥ }
+    ensures pricing { IfSome result
+        (λ pricing. ArePriceWords (map string_bytes words.now) pricing) }
+    ensures none { IsNone result → (pricing : Priced)
+        → ArePriceWords (map string_bytes words.now) pricing → ⊥ }
 {
     pricing_from(offer_words_of(words)?)
 }
@@ -56,7 +60,8 @@ fn offer_words_of(words: &[String]) -> Option<OfferWords<'_>>
 
 fn listing_from(words: OfferWords<'_>) -> Option<Listing<'_>>
     ensures listing { IfSome result (λ listing. AreGoodsWords (offer_words words.entry) listing) }
-    ensures none { IsNone result → (listing : Listed) → AreGoodsWords (offer_words words.entry) listing → ⊥ }
+    ensures none { IsNone result → (listing : Listed)
+        → AreGoodsWords (offer_words words.entry) listing → ⊥ }
 {
     if words.role != b"vendor".as_slice() || words.command != b"goods".as_slice() {
         return None;
@@ -68,7 +73,8 @@ fn listing_from(words: OfferWords<'_>) -> Option<Listing<'_>>
 
 fn pricing_from(words: OfferWords<'_>) -> Option<Pricing<'_>>
     ensures pricing { IfSome result (λ pricing. ArePriceWords (offer_words words.entry) pricing) }
-    ensures none { IsNone result → (pricing : Priced) → ArePriceWords (offer_words words.entry) pricing → ⊥ }
+    ensures none { IsNone result → (pricing : Priced)
+        → ArePriceWords (offer_words words.entry) pricing → ⊥ }
 {
     if words.role != b"vendor".as_slice() || words.command != b"price".as_slice() {
         return None;
@@ -81,8 +87,10 @@ fn pricing_from(words: OfferWords<'_>) -> Option<Pricing<'_>>
 
 /// The pricing of the words `BOOK TARGET PRICE`; None exactly where they are of none.
 fn offer_of<'a>(book: &'a [u8], target: &[u8], price: &[u8]) -> Option<Pricing<'a>>
-    ensures pricing { IfSome result (λ pricing. AreOfferWords (book.entry.now ∷ target.now ∷ price.now ∷ []) pricing) }
-    ensures none { IsNone result → (pricing : Priced) → AreOfferWords (book.entry.now ∷ target.now ∷ price.now ∷ []) pricing → ⊥ }
+    ensures pricing { IfSome result
+        (λ pricing. AreOfferWords (book.entry.now ∷ target.now ∷ price.now ∷ []) pricing) }
+    ensures none { IsNone result → (pricing : Priced)
+        → AreOfferWords (book.entry.now ∷ target.now ∷ price.now ∷ []) pricing → ⊥ }
 {
     if !is_place(book) {
         return None;

@@ -12,7 +12,8 @@ use scrip_form::Name;
 /// give; None exactly where they are of no founder.
 pub(crate) fn founder_of(words: &[String]) -> Option<Founder<'_>>
     ensures founder { IfSome result (λ founder. AreInitWords (map string_bytes words.now) founder) }
-    ensures none { IsNone result → (founder : Founding) → AreInitWords (map string_bytes words.now) founder → ⊥ }
+    ensures none { IsNone result → (founder : Founding)
+        → AreInitWords (map string_bytes words.now) founder → ⊥ }
 {
     founder_from(init_words_of(words)?)
 }
@@ -48,7 +49,8 @@ fn init_words_of(words: &[String]) -> Option<InitWords<'_>>
 
 fn founder_from(words: InitWords<'_>) -> Option<Founder<'_>>
     ensures founder { IfSome result (λ founder. AreInitWords (init_words words.entry) founder) }
-    ensures none { IsNone result → (founder : Founding) → AreInitWords (init_words words.entry) founder → ⊥ }
+    ensures none { IsNone result → (founder : Founding)
+        → AreInitWords (init_words words.entry) founder → ⊥ }
 {
     if words.role != b"vendor".as_slice() || words.command != b"init".as_slice() {
         return None;

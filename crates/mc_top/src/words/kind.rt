@@ -16,7 +16,8 @@ pub(crate) struct GoodsOptions {
 pub(crate) fn goods_options_of(words: &[String]) -> Option<GoodsOptions>
     ensures kind { IfSome result (λ o. IfSome o.kind IsKind) }
     ensures spelled { IfSome result (λ o. map string_bytes words.now ≡ kind_words o.kind) }
-    ensures none { IsNone result → (kind : Option ℕ) → IfSome kind IsKind → map string_bytes words.now ≡ kind_words kind → ⊥ }
+    ensures none { IsNone result → (kind : Option ℕ) → IfSome kind IsKind
+        → map string_bytes words.now ≡ kind_words kind → ⊥ }
 {
     match words {
         [] => Some(GoodsOptions { kind: None }),
@@ -31,7 +32,8 @@ pub(crate) fn goods_options_of(words: &[String]) -> Option<GoodsOptions>
 fn kind_of(option: &[u8], kind: &[u8]) -> Option<u8>
     ensures range { IfSome result IsKind }
     ensures spelled { IfSome result (λ k. (option.now ≡ codes "--kind") × (kind.now ≡ decimal k)) }
-    ensures none { IsNone result → (k : ℕ) → IsKind k → option.now ≡ codes "--kind" → kind.now ≡ decimal k → ⊥ }
+    ensures none { IsNone result → (k : ℕ) → IsKind k → option.now ≡ codes "--kind"
+        → kind.now ≡ decimal k → ⊥ }
 {
     if option != b"--kind".as_slice() {
         return None;

@@ -13,8 +13,10 @@ const MOST_ISSUER: u64 = 255;
 /// The licensing that the words `vendor licence BOOK ISSUER PERIOD LIFE SCRIP CUSTOMER` give; None
 /// exactly where they are of no licensing.
 pub(crate) fn licensing_of(words: &[String]) -> Option<Licensing<'_>>
-    ensures licensing { IfSome result (λ licensing. AreLicenceWords (map string_bytes words.now) licensing) }
-    ensures none { IsNone result → (licensing : Licensed) → AreLicenceWords (map string_bytes words.now) licensing → ⊥ }
+    ensures licensing { IfSome result
+        (λ licensing. AreLicenceWords (map string_bytes words.now) licensing) }
+    ensures none { IsNone result → (licensing : Licensed)
+        → AreLicenceWords (map string_bytes words.now) licensing → ⊥ }
 {
     licensing_from(licence_words_of(words)?)
 }
@@ -50,8 +52,10 @@ fn licence_words_of(words: &[String]) -> Option<LicenceWords<'_>>
 }
 
 fn licensing_from(words: LicenceWords<'_>) -> Option<Licensing<'_>>
-    ensures licensing { IfSome result (λ licensing. AreLicenceWords (licence_words words.entry) licensing) }
-    ensures none { IsNone result → (licensing : Licensed) → AreLicenceWords (licence_words words.entry) licensing → ⊥ }
+    ensures licensing { IfSome result
+        (λ licensing. AreLicenceWords (licence_words words.entry) licensing) }
+    ensures none { IsNone result → (licensing : Licensed)
+        → AreLicenceWords (licence_words words.entry) licensing → ⊥ }
 {
     if words.role != b"vendor".as_slice() || words.command != b"licence".as_slice() {
         return None;

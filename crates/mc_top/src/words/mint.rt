@@ -15,7 +15,8 @@ const MOST_PIECES: u64 = 256;
 /// of no minting.
 pub(crate) fn minting_of(words: &[String]) -> Option<Minting<'_>>
     ensures minting { IfSome result (λ minting. AreMintWords (map string_bytes words.now) minting) }
-    ensures none { IsNone result → (minting : Minted) → AreMintWords (map string_bytes words.now) minting → ⊥ }
+    ensures none { IsNone result → (minting : Minted)
+        → AreMintWords (map string_bytes words.now) minting → ⊥ }
 {
     minting_from(mint_words_of(words)?)
 }
@@ -50,7 +51,8 @@ fn mint_words_of(words: &[String]) -> Option<MintWords<'_>>
 
 fn minting_from(words: MintWords<'_>) -> Option<Minting<'_>>
     ensures minting { IfSome result (λ minting. AreMintWords (mint_words words.entry) minting) }
-    ensures none { IsNone result → (minting : Minted) → AreMintWords (mint_words words.entry) minting → ⊥ }
+    ensures none { IsNone result → (minting : Minted)
+        → AreMintWords (mint_words words.entry) minting → ⊥ }
 {
     if words.role != b"vendor".as_slice() || words.command != b"mint".as_slice() {
         return None;

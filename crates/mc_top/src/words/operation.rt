@@ -9,8 +9,10 @@ use crate::words::mint::minting_of;
 
 /// The operation of a vendor's operator that the words are of; None exactly where they are of none.
 pub(crate) fn operation_of(words: &[String]) -> Option<Operation<'_>>
-    ensures order { IfSome result (λ operation. AreOperationWords (map string_bytes words.now) operation) }
-    ensures none { IsNone result → (operation : Said) → AreOperationWords (map string_bytes words.now) operation → ⊥ }
+    ensures order { IfSome result
+        (λ operation. AreOperationWords (map string_bytes words.now) operation) }
+    ensures none { IsNone result → (operation : Said)
+        → AreOperationWords (map string_bytes words.now) operation → ⊥ }
 {
     if let Some(listing) = listing_of(words) {
         return Some(Operation::Goods(listing));

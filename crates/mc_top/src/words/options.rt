@@ -20,8 +20,10 @@ pub(crate) struct Options {
 /// The options `[--keep S] [--clear]`; None exactly where the words are no such options.
 pub(crate) fn options_of(words: &[String]) -> Option<Options>
     ensures keep { IfSome result (λ o. IfSome o.keep IsKeepingTime) }
-    ensures spelled { IfSome result (λ o. map string_bytes words.now ≡ option_words o.keep o.clear) }
-    ensures none { IsNone result → (keep : Option ℕ) (clear : Bool) → IfSome keep IsKeepingTime → map string_bytes words.now ≡ option_words keep clear → ⊥ }
+    ensures spelled { IfSome result
+        (λ o. map string_bytes words.now ≡ option_words o.keep o.clear) }
+    ensures none { IsNone result → (keep : Option ℕ) (clear : Bool) → IfSome keep IsKeepingTime
+        → map string_bytes words.now ≡ option_words keep clear → ⊥ }
 {
     match words {
         [] => Some(Options {
@@ -64,7 +66,8 @@ fn is_clear(word: &[u8]) -> bool
 fn keep_of(keep: &[u8], seconds: &[u8]) -> Option<u32>
     ensures range { IfSome result IsKeepingTime }
     ensures spelled { IfSome result (λ s. (keep.now ≡ codes "--keep") × (seconds.now ≡ decimal s)) }
-    ensures none { IsNone result → (s : ℕ) → IsKeepingTime s → keep.now ≡ codes "--keep" → seconds.now ≡ decimal s → ⊥ }
+    ensures none { IsNone result → (s : ℕ) → IsKeepingTime s → keep.now ≡ codes "--keep"
+        → seconds.now ≡ decimal s → ⊥ }
 {
     if keep != b"--keep".as_slice() {
         return None;

@@ -9,7 +9,8 @@ use scrip_form::Secrets;
 pub(crate) fn secrets_of(word: &[u8]) -> Option<Secrets>
     ensures range { IfSome result IsSecretList }
     ensures spelled { IfSome result (λ secrets. word.now ≡ joined secrets) }
-    ensures none { IsNone result → (secrets : List (List ℕ)) → IsSecretList secrets → word.now ≡ joined secrets → ⊥ }
+    ensures none { IsNone result → (secrets : List (List ℕ)) → IsSecretList secrets
+        → word.now ≡ joined secrets → ⊥ }
 {
     let mut list = [[0; 16]; 16];
     let mut rest = word;

@@ -13,7 +13,8 @@ const MOST_LINKS: u64 = u32::MAX as u64;
 /// server.
 pub(crate) fn server_of(words: &[String]) -> Option<Server<'_>>
     ensures server { IfSome result (λ server. AreServeWords (map string_bytes words.now) server) }
-    ensures none { IsNone result → (server : Serving) → AreServeWords (map string_bytes words.now) server → ⊥ }
+    ensures none { IsNone result → (server : Serving)
+        → AreServeWords (map string_bytes words.now) server → ⊥ }
 {
     server_from(serve_words_of(words)?)
 }
@@ -46,7 +47,8 @@ fn serve_words_of(words: &[String]) -> Option<ServeWords<'_>>
 
 fn server_from(words: ServeWords<'_>) -> Option<Server<'_>>
     ensures server { IfSome result (λ server. AreServeWords (serve_words words.entry) server) }
-    ensures none { IsNone result → (server : Serving) → AreServeWords (serve_words words.entry) server → ⊥ }
+    ensures none { IsNone result → (server : Serving)
+        → AreServeWords (serve_words words.entry) server → ⊥ }
 {
     if words.role != b"vendor".as_slice() || words.command != b"serve".as_slice() {
         return None;

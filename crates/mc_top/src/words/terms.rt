@@ -22,7 +22,8 @@ pub(crate) struct TermsWords<'a> {
 
 /// The four words as bytes, and the words behind them; None exactly where there are fewer than four.
 pub(crate) fn terms_words_of(words: &[String]) -> Option<(TermsWords<'_>, &[String])>
-    ensures words { IfSome result (λ x. map string_bytes words.now ≡ terms_words x.0 ++ map string_bytes x.1.now) }
+    ensures words { IfSome result
+        (λ x. map string_bytes words.now ≡ terms_words x.0 ++ map string_bytes x.1.now) }
     ensures none { IsNone result → length words.now < 4 }
 {
     match words {
@@ -43,7 +44,8 @@ pub(crate) fn terms_words_of(words: &[String]) -> Option<(TermsWords<'_>, &[Stri
 pub(crate) fn terms_of(issuer: u8, words: TermsWords<'_>) -> Option<Terms>
     ensures issuer { IfSome result (λ terms. terms.issuer ≡ issuer) }
     ensures terms { IfSome result (λ terms. AreTermsWords (terms_words words.entry) terms) }
-    ensures none { IsNone result → (terms : Issuing) → AreTermsWords (terms_words words.entry) terms → ⊥ }
+    ensures none { IsNone result → (terms : Issuing) → AreTermsWords (terms_words words.entry) terms
+        → ⊥ }
 {
     let period = number_of(MOST_SECONDS, words.period)?;
     let life = number_or_zero(MOST_SECONDS, words.life)?;
