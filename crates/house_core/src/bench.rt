@@ -21,7 +21,7 @@ ghost use Rattle.house_core.specs.declared.verdict.Verdict.TheVariants as verdic
 ghost use Rattle.house_core.specs.Verdicts.{judged, judged_of, repeat_of, accept_entry, IsReady};
 
 use crate::evaluate::evaluate;
-use crate::founding::{found_state, payload_len};
+use crate::founding::found_state;
 use crate::house_state::HouseState;
 use crate::offer::Unlawful;
 use crate::presented::Presented;
@@ -32,7 +32,7 @@ use crate::trade::Trade;
 use crate::verdict::{Authorization, BenchFault, EnterFault, NotAuthorized, Verdict};
 use kept_replies::Deed;
 use mc_base::{Moment, NoMemory};
-use mc_records::{Limits, PieceList, Record, RecordDeed, Refusal, Request};
+use mc_records::{Limits, PieceList, Record, RecordDeed, Refusal, Request, payloads_are_short};
 use std::alloc::Global;
 
 /// A house without a journal: its state and the trade that it carries.
@@ -61,7 +61,8 @@ impl<T: Trade> Bench<T> {
         ensures time { IfOk result (λ b. house_time b ≡ moment_of (entry site.now)) }
         ensures limits { IfOk result (λ b. limits_of b ≡ limits) }
     {
-        let bytes = payload_len(alloc, site)?;
+        payloads_are_short();
+        let bytes = site.payload_len();
         let state = found_state(alloc, site, limits, bytes)?;
         match trade.reserve(site) {
             Ok(()) => (),
@@ -216,10 +217,7 @@ impl<T: Trade> Bench<T> {
             → IfErr result
             (λ f. Enters T.trade self.new (limits_of self.old) h (entry r.now) (Err f)) }
     {
-        let bytes = match payload_len(self.state.alloc(), r) {
-            Ok(bytes) => bytes,
-            Err(NoMemory) => return Err(EnterFault::NoMemory),
-        };
+        let bytes = r.payload_len();
         match fitted(&self.state, self.state.limits().journal, bytes) {
             Ok(()) => (),
             Err(refusal) => return Err(EnterFault::Refused(refusal)),

@@ -1,7 +1,7 @@
 //! What a Site entry founds.
 
 ghost use Rattle.std.specs.Prelude.{◌≡◌, ◌<◌, ◌^◌, [], length, IfOk};
-ghost use Rattle.mc_records.specs.Entry.{Fits, payload};
+ghost use Rattle.mc_records.specs.Entry.{payload};
 ghost use Rattle.mc_records.specs.Limits.{AreInRange};
 ghost use Rattle.mc_records.specs.Views.{entry};
 ghost use Rattle.ledger_model.specs.Lawful.{MayFollow};
@@ -9,21 +9,9 @@ ghost use Rattle.house_core.specs.Founding.{IsStateOf, FoundsHouse};
 
 use crate::house_state::HouseState;
 use mc_base::NoMemory;
-use mc_records::{Limits, PieceList, Record, payloads_are_short, write_record};
+use mc_records::{Limits, PieceList, Record};
 use scrip_form::Name;
 use std::alloc::Global;
-
-/// The length of the payload of an entry, which is written to find it.
-pub(crate) fn payload_len(alloc: Global, r: &Record<'_>) -> Result<u64, NoMemory>
-    requires { Fits (entry r.now) }
-    ensures len { IfOk result (λ len. len ≡ length (payload (entry r.now))) }
-    ensures short { length (payload (entry r.now)) < 131066 }
-{
-    payloads_are_short();
-    let mut bytes = Vec::new(alloc);
-    write_record(r, &mut bytes)?;
-    Ok(bytes.len() as u64)
-}
 
 /// The state of the house that a Site entry founds, by an entry of so many bytes of payload.
 pub(crate) fn found_state(

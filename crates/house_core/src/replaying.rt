@@ -16,7 +16,6 @@ ghost use Rattle.house_core.specs.Bench.{Represents, HasContents, Follows, Repla
 
 use crate::bench::{Bench, record_deed};
 use crate::evaluate::evaluate;
-use crate::founding::payload_len;
 use crate::offer::Unlawful;
 use crate::presented::Presented;
 use crate::stages::fitted;
@@ -112,10 +111,7 @@ impl<T: Trade> Bench<T> {
             → HasContents T.trade self.old h
             → IfOk result (λ u. HasContents T.trade self.new (h ++ entry r.now ∷ [])) }
     {
-        let bytes = match payload_len(self.state.alloc(), r) {
-            Ok(bytes) => bytes,
-            Err(NoMemory) => return Err(ReplayEnd::NoMemory),
-        };
+        let bytes = r.payload_len();
         match fitted(&self.state, 1 << 40, bytes) {
             Ok(()) => (),
             Err(_) => return Err(ReplayEnd::Unlawful),

@@ -7,9 +7,9 @@ use Rattle.house_core.specs.HouseState.{tail_of}
 use Rattle.house_core.proofs.Tabled.{fitted_stands}
 use Rattle.house_core.proofs.bench.Bench.make_room_for.Goals as goal
 
-pub returns-in-Err-fitted-clause-fault : goal.returns-in-Err-fitted-clause-fault
-returns-in-Err-fitted-clause-fault g c h st =
+pub returns-in-Err-clause-fault : goal.returns-in-Err-clause-fault
+returns-in-Err-clause-fault g c h st =
     let b = c.args.self.now.state in
     let e = entry c.args.r.now in
-    let refused = c.in-Err-fitted.ensures.lines e c.in-Ok.ensures.len ∙ ap (λ (l : Limits). fitted_by l.journal b.size (tail_of b) e) c.limits.ensures.limits in
+    let refused = c.in-Err.ensures.lines e c.payload_len-bytes.ensures ∙ ap (λ (l : Limits). fitted_by l.journal b.size (tail_of b) e) c.limits.ensures.limits in
     (fitted_stands st.state (limits_of c.args.self.now) e ∙ sym refused, st)

@@ -10,6 +10,6 @@ returns-in-Err-follow-clause-exact g c h st room =
     follow_fails g.T.Trade.trade c.follow.new.self (limits_of c.args.self.now) h (entry c.args.r.now) c.in-Err-follow.end (c.in-Err-follow.ensures.exact h st)
 
 -- the entry fits the greatest journal
-pub returns-in-Err-fitted-clause-exact : goal.returns-in-Err-fitted-clause-exact
-returns-in-Err-fitted-clause-exact g c h st room =
-    λ may. absurd (omega (arith, c.in-Err-fitted.ensures.full, room, length-tail h (entry c.args.r.now), st.state.sized, st.state.tail, c.in-Ok.ensures.len))
+pub returns-in-Err-clause-exact : goal.returns-in-Err-clause-exact
+returns-in-Err-clause-exact g c h st room =
+    λ may. absurd (omega (arith, c.in-Err.ensures.full, room, length-tail h (entry c.args.r.now), st.state.sized, st.state.tail, c.payload_len-bytes.ensures))
