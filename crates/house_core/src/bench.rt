@@ -374,7 +374,7 @@ impl<T: Trade> Bench<T> {
             → HasContents T.trade self.new (h ++ accept_entry (house_time self.old) q.now.target authorization.now ∷ []) }
     {
         let number = self.state.count();
-        // What the house answers is lawful, so a trade has nothing against it.
+        // What the house answers may follow, so an `Err` comes only where it represents no history.
         let _learned = self.trade.learn(number, r);
         self.state
             .enter(q.request(), &authorization.scrip.piece(), authorization);

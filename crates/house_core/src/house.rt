@@ -274,6 +274,7 @@ impl<D: Disk, T: Trade> House<D, T> {
                 let settled = Settled { receipt, number };
                 Outcome::Done(House { journal, bench }, Response::New(settled))
             }
+            // It fits, so this comes only where the house represents no history.
             Err(StageFault::Full(journal)) => {
                 let full = Refusal::JournalFull(bench.state.size(), authorization.payload);
                 Outcome::Refused(House { journal, bench }, full)
@@ -306,13 +307,16 @@ impl<D: Disk, T: Trade> House<D, T> {
             Err(EnterFault::Refused(refusal)) => {
                 return Outcome::Refused(House { journal, bench }, refusal);
             }
+            // `Unlawful` comes only where the house represents no history.
             Err(_) => return Outcome::NoMemory(House { journal, bench }),
         };
         match journal.append(r) {
             Ok((journal, receipt)) => {
+                // It may follow, so an `Err` comes only where the house represents no history.
                 let _applied = bench.apply_entry(r, bytes);
                 Outcome::Done(House { journal, bench }, receipt)
             }
+            // It fits, so this comes only where the house represents no history.
             Err(StageFault::Full(journal)) => {
                 let full = Refusal::JournalFull(bench.state.size(), bytes);
                 Outcome::Refused(House { journal, bench }, full)
