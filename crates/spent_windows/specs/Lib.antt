@@ -1,0 +1,4 @@
+pub mod Windows
+pub mod Fresh
+pub mod Looks
+pub mod Store
