@@ -72,7 +72,8 @@ impl Window {
         }
     }
 
-    /// Marks a bit. Where all places are marked then, the bits are let go.
+    /// Marks the serial of a bit, and leaves the others. Where all serials are marked then, the bits are
+    /// let go.
     pub(crate) fn mark(&mut self, bit: usize)
         requires { bit < 4096 }
         ensures number { self.new.number ≡ self.old.number }

@@ -202,7 +202,8 @@ fn window_of(id: Id) -> u64
     id.number() / SERIALS
 }
 
-/// The row of the series of a window: by its epoch and its issuer.
+/// The row of the series of a window, by its epoch and its issuer: series whose epochs follow one another
+/// have different rows.
 fn row_of(number: u64) -> usize
     ensures { result < ROWS }
 {
