@@ -1,0 +1,3 @@
+pub mod Faultless
+pub mod Exact
+pub mod Rows

@@ -1,0 +1,47 @@
+ghost use Rattle.std.specs.Prelude.{◌≡◌, true, map, string_bytes, IfOk};
+ghost use Rattle.clap.specs.Simple.{app_of};
+ghost use Rattle.command_words.specs.Arguments.{command, found, is_exact, rules_of};
+
+use crate::argument::Argument;
+use crate::found::Found;
+use clap::Command;
+use clap::error::ErrorKind;
+use std::alloc::{AllocError, Global};
+
+/// Reads the words of a command that has these arguments: what `clap` finds in them, and None exactly
+/// where it doesn't take them. The words are those behind the name of the command, and what is found
+/// borrows them.
+///
+/// It takes memory, of bad words as well, since `clap` makes the text of its error; an Err is want of
+/// memory alone. `is_exact` computes, so that of arguments that a program writes down it is `refl`.
+pub fn read_words<'a>(
+    alloc: Global,
+    arguments: &[Argument],
+    words: &'a [String],
+) -> Result<Option<Found<'a>>, AllocError>
+    requires { is_exact (rules_of arguments.now) ≡ true }
+    ensures { IfOk result (λ r. r ≡ found (rules_of arguments.now) (map string_bytes words.entry.now)) }
+{
+    let command = command_of(alloc, arguments)?;
+    match command.try_get_matches_from(words) {
+        Ok(matches) => Ok(Some(Found::of(matches))),
+        Err(error) => match error.kind() {
+            ErrorKind::OutOfMemory => Err(AllocError),
+            _ => Ok(None),
+        },
+    }
+}
+
+/// The command of `clap` with these arguments and nothing else. Its name is written in the texts of
+/// errors alone, which nobody reads.
+fn command_of<'a>(alloc: Global, arguments: &[Argument]) -> Result<Command<'a>, AllocError>
+    ensures { IfOk result (λ c. app_of c ≡ command (rules_of arguments.now)) }
+{
+    let mut command = Command::new(alloc, "millicent")
+        .no_binary_name(true)
+        .disable_help_flag(true);
+    for argument in arguments {
+        command = command.arg(argument.arg(alloc))?;
+    }
+    Ok(command)
+}
