@@ -1,5 +1,6 @@
 -- Which identities are marked, and where their windows end, after each edit of the windows.
 use Rattle.std.proofs.Common.{◌≡◌, ℕ, ◌+◌, ◌<◌, ◌≤◌, Bool, true, false, cond, eqb, ltb, ◌&&◌, ◌||◌, List, [], ◌∷◌, suc, length, Result, Ok, Err, IfErr, IsOk, get_or, set, Option, Some, None, option_map, unwrap_or, refl, sym, ap, ◌∙◌, inl, inr, arith}
+use Rattle.std.proofs.Math.Bool.{or-false, and-true}
 use Rattle.std.specs.Prelude.{is_some, find, filter}
 use Rattle.std.specs.List.{All}
 use Rattle.std.proofs.lemmas.Bool.{cases_Bool, false≢true, lt-ltb, eqb-true, eqb-false, eq-eqb, ne_eqb}
@@ -109,10 +110,6 @@ same_place id k same = elim (cases_Bool (eqb id k)) [
   | inr t ↦ rw t (ne_eqb (bit_of id) (bit_of k) (λ e. eqb-false id k t (omega arith)))
 ]
 
-or_false : (b : Bool) → b ≡ (b || false)
-or_false true = refl
-or_false false = refl
-
 module _ (ws : List WindowView) (id i : ℕ) (w x : WindowView) (ordered : AreInOrder ws) (at : IsAt ws (window_of id) i) (read : w ≡ get_or ws i w)
     (numbered : x.number ≡ w.number) where
   its_number : x.number ≡ window_of id
@@ -148,7 +145,7 @@ module _ (ws : List WindowView) (id i : ℕ) (w x : WindowView) (ordered : AreIn
             )
         | inr t ↦
             let other : eqb id k ≡ false = ne_eqb id k (λ e. eqb-false (window_of id) (window_of k) t (ap window_of e)) in
-            rw (t, other) (or_false _)
+            rw (t, other) (sym (or-false _))
       ]
 
 -- ---- windows dropped
@@ -166,12 +163,8 @@ module _ (ws : List WindowView) (now : ℕ) (ordered : AreInOrder ws) where
 
   marks_passed : (o : Option WindowView) (k : ℕ) → told_of (passed (ends_after now) o) k ≡ (told_of o k && lasts now (end_in o))
   marks_passed None k = refl
-  marks_passed (Some w) k = elim (cases_Bool (ltb now w.end)) [ inl t ↦ rw t (and_true _) | inr t ↦ rw t (and_false _) ]
+  marks_passed (Some w) k = elim (cases_Bool (ltb now w.end)) [ inl t ↦ rw t (sym (and-true _)) | inr t ↦ rw t (and_false _) ]
     where
-      and_true : (b : Bool) → b ≡ (b && true)
-      and_true true = refl
-      and_true false = refl
-
       and_false : (b : Bool) → false ≡ (b && false)
       and_false true = refl
       and_false false = refl

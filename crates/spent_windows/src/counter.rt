@@ -4,7 +4,8 @@ ghost use Rattle.std.specs.Borrow.{ftrue};
 use std::marker::{Model, PhantomData};
 
 /// A number that only contracts read, for a marker `L`. It has no bytes, and its methods do nothing at
-/// run time.
+/// run time. The standard library has such numbers in `std::sync::ledger`, but there none can be begun
+/// for a marker that is given, as [`Steps::start`](crate::Steps::start) does.
 #[derive(Drop)]
 pub(crate) struct Counter<L> {
     of: PhantomData<L>,
