@@ -36,6 +36,7 @@ rule_of_argument (Positionals name) = positionals name.now
 rule_of_argument (Value name) = value name.now
 rule_of_argument (Flag name) = flag name.now
 
+-- the rules of a command's arguments
 abbrev pub rules_of : List Argument → List Rule
 rules_of = map rule_of_argument
 

@@ -13,7 +13,8 @@ use std::alloc::{AllocError, Global};
 /// borrows them.
 ///
 /// It takes memory, of bad words as well, since `clap` makes the text of its error; an Err is want of
-/// memory alone. `is_exact` computes, so that of arguments that a program writes down it is `refl`.
+/// memory alone. `is_exact` computes: for arguments that a program writes down `refl` proves it, with
+/// `is_exact` and `command` unfolded. It fails where positional arguments stand behind `Positionals`.
 pub fn read_words<'a>(
     alloc: Global,
     arguments: &[Argument],
