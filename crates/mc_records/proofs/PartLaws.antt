@@ -9,6 +9,7 @@ use Rattle.mc_fields.specs.Field.{one, two, four, eight, Field, number, flag, st
 use Rattle.mc_fields.specs.Form as forms
 use Rattle.mc_fields.specs.Form.{Form, done, followed, repeated}
 use Rattle.mc_fields.proofs.FormLaws.{Path, answer, path_fields, parts, Leads, joined, Describes, optional_described, repeated_tells, repeated_leads}
+use Rattle.mc_base.specs.declared.amount.TheConstants.Amount.{MOST}
 use Rattle.mc_records.specs.Entry.{Deed, goods_deed, sale, credit, House, HouseFits, SiteFits, Held, HeldFits, ArePieces, AreSecrets, AreTerms, DeedFits, IsLong, IsKey, secrets_fields, terms_fields, house_fields, sign_fields, change_fields, deed_fields, held_fields, pieces_fields, text_fields, got_fields}
 use Rattle.mc_records.specs.Forms.{long, secrets_form, terms_form, house_with, house_form, sign_form, change_form, deed_form, held_form, pieces_form, text_form, got_form}
 
@@ -187,14 +188,14 @@ house_with_leads most small h good =
 house_tells : (kind : ℕ) → kind ≤ 2 → (p : Path (house_form kind)) → (house_fields (answer (house_form kind) p) ≡ path_fields (house_form kind) p) × SiteFits kind (answer (house_form kind) p)
 unfolding house_form
 house_tells zero le p = let t = house_with_tells 0 p in subst (λ (o : Option House). (house_fields o ≡ path_fields (house_with 0) p) × SiteFits 0 o) (sym t.1) (t.2, t.3)
-house_tells (suc zero) le p = let t = house_with_tells 0x100_0000_0000 p in subst (λ (o : Option House). (house_fields o ≡ path_fields (house_with 0x100_0000_0000) p) × SiteFits 1 o) (sym t.1) (t.2, t.3)
+house_tells (suc zero) le p = let t = house_with_tells MOST p in subst (λ (o : Option House). (house_fields o ≡ path_fields (house_with MOST) p) × SiteFits 1 o) (sym t.1) (t.2, t.3)
 house_tells (suc (suc zero)) le p = (refl, tt)
 house_tells (suc (suc (suc n))) le p = absurd (omega (arith, le))
 
 house_leads : (kind : ℕ) (o : Option House) → SiteFits kind o → (kind ≤ 2) × Leads (house_form kind) o (house_fields o)
 unfolding house_form
 house_leads zero (Some h) good = (omega arith, house_with_leads 0 (omega arith) h good)
-house_leads (suc zero) (Some h) good = (omega arith, house_with_leads 0x100_0000_0000 (omega arith) h good)
+house_leads (suc zero) (Some h) good = (omega arith, house_with_leads MOST (omega arith) h good)
 house_leads (suc (suc zero)) None good = (omega arith, record { path = tt; is_answer = refl; is_spelled = refl })
 house_leads zero None good = absurd good
 house_leads (suc zero) None good = absurd good

@@ -9,6 +9,7 @@ use Rattle.mc_fields.proofs.FieldBytes.{length-number_bytes}
 use Rattle.scrip_form.specs.Scrip.{IsScripText}
 use Rattle.scrip_form.specs.Issuing.{Issuing}
 use Rattle.scrip_form.proofs.TextTests.{scrip_is_short}
+use Rattle.mc_records.specs.declared.sizes.TheConstants.{PAYLOAD_BOUND}
 use Rattle.mc_records.specs.Entry.{Deed, goods_deed, sale, credit, House, Held, Entry, Site, AddTerms, Goods, Accept, Mint, Account, Deposit, Withdraw, Draw, Licence, Stock, Got, Pend, Done, Refused, payload, sign_fields, change_fields, deed_fields, secrets_fields, terms_fields, house_fields, held_fields, pieces_fields, text_fields, got_fields, Fits, IsKey, AreSecrets, AreTerms, SiteFits, HeldFits, ArePieces}
 
 -- the fields have at most so many bytes
@@ -102,8 +103,8 @@ gots (Some p) fits = flagged 311 true _ (held p fits)
 behind : (n kind m : ℕ) (fs : List Field) → Within n fs → Within (8 + (8 + n)) (number one kind ∷ number eight m ∷ fs)
 behind n kind m fs more = numbered (8 + n) one kind _ (numbered n eight m fs more)
 
--- every payload is shorter than 131,066 bytes
-pub payload_is_short : (e : Entry) → Fits e → length (payload e) < 131066
+-- every payload is shorter than the bound
+pub payload_is_short : (e : Entry) → Fits e → length (payload e) < PAYLOAD_BOUND
 payload_is_short (Site m kind name h) fits = omega (arith, (behind 650 1 m _ (numbered 642 one kind _ (named 577 63 name _ fits.name.short (house kind h fits.house)))).most)
 payload_is_short (AddTerms m t) fits = omega (arith, (behind 560 2 m _ (terms 1 255 t fits.terms)).most)
 payload_is_short (Goods m target price kind contents) fits =

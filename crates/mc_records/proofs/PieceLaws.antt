@@ -10,6 +10,7 @@ use Rattle.mc_fields.specs.Field.{Field, spelled, field_bytes}
 use Rattle.mc_fields.specs.Form.{Form, repeated, run, all_of, str_at, counted_at}
 use Rattle.mc_fields.proofs.FieldBytes.{IsBytes, IsBytes-take, IsBytes-rest, ok_is}
 use Rattle.mc_fields.proofs.FormLaws.{path_fields, run_takes, run_reads, whole_takes, whole_reads, one_more, repeated_tells}
+use Rattle.mc_records.specs.declared.ranges.TheConstants.{MOST_PIECES}
 use Rattle.mc_records.specs.Entry.{Held, HeldFits, ArePieces, held_fields}
 use Rattle.mc_records.specs.Forms.{held_form}
 use Rattle.mc_records.specs.Pieces.{pieces_bytes, listed, pieces_in, is_byte, are_pieces, after, element_at}
@@ -108,7 +109,7 @@ pub record IsListOf (count : ℕ) (bytes : List ℕ) : Type 0 where
   pub good : ArePieces (pieces_in count bytes)
   pub spelled : bytes ≡ pieces_bytes (pieces_in count bytes)
 
-list_of : (count : ℕ) (bytes : List ℕ) (ps : List Held) → IsBytes bytes → 1 ≤ count → count ≤ 256 → all_of (repeated count held_form) bytes ≡ Ok ps → IsListOf count bytes
+list_of : (count : ℕ) (bytes : List ℕ) (ps : List Held) → IsBytes bytes → 1 ≤ count → count ≤ MOST_PIECES → all_of (repeated count held_form) bytes ≡ Ok ps → IsListOf count bytes
 list_of count bytes ps fits low high all =
     let form = repeated count held_form in
     let w = whole_takes form bytes ps fits all in
@@ -142,15 +143,15 @@ list_is count bytes are =
     let a = and_parts _ _ are in
     let b = and_parts _ _ a.1 in
     let c = and_parts _ _ b.1 in
-    list_of count bytes (pieces_in count bytes) (are_bytes bytes c.0) (leb-true 1 count a.0) (leb-true count 256 b.0) (is_listed (all_of (repeated count held_form) bytes) c.1)
+    list_of count bytes (pieces_in count bytes) (are_bytes bytes c.0) (leb-true 1 count a.0) (leb-true count MOST_PIECES b.0) (is_listed (all_of (repeated count held_form) bytes) c.1)
 
 -- where so many elements take all of some bytes, these are a list
-pub are_list : (count : ℕ) (bytes : List ℕ) (ps : List Held) → IsBytes bytes → 1 ≤ count → count ≤ 256 → all_of (repeated count held_form) bytes ≡ Ok ps → are_pieces count bytes ≡ true
+pub are_list : (count : ℕ) (bytes : List ℕ) (ps : List Held) → IsBytes bytes → 1 ≤ count → count ≤ MOST_PIECES → all_of (repeated count held_form) bytes ≡ Ok ps → are_pieces count bytes ≡ true
 unfolding are_pieces
-are_list count bytes ps fits low high all = and_from _ _ (le-leb 1 count low) (and_from _ _ (le-leb count 256 high) (and_from _ _ (all_bytes bytes fits) (ap is_ok all)))
+are_list count bytes ps fits low high all = and_from _ _ (le-leb 1 count low) (and_from _ _ (le-leb count MOST_PIECES high) (and_from _ _ (all_bytes bytes fits) (ap is_ok all)))
 
 -- so many elements, behind which nothing stands
-pub nothing_behind : (count : ℕ) (bytes : List ℕ) → IsBytes bytes → 1 ≤ count → count ≤ 256 → after (run (repeated count held_form) bytes) ≡ read_to [] → are_pieces count bytes ≡ true
+pub nothing_behind : (count : ℕ) (bytes : List ℕ) → IsBytes bytes → 1 ≤ count → count ≤ MOST_PIECES → after (run (repeated count held_form) bytes) ≡ read_to [] → are_pieces count bytes ≡ true
 nothing_behind count bytes fits low high h =
     let a = after_ok (run (repeated count held_form) bytes) [] h in
     are_list count bytes a.0 fits low high (ap (whole (length bytes)) a.1)
@@ -161,7 +162,7 @@ pub record Taken (count : ℕ) (bytes rest : List ℕ) (used : ℕ) : Type 0 whe
   pub fits : used ≤ length bytes
   pub read : run (repeated count held_form) bytes ≡ Ok (pieces_in count (take used bytes), rest)
 
-pub taken : (count : ℕ) (bytes rest : List ℕ) (used : ℕ) → IsBytes bytes → 1 ≤ count → count ≤ 256 → used ≡ length bytes - length rest → after (run (repeated count held_form) bytes) ≡ read_to rest → Taken count bytes rest used
+pub taken : (count : ℕ) (bytes rest : List ℕ) (used : ℕ) → IsBytes bytes → 1 ≤ count → count ≤ MOST_PIECES → used ≡ length bytes - length rest → after (run (repeated count held_form) bytes) ≡ read_to rest → Taken count bytes rest used
 taken count bytes rest used fits low high used_is h =
     let a = after_ok (run (repeated count held_form) bytes) rest h in
     let s = run_takes (repeated count held_form) bytes (a.0, rest) fits a.1 in
@@ -242,7 +243,7 @@ left_no bytes i rest d left h ps good same =
     let r = sym h ∙ ap (λ (k : List ℕ). after (run held_form k)) l.1 ∙ n.reads in
     absurd cc
 
-pub left_none : (bytes : List ℕ) (i : ℕ) (rest : List ℕ) → AreLeft bytes i rest → 256 ≤ i → (ps : List Held) → ArePieces ps → bytes ≡ pieces_bytes ps → ⊥
+pub left_none : (bytes : List ℕ) (i : ℕ) (rest : List ℕ) → AreLeft bytes i rest → MOST_PIECES ≤ i → (ps : List Held) → ArePieces ps → bytes ≡ pieces_bytes ps → ⊥
 left_none bytes i rest left past ps good same = absurd (omega (arith, (left ps good same).0, good.few))
 
 pub more_read : (bytes : List ℕ) (i : ℕ) (rest more : List ℕ) → after (run (repeated i held_form) bytes) ≡ read_to rest → after (run held_form rest) ≡ read_to more → after (run (repeated (i + 1) held_form) bytes) ≡ read_to more

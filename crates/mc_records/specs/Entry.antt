@@ -2,9 +2,11 @@
 use Rattle.std.specs.Prelude.{◌≡◌, ℕ, zero, suc, ◌<◌, ◌≤◌, ◌^◌, Bool, List, [], ◌∷◌, ◌++◌, length, Option, Some, None, IfSome, flat_map}
 use Rattle.std.specs.List.{AllByRecursion}
 use Rattle.mc_fields.specs.Field.{one, two, four, eight, Field, number, flag, str, plain, spelled, optional_fields}
+use Rattle.mc_base.specs.declared.amount.TheConstants.Amount.{MOST}
 use Rattle.scrip_form.specs.Texts.{IsName, IsTarget}
 use Rattle.scrip_form.specs.Scrip.{IsScripText}
 use Rattle.scrip_form.specs.Issuing.{Issuing, HasPeriod}
+use Rattle.mc_records.specs.declared.ranges.TheConstants.{LEAST_KEEP, MOST_CONTENTS, MOST_KEEP, MOST_PIECES}
 
 -- what was sold for an accepted piece: goods, scrip of another house, or credit in an account
 pub data Deed : Type 0 where
@@ -108,7 +110,7 @@ abbrev pub IsMoment : ℕ → Type 0
 IsMoment m = m < 2 ^ 35
 
 abbrev pub IsAmount : ℕ → Type 0
-IsAmount n = (1 ≤ n) × (n ≤ 2 ^ 40)
+IsAmount n = (1 ≤ n) × (n ≤ MOST)
 
 abbrev pub IsLong : ℕ → Type 0
 IsLong n = n < 2 ^ 64
@@ -136,14 +138,14 @@ DeedFits (credit balance) = IsLong balance
 
 -- a keeping time of 60 to 86,400 seconds, and the house's own terms, which are issuer 0's
 pub record HouseFits (most : ℕ) (h : House) : Type 0 where
-  pub keep : (60 ≤ h.keep) × (h.keep ≤ 86400)
+  pub keep : (LEAST_KEEP ≤ h.keep) × (h.keep ≤ MOST_KEEP)
   pub fee : h.fee ≤ most
   pub terms : AreTerms 0 0 h.terms
 
 -- A site of kind 0 is a vendor, which takes no fee; 1 is a broker; 2 is a wallet, which is no house.
 abbrev pub SiteFits : ℕ → Option House → Type 0
 SiteFits zero (Some h) = HouseFits 0 h
-SiteFits (suc zero) (Some h) = HouseFits (2 ^ 40) h
+SiteFits (suc zero) (Some h) = HouseFits MOST h
 SiteFits (suc (suc zero)) None = Unit {0}
 SiteFits _ _ = ⊥
 
@@ -153,7 +155,7 @@ pub record HeldFits (p : Held) : Type 0 where
 
 pub record ArePieces (pieces : List Held) : Type 0 where
   pub some : 1 ≤ length pieces
-  pub few : length pieces ≤ 256
+  pub few : length pieces ≤ MOST_PIECES
   pub held : AllByRecursion HeldFits pieces
 
 -- what has a payload
@@ -161,11 +163,11 @@ abbrev pub Fits : Entry → Type 0
 Fits (Site m kind name house) = record { moment : IsMoment m; name : IsName name; house : SiteFits kind house }
 Fits (AddTerms m terms) = record { moment : IsMoment m; terms : AreTerms 1 255 terms }
 Fits (Goods m target price kind contents) =
-    record { moment : IsMoment m; target : IsTarget target; price : IsAmount price; kind : kind < 3; contents : length contents ≤ 65536 }
+    record { moment : IsMoment m; target : IsTarget target; price : IsAmount price; kind : kind < 3; contents : length contents ≤ MOST_CONTENTS }
 Fits (Accept m scrip target sign price change deed) =
     record { moment : IsMoment m; scrip : IsScripText scrip; target : IsTarget target; sign : IfSome sign IsKey; price : IsLong price; change : IfSome change IsLong; deed : DeedFits deed }
 Fits (Mint m reference count value first) =
-    record { moment : IsMoment m; reference : IsName reference; count : (1 ≤ count) × (count ≤ 256); value : IsAmount value; first : IsLong first }
+    record { moment : IsMoment m; reference : IsName reference; count : (1 ≤ count) × (count ≤ MOST_PIECES); value : IsAmount value; first : IsLong first }
 Fits (Account m name key) = record { moment : IsMoment m; name : IsName name; key : IsKey key }
 Fits (Deposit m name amount reference) = record { moment : IsMoment m; name : IsName name; amount : IsAmount amount; reference : IsName reference }
 Fits (Withdraw m name amount reference) = record { moment : IsMoment m; name : IsName name; amount : IsAmount amount; reference : IsName reference }

@@ -2,16 +2,19 @@
 use Rattle.std.specs.Prelude.{ℕ, zero, suc, List, Option, Some, None, Result, ◌==◌, if◌then◌else◌}
 use Rattle.mc_fields.specs.Field.{one, two, four, eight}
 use Rattle.mc_fields.specs.Form.{Form, done, number, flag, str, plain, followed, repeated, optional, all_of}
+use Rattle.mc_base.specs.declared.amount.TheConstants.Amount.{MOST}
 use Rattle.scrip_form.specs.Texts.{is_name, is_target}
 use Rattle.scrip_form.specs.Reading.{is_scrip}
 use Rattle.scrip_form.specs.Issuing.{Issuing}
+use Rattle.scrip_form.specs.declared.terms.TheConstants.Terms.{LEAST_PERIOD, MOST_SECONDS}
+use Rattle.mc_records.specs.declared.ranges.TheConstants.{LEAST_KEEP, MOST_CONTENTS, MOST_KEEP, MOST_PIECES}
 use Rattle.mc_records.specs.Entry.{Deed, goods_deed, sale, credit, House, Held, Entry, Site, AddTerms, Goods, Accept, Mint, Account, Deposit, Withdraw, Draw, Licence, Stock, Got, Pend, Done, Refused}
 
 abbrev pub long : {A : Type 0} → (ℕ → Form A) → Form A
 long next = number eight 0 0xffff_ffff_ffff_ffff next
 
 abbrev pub amount : {A : Type 0} → (ℕ → Form A) → Form A
-amount next = number eight 1 0x100_0000_0000 next
+amount next = number eight 1 MOST next
 
 -- ---- the parts of entries
 
@@ -20,18 +23,18 @@ secrets_form = number one 1 16 λ n. repeated n (plain 16 done)
 
 unfoldable pub terms_form : ℕ → ℕ → Form Issuing
 terms_form lowest highest =
-    number one 1 1 λ version. number one lowest highest λ issuer. number four 2048 0x100_0000 λ period. number four 0 0x100_0000 λ life.
+    number one 1 1 λ version. number one lowest highest λ issuer. number four LEAST_PERIOD MOST_SECONDS λ period. number four 0 MOST_SECONDS λ life.
     followed secrets_form λ scrip. followed secrets_form λ customer.
     done (record { issuer = issuer; period = period; life = life; scrip = scrip; customer = customer })
 
 abbrev pub house_with : ℕ → Form (Option House)
 house_with most =
-    number four 60 86400 λ keep. number eight 0 most λ fee. flag λ clear. followed (terms_form 0 0) λ terms.
+    number four LEAST_KEEP MOST_KEEP λ keep. number eight 0 most λ fee. flag λ clear. followed (terms_form 0 0) λ terms.
     done (Some (record { keep = keep; fee = fee; clear = clear; terms = terms }))
 
 unfoldable pub house_form : ℕ → Form (Option House)
 house_form zero = house_with 0
-house_form (suc zero) = house_with 0x100_0000_0000
+house_form (suc zero) = house_with MOST
 house_form (suc (suc n)) = done None
 
 unfoldable pub sign_form : Form (Option (List ℕ))
@@ -52,7 +55,7 @@ unfoldable pub held_form : Form Held
 held_form = str is_scrip λ text. plain 16 λ secret. done (record { text = text; secret = secret })
 
 unfoldable pub pieces_form : Form (List Held)
-pieces_form = number two 1 256 λ n. repeated n held_form
+pieces_form = number two 1 MOST_PIECES λ n. repeated n held_form
 
 unfoldable pub text_form : Form (Option (List ℕ))
 text_form = optional (str is_scrip done)
@@ -69,7 +72,7 @@ unfoldable pub add_terms_form : ℕ → Form Entry
 add_terms_form m = followed (terms_form 1 255) λ terms. done (AddTerms m terms)
 
 unfoldable pub goods_form : ℕ → Form Entry
-goods_form m = str is_target λ target. amount λ price. number one 0 2 λ kind. number four 0 65536 λ n. plain n λ contents. done (Goods m target price kind contents)
+goods_form m = str is_target λ target. amount λ price. number one 0 2 λ kind. number four 0 MOST_CONTENTS λ n. plain n λ contents. done (Goods m target price kind contents)
 
 unfoldable pub accept_form : ℕ → Form Entry
 accept_form m =
@@ -77,7 +80,7 @@ accept_form m =
     done (Accept m scrip target sign price change deed)
 
 unfoldable pub mint_form : ℕ → Form Entry
-mint_form m = str is_name λ reference. number two 1 256 λ count. amount λ value. long λ first. done (Mint m reference count value first)
+mint_form m = str is_name λ reference. number two 1 MOST_PIECES λ count. amount λ value. long λ first. done (Mint m reference count value first)
 
 unfoldable pub account_form : ℕ → Form Entry
 account_form m = str is_name λ name. plain 16 λ key. done (Account m name key)

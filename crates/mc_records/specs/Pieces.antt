@@ -4,6 +4,7 @@ use Rattle.std.specs.List.{list_all}
 use Rattle.mc_fields.specs.Reading.{Read, ◌>>=◌}
 use Rattle.mc_fields.specs.Field.{spelled}
 use Rattle.mc_fields.specs.Form.{run, repeated, all_of}
+use Rattle.mc_records.specs.declared.ranges.TheConstants.{MOST_PIECES}
 use Rattle.mc_records.specs.Entry.{Held, held_fields}
 use Rattle.mc_records.specs.Forms.{held_form}
 
@@ -24,7 +25,7 @@ is_byte b = nat_lt b 256
 
 -- the bytes are so many elements, of which a list has 1 to 256
 unfoldable pub are_pieces : ℕ → List ℕ → Bool
-are_pieces count bytes = nat_le 1 count && (nat_le count 256 && (list_all is_byte bytes && is_ok (all_of (repeated count held_form) bytes)))
+are_pieces count bytes = nat_le 1 count && (nat_le count MOST_PIECES && (list_all is_byte bytes && is_ok (all_of (repeated count held_form) bytes)))
 
 -- what stands behind a part that is read
 abbrev pub after : {A : Type 0} → Read A → Read (Unit {0})

@@ -1,5 +1,6 @@
 -- How many bytes the journal of a history has.
 use Rattle.std.specs.Prelude.{ℕ, ◌+◌, List, [], ◌∷◌, ◌++◌, length}
+use Rattle.mc_records.specs.declared.sizes.TheConstants.{EMPTY_JOURNAL, FRAME}
 use Rattle.mc_records.specs.Entry.{Entry, payload}
 
 -- What stands behind the payload of an entry, after the entries before it: nothing.
@@ -13,7 +14,7 @@ tail_size before = 0
 -- how many bytes an entry adds to a journal, with a payload and a tail of so many bytes: these, the four bytes of
 -- the payload's length before them, and the gate after them
 abbrev pub framed_size : ℕ → ℕ → ℕ
-framed_size payload_bytes tail_bytes = payload_bytes + tail_bytes + 5
+framed_size payload_bytes tail_bytes = payload_bytes + tail_bytes + FRAME
 
 -- likewise of an entry after the entries before it
 abbrev pub entry_size : List Entry → Entry → ℕ
@@ -25,7 +26,7 @@ size_from before (e ∷ es) = entry_size before e + size_from (before ++ e ∷ [
 
 -- how many bytes a journal of no entries has: the header and the first gate
 abbrev pub empty_size : ℕ
-empty_size = 9
+empty_size = EMPTY_JOURNAL
 
 abbrev pub size : List Entry → ℕ
 size h = empty_size + size_from [] h

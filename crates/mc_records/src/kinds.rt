@@ -6,9 +6,10 @@ ghost use Rattle.mc_fields.specs.Gives.{Gives};
 ghost use Rattle.mc_records.specs.Forms.{site_form, add_terms_form, goods_form, accept_form, mint_form, account_form, deposit_form, withdraw_form, draw_form, licence_form, pend_form, done_form, refused_form};
 ghost use Rattle.mc_records.specs.Views.{entry};
 
-use crate::parts::{MOST_UNITS, change, deed, got, house, name, scrip, sign, target, terms, text};
+use crate::parts::{change, deed, got, house, name, scrip, sign, target, terms, text};
+use crate::ranges::{MOST_CONTENTS, MOST_PIECES};
 use crate::record::Record;
-use mc_base::Moment;
+use mc_base::{Amount, Moment};
 use mc_fields::{Stuck, read_key, read_plain, read_u8, read_u16, read_u32, read_u64};
 use scrip_form::Id;
 
@@ -46,9 +47,9 @@ pub(crate) fn read_goods(moment: Moment, bytes: &[u8]) -> Result<(Record<'_>, &[
     ensures { Gives (λ x. (entry x.0, x.1.now)) result (run (goods_form moment) bytes.now) }
 {
     let (target, rest) = target(bytes)?;
-    let (price, rest) = read_u64(rest, 1, MOST_UNITS)?;
+    let (price, rest) = read_u64(rest, 1, Amount::MOST)?;
     let (kind, rest) = read_u8(rest, 0, 2)?;
-    let (len, rest) = read_u32(rest, 0, 65_536)?;
+    let (len, rest) = read_u32(rest, 0, MOST_CONTENTS as u32)?;
     let (contents, rest) = read_plain(rest, len as usize)?;
     let record = Record::Goods {
         moment,
@@ -93,8 +94,8 @@ pub(crate) fn read_mint(moment: Moment, bytes: &[u8]) -> Result<(Record<'_>, &[u
     ensures { Gives (λ x. (entry x.0, x.1.now)) result (run (mint_form moment) bytes.now) }
 {
     let (reference, rest) = name(bytes)?;
-    let (count, rest) = read_u16(rest, 1, 256)?;
-    let (value, rest) = read_u64(rest, 1, MOST_UNITS)?;
+    let (count, rest) = read_u16(rest, 1, MOST_PIECES)?;
+    let (value, rest) = read_u64(rest, 1, Amount::MOST)?;
     let (first, rest) = read_u64(rest, 0, u64::MAX)?;
     let first = Id::of_number(first);
     let record = Record::Mint {
@@ -121,7 +122,7 @@ pub(crate) fn read_deposit(moment: Moment, bytes: &[u8]) -> Result<(Record<'_>, 
     ensures { Gives (λ x. (entry x.0, x.1.now)) result (run (deposit_form moment) bytes.now) }
 {
     let (account, rest) = name(bytes)?;
-    let (amount, rest) = read_u64(rest, 1, MOST_UNITS)?;
+    let (amount, rest) = read_u64(rest, 1, Amount::MOST)?;
     let (reference, rest) = name(rest)?;
     let record = Record::Deposit {
         moment,
@@ -137,7 +138,7 @@ pub(crate) fn read_withdraw(moment: Moment, bytes: &[u8]) -> Result<(Record<'_>,
     ensures { Gives (λ x. (entry x.0, x.1.now)) result (run (withdraw_form moment) bytes.now) }
 {
     let (account, rest) = name(bytes)?;
-    let (amount, rest) = read_u64(rest, 1, MOST_UNITS)?;
+    let (amount, rest) = read_u64(rest, 1, Amount::MOST)?;
     let (reference, rest) = name(rest)?;
     let record = Record::Withdraw {
         moment,

@@ -1,6 +1,7 @@
 ghost use Rattle.std.specs.Prelude.{◌≡◌, ℕ, ◌<◌, List, ◌∷◌, ◌++◌, length, Err};
 ghost use Rattle.mc_records.specs.Entry.{Entry, Fits, payload};
 ghost use Rattle.mc_records.specs.Forms.{entry_of};
+ghost use Rattle.mc_records.specs.declared.sizes.TheConstants.{PAYLOAD_BOUND};
 
 /// No payload is a prefix of another.
 pub fn no_payload_begins_another()
@@ -14,5 +15,5 @@ pub fn bytes_after_a_payload()
 
 /// Every payload is shorter than 131,066 bytes.
 pub fn payloads_are_short()
-    ensures { (e : Entry) → Fits e → length (payload e) < 131066 }
+    ensures { (e : Entry) → Fits e → length (payload e) < PAYLOAD_BOUND }
 {}

@@ -11,16 +11,26 @@ pub struct Limits {
 impl Limits {
     ghost use Rattle.mc_records.specs.Limits.{AreInRange};
 
+    /// The least bytes that a journal may be limited to.
+    pub const LEAST_JOURNAL: u64 = 64;
+
+    /// The most bytes of a journal.
+    pub const MOST_JOURNAL: u64 = 1 << 40;
+
+    /// The most pieces of one series.
+    pub const MOST_SERIES: u64 = 1 << 32;
+
     /// The two greatest limits, under which the program runs.
     pub const FULL: Limits = Limits {
-        journal: 1 << 40,
-        series: 1 << 32,
+        journal: Limits::MOST_JOURNAL,
+        series: Limits::MOST_SERIES,
     };
 
     /// Whether the two limits are in their ranges.
     pub fn are_in_range(&self) -> bool
         ensures { IsTrue result ↔ AreInRange self.now }
     {
-        (64..=1 << 40).contains(&self.journal) && (1..=1 << 32).contains(&self.series)
+        (Limits::LEAST_JOURNAL..=Limits::MOST_JOURNAL).contains(&self.journal)
+            && (1..=Limits::MOST_SERIES).contains(&self.series)
     }
 }

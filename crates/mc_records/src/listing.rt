@@ -9,6 +9,7 @@ ghost use Rattle.mc_records.specs.Pieces.{are_pieces, pieces_bytes, after, eleme
 ghost use Rattle.mc_records.specs.Views.{held_of};
 
 use crate::parts::{held, scrip};
+use crate::ranges::MOST_PIECES;
 use mc_fields::{Stuck, read_plain};
 
 /// What stands behind one element.
@@ -46,7 +47,7 @@ pub(crate) fn count_of(bytes: &[u8]) -> Option<u16>
     ensures none { IsNone result → (pieces : List Held) → ArePieces pieces → bytes.now ≡ pieces_bytes pieces → ⊥ }
 {
     let mut rest = bytes;
-    for before in 0..256u16 {
+    for before in 0..MOST_PIECES {
         match behind_one(rest) {
             Ok(more) => rest = more,
             Err(_) => return None,

@@ -9,15 +9,11 @@ ghost use Rattle.mc_records.specs.Requests.{seen};
 ghost use Rattle.mc_records.specs.Forms.{secrets_form, terms_form, house_with, house_form, sign_form, change_form, deed_form, held_form, text_form, got_form};
 ghost use Rattle.mc_records.specs.Views.{deed_of, house_of, held_of};
 
+use crate::ranges::{LEAST_KEEP, MOST_KEEP};
 use crate::record::{RecordDeed, SiteTerms};
+use mc_base::Amount;
 use mc_fields::{Stuck, read_counted, read_flag, read_key, read_str, read_u8, read_u32, read_u64};
 use scrip_form::{Id, NameRule, Secrets, TargetRule, Terms, read_scrip};
-
-/// The greatest amount or value, in units.
-pub(crate) const MOST_UNITS: u64 = 1 << 40;
-
-/// The greatest period and the greatest life of terms, in seconds.
-const MOST_SECONDS: u32 = 1 << 24;
 
 pub(crate) fn name(bytes: &[u8]) -> Result<(&[u8], &[u8]), Stuck>
     ensures { Gives (λ x. (x.0.now, x.1.now)) result (str_at is_name bytes.now) }
@@ -171,8 +167,8 @@ pub(crate) fn terms(lowest: u8, highest: u8, bytes: &[u8]) -> Result<(Terms, &[u
 {
     let (_version, rest) = read_u8(bytes, 1, 1)?;
     let (issuer, rest) = read_u8(rest, lowest, highest)?;
-    let (period, rest) = read_u32(rest, 2048, MOST_SECONDS)?;
-    let (life, rest) = read_u32(rest, 0, MOST_SECONDS)?;
+    let (period, rest) = read_u32(rest, Terms::LEAST_PERIOD, Terms::MOST_SECONDS)?;
+    let (life, rest) = read_u32(rest, 0, Terms::MOST_SECONDS)?;
     let (scrip, rest) = match secrets(rest) {
         Ok(found) => found,
         Err(stuck) => return Err(stuck),
@@ -192,7 +188,7 @@ pub(crate) fn terms(lowest: u8, highest: u8, bytes: &[u8]) -> Result<(Terms, &[u
 fn house_with(most: u64, bytes: &[u8]) -> Result<(SiteTerms, &[u8]), Stuck>
     ensures { Gives (λ x. (Some (house_of x.0), x.1.now)) result (run (house_with most) bytes.now) }
 {
-    let (keep, rest) = read_u32(bytes, 60, 86_400)?;
+    let (keep, rest) = read_u32(bytes, LEAST_KEEP, MOST_KEEP)?;
     let (fee, rest) = read_u64(rest, 0, most)?;
     let (clear, rest) = read_flag(rest)?;
     let (terms, rest) = match terms(0, 0, rest) {
@@ -215,7 +211,7 @@ pub(crate) fn house(kind: u8, bytes: &[u8]) -> Result<(Option<SiteTerms>, &[u8])
 {
     let most = match kind {
         0 => 0,
-        1 => MOST_UNITS,
+        1 => Amount::MOST,
         _ => return Ok((None, bytes)),
     };
     match house_with(most, bytes) {

@@ -10,6 +10,7 @@ ghost use Rattle.mc_records.specs.Views.{entry};
 use crate::listing::behind;
 use crate::parts::name;
 use crate::piece_list::PieceList;
+use crate::ranges::MOST_PIECES;
 use crate::record::Record;
 use mc_base::Moment;
 use mc_fields::{Stuck, read_u16};
@@ -17,7 +18,7 @@ use mc_fields::{Stuck, read_u16};
 /// The list of so many elements.
 fn elements(count: u16, bytes: &[u8]) -> Result<(PieceList<'_>, &[u8]), Stuck>
     requires some { 1 ≤ count }
-    requires few { count ≤ 256 }
+    requires few { count ≤ MOST_PIECES }
     ensures { Gives (λ x. (pieces_of x.0, x.1.now)) result (run (repeated count held_form) bytes.now) }
 {
     let rest = behind(count, bytes)?;
@@ -30,7 +31,7 @@ fn elements(count: u16, bytes: &[u8]) -> Result<(PieceList<'_>, &[u8]), Stuck>
 fn pieces(bytes: &[u8]) -> Result<(PieceList<'_>, &[u8]), Stuck>
     ensures { Gives (λ x. (pieces_of x.0, x.1.now)) result (run pieces_form bytes.now) }
 {
-    let (count, rest) = read_u16(bytes, 1, 256)?;
+    let (count, rest) = read_u16(bytes, 1, MOST_PIECES)?;
     elements(count, rest)
 }
 

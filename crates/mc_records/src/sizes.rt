@@ -9,6 +9,16 @@ ghost use Rattle.mc_records.specs.Cells.{cell_bytes, group_bytes};
 use crate::cells::{Cell, Group, table};
 use crate::record::Record;
 
+/// The bytes of a journal of no entries: the header and the first gate.
+pub const EMPTY_JOURNAL: u64 = 9;
+
+/// What an entry adds to a journal beside its payload and its tail: the four bytes of the payload's length,
+/// and the gate behind it.
+pub const FRAME: u64 = 5;
+
+/// The lengths of payloads are below this.
+pub const PAYLOAD_BOUND: u64 = 131_066;
+
 impl Record<'_> {
     /// The length of the entry's payload in bytes, below 131,066. It takes no memory.
     pub fn payload_len(&self) -> u64

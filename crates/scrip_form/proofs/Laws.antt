@@ -9,6 +9,8 @@ use Rattle.std.proofs.lemmas.List.Elements.{All-cons, All-nil, All-from_get_or, 
 use Rattle.mc_fields.specs.Texts.{IsNumber}
 use Rattle.hex.specs.Hex.{encode_lower, lower_digits}
 use Rattle.hex.proofs.HexLemmas.{length-encode_with}
+use Rattle.mc_base.specs.declared.amount.TheConstants.Amount.{MOST}
+use Rattle.scrip_form.specs.declared.piece.TheConstants.Piece.{LAST_END}
 use Rattle.scrip_form.specs.Texts.{IsName, IsProps, is_name_byte, is_props_byte}
 use Rattle.scrip_form.specs.Scrip.{Scrip, IsPiece, IsCert, IsTextOf, IsScripText, IsFaultPlace, scrip_text, scrip_body, barred, id_digits}
 use Rattle.mc_fields.specs.Reading.{Read, whole}
@@ -31,7 +33,7 @@ abbrev fields_spelling : Fields → List ℕ
 fields_spelling = pair_spelling (literal_spelling (codes "MS1|")) (pair_spelling barred (pair_spelling (with_stop 124 decimal) (pair_spelling id_spelling (pair_spelling id_spelling (pair_spelling (with_stop 124 decimal) (pair_spelling barred encode_lower))))))
 
 abbrev FieldsFit : Fields → Type 0
-FieldsFit = PairFits Always (PairFits IsName (PairFits (IsNumber (2 ^ 40)) (PairFits IsId (PairFits IsId (PairFits (IsNumber (2 ^ 49)) (PairFits IsProps (AreBytes 16)))))))
+FieldsFit = PairFits Always (PairFits IsName (PairFits (IsNumber MOST) (PairFits IsId (PairFits IsId (PairFits (IsNumber LAST_END) (PairFits IsProps (AreBytes 16)))))))
 
 -- some value of each field
 a_name : IsName (97 ∷ [])
@@ -48,14 +50,14 @@ fields_read =
     let cert = hex_reads 16 in
     let c = zeros 16 in
     let fc : AreBytes 16 c = AreBytes-zeros 16 in
-    let f1 : IsNumber (2 ^ 49) 1 = one (2 ^ 49) (omega arith) in
-    let f2 : IsNumber (2 ^ 40) 1 = one (2 ^ 40) (omega arith) in
+    let f1 : IsNumber LAST_END 1 = one LAST_END (omega arith) in
+    let f2 : IsNumber MOST 1 = one MOST (omega arith) in
     let z : IsId 0 = omega arith in
     let props = pair_reads props_reads cert c fc in
-    let expires = pair_reads (number_reads (2 ^ 49) 124 refl (omega arith) (omega arith)) props ([], c) (no_props, fc) in
+    let expires = pair_reads (number_reads LAST_END 124 refl (omega arith) (omega arith)) props ([], c) (no_props, fc) in
     let cust = pair_reads id_reads expires (1, ([], c)) (f1, (no_props, fc)) in
     let id = pair_reads id_reads cust (0, (1, ([], c))) (z, (f1, (no_props, fc))) in
-    let value = pair_reads (number_reads (2 ^ 40) 124 refl (omega arith) (omega arith)) id (0, (0, (1, ([], c)))) (z, (z, (f1, (no_props, fc)))) in
+    let value = pair_reads (number_reads MOST 124 refl (omega arith) (omega arith)) id (0, (0, (1, ([], c)))) (z, (z, (f1, (no_props, fc)))) in
     let vendor = pair_reads name_reads value (1, (0, (0, (1, ([], c))))) (f2, (z, (z, (f1, (no_props, fc))))) in
     pair_reads (literal_reads (codes "MS1|")) vendor (97 ∷ [], (1, (0, (0, (1, ([], c)))))) (a_name, (f2, (z, (z, (f1, (no_props, fc))))))
 

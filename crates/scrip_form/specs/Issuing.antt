@@ -1,6 +1,7 @@
 -- The terms of an issuer, and the series that they give.
 use Rattle.std.specs.Prelude.{ℕ, ◌+◌, ◌*◌, ◌/◌, ◌%◌, ◌≤◌, ◌^◌, List, [], length, slice_index_or}
 use Rattle.scrip_form.specs.Identities.{epoch_of}
+use Rattle.scrip_form.specs.declared.terms.TheConstants.Terms.{LEAST_PERIOD, MOST_SECONDS}
 
 pub record Issuing : Type 0 where
   pub issuer : ℕ
@@ -11,9 +12,9 @@ pub record Issuing : Type 0 where
 
 -- the ranges of the period and the life, in seconds
 pub record HasPeriod (period life : ℕ) : Type 0 where
-  pub least : 2048 ≤ period
-  pub most : period ≤ 2 ^ 24
-  pub short : life ≤ 2 ^ 24
+  pub least : LEAST_PERIOD ≤ period
+  pub most : period ≤ MOST_SECONDS
+  pub short : life ≤ MOST_SECONDS
 
 -- the epoch of a moment: the moment divided by the period, rounded down
 abbrev pub epoch : Issuing → ℕ → ℕ

@@ -3,6 +3,8 @@ use Rattle.std.specs.Prelude.{ℕ, ◌^◌, Bool, List, length, Result, is_ok, c
 use Rattle.std.specs.Int.{w64, from_be_bytes}
 use Rattle.mc_fields.specs.Reading.{Read, pair_at, map_read, whole, literal_at, text_at, number_at, hex_at}
 use Rattle.scrip_form.specs.Texts.{is_letter_or_digit, is_name_byte, is_props_byte}
+use Rattle.mc_base.specs.declared.amount.TheConstants.Amount.{MOST}
+use Rattle.scrip_form.specs.declared.piece.TheConstants.Piece.{LAST_END}
 use Rattle.scrip_form.specs.Scrip.{Scrip}
 
 -- a name and the byte that stops it
@@ -27,7 +29,7 @@ abbrev pub mark_at : List ℕ → Read (Unit {0})
 mark_at bytes = literal_at (codes "MS1|") bytes
 
 abbrev pub all_fields_at : List ℕ → Read (Unit {0} × (List ℕ × (ℕ × (ℕ × (ℕ × (ℕ × (List ℕ × List ℕ)))))))
-all_fields_at bytes = pair_at mark_at (pair_at name_at (pair_at (amount_at (2 ^ 40)) (pair_at id_at (pair_at id_at (pair_at (amount_at (2 ^ 49)) (pair_at props_at (hex_at 16))))))) bytes
+all_fields_at bytes = pair_at mark_at (pair_at name_at (pair_at (amount_at MOST) (pair_at id_at (pair_at id_at (pair_at (amount_at LAST_END) (pair_at props_at (hex_at 16))))))) bytes
 
 -- a piece and its certificate
 abbrev pub piece_of_fields : Unit {0} × (List ℕ × (ℕ × (ℕ × (ℕ × (ℕ × (List ℕ × List ℕ)))))) → Scrip × List ℕ

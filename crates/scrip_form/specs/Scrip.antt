@@ -3,6 +3,8 @@ use Rattle.std.specs.Prelude.{◌≡◌, ℕ, ◌<◌, ◌≤◌, ◌^◌, List,
 use Rattle.std.specs.List.{AllByRecursion}
 use Rattle.std.specs.Int.{w64, to_be_bytes}
 use Rattle.hex.specs.Hex.{encode_lower}
+use Rattle.mc_base.specs.declared.amount.TheConstants.Amount.{MOST}
+use Rattle.scrip_form.specs.declared.piece.TheConstants.Piece.{LAST_END}
 use Rattle.scrip_form.specs.Texts.{IsName, IsProps}
 
 -- a piece of scrip
@@ -17,11 +19,11 @@ pub record Scrip : Type 0 where
 pub record IsPiece (p : Scrip) : Type 0 where
   pub vendor : IsName p.vendor
   pub some : 0 < p.value
-  pub most : p.value ≤ 2 ^ 40
+  pub most : p.value ≤ MOST
   pub id : p.id < 2 ^ 64
   pub cust : p.cust < 2 ^ 64
   pub ends : 0 < p.expires
-  pub last : p.expires ≤ 2 ^ 49
+  pub last : p.expires ≤ LAST_END
   pub props : IsProps p.props
 
 -- 16 bytes

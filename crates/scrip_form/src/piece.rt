@@ -33,6 +33,9 @@ impl Model for Piece {
 }
 
 impl Piece {
+    /// The last moment at which a piece may expire, in seconds since 1970.
+    pub const LAST_END: u64 = 1 << 49;
+
     /// The piece of these parts; None exactly where the value is 0, or `expires` is 0 or above 2^49.
     pub fn new(
         vendor: Name,
@@ -42,10 +45,10 @@ impl Piece {
         expires: u64,
         props: Props,
     ) -> Option<Piece>
-        ensures valid { IsSome result ↔ ((0 < value) × (0 < expires) × (expires ≤ 2 ^ 49)) }
+        ensures valid { IsSome result ↔ ((0 < value) × (0 < expires) × (expires ≤ Piece.LAST_END)) }
         ensures piece { IfSome result (λ p. p ≡ record { vendor = vendor; value = value; id = id; cust = cust; expires = expires; props = props }) }
     {
-        if value.get() == 0 || expires == 0 || expires > 1 << 49 {
+        if value.get() == 0 || expires == 0 || expires > Piece::LAST_END {
             return None;
         }
         // What the parts know of themselves.

@@ -81,10 +81,10 @@ fn read_fields(bytes: &[u8]) -> Result<Fields<'_>, Stuck>
 {
     let rest = read_literal(b"MS1|", bytes)?;
     let (vendor, rest) = read_name(b'|', rest)?;
-    let (value, rest) = read_number(1 << 40, b'|', rest)?;
+    let (value, rest) = read_number(Amount::MOST, b'|', rest)?;
     let (id, rest) = read_id(rest)?;
     let (cust, rest) = read_id(rest)?;
-    let (expires, rest) = read_number(1 << 49, b'|', rest)?;
+    let (expires, rest) = read_number(Piece::LAST_END, b'|', rest)?;
     let (props, rest) = read_text::<PropsRule>(b'|', rest)?;
     let (cert, rest) = read_hex::<16>(rest)?;
     Ok(Fields {

@@ -31,6 +31,12 @@ impl Model for Terms {
 }
 
 impl Terms {
+    /// The least period, in seconds.
+    pub const LEAST_PERIOD: u32 = 2048;
+
+    /// The greatest period and the greatest life, in seconds.
+    pub const MOST_SECONDS: u32 = 1 << 24;
+
     /// These terms; None exactly where the period or the life is out of range.
     pub fn new(
         issuer: u8,
@@ -42,7 +48,9 @@ impl Terms {
         ensures valid { IsSome result ↔ HasPeriod period life }
         ensures terms { IfSome result (λ t. t ≡ record { issuer = issuer; period = period; life = life; scrip = scrip; customer = customer }) }
     {
-        if (2048..=1 << 24).contains(&period) && life <= 1 << 24 {
+        if (Terms::LEAST_PERIOD..=Terms::MOST_SECONDS).contains(&period)
+            && life <= Terms::MOST_SECONDS
+        {
             Some(Terms {
                 issuer,
                 period,

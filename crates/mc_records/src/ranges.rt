@@ -1,0 +1,13 @@
+//! The ranges of what entries hold.
+
+/// The most bytes of the contents that are sold for one target.
+pub const MOST_CONTENTS: usize = 65_536;
+
+/// The most pieces of one entry.
+pub const MOST_PIECES: u16 = 256;
+
+/// The least keeping time of a house, in seconds.
+pub const LEAST_KEEP: u32 = 60;
+
+/// The greatest keeping time of a house, in seconds: a day.
+pub const MOST_KEEP: u32 = 86_400;
