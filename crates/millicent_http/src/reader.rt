@@ -1,5 +1,5 @@
 use crate::item::{After, HeadOut, HeadRefusal, ItemRef};
-use crate::request::read_item;
+use crate::request::{FIELD_ROOM, FieldRoom, read_item};
 use crate::scan::{find_end, skip_line_ends};
 use mc_base::NoMemory;
 use mc_outside::{Link, LinkFault};
@@ -38,6 +38,8 @@ pub struct HeadReader {
     // no head ends in so many of the bytes held
     searched: usize,
     given: u16,
+    // for the places of the fields of the head that is given
+    fields: FieldRoom,
 }
 
 impl Model for HeadReader {
@@ -75,6 +77,7 @@ impl HeadReader {
             skip: 0,
             searched: 0,
             given: 0,
+            fields: FIELD_ROOM,
         })
     }
 
@@ -122,7 +125,7 @@ impl HeadReader {
         self.start = to;
         self.skip = 0;
         self.searched = 0;
-        match read_item(&self.buf[from..to]) {
+        match read_item(&self.buf[from..to], &mut self.fields) {
             ItemRef::Request(request, close) => HeadOut::Head(request, After::of(close, last)),
             ItemRef::Refused(refusal, close) => HeadOut::Refused(refusal, After::of(close, last)),
         }

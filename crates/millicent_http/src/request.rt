@@ -18,12 +18,17 @@ use mc_records::Request;
 /// The most fields that a head may have.
 const MAX_FIELDS: usize = 64;
 
+/// Room for where the fields of a head are, for one head after another. What it has after a call is free.
+pub(crate) type FieldRoom = [HeaderSpan; MAX_FIELDS];
+
+/// Room for the fields of a head.
+pub(crate) const FIELD_ROOM: FieldRoom = [EMPTY_HEADER_SPAN; MAX_FIELDS];
+
 /// Reads the text up to the first empty line's end.
-pub(crate) fn read_item(text: &[u8]) -> ItemRef<'_>
+pub(crate) fn read_item<'b>(text: &'b [u8], headers: &mut FieldRoom) -> ItemRef<'b>
     ensures { ReadsItem text.now (item_of result) }
 {
-    let mut headers = [EMPTY_HEADER_SPAN; MAX_FIELDS];
-    match parse_request(text, &mut headers) {
+    match parse_request(text, headers) {
         Ok(Status::Complete(head)) if head.len == text.len() => {
             judge(text, head, &headers[..head.headers])
         }

@@ -4,7 +4,7 @@ ghost use Rattle.millicent_http.specs.Takes.{item_of};
 
 use crate::item::{HeadRefusal, ItemRef};
 use crate::reader::MAX_HEAD;
-use crate::request::read_item;
+use crate::request::{FIELD_ROOM, read_item};
 use crate::scan::{find_end, skip_line_ends};
 
 /// The first item of some bytes, and the bytes behind it; None where they end no item. For a link whose
@@ -16,8 +16,9 @@ pub fn next_item(bytes: &[u8]) -> Option<(ItemRef<'_>, &[u8])>
 {
     let window = &bytes[..bytes.len().min(MAX_HEAD)];
     let skip = skip_line_ends(window, 0);
+    let mut fields = FIELD_ROOM;
     match find_end(window, skip, skip) {
-        Some(end) => Some((read_item(&window[skip..end]), &bytes[end..])),
+        Some(end) => Some((read_item(&window[skip..end], &mut fields), &bytes[end..])),
         None if window.len() < MAX_HEAD => None,
         None => Some((
             ItemRef::Refused(HeadRefusal::HeadTooLarge, true),
