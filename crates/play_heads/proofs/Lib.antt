@@ -1,0 +1,4 @@
+pub mod TellingLaws
+pub mod ReceivingLaws
+pub mod SupplyLaws
+mod Walks

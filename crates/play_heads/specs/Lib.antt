@@ -1,0 +1,5 @@
+pub mod PlayHeads
+pub mod Telling
+pub mod Standing
+pub mod Receiving
+pub mod Playing
