@@ -1,29 +1,30 @@
 -- What an issuer keeps of its series: how many pieces stand in each, the sum of the coins that they
 -- were issued for, and the sum that was redeemed.
-use Rattle.std.specs.Prelude.{◌≡◌, ℕ, ◌+◌, Bool, ◌==◌, if◌then◌else◌, List, Option, option_map, unwrap_or, is_some, find}
+use Rattle.std.specs.Prelude.{◌≡◌, ℕ, ◌+◌, Bool, ◌==◌, if◌then◌else◌, List, Option, option_map, unwrap_or, is_some}
+use Rattle.std.specs.Map.{lookup}
 use Rattle.scrip_form.specs.Identities.{numbered}
 use Rattle.scrip_form.specs.Issuing.{Issuing}
 
 -- what is kept of one series
 pub record SeriesSheet : Type 0 where
-  pub series : ℕ
   pub count : ℕ
   pub issued : ℕ
   pub redeemed : ℕ
 
--- an issuer: its terms, the most pieces of one series, and a sheet for each series that has room
+-- the sheet of a series in which nothing stands
+abbrev pub blank_sheet : SeriesSheet
+blank_sheet = record { count = 0; issued = 0; redeemed = 0 }
+
+-- an issuer: its terms, the most pieces of one series, and each series that has room with its sheet,
+-- in no order
 pub record Register : Type 0 where
   pub terms : Issuing
   pub most : ℕ
-  pub sheets : List SeriesSheet
-
--- whether a sheet is of a series
-abbrev pub is_of : ℕ → SeriesSheet → Bool
-is_of series x = x.series == series
+  pub sheets : List (ℕ × SeriesSheet)
 
 -- the sheet of a series, where there is one
 abbrev pub sheet_of : Register → ℕ → Option SeriesSheet
-sheet_of r series = find (is_of series) r.sheets
+sheet_of r series = lookup (λ s. series == s) r.sheets
 
 -- whether a series has room
 unfoldable pub has_room : Register → ℕ → Bool

@@ -6,17 +6,19 @@ ghost use Rattle.change_issue.specs.Registers.{has_room, count_in, issued_in, re
 ghost use Rattle.change_issue.specs.IssuedPieces.{issued_piece};
 
 use crate::series_full::SeriesFull;
-use crate::sheet::{Sheet, place_of, sheet_of};
+use crate::sheet::Sheet;
 use mc_base::{Amount, Coin, Moment, NoMemory};
 use mc_records::Limits;
 use scrip_form::{Id, Name, Piece, Props, Terms};
 use std::alloc::Global;
+use std::collections::HashMap;
 use std::marker::Model;
 
 /// Hands out the pieces of an issuer. In each series it gives the serials 0, 1, 2 and so on, each of
 /// them once, up to the limit of a series, and it sums the coins that pieces were issued for and what
-/// was redeemed. A series is numbered as `Id::series` does, and needs room, which is reserved. An
-/// issuer may be dropped, since it counts what is written elsewhere.
+/// was redeemed. A series is numbered as `Id::series` does, and needs room, which is reserved. It is
+/// found in a few looks, however many there are. An issuer may be dropped, since it counts what is
+/// written elsewhere.
 ///
 /// Contracts see it as the record `Register`, and speak of a series by `has_room`, `count_in`,
 /// `issued_in` and `redeemed_in`.
@@ -24,7 +26,7 @@ use std::marker::Model;
 pub struct Issuer {
     terms: Terms,
     most: u64,
-    sheets: Vec<Sheet>,
+    sheets: HashMap<u32, Sheet>,
 }
 
 impl Model for Issuer {
@@ -34,7 +36,7 @@ impl Model for Issuer {
 
     ghost Value = { Register };
 
-    ghost view = { λ i. record { terms = i.terms; most = i.most; sheets = i.sheets.items } };
+    ghost view = { λ i. record { terms = i.terms; most = i.most; sheets = i.sheets.entries } };
 
     ghost invariant = { λ i. (i.most ≤ 2 ^ 32) × HasPeriod i.terms.period i.terms.life };
 }
@@ -54,7 +56,7 @@ impl Issuer {
         Issuer {
             terms,
             most: limits.series,
-            sheets: Vec::new(alloc),
+            sheets: HashMap::new(alloc),
         }
     }
 
@@ -72,8 +74,8 @@ impl Issuer {
         ensures issued { (s : ℕ) → issued_in self.new s ≡ issued_in self.old s }
         ensures redeemed { (s : ℕ) → redeemed_in self.new s ≡ redeemed_in self.old s }
     {
-        if place_of(&self.sheets, series).is_none() {
-            self.sheets.push(Sheet::blank(series))?;
+        if !self.sheets.contains_key(&series) {
+            self.sheets.insert(series, Sheet::blank())?;
         }
         Ok(())
     }
@@ -121,8 +123,7 @@ impl Issuer {
         ensures most { self.new.most ≡ self.old.most }
     {
         let series = self.terms.series_at(now);
-        let place = place_of(&self.sheets, series).unwrap();
-        let sheet = &mut self.sheets[place];
+        let sheet = self.sheets.get_mut(&series).unwrap();
         let id = identity(series, sheet.count());
         let value = c.amount();
         sheet.issue(c);
@@ -144,8 +145,7 @@ impl Issuer {
         ensures terms { self.new.terms ≡ self.old.terms }
         ensures most { self.new.most ≡ self.old.most }
     {
-        let place = place_of(&self.sheets, first.series()).unwrap();
-        let sheet = &mut self.sheets[place];
+        let sheet = self.sheets.get_mut(&first.series()).unwrap();
         sheet.count_on(count);
     }
 
@@ -163,8 +163,7 @@ impl Issuer {
         ensures terms { self.new.terms ≡ self.old.terms }
         ensures most { self.new.most ≡ self.old.most }
     {
-        let place = place_of(&self.sheets, id.series()).unwrap();
-        let sheet = &mut self.sheets[place];
+        let sheet = self.sheets.get_mut(&id.series()).unwrap();
         sheet.redeem(a)
     }
 
@@ -173,7 +172,7 @@ impl Issuer {
     pub fn issued(&self, series: u32) -> u128
         ensures { result ≡ issued_in self.now series }
     {
-        sheet_of(&self.sheets, series).map_or(0, |sheet| sheet.issued())
+        self.sheets.get(&series).map_or(0, |sheet| sheet.issued())
     }
 
     /// The sum that was redeemed of a series; 0 where it has no room.
@@ -181,7 +180,7 @@ impl Issuer {
     pub fn redeemed(&self, series: u32) -> u128
         ensures { result ≡ redeemed_in self.now series }
     {
-        sheet_of(&self.sheets, series).map_or(0, |sheet| sheet.redeemed())
+        self.sheets.get(&series).map_or(0, |sheet| sheet.redeemed())
     }
 
     /// How many pieces stand in a series: those that were issued, and those that were counted on; 0
@@ -190,7 +189,7 @@ impl Issuer {
     pub fn count(&self, series: u32) -> u64
         ensures { result ≡ count_in self.now series }
     {
-        sheet_of(&self.sheets, series).map_or(0, |sheet| sheet.count())
+        self.sheets.get(&series).map_or(0, |sheet| sheet.count())
     }
 }
 

@@ -1,5 +1,5 @@
-ghost use Rattle.std.specs.Prelude.{◌≡◌, ◌+◌, ◌<◌, ◌≤◌, ◌^◌, option_map, find, position};
-ghost use Rattle.change_issue.specs.Registers.{is_of};
+ghost use Rattle.std.specs.Prelude.{◌≡◌, ◌+◌, ◌<◌, ◌≤◌, ◌^◌};
+ghost use Rattle.change_issue.specs.Registers.{blank_sheet};
 
 use mc_base::{Amount, Coin, Total};
 use std::marker::Model;
@@ -8,7 +8,6 @@ use std::marker::Model;
 /// the sum that was redeemed. Contracts see it as the record `SeriesSheet`.
 #[derive(Drop)]
 pub(crate) struct Sheet {
-    series: u32,
     count: u64,
     issued: Total,
     redeemed: u128,
@@ -20,28 +19,21 @@ impl Model for Sheet {
 
     ghost Value = { SeriesSheet };
 
-    ghost view = { λ s. record { series = s.series; count = s.count; issued = s.issued; redeemed = s.redeemed } };
+    ghost view = { λ s. record { count = s.count; issued = s.issued; redeemed = s.redeemed } };
 
     ghost invariant = { λ s. (s.count ≤ 2 ^ 32) × (s.issued ≤ s.count * 2 ^ 40) };
 }
 
 impl Sheet {
     /// The sheet of a series in which nothing stands.
-    pub(crate) fn blank(series: u32) -> Sheet
-        ensures { result ≡ record { series = series; count = 0; issued = 0; redeemed = 0 } }
+    pub(crate) fn blank() -> Sheet
+        ensures { result ≡ blank_sheet }
     {
         Sheet {
-            series,
             count: 0,
             issued: Total::zero(),
             redeemed: 0,
         }
-    }
-
-    pub(crate) fn series(&self) -> u32
-        ensures { result ≡ self.now.series }
-    {
-        self.series
     }
 
     pub(crate) fn count(&self) -> u64
@@ -88,18 +80,4 @@ impl Sheet {
         self.redeemed += u128::from(a.get());
         Coin::minted(a)
     }
-}
-
-/// The place of the sheet of a series; None exactly where there is none.
-pub(crate) fn place_of(sheets: &[Sheet], series: u32) -> Option<usize>
-    ensures { result ≡ position (is_of series) sheets.now }
-{
-    sheets.iter().position(|sheet| sheet.series() == series)
-}
-
-/// The sheet of a series; None exactly where there is none.
-pub(crate) fn sheet_of(sheets: &[Sheet], series: u32) -> Option<&Sheet>
-    ensures { option_map (λ s. s.now) result ≡ find (is_of series) sheets.now }
-{
-    sheets.iter().find(|sheet| sheet.series() == series)
 }

@@ -1,35 +1,36 @@
-use Rattle.std.proofs.Common.{arith, ap}
+use Rattle.std.proofs.Common.{sym, ap, ◌∙◌, arith}
+use Rattle.std.specs.Prelude.{is_some}
+use Rattle.std.specs.Option.{option_copied_mut}
 use Rattle.change_issue.specs.Registers.{Register, SeriesSheet, has_room, count_in, issued_in, redeemed_in}
-use Rattle.change_issue.proofs.RegisterLaws.{series_is, stands, has_place, on_its_sheet, raised, kept, room_kept}
+use Rattle.change_issue.proofs.RegisterLaws.{series_is, has_sheet, written, on_its_sheet, found_on, raised, kept, room_kept}
 use Rattle.change_issue.proofs.issuer.Issuer.issue.Goals as goal
 
-pub unwrap-place-requires : goal.unwrap-place-requires
-unwrap-place-requires c = has_place c.self.view_is (series_is c.args.now c.self.view_is c.series_at-series.ensures.series) c.deref.ensures.value c.place_of.ensures c.requires.room
+pub unwrap-sheet-requires : goal.unwrap-sheet-requires
+unwrap-sheet-requires c = has_sheet c.get_mut.result c.self.view_is (series_is c.args.now c.self.view_is c.series_at-series.ensures.series) c.get_mut.ensures.value c.requires.room
 
 pub identity-id-requires : goal.identity-id-requires
 unfolding count_in
 identity-id-requires c =
-    let h = stands c.self.view_is (series_is c.args.now c.self.view_is c.series_at-series.ensures.series) c.deref.ensures.value c.place_of.ensures c.unwrap-place.ensures c.index_mut-sheet.ensures.value in
-    omega (arith, on_its_sheet h (λ x. x.count), ap (λ (r : Register). r.most) c.self.view_is, c.count.ensures)
+    let had = found_on c.self.view_is (series_is c.args.now c.self.view_is c.series_at-series.ensures.series) (sym (ap option_copied_mut c.unwrap-sheet.ensures) ∙ c.get_mut.ensures.value) (λ x. x.count) in
+    omega (arith, had, ap (λ (r : Register). r.most) c.self.view_is, c.count.ensures)
 
 pub issue-requires : goal.issue-requires
 unfolding count_in
 issue-requires c =
-    let h = stands c.self.view_is (series_is c.args.now c.self.view_is c.series_at-series.ensures.series) c.deref.ensures.value c.place_of.ensures c.unwrap-place.ensures c.index_mut-sheet.ensures.value in
-    omega (arith, on_its_sheet h (λ x. x.count), ap (λ (r : Register). r.most) c.self.view_is)
+    let had = found_on c.self.view_is (series_is c.args.now c.self.view_is c.series_at-series.ensures.series) (sym (ap option_copied_mut c.unwrap-sheet.ensures) ∙ c.get_mut.ensures.value) (λ x. x.count) in
+    omega (arith, had, ap (λ (r : Register). r.most) c.self.view_is)
 
 pub returns : goal.returns
 unfolding has_room count_in issued_in redeemed_in
 returns c =
-    let h = stands c.self.view_is (series_is c.args.now c.self.view_is c.series_at-series.ensures.series) c.deref.ensures.value c.place_of.ensures c.unwrap-place.ensures c.index_mut-sheet.ensures.value in
-    let y = c.issue.new.self in
-    let same = ap (λ (x : SeriesSheet). x.series) c.issue.ensures in
+    let some = ap is_some (sym c.get_mut.ensures.value) ∙ ap (λ o. is_some (option_copied_mut o)) c.unwrap-sheet.ensures in
+    let h = written c.self.view_is (series_is c.args.now c.self.view_is c.series_at-series.ensures.series) (sym (ap option_copied_mut c.unwrap-sheet.ensures) ∙ c.get_mut.ensures.value) ((c.get_mut.follows.holds c.issue.new.self).3 some).0 in
     record {
       piece = let terms = ap (λ (r : Register). r.terms) c.self.view_is in let count = on_its_sheet h (λ x. x.count) in cc;
-      count = raised h y same (λ x. x.count) 1 (ap (λ (x : SeriesSheet). x.count) c.issue.ensures);
-      issued = raised h y same (λ x. x.issued) c.args.c (ap (λ (x : SeriesSheet). x.issued) c.issue.ensures);
-      redeemed = kept h y same (λ x. x.redeemed) (ap (λ (x : SeriesSheet). x.redeemed) c.issue.ensures);
-      room = room_kept h y same;
+      count = raised h (λ x. x.count) 1 (ap (λ (x : SeriesSheet). x.count) c.issue.ensures);
+      issued = raised h (λ x. x.issued) c.args.c (ap (λ (x : SeriesSheet). x.issued) c.issue.ensures);
+      redeemed = kept h (λ x. x.redeemed) (ap (λ (x : SeriesSheet). x.redeemed) c.issue.ensures);
+      room = room_kept h;
       terms = ap (λ (r : Register). r.terms) c.self.view_is;
       most = ap (λ (r : Register). r.most) c.self.view_is;
     }
