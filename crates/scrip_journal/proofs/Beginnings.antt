@@ -3,6 +3,7 @@ use Rattle.std.proofs.Common.{◌≡◌, ℕ, ◌+◌, ◌^◌, ◌≤◌, List,
 use Rattle.std.proofs.lemmas.List.{append_cancel_left}
 use Rattle.std.specs.List.{AllByRecursion}
 use Rattle.mc_outside.specs.Bytes.{BeginsWith}
+use Rattle.mc_records.specs.declared.limits.TheConstants.Limits.{MOST_JOURNAL}
 use Rattle.mc_records.specs.Entry.{Entry, Fits, Site}
 use Rattle.mc_records.specs.Sizes.{size, size_from, entry_size}
 use Rattle.scrip_journal.specs.Layout.{header, framed, gated, Encodes, Next, at_end, spoiled, next_of, entered, IsSpoiled}
@@ -14,11 +15,11 @@ size_apart : (front before es : List Entry) → size_from front (before ++ es) �
 size_apart front [] es = omega (arith, ap (λ (l : List Entry). size_from l es) (append-nil front))
 size_apart front (x ∷ xs) es = omega (arith, size_apart (front ++ x ∷ []) xs es, ap (λ (l : List Entry). size_from l es) (append_assoc front (x ∷ []) xs))
 
-size_grows : (before es : List Entry) (e : Entry) → size (before ++ e ∷ es) ≤ 2 ^ 40 → size before + entry_size before e ≤ 2 ^ 40
+size_grows : (before es : List Entry) (e : Entry) → size (before ++ e ∷ es) ≤ MOST_JOURNAL → size before + entry_size before e ≤ MOST_JOURNAL
 size_grows before es e most = omega (arith, size_apart [] before (e ∷ es), most)
 
 -- entries behind the same bytes: those that the bytes begin with are the first of those that they encode
-first_of : (before h g : List Entry) (r s : List ℕ) → AllByRecursion Fits h → AllByRecursion Fits g → size (before ++ h) ≤ 2 ^ 40 → size (before ++ g) ≤ 2 ^ 40 → IsStop (next_of (before ++ h) r)
+first_of : (before h g : List Entry) (r s : List ℕ) → AllByRecursion Fits h → AllByRecursion Fits g → size (before ++ h) ≤ MOST_JOURNAL → size (before ++ g) ≤ MOST_JOURNAL → IsStop (next_of (before ++ h) r)
     → gated before h ++ r ≡ gated before g ++ s → (k : List Entry) × (h ≡ g ++ k)
 first_of before h [] r s a b m n x same = (h, refl)
 first_of before [] (f ∷ g) r s a b m n x same =
@@ -39,7 +40,7 @@ first_of before (e ∷ h) (f ∷ g) r s a b m n x same =
     let here : (k : List Entry) → (before ++ e ∷ []) ++ k ≡ before ++ e ∷ k = λ k. append_assoc before (e ∷ []) k in
     let there : before ++ f ∷ g ≡ (before ++ e ∷ []) ++ g = ap (λ (z : Entry). before ++ z ∷ g) (sym one) ∙ sym (here g) in
     let more = first_of (before ++ e ∷ []) h g r s a.1 b.1
-    (subst (λ (l : List Entry). size l ≤ 2 ^ 40) (sym (here h)) m) (subst (λ (l : List Entry). size l ≤ 2 ^ 40) there n)
+    (subst (λ (l : List Entry). size l ≤ MOST_JOURNAL) (sym (here h)) m) (subst (λ (l : List Entry). size l ≤ MOST_JOURNAL) there n)
     (subst (λ (l : List Entry). IsStop (next_of l r)) (sym (here h)) x) rest in
     (more.0, ap (λ (l : List Entry). e ∷ l) more.1 ∙ ap (λ (z : Entry). z ∷ (g ++ more.0)) one)
 

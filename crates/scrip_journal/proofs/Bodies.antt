@@ -4,6 +4,7 @@ use Rattle.std.specs.List.{AllByRecursion}
 use Rattle.std.specs.Int.{to_be_bytes, w32}
 use Rattle.std.proofs.lemmas.List.{append-nil}
 use Rattle.std.proofs.lemmas.Bool.{cases_eq}
+use Rattle.mc_records.specs.declared.limits.TheConstants.Limits.{MOST_JOURNAL}
 use Rattle.mc_records.specs.Entry.{Entry, Fits, payload}
 use Rattle.mc_records.specs.Sizes.{tail, entry_size, size_from, size}
 use Rattle.scrip_journal.specs.Layout.{header, framed, gated, body, Encodes}
@@ -54,7 +55,7 @@ fits_more [] e all fits = (fits, tt)
 fits_more (x ∷ h) e all fits = (all.0, fits_more h e all.1 fits)
 
 -- an open gate, an entry and a closed gate behind the entries
-pub stands_more : (h : List Entry) (e : Entry) (rest c : List ℕ) → AllByRecursion Fits h → Fits e → size (h ++ e ∷ []) ≤ 2 ^ 40 → c ≡ body h ++ 1 ∷ (framed h e ++ 0 ∷ rest) → Encodes (h ++ e ∷ []) c
+pub stands_more : (h : List Entry) (e : Entry) (rest c : List ℕ) → AllByRecursion Fits h → Fits e → size (h ++ e ∷ []) ≤ MOST_JOURNAL → c ≡ body h ++ 1 ∷ (framed h e ++ 0 ∷ rest) → Encodes (h ++ e ∷ []) c
 stands_more h e rest c all fits most is = record {
   fits = fits_more h e all fits;
   most = most;
@@ -65,7 +66,7 @@ stands_more h e rest c all fits most is = record {
 }
 
 -- an entry and a closed gate behind any gate: the entry counts or it doesn't
-pub stands_either : (h : List Entry) (e : Entry) (rest c : List ℕ) (g : ℕ) → AllByRecursion Fits h → Fits e → size h ≤ 2 ^ 40 → size (h ++ e ∷ []) ≤ 2 ^ 40
+pub stands_either : (h : List Entry) (e : Entry) (rest c : List ℕ) (g : ℕ) → AllByRecursion Fits h → Fits e → size h ≤ MOST_JOURNAL → size (h ++ e ∷ []) ≤ MOST_JOURNAL
     → c ≡ body h ++ g ∷ (framed h e ++ 0 ∷ rest) → Encodes h c ⊎ Encodes (h ++ e ∷ []) c
 stands_either h e rest c g all fits least most is = elim (cases_eq g 1) [
   | inl opened ↦ inr (stands_more h e rest c all fits most (is ∙ ap (λ (k : ℕ). body h ++ k ∷ (framed h e ++ 0 ∷ rest)) opened))

@@ -6,6 +6,8 @@ use Rattle.std.proofs.lemmas.Bool.{cases_lt}
 use Rattle.mc_outside.specs.Bytes.{BeginsWith}
 use Rattle.mc_outside.specs.DiskView.{DiskView}
 use Rattle.mc_outside.proofs.Runs.{read_then}
+use Rattle.mc_records.specs.declared.sizes.TheConstants.{PAYLOAD_BOUND}
+use Rattle.mc_records.specs.declared.limits.TheConstants.Limits.{MOST_JOURNAL}
 use Rattle.mc_records.specs.Entry.{Entry, Fits, payload}
 use Rattle.mc_records.specs.Forms.{entry_of}
 use Rattle.scrip_journal.specs.Layout.{spoiled, next_of}
@@ -84,14 +86,14 @@ module _ {D : Type 0} (view : D → DiskView) (a b : Reading D) (ahead : ReadAhe
         (rest, is, ap (λ (l : List ℕ). from_be_bytes w32 l) (front ∙ ap (λ (l : List ℕ). take 4 (drop 1 l)) (sym begins.1)) ∙ n_is, omega (arith, four, length-append begins.0 all.0))
 
     -- the length may not stand
-    pub ends_at_length : (131066 ≤ n) ⊎ (2 ^ 40 < a.gate + n + 6) → EndsHere view a (Spoiled (a.gate + 1))
+    pub ends_at_length : (PAYLOAD_BOUND ≤ n) ⊎ (MOST_JOURNAL < a.gate + n + 6) → EndsHere view a (Spoiled (a.gate + 1))
     ends_at_length which h bytes told gate of =
         let o = opened bytes told of in
-        let long : 131066 ≤ n → next_of h (1 ∷ o.0) ≡ spoiled (a.gate + 1) = λ l. long_there h a.gate gate n o.0 o.2 o.3 l in
-        ap (next_of h) o.1 ∙ ⊎_elim long (λ far. ⊎_elim (λ short. far_there h a.gate gate n o.0 o.2 o.3 short far) long (cases_lt n 131066)) which
+        let long : PAYLOAD_BOUND ≤ n → next_of h (1 ∷ o.0) ≡ spoiled (a.gate + 1) = λ l. long_there h a.gate gate n o.0 o.2 o.3 l in
+        ap (next_of h) o.1 ∙ ⊎_elim long (λ far. ⊎_elim (λ short. far_there h a.gate gate n o.0 o.2 o.3 short far) long (cases_lt n PAYLOAD_BOUND)) which
 
     -- the disk ends in the payload
-    pub ends_in_payload : n < 131066 → a.gate + n + 6 ≤ 2 ^ 40 → (e : Ending) → IsCut view a b (n + 5) e → EndsHere view a e
+    pub ends_in_payload : n < PAYLOAD_BOUND → a.gate + n + 6 ≤ MOST_JOURNAL → (e : Ending) → IsCut view a b (n + 5) e → EndsHere view a e
     ends_in_payload short near Closed cut h bytes told gate of = absurd cut
     ends_in_payload short near Failed cut h bytes told gate of = tt
     ends_in_payload short near (Spoiled place) cut h bytes told gate of =
@@ -102,7 +104,7 @@ module _ {D : Type 0} (view : D → DiskView) (a b : Reading D) (ahead : ReadAhe
         ∙ ap spoiled (omega (arith, cut.1, long, five, length-drop 4 begins.0, ahead.same.gate))
 
     -- the payload is malformed
-    pub ends_at_fault : n < 131066 → a.gate + n + 6 ≤ 2 ^ 40 → n + 5 ≤ length b.held → (fault : ℕ) → entry_of (take n (drop 5 b.held)) ≡ Err fault → EndsHere view a (Spoiled (a.gate + 5 + fault))
+    pub ends_at_fault : n < PAYLOAD_BOUND → a.gate + n + 6 ≤ MOST_JOURNAL → n + 5 ≤ length b.held → (fault : ℕ) → entry_of (take n (drop 5 b.held)) ≡ Err fault → EndsHere view a (Spoiled (a.gate + 5 + fault))
     ends_at_fault short near whole fault read h bytes told gate of =
         let all = now_held bytes told of in
         let o = opened bytes told of in
@@ -114,7 +116,7 @@ module _ {D : Type 0} (view : D → DiskView) (a b : Reading D) (ahead : ReadAhe
         ap (next_of h) o.1 ∙ payload_there h a.gate gate n o.0 o.2 o.3 short near (omega (arith, ap (λ (l : List ℕ). length l) back, length-append (drop 4 begins.0) all.0, whole, long, length-drop 4 begins.0)) (Err fault) (ap entry_of part ∙ read)
 
     -- the entry is there
-    pub framed_here : b.gate + n + 6 ≤ 2 ^ 40 → n + 5 ≤ length b.held → take 4 (drop 1 b.held) ≡ to_be_bytes w32 n → (e : Entry) → Fits e → take n (drop 5 b.held) ≡ payload e → IsFrame n b.gate b.held
+    pub framed_here : b.gate + n + 6 ≤ MOST_JOURNAL → n + 5 ≤ length b.held → take 4 (drop 1 b.held) ≡ to_be_bytes w32 n → (e : Entry) → Fits e → take n (drop 5 b.held) ≡ payload e → IsFrame n b.gate b.held
     framed_here near whole spelled e fits payload_is =
         let long : length b.held ≡ 1 + length begins.0 = omega (arith, ap (λ (l : List ℕ). length l) begins.1) in
         let front : take 4 begins.0 ≡ to_be_bytes w32 n = ap (λ (l : List ℕ). take 4 (drop 1 l)) (sym begins.1) ∙ spelled in

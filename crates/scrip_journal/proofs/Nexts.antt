@@ -2,6 +2,8 @@
 use Rattle.std.proofs.Common.{◌≡◌, ◌≢◌, Bool, true, false, cond, ℕ, ◌+◌, ◌^◌, ◌≤◌, ◌<◌, List, [], ◌∷◌, length, take, drop, Result, Ok, Err, refl, sym, ◌∙◌, ap, subst, arith, ltb, leb}
 use Rattle.std.specs.Int.{from_be_bytes, w32}
 use Rattle.std.proofs.lemmas.Bool.{lt-ltb, le-ltb, le-leb, lt-leb, ne_eqb}
+use Rattle.mc_records.specs.declared.sizes.TheConstants.{PAYLOAD_BOUND}
+use Rattle.mc_records.specs.declared.limits.TheConstants.Limits.{MOST_JOURNAL}
 use Rattle.mc_records.specs.Entry.{Entry}
 use Rattle.mc_records.specs.Sizes.{tail_size}
 use Rattle.mc_records.specs.Forms.{entry_of}
@@ -27,24 +29,24 @@ module _ (h : List Entry) (gate : ℕ) (place : gate ≡ length (body h)) where
     behind_length next is =
         behind rest next (rw (le-ltb (length rest) 4 four) (subst (λ (k : ℕ). next_framed h (gate + 1) k (drop 4 rest) ≡ next) (sym n_is) is))
 
-    pub long_there : 131066 ≤ n → next_of h (1 ∷ rest) ≡ spoiled (gate + 1)
-    long_there long = behind_length _ (rw (le-leb 131066 n long) refl)
+    pub long_there : PAYLOAD_BOUND ≤ n → next_of h (1 ∷ rest) ≡ spoiled (gate + 1)
+    long_there long = behind_length _ (rw (le-leb PAYLOAD_BOUND n long) refl)
 
-    pub far_there : n < 131066 → 2 ^ 40 < gate + n + 6 → next_of h (1 ∷ rest) ≡ spoiled (gate + 1)
+    pub far_there : n < PAYLOAD_BOUND → MOST_JOURNAL < gate + n + 6 → next_of h (1 ∷ rest) ≡ spoiled (gate + 1)
     unfolding tail_size
     far_there short far =
-        behind_length _ (rw (lt-leb 131066 n short, lt-ltb (2 ^ 40) (gate + 1 + 4 + n + 0 + 1) (omega (arith, far))) refl)
+        behind_length _ (rw (lt-leb PAYLOAD_BOUND n short, lt-ltb MOST_JOURNAL (gate + 1 + 4 + n + 0 + 1) (omega (arith, far))) refl)
 
-    module _ (short : n < 131066) (near : gate + n + 6 ≤ 2 ^ 40) where
+    module _ (short : n < PAYLOAD_BOUND) (near : gate + n + 6 ≤ MOST_JOURNAL) where
       pub payload_cut : length (drop 4 rest) < n → next_of h (1 ∷ rest) ≡ spoiled (gate + 5 + length (drop 4 rest))
       unfolding tail_size
       payload_cut cut =
-          behind_length _ (rw (lt-leb 131066 n short, le-ltb (2 ^ 40) (gate + 1 + 4 + n + 0 + 1) (omega (arith, near)), lt-ltb (length (drop 4 rest)) (n + 0) (omega (arith, cut))) (ap spoiled (omega arith)))
+          behind_length _ (rw (lt-leb PAYLOAD_BOUND n short, le-ltb MOST_JOURNAL (gate + 1 + 4 + n + 0 + 1) (omega (arith, near)), lt-ltb (length (drop 4 rest)) (n + 0) (omega (arith, cut))) (ap spoiled (omega arith)))
 
       pub payload_there : n ≤ length (drop 4 rest) → (read : Result Entry ℕ) → entry_of (take n (drop 4 rest)) ≡ read → next_of h (1 ∷ rest) ≡ next_payload (gate + 5) read
       unfolding tail_size
       payload_there whole read is =
-          behind_length _ (rw (lt-leb 131066 n short, le-ltb (2 ^ 40) (gate + 1 + 4 + n + 0 + 1) (omega (arith, near)), le-ltb (length (drop 4 rest)) (n + 0) (omega (arith, whole)))
+          behind_length _ (rw (lt-leb PAYLOAD_BOUND n short, le-ltb MOST_JOURNAL (gate + 1 + 4 + n + 0 + 1) (omega (arith, near)), le-ltb (length (drop 4 rest)) (n + 0) (omega (arith, whole)))
           (ap (λ (r : Result Entry ℕ). next_payload (gate + 1 + 4) r) is ∙ ap (λ (p : ℕ). next_payload p read) (omega arith)))
 
 -- it is no end
@@ -68,8 +70,8 @@ behind_no_end h place rest =
     either (ltb (length rest) 4) (spoiled (place + length rest)) _ tt (framed_no_end (from_be_bytes w32 (take 4 rest)) (drop 4 rest)) where
       framed_no_end : (n : ℕ) (l : List ℕ) → NotEnd (next_framed h place n l)
       framed_no_end n l =
-          either (leb 131066 n) (spoiled place) _ tt
-          (either (ltb (2 ^ 40) (place + 4 + n + 0 + 1)) (spoiled place) _ tt
+          either (leb PAYLOAD_BOUND n) (spoiled place) _ tt
+          (either (ltb MOST_JOURNAL (place + 4 + n + 0 + 1)) (spoiled place) _ tt
           (either (ltb (length l) (n + 0)) (spoiled (place + 4 + length l)) _ tt (payload_no_end (place + 4) (entry_of (take n l)))))
 
 -- only a closed gate is an end

@@ -4,6 +4,7 @@ use Rattle.std.specs.Prelude.{option_map}
 use Rattle.mc_outside.specs.Bytes.{put}
 use Rattle.mc_outside.specs.DiskView.{DiskView, DiskGoes, CallPairs, Follows, LeavesNoMore, IsSynced, Torn, Ran}
 use Rattle.mc_outside.proofs.Runs.{ran_quiet, ran_then}
+use Rattle.mc_records.specs.declared.limits.TheConstants.Limits.{MOST_JOURNAL}
 use Rattle.mc_records.specs.Entry.{Entry, Fits}
 use Rattle.mc_records.specs.Sizes.{size}
 use Rattle.scrip_journal.specs.Layout.{framed, body, Encodes}
@@ -61,14 +62,14 @@ module _ {D : Type 0} (view : D → DiskView) (j : AtRest D) (h : List Entry) (i
         synced = synced bytes told;
       })
 
-module _ {D : Type 0} (view : D → DiskView) (s : WithNext D) (h : List Entry) (e : Entry) (k : IsStaged view s h e) (most : s.size ≤ 2 ^ 40) where
+module _ {D : Type 0} (view : D → DiskView) (s : WithNext D) (h : List Entry) (e : Entry) (k : IsStaged view s h e) (most : s.size ≤ MOST_JOURNAL) where
   place_of : s.gate ≡ length (body h)
   place_of = omega (arith, k.gate_is, body_long h)
 
-  least : size h ≤ 2 ^ 40
+  least : size h ≤ MOST_JOURNAL
   least = omega (arith, k.size_is, most, size_more h e)
 
-  new_most : size (h ++ e ∷ []) ≤ 2 ^ 40
+  new_most : size (h ++ e ∷ []) ≤ MOST_JOURNAL
   new_most = omega (arith, k.size_is, most)
 
   pub staged_stands : (c : List ℕ) → (view s.disk).leaves c → Encodes h c ⊎ Encodes (h ++ e ∷ []) c

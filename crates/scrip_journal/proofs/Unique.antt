@@ -5,6 +5,8 @@ use Rattle.std.specs.Int.{to_be_bytes, from_be_bytes, w32}
 use Rattle.std.specs.List.{AllByRecursion}
 use Rattle.std.proofs.lemmas.List.{take_at, drop_at}
 use Rattle.std.proofs.lemmas.Nat.{from_be_bytes-to_be_bytes_4}
+use Rattle.mc_records.specs.declared.sizes.TheConstants.{PAYLOAD_BOUND}
+use Rattle.mc_records.specs.declared.limits.TheConstants.Limits.{MOST_JOURNAL}
 use Rattle.mc_records.specs.Entry.{Entry, Fits, payload}
 use Rattle.mc_records.specs.Sizes.{tail, entry_size, size_from, size}
 use Rattle.mc_records.specs.Forms.{entry_of}
@@ -40,13 +42,13 @@ framed_one before e f r s fits fits' same =
     (one.0, (append_split (tail before e) (tail before f) r s (ap (λ (x : Entry). length (tail before x)) one.0) one.1).1)
 
 -- an entry that stands behind an open gate is what comes there
-pub entered_there : (h : List Entry) (e : Entry) (rest : List ℕ) → Fits e → size h + entry_size h e ≤ 2 ^ 40 → next_of h (1 ∷ (framed h e ++ rest)) ≡ entered e
+pub entered_there : (h : List Entry) (e : Entry) (rest : List ℕ) → Fits e → size h + entry_size h e ≤ MOST_JOURNAL → next_of h (1 ∷ (framed h e ++ rest)) ≡ entered e
 unfolding framed
 entered_there h e rest fits most =
     let n = length (payload e) in
     let bytes = to_be_bytes w32 n in
     let all : List ℕ = framed h e ++ rest in
-    let short : n < 131066 = payload_is_short e fits in
+    let short : n < PAYLOAD_BOUND = payload_is_short e fits in
     let shape : all ≡ bytes ++ (payload e ++ (tail h e ++ rest)) = append_assoc bytes (payload e ++ tail h e) rest ∙ ap (λ (l : List ℕ). bytes ++ l) (append_assoc (payload e) (tail h e) rest) in
     let front : take 4 all ≡ bytes = ap (λ (l : List ℕ). take 4 l) shape ∙ take_at bytes (payload e ++ (tail h e ++ rest)) 4 refl in
     let back : drop 4 all ≡ payload e ++ (tail h e ++ rest) = ap (λ (l : List ℕ). drop 4 l) shape ∙ drop_at bytes (payload e ++ (tail h e ++ rest)) 4 refl in
@@ -67,7 +69,7 @@ IsStop (spoiled place) = Unit {0}
 no_entry : (n : Next) (e : Entry) → n ≡ entered e → IsStop n → ⊥
 no_entry n e is stop = subst IsStop is stop
 
-size_grows : (before es : List Entry) (e : Entry) → size (before ++ e ∷ es) ≤ 2 ^ 40 → size before + entry_size before e ≤ 2 ^ 40
+size_grows : (before es : List Entry) (e : Entry) → size (before ++ e ∷ es) ≤ MOST_JOURNAL → size before + entry_size before e ≤ MOST_JOURNAL
 size_grows before es e most = omega (arith, apart before es e, most) where
   sizes : (front before es : List Entry) → size_from front (before ++ es) ≡ size_from front before + size_from (front ++ before) es
   sizes front [] es = omega (arith, ap (λ (l : List Entry). size_from l es) (append-nil front))
@@ -76,7 +78,7 @@ size_grows before es e most = omega (arith, apart before es e, most) where
   apart : (before es : List Entry) (e : Entry) → size (before ++ e ∷ es) ≡ size before + entry_size before e + size_from (before ++ e ∷ []) es
   apart before es e = omega (arith, sizes [] before (e ∷ es))
 
-one_way : (before h g : List Entry) (r s : List ℕ) → AllByRecursion Fits h → AllByRecursion Fits g → size (before ++ h) ≤ 2 ^ 40 → size (before ++ g) ≤ 2 ^ 40
+one_way : (before h g : List Entry) (r s : List ℕ) → AllByRecursion Fits h → AllByRecursion Fits g → size (before ++ h) ≤ MOST_JOURNAL → size (before ++ g) ≤ MOST_JOURNAL
     → IsStop (next_of (before ++ h) r) → IsStop (next_of (before ++ g) s) → gated before h ++ r ≡ gated before g ++ s → (h ≡ g) × (r ≡ s)
 one_way before [] [] r s a b m n x y same = (refl, same)
 one_way before [] (f ∷ g) r s a b m n x y same =
@@ -97,7 +99,7 @@ one_way before (e ∷ h) (f ∷ g) r s a b m n x y same =
     let here : (k : List Entry) → (before ++ e ∷ []) ++ k ≡ before ++ e ∷ k = λ k. append_assoc before (e ∷ []) k in
     let there : before ++ f ∷ g ≡ (before ++ e ∷ []) ++ g = ap (λ (z : Entry). before ++ z ∷ g) (sym first.0) ∙ sym (here g) in
     let more = one_way (before ++ e ∷ []) h g r s a.1 b.1
-    (subst (λ (l : List Entry). size l ≤ 2 ^ 40) (sym (here h)) m) (subst (λ (l : List Entry). size l ≤ 2 ^ 40) there n)
+    (subst (λ (l : List Entry). size l ≤ MOST_JOURNAL) (sym (here h)) m) (subst (λ (l : List Entry). size l ≤ MOST_JOURNAL) there n)
     (subst (λ (l : List Entry). IsStop (next_of l r)) (sym (here h)) x) (subst (λ (l : List Entry). IsStop (next_of l s)) there y) as_one in
     ((λ i. first.0 i ∷ more.0 i), more.1)
 

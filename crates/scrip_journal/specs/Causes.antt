@@ -8,6 +8,8 @@ use Rattle.mc_records.specs.Entry.{Entry, Site, Fits}
 use Rattle.mc_records.specs.Following.{AllFollowBy}
 use Rattle.mc_records.specs.Sizes.{size}
 use Rattle.scrip_journal.specs.Layout.{body, Encodes, IsSpoiled}
+use Rattle.mc_records.specs.declared.limits.TheConstants.Limits.{MOST_JOURNAL}
+use Rattle.scrip_journal.specs.declared.cursor.TheConstants.{FIRST_GATE}
 
 -- ---- kinds of site
 
@@ -34,7 +36,7 @@ IsOfKind kinds (e ∷ es) = FoundsSite kinds e
 -- the bytes begin with the header and these entries, each behind an open gate
 pub record BeginsWithEntries (h : List Entry) (bytes : List ℕ) : Type 0 where
   pub fits : AllByRecursion Fits h
-  pub most : size h ≤ 2 ^ 40
+  pub most : size h ≤ MOST_JOURNAL
   pub begins : BeginsWith (body h) bytes
 
 -- Behind entries that may follow one another the bytes can't stand, from this place on.
@@ -64,4 +66,4 @@ pub record IsOfOther (kinds : ℕ → Type 0) (bytes : List ℕ) : Type 0 where
 -- The first entry that may not follow is behind the gate at this place, in a book that is of no site of
 -- another kind. A book without entries breaks at its only gate.
 abbrev pub IsUnlawfulAt : (List Entry → Entry → Type 0) → (ℕ → Type 0) → List ℕ → ℕ → Type 0
-IsUnlawfulAt may kinds bytes place = (IsOfOther kinds bytes → ⊥) × ((Encodes [] bytes × (place ≡ 8)) ⊎ BreaksAt may kinds bytes place)
+IsUnlawfulAt may kinds bytes place = (IsOfOther kinds bytes → ⊥) × ((Encodes [] bytes × (place ≡ FIRST_GATE)) ⊎ BreaksAt may kinds bytes place)

@@ -7,26 +7,27 @@ use Rattle.scrip_journal.specs.Layout.{Encodes}
 use Rattle.scrip_journal.specs.States.{AtRest, IsJournal}
 use Rattle.scrip_journal.specs.declared.fault.HouseFault.{HouseFault}
 use Rattle.scrip_journal.specs.declared.fault.HouseFault.TheVariants.{NotJournal, BadRecord, Unlawful, WrongKind, NotEmpty, Disk, NoMemory}
+use Rattle.mc_records.specs.declared.sizes.TheConstants.{EMPTY_JOURNAL}
 
 -- The disk may be founded on: its bytes encode no entries, or are nine at most.
 abbrev pub IsFree : List ℕ → Type 0
-IsFree bytes = Encodes [] bytes ⊎ (length bytes ≤ 9)
+IsFree bytes = Encodes [] bytes ⊎ (length bytes ≤ EMPTY_JOURNAL)
 
 -- The disk has so many bytes, more than nine, which don't encode the empty history.
 pub record IsTaken (bytes : List ℕ) (count : ℕ) : Type 0 where
   pub count_is : count ≡ length bytes
-  pub many : 9 < count
+  pub many : EMPTY_JOURNAL < count
   pub other : Encodes [] bytes → ⊥
 
 -- A crash pair whose image has at most nine bytes, or is one that a crash before could have left, with
 -- nothing sent.
 abbrev pub ShortNoOutput : DiskView → List ℕ → List ℕ → Type 0
-ShortNoOutput before c s = ((length c ≤ 9) ⊎ before.leaves c) × (s ≡ before.aside)
+ShortNoOutput before c s = ((length c ≤ EMPTY_JOURNAL) ⊎ before.leaves c) × (s ≡ before.aside)
 
 -- an image of at most nine bytes, or one that a crash before could have left, or one that encodes no
 -- entries or this one alone
 abbrev pub FoundImage : DiskView → Entry → List ℕ → Type 0
-FoundImage before e c = ((length c ≤ 9) ⊎ before.leaves c) ⊎ (Encodes [] c ⊎ Encodes (e ∷ []) c)
+FoundImage before e c = ((length c ≤ EMPTY_JOURNAL) ⊎ before.leaves c) ⊎ (Encodes [] c ⊎ Encodes (e ∷ []) c)
 
 -- a crash pair of such an image, with nothing sent
 abbrev pub FoundNoOutput : DiskView → Entry → List ℕ → List ℕ → Type 0
@@ -77,8 +78,8 @@ ReadsOnly view disk _ = Unit {0}
 
 -- a disk of nine bytes at most is a journal without entries now; another is told to have more
 abbrev pub ClearsSmall : {D : Type 0} → (D → DiskView) → List ℕ → Result (AtRest D) (HouseFault D) → Type 0
-ClearsSmall view bytes (Ok j) = IsJournal view j [] × (length bytes ≤ 9)
-ClearsSmall view bytes (Err (NotEmpty d count)) = (count ≡ length bytes) × (9 < count)
+ClearsSmall view bytes (Ok j) = IsJournal view j [] × (length bytes ≤ EMPTY_JOURNAL)
+ClearsSmall view bytes (Err (NotEmpty d count)) = (count ≡ length bytes) × (EMPTY_JOURNAL < count)
 ClearsSmall view bytes (Err (Disk d)) = Unit {0}
 ClearsSmall view bytes (Err (NoMemory d)) = Unit {0}
 ClearsSmall view bytes (Err _) = ⊥

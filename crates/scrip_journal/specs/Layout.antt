@@ -5,6 +5,8 @@ use Rattle.std.specs.List.{AllByRecursion}
 use Rattle.mc_records.specs.Entry.{Entry, Fits, payload}
 use Rattle.mc_records.specs.Sizes.{tail, tail_size, size}
 use Rattle.mc_records.specs.Forms.{entry_of}
+use Rattle.mc_records.specs.declared.limits.TheConstants.Limits.{MOST_JOURNAL}
+use Rattle.mc_records.specs.declared.sizes.TheConstants.{PAYLOAD_BOUND}
 
 -- `MCJRNL1` and LF
 unfoldable pub header : List ℕ
@@ -23,11 +25,11 @@ gated before (e ∷ es) = 1 ∷ (framed before e ++ gated (before ++ e ∷ []) e
 abbrev pub body : List Entry → List ℕ
 body h = header ++ gated [] h
 
--- The bytes encode these entries: behind them comes a closed gate, at a place below 2^40. A gate is
+-- The bytes encode these entries: behind them comes a closed gate, at a place that a journal may have. A gate is
 -- closed where its byte is any other than 1. What follows a closed gate means nothing.
 pub record Encodes (h : List Entry) (bytes : List ℕ) : Type 0 where
   pub fits : AllByRecursion Fits h
-  pub most : size h ≤ 2 ^ 40
+  pub most : size h ≤ MOST_JOURNAL
   pub gate : ℕ
   pub rest : List ℕ
   pub closed : gate ≢ 1
@@ -48,11 +50,11 @@ next_payload place (Ok e) = entered e
 next_payload place (Err fault) = spoiled (place + fault)
 
 -- A length whose first byte has this place, and the bytes behind it. The length has to be below
--- 131,066, the entry with the next gate has to end at or before 2^40, and its bytes have to be there.
+-- the bound of payloads, the entry with the next gate has to end within the most of a journal, and its bytes have to be there.
 abbrev pub next_framed : List Entry → ℕ → ℕ → List ℕ → Next
 next_framed h place n rest =
-    if nat_le 131066 n then spoiled place
-    else if nat_lt (2 ^ 40) (place + 4 + n + tail_size h + 1) then spoiled place
+    if nat_le PAYLOAD_BOUND n then spoiled place
+    else if nat_lt MOST_JOURNAL (place + 4 + n + tail_size h + 1) then spoiled place
     else if nat_lt (length rest) (n + tail_size h) then spoiled (place + 4 + length rest)
     else next_payload (place + 4) (entry_of (take n rest))
 
@@ -70,7 +72,7 @@ next_of h (gate ∷ rest) = if gate == 1 then next_behind h (length (body h) + 1
 -- the bytes begin with these entries, and this comes behind them
 pub record Reads (h : List Entry) (bytes : List ℕ) (next : Next) : Type 0 where
   pub fits : AllByRecursion Fits h
-  pub most : size h ≤ 2 ^ 40
+  pub most : size h ≤ MOST_JOURNAL
   pub rest : List ℕ
   pub shape : bytes ≡ body h ++ rest
   pub next_is : next_of h rest ≡ next

@@ -6,6 +6,7 @@ use Rattle.scrip_journal.specs.Layout.{header}
 use Rattle.scrip_journal.specs.States.{AtRest, Reading}
 use Rattle.scrip_journal.specs.declared.fault.OpenFault.{OpenFault}
 use Rattle.scrip_journal.specs.declared.fault.OpenFault.TheVariants.{NotJournal, Disk, NoMemory}
+use Rattle.mc_records.specs.declared.sizes.TheConstants.{EMPTY_JOURNAL}
 
 -- the disk of a fault
 abbrev pub fault_disk : {D : Type 0} → OpenFault D → D
@@ -32,7 +33,7 @@ MatchOpenFault (NoMemory d) P Q R = R d
 -- a crash pair whose image has no more than nine bytes, or than one that a crash before could have left,
 -- with nothing sent
 abbrev pub NoLonger : DiskView → List ℕ → List ℕ → Type 0
-NoLonger before c s = ((d : List ℕ) × before.leaves d × (length c ≤ max 9 (length d))) × (s ≡ before.aside)
+NoLonger before c s = ((d : List ℕ) × before.leaves d × (length c ≤ max EMPTY_JOURNAL (length d))) × (s ≡ before.aside)
 
 -- by the bytes of the disk: a journal begins with the header, and what is none does not
 abbrev pub OpensBy : {D : Type 0} → List ℕ → Result (Reading D) (OpenFault D) → Type 0

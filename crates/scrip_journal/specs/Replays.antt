@@ -10,6 +10,8 @@ use Rattle.scrip_journal.specs.Answers.{Given, answer_of}
 use Rattle.scrip_journal.specs.declared.ending.Ending.{Ending}
 use Rattle.scrip_journal.specs.declared.ending.Ending.TheVariants.{Closed, Spoiled, Failed}
 use Rattle.scrip_journal.specs.declared.ending.ReplayFault.TheVariants.{BadRecord, Disk}
+use Rattle.mc_records.specs.declared.limits.TheConstants.Limits.{MOST_JOURNAL}
+use Rattle.scrip_journal.specs.declared.cursor.TheConstants.{FIRST_GATE}
 
 -- a reading goes on behind an entry, and has ended else
 abbrev pub ending_of : Given → Option Ending
@@ -40,7 +42,7 @@ pub record Advanced {D : Type 0} (view : D → DiskView) (moved : D → D → Ty
   pub ended : new.ended ≡ ending_of given
   pub limit : new.limit ≡ old.limit
   -- the next gate comes behind the entry that was read
-  pub rises : (place : ℕ) → given ≡ Ok (Some place) → (old.gate < new.gate) × (new.gate < 2 ^ 40)
+  pub rises : (place : ℕ) → given ≡ Ok (Some place) → (old.gate < new.gate) × (new.gate < MOST_JOURNAL)
   -- and stays where there is none
   pub stays : given ≡ Ok None → new.gate ≡ old.gate
   -- its payload is the one that was read last
@@ -94,7 +96,7 @@ pub record IsFrame (n gate : ℕ) (held : List ℕ) : Type 0 where
   pub length_is : length (payload next) ≡ n
   pub rest : List ℕ
   pub shape : held ≡ 1 ∷ (to_be_bytes w32 n ++ (payload next ++ rest))
-  pub within : gate + n + 6 ≤ 2 ^ 40
+  pub within : gate + n + 6 ≤ MOST_JOURNAL
 
 -- the entry was taken off the front of the bytes held
 abbrev pub TookEntry : {D : Type 0} → Reading D → ℕ → ℕ → Reading D → Type 0
@@ -104,7 +106,7 @@ TookEntry old n gate new =
 
 -- the eight bytes of the header were taken off, and all else is as it was
 pub record FoundHeader {D : Type 0} (old new : Reading D) : Type 0 where
-  pub gate : new.gate ≡ 8
+  pub gate : new.gate ≡ FIRST_GATE
   pub entries : new.entries ≡ old.entries
   pub limit : new.limit ≡ old.limit
   pub ended : new.ended ≡ old.ended

@@ -8,6 +8,7 @@ use Rattle.mc_outside.specs.Bytes.{BeginsWith}
 use Rattle.scrip_journal.specs.Layout.{body, framed, Encodes, Next, at_end, spoiled, next_of}
 use Rattle.scrip_journal.specs.declared.ending.Ending.{Ending}
 use Rattle.scrip_journal.specs.declared.ending.Ending.TheVariants.{Closed, Spoiled, Failed}
+use Rattle.mc_records.specs.declared.limits.TheConstants.Limits.{MOST_JOURNAL}
 
 -- a journal at rest
 pub record AtRest (D : Type 0) : Type 0 where
@@ -75,7 +76,7 @@ pub record IsReading {D : Type 0} (view : D → DiskView) (r : Reading D) (h : L
   pub bytes : List ℕ
   pub told : (view r.disk).contents ≡ Some bytes
   pub fits : AllByRecursion Fits h
-  pub most : size h ≤ 2 ^ 40
+  pub most : size h ≤ MOST_JOURNAL
   pub rest : List ℕ
   pub shape : bytes ≡ body h ++ rest
   pub gate_is : r.gate + 1 ≡ size h

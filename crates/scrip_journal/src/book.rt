@@ -16,11 +16,8 @@ use crate::found::found_journal;
 use crate::journal::{Journal, StageFault};
 use crate::open::open_journal;
 use mc_outside::{Disk, DiskFault};
-use mc_records::{Limits, Record};
+use mc_records::{EMPTY_JOURNAL, Limits, Record};
 use std::alloc::Global;
-
-/// A disk with more bytes than a journal without entries is not written over.
-const EMPTY_BOOK: u64 = 9;
 
 /// Founds a book by its first entry; it may grow to `limits.journal` bytes, for which the entry has room.
 ///
@@ -36,7 +33,7 @@ pub fn found_book<D: Disk>(
 ) -> Result<Journal<D>, HouseFault<D>>
     requires limits { AreInRange limits }
     requires fits { Fits (entry first.now) }
-    requires room { 9 + entry_size [] (entry first.now) ≤ limits.journal }
+    requires room { EMPTY_JOURNAL + entry_size [] (entry first.now) ≤ limits.journal }
     ensures moved { D.disk_moved disk (book_disk result) }
     ensures exact { (x : List ℕ) → (D.disk disk).contents ≡ Some x
         → FoundsBookBy D.disk (entry first.now ∷ []) x result }
@@ -58,7 +55,7 @@ fn empty_book<D: Disk>(alloc: Global, disk: D, limits: Limits) -> Result<Journal
     ensures moved { D.disk_moved disk (book_disk result) }
     ensures exact { (x : List ℕ) → (D.disk disk).contents ≡ Some x
         → FoundsBookBy D.disk [] x result }
-    ensures fresh { IfOk result (λ j. (j.size ≡ 9) × (j.limit ≡ limits.journal)) }
+    ensures fresh { IfOk result (λ j. (j.size ≡ EMPTY_JOURNAL) × (j.limit ≡ limits.journal)) }
     ensures ran { (x : List ℕ) → (D.disk disk).contents ≡ Some x
         → Ran (D.disk disk) (D.disk (book_disk result)) (ShortNoOutput (D.disk disk)) }
     ensures read { ReadsOnly D.disk disk result }
@@ -84,7 +81,7 @@ fn empty_small<D: Disk>(alloc: Global, disk: D, limits: Limits) -> Result<Journa
     requires limits { AreInRange limits }
     ensures moved { D.disk_moved disk (book_disk result) }
     ensures exact { (x : List ℕ) → (D.disk disk).contents ≡ Some x → ClearsSmall D.disk x result }
-    ensures fresh { IfOk result (λ j. (j.size ≡ 9) × (j.limit ≡ limits.journal)) }
+    ensures fresh { IfOk result (λ j. (j.size ≡ EMPTY_JOURNAL) × (j.limit ≡ limits.journal)) }
     ensures ran { (x : List ℕ) → (D.disk disk).contents ≡ Some x → IsSynced (D.disk disk)
         → Ran (D.disk disk) (D.disk (book_disk result)) (ShortNoOutput (D.disk disk)) }
     ensures read { ReadsOnly D.disk disk result }
@@ -95,7 +92,7 @@ fn empty_small<D: Disk>(alloc: Global, disk: D, limits: Limits) -> Result<Journa
         Ok(size) => size,
         Err(DiskFault) => return Err(HouseFault::Disk(disk)),
     };
-    if size > EMPTY_BOOK {
+    if size > EMPTY_JOURNAL {
         return Err(HouseFault::NotEmpty(disk, size));
     }
     match found_journal(alloc, disk, limits) {
@@ -112,8 +109,8 @@ fn enter_first<D: Disk>(
     first: &Record<'_>,
 ) -> Result<Journal<D>, HouseFault<D>>
     requires fits { Fits (entry first.now) }
-    requires empty { journal.size ≡ 9 }
-    requires room { 9 + entry_size [] (entry first.now) ≤ journal.limit }
+    requires empty { journal.size ≡ EMPTY_JOURNAL }
+    requires room { EMPTY_JOURNAL + entry_size [] (entry first.now) ≤ journal.limit }
     ensures moved { D.disk_moved journal.disk (book_disk result) }
     ensures exact { IsJournal D.disk journal [] → EntersFirst D.disk (entry first.now) result }
     ensures wrote { IsOfWriting result }

@@ -4,10 +4,11 @@ ghost use Rattle.std.specs.Prelude.{◌≡◌, [], List, ℕ, IfOk, IfErr, OnOk,
 ghost use Rattle.mc_outside.specs.Bytes.{Rose};
 ghost use Rattle.mc_outside.specs.DiskView.{Ran};
 ghost use Rattle.mc_records.specs.Limits.{AreInRange};
+ghost use Rattle.mc_records.specs.declared.sizes.TheConstants.{EMPTY_JOURNAL};
 ghost use Rattle.scrip_journal.specs.States.{IsJournal};
 ghost use Rattle.scrip_journal.specs.Opens.{found_disk, MatchOpenFault, NoLonger};
 
-use crate::cursor::{Cursor, new_buffer};
+use crate::cursor::{Cursor, FIRST_GATE, new_buffer};
 use crate::fault::OpenFault;
 use crate::journal::Journal;
 use mc_base::NoMemory;
@@ -33,7 +34,7 @@ pub fn found_journal<D: Disk>(
     ensures moved { D.disk_moved disk (found_disk result) }
     ensures founded { IfOk result (λ j. (x : List ℕ) → (D.disk disk).contents ≡ Some x
         → IsJournal D.disk j []) }
-    ensures fresh { IfOk result (λ j. (j.size ≡ 9) × (j.entries ≡ 0) × (j.limit ≡ limits.journal)) }
+    ensures fresh { IfOk result (λ j. (j.size ≡ EMPTY_JOURNAL) × (j.entries ≡ 0) × (j.limit ≡ limits.journal)) }
     ensures ran { Ran (D.disk disk) (D.disk (found_disk result)) (NoLonger (D.disk disk)) }
     ensures fault { IfErr result (λ f. MatchOpenFault f
         (λ d. ⊥)
@@ -56,7 +57,7 @@ pub fn found_journal<D: Disk>(
         return Err(OpenFault::Disk(disk));
     }
     let at = Cursor {
-        gate: 8,
+        gate: FIRST_GATE,
         entries: 0,
         limit: limits.journal,
         buf,

@@ -23,14 +23,16 @@ pub struct Journal<D> {
 }
 
 impl<D> Model for Journal<D> {
-    ghost use Rattle.std.specs.Prelude.{◌≡◌, ◌+◌, ◌<◌, ◌≤◌, ◌^◌, length};
+    ghost use Rattle.std.specs.Prelude.{◌≡◌, ◌+◌, ◌<◌, ◌≤◌, length};
     ghost use Rattle.scrip_journal.specs.States.{AtRest};
+    ghost use Rattle.scrip_journal.specs.declared.cursor.TheConstants.{BUFFER};
+    ghost use Rattle.mc_records.specs.declared.limits.TheConstants.Limits.{MOST_JOURNAL};
 
     ghost Value = { AtRest D };
 
     ghost view = { λ j. record { disk = j.disk; size = j.at.gate + 1; entries = j.at.entries; limit = j.at.limit } };
 
-    ghost invariant = { λ j. (j.at.gate < 2 ^ 40) × (j.at.entries ≤ j.at.gate) × (j.at.limit ≤ 2 ^ 40) × (length j.at.buf.items ≡ 131072) };
+    ghost invariant = { λ j. (j.at.gate < MOST_JOURNAL) × (j.at.entries ≤ j.at.gate) × (j.at.limit ≤ MOST_JOURNAL) × (length j.at.buf.items ≡ BUFFER) };
 }
 
 /// A journal whose disk failed while an entry was written. The entry is in doubt: from here on only

@@ -19,6 +19,7 @@ mod replay;
 mod staged;
 
 pub use book::found_book;
+pub use cursor::FIRST_GATE;
 pub use ending::ReplayFault;
 pub use fault::{HouseFault, OpenFault};
 pub use found::found_journal;

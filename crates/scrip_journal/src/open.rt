@@ -5,6 +5,7 @@ ghost use Rattle.mc_outside.specs.Bytes.{Rose};
 ghost use Rattle.mc_outside.specs.DiskView.{OnlyRead, IsSynced};
 ghost use Rattle.mc_records.specs.Limits.{AreInRange};
 ghost use Rattle.scrip_journal.specs.States.{IsReading};
+ghost use Rattle.scrip_journal.specs.declared.cursor.TheConstants.{FIRST_GATE};
 ghost use Rattle.scrip_journal.specs.Opens.{open_disk, MatchOpenFault, OpensBy};
 
 use crate::cursor::new_buffer;
@@ -31,7 +32,7 @@ pub fn open_journal<D: Disk>(
     ensures read { OnlyRead (D.disk disk) (D.disk (open_disk result)) }
     ensures opened { IfOk result (λ r. (x : List ℕ) → (D.disk disk).contents ≡ Some x
         → IsReading D.disk r []) }
-    ensures fresh { IfOk result (λ r. (r.gate ≡ 8) × (r.entries ≡ 0) × (r.limit ≡ limits.journal)
+    ensures fresh { IfOk result (λ r. (r.gate ≡ FIRST_GATE) × (r.entries ≡ 0) × (r.limit ≡ limits.journal)
         × (r.ended ≡ None)) }
     ensures exact { (x : List ℕ) → (D.disk disk).contents ≡ Some x → OpensBy x result }
     ensures fault { IfErr result (λ f. MatchOpenFault f

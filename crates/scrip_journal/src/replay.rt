@@ -12,21 +12,18 @@ ghost use Rattle.scrip_journal.specs.Layout.{header};
 ghost use Rattle.scrip_journal.specs.Replays.{Advanced, ReadAhead, FaultsBy, IsFrame, EndsHere, IsCut, AllHeld, TookEntry, FoundHeader};
 ghost use Rattle.scrip_journal.specs.declared.ending.Ending.TheVariants.{Closed};
 
-use crate::cursor::{BUFFER, Cursor};
+use crate::cursor::{BUFFER, Cursor, FIRST_GATE};
 use crate::ending::{Ending, ReplayFault};
 use crate::journal::Journal;
 use mc_outside::{Disk, DiskFault};
-use mc_records::{Record, read_record};
+use mc_records::{Limits, PAYLOAD_BOUND, Record, read_record};
 use std::marker::Model;
 
 /// What a journal begins with.
 const HEADER: [u8; 8] = *b"MCJRNL1\n";
 
-/// The lengths of payloads are below this.
-const MAX_PAYLOAD: u64 = 131_066;
-
 /// No journal goes past this place.
-const LAST_PLACE: u64 = 1 << 40;
+const LAST_PLACE: u64 = Limits::MOST_JOURNAL;
 
 /// A journal that is read, entry by entry, from its first on. It owns its disk and never lends it.
 /// Contracts see the disk, the place of the next gate, how many entries stand before it, the bytes from
@@ -49,12 +46,14 @@ pub struct Replay<D> {
 impl<D> Model for Replay<D> {
     ghost use Rattle.std.specs.Prelude.{◌≡◌, ◌+◌, ◌-◌, ◌<◌, ◌≤◌, ◌^◌, length, slice_range};
     ghost use Rattle.scrip_journal.specs.States.{Reading};
+    ghost use Rattle.scrip_journal.specs.declared.cursor.TheConstants.{BUFFER};
+    ghost use Rattle.mc_records.specs.declared.limits.TheConstants.Limits.{MOST_JOURNAL};
 
     ghost Value = { Reading D };
 
     ghost view = { λ r. record { disk = r.disk; gate = r.gate; entries = r.entries; limit = r.limit; held = slice_range r.buf.items r.start r.end; last = slice_range r.buf.items (r.start - r.last) r.start; ended = r.ended } };
 
-    ghost invariant = { λ r. (r.gate < 2 ^ 40) × (r.entries ≤ r.gate) × (r.limit ≤ 2 ^ 40) × (length r.buf.items ≡ 131072) × (r.start ≤ r.end) × (r.end ≤ 131072) × (r.last ≤ r.start) };
+    ghost invariant = { λ r. (r.gate < MOST_JOURNAL) × (r.entries ≤ r.gate) × (r.limit ≤ MOST_JOURNAL) × (length r.buf.items ≡ BUFFER) × (r.start ≤ r.end) × (r.end ≤ BUFFER) × (r.last ≤ r.start) };
 }
 
 impl<D: Disk> Replay<D> {
@@ -99,8 +98,8 @@ impl<D: Disk> Replay<D> {
 
     /// A reading from the front of the disk on.
     pub(crate) fn at_front(disk: D, limit: u64, buf: Vec<u8>) -> Replay<D>
-        requires limit { limit ≤ 2 ^ 40 }
-        requires buffer { length buf.items ≡ 131072 }
+        requires limit { limit ≤ Limits.MOST_JOURNAL }
+        requires buffer { length buf.items ≡ BUFFER }
         ensures { result ≡ record { disk = disk; gate = 0; entries = 0; limit = limit; held = []; last = []; ended = None } }
     {
         Replay {
@@ -140,7 +139,7 @@ impl<D: Disk> Replay<D> {
             return Ok(false);
         }
         self.start += 8;
-        self.gate = 8;
+        self.gate = FIRST_GATE;
         Ok(true)
     }
 
@@ -217,7 +216,7 @@ impl<D: Disk> Replay<D> {
             return Err(ending);
         }
         let length = self.payload_length();
-        if length >= MAX_PAYLOAD || LAST_PLACE < self.gate + length + 6 {
+        if length >= PAYLOAD_BOUND || LAST_PLACE < self.gate + length + 6 {
             return Err(Ending::Spoiled(self.gate + 1));
         }
         let length = length as usize;
@@ -245,7 +244,7 @@ impl<D: Disk> Replay<D> {
         requires { 5 ≤ length self.now.held }
         ensures value { result ≡ from_be_bytes w32 (take 4 (drop 1 self.now.held)) }
         ensures bytes { take 4 (drop 1 self.now.held) ≡ to_be_bytes w32 result }
-        ensures gate { self.now.gate < 2 ^ 40 }
+        ensures gate { self.now.gate < Limits.MOST_JOURNAL }
     {
         let from = self.start + 1;
         length_at(&self.buf[from..from + 4])
@@ -254,7 +253,7 @@ impl<D: Disk> Replay<D> {
     /// Reads on until so many bytes are held, from the gate on; where the disk ends before, its end is the
     /// place from which on the bytes can't stand.
     fn hold(&mut self, count: usize) -> Result<(), Ending>
-        requires { count ≤ 131072 }
+        requires { count ≤ BUFFER }
         ensures moved { D.disk_moved self.old.disk self.new.disk }
         ensures ahead { ReadAhead D.disk self.old self.new }
         ensures cause { FaultsBy result (D.disk self.old.disk).faults (D.disk self.new.disk).faults }
@@ -280,7 +279,7 @@ impl<D: Disk> Replay<D> {
 
     /// Reads a piece behind the bytes held. Answers how many bytes that are: 0 at the disk's end.
     fn read_piece(&mut self) -> Result<usize, DiskFault>
-        requires room { length self.old.held < 131072 }
+        requires room { length self.old.held < BUFFER }
         ensures moved { D.disk_moved self.old.disk self.new.disk }
         ensures ahead { ReadAhead D.disk self.old self.new }
         ensures cause { HasCause (D.disk self.old.disk).faults (D.disk self.new.disk).faults result }

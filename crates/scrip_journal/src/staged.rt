@@ -20,14 +20,16 @@ pub struct Staged<D> {
 }
 
 impl<D> Model for Staged<D> {
-    ghost use Rattle.std.specs.Prelude.{◌≡◌, ◌+◌, ◌<◌, ◌≤◌, ◌^◌, length};
+    ghost use Rattle.std.specs.Prelude.{◌≡◌, ◌+◌, ◌<◌, ◌≤◌, length};
     ghost use Rattle.scrip_journal.specs.States.{WithNext};
+    ghost use Rattle.scrip_journal.specs.declared.cursor.TheConstants.{BUFFER};
+    ghost use Rattle.mc_records.specs.declared.limits.TheConstants.Limits.{MOST_JOURNAL};
 
     ghost Value = { WithNext D };
 
     ghost view = { λ s. record { disk = s.disk; gate = s.at.gate; size = s.next + 1; entries = s.at.entries; limit = s.at.limit } };
 
-    ghost invariant = { λ s. (s.at.gate < s.next) × (s.next < 2 ^ 40) × (s.at.entries ≤ s.at.gate) × (s.at.limit ≤ 2 ^ 40) × (length s.at.buf.items ≡ 131072) };
+    ghost invariant = { λ s. (s.at.gate < s.next) × (s.next < MOST_JOURNAL) × (s.at.entries ≤ s.at.gate) × (s.at.limit ≤ MOST_JOURNAL) × (length s.at.buf.items ≡ BUFFER) };
 }
 
 impl<D: Disk> Staged<D> {

@@ -20,7 +20,7 @@ returns-in-Err-hold-2-clause-ends g c =
     let n_is = ap (λ (l : List ℕ). from_be_bytes w32 l) stays ∙ sym c.payload_length-length.ensures.value in
     let five = longer c.hold-2.new.self.held c.hold-3.new.self.held more 5 c.in_default-hold.ensures.enough in
     let here = ap (λ (v : Reading g.row.D.Denot). v.gate) c.self.view_is in
-    ends_in_payload g.D.Disk.disk c.args.self.now c.hold-3.new.self ahead opened five c.payload_length-length.result n_is c.if-length-ge-MAX_PAYLOAD.false
+    ends_in_payload g.D.Disk.disk c.args.self.now c.hold-3.new.self ahead opened five c.payload_length-length.result n_is c.if-length-ge-PAYLOAD_BOUND.false
     (omega (arith, c.if-self-length-gt-LAST_PLACE.false, here, c.hold.ensures.ahead.same.gate, c.hold-2.ensures.ahead.same.gate)) c.in-Err-hold-2.ending
     (cut_then g.D.Disk.disk c.args.self.now c.hold-2.new.self c.hold-3.new.self _ c.in-Err-hold-2.ending ahead_to_length c.in-Err-hold-2.ensures.short)
 
@@ -44,7 +44,7 @@ returns-in-Some-clause-ends g c =
     let there = ap (λ (v : Reading g.row.D.Denot). v.gate) c.self-2.view_is in
     let gate : c.args.self.now.gate ≡ c.self-2.inside.gate = omega (arith, there, ahead.same.gate) in
     subst (λ (k : ℕ). EndsHere g.D.Disk.disk c.args.self.now (Spoiled (k + 5 + c.in-Some.place))) gate
-    (ends_at_fault g.D.Disk.disk c.args.self.now c.hold-3.new.self ahead opened five c.payload_length-length.result n_is c.if-length-ge-MAX_PAYLOAD.false
+    (ends_at_fault g.D.Disk.disk c.args.self.now c.hold-3.new.self ahead opened five c.payload_length-length.result n_is c.if-length-ge-PAYLOAD_BOUND.false
     (omega (arith, c.if-self-length-gt-LAST_PLACE.false, here, c.hold.ensures.ahead.same.gate, c.hold-2.ensures.ahead.same.gate)) c.in_default-hold-2.ensures.enough c.in-Some.place c.in-Some.ensures.fault)
 
 pub returns-clause-moved : goal.returns-clause-moved
