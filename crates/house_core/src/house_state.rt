@@ -21,16 +21,10 @@ use crate::verdict::Authorization;
 use change_issue::Issuer;
 use kept_replies::{Kept, KeptEntry};
 use mc_base::{Moment, NoMemory, Total};
-use mc_records::{Limits, PieceList, Record, Refusal, Request, SiteTerms};
+use mc_records::{EMPTY_JOURNAL, FRAME, Limits, PieceList, Record, Refusal, Request, SiteTerms};
 use scrip_form::{Id, Name, Piece, Terms};
 use std::alloc::Global;
 use std::marker::Model;
-
-/// The bytes of a journal of no entries: the header and the first gate.
-const EMPTY_JOURNAL: u64 = 9;
-
-/// What an entry adds to a journal beside its payload: the payload's length, and the gate behind it.
-const FRAME: u64 = 5;
 
 /// What a house keeps in place of its history, beside its trade. Contracts see it as the record
 /// `HouseStateView`.

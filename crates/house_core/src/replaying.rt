@@ -112,7 +112,7 @@ impl<T: Trade> Bench<T> {
             → IfOk result (λ u. HasContents T.trade self.new (h ++ entry r.now ∷ [])) }
     {
         let bytes = r.payload_len();
-        match fitted(&self.state, 1 << 40, bytes) {
+        match fitted(&self.state, Limits::MOST_JOURNAL, bytes) {
             Ok(()) => (),
             Err(_) => return Err(ReplayEnd::Unlawful),
         }
@@ -163,7 +163,7 @@ fn unbounded_of(limits: Limits) -> Limits
     ensures { result ≡ unbounded limits }
 {
     Limits {
-        journal: 1 << 40,
+        journal: Limits::MOST_JOURNAL,
         series: limits.series,
     }
 }

@@ -15,11 +15,8 @@ use house_core::{Bench, House, ReplayEnd, SiteKind, Trade};
 use mc_base::NoMemory;
 use mc_outside::Disk;
 use mc_records::{Limits, Record};
-use scrip_journal::{HouseFault, OpenFault, Replay, ReplayFault, open_journal};
+use scrip_journal::{FIRST_GATE, HouseFault, OpenFault, Replay, ReplayFault, open_journal};
 use std::alloc::Global;
-
-/// The place of the first gate.
-const FIRST_GATE: u64 = 8;
 
 /// Why a book was not learned.
 #[derive(Clone, Copy, Debug, PartialEq, Eq)]
