@@ -2,6 +2,7 @@
 use Rattle.std.proofs.Common.{◌≡◌, ◌⊎◌, ◌↔◌, inl, inr, ⊎_elim, Bool, true, ℕ, ◌+◌, ◌-◌, ◌≤◌, List, length, drop, ◌++◌, refl, sym, ◌∙◌, ap, subst, arith}
 use Rattle.std.specs.Prelude.{slice_range}
 use Rattle.mc_records.specs.declared.refusal.Refusal.TheVariants.{HeadTooLarge}
+use Rattle.millicent_http.specs.declared.reader.TheConstants.{MAX_ITEMS}
 use Rattle.millicent_http.specs.HeadEnds.{line_ends, HasNoEnd, IsFirstEnd}
 use Rattle.millicent_http.specs.Items.{Item, refused, max_head, ReadsItem, NextItem}
 use Rattle.mc_outside.specs.LinkView.{LinkView, after_recv}
@@ -48,8 +49,8 @@ buffer_behind buf start stop front searched from b le = record {
 }
 
 -- what closes the link
-pub ends_link : (P : Type 0) (close last : Bool) (given counted : ℕ) → P ↔ ((close ≡ true) ⊎ (last ≡ true)) → (last ≡ true) ↔ (counted ≡ 1000) → given ≡ counted
-    → P ↔ ((close ≡ true) ⊎ (given ≡ 1000))
+pub ends_link : (P : Type 0) (close last : Bool) (given counted : ℕ) → P ↔ ((close ≡ true) ⊎ (last ≡ true)) → (last ≡ true) ↔ (counted ≡ MAX_ITEMS) → given ≡ counted
+    → P ↔ ((close ≡ true) ⊎ (given ≡ MAX_ITEMS))
 ends_link P close last given counted p l e = (
   (λ h. ⊎_elim (λ c. inl c) (λ n. inr (e ∙ l.0 n)) (p.0 h)),
   (λ h. p.1 (⊎_elim (λ c. inl c) (λ n. inr (l.1 (sym e ∙ n))) h)),

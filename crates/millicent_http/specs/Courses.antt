@@ -7,6 +7,7 @@ use Rattle.millicent_http.specs.declared.clock.Clock.TheVariants.{OfLinks, At}
 use Rattle.millicent_http.specs.Items.{Item, closes, Heads}
 use Rattle.millicent_http.specs.Reads.{HaveRead, NoneCloses}
 use Rattle.millicent_http.specs.Steps.{StepRelation, Did, sent_of, state_after, Run}
+use Rattle.millicent_http.specs.declared.reader.TheConstants.{MAX_ITEMS}
 
 -- ---- the clock
 
@@ -28,16 +29,16 @@ pub record Replied {S : Type 0} (Step : StepRelation S) (clock : Clock) (items :
 
 -- ---- one link
 
--- the last of these items closes the link, or is the 1,000th
+-- the last of these items closes the link, or is the last that one may have
 abbrev pub EndLink : List Item → Type 0
-EndLink items = (length items ≡ 1000) ⊎ ((front : List Item) × (last : Item) × (items ≡ front ++ last ∷ []) × (closes last ≡ true))
+EndLink items = (length items ≡ MAX_ITEMS) ⊎ ((front : List Item) × (last : Item) × (items ≡ front ++ last ∷ []) × (closes last ≡ true))
 
 -- these are the first items on a link with these bytes, and one more
 pub record AreFirst (got : List ℕ) (front : List Item) (last : Item) : Type 0 where
   pub held : List ℕ
   pub read : HaveRead got (front ++ last ∷ []) held
   pub open' : NoneCloses front
-  pub few : length front < 1000
+  pub few : length front < MAX_ITEMS
 
 -- Every item of what was received was answered, and the link was read to its end, or to an item that
 -- ends it.

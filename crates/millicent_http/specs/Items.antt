@@ -10,6 +10,7 @@ use Rattle.mc_records.specs.declared.refusal.Refusal.TheVariants.{BadHead, HeadT
 use Rattle.millicent_http.specs.HeadEnds.{line_ends, HasNoEnd, IsFirstEnd}
 use Rattle.millicent_http.specs.Fields.{values, host_is_fit, says_body, says_close, at_most_one, first_of}
 use Rattle.scrip_form.specs.Texts.{is_target}
+use Rattle.millicent_http.specs.declared.reader.TheConstants.{MAX_HEAD, MAX_ITEMS}
 
 -- a request or a refusal, and whether the link ends after its reply
 pub data Item : Type 0 where
@@ -49,7 +50,7 @@ ReadsItem text item =
 
 -- the greatest head, with the line ends before it
 unfoldable pub max_head : ℕ
-max_head = 8192
+max_head = MAX_HEAD
 
 -- the bytes begin with this item, and these bytes follow it
 pub record IsWhole (bytes : List ℕ) (end : ℕ) (item : Item) (rest : List ℕ) : Type 0 where
@@ -80,4 +81,4 @@ AreItems limit bytes (item ∷ items) =
 
 -- the items on a link
 abbrev pub Heads : List ℕ → List Item → Type 0
-Heads bytes items = AreItems 1000 bytes items
+Heads bytes items = AreItems MAX_ITEMS bytes items

@@ -11,17 +11,18 @@ use Rattle.millicent_http.specs.declared.item.After.TheVariants.{Close}
 use Rattle.millicent_http.specs.Items.{Item, request, refused, closes, max_head, NextItem, EndsNoItem}
 use Rattle.millicent_http.specs.Held.{Held}
 use Rattle.millicent_http.specs.HeadRefusals.{as_refusal}
+use Rattle.millicent_http.specs.declared.reader.TheConstants.{MAX_ITEMS}
 
 abbrev pub item_of : ItemRef → Item
 item_of (RequestItem q closing) = request (asked_of q) closing
 item_of (RefusedItem f closing) = refused (as_refusal f) closing
 
 -- The bytes begin with this item, which was taken off and counted. The link ends after it where the
--- item closes it or is the 1,000th.
+-- item closes it or is the last that a link may have.
 pub record TookItem (bytes : List ℕ) (given : ℕ) (item : Item) (after : After) (new : Held) : Type 0 where
   pub next : NextItem bytes item new.bytes
-  pub given_is : new.given ≡ min (given + 1) 1000
-  pub after_is : (after ≡ Close) ↔ ((closes item ≡ true) ⊎ (new.given ≡ 1000))
+  pub given_is : new.given ≡ min (given + 1) MAX_ITEMS
+  pub after_is : (after ≡ Close) ↔ ((closes item ≡ true) ⊎ (new.given ≡ MAX_ITEMS))
 
 -- the next item of the bytes held was given
 abbrev pub Gave : Held → HeadOut → Held → Type 0

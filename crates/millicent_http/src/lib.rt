@@ -18,7 +18,7 @@ mod whole;
 pub use clock::Clock;
 pub use item::{After, HeadOut, HeadRefusal, ItemRef};
 pub use law::{a_refusal_has_a_status, a_request_asks_a_target, one_reading};
-pub use reader::{HeadReader, MAX_HEAD};
+pub use reader::{HeadReader, MAX_HEAD, MAX_ITEMS};
 pub use reply::ReplyHead;
 pub use reply_head::write_reply_head;
 pub use reply_text::write_reply_text;

@@ -10,7 +10,7 @@ use std::marker::Model;
 pub const MAX_HEAD: usize = 8192;
 
 /// The most items that one link may have.
-const MAX_ITEMS: u16 = 1000;
+pub const MAX_ITEMS: u16 = 1000;
 
 /// Why the reader stopped receiving.
 enum Awaited {
@@ -45,12 +45,13 @@ pub struct HeadReader {
 impl Model for HeadReader {
     ghost use Rattle.std.specs.Prelude.{◌≤◌, slice_range};
     ghost use Rattle.millicent_http.specs.Held.{Held, IsBuffer};
+    ghost use Rattle.millicent_http.specs.declared.reader.TheConstants.{MAX_ITEMS};
 
     ghost Value = { Held };
 
     ghost view = { λ r. record { bytes = slice_range r.buf.items r.start r.end; given = r.given } };
 
-    ghost invariant = { λ r. IsBuffer r.buf.items r.start r.end r.skip r.searched × (r.given ≤ 1000) };
+    ghost invariant = { λ r. IsBuffer r.buf.items r.start r.end r.skip r.searched × (r.given ≤ MAX_ITEMS) };
 }
 
 impl HeadReader {
@@ -148,8 +149,8 @@ impl HeadReader {
     /// Counts one more item. True for the last that a link may have.
     fn count(&mut self) -> bool
         ensures bytes { self.new.bytes ≡ self.old.bytes }
-        ensures given { self.new.given ≡ min (self.old.given + 1) 1000 }
-        ensures last { (result ≡ true) ↔ (self.new.given ≡ 1000) }
+        ensures given { self.new.given ≡ min (self.old.given + 1) MAX_ITEMS }
+        ensures last { (result ≡ true) ↔ (self.new.given ≡ MAX_ITEMS) }
     {
         self.given = (self.given + 1).min(MAX_ITEMS);
         self.given == MAX_ITEMS
