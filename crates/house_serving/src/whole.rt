@@ -8,10 +8,7 @@ ghost use Rattle.house_core.specs.Session.{Step};
 
 use house_core::{Bench, Presented, Trade};
 use mc_base::{Moment, NoMemory};
-use millicent_http::{ItemRef, next_item};
-
-/// The most items of a link.
-const MOST_ITEMS: u32 = 1000;
+use millicent_http::{ItemRef, MAX_ITEMS, next_item};
 
 /// Appends the replies to a link whose bytes are all there, by a clock that stands at a moment: those
 /// that [`serve_bench_by`](crate::serve_bench_by) sends on it. An `Err` leaves a part of them.
@@ -26,7 +23,7 @@ pub fn reply_to_link<T: Trade>(
     ensures replied { OnOk result (Refines T.trade (BySteps (λ steps s. (out.new.items ≡ sent_of steps) × IsSession (Step (limits_of bench.old)) moment link.now s steps)) bench.old bench.new) }
 {
     let mut rest = link;
-    for _ in 0..MOST_ITEMS {
+    for _ in 0..MAX_ITEMS {
         let Some((item, tail)) = next_item(rest) else {
             return Ok(());
         };

@@ -16,13 +16,12 @@ use crate::lines::{goods_line, licence_line};
 use crate::operation::{Licensing, Listing, Minting, Operation, Pricing};
 use crate::serving::not_opened;
 use crate::status::Status;
-use crate::words::MOST_CONTENTS;
 use house_core::{House, Outcome, Trade};
 use house_opening::open_house;
 use house_serving::raise_by_clock;
 use mc_base::List;
 use mc_outside::Outside;
-use mc_records::{Limits, Refusal};
+use mc_records::{Limits, MOST_CONTENTS, Refusal};
 use std::alloc::Global;
 use vendor_core::{Shelf, add_terms, mint, set_goods, set_price};
 
@@ -72,7 +71,7 @@ fn operate_goods<O: Outside>(
     };
     let _reading = raise_by_clock(&mut house);
     if contents.len() > MOST_CONTENTS {
-        return (house.close(), Status::Refused(Refusal::ContentsFull(65537)));
+        return (house.close(), Status::Refused(Refusal::ContentsFull(MOST_CONTENTS as u64 + 1)));
     }
     closed_with(
         set_goods(

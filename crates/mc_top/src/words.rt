@@ -18,14 +18,12 @@ mod terms;
 use crate::command::Command;
 use crate::shop::Shop;
 use init::founder_of;
+use mc_records::MOST_CONTENTS;
 use number::amount_of;
 use operation::operation_of;
 use scrip_certs::of_hex;
 use scrip_form::{Name, Target};
 use serve::server_of;
-
-/// The most bytes of the contents that are sold for one target.
-pub(crate) const MOST_CONTENTS: usize = 65536;
 
 /// The most bytes of a word that names a book or a place to listen at.
 const MOST_PLACE: usize = 255;

@@ -9,7 +9,7 @@ use mc_fields::number_of;
 use scrip_form::Name;
 
 /// The most pieces that are minted at once.
-const MOST_PIECES: u64 = 256;
+const MOST_PIECES: u64 = mc_records::MOST_PIECES as u64;
 
 /// The minting that the words `vendor mint BOOK COUNT VALUE REFERENCE` give; None exactly where they are
 /// of no minting.

@@ -4,10 +4,10 @@ ghost use Rattle.mc_top.specs.Words.{IsKeepingTime, option_words};
 use mc_fields::number_of;
 
 /// The least keeping time, in seconds.
-const LEAST_KEEP: u64 = 60;
+const LEAST_KEEP: u64 = mc_records::LEAST_KEEP as u64;
 
 /// The greatest keeping time, in seconds.
-const MOST_KEEP: u64 = 86400;
+const MOST_KEEP: u64 = mc_records::MOST_KEEP as u64;
 
 /// The options of `vendor init`: the keeping time, where the words say one, and whether requests are
 /// taken without a signature.

@@ -9,7 +9,7 @@ use mc_fields::number_of;
 use scrip_form::Terms;
 
 /// The greatest period and the greatest life of terms, in seconds.
-const MOST_SECONDS: u64 = 1 << 24;
+const MOST_SECONDS: u64 = Terms::MOST_SECONDS as u64;
 
 /// The words `PERIOD LIFE SCRIP CUSTOMER` as bytes.
 #[derive(Clone, Copy)]
