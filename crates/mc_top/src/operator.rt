@@ -71,7 +71,10 @@ fn operate_goods<O: Outside>(
     };
     let _reading = raise_by_clock(&mut house);
     if contents.len() > MOST_CONTENTS {
-        return (house.close(), Status::Refused(Refusal::ContentsFull(MOST_CONTENTS as u64 + 1)));
+        return (
+            house.close(),
+            Status::Refused(Refusal::ContentsFull(MOST_CONTENTS as u64 + 1)),
+        );
     }
     closed_with(
         set_goods(
