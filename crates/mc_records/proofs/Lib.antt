@@ -7,3 +7,4 @@ pub mod PieceLaws
 pub mod ReadLaws
 pub mod PayloadSizes
 pub mod SizeLaws
+pub mod ErrandLaws

@@ -12,3 +12,5 @@ pub mod Pieces
 pub mod PieceViews
 pub mod Views
 pub mod Cells
+pub mod Errands
+pub mod ErrandViews

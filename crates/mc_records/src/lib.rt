@@ -8,6 +8,9 @@
 mod appending;
 mod cells;
 mod date_law;
+mod errand;
+mod errand_law;
+mod errand_reading;
 mod kinds;
 mod law;
 mod limits;
@@ -26,6 +29,9 @@ mod writing;
 
 pub use appending::write_record;
 pub use date_law::date_of_its_second;
+pub use errand::Errand;
+pub use errand_law::errands_are_texts;
+pub use errand_reading::read_errand;
 pub use law::{bytes_after_a_payload, no_payload_begins_another, payloads_are_short};
 pub use limits::Limits;
 pub use piece_list::PieceList;

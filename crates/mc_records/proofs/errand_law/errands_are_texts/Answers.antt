@@ -1,0 +1,8 @@
+use Rattle.mc_records.proofs.ErrandLaws.{errand_told, errand_read}
+use Rattle.mc_records.proofs.errand_law.errands_are_texts.Goals as goal
+
+pub returns-clause-told : goal.returns-clause-told
+returns-clause-told c = errand_told
+
+pub returns-clause-read : goal.returns-clause-read
+returns-clause-read c = errand_read
