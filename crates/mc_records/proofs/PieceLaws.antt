@@ -9,7 +9,7 @@ use Rattle.mc_fields.specs.Reading.{Read, ◌>>=◌, whole}
 use Rattle.mc_fields.specs.Field.{Field, spelled, field_bytes}
 use Rattle.mc_fields.specs.Form.{Form, repeated, run, all_of, str_at, counted_at}
 use Rattle.mc_fields.proofs.FieldBytes.{IsBytes, IsBytes-take, IsBytes-rest, ok_is}
-use Rattle.mc_fields.proofs.FormLaws.{path_fields, run_takes, run_reads, whole_takes, whole_reads, one_more, repeated_tells}
+use Rattle.mc_fields.proofs.FormLaws.{path_fields, run_takes, run_reads, whole_takes, whole_reads, one_more, repeated_tells, repeated_leads}
 use Rattle.mc_records.specs.declared.ranges.TheConstants.{MOST_PIECES}
 use Rattle.mc_records.specs.Entry.{Held, HeldFits, ArePieces, held_fields}
 use Rattle.mc_records.specs.Forms.{held_form}
@@ -298,3 +298,56 @@ not_got count n bytes left are lt h =
     let e = in_list count n bytes are lt in
     let r = sym e.found ∙ h in
     absurd cc
+
+-- ---- the first element and the others
+
+bytes_of_list : (count : ℕ) (bytes : List ℕ) → are_pieces count bytes ≡ true → IsBytes bytes
+unfolding are_pieces
+bytes_of_list count bytes are = are_bytes bytes (and_parts _ _ (and_parts _ _ (and_parts _ _ are).1).1).0
+
+all_read : (ps : List Held) → AllByRecursion HeldFits ps → all_of (repeated (length ps) held_form) (pieces_bytes ps) ≡ Ok ps
+all_read ps good =
+    let l = repeated_leads held_form held_fields HeldFits held_described ps good in
+    let form = repeated (length ps) held_form in
+    ap (λ (fs : List Field). all_of form (spelled fs)) (sym l.is_spelled) ∙ whole_reads form l.path ∙ ap found l.is_answer
+  where
+    found : List Held → Result (List Held) ℕ
+    found x = Ok x
+
+no_more : (ps : List Held) → length ps ≡ 0 → ps ≡ []
+no_more [] e = refl
+no_more (p ∷ ps) e = absurd (omega (arith, e))
+
+pub record Split (count : ℕ) (bytes : List ℕ) : Type 0 where
+  pub first : Held
+  pub rest : List ℕ
+  pub others : List Held
+  pub read : run held_form bytes ≡ Ok (first, rest)
+  pub good : HeldFits first
+  pub is : pieces_in count bytes ≡ first ∷ others
+  pub last : count ≡ 1 → others ≡ []
+  pub are : 1 < count → are_pieces (count - 1) rest ≡ true
+  pub left : 1 < count → pieces_in (count - 1) rest ≡ others
+
+pub split : (count : ℕ) (bytes : List ℕ) → are_pieces count bytes ≡ true → Split count bytes
+split count bytes are = let l = list_is count bytes are in go (pieces_in count bytes) refl l.counted l.good l.spelled
+  where
+    go : (ps : List Held) → pieces_in count bytes ≡ ps → length ps ≡ count → ArePieces ps → bytes ≡ pieces_bytes ps → Split count bytes
+    go [] e counted good text = absurd (omega (arith, good.some))
+    go (p ∷ qs) e counted good text =
+        let all = all_read qs good.held.1 in
+        let read : run held_form bytes ≡ Ok (p, pieces_bytes qs) = ap (run held_form) text ∙ held_reads p qs good.held.0 in
+        let fits = (run_takes held_form bytes (p, pieces_bytes qs) (bytes_of_list count bytes are) read).takes.rest_fits in
+        let n : length qs ≡ count - 1 = omega (arith, counted) in
+        record {
+          first = p;
+          rest = pieces_bytes qs;
+          others = qs;
+          read = read;
+          good = good.held.0;
+          is = e;
+          last = λ one. no_more qs (omega (arith, one, counted));
+          are = λ more. subst (λ (k : ℕ). are_pieces k (pieces_bytes qs) ≡ true) n
+              (are_list (length qs) (pieces_bytes qs) qs fits (omega (arith, more, n)) (omega (arith, good.few)) all);
+          left = λ more. subst (λ (k : ℕ). pieces_in k (pieces_bytes qs) ≡ qs) n (ap listed all);
+        }

@@ -2,6 +2,7 @@ ghost use Rattle.std.specs.Prelude.{IsTrue};
 ghost use Rattle.mc_records.specs.Pieces.{are_pieces};
 
 use crate::listing::{count_of, element};
+use crate::parts::held;
 use scrip_form::{ScripRef, read_scrip};
 
 /// 1 to 256 scrip texts, each with its customer secret. It borrows the joined bytes of its elements,
@@ -14,10 +15,10 @@ pub struct PieceList<'a> {
 }
 
 impl<'a> PieceList<'a> {
-    ghost use Rattle.std.specs.Prelude.{◌≡◌, List, IfSome, IsSomeAnd, option_map, slice_get, length};
+    ghost use Rattle.std.specs.Prelude.{◌≡◌, ◌∷◌, List, IfSome, IsSomeAnd, option_map, slice_get, length};
     ghost use Rattle.mc_records.specs.Entry.{Held, ArePieces};
     ghost use Rattle.mc_records.specs.Pieces.{are_pieces, pieces_bytes};
-    ghost use Rattle.mc_records.specs.PieceViews.{pieces_of, piece_of};
+    ghost use Rattle.mc_records.specs.PieceViews.{pieces_of, piece_of, pieces_left};
 
     /// The list of these joined bytes; None exactly where they aren't 1 to 256 elements.
     pub fn read(bytes: &'a [u8]) -> Option<PieceList<'a>>
@@ -72,6 +73,28 @@ impl<'a> PieceList<'a> {
         match read_scrip(piece.0) {
             Ok(scrip) => Some((scrip, secret)),
             Err(_) => None,
+        }
+    }
+
+    /// The first piece with its secret, and the list of the others, where there are any. Going over a list
+    /// by this call reads each element once.
+    pub fn split_first(&self) -> ((ScripRef<'a>, [u8; 16]), Option<PieceList<'a>>)
+        ensures { pieces_of self.now ≡ piece_of result.0 ∷ pieces_left result.1 }
+    {
+        let (piece, rest) = match held(self.bytes) {
+            Ok(read) => read,
+            // A list has a first element.
+            Err(_) => unreachable!(),
+        };
+        let scrip = match read_scrip(piece.0) {
+            Ok(scrip) => scrip,
+            // The text of an element is a scrip text.
+            Err(_) => unreachable!(),
+        };
+        if self.count > 1 {
+            ((scrip, piece.1), Some(PieceList::of(rest, self.count - 1)))
+        } else {
+            ((scrip, piece.1), None)
         }
     }
 }
