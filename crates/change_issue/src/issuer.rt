@@ -60,6 +60,13 @@ impl Issuer {
         }
     }
 
+    /// The terms that it hands out pieces by.
+    pub fn terms(&self) -> &Terms
+        ensures { result.now ≡ self.now.terms }
+    {
+        &self.terms
+    }
+
     /// Makes room for a series. Where it has room it is `Ok` and takes no memory. It changes nothing
     /// else, and after an `Err` all is as it was.
     pub fn reserve(&mut self, series: u32) -> Result<(), NoMemory>

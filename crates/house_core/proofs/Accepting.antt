@@ -92,8 +92,7 @@ stands_as_before {old = old} {new = new} {h = h} st is = record {
   clear = st.clear ∙ sym is.clear;
   keep = st.keep ∙ sym is.keep;
   terms = st.terms ∙ sym is.terms;
-  own_terms = st.own_terms ∙ ap some (sym is.own_terms);
-  issuer = is.issuer ∙ st.issuer ∙ sym is.own_terms;
+  own_terms = st.own_terms ∙ ap some (sym is.issuer);
   in_time = omega (arith, st.in_time, is.time);
   spent = λ id live. st.spent id (subst (λ (t : ℕ). has_ended h t id ≡ false) is.time live) ∙ sym (is.spent id);
   again = λ t q later. st.again t q (omega (arith, later, is.time)) ∙ same_found t q;
@@ -167,7 +166,6 @@ as_it_was b = record {
   name = refl;
   clear = refl;
   terms = refl;
-  own_terms = refl;
   time = refl;
   limits = refl;
   spent = λ id. refl;

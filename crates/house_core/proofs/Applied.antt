@@ -173,8 +173,7 @@ stands_applied {old = old} {new = new} {h = h} st e bytes command at goes may le
       keep = ap (λ (o : Option House). unwrap_or (option_map (λ x. x.keep) o) 0) same.house ∙ st.keep ∙ ap (λ (k : KeptView). k.keep) (sym is.kept);
       terms = terms ∙ ap (λ (ts : List Issuing). ts ++ all_terms (e ∷ [])) st.terms ∙ sym is.terms;
       own_terms = ap (λ (ts : List Issuing). terms_by ts 0) terms ∙ find-append (λ t. t.issuer == 0) (all_terms h) (all_terms (e ∷ []))
-          ∙ ap (λ (o : Option Issuing). option_or o (terms_by (all_terms (e ∷ [])) 0)) st.own_terms ∙ ap some (sym is.own_terms);
-      issuer = is.issuer ∙ st.issuer ∙ sym is.own_terms;
+          ∙ ap (λ (o : Option Issuing). option_or o (terms_by (all_terms (e ∷ [])) 0)) st.own_terms ∙ ap some (sym is.issuer);
       in_time = omega (arith, time_snoc h e, st.in_time, is.time, at);
       spent = λ id live.
           let found : terms_in (h ++ e ∷ []) (issuer_of id) ≡ option_or (terms_in h (issuer_of id)) (terms_by (all_terms (e ∷ [])) (issuer_of id)) =

@@ -294,8 +294,7 @@ stands_entered {old = old} {new = new} {h = h} st q a read ready brings limits s
       clear = ap (λ (o : Option House). unwrap_or (option_map (λ x. x.clear) o) false) same.house ∙ st.clear ∙ sym is.clear;
       keep = ap (λ (o : Option House). unwrap_or (option_map (λ x. x.keep) o) 0) same.house ∙ st.keep ∙ sym is.keep;
       terms = terms ∙ st.terms ∙ sym is.terms;
-      own_terms = ap (λ (ts : List Issuing). terms_by ts 0) terms ∙ st.own_terms ∙ ap some (sym is.own_terms);
-      issuer = is.issuer ∙ st.issuer ∙ sym is.own_terms;
+      own_terms = ap (λ (ts : List Issuing). terms_by ts 0) terms ∙ st.own_terms ∙ ap some (sym is.issuer);
       in_time = omega (arith, time_snoc h e, st.in_time, is.time);
       spent = λ id live.
           let ends : has_ended (h ++ e ∷ []) new.time id ≡ has_ended h old.time id =

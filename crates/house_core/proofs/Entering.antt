@@ -23,7 +23,6 @@ use Rattle.house_core.specs.HouseState.{HouseStateView, IsSound, IsEntered, vers
 -- letting go what is over leaves the state sound
 pub sound_later : (b : HouseStateView) (t : ℕ) (kept : KeptView) → IsSound b → kept.keep ≡ b.kept.keep → kept.replies ≡ filter (is_in_time b.kept.keep t) b.kept.replies → IsSound (record b { time = t; kept = kept })
 sound_later b t kept sound keep replies = record {
-  terms = sound.terms;
   limits = sound.limits;
   most = sound.most;
   counted = sound.counted;
@@ -62,26 +61,25 @@ no_number n (r ∷ rs) all =
     rw (other, more) refl
 
 -- what is kept of the change
-pub change_is : (old : HouseStateView) (paid : Scrip) (price : ℕ) (change : Option ℕ) (piece : Option Scrip) (made : Option (Scrip × List ℕ)) → old.own.terms ≡ old.own_terms
+pub change_is : (old : HouseStateView) (paid : Scrip) (price : ℕ) (change : Option ℕ) (piece : Option Scrip) (made : Option (Scrip × List ℕ))
     → piece ≡ option_map (λ id. issued_piece old.own.terms old.time old.name (paid.value - price) id (Some paid.cust) paid.props) change
-    → made ≡ option_map (λ p. (p, certificate_in (version_of old (series_of p.id)) old.own_terms (scrip_body p) p.id)) piece
+    → made ≡ option_map (λ p. (p, certificate_in (version_of old (series_of p.id)) old.own.terms (scrip_body p) p.id)) piece
     → made ≡ option_map (certified_change old paid price) change
-change_is old paid price change piece made same is_piece is_made =
-    is_made ∙ ap certify is_piece ∙ ap (λ (t : Issuing). certify (option_map (λ id. issued_piece t old.time old.name (paid.value - price) id (Some paid.cust) paid.props) change)) same ∙ go change
+change_is old paid price change piece made is_piece is_made = is_made ∙ ap certify is_piece ∙ go change
   where
     certify : Option Scrip → Option (Scrip × List ℕ)
-    certify o = option_map (λ p. (p, certificate_in (version_of old (series_of p.id)) old.own_terms (scrip_body p) p.id)) o
+    certify o = option_map (λ p. (p, certificate_in (version_of old (series_of p.id)) old.own.terms (scrip_body p) p.id)) o
 
-    go : (o : Option ℕ) → certify (option_map (λ id. issued_piece old.own_terms old.time old.name (paid.value - price) id (Some paid.cust) paid.props) o) ≡ option_map (certified_change old paid price) o
+    go : (o : Option ℕ) → certify (option_map (λ id. issued_piece old.own.terms old.time old.name (paid.value - price) id (Some paid.cust) paid.props) o) ≡ option_map (certified_change old paid price) o
     go None = refl
     go (Some id) = refl
 
-pub entered : (old : HouseStateView) (spent : SpentView) (kept : KeptView) (own : Register) (takings size : ℕ) (q : Asked) (paid : Scrip) (a : Authorization) (piece : Option Scrip) (made : Option (Scrip × List ℕ)) → IsSound old → epoch old.own_terms old.time < 2 ^ 24
+pub entered : (old : HouseStateView) (spent : SpentView) (kept : KeptView) (own : Register) (takings size : ℕ) (q : Asked) (paid : Scrip) (a : Authorization) (piece : Option Scrip) (made : Option (Scrip × List ℕ)) → IsSound old → epoch old.own.terms old.time < 2 ^ 24
     → ((k : ℕ) → is_marked spent k ≡ (is_marked old.spent k || (paid.id == k)))
     → kept.keep ≡ old.kept.keep
     → kept.replies ≡ inserted (record { asked = q; entry = record { number = old.count; moment = old.time; price = a.price; change = made; secret = a.secret; deed = a.deed } }) old.kept.replies
     → piece ≡ option_map (λ id. issued_piece old.own.terms old.time old.name (paid.value - a.price) id (Some paid.cust) paid.props) a.change
-    → made ≡ option_map (λ p. (p, certificate_in (version_of old (series_of p.id)) old.own_terms (scrip_body p) p.id)) piece
+    → made ≡ option_map (λ p. (p, certificate_in (version_of old (series_of p.id)) old.own.terms (scrip_body p) p.id)) piece
     → own.terms ≡ old.own.terms → own.most ≡ old.own.most
     → ((s : ℕ) → count_in own s ≡ count_in old.own s + at_series (series_now old) (change_count a.change) s)
     → ((s : ℕ) → issued_in own s ≡ issued_in old.own s + at_series (series_now old) (change_worth a.price paid.value a.change) s)
@@ -89,13 +87,12 @@ pub entered : (old : HouseStateView) (spent : SpentView) (kept : KeptView) (own 
     → takings ≡ old.takings + min a.price paid.value → size ≡ size_with old a.payload
     → IsEntered old (record old { spent = spent; kept = kept; own = own; takings = takings; count = old.count + 1; size = size }) q paid a
 entered old spent kept own takings size q paid a piece made sound short marks keep replies is_piece is_made terms most count worth redeemed took grown =
-    let change = change_is old paid a.price a.change piece made sound.terms is_piece is_made in
+    let change = change_is old paid a.price a.change piece made is_piece is_made in
     let reply : Option (Scrip × List ℕ) → KeptReply = λ c. record { asked = q; entry = record { number = old.count; moment = old.time; price = a.price; change = c; secret = a.secret; deed = a.deed } } in
     record {
       name = refl;
       clear = refl;
       terms = refl;
-      own_terms = refl;
       time = refl;
       limits = refl;
       short = short;
@@ -123,7 +120,6 @@ at_most series n s = go (eqb series s)
 
 pub sound_entered : (old new : HouseStateView) (q : Asked) (paid : Scrip) (a : Authorization) → IsSound old → IsPiece paid → size_with old a.payload ≤ 2 ^ 40 → IsEntered old new q paid a → IsSound new
 sound_entered old new q paid a sound piece fits e = record {
-  terms = e.issuer ∙ sound.terms ∙ sym e.own_terms;
   limits = rw e.limits sound.limits;
   most = e.most ∙ sound.most ∙ ap (λ (l : Limits). l.series) (sym e.limits);
   counted = omega (arith, e.counted, e.sized, sound.counted);

@@ -86,7 +86,6 @@ stands_later {b = b} {h = h} st t kept le keep replies = record {
   keep = st.keep ∙ sym keep;
   terms = st.terms;
   own_terms = st.own_terms;
-  issuer = st.issuer;
   in_time = omega (arith, st.in_time, le);
   spent = λ id live. st.spent id (live_before h b.time t id le live);
   again = λ u q later. st.again u q (omega (arith, later, le)) ∙ ap (option_map (λ (e : KeptEntry). e.number)) (sym (found_later b.kept kept t u q keep replies later));

@@ -62,17 +62,17 @@ secret_is h c secret piece e =
     ap (λ (o : Option Scrip). option_and_then (λ p. secret_of h p.cust) o) piece ∙ ap (λ (o : Option Issuing). option_map (λ t. secret_in (of_series c.piece.cust) t c.piece.cust) o) terms ∙ ap (λ (s : List ℕ). Some s) is
 
 -- the change of an entry is the one that was made
-change_is : {b : HouseStateView} {h : History} → StateRepresents b h → (paid : Scrip) (price id : ℕ) → epoch b.own_terms b.time < 2 ^ 24 → count_in b.own (series_now b) < 2 ^ 32 → id ≡ next_in b.own (series_now b)
+change_is : {b : HouseStateView} {h : History} → StateRepresents b h → (paid : Scrip) (price id : ℕ) → epoch b.own.terms b.time < 2 ^ 24 → count_in b.own (series_now b) < 2 ^ 32 → id ≡ next_in b.own (series_now b)
     → change_from h paid price id ≡ change_made b paid price id
 change_is {b = b} {h = h} st paid price id short below is =
-    let own : b.own_terms.issuer ≡ 0 = terms_are_of (all_terms h) 0 b.own_terms st.own_terms in
-    let series : series_now b ≡ epoch b.own_terms b.time = ap (λ (t : Issuing). series_at t b.time) st.issuer ∙ omega (arith, own) in
-    let at : epoch_of id ≡ epoch b.own_terms b.time = omega (arith, is, series, short, below) in
-    let ends : unwrap_or (option_map (λ t. series_end t (epoch_of id)) (terms_in h 0)) 0 ≡ series_end b.own_terms (epoch b.own_terms b.time) =
-    ap (λ (o : Option Issuing). unwrap_or (option_map (λ t. series_end t (epoch_of id)) o) 0) st.own_terms ∙ ap (series_end b.own_terms) at in
+    let own : b.own.terms.issuer ≡ 0 = terms_are_of (all_terms h) 0 b.own.terms st.own_terms in
+    let series : series_now b ≡ epoch b.own.terms b.time = omega (arith, own) in
+    let at : epoch_of id ≡ epoch b.own.terms b.time = omega (arith, is, series, short, below) in
+    let ends : unwrap_or (option_map (λ t. series_end t (epoch_of id)) (terms_in h 0)) 0 ≡ series_end b.own.terms (epoch b.own.terms b.time) =
+    ap (λ (o : Option Issuing). unwrap_or (option_map (λ t. series_end t (epoch_of id)) o) 0) st.own_terms ∙ ap (series_end b.own.terms) at in
     λ i. record { vendor = st.name i; value = paid.value - price; id = id; cust = paid.cust; expires = ends i; props = paid.props }
 
-changes_are : {b : HouseStateView} {h : History} → StateRepresents b h → (target : List ℕ) (a : Authorization) → piece_of a.scrip.now.text ≡ Some a.scrip.now.piece → epoch b.own_terms b.time < 2 ^ 24 → b.own.most ≤ 2 ^ 32
+changes_are : {b : HouseStateView} {h : History} → StateRepresents b h → (target : List ℕ) (a : Authorization) → piece_of a.scrip.now.text ≡ Some a.scrip.now.piece → epoch b.own.terms b.time < 2 ^ 24 → b.own.most ≤ 2 ^ 32
     → HasChange b a.price a.scrip.now.piece.value a.change
     → option_map (own_text h) (change_piece h (accept_entry b.time target a)) ≡ option_map (λ x. scrip_text x.0 x.1) (option_map (certified_change b a.scrip.now.piece a.price) a.change)
 changes_are {b = b} {h = h} st target a piece short most has = go a.change has
@@ -85,12 +85,12 @@ changes_are {b = b} {h = h} st target a piece short most has = go a.change has
         let same : change_from h a.scrip.now.piece a.price id ≡ made = change_is st a.scrip.now.piece a.price id short (omega (arith, most, has.1)) has.2 in
         let certified : (ℕ → ℕ) → Option Issuing → List ℕ = λ v o. scrip_text made (unwrap_or (option_map (λ t. certificate_in (v (series_of id)) t (scrip_body made) id) o) []) in
         let versions : version h b.name ≡ version_of b = ap (version h) (sym st.name) ∙ st.version in
-        let text : own_text h made ≡ certified (version_of b) (Some b.own_terms) = ap₂ certified versions st.own_terms in
+        let text : own_text h made ≡ certified (version_of b) (Some b.own.terms) = ap₂ certified versions st.own_terms in
         ap (λ (o : Option Scrip). option_map (own_text h) (option_map (λ p. change_from h p a.price id) o)) piece
         ∙ ap (λ (p : Scrip). some (own_text h p)) same ∙ ap some text
 
 -- the reply to a new entry
-pub reply_new : {b : HouseStateView} {h : History} → StateRepresents b h → (q : Asked) (a : Authorization) → piece_of a.scrip.now.text ≡ Some a.scrip.now.piece → IsReady b q.target a → epoch b.own_terms b.time < 2 ^ 24 → b.own.most ≤ 2 ^ 32
+pub reply_new : {b : HouseStateView} {h : History} → StateRepresents b h → (q : Asked) (a : Authorization) → piece_of a.scrip.now.text ≡ Some a.scrip.now.piece → IsReady b q.target a → epoch b.own.terms b.time < 2 ^ 24 → b.own.most ≤ 2 ^ 32
     → BringsFor h q.target a.deed → IsReply (h ++ accept_entry b.time q.target a ∷ []) (record { asked = scrip_request a.scrip.now.text q.target q.sign; entry = kept_entry b a.scrip.now.piece a })
 reply_new {b = b} {h = h} st q a piece ready short most brings =
     let e = accept_entry b.time q.target a in

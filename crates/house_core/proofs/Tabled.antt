@@ -95,13 +95,13 @@ terms_are_of (x ∷ xs) issuer t e = go (eqb x.issuer issuer) refl (terms_are_of
     go false is more f = more f
 
 -- the terms that the history has for issuer 0 are those that the books have for the house itself
-pub own_terms_are : {b : HouseStateView} {h : History} → StateRepresents b h → (terms : Issuing) → terms_in h 0 ≡ Some terms → b.own_terms ≡ terms
-own_terms_are {b = b} st terms own = let both : Some b.own_terms ≡ Some terms = sym st.own_terms ∙ own in cc
+pub own_terms_are : {b : HouseStateView} {h : History} → StateRepresents b h → (terms : Issuing) → terms_in h 0 ≡ Some terms → b.own.terms ≡ terms
+own_terms_are {b = b} st terms own = let both : Some b.own.terms ≡ Some terms = sym st.own_terms ∙ own in cc
 
 pub series_stands : {b : HouseStateView} {h : History} → StateRepresents b h → (t : ℕ) → own_series h t ≡ series_at b.own.terms t
 series_stands {b = b} {h = h} st t =
-    let zero : b.own_terms.issuer ≡ 0 = terms_are_of (all_terms h) 0 b.own_terms st.own_terms in
-    ap (λ (o : Option Issuing). unwrap_or (option_map (λ x. epoch x t) o) 0) st.own_terms ∙ omega (arith, zero) ∙ ap (λ (x : Issuing). series_at x t) (sym st.issuer)
+    let zero : b.own.terms.issuer ≡ 0 = terms_are_of (all_terms h) 0 b.own.terms st.own_terms in
+    ap (λ (o : Option Issuing). unwrap_or (option_map (λ x. epoch x t) o) 0) st.own_terms ∙ omega (arith, zero)
 
 -- the next pieces of the house's own series
 pub run_stands : {b : HouseStateView} {h : History} → StateRepresents b h → (count : ℕ) (r : Result ℕ Refusal)

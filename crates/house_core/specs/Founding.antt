@@ -13,7 +13,6 @@ pub record IsFounded (b : HouseStateView) (m : ℕ) (site : List ℕ) (h : House
   pub name : b.name ≡ site
   pub clear : b.clear ≡ h.clear
   pub terms : b.terms ≡ h.terms ∷ []
-  pub own_terms : b.own_terms ≡ h.terms
   pub time : b.time ≡ m
   pub spent : (id : ℕ) → is_marked b.spent id ≡ false
   pub keep : b.kept.keep ≡ h.keep

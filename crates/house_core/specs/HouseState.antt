@@ -17,15 +17,14 @@ use Rattle.change_issue.specs.IssuedPieces.{issued_piece}
 use Rattle.house_core.specs.declared.verdict.Authorization.{Authorization}
 use Rattle.house_core.specs.Spent.{SpentView, is_marked}
 
--- The name, whether requests need no signature, the terms of all issuers, how many more there is room
--- for, and the terms of the house itself; the house time; the identities that were accepted, the first replies, what was handed out in the
+-- The name, whether requests need no signature, the terms of all issuers, and how many more there is room
+-- for; the house time; the identities that were accepted, the first replies, what was handed out in the
 -- house's own series, the takings; the number of entries and the bytes of their journal; the limits.
 pub record HouseStateView : Type 0 where
   pub name : List ℕ
   pub clear : Bool
   pub terms : List Issuing
   pub terms_room : ℕ
-  pub own_terms : Issuing
   pub time : ℕ
   pub spent : SpentView
   pub kept : KeptView
@@ -53,7 +52,6 @@ size_with b payload_bytes = b.size + framed_size payload_bytes (tail_of b)
 
 -- what is true of every state of a house, whatever its history
 pub record IsSound (b : HouseStateView) : Type 0 where
-  pub terms : b.own.terms ≡ b.own_terms
   pub limits : AreInRange b.limits
   pub most : b.own.most ≡ b.limits.series
   pub counted : b.count ≤ b.size
@@ -80,10 +78,10 @@ HasChange b price value change = MatchOption change (value ≤ price) (λ id. (p
 
 -- the change of a piece at a price, under an identity, with its certificate
 abbrev pub change_made : HouseStateView → Scrip → ℕ → ℕ → Scrip
-change_made b paid price id = issued_piece b.own_terms b.time b.name (paid.value - price) id (Some paid.cust) paid.props
+change_made b paid price id = issued_piece b.own.terms b.time b.name (paid.value - price) id (Some paid.cust) paid.props
 
 abbrev pub certified_change : HouseStateView → Scrip → ℕ → ℕ → Scrip × List ℕ
-certified_change b paid price id = (change_made b paid price id, certificate_in (version_of b (series_of id)) b.own_terms (scrip_body (change_made b paid price id)) id)
+certified_change b paid price id = (change_made b paid price id, certificate_in (version_of b (series_of id)) b.own.terms (scrip_body (change_made b paid price id)) id)
 
 -- what is kept of the entry of an authorization
 abbrev pub kept_entry : HouseStateView → Scrip → Authorization → KeptEntry
@@ -114,10 +112,9 @@ pub record IsEntered (old new : HouseStateView) (q : Asked) (paid : Scrip) (a : 
   pub name : new.name ≡ old.name
   pub clear : new.clear ≡ old.clear
   pub terms : new.terms ≡ old.terms
-  pub own_terms : new.own_terms ≡ old.own_terms
   pub time : new.time ≡ old.time
   pub limits : new.limits ≡ old.limits
-  pub short : epoch old.own_terms old.time < 2 ^ 24
+  pub short : epoch old.own.terms old.time < 2 ^ 24
   pub spent : (id : ℕ) → is_marked new.spent id ≡ (is_marked old.spent id || (paid.id == id))
   pub keep : new.kept.keep ≡ old.kept.keep
   pub replies : new.kept.replies ≡ old.kept.replies ++ record { asked = q; entry = kept_entry old paid a } ∷ []
@@ -135,7 +132,6 @@ pub record IsAsBefore (old new : HouseStateView) : Type 0 where
   pub name : new.name ≡ old.name
   pub clear : new.clear ≡ old.clear
   pub terms : new.terms ≡ old.terms
-  pub own_terms : new.own_terms ≡ old.own_terms
   pub time : new.time ≡ old.time
   pub limits : new.limits ≡ old.limits
   pub spent : (id : ℕ) → is_marked new.spent id ≡ is_marked old.spent id
@@ -173,7 +169,6 @@ pub record IsApplied (old new : HouseStateView) (e : Entry) (bytes : ℕ) : Type
   pub name : new.name ≡ old.name
   pub clear : new.clear ≡ old.clear
   pub terms : new.terms ≡ old.terms ++ all_terms (e ∷ [])
-  pub own_terms : new.own_terms ≡ old.own_terms
   pub time : new.time ≡ old.time
   pub limits : new.limits ≡ old.limits
   pub spent : new.spent ≡ old.spent

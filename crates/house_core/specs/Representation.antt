@@ -52,8 +52,7 @@ pub record StateRepresents (b : HouseStateView) (h : History) : Type 0 where
   pub keep : keeping h ≡ b.kept.keep
   -- the terms of the issuers, and those of the house itself
   pub terms : all_terms h ≡ b.terms
-  pub own_terms : terms_in h 0 ≡ Some b.own_terms
-  pub issuer : b.own.terms ≡ b.own_terms
+  pub own_terms : terms_in h 0 ≡ Some b.own.terms
   -- the house time is not before any entry
   pub in_time : time h ≤ b.time
   -- of the identities whose series has not ended, those that were accepted

@@ -97,7 +97,7 @@ impl<D: Disk, T: Trade> House<D, T> {
         ensures { (h : History) → HouseRepresents D.disk T.trade self.now h
             → terms_in h 0 ≡ Some result }
     {
-        self.bench.state.own_terms()
+        *self.bench.state.own_terms()
     }
 
     /// The certificate of a piece of its own, by its own terms.
@@ -116,7 +116,7 @@ impl<D: Disk, T: Trade> House<D, T> {
             → result ≡ secret_in (version h (site_name h) (series_of cust)) terms cust }
     {
         let state = &self.bench.state;
-        state.secret_of(&state.own_terms(), cust)
+        state.secret_of(state.own_terms(), cust)
     }
 
     /// The identity of the first of so many next pieces of its own series of the house time; refused with 32

@@ -35,8 +35,6 @@ pub struct HouseState {
     clear: bool,
     /// The terms of all issuers whose scrip it takes.
     terms: Vec<Terms>,
-    /// Those of the house itself.
-    own_terms: Terms,
     /// The house time, which never goes back.
     time: Moment,
     spent: Spent,
@@ -58,9 +56,9 @@ impl Model for HouseState {
 
     ghost Value = { HouseStateView };
 
-    ghost view = { λ b. record { name = b.name; clear = b.clear; terms = b.terms.items; terms_room = vec_capacity b.terms - vec_len b.terms; own_terms = b.own_terms; time = b.time; spent = b.spent; kept = b.kept; own = b.own; takings = b.takings; count = b.count; size = b.size; limits = b.limits } };
+    ghost view = { λ b. record { name = b.name; clear = b.clear; terms = b.terms.items; terms_room = vec_capacity b.terms - vec_len b.terms; time = b.time; spent = b.spent; kept = b.kept; own = b.own; takings = b.takings; count = b.count; size = b.size; limits = b.limits } };
 
-    ghost invariant = { λ b. IsSound (record { name = b.name; clear = b.clear; terms = b.terms.items; terms_room = vec_capacity b.terms - vec_len b.terms; own_terms = b.own_terms; time = b.time; spent = b.spent; kept = b.kept; own = b.own; takings = b.takings; count = b.count; size = b.size; limits = b.limits }) };
+    ghost invariant = { λ b. IsSound (record { name = b.name; clear = b.clear; terms = b.terms.items; terms_room = vec_capacity b.terms - vec_len b.terms; time = b.time; spent = b.spent; kept = b.kept; own = b.own; takings = b.takings; count = b.count; size = b.size; limits = b.limits }) };
 }
 
 impl HouseState {
@@ -85,7 +83,6 @@ impl HouseState {
             name,
             clear: house.clear,
             terms,
-            own_terms: house.terms,
             time: moment,
             spent: Spent::new(alloc),
             kept: Kept::new(alloc, house.keep),
@@ -109,10 +106,11 @@ impl HouseState {
         self.name
     }
 
-    pub(crate) fn own_terms(&self) -> Terms
-        ensures { result ≡ self.now.own_terms }
+    /// The terms of the house itself.
+    pub(crate) fn own_terms(&self) -> &Terms
+        ensures { result.now ≡ self.now.own.terms }
     {
-        self.own_terms
+        self.own.terms()
     }
 
     pub(crate) fn is_clear(&self) -> bool
@@ -181,9 +179,9 @@ impl HouseState {
 
     /// The certificate of a piece of the house's own.
     pub(crate) fn own_certificate(&self, piece: &Piece) -> [u8; 16]
-        ensures { result ≡ certificate_in (version_of self.now (series_of piece.now.id)) self.now.own_terms (scrip_body piece.now) piece.now.id }
+        ensures { result ≡ certificate_in (version_of self.now (series_of piece.now.id)) self.now.own.terms (scrip_body piece.now) piece.now.id }
     {
-        let (_, cert) = certified(&self.own_terms, *piece);
+        let (_, cert) = certified(self.own_terms(), *piece);
         cert
     }
 
@@ -338,7 +336,7 @@ impl HouseState {
     /// The series that the house hands out at the house time.
     fn series_now(&self) -> u32
         ensures series { result ≡ series_now self.now }
-        ensures short { epoch self.now.own_terms self.now.time < 2 ^ 24 }
+        ensures short { epoch self.now.own.terms self.now.time < 2 ^ 24 }
     {
         self.series_at(self.time)
     }
@@ -346,9 +344,9 @@ impl HouseState {
     /// The series that the house hands out at a moment.
     fn series_at(&self, moment: Moment) -> u32
         ensures series { result ≡ series_at self.now.own.terms moment }
-        ensures short { epoch self.now.own_terms moment < 2 ^ 24 }
+        ensures short { epoch self.now.own.terms moment < 2 ^ 24 }
     {
-        self.own_terms.series_at(moment)
+        self.own_terms().series_at(moment)
     }
 
     /// Enters a request that is accepted with a piece, for which there is room. It takes no memory.
@@ -370,7 +368,7 @@ impl HouseState {
             a.price,
             a.change,
         );
-        let change = certified_if(&self.own_terms, piece);
+        let change = certified_if(self.own_terms(), piece);
         let entry = KeptEntry {
             number: self.count,
             moment: self.time,

@@ -1,13 +1,15 @@
 //! A house passes the calls of Link on to its disk, where that is an Outside, and sends its replies so.
 
-ghost use Rattle.std.specs.Prelude.{◌≡◌, ◌<◌, ℕ, length, take, IsTrue, OnOk, OnErr, option_map};
+ghost use Rattle.std.specs.Prelude.{◌≡◌, ◌<◌, [], ◌∷◌, ℕ, max, length, take, IsTrue, OnOk, OnErr, option_map};
 ghost use Rattle.mc_outside.specs.DiskView.{Ran};
 ghost use Rattle.mc_outside.specs.LinkView.{after_send, Failed};
 ghost use Rattle.mc_records.specs.declared.refusal.Refusal.TheVariants as refusals;
 ghost use Rattle.mc_records.specs.Requests.{Asked};
 ghost use Rattle.ledger_model.specs.Histories.{History};
 ghost use Rattle.ledger_model.specs.Replies as ledger;
-ghost use Rattle.house_core.specs.Bench.{KeepsReply, house_time};
+ghost use Rattle.millicent_http.specs.declared.clock.Clock.TheVariants.{OfLinks};
+ghost use Rattle.millicent_http.specs.Courses.{AreRead, with_readings};
+ghost use Rattle.house_core.specs.Bench.{KeepsReply, house_time, limits_of};
 ghost use Rattle.house_core.specs.House.{HouseRepresents, HouseRests, SendsOn};
 ghost use Rattle.house_core.specs.Replying.{IsOfSite};
 ghost use Rattle.house_core.specs.Session.{refused_reply};
@@ -59,6 +61,26 @@ impl<O: Outside, T: Trade> Link for House<O, T> {
 
     fn now(&mut self) -> Moment {
         self.journal.now()
+    }
+}
+
+impl<O: Outside, T: Trade> House<O, T> {
+    /// Raises the house time to the reading of the clock, which is read once, and answers the reading. It
+    /// takes no memory.
+    pub fn raise_by_clock(&mut self) -> Moment
+        ensures moved { O.link_moved self.old.journal.disk self.new.journal.disk }
+        ensures stands { (h : History) → HouseRepresents O.disk T.trade self.old h
+            → HouseRepresents O.disk T.trade self.new h }
+        ensures time { house_time self.new.bench ≡ max (house_time self.old.bench) result }
+        ensures limits { limits_of self.new.bench ≡ limits_of self.old.bench }
+        ensures rest { O.link self.new.journal.disk
+            ≡ with_readings (O.link self.new.journal.disk).readings (O.link self.old.journal.disk) }
+        ensures read { AreRead OfLinks (result ∷ [])
+            (O.link self.old.journal.disk).readings (O.link self.new.journal.disk).readings }
+    {
+        let reading = self.now();
+        let _time = self.raise(reading);
+        reading
     }
 }
 

@@ -19,7 +19,7 @@ use Rattle.millicent_http.proofs.CourseLemmas.{links_start, links_go_on}
 use Rattle.house_core.specs.declared.bench.Bench.{Bench}
 use Rattle.house_core.specs.declared.house.House.{House}
 use Rattle.house_core.specs.Bench.{house_time, limits_of, state_of}
-use Rattle.house_core.specs.House.{HouseRepresents}
+use Rattle.house_core.specs.House.{HouseRepresents, house_keeps}
 use Rattle.house_core.specs.Session.{State, Step}
 use Rattle.house_serving.specs.declared.turn.Turn.{Turn}
 use Rattle.house_serving.specs.declared.turn.Turn.TheVariants as turns
@@ -30,7 +30,7 @@ use Rattle.house_serving.specs.Links.{TurnsHouse, EndsTurns, ServesLink, ServesL
 use Rattle.house_serving.proofs.ServingLemmas.{IsServing, serving_starts, serving_goes_on, serving_ended}
 use Rattle.house_serving.proofs.LinksLemmas.{had_link}
 use Rattle.house_serving.proofs.AsideLemmas.{TellsAside, SentNoMore, no_more_still, no_more_taken, aside_still}
-use Rattle.house_serving.proofs.OrderLemmas.{begins_then, house_keeps, went_nowhere, went_on, went_quiet, halted_later}
+use Rattle.house_serving.proofs.OrderLemmas.{begins_then, went_nowhere, went_on, went_quiet, halted_later}
 use Rattle.house_serving.proofs.HouseTurnLemmas.{ReadOn}
 use Rattle.house_core.specs.Trade.{TradeView}
 

@@ -38,7 +38,7 @@ use Rattle.house_core.specs.declared.outcome.Outcome.TheVariants as outcomes
 use Rattle.house_core.specs.declared.outcome.Response.{Response}
 use Rattle.house_core.specs.declared.outcome.Response.TheVariants.{New, Again}
 use Rattle.house_core.specs.Bench.{house_time, limits_of, state_of}
-use Rattle.house_core.specs.House.{HouseRepresents, HouseRests, HasEntered, IsAsItWas, Responds, Leaves}
+use Rattle.house_core.specs.House.{HouseRepresents, HouseRests, HasEntered, IsAsItWas, Responds, Leaves, house_keeps}
 use Rattle.house_core.specs.Session.{State, Gives, entered, raised, Step}
 use Rattle.house_serving.specs.declared.turn.Turn.{Turn}
 use Rattle.house_serving.specs.declared.turn.Turn.TheVariants.{GoOn, Last, End, NotReceived, NotSent}
@@ -49,7 +49,7 @@ use Rattle.house_serving.specs.Links.{RepliesTo, AnswersRequest, RefusesHead, Tu
 use Rattle.house_serving.proofs.AsideLemmas.{TellsAside, SentNoMore, no_more_still, no_more_then, no_more_heard, no_more_finished}
 use Rattle.house_serving.proofs.TurnLemmas.{leads_so, item_turned}
 use Rattle.house_serving.proofs.ItemLemmas.{item_answered, sent_so}
-use Rattle.house_serving.proofs.OrderLemmas.{house_keeps, went_on, went_quiet, went_sent, went_written, went_from, halted_told, halted_later, halted_from}
+use Rattle.house_serving.proofs.OrderLemmas.{went_on, went_quiet, went_sent, went_written, went_from, halted_told, halted_later, halted_from}
 use Rattle.house_core.specs.Trade.{TradeView}
 
 -- ---- sending

@@ -176,15 +176,6 @@ pub house_leaves : {O T : Type 0} (disk : O → DiskView) (trade : T → TradeVi
     → (c : List ℕ) → (disk x.journal.disk).leaves c → Encodes h c
 house_leaves disk trade x h st = journal_leaves disk x.journal h st.journal
 
--- what links do leaves the house
-pub house_keeps : {O T : Type 0} (disk : O → DiskView) (trade : T → TradeView) (x y : House O T) (h : History) → HouseRepresents disk trade x h
-    → LinkKeeps (disk x.journal.disk) (disk y.journal.disk) → HouseRests x y → HouseRepresents disk trade y h
-house_keeps {T = T} disk trade x y h st keeps rests = record {
-  journal = journal_keeps disk x.journal y.journal h st.journal keeps rests.journal;
-  house = subst (λ (b : Bench T). IsHouse trade b h) (sym rests.bench) st.house;
-  limit = rests.journal.limit ∙ st.limit ∙ ap (λ (b : Bench T). (limits_of b).journal) (sym rests.bench);
-}
-
 -- where the links told what was sent, they still tell it
 pub told_on : {O T : Type 0} (link : O → LinkView) (disk : O → DiskView) (trade : T → TradeView) (a : O) (s : State) (xs : List (Did State)) (x : House O T)
     → RefinesBy link disk trade a s xs x → IsSome (link a).sessions → IsSome (link x.journal.disk).sessions

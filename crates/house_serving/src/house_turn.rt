@@ -62,7 +62,7 @@ fn answer_request<O: Outside, T: Trade>(
         → AnswersRequest O.link O.disk T.trade (limits_of house.bench) q.now after house.journal.disk (state_of h house.bench) result }
 {
     let mut house = house;
-    let _reading = raise_by_clock(&mut house);
+    let _reading = house.raise_by_clock();
     reply_to(house, q, after)
 }
 
@@ -81,25 +81,9 @@ fn answer_refused<O: Outside, T: Trade>(
         → RefusesHead O.link O.disk T.trade (limits_of house.bench) (as_refusal head) after house.journal.disk (state_of h house.bench) result }
 {
     let mut house = house;
-    let _reading = raise_by_clock(&mut house);
+    let _reading = house.raise_by_clock();
     let sent = send_refusal(&mut house, None, &Refusal::from(head));
     (house, turn_of(sent, after))
-}
-
-/// Raises the house time to the reading of the clock, which is read once, and answers the reading. It takes no
-/// memory.
-pub fn raise_by_clock<O: Outside, T: Trade>(house: &mut House<O, T>) -> Moment
-    ensures moved { O.link_moved house.old.journal.disk house.new.journal.disk }
-    ensures stands { (h : History) → HouseRepresents O.disk T.trade house.old h
-        → HouseRepresents O.disk T.trade house.new h }
-    ensures time { house_time house.new.bench ≡ max (house_time house.old.bench) result }
-    ensures limits { limits_of house.new.bench ≡ limits_of house.old.bench }
-    ensures rest { O.link house.new.journal.disk ≡ with_readings (O.link house.new.journal.disk).readings (O.link house.old.journal.disk) }
-    ensures read { AreRead OfLinks (result ∷ []) (O.link house.old.journal.disk).readings (O.link house.new.journal.disk).readings }
-{
-    let reading = house.now();
-    let _time = house.raise(reading);
-    reading
 }
 
 /// Replies to a request at the house time.

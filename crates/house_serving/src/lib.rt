@@ -10,7 +10,6 @@ mod serving;
 mod turn;
 mod whole;
 
-pub use house_turn::raise_by_clock;
 pub use links::{ServeOut, serve_links};
 pub use serving::{BenchEnd, serve_bench, serve_bench_by};
 pub use whole::reply_to_link;

@@ -18,7 +18,6 @@ use crate::serving::not_opened;
 use crate::status::Status;
 use house_core::{House, Outcome, Trade};
 use house_opening::open_house;
-use house_serving::raise_by_clock;
 use mc_base::List;
 use mc_outside::Outside;
 use mc_records::{Limits, MOST_CONTENTS, Refusal};
@@ -69,7 +68,7 @@ fn operate_goods<O: Outside>(
         Err(InputFault::NoMemory) => return (house.close(), Status::NoMemory),
         Err(InputFault::Link) => return (house.close(), Status::LinkFault),
     };
-    let _reading = raise_by_clock(&mut house);
+    let _reading = house.raise_by_clock();
     if contents.len() > MOST_CONTENTS {
         return (
             house.close(),
@@ -103,7 +102,7 @@ fn operate_price<O: Outside>(
         return (house.close(), Status::NoMemory);
     };
     let mut house = house;
-    let _reading = raise_by_clock(&mut house);
+    let _reading = house.raise_by_clock();
     closed_with(set_price(house, pricing.target(), pricing.price()), line)
 }
 
@@ -122,7 +121,7 @@ fn operate_licence<O: Outside>(
         return (house.close(), Status::NoMemory);
     };
     let mut house = house;
-    let _reading = raise_by_clock(&mut house);
+    let _reading = house.raise_by_clock();
     closed_with(add_terms(house, licensing.terms()), line)
 }
 
@@ -138,7 +137,7 @@ fn operate_mint<O: Outside>(
         → OperatesOpened O.link O.disk (operation_view (operations.Mint minting.now)) x a result.1 result.0 }
 {
     let mut house = house;
-    let _reading = raise_by_clock(&mut house);
+    let _reading = house.raise_by_clock();
     let mut lines = Vec::new(alloc);
     let outcome = mint(
         house,

@@ -20,7 +20,7 @@ returns-clause-counts g c =
 pub returns-clause-answered : goal.returns-clause-answered
 returns-clause-answered g c h st =
     let x = c.args.house in
-    let y = c.raise_by_clock-reading.new.house in
+    let y = c.raise_by_clock-reading.new.self in
     let z = c.send_refusal-sent.new.house in
     let was = c.raise_by_clock-reading.ensures in
     let up : RaisedBy g.O.Link.link g.O.Disk.disk g.T.Trade.trade x y c.raise_by_clock-reading.result = record {

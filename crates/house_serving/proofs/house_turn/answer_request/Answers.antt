@@ -10,7 +10,7 @@ returns-clause-causes g c =
 pub returns-clause-answered : goal.returns-clause-answered
 returns-clause-answered g c h st =
     let x = c.args.house in
-    let y = c.raise_by_clock-reading.new.house in
+    let y = c.raise_by_clock-reading.new.self in
     let was = c.raise_by_clock-reading.ensures in
     let up : RaisedBy g.O.Link.link g.O.Disk.disk g.T.Trade.trade x y c.raise_by_clock-reading.result = record {
       tells = g.met.O.Outside.sent_aside;

@@ -43,7 +43,7 @@ returns-in-Err-Link-clause-operated g c a x at =
 pub returns-then-len-gt-MOST_CONTENTS-clause-operated : goal.returns-then-len-gt-MOST_CONTENTS-clause-operated
 returns-then-len-gt-MOST_CONTENTS-clause-operated g c a x at =
     let m = c.read_input.new.k in
-    let y = c.raise_by_clock-reading.new.house in
+    let y = c.raise_by_clock-reading.new.self in
     let raised = c.raise_by_clock-reading.ensures in
     let ready : Ready g.O.Link.link g.O.Disk.disk shelf_view (operation_view (operations.Goods c.args.listing.now)) x c.in-Ok-read_input.contents.items a y =
     ready_by g.O.Link.link g.O.Disk.disk shelf_view (operation_view (operations.Goods c.args.listing.now)) 65536 x c.in-Ok-read_input.contents.items a c.args.house m y c.raise_by_clock-reading.result g.met.O.Outside.sent_aside at c.in-Ok-read_input.ensures.read c.in-Ok-read_input.ensures.read
@@ -55,14 +55,14 @@ returns-then-len-gt-MOST_CONTENTS-clause-operated g c a x at =
 pub returns-clause-causes : goal.returns-clause-causes
 returns-clause-causes g c =
     let m = c.read_input.new.k.journal.disk in
-    let y = c.raise_by_clock-reading.new.house.journal.disk in
+    let y = c.raise_by_clock-reading.new.self.journal.disk in
     rw (c.closed_with.ensures.out, c.closed_with.ensures.status)
     (operated_causes g.O.Link.link g.O.Disk.disk (operation_view (operations.Goods c.args.listing.now)) c.args.house.journal.disk y c.set_goods.result c.in-Ok.line ((g.met.O.Outside.link_keeps _ _ c.raise_by_clock-reading.ensures.moved).faults ∙ (g.met.O.Outside.link_keeps _ _ c.read_input.ensures.moved.0).faults) c.set_goods.ensures.back.counts)
 
 pub returns-clause-operated : goal.returns-clause-operated
 returns-clause-operated g c a x at =
     let m = c.read_input.new.k in
-    let y = c.raise_by_clock-reading.new.house in
+    let y = c.raise_by_clock-reading.new.self in
     let raised = c.raise_by_clock-reading.ensures in
     let ready : Ready g.O.Link.link g.O.Disk.disk shelf_view (operation_view (operations.Goods c.args.listing.now)) x c.in-Ok-read_input.contents.items a y =
     ready_by g.O.Link.link g.O.Disk.disk shelf_view (operation_view (operations.Goods c.args.listing.now)) 65536 x c.in-Ok-read_input.contents.items a c.args.house m y c.raise_by_clock-reading.result g.met.O.Outside.sent_aside at c.in-Ok-read_input.ensures.read c.in-Ok-read_input.ensures.read

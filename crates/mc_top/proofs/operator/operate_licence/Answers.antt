@@ -17,7 +17,7 @@ returns-in_default-clause-operated g c a x at =
 
 pub returns-clause-causes : goal.returns-clause-causes
 returns-clause-causes g c =
-    let y = c.raise_by_clock-reading.new.house.journal.disk in
+    let y = c.raise_by_clock-reading.new.self.journal.disk in
     rw (c.closed_with.ensures.out, c.closed_with.ensures.status)
     (operated_causes g.O.Link.link g.O.Disk.disk (operation_view (operations.Licence c.args.licensing.now)) c.args.house.journal.disk y c.add_terms.result c.in-Ok.line (g.met.O.Outside.link_keeps _ _ c.raise_by_clock-reading.ensures.moved).faults c.add_terms.ensures.back.counts)
 
@@ -25,7 +25,7 @@ pub returns-clause-operated : goal.returns-clause-operated
 returns-clause-operated g c a x at =
     let link = g.O.Link.link in
     let disk = g.O.Disk.disk in
-    let y = c.raise_by_clock-reading.new.house in
+    let y = c.raise_by_clock-reading.new.self in
     let raised = c.raise_by_clock-reading.ensures in
     let operation = operation_view (operations.Licence c.args.licensing.now) in
     let ready = ready_at_once link disk shelf_view operation x a c.args.house y c.raise_by_clock-reading.result g.met.O.Outside.sent_aside at (refl, refl) (g.met.O.Outside.link_keeps _ _ raised.moved) raised.stands raised.limits raised.read raised.rest raised.time in

@@ -17,7 +17,7 @@ keep-requires-clause-new_number c = no_number c.self.inside.count c.self.inside.
 
 pub invariant_of-self : goal.invariant_of-self
 invariant_of-self c =
-    let short : epoch c.self.inside.own_terms c.self.inside.time < 2 ^ 24 = subst (λ (b : HouseStateView). epoch b.own_terms b.time < 2 ^ 24) (sym c.self.view_is) c.series_now-series.ensures.short in
+    let short : epoch c.self.inside.own.terms c.self.inside.time < 2 ^ 24 = subst (λ (b : HouseStateView). epoch b.own.terms b.time < 2 ^ 24) (sym c.self.view_is) c.series_now-series.ensures.short in
     let size = subst (λ (b : HouseStateView). c.size_with-size.result ≡ size_with b c.args.a.now.payload) (sym c.self.view_is) c.size_with-size.ensures in
     let fits = subst (λ (b : HouseStateView). size_with b c.args.a.now.payload ≤ 2 ^ 40) (sym c.self.view_is) c.requires.fits in
     sound_entered _ _ (asked_of c.args.q.now) c.args.paid.now c.args.a.now c.self.invariant c.id.ensures.piece fits
@@ -27,14 +27,13 @@ invariant_of-self c =
 
 pub returns : goal.returns
 returns c =
-    let short : epoch c.self.inside.own_terms c.self.inside.time < 2 ^ 24 = subst (λ (b : HouseStateView). epoch b.own_terms b.time < 2 ^ 24) (sym c.self.view_is) c.series_now-series.ensures.short in
+    let short : epoch c.self.inside.own.terms c.self.inside.time < 2 ^ 24 = subst (λ (b : HouseStateView). epoch b.own.terms b.time < 2 ^ 24) (sym c.self.view_is) c.series_now-series.ensures.short in
     let size = subst (λ (b : HouseStateView). c.size_with-size.result ≡ size_with b c.args.a.now.payload) (sym c.self.view_is) c.size_with-size.ensures in
     let old : HouseStateView = record {
       name = c.self.inside.name;
       clear = c.self.inside.clear;
       terms = c.self.inside.terms.items;
       terms_room = vec_capacity c.self.inside.terms - vec_len c.self.inside.terms;
-      own_terms = c.self.inside.own_terms;
       time = c.self.inside.time;
       spent = c.self.inside.spent;
       kept = c.self.inside.kept;

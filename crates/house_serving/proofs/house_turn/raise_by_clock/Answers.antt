@@ -1,7 +1,0 @@
-use Rattle.house_serving.proofs.OrderLemmas.{house_keeps}
-use Rattle.house_serving.proofs.house_turn.raise_by_clock.Goals as goal
-
-pub returns-clause-stands : goal.returns-clause-stands
-returns-clause-stands g c h st =
-    c.raise-time.ensures.same h (house_keeps g.O.Disk.disk g.T.Trade.trade c.args.house.now c.now-reading.new.self h st
-    (g.met.O.Outside.link_keeps _ _ c.now-reading.ensures.moved.0) c.now-reading.ensures.moved.1)
