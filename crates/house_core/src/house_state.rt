@@ -368,7 +368,7 @@ impl HouseState {
             a.price,
             a.change,
         );
-        let change = certified_if(self.own_terms(), piece);
+        let change = certified_if(self.own.terms(), piece);
         let entry = KeptEntry {
             number: self.count,
             moment: self.time,

@@ -1,5 +1,5 @@
 use Rattle.house_core.specs.House.{house_keeps}
-use Rattle.house_core.proofs.sending.House.raise_by_clock.Goals as goal
+use Rattle.house_core.proofs.house.House.raise_by_clock.Goals as goal
 
 pub returns-clause-stands : goal.returns-clause-stands
 returns-clause-stands g c h st =
