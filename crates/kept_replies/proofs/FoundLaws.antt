@@ -1,21 +1,20 @@
 -- The reply that a request finds, by the marks.
-use Rattle.std.proofs.Common.{◌≡◌, ℕ, zero, suc, ◌+◌, ◌<◌, ◌≤◌, Bool, true, false, cond, ◌&&◌, ltb, eqb, List, [], ◌∷◌, length, get_or, filter, find, All, IsTrue, slice_get, Option, Some, None, MatchOption, inl, inr, is_some, refl, sym, ap, ◌∙◌, arith}
+use Rattle.std.proofs.Common.{◌≡◌, ℕ, zero, suc, ◌+◌, ◌<◌, ◌≤◌, Bool, true, false, cond, ◌&&◌, ltb, eqb, List, [], ◌∷◌, length, get_or, filter, find, All, IsTrue, slice_get, Option, Some, None, MatchOption, inl, inr, refl, sym, ap, ◌∙◌, arith}
 use Rattle.std.specs.Bool.{then_some}
 use Rattle.std.specs.Borrow.{Bor}
 use Rattle.std.specs.Option.{option_copied}
-use Rattle.std.specs.List.{list_any}
 use Rattle.std.specs.List.Sorted.{IsPartitionPoint}
 use Rattle.std.proofs.lemmas.List.Elements.{All-head, All-tail, All-weaker, All-from_recursion}
 use Rattle.std.proofs.lemmas.Bool.{both_ways, false_from_ne_true, and_parts, and_cases, ltb-true, ltb-false, eqb-true, eqb-false, eq-eqb, ne_eqb}
-use Rattle.std.proofs.lemmas.Map.Views.{any-filter_same}
 use Rattle.std.proofs.lemmas.Option.{same_Some, MatchOption-at_some, MatchOption-at_none, slice_get_past, slice_get_read}
 use Rattle.mc_records.specs.Requests.{Asked}
 use Rattle.kept_replies.specs.declared.index.Mark.{Mark}
 use Rattle.kept_replies.specs.Requests.{is_same_request}
 use Rattle.kept_replies.specs.Kept.{KeptReply, KeptView, AreRising, NoneInTime, is_in_time, with_number}
-use Rattle.kept_replies.specs.Index.{request_tag, is_mark_of}
+use Rattle.kept_replies.specs.Index.{IndexView, request_tag, leads, is_mark_of}
 use Rattle.kept_replies.specs.Store.{HaveOneNumber, AreToOwnRequests, has_mark, is_repeat, is_found}
-use Rattle.kept_replies.proofs.SearchLaws.{is_some-find, find_passes, find_from_all, find_none, none_passes, any_weaker}
+use Rattle.kept_replies.proofs.SearchLaws.{find_passes, find_from_all, find_none, none_passes}
+use Rattle.kept_replies.proofs.IndexLaws.{leads_weaker}
 use Rattle.kept_replies.proofs.ReplyLaws.{number, request_is, request_is_own, mark_parts}
 
 -- ---- by its number
@@ -86,23 +85,20 @@ read_point n at rs rising point r within read =
 abbrev pub asks : KeptView → ℕ → Asked → KeptReply → Bool
 asks kept now q r = is_same_request r.asked q && is_in_time kept.keep now r
 
--- a reply that is asked for has a mark under the request's tag, which leads to it
-mark_leads : (kept : KeptView) (marks : List Mark) (now : ℕ) (q : Asked) (r : KeptReply) → with_number kept.replies (number r) ≡ Some r → has_mark marks r ≡ true
-    → asks kept now q r ≡ true → list_any (λ m. is_repeat kept now q m.number) (filter (λ m. eqb m.tag (request_tag q)) marks) ≡ true
-mark_leads kept marks now q r own has asked =
-    any_weaker (is_mark_of r) (λ m. is_repeat kept now q m.number) leads (filter (λ m. eqb m.tag (request_tag q)) marks)
-    (any-filter_same (is_mark_of r) (λ m. eqb m.tag (request_tag q)) true tagged marks ∙ has)
+-- the marks lead from the request's tag to a reply that is asked for
+mark_leads : (kept : KeptView) (index : IndexView) (now : ℕ) (q : Asked) (r : KeptReply) → with_number kept.replies (number r) ≡ Some r → has_mark index r ≡ true
+    → asks kept now q r ≡ true → leads index (request_tag q) (λ m. is_repeat kept now q m.number) ≡ true
+mark_leads kept index now q r own has asked =
+    leads_weaker (is_mark_of r) (λ m. is_repeat kept now q m.number) it index (request_tag q) (ap (λ (a : Asked). leads index (request_tag a) (is_mark_of r)) (sym same) ∙ has)
   where
-    tagged : (m : Mark) → is_mark_of r m ≡ true → eqb m.tag (request_tag q) ≡ true
-    tagged m of =
-        let same = request_is r.asked q (and_parts (is_same_request r.asked q) (is_in_time kept.keep now r) asked).0 in
-        eq-eqb m.tag (request_tag q) ((mark_parts r m of).tag ∙ ap request_tag same)
+    same : r.asked ≡ q
+    same = request_is r.asked q (and_parts (is_same_request r.asked q) (is_in_time kept.keep now r) asked).0
 
-    leads : (m : Mark) → is_mark_of r m ≡ true → is_repeat kept now q m.number ≡ true
-    leads m of = ap (λ (n : ℕ). is_found kept.keep now q (with_number kept.replies n)) (mark_parts r m of).number ∙ ap (is_found kept.keep now q) own ∙ asked
+    it : (m : Mark) → is_mark_of r m ≡ true → is_repeat kept now q m.number ≡ true
+    it m of = ap (λ (n : ℕ). is_found kept.keep now q (with_number kept.replies n)) (mark_parts r m of).number ∙ ap (is_found kept.keep now q) own ∙ asked
 
 -- a reply that is asked for and has this number is the one that is found
-found_there : (kept : KeptView) (now : ℕ) (q : Asked) (n : ℕ) → AreToOwnRequests kept.replies → is_repeat kept now q n ≡ true
+pub found_there : (kept : KeptView) (now : ℕ) (q : Asked) (n : ℕ) → AreToOwnRequests kept.replies → is_repeat kept now q n ≡ true
     → find (asks kept now q) kept.replies ≡ with_number kept.replies n
 found_there kept now q n own repeat = go (with_number kept.replies n) refl repeat
   where
@@ -119,24 +115,13 @@ found_there kept now q n own repeat = go (with_number kept.replies n) refl repea
     go None there passes = absurd cc
     go (Some r) there passes = found_by_number (asks kept now q) n kept.replies r there passes (one r there passes)
 
--- the first mark of a repeat under the request's tag leads to the reply that is found, and where there
--- is none, none is found
-pub by_marks : (kept : KeptView) (marks : List Mark) (now : ℕ) (q : Asked) → AreRising kept.replies → AreToOwnRequests kept.replies
-    → All (λ r. has_mark marks r ≡ true) kept.replies → (mark : Option Mark)
-    → mark ≡ find (λ m. is_repeat kept now q m.number) (filter (λ m. eqb m.tag (request_tag q)) marks)
-    → MatchOption mark (find (asks kept now q) kept.replies ≡ None) (λ m. find (asks kept now q) kept.replies ≡ with_number kept.replies m.number)
-by_marks kept marks now q rising own marked None is =
+-- where the marks lead from the request's tag to no repeat, none is found
+pub none_led : (kept : KeptView) (index : IndexView) (now : ℕ) (q : Asked) → AreRising kept.replies → All (λ r. has_mark index r ≡ true) kept.replies
+    → leads index (request_tag q) (λ m. is_repeat kept now q m.number) ≡ false → find (asks kept now q) kept.replies ≡ None
+none_led kept index now q rising marked none =
     find_none (asks kept now q) kept.replies (λ k d lt. false_from_ne_true (asks kept now q (get_or kept.replies k d)) (λ asked.
-    let leads = mark_leads kept marks now q (get_or kept.replies k d) (by_own_number kept.replies rising k d lt) (marked k d lt) asked in
-    both_ways (list_any (repeats) (tagged)) (sym (is_some-find repeats tagged) ∙ ap is_some (sym is)) leads))
-  where
-    repeats : Mark → Bool
-    repeats m = is_repeat kept now q m.number
-
-    tagged : List Mark
-    tagged = filter (λ m. eqb m.tag (request_tag q)) marks
-by_marks kept marks now q rising own marked (Some m) is =
-    found_there kept now q m.number own (find_passes (λ x. is_repeat kept now q x.number) (filter (λ x. eqb x.tag (request_tag q)) marks) m (sym is))
+    let lead = mark_leads kept index now q (get_or kept.replies k d) (by_own_number kept.replies rising k d lt) (marked k d lt) asked in
+    both_ways (leads index (request_tag q) (λ m. is_repeat kept now q m.number)) none lead))
 
 -- ---- where none is found
 

@@ -1,18 +1,17 @@
 -- A reply that is put among others by its number.
-use Rattle.std.proofs.Common.{◌≡◌, subst, ℕ, ◌<◌, Bool, true, false, cond, not, ltb, eqb, List, [], ◌∷◌, ◌++◌, get_or, drop, filter, All, Option, Some, None, IfSome, MatchOption, inl, inr, refl, sym, ap, ◌∙◌, arith}
+use Rattle.std.proofs.Common.{◌≡◌, subst, ℕ, ◌<◌, Bool, true, false, cond, not, ◌&&◌, ◌||◌, ltb, eqb, List, [], ◌∷◌, ◌++◌, get_or, drop, filter, All, Option, Some, None, IfSome, MatchOption, inl, inr, refl, sym, ap, ◌∙◌, arith}
 use Rattle.std.specs.Bool.{then_some}
 use Rattle.std.specs.List.{AllByRecursion, insert}
-use Rattle.std.specs.List.Sorted.{IsPartitionPoint, IsPermutation}
+use Rattle.std.specs.List.Sorted.{IsPartitionPoint}
 use Rattle.std.proofs.lemmas.List.Elements.{recursion_from_All, All-append, All-cons, All-filter, All-weaker}
 use Rattle.std.proofs.lemmas.List.Folds.{list_any_none, list_any_at}
-use Rattle.std.proofs.lemmas.List.Sorted.{list_any-IsPermutation}
 use Rattle.std.proofs.lemmas.Option.{MatchOption-from_none}
-use Rattle.std.proofs.lemmas.Bool.{ltb-true, lt-ltb, le-ltb, eqb-false, ne_eqb, or_parts, or_left, or_right, cases_lt, both_ways, false_from_ne_true}
+use Rattle.std.proofs.lemmas.Bool.{ltb-true, lt-ltb, le-ltb, eqb-false, ne_eqb, or_parts, or_left, or_right, and_from, eq-eqb, cases_lt, both_ways, false_from_ne_true}
 use Rattle.mc_records.specs.Requests.{Asked}
 use Rattle.kept_replies.specs.declared.index.Mark.{Mark}
 use Rattle.kept_replies.specs.Requests.{is_same_request}
 use Rattle.kept_replies.specs.Kept.{KeptReply, AreRising, IsBelowAll, has_request, has_number, is_in_time, inserted}
-use Rattle.kept_replies.specs.Index.{is_mark_of}
+use Rattle.kept_replies.specs.Index.{IndexView, request_tag, leads, is_mark_of}
 use Rattle.kept_replies.specs.Store.{HaveOneNumber, AreToOwnRequests, has_mark}
 use Rattle.kept_replies.proofs.SearchLaws.{front_is, rest_is}
 use Rattle.kept_replies.proofs.ReplyLaws.{number, AreRising-filter, request_is, request_is_own}
@@ -119,16 +118,17 @@ own-inserted new rs fresh own =
     to_new : (r : KeptReply) → other r → HaveOneNumber r new
     to_new r other_one same = absurd (both_ways (is_same_request r.asked new.asked) other_one same)
 
--- each still has its mark among the marks with that of the new one
-pub marked-inserted : (new : KeptReply) (rs : List KeptReply) (mark : Mark) (old marks : List Mark) → is_mark_of new mark ≡ true → IsPermutation (mark ∷ old) marks
-    → All (λ r. has_mark old r ≡ true) rs → All (λ r. has_mark marks r ≡ true) (inserted new rs)
-marked-inserted new rs mark old marks is_its with_it marked =
-    all-inserted (λ r. has_mark marks r ≡ true) new rs
-    (among new ∙ or_left (is_mark_of new mark) (has_mark old new) is_its)
-    (All-weaker (λ r. has_mark old r ≡ true) (λ r. has_mark marks r ≡ true) (λ r has. among r ∙ or_right (is_mark_of r mark) (has_mark old r) has) rs marked)
+-- each still has its mark, and the new one has its own, where it was put under the tag of its request
+pub marked-inserted : (new : KeptReply) (rs : List KeptReply) (tag : ℕ) (mark : Mark) (old index : IndexView) → tag ≡ request_tag new.asked → is_mark_of new mark ≡ true
+    → ((t : ℕ) (p : Mark → Bool) → (leads old t p || (eqb tag t && p mark)) ≡ true → leads index t p ≡ true)
+    → All (λ r. has_mark old r ≡ true) rs → All (λ r. has_mark index r ≡ true) (inserted new rs)
+marked-inserted new rs tag mark old index its_tag its_mark put marked =
+    all-inserted (λ r. has_mark index r ≡ true) new rs
+    (put (request_tag new.asked) (is_mark_of new) (or_right (has_mark old new) (under new) (and_from (eqb tag (request_tag new.asked)) (is_mark_of new mark) (eq-eqb tag (request_tag new.asked) its_tag) its_mark)))
+    (All-weaker (λ r. has_mark old r ≡ true) (λ r. has_mark index r ≡ true) (λ r has. put (request_tag r.asked) (is_mark_of r) (or_left (has_mark old r) (under r) has)) rs marked)
   where
-    among : (r : KeptReply) → has_mark marks r ≡ has_mark (mark ∷ old) r
-    among r = sym (list_any-IsPermutation (is_mark_of r) (mark ∷ old) marks with_it)
+    under : KeptReply → Bool
+    under r = eqb tag (request_tag r.asked) && is_mark_of r mark
 
 -- all are still in time at the moment at which all were, where it is left since the new one is, too
 pub in_time-inserted : (keep : ℕ) (at left : Option ℕ) (new : KeptReply) (rs : List KeptReply)

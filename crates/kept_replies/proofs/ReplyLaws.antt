@@ -5,14 +5,13 @@ use Rattle.std.specs.Str.{bytes_eq}
 use Rattle.std.specs.List.Sorted.{IsNonDecreasingBy}
 use Rattle.std.proofs.lemmas.List.Elements.{All-from_recursion, All-filter, All-weaker, filter_passes}
 use Rattle.std.proofs.lemmas.List.Folds.{list_any_none}
-use Rattle.std.proofs.lemmas.Map.Views.{any-filter_same}
 use Rattle.std.proofs.lemmas.Slice.Eq.{bytes_eq-Decides}
 use Rattle.std.proofs.lemmas.Bool.{both_ways, false_from_ne_true, leb-true, and_parts, and_from, ltb-true, lt-ltb, eqb-true, eq-eqb}
 use Rattle.mc_records.specs.Requests.{Asked}
 use Rattle.kept_replies.specs.declared.index.Mark.{Mark}
 use Rattle.kept_replies.specs.Requests.{is_same_text, is_same_request}
 use Rattle.kept_replies.specs.Kept.{KeptReply, AreRising, IsBelowAll, KeptView, has_request, is_in_time, NoneInTime}
-use Rattle.kept_replies.specs.Index.{request_tag, is_mark_of, is_mark_in_time}
+use Rattle.kept_replies.specs.Index.{IndexView, request_tag, leads, is_mark_of, is_mark_in_time}
 use Rattle.kept_replies.specs.Store.{HaveOneNumber, AreToOwnRequests, has_mark}
 use Rattle.kept_replies.proofs.SearchLaws.{filter_all}
 
@@ -79,31 +78,20 @@ request_is_own a =
 
 -- ---- marks
 
--- a mark has the tag, the moment and the number of a reply
+-- a mark has the moment and the number of a reply
 pub record IsMarkOf (r : KeptReply) (m : Mark) : Type 0 where
-  pub tag : m.tag ≡ request_tag r.asked
   pub moment : m.moment ≡ r.entry.moment
   pub number : m.number ≡ r.entry.number
 
 pub mark_parts : (r : KeptReply) (m : Mark) → is_mark_of r m ≡ true → IsMarkOf r m
 mark_parts r m of =
-    let tagged = eqb m.tag (request_tag r.asked) in
-    let at_moment = eqb m.moment r.entry.moment in
-    let both = and_parts (tagged && at_moment) (eqb m.number r.entry.number) of in
-    let first = and_parts tagged at_moment both.0 in
-    record {
-      tag = eqb-true m.tag (request_tag r.asked) first.0;
-      moment = eqb-true m.moment r.entry.moment first.1;
-      number = eqb-true m.number r.entry.number both.1;
-    }
+    let both = and_parts (eqb m.moment r.entry.moment) (eqb m.number r.entry.number) of in
+    record { moment = eqb-true m.moment r.entry.moment both.0; number = eqb-true m.number r.entry.number both.1 }
 
 pub mark_from_parts : (r : KeptReply) (m : Mark) → IsMarkOf r m → is_mark_of r m ≡ true
 mark_from_parts r m is =
-    let tagged = eq-eqb m.tag (request_tag r.asked) is.tag in
-    let at_moment = eq-eqb m.moment r.entry.moment is.moment in
-    let numbered = eq-eqb m.number r.entry.number is.number in
-    and_from (eqb m.tag (request_tag r.asked) && eqb m.moment r.entry.moment) (eqb m.number r.entry.number)
-    (and_from (eqb m.tag (request_tag r.asked)) (eqb m.moment r.entry.moment) tagged at_moment) numbered
+    and_from (eqb m.moment r.entry.moment) (eqb m.number r.entry.number)
+    (eq-eqb m.moment r.entry.moment is.moment) (eq-eqb m.number r.entry.number is.number)
 
 -- ---- what is forgotten
 
@@ -112,18 +100,15 @@ pub own-filter : (p : KeptReply → Bool) (rs : List KeptReply) → AreToOwnRequ
 own-filter p rs own =
     All-filter p (λ r. All (HaveOneNumber r) (filter p rs)) rs (All-weaker (λ r. All (HaveOneNumber r) rs) (λ r. All (HaveOneNumber r) (filter p rs)) (λ r all. All-filter p (HaveOneNumber r) rs all) rs own)
 
--- a reply that is in time has its mark among those in time
-pub has_mark-in_time : (keep now : ℕ) (marks : List Mark) (r : KeptReply) → is_in_time keep now r ≡ true → has_mark marks r ≡ true
-    → has_mark (filter (is_mark_in_time keep now) marks) r ≡ true
-has_mark-in_time keep now marks r in_time has =
-    any-filter_same (is_mark_of r) (is_mark_in_time keep now) true (λ m of. ap (λ (t : ℕ). ltb now (t + keep)) (mark_parts r m of).moment ∙ in_time) marks ∙ has
-
--- the replies that are in time have their marks among those in time
-pub marked-filter : (keep now : ℕ) (marks : List Mark) (rs : List KeptReply) → All (λ r. has_mark marks r ≡ true) rs
-    → All (λ r. has_mark (filter (is_mark_in_time keep now) marks) r ≡ true) (filter (is_in_time keep now) rs)
-marked-filter keep now marks rs marked k d lt =
+-- the replies that are in time have their marks still, where marks in time were left
+pub marked-filter : (keep now : ℕ) (old index : IndexView) (rs : List KeptReply)
+    → ((t : ℕ) (p : Mark → Bool) → ((m : Mark) → p m ≡ true → is_mark_in_time keep now m ≡ true) → leads old t p ≡ true → leads index t p ≡ true)
+    → All (λ r. has_mark old r ≡ true) rs → All (λ r. has_mark index r ≡ true) (filter (is_in_time keep now) rs)
+marked-filter keep now old index rs left marked k d lt =
     let r = get_or (filter (is_in_time keep now) rs) k d in
-    has_mark-in_time keep now marks r (filter_passes (is_in_time keep now) rs k d lt) (All-filter (is_in_time keep now) (λ r. has_mark marks r ≡ true) rs marked k d lt)
+    let in_time : is_in_time keep now r ≡ true = filter_passes (is_in_time keep now) rs k d lt in
+    left (request_tag r.asked) (is_mark_of r) (λ m of. ap (λ (t : ℕ). ltb now (t + keep)) (mark_parts r m of).moment ∙ in_time)
+    (All-filter (is_in_time keep now) (λ r. has_mark old r ≡ true) rs marked k d lt)
 
 -- until a moment at which all are in time, none is over
 none_over : (keep at now : ℕ) (rs : List KeptReply) → now ≤ at → All (λ r. is_in_time keep at r ≡ true) rs → filter (is_in_time keep now) rs ≡ rs

@@ -31,16 +31,6 @@ rest_is p (x ∷ xs) (suc at) point =
 
 -- ---- filters
 
--- a filter of a filter is that of a test which is both
-pub filter_twice : {X : Type 0} (p q both : X → Bool) → ((x : X) → both x ≡ (p x && q x)) → (xs : List X) → filter q (filter p xs) ≡ filter both xs
-filter_twice p q both is [] = refl
-filter_twice {X} p q both is (x ∷ xs) = rw (is x) (go (p x) (filter_twice p q both is xs))
-  where
-    go : (b : Bool) → filter q (filter p xs) ≡ filter both xs
-        → filter q (cond b (x ∷ filter p xs) (filter p xs)) ≡ cond (b && q x) (x ∷ filter both xs) (filter both xs)
-    go true more = ap (λ (t : List X). cond (q x) (x ∷ t) t) more
-    go false more = more
-
 -- a filter that all pass
 pub filter_all : {X : Type 0} (p : X → Bool) (xs : List X) → All (λ x. p x ≡ true) xs → filter p xs ≡ xs
 filter_all p [] all = refl

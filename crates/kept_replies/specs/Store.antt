@@ -1,12 +1,10 @@
 -- How the program stores what is kept. No clause of a public call cites this.
 use Rattle.std.specs.Prelude.{◌≡◌, ℕ, ◌+◌, ◌≤◌, Bool, false, ◌&&◌, nat_lt, if◌then◌else◌, List, [], slice_range, All, IsTrue, Option, Some, None, option_map, IfSome}
-use Rattle.std.specs.List.{list_any}
 use Rattle.mc_records.specs.Requests.{Asked}
-use Rattle.kept_replies.specs.declared.index.Mark.{Mark}
 use Rattle.kept_replies.specs.declared.texts.Span.{Span}
 use Rattle.kept_replies.specs.Requests.{is_same_request}
 use Rattle.kept_replies.specs.Kept.{KeptReply, KeptView, AreRising, is_in_time, with_number}
-use Rattle.kept_replies.specs.Index.{is_mark_of}
+use Rattle.kept_replies.specs.Index.{IndexView, request_tag, leads, is_mark_of}
 
 -- the bytes of a text that may be there
 abbrev pub bytes_of_text : Option (List ℕ) → List ℕ
@@ -41,24 +39,24 @@ HaveOneNumber r o = IsTrue (is_same_request r.asked o.asked) → r.entry.number 
 abbrev pub AreToOwnRequests : List KeptReply → Type 0
 AreToOwnRequests replies = All (λ r. All (HaveOneNumber r) replies) replies
 
--- whether a reply has its mark among these
-abbrev pub has_mark : List Mark → KeptReply → Bool
-has_mark marks r = list_any (is_mark_of r) marks
+-- whether the marks lead from the tag of a reply's request to the reply
+abbrev pub has_mark : IndexView → KeptReply → Bool
+has_mark index r = leads index (request_tag r.asked) (is_mark_of r)
 
 -- What holds of what is stored: the numbers rise, each reply is to a request of its own and has its
 -- mark, all are in time at the moment that is noted, and the buffer for the next reply is empty.
-pub record IsStored (keep : ℕ) (replies : List KeptReply) (marks : List Mark) (none_over_at : Option ℕ) (spare : List ℕ) : Type 0 where
+pub record IsStored (keep : ℕ) (replies : List KeptReply) (index : IndexView) (none_over_at : Option ℕ) (spare : List ℕ) : Type 0 where
   pub rising : AreRising replies
   pub own : AreToOwnRequests replies
-  pub marked : All (λ r. IsTrue (has_mark marks r)) replies
+  pub marked : All (λ r. IsTrue (has_mark index r)) replies
   pub in_time : IfSome none_over_at (λ at. All (λ r. IsTrue (is_in_time keep at r)) replies)
   pub empty : spare ≡ []
 
--- the room of so many replies and marks, each in so many places, with a buffer that may hold so many
--- bytes: none unless both have a free place, and else one more than these bytes
-abbrev pub room_in : ℕ → ℕ → ℕ → ℕ → ℕ → ℕ
-room_in replies reply_places marks mark_places bytes =
-    if nat_lt replies reply_places && nat_lt marks mark_places then bytes + 1 else 0
+-- the room of so many replies in so many places, where there is a place for a mark or not, with a
+-- buffer that may hold so many bytes: none without a free place and one for a mark, and else one more
+-- than these bytes
+abbrev pub room_in : ℕ → ℕ → Bool → ℕ → ℕ
+room_in replies places has_place bytes = if nat_lt replies places && has_place then bytes + 1 else 0
 
 -- whether a reply that may be there is to this request, and in time
 abbrev pub is_found : ℕ → ℕ → Asked → Option KeptReply → Bool

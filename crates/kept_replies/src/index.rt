@@ -1,87 +1,107 @@
-ghost use Rattle.std.specs.Prelude.{◌≡◌, ◌+◌, ◌<◌, ◌==◌, [], ◌∷◌, length, filter, nat_lt, OnOk};
-ghost use Rattle.std.specs.List.Sorted.{IsPermutation};
+ghost use Rattle.std.specs.Prelude.{◌≡◌, ℕ, ◌+◌, Bool, [], ◌==◌, ◌&&◌, ◌||◌, nat_lt, IsTrue, OnOk};
+ghost use Rattle.std.specs.Map.{lookup};
 ghost use Rattle.mc_records.specs.Requests.{asked_of};
-ghost use Rattle.kept_replies.specs.Index.{text_tag, request_tag, is_mark_in_time};
+ghost use Rattle.kept_replies.specs.declared.index.Mark.{Mark};
+ghost use Rattle.kept_replies.specs.Index.{text_tag, request_tag, leads, is_mark_in_time};
 
 use mc_base::{Moment, NoMemory};
 use mc_records::Request;
 use std::alloc::Global;
+use std::collections::HashMap;
 use std::marker::Model;
 
-/// What leads to a kept reply: the tag of its request, with its entry's moment and number.
+/// What leads to a kept reply: its entry's moment and number.
 #[derive(Clone, Copy, Drop)]
 pub(crate) struct Mark {
-    pub(crate) tag: u64,
     pub(crate) moment: Moment,
     pub(crate) number: u64,
 }
 
-/// The marks of replies, in the order of their tags, so that those of one tag are found without
-/// going through the others. Contracts see the marks and how many places there are for them.
+/// The marks of replies by the tags of their requests, so that the reply to a request is found in a
+/// few looks, however many are kept. Contracts see the newest mark of each tag, the older marks, and
+/// whether there is a place for one more.
 #[derive(Drop)]
 pub(crate) struct Index {
-    marks: Vec<Mark>,
+    /// The mark that was put last under each tag.
+    newest: HashMap<u128, Mark>,
+    /// Those in whose place another was put. Two requests hardly ever share a tag.
+    older: Vec<Mark>,
 }
 
 impl Model for Index {
-    ghost use Rattle.std.specs.Prelude.{vec_capacity};
-    ghost use Rattle.std.specs.List.Sorted.{IsNonDecreasingBy};
+    ghost use Rattle.std.specs.Prelude.{vec_len, vec_capacity, nat_lt, ◌&&◌};
+    ghost use Rattle.std.specs.HashMap.{spare};
     ghost use Rattle.kept_replies.specs.Index.{IndexView};
 
     ghost Value = { IndexView };
 
-    ghost view = { λ i. record { marks = i.marks.items; places = vec_capacity i.marks } };
-
-    ghost invariant = { λ i. IsNonDecreasingBy (λ m. m.tag) i.marks.items };
+    ghost view = { λ i. record { newest = i.newest.entries; older = i.older.items; has_place = nat_lt 0 (spare i.newest) && nat_lt (vec_len i.older) (vec_capacity i.older) } };
 }
 
 impl Index {
     /// No marks, and no place. It takes no memory.
     pub(crate) fn new(alloc: Global) -> Index
-        ensures { result.marks ≡ [] }
+        ensures newest { result.newest ≡ [] }
+        ensures older { result.older ≡ [] }
     {
         Index {
-            marks: Vec::new(alloc),
+            newest: HashMap::new(alloc),
+            older: Vec::new(alloc),
         }
     }
 
-    /// Makes a place for one more mark. The marks stay as they are, after an `Err` too.
+    /// Makes a place for one more mark. What is marked stays so, after an `Err` too.
     pub(crate) fn reserve(&mut self) -> Result<(), NoMemory>
-        ensures marks { self.new.marks ≡ self.old.marks }
-        ensures place { OnOk result (length self.new.marks < self.new.places) }
+        ensures marks { (t : ℕ) (p : Mark → Bool) → leads self.new t p ≡ leads self.old t p }
+        ensures place { OnOk result (IsTrue self.new.has_place) }
     {
-        self.marks.reserve(1)?;
+        self.newest.reserve(1)?;
+        self.older.reserve(1)?;
         Ok(())
     }
 
-    /// Puts a mark, for which there is a place, among the others. It takes no memory.
-    pub(crate) fn put(&mut self, mark: Mark)
-        requires { length self.old.marks < self.old.places }
-        ensures { IsPermutation (mark ∷ self.old.marks) self.new.marks }
+    /// Puts a mark under a tag, for which there is a place. It leads to what it should, and the others
+    /// still do. It takes no memory.
+    pub(crate) fn put(&mut self, tag: u128, mark: Mark)
+        requires { IsTrue self.old.has_place }
+        ensures { (t : ℕ) (p : Mark → Bool) → IsTrue (leads self.old t p || (tag == t && p mark))
+            → IsTrue (leads self.new t p) }
     {
-        let tag = mark.tag;
-        let at = self.marks.partition_point(|m| m.tag < tag);
-        match self.marks.insert(at, mark) {
-            Ok(()) => (),
+        match self.newest.insert(tag, mark) {
+            Ok(None) => (),
+            Ok(Some(before)) => match self.older.push(before) {
+                Ok(()) => (),
+                Err(_) => unreachable!(),
+            },
             Err(_) => unreachable!(),
         }
     }
 
-    /// Drops each mark that is not in time. It takes no memory.
-    pub(crate) fn forget(&mut self, keep: u32, now: Moment)
-        ensures { self.new.marks ≡ filter (is_mark_in_time keep now) self.old.marks }
+    /// Drops marks that are not in time, as soon as there are twice as many as the replies that are
+    /// left: so each mark is passed few times. It takes no memory.
+    pub(crate) fn forget(&mut self, left: usize, keep: u32, now: Moment)
+        ensures { (t : ℕ) (p : Mark → Bool) → ((m : Mark) → IsTrue (p m) → IsTrue (is_mark_in_time keep now m))
+            → IsTrue (leads self.old t p) → IsTrue (leads self.new t p) }
     {
-        self.marks.retain(|m| is_in_time(m.moment, keep, now));
+        if self.newest.len() / 2 < left {
+            return;
+        }
+        self.newest.retain(|_, m| is_in_time(m.moment, keep, now));
+        self.older.retain(|m| is_in_time(m.moment, keep, now));
     }
 
-    /// The marks of a tag.
-    pub(crate) fn of(&self, tag: u64) -> &[Mark]
-        ensures { result.now ≡ filter (λ m. m.tag == tag) self.now.marks }
+    /// The newest mark of a tag.
+    pub(crate) fn newest(&self, tag: u128) -> Option<Mark>
+        ensures { result ≡ lookup (λ t. tag == t) self.now.newest }
     {
-        let start = self.marks.partition_point(|m| m.tag < tag);
-        let rest = &self.marks[start..];
-        let count = rest.partition_point(|m| m.tag <= tag);
-        &rest[..count]
+        self.newest.get(&tag).copied()
+    }
+
+    /// The older marks, whatever their tags.
+    pub(crate) fn older(&self) -> &[Mark]
+        ensures { result.now ≡ self.now.older }
+    {
+        &self.older
     }
 }
 
@@ -93,24 +113,28 @@ pub(crate) fn is_in_time(moment: Moment, keep: u32, now: Moment) -> bool
     now.seconds() < moment.seconds() + u64::from(keep)
 }
 
-/// The tag of a request: the last eight bytes of its scrip text as a number, whose least byte is the
-/// first; 0 where it has no scrip text, or a shorter one. They are digits of a certificate, so that
-/// few pieces of scrip share a tag.
-pub(crate) fn tag_of(q: &Request<'_>) -> u64
+/// The tag of a request: the last sixteen bytes of its scrip text as a number, whose least byte is
+/// the first, or those of its signature where it has no scrip text; 0 where it has neither, or the
+/// text is shorter. They are digits of a certificate or of a signature, so that requests hardly ever
+/// share a tag, and nobody can make many that do.
+pub(crate) fn tag_of(q: &Request<'_>) -> u128
     ensures { result ≡ request_tag (asked_of q.now) }
 {
     match q.scrip {
         Some(text) => tag_of_text(text),
-        None => 0,
+        None => match q.sign {
+            Some(text) => tag_of_text(text),
+            None => 0,
+        },
     }
 }
 
-/// The tag of a request with this scrip text.
-fn tag_of_text(text: &[u8]) -> u64
+/// The tag of a request with this text.
+fn tag_of_text(text: &[u8]) -> u128
     ensures { result ≡ text_tag text.now }
 {
-    match text.last_chunk::<8>() {
-        Some(last) => u64::from_le_bytes(*last),
+    match text.last_chunk::<16>() {
+        Some(last) => u128::from_le_bytes(*last),
         None => 0,
     }
 }

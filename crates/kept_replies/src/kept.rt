@@ -1,6 +1,7 @@
 ghost use Rattle.std.specs.Prelude.{◌≡◌, ◌<◌, ◌≤◌, ◌↔◌, [], All, IsFalse, IsNone, IfSome, IfOk, OnOk, filter, option_map, option_copied};
 ghost use Rattle.mc_records.specs.Requests.{asked_of};
 ghost use Rattle.kept_replies.specs.Requests.{text_size, is_same_request};
+ghost use Rattle.kept_replies.specs.Index.{first_older, first_led};
 ghost use Rattle.kept_replies.specs.Store.{is_repeat};
 ghost use Rattle.kept_replies.specs.Kept.{AreRising, has_request, has_number, is_in_time, found, NoneInTime, with_number, first_number, inserted, reply_of};
 
@@ -61,8 +62,8 @@ impl Reply {
 }
 
 /// The first replies that a house keeps, for its keeping time, so that a request which comes again
-/// gets its reply again. A request is compared only with the replies whose scrip texts end as its own,
-/// and a number is found by halving, so that neither takes long where many are kept. Contracts see the
+/// gets its reply again. A request is compared only with the replies to requests of its tag, which are
+/// found by hashing, and a number is found by halving, so that neither takes long where many are kept. Contracts see the
 /// keeping time in seconds, the replies in the order of their numbers, which rise, and the room that
 /// was made for one more: a request may be kept where its texts have fewer bytes together than the
 /// room.
@@ -80,15 +81,15 @@ pub struct Kept {
 }
 
 impl Model for Kept {
-    ghost use Rattle.std.specs.Prelude.{length, vec_len, vec_capacity};
+    ghost use Rattle.std.specs.Prelude.{vec_len, vec_capacity};
     ghost use Rattle.kept_replies.specs.Kept.{KeptView};
     ghost use Rattle.kept_replies.specs.Store.{IsStored, room_in};
 
     ghost Value = { KeptView };
 
-    ghost view = { λ k. record { keep = k.keep; replies = k.replies.items; room = room_in (vec_len k.replies) (vec_capacity k.replies) (length k.index.marks) k.index.places (vec_capacity k.spare) } };
+    ghost view = { λ k. record { keep = k.keep; replies = k.replies.items; room = room_in (vec_len k.replies) (vec_capacity k.replies) k.index.has_place (vec_capacity k.spare) } };
 
-    ghost invariant = { λ k. IsStored k.keep k.replies.items k.index.marks k.none_over_at k.spare.items };
+    ghost invariant = { λ k. IsStored k.keep k.replies.items k.index k.none_over_at k.spare.items };
 }
 
 impl Kept {
@@ -132,9 +133,9 @@ impl Kept {
         ensures none { IsNone result ↔ NoneInTime self.now now (asked_of q.now) }
         ensures rising { AreRising self.now.replies }
     {
-        let marks = self.index.of(tag_of(q));
-        let mark = marks.iter().find(|m| self.is_repeat(m.number, now, q))?;
-        let reply = self.reply(mark.number)?;
+        let newest = self.index.newest(tag_of(q));
+        let number = self.first_repeat(newest, self.index.older(), now, q)?;
+        let reply = self.reply(number)?;
         Some(reply.entry())
     }
 
@@ -151,11 +152,11 @@ impl Kept {
         let number = e.number;
         let alloc = *self.spare.allocator();
         let buffer = mem::replace(&mut self.spare, Vec::new(alloc));
-        self.index.put(Mark {
-            tag: tag_of(q),
+        let mark = Mark {
             moment: e.moment,
             number,
-        });
+        };
+        self.index.put(tag_of(q), mark);
         let keep = self.keep;
         self.none_over_at = self
             .none_over_at
@@ -186,7 +187,7 @@ impl Kept {
         }
         let keep = self.keep;
         self.replies.retain(|r| r.is_in_time(keep, now));
-        self.index.forget(keep, now);
+        self.index.forget(self.replies.len(), keep, now);
         self.none_over_at = Some(now);
     }
 
@@ -222,6 +223,31 @@ impl Kept {
         let at = self.replies.partition_point(|r| r.number() < number);
         let reply = self.replies.get(at)?;
         (reply.number() == number).then_some(reply)
+    }
+
+    /// The number of the first mark that leads to a repeat of this request: the newest of its tag, or
+    /// else one of the older marks.
+    fn first_repeat(
+        &self,
+        newest: Option<Mark>,
+        older: &[Mark],
+        now: Moment,
+        q: &Request<'_>,
+    ) -> Option<u64>
+        ensures { result ≡ first_led (is_repeat self.now now (asked_of q.now)) newest older.now }
+    {
+        match newest {
+            Some(mark) if self.is_repeat(mark.number, now, q) => Some(mark.number),
+            _ => self.first_older(older, now, q),
+        }
+    }
+
+    /// The number of the first of these marks that leads to a repeat of this request.
+    fn first_older(&self, older: &[Mark], now: Moment, q: &Request<'_>) -> Option<u64>
+        ensures { result ≡ first_older (is_repeat self.now now (asked_of q.now)) older.now }
+    {
+        let mark = older.iter().find(|m| self.is_repeat(m.number, now, q))?;
+        Some(mark.number)
     }
 
     /// Whether the reply of this number is to this request, and in time.

@@ -1,16 +1,16 @@
 use Rattle.std.proofs.Common.{◌≡◌, filter, rules}
 use Rattle.std.proofs.lemmas.Fn.{filter_same}
-use Rattle.std.proofs.lemmas.List.Kept.{IsNonDecreasingBy-filter}
+use Rattle.std.proofs.lemmas.Map.Made.{filter_same_pairs}
 use Rattle.kept_replies.specs.Index.{is_mark_in_time}
-use Rattle.kept_replies.proofs.IndexLaws.{tag}
+use Rattle.kept_replies.proofs.IndexLaws.{leads_filtered}
 use Rattle.kept_replies.proofs.index.Index.forget.Goals as goal
-use Rattle.kept_replies.proofs.index.Index.forget.Goals.{After-retain}
-
-stays : (c : After-retain) → c.retain.new.self.items ≡ filter (is_mark_in_time c.args.keep c.args.now) c.self.inside.marks.items
-stays c = filter_same _ (is_mark_in_time c.args.keep c.args.now) _ (λ x b f k. search rules) _ _ c.retain.ensures.filtered
-
-pub invariant_of-self : goal.invariant_of-self
-invariant_of-self c = rw (stays c) (IsNonDecreasingBy-filter tag (is_mark_in_time c.args.keep c.args.now) c.self.inside.marks.items c.self.invariant)
 
 pub returns : goal.returns
-returns c = rw (← c.self.view_is) (stays c)
+returns c = λ t p implied lead.
+    let i = is_mark_in_time c.args.keep c.args.now in
+    let es = c.self.inside.newest.entries in
+    let kept : c.retain.new.self.entries ≡ filter (λ e. i e.1) es =
+    filter_same_pairs _ (λ e. i e.1) _ (λ k v b w f' s. search rules) es c.retain.new.self.entries c.retain.ensures.filtered in
+    let left : c.retain-2.new.self.items ≡ filter i c.self.inside.older.items =
+    filter_same _ i _ (λ x b f k. search rules) c.self.inside.older.items c.retain-2.new.self.items c.retain-2.ensures.filtered in
+    leads_filtered i p implied t es c.retain.new.self.entries c.self.inside.older.items c.retain-2.new.self.items c.retain.ensures.was_unique kept left (rw (← c.self.view_is) at lead)

@@ -28,7 +28,7 @@ invariant_of-self c =
     record {
       rising = rise retained;
       own = rw (stays retained) (own-filter (is_in_time keep now) rs c.self.invariant.own);
-      marked = rw (stays retained, c.forget.ensures) (marked-filter keep now c.self.inside.index.marks rs c.self.invariant.marked);
+      marked = rw (stays retained) (marked-filter keep now c.self.inside.index c.forget.new.self rs c.forget.ensures c.self.invariant.marked);
       in_time = rw (stays retained) (filter_passes (is_in_time keep now) rs);
       empty = c.self.invariant.empty;
     }

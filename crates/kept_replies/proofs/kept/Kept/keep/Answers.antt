@@ -31,13 +31,13 @@ rise c = rw (now_kept c) (AreRising-inserted (new c) c.self.inside.replies.items
 pub invariant_of-self : goal.invariant_of-self
 invariant_of-self c =
     let rs = c.self.inside.replies.items in
-    let mark : Mark = record { tag = c.tag_of.result; moment = c.args.e.moment; number = c.args.e.number } in
-    let its : is_mark_of (new c) mark ≡ true = mark_from_parts (new c) mark (record { tag = c.tag_of.ensures; moment = refl; number = refl }) in
+    let mark : Mark = record { moment = c.args.e.moment; number = c.args.e.number } in
+    let its : is_mark_of (new c) mark ≡ true = mark_from_parts (new c) mark (record { moment = refl; number = refl }) in
     let said : MatchOption c.self.inside.none_over_at (c.filter-self-inside.result ≡ None) (λ at. c.filter-self-inside.result ≡ then_some (is_in_time c.self.inside.keep at (new c)) at) = search (rules, of_calls) in
     record {
       rising = rise c;
       own = rw (now_kept c) (own-inserted (new c) rs (rw (← c.self.view_is) at c.requires.new_request) c.self.invariant.own);
-      marked = rw (now_kept c) (marked-inserted (new c) rs mark c.self.inside.index.marks c.put.new.self.marks its c.put.ensures c.self.invariant.marked);
+      marked = rw (now_kept c) (marked-inserted (new c) rs c.tag_of.result mark c.self.inside.index c.put.new.self c.tag_of.ensures its c.put.ensures c.self.invariant.marked);
       in_time = rw (now_kept c) (in_time-inserted c.self.inside.keep c.self.inside.none_over_at c.filter-self-inside.result (new c) rs said c.self.invariant.in_time);
       empty = rw c.replace-buffer.ensures.after c.new.ensures.items;
     }
