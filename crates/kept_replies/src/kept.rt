@@ -1,4 +1,4 @@
-ghost use Rattle.std.specs.Prelude.{◌≡◌, ◌<◌, ◌≤◌, ◌↔◌, [], All, IsFalse, IsNone, IfSome, IfOk, OnOk, filter, option_map, option_copied};
+ghost use Rattle.std.specs.Prelude.{◌≡◌, ◌+◌, ◌<◌, ◌≤◌, ◌↔◌, [], All, IsTrue, IsFalse, IsNone, IfSome, IfOk, OnOk, filter, option_map, option_copied};
 ghost use Rattle.mc_records.specs.Requests.{asked_of};
 ghost use Rattle.kept_replies.specs.Requests.{text_size, is_same_request};
 ghost use Rattle.kept_replies.specs.Index.{first_older, first_led};
@@ -54,6 +54,13 @@ impl Reply {
         self.texts.are_of(q)
     }
 
+    /// The second from which on it is not in time.
+    fn end(&self, keep: u32) -> u64
+        ensures { result ≡ self.now.entry.moment + keep }
+    {
+        self.entry.moment.seconds() + u64::from(keep)
+    }
+
     fn is_in_time(&self, keep: u32, now: Moment) -> bool
         ensures { result ≡ is_in_time keep now self.now }
     {
@@ -74,7 +81,8 @@ pub struct Kept {
     replies: Vec<Reply>,
     /// The marks of the replies.
     index: Index,
-    /// A moment at which all replies are in time: up to it there is nothing to forget.
+    /// A moment at which all replies are in time: up to it there is nothing to forget. Where replies
+    /// were forgotten last, it is the last such moment.
     none_over_at: Option<Moment>,
     /// Empty, for the texts of the next reply.
     spare: Vec<u8>,
@@ -188,7 +196,7 @@ impl Kept {
         let keep = self.keep;
         self.replies.retain(|r| r.is_in_time(keep, now));
         self.index.forget(self.replies.len(), keep, now);
-        self.none_over_at = Some(now);
+        self.none_over_at = Some(last_in_time(self.replies.as_slice(), keep, now));
     }
 
     /// The least number that is kept; None exactly where nothing is kept.
@@ -259,6 +267,18 @@ impl Kept {
             None => false,
         }
     }
+}
+
+/// The last moment at which all these replies, which are in time at `now`, still are.
+fn last_in_time(replies: &[Reply], keep: u32, now: Moment) -> Moment
+    requires { All (λ r. IsTrue (is_in_time keep now r)) replies.now }
+    ensures { All (λ r. IsTrue (is_in_time keep result r)) replies.now }
+{
+    let mut last = Moment::LAST;
+    for r in replies {
+        last = last.min(r.end(keep).saturating_sub(1));
+    }
+    Moment::clamped(last)
 }
 
 /// How many bytes the texts of a request have together. A sum of 2^64 or more is want of memory.

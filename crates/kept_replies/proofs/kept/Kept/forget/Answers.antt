@@ -19,6 +19,9 @@ stays c = filter_same _ (is_in_time c.self.inside.keep c.args.now) _ (λ x b f k
 rise : (c : After-retain) → AreRising c.retain.new.self.items
 rise c = rw (stays c) (AreRising-filter (is_in_time c.self.inside.keep c.args.now) c.self.inside.replies.items c.self.invariant.rising)
 
+pub last_in_time-requires : goal.last_in_time-requires
+last_in_time-requires c = rw (c.as_slice.ensures.value, stays (goal.at.last_in_time-requires c).After-retain) (filter_passes (is_in_time c.self.inside.keep c.args.now) c.self.inside.replies.items)
+
 pub invariant_of-self : goal.invariant_of-self
 invariant_of-self c =
     let retained = (goal.at.invariant_of-self c).After-retain in
@@ -29,7 +32,7 @@ invariant_of-self c =
       rising = rise retained;
       own = rw (stays retained) (own-filter (is_in_time keep now) rs c.self.invariant.own);
       marked = rw (stays retained) (marked-filter keep now c.self.inside.index c.forget.new.self rs c.forget.ensures c.self.invariant.marked);
-      in_time = rw (stays retained) (filter_passes (is_in_time keep now) rs);
+      in_time = rw (← c.as_slice.ensures.value) c.last_in_time.ensures;
       empty = c.self.invariant.empty;
     }
 
