@@ -1,4 +1,4 @@
-ghost use Rattle.std.specs.Prelude.{◌≡◌, ◌+◌, ◌<◌, ◌≤◌, ◌↔◌, [], All, IsTrue, IsFalse, IsNone, IfSome, IfOk, OnOk, filter, option_map, option_copied};
+ghost use Rattle.std.specs.Prelude.{◌≡◌, ◌+◌, ◌<◌, ◌≤◌, ◌↔◌, [], All, IsTrue, IsFalse, IsNone, IfSome, IfOk, OnOk, filter, option_map, option_copied, vec_len, vec_capacity};
 ghost use Rattle.mc_records.specs.Requests.{asked_of};
 ghost use Rattle.kept_replies.specs.Requests.{text_size, is_same_request};
 ghost use Rattle.kept_replies.specs.Index.{first_older, first_led};
@@ -124,7 +124,7 @@ impl Kept {
         ensures room { OnOk result (text_size (asked_of q.now) < self.new.room) }
         ensures rising { AreRising self.new.replies }
     {
-        self.replies.reserve(1)?;
+        make_place(&mut self.replies)?;
         self.index.reserve()?;
         let size = text_size_of(q)?;
         if self.spare.capacity() != size {
@@ -267,6 +267,19 @@ impl Kept {
             None => false,
         }
     }
+}
+
+/// Makes a place for one more reply, and where memory is asked for, for a quarter more than there are:
+/// a reply is large, so that twice as many places would be much that lies unused.
+fn make_place(replies: &mut Vec<Reply>) -> Result<(), NoMemory>
+    ensures replies { replies.new.items ≡ replies.old.items }
+    ensures place { OnOk result (vec_len replies.new < vec_capacity replies.new) }
+{
+    if replies.len() < replies.capacity() {
+        return Ok(());
+    }
+    replies.reserve_exact(replies.len() / 4 + 1)?;
+    Ok(())
 }
 
 /// The last moment at which all these replies, which are in time at `now`, still are.
