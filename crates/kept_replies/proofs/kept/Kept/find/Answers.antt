@@ -3,7 +3,7 @@ use Rattle.std.specs.Map.{lookup}
 use Rattle.std.specs.Option.{option_copied}
 use Rattle.std.proofs.lemmas.Bool.{both_ways}
 use Rattle.mc_records.specs.Requests.{asked_of}
-use Rattle.kept_replies.specs.Kept.{KeptReply, found}
+use Rattle.kept_replies.specs.Kept.{KeptReply}
 use Rattle.kept_replies.specs.Index.{request_tag, first_led}
 use Rattle.kept_replies.specs.Store.{is_repeat, is_found}
 use Rattle.kept_replies.proofs.IndexLaws.{led_passes, not_led}
