@@ -69,11 +69,11 @@ impl Reply {
 }
 
 /// The first replies that a house keeps, for its keeping time, so that a request which comes again
-/// gets its reply again. A request is compared only with the replies to requests of its tag, which are
-/// found by hashing, and a number is found by halving, so that neither takes long where many are kept. Contracts see the
-/// keeping time in seconds, the replies in the order of their numbers, which rise, and the room that
-/// was made for one more: a request may be kept where its texts have fewer bytes together than the
-/// room.
+/// gets its reply again. A request is compared only with the replies to requests of its tag, which
+/// are found by hashing, and a number is found by halving, so that neither takes long where many are
+/// kept. Contracts see the keeping time in seconds, the replies in the order of their numbers, which
+/// rise, and the room that was made for one more: a request may be kept where its texts have fewer
+/// bytes together than the room.
 #[derive(Drop)]
 pub struct Kept {
     keep: u32,
