@@ -35,10 +35,10 @@ in_force_cons (Goods m target price kind contents) h = refl
 in_force_cons _ h = omega arith
 
 -- no goods come with an entry
-abbrev pub IsQuiet : Entry → Type 0
-IsQuiet e = (target : List ℕ) → is_goods_of target e ≡ false
+abbrev pub BringsNoGoods : Entry → Type 0
+BringsNoGoods e = (target : List ℕ) → is_goods_of target e ≡ false
 
-bytes_quiet : (x e : Entry) (h : History) → IsQuiet e → bytes_in (h ++ e ∷ []) x ≡ bytes_in h x
+bytes_quiet : (x e : Entry) (h : History) → BringsNoGoods e → bytes_in (h ++ e ∷ []) x ≡ bytes_in h x
 bytes_quiet (Goods m target price kind contents) e h quiet =
     let more : list_any (is_goods_of target) (h ++ e ∷ []) ≡ list_any (is_goods_of target) h =
     list_any-append (is_goods_of target) h (e ∷ []) ∙ ap (λ (b : Bool). list_any (is_goods_of target) h || (b || false)) (quiet target) ∙ or_false (list_any (is_goods_of target) h) in
@@ -49,7 +49,7 @@ bytes_quiet (Goods m target price kind contents) e h quiet =
     or_false false = refl
 bytes_quiet _ e h quiet = refl
 
-pub in_force_quiet : (h : History) (e : Entry) → IsQuiet e → bytes_in [] e ≡ 0 → in_force (h ++ e ∷ []) ≡ in_force h
+pub in_force_quiet : (h : History) (e : Entry) → BringsNoGoods e → bytes_in [] e ≡ 0 → in_force (h ++ e ∷ []) ≡ in_force h
 in_force_quiet [] e quiet none = in_force_cons e [] ∙ ap (λ (n : ℕ). n + 0) none
 in_force_quiet (x ∷ xs) e quiet none =
     in_force_cons x (xs ++ e ∷ []) ∙ ap₂ (λ (a b : ℕ). a + b) (bytes_quiet x e xs quiet) (in_force_quiet xs e quiet none) ∙ sym (in_force_cons x xs)

@@ -1,6 +1,6 @@
 pub mod ListLemmas
 pub mod GoodsLaws
-pub mod EditionLaws
+pub mod CatalogueLaws
 pub mod ShelfLaws
 pub mod LineLemmas
 pub mod OperatorLemmas

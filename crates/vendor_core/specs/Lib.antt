@@ -1,4 +1,5 @@
 pub mod Editions
+pub mod Catalogue
 pub mod Shelf
 pub mod Lines
 pub mod Tasks

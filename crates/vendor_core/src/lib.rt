@@ -2,8 +2,8 @@
 //! mints.
 #![tactic(auto)]
 
+mod catalogue;
 mod edition;
-mod editions;
 mod lines;
 mod minted;
 mod operator;

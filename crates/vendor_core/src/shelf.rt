@@ -1,43 +1,43 @@
-ghost use Rattle.std.specs.Prelude.{◌≡◌, ℕ, ◌↔◌, ◌<◌, ◌≤◌, ◌^◌, [], ◌∷◌, ◌++◌, Some, option_map, IsSome, IfSome, IsFalse, IsOk, OnOk, OnErr, length, vec_len, vec_capacity};
+ghost use Rattle.std.specs.Prelude.{◌≡◌, ℕ, ◌↔◌, ◌≤◌, ◌^◌, [], ◌∷◌, ◌++◌, Some, option_map, IsSome, IfSome, IsFalse, IsOk, OnOk, OnErr, length};
 ghost use Rattle.mc_records.specs.Entry.{Goods, Mint};
 ghost use Rattle.ledger_model.specs.Histories.{History};
 ghost use Rattle.ledger_model.specs.Goods as goods;
 ghost use Rattle.ledger_model.specs.Pieces.{has_reference};
 ghost use Rattle.house_core.specs.Replying.{AreContents};
 
-use crate::edition::{Article, Edition};
-use crate::editions::{
-    bytes_on_sale, edition_of_number, edition_on_sale, keep_needed, put_on_sale,
-};
-use crate::minted::{Minted, Minting, minted_under};
+use crate::catalogue::Catalogue;
+use crate::edition::Article;
+use crate::minted::Minting;
 use house_core::{Body, DrawAsk, Offer, SiteKind, Trade, Unlawful, body_of_deed};
 use kept_replies::Deed;
 use mc_base::{Amount, Moment, NoMemory};
 use mc_records::{Limits, Record, Refusal};
+use name_places::NamePlaces;
 use std::alloc::Global;
 
 /// The most bytes of contents that a vendor may have on sale.
 pub(crate) const MOST_IN_FORCE: u64 = 1 << 26;
 
 /// The trade of a vendor: its goods by their targets, the issuers whose scrip it takes, and what it minted
-/// by the references. It owns the contents of its goods. Those that were replaced stay until
-/// `forget` lets them go.
+/// by the references. Goods and mints are found in a few looks, however many there are; there are at most 255
+/// issuers. It owns the contents of its goods. Those that were replaced stay until `forget` lets them go.
 #[derive(Drop)]
 pub struct Shelf {
-    editions: Vec<Edition>,
+    catalogue: Catalogue,
     issuers: Vec<u8>,
-    mints: Vec<Minted>,
+    mints: Vec<Minting>,
+    /// Where among the mints that of each reference stands.
+    references: NamePlaces,
     /// How many bytes of contents are on sale.
     in_force: u64,
     /// What the next Goods entry puts on sale.
     next_article: Option<Article>,
-    /// The reference of the next Mint entry.
-    next_reference: Option<Vec<u8>>,
     alloc: Global,
 }
 
 impl Shelf {
     ghost use Rattle.vendor_core.specs.Editions.{goods_entry, IsInRange};
+    ghost use Rattle.vendor_core.specs.Catalogue.{HasRoomAt};
     ghost use Rattle.vendor_core.specs.Shelf.{ShelfRepresents, HasGoods, HasRoomForMint, IsMinting, AreGoods};
 
     /// The shelf of an empty history. It takes no memory.
@@ -45,12 +45,12 @@ impl Shelf {
         ensures { ShelfRepresents result [] }
     {
         Shelf {
-            editions: Vec::new(alloc),
+            catalogue: Catalogue::new(alloc),
             issuers: Vec::new(alloc),
             mints: Vec::new(alloc),
+            references: NamePlaces::new(alloc),
             in_force: 0,
             next_article: None,
-            next_reference: None,
             alloc,
         }
     }
@@ -63,7 +63,7 @@ impl Shelf {
     {
         let others = self
             .in_force
-            .saturating_sub(bytes_on_sale(&self.editions, target));
+            .saturating_sub(self.catalogue.bytes_at(target));
         others.saturating_add(contents.len() as u64)
     }
 
@@ -72,8 +72,8 @@ impl Shelf {
         ensures range { IfSome result AreContents }
         ensures goods { (h : History) → ShelfRepresents self.now h → AreGoods h target.now result }
     {
-        match edition_on_sale(&self.editions, target) {
-            Some(edition) => Some(edition.body()),
+        match self.catalogue.sold(target) {
+            Some((_, edition)) => Some(edition.body()),
             None => None,
         }
     }
@@ -82,15 +82,15 @@ impl Shelf {
     pub(crate) fn minted(&self, reference: &[u8]) -> Option<Minting>
         ensures { (h : History) → ShelfRepresents self.now h → IsMinting h reference.now result }
     {
-        match minted_under(&self.mints, reference) {
-            Some(minted) => Some(minted.minting),
+        match self.references.get(reference) {
+            Some(place) => self.mints.get(place).copied(),
             None => None,
         }
     }
 
     /// Learns the Goods entry of a number, for which there is room.
     fn learn_goods(&mut self, number: u64, target: &[u8], contents: &[u8]) -> Result<(), Unlawful>
-        requires place { vec_len self.old.editions < vec_capacity self.old.editions }
+        requires place { HasRoomAt self.old.catalogue target.now }
         requires ready { IsSome self.old.next_article }
         requires range { IfSome self.old.next_article IsInRange }
         requires short { length contents.now ≤ 65536 }
@@ -98,7 +98,8 @@ impl Shelf {
         ensures goods { OnOk result (HasGoods self.new number) }
         ensures learned { OnOk result ((h : History) (m price kind : ℕ) → ShelfRepresents self.old h
             → number ≡ length h
-            → option_map (goods_entry m) self.old.next_article ≡ Some (Goods m target.now price kind contents.now)
+            → option_map (goods_entry m target.now) self.old.next_article
+            ≡ Some (Goods m target.now price kind contents.now)
             → ShelfRepresents self.new (h ++ Goods m target.now price kind contents.now ∷ [])) }
         ensures exact { (h : History) (m price kind : ℕ) → ShelfRepresents self.old h
             → IsOk result ↔ (goods.in_force (h ++ Goods m target.now price kind contents.now ∷ []) ≤ 2 ^ 26) }
@@ -110,7 +111,7 @@ impl Shelf {
             return Err(Unlawful);
         }
         let article = self.next_article.take().unwrap();
-        put_on_sale(&mut self.editions, number, article);
+        self.catalogue.put(target, number, article);
         self.in_force = bytes;
         Ok(())
     }
@@ -127,11 +128,11 @@ impl Shelf {
         ensures same { OnErr result ((h : History) → ShelfRepresents self.old h
             → ShelfRepresents self.new h) }
     {
-        if minted_under(&self.mints, reference).is_some() {
+        if self.references.get(reference).is_some() {
             return Err(Unlawful);
         }
-        let reference = self.next_reference.take().unwrap();
-        self.mints.push_reserved(Minted { reference, minting });
+        self.references.put(self.mints.len());
+        self.mints.push_reserved(minting);
         Ok(())
     }
 }
@@ -149,8 +150,8 @@ impl Trade for Shelf {
     }
 
     fn price(&self, target: &[u8]) -> Option<u64> {
-        match edition_on_sale(&self.editions, target) {
-            Some(edition) => Some(edition.price()),
+        match self.catalogue.sold(target) {
+            Some((_, edition)) => Some(edition.price()),
             None => None,
         }
     }
@@ -162,7 +163,7 @@ impl Trade for Shelf {
         target: &[u8],
         value: Amount,
     ) -> Result<Offer, Refusal> {
-        let Some(edition) = edition_on_sale(&self.editions, target) else {
+        let Some((goods, edition)) = self.catalogue.sold(target) else {
             return Err(Refusal::NoSuchGoods);
         };
         let price = edition.price();
@@ -171,9 +172,7 @@ impl Trade for Shelf {
         }
         Ok(Offer {
             price,
-            deed: Deed::Goods {
-                goods: edition.number(),
-            },
+            deed: Deed::Goods { goods },
         })
     }
 
@@ -191,14 +190,12 @@ impl Trade for Shelf {
                 contents,
                 ..
             } => {
-                self.editions.reserve(1)?;
-                self.next_article = Some(Article::copy_of(
-                    self.alloc, target, price, kind, contents,
-                )?);
+                self.catalogue.reserve(target)?;
+                self.next_article = Some(Article::copy_of(self.alloc, price, kind, contents)?);
             }
             Record::Mint { reference, .. } => {
                 self.mints.reserve(1)?;
-                self.next_reference = Some(Vec::from_slice(self.alloc, reference)?);
+                self.references.reserve(reference)?;
             }
             _ => (),
         }
@@ -250,7 +247,7 @@ impl Trade for Shelf {
         let Deed::Goods { goods } = *deed else {
             return body_of_deed(deed, room);
         };
-        match edition_of_number(&self.editions, goods) {
+        match self.catalogue.edition(goods) {
             Some(edition) => edition.body(),
             None => body_of_deed(deed, room),
         }
@@ -264,6 +261,6 @@ impl Trade for Shelf {
         ensures freed { (h : History) (n : ℕ) → ShelfRepresents self.old h → HasGoods self.new n
             → IsKeptFrom h kept_from n }
     {
-        keep_needed(&mut self.editions, kept_from);
+        self.catalogue.forget(kept_from);
     }
 }

@@ -3,7 +3,7 @@ use Rattle.mc_records.specs.Entry.{Entry, AddTerms}
 use Rattle.mc_records.specs.Views.{entry}
 use Rattle.ledger_model.specs.Houses.{terms_in}
 use Rattle.house_core.specs.Bench.{house_time, limits_of}
-use Rattle.house_core.specs.declared.outcome.Outcome.TheVariants.{Done, Halted}
+use Rattle.house_core.specs.declared.outcome.Outcome.TheVariants.{Done, Refused, NoMemory, Halted}
 use Rattle.house_core.specs.Tasks.{Add, TellsAdded}
 use Rattle.house_core.proofs.TaskLemmas.{enters, refuses, stays, tells_last}
 use Rattle.vendor_core.specs.Shelf.{shelf_view}
@@ -42,3 +42,23 @@ returns-in-Halted-clause-exact g c h st =
     let asks : Add e ≡ terms_task h t c.args.terms.now = ap (λ (x : Entry). Add x) same ∙ new_licensed t c.args.terms.now _ none in
     enters g.D.Disk.disk shelf_view (λ task. task ≡ terms_task h t c.args.terms.now) TellsAdded (limits_of c.args.house.bench) (λ n. Some n)
     c.args.house.journal.disk h e (Halted c.in-Halted.halted) asks (λ done. absurd done) (c.in-Halted.ensures.exact h st) (c.in-Halted.ensures.ran h st)
+
+pub returns-in-Refused-clause-exact : goal.returns-in-Refused-clause-exact
+returns-in-Refused-clause-exact g c h st =
+    let t = house_time c.args.house.bench in
+    let e = entry c.terms_record-record.result in
+    let same : e ≡ AddTerms t c.args.terms.now = c.terms_record-record.ensures.entry ∙ ap (λ (m : ℕ). AddTerms m c.args.terms.now) c.time.ensures in
+    let none : terms_in h c.args.terms.now.issuer ≡ None = rw c.issuer.ensures at (sym (c.in_default.ensures h st)) in
+    let asks : Add e ≡ terms_task h t c.args.terms.now = ap (λ (x : Entry). Add x) same ∙ new_licensed t c.args.terms.now _ none in
+    enters g.D.Disk.disk shelf_view (λ task. task ≡ terms_task h t c.args.terms.now) TellsAdded (limits_of c.args.house.bench) (λ n. Some n)
+    c.args.house.journal.disk h e (Refused c.in-Refused.house c.in-Refused.refusal) asks (λ done. absurd done) (c.in-Refused.ensures.exact h st) (c.in-Refused.ensures.ran h st)
+
+pub returns-in-NoMemory-clause-exact : goal.returns-in-NoMemory-clause-exact
+returns-in-NoMemory-clause-exact g c h st =
+    let t = house_time c.args.house.bench in
+    let e = entry c.terms_record-record.result in
+    let same : e ≡ AddTerms t c.args.terms.now = c.terms_record-record.ensures.entry ∙ ap (λ (m : ℕ). AddTerms m c.args.terms.now) c.time.ensures in
+    let none : terms_in h c.args.terms.now.issuer ≡ None = rw c.issuer.ensures at (sym (c.in_default.ensures h st)) in
+    let asks : Add e ≡ terms_task h t c.args.terms.now = ap (λ (x : Entry). Add x) same ∙ new_licensed t c.args.terms.now _ none in
+    enters g.D.Disk.disk shelf_view (λ task. task ≡ terms_task h t c.args.terms.now) TellsAdded (limits_of c.args.house.bench) (λ n. Some n)
+    c.args.house.journal.disk h e (NoMemory c.in-NoMemory.house) asks (λ done. absurd done) (c.in-NoMemory.ensures.exact h st) (c.in-NoMemory.ensures.ran h st)

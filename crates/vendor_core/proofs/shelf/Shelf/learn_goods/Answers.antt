@@ -4,19 +4,15 @@ use Rattle.vendor_core.specs.declared.edition.Article.{Article}
 use Rattle.mc_records.specs.Entry.{Entry, Goods}
 use Rattle.ledger_model.specs.Goods.{in_force}
 use Rattle.vendor_core.specs.Editions.{goods_entry, IsInRange}
-use Rattle.vendor_core.proofs.EditionLaws.{has_more}
 use Rattle.vendor_core.proofs.ShelfLaws.{goods_learned, article_is}
 use Rattle.vendor_core.proofs.shelf.Shelf.learn_goods.Goals as goal
 
-pub returns-clause-held : goal.returns-clause-held
-returns-clause-held c n held = rw c.put_on_sale.ensures (has_more c.args.self.now.editions.items c.args.number n c.unwrap-article.result held)
-
 pub returns-clause-learned : goal.returns-clause-learned
 returns-clause-learned c h m price kind stands is ready =
-    let same : goods_entry m c.unwrap-article.result ≡ Goods m c.args.target.now price kind c.args.contents.now =
-    article_is m _ _ c.unwrap-article.result (sym c.take.ensures.value ∙ c.unwrap-article.ensures) ready in
-    let bytes : c.in_force_with-bytes.result ≡ in_force (h ++ goods_entry m c.unwrap-article.result ∷ []) = c.in_force_with-bytes.ensures h m price kind stands ∙ ap (λ (e : Entry). in_force (h ++ e ∷ [])) (sym same) in
-    rw (c.put_on_sale.ensures, ← same) (goods_learned _ _ _ _ c.in_force_with-bytes.result c.args.number h m c.unwrap-article.result is bytes (omega arith) stands)
+    let same : goods_entry m c.args.target.now c.unwrap-article.result ≡ Goods m c.args.target.now price kind c.args.contents.now =
+    article_is m _ _ _ c.unwrap-article.result (sym c.take.ensures.value ∙ c.unwrap-article.ensures) ready in
+    let bytes : c.in_force_with-bytes.result ≡ in_force (h ++ goods_entry m c.args.target.now c.unwrap-article.result ∷ []) = c.in_force_with-bytes.ensures h m price kind stands ∙ ap (λ (e : Entry). in_force (h ++ e ∷ [])) (sym same) in
+    rw (← same) (goods_learned _ _ _ _ _ _ c.in_force_with-bytes.result h m c.args.target.now c.unwrap-article.result (c.put.ensures.learned h m stands.of_goods is) bytes (omega arith) stands)
 
-pub put_on_sale-requires-clause-range : goal.put_on_sale-requires-clause-range
-put_on_sale-requires-clause-range c = subst (λ (o : Option Article). IfSome o IsInRange) (sym c.take.ensures.value ∙ c.unwrap-article.ensures) c.requires.range
+pub put-requires-clause-range : goal.put-requires-clause-range
+put-requires-clause-range c = subst (λ (o : Option Article). IfSome o IsInRange) (sym c.take.ensures.value ∙ c.unwrap-article.ensures) c.requires.range

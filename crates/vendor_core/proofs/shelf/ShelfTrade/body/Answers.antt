@@ -1,14 +1,11 @@
-use Rattle.std.proofs.Common.{◌≡◌, find, Some, None, sym, ap, ◌∙◌}
-use Rattle.std.specs.Prelude.{◌==◌}
+use Rattle.std.proofs.Common.{sym}
 use Rattle.vendor_core.proofs.ShelfLaws.{edition_is_brought, none_is_held}
 use Rattle.vendor_core.proofs.shelf.ShelfTrade.body.Goals as goal
 
 pub returns-in-Some-clause-brought : goal.returns-in-Some-clause-brought
 returns-in-Some-clause-brought c h stands kind held =
-    let found : find (λ w. w.number == c.in-Goods.goods) c.args.self.now.editions.items ≡ Some c.in-Some.edition.now = sym (c.in-Some.ensures ∙ ap (find (λ w. w.number == c.in-Goods.goods)) c.deref.ensures.value) in
-    rw (c.in-Goods.is, c.body.ensures.brings) (edition_is_brought _ _ _ _ h c.in-Goods.goods c.in-Some.edition.now stands found)
+    rw (c.in-Goods.is, c.body.ensures.brings) (edition_is_brought c.args.self.now.catalogue h c.in-Goods.goods c.in-Some.edition.now stands.of_goods (sym c.in-Some.ensures))
 
 pub returns-in-None-clause-brought : goal.returns-in-None-clause-brought
 returns-in-None-clause-brought c h stands kind held =
-    let none : find (λ w. w.number == c.in-Goods.goods) c.args.self.now.editions.items ≡ None = sym (c.in-None.ensures ∙ ap (find (λ w. w.number == c.in-Goods.goods)) c.deref.ensures.value) in
-    absurd (none_is_held c.args.self.now.editions.items c.in-Goods.goods none (rw c.in-Goods.is at held))
+    absurd (none_is_held c.args.self.now.catalogue c.in-Goods.goods (sym c.in-None.ensures) (rw c.in-Goods.is at held))
