@@ -6,6 +6,10 @@ use Rattle.play_heads.specs.Standing.{last_to_end, IsStanding}
 use Rattle.play_heads.specs.Receiving.{IsPlaying, IsPlay}
 use Rattle.play_heads.specs.declared.heads.Heads.{Heads}
 
+-- how many heads there are
+abbrev pub count_of : Heads → ℕ
+count_of h = h.count
+
 abbrev pub link_of : Heads → LinkView
 link_of h = h.telling.told.view
 
@@ -15,7 +19,7 @@ Plays h = IsPlaying h.count h.end h.supply h.clock h.telling.told.view
 
 -- Calls of Link lead from the one to the other: they go on with the same play.
 pub record PlaysOn (a b : Heads) : Type 0 where
-  pub count : b.count ≡ a.count
+  pub count : count_of b ≡ count_of a
   pub over : IsTrue (link_of a).over → IsTrue (link_of b).over
   pub plays : Plays a → Plays b
 
@@ -51,4 +55,4 @@ plays_goes a b m = record {
 
 -- What the links of a play told is a play of its heads.
 abbrev pub AreHeadsOfPlay : Type 0
-AreHeadsOfPlay = (h : Heads) → Plays h → IsPlay h.count (link_of h)
+AreHeadsOfPlay = (h : Heads) → Plays h → IsPlay (count_of h) (link_of h)

@@ -29,11 +29,11 @@ pub struct Heads {
 }
 
 impl Heads {
-    ghost use Rattle.play_heads.specs.Playing.{link_of, Plays};
+    ghost use Rattle.play_heads.specs.Playing.{count_of, link_of, Plays};
 
     /// The heads of a play of so many, of which nothing was received yet.
     pub fn new(count: u32) -> Heads
-        ensures count { result.count ≡ count }
+        ensures count { count_of result ≡ count }
         ensures untouched { link_of result ≡ no_links }
         ensures plays { Plays result }
     {

@@ -9,6 +9,8 @@ mod heads;
 mod law;
 mod piece;
 mod supply;
+#[cfg(test)]
+mod tests;
 mod told;
 
 pub use head::write_head;
