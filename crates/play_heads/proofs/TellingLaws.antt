@@ -1,5 +1,5 @@
 -- What holds of all that is told, after each call.
-use Rattle.std.proofs.Common.{◌≡◌, ◌≢◌, ℕ, List, [], ◌∷◌, ◌++◌, Bool, true, false, Option, Some, None, is_some, option_map, IsTrue, refl, sym, ◌∙◌, ap}
+use Rattle.std.proofs.Common.{◌≡◌, ◌≢◌, List, [], ◌∷◌, ◌++◌, Bool, true, false, Option, Some, None, is_some, option_map, refl, sym, ◌∙◌, ap}
 use Rattle.mc_outside.specs.LinkView.{LinkView, Session, on_last, hear, send, ended, fresh}
 use Rattle.play_heads.specs.Standing.{last_to_end, IsStanding}
 use Rattle.play_heads.specs.Telling.{noted}

@@ -1,5 +1,5 @@
 -- The heads of a play, numbered from 0, and the links that they come on.
-use Rattle.std.specs.Prelude.{ℕ, zero, suc, ◌+◌, ◌-◌, ◌*◌, ◌/◌, ◌%◌, ◌==◌, min, cond, List, [], ◌∷◌, ◌++◌, codes, replicate}
+use Rattle.std.specs.Prelude.{ℕ, zero, suc, ◌+◌, ◌-◌, ◌/◌, ◌%◌, ◌==◌, min, cond, List, [], ◌∷◌, ◌++◌, codes, replicate}
 use Rattle.scrip_form.specs.Identities.{identity}
 use Rattle.scrip_form.specs.Issuing.{Issuing, series_end}
 use Rattle.scrip_form.specs.Scrip.{Scrip, scrip_body, scrip_text}
@@ -9,7 +9,13 @@ use Rattle.scrip_certs.specs.Digests.{certificate}
 
 -- the terms of the issuer whose pieces are paid with
 abbrev pub issuer_terms : Issuing
-issuer_terms = record { issuer = 1; period = 2048; life = 0; scrip = replicate 16 3 ∷ []; customer = replicate 16 4 ∷ [] }
+issuer_terms = record {
+  issuer = 1;
+  period = 2048;
+  life = 0;
+  scrip = replicate 16 3 ∷ [];
+  customer = replicate 16 4 ∷ [];
+}
 
 -- a first-hand piece of that issuer
 abbrev pub piece_of : ℕ → ℕ → ℕ → Scrip
@@ -61,3 +67,12 @@ heads_from i (suc n) = play_head i ++ heads_from (i + 1) n
 -- the last one the rest
 abbrev pub link_from : ℕ → ℕ → List ℕ
 link_from count i = heads_from i (min 1000 (count - i))
+
+-- so many links, 1,000 heads apart, the first of which begins with this head
+abbrev pub links_from : ℕ → ℕ → ℕ → List (List ℕ)
+links_from count i zero = []
+links_from count i (suc n) = link_from count i ∷ links_from count (i + 1000) n
+
+-- the bytes of the links of a play of so many heads
+abbrev pub play_links : ℕ → List (List ℕ)
+play_links count = links_from count 0 ((count + 999) / 1000)

@@ -1,8 +1,8 @@
 -- What calls of links in memory lead to.
-use Rattle.std.specs.Prelude.{◌≡◌, ◌≢◌, ℕ, Bool, false, List, [], ◌∷◌, ◌++◌, Option, Some, IsTrue, IsSome, refl}
-use Rattle.std.proofs.Common.{sym, ◌∙◌, ap, arith}
+use Rattle.std.specs.Prelude.{◌≡◌, ℕ, List, [], ◌∷◌, ◌++◌, Option, Some, IsTrue, refl}
+use Rattle.std.proofs.Common.{sym, ◌∙◌, arith}
 use Rattle.mc_outside.specs.LinkView.{LinkView, Session, IsLink, LinkGoes}
-use Rattle.play_heads.specs.Standing.{last_to_end, IsStanding}
+use Rattle.play_heads.specs.Standing.{last_to_end}
 use Rattle.play_heads.specs.Receiving.{IsPlaying, IsPlay}
 use Rattle.play_heads.specs.declared.heads.Heads.{Heads}
 
@@ -15,7 +15,7 @@ link_of h = h.telling.told.view
 
 -- the links give the heads of their play, in order
 abbrev pub Plays : Heads → Type 0
-Plays h = IsPlaying h.count h.end h.supply h.clock h.telling.told.view
+Plays h = IsPlaying h.count h.end h.supply h.whole h.clock h.telling.told.view
 
 -- Calls of Link lead from the one to the other: they go on with the same play.
 pub record PlaysOn (a b : Heads) : Type 0 where

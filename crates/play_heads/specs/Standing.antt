@@ -1,5 +1,5 @@
 -- What holds of all that links in memory tell.
-use Rattle.std.specs.Prelude.{◌≡◌, ◌≢◌, ℕ, Bool, true, false, List, [], ◌∷◌, Some, is_some, IsTrue}
+use Rattle.std.specs.Prelude.{◌≡◌, ◌≢◌, Bool, true, false, List, [], ◌∷◌, Some, is_some, IsTrue}
 use Rattle.mc_outside.specs.LinkView.{LinkView, Session}
 
 -- whether the last link was read to its end

@@ -1,31 +1,51 @@
 -- What links in memory tell of themselves, as a value that only contracts read: how the logic stores it, and
 -- what a note makes of it.
-use Rattle.std.specs.Prelude.{ℕ, List, [], ◌∷◌, ◌++◌, Option, Some, Bool, true, false, option_map, refl}
+use Rattle.std.specs.Prelude.{ℕ, List, [], ◌∷◌, ◌++◌, Option, Some, Bool, false, option_map, refl}
 use Rattle.std.specs.Coded.{Coded, code_by, coded×, coded_ℕ, coded_bool, coded_list, coded_option}
 use Rattle.mc_outside.specs.LinkView.{LinkView, Session, next_taken, none_left, after_recv, after_send, after_eof}
 use Rattle.play_heads.specs.declared.told.Note.{Note}
 use Rattle.play_heads.specs.declared.told.Note.TheVariants as note
 
 abbrev session_code : Coded Session
-session_code = code_by (List ℕ × (List ℕ × Bool)) (coded× (coded_list coded_ℕ) (coded× (coded_list coded_ℕ) coded_bool))
+session_code = code_by (List ℕ × (List ℕ × Bool))
+    (coded× (coded_list coded_ℕ) (coded× (coded_list coded_ℕ) coded_bool))
     (λ s. (s.received, (s.sent, s.to_end))) (λ p. record { received = p.0; sent = p.1.0; to_end = p.1.1 }) (λ _. refl)
 
 abbrev Parts : Type 0
 Parts = Option (List Session) × (Option (List ℕ) × (Option (List ℕ) × (Bool × (Bool × (Bool × ℕ)))))
 
+abbrev bytes_code : Coded (Option (List ℕ))
+bytes_code = coded_option (coded_list coded_ℕ)
+
 abbrev parts_code : Coded Parts
-parts_code = coded× (coded_option (coded_list session_code)) (coded× (coded_option (coded_list coded_ℕ)) (coded× (coded_option (coded_list coded_ℕ))
+parts_code = coded× (coded_option (coded_list session_code)) (coded× bytes_code (coded× bytes_code
     (coded× coded_bool (coded× coded_bool (coded× coded_bool coded_ℕ)))))
 
 abbrev pub link_view_code : Coded LinkView
 link_view_code = code_by Parts parts_code
     (λ v. (v.sessions, (v.said, (v.readings, (v.stands, (v.at_end, (v.over, v.faults)))))))
-    (λ p. record { sessions = p.0; said = p.1.0; readings = p.1.1.0; stands = p.1.1.1.0; at_end = p.1.1.1.1.0; over = p.1.1.1.1.1.0; faults = p.1.1.1.1.1.1 })
+    (λ p. record {
+      sessions = p.0;
+      said = p.1.0;
+      readings = p.1.1.0;
+      stands = p.1.1.1.0;
+      at_end = p.1.1.1.1.0;
+      over = p.1.1.1.1.1.0;
+      faults = p.1.1.1.1.1.1;
+    })
     (λ _. refl)
 
 -- no link was taken yet, and all is told
 abbrev pub no_links : LinkView
-no_links = record { sessions = Some []; said = Some []; readings = Some []; stands = false; at_end = false; over = false; faults = 0 }
+no_links = record {
+  sessions = Some [];
+  said = Some [];
+  readings = Some [];
+  stands = false;
+  at_end = false;
+  over = false;
+  faults = 0;
+}
 
 -- what one call more makes of what was told
 abbrev pub noted : LinkView → Note → LinkView

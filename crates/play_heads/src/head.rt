@@ -13,8 +13,8 @@ use scrip_form::{Piece, write_scrip};
 /// Every head asks for `/p` or `/q` of the host `play.example` and pays with a piece of issuer 1. Of eight
 /// in a row, 0, 1, 2 and 4 have a fresh piece of value 100, and so has 3, but from number 2,048 on its epoch
 /// is the one before; 5 has the bytes of the head before it, and 6 the piece of the head two before it, with
-/// the target `/q`; 7 has a fresh piece of value 24. A fresh piece is of the epoch in which the moment of that
-/// number lies.
+/// the target `/q`; 7 has a fresh piece of value 24. A fresh piece is of the epoch in which the moment of
+/// that number lies.
 pub fn write_head(i: u32, out: &mut [u8; 512]) -> usize
     ensures some { 0 < result }
     ensures short { result ≤ 351 }

@@ -9,9 +9,11 @@ use mc_outside::{Link, LinkFault};
 /// How many heads a link has at most.
 const LINK_HEADS: u32 = 1000;
 
-/// The heads of a play as links in memory, of 1,000 heads each but for the last one, which has the rest. A head is
-/// made when the one before it was given whole, so no more than one is kept. What is sent and said is taken whole
-/// and not kept, the clock gives 0, 1, 2 and so on, and no call fails.
+/// The heads of a play as links in memory, of 1,000 heads each but for the last one, which has the rest.
+/// A link that is ended early leaves its other heads out. A head is made when the one before it was given
+/// whole, so no more than one is kept. What is sent and said is taken whole and not kept. The clock gives
+/// 0, 1, 2 and so on, so that a site that reads it once for each head answers head i at the moment i. No
+/// call fails.
 #[derive(Drop)]
 pub struct Heads {
     /// How many heads there are.
@@ -20,6 +22,8 @@ pub struct Heads {
     pub(crate) end: u32,
     /// What is still to come on the link taken last.
     pub(crate) supply: Supply,
+    /// Whether the links before that one were received whole.
+    pub(crate) whole: bool,
     /// The next reading.
     pub(crate) clock: Moment,
     pub(crate) telling: Telling,
@@ -29,6 +33,8 @@ pub struct Heads {
 }
 
 impl Heads {
+    ghost use Rattle.std.specs.Prelude.{◌↔◌};
+    ghost use Rattle.play_heads.specs.Receiving.{HasPlayed};
     ghost use Rattle.play_heads.specs.Playing.{count_of, link_of, Plays};
 
     /// The heads of a play of so many, of which nothing was received yet.
@@ -41,9 +47,30 @@ impl Heads {
             count,
             end: 0,
             supply: Supply::between(0, 0),
+            whole: true,
             clock: Moment::clamped(0),
             telling: Telling::nothing(),
         }
+    }
+
+    /// Whether every head was received, on its link.
+    pub fn is_done(&self) -> bool
+        ensures done { Plays self.now → IsTrue result ↔ HasPlayed (count_of self.now) (link_of self.now) }
+    {
+        if self.end != self.count {
+            return false;
+        }
+        self.are_whole()
+    }
+
+    /// Whether the links taken so far were received whole.
+    fn are_whole(&self) -> bool
+        ensures { IsTrue result ↔ (IsTrue self.now.whole × (self.now.supply ≡ [])) }
+    {
+        if !self.whole {
+            return false;
+        }
+        self.supply.is_empty()
     }
 }
 
@@ -71,6 +98,7 @@ impl Link for Heads {
             return Ok(false);
         }
         let first = self.end;
+        self.whole = self.are_whole();
         self.end = first + (self.count - first).min(LINK_HEADS);
         self.supply = Supply::between(first, self.end);
         self.telling.note(&Note::Taken);

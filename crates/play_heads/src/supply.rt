@@ -1,11 +1,11 @@
-ghost use Rattle.std.specs.Prelude.{◌≡◌, ◌-◌, ◌<◌, ◌≤◌, ◌++◌, [], length, take, slice_range};
+ghost use Rattle.std.specs.Prelude.{IsTrue, ◌↔◌, ◌≡◌, ◌-◌, ◌<◌, ◌≤◌, ◌++◌, [], length, take, slice_range};
 ghost use Rattle.play_heads.specs.PlayHeads.{heads_from};
 
 use crate::head::write_head;
 use std::marker::Model;
 
-/// The bytes that are still to come on a link. No more than one head is made at a time. Contracts see them as the
-/// list of these bytes.
+/// The bytes that are still to come on a link. No more than one head is made at a time. Contracts see them
+/// as the list of these bytes.
 #[derive(Drop)]
 pub(crate) struct Supply {
     /// The head that is made next, and the first one of the next link.
@@ -43,8 +43,18 @@ impl Supply {
         }
     }
 
-    /// Moves the next bytes to the front of `buf`, as many as it has room for but for no more than one head, and
-    /// answers how many. Where there is room and bytes are to come, it is one at least.
+    /// Whether nothing is to come.
+    pub(crate) fn is_empty(&self) -> bool
+        ensures { IsTrue result ↔ (self.now ≡ []) }
+    {
+        if self.given < self.length {
+            return false;
+        }
+        self.next == self.end
+    }
+
+    /// Moves the next bytes to the front of `buf`, as many as it has room for but for no more than one head,
+    /// and answers how many. Where there is room and bytes are to come, it is one at least.
     pub(crate) fn give(&mut self, buf: &mut [u8]) -> usize
         ensures room { result ≤ length buf.old }
         ensures given { self.old ≡ take result buf.new ++ self.new }
@@ -63,14 +73,15 @@ impl Supply {
     }
 }
 
-/// Copies the bytes from the place `given` up to `end`, as many as `buf` has room for, to its front, and moves the
-/// place behind them. Answers how many.
+/// Copies the bytes from the place `given` up to `end`, as many as `buf` has room for, to its front, and
+/// moves the place behind them. Answers how many.
 fn give_part(buffer: &[u8; 512], given: &mut usize, end: usize, buf: &mut [u8]) -> usize
     requires some { given.old < end }
     requires within { end ≤ 512 }
     ensures room { result ≤ length buf.old }
     ensures left { given.new ≤ end }
-    ensures part { slice_range buffer.now given.old end ≡ take result buf.new ++ slice_range buffer.now given.new end }
+    ensures part { slice_range buffer.now given.old end
+        ≡ take result buf.new ++ slice_range buffer.now given.new end }
     ensures some { 0 < length buf.old → 0 < result }
 {
     let n = buf.len().min(end - *given);

@@ -11,5 +11,5 @@ returns-clause-moved c =
     record {
       count = refl;
       over = λ o. subst (λ (w : LinkView). IsTrue w.over) (sym c.note-2.ensures) o;
-      plays = λ p. taken_play old.count old.end (old.end + c.min.result) old.supply c.between-self.result old.clock old.telling.told.view c.note-2.new.self.told.view more is c.between-self.ensures c.note-2.ensures p;
+      plays = λ p. taken_play old.count old.end (old.end + c.min.result) old.supply c.between-self.result old.whole _ old.clock old.telling.told.view c.note-2.new.self.told.view c.are_whole-self.ensures more is c.between-self.ensures c.note-2.ensures p;
     }

@@ -10,6 +10,6 @@ returns-clause-moved c =
     record {
       count = refl;
       over = λ o. subst (λ (w : LinkView). IsTrue w.over) (sym c.note.ensures) o;
-      plays = λ p. read_play old.count old.end old.supply old.clock c.clamped-self.result old.telling.told.view c.note.new.self.told.view later
+      plays = λ p. read_play old.count old.end old.supply old.whole old.clock c.clamped-self.result old.telling.told.view c.note.new.self.told.view later
           (ap (λ (w : LinkView). w.sessions) c.note.ensures) (ap (λ (w : LinkView). w.readings) c.note.ensures) p;
     }

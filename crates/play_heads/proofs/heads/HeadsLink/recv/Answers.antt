@@ -1,6 +1,6 @@
 use Rattle.std.proofs.Common.{refl, sym, subst, ap, ◌∙◌, IsTrue, arith, rules, ◌≡◌, ◌<◌, ◌++◌, [], ℕ, List, length, take}
 use Rattle.mc_outside.specs.LinkView.{LinkView, hear, ended}
-use Rattle.play_heads.proofs.ReceivingLaws.{heard_comes, ended_comes, changed_play}
+use Rattle.play_heads.proofs.ReceivingLaws.{none_after, heard_comes, ended_comes, changed_play}
 use Rattle.play_heads.proofs.heads.HeadsLink.recv.Goals as goal
 
 pub returns-then-not-is_empty-clause-moved : goal.returns-then-not-is_empty-clause-moved
@@ -14,7 +14,7 @@ returns-then-not-is_empty-clause-moved c =
     record {
       count = refl;
       over = λ o. subst (λ (w : LinkView). IsTrue w.over) (sym c.note.ensures) o;
-      plays = λ p. changed_play old.count old.end old.supply left old.clock old.telling.told.view c.note.new.self.told.view ended (ended_comes old.supply left same empty old.count)
+      plays = λ p. changed_play old.count old.end old.supply left old.whole old.clock old.telling.told.view c.note.new.self.told.view ended (λ _. empty) (ended_comes old.supply left same empty old.count)
           (ap (λ (w : LinkView). w.sessions) c.note.ensures) (ap (λ (w : LinkView). w.readings) c.note.ensures) p;
     }
 
@@ -26,6 +26,6 @@ returns-else-n-eq0-clause-moved c =
     record {
       count = refl;
       over = λ o. subst (λ (w : LinkView). IsTrue w.over) (sym c.note-else-n-eq0.ensures) o;
-      plays = λ p. changed_play old.count old.end old.supply left old.clock old.telling.told.view c.note-else-n-eq0.new.self.told.view (hear bytes) (heard_comes bytes old.supply left c.give-n.ensures.given old.count)
+      plays = λ p. changed_play old.count old.end old.supply left old.whole old.clock old.telling.told.view c.note-else-n-eq0.new.self.told.view (hear bytes) (λ e. none_after bytes left (sym c.give-n.ensures.given ∙ e)) (heard_comes bytes old.supply left c.give-n.ensures.given old.count)
           (ap (λ (w : LinkView). w.sessions) c.note-else-n-eq0.ensures) (ap (λ (w : LinkView). w.readings) c.note-else-n-eq0.ensures) p;
     }

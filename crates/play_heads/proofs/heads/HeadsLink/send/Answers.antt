@@ -10,6 +10,6 @@ returns-clause-moved c =
     record {
       count = refl;
       over = λ o. subst (λ (w : LinkView). IsTrue w.over) (sym c.note.ensures) o;
-      plays = λ p. changed_play old.count old.end old.supply old.supply old.clock old.telling.told.view c.note.new.self.told.view (send bytes) (sent_comes bytes old.supply old.count)
+      plays = λ p. changed_play old.count old.end old.supply old.supply old.whole old.clock old.telling.told.view c.note.new.self.told.view (send bytes) (λ e. e) (sent_comes bytes old.supply old.count)
           (ap (λ (w : LinkView). w.sessions) c.note.ensures) (ap (λ (w : LinkView). w.readings) c.note.ensures) p;
     }

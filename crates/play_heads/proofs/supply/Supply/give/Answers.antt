@@ -1,4 +1,4 @@
-use Rattle.std.proofs.Common.{◌≡◌, ◌≤◌, ◌<◌, ◌+◌, ◌-◌, ◌++◌, ◌∙◌, ℕ, List, take, slice_range, sym, ap, arith, append_assoc}
+use Rattle.std.proofs.Common.{◌≤◌, ◌<◌, ◌+◌, ◌-◌, ◌++◌, ◌∙◌, ℕ, List, take, slice_range, sym, ap, arith, append_assoc}
 use Rattle.play_heads.specs.PlayHeads.{heads_from}
 use Rattle.play_heads.proofs.SupplyLaws.{made_next}
 use Rattle.play_heads.proofs.supply.Supply.give.Goals as goal
