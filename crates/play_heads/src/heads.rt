@@ -75,9 +75,6 @@ impl Heads {
 }
 
 impl Link for Heads {
-    ghost use Rattle.std.specs.Prelude.{◌<◌, ◌⊎◌, ◌++◌, ◌∷◌, Some, IfOk, OnOk, OnErr, length, take, false, option_map, if◌then◌else◌};
-    ghost use Rattle.mc_outside.specs.Bytes.{Told, AddsPart, HasCause};
-    ghost use Rattle.mc_outside.specs.LinkView.{Failed, next_taken, none_left, after_recv, after_send, after_eof};
     ghost use Rattle.play_heads.specs.Playing.{link_of, PlaysOn, plays_is_link, plays_stay, plays_then, plays_goes};
 
     ghost link = { λ h. link_of h };

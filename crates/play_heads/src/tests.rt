@@ -134,14 +134,16 @@ fn heads_are_what_another_program_computes(rt: HostRuntime) {
     );
 }
 
-/// The first link gives its first head in parts.
+/// A link gives a head in parts, and all came when no more comes.
 #[test]
 fn a_link_is_received_in_parts(rt: HostRuntime) {
-    let mut heads = Heads::new(8);
+    let mut heads = Heads::new(1);
     let mut buf = [0; 100];
     assert!(rt; matches!(heads.next_link(), Ok(true)));
     assert!(rt; matches!(heads.recv(&mut buf), Ok(100)));
+    assert!(rt; !heads.is_done());
     assert!(rt; matches!(heads.recv(&mut buf), Ok(51)));
+    assert!(rt; heads.is_done());
     assert!(rt; heads.now().seconds() == 0);
     assert!(rt; heads.now().seconds() == 1);
     heads.end_link();
