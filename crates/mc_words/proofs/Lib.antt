@@ -1,0 +1,4 @@
+pub mod TableLemmas
+pub mod SecretLemmas
+pub mod WordLaws
+pub mod Rows

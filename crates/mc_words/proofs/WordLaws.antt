@@ -1,0 +1,156 @@
+-- The words of a command are of no other.
+use Rattle.std.proofs.Common.{◌≡◌, ℕ, List, [], ◌∷◌, Option, Some, None, refl, sym, ap, ◌∙◌, arith}
+use Rattle.std.specs.Prelude.{◌<◌, ◌-◌, ◌^◌, IfSome, decimal, option_map, slice_index}
+use Rattle.std.proofs.lemmas.Fmt.{decimal_injective}
+use Rattle.clap.specs.Walk.{Row, Text}
+use Rattle.mc_fields.specs.Texts.{IsNumber}
+use Rattle.scrip_form.specs.Issuing.{Issuing}
+use Rattle.mc_words.specs.declared.operation.Operation.{Operation}
+use Rattle.mc_words.specs.declared.operation.Operation.TheVariants.{Goods, Price, Licence, Mint}
+use Rattle.mc_words.specs.declared.command.Command.{Command}
+use Rattle.mc_words.specs.declared.command.Command.TheVariants.{Once, Init, Serve, Operate}
+use Rattle.mc_words.specs.declared.table.CommandName.{CommandName}
+use Rattle.mc_words.specs.declared.table.CommandName.TheVariants as names
+use Rattle.mc_words.specs.Table.{AreOf, form_of}
+use Rattle.mc_words.specs.Ranges.{AreTerms, IsWithin}
+use Rattle.mc_words.specs.Words.{FindsTerms, Shop, FindsShop, Founder, FindsFounder, own_terms, Server, FindsServer, Listing, FindsListing, Pricing, FindsPricing, Licensing, FindsLicensing, licensed_terms, Minting, FindsMinting}
+use Rattle.mc_words.specs.Commands.{AreOperationWords, AreWords}
+use Rattle.mc_words.proofs.TableLemmas.{one_value, read_once}
+use Rattle.mc_words.proofs.SecretLemmas.{same_secret, same_secrets}
+
+-- ---- one value
+
+same_number : {found : Option Text} (most a b : ℕ) → most < 2 ^ 64 → IsNumber most a → IsNumber most b → found ≡ Some (decimal a) → found ≡ Some (decimal b) → a ≡ b
+same_number most a b small is_a is_b fa fb = decimal_injective a b (omega (arith, is_a.within, small)) (omega (arith, is_b.within, small)) (one_value fa fb)
+
+same_option : {found : Option Text} (least most : ℕ) (a b : Option ℕ) → most < 2 ^ 64 → IfSome a (IsWithin least most) → IfSome b (IsWithin least most)
+    → found ≡ option_map decimal a → found ≡ option_map decimal b → a ≡ b
+same_option least most None None small is_a is_b fa fb = refl
+same_option least most None (Some b) small is_a is_b fa fb = absurd (let none : None ≡ Some (decimal b) = sym fa ∙ fb in cc)
+same_option least most (Some a) None small is_a is_b fa fb = absurd (let none : None ≡ Some (decimal a) = sym fb ∙ fa in cc)
+same_option least most (Some a) (Some b) small is_a is_b fa fb = ap Some (decimal_injective a b (omega (arith, is_a.most', small)) (omega (arith, is_b.most', small)) (one_value fa fb))
+
+-- ---- the values of each command
+
+one_terms : (rows : List Row) (a b : Issuing) → AreTerms a → AreTerms b → FindsTerms rows a → FindsTerms rows b → a.issuer ≡ b.issuer → a ≡ b
+one_terms rows a b is_a is_b fa fb issuer =
+    let period = decimal_injective a.period b.period (omega (arith, is_a.period.most)) (omega (arith, is_b.period.most)) (one_value fa.period fb.period) in
+    let life = decimal_injective a.life b.life (omega (arith, is_a.period.short)) (omega (arith, is_b.period.short)) (one_value fa.life fb.life) in
+    let scrip = same_secrets a.scrip b.scrip is_a.scrip.secrets' is_b.scrip.secrets' (one_value fa.scrip fb.scrip) in
+    let customer = same_secrets a.customer b.customer is_a.customer.secrets' is_b.customer.secrets' (one_value fa.customer fb.customer) in
+    λ i. record { issuer = issuer i; period = period i; life = life i; scrip = scrip i; customer = customer i }
+
+one_shop : (rows : List Row) (a b : Shop) → FindsShop rows a → FindsShop rows b → a ≡ b
+one_shop rows a b fa fb =
+    let name = one_value fa.name fb.name in
+    let target = one_value fa.target fb.target in
+    let price = same_number (2 ^ 40) a.price b.price (omega arith) fa.shop'.price fb.shop'.price fa.price fb.price in
+    let secret = same_secret a.secret b.secret fa.shop'.secret fb.shop'.secret (one_value fa.secret fb.secret) in
+    let contents = one_value fa.contents fb.contents in
+    λ i. record { name = name i; target = target i; price = price i; secret = secret i; contents = contents i }
+
+one_founder : (rows : List Row) (a b : Founder) → FindsFounder rows a → FindsFounder rows b → a ≡ b
+one_founder rows a b fa fb =
+    let book = one_value fa.book fb.book in
+    let name = one_value fa.name fb.name in
+    let t = one_terms rows (own_terms a) (own_terms b) fa.founder'.terms fb.founder'.terms fa.terms fb.terms refl in
+    let keep = same_option 60 86400 a.keep b.keep (omega arith) fa.founder'.keep fb.founder'.keep fa.keep fb.keep in
+    let clear = sym fa.clear ∙ fb.clear in
+    λ i. record { book = book i; name = name i; period = (t i).period; life = (t i).life; scrip = (t i).scrip; customer = (t i).customer; keep = keep i; clear = clear i }
+
+one_server : (rows : List Row) (a b : Server) → FindsServer rows a → FindsServer rows b → a ≡ b
+one_server rows a b fa fb =
+    let book = one_value fa.book fb.book in
+    let listen = one_value fa.listen fb.listen in
+    let links = same_number (2 ^ 32 - 1) a.links b.links (omega arith) fa.server'.links fb.server'.links fa.links fb.links in
+    λ i. record { book = book i; listen = listen i; links = links i }
+
+one_listing : (rows : List Row) (a b : Listing) → FindsListing rows a → FindsListing rows b → a ≡ b
+one_listing rows a b fa fb =
+    let book = one_value fa.book fb.book in
+    let target = one_value fa.target fb.target in
+    let price = same_number (2 ^ 40) a.price b.price (omega arith) fa.listing'.price fb.listing'.price fa.price fb.price in
+    let kind = same_option 0 2 a.kind b.kind (omega arith) fa.listing'.kind fb.listing'.kind fa.kind fb.kind in
+    λ i. record { book = book i; target = target i; price = price i; kind = kind i }
+
+one_pricing : (rows : List Row) (a b : Pricing) → FindsPricing rows a → FindsPricing rows b → a ≡ b
+one_pricing rows a b fa fb =
+    let book = one_value fa.book fb.book in
+    let target = one_value fa.target fb.target in
+    let price = same_number (2 ^ 40) a.price b.price (omega arith) fa.pricing'.price fb.pricing'.price fa.price fb.price in
+    λ i. record { book = book i; target = target i; price = price i }
+
+one_licensing : (rows : List Row) (a b : Licensing) → FindsLicensing rows a → FindsLicensing rows b → a ≡ b
+one_licensing rows a b fa fb =
+    let book = one_value fa.book fb.book in
+    let issuer = same_number 255 a.issuer b.issuer (omega arith) fa.licensing'.issuer fb.licensing'.issuer fa.issuer fb.issuer in
+    let t = one_terms rows (licensed_terms a) (licensed_terms b) fa.licensing'.terms fb.licensing'.terms fa.terms fb.terms issuer in
+    λ i. record { book = book i; issuer = (t i).issuer; period = (t i).period; life = (t i).life; scrip = (t i).scrip; customer = (t i).customer }
+
+one_minting : (rows : List Row) (a b : Minting) → FindsMinting rows a → FindsMinting rows b → a ≡ b
+one_minting rows a b fa fb =
+    let book = one_value fa.book fb.book in
+    let count = same_number 256 a.count b.count (omega arith) fa.minting'.count fb.minting'.count fa.count fb.count in
+    let value = same_number (2 ^ 40) a.value b.value (omega arith) fa.minting'.value fb.minting'.value fa.value fb.value in
+    let reference = one_value fa.reference fb.reference in
+    λ i. record { book = book i; count = count i; value = value i; reference = reference i }
+
+-- ---- commands
+
+-- what is told of one list of rows is told of the words of a command
+one_of : {X : Type 0} (name : CommandName) (words : List Text) (Finds : List Row → X → Type 0) → ((rows : List Row) (a b : X) → Finds rows a → Finds rows b → a ≡ b)
+    → (a b : X) → AreOf name words (λ rows. Finds rows a) → AreOf name words (λ rows. Finds rows b) → a ≡ b
+one_of name words Finds one a b fa fb = one fa.rows a b fa.finds (rw (read_once name words fa.rows fb.rows fa.read fb.read) at fb.finds)
+
+-- the first letter of the second word, which is another one for each command
+abbrev letter : List Text → ℕ
+letter [] = 0
+letter (role ∷ []) = 0
+letter (role ∷ command ∷ words) = slice_index command 0
+
+abbrev letter_of : Command → ℕ
+letter_of (Once shop) = 111
+letter_of (Init founder) = 105
+letter_of (Serve server) = 115
+letter_of (Operate (Goods listing)) = 103
+letter_of (Operate (Price pricing)) = 112
+letter_of (Operate (Licence licensing)) = 108
+letter_of (Operate (Mint minting)) = 109
+
+has_letter : (words : List Text) (c : Command) → AreWords words c → letter words ≡ letter_of c
+unfolding form_of
+has_letter words (Once shop) are = ap letter are.read.words'
+has_letter words (Init founder) are = ap letter are.read.words'
+has_letter words (Serve server) are = ap letter are.read.words'
+has_letter words (Operate (Goods listing)) are = ap letter are.read.words'
+has_letter words (Operate (Price pricing)) are = ap letter are.read.words'
+has_letter words (Operate (Licence licensing)) are = ap letter are.read.words'
+has_letter words (Operate (Mint minting)) are = ap letter are.read.words'
+
+one_operation : (words : List Text) (a b : Operation) → AreOperationWords words a → AreOperationWords words b → a ≡ b
+one_operation words (Goods a) (Goods b) fa fb = ap Goods (one_of names.VendorGoods words FindsListing one_listing a b fa fb)
+one_operation words (Price a) (Price b) fa fb = ap Price (one_of names.VendorPrice words FindsPricing one_pricing a b fa fb)
+one_operation words (Licence a) (Licence b) fa fb = ap Licence (one_of names.VendorLicence words FindsLicensing one_licensing a b fa fb)
+one_operation words (Mint a) (Mint b) fa fb = ap Mint (one_of names.VendorMint words FindsMinting one_minting a b fa fb)
+one_operation words a b fa fb = absurd (omega (arith, has_letter words (Operate a) fa, has_letter words (Operate b) fb))
+
+abbrev IsOperate : Command → Type 0
+IsOperate (Operate operation) = Unit {0}
+IsOperate _ = ⊥
+
+-- the words of an operation are of no command but an operator's
+operate_alone : (words : List Text) (operation : Operation) (c : Command) → AreOperationWords words operation → AreWords words c → IsOperate c
+operate_alone words operation (Operate other) fo fc = tt
+operate_alone words (Goods operation) c fo fc = absurd (omega (arith, has_letter words (Operate (Goods operation)) fo, has_letter words c fc))
+operate_alone words (Price operation) c fo fc = absurd (omega (arith, has_letter words (Operate (Price operation)) fo, has_letter words c fc))
+operate_alone words (Licence operation) c fo fc = absurd (omega (arith, has_letter words (Operate (Licence operation)) fo, has_letter words c fc))
+operate_alone words (Mint operation) c fo fc = absurd (omega (arith, has_letter words (Operate (Mint operation)) fo, has_letter words c fc))
+
+pub one_command : (words : List Text) (a b : Command) → AreWords words a → AreWords words b → a ≡ b
+one_command words (Once a) (Once b) fa fb = ap Once (one_of names.VendorOnce words FindsShop one_shop a b fa fb)
+one_command words (Init a) (Init b) fa fb = ap Init (one_of names.VendorInit words FindsFounder one_founder a b fa fb)
+one_command words (Serve a) (Serve b) fa fb = ap Serve (one_of names.VendorServe words FindsServer one_server a b fa fb)
+one_command words (Operate a) (Operate b) fa fb = ap Operate (one_operation words a b fa fb)
+one_command words (Operate a) b fa fb = absurd (operate_alone words a b fa fb)
+one_command words a (Operate b) fa fb = absurd (operate_alone words b a fb fa)
+one_command words a b fa fb = absurd (omega (arith, has_letter words a fa, has_letter words b fb))

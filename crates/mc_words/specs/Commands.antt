@@ -1,0 +1,61 @@
+-- The commands that are carried out, and the words of each.
+use Rattle.std.specs.Prelude.{ℕ, List}
+use Rattle.mc_words.specs.declared.operation.Operation.{Operation}
+use Rattle.mc_words.specs.declared.operation.Operation.TheVariants.{Goods, Price, Licence, Mint}
+use Rattle.mc_words.specs.declared.command.Command.{Command}
+use Rattle.mc_words.specs.declared.command.Command.TheVariants.{Once, Init, Serve, Operate}
+use Rattle.mc_words.specs.declared.table.CommandName.TheVariants as names
+use Rattle.mc_words.specs.Table.{AreOf}
+use Rattle.mc_words.specs.Words.{Shop, FindsShop, Founder, FindsFounder, Server, FindsServer, Listing, FindsListing, Pricing, FindsPricing, Licensing, FindsLicensing, Minting, FindsMinting}
+
+-- the words are `vendor once`, and spell this shop
+abbrev pub AreOnceWords : List (List ℕ) → Shop → Type 0
+AreOnceWords words shop = AreOf names.VendorOnce words (λ rows. FindsShop rows shop)
+
+-- the words are of no shop
+abbrev pub AreNoOnceWords : List (List ℕ) → Type 0
+AreNoOnceWords words = (shop : Shop) → AreOnceWords words shop → ⊥
+
+-- likewise `vendor init`, and so on
+abbrev pub AreInitWords : List (List ℕ) → Founder → Type 0
+AreInitWords words founder = AreOf names.VendorInit words (λ rows. FindsFounder rows founder)
+
+abbrev pub AreServeWords : List (List ℕ) → Server → Type 0
+AreServeWords words server = AreOf names.VendorServe words (λ rows. FindsServer rows server)
+
+abbrev pub AreGoodsWords : List (List ℕ) → Listing → Type 0
+AreGoodsWords words listing = AreOf names.VendorGoods words (λ rows. FindsListing rows listing)
+
+abbrev pub ArePriceWords : List (List ℕ) → Pricing → Type 0
+ArePriceWords words pricing = AreOf names.VendorPrice words (λ rows. FindsPricing rows pricing)
+
+abbrev pub AreLicenceWords : List (List ℕ) → Licensing → Type 0
+AreLicenceWords words licensing = AreOf names.VendorLicence words (λ rows. FindsLicensing rows licensing)
+
+abbrev pub AreMintWords : List (List ℕ) → Minting → Type 0
+AreMintWords words minting = AreOf names.VendorMint words (λ rows. FindsMinting rows minting)
+
+-- the words are of this operation of a vendor's operator
+abbrev pub AreOperationWords : List (List ℕ) → Operation → Type 0
+AreOperationWords words (Goods listing) = AreGoodsWords words listing
+AreOperationWords words (Price pricing) = ArePriceWords words pricing
+AreOperationWords words (Licence licensing) = AreLicenceWords words licensing
+AreOperationWords words (Mint minting) = AreMintWords words minting
+
+-- the book that an operation is for
+abbrev pub book_of : Operation → List ℕ
+book_of (Goods listing) = listing.book
+book_of (Price pricing) = pricing.book
+book_of (Licence licensing) = licensing.book
+book_of (Mint minting) = minting.book
+
+-- the words are of this command
+abbrev pub AreWords : List (List ℕ) → Command → Type 0
+AreWords words (Once shop) = AreOnceWords words shop
+AreWords words (Init founder) = AreInitWords words founder
+AreWords words (Serve server) = AreServeWords words server
+AreWords words (Operate operation) = AreOperationWords words operation
+
+-- the words are of no command
+abbrev pub AreNoWords : List (List ℕ) → Type 0
+AreNoWords words = (c : Command) → AreWords words c → ⊥

@@ -1,0 +1,40 @@
+-- The ranges of the values that words spell.
+use Rattle.std.specs.Prelude.{ℕ, ◌<◌, ◌≤◌, List, length, map}
+use Rattle.std.specs.List.{AllByRecursion, join_with_byte}
+use Rattle.hex.specs.Hex.{encode_lower}
+use Rattle.scrip_form.specs.Scrip.{IsCert}
+use Rattle.scrip_form.specs.Issuing.{Issuing, HasPeriod}
+
+-- a word that names a book or a place to listen at has 1 to 255 bytes
+pub record IsPathOrAddress (word : List ℕ) : Type 0 where
+  pub some : 0 < length word
+  pub short : length word ≤ 255
+
+-- a number from the least to the most
+pub record IsWithin (least most n : ℕ) : Type 0 where
+  pub least' : least ≤ n
+  pub most' : n ≤ most
+
+-- a keeping time of 60 to 86,400 seconds
+abbrev pub IsKeepingTime : ℕ → Type 0
+IsKeepingTime keep = IsWithin 60 86400 keep
+
+-- the kinds of contents are 0, 1 and 2
+abbrev pub IsKind : ℕ → Type 0
+IsKind kind = IsWithin 0 2 kind
+
+-- 1 to 16 secrets of sixteen bytes
+pub record IsSecretList (secrets : List (List ℕ)) : Type 0 where
+  pub some : 0 < length secrets
+  pub few : length secrets ≤ 16
+  pub secrets' : AllByRecursion IsCert secrets
+
+-- the word of some secrets: the hex digits of each, with a comma between each two
+abbrev pub joined : List (List ℕ) → List ℕ
+joined secrets = join_with_byte 44 (map encode_lower secrets)
+
+-- the ranges of an issuer's terms, whoever the issuer is
+pub record AreTerms (terms : Issuing) : Type 0 where
+  pub period : HasPeriod terms.period terms.life
+  pub scrip : IsSecretList terms.scrip
+  pub customer : IsSecretList terms.customer

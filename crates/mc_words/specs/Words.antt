@@ -1,0 +1,187 @@
+-- The values of each command, their ranges, and what `clap` finds of them in its words.
+use Rattle.std.specs.Prelude.{◌≡◌, ℕ, ◌≤◌, ◌-◌, ◌^◌, Bool, List, length, Option, Some, IfSome, option_map, codes, decimal}
+use Rattle.hex.specs.Hex.{encode_lower}
+use Rattle.clap.specs.Walk.{Row}
+use Rattle.mc_fields.specs.Texts.{IsNumber}
+use Rattle.scrip_form.specs.Texts.{IsName, IsTarget}
+use Rattle.scrip_form.specs.Scrip.{IsCert}
+use Rattle.scrip_form.specs.Issuing.{Issuing}
+use Rattle.command_words.specs.Arguments.{has_flag, value_of}
+use Rattle.mc_words.specs.Ranges.{AreTerms, IsKeepingTime, IsKind, IsPathOrAddress, joined}
+
+-- PERIOD LIFE SCRIP CUSTOMER: the terms of an issuer, whoever the issuer is
+pub record FindsTerms (rows : List Row) (terms : Issuing) : Type 0 where
+  pub period : value_of rows (codes "PERIOD") ≡ Some (decimal terms.period)
+  pub life : value_of rows (codes "LIFE") ≡ Some (decimal terms.life)
+  pub scrip : value_of rows (codes "SCRIP") ≡ Some (joined terms.scrip)
+  pub customer : value_of rows (codes "CUSTOMER") ≡ Some (joined terms.customer)
+
+-- ---- `vendor once NAME TARGET PRICE SECRET CONTENTS`
+
+-- a shop that sells one thing: its name, the target and the price of the goods, one secret of
+-- sixteen bytes, and the contents that are sold
+pub record Shop : Type 0 where
+  pub name : List ℕ
+  pub target : List ℕ
+  pub price : ℕ
+  pub secret : List ℕ
+  pub contents : List ℕ
+
+pub record IsShop (shop : Shop) : Type 0 where
+  pub name : IsName shop.name
+  pub target : IsTarget shop.target
+  pub price : IsNumber (2 ^ 40) shop.price
+  pub secret : IsCert shop.secret
+  pub contents : length shop.contents ≤ 65536
+
+pub record FindsShop (rows : List Row) (shop : Shop) : Type 0 where
+  pub name : value_of rows (codes "NAME") ≡ Some shop.name
+  pub target : value_of rows (codes "TARGET") ≡ Some shop.target
+  pub price : value_of rows (codes "PRICE") ≡ Some (decimal shop.price)
+  pub secret : value_of rows (codes "SECRET") ≡ Some (encode_lower shop.secret)
+  pub contents : value_of rows (codes "CONTENTS") ≡ Some shop.contents
+  pub shop' : IsShop shop
+
+-- ---- `vendor init BOOK NAME PERIOD LIFE SCRIP CUSTOMER [--keep SECONDS] [--clear]`
+
+-- what a vendor is founded with: its book, its name, the period and the life of its series, its secrets
+-- of scrip and of customers, its keeping time where the words say one, and whether it takes requests
+-- without a signature
+pub record Founder : Type 0 where
+  pub book : List ℕ
+  pub name : List ℕ
+  pub period : ℕ
+  pub life : ℕ
+  pub scrip : List (List ℕ)
+  pub customer : List (List ℕ)
+  pub keep : Option ℕ
+  pub clear : Bool
+
+-- the terms of its own scrip, which are issuer 0's
+abbrev pub own_terms : Founder → Issuing
+own_terms founder = record { issuer = 0; period = founder.period; life = founder.life; scrip = founder.scrip; customer = founder.customer }
+
+pub record IsFounder (founder : Founder) : Type 0 where
+  pub book : IsPathOrAddress founder.book
+  pub name : IsName founder.name
+  pub terms : AreTerms (own_terms founder)
+  pub keep : IfSome founder.keep IsKeepingTime
+
+pub record FindsFounder (rows : List Row) (founder : Founder) : Type 0 where
+  pub book : value_of rows (codes "BOOK") ≡ Some founder.book
+  pub name : value_of rows (codes "NAME") ≡ Some founder.name
+  pub terms : FindsTerms rows (own_terms founder)
+  pub keep : value_of rows (codes "keep") ≡ option_map decimal founder.keep
+  pub clear : has_flag rows (codes "clear") ≡ founder.clear
+  pub founder' : IsFounder founder
+
+-- ---- `vendor serve BOOK LISTEN LINKS`
+
+-- what a vendor is served by: its book, where its links come, and how many are taken at most
+pub record Server : Type 0 where
+  pub book : List ℕ
+  pub listen : List ℕ
+  pub links : ℕ
+
+pub record IsServer (server : Server) : Type 0 where
+  pub book : IsPathOrAddress server.book
+  pub listen : IsPathOrAddress server.listen
+  pub links : IsNumber (2 ^ 32 - 1) server.links
+
+pub record FindsServer (rows : List Row) (server : Server) : Type 0 where
+  pub book : value_of rows (codes "BOOK") ≡ Some server.book
+  pub listen : value_of rows (codes "LISTEN") ≡ Some server.listen
+  pub links : value_of rows (codes "LINKS") ≡ Some (decimal server.links)
+  pub server' : IsServer server
+
+-- ---- `vendor goods BOOK TARGET PRICE [--kind KIND]`
+
+-- what is put on sale: the book of the vendor, the target and the price of the goods, and the kind of
+-- their contents where the words say one
+pub record Listing : Type 0 where
+  pub book : List ℕ
+  pub target : List ℕ
+  pub price : ℕ
+  pub kind : Option ℕ
+
+pub record IsListing (listing : Listing) : Type 0 where
+  pub book : IsPathOrAddress listing.book
+  pub target : IsTarget listing.target
+  pub price : IsNumber (2 ^ 40) listing.price
+  pub kind : IfSome listing.kind IsKind
+
+pub record FindsListing (rows : List Row) (listing : Listing) : Type 0 where
+  pub book : value_of rows (codes "BOOK") ≡ Some listing.book
+  pub target : value_of rows (codes "TARGET") ≡ Some listing.target
+  pub price : value_of rows (codes "PRICE") ≡ Some (decimal listing.price)
+  pub kind : value_of rows (codes "kind") ≡ option_map decimal listing.kind
+  pub listing' : IsListing listing
+
+-- ---- `vendor price BOOK TARGET PRICE`
+
+-- what is sold at another price: the book of the vendor, the target of the goods, and the price
+pub record Pricing : Type 0 where
+  pub book : List ℕ
+  pub target : List ℕ
+  pub price : ℕ
+
+pub record IsPricing (pricing : Pricing) : Type 0 where
+  pub book : IsPathOrAddress pricing.book
+  pub target : IsTarget pricing.target
+  pub price : IsNumber (2 ^ 40) pricing.price
+
+pub record FindsPricing (rows : List Row) (pricing : Pricing) : Type 0 where
+  pub book : value_of rows (codes "BOOK") ≡ Some pricing.book
+  pub target : value_of rows (codes "TARGET") ≡ Some pricing.target
+  pub price : value_of rows (codes "PRICE") ≡ Some (decimal pricing.price)
+  pub pricing' : IsPricing pricing
+
+-- ---- `vendor licence BOOK ISSUER PERIOD LIFE SCRIP CUSTOMER`
+
+-- what another house may issue: the book of the vendor, and the terms under which scrip of the vendor is
+-- made by an issuer of this number
+pub record Licensing : Type 0 where
+  pub book : List ℕ
+  pub issuer : ℕ
+  pub period : ℕ
+  pub life : ℕ
+  pub scrip : List (List ℕ)
+  pub customer : List (List ℕ)
+
+-- the terms that a licensing gives
+abbrev pub licensed_terms : Licensing → Issuing
+licensed_terms licensing = record { issuer = licensing.issuer; period = licensing.period; life = licensing.life; scrip = licensing.scrip; customer = licensing.customer }
+
+pub record IsLicensing (licensing : Licensing) : Type 0 where
+  pub book : IsPathOrAddress licensing.book
+  pub issuer : IsNumber 255 licensing.issuer
+  pub terms : AreTerms (licensed_terms licensing)
+
+pub record FindsLicensing (rows : List Row) (licensing : Licensing) : Type 0 where
+  pub book : value_of rows (codes "BOOK") ≡ Some licensing.book
+  pub issuer : value_of rows (codes "ISSUER") ≡ Some (decimal licensing.issuer)
+  pub terms : FindsTerms rows (licensed_terms licensing)
+  pub licensing' : IsLicensing licensing
+
+-- ---- `vendor mint BOOK COUNT VALUE REFERENCE`
+
+-- what is minted: the book of the vendor, how many pieces, the value of each, and the reference by which
+-- they are known
+pub record Minting : Type 0 where
+  pub book : List ℕ
+  pub count : ℕ
+  pub value : ℕ
+  pub reference : List ℕ
+
+pub record IsMinting (minting : Minting) : Type 0 where
+  pub book : IsPathOrAddress minting.book
+  pub count : IsNumber 256 minting.count
+  pub value : IsNumber (2 ^ 40) minting.value
+  pub reference : IsName minting.reference
+
+pub record FindsMinting (rows : List Row) (minting : Minting) : Type 0 where
+  pub book : value_of rows (codes "BOOK") ≡ Some minting.book
+  pub count : value_of rows (codes "COUNT") ≡ Some (decimal minting.count)
+  pub value : value_of rows (codes "VALUE") ≡ Some (decimal minting.value)
+  pub reference : value_of rows (codes "REFERENCE") ≡ Some minting.reference
+  pub minting' : IsMinting minting

@@ -1,0 +1,44 @@
+ghost use Rattle.std.specs.Prelude.{map, string_bytes, IfOk, IfSome, IsNone};
+ghost use Rattle.mc_words.specs.Commands.{AreWords, AreNoWords};
+
+use crate::init::{Founder, founder_of};
+use crate::once::{Shop, shop_of};
+use crate::operation::{Operation, operation_of};
+use crate::serve::{Server, server_of};
+use std::alloc::{AllocError, Global};
+
+/// What the words say to do.
+#[derive(Drop)]
+pub enum Command<'a> {
+    /// Sells one thing over one link, with no book.
+    Once(Shop<'a>),
+    /// Founds a vendor in a book.
+    Init(Founder<'a>),
+    /// Serves the vendor of a book.
+    Serve(Server<'a>),
+    /// Has something done to the book of a vendor, as its operator.
+    Operate(Operation<'a>),
+}
+
+/// The command that the words, those after the program's name, are of; None exactly where they are of
+/// none that is carried out. An Err is want of memory alone.
+pub fn command_of<'a>(alloc: Global, words: &'a [String]) -> Result<Option<Command<'a>>, AllocError>
+    ensures command { IfOk result (λ r. IfSome r
+        (λ command. AreWords (map string_bytes words.entry.now) command)) }
+    ensures none { IfOk result
+        (λ r. IsNone r → AreNoWords (map string_bytes words.entry.now)) }
+{
+    if let Some(shop) = shop_of(alloc, words)? {
+        return Ok(Some(Command::Once(shop)));
+    }
+    if let Some(founder) = founder_of(alloc, words)? {
+        return Ok(Some(Command::Init(founder)));
+    }
+    if let Some(server) = server_of(alloc, words)? {
+        return Ok(Some(Command::Serve(server)));
+    }
+    if let Some(operation) = operation_of(alloc, words)? {
+        return Ok(Some(Command::Operate(operation)));
+    }
+    Ok(None)
+}

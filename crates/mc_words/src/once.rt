@@ -1,0 +1,115 @@
+ghost use Rattle.std.specs.Prelude.{◌≡◌, ◌<◌, ◌≤◌, ◌∷◌, [], length, map, string_bytes, IfOk, IfSome, IsNone};
+ghost use Rattle.scrip_form.specs.Texts.{IsName, IsTarget};
+ghost use Rattle.scrip_form.specs.Scrip.{IsCert};
+ghost use Rattle.mc_words.specs.Words.{Shop as Sold, FindsShop};
+ghost use Rattle.mc_words.specs.Commands.{AreOnceWords, AreNoOnceWords};
+
+use crate::table::{CommandName, read_command};
+use crate::value::{amount_in, name_in, secret_in, target_in};
+use command_words::Found;
+use mc_base::Amount;
+use scrip_form::{Name, Target};
+use std::alloc::{AllocError, Global};
+use std::marker::Model;
+
+/// The most bytes of the contents that are sold for one target.
+pub const MOST_CONTENTS: usize = 65536;
+
+/// A shop that sells one thing. Contracts see it as its texts.
+#[derive(Drop)]
+pub struct Shop<'a> {
+    name: Name,
+    target: Target,
+    price: Amount,
+    secret: [u8; 16],
+    contents: &'a [u8],
+}
+
+impl<'a> Model for Shop<'a> {
+    ghost use Rattle.mc_words.specs.Words.{Shop as Sold, IsShop};
+
+    ghost Value = { Sold };
+
+    ghost view = { λ s. record { name = s.name; target = s.target; price = s.price; secret = s.secret; contents = s.contents.now } };
+
+    ghost invariant = { λ s. IsShop (record { name = s.name; target = s.target; price = s.price; secret = s.secret; contents = s.contents.now }) };
+}
+
+impl<'a> Shop<'a> {
+    /// The name of the shop.
+    pub fn name(&self) -> &Name
+        ensures value { result.now ≡ self.now.name }
+        ensures range { IsName self.now.name }
+    {
+        &self.name
+    }
+
+    /// The target of its goods.
+    pub fn target(&self) -> &Target
+        ensures value { result.now ≡ self.now.target }
+        ensures range { IsTarget self.now.target }
+    {
+        &self.target
+    }
+
+    /// The price of its goods.
+    pub fn price(&self) -> Amount
+        ensures value { result ≡ self.now.price }
+        ensures range { 0 < self.now.price }
+    {
+        self.price
+    }
+
+    /// Its one secret.
+    pub fn secret(&self) -> &[u8; 16]
+        ensures value { result.now ≡ self.now.secret }
+        ensures range { IsCert self.now.secret }
+    {
+        &self.secret
+    }
+
+    /// The contents that are sold, of at most 65,536 bytes.
+    pub fn contents(&self) -> &'a [u8]
+        ensures value { result.now ≡ self.now.contents }
+        ensures range { length self.now.contents ≤ 65536 }
+    {
+        self.contents
+    }
+}
+
+/// The shop that the words `vendor once NAME TARGET PRICE SECRET CONTENTS` give; None exactly where they
+/// are of no shop.
+#[tactic(auto, using(crate::proofs::TableLemmas::none_of))]
+pub fn shop_of<'a>(alloc: Global, words: &'a [String]) -> Result<Option<Shop<'a>>, AllocError>
+    ensures some { IfOk result (λ r. IfSome r
+        (λ shop. AreOnceWords (map string_bytes words.entry.now) shop)) }
+    ensures none { IfOk result
+        (λ r. IsNone r → AreNoOnceWords (map string_bytes words.entry.now)) }
+{
+    match read_command(alloc, CommandName::VendorOnce, words) {
+        Ok(Some(found)) => Ok(shop_in(&found)),
+        Ok(None) => Ok(None),
+        Err(error) => Err(error),
+    }
+}
+
+fn shop_in<'a>(found: &Found<'a>) -> Option<Shop<'a>>
+    ensures some { IfSome result (λ shop. FindsShop found.now shop) }
+    ensures none { IsNone result → (shop : Sold) → FindsShop found.now shop → ⊥ }
+{
+    let name = name_in(found, "NAME")?;
+    let target = target_in(found, "TARGET")?;
+    let price = amount_in(found, "PRICE")?;
+    let secret = secret_in(found, "SECRET")?;
+    let contents = found.value_of("CONTENTS")?.as_bytes();
+    if contents.len() > MOST_CONTENTS {
+        return None;
+    }
+    Some(Shop {
+        name,
+        target,
+        price,
+        secret,
+        contents,
+    })
+}
