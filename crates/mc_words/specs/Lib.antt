@@ -2,3 +2,4 @@ pub mod Table
 pub mod Ranges
 pub mod Words
 pub mod Commands
+pub mod Usage

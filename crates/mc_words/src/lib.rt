@@ -17,6 +17,7 @@ mod secrets;
 mod serve;
 mod table;
 mod terms;
+mod usage_lines;
 mod value;
 
 pub use command::{Command, command_of};
@@ -30,3 +31,4 @@ pub use operation::Operation;
 pub use price::Pricing;
 pub use serve::Server;
 pub use table::{CommandName, read_command};
+pub use usage_lines::usage;

@@ -231,9 +231,9 @@ static BOOKS: [Argument; 1] = [Positionals("BOOK")];
 
 /// How the words of a command are: its role, its name, and its arguments.
 #[derive(Clone, Copy)]
-struct CommandForm {
-    role: &'static str,
-    name: &'static str,
+pub(crate) struct CommandForm {
+    pub(crate) role: &'static str,
+    pub(crate) name: &'static str,
     arguments: &'static [Argument],
 }
 
@@ -253,7 +253,7 @@ fn form(role: &'static str, name: &'static str, arguments: &'static [Argument]) 
 impl CommandName {
     /// The row of the command in the table.
     #[tactic(auto, unfolding(crate::specs::Table::form_of))]
-    fn form(self) -> CommandForm
+    pub(crate) fn form(self) -> CommandForm
         ensures role { result.role.now ≡ (form_of self).role }
         ensures name { result.name.now ≡ (form_of self).name }
         ensures rules { rules_of result.arguments.now ≡ (form_of self).rules }
@@ -330,7 +330,7 @@ pub fn read_command<'a>(
 }
 
 /// The role, the name and the words behind them; None exactly below two words.
-fn parts_of(words: &[String]) -> Option<(&str, &str, &[String])>
+pub(crate) fn parts_of(words: &[String]) -> Option<(&str, &str, &[String])>
     ensures some { IfSome result
         (λ p. map string_bytes words.now ≡ p.0.now ∷ p.1.now ∷ map string_bytes p.2.now) }
     ensures none { IsNone result → length words.now < 2 }

@@ -1,0 +1,63 @@
+//! What is told of words that are of no command.
+
+ghost use Rattle.std.specs.Prelude.{◌≡◌, map, string_bytes, IfSome};
+ghost use Rattle.mc_words.specs.Table.{form_of};
+ghost use Rattle.mc_words.specs.Usage.{IsUsage, usage_line};
+
+use crate::table::{CommandName, parts_of};
+
+/// The commands that are carried out.
+static CARRIED_OUT: [CommandName; 7] = [
+    CommandName::VendorInit,
+    CommandName::VendorGoods,
+    CommandName::VendorPrice,
+    CommandName::VendorLicence,
+    CommandName::VendorMint,
+    CommandName::VendorServe,
+    CommandName::VendorOnce,
+];
+
+/// The commands that are carried out, in one line.
+const COMMANDS: &str = "usage: millicent vendor init|goods|price|licence|mint|serve|once ..";
+
+/// One line for standard error that tells which words the program has: those of the command that the words
+/// begin with, where it is carried out, or else the commands. It takes no memory.
+pub fn usage(words: &[String]) -> &'static str
+    ensures { IsUsage (map string_bytes words.now) result.now }
+{
+    let Some((role, command, _)) = parts_of(words) else {
+        return COMMANDS;
+    };
+    for name in &CARRIED_OUT {
+        let form = name.form();
+        if role == form.role && command == form.name {
+            return line_of(*name).unwrap_or(COMMANDS);
+        }
+    }
+    COMMANDS
+}
+
+/// The line of a command that is carried out.
+#[tactic(auto, unfolding(crate::specs::Table::form_of))]
+fn line_of(name: CommandName) -> Option<&'static str>
+    ensures { IfSome result (λ line. line.now ≡ usage_line (form_of name)) }
+{
+    match name {
+        CommandName::VendorInit => Some(
+            "usage: millicent vendor init BOOK NAME PERIOD LIFE SCRIP CUSTOMER [--keep VALUE] [--clear]",
+        ),
+        CommandName::VendorGoods => {
+            Some("usage: millicent vendor goods BOOK TARGET PRICE [--kind VALUE]")
+        }
+        CommandName::VendorPrice => Some("usage: millicent vendor price BOOK TARGET PRICE"),
+        CommandName::VendorLicence => {
+            Some("usage: millicent vendor licence BOOK ISSUER PERIOD LIFE SCRIP CUSTOMER")
+        }
+        CommandName::VendorMint => Some("usage: millicent vendor mint BOOK COUNT VALUE REFERENCE"),
+        CommandName::VendorServe => Some("usage: millicent vendor serve BOOK LISTEN LINKS"),
+        CommandName::VendorOnce => {
+            Some("usage: millicent vendor once NAME TARGET PRICE SECRET CONTENTS")
+        }
+        _ => None,
+    }
+}
