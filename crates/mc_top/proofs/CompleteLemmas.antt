@@ -1,6 +1,6 @@
 -- A command whose book encodes a lawful history, where no call failed, does what it says, or wants memory, or
 -- tells a refusal.
-use Rattle.std.proofs.Common.{◌≡◌, ◌∙◌, ◌≤◌, ◌⊎◌, inl, inr, ℕ, List, Bool, true, false, refl, sym, ap, subst, arith, Some}
+use Rattle.std.proofs.Common.{◌≡◌, ◌∙◌, ◌≤◌, ◌⊎◌, inl, inr, ℕ, List, Bool, true, false, refl, sym, ap, subst, arith, Option, Some, None}
 use Rattle.mc_outside.specs.Bytes.{Rose}
 use Rattle.mc_outside.specs.DiskView.{DiskView}
 use Rattle.mc_outside.specs.LinkView.{LinkView}
@@ -14,8 +14,6 @@ use Rattle.house_core.specs.Tasks.{Task}
 use Rattle.house_serving.specs.Links.{TakesNoLink}
 use Rattle.mc_top.specs.declared.command.Command.{Command}
 use Rattle.mc_top.specs.declared.command.Command.TheVariants as commands
-use Rattle.mc_top.specs.declared.operation.Operation.{Operation}
-use Rattle.mc_top.specs.declared.operation.Operation.TheVariants as operations
 use Rattle.mc_top.specs.declared.status.Status.{Status}
 use Rattle.mc_top.specs.declared.status.Status.TheVariants as ends
 use Rattle.mc_top.specs.Opening.{full}
@@ -25,7 +23,8 @@ use Rattle.mc_top.specs.Statuses.{number_of, line_of}
 use Rattle.mc_top.specs.Serving.{NotOpened, ServesLinksOf, BookCauses, ServeCauses}
 use Rattle.mc_top.specs.Init.{FoundCauses}
 use Rattle.mc_top.specs.Operator.{OperationView, DidBy, OperatesBook, OperateCauses}
-use Rattle.mc_top.specs.Operations.{TakesInput, operation_view}
+use Rattle.mc_top.specs.Inputs.{TakesInput, LosesInput}
+use Rattle.mc_top.specs.Operations.{operation_view}
 use Rattle.mc_top.specs.Programs.{ServesOnce, Obeys, Ends, RunsAs, HasSite, HasBook, EndsWell, answered}
 use Rattle.mc_top.proofs.OpenLaws.{begins_with_header, not_spoiled, not_unlawful, not_of_other}
 
@@ -85,25 +84,23 @@ served_grew link disk links bytes a b ends.NoMemory calm causes served = same_co
 served_grew link disk links bytes a b ends.LinkFault calm causes served = absurd (calm.link' causes.1)
 served_grew link disk links bytes a b (ends.Refused f) calm causes served = absurd served
 
-input_kept : (operation : Operation) (v : LinkView) (input : List ℕ) (w : LinkView) → TakesInput operation v input w → w.faults ≡ v.faults
-input_kept (operations.Goods l) v input w (inl is) = ap (λ (u : LinkView). u.faults) is.1
-input_kept (operations.Goods l) v input w (inr (inl is)) = ap (λ (u : LinkView). u.faults) is.1
-input_kept (operations.Goods l) v input w (inr (inr is)) = ap (λ (u : LinkView). u.faults) is.1
-input_kept (operations.Price l) v input w is = ap (λ (u : LinkView). u.faults) is.1
-input_kept (operations.Licence l) v input w is = ap (λ (u : LinkView). u.faults) is.1
-input_kept (operations.Mint l) v input w is = ap (λ (u : LinkView). u.faults) is.1
+input_kept : (most : Option ℕ) (v : LinkView) (input : List ℕ) (w : LinkView) → TakesInput most v input w → w.faults ≡ v.faults
+input_kept (Some most) v input w (inl is) = ap (λ (u : LinkView). u.faults) is.1
+input_kept (Some most) v input w (inr (inl is)) = ap (λ (u : LinkView). u.faults) is.1
+input_kept (Some most) v input w (inr (inr is)) = ap (λ (u : LinkView). u.faults) is.1
+input_kept None v input w is = ap (λ (u : LinkView). u.faults) is.1
 
-operated_grew : {O : Type 0} (link : O → LinkView) (disk : O → DiskView) (kind : ℕ) (operation : OperationView) (bytes : List ℕ) (a b : O) (status : Status) → ((v : LinkView) (input : List ℕ) (w : LinkView) → operation.takes v input w → w.faults ≡ v.faults)
+operated_grew : {O : Type 0} (link : O → LinkView) (disk : O → DiskView) (kind : ℕ) (operation : OperationView) (bytes : List ℕ) (a b : O) (status : Status)
     → Calm link disk a b → OperateCauses link disk operation a status b → OperatesBook link disk kind operation bytes a status b
     → (link a).faults ≤ (link b).faults
-operated_grew link disk kind operation bytes a b status keeps calm causes (inl not) = unopened_grew link disk kind bytes a b status not
-operated_grew link disk kind operation bytes a b status keeps calm causes (inr (inr kept)) =
-    let taken : kept.taken.faults ≡ (link a).faults = keeps (link a) kept.input kept.taken kept.takes in
+operated_grew link disk kind operation bytes a b status calm causes (inl not) = unopened_grew link disk kind bytes a b status not
+operated_grew link disk kind operation bytes a b status calm causes (inr (inr kept)) =
+    let taken : kept.taken.faults ≡ (link a).faults = input_kept operation.input (link a) kept.input kept.taken kept.takes in
     let is : (link b).faults ≡ kept.taken.faults = ap (λ (u : LinkView). u.faults) kept.rest in
     omega (arith, taken, is)
-operated_grew link disk kind operation bytes a b status keeps calm causes (inr (inl unread)) = go unread.lost
+operated_grew link disk kind operation bytes a b status calm causes (inr (inl unread)) = go unread.lost
   where
-    go : ((status ≡ ends.LinkFault) × operation.loses (link a) (link b)) ⊎ ((status ≡ ends.NoMemory) × (link b ≡ link a)) → (link a).faults ≤ (link b).faults
+    go : ((status ≡ ends.LinkFault) × LosesInput operation.input (link a) (link b)) ⊎ ((status ≡ ends.NoMemory) × (link b ≡ link a)) → (link a).faults ≤ (link b).faults
     go (inl (is, lost)) = absurd (calm.link' (subst (λ (s : Status). OperateCauses link disk operation a s b) is causes).1)
     go (inr (is, same)) = same_count (link a) (link b) same
 
@@ -117,7 +114,7 @@ grew link disk (commands.Serve server) a b status has calm obeys = go (obeys.1 h
     go : NotOpened link disk (kind_number Vendor) has.bytes a status b ⊎ ServesLinksOf link disk server.links has.bytes a status b → (link a).faults ≤ (link b).faults
     go (inl not) = unopened_grew link disk (kind_number Vendor) has.bytes a b status not
     go (inr served) = served_grew link disk server.links has.bytes a b status calm obeys.0 served
-grew link disk (commands.Operate operation) a b status has calm obeys = operated_grew link disk (kind_number Vendor) (operation_view operation) has.bytes a b status (input_kept operation) calm obeys.0 (obeys.1 has.bytes has.told)
+grew link disk (commands.Operate operation) a b status has calm obeys = operated_grew link disk (kind_number Vendor) (operation_view operation) has.bytes a b status calm obeys.0 (obeys.1 has.bytes has.told)
 
 -- ---- how it ends
 
@@ -197,11 +194,11 @@ did_well link disk operation h task a b (ends.UnlawfulEntry place) calm causes d
 
 operated_well : {O : Type 0} (link : O → LinkView) (disk : O → DiskView) (kind : ℕ) (operation : OperationView) (a b : O) (status : Status) (has : HasSite kind (disk a)) → Calm link disk a b → OperateCauses link disk operation a status b
     → OperatesBook link disk kind operation has.bytes a status b → (number_of status ≡ 0) ⊎ ((number_of status ≡ 5) ⊎ (number_of status ≡ 7))
-operated_well link disk kind operation a b status has calm causes (inl not) = inr (inl (only_memory link disk kind (λ x y. operation.loses (link x) (link y)) has.history has.bytes a b status has.stands has.lawful has.of_kind calm causes not))
+operated_well link disk kind operation a b status has calm causes (inl not) = inr (inl (only_memory link disk kind (λ x y. LosesInput operation.input (link x) (link y)) has.history has.bytes a b status has.stands has.lawful has.of_kind calm causes not))
 operated_well link disk kind operation a b status has calm causes (inr (inr kept)) = did_well link disk operation kept.history kept.task a b status calm causes kept.did
 operated_well link disk kind operation a b status has calm causes (inr (inl unread)) = go unread.lost
   where
-    go : ((status ≡ ends.LinkFault) × operation.loses (link a) (link b)) ⊎ ((status ≡ ends.NoMemory) × (link b ≡ link a)) → (number_of status ≡ 0) ⊎ ((number_of status ≡ 5) ⊎ (number_of status ≡ 7))
+    go : ((status ≡ ends.LinkFault) × LosesInput operation.input (link a) (link b)) ⊎ ((status ≡ ends.NoMemory) × (link b ≡ link a)) → (number_of status ≡ 0) ⊎ ((number_of status ≡ 5) ⊎ (number_of status ≡ 7))
     go (inl (is, lost)) = absurd (calm.link' (subst (λ (s : Status). OperateCauses link disk operation a s b) is causes).1)
     go (inr (is, same)) = inr (inl (ap number_of is))
 

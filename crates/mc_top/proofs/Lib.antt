@@ -10,3 +10,4 @@ pub mod InputLemmas
 pub mod LineLemmas
 pub mod OperatorLemmas
 pub mod CompleteLemmas
+pub mod MintLemmas

@@ -1,10 +1,10 @@
 -- What becomes of a book by an operation of its operator.
-use Rattle.std.proofs.Common.{◌≡◌, ◌⊎◌, inl, inr, ⊎_elim, ℕ, ◌≤◌, List, [], ◌∷◌, ◌++◌, max, refl, sym, ap, ◌∙◌, subst, Err}
+use Rattle.std.proofs.Common.{◌≡◌, ◌⊎◌, inl, inr, ⊎_elim, ℕ, ◌≤◌, List, [], ◌∷◌, ◌++◌, max, refl, sym, ap, ◌∙◌, subst, Err, Option, Some, None}
 use Rattle.std.specs.Prelude.{IsSome}
 use Rattle.mc_outside.specs.Bytes.{BeginsWith, Rose}
 use Rattle.mc_outside.specs.DiskView.{DiskView, IsDisk, LinkKeeps, OnlyRead, Ran}
 use Rattle.mc_outside.specs.LinkView.{LinkView, after_recv, next_taken}
-use Rattle.mc_outside.proofs.Runs.{ran_then, ran_weaker, ran_link, ran_now}
+use Rattle.mc_outside.proofs.Runs.{ran_none, ran_then, ran_weaker, ran_link, ran_now}
 use Rattle.mc_records.specs.declared.limits.Limits.{Limits}
 use Rattle.mc_records.specs.declared.refusal.Refusal.{Refusal}
 use Rattle.ledger_model.specs.Histories.{History, time}
@@ -14,26 +14,26 @@ use Rattle.ledger_model.proofs.FollowLaws.{longer_lawful}
 use Rattle.ledger_model.specs.Lines as lines
 use Rattle.ledger_model.specs.Answer.{fitted}
 use Rattle.scrip_journal.specs.Layout.{Encodes}
+use Rattle.scrip_journal.specs.Exits.{EncodesNoOutput}
+use Rattle.scrip_journal.specs.Rests.{journal_leaves}
 use Rattle.millicent_http.specs.declared.clock.Clock.TheVariants.{OfLinks}
 use Rattle.millicent_http.specs.Courses.{AreRead, with_readings}
 use Rattle.house_core.specs.declared.house.House.{House}
 use Rattle.house_core.specs.declared.outcome.Outcome.{Outcome}
 use Rattle.house_core.specs.declared.outcome.Outcome.TheVariants as outcomes
 use Rattle.house_core.specs.Bench.{house_time, limits_of}
-use Rattle.house_core.specs.House.{HouseRepresents, HouseRests, house_rests_none, KeepsTime, OfHouse, CountsFaults, outcome_disk}
+use Rattle.house_core.specs.House.{HouseRepresents, HouseRests, HandsBack, house_rests_none, house_keeps, KeepsTime, OfHouse, CountsFaults, outcome_disk}
 use Rattle.house_core.specs.Trade.{TradeView}
 use Rattle.house_opening.specs.Opening.{OpenedFor}
 use Rattle.house_core.specs.Tasks.{Task, Add, Stays, Refuse, after, IsDoable, Does, LeavesBy, Performs}
 use Rattle.house_serving.proofs.AsideLemmas.{TellsAside, SentNoMore, no_more_then, no_more_still, no_more_heard, no_more_finished, no_more_taken, aside_still}
-use Rattle.house_serving.proofs.OrderLemmas.{house_keeps}
-use Rattle.vendor_core.specs.Tasks.{IsMintTask, IsMintAt, mint_lines}
 use Rattle.mc_top.specs.declared.status.Status.{Status}
 use Rattle.mc_top.specs.declared.status.Status.TheVariants as ends
-use Rattle.mc_top.specs.Inputs.{IsInput, LostInput}
+use Rattle.mc_top.specs.Inputs.{IsInput, LostInput, TakesInput, LosesInput}
 use Rattle.mc_top.specs.Opening.{full}
 use Rattle.mc_top.specs.Endings.{outcome_status}
 use Rattle.mc_top.specs.Serving.{EncodesLawful}
-use Rattle.mc_top.specs.Operator.{OperationView, DidBy, OperatePair, OperateCauses, Operated, Opened, Unread}
+use Rattle.mc_top.specs.Operator.{OperationView, DidBy, OperatePair, OperateCauses, Operated, Opened, Unread, without_answer}
 use Rattle.mc_top.proofs.InitLemmas.{none_between}
 use Rattle.mc_top.proofs.ServedLemmas.{stands_lawful}
 
@@ -75,18 +75,17 @@ worked_pairs link disk trade x y tells worked =
       same,
     )
 
--- The house of a book, with its operation's input and the reading of the clock.
-pub record Ready {O T : Type 0} (link : O → LinkView) (disk : O → DiskView) (trade : T → TradeView) (operation : OperationView) (bytes input : List ℕ) (a : O) (y : House O T) : Type 0 where
-  pub history : History
-  pub of_bytes : Encodes history bytes
-  pub house : HouseRepresents disk trade y history
+-- The house of a book whose history is this, with its operation's input and the reading of the clock.
+pub record Ready {O T : Type 0} (link : O → LinkView) (disk : O → DiskView) (trade : T → TradeView) (operation : OperationView) (bytes input : List ℕ) (a : O) (y : House O T) (h : History) : Type 0 where
+  pub of_bytes : Encodes h bytes
+  pub house : HouseRepresents disk trade y h
   pub limits' : limits_of y.bench ≡ full
   pub taken : LinkView
-  pub takes : operation.takes (link a) input taken
+  pub takes : TakesInput operation.input (link a) input taken
   pub moment : ℕ
   pub read : AreRead OfLinks (moment ∷ []) taken.readings (link y.journal.disk).readings
   pub rest : link y.journal.disk ≡ with_readings (link y.journal.disk).readings taken
-  pub time' : house_time y.bench ≡ max (time history) moment
+  pub time' : house_time y.bench ≡ max (time h) moment
   pub pairs : Ran (disk a) (disk y.journal.disk) (BeforePair (Tells link a) (disk a)) × (Tells link a → (disk y.journal.disk).aside ≡ (disk a).aside)
 
 -- the pairs from the outside that was handed in on
@@ -101,25 +100,6 @@ before_pairs link disk trade a x y tells read same worked =
       λ told'. pairs.1 (on told') ∙ read.aside,
     )
 
-pub ready : {O T : Type 0} (link : O → LinkView) (disk : O → DiskView) (trade : T → TradeView) (operation : OperationView) (bytes input : List ℕ) (a : O) (x m y : House O T) (moment : ℕ) → TellsAside link (λ o. (disk o).aside)
-    → OpenedFor disk trade full bytes x → OnlyRead (disk a) (disk x.journal.disk) → link x.journal.disk ≡ link a
-    → operation.takes (link x.journal.disk) input (link m.journal.disk) → house_time m.bench ≡ house_time x.bench
-    → Worked link disk trade x y → AreRead OfLinks (moment ∷ []) (link m.journal.disk).readings (link y.journal.disk).readings → link y.journal.disk ≡ with_readings (link y.journal.disk).readings (link m.journal.disk)
-    → house_time y.bench ≡ max (house_time m.bench) moment → Ready link disk trade operation bytes input a y
-ready link disk trade operation bytes input a x m y moment tells at read_only same takes kept_time worked read rest raised = record {
-  history = at.history;
-  of_bytes = at.of_bytes;
-  house = worked.represents at.history at.house;
-  limits' = worked.limits' ∙ at.limits';
-  taken = link m.journal.disk;
-  takes = subst (λ (v : LinkView). operation.takes v input (link m.journal.disk)) same takes;
-  moment = moment;
-  read = read;
-  rest = rest;
-  time' = raised ∙ ap (λ (n : ℕ). max n moment) (kept_time ∙ at.time');
-  pairs = before_pairs link disk trade a x y tells read_only same worked;
-}
-
 -- the clock alone was read
 pub by_clock : {O T : Type 0} (link : O → LinkView) (disk : O → DiskView) (trade : T → TradeView) (x y : House O T) → LinkKeeps (disk x.journal.disk) (disk y.journal.disk) → link y.journal.disk ≡ with_readings (link y.journal.disk).readings (link x.journal.disk)
     → ((h : History) → HouseRepresents disk trade x h → HouseRepresents disk trade y h) → limits_of y.bench ≡ limits_of x.bench → Worked link disk trade x y
@@ -130,30 +110,15 @@ by_clock link disk trade x y keeps rest stands limits = record {
   limits' = limits;
 }
 
--- an operation that takes no link was ready at the reading of the clock
-pub ready_at_once : {O T : Type 0} (link : O → LinkView) (disk : O → DiskView) (trade : T → TradeView) (operation : OperationView) (bytes : List ℕ) (a : O) (x y : House O T) (moment : ℕ) → TellsAside link (λ o. (disk o).aside)
-    → Opened link disk trade bytes a x → operation.takes (link x.journal.disk) [] (link x.journal.disk) → LinkKeeps (disk x.journal.disk) (disk y.journal.disk)
-    → ((h : History) → HouseRepresents disk trade x h → HouseRepresents disk trade y h) → limits_of y.bench ≡ limits_of x.bench → AreRead OfLinks (moment ∷ []) (link x.journal.disk).readings (link y.journal.disk).readings → link y.journal.disk ≡ with_readings (link y.journal.disk).readings (link x.journal.disk)
-    → house_time y.bench ≡ max (house_time x.bench) moment → Ready link disk trade operation bytes [] a y
-ready_at_once link disk trade operation bytes a x y moment tells at takes keeps stands limits read rest raised =
-    ready link disk trade operation bytes [] a x x y moment tells at.house at.read at.link' takes refl (by_clock link disk trade x y keeps rest stands limits) read rest raised
-
-pub history_is : {O T : Type 0} (link : O → LinkView) (disk : O → DiskView) (trade : T → TradeView) (operation : OperationView) (bytes : List ℕ) (a : O) (x y : House O T) (moment : ℕ) (tells : TellsAside link (λ o. (disk o).aside))
-    (at : Opened link disk trade bytes a x) (takes : operation.takes (link x.journal.disk) [] (link x.journal.disk)) (keeps : LinkKeeps (disk x.journal.disk) (disk y.journal.disk))
-    (stands : (h : History) → HouseRepresents disk trade x h → HouseRepresents disk trade y h) (limits : limits_of y.bench ≡ limits_of x.bench) (read : AreRead OfLinks (moment ∷ []) (link x.journal.disk).readings (link y.journal.disk).readings) (rest : link y.journal.disk ≡ with_readings (link y.journal.disk).readings (link x.journal.disk))
-    (raised : house_time y.bench ≡ max (house_time x.bench) moment) → (ready_at_once link disk trade operation bytes a x y moment tells at takes keeps stands limits read rest raised).history ≡ at.house.history
-unfolding ready_at_once ready
-history_is link disk trade operation bytes a x y moment tells at takes keeps stands limits read rest raised = refl
-
 -- ---- without the input
 
 -- what receiving an input leaves of what was sent
-pub lost_quiet : (u v : LinkView) → LostInput u v → SentNoMore u v
+lost_quiet : (u v : LinkView) → LostInput u v → SentNoMore u v
 lost_quiet u v (inl none) = no_more_still u v (ap (λ (x : LinkView). x.sessions) none.same)
 lost_quiet u v (inr (got, failed)) =
     no_more_then u (next_taken u) v (no_more_taken u (next_taken u) refl) (no_more_heard (next_taken u) v got (ap (λ (x : LinkView). x.sessions) failed.same))
 
-pub input_quiet : (most : ℕ) (u v : LinkView) (input : List ℕ) → IsInput most u input v → SentNoMore u v
+input_quiet : (most : ℕ) (u v : LinkView) (input : List ℕ) → IsInput most u input v → SentNoMore u v
 input_quiet most u v input (inl none) = no_more_still u v (ap (λ (x : LinkView). x.sessions) none.1)
 input_quiet most u v input (inr (inl whole)) =
     no_more_then u (next_taken u) v (no_more_taken u (next_taken u) refl)
@@ -161,6 +126,14 @@ input_quiet most u v input (inr (inl whole)) =
     (no_more_finished (after_recv input (next_taken u)) v (ap (λ (x : LinkView). x.sessions) whole.1)))
 input_quiet most u v input (inr (inr long)) =
     no_more_then u (next_taken u) v (no_more_taken u (next_taken u) refl) (no_more_heard (next_taken u) v input (ap (λ (x : LinkView). x.sessions) long.1))
+
+pub taken_quiet : (most : Option ℕ) (u v : LinkView) (input : List ℕ) → TakesInput most u input v → SentNoMore u v
+taken_quiet (Some most) u v input is = input_quiet most u v input is
+taken_quiet None u v input is = no_more_still u v (ap (λ (x : LinkView). x.sessions) is.1)
+
+pub not_taken_quiet : (most : Option ℕ) (u v : LinkView) → LosesInput most u v → SentNoMore u v
+not_taken_quiet (Some most) u v lost = lost_quiet u v lost
+not_taken_quiet None u v lost = absurd lost
 
 -- links worked on the outside of a house
 pub by_links : {O T : Type 0} (link : O → LinkView) (disk : O → DiskView) (trade : T → TradeView) (x y : House O T) → SentNoMore (link x.journal.disk) (link y.journal.disk) → LinkKeeps (disk x.journal.disk) (disk y.journal.disk) → HouseRests x y → Worked link disk trade x y
@@ -172,24 +145,38 @@ by_links link disk trade x y quiet keeps rests = record {
 }
 
 -- an operation was ready once its input was read, and the clock
-pub ready_by : {O T : Type 0} (link : O → LinkView) (disk : O → DiskView) (trade : T → TradeView) (operation : OperationView) (most : ℕ) (bytes input : List ℕ) (a : O) (x m y : House O T) (moment : ℕ) → TellsAside link (λ o. (disk o).aside)
-    → Opened link disk trade bytes a x → operation.takes (link x.journal.disk) input (link m.journal.disk) → IsInput most (link x.journal.disk) input (link m.journal.disk) → LinkKeeps (disk x.journal.disk) (disk m.journal.disk) → HouseRests x m → LinkKeeps (disk x.journal.disk) (disk y.journal.disk) → LinkKeeps (disk m.journal.disk) (disk y.journal.disk)
-    → ((h : History) → HouseRepresents disk trade m h → HouseRepresents disk trade y h) → limits_of y.bench ≡ limits_of m.bench → AreRead OfLinks (moment ∷ []) (link m.journal.disk).readings (link y.journal.disk).readings → link y.journal.disk ≡ with_readings (link y.journal.disk).readings (link m.journal.disk)
-    → house_time y.bench ≡ max (house_time m.bench) moment → Ready link disk trade operation bytes input a y
-ready_by link disk trade operation most bytes input a x m y moment tells at takes is_input kept_so_far rests kept_both kept_then stands limits read rest raised =
-    ready link disk trade operation bytes input a x m y moment tells at.house at.read at.link' takes (ap house_time rests.bench)
-    (worked_then link disk trade x m y (by_links link disk trade x m (input_quiet most (link x.journal.disk) (link m.journal.disk) input is_input) kept_so_far rests) kept_both (by_clock link disk trade m y kept_then rest stands limits)) read rest raised
+pub ready_by : {O T : Type 0} (link : O → LinkView) (disk : O → DiskView) (trade : T → TradeView) (operation : OperationView) (bytes input : List ℕ) (a : O) (x m y : House O T) (moment : ℕ) → TellsAside link (λ o. (disk o).aside)
+    → (at : Opened link disk trade bytes a x) → TakesInput operation.input (link x.journal.disk) input (link m.journal.disk) → LinkKeeps (disk x.journal.disk) (disk m.journal.disk) → HouseRests x m
+    → LinkKeeps (disk x.journal.disk) (disk y.journal.disk) → LinkKeeps (disk m.journal.disk) (disk y.journal.disk)
+    → ((h : History) → HouseRepresents disk trade m h → HouseRepresents disk trade y h) → limits_of y.bench ≡ limits_of m.bench
+    → AreRead OfLinks (moment ∷ []) (link m.journal.disk).readings (link y.journal.disk).readings → link y.journal.disk ≡ with_readings (link y.journal.disk).readings (link m.journal.disk)
+    → house_time y.bench ≡ max (house_time m.bench) moment → Ready link disk trade operation bytes input a y at.house.history
+ready_by link disk trade operation bytes input a x m y moment tells at takes kept_so_far rests kept_both kept_then stands limits read rest raised =
+    let by_input = by_links link disk trade x m (taken_quiet operation.input (link x.journal.disk) (link m.journal.disk) input takes) kept_so_far rests in
+    let worked = worked_then link disk trade x m y by_input kept_both (by_clock link disk trade m y kept_then rest stands limits) in
+    record {
+      of_bytes = at.house.of_bytes;
+      house = worked.represents at.house.history at.house.house;
+      limits' = worked.limits' ∙ at.house.limits';
+      taken = link m.journal.disk;
+      takes = subst (λ (v : LinkView). TakesInput operation.input v input (link m.journal.disk)) at.link' takes;
+      moment = moment;
+      read = read;
+      rest = rest;
+      time' = raised ∙ ap (λ (n : ℕ). max n moment) (ap house_time rests.bench ∙ at.house.time');
+      pairs = before_pairs link disk trade a x y tells at.read at.link' worked;
+    }
 
 -- nothing was done to the book
 pub unread : {O T : Type 0} (link : O → LinkView) (disk : O → DiskView) (trade : T → TradeView) (operation : OperationView) (bytes : List ℕ) (a : O) (x y : House O T) (status : Status) → TellsAside link (λ o. (disk o).aside) → Opened link disk trade bytes a x → Worked link disk trade x y
-    → ((status ≡ ends.LinkFault) × operation.loses (link x.journal.disk) (link y.journal.disk)) ⊎ ((status ≡ ends.NoMemory) × (link y.journal.disk ≡ link x.journal.disk)) → Unread link disk operation bytes a status y.journal.disk
+    → ((status ≡ ends.LinkFault) × LosesInput operation.input (link x.journal.disk) (link y.journal.disk)) ⊎ ((status ≡ ends.NoMemory) × (link y.journal.disk ≡ link x.journal.disk)) → Unread link disk operation bytes a status y.journal.disk
 unread link disk trade operation bytes a x y status tells at worked lost = record {
   history = at.house.history;
   stands = at.house.of_bytes;
   left = lawful_in disk trade y at.house.history (worked.limits' ∙ at.house.limits') (worked.represents at.house.history at.house.house);
   pairs = ran_weaker (disk a) (disk y.journal.disk) _ _ (before_pairs link disk trade a x y tells at.read at.link' worked).0 (λ i s p. (inl p.0, p.1));
   lost = ⊎_elim
-      (λ l. inl (l.0, subst (λ (v : LinkView). operation.loses v (link y.journal.disk)) at.link' l.1))
+      (λ l. inl (l.0, subst (λ (v : LinkView). LosesInput operation.input v (link y.journal.disk)) at.link' l.1))
       (λ l. inr (l.0, l.1 ∙ at.link')) lost;
 }
 
@@ -202,25 +189,25 @@ unread_at_once link disk trade operation bytes a x tells keeps at =
 -- ---- the task
 
 -- how the disk is left, by what was done
-did : {O T A : Type 0} (disk : O → DiskView) (trade : T → TradeView) (operation : OperationView) (line : List ℕ) (Told : Task → History → A → Type 0) (y : House O T) (h : History) (task : Task) (out : Outcome O T A) → limits_of y.bench ≡ full → IsLawful full h
-    → ((o : O) → IsDisk (disk o)) → ((answer : A) → IsDoable task → Told task (after task h) answer → operation.says h task line) → OfHouse (KeepsTime y) out
-    → Does disk trade Told (limits_of y.bench) y.journal.disk h task out → Ran (disk y.journal.disk) (disk (outcome_disk out)) (LeavesBy task out h (disk y.journal.disk).aside)
+did : {O T : Type 0} (disk : O → DiskView) (trade : T → TradeView) (operation : OperationView) (line : List ℕ) (y : House O T) (h : History) (task : Task) (out : Outcome O T (Unit {0})) → limits_of y.bench ≡ full → IsLawful full h
+    → ((o : O) → IsDisk (disk o)) → OfHouse (KeepsTime y) out
+    → Does disk trade (λ t g answer. operation.says h t line) (limits_of y.bench) y.journal.disk h task out → Ran (disk y.journal.disk) (disk (outcome_disk out)) (LeavesBy task out h (disk y.journal.disk).aside)
     → DidBy (disk (outcome_disk out)) operation h task (outcome_status out line)
-did disk trade operation line Told y h (Add e) (outcomes.Done x n) limits lawful is_disk says keeps does ran = (tt, says n tt does.1, lawful_in disk trade x (h ++ e ∷ []) (keeps.limits ∙ limits) does.0)
-did disk trade operation line Told y h (Add e) (outcomes.Refused x f) limits lawful is_disk says keeps does ran =
+did disk trade operation line y h (Add e) (outcomes.Done x n) limits lawful is_disk keeps does ran = (tt, does.1, lawful_in disk trade x (h ++ e ∷ []) (keeps.limits ∙ limits) does.0)
+did disk trade operation line y h (Add e) (outcomes.Refused x f) limits lawful is_disk keeps does ran =
     (subst (λ (l : Limits). fitted h l e ≡ Err (lines.Refuse f)) limits does.0, lawful_in disk trade x h (keeps.limits ∙ limits) does.1.represents)
-did disk trade operation line Told y h (Add e) (outcomes.NoMemory x) limits lawful is_disk says keeps does ran = lawful_in disk trade x h (keeps.limits ∙ limits) does.represents
-did disk trade operation line Told y h (Add e) (outcomes.Halted d) limits lawful is_disk says keeps does ran =
+did disk trade operation line y h (Add e) (outcomes.NoMemory x) limits lawful is_disk keeps does ran = lawful_in disk trade x h (keeps.limits ∙ limits) does.represents
+did disk trade operation line y h (Add e) (outcomes.Halted d) limits lawful is_disk keeps does ran =
     let more : IsLawful full (h ++ e ∷ []) = longer_lawful full h e lawful (subst (λ (l : Limits). MayFollow l h e) limits does.0) in
     record { leaves = λ image l. (ran_now (disk y.journal.disk) (disk d) _ (is_disk d) ran image l).0; lawful = more; once = accepted_once full (h ++ e ∷ []) more }
-did disk trade operation line Told y h Stays (outcomes.Done x n) limits lawful is_disk says keeps does ran = (tt, says n tt does.1, lawful_in disk trade x h (keeps.limits ∙ limits) does.0.represents)
-did disk trade operation line Told y h Stays (outcomes.Refused x f) limits lawful is_disk says keeps does ran = absurd does
-did disk trade operation line Told y h Stays (outcomes.NoMemory x) limits lawful is_disk says keeps does ran = lawful_in disk trade x h (keeps.limits ∙ limits) does.represents
-did disk trade operation line Told y h Stays (outcomes.Halted d) limits lawful is_disk says keeps does ran = absurd does
-did disk trade operation line Told y h (Refuse g) (outcomes.Done x n) limits lawful is_disk says keeps does ran = absurd does
-did disk trade operation line Told y h (Refuse g) (outcomes.Refused x f) limits lawful is_disk says keeps does ran = (does.0, lawful_in disk trade x h (keeps.limits ∙ limits) does.1.represents)
-did disk trade operation line Told y h (Refuse g) (outcomes.NoMemory x) limits lawful is_disk says keeps does ran = absurd does
-did disk trade operation line Told y h (Refuse g) (outcomes.Halted d) limits lawful is_disk says keeps does ran = absurd does
+did disk trade operation line y h Stays (outcomes.Done x n) limits lawful is_disk keeps does ran = (tt, does.1, lawful_in disk trade x h (keeps.limits ∙ limits) does.0.represents)
+did disk trade operation line y h Stays (outcomes.Refused x f) limits lawful is_disk keeps does ran = absurd does
+did disk trade operation line y h Stays (outcomes.NoMemory x) limits lawful is_disk keeps does ran = lawful_in disk trade x h (keeps.limits ∙ limits) does.represents
+did disk trade operation line y h Stays (outcomes.Halted d) limits lawful is_disk keeps does ran = absurd does
+did disk trade operation line y h (Refuse g) (outcomes.Done x n) limits lawful is_disk keeps does ran = absurd does
+did disk trade operation line y h (Refuse g) (outcomes.Refused x f) limits lawful is_disk keeps does ran = (does.0, lawful_in disk trade x h (keeps.limits ∙ limits) does.1.represents)
+did disk trade operation line y h (Refuse g) (outcomes.NoMemory x) limits lawful is_disk keeps does ran = absurd does
+did disk trade operation line y h (Refuse g) (outcomes.Halted d) limits lawful is_disk keeps does ran = absurd does
 
 -- the crash pairs of a task
 leaves_pair : {O T A : Type 0} (tells : Type 0) (before : DiskView) (task : Task) (out : Outcome O T A) (h : History) (aside image sent : List ℕ) → (tells → aside ≡ before.aside) → LeavesBy task out h aside image sent → OperatePair tells before task h image sent
@@ -232,14 +219,12 @@ leaves_pair tells before Stays out h aside image sent same p = (inr (inl p.0), �
 leaves_pair tells before (Refuse f) out h aside image sent same p = (inr (inl p.0), λ t. p.1 ∙ same t)
 
 -- an operation that the book's house was ready for
-pub operated : {O T A : Type 0} (link : O → LinkView) (disk : O → DiskView) (trade : T → TradeView) (operation : OperationView) (bytes input line : List ℕ) (Told : Task → History → A → Type 0) (a : O) (y : House O T) (out : Outcome O T A) (Asked : History → Task → Type 0)
-    (at : Ready link disk trade operation bytes input a y) → ((o : O) → IsDisk (disk o)) → link (outcome_disk out) ≡ link y.journal.disk
-    → ((task : Task) → Asked at.history task → operation.asks input at.history (house_time y.bench) task)
-    → ((task : Task) (answer : A) → Asked at.history task → IsDoable task → Told task (after task at.history) answer → operation.says at.history task line) → OfHouse (KeepsTime y) out
-    → Performs disk trade (Asked at.history) Told (limits_of y.bench) y.journal.disk at.history out
+pub operated : {O T : Type 0} (link : O → LinkView) (disk : O → DiskView) (trade : T → TradeView) (operation : OperationView) (bytes input line : List ℕ) (a : O) (y : House O T) (h : History) (out : Outcome O T (Unit {0}))
+    → Ready link disk trade operation bytes input a y h → ((o : O) → IsDisk (disk o)) → link (outcome_disk out) ≡ link y.journal.disk → OfHouse (KeepsTime y) out
+    → Performs disk trade (operation.asks input h (house_time y.bench)) (λ task g answer. operation.says h task line) (limits_of y.bench) y.journal.disk h out
     → Operated link disk operation bytes a (outcome_status out line) (outcome_disk out)
-operated link disk trade operation bytes input line Told a y out Asked at is_disk same asks says keeps does = record {
-  history = at.history;
+operated link disk trade operation bytes input line a y h out at is_disk same keeps does = record {
+  history = h;
   stands = at.of_bytes;
   input = input;
   taken = at.taken;
@@ -248,29 +233,72 @@ operated link disk trade operation bytes input line Told a y out Asked at is_dis
   read = subst (λ (v : LinkView). AreRead OfLinks (at.moment ∷ []) at.taken.readings v.readings) (sym same) at.read;
   rest = subst (λ (v : LinkView). v ≡ with_readings v.readings at.taken) (sym same) at.rest;
   task = does.task;
-  asks = subst (λ (t : ℕ). operation.asks input at.history t does.task) at.time' (asks does.task does.asks);
-  did = did disk trade operation line Told y at.history does.task out at.limits' (subst (λ (l : Limits). IsLawful l at.history) at.limits' at.house.house.represents.state.lawful) is_disk (λ answer doable told'. says does.task answer does.asks doable told') keeps does.does does.ran;
-  pairs = ran_then (disk a) (disk y.journal.disk) (disk (outcome_disk out)) (OperatePair (Tells link a) (disk a) does.task at.history)
+  asks = subst (λ (t : ℕ). operation.asks input h t does.task) at.time' does.asks;
+  did = did disk trade operation line y h does.task out at.limits' (subst (λ (l : Limits). IsLawful l h) at.limits' at.house.house.represents.state.lawful) is_disk keeps does.does does.ran;
+  pairs = ran_then (disk a) (disk y.journal.disk) (disk (outcome_disk out)) (OperatePair (Tells link a) (disk a) does.task h)
       (ran_weaker (disk a) (disk y.journal.disk) _ _ at.pairs.0 (λ i s p. (inl p.0, p.1)))
-      (ran_weaker (disk y.journal.disk) (disk (outcome_disk out)) _ _ does.ran (λ i s p. leaves_pair (Tells link a) (disk a) does.task out at.history (disk y.journal.disk).aside i s at.pairs.1 p));
+      (ran_weaker (disk y.journal.disk) (disk (outcome_disk out)) _ _ does.ran (λ i s p. leaves_pair (Tells link a) (disk a) does.task out h (disk y.journal.disk).aside i s at.pairs.1 p));
 }
 
--- a task that is refused before the house is asked
-pub operated_refused : {O T : Type 0} (link : O → LinkView) (disk : O → DiskView) (trade : T → TradeView) (operation : OperationView) (bytes input : List ℕ) (a : O) (y : House O T) (f : Refusal) (at : Ready link disk trade operation bytes input a y)
-    → operation.asks input at.history (max (time at.history) at.moment) (Refuse f) → Operated link disk operation bytes a (ends.Refused f) y.journal.disk
-operated_refused link disk trade operation bytes input a y f at asks = record {
-  history = at.history;
-  stands = at.of_bytes;
-  input = input;
-  taken = at.taken;
-  takes = at.takes;
-  moment = at.moment;
-  read = at.read;
-  rest = at.rest;
+-- ---- what a call of the trade's performed
+
+disk_as : {D T A : Type 0} (out : Outcome D T A) → outcome_disk (without_answer out) ≡ outcome_disk out
+disk_as (outcomes.Done x a) = refl
+disk_as (outcomes.Refused x f) = refl
+disk_as (outcomes.NoMemory x) = refl
+disk_as (outcomes.Halted d) = refl
+
+does_as : {D T A : Type 0} (disk : D → DiskView) (trade : T → TradeView) (Told : Task → History → A → Type 0) (Says : Task → Type 0) (limits : Limits) (d : D) (h : History) (task : Task) (out : Outcome D T A)
+    → ((answer : A) → IsDoable task → Told task (after task h) answer → Says task)
+    → Does disk trade Told limits d h task out → Does disk trade (λ t g answer. Says t) limits d h task (without_answer out)
+does_as disk trade Told Says limits d h (Add e) (outcomes.Done x a) says does = (does.0, says a tt does.1)
+does_as disk trade Told Says limits d h (Add e) (outcomes.Refused x f) says does = does
+does_as disk trade Told Says limits d h (Add e) (outcomes.NoMemory x) says does = does
+does_as disk trade Told Says limits d h (Add e) (outcomes.Halted y) says does = does
+does_as disk trade Told Says limits d h Stays (outcomes.Done x a) says does = (does.0, says a tt does.1)
+does_as disk trade Told Says limits d h Stays (outcomes.Refused x f) says does = absurd does
+does_as disk trade Told Says limits d h Stays (outcomes.NoMemory x) says does = does
+does_as disk trade Told Says limits d h Stays (outcomes.Halted y) says does = absurd does
+does_as disk trade Told Says limits d h (Refuse g) (outcomes.Done x a) says does = absurd does
+does_as disk trade Told Says limits d h (Refuse g) (outcomes.Refused x f) says does = does
+does_as disk trade Told Says limits d h (Refuse g) (outcomes.NoMemory x) says does = absurd does
+does_as disk trade Told Says limits d h (Refuse g) (outcomes.Halted y) says does = absurd does
+
+leaves_as : {D T A : Type 0} (task : Task) (out : Outcome D T A) (h : History) (aside c s : List ℕ) → LeavesBy task out h aside c s → LeavesBy task (without_answer out) h aside c s
+leaves_as (Add e) (outcomes.Done x a) h aside c s is = is
+leaves_as (Add e) (outcomes.Refused x f) h aside c s is = is
+leaves_as (Add e) (outcomes.NoMemory x) h aside c s is = is
+leaves_as (Add e) (outcomes.Halted y) h aside c s is = is
+leaves_as Stays out h aside c s is = is
+leaves_as (Refuse g) out h aside c s is = is
+
+-- it performs what the command asks for, and says its line
+pub performs_as : {D T A : Type 0} (disk : D → DiskView) (trade : T → TradeView) (Asks Wanted : Task → Type 0) (Told : Task → History → A → Type 0) (Says : Task → Type 0) (limits : Limits) (d : D) (h : History) (out : Outcome D T A)
+    → ((task : Task) → Asks task → Wanted task) → ((task : Task) (answer : A) → IsDoable task → Told task (after task h) answer → Says task)
+    → Performs disk trade Asks Told limits d h out → Performs disk trade Wanted (λ task g answer. Says task) limits d h (without_answer out)
+performs_as {D = D} disk trade Asks Wanted Told Says limits d h out wanted says does = record {
+  task = does.task;
+  asks = wanted does.task does.asks;
+  does = does_as disk trade Told Says limits d h does.task out (says does.task) does.does;
+  ran = subst (λ (y : D). Ran (disk d) (disk y) (LeavesBy does.task (without_answer out) h (disk d).aside)) (sym (disk_as out))
+      (ran_weaker (disk d) (disk (outcome_disk out)) _ _ does.ran (λ c s p. leaves_as does.task out h (disk d).aside c s p));
+}
+
+-- and it hands back what the call does
+pub back_as : {D T A : Type 0} (disk : D → DiskView) (moved : D → D → Type 0) (Keeps : House D T → Type 0) (d : D) (out : Outcome D T A) → HandsBack disk moved Keeps d out → HandsBack disk moved Keeps d (without_answer out)
+back_as disk moved Keeps d (outcomes.Done x a) is = record { moved' = is.moved'; keeps = is.keeps; counts = is.counts }
+back_as disk moved Keeps d (outcomes.Refused x f) is = record { moved' = is.moved'; keeps = is.keeps; counts = is.counts }
+back_as disk moved Keeps d (outcomes.NoMemory x) is = record { moved' = is.moved'; keeps = is.keeps; counts = is.counts }
+back_as disk moved Keeps d (outcomes.Halted y) is = record { moved' = is.moved'; keeps = is.keeps; counts = is.counts }
+
+-- it is refused before the trade is asked
+pub performs_refused : {D T : Type 0} (disk : D → DiskView) (trade : T → TradeView) (Wanted : Task → Type 0) (Told : Task → History → Unit {0} → Type 0) (limits : Limits) (x : House D T) (h : History) (f : Refusal)
+    → ((d : D) → IsDisk (disk d)) → HouseRepresents disk trade x h → Wanted (Refuse f) → Performs disk trade Wanted Told limits x.journal.disk h (outcomes.Refused x f)
+performs_refused {D = D} disk trade Wanted Told limits x h f is_disk st wanted = record {
   task = Refuse f;
-  asks = asks;
-  did = (refl, lawful_in disk trade y at.history at.limits' at.house);
-  pairs = ran_weaker (disk a) (disk y.journal.disk) _ _ at.pairs.0 (λ i s p. (inl p.0, p.1));
+  asks = wanted;
+  does = (refl, record { represents = st; disk' = refl });
+  ran = ran_none (disk x.journal.disk) (EncodesNoOutput h (disk x.journal.disk).aside) (is_disk x.journal.disk) (λ c leaves. (journal_leaves disk x.journal h st.journal c leaves, refl));
 }
 
 -- ---- causes
@@ -283,9 +311,10 @@ operated_causes link disk operation a y (outcomes.NoMemory x) line same counts =
 operated_causes link disk operation a y (outcomes.Halted d) line same counts = subst (λ (n : ℕ). Rose n (disk d).faults) same counts
 
 -- an input that was lost, lost it by a link
-pub lost_rose : (u v : LinkView) → LostInput u v → Rose u.faults v.faults
-lost_rose u v (inl none) = none.rose
-lost_rose u v (inr (got, failed)) = failed.rose
+pub lost_rose : (most : Option ℕ) (u v : LinkView) → LosesInput most u v → Rose u.faults v.faults
+lost_rose (Some most) u v (inl none) = none.rose
+lost_rose (Some most) u v (inr (got, failed)) = failed.rose
+lost_rose None u v lost = absurd lost
 
 -- the causes from the outside on that was opened
 pub causes_opened : {O : Type 0} (link : O → LinkView) (disk : O → DiskView) (operation : OperationView) (a x : O) (status : Status) (b : O) → (disk x).faults ≡ (disk a).faults → link x ≡ link a → OperateCauses link disk operation x status b → OperateCauses link disk operation a status b
@@ -302,18 +331,6 @@ causes_opened link disk operation a x ends.NoMemory b same links causes = causes
 causes_opened link disk operation a x ends.LinkFault b same links causes = (
   causes.0 ∙ same,
   subst (λ (v : LinkView). Rose v.faults (link b).faults) links causes.1,
-  subst (λ (v : LinkView). operation.loses v (link b)) links causes.2,
+  subst (λ (v : LinkView). LosesInput operation.input v (link b)) links causes.2,
 )
 causes_opened link disk operation a x (ends.Refused f) b same links causes = causes ∙ same
-
--- ---- mints
-
--- the task of a mint, and its lines, by the numbers of the words
-pub mint_task_at : (h : History) (t : ℕ) (limits : Limits) (reference named : List ℕ) (count so_many value worth : ℕ) (task : Task) → limits ≡ full → reference ≡ named → count ≡ so_many → value ≡ worth
-    → IsMintTask h t limits reference count value task → IsMintTask h t full named so_many worth task
-mint_task_at h t limits reference named count so_many value worth task is_full is_named is_many is_worth is = rw (← is_full, ← is_named, ← is_many, ← is_worth) is
-
-pub mint_line_at : (g : History) (reference named : List ℕ) (count so_many value worth number : ℕ) (out line : List ℕ) → reference ≡ named → count ≡ so_many → value ≡ worth → line ≡ out
-    → IsMintAt g reference count value number × (out ≡ mint_lines g number) → (n : ℕ) × IsMintAt g named so_many worth n × (line ≡ mint_lines g n)
-mint_line_at g reference named count so_many value worth number out line is_named is_many is_worth same tells =
-    (number, rw (← is_named, ← is_many, ← is_worth) tells.0, same ∙ tells.1)

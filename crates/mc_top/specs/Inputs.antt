@@ -1,5 +1,5 @@
 -- What is read of an operator's input.
-use Rattle.std.specs.Prelude.{◌≡◌, ◌⊎◌, ℕ, ◌+◌, ◌<◌, ◌≤◌, List, [], length}
+use Rattle.std.specs.Prelude.{◌≡◌, ◌⊎◌, ℕ, ◌+◌, ◌<◌, ◌≤◌, List, [], length, Option, Some, None}
 use Rattle.mc_outside.specs.LinkView.{LinkView, next_taken, none_left, after_recv, after_eof, Failed}
 use Rattle.millicent_http.specs.Courses.{NoLink}
 use Rattle.mc_top.specs.declared.input.InputFault.{InputFault}
@@ -13,6 +13,11 @@ IsInput most before input after =
     ⊎ (((length input ≤ most) × (after ≡ after_eof (after_recv input (next_taken before))))
     ⊎ ((length input ≡ most + 1) × (after ≡ after_recv input (next_taken before))))
 
+-- the input of a command that takes so many bytes of one link, or takes no link
+abbrev pub TakesInput : Option ℕ → LinkView → List ℕ → LinkView → Type 0
+TakesInput (Some most) before input after = IsInput most before input after
+TakesInput None before input after = (input ≡ []) × (after ≡ before)
+
 -- so many bytes were received into a buffer of a size: it is full, or the link was read to its end
 abbrev pub Receives : ℕ → LinkView → ℕ → List ℕ → LinkView → Type 0
 Receives size before n got after = ((n ≡ size) × (after ≡ after_recv got before)) ⊎ ((n < size) × (after ≡ after_eof (after_recv got before)))
@@ -21,7 +26,12 @@ Receives size before n got after = ((n ≡ size) × (after ≡ after_recv got be
 abbrev pub LostInput : LinkView → LinkView → Type 0
 LostInput before after = NoLink before after ⊎ ((got : List ℕ) × Failed (after_recv got (next_taken before)) after)
 
+-- the input of such a command was lost by its link
+abbrev pub LosesInput : Option ℕ → LinkView → LinkView → Type 0
+LosesInput (Some most) before after = LostInput before after
+LosesInput None before after = ⊥
+
 -- why no input was read: memory was refused before the link was taken, or the link failed
-abbrev pub InputFailed : InputFault → LinkView → LinkView → Type 0
-InputFailed faults.NoMemory before after = after ≡ before
-InputFailed faults.Link before after = LostInput before after
+abbrev pub InputFailed : InputFault → Option ℕ → LinkView → LinkView → Type 0
+InputFailed faults.NoMemory most before after = after ≡ before
+InputFailed faults.Link most before after = LosesInput most before after

@@ -1,40 +1,17 @@
 -- What the operations of a vendor's operator mean.
-use Rattle.std.specs.Prelude.{◌≡◌, ◌⊎◌, ℕ, ◌<◌, ◌≤◌, List, [], ◌++◌, length, unwrap_or, codes, decimal}
-use Rattle.mc_outside.specs.LinkView.{LinkView}
+use Rattle.std.specs.Prelude.{◌≡◌, ◌⊎◌, ℕ, ◌<◌, ◌≤◌, List, [], ◌++◌, length, Some, None, unwrap_or, codes, decimal}
 use Rattle.scrip_form.specs.Issuing.{Issuing}
 use Rattle.mc_records.specs.declared.refusal.Refusal.TheVariants.{ContentsFull}
-use Rattle.ledger_model.specs.Histories.{History}
 use Rattle.ledger_model.specs.Houses.{site_name}
-use Rattle.house_core.specs.Tasks.{Task, Refuse, after}
+use Rattle.house_core.specs.Tasks.{Refuse, after}
 use Rattle.vendor_core.specs.Tasks.{goods_task, price_task, terms_task, IsMintTask, IsMintAt, mint_lines}
 use Rattle.mc_top.specs.declared.operation.Operation.{Operation}
 use Rattle.mc_top.specs.declared.operation.Operation.TheVariants as operations
-use Rattle.mc_top.specs.Words.{licensed_terms, joined}
+use Rattle.mc_top.specs.Words.{Listing, Pricing, Licensing, Minting, licensed_terms, joined}
 use Rattle.mc_top.specs.Opening.{full}
-use Rattle.mc_top.specs.Inputs.{IsInput, LostInput}
 use Rattle.mc_top.specs.Operator.{OperationView}
 
--- ---- what they ask for
-
--- Goods are brought by the input, up to 65,536 bytes; other operations take no link.
-abbrev pub TakesInput : Operation → LinkView → List ℕ → LinkView → Type 0
-TakesInput (operations.Goods l) before input after = IsInput 65536 before input after
-TakesInput _ before input after = (input ≡ []) × (after ≡ before)
-
-abbrev pub LosesInput : Operation → LinkView → LinkView → Type 0
-LosesInput (operations.Goods l) before after = LostInput before after
-LosesInput _ before after = ⊥
-
--- the task that an operation sets over a history, at a time
-abbrev pub Asks : Operation → List ℕ → History → ℕ → Task → Type 0
-Asks (operations.Goods l) input h t task =
-    ((length input ≤ 65536) × (task ≡ goods_task h t l.target l.price (unwrap_or l.kind 0) input))
-    ⊎ ((65536 < length input) × (task ≡ Refuse (ContentsFull 65537)))
-Asks (operations.Price p) input h t task = task ≡ price_task h t p.target p.price
-Asks (operations.Licence l) input h t task = task ≡ terms_task h t (licensed_terms l)
-Asks (operations.Mint m) input h t task = IsMintTask h t full m.reference m.count m.value task
-
--- ---- what is said
+-- ---- the lines
 
 abbrev pub goods_line : List ℕ → ℕ → List ℕ
 goods_line target price = codes "goods " ++ target ++ codes " " ++ decimal price ++ codes "\n"
@@ -46,13 +23,61 @@ licence_line vendor t =
     codes "licence " ++ vendor ++ codes " " ++ decimal t.issuer ++ codes " " ++ decimal t.period ++ codes " " ++ decimal t.life
     ++ codes " " ++ joined t.scrip ++ codes " " ++ joined t.customer ++ codes "\n"
 
--- what is said of an operation that was done, by the history that it was set over and its task
-abbrev pub IsLine : Operation → History → Task → List ℕ → Type 0
-IsLine (operations.Goods l) h task line = line ≡ goods_line l.target l.price
-IsLine (operations.Price p) h task line = line ≡ goods_line p.target p.price
-IsLine (operations.Licence l) h task line = line ≡ licence_line (site_name h) (licensed_terms l)
-IsLine (operations.Mint m) h task line = (number : ℕ) × IsMintAt (after task h) m.reference m.count m.value number × (line ≡ mint_lines (after task h) number)
+-- ---- what each means
+
+-- Goods are put on sale, whose contents are the input; contents of more than 65,536 bytes are refused.
+abbrev pub goods_operation : Listing → OperationView
+goods_operation l = record {
+  input = Some 65536;
+  asks = λ input h t task.
+      ((length input ≤ 65536) × (task ≡ goods_task h t l.target l.price (unwrap_or l.kind 0) input))
+      ⊎ ((65536 < length input) × (task ≡ Refuse (ContentsFull 65537)));
+  says = λ h task line. line ≡ goods_line l.target l.price;
+}
+
+-- goods are sold at another price
+abbrev pub price_operation : Pricing → OperationView
+price_operation p = record {
+  input = None;
+  asks = λ input h t task. task ≡ price_task h t p.target p.price;
+  says = λ h task line. line ≡ goods_line p.target p.price;
+}
+
+-- scrip of an issuer is taken from now on
+abbrev pub licence_operation : Licensing → OperationView
+licence_operation l = record {
+  input = None;
+  asks = λ input h t task. task ≡ terms_task h t (licensed_terms l);
+  says = λ h task line. line ≡ licence_line (site_name h) (licensed_terms l);
+}
+
+-- pieces of the vendor's own scrip are minted, whose lines are said
+abbrev pub mint_operation : Minting → OperationView
+mint_operation m = record {
+  input = None;
+  asks = λ input h t task. IsMintTask h t full m.reference m.count m.value task;
+  says = λ h task line. (number : ℕ) × IsMintAt (after task h) m.reference m.count m.value number × (line ≡ mint_lines (after task h) number);
+}
+
+-- ---- the line as far as it is known before the book is touched
+
+abbrev pub begins_goods : Listing → List ℕ → List ℕ → Type 0
+begins_goods l site line = line ≡ goods_line l.target l.price
+
+abbrev pub begins_price : Pricing → List ℕ → List ℕ → Type 0
+begins_price p site line = line ≡ goods_line p.target p.price
+
+abbrev pub begins_licence : Licensing → List ℕ → List ℕ → Type 0
+begins_licence l site line = line ≡ licence_line site (licensed_terms l)
+
+abbrev pub begins_mint : Minting → List ℕ → List ℕ → Type 0
+begins_mint m site line = line ≡ []
+
+-- ---- all of them
 
 -- what an operation of a vendor's operator means
 abbrev pub operation_view : Operation → OperationView
-operation_view operation = record { takes = TakesInput operation; loses = LosesInput operation; asks = Asks operation; says = IsLine operation }
+operation_view (operations.Goods l) = goods_operation l
+operation_view (operations.Price p) = price_operation p
+operation_view (operations.Licence l) = licence_operation l
+operation_view (operations.Mint m) = mint_operation m

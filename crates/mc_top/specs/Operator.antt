@@ -1,5 +1,5 @@
 -- What the operator of a site has done to its book, up to the line that is said.
-use Rattle.std.specs.Prelude.{◌≡◌, ◌⊎◌, ℕ, max, List, [], ◌∷◌, IsSome}
+use Rattle.std.specs.Prelude.{◌≡◌, ◌⊎◌, ℕ, max, List, [], ◌∷◌, IsSome, Option}
 use Rattle.mc_outside.specs.DiskView.{DiskView, OnlyRead, Ran}
 use Rattle.mc_outside.specs.LinkView.{LinkView}
 use Rattle.ledger_model.specs.Histories.{History, time}
@@ -7,11 +7,14 @@ use Rattle.scrip_journal.specs.Layout.{Encodes}
 use Rattle.millicent_http.specs.declared.clock.Clock.TheVariants.{OfLinks}
 use Rattle.millicent_http.specs.Courses.{AreRead, with_readings}
 use Rattle.house_core.specs.declared.house.House.{House}
+use Rattle.house_core.specs.declared.outcome.Outcome.{Outcome}
+use Rattle.house_core.specs.declared.outcome.Outcome.TheVariants as outcomes
 use Rattle.house_core.specs.Trade.{TradeView}
 use Rattle.house_opening.specs.Opening.{OpenedFor}
 use Rattle.house_core.specs.Tasks.{Task, Add, Stays, after, IsDoable, IsRefused}
 use Rattle.mc_top.specs.declared.status.Status.{Status}
 use Rattle.mc_top.specs.declared.status.Status.TheVariants as ends
+use Rattle.mc_top.specs.Inputs.{TakesInput, LosesInput}
 use Rattle.mc_top.specs.Opening.{full}
 use Rattle.mc_top.specs.Serving.{EncodesLawful, EncodesEither, NotOpened, BookCauses}
 
@@ -19,13 +22,19 @@ use Rattle.mc_top.specs.Serving.{EncodesLawful, EncodesEither, NotOpened, BookCa
 
 -- What an operation means to the book that it is for.
 pub record OperationView : Type 1 where
-  -- the links bring this input, or it is lost by them
-  pub takes : LinkView → List ℕ → LinkView → Type 0
-  pub loses : LinkView → LinkView → Type 0
+  -- the next link brings its input, of at most so many bytes; or it takes none
+  pub input : Option ℕ
   -- with this input it sets a task over a history, at a time
   pub asks : List ℕ → History → ℕ → Task → Type 0
   -- what is said where it was done, by the history that it was set over and its task
   pub says : History → Task → List ℕ → Type 0
+
+-- the outcome of an operation, without what was answered
+abbrev pub without_answer : {D T A : Type 0} → Outcome D T A → Outcome D T (Unit {0})
+without_answer (outcomes.Done x a) = outcomes.Done x tt
+without_answer (outcomes.Refused x f) = outcomes.Refused x f
+without_answer (outcomes.NoMemory x) = outcomes.NoMemory x
+without_answer (outcomes.Halted d) = outcomes.Halted d
 
 -- ---- what becomes of the book
 
@@ -60,7 +69,7 @@ pub record Operated {O : Type 0} (link : O → LinkView) (disk : O → DiskView)
   pub stands : Encodes history bytes
   pub input : List ℕ
   pub taken : LinkView
-  pub takes : operation.takes (link a) input taken
+  pub takes : TakesInput operation.input (link a) input taken
   pub moment : ℕ
   pub read : AreRead OfLinks (moment ∷ []) taken.readings (link b).readings
   pub rest : link b ≡ with_readings (link b).readings taken
@@ -75,7 +84,7 @@ pub record Unread {O : Type 0} (link : O → LinkView) (disk : O → DiskView) (
   pub stands : Encodes history bytes
   pub left : EncodesLawful (disk b) history
   pub pairs : Ran (disk a) (disk b) (OperatePair (IsSome (link a).sessions) (disk a) Stays history)
-  pub lost : ((status ≡ ends.LinkFault) × operation.loses (link a) (link b)) ⊎ ((status ≡ ends.NoMemory) × (link b ≡ link a))
+  pub lost : ((status ≡ ends.LinkFault) × LosesInput operation.input (link a) (link b)) ⊎ ((status ≡ ends.NoMemory) × (link b ≡ link a))
 
 -- what became of a book that was opened
 abbrev pub OperatesOpened : {O : Type 0} → (O → LinkView) → (O → DiskView) → OperationView → List ℕ → O → Status → O → Type 0
@@ -87,4 +96,4 @@ OperatesBook link disk kind operation bytes a status b = NotOpened link disk kin
 
 -- Each fault has its cause: where a link failed, the operation's input was lost.
 abbrev pub OperateCauses : {O : Type 0} → (O → LinkView) → (O → DiskView) → OperationView → O → Status → O → Type 0
-OperateCauses link disk operation a status b = BookCauses link disk (λ x y. operation.loses (link x) (link y)) a status b
+OperateCauses link disk operation a status b = BookCauses link disk (λ x y. LosesInput operation.input (link x) (link y)) a status b

@@ -1,8 +1,8 @@
 //! An operator's input.
 
-ghost use Rattle.std.specs.Prelude.{◌≡◌, ◌^◌, ◌<◌, ◌+◌, ◌≤◌, ℕ, List, length, take, IsTrue, IfOk, IfErr, OnErr};
+ghost use Rattle.std.specs.Prelude.{◌≡◌, ◌^◌, ◌<◌, ◌+◌, ◌≤◌, ℕ, List, length, take, Some, IsTrue, IfSome, IfOk, IfErr, OnErr};
 ghost use Rattle.mc_outside.specs.LinkView.{after_recv, Failed};
-ghost use Rattle.mc_top.specs.Inputs.{IsInput, InputFailed, Receives};
+ghost use Rattle.mc_top.specs.Inputs.{IsInput, TakesInput, InputFailed, Receives};
 
 use mc_base::NoMemory;
 use mc_outside::{Link, LinkFault};
@@ -16,9 +16,26 @@ pub(crate) enum InputFault {
     Link,
 }
 
+/// The input of a command that takes at most so many bytes of the next link; nothing where it takes no link.
+pub(crate) fn input_of<K: Link>(
+    alloc: Global,
+    k: &mut K,
+    most: Option<usize>,
+) -> Result<Vec<u8>, InputFault>
+    requires few { IfSome most (λ n. n < 2 ^ 32) }
+    ensures moved { K.link_moved k.old k.new }
+    ensures read { IfOk result (λ bytes. TakesInput most (K.link k.old) bytes.items (K.link k.new)) }
+    ensures fault { IfErr result (λ fault. InputFailed fault most (K.link k.old) (K.link k.new)) }
+{
+    match most {
+        Some(most) => read_input(alloc, k, most),
+        None => Ok(Vec::new(alloc)),
+    }
+}
+
 /// Reads what the next link brings, up to its end or to one byte more than `most`. All memory is taken before
 /// the link is.
-pub(crate) fn read_input<K: Link>(
+fn read_input<K: Link>(
     alloc: Global,
     k: &mut K,
     most: usize,
@@ -26,7 +43,7 @@ pub(crate) fn read_input<K: Link>(
     requires few { most < 2 ^ 32 }
     ensures moved { K.link_moved k.old k.new }
     ensures read { IfOk result (λ bytes. IsInput most (K.link k.old) bytes.items (K.link k.new)) }
-    ensures fault { IfErr result (λ fault. InputFailed fault (K.link k.old) (K.link k.new)) }
+    ensures fault { IfErr result (λ fault. InputFailed fault (Some most) (K.link k.old) (K.link k.new)) }
 {
     let mut bytes = Vec::new(alloc);
     match bytes.resize(most + 1, 0) {

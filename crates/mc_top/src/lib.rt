@@ -6,7 +6,6 @@ mod founder;
 mod init;
 mod input;
 mod law;
-mod lines;
 mod naming;
 mod operation;
 mod operator;
@@ -15,6 +14,7 @@ mod server;
 mod serving;
 mod shop;
 mod status;
+mod vendor;
 mod whole_link;
 mod words;
 

@@ -10,10 +10,10 @@ ghost use Rattle.mc_top.specs.Statuses.{number_of};
 
 use crate::command::Command;
 use crate::init::found_book;
-use crate::operator::operate_book;
 use crate::serving::serve_book;
 use crate::shop::Shop;
 use crate::status::Status;
+use crate::vendor::operate_vendor;
 use crate::words::command_of;
 use house_serving::{BenchEnd, serve_bench_by};
 use mc_base::{Moment, NoMemory};
@@ -92,7 +92,7 @@ fn obey<O: Outside>(alloc: Global, command: &Command<'_>, out: O) -> (O, Status)
         }
         Command::Init(founder) => found_book(alloc, founder, Shelf::new(alloc), out),
         Command::Serve(server) => serve_book(alloc, server.links(), Shelf::new(alloc), out),
-        Command::Operate(operation) => operate_book(alloc, operation, out),
+        Command::Operate(operation) => operate_vendor(alloc, operation, out),
     }
 }
 

@@ -1,7 +1,7 @@
 use Rattle.std.proofs.Common.{◌++◌, ◌∷◌, [], List, ℕ, sym, ap, ◌∙◌, append_assoc, arith}
 use Rattle.mc_top.proofs.LineLemmas.{comma_taken, comma_first, secrets_more}
-use Rattle.mc_top.proofs.lines.append_secrets.Goals as goal
-use Rattle.mc_top.proofs.lines.append_secrets.Goals.{then-i-gt0+in_ok-push-2, else-i-gt0}
+use Rattle.mc_top.proofs.vendor.lines.append_secrets.Goals as goal
+use Rattle.mc_top.proofs.vendor.lines.append_secrets.Goals.{then-i-gt0+in_ok-push-2, else-i-gt0}
 
 pub loop-i-preserved : goal.loop-i-preserved
 loop-i-preserved c =

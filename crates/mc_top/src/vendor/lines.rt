@@ -5,7 +5,7 @@ ghost use Rattle.mc_top.specs.Words.{joined};
 ghost use Rattle.mc_top.specs.Operations.{goods_line, licence_line};
 
 use itoa::Buffer;
-use mc_base::{Amount, List, NoMemory};
+use mc_base::{Amount, NoMemory};
 use scrip_certs::hex_of;
 use scrip_form::{Name, Target, Terms};
 use std::alloc::Global;
@@ -15,15 +15,15 @@ pub(crate) fn goods_line(
     alloc: Global,
     target: &Target,
     price: Amount,
-) -> Result<List<u8>, NoMemory>
-    ensures { IfOk result (λ line. line ≡ goods_line target.now price) }
+) -> Result<Vec<u8>, NoMemory>
+    ensures { IfOk result (λ line. line.items ≡ goods_line target.now price) }
 {
     let mut line = Vec::new(alloc);
     line.extend_from_slice(b"goods ")?;
     line.extend_from_slice(target.bytes())?;
     append_number(&mut line, price.get())?;
     line.extend_from_slice(b"\n")?;
-    Ok(List::of(line))
+    Ok(line)
 }
 
 /// The line of a licence of a vendor's: its issuer, whose scrip the vendor takes, and all its terms.
@@ -31,8 +31,8 @@ pub(crate) fn licence_line(
     alloc: Global,
     vendor: &Name,
     terms: &Terms,
-) -> Result<List<u8>, NoMemory>
-    ensures { IfOk result (λ line. line ≡ licence_line vendor.now terms.now) }
+) -> Result<Vec<u8>, NoMemory>
+    ensures { IfOk result (λ line. line.items ≡ licence_line vendor.now terms.now) }
 {
     let mut line = Vec::new(alloc);
     line.extend_from_slice(b"licence ")?;
@@ -43,7 +43,7 @@ pub(crate) fn licence_line(
     append_secrets(&mut line, terms.scrip_list())?;
     append_secrets(&mut line, terms.customer_list())?;
     line.extend_from_slice(b"\n")?;
-    Ok(List::of(line))
+    Ok(line)
 }
 
 /// Appends a space and a number. After an `Err` the line may have a part of it.

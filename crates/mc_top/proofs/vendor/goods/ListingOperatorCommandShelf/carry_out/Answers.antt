@@ -1,0 +1,28 @@
+use Rattle.std.proofs.Common.{ℕ, List, inl, inr, refl, ap, ap₂, ◌∙◌, arith}
+use Rattle.ledger_model.specs.Histories.{History}
+use Rattle.house_core.specs.Bench.{house_time}
+use Rattle.house_core.specs.Tasks.{Refuse, TellsLast}
+use Rattle.mc_records.specs.declared.refusal.Refusal.TheVariants.{ContentsFull}
+use Rattle.vendor_core.specs.Shelf.{shelf_view}
+use Rattle.vendor_core.specs.Tasks.{goods_task}
+use Rattle.mc_top.specs.Operations.{goods_operation}
+use Rattle.mc_top.proofs.OperatorLemmas.{performs_as, performs_refused}
+use Rattle.mc_top.proofs.vendor.goods.ListingOperatorCommandShelf.carry_out.Goals as goal
+
+pub returns-then-input-gt-MOST_CONTENTS-clause-exact : goal.returns-then-input-gt-MOST_CONTENTS-clause-exact
+returns-then-input-gt-MOST_CONTENTS-clause-exact g c h st all begun =
+    let operation = goods_operation c.args.self.now in
+    performs_refused g.D.Disk.disk shelf_view (operation.asks c.args.input.now h (house_time c.args.house.bench)) (λ task g answer. operation.says h task c.args.line.now.items) _ c.args.house h (ContentsFull 65537) g.met.D.Disk.is_disk st
+    (inr (omega (arith, c.if-input-gt-MOST_CONTENTS.true), refl))
+
+pub returns-clause-exact : goal.returns-clause-exact
+returns-clause-exact g c h st all begun =
+    let operation = goods_operation c.args.self.now in
+    rw c.without_answer.ensures
+    (performs_as g.D.Disk.disk shelf_view _ (operation.asks c.args.input.now h (house_time c.args.house.bench)) TellsLast (λ task. operation.says h task c.args.line.now.items) _ c.args.house.journal.disk h c.set_goods.result
+    (λ task is. inl (
+      omega (arith, c.if-input-gt-MOST_CONTENTS.false),
+      is ∙ ap₂ (λ (target : List ℕ) (price : ℕ). goods_task h (house_time c.args.house.bench) target price c.kind.result c.args.input.now) c.target.ensures.value c.price.ensures.value
+          ∙ ap (λ (kind : ℕ). goods_task h (house_time c.args.house.bench) c.args.self.now.target c.args.self.now.price kind c.args.input.now) c.kind.ensures.value,
+    ))
+    (λ task answer doable told. begun) (c.set_goods.ensures.exact h st))

@@ -1,0 +1,18 @@
+use Rattle.std.proofs.Common.{ap, ◌∙◌}
+use Rattle.scrip_form.specs.Issuing.{Issuing}
+use Rattle.ledger_model.specs.Histories.{History}
+use Rattle.house_core.specs.Bench.{house_time}
+use Rattle.house_core.specs.Tasks.{TellsAdded}
+use Rattle.vendor_core.specs.Shelf.{shelf_view}
+use Rattle.vendor_core.specs.Tasks.{terms_task}
+use Rattle.mc_top.specs.Operations.{licence_operation}
+use Rattle.mc_top.proofs.OperatorLemmas.{performs_as}
+use Rattle.mc_top.proofs.vendor.licence.LicensingOperatorCommandShelf.carry_out.Goals as goal
+
+pub returns-clause-exact : goal.returns-clause-exact
+returns-clause-exact g c h st all begun =
+    let operation = licence_operation c.args.self.now in
+    rw c.without_answer.ensures
+    (performs_as g.D.Disk.disk shelf_view _ (operation.asks c.args.input.now h (house_time c.args.house.bench)) TellsAdded (λ task. operation.says h task c.args.line.now.items) _ c.args.house.journal.disk h c.add_terms.result
+    (λ task is. is ∙ ap (λ (t : Issuing). terms_task h (house_time c.args.house.bench) t) c.terms.ensures.value)
+    (λ task answer doable told. begun) (c.add_terms.ensures.exact h st))

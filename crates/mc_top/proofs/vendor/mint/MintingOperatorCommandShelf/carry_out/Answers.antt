@@ -1,0 +1,23 @@
+use Rattle.std.proofs.Common.{refl}
+use Rattle.ledger_model.specs.Histories.{History}
+use Rattle.house_core.specs.Bench.{house_time, limits_of}
+use Rattle.house_core.specs.Tasks.{after}
+use Rattle.vendor_core.specs.Shelf.{shelf_view}
+use Rattle.vendor_core.specs.Tasks.{TellsMint}
+use Rattle.mc_top.specs.Operations.{mint_operation}
+use Rattle.mc_top.proofs.MintLemmas.{mint_task_at, mint_line_at}
+use Rattle.mc_top.proofs.OperatorLemmas.{performs_as}
+use Rattle.mc_top.proofs.vendor.mint.MintingOperatorCommandShelf.carry_out.Goals as goal
+
+pub mint-requires-clause-empty : goal.mint-requires-clause-empty
+mint-requires-clause-empty g c = c.requires.begun.1
+
+pub returns-clause-exact : goal.returns-clause-exact
+returns-clause-exact g c h st all begun =
+    let operation = mint_operation c.args.self.now in
+    let m = c.args.self.now in
+    rw c.without_answer.ensures
+    (performs_as g.D.Disk.disk shelf_view _ (operation.asks c.args.input.now h (house_time c.args.house.bench)) (TellsMint c.reference.result.now c.count.result c.value.result c.mint.new.out.items) (λ task. operation.says h task c.mint.new.out.items) _ c.args.house.journal.disk h c.mint.result
+    (λ task is. mint_task_at h (house_time c.args.house.bench) (limits_of c.args.house.bench) c.reference.result.now m.reference c.count.result m.count c.value.result m.value task all c.reference.ensures.value c.count.ensures.value c.value.ensures.value is)
+    (λ task answer doable told. mint_line_at (after task h) c.reference.result.now m.reference c.count.result m.count c.value.result m.value answer c.mint.new.out.items c.mint.new.out.items c.reference.ensures.value c.count.ensures.value c.value.ensures.value refl told)
+    (c.mint.ensures.exact h st))

@@ -1,0 +1,17 @@
+use Rattle.std.proofs.Common.{ℕ, List, ap₂, ◌∙◌}
+use Rattle.ledger_model.specs.Histories.{History}
+use Rattle.house_core.specs.Bench.{house_time}
+use Rattle.house_core.specs.Tasks.{TellsLast}
+use Rattle.vendor_core.specs.Shelf.{shelf_view}
+use Rattle.vendor_core.specs.Tasks.{price_task}
+use Rattle.mc_top.specs.Operations.{price_operation}
+use Rattle.mc_top.proofs.OperatorLemmas.{performs_as}
+use Rattle.mc_top.proofs.vendor.price.PricingOperatorCommandShelf.carry_out.Goals as goal
+
+pub returns-clause-exact : goal.returns-clause-exact
+returns-clause-exact g c h st all begun =
+    let operation = price_operation c.args.self.now in
+    rw c.without_answer.ensures
+    (performs_as g.D.Disk.disk shelf_view _ (operation.asks c.args.input.now h (house_time c.args.house.bench)) TellsLast (λ task. operation.says h task c.args.line.now.items) _ c.args.house.journal.disk h c.set_price.result
+    (λ task is. is ∙ ap₂ (λ (target : List ℕ) (price : ℕ). price_task h (house_time c.args.house.bench) target price) c.target.ensures.value c.price.ensures.value)
+    (λ task answer doable told. begun) (c.set_price.ensures.exact h st))
