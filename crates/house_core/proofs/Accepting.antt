@@ -119,6 +119,8 @@ stands_as_before {old = old} {new = new} {h = h} st is = record {
 pub ready_as_before : {old new : HouseStateView} → IsAsBefore old new → (target : List ℕ) (a : Authorization) → IsReady old target a → IsReady new target a
 ready_as_before {old = old} {new = new} is target a ready = record {
   secret = rw (is.name, is.terms) ready.secret;
+  live = rw is.time ready.live;
+  fresh = record { its = ready.fresh.its; seen = λ k. ready.fresh.seen k ∙ sym (is.spent k) };
   change = by_change a.change ready.change;
   payload = subst (λ (t : ℕ). a.payload ≡ length (payload (accept_entry t target a))) (sym is.time) ready.payload;
   fits = omega (arith, ready.fits, is.sized);

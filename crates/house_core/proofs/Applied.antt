@@ -1,5 +1,5 @@
 -- What the state keeps after an entry that accepts nothing says what the longer history says.
-use Rattle.std.proofs.Common.{◌≡◌, ℕ, zero, suc, ◌+◌, ◌≤◌, ◌^◌, Bool, true, false, cond, List, [], ◌∷◌, ◌++◌, length, Option, Some, None, refl, sym, ap, ap₂, subst, ◌∙◌, arith, eqb, leb, append-nil, length-append, All}
+use Rattle.std.proofs.Common.{◌≡◌, ℕ, zero, suc, ◌+◌, ◌≤◌, ◌^◌, Bool, true, false, cond, List, [], ◌∷◌, ◌++◌, length, Option, Some, None, refl, sym, ap, ap₂, subst, ◌∙◌, arith, eqb, append-nil, length-append, All}
 use Rattle.std.specs.Prelude.{◌==◌, option_map, option_to_list, unwrap_or, position, count_by, IsTrue, ◌↔◌}
 use Rattle.std.specs.Option.{option_or}
 use Rattle.std.specs.List.{list_any, cons_option}
@@ -7,8 +7,8 @@ use Rattle.std.proofs.lemmas.Bool.{eqb-true}
 use Rattle.std.proofs.lemmas.List.Elements.{filter_map-append, All-weaker}
 use Rattle.std.proofs.lemmas.List.Folds.{find-append}
 use Rattle.std.proofs.lemmas.List.Sums.{sum_by-append}
-use Rattle.scrip_form.specs.Identities.{issuer_of, epoch_of, series_of, numbered}
-use Rattle.scrip_form.specs.Issuing.{Issuing, series_at, series_end}
+use Rattle.scrip_form.specs.Identities.{series_of, numbered}
+use Rattle.scrip_form.specs.Issuing.{Issuing, series_at}
 use Rattle.scrip_form.specs.Scrip.{Scrip}
 use Rattle.mc_records.specs.declared.limits.Limits.{Limits}
 use Rattle.mc_records.specs.Entry.{House, Entry, Site, AddTerms, Goods, Accept, Mint, Draw, Fits, moment_of, payload}
@@ -16,7 +16,7 @@ use Rattle.kept_replies.specs.declared.deed.KeptEntry.{KeptEntry}
 use Rattle.kept_replies.specs.Kept.{KeptView, found}
 use Rattle.change_issue.specs.Registers.{Register, count_in, next_in}
 use Rattle.ledger_model.specs.Histories.{History}
-use Rattle.ledger_model.specs.Houses.{site_kind, house, keeping, is_vendor, terms_of, all_terms, terms_by, terms_in, version, own_series}
+use Rattle.ledger_model.specs.Houses.{site_kind, house, keeping, is_vendor, terms_of, all_terms, terms_by, version, own_series}
 use Rattle.ledger_model.specs.Pieces.{accepted, own_out, first_hand, run_from, minted_pieces, minted, own_count, next_identity}
 use Rattle.ledger_model.specs.Sums.{price_paid, values}
 use Rattle.ledger_model.specs.Stages.{is_repeat}
@@ -30,9 +30,10 @@ use Rattle.ledger_model.proofs.VersionLaws.{version-more}
 use Rattle.ledger_model.proofs.FollowLaws.{longer_lawful, size_snoc}
 use Rattle.house_core.specs.Learning.{ByHouse, ByTrade, GoodsFit}
 use Rattle.house_core.specs.CommandEntries.{IsCommand}
-use Rattle.house_core.specs.Spent.{SpentView, is_marked}
-use Rattle.house_core.specs.HouseState.{HouseStateView, IsApplied, GoesOn, at_series, minted_count}
+use Rattle.spent_windows.specs.Windows.{WindowView, is_marked}
+use Rattle.house_core.specs.HouseState.{HouseStateView, ended_by, IsApplied, GoesOn, at_series, minted_count}
 use Rattle.house_core.specs.Representation.{StateRepresents, IsReply, has_ended, of_series}
+use Rattle.house_core.proofs.EndLaws.{ended_kept}
 use Rattle.house_core.proofs.Tabled.{series_stands}
 use Rattle.house_core.proofs.Replied.{reply_kept}
 use Rattle.house_core.proofs.Entering.{at_most}
@@ -152,12 +153,6 @@ or_none : {X : Type 0} (o : Option X) → option_or o None ≡ o
 or_none None = refl
 or_none (Some x) = refl
 
--- a series that has not ended by more terms has not ended by fewer
-live_by : (o more : Option Issuing) (id t : ℕ) → unwrap_or (option_map (λ x. leb (series_end x (epoch_of id)) t) (option_or o more)) false ≡ false
-    → unwrap_or (option_map (λ x. leb (series_end x (epoch_of id)) t) o) false ≡ false
-live_by None more id t live = refl
-live_by (Some x) more id t live = live
-
 pub stands_applied : {old new : HouseStateView} {h : History} → StateRepresents old h → (e : Entry) (bytes : ℕ) → IsCommand e → moment_of e ≤ old.time → GoesOn old e → MayFollow old.limits h e → bytes ≡ length (payload e)
     → IsApplied old new e bytes → StateRepresents new (h ++ e ∷ [])
 stands_applied {old = old} {new = new} {h = h} st e bytes command at goes may len is =
@@ -176,12 +171,9 @@ stands_applied {old = old} {new = new} {h = h} st e bytes command at goes may le
           ∙ ap (λ (o : Option Issuing). option_or o (terms_by (all_terms (e ∷ [])) 0)) st.own_terms ∙ ap some (sym is.issuer);
       in_time = omega (arith, time_snoc h e, st.in_time, is.time, at);
       spent = λ id live.
-          let found : terms_in (h ++ e ∷ []) (issuer_of id) ≡ option_or (terms_in h (issuer_of id)) (terms_by (all_terms (e ∷ [])) (issuer_of id)) =
-          ap (λ (ts : List Issuing). terms_by ts (issuer_of id)) terms ∙ find-append (λ t. t.issuer == issuer_of id) (all_terms h) (all_terms (e ∷ [])) in
           let before : has_ended h old.time id ≡ false =
-          live_by (terms_in h (issuer_of id)) (terms_by (all_terms (e ∷ [])) (issuer_of id)) id old.time
-          (ap₂ (λ (o : Option Issuing) (t : ℕ). unwrap_or (option_map (λ x. leb (series_end x (epoch_of id)) t) o) false) (sym found) (sym is.time) ∙ live) in
-          ap (list_any (λ p. p.id == id)) accepts ∙ st.spent id before ∙ ap (λ (s : SpentView). is_marked s id) (sym is.spent);
+          ended_kept (all_terms h) (all_terms (e ∷ [])) old.time id (ap₂ (λ (ts : List Issuing) (t : ℕ). ended_by ts t id) (sym terms) (sym is.time) ∙ live) in
+          ap (list_any (λ p. p.id == id)) accepts ∙ st.spent id before ∙ ap (λ (ws : List WindowView). is_marked ws id) (sym is.spent);
       again = λ t q later.
           ap (λ (o : Option House). position (is_repeat (unwrap_or (option_map (λ x. x.keep) o) 0) t q) (h ++ e ∷ [])) same.house
           ∙ position_snoc (is_repeat (keeping h) t q) h e

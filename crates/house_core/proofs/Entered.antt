@@ -1,5 +1,5 @@
 -- What the state keeps after an authorization was entered says what the longer history says.
-use Rattle.std.proofs.Common.{◌≡◌, ℕ, ◌+◌, ◌-◌, ◌<◌, ◌≤◌, ◌^◌, Bool, true, false, not, cond, List, [], ◌∷◌, ◌++◌, length, filter, find, Option, Some, None, Result, Ok, refl, sym, ap, ap₂, ◌∙◌, arith, eqb, ltb, leb, inl, inr, append-nil, length-append, All, subst}
+use Rattle.std.proofs.Common.{◌≡◌, ℕ, ◌+◌, ◌-◌, ◌<◌, ◌≤◌, ◌^◌, Bool, true, false, not, cond, List, [], ◌∷◌, ◌++◌, length, filter, find, Option, Some, None, Result, Ok, refl, sym, ap, ap₂, ◌∙◌, arith, eqb, ltb, inl, inr, append-nil, length-append, All, subst}
 use Rattle.std.specs.Prelude.{◌&&◌, ◌||◌, ◌==◌, max, option_map, option_to_list, unwrap_or, position, count_by, bytes_eq}
 use Rattle.std.specs.Option.{option_or}
 use Rattle.std.specs.List.{list_any, cons_option, position_or_len}
@@ -9,8 +9,8 @@ use Rattle.std.proofs.lemmas.List.Elements.{filter-append, filter_map-append, Al
 use Rattle.std.proofs.lemmas.List.Folds.{find-append, list_any-append, position_or_len_push}
 use Rattle.std.proofs.lemmas.List.Sums.{sum_by-append}
 use Rattle.hex.specs.Hex.{encode_lower}
-use Rattle.scrip_form.specs.Identities.{issuer_of, epoch_of, series_of}
-use Rattle.scrip_form.specs.Issuing.{Issuing, series_end}
+use Rattle.scrip_form.specs.Identities.{series_of}
+use Rattle.scrip_form.specs.Issuing.{Issuing}
 use Rattle.scrip_form.specs.Scrip.{Scrip}
 use Rattle.scrip_form.specs.Reading.{scrip_of}
 use Rattle.mc_records.specs.declared.limits.Limits.{Limits}
@@ -35,7 +35,7 @@ use Rattle.ledger_model.proofs.FollowLaws.{same_request, may_follow, longer_lawf
 use Rattle.house_core.specs.declared.verdict.Authorization.{Authorization}
 use Rattle.house_core.specs.Views.{entry_deed}
 use Rattle.house_core.specs.Trade.{BringsFor}
-use Rattle.house_core.specs.HouseState.{HouseStateView, HasChange, IsEntered, series_now, kept_entry, at_series, change_count, change_worth}
+use Rattle.house_core.specs.HouseState.{HouseStateView, ended_by, HasChange, IsEntered, series_now, kept_entry, at_series, change_count, change_worth}
 use Rattle.house_core.specs.Representation.{StateRepresents, IsReply, has_ended, scrip_request, of_series}
 use Rattle.house_core.specs.Verdicts.{accept_entry, IsReady}
 use Rattle.house_core.proofs.Replied.{reply_kept, reply_new}
@@ -298,7 +298,7 @@ stands_entered {old = old} {new = new} {h = h} st q a read ready brings limits s
       in_time = omega (arith, time_snoc h e, st.in_time, is.time);
       spent = λ id live.
           let ends : has_ended (h ++ e ∷ []) new.time id ≡ has_ended h old.time id =
-          ap₂ (λ (ts : List Issuing) (t : ℕ). unwrap_or (option_map (λ x. leb (series_end x (epoch_of id)) t) (terms_by ts (issuer_of id))) false) terms is.time in
+          ap₂ (λ (ts : List Issuing) (t : ℕ). ended_by ts t id) terms is.time in
           ap (list_any (λ p. p.id == id)) accepts ∙ list_any-append (λ p. p.id == id) (accepted h) (a.scrip.now.piece ∷ [])
           ∙ ap₂ (λ (x y : Bool). x || y) (st.spent id (sym ends ∙ live)) (or_end (eqb a.scrip.now.piece.id id)) ∙ sym (is.spent id);
       again = λ t p later.

@@ -15,14 +15,16 @@ use Rattle.kept_replies.proofs.InsertLaws.{inserted_last}
 use Rattle.change_issue.specs.Registers.{Register, count_in, issued_in, redeemed_in}
 use Rattle.change_issue.specs.IssuedPieces.{issued_piece}
 use Rattle.house_core.specs.declared.verdict.Authorization.{Authorization}
-use Rattle.house_core.specs.Spent.{SpentView, is_marked}
-use Rattle.house_core.specs.HouseState.{HouseStateView, IsSound, IsEntered, version_of, size_with, series_now, kept_entry, certified_change, at_series, change_count, change_worth}
+use Rattle.spent_windows.specs.Windows.{WindowView, is_marked, end_of, later_than}
+use Rattle.house_core.specs.HouseState.{HouseStateView, end_by, IsSound, IsEntered, version_of, size_with, series_now, kept_entry, certified_change, at_series, change_count, change_worth}
+use Rattle.house_core.proofs.EndLaws.{EndInTime, ends_dropped}
 
 -- ---- a later time
 
 -- letting go what is over leaves the state sound
-pub sound_later : (b : HouseStateView) (t : ℕ) (kept : KeptView) → IsSound b → kept.keep ≡ b.kept.keep → kept.replies ≡ filter (is_in_time b.kept.keep t) b.kept.replies → IsSound (record b { time = t; kept = kept })
-sound_later b t kept sound keep replies = record {
+pub sound_later : (b : HouseStateView) (t : ℕ) (spent : List WindowView) (kept : KeptView) → IsSound b → ((id : ℕ) → end_of spent id ≡ later_than t (end_of b.spent id))
+    → kept.keep ≡ b.kept.keep → kept.replies ≡ filter (is_in_time b.kept.keep t) b.kept.replies → IsSound (record b { time = t; spent = spent; kept = kept })
+sound_later b t spent kept sound dropped keep replies = record {
   limits = sound.limits;
   most = sound.most;
   counted = sound.counted;
@@ -32,6 +34,32 @@ sound_later b t kept sound keep replies = record {
   in_time = subst (λ (n : ℕ). All (λ r. IsTrue (is_in_time n t r)) kept.replies) (sym keep) (subst (All (λ r. IsTrue (is_in_time b.kept.keep t r))) (sym replies) (filter_passes (is_in_time b.kept.keep t) b.kept.replies));
   redeemed = sound.redeemed;
   takings = sound.takings;
+  ends = in_time.ends;
+  alive = in_time.alive;
+}
+  where
+    in_time : EndInTime b.terms t spent
+    in_time = ends_dropped b.terms b.time t b.spent spent (record { ends = sound.ends; alive = sound.alive }) dropped
+
+-- ---- an entry that accepts nothing
+
+-- more terms, more minted pieces and one entry more leave the state sound
+pub sound_grown : (b : HouseStateView) (terms : List Issuing) (room : ℕ) (own : Register) (size bytes : ℕ) → IsSound b → own.terms ≡ b.own.terms → own.most ≡ b.own.most
+    → ((s : ℕ) → redeemed_in own s ≡ redeemed_in b.own s) → ((id end : ℕ) → end_by b.terms id ≡ Some end → end_by terms id ≡ Some end) → size ≡ size_with b bytes → size_with b bytes ≤ 2 ^ 40
+    → IsSound (record b { terms = terms; terms_room = room; own = own; count = b.count + 1; size = size })
+sound_grown b terms room own size bytes sound same most redeemed ends grown fits = record {
+  terms = same ∙ sound.terms;
+  limits = sound.limits;
+  most = most ∙ sound.most;
+  counted = omega (arith, grown, sound.counted);
+  sized = omega (arith, grown, fits);
+  keeps = sound.keeps;
+  numbers = All-weaker (λ r. r.entry.number < b.count) (λ r. r.entry.number < b.count + 1) (λ r lt. omega (arith, lt)) b.kept.replies sound.numbers;
+  in_time = sound.in_time;
+  redeemed = λ s. omega (arith, redeemed s, sound.redeemed s);
+  takings = omega (arith, sound.takings);
+  ends = λ id end is. ends id end (sound.ends id end is);
+  alive = sound.alive;
 }
 
 -- ---- the new reply
@@ -74,8 +102,8 @@ change_is old paid price change piece made is_piece is_made = is_made ∙ ap cer
     go None = refl
     go (Some id) = refl
 
-pub entered : (old : HouseStateView) (spent : SpentView) (kept : KeptView) (own : Register) (takings size : ℕ) (q : Asked) (paid : Scrip) (a : Authorization) (piece : Option Scrip) (made : Option (Scrip × List ℕ)) → IsSound old → epoch old.own.terms old.time < 2 ^ 24
-    → ((k : ℕ) → is_marked spent k ≡ (is_marked old.spent k || (paid.id == k)))
+pub entered : (old : HouseStateView) (spent : List WindowView) (kept : KeptView) (own : Register) (takings size : ℕ) (q : Asked) (paid : Scrip) (a : Authorization) (piece : Option Scrip) (made : Option (Scrip × List ℕ)) → IsSound old → epoch old.own.terms old.time < 2 ^ 24
+    → ((k : ℕ) → is_marked spent k ≡ (is_marked old.spent k || (paid.id == k))) → ((k : ℕ) → end_of spent k ≡ end_of old.spent k)
     → kept.keep ≡ old.kept.keep
     → kept.replies ≡ inserted (record { asked = q; entry = record { number = old.count; moment = old.time; price = a.price; change = made; secret = a.secret; deed = a.deed } }) old.kept.replies
     → piece ≡ option_map (λ id. issued_piece old.own.terms old.time old.name (paid.value - a.price) id (Some paid.cust) paid.props) a.change
@@ -86,7 +114,7 @@ pub entered : (old : HouseStateView) (spent : SpentView) (kept : KeptView) (own 
     → ((s : ℕ) → redeemed_in own s ≡ redeemed_in old.own s + at_series (series_of paid.id) paid.value s)
     → takings ≡ old.takings + min a.price paid.value → size ≡ size_with old a.payload
     → IsEntered old (record old { spent = spent; kept = kept; own = own; takings = takings; count = old.count + 1; size = size }) q paid a
-entered old spent kept own takings size q paid a piece made sound short marks keep replies is_piece is_made terms most count worth redeemed took grown =
+entered old spent kept own takings size q paid a piece made sound short marks same_ends keep replies is_piece is_made terms most count worth redeemed took grown =
     let change = change_is old paid a.price a.change piece made is_piece is_made in
     let reply : Option (Scrip × List ℕ) → KeptReply = λ c. record { asked = q; entry = record { number = old.count; moment = old.time; price = a.price; change = c; secret = a.secret; deed = a.deed } } in
     record {
@@ -97,6 +125,7 @@ entered old spent kept own takings size q paid a piece made sound short marks ke
       limits = refl;
       short = short;
       spent = marks;
+      ends = same_ends;
       keep = keep;
       replies = replies ∙ inserted_last (reply made) old.kept.replies sound.numbers ∙ ap (λ (c : Option (Scrip × List ℕ)). old.kept.replies ++ reply c ∷ []) change;
       issuer = terms;
@@ -131,6 +160,8 @@ sound_entered old new q paid a sound piece fits e = record {
       (let live : old.time < old.time + old.kept.keep = omega (arith, sound.keeps) in lt-ltb old.time (old.time + old.kept.keep) live));
   redeemed = λ s. omega (arith, e.redeemed s, sound.redeemed s, e.counted, at_most (series_of paid.id) paid.value s, piece.most);
   takings = omega (arith, e.takings, sound.takings, e.counted, piece.most);
+  ends = λ id end is. rw e.terms (sound.ends id end (sym (e.ends id) ∙ is));
+  alive = λ id end is. rw e.time (sound.alive id end (sym (e.ends id) ∙ is));
 }
   where
     last : KeptReply

@@ -10,11 +10,13 @@ use Rattle.ledger_model.proofs.VersionLaws.{version-more}
 use Rattle.ledger_model.specs.Houses.{site_kind, terms_by}
 use Rattle.ledger_model.specs.Lawful.{MayFollow}
 use Rattle.ledger_model.specs.Histories.{History}
+use Rattle.spent_windows.specs.Windows.{WindowView, is_marked}
 use Rattle.house_core.specs.Learning.{ByTrade, MayLearn, GoodsFit}
 use Rattle.house_core.specs.HouseState.{HouseStateView}
 use Rattle.house_core.specs.Founding.{IsStateOf, FoundsHouse}
 use Rattle.std.proofs.lemmas.List.Elements.{All-nil}
 use Rattle.house_core.specs.Representation.{StateRepresents, IsReply}
+use Rattle.house_core.proofs.EndLaws.{none_marked}
 
 -- a vendor's house has its ranges
 pub house_fits : (limits : Limits) (m kind : ℕ) (name : List ℕ) (h : House) → FoundsHouse (Site m kind name (Some h)) → MayFollow limits [] (Site m kind name (Some h)) → HouseFits 0 h
@@ -35,7 +37,7 @@ of_site b limits m kind name h is fits range may =
       terms = sym is.terms;
       own_terms = own_found h.terms house.terms.issuer.1 ∙ ap some (sym is.issuer);
       in_time = omega (arith, is.time);
-      spent = λ id live. sym (is.spent id);
+      spent = λ id live. sym (none_marked id) ∙ ap (λ (ws : List WindowView). is_marked ws id) (sym is.spent);
       again = λ t q later. rw is.replies refl;
       replies = rw is.replies (All-nil (IsReply (Site m kind name (Some h) ∷ [])));
       issued = λ s. sym (is.issued s);
@@ -79,6 +81,11 @@ founds_by_trade passes kind e founds = absurd founds
 pub none_kept : (b : HouseStateView) (limits : Limits) (e : Entry) → IsStateOf b limits e → b.kept.replies ≡ []
 none_kept b limits (Site m kind name (Some h)) is = is.replies
 none_kept b limits e is = absurd is
+
+-- no identity is spent
+pub none_spent : (b : HouseStateView) (limits : Limits) (e : Entry) → IsStateOf b limits e → b.spent ≡ []
+none_spent b limits (Site m kind name (Some h)) is = is.spent
+none_spent b limits e is = absurd is
 
 -- it puts no goods on sale
 pub founds_fit : (e : Entry) → FoundsHouse e → GoodsFit e

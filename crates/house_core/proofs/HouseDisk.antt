@@ -1,6 +1,7 @@
 -- The disk of a house, while an entry is written.
-use Rattle.std.proofs.Common.{◌≡◌, ◌∙◌, ℕ, ◌+◌, ◌<◌, ◌≤◌, arith, Ok, List, [], ◌∷◌, ◌++◌, length, Err, subst, refl, sym, ap}
+use Rattle.std.proofs.Common.{◌≡◌, ◌∙◌, ℕ, ◌+◌, ◌<◌, ◌≤◌, arith, false, Some, Option, option_map, Ok, List, [], ◌∷◌, ◌++◌, length, Err, subst, refl, sym, ap}
 use Rattle.std.specs.Prelude.{Result, MatchResult}
+use Rattle.std.specs.Result.{result_ok}
 use Rattle.mc_outside.specs.DiskView.{DiskView, IsDisk, Ran}
 use Rattle.mc_outside.proofs.Runs.{ran_none}
 use Rattle.mc_records.specs.Entry.{Entry, payload}
@@ -15,13 +16,17 @@ use Rattle.house_core.specs.declared.bench.Bench.{Bench}
 use Rattle.house_core.specs.declared.house.House.{House}
 use Rattle.house_core.specs.declared.verdict.Authorization.{Authorization}
 use Rattle.house_core.specs.HouseState.{HouseStateView, size_with}
-use Rattle.house_core.specs.Representation.{StateRepresents}
-use Rattle.house_core.specs.Verdicts.{accept_entry, IsReady}
+use Rattle.house_core.specs.Representation.{StateRepresents, has_ended}
+use Rattle.house_core.specs.Verdicts.{accept_entry, IsReady, WasAsked}
 use Rattle.house_core.specs.Bench.{Represents, HasContents, IsRoomed, limits_of}
-use Rattle.house_core.specs.House.{HouseRepresents, IsAsItWas, HasEntered, Responds, Leaves}
+use Rattle.house_core.specs.House.{HouseRepresents, IsAsItWas, HasEntered, AskedFor, Responds, Leaves}
 use Rattle.house_core.specs.declared.outcome.Outcome.TheVariants.{Done, Refused}
 use Rattle.house_core.specs.declared.outcome.Response.TheVariants.{Again}
 use Rattle.mc_records.specs.declared.refusal.Refusal.{Refusal}
+use Rattle.scrip_form.specs.Scrip.{Scrip}
+use Rattle.mc_records.specs.Requests.{Asked}
+use Rattle.ledger_model.specs.Stages.{read_by}
+use Rattle.ledger_model.proofs.TableLaws.{read_ok}
 use Rattle.ledger_model.specs.Answer as answers
 use Rattle.ledger_model.specs.Answer.{Answer}
 use Rattle.house_core.proofs.Accepting.{holds_roomed}
@@ -76,6 +81,17 @@ has_entered view trade x y h e f number same st written limit limits counted ent
   };
   number' = counted;
 }
+
+-- the windows were asked for the piece of the entry of an authorization
+pub asked_for : {b : HouseStateView} {h : History} {t : ℕ} → StateRepresents b h → (q : Asked) (a : Authorization) → Ok a.scrip.now ≡ read_by q.scrip → WasAsked b a.scrip.now.piece.id a.fresh
+    → t ≡ b.time → AskedFor h t (accept_entry b.time q.target a) a.fresh
+asked_for {h = h} st q a read asked same = record {
+  its = ap (λ (r : Result (Scrip × List ℕ) ℕ). option_map (λ p. p.id) (option_map (λ x. x.0) (result_ok r))) (read_ok q.scrip a.scrip.now (sym read)).1 ∙ ap some (sym asked.its);
+  seen = λ id live. asked.seen id ∙ sym (st.spent id (subst (λ (u : ℕ). has_ended h u id ≡ false) same live));
+}
+  where
+    some : ℕ → Option ℕ
+    some n = Some n
 
 -- the entry of an authorization that has room fits the journal
 pub not_full : (b : HouseStateView) (h : History) (target : List ℕ) (a : Authorization) (limit : ℕ) (f : Entry) → StateRepresents b h → IsReady b target a

@@ -1,7 +1,7 @@
 -- What is kept still stands at a later house time.
-use Rattle.std.proofs.Common.{◌≡◌, ℕ, ◌+◌, ◌<◌, ◌≤◌, Bool, true, false, cond, List, [], ◌∷◌, length, get_or, filter, find, All, IfSome, Option, Some, None, refl, sym, ap, subst, ◌∙◌, arith, leb}
-use Rattle.std.specs.Prelude.{◌&&◌, option_map, unwrap_or}
-use Rattle.std.proofs.lemmas.Bool.{and_parts, ltb-true, lt-ltb, leb-false}
+use Rattle.std.proofs.Common.{◌≡◌, ℕ, ◌+◌, ◌<◌, ◌≤◌, Bool, true, false, cond, List, [], ◌∷◌, length, get_or, filter, find, All, IfSome, Option, Some, None, refl, sym, ap, subst, ◌∙◌, arith}
+use Rattle.std.specs.Prelude.{◌&&◌, option_map}
+use Rattle.std.proofs.lemmas.Bool.{and_parts, ltb-true, lt-ltb}
 use Rattle.std.proofs.lemmas.List.Elements.{All-filter}
 use Rattle.mc_records.specs.Requests.{Asked}
 use Rattle.kept_replies.specs.declared.deed.Deed.{Deed}
@@ -9,15 +9,16 @@ use Rattle.kept_replies.specs.declared.deed.Deed.TheVariants as kept
 use Rattle.kept_replies.specs.declared.deed.KeptEntry.{KeptEntry}
 use Rattle.kept_replies.specs.Requests.{is_same_request}
 use Rattle.kept_replies.specs.Kept.{KeptReply, KeptView, is_in_time, found}
-use Rattle.scrip_form.specs.Identities.{issuer_of, epoch_of}
-use Rattle.scrip_form.specs.Issuing.{Issuing, series_end}
+use Rattle.scrip_form.specs.Issuing.{Issuing}
+use Rattle.spent_windows.specs.Windows.{WindowView, is_marked}
 use Rattle.ledger_model.specs.Histories.{History}
-use Rattle.ledger_model.specs.Houses.{terms_in}
-use Rattle.house_core.specs.HouseState.{HouseStateView}
+use Rattle.ledger_model.specs.Houses.{all_terms}
+use Rattle.house_core.specs.HouseState.{HouseStateView, ended_by}
 use Rattle.house_core.specs.declared.bench.Bench.{Bench}
 use Rattle.house_core.specs.Trade.{Replaces, LiesBehind, IsKeptFrom, OfGoods, TradeView}
-use Rattle.house_core.specs.Representation.{StateRepresents, IsReply, has_ended}
+use Rattle.house_core.specs.Representation.{StateRepresents, IsReply}
 use Rattle.house_core.specs.Bench.{IsInForceFor, HasContents}
+use Rattle.house_core.proofs.EndLaws.{ended_later}
 
 -- ---- replies
 
@@ -69,25 +70,18 @@ all_held old new h from rs keeps least none in_force held k d lt =
 
 -- ---- the state
 
--- a series that has not ended later has not ended now
-live_before : (h : History) (t u id : ℕ) → t ≤ u → has_ended h u id ≡ false → has_ended h t id ≡ false
-live_before h t u id le = by_terms (terms_in h (issuer_of id))
-  where
-    by_terms : (o : Option Issuing) → unwrap_or (option_map (λ x. leb (series_end x (epoch_of id)) u) o) false ≡ false
-        → unwrap_or (option_map (λ x. leb (series_end x (epoch_of id)) t) o) false ≡ false
-    by_terms None live = refl
-    by_terms (Some x) live = let above : u < series_end x (epoch_of id) = leb-false (series_end x (epoch_of id)) u live in grind (arith, above, le)
-
-pub stands_later : {b : HouseStateView} {h : History} → StateRepresents b h → (t : ℕ) (kept : KeptView) → b.time ≤ t → kept.keep ≡ b.kept.keep → kept.replies ≡ filter (is_in_time b.kept.keep t) b.kept.replies
-    → StateRepresents (record b { time = t; kept = kept }) h
-stands_later {b = b} {h = h} st t kept le keep replies = record {
+pub stands_later : {b : HouseStateView} {h : History} → StateRepresents b h → (t : ℕ) (spent : List WindowView) (kept : KeptView) → b.time ≤ t
+    → ((id : ℕ) → ended_by b.terms t id ≡ false → is_marked spent id ≡ is_marked b.spent id) → kept.keep ≡ b.kept.keep → kept.replies ≡ filter (is_in_time b.kept.keep t) b.kept.replies
+    → StateRepresents (record b { time = t; spent = spent; kept = kept }) h
+stands_later {b = b} {h = h} st t spent kept le marked keep replies = record {
   name = st.name;
   clear = st.clear;
   keep = st.keep ∙ sym keep;
   terms = st.terms;
   own_terms = st.own_terms;
   in_time = omega (arith, st.in_time, le);
-  spent = λ id live. st.spent id (live_before h b.time t id le live);
+  spent = λ id live. st.spent id (ended_later (all_terms h) b.time t id le live)
+      ∙ sym (marked id (subst (λ (ts : List Issuing). ended_by ts t id ≡ false) st.terms live));
   again = λ u q later. st.again u q (omega (arith, later, le)) ∙ ap (option_map (λ (e : KeptEntry). e.number)) (sym (found_later b.kept kept t u q keep replies later));
   replies = subst (All (IsReply h)) (sym replies) (All-filter (is_in_time b.kept.keep t) (IsReply h) b.kept.replies st.replies);
   issued = st.issued;

@@ -2,6 +2,8 @@ pub mod PartLaws
 pub mod KeptLaws
 pub mod Tabled
 pub mod KeptLater
+pub mod EndLaws
+pub mod WindowCounts
 pub mod Entering
 pub mod Replied
 pub mod Entered

@@ -21,9 +21,9 @@ use Rattle.ledger_model.specs.Lines.{Stop, Repeat, ◌>>=◌, given, refused_if,
 use Rattle.ledger_model.specs.Stages.{read_by, is_right, genuine_by, spendable_by, Offer, next_by, needed, fitted_by}
 use Rattle.ledger_model.specs.Answer.{repeated, after_read, after_repeat, genuine, spendable, offer, next_own, fitted, taken, answered, answer}
 use Rattle.ledger_model.proofs.TableLaws.{line_ok, refused_ok, given_ok, read_ok}
-use Rattle.house_core.specs.HouseState.{HouseStateView, version_of, tail_of, series_now}
+use Rattle.house_core.specs.HouseState.{HouseStateView, end_by, version_of, tail_of, series_now}
 use Rattle.house_core.specs.House.{HasRun}
-use Rattle.house_core.specs.Spent.{is_marked}
+use Rattle.spent_windows.specs.Windows.{is_marked}
 use Rattle.house_core.specs.Representation.{StateRepresents, has_ended, scrip_request}
 
 -- ---- 22 to 25
@@ -39,17 +39,23 @@ not_false : (b : Bool) → not b ≡ false → b ≡ true
 not_false true e = refl
 not_false false e = absurd cc
 
--- the series of a genuine piece has ended where the piece has
-genuine_ends : (h : History) (t : ℕ) (c : Certified) (secret : List ℕ) → genuine h c ≡ Ok secret → has_ended h t c.piece.id ≡ leb c.piece.expires t
-genuine_ends h t c secret e =
-    let v = line_ok (refused_if (not (bytes_eq c.piece.vendor (site_name h))) WrongVendor) _ secret e in
-    let own = line_ok (given (terms_in h (issuer_of c.piece.id)) UnknownIssuer) _ secret v.2 in
-    let customers = line_ok (given (terms_in h (issuer_of c.piece.cust)) UnknownIssuer) _ secret own.2 in
+-- a genuine piece expires with its series
+pub genuine_end : (name : List ℕ) (version : ℕ → ℕ) (terms : List Issuing) (c : Certified) (secret : List ℕ) → genuine_by name version terms c ≡ Ok secret → end_by terms c.piece.id ≡ Some c.piece.expires
+genuine_end name version terms c secret e =
+    let v = line_ok (refused_if (not (bytes_eq c.piece.vendor name)) WrongVendor) _ secret e in
+    let own = line_ok (given (terms_by terms (issuer_of c.piece.id)) UnknownIssuer) _ secret v.2 in
+    let customers = line_ok (given (terms_by terms (issuer_of c.piece.cust)) UnknownIssuer) _ secret own.2 in
     let end = series_end own.0 (epoch_of c.piece.id) in
     let ends = line_ok (refused_if (not (eqb c.piece.expires end)) (ExpiryMismatch c.piece.expires end)) _ secret customers.2 in
     let is : c.piece.expires ≡ end = eqb-true _ _ (not_false _ (refused_ok _ _ ends.0 ends.1)) in
-    ap (λ (o : Option Issuing). unwrap_or (option_map (λ x. leb (series_end x (epoch_of c.piece.id)) t) o) false) (given_ok (terms_in h (issuer_of c.piece.id)) UnknownIssuer own.0 own.1)
-    ∙ ap (λ (n : ℕ). leb n t) (sym is)
+    ap (option_map (λ x. series_end x (epoch_of c.piece.id))) (given_ok (terms_by terms (issuer_of c.piece.id)) UnknownIssuer own.0 own.1) ∙ ap some (sym is)
+  where
+    some : ℕ → Option ℕ
+    some n = Some n
+
+-- the series of a genuine piece has ended where the piece has
+genuine_ends : (h : History) (t : ℕ) (c : Certified) (secret : List ℕ) → genuine h c ≡ Ok secret → has_ended h t c.piece.id ≡ leb c.piece.expires t
+genuine_ends h t c secret e = ap (λ (o : Option ℕ). unwrap_or (option_map (λ n. leb n t) o) false) (genuine_end (site_name h) (version h (site_name h)) (all_terms h) c secret e)
 
 -- ---- 26 to 29
 

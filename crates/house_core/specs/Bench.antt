@@ -1,8 +1,9 @@
 -- A house without a journal, and its history.
-use Rattle.std.specs.Prelude.{◌≡◌, ℕ, ◌<◌, [], ◌∷◌, ◌++◌, length, All, IsTrue, Some, Result, Ok, Err}
+use Rattle.std.specs.Prelude.{◌≡◌, ℕ, ◌<◌, List, [], ◌∷◌, ◌++◌, length, All, IsTrue, Some, Result, Ok, Err}
 use Rattle.mc_base.specs.declared.no_memory.NoMemory.{NoMemory}
 use Rattle.mc_records.specs.Entry.{Entry, moment_of}
 use Rattle.mc_records.specs.declared.limits.Limits.{Limits}
+use Rattle.spent_windows.specs.Windows.{WindowView}
 use Rattle.kept_replies.specs.Kept.{KeptReply, has_number}
 use Rattle.ledger_model.specs.Histories.{History}
 use Rattle.ledger_model.specs.Houses.{site_kind}
@@ -29,6 +30,9 @@ house_time b = b.state.time
 
 abbrev pub limits_of : {T : Type 0} → Bench T → Limits
 limits_of b = b.state.limits
+
+abbrev pub windows_of : {T : Type 0} → Bench T → List WindowView
+windows_of b = b.state.spent
 
 -- Entries that replace the goods which a reply brings come after the entry of the reply.
 abbrev pub IsInForceFor : History → KeptReply → Type 0

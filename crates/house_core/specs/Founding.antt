@@ -1,10 +1,9 @@
 -- The state of a house that was just founded.
-use Rattle.std.specs.Prelude.{◌≡◌, ℕ, ◌+◌, false, List, [], ◌∷◌, length, Some}
+use Rattle.std.specs.Prelude.{◌≡◌, ℕ, ◌+◌, List, [], ◌∷◌, length, Some}
 use Rattle.mc_records.specs.declared.limits.Limits.{Limits}
 use Rattle.mc_records.specs.Entry.{House, Entry, Site, Fits, payload}
 use Rattle.mc_records.specs.Sizes.{empty_size, framed_size, tail_size}
 use Rattle.change_issue.specs.Registers.{count_in, issued_in, redeemed_in}
-use Rattle.house_core.specs.Spent.{is_marked}
 use Rattle.house_core.specs.HouseState.{HouseStateView}
 
 -- the state holds nothing but what a Site entry of this moment, name and house, with a payload of so many
@@ -14,7 +13,7 @@ pub record IsFounded (b : HouseStateView) (m : ℕ) (site : List ℕ) (h : House
   pub clear : b.clear ≡ h.clear
   pub terms : b.terms ≡ h.terms ∷ []
   pub time : b.time ≡ m
-  pub spent : (id : ℕ) → is_marked b.spent id ≡ false
+  pub spent : b.spent ≡ []
   pub keep : b.kept.keep ≡ h.keep
   pub replies : b.kept.replies ≡ []
   pub issuer : b.own.terms ≡ h.terms

@@ -1,6 +1,6 @@
 -- A house over a journal.
 use Rattle.std.proofs.Common.{◌∙◌, ap, sym, subst}
-use Rattle.std.specs.Prelude.{◌≡◌, refl, ℕ, ◌+◌, ◌<◌, ◌≤◌, max, List, [], ◌∷◌, ◌++◌, length, Result, Ok, Err}
+use Rattle.std.specs.Prelude.{◌≡◌, refl, ℕ, ◌+◌, ◌<◌, ◌≤◌, false, max, List, [], ◌∷◌, ◌++◌, length, Some, option_map, Result, Ok, Err}
 use Rattle.mc_outside.specs.Bytes.{Rose, BeginsWith}
 use Rattle.mc_outside.specs.DiskView.{DiskView, LinkKeeps}
 use Rattle.mc_records.specs.declared.limits.Limits.{Limits}
@@ -11,9 +11,11 @@ use Rattle.ledger_model.specs.Histories.{History}
 use Rattle.ledger_model.specs.Houses.{own_series}
 use Rattle.ledger_model.specs.Lawful.{MayFollow}
 use Rattle.ledger_model.specs.Lines.{Refuse}
-use Rattle.ledger_model.specs.Pieces.{own_count, next_identity}
+use Rattle.ledger_model.specs.Pieces.{accepted_piece, is_spent, own_count, next_identity}
 use Rattle.ledger_model.specs.Answer as answers
 use Rattle.ledger_model.specs.Answer.{Answer, fitted}
+use Rattle.spent_windows.specs.Windows.{is_marked}
+use Rattle.spent_windows.specs.Fresh.{FreshView}
 use Rattle.scrip_journal.specs.Layout.{Encodes}
 use Rattle.scrip_journal.specs.States.{IsJournal}
 use Rattle.scrip_journal.specs.Rests.{RestsAs, rests_none, rests_then, journal_keeps}
@@ -26,6 +28,7 @@ use Rattle.house_core.specs.declared.outcome.Response.{Response}
 use Rattle.house_core.specs.declared.outcome.Response.TheVariants.{New, Again}
 use Rattle.house_core.specs.declared.outcome.Outcome.TheVariants.{Done, Refused, NoMemory, Halted}
 use Rattle.house_core.specs.Bench.{IsHouse, house_time, limits_of}
+use Rattle.house_core.specs.Representation.{has_ended}
 use Rattle.house_core.specs.Trade.{TradeView}
 
 -- The journal and the bench represent the history, and the journal has the house's limit.
@@ -106,16 +109,24 @@ pub record HasEntered {D T : Type 0} (view : D → DiskView) (trade : T → Trad
   pub represents : HouseRepresents view trade x (h ++ e ∷ [])
   pub number' : number ≡ length h
 
+-- The windows were asked for the identity of the piece that an entry accepts. Of the identities whose
+-- series has not ended at a time, those that were marked then are those that the history before the entry
+-- accepted.
+pub record AskedFor (h : History) (t : ℕ) (e : Entry) (f : FreshView) : Type 0 where
+  pub its : option_map (λ p. p.id) (accepted_piece e) ≡ Some f.id
+  pub seen : (id : ℕ) → has_ended h t id ≡ false → is_marked f.seen id ≡ is_spent h id
+
 -- the number of the entry whose first reply a request gets
 abbrev pub number_in : Response → ℕ
 number_in (New s) = s.number
 number_in (Again n) = n
 
--- Of a request with this answer: its entry is on the disk and entered; or memory was refused for it, or
+-- Of a request with this answer: its entry is on the disk and entered, and the windows were asked for its
+-- piece before; or memory was refused for it, or
 -- the disk failed. A refusal, and the number of a request that comes again, are those of the answer, and
 -- the house stays as it was.
 abbrev pub Responds : {D T : Type 0} → (D → DiskView) → (T → TradeView) → D → History → Answer → Outcome D T Response → Type 0
-Responds view trade disk h (answers.Take e) (Done x (New s)) = HasEntered view trade x h e s.number
+Responds view trade disk h (answers.Take e) (Done x (New s)) = HasEntered view trade x h e s.number × AskedFor h (house_time x.bench) e s.fresh
 Responds view trade disk h (answers.Take e) (NoMemory x) = IsAsItWas view trade disk x h
 Responds view trade disk h (answers.Take e) (Halted d) = Rose (view disk).faults (view d).faults
 Responds view trade disk h (answers.Refused f) (Refused x g) = (g ≡ f) × IsAsItWas view trade disk x h
@@ -125,7 +136,7 @@ Responds view trade disk h _ _ = ⊥
 -- The same, where a request that comes again is not for the call: it is refused as one whose piece is
 -- spent, and the house stays as it was.
 abbrev pub Accepted : {D T : Type 0} → (D → DiskView) → (T → TradeView) → D → History → Answer → Outcome D T Settled → Type 0
-Accepted view trade disk h (answers.Take e) (Done x s) = HasEntered view trade x h e s.number
+Accepted view trade disk h (answers.Take e) (Done x s) = HasEntered view trade x h e s.number × AskedFor h (house_time x.bench) e s.fresh
 Accepted view trade disk h (answers.Take e) (NoMemory x) = IsAsItWas view trade disk x h
 Accepted view trade disk h (answers.Take e) (Halted d) = Rose (view disk).faults (view d).faults
 Accepted view trade disk h (answers.Refused f) (Refused x g) = (g ≡ f) × IsAsItWas view trade disk x h

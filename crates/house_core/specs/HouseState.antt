@@ -1,24 +1,25 @@
 -- What a house keeps in place of its history, without how it is stored.
-use Rattle.std.specs.Prelude.{◌≡◌, ℕ, ◌+◌, ◌-◌, ◌*◌, ◌<◌, ◌≤◌, ◌^◌, ◌==◌, ◌||◌, Bool, min, List, [], ◌∷◌, ◌++◌, All, IsTrue, Option, Some, None, option_map, MatchOption, if◌then◌else◌}
-use Rattle.scrip_form.specs.Identities.{series_of}
-use Rattle.scrip_form.specs.Issuing.{Issuing, epoch, series_at}
+use Rattle.std.specs.Prelude.{◌≡◌, ℕ, ◌+◌, ◌-◌, ◌*◌, ◌<◌, ◌≤◌, ◌^◌, ◌==◌, ◌||◌, nat_le, Bool, false, min, List, [], ◌∷◌, ◌++◌, All, IsTrue, Option, Some, None, option_map, unwrap_or, MatchOption, if◌then◌else◌}
+use Rattle.scrip_form.specs.Identities.{issuer_of, epoch_of, series_of}
+use Rattle.scrip_form.specs.Issuing.{Issuing, epoch, series_at, series_end}
 use Rattle.scrip_form.specs.Scrip.{Scrip, scrip_body}
 use Rattle.mc_records.specs.declared.limits.Limits.{Limits}
 use Rattle.mc_records.specs.Limits.{AreInRange}
 use Rattle.mc_records.specs.Entry.{Entry, AddTerms, Mint}
 use Rattle.mc_records.specs.Requests.{Asked}
 use Rattle.mc_records.specs.Sizes.{tail_size, framed_size}
-use Rattle.ledger_model.specs.Houses.{version, certificate_in, all_terms}
+use Rattle.ledger_model.specs.Houses.{version, certificate_in, all_terms, terms_by}
 use Rattle.kept_replies.specs.declared.deed.KeptEntry.{KeptEntry}
 use Rattle.kept_replies.specs.Requests.{text_size}
 use Rattle.kept_replies.specs.Kept.{KeptView, is_in_time}
 use Rattle.change_issue.specs.Registers.{Register, has_room, count_in, issued_in, redeemed_in, next_in}
 use Rattle.change_issue.specs.IssuedPieces.{issued_piece}
 use Rattle.house_core.specs.declared.verdict.Authorization.{Authorization}
-use Rattle.house_core.specs.Spent.{SpentView, is_marked}
+use Rattle.spent_windows.specs.Windows as windows
+use Rattle.spent_windows.specs.Windows.{WindowView, is_marked, end_of}
 
 -- The name, whether requests need no signature, the terms of all issuers, and how many more there is room
--- for; the house time; the identities that were accepted, the first replies, what was handed out in the
+-- for; the house time; the windows of the identities that were accepted, the first replies, what was handed out in the
 -- house's own series, the takings; the number of entries and the bytes of their journal; the limits.
 pub record HouseStateView : Type 0 where
   pub name : List ℕ
@@ -26,13 +27,21 @@ pub record HouseStateView : Type 0 where
   pub terms : List Issuing
   pub terms_room : ℕ
   pub time : ℕ
-  pub spent : SpentView
+  pub spent : List WindowView
   pub kept : KeptView
   pub own : Register
   pub takings : ℕ
   pub count : ℕ
   pub size : ℕ
   pub limits : Limits
+
+-- the end of the series of an identity, by the terms of its issuer
+abbrev pub end_by : List Issuing → ℕ → Option ℕ
+end_by terms id = option_map (λ x. series_end x (epoch_of id)) (terms_by terms (issuer_of id))
+
+-- whether it has ended at a time. Without terms it has not.
+abbrev pub ended_by : List Issuing → ℕ → ℕ → Bool
+ended_by terms t id = unwrap_or (option_map (λ end. nat_le end t) (end_by terms id)) false
 
 -- the series that change is handed out in at the house time
 abbrev pub series_now : HouseStateView → ℕ
@@ -61,12 +70,15 @@ pub record IsSound (b : HouseStateView) : Type 0 where
   pub in_time : All (λ r. IsTrue (is_in_time b.kept.keep b.time r)) b.kept.replies
   pub redeemed : (series : ℕ) → redeemed_in b.own series ≤ b.count * 2 ^ 40
   pub takings : b.takings ≤ b.count * 2 ^ 40
+  -- each window ends with its series, which has not ended
+  pub ends : (id end : ℕ) → end_of b.spent id ≡ Some end → end_by b.terms id ≡ Some end
+  pub alive : (id end : ℕ) → end_of b.spent id ≡ Some end → b.time < end
 
 -- ---- an accepted piece
 
 -- there is room to enter this request with a piece of this identity at the house time
 pub record HasRoom (b : HouseStateView) (q : Asked) (id : ℕ) : Type 0 where
-  pub spent : 0 < b.spent.room
+  pub spent : IsTrue (windows.has_room b.spent id)
   pub reply : text_size q < b.kept.room
   pub change : IsTrue (has_room b.own (series_now b))
   pub redeemed : IsTrue (has_room b.own (series_of id))
@@ -116,6 +128,7 @@ pub record IsEntered (old new : HouseStateView) (q : Asked) (paid : Scrip) (a : 
   pub limits : new.limits ≡ old.limits
   pub short : epoch old.own.terms old.time < 2 ^ 24
   pub spent : (id : ℕ) → is_marked new.spent id ≡ (is_marked old.spent id || (paid.id == id))
+  pub ends : (id : ℕ) → end_of new.spent id ≡ end_of old.spent id
   pub keep : new.kept.keep ≡ old.kept.keep
   pub replies : new.kept.replies ≡ old.kept.replies ++ record { asked = q; entry = kept_entry old paid a } ∷ []
   pub issuer : new.own.terms ≡ old.own.terms

@@ -1,7 +1,6 @@
 -- What a house keeps says what its history says, part by part.
-use Rattle.std.specs.Prelude.{◌≡◌, ℕ, ◌≤◌, ◌==◌, nat_le, Bool, false, List, [], filter, length, Option, Some, option_map, unwrap_or, position, ◌<◌, take, All}
-use Rattle.scrip_form.specs.Identities.{issuer_of, epoch_of, series_of}
-use Rattle.scrip_form.specs.Issuing.{series_end}
+use Rattle.std.specs.Prelude.{◌≡◌, ℕ, ◌≤◌, ◌==◌, Bool, false, List, [], filter, length, Option, Some, option_map, unwrap_or, position, ◌<◌, take, All}
+use Rattle.scrip_form.specs.Identities.{series_of}
 use Rattle.scrip_form.specs.Scrip.{Scrip, scrip_text}
 use Rattle.mc_records.specs.Limits.{AreInRange}
 use Rattle.mc_records.specs.Requests.{Asked}
@@ -16,14 +15,14 @@ use Rattle.ledger_model.specs.Stages.{is_repeat}
 use Rattle.ledger_model.specs.Replies.{Contents, brought, taken_values, taken_reply, reply_of}
 use Rattle.ledger_model.specs.Lawful.{IsLawful}
 use Rattle.house_core.specs.Views.{entry_deed}
-use Rattle.house_core.specs.HouseState.{HouseStateView, version_of, tail_of}
-use Rattle.house_core.specs.Spent.{is_marked}
+use Rattle.house_core.specs.HouseState.{HouseStateView, ended_by, version_of, tail_of}
+use Rattle.spent_windows.specs.Windows.{is_marked}
 use Rattle.house_core.specs.Trade.{brought_by}
 
 -- Whether the series of an identity has ended at a time, by the terms of its issuer. Without terms it has
 -- not.
 abbrev pub has_ended : History → ℕ → ℕ → Bool
-has_ended h t id = unwrap_or (option_map (λ x. nat_le (series_end x (epoch_of id)) t) (terms_in h (issuer_of id))) false
+has_ended h t id = ended_by (all_terms h) t id
 
 -- the request for a target with a scrip text, and with a signature or none
 abbrev pub scrip_request : List ℕ → List ℕ → Option (List ℕ) → Asked

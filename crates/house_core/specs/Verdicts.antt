@@ -1,5 +1,5 @@
 -- What a house says of a request, as the ledger's answer to it.
-use Rattle.std.specs.Prelude.{◌≡◌, ℕ, ◌≤◌, ◌^◌, List, Option, Some, None, length, IsTrue, Result, Ok, Err}
+use Rattle.std.specs.Prelude.{◌≡◌, ℕ, ◌<◌, ◌≤◌, ◌^◌, List, Option, Some, None, length, IsTrue, Result, Ok, Err}
 use Rattle.mc_records.specs.declared.refusal.Refusal.{Refusal}
 use Rattle.mc_records.specs.Entry.{Deed, Entry, Accept, payload}
 use Rattle.kept_replies.specs.Kept.{has_number}
@@ -14,6 +14,8 @@ use Rattle.house_core.specs.declared.verdict.Authorization.{Authorization}
 use Rattle.house_core.specs.Views.{entry_deed}
 use Rattle.house_core.specs.HouseState.{HouseStateView, version_of, size_with, HasChange}
 use Rattle.house_core.specs.Replying.{IsOfSite}
+use Rattle.spent_windows.specs.Windows.{is_marked}
+use Rattle.spent_windows.specs.Fresh.{FreshView}
 
 -- ---- verdicts
 
@@ -48,11 +50,18 @@ repeat_of answer = again_in (judged answer)
 abbrev pub accept_entry : ℕ → List ℕ → Authorization → Entry
 accept_entry moment target a = Accept moment a.scrip.now.text target a.sign a.price a.change (entry_deed a.deed)
 
--- An authorization that may be entered: the secret is that of the customer of a genuine piece, there is
--- change where there has to be, the length is that of the payload of its entry, and the entry fits the
--- greatest journal.
+-- the windows were asked for this identity, as they stand in this state
+pub record WasAsked (b : HouseStateView) (id : ℕ) (f : FreshView) : Type 0 where
+  pub its : f.id ≡ id
+  pub seen : (k : ℕ) → is_marked f.seen k ≡ is_marked b.spent k
+
+-- An authorization that may be entered: the secret is that of the customer of a genuine piece, which has not
+-- expired and for which the windows were asked, there is change where there has to be, the length is that of
+-- the payload of its entry, and the entry fits the greatest journal.
 pub record IsReady (b : HouseStateView) (target : List ℕ) (a : Authorization) : Type 0 where
   pub secret : genuine_by b.name (version_of b) b.terms a.scrip.now ≡ Ok a.secret
+  pub live : b.time < a.scrip.now.piece.expires
+  pub fresh : WasAsked b a.scrip.now.piece.id a.fresh
   pub change : HasChange b a.price a.scrip.now.piece.value a.change
   pub payload : a.payload ≡ length (payload (accept_entry b.time target a))
   pub fits : size_with b a.payload ≤ 2 ^ 40

@@ -5,7 +5,8 @@ ghost use Rattle.ledger_model.specs.Histories.{History};
 ghost use Rattle.ledger_model.specs.Answer.{answer};
 ghost use Rattle.ledger_model.specs.Replies as ledger;
 ghost use Rattle.millicent_http.specs.HeadRefusals.{as_refusal};
-ghost use Rattle.house_core.specs.Bench.{Represents, IsHouse, KeepsReply, Refines, house_time, limits_of, state_of};
+ghost use Rattle.house_core.specs.Bench.{Represents, IsHouse, KeepsReply, Refines, house_time, limits_of, windows_of, state_of};
+ghost use Rattle.house_core.specs.LiveWindows.{AreUsed};
 ghost use Rattle.house_core.specs.Replying.{IsOfSite};
 ghost use Rattle.house_core.specs.Session.{raised, Says, said_reply, refused_reply};
 
@@ -24,6 +25,7 @@ impl<T: Trade> Bench<T> {
     /// of the entry whose first reply it gets, or the refusal. Want of memory is refusal 90.
     pub fn answer(&mut self, reading: Moment, q: &Presented<'_>) -> Result<u64, Refusal>
         ensures limits { limits_of self.new ≡ limits_of self.old }
+        ensures used { AreUsed (windows_of self.old) → AreUsed (windows_of self.new) }
         ensures kept { IfOk result (KeepsReply self.new) }
         ensures site { IfErr result IsOfSite }
         ensures went { Refines T.trade
@@ -60,6 +62,7 @@ impl<T: Trade> Bench<T> {
     #[tactic(auto, unfolding(ledger_model::specs::Replies::head_refusal))]
     pub fn refuse_head(&mut self, reading: Moment, head: HeadRefusal) -> Reply<'static>
         ensures limits { limits_of self.new ≡ limits_of self.old }
+        ensures used { AreUsed (windows_of self.old) → AreUsed (windows_of self.new) }
         ensures reply { result ≡ ledger.head_refusal (house_time self.new) (as_refusal head) }
         ensures went { Refines T.trade (λ s t. t ≡ raised s reading) self.old self.new }
     {

@@ -1,4 +1,4 @@
-ghost use Rattle.std.specs.Prelude.{◌≡◌, ◌+◌, ◌≤◌, ◌^◌, ℕ, Err, [], ◌∷◌, ◌++◌, MatchResult, OnOk, length, max, None, Some, Ok, IfOk, IfErr, IfSome};
+ghost use Rattle.std.specs.Prelude.{◌≡◌, ◌+◌, ◌≤◌, ◌==◌, ◌^◌, ℕ, Err, [], ◌∷◌, ◌++◌, MatchResult, OnOk, OnErr, length, max, None, Some, Ok, IfOk, IfErr, IfSome};
 ghost use Rattle.mc_records.specs.declared.limits.Limits.{Limits as Bounds};
 ghost use Rattle.mc_records.specs.Limits.{AreInRange};
 ghost use Rattle.mc_records.specs.Entry.{Fits, moment_of, payload};
@@ -13,9 +13,12 @@ ghost use Rattle.kept_replies.specs.Kept.{found};
 ghost use Rattle.ledger_model.specs.Histories.{History, time};
 ghost use Rattle.ledger_model.specs.Answer as model;
 ghost use Rattle.ledger_model.specs.Stages.{read_by};
-ghost use Rattle.house_core.specs.Bench.{Represents, HasContents, IsRoomed, KeepsReply, Takes, Accepts, KeepsContents, FaultIsOfSite, Enters, Follows, stopped_with, house_time, limits_of};
+ghost use Rattle.house_core.specs.Bench.{Represents, HasContents, IsRoomed, KeepsReply, Takes, Accepts, KeepsContents, FaultIsOfSite, Enters, Follows, stopped_with, house_time, limits_of, windows_of};
 ghost use Rattle.house_core.specs.HouseState.{size_with, HasRoom, HasRoomFor, GoesOn};
 ghost use Rattle.house_core.specs.Views.{entry_deed};
+ghost use Rattle.std.specs.Set.{distinct_count};
+ghost use Rattle.spent_windows.specs.Windows.{window_of};
+ghost use Rattle.house_core.specs.LiveWindows.{AreUsed, AreUsedBut, live_windows};
 ghost use Rattle.house_core.specs.Trade.{OfGoods, NamesInForce, BringsFor};
 ghost use Rattle.house_core.specs.declared.verdict.Verdict.TheVariants as verdicts;
 ghost use Rattle.house_core.specs.Verdicts.{judged, judged_of, repeat_of, accept_entry, IsReady};
@@ -60,6 +63,7 @@ impl<T: Trade> Bench<T> {
         ensures contents { IfOk result (λ b. HasContents T.trade b (entry site.now ∷ [])) }
         ensures time { IfOk result (λ b. house_time b ≡ moment_of (entry site.now)) }
         ensures limits { IfOk result (λ b. limits_of b ≡ limits) }
+        ensures used { IfOk result (λ b. AreUsed (windows_of b)) }
     {
         payloads_are_short();
         let bytes = site.payload_len();
@@ -87,6 +91,16 @@ impl<T: Trade> Bench<T> {
         self.state.alloc()
     }
 
+    /// How many windows of accepted identities there are: as many as have an accepted identity whose series
+    /// has not ended at the house time, where each has one. A bench that is new has none that is empty, and
+    /// its calls leave none. It takes no memory.
+    pub fn windows(&self) -> usize
+        ensures { (h : History) → Represents T.trade self.now h → AreUsed (windows_of self.now)
+            → result ≡ distinct_count (λ a b. a == b) (live_windows h (house_time self.now)) }
+    {
+        self.state.windows()
+    }
+
     /// What the house says of a request at the house time: the ledger's answer without its entry. It
     /// takes no memory.
     pub fn judge(&self, q: &Request<'_>) -> Verdict
@@ -96,7 +110,7 @@ impl<T: Trade> Bench<T> {
     {
         let q = Presented::of(*q);
         match evaluate(&self.state, self.state.limits(), &self.trade, &q) {
-            Ok(_) => Verdict::Take,
+            Ok(_authorization) => Verdict::Take,
             Err(NotAuthorized::Refused(refusal)) => Verdict::Refused(refusal),
             Err(NotAuthorized::Again(number)) => Verdict::Again(number),
         }
@@ -117,12 +131,13 @@ impl<T: Trade> Bench<T> {
     }
 
     /// Raises the house time to a reading of the clock where that is later, and answers it. Replies whose
-    /// keeping time is over are let go, and so may be contents that no kept reply brings. It takes no
-    /// memory.
+    /// keeping time is over are let go, and so are the windows of series that have ended; contents that no
+    /// kept reply brings may be. It takes no memory.
     pub fn raise(&mut self, reading: Moment) -> Moment
         ensures time { result ≡ max (house_time self.old) reading }
         ensures raised { house_time self.new ≡ max (house_time self.old) reading }
         ensures limits { limits_of self.new ≡ limits_of self.old }
+        ensures used { AreUsed (windows_of self.old) → AreUsed (windows_of self.new) }
         ensures same { (h : History) → Represents T.trade self.old h
             → Represents T.trade self.new h }
         ensures contents { (h : History) → Represents T.trade self.old h
@@ -141,6 +156,7 @@ impl<T: Trade> Bench<T> {
         ensures site { IfErr result FaultIsOfSite }
         ensures time { house_time self.new ≡ house_time self.old }
         ensures limits { limits_of self.new ≡ limits_of self.old }
+        ensures used { AreUsed (windows_of self.old) → AreUsed (windows_of self.new) }
         ensures exact { (h : History) → Represents T.trade self.old h
             → Accepts T.trade self.new h (model.answer h (house_time self.old) (limits_of self.old) (asked_of q.now)) result }
         ensures contents { (h : History) → Represents T.trade self.old h
@@ -156,6 +172,7 @@ impl<T: Trade> Bench<T> {
         ensures site { IfErr result FaultIsOfSite }
         ensures time { house_time self.new ≡ house_time self.old }
         ensures limits { limits_of self.new ≡ limits_of self.old }
+        ensures used { AreUsed (windows_of self.old) → AreUsed (windows_of self.new) }
         ensures exact { (h : History) → Represents T.trade self.old h
             → Accepts T.trade self.new h (model.answer h (house_time self.old) (limits_of self.old) q.now) result }
         ensures contents { (h : History) → Represents T.trade self.old h
@@ -182,6 +199,7 @@ impl<T: Trade> Bench<T> {
             → time h ≤ moment_of (entry r.now) }
         ensures time { house_time self.new ≡ max (house_time self.old) (moment_of (entry r.now)) }
         ensures limits { limits_of self.new ≡ limits_of self.old }
+        ensures used { AreUsed (windows_of self.old) → AreUsed (windows_of self.new) }
         ensures exact { (h : History) → Represents T.trade self.old h
             → Enters T.trade self.new (limits_of self.old) h (entry r.now) result }
         ensures contents { (h : History) → Represents T.trade self.old h
@@ -213,6 +231,7 @@ impl<T: Trade> Bench<T> {
         ensures goes_on { OnOk result (GoesOn self.new.state (entry r.now)) }
         ensures trade { OnOk result ((T.trade self.new.trade).has_room (entry r.now)) }
         ensures state { OnOk result (HasRoomFor self.new.state (entry r.now)) }
+        ensures spent { windows_of self.new ≡ windows_of self.old }
         ensures fault { (h : History) → Represents T.trade self.old h
             → IfErr result
             (λ f. Enters T.trade self.new (limits_of self.old) h (entry r.now) (Err f)) }
@@ -238,6 +257,7 @@ impl<T: Trade> Bench<T> {
         ensures goes_on { OnOk result (GoesOn self.new.state (entry r.now)) }
         ensures trade { OnOk result ((T.trade self.new.trade).has_room (entry r.now)) }
         ensures state { OnOk result (HasRoomFor self.new.state (entry r.now)) }
+        ensures spent { windows_of self.new ≡ windows_of self.old }
         ensures end { (h : History) → Represents T.trade self.old h
             → IfErr result
             (λ f. Follows T.trade self.new (limits_of self.old) h (entry r.now) (Err f)) }
@@ -269,6 +289,7 @@ impl<T: Trade> Bench<T> {
         requires state { HasRoomFor self.old.state (entry r.now) }
         ensures time { house_time self.new ≡ house_time self.old }
         ensures limits { limits_of self.new ≡ limits_of self.old }
+        ensures spent { windows_of self.new ≡ windows_of self.old }
         ensures exact { (h : History) → Represents T.trade self.old h
             → time h ≤ moment_of (entry r.now)
             → MatchResult result
@@ -306,6 +327,7 @@ impl<T: Trade> Bench<T> {
         ensures kept { IfOk result (KeepsReply self.new) }
         ensures time { house_time self.new ≡ house_time self.old }
         ensures limits { limits_of self.new ≡ limits_of self.old }
+        ensures used { AreUsed (windows_of self.old) → AreUsed (windows_of self.new) }
         ensures exact { (limits : Bounds) (h : History) → Represents T.trade self.old h
             → limits.series ≡ (limits_of self.old).series → limits.journal ≤ 2 ^ 40
             → model.answer h (house_time self.old) limits q.now ≡ model.Take (accept_entry (house_time self.old) q.now.target authorization.now)
@@ -333,16 +355,21 @@ impl<T: Trade> Bench<T> {
         authorization: &Authorization<'_, '_>,
         r: &Record<'_>,
     ) -> Result<(), NoMemory>
+        requires ready { IsReady self.old.state q.now.target authorization.now }
         ensures same { IsRoomed T.trade self.old self.new }
         ensures trade { OnOk result ((T.trade self.new.trade).has_room (entry r.now)) }
         ensures state { OnOk result (HasRoom self.new.state q.now authorization.now.scrip.now.piece.id) }
+        ensures used { OnOk result (AreUsed (windows_of self.old)
+            → AreUsedBut (window_of authorization.now.scrip.now.piece.id) (windows_of self.new)) }
+        ensures left { OnErr result (windows_of self.new ≡ windows_of self.old) }
     {
         match self.trade.reserve(r) {
             Ok(()) => (),
             Err(NoMemory) => return Err(NoMemory),
         }
+        let piece = authorization.scrip.piece();
         self.state
-            .reserve(q.request(), authorization.scrip.piece().id())
+            .reserve(q.request(), piece.id(), piece.expires())
     }
 
     /// Enters the entry of an authorization, for which there is room, and answers its number. It takes no
@@ -363,6 +390,8 @@ impl<T: Trade> Bench<T> {
         ensures kept { KeepsReply self.new result }
         ensures time { house_time self.new ≡ house_time self.old }
         ensures limits { limits_of self.new ≡ limits_of self.old }
+        ensures used { AreUsedBut (window_of authorization.now.scrip.now.piece.id) (windows_of self.old)
+            → AreUsed (windows_of self.new) }
         ensures exact { (limits : Bounds) (h : History) → Represents T.trade self.old h
             → BringsFor h q.now.target authorization.now.deed
             → limits.series ≡ (limits_of self.old).series → limits.journal ≤ 2 ^ 40

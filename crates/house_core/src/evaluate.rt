@@ -1,6 +1,6 @@
 //! The answer to a request, a stage after the other.
 
-ghost use Rattle.std.specs.Prelude.{◌≡◌, ◌+◌, ◌≤◌, ◌^◌, Some, None, Ok, IfSome, IfOk, IfErr, OnOk};
+ghost use Rattle.std.specs.Prelude.{◌≡◌, ◌+◌, ◌<◌, ◌≤◌, ◌^◌, Some, None, Ok, IfSome, IfOk, IfErr, OnOk};
 ghost use Rattle.ledger_model.specs.Stages.{genuine_by, read_by};
 ghost use Rattle.mc_records.specs.Entry.{IsKey};
 ghost use Rattle.mc_records.specs.Requests.{asked_of};
@@ -14,14 +14,14 @@ ghost use Rattle.house_core.specs.HouseState.{version_of, size_with};
 ghost use Rattle.house_core.specs.Trade.{OfGoods, NamesInForce, BringsFor};
 ghost use Rattle.house_core.specs.Representation.{StateRepresents};
 ghost use Rattle.house_core.specs.Replying.{IsOfSite};
-ghost use Rattle.house_core.specs.Verdicts.{accept_entry, evaluated, IsReady, RepeatsKept, StopIsOfSite};
+ghost use Rattle.house_core.specs.Verdicts.{accept_entry, evaluated, IsReady, RepeatsKept, StopIsOfSite, WasAsked};
 
 use crate::house_state::HouseState;
 use crate::lengths::accept_len;
 use crate::presented::Presented;
 use crate::stages::{change, fitted, genuine, spendable};
 use crate::trade::Trade;
-use crate::verdict::{Authorization, NotAuthorized};
+use crate::verdict::{Authorization, NotAuthorized, Spendable};
 use mc_records::{Limits, Refusal, Request};
 use scrip_form::ScripRef;
 
@@ -34,11 +34,13 @@ fn taken<'q, 'a, T: Trade>(
     q: &Request<'_>,
     scrip: &'q ScripRef<'a>,
     secret: &[u8; 16],
-    sign: &Option<[u8; 16]>,
+    spendable: Spendable,
 ) -> Result<Authorization<'q, 'a>, Refusal>
     requires series { limits.series ≡ state.now.limits.series }
     requires journal { limits.journal ≤ 2 ^ 40 }
-    requires sign { IfSome sign.now IsKey }
+    requires sign { IfSome spendable.sign IsKey }
+    requires live { state.now.time < scrip.now.piece.expires }
+    requires fresh { WasAsked state.now scrip.now.piece.id spendable.fresh }
     requires secret { genuine_by state.now.name (version_of state.now) state.now.terms scrip.now ≡ Ok secret.now }
     ensures scrip { IfOk result (λ a. a.scrip.now ≡ scrip.now) }
     ensures ready { IfOk result (IsReady state.now q.now.target.now) }
@@ -52,7 +54,7 @@ fn taken<'q, 'a, T: Trade>(
     ensures site { IfErr result IsOfSite }
     ensures lines { (h : History) → StateRepresents state.now h → (T.trade trade.now).represents h
         → site_kind h ≡ Some (T.trade trade.now).site
-        → as_line (accept_entry state.now.time q.now.target.now) result ≡ model.taken h state.now.time limits (asked_of q.now) scrip.now sign.now }
+        → as_line (accept_entry state.now.time q.now.target.now) result ≡ model.taken h state.now.time limits (asked_of q.now) scrip.now spendable.sign }
 {
     let value = scrip.piece().value();
     let offer = match trade.offer(state.time(), limits, q.target, value) {
@@ -63,16 +65,18 @@ fn taken<'q, 'a, T: Trade>(
         Ok(change) => change,
         Err(refusal) => return Err(refusal),
     };
-    let payload = accept_len(scrip, q.target, sign, &change, &offer.deed);
+    let Spendable { sign, fresh } = spendable;
+    let payload = accept_len(scrip, q.target, &sign, &change, &offer.deed);
     match fitted(state, limits.journal, payload) {
         Ok(()) => Ok(Authorization {
             scrip,
             secret: *secret,
-            sign: *sign,
+            sign,
             price: offer.price,
             change,
             deed: offer.deed,
             payload,
+            fresh,
         }),
         Err(refusal) => Err(refusal),
     }
@@ -106,12 +110,11 @@ fn evaluate_new<'q, 'a, T: Trade>(
         Ok(secret) => secret,
         Err(refusal) => return Err(refusal),
     };
-    let spent = state.has_spent(scrip.piece().id());
-    let sign = match spendable(state.is_clear(), spent, state.time(), &secret, q, scrip) {
-        Ok(sign) => sign,
+    let spendable = match spendable(state, &secret, q, scrip) {
+        Ok(spendable) => spendable,
         Err(refusal) => return Err(refusal),
     };
-    taken(state, limits, trade, q, scrip, &secret, &sign)
+    taken(state, limits, trade, q, scrip, &secret, spendable)
 }
 
 /// What is given for a request under some limits, or why nothing is: the number of an entry where it

@@ -225,7 +225,7 @@ impl<D: Disk, T: Trade> House<D, T> {
     {
         let House { journal, bench } = self;
         match evaluate(&bench.state, bench.state.limits(), &bench.trade, q) {
-            Ok(authorization) => House { journal, bench }.commit(q, &authorization),
+            Ok(authorization) => House { journal, bench }.commit(q, authorization),
             Err(NotAuthorized::Refused(refusal)) => {
                 Outcome::Refused(House { journal, bench }, refusal)
             }
@@ -239,39 +239,44 @@ impl<D: Disk, T: Trade> House<D, T> {
     fn commit(
         self,
         q: &Presented<'_>,
-        authorization: &Authorization<'_, '_>,
+        authorization: Authorization<'_, '_>,
     ) -> Outcome<D, T, Response>
         requires target { IsTarget q.now.target }
-        requires read { Ok authorization.now.scrip.now ≡ read_by q.now.scrip }
+        requires read { Ok authorization.scrip.now ≡ read_by q.now.scrip }
         requires new { found self.bench.state.kept self.bench.state.time q.now ≡ None }
-        requires held { OfGoods (T.trade self.bench.trade).holds authorization.now.deed }
-        requires ready { IsReady self.bench.state q.now.target authorization.now }
-        requires room { size_with self.bench.state authorization.now.payload ≤ self.bench.state.limits.journal }
+        requires held { OfGoods (T.trade self.bench.trade).holds authorization.deed }
+        requires ready { IsReady self.bench.state q.now.target authorization }
+        requires room { size_with self.bench.state authorization.payload ≤ self.bench.state.limits.journal }
         ensures back { HandsBack D.disk D.disk_moved (KeepsTime self) self.journal.disk result }
         ensures site { IfRefused IsOfSite result }
         ensures kept { IfDone (λ x r. KeepsReply x.bench (number_in r)) result }
         ensures exact { (h : History) → HouseRepresents D.disk T.trade self h
-            → NamesInForce h authorization.now.deed
-            → BringsFor h q.now.target authorization.now.deed
-            → model.answer h (house_time self.bench) (limits_of self.bench) q.now ≡ model.Take (accept_entry (house_time self.bench) q.now.target authorization.now)
-            → Responds D.disk T.trade self.journal.disk h (model.Take (accept_entry (house_time self.bench) q.now.target authorization.now)) result }
+            → NamesInForce h authorization.entry.deed
+            → BringsFor h q.now.target authorization.entry.deed
+            → model.answer h (house_time self.bench) (limits_of self.bench) q.now ≡ model.Take (accept_entry (house_time self.bench) q.now.target authorization.entry)
+            → Responds D.disk T.trade self.journal.disk h (model.Take (accept_entry (house_time self.bench) q.now.target authorization.entry)) result }
         ensures ran { (h : History) → HouseRepresents D.disk T.trade self h
             → Ran (D.disk self.journal.disk) (D.disk (outcome_disk result))
-            (Leaves (model.Take (accept_entry (house_time self.bench) q.now.target authorization.now)) result h (D.disk self.journal.disk).aside) }
+            (Leaves (model.Take (accept_entry (house_time self.bench) q.now.target authorization.entry)) result h (D.disk self.journal.disk).aside) }
     {
         let House { journal, bench } = self;
         let mut bench = bench;
         // The check lets a record go only where the types of its parts are named.
         let _pieces: Option<PieceList<'_>> = None;
-        let record = entry_of(bench.state.time(), q.request(), authorization);
-        match bench.make_room(q, authorization, &record) {
+        let record = entry_of(bench.state.time(), q.request(), &authorization);
+        match bench.make_room(q, &authorization, &record) {
             Ok(()) => (),
             Err(NoMemory) => return Outcome::NoMemory(House { journal, bench }),
         }
         match journal.append(&record) {
             Ok((journal, receipt)) => {
-                let number = bench.apply_accept(q, authorization, &record);
-                let settled = Settled { receipt, number };
+                let number = bench.apply_accept(q, &authorization, &record);
+                let Authorization { fresh, .. } = authorization;
+                let settled = Settled {
+                    receipt,
+                    number,
+                    fresh,
+                };
                 Outcome::Done(House { journal, bench }, Response::New(settled))
             }
             // It fits, so this comes only where the house represents no history.

@@ -1,4 +1,4 @@
-ghost use Rattle.std.specs.Prelude.{◌≡◌, ◌+◌, ◌-◌, ◌≤◌, ◌<◌, Some, None, option_map, filter, max, All, IfSome, IsNone, ◌↔◌, ◌^◌, [], IsTrue, IsFalse, IfOk, MatchResult, OnOk};
+ghost use Rattle.std.specs.Prelude.{◌≡◌, ◌+◌, ◌-◌, ◌≤◌, ◌<◌, ℕ, false, length, Some, None, option_map, filter, max, All, IfSome, IsNone, ◌↔◌, ◌^◌, [], IsTrue, IsFalse, IfOk, MatchResult, OnOk, OnErr};
 ghost use Rattle.scrip_form.specs.Identities.{series_of};
 ghost use Rattle.scrip_form.specs.Issuing.{epoch, series_at};
 ghost use Rattle.scrip_form.specs.Scrip.{scrip_body};
@@ -12,17 +12,19 @@ ghost use Rattle.house_core.specs.CommandEntries.{IsNoSite};
 ghost use Rattle.house_core.specs.Founding.{IsFounded};
 ghost use Rattle.mc_records.specs.Requests.{asked_of};
 ghost use Rattle.kept_replies.specs.Kept.{found, has_number, is_in_time, reply_of, with_number};
-ghost use Rattle.house_core.specs.Spent.{is_marked};
-ghost use Rattle.house_core.specs.HouseState.{IsSound, HasRoom, HasChange, HasRoomFor, GoesOn, IsEntered, IsApplied, IsAsBefore, version_of, size_with, series_now};
+ghost use Rattle.spent_windows.specs.Windows.{is_marked, window_of, AreInOrder};
+ghost use Rattle.house_core.specs.LiveWindows.{AreUsed, AreUsedBut};
+ghost use Rattle.house_core.specs.HouseState.{IsSound, HasRoom, HasChange, HasRoomFor, GoesOn, IsEntered, IsApplied, IsAsBefore, version_of, size_with, series_now, end_by, ended_by};
+ghost use Rattle.spent_windows.specs.Looks.{Tells};
 
 use crate::money::{certificate_by, certified, certified_if, redeem, secret_by};
-use crate::spent::Spent;
 use crate::verdict::Authorization;
 use change_issue::Issuer;
 use kept_replies::{Kept, KeptEntry};
 use mc_base::{Moment, NoMemory, Total};
 use mc_records::{EMPTY_JOURNAL, FRAME, Limits, PieceList, Record, Refusal, Request, SiteTerms};
 use scrip_form::{Id, Name, Piece, Terms};
+use spent_windows::{Look, Steps, Windows};
 use std::alloc::Global;
 use std::marker::Model;
 
@@ -37,7 +39,8 @@ pub struct HouseState {
     terms: Vec<Terms>,
     /// The house time, which never goes back.
     time: Moment,
-    spent: Spent,
+    /// The identities that were accepted, each of which is spent.
+    spent: Windows,
     kept: Kept,
     /// What it hands out in its own series, and redeems.
     own: Issuer,
@@ -84,7 +87,7 @@ impl HouseState {
             clear: house.clear,
             terms,
             time: moment,
-            spent: Spent::new(alloc),
+            spent: Windows::new(alloc),
             kept: Kept::new(alloc, house.keep),
             own: Issuer::new(alloc, house.terms, limits),
             takings: Total::zero(),
@@ -192,11 +195,20 @@ impl HouseState {
         secret_by(terms, cust)
     }
 
-    /// Whether an identity was accepted.
-    pub(crate) fn has_spent(&self, id: Id) -> bool
-        ensures { result ≡ is_marked self.now.spent id }
+    /// Asks whether an identity was accepted.
+    pub(crate) fn look(&self, id: Id) -> Look
+        ensures { Tells self.now.spent id result }
     {
-        self.spent.has(id)
+        self.spent.has(id, &mut Steps::start())
+    }
+
+    /// How many windows of accepted identities there are.
+    pub(crate) fn windows(&self) -> usize
+        ensures count { result ≡ length self.now.spent }
+        ensures order { AreInOrder self.now.spent }
+        ensures sound { IsSound self.now }
+    {
+        self.spent.count()
     }
 
     /// The number of the entry of the same request, within the keeping time.
@@ -227,30 +239,40 @@ impl HouseState {
     }
 
     /// Raises the house time to a reading where that is later, and answers it. Replies whose keeping time
-    /// is over are let go.
+    /// is over are let go, and so are the windows of series that have ended.
     pub(crate) fn raise(&mut self, reading: Moment) -> Moment
         ensures time { result ≡ max self.old.time reading }
-        ensures rest { self.new ≡ record self.old { time = max self.old.time reading; kept = self.new.kept } }
+        ensures rest { self.new ≡ record self.old { time = max self.old.time reading; spent = self.new.spent; kept = self.new.kept } }
+        ensures spent { (id : ℕ) → ended_by self.old.terms (max self.old.time reading) id ≡ false
+            → is_marked self.new.spent id ≡ is_marked self.old.spent id }
+        ensures used { AreUsed self.old.spent → AreUsed self.new.spent }
         ensures keep { self.new.kept.keep ≡ self.old.kept.keep }
         ensures replies { self.new.kept.replies ≡ filter (is_in_time self.old.kept.keep (max self.old.time reading)) self.old.kept.replies }
     {
         let time = later(self.time, reading);
         self.time = time;
+        self.spent.forget(time);
         self.kept.forget(time);
         time
     }
 
-    /// Makes room to enter a request with a piece of this identity at the house time. All that is kept
-    /// stays as it is, after an `Err` too.
-    pub(crate) fn reserve(&mut self, q: &Request<'_>, id: Id) -> Result<(), NoMemory>
+    /// Makes room to enter a request at the house time with a piece of this identity, whose series ends
+    /// then. All that is kept stays as it is, after an `Err` too.
+    pub(crate) fn reserve(&mut self, q: &Request<'_>, id: Id, end: u64) -> Result<(), NoMemory>
+        requires its { end_by self.old.terms id ≡ Some end }
+        requires live { self.old.time < end }
         ensures same { IsAsBefore self.old self.new }
         ensures room { OnOk result (HasRoom self.new (asked_of q.now) id) }
+        ensures used { OnOk result (AreUsed self.old.spent → AreUsedBut (window_of id) self.new.spent) }
+        ensures left { OnErr result (self.new.spent ≡ self.old.spent) }
     {
         let series = self.series_now();
-        self.spent.reserve()?;
         self.kept.reserve(q)?;
         self.own.reserve(id.series())?;
-        self.own.reserve(series)
+        self.own.reserve(series)?;
+        // The last, so that want of memory leaves no window without a mark.
+        self.spent.reserve(id, end)?;
+        Ok(())
     }
 
     /// Whether the pieces that an entry mints go on with the serials of the series of its moment and fit the
@@ -302,6 +324,7 @@ impl HouseState {
     pub(crate) fn reserve_for(&mut self, r: &Record<'_>) -> Result<(), NoMemory>
         ensures same { IsAsBefore self.old self.new }
         ensures room { OnOk result (HasRoomFor self.new (entry r.now)) }
+        ensures spent { self.new.spent ≡ self.old.spent }
     {
         match r {
             Record::Terms { .. } => {

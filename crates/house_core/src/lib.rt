@@ -2,9 +2,9 @@
 //! trade that it carries, whether it sells goods or scrip, and the house itself: what it keeps beside
 //! its trade, what it says of a request, and how it takes an entry, in memory or over a journal.
 //!
-//! `Bench::new` and `Bench::replay` take memory, and so do the calls `accept`, `answer` and `enter` of a
-//! bench or of a house, `Reply::append_to`, and `reserve` of the spent identities and of a trade. No other
-//! call of this crate does.
+//! `Bench::new` and `Bench::replay` take memory, and so do the calls `accept`, `respond`, `answer` and
+//! `enter` of a bench or of a house, `Reply::append_to`, and `reserve` of a trade. No other call of this
+//! crate does.
 #![tactic(auto)]
 
 mod answering;
@@ -26,7 +26,6 @@ mod reply;
 mod sending;
 mod settled;
 mod signing;
-mod spent;
 mod stages;
 mod trade;
 mod verdict;
@@ -43,6 +42,5 @@ pub use replaying::ReplayEnd;
 pub use reply::Reply;
 pub use sending::{send_again, send_disk_fault, send_refusal, send_settled};
 pub use settled::{Settled, drop_settled};
-pub use spent::Spent;
 pub use trade::Trade;
 pub use verdict::{BenchFault, EnterFault, Verdict};

@@ -11,13 +11,17 @@ ghost use Rattle.ledger_model.specs.Stages.{genuine_by, spendable_by, next_by, n
 ghost use Rattle.ledger_model.specs.Lines.{as_line};
 ghost use Rattle.house_core.specs.HouseState.{version_of, tail_of, size_with};
 ghost use Rattle.house_core.specs.Replying.{IsOfSite};
+ghost use Rattle.house_core.specs.Verdicts.{WasAsked};
+ghost use Rattle.spent_windows.specs.Windows.{is_marked};
 
 use crate::house_state::HouseState;
+use crate::verdict::Spendable;
 use change_issue::Issuer;
 use mc_base::Moment;
 use mc_records::{Refusal, Request};
 use scrip_certs::{hex_of, sign_request};
 use scrip_form::{Id, ScripRef, Terms};
+use spent_windows::Look;
 
 /// The terms of an issuer; None exactly where there are none.
 pub(crate) fn terms_of(terms: &[Terms], issuer: u8) -> Option<&Terms>
@@ -56,38 +60,43 @@ pub(crate) fn genuine(state: &HouseState, scrip: &ScripRef<'_>) -> Result<[u8; 1
     Ok(state.secret_of(customers, piece.cust()))
 }
 
-/// The signature of a request whose piece may be spent by it, where it has one; refused where the piece
-/// is expired or was accepted, or the signature is missing where there must be one, or not right.
+/// What a request brings whose piece may be spent by it; refused where the piece is expired or was
+/// accepted, or the signature is missing where there must be one, or not right.
 pub(crate) fn spendable(
-    clear: bool,
-    spent: bool,
-    time: Moment,
+    state: &HouseState,
     secret: &[u8; 16],
     q: &Request<'_>,
     scrip: &ScripRef<'_>,
-) -> Result<Option<[u8; 16]>, Refusal>
+) -> Result<Spendable, Refusal>
     ensures lines { as_line
-        (λ s. s) result ≡ spendable_by clear spent time secret.now q.now.target.now (seen q.now.sign) scrip.now }
-    ensures sign { IfOk result (λ s. IfSome s IsKey) }
+        (λ s. s.sign) result ≡ spendable_by state.now.clear (is_marked state.now.spent scrip.now.piece.id) state.now.time secret.now q.now.target.now (seen q.now.sign) scrip.now }
+    ensures sign { IfOk result (λ s. IfSome s.sign IsKey) }
+    ensures live { OnOk result (state.now.time < scrip.now.piece.expires) }
+    ensures fresh { IfOk result (λ s. WasAsked state.now scrip.now.piece.id s.fresh) }
     ensures site { IfErr result IsOfSite }
 {
     let piece = scrip.piece();
-    if piece.expires() <= time.seconds() {
-        return Err(Refusal::Expired(piece.expires(), time.seconds()));
+    let time = state.time().seconds();
+    if piece.expires() <= time {
+        return Err(Refusal::Expired(piece.expires(), time));
     }
-    if spent {
-        return Err(Refusal::Spent);
-    }
+    let fresh = match state.look(piece.id()) {
+        Look::New(fresh) => fresh,
+        Look::Marked => return Err(Refusal::Spent),
+    };
     let Some(sign) = q.sign else {
-        return if clear {
-            Ok(None)
+        return if state.is_clear() {
+            Ok(Spendable { sign: None, fresh })
         } else {
             Err(Refusal::NeedSignature)
         };
     };
     let right = sign_request(scrip.text(), q.target, secret);
     if sign == hex_of(&right).as_slice() {
-        Ok(Some(right))
+        Ok(Spendable {
+            sign: Some(right),
+            fresh,
+        })
     } else {
         Err(Refusal::BadSignature)
     }

@@ -1,6 +1,7 @@
 use kept_replies::Deed;
 use mc_records::Refusal;
 use scrip_form::{Id, ScripRef};
+use spent_windows::Fresh;
 
 /// What a house says of a request, before it enters anything.
 #[derive(Drop)]
@@ -39,8 +40,17 @@ pub(crate) enum NotAuthorized {
     Again(u64),
 }
 
+/// What a request brings whose piece may be spent by it: the signature, where it has one, and the proof
+/// that the windows were asked for the piece's identity.
+#[derive(Drop)]
+pub(crate) struct Spendable {
+    pub(crate) sign: Option<[u8; 16]>,
+    pub(crate) fresh: Fresh,
+}
+
 /// What an entry for a piece says beside the moment and the target, with the secret of the piece's
-/// customer and the length of the payload.
+/// customer, the length of the payload, and the proof that the windows were asked for the piece's
+/// identity.
 #[derive(Drop)]
 pub(crate) struct Authorization<'q, 'a> {
     pub(crate) scrip: &'q ScripRef<'a>,
@@ -50,4 +60,5 @@ pub(crate) struct Authorization<'q, 'a> {
     pub(crate) change: Option<Id>,
     pub(crate) deed: Deed,
     pub(crate) payload: u64,
+    pub(crate) fresh: Fresh,
 }

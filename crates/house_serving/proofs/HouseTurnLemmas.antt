@@ -90,7 +90,7 @@ said_readings reply said v w (inr fault) = ap (λ (u : LinkView). u.readings) fa
 done_is : {D T : Type 0} (view : D → DiskView) (trade : T → TradeView) (d : D) (h : History) (a : Answer) (x : House D T) (s : Settled) (u v : DiskView) (aside : List ℕ)
     → Responds view trade d h a (outcomes.Done x (New s)) → Ran u v (Leaves {D = D} {T = T} {A = Response} a (outcomes.Done x (New s)) h aside)
     → (e : Entry) × (a ≡ answers.Take e) × HasEntered view trade x h e s.number × Ran u v (EitherNoOutput h e aside)
-done_is view trade d h (answers.Take e) x s u v aside responds ran = (e, refl, responds, ran)
+done_is view trade d h (answers.Take e) x s u v aside responds ran = (e, refl, responds.0, ran)
 done_is view trade d h (answers.Refused f) x s u v aside responds ran = absurd responds
 done_is view trade d h (answers.Again n) x s u v aside responds ran = absurd responds
 

@@ -6,7 +6,8 @@ ghost use Rattle.millicent_http.specs.HeadRefusals.{as_refusal};
 ghost use Rattle.millicent_http.specs.Items.{request, refused};
 ghost use Rattle.millicent_http.specs.Courses.{AreRead, with_readings};
 ghost use Rattle.millicent_http.specs.Steps.{Did, BySteps};
-ghost use Rattle.house_core.specs.Bench.{Refines, limits_of};
+ghost use Rattle.house_core.specs.Bench.{Refines, limits_of, windows_of};
+ghost use Rattle.house_core.specs.LiveWindows.{AreUsed};
 ghost use Rattle.house_serving.specs.declared.turn.Turn.TheVariants.{GoOn};
 ghost use Rattle.house_core.specs.Session.{State, Step};
 ghost use Rattle.house_serving.specs.Turns.{Sent, AnsweredItem, Turned, turn_after};
@@ -39,6 +40,7 @@ pub(crate) fn serve_next<K: Link, T: Trade>(
     requires stands { IsTrue (K.link k.old).stands }
     ensures moved { K.link_moved k.old k.new }
     ensures limits { limits_of bench.new ≡ limits_of bench.old }
+    ensures used { AreUsed (windows_of bench.old) → AreUsed (windows_of bench.new) }
     ensures turned { Refines T.trade (BySteps (λ steps s. Turned (Step (limits_of bench.old)) clock.now result steps s reader.old (K.link k.old) reader.new (K.link k.new))) bench.old bench.new }
 {
     match reader.take(k) {
@@ -60,6 +62,7 @@ fn serve_request<K: Link, T: Trade>(
     requires stands { IsTrue (K.link k.old).stands }
     ensures moved { K.link_moved k.old k.new }
     ensures limits { limits_of bench.new ≡ limits_of bench.old }
+    ensures used { AreUsed (windows_of bench.old) → AreUsed (windows_of bench.new) }
     ensures answered { Refines T.trade (λ s t. (step : Did State) × (t ≡ step.after)
         × ((closes : Bool)
         → AnsweredItem (Step (limits_of bench.old)) clock.now (request q.now closes) after result step s (K.link k.old) (K.link k.new))) bench.old bench.new }
@@ -81,6 +84,7 @@ fn serve_refused<K: Link, T: Trade>(
     requires stands { IsTrue (K.link k.old).stands }
     ensures moved { K.link_moved k.old k.new }
     ensures limits { limits_of bench.new ≡ limits_of bench.old }
+    ensures used { AreUsed (windows_of bench.old) → AreUsed (windows_of bench.new) }
     ensures answered { Refines T.trade (λ s t. (step : Did State) × (t ≡ step.after)
         × ((closes : Bool)
         → AnsweredItem (Step (limits_of bench.old)) clock.now (refused (as_refusal head) closes) after result step s (K.link k.old) (K.link k.new))) bench.old bench.new }

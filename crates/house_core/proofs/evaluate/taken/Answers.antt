@@ -18,7 +18,7 @@ returns-in-Err-change-clause-lines g c h st trade kind =
     (c.in-Ok.ensures.offer h trade kind) in
     let full : Err (Refuse c.in-Err-change.refusal) ≡ change_in c.args.state.now c.in-Ok.offer.price c.args.scrip.now.piece.value =
     rw (← c.own.ensures, ← c.time-2.ensures, ← got) c.in-Err-change.ensures.lines in
-    no_change st c.args.limits c.requires.series (asked_of c.args.q.now) c.args.scrip.now c.args.sign.now (offer_of c.in-Ok.offer) (Refuse c.in-Err-change.refusal) offered full
+    no_change st c.args.limits c.requires.series (asked_of c.args.q.now) c.args.scrip.now c.args.spendable.sign (offer_of c.in-Ok.offer) (Refuse c.in-Err-change.refusal) offered full
 
 pub returns-in-Ok-fitted-clause-ready : goal.returns-in-Ok-fitted-clause-ready
 returns-in-Ok-fitted-clause-ready g c =
@@ -26,6 +26,8 @@ returns-in-Ok-fitted-clause-ready g c =
     let got : c.get.result ≡ c.args.scrip.now.piece.value = c.get.ensures.units ∙ value in
     record {
       secret = c.requires.secret;
+      live = c.requires.live;
+      fresh = c.requires.fresh;
       change = rw (← c.own.ensures, ← c.time-2.ensures, ← got) c.in-Ok-change.ensures.next;
       payload = c.accept_len-payload.ensures c.args.state.now.time c.in-Ok.offer.price;
       fits = omega (arith, c.in-Ok-fitted.ensures.room, c.requires.journal);
@@ -35,7 +37,7 @@ pub returns-in-Ok-fitted-clause-lines : goal.returns-in-Ok-fitted-clause-lines
 returns-in-Ok-fitted-clause-lines g c h st trade kind =
     let value : c.value-value.result ≡ c.args.scrip.now.piece.value = rw (c.value-value.ensures.value, c.piece.ensures) refl in
     let got : c.get.result ≡ c.args.scrip.now.piece.value = c.get.ensures.units ∙ value in
-    let e = Accept c.args.state.now.time c.args.scrip.now.text c.args.q.now.target.now c.args.sign.now c.in-Ok.offer.price c.in-Ok-change.change (entry_deed c.in-Ok.offer.deed) in
+    let e = Accept c.args.state.now.time c.args.scrip.now.text c.args.q.now.target.now c.args.spendable.sign c.in-Ok.offer.price c.in-Ok-change.change (entry_deed c.in-Ok.offer.deed) in
     let offered : Ok (offer_of c.in-Ok.offer) ≡ offer h c.args.state.now.time c.args.limits c.args.q.now.target.now c.args.scrip.now.piece.value =
     offered_at h c.args.state.now.time c.time.result c.args.limits c.args.limits c.args.q.now.target.now c.args.scrip.now.piece.value c.value-value.result (offer_of c.in-Ok.offer) c.time.ensures refl value
     (c.in-Ok.ensures.offer h trade kind) in
@@ -43,13 +45,13 @@ returns-in-Ok-fitted-clause-lines g c h st trade kind =
     rw (← c.own.ensures, ← c.time-2.ensures, ← got) c.in-Ok-change.ensures.lines in
     let is : Ok e ≡ fitted_by c.args.limits.journal c.args.state.now.size (tail_of c.args.state.now) e =
     c.in-Ok-fitted.ensures.lines e (c.accept_len-payload.ensures c.args.state.now.time c.in-Ok.offer.price) in
-    fits st c.args.limits c.requires.series (asked_of c.args.q.now) c.args.scrip.now c.args.sign.now (offer_of c.in-Ok.offer) c.in-Ok-change.change (Ok e) offered changed is
+    fits st c.args.limits c.requires.series (asked_of c.args.q.now) c.args.scrip.now c.args.spendable.sign (offer_of c.in-Ok.offer) c.in-Ok-change.change (Ok e) offered changed is
 
 pub returns-in-Err-fitted-clause-lines : goal.returns-in-Err-fitted-clause-lines
 returns-in-Err-fitted-clause-lines g c h st trade kind =
     let value : c.value-value.result ≡ c.args.scrip.now.piece.value = rw (c.value-value.ensures.value, c.piece.ensures) refl in
     let got : c.get.result ≡ c.args.scrip.now.piece.value = c.get.ensures.units ∙ value in
-    let e = Accept c.args.state.now.time c.args.scrip.now.text c.args.q.now.target.now c.args.sign.now c.in-Ok.offer.price c.in-Ok-change.change (entry_deed c.in-Ok.offer.deed) in
+    let e = Accept c.args.state.now.time c.args.scrip.now.text c.args.q.now.target.now c.args.spendable.sign c.in-Ok.offer.price c.in-Ok-change.change (entry_deed c.in-Ok.offer.deed) in
     let offered : Ok (offer_of c.in-Ok.offer) ≡ offer h c.args.state.now.time c.args.limits c.args.q.now.target.now c.args.scrip.now.piece.value =
     offered_at h c.args.state.now.time c.time.result c.args.limits c.args.limits c.args.q.now.target.now c.args.scrip.now.piece.value c.value-value.result (offer_of c.in-Ok.offer) c.time.ensures refl value
     (c.in-Ok.ensures.offer h trade kind) in
@@ -57,4 +59,4 @@ returns-in-Err-fitted-clause-lines g c h st trade kind =
     rw (← c.own.ensures, ← c.time-2.ensures, ← got) c.in-Ok-change.ensures.lines in
     let full : Err (Refuse c.in-Err-fitted.refusal) ≡ fitted_by c.args.limits.journal c.args.state.now.size (tail_of c.args.state.now) e =
     c.in-Err-fitted.ensures.lines e (c.accept_len-payload.ensures c.args.state.now.time c.in-Ok.offer.price) in
-    fits st c.args.limits c.requires.series (asked_of c.args.q.now) c.args.scrip.now c.args.sign.now (offer_of c.in-Ok.offer) c.in-Ok-change.change (Err (Refuse c.in-Err-fitted.refusal)) offered changed full
+    fits st c.args.limits c.requires.series (asked_of c.args.q.now) c.args.scrip.now c.args.spendable.sign (offer_of c.in-Ok.offer) c.in-Ok-change.change (Err (Refuse c.in-Err-fitted.refusal)) offered changed full

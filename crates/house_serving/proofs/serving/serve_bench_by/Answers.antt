@@ -8,6 +8,7 @@ links-init g c = record {
   few = omega arith;
   moved = g.met.K.Link.link_stays c.args.k.now;
   limits = refl;
+  used = λ used. used;
   linked = linked_none g.T.Trade.trade (limits_of c.args.bench.now) c.args.clock.now c.args.bench.now (g.K.Link.link c.args.k.now);
 }
 
@@ -18,6 +19,7 @@ links-preserved g c =
       few = omega (arith, c.links-test.true);
       moved = g.met.K.Link.link_goes_on c.args.k.now c.next_link.new.self c.serve_standing.new.k (g.met.K.Link.link_goes_on c.args.k.now c.links.k c.next_link.new.self c.links.invariant.moved c.next_link.ensures.moved) c.serve_standing.ensures.moved;
       limits = c.serve_standing.ensures.limits ∙ c.links.invariant.limits;
+      used = λ used. c.serve_standing.ensures.used (c.links.invariant.used used);
       linked = linked_more g.T.Trade.trade (limits_of c.args.bench.now) (limits_of c.links.bench) c.args.clock.now c.links.served (c.links.served + 1) c.args.bench.now c.links.bench c.serve_standing.new.bench
           (g.K.Link.link c.args.k.now) (g.K.Link.link c.links.k) (g.K.Link.link c.next_link.new.self) (g.K.Link.link c.serve_standing.new.k) c.links.invariant.limits (omega arith) taken c.links.invariant.linked c.serve_standing.ensures.course;
     }

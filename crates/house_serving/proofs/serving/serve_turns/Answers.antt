@@ -7,6 +7,7 @@ pub turns-init : goal.turns-init
 turns-init g c = record {
   moved = g.met.K.Link.link_stays c.args.k.now;
   limits = refl;
+  used = λ used. used;
   serving = turns_start g.T.Trade.trade (limits_of c.args.bench.now) c.args.clock.now c.args.bench.now c.args.reader.now (g.K.Link.link c.args.k.now) c.requires.empty;
 }
 
@@ -14,6 +15,7 @@ pub turns-preserved : goal.turns-preserved
 turns-preserved g c = record {
   moved = g.met.K.Link.link_goes_on c.args.k.now c.turns.k c.serve_next.new.k c.turns.invariant.moved c.serve_next.ensures.moved;
   limits = c.serve_next.ensures.limits ∙ c.turns.invariant.limits;
+  used = λ used. c.serve_next.ensures.used (c.turns.invariant.used used);
   serving = turns_go_on g.T.Trade.trade (limits_of c.args.bench.now) (limits_of c.turns.bench) c.args.clock.now c.args.bench.now c.turns.bench c.serve_next.new.bench
       (g.K.Link.link c.args.k.now) c.turns.reader c.serve_next.new.reader (g.K.Link.link c.turns.k) (g.K.Link.link c.serve_next.new.k) c.turns.invariant.limits c.turns.invariant.serving c.in-GoOn.ensures.turned;
 }
@@ -34,6 +36,7 @@ pub returns-in_default : goal.returns-in_default
 returns-in_default g c = record {
   moved = g.met.K.Link.link_goes_on c.args.k.now c.turns.k c.serve_next.new.k c.turns.invariant.moved c.serve_next.ensures.moved;
   limits = c.serve_next.ensures.limits ∙ c.turns.invariant.limits;
+  used = λ used. c.serve_next.ensures.used (c.turns.invariant.used used);
   ended = turns_end g.T.Trade.trade (limits_of c.args.bench.now) (limits_of c.turns.bench) c.args.clock.now c.serve_next.result c.args.bench.now c.turns.bench c.serve_next.new.bench
       (g.K.Link.link c.args.k.now) c.turns.reader c.serve_next.new.reader (g.K.Link.link c.turns.k) (g.K.Link.link c.serve_next.new.k) c.turns.invariant.limits c.in_default.not-GoOn c.turns.invariant.serving c.serve_next.ensures.turned;
 }

@@ -1,5 +1,6 @@
 use Rattle.std.proofs.Common.{◌-◌, ◌≡◌}
-use Rattle.house_core.specs.Bench.{limits_of}
+use Rattle.house_core.specs.Bench.{limits_of, windows_of}
+use Rattle.house_core.specs.LiveWindows.{AreUsed}
 use Rattle.house_serving.proofs.TurnsLemmas.{Serving}
 use Rattle.house_serving.proofs.serving.serve_turns.Given as goal
 
@@ -7,6 +8,7 @@ abbrev pub invariant-turns : goal.invariant-turns
 invariant-turns g l = record {
   moved : g.K.Link.link_moved l.fn.k l.k;
   limits : limits_of l.bench ≡ limits_of l.fn.bench;
+  used : AreUsed (windows_of l.fn.bench) → AreUsed (windows_of l.bench);
   serving : Serving g.T.Trade.trade (limits_of l.fn.bench) l.fn.clock l.fn.bench (g.K.Link.link l.fn.k) l.bench l.reader (g.K.Link.link l.k);
 }
 

@@ -10,6 +10,7 @@ use Rattle.house_core.specs.HouseState.{IsEntered, kept_entry}
 use Rattle.house_core.specs.Verdicts.{accept_entry}
 use Rattle.house_core.proofs.Accepting.{may_learn, stands_taken, as_it_was, on_is_ok}
 use Rattle.house_core.proofs.Contents.{contents_taken}
+use Rattle.house_core.proofs.WindowCounts.{used_marked}
 use Rattle.house_core.proofs.Entered.{kind_stays}
 use Rattle.house_core.proofs.bench.Bench.apply_accept.Goals as goal
 
@@ -40,3 +41,9 @@ returns-clause-contents g c h st has in_force =
     let r : KeptReply = record { asked = asked_of c.request.result.now; entry = kept_entry b c.piece.result a } in
     contents_taken g.T.Trade.trade c.args.self.now after h (accept_entry b.time c.args.q.now.target a) r has (λ target. refl)
     c.enter.ensures.replies c.learn-learned.ensures.held c.requires.held in_force
+
+pub returns-clause-used : goal.returns-clause-used
+returns-clause-used g c used =
+    let a = c.args.authorization.now in
+    let entered = subst (λ (p : Scrip). IsEntered c.args.self.now.state c.enter.new.self (asked_of c.request.result.now) p a) c.piece.ensures c.enter.ensures in
+    used_marked a.scrip.now.piece.id c.args.self.now.state.spent c.enter.new.self.spent entered.spent entered.ends used

@@ -1,6 +1,7 @@
-use Rattle.house_core.proofs.Founded.{founds_fit, none_kept, stands_founded, learns_site, founds_by_trade}
+use Rattle.house_core.proofs.Founded.{founds_fit, none_kept, none_spent, stands_founded, learns_site, founds_by_trade}
 use Rattle.house_core.specs.declared.bench.Bench.{Bench}
 use Rattle.house_core.proofs.Contents.{contents_of_none}
+use Rattle.house_core.proofs.WindowCounts.{none_used}
 use Rattle.std.proofs.Common.{◌≡◌, [], ◌∷◌, Some}
 use Rattle.mc_records.specs.Views.{entry}
 use Rattle.ledger_model.specs.Houses.{site_kind}
@@ -20,6 +21,10 @@ pub returns-clause-contents : goal.returns-clause-contents
 returns-clause-contents g c =
     let made : Bench g.row.T.Denot = record { state = c.in_ok-state.state; trade = c.learn.new.self } in
     contents_of_none g.T.Trade.trade made (entry c.args.site.now ∷ []) (none_kept c.in_ok-state.state c.args.limits (entry c.args.site.now) c.in_ok-state.ensures)
+
+pub returns-clause-used : goal.returns-clause-used
+returns-clause-used g c =
+    none_used c.in_ok-state.state.spent (none_spent c.in_ok-state.state c.args.limits (entry c.args.site.now) c.in_ok-state.ensures)
 
 pub learn-requires-clause-fits : goal.learn-requires-clause-fits
 learn-requires-clause-fits g c = founds_fit (entry c.args.site.now) c.requires.site

@@ -10,7 +10,7 @@ returns-clause-same g c h st =
     let later : c.args.self.now.state.time ≤ max c.args.self.now.state.time c.args.reading = omega arith in
     record {
       state = subst (λ (b : HouseStateView). StateRepresents b h) (sym c.raise-time.ensures.rest)
-          (stands_later st.state (max c.args.self.now.state.time c.args.reading) c.raise-time.new.self.kept later c.raise-time.ensures.keep c.raise-time.ensures.replies);
+          (stands_later st.state (max c.args.self.now.state.time c.args.reading) c.raise-time.new.self.spent c.raise-time.new.self.kept later c.raise-time.ensures.spent c.raise-time.ensures.keep c.raise-time.ensures.replies);
       learned = c.forget.ensures.same h st.learned;
       of_kind = rw c.forget.ensures.site st.of_kind;
     }

@@ -34,8 +34,8 @@ returns-in-Ok-commit-clause-contents g c h st has =
     let is = c.in-Ok.ensures.exact h st.state st.learned st.of_kind ∙ ap (λ (l : Limits). answer h (house_time c.args.self.now) l c.args.q.now) c.limits.ensures.limits in
     subst (λ (a : Answer). KeepsContents g.T.Trade.trade c.commit.new.self h a (Ok c.in-Ok-commit.number)) is (c.in-Ok-commit.ensures.contents h st has (c.in-Ok.ensures.in_force h st.learned st.of_kind))
 
-pub returns-in-Err-commit-clause-exact : goal.returns-in-Err-commit-clause-exact
-returns-in-Err-commit-clause-exact g c h st =
+pub returns-clause-exact : goal.returns-clause-exact
+returns-clause-exact g c h st =
     let is = c.in-Ok.ensures.exact h st.state st.learned st.of_kind ∙ ap (λ (l : Limits). answer h (house_time c.args.self.now) l c.args.q.now) c.limits.ensures.limits in
     subst (λ (a : Answer). Accepts g.T.Trade.trade c.commit.new.self h a (Err faults.NoMemory)) is
     (c.in-Err-commit.ensures.exact c.args.self.now.state.limits h st refl c.limits.ensures.sound.limits.journal_most (sym is))

@@ -22,7 +22,7 @@ invariant_of-self c =
     let fits = subst (λ (b : HouseStateView). size_with b c.args.a.now.payload ≤ 2 ^ 40) (sym c.self.view_is) c.requires.fits in
     sound_entered _ _ (asked_of c.args.q.now) c.args.paid.now c.args.a.now c.self.invariant c.id.ensures.piece fits
     (entered _ c.mark.new.self c.keep.new.self c.redeem-piece.new.own c.redeem-piece.new.takings _ (asked_of c.args.q.now) c.args.paid.now c.args.a.now c.redeem-piece.result c.certified_if-change.result c.self.invariant short
-    (rw c.id.ensures.id at c.mark.ensures) c.keep.ensures.keep c.keep.ensures.replies c.redeem-piece.ensures.piece (rw (c.terms.ensures, c.redeem-piece.ensures.terms) at c.certified_if-change.ensures c.self.inside.name) c.redeem-piece.ensures.terms c.redeem-piece.ensures.most
+    (rw c.id.ensures.id at c.mark.ensures.marked) c.mark.ensures.ends c.keep.ensures.keep c.keep.ensures.replies c.redeem-piece.ensures.piece (rw (c.terms.ensures, c.redeem-piece.ensures.terms) at c.certified_if-change.ensures c.self.inside.name) c.redeem-piece.ensures.terms c.redeem-piece.ensures.most
     c.redeem-piece.ensures.count c.redeem-piece.ensures.worth c.redeem-piece.ensures.redeemed c.redeem-piece.ensures.takings size)
 
 pub returns : goal.returns
@@ -46,5 +46,5 @@ returns c =
     let new : HouseStateView = record old { spent = c.mark.new.self; kept = c.keep.new.self; own = c.redeem-piece.new.own; takings = c.redeem-piece.new.takings; count = c.self.inside.count + 1; size = c.size_with-size.result } in
     subst (λ (b : HouseStateView). IsEntered b new (asked_of c.args.q.now) c.args.paid.now c.args.a.now) c.self.view_is
     (entered old c.mark.new.self c.keep.new.self c.redeem-piece.new.own c.redeem-piece.new.takings _ (asked_of c.args.q.now) c.args.paid.now c.args.a.now c.redeem-piece.result c.certified_if-change.result c.self.invariant short
-    (rw c.id.ensures.id at c.mark.ensures) c.keep.ensures.keep c.keep.ensures.replies c.redeem-piece.ensures.piece (rw (c.terms.ensures, c.redeem-piece.ensures.terms) at c.certified_if-change.ensures c.self.inside.name) c.redeem-piece.ensures.terms c.redeem-piece.ensures.most
+    (rw c.id.ensures.id at c.mark.ensures.marked) c.mark.ensures.ends c.keep.ensures.keep c.keep.ensures.replies c.redeem-piece.ensures.piece (rw (c.terms.ensures, c.redeem-piece.ensures.terms) at c.certified_if-change.ensures c.self.inside.name) c.redeem-piece.ensures.terms c.redeem-piece.ensures.most
     c.redeem-piece.ensures.count c.redeem-piece.ensures.worth c.redeem-piece.ensures.redeemed c.redeem-piece.ensures.takings size)

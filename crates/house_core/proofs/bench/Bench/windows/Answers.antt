@@ -1,0 +1,6 @@
+use Rattle.std.proofs.Common.{◌∙◌}
+use Rattle.house_core.proofs.WindowCounts.{windows_counted}
+use Rattle.house_core.proofs.bench.Bench.windows.Goals as goal
+
+pub returns : goal.returns
+returns g c h st used = c.windows.ensures.count ∙ windows_counted st.state c.windows.ensures.sound c.windows.ensures.order used
