@@ -368,8 +368,7 @@ impl<T: Trade> Bench<T> {
             Err(NoMemory) => return Err(NoMemory),
         }
         let piece = authorization.scrip.piece();
-        self.state
-            .reserve(q.request(), piece.id(), piece.expires())
+        self.state.reserve(q.request(), piece.id(), piece.expires())
     }
 
     /// Enters the entry of an authorization, for which there is room, and answers its number. It takes no

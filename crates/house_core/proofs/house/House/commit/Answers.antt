@@ -40,8 +40,7 @@ returns-in-Ok-append-clause-exact g c h st in_force brings takes =
     let after : House g.row.D.Denot g.row.T.Denot = record { journal = c.in-Ok-append.journal; bench = c.apply_accept-number.new.self } in
     let entered = (rw time at (c.apply_accept-number.ensures.exact (limits_of c.args.self.bench) h st' brings (ap (λ (l : Limits). l.series) (sym limits)) st.house.represents.state.limits.journal_most)) takes in
     let contents = rw time at (c.apply_accept-number.ensures.contents h st' (contents_roomed g.T.Trade.trade _ _ h same st.house.contents) in_force) in
-    let wrote = c.in-Ok-append.ensures in
-    (
+    let wrote = c.in-Ok-append.ensures in (
       has_entered g.D.Disk.disk g.T.Trade.trade c.args.self after h (accept_entry (house_time c.args.self.bench) c.args.q.now.target a) (entry c.entry_of-record.result)
           c.apply_accept-number.result is st (wrote.written h st.journal).0 wrote.limit (c.apply_accept-number.ensures.limits ∙ limits) entered.0 entered.1 contents,
       asked_for st.house.represents.state c.args.q.now a c.requires.read c.requires.ready.fresh (c.apply_accept-number.ensures.time ∙ time),
