@@ -49,65 +49,67 @@ def terms(issuer, words):
     return Terms(issuer, period, life, secrets(words[2]), secrets(words[3]))
 
 
-def options(words, *names):
-    """The values of options, each at most once and in this order; of `--clear` whether it stands."""
-    values = []
-    for name in names:
-        if words[:1] != [name]:
-            values.append(None)
-        elif name == b"--clear":
-            values.append(True)
-            words = words[1:]
+def is_option(word):
+    return word.startswith(b"-") and word != b"-"
+
+
+def told_apart(words, valued, flags):
+    """The words that are no options, and the options by their names: of one of `valued` its value, of one of `flags` True."""
+    others, options, words = [], {}, list(words)
+    while words:
+        word = words.pop(0)
+        if word == b"--":
+            return others + words, options
+        if not is_option(word):
+            others.append(word)
+            continue
+        name, attached, value = word.partition(b"=")
+        want(name not in options)
+        if name in flags:
+            want(not attached)
+            value = True
         else:
-            want(len(words) > 1)
-            values.append(words[1])
-            words = words[2:]
-    want(not words)
-    return values
+            want(name in valued)
+            if not attached:
+                want(bool(words) and not is_option(words[0]))
+                value = words.pop(0)
+        options[name] = value
+    return others, options
 
 
 def parse_once(words):
-    want(len(words) == 5)
     want(len(words[4]) <= MOST_CONTENTS)
     return SimpleNamespace(
         name=text(is_name, words[0]), target=text(is_target, words[1]), price=number(words[2], 1, MOST_VALUE),
         secret=want(digest_of(words[3])), contents=words[4])
 
 
-def parse_init(words):
-    want(len(words) >= 6)
-    keep, clear = options(words[6:], b"--keep", b"--clear")
-    keep = 600 if keep is None else number(keep, 60, 86_400)
+def parse_init(words, keep=b"600", clear=False):
     return SimpleNamespace(
-        book=place(words[0]), name=text(is_name, words[1]), terms=terms(0, words[2:6]), keep=keep, clear=bool(clear))
+        book=place(words[0]), name=text(is_name, words[1]), terms=terms(0, words[2:]), keep=number(keep, 60, 86_400),
+        clear=clear)
 
 
 def parse_serve(words):
-    want(len(words) == 3)
     return SimpleNamespace(book=place(words[0]), listen=place(words[1]), links=number(words[2], 1, MOST_LINKS))
 
 
-def parse_goods(words):
-    want(len(words) >= 3)
-    kind, = options(words[3:], b"--kind")
-    order = parse_price(words[:3])
-    order.kind = 0 if kind is None else number(kind, 0, 2)
+def parse_goods(words, kind=b"0"):
+    order = parse_price(words)
+    order.kind = number(kind, 0, 2)
     return order
 
 
 def parse_price(words):
-    want(len(words) == 3)
     target, price_of = text(is_target, words[1]), number(words[2], 1, MOST_VALUE)
     return SimpleNamespace(book=place(words[0]), target=target, price=price_of)
 
 
 def parse_licence(words):
-    want(len(words) == 6)
     return SimpleNamespace(book=place(words[0]), terms=terms(number(words[1], 1, 255), words[2:]))
 
 
 def parse_mint(words):
-    want(len(words) == 4)
     return SimpleNamespace(
         book=place(words[0]), count=number(words[1], 1, 256), value=number(words[2], 1, MOST_VALUE),
         reference=text(is_name, words[3]))
@@ -116,10 +118,12 @@ def parse_mint(words):
 def parsed(words):
     """The command and what its words give."""
     want(len(words) >= 2 and words[0] == b"vendor" and words[1] in COMMANDS)
-    parse, act = COMMANDS[words[1]]
+    count, valued, flags, parse, act = COMMANDS[words[1]]
     for word in words:
         want(is_text(word))
-    return words[1], parse(words[2:]), act
+    others, options = told_apart(words[2:], valued, flags)
+    want(len(others) == count)
+    return words[1], parse(others, **{name[2:].decode(): value for name, value in options.items()}), act
 
 
 def is_text(word):
@@ -254,10 +258,15 @@ def mint_pieces(house, order):
     return b"".join(map(line, range(entry.first, entry.first + entry.count)))
 
 
+# Of each command, how many words it has, its options with a value and those without one, and what reads and does it.
 COMMANDS = {
-    b"once": (parse_once, once), b"init": (parse_init, init), b"serve": (parse_serve, serve),
-    b"goods": (parse_goods, goods), b"price": (parse_price, price), b"licence": (parse_licence, licence),
-    b"mint": (parse_mint, mint),
+    b"once": (5, (), (), parse_once, once),
+    b"init": (6, (b"--keep",), (b"--clear",), parse_init, init),
+    b"serve": (3, (), (), parse_serve, serve),
+    b"goods": (3, (b"--kind",), (), parse_goods, goods),
+    b"price": (3, (), (), parse_price, price),
+    b"licence": (6, (), (), parse_licence, licence),
+    b"mint": (4, (), (), parse_mint, mint),
 }
 
 

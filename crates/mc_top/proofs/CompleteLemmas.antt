@@ -12,12 +12,12 @@ use Rattle.house_core.specs.declared.offer.SiteKind.TheVariants.{Vendor}
 use Rattle.house_core.specs.Views.{kind_number}
 use Rattle.house_core.specs.Tasks.{Task}
 use Rattle.house_serving.specs.Links.{TakesNoLink}
-use Rattle.mc_top.specs.declared.command.Command.{Command}
-use Rattle.mc_top.specs.declared.command.Command.TheVariants as commands
+use Rattle.mc_words.specs.declared.command.Command.{Command}
+use Rattle.mc_words.specs.declared.command.Command.TheVariants as commands
 use Rattle.mc_top.specs.declared.status.Status.{Status}
 use Rattle.mc_top.specs.declared.status.Status.TheVariants as ends
 use Rattle.mc_top.specs.Opening.{full}
-use Rattle.mc_top.specs.Words.{Shop}
+use Rattle.mc_words.specs.Words.{Shop}
 use Rattle.mc_top.specs.Course.{Says}
 use Rattle.mc_top.specs.Statuses.{number_of, line_of}
 use Rattle.mc_top.specs.Serving.{NotOpened, ServesLinksOf, BookCauses, ServeCauses}
@@ -202,10 +202,23 @@ operated_well link disk kind operation a b status has calm causes (inr (inl unre
     go (inl (is, lost)) = absurd (calm.link' (subst (λ (s : Status). OperateCauses link disk operation a s b) is causes).1)
     go (inr (is, same)) = inr (inl (ap number_of is))
 
+-- where memory was refused
+without_memory : (command : Command) (number : ℕ) → number ≡ 5 → EndsWell command number
+without_memory (commands.Once shop) number is = inr is
+without_memory (commands.Init founder) number is = inr (inl is)
+without_memory (commands.Serve server) number is = inr is
+without_memory (commands.Operate operation) number is = inr (inl is)
+
+-- want of memory stays want of memory where the line can't be said
+memory_stays : (whole : Bool) → answered whole 5 ≡ 5
+memory_stays true = refl
+memory_stays false = refl
+
 -- what the program ended with, where the command's book is there
 pub ends_well : {O : Type 0} (link : O → LinkView) (disk : O → DiskView) (command : Command) (a c : O) (number : ℕ) → HasBook (disk a) command
     → (Rose (disk a).faults (disk c).faults → ⊥) → (Rose (link a).faults (link c).faults → ⊥) → RunsAs link disk command a number c → EndsWell command number
-ends_well {O = O} link disk command a c number has no_disk no_link (b, status, obeys, ends) =
+ends_well link disk command a c number has no_disk no_link (inl unread) = without_memory command number (unread.number' ∙ memory_stays unread.whole)
+ends_well {O = O} link disk command a c number has no_disk no_link (inr (b, status, obeys, ends)) =
     subst (EndsWell command) (sym (ends.number' ∙ number_stays (line_of status) (link b) (link c) ends.whole (number_of status) no_more ends.said)) (by_command command has obeys calm)
   where
     calm : Calm link disk a b

@@ -11,7 +11,7 @@ use Rattle.ledger_model.specs.Histories.{History}
 use Rattle.house_serving.specs.declared.serving.BenchEnd.TheVariants as ends
 use Rattle.house_core.specs.Session.{State, Step}
 use Rattle.house_serving.specs.Served.{Served}
-use Rattle.mc_top.specs.Words.{Shop}
+use Rattle.mc_words.specs.Words.{Shop}
 use Rattle.mc_top.specs.Opening.{full, opened}
 use Rattle.mc_top.specs.Course.{EndsOnce}
 

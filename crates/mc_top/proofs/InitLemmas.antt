@@ -19,7 +19,7 @@ use Rattle.scrip_journal.specs.Founds.{fault_disk, FoundNoOutput, CountsBy, Read
 use Rattle.house_opening.specs.Found.{FoundedFor, FoundsHouseBy}
 use Rattle.house_serving.proofs.AsideLemmas.{TellsAside, no_more_still, aside_still}
 use Rattle.mc_top.specs.Opening.{full}
-use Rattle.mc_top.specs.Words.{Founder}
+use Rattle.mc_words.specs.Words.{Founder}
 use Rattle.mc_top.specs.Founding.{site_of}
 use Rattle.mc_top.specs.Endings.{fault_status}
 use Rattle.mc_top.specs.Init.{FoundPair, FoundsBy, FoundCauses}

@@ -1,5 +1,3 @@
-pub mod SecretLemmas
-pub mod WordLaws
 pub mod OpeningLemmas
 pub mod CourseLemmas
 pub mod LawfulRuns

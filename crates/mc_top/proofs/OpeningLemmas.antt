@@ -11,8 +11,8 @@ use Rattle.ledger_model.specs.Histories.{History}
 use Rattle.ledger_model.specs.Answer.{fitted}
 use Rattle.house_core.specs.declared.bench.Bench.{Bench}
 use Rattle.vendor_core.specs.declared.shelf.Shelf.{Shelf}
-use Rattle.mc_top.specs.Words.{Shop, IsShop, terms_of}
-use Rattle.mc_top.specs.Opening.{founding, licence, shop_goods, full, IsOpen, MayEnter}
+use Rattle.mc_words.specs.Words.{Shop, IsShop}
+use Rattle.mc_top.specs.Opening.{terms_of, founding, licence, shop_goods, full, IsOpen, MayEnter}
 
 -- ---- payloads
 
@@ -81,9 +81,9 @@ shop_goods_may_enter shop is = record {
 pub licence_is : {m : ℕ} {t : Issuing} (shop : Shop) → m ≡ 0 → t ≡ terms_of shop 1 → AddTerms m t ≡ licence shop
 licence_is shop m t = λ i. AddTerms (m i) (t i)
 
-pub shop_goods_is : {m price : ℕ} {target contents : List ℕ} (s shop : Shop) → s ≡ shop → m ≡ 0 → target ≡ s.target → price ≡ s.price → contents ≡ s.contents
+pub shop_goods_is : {m price : ℕ} {target contents : List ℕ} (shop : Shop) → m ≡ 0 → target ≡ shop.target → price ≡ shop.price → contents ≡ shop.contents
     → Goods m target price 0 contents ≡ shop_goods shop
-shop_goods_is s shop same m target price contents = (λ i. Goods (m i) (target i) (price i) 0 (contents i)) ∙ ap shop_goods same
+shop_goods_is shop m target price contents = λ i. Goods (m i) (target i) (price i) 0 (contents i)
 
 pub may_enter : {h : History} {e f : Entry} → e ≡ f → MayEnter h f → MayEnter h e
 may_enter {h = h} same may = subst (λ (e : Entry). MayEnter h e) (sym same) may

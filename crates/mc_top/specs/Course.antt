@@ -8,7 +8,7 @@ use Rattle.millicent_http.specs.Courses.{ServedAll, NoLink}
 use Rattle.house_core.specs.Session.{Step, State}
 use Rattle.house_serving.specs.declared.serving.BenchEnd.{BenchEnd}
 use Rattle.house_serving.specs.declared.serving.BenchEnd.TheVariants as ends
-use Rattle.mc_top.specs.Words.{Shop}
+use Rattle.mc_words.specs.Words.{Shop}
 use Rattle.mc_top.specs.Opening.{opened, full}
 
 -- One link was served, or none came: from the opening of the shop on, each reading of the clock is 0.

@@ -1,12 +1,7 @@
 -- How a site is founded.
 use Rattle.std.specs.Prelude.{ℕ, Some, unwrap_or}
-use Rattle.scrip_form.specs.Issuing.{Issuing}
 use Rattle.mc_records.specs.Entry.{Entry, Site}
-use Rattle.mc_top.specs.Words.{Founder}
-
--- the terms of its own scrip, which are issuer 0's
-abbrev pub own_terms : Founder → Issuing
-own_terms founder = record { issuer = 0; period = founder.period; life = founder.life; scrip = founder.scrip; customer = founder.customer }
+use Rattle.mc_words.specs.Words.{Founder, own_terms}
 
 -- A site of a kind is founded at a moment with no fee, and with a keeping time of 600 seconds where the
 -- words say none.

@@ -10,7 +10,7 @@ use Rattle.millicent_http.specs.declared.clock.Clock.TheVariants.{OfLinks}
 use Rattle.millicent_http.specs.Courses.{AreRead, with_readings}
 use Rattle.mc_top.specs.declared.status.Status.{Status}
 use Rattle.mc_top.specs.declared.status.Status.TheVariants as ends
-use Rattle.mc_top.specs.Words.{Founder}
+use Rattle.mc_words.specs.Words.{Founder}
 use Rattle.mc_top.specs.Founding.{site_of}
 use Rattle.mc_top.specs.Serving.{EncodesLawful}
 

@@ -1,6 +1,3 @@
-pub mod Words
-pub mod WordLists
-pub mod Commands
 pub mod Places
 pub mod Founding
 pub mod Opening

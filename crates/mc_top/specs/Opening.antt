@@ -1,5 +1,5 @@
 -- How a shop opens.
-use Rattle.std.specs.Prelude.{◌≡◌, ◌^◌, true, [], ◌∷◌, Some, Ok}
+use Rattle.std.specs.Prelude.{◌≡◌, ◌^◌, ℕ, true, [], ◌∷◌, Some, Ok}
 use Rattle.mc_records.specs.declared.limits.Limits.{Limits}
 use Rattle.mc_records.specs.Entry.{Entry, Site, AddTerms, Goods}
 use Rattle.ledger_model.specs.Histories.{History}
@@ -10,7 +10,12 @@ use Rattle.house_core.specs.Bench.{IsHouse, house_time, limits_of}
 use Rattle.house_core.specs.Session.{State}
 use Rattle.vendor_core.specs.declared.shelf.Shelf.{Shelf}
 use Rattle.vendor_core.specs.Shelf.{shelf_view}
-use Rattle.mc_top.specs.Words.{Shop, terms_of}
+use Rattle.scrip_form.specs.Issuing.{Issuing}
+use Rattle.mc_words.specs.Words.{Shop}
+
+-- the terms of an issuer of the shop, which are those of issuer 0 and of issuer 1 alike
+abbrev pub terms_of : Shop → ℕ → Issuing
+terms_of shop issuer = record { issuer = issuer; period = 4096; life = 8192; scrip = shop.secret ∷ []; customer = shop.secret ∷ [] }
 
 -- A shop is founded at moment 0 as a vendor's site, with the clear flag and a keeping time of 600
 -- seconds.

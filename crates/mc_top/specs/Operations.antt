@@ -5,9 +5,10 @@ use Rattle.mc_records.specs.declared.refusal.Refusal.TheVariants.{ContentsFull}
 use Rattle.ledger_model.specs.Houses.{site_name}
 use Rattle.house_core.specs.Tasks.{Refuse, after}
 use Rattle.vendor_core.specs.Tasks.{goods_task, price_task, terms_task, IsMintTask, IsMintAt, mint_lines}
-use Rattle.mc_top.specs.declared.operation.Operation.{Operation}
-use Rattle.mc_top.specs.declared.operation.Operation.TheVariants as operations
-use Rattle.mc_top.specs.Words.{Listing, Pricing, Licensing, Minting, licensed_terms, joined}
+use Rattle.mc_words.specs.declared.operation.Operation.{Operation}
+use Rattle.mc_words.specs.declared.operation.Operation.TheVariants as operations
+use Rattle.mc_words.specs.Ranges.{joined}
+use Rattle.mc_words.specs.Words.{Listing, Pricing, Licensing, Minting, licensed_terms}
 use Rattle.mc_top.specs.Opening.{full}
 use Rattle.mc_top.specs.Operator.{OperationView}
 

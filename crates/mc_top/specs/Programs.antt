@@ -9,11 +9,11 @@ use Rattle.scrip_journal.specs.Layout.{Encodes}
 use Rattle.house_core.specs.declared.offer.SiteKind.TheVariants.{Vendor}
 use Rattle.house_core.specs.Views.{kind_number}
 use Rattle.millicent_http.specs.Courses.{NoLink}
-use Rattle.mc_top.specs.declared.command.Command.{Command}
-use Rattle.mc_top.specs.declared.command.Command.TheVariants as commands
+use Rattle.mc_words.specs.declared.command.Command.{Command}
+use Rattle.mc_words.specs.declared.command.Command.TheVariants as commands
 use Rattle.mc_top.specs.declared.status.Status.{Status}
 use Rattle.mc_top.specs.declared.status.Status.TheVariants as ends
-use Rattle.mc_top.specs.Words.{Shop}
+use Rattle.mc_words.specs.Words.{Shop}
 use Rattle.mc_top.specs.Opening.{full}
 use Rattle.mc_top.specs.Course.{IsDone, Says}
 use Rattle.mc_top.specs.Statuses.{number_of, line_of}
@@ -55,9 +55,17 @@ pub record Ends {O : Type 0} (link : O → LinkView) (disk : O → DiskView) (st
   pub number' : number ≡ answered whole (number_of status)
   pub keeps : LinkKeeps (disk b) (disk c)
 
+-- memory was refused to read the words: nothing was done but that the line says so
+abbrev pub Unread : {O : Type 0} → (O → LinkView) → (O → DiskView) → O → ℕ → O → Type 0
+Unread link disk a number c = Ends link disk ends.NoMemory a c number
+
 -- what the program does by a command
 abbrev pub RunsAs : {O : Type 0} → (O → LinkView) → (O → DiskView) → Command → O → ℕ → O → Type 0
-RunsAs {O} link disk command a number c = (b : O) × (status : Status) × Obeys link disk command a status b × Ends link disk status b c number
+RunsAs {O} link disk command a number c = Unread link disk a number c ⊎ ((b : O) × (status : Status) × Obeys link disk command a status b × Ends link disk status b c number)
+
+-- what it does by words of no command, or by books that no command names
+abbrev pub Refuses : {O : Type 0} → (O → LinkView) → (O → DiskView) → O → ℕ → O → Type 0
+Refuses link disk a number c = Ends link disk ends.BadWords a c number
 
 -- The disk tells bytes that encode a lawful history of a site of this kind.
 pub record HasSite (kind : ℕ) (d : DiskView) : Type 0 where

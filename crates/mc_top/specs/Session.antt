@@ -3,7 +3,7 @@ use Rattle.std.specs.Prelude.{◌≡◌, ℕ, List}
 use Rattle.millicent_http.specs.Steps.{Did, sent_of}
 use Rattle.millicent_http.specs.Steps as runs
 use Rattle.house_core.specs.Session.{Step, State}
-use Rattle.mc_top.specs.Words.{Shop}
+use Rattle.mc_words.specs.Words.{Shop}
 use Rattle.mc_top.specs.Opening.{opened, full}
 
 -- these are the replies to the items of a link with these bytes, from the opening of the shop on, where

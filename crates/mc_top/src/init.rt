@@ -7,13 +7,14 @@ ghost use Rattle.mc_top.specs.Init.{FoundsBook, InitCauses};
 ghost use Rattle.mc_top.specs.Opening.{full};
 ghost use Rattle.mc_top.specs.Statuses.{number_of};
 
-use crate::founder::Founder;
+use crate::founder::site;
 use crate::serving::not_opened;
 use crate::status::Status;
 use house_core::Trade;
 use house_opening::found_house;
 use mc_outside::{Link, Outside};
 use mc_records::{Limits, PieceList};
+use mc_words::Founder;
 use std::alloc::Global;
 
 /// Founds a site of the trade's kind in the book on the outside's disk, at the reading of the clock. The trade
@@ -38,9 +39,9 @@ pub(crate) fn found_book<O: Outside, T: Trade>(
     let kind = trade.kind();
     let mut out = out;
     let moment = out.now();
-    let site = founder.site(kind, moment);
+    let site = site(founder, kind, moment);
     match found_house(alloc, out, Limits::FULL, trade, &site) {
-        Ok(house) => (house.close(), Status::Founded(founder.name())),
+        Ok(house) => (house.close(), Status::Founded(*founder.name())),
         Err(fault) => not_opened(fault),
     }
 }

@@ -5,15 +5,7 @@ ghost use Rattle.ledger_model.specs.Houses.{site_kind};
 ghost use Rattle.ledger_model.specs.Lawful.{IsLawful};
 ghost use Rattle.scrip_journal.specs.Layout.{header, Encodes};
 ghost use Rattle.house_opening.specs.Opening.{SpoilsAt, IsUnlawfulAt, IsOfOther};
-ghost use Rattle.mc_top.specs.Commands.{AreWords};
 ghost use Rattle.mc_top.specs.Opening.{full};
-ghost use Rattle.mc_top.specs.declared.command.Command.{Command};
-
-/// The words are of one command at most.
-pub fn words_are_of_one_command()
-    ensures { (words : List (List ℕ)) (a b : Command) → AreWords words a → AreWords words b
-        → a ≡ b }
-{}
 
 /// Bytes that encode a lawful history of a site give no cause to refuse the book to one of its kind: they begin
 /// with the header, nothing in them can't stand, no entry breaks, and the site is of no other kind. So `vendor

@@ -1,9 +1,9 @@
 ghost use Rattle.std.specs.Prelude.{◌≡◌, map, string_bytes, IfOk};
 ghost use Rattle.mc_top.specs.Places.{ArePlaces};
 
-use crate::command::{Command, Places};
-use crate::words::command_of;
+use crate::named::Places;
 use mc_base::{List, NoMemory};
+use mc_words::{Command, command_of};
 use std::alloc::Global;
 
 /// Tells what the words, those after the program's name, name: None, or no books, where they are of no
@@ -12,7 +12,7 @@ pub fn places(alloc: Global, words: &[String]) -> Result<Places, NoMemory>
     ensures { IfOk result (ArePlaces (map string_bytes words.now)) }
 {
     let books = List::of(Vec::new(alloc));
-    match command_of(words) {
+    match command_of(alloc, words)? {
         Some(Command::Init(founder)) => Ok(Places {
             site: Some(list_of(alloc, founder.book())?),
             founds: true,

@@ -1,23 +1,22 @@
 ghost use Rattle.std.specs.Prelude.{◌≡◌, ◌⊎◌, ◌↔◌, ◌<◌, ◌≤◌, ℕ, List, map, length, string_bytes, codes};
 ghost use Rattle.mc_outside.specs.Bytes.{Rose};
 ghost use Rattle.mc_outside.specs.DiskView.{LinkKeeps};
-ghost use Rattle.mc_top.specs.declared.command.Command.{Command as Commanded};
-ghost use Rattle.mc_top.specs.Commands.{AreWords, AreNoWords};
+ghost use Rattle.mc_words.specs.declared.command.Command.{Command as Commanded};
+ghost use Rattle.mc_words.specs.Commands.{AreWords, AreNoWords};
 ghost use Rattle.mc_top.specs.Course.{IsSaid, Says, EndsOnce};
 ghost use Rattle.mc_top.specs.Programs as programs;
-ghost use Rattle.mc_top.specs.Programs.{Obeys, Ends, RunsAs, HasBook, EndsWell};
+ghost use Rattle.mc_top.specs.Programs.{Obeys, Ends, Refuses, Unread, RunsAs, HasBook, EndsWell};
 ghost use Rattle.mc_top.specs.Statuses.{number_of};
 
-use crate::command::Command;
 use crate::init::found_book;
 use crate::serving::serve_book;
-use crate::shop::Shop;
+use crate::shop::open_shop;
 use crate::status::Status;
 use crate::vendor::operate_vendor;
-use crate::words::command_of;
 use house_serving::{BenchEnd, serve_bench_by};
 use mc_base::{Moment, NoMemory};
 use mc_outside::{Disk, Link, Outside};
+use mc_words::{Command, Shop, command_of};
 use millicent_http::Clock;
 use std::alloc::Global;
 use vendor_core::Shelf;
@@ -40,8 +39,9 @@ pub struct Ran<O, D> {
 /// book what its operator says, at the reading of the clock; the contents of goods come on one link.
 ///
 /// 0: it is done. 2: the words are of no command, or there are books; nothing was touched but what is said.
+/// Of words of no command that is so up to want of memory, since `clap` reads the words.
 /// 3: the book that is opened is no journal, or has bytes that can't stand, or an entry that may not follow.
-/// 4: the disk failed. 5: memory was refused before anything was done; memory that is refused later, to
+/// 4: the disk failed. 5: memory was refused before anything was done, or to read the words; memory that is refused later, to
 /// accept a request, is a reply with refusal 90 (`503`), and the link goes on. 6: `next_link` failed, or
 /// receiving the contents of goods, or saying the line of what is done. 7: a refusal is told: that the book to
 /// be founded has bytes already (50), that the book that is opened is of a site of another kind (52), or what
@@ -49,8 +49,13 @@ pub struct Ran<O, D> {
 /// becomes 6, and any other status stays. The outside and the books are handed back.
 pub fn run<O: Outside, D: Disk>(alloc: Global, words: &[String], out: O, books: Vec<D>) -> Ran<O, D>
     ensures books { result.books ≡ books }
-    ensures words { (result.status ≡ 2) ↔ (AreNoWords (map string_bytes words.now)
-        ⊎ (0 < length books.items)) }
+    ensures words { result.status ≡ 2 → AreNoWords (map string_bytes words.now)
+        ⊎ (0 < length books.items) }
+    ensures no_words { AreNoWords (map string_bytes words.now) → length books.items ≡ 0
+        → Refuses O.link O.disk out result.status result.out
+        ⊎ Unread O.link O.disk out result.status result.out }
+    ensures other_books { 0 < length books.items
+        → Refuses O.link O.disk out result.status result.out }
     ensures bad_words { result.status ≡ 2
         → IsSaid (codes "bad words\n") (O.link out) (O.link result.out)
         × LinkKeeps (O.disk out) (O.disk result.out) }
@@ -66,9 +71,16 @@ pub fn run<O: Outside, D: Disk>(alloc: Global, words: &[String], out: O, books: 
         let (out, status) = end(out, Status::BadWords);
         return Ran { status, out, books };
     }
-    let Some(command) = command_of(words) else {
-        let (out, status) = end(out, Status::BadWords);
-        return Ran { status, out, books };
+    let command = match command_of(alloc, words) {
+        Ok(Some(command)) => command,
+        Ok(None) => {
+            let (out, status) = end(out, Status::BadWords);
+            return Ran { status, out, books };
+        }
+        Err(_) => {
+            let (out, status) = end(out, Status::NoMemory);
+            return Ran { status, out, books };
+        }
     };
     let (out, status) = obey(alloc, &command, out);
     let (out, status) = end(out, status);
@@ -102,7 +114,7 @@ fn serve_once<K: Link>(alloc: Global, shop: &Shop<'_>, k: &mut K) -> Result<(), 
     ensures ended { EndsOnce result shop.now (K.link k.old) (K.link k.new) }
     ensures grown { (K.link k.old).faults ≤ (K.link k.new).faults }
 {
-    let mut bench = match shop.open(alloc) {
+    let mut bench = match open_shop(alloc, shop) {
         Ok(bench) => bench,
         Err(NoMemory) => return Err(BenchEnd::NoMemory),
     };

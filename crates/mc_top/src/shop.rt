@@ -1,20 +1,16 @@
-ghost use Rattle.std.specs.Prelude.{◌≡◌, ◌^◌, ◌≤◌, ◌++◌, ◌∷◌, [], length, IfOk, OnOk};
-ghost use Rattle.mc_fields.specs.Texts.{IsNumber};
-ghost use Rattle.scrip_form.specs.Texts.{IsName, IsTarget};
-ghost use Rattle.scrip_form.specs.Scrip.{IsCert};
+ghost use Rattle.std.specs.Prelude.{◌≡◌, ◌≤◌, ◌++◌, ◌∷◌, [], IfOk, OnOk};
 ghost use Rattle.mc_records.specs.Entry.{Fits, moment_of};
 ghost use Rattle.mc_records.specs.Views.{entry};
 ghost use Rattle.house_core.specs.CommandEntries.{IsCommand};
 ghost use Rattle.ledger_model.specs.Histories.{History};
-ghost use Rattle.mc_top.specs.Words.{terms_of};
-ghost use Rattle.mc_top.specs.Opening.{founding, opening, IsOpen, MayEnter};
+ghost use Rattle.mc_top.specs.Opening.{terms_of, founding, opening, IsOpen, MayEnter};
 
 use house_core::{Bench, EnterFault};
-use mc_base::{Amount, Moment, NoMemory};
+use mc_base::{Moment, NoMemory};
 use mc_records::{Limits, PieceList, Record, SiteTerms};
-use scrip_form::{Name, Secrets, Target, Terms};
+use mc_words::Shop;
+use scrip_form::{Secrets, Terms};
 use std::alloc::Global;
-use std::marker::Model;
 use vendor_core::Shelf;
 
 /// The period of the shop's series, in seconds.
@@ -29,104 +25,57 @@ const KEEP: u32 = 600;
 /// The kind of the contents that are sold: bytes of no type of their own.
 const KIND: u8 = 0;
 
-/// A shop that sells one thing for scrip of its own issuer 0 and of issuer 1. Contracts see it as its
-/// texts.
-#[derive(Drop)]
-pub(crate) struct Shop<'a> {
-    name: Name,
-    target: Target,
-    price: Amount,
-    secrets: Secrets,
-    contents: &'a [u8],
+/// Opens a shop for scrip of its own issuer 0 and of issuer 1: a house with its terms and its goods, at the
+/// moment 0.
+pub(crate) fn open_shop(alloc: Global, shop: &Shop<'_>) -> Result<Bench<Shelf>, NoMemory>
+    ensures { IfOk result (λ b. IsOpen b (opening shop.now)) }
+{
+    // The check lets a record go only where the types of its parts are named.
+    let _pieces: Option<PieceList<'_>> = None;
+    let goods = Record::Goods {
+        moment: start(),
+        target: shop.target().bytes(),
+        price: shop.price().get(),
+        kind: KIND,
+        contents: shop.contents(),
+    };
+    let licence = Record::Terms {
+        moment: start(),
+        terms: terms_of(shop, 1),
+    };
+    let mut bench = found_shop(alloc, shop)?;
+    enter(&mut bench, &licence)?;
+    enter(&mut bench, &goods)?;
+    Ok(bench)
 }
 
-impl<'a> Model for Shop<'a> {
-    ghost use Rattle.std.specs.Prelude.{◌≡◌, ◌∷◌, [], slice_index_or};
-    ghost use Rattle.mc_top.specs.Words.{Shop as Sold, IsShop};
-
-    ghost Value = { Sold };
-
-    ghost view = { λ s. record { name = s.name; target = s.target; price = s.price; secret = slice_index_or s.secrets 0 []; contents = s.contents.now } };
-
-    ghost invariant = { λ s. (s.secrets ≡ slice_index_or s.secrets 0 [] ∷ []) × IsShop (record { name = s.name; target = s.target; price = s.price; secret = slice_index_or s.secrets 0 []; contents = s.contents.now }) };
+/// The house that the shop is founded as.
+fn found_shop(alloc: Global, shop: &Shop<'_>) -> Result<Bench<Shelf>, NoMemory>
+    ensures { IfOk result (λ b. IsOpen b (founding shop.now ∷ [])) }
+{
+    // The check lets a record go only where the types of its parts are named.
+    let _pieces: Option<PieceList<'_>> = None;
+    let site = Record::Site {
+        moment: start(),
+        kind: 0,
+        name: shop.name().bytes(),
+        house: Some(SiteTerms {
+            keep: KEEP,
+            fee: 0,
+            clear: true,
+            terms: terms_of(shop, 0),
+        }),
+    };
+    Bench::new(alloc, &site, Limits::FULL, Shelf::new(alloc))
 }
 
-impl<'a> Shop<'a> {
-    /// The shop of these texts.
-    pub(crate) fn new(
-        name: Name,
-        target: Target,
-        price: Amount,
-        secret: [u8; 16],
-        contents: &'a [u8],
-    ) -> Shop<'a>
-        requires name { IsName name }
-        requires target { IsTarget target }
-        requires price { IsNumber (2 ^ 40) price }
-        requires contents { length contents.now ≤ 65536 }
-        ensures { result ≡ record { name = name; target = target; price = price; secret = secret; contents = contents.entry.now } }
-    {
-        Shop {
-            name,
-            target,
-            price,
-            secrets: one_secret(&secret),
-            contents,
-        }
-    }
-}
-
-impl Shop<'_> {
-    /// Opens the shop: a house with its terms and its goods, at the moment 0.
-    pub(crate) fn open(&self, alloc: Global) -> Result<Bench<Shelf>, NoMemory>
-        ensures { IfOk result (λ b. IsOpen b (opening self.now)) }
-    {
-        // The check lets a record go only where the types of its parts are named.
-        let _pieces: Option<PieceList<'_>> = None;
-        let goods = Record::Goods {
-            moment: start(),
-            target: self.target.bytes(),
-            price: self.price.get(),
-            kind: KIND,
-            contents: self.contents,
-        };
-        let licence = Record::Terms {
-            moment: start(),
-            terms: self.terms(1),
-        };
-        let mut bench = self.found(alloc)?;
-        enter(&mut bench, &licence)?;
-        enter(&mut bench, &goods)?;
-        Ok(bench)
-    }
-
-    /// The house that the shop is founded as.
-    fn found(&self, alloc: Global) -> Result<Bench<Shelf>, NoMemory>
-        ensures { IfOk result (λ b. IsOpen b (founding self.now ∷ [])) }
-    {
-        // The check lets a record go only where the types of its parts are named.
-        let _pieces: Option<PieceList<'_>> = None;
-        let site = Record::Site {
-            moment: start(),
-            kind: 0,
-            name: self.name.bytes(),
-            house: Some(SiteTerms {
-                keep: KEEP,
-                fee: 0,
-                clear: true,
-                terms: self.terms(0),
-            }),
-        };
-        Bench::new(alloc, &site, Limits::FULL, Shelf::new(alloc))
-    }
-
-    /// The terms of an issuer.
-    fn terms(&self, issuer: u8) -> Terms
-        requires { issuer ≤ 1 }
-        ensures { result ≡ terms_of self.now issuer }
-    {
-        Terms::new(issuer, PERIOD, LIFE, self.secrets, self.secrets).unwrap()
-    }
+/// The terms of an issuer.
+fn terms_of(shop: &Shop<'_>, issuer: u8) -> Terms
+    requires { issuer ≤ 1 }
+    ensures { result ≡ terms_of shop.now issuer }
+{
+    let secrets = Secrets::new(&[*shop.secret()]).unwrap();
+    Terms::new(issuer, PERIOD, LIFE, secrets, secrets).unwrap()
 }
 
 /// Enters an entry that may follow and fits, so that only memory can be refused.
@@ -151,12 +100,4 @@ fn start() -> Moment
     ensures { result ≡ 0 }
 {
     Moment::clamped(0)
-}
-
-/// The one secret of a shop, as the list of its secrets.
-fn one_secret(secret: &[u8; 16]) -> Secrets
-    ensures secrets { result ≡ secret.now ∷ [] }
-    ensures secret { IsCert secret.now }
-{
-    Secrets::new(&[*secret]).unwrap()
 }

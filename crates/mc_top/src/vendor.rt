@@ -13,10 +13,10 @@ mod lines;
 mod mint;
 mod price;
 
-use crate::operation::Operation;
 use crate::operator::operate_book;
 use crate::status::Status;
 use mc_outside::Outside;
+use mc_words::Operation;
 use std::alloc::Global;
 use vendor_core::Shelf;
 

@@ -1,12 +1,13 @@
 ghost use Rattle.std.specs.Prelude.{◌≡◌, ◌≢◌, ◌⊎◌, ◌↔◌, [], map, string_bytes, OnOk};
-ghost use Rattle.mc_top.specs.Words.{Shop, AreWordsOf, AreBadWords};
+ghost use Rattle.mc_words.specs.Words.{Shop as Sold};
+ghost use Rattle.mc_words.specs.Commands.{AreOnceWords, AreNoOnceWords};
 ghost use Rattle.mc_top.specs.Session.{IsSession};
 
-use crate::shop::Shop;
+use crate::shop::open_shop;
 use crate::status::Status;
-use crate::words::shop_of;
 use house_serving::reply_to_link;
 use mc_base::{Moment, NoMemory};
+use mc_words::{Shop, shop_of};
 use std::alloc::Global;
 
 /// `vendor once` over a whole link whose bytes are all there: the replies that [`run`](crate::run) sends,
@@ -14,18 +15,22 @@ use std::alloc::Global;
 ///
 /// 0: the reply is the session of the link, from no history on. 2: the words, those after the
 /// program's name, are not `vendor once NAME TARGET PRICE SECRET CONTENTS`. 5: memory was refused, to
-/// open the shop or to put the replies together; memory that is refused to accept a request is a reply
+/// read the words, to open the shop or to put the replies together; memory that is refused to accept a request is a reply
 /// with refusal 90 (`503`), and the session goes on. With 2 and 5 the reply stays empty.
 pub fn once(alloc: Global, words: &[String], link: &[u8], reply: &mut Vec<u8>) -> u8
     requires { reply.old.items ≡ [] }
     ensures statuses { (result ≡ 0) ⊎ ((result ≡ 2) ⊎ (result ≡ 5)) }
-    ensures words { (result ≡ 2) ↔ AreBadWords (map string_bytes words.now) }
-    ensures served { result ≡ 0 → (shop : Shop) × AreWordsOf (map string_bytes words.now) shop
+    ensures words { result ≡ 2 → AreNoOnceWords (map string_bytes words.now) }
+    ensures bad_words { AreNoOnceWords (map string_bytes words.now)
+        → (result ≡ 2) ⊎ (result ≡ 5) }
+    ensures served { result ≡ 0 → (shop : Sold) × AreOnceWords (map string_bytes words.now) shop
         × IsSession shop link.now reply.new.items }
     ensures nothing { result ≢ 0 → reply.new.items ≡ [] }
 {
-    let Some(shop) = shop_of(words) else {
-        return Status::BadWords.number();
+    let shop = match shop_of(alloc, words) {
+        Ok(Some(shop)) => shop,
+        Ok(None) => return Status::BadWords.number(),
+        Err(_) => return Status::NoMemory.number(),
     };
     match reply_to_all(alloc, &shop, link, reply) {
         Ok(()) => Status::Done.number(),
@@ -46,6 +51,6 @@ fn reply_to_all(
     requires { out.old.items ≡ [] }
     ensures { OnOk result (IsSession shop.now link.now out.new.items) }
 {
-    let mut bench = shop.open(alloc)?;
+    let mut bench = open_shop(alloc, shop)?;
     reply_to_link(&mut bench, link, Moment::clamped(0), out)
 }

@@ -13,6 +13,7 @@ use book::Book;
 use mc_base::{List, NoMemory};
 use mc_door::listen;
 use mc_top::{Places, places, run};
+use mc_words::usage;
 use site::Site;
 use std::alloc::{AllocError, Global};
 use std::fs::File;
@@ -26,12 +27,31 @@ fn main(rt: HostRuntime) -> ExitCode {
     let alloc = rt.alloc();
     ExitCode::from(match words(alloc, &rt) {
         Ok(words) => match places(alloc, &words) {
-            Ok(places) => start(&rt, &words, &places),
+            Ok(places) => {
+                let status = start(&rt, &words, &places);
+                if status == BAD_WORDS {
+                    tell_usage(&rt, &words);
+                }
+                status
+            }
             Err(NoMemory) => end(&rt, b"no memory\n", 5),
         },
         Err(NoWords::Memory) => end(&rt, b"no memory\n", 5),
-        Err(NoWords::Bad) => end(&rt, b"bad words\n", 2),
+        Err(NoWords::Bad) => {
+            let status = end(&rt, b"bad words\n", BAD_WORDS);
+            tell_usage(&rt, &[]);
+            status
+        }
     })
+}
+
+/// The status of words that are of no command.
+const BAD_WORDS: u8 = 2;
+
+/// Tells on standard error which words the command has that these begin with, or which commands there are.
+fn tell_usage(rt: &HostRuntime, words: &[String]) {
+    let line = usage(words);
+    let _ = eprintln!(rt; "{line}");
 }
 
 /// Why there are no words.

@@ -8,14 +8,13 @@ ghost use Rattle.vendor_core.specs.Shelf.{shelf_view};
 ghost use Rattle.mc_top.specs.Opening.{full};
 ghost use Rattle.mc_top.specs.Operations.{goods_operation, begins_goods};
 
-use crate::operation::Listing;
 use crate::operator::{OperatorCommand, without_answer};
 use crate::vendor::lines;
-use crate::words::MOST_CONTENTS;
 use house_core::{House, Outcome};
 use mc_base::NoMemory;
 use mc_outside::Disk;
 use mc_records::Refusal;
+use mc_words::{Listing, MOST_CONTENTS};
 use scrip_form::Name;
 use std::alloc::Global;
 use vendor_core::{Shelf, set_goods};

@@ -8,12 +8,12 @@ ghost use Rattle.vendor_core.specs.Shelf.{shelf_view};
 ghost use Rattle.mc_top.specs.Opening.{full};
 ghost use Rattle.mc_top.specs.Operations.{licence_operation, begins_licence};
 
-use crate::operation::Licensing;
 use crate::operator::{OperatorCommand, without_answer};
 use crate::vendor::lines;
 use house_core::{House, Outcome};
 use mc_base::NoMemory;
 use mc_outside::Disk;
+use mc_words::Licensing;
 use scrip_form::Name;
 use std::alloc::Global;
 use vendor_core::{Shelf, add_terms};

@@ -1,7 +1,7 @@
 //! The lines that are said of what a vendor's operator has done.
 
 ghost use Rattle.std.specs.Prelude.{◌≡◌, ◌++◌, OnOk, IfOk, codes, decimal};
-ghost use Rattle.mc_top.specs.Words.{joined};
+ghost use Rattle.mc_words.specs.Ranges.{joined};
 ghost use Rattle.mc_top.specs.Operations.{goods_line, licence_line};
 
 use itoa::Buffer;

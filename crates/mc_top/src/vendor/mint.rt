@@ -8,11 +8,11 @@ ghost use Rattle.vendor_core.specs.Shelf.{shelf_view};
 ghost use Rattle.mc_top.specs.Opening.{full};
 ghost use Rattle.mc_top.specs.Operations.{mint_operation, begins_mint};
 
-use crate::operation::Minting;
 use crate::operator::{OperatorCommand, without_answer};
 use house_core::{House, Outcome};
 use mc_base::NoMemory;
 use mc_outside::Disk;
+use mc_words::Minting;
 use scrip_form::Name;
 use std::alloc::Global;
 use vendor_core::{Shelf, mint};

@@ -8,12 +8,12 @@ ghost use Rattle.vendor_core.specs.Shelf.{shelf_view};
 ghost use Rattle.mc_top.specs.Opening.{full};
 ghost use Rattle.mc_top.specs.Operations.{price_operation, begins_price};
 
-use crate::operation::Pricing;
 use crate::operator::{OperatorCommand, without_answer};
 use crate::vendor::lines;
 use house_core::{House, Outcome};
 use mc_base::NoMemory;
 use mc_outside::Disk;
+use mc_words::Pricing;
 use scrip_form::Name;
 use std::alloc::Global;
 use vendor_core::{Shelf, set_price};

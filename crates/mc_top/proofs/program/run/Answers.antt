@@ -1,15 +1,15 @@
-use Rattle.std.proofs.Common.{subst}
-use Rattle.mc_top.specs.declared.command.Command.{Command}
+use Rattle.std.proofs.Common.{inl, inr, subst}
+use Rattle.mc_words.specs.declared.command.Command.{Command}
+use Rattle.mc_words.proofs.WordLaws.{one_command}
 use Rattle.mc_top.specs.Programs.{Obeys, RunsAs}
-use Rattle.mc_top.proofs.WordLaws.{one_command}
 use Rattle.mc_top.proofs.CompleteLemmas.{ends_well}
 use Rattle.mc_top.proofs.program.run.Goals as goal
 
 pub returns-clause-obeyed : goal.returns-clause-obeyed
-returns-clause-obeyed g c command words none = (
+returns-clause-obeyed g c command words none = inr (
   c.obey-out.result.0,
   c.obey-out.result.1,
-  subst (λ (x : Command). Obeys g.O.Link.link g.O.Disk.disk x c.args.out c.obey-out.result.1 c.obey-out.result.0) (one_command _ _ command c.in-Some.ensures.command words) c.obey-out.ensures.obeyed,
+  subst (λ (x : Command). Obeys g.O.Link.link g.O.Disk.disk x c.args.out c.obey-out.result.1 c.obey-out.result.0) (one_command _ _ command c.in-Ok-Some.ensures.command words) c.obey-out.ensures.obeyed,
   c.end-out-2.ensures.ends,
 )
 

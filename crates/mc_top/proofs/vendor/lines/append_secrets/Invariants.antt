@@ -1,5 +1,5 @@
 use Rattle.std.proofs.Common.{◌≡◌, ◌++◌, codes, take}
-use Rattle.mc_top.specs.Words.{joined}
+use Rattle.mc_words.specs.Ranges.{joined}
 use Rattle.mc_top.proofs.vendor.lines.append_secrets.Given as goal
 
 abbrev pub invariant-loop-i : goal.invariant-loop-i

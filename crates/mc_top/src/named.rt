@@ -1,21 +1,4 @@
-use crate::founder::Founder;
-use crate::operation::Operation;
-use crate::server::Server;
-use crate::shop::Shop;
 use mc_base::List;
-
-/// What the words say to do.
-#[derive(Drop)]
-pub(crate) enum Command<'a> {
-    /// Sells one thing over one link, with no book.
-    Once(Shop<'a>),
-    /// Founds a vendor in a book.
-    Init(Founder<'a>),
-    /// Serves the vendor of a book.
-    Serve(Server<'a>),
-    /// Has something done to the book of a vendor, as its operator.
-    Operate(Operation<'a>),
-}
 
 /// The places that the words name, for the program to open before it does what they say. A place is the
 /// bytes of its word.

@@ -1,5 +1,0 @@
-use Rattle.mc_top.proofs.WordLaws.{one_command}
-use Rattle.mc_top.proofs.law.words_are_of_one_command.Goals as goal
-
-pub returns : goal.returns
-returns c = one_command
