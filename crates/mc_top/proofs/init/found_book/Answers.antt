@@ -59,7 +59,7 @@ returns-in-Ok-clause-founded g c x told =
       rest = subst (λ (v : LinkView). v ≡ with_readings v.readings (g.O.Link.link c.args.out)) (sym same) c.now-moment.ensures.rest;
       pairs = found_pairs g.O.Link.link g.O.Disk.disk c.args.out m b e g.met.O.Outside.sent_aside keeps c.now-moment.ensures.rest (subst (λ (f : Entry). Ran (g.O.Disk.disk m) (g.O.Disk.disk b) (FoundNoOutput (g.O.Disk.disk m) f)) same_site (c.in-Ok.ensures.ran x at));
     } in
-    rw c.close.ensures (c.now-moment.result, found, (c.name.ensures, by.free, founded_for g.O.Disk.disk g.T.Trade.trade e x c.in-Ok.house by))
+    rw c.close.ensures (c.now-moment.result, found, (c.name.ensures.value, by.free, founded_for g.O.Disk.disk g.T.Trade.trade e x c.in-Ok.house by))
 
 pub returns-in-Err-clause-founded : goal.returns-in-Err-clause-founded
 returns-in-Err-clause-founded g c x told =
