@@ -1,7 +1,5 @@
-ghost use Rattle.std.specs.Prelude.{◌≡◌, ◌<◌, ◌≤◌, ◌∷◌, [], length, map, string_bytes, IfOk, IfSome, IsNone};
-ghost use Rattle.scrip_form.specs.Texts.{IsName, IsTarget};
-ghost use Rattle.scrip_form.specs.Scrip.{IsCert};
-ghost use Rattle.mc_words.specs.Words.{Shop as Sold, FindsShop};
+ghost use Rattle.std.specs.Prelude.{◌≡◌, map, string_bytes, IfOk, IfSome, IsNone};
+ghost use Rattle.mc_words.specs.Words.{Shop as Sold, IsShop, FindsShop};
 ghost use Rattle.mc_words.specs.Commands.{AreOnceWords, AreNoOnceWords};
 
 use crate::table::{CommandName, read_command};
@@ -39,7 +37,7 @@ impl<'a> Shop<'a> {
     /// The name of the shop.
     pub fn name(&self) -> &Name
         ensures value { result.now ≡ self.now.name }
-        ensures range { IsName self.now.name }
+        ensures range { IsShop self.now }
     {
         &self.name
     }
@@ -47,7 +45,7 @@ impl<'a> Shop<'a> {
     /// The target of its goods.
     pub fn target(&self) -> &Target
         ensures value { result.now ≡ self.now.target }
-        ensures range { IsTarget self.now.target }
+        ensures range { IsShop self.now }
     {
         &self.target
     }
@@ -55,7 +53,7 @@ impl<'a> Shop<'a> {
     /// The price of its goods.
     pub fn price(&self) -> Amount
         ensures value { result ≡ self.now.price }
-        ensures range { 0 < self.now.price }
+        ensures range { IsShop self.now }
     {
         self.price
     }
@@ -63,7 +61,7 @@ impl<'a> Shop<'a> {
     /// Its one secret.
     pub fn secret(&self) -> &[u8; 16]
         ensures value { result.now ≡ self.now.secret }
-        ensures range { IsCert self.now.secret }
+        ensures range { IsShop self.now }
     {
         &self.secret
     }
@@ -71,7 +69,7 @@ impl<'a> Shop<'a> {
     /// The contents that are sold, of at most 65,536 bytes.
     pub fn contents(&self) -> &'a [u8]
         ensures value { result.now ≡ self.now.contents }
-        ensures range { length self.now.contents ≤ 65536 }
+        ensures range { IsShop self.now }
     {
         self.contents
     }
