@@ -44,11 +44,10 @@ sound_later b t spent kept sound dropped keep replies = record {
 -- ---- an entry that accepts nothing
 
 -- more terms, more minted pieces and one entry more leave the state sound
-pub sound_grown : (b : HouseStateView) (terms : List Issuing) (room : ℕ) (own : Register) (size bytes : ℕ) → IsSound b → own.terms ≡ b.own.terms → own.most ≡ b.own.most
+pub sound_grown : (b : HouseStateView) (terms : List Issuing) (room : ℕ) (own : Register) (size bytes : ℕ) → IsSound b → own.most ≡ b.own.most
     → ((s : ℕ) → redeemed_in own s ≡ redeemed_in b.own s) → ((id end : ℕ) → end_by b.terms id ≡ Some end → end_by terms id ≡ Some end) → size ≡ size_with b bytes → size_with b bytes ≤ 2 ^ 40
     → IsSound (record b { terms = terms; terms_room = room; own = own; count = b.count + 1; size = size })
-sound_grown b terms room own size bytes sound same most redeemed ends grown fits = record {
-  terms = same ∙ sound.terms;
+sound_grown b terms room own size bytes sound most redeemed ends grown fits = record {
   limits = sound.limits;
   most = most ∙ sound.most;
   counted = omega (arith, grown, sound.counted);

@@ -47,12 +47,12 @@ invariant_of-self c =
     elim c.match-r.branch [
       | in-Terms w ↦
           rw w.self-inside-is (
-          sound_grown old w.push_reserved.new.self.items _ own size c.args.bytes c.self.invariant refl refl (λ s. refl)
+          sound_grown old w.push_reserved.new.self.items _ own size c.args.bytes c.self.invariant refl (λ s. refl)
           (λ id end is. rw w.push_reserved.ensures.items (end_kept before _ id end is)) grown fits
           )
       | in-Mint w ↦
           rw w.self-inside-is (
-          sound_grown old before _ w.count_on.new.self size c.args.bytes c.self.invariant w.count_on.ensures.terms w.count_on.ensures.most w.count_on.ensures.redeemed (λ id end is. is) grown fits
+          sound_grown old before _ w.count_on.new.self size c.args.bytes c.self.invariant w.count_on.ensures.most w.count_on.ensures.redeemed (λ id end is. is) grown fits
           )
-      | in_default w ↦ rw w.self-inside-is (sound_grown old before _ own size c.args.bytes c.self.invariant refl refl (λ s. refl) (λ id end is. is) grown fits)
+      | in_default w ↦ rw w.self-inside-is (sound_grown old before _ own size c.args.bytes c.self.invariant refl (λ s. refl) (λ id end is. is) grown fits)
     ]

@@ -12,7 +12,6 @@ invariant_of-self-2 c =
     let live = subst (λ (b : HouseStateView). b.time < c.args.end) (sym c.self.view_is) c.requires.live in
     let windows = ends_reserved c.self.inside.terms.items c.self.inside.time c.args.id c.args.end c.self.inside.spent c.reserve-4.new.self (record { ends = sound.ends; alive = sound.alive }) its live c.in_ok-reserve-4.ensures.ok in
     record {
-      terms = c.reserve-3.ensures.terms ∙ c.reserve-2.ensures.terms ∙ sound.terms;
       limits = sound.limits;
       most = c.reserve-3.ensures.most ∙ c.reserve-2.ensures.most ∙ sound.most;
       counted = sound.counted;
