@@ -12,7 +12,7 @@ ghost use Rattle.house_core.specs.Session.{raised, Says, said_reply, refused_rep
 
 use crate::bench::Bench;
 use crate::presented::Presented;
-use crate::reply::{Reply, refusal_head};
+use crate::reply::{Page, Reply, ReplyRoom, refusal_head};
 use crate::signing::{customer_of, signed_refusal, taken_reply};
 use crate::trade::Trade;
 use crate::verdict::BenchFault;
@@ -39,12 +39,12 @@ impl<T: Trade> Bench<T> {
         }
     }
 
-    /// The reply to a request to which this is said. `room` is for contents that are made for the reply.
+    /// The reply to a request to which this is said, made in a room.
     pub fn reply<'a>(
         &'a self,
         q: &Presented<'_>,
         said: &Result<u64, Refusal>,
-        room: &'a mut [u8; 512],
+        room: &'a mut ReplyRoom,
     ) -> Reply<'a>
         requires kept { IfOk said.now (KeepsReply self.now) }
         requires site { IfErr said.now IsOfSite }
@@ -53,37 +53,53 @@ impl<T: Trade> Bench<T> {
     {
         let number = match said {
             Ok(number) => *number,
-            Err(refusal) => return self.refusal_reply(q, refusal),
+            Err(refusal) => return self.refusal_reply(q, refusal, &mut room.page),
         };
         self.first_reply(number, room)
     }
 
     /// The reply to a head that is refused, at a reading of the clock, to which the house time is raised.
     #[tactic(auto, unfolding(ledger_model::specs::Replies::head_refusal))]
-    pub fn refuse_head(&mut self, reading: Moment, head: HeadRefusal) -> Reply<'static>
+    pub fn refuse_head<'a>(
+        &mut self,
+        reading: Moment,
+        head: HeadRefusal,
+        room: &'a mut ReplyRoom,
+    ) -> Reply<'a>
         ensures limits { limits_of self.new ≡ limits_of self.old }
         ensures used { AreUsed (windows_of self.old) → AreUsed (windows_of self.new) }
         ensures reply { result ≡ ledger.head_refusal (house_time self.new) (as_refusal head) }
         ensures went { Refines T.trade (λ s t. t ≡ raised s reading) self.old self.new }
     {
         let time = self.raise(reading);
-        Reply::of(&refusal_head(time, &Refusal::from(head), None), b"")
+        let refusal = Refusal::from(head);
+        Reply::of(
+            &refusal_head(time, &refusal, None),
+            b"",
+            &mut room.page.head,
+            &mut room.page.bytes,
+        )
     }
 
     /// The first reply to the entry of a number, whose reply is kept.
-    pub(crate) fn first_reply<'a>(&'a self, number: u64, room: &'a mut [u8; 512]) -> Reply<'a>
+    pub(crate) fn first_reply<'a>(&'a self, number: u64, room: &'a mut ReplyRoom) -> Reply<'a>
         requires kept { KeepsReply self.now number }
         ensures { (h : History) → IsHouse T.trade self.now h → result ≡ ledger.reply_of h number }
     {
         let Some((q, entry)) = self.state.kept(number) else {
             unreachable!();
         };
-        let body = self.trade.body(&entry.deed, room);
-        taken_reply(&q, entry, &body)
+        let body = self.trade.body(&entry.deed, &mut room.contents);
+        taken_reply(&q, entry, &body, &mut room.change, &mut room.page)
     }
 
     /// The reply to a request that is refused at the house time.
-    fn refusal_reply(&self, q: &Presented<'_>, refusal: &Refusal) -> Reply<'static>
+    fn refusal_reply<'a>(
+        &self,
+        q: &Presented<'_>,
+        refusal: &Refusal,
+        page: &'a mut Page,
+    ) -> Reply<'a>
         requires { IsOfSite refusal.now }
         ensures { (h : History) → Represents T.trade self.now h
             → result ≡ ledger.refusal_of h (house_time self.now) q.now refusal.now }
@@ -92,26 +108,37 @@ impl<T: Trade> Bench<T> {
         let request = q.request();
         let price = self.price_told(request.target, refusal);
         match self.secret_of_refusal(q, refusal) {
-            Some(secret) => signed_refusal(time, request, refusal, price, &secret),
-            None => Reply::of(&refusal_head(time, refusal, price), b""),
+            Some(secret) => signed_refusal(time, request, refusal, price, &secret, page),
+            None => Reply::of(
+                &refusal_head(time, refusal, price),
+                b"",
+                &mut page.head,
+                &mut page.bytes,
+            ),
         }
     }
 
     /// The reply to a refusal at the house time: that of a request, or of a head that is no request.
     #[tactic(auto, unfolding(ledger_model::specs::Replies::head_refusal))]
-    pub(crate) fn refused_reply(
+    pub(crate) fn refused_reply<'a>(
         &self,
         q: Option<&Presented<'_>>,
         refusal: &Refusal,
-    ) -> Reply<'static>
+        page: &'a mut Page,
+    ) -> Reply<'a>
         requires { IsOfSite refusal.now }
         ensures { (h : History) → Represents T.trade self.now h
             → result ≡ refused_reply h (house_time self.now) (option_map
             (λ q. q.now) q.entry) refusal.now }
     {
         match q {
-            Some(q) => self.refusal_reply(q, refusal),
-            None => Reply::of(&refusal_head(self.state.time(), refusal, None), b""),
+            Some(q) => self.refusal_reply(q, refusal, page),
+            None => Reply::of(
+                &refusal_head(self.state.time(), refusal, None),
+                b"",
+                &mut page.head,
+                &mut page.bytes,
+            ),
         }
     }
 

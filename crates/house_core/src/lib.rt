@@ -39,7 +39,7 @@ pub use offer::{Body, DrawAsk, Offer, SiteKind, Unlawful};
 pub use outcome::{Outcome, Response};
 pub use presented::Presented;
 pub use replaying::ReplayEnd;
-pub use reply::Reply;
+pub use reply::{Reply, ReplyRoom};
 pub use sending::{send_again, send_disk_fault, send_refusal, send_settled};
 pub use settled::{Settled, drop_settled};
 pub use trade::Trade;

@@ -1,4 +1,4 @@
-ghost use Rattle.std.specs.Prelude.{◌≡◌, ◌<◌, ◌++◌, ℕ, [], length, take, IsTrue, OnOk, OnErr};
+ghost use Rattle.std.specs.Prelude.{◌≡◌, ◌≤◌, ◌<◌, ◌++◌, ℕ, [], length, take, IsTrue, OnOk, OnErr};
 ghost use Rattle.mc_outside.specs.LinkView.{after_send, Failed};
 ghost use Rattle.mc_records.specs.Replies.{reply_head};
 ghost use Rattle.ledger_model.specs.Replies.{refused_values};
@@ -15,40 +15,74 @@ use std::marker::Model;
 /// How many bytes of a reply leave in one call.
 const PAGE: usize = 4096;
 
+/// Room in which replies are made, one after another. Whoever serves keeps one, and hands it down. What it
+/// has after a call is free.
+#[derive(Drop)]
+pub struct ReplyRoom {
+    pub(crate) page: Page,
+    /// For the text of the change.
+    pub(crate) change: [u8; 512],
+    /// For contents that are made for the reply.
+    pub(crate) contents: [u8; 512],
+}
+
+/// Room for the parts of a reply.
+#[derive(Drop)]
+pub(crate) struct Page {
+    pub(crate) head: [u8; 2048],
+    /// For the text that is signed.
+    pub(crate) text: [u8; 1024],
+    /// For the head, and as much of the contents as fits.
+    pub(crate) bytes: [u8; PAGE],
+}
+
+impl ReplyRoom {
+    /// Room for replies.
+    pub fn new() -> ReplyRoom {
+        ReplyRoom {
+            page: Page {
+                head: [0; 2048],
+                text: [0; 1024],
+                bytes: [0; PAGE],
+            },
+            change: [0; 512],
+            contents: [0; 512],
+        }
+    }
+}
+
 /// A reply: a page with its head and as much of the contents as fits, and the rest of the contents.
 /// Contracts see it as its bytes.
 #[derive(Drop)]
 pub struct Reply<'a> {
-    page: [u8; 4096],
-    len: usize,
+    page: &'a [u8],
     rest: &'a [u8],
 }
 
 impl<'a> Model for Reply<'a> {
-    ghost use Rattle.std.specs.Prelude.{ℕ, ◌≤◌, ◌++◌, List, length, take};
+    ghost use Rattle.std.specs.Prelude.{ℕ, ◌++◌, List};
 
     ghost Value = { List ℕ };
 
-    ghost view = { λ r. take r.len r.page ++ r.rest.now };
-
-    ghost invariant = { λ r. r.len ≤ length r.page };
+    ghost view = { λ r. r.page.now ++ r.rest.now };
 }
 
 impl<'a> Reply<'a> {
-    /// The reply of this head, with its contents.
-    pub(crate) fn of(head: &ReplyHead<'_>, contents: &'a [u8]) -> Reply<'a>
+    /// The reply of this head, with its contents, made in a page. `room` is for the head.
+    pub(crate) fn of(
+        head: &ReplyHead<'_>,
+        contents: &'a [u8],
+        room: &mut [u8; 2048],
+        page: &'a mut [u8; PAGE],
+    ) -> Reply<'a>
         requires { IsReplyHead head.now }
         ensures { result ≡ reply_head (reply_of head.now) ++ contents.entry.now }
     {
-        let mut bytes = [0; 2048];
-        let head = write_reply_head(head, &mut bytes);
-        let mut page = [0; PAGE];
-        let len = put(&mut page, 0, &bytes[..head]);
+        let len = put_head(head, room, page);
         let front = contents.len().min(PAGE - len);
-        let len = put(&mut page, len, &contents[..front]);
+        let len = put(page, len, &contents[..front]);
         Reply {
-            page,
-            len,
+            page: &page[..len],
             rest: &contents[front..],
         }
     }
@@ -57,7 +91,7 @@ impl<'a> Reply<'a> {
     pub fn append_to(&self, out: &mut Vec<u8>) -> Result<(), NoMemory>
         ensures { OnOk result (out.new.items ≡ out.old.items ++ self.now) }
     {
-        out.extend_from_slice(&self.page[..self.len])?;
+        out.extend_from_slice(self.page)?;
         out.extend_from_slice(self.rest)?;
         Ok(())
     }
@@ -72,9 +106,19 @@ impl<'a> Reply<'a> {
         ensures fault { OnErr result ((n : ℕ) × (n < length self.now)
             × Failed (after_send (take n self.now) (K.link k.old)) (K.link k.new)) }
     {
-        send_all(k, &self.page[..self.len])?;
+        send_all(k, self.page)?;
         send_all(k, self.rest)
     }
+}
+
+/// Writes a head at the front of a page, and answers how many bytes it has.
+fn put_head(head: &ReplyHead<'_>, room: &mut [u8; 2048], page: &mut [u8; PAGE]) -> usize
+    requires { IsReplyHead head.now }
+    ensures within { result ≤ 2048 }
+    ensures head { take result page.new ≡ reply_head (reply_of head.now) }
+{
+    let len = write_reply_head(head, room);
+    put(page, 0, &room[..len])
 }
 
 /// The reply to a refusal, which is signed where there is a signature.

@@ -16,7 +16,7 @@ ghost use Rattle.house_core.specs.Session.{refused_reply};
 
 use crate::house::House;
 use crate::presented::Presented;
-use crate::reply::{Reply, refusal_head};
+use crate::reply::{Reply, ReplyRoom, refusal_head};
 use crate::settled::{Settled, drop_settled};
 use crate::trade::Trade;
 use mc_base::Moment;
@@ -90,6 +90,7 @@ impl<O: Outside, T: Trade> House<O, T> {
 pub fn send_settled<O: Outside, T: Trade>(
     house: &mut House<O, T>,
     s: Settled,
+    room: &mut ReplyRoom,
 ) -> Result<(), LinkFault>
     requires link { IsTrue (O.link house.old.journal.disk).stands }
     requires kept { KeepsReply house.old.bench s.number }
@@ -109,7 +110,7 @@ pub fn send_settled<O: Outside, T: Trade>(
 {
     let number = s.number();
     drop_settled(s);
-    send_again(house, number)
+    send_again(house, number, room)
 }
 
 /// Sends the first reply to the entry of a number, which is kept, on the link that stands. At an `Err` a
@@ -117,6 +118,7 @@ pub fn send_settled<O: Outside, T: Trade>(
 pub fn send_again<O: Outside, T: Trade>(
     house: &mut House<O, T>,
     number: u64,
+    room: &mut ReplyRoom,
 ) -> Result<(), LinkFault>
     requires link { IsTrue (O.link house.old.journal.disk).stands }
     requires kept { KeepsReply house.old.bench number }
@@ -134,8 +136,7 @@ pub fn send_again<O: Outside, T: Trade>(
         → (n : ℕ) × (n < length (ledger.reply_of h number))
         × Failed (after_send (take n (ledger.reply_of h number)) (O.link house.old.journal.disk)) (O.link house.new.journal.disk)) }
 {
-    let mut room = [0; 512];
-    let reply = house.bench.first_reply(number, &mut room);
+    let reply = house.bench.first_reply(number, room);
     reply.send(&mut house.journal)
 }
 
@@ -146,6 +147,7 @@ pub fn send_refusal<O: Outside, T: Trade>(
     house: &mut House<O, T>,
     q: Option<&Presented<'_>>,
     refusal: &Refusal,
+    room: &mut ReplyRoom,
 ) -> Result<(), LinkFault>
     requires link { IsTrue (O.link house.old.journal.disk).stands }
     requires site { IsOfSite refusal.now }
@@ -163,13 +165,17 @@ pub fn send_refusal<O: Outside, T: Trade>(
         → (n : ℕ) × (n < length (refused_reply h (house_time house.old.bench) (option_map (λ q. q.now) q.entry) refusal.now))
         × Failed (after_send (take n (refused_reply h (house_time house.old.bench) (option_map (λ q. q.now) q.entry) refusal.now)) (O.link house.old.journal.disk)) (O.link house.new.journal.disk)) }
 {
-    let reply = house.bench.refused_reply(q, refusal);
+    let reply = house.bench.refused_reply(q, refusal, &mut room.page);
     reply.send(&mut house.journal)
 }
 
 /// Sends the refusal that tells a request that the disk failed, on the link that stands, at a house time.
 /// At an `Err` a prefix of it was sent, and not the whole. It takes no memory.
-pub fn send_disk_fault<O: Outside>(halted: &mut Halted<O>, time: Moment) -> Result<(), LinkFault>
+pub fn send_disk_fault<O: Outside>(
+    halted: &mut Halted<O>,
+    time: Moment,
+    room: &mut ReplyRoom,
+) -> Result<(), LinkFault>
     requires { IsTrue (O.link halted.old).stands }
     ensures moved { O.link_moved halted.old halted.new }
     ensures standing { (O.link halted.new).stands ≡ (O.link halted.old).stands }
@@ -179,6 +185,11 @@ pub fn send_disk_fault<O: Outside>(halted: &mut Halted<O>, time: Moment) -> Resu
         → (n : ℕ) × (n < length (ledger.refusal_of a.0 time a.1 refusals.DiskFault))
         × Failed (after_send (take n (ledger.refusal_of a.0 time a.1 refusals.DiskFault)) (O.link halted.old)) (O.link halted.new)) }
 {
-    let reply = Reply::of(&refusal_head(time, &Refusal::DiskFault, None), b"");
+    let reply = Reply::of(
+        &refusal_head(time, &Refusal::DiskFault, None),
+        b"",
+        &mut room.page.head,
+        &mut room.page.bytes,
+    );
     reply.send(halted)
 }

@@ -15,7 +15,7 @@ ghost use Rattle.house_core.specs.Representation.{StateRepresents};
 use crate::house_state::HouseState;
 use crate::offer::Body;
 use crate::presented::Presented;
-use crate::reply::{Reply, refusal_head};
+use crate::reply::{Page, Reply, refusal_head};
 use crate::stages::terms_of;
 use kept_replies::KeptEntry;
 use mc_base::Moment;
@@ -24,8 +24,15 @@ use millicent_http::{ReplyHead, write_reply_text};
 use scrip_certs::sign_reply;
 use scrip_form::write_scrip;
 
-/// The first reply to a request, from what is kept of its entry and what the entry brought.
-pub(crate) fn taken_reply<'a>(q: &Request<'_>, entry: &KeptEntry, body: &Body<'a>) -> Reply<'a>
+/// The first reply to a request, from what is kept of its entry and what the entry brought. `text` is for
+/// that of the change.
+pub(crate) fn taken_reply<'a>(
+    q: &Request<'_>,
+    entry: &KeptEntry,
+    body: &Body<'a>,
+    text: &mut [u8; 512],
+    page: &'a mut Page,
+) -> Reply<'a>
     requires { AreContents body.now }
     ensures { result ≡ ledger.taken_reply (Some entry.now.secret) (unwrap_or (seen q.now.scrip) []) q.now.target.now (contents_of body.now)
         (ledger.taken_values entry.now.moment (contents_of body.now) entry.now.price (option_map (λ c. scrip_text c.0 c.1) entry.now.change)) }
@@ -33,16 +40,21 @@ pub(crate) fn taken_reply<'a>(q: &Request<'_>, entry: &KeptEntry, body: &Body<'a
     match entry.change {
         Some(change) => {
             let (piece, cert) = change;
-            let mut text = [0; 512];
-            let len = write_scrip(&piece, &cert, &mut text);
-            give(q, entry, body, Some(&text[..len]))
+            let len = write_scrip(&piece, &cert, text);
+            give(q, entry, body, Some(&text[..len]), page)
         }
-        None => give(q, entry, body, None),
+        None => give(q, entry, body, None, page),
     }
 }
 
 /// The first reply, with this change.
-fn give<'a>(q: &Request<'_>, entry: &KeptEntry, body: &Body<'a>, change: Option<&[u8]>) -> Reply<'a>
+fn give<'a>(
+    q: &Request<'_>,
+    entry: &KeptEntry,
+    body: &Body<'a>,
+    change: Option<&[u8]>,
+    page: &'a mut Page,
+) -> Reply<'a>
     requires contents { AreContents body.now }
     requires change { IfSome change (λ text. length text.now ≤ 293) }
     ensures { result ≡ ledger.taken_reply (Some entry.now.secret) (unwrap_or (seen q.now.scrip) []) q.now.target.now (contents_of body.now)
@@ -58,33 +70,39 @@ fn give<'a>(q: &Request<'_>, entry: &KeptEntry, body: &Body<'a>, change: Option<
         change,
         sign: None,
     };
-    head.sign = Some(sign(q, &head, body.bytes, &entry.secret));
-    Reply::of(&head, body.bytes)
+    head.sign = Some(sign(q, &head, body.bytes, &entry.secret, &mut page.text));
+    Reply::of(&head, body.bytes, &mut page.head, &mut page.bytes)
 }
 
 /// The reply to a refusal, signed under this secret.
-pub(crate) fn signed_refusal(
+pub(crate) fn signed_refusal<'a>(
     time: Moment,
     q: &Request<'_>,
     refusal: &Refusal,
     price: Option<u64>,
     secret: &[u8; 16],
-) -> Reply<'static>
+    page: &'a mut Page,
+) -> Reply<'a>
     requires { IsOfSite refusal.now }
     ensures { result ≡ reply_head (ledger.signed (Some secret.now) (unwrap_or (seen q.now.scrip) []) q.now.target.now [] (ledger.refused_values time refusal.now price)) }
 {
     let mut head = refusal_head(time, refusal, price);
-    head.sign = Some(sign(q, &head, b"", secret));
-    Reply::of(&head, b"")
+    head.sign = Some(sign(q, &head, b"", secret, &mut page.text));
+    Reply::of(&head, b"", &mut page.head, &mut page.bytes)
 }
 
-/// The signature of a reply to a request.
-fn sign(q: &Request<'_>, head: &ReplyHead<'_>, contents: &[u8], secret: &[u8; 16]) -> [u8; 16]
+/// The signature of a reply to a request. `text` is for the text that is signed.
+fn sign(
+    q: &Request<'_>,
+    head: &ReplyHead<'_>,
+    contents: &[u8],
+    secret: &[u8; 16],
+    text: &mut [u8; 1024],
+) -> [u8; 16]
     requires { IsReplyHead head.now }
     ensures { result ≡ reply_signature (unwrap_or (seen q.now.scrip) []) q.now.target.now (reply_text (reply_of head.now)) contents.now secret.now }
 {
-    let mut text = [0; 1024];
-    let len = write_reply_text(head, &mut text);
+    let len = write_reply_text(head, text);
     sign_reply(
         q.scrip.unwrap_or(b""),
         q.target,
