@@ -14,8 +14,8 @@ ghost use Rattle.house_serving.specs.Links.{KeptCounts, PartCauses, RepliesTo, A
 
 use crate::turn::{Turn, turn_of};
 use house_core::{
-    House, Outcome, Presented, Response, Trade, send_again, send_disk_fault, send_refusal,
-    send_settled,
+    House, Outcome, Presented, ReplyRoom, Response, Trade, send_again, send_disk_fault,
+    send_refusal, send_settled,
 };
 use mc_base::Moment;
 use mc_outside::{Link, Outside};
@@ -27,6 +27,7 @@ use scrip_journal::Halted;
 pub(crate) fn take_turn<O: Outside, T: Trade>(
     house: House<O, T>,
     reader: &mut HeadReader,
+    room: &mut ReplyRoom,
 ) -> Result<(House<O, T>, Turn), Halted<O>>
     requires stands { IsTrue (O.link house.journal.disk).stands }
     ensures causes { PartCauses O.link O.disk house.journal.disk (λ r. r.0) result }
@@ -39,8 +40,8 @@ pub(crate) fn take_turn<O: Outside, T: Trade>(
 {
     let mut house = house;
     match reader.take(&mut house) {
-        HeadOut::Head(q, after) => answer_request(house, &Presented::of(q), after),
-        HeadOut::Refused(head, after) => Ok(answer_refused(house, head, after)),
+        HeadOut::Head(q, after) => answer_request(house, &Presented::of(q), after, room),
+        HeadOut::Refused(head, after) => Ok(answer_refused(house, head, after, room)),
         HeadOut::End => Ok((house, Turn::End)),
         HeadOut::Fault => Ok((house, Turn::NotReceived)),
     }
@@ -51,6 +52,7 @@ fn answer_request<O: Outside, T: Trade>(
     house: House<O, T>,
     q: &Presented<'_>,
     after: After,
+    room: &mut ReplyRoom,
 ) -> Result<(House<O, T>, Turn), Halted<O>>
     requires stands { IsTrue (O.link house.journal.disk).stands }
     requires target { IsTarget q.now.target }
@@ -63,7 +65,7 @@ fn answer_request<O: Outside, T: Trade>(
 {
     let mut house = house;
     let _reading = house.raise_by_clock();
-    reply_to(house, q, after)
+    reply_to(house, q, after, room)
 }
 
 /// Answers a head that is refused, at a reading of the clock.
@@ -71,6 +73,7 @@ fn answer_refused<O: Outside, T: Trade>(
     house: House<O, T>,
     head: HeadRefusal,
     after: After,
+    room: &mut ReplyRoom,
 ) -> (House<O, T>, Turn)
     requires stands { IsTrue (O.link house.journal.disk).stands }
     ensures counts { KeptCounts O.link O.disk house.journal.disk result.0.journal.disk }
@@ -82,7 +85,7 @@ fn answer_refused<O: Outside, T: Trade>(
 {
     let mut house = house;
     let _reading = house.raise_by_clock();
-    let sent = send_refusal(&mut house, None, &Refusal::from(head));
+    let sent = send_refusal(&mut house, None, &Refusal::from(head), room);
     (house, turn_of(sent, after))
 }
 
@@ -91,6 +94,7 @@ fn reply_to<O: Outside, T: Trade>(
     house: House<O, T>,
     q: &Presented<'_>,
     after: After,
+    room: &mut ReplyRoom,
 ) -> Result<(House<O, T>, Turn), Halted<O>>
     requires stands { IsTrue (O.link house.journal.disk).stands }
     requires target { IsTarget q.now.target }
@@ -107,28 +111,28 @@ fn reply_to<O: Outside, T: Trade>(
             let mut house = house;
             match response {
                 Response::New(settled) => {
-                    let sent = send_settled(&mut house, settled);
+                    let sent = send_settled(&mut house, settled, room);
                     Ok((house, turn_of(sent, after)))
                 }
                 Response::Again(number) => {
-                    let sent = send_again(&mut house, number);
+                    let sent = send_again(&mut house, number, room);
                     Ok((house, turn_of(sent, after)))
                 }
             }
         }
         Outcome::Refused(house, refusal) => {
             let mut house = house;
-            let sent = send_refusal(&mut house, Some(q), &refusal);
+            let sent = send_refusal(&mut house, Some(q), &refusal, room);
             Ok((house, turn_of(sent, after)))
         }
         Outcome::NoMemory(house) => {
             let mut house = house;
-            let sent = send_refusal(&mut house, Some(q), &Refusal::NoMemory);
+            let sent = send_refusal(&mut house, Some(q), &Refusal::NoMemory, room);
             Ok((house, turn_of(sent, after)))
         }
         Outcome::Halted(halted) => {
             let mut halted = halted;
-            let _told = send_disk_fault(&mut halted, time);
+            let _told = send_disk_fault(&mut halted, time, room);
             Err(halted)
         }
     }

@@ -9,7 +9,7 @@ ghost use Rattle.house_serving.specs.Links.{ServesLinks, HaveCauses, PartCauses,
 
 use crate::house_turn::take_turn;
 use crate::turn::Turn;
-use house_core::{House, Trade};
+use house_core::{House, ReplyRoom, Trade};
 use mc_outside::{Link, Outside};
 use millicent_http::HeadReader;
 use scrip_journal::Halted;
@@ -42,11 +42,12 @@ pub fn serve_links<O: Outside, T: Trade>(house: House<O, T>, links: u32) -> Serv
     let Ok(mut reader) = HeadReader::new(house.alloc()) else {
         return ServeOut::NoMemory(house);
     };
+    let mut room = ReplyRoom::new();
     let mut house = house;
     let mut served = 0;
     'links: while served < links {
         match house.next_link() {
-            Ok(true) => match serve_link(house, &mut reader) {
+            Ok(true) => match serve_link(house, &mut reader, &mut room) {
                 Ok(after) => house = after,
                 Err(halted) => return ServeOut::Halted(halted),
             },
@@ -63,6 +64,7 @@ pub fn serve_links<O: Outside, T: Trade>(house: House<O, T>, links: u32) -> Serv
 fn serve_link<O: Outside, T: Trade>(
     house: House<O, T>,
     reader: &mut HeadReader,
+    room: &mut ReplyRoom,
 ) -> Result<House<O, T>, Halted<O>>
     requires stands { IsTrue (O.link house.journal.disk).stands }
     ensures causes { PartCauses O.link O.disk house.journal.disk (λ x. x) result }
@@ -71,7 +73,7 @@ fn serve_link<O: Outside, T: Trade>(
         → ServesLink O.link O.disk T.trade (limits_of house.bench) house.journal.disk (state_of h house.bench) result }
 {
     reader.restart();
-    match serve_turns(house, reader) {
+    match serve_turns(house, reader, room) {
         Ok((house, _turn)) => {
             let mut house = house;
             house.end_link();
@@ -89,6 +91,7 @@ fn serve_link<O: Outside, T: Trade>(
 fn serve_turns<O: Outside, T: Trade>(
     house: House<O, T>,
     reader: &mut HeadReader,
+    room: &mut ReplyRoom,
 ) -> Result<(House<O, T>, Turn), Halted<O>>
     requires stands { IsTrue (O.link house.journal.disk).stands }
     requires empty { reader.old ≡ nothing_held }
@@ -99,7 +102,7 @@ fn serve_turns<O: Outside, T: Trade>(
 {
     let mut house = house;
     'turns: loop {
-        match take_turn(house, reader) {
+        match take_turn(house, reader, room) {
             Ok((after, turn)) => match turn {
                 Turn::GoOn => house = after,
                 turn => return Ok((after, turn)),

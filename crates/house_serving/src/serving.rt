@@ -12,7 +12,7 @@ ghost use Rattle.house_serving.specs.Turns.{Ended};
 ghost use Rattle.house_serving.specs.Served.{Served};
 
 use crate::turn::{Turn, serve_next};
-use house_core::{Bench, Trade};
+use house_core::{Bench, ReplyRoom, Trade};
 use mc_outside::Link;
 use millicent_http::{Clock, HeadReader};
 
@@ -58,10 +58,11 @@ pub fn serve_bench_by<K: Link, T: Trade>(
     let Ok(mut reader) = HeadReader::new(bench.alloc()) else {
         return Err(BenchEnd::NoMemory);
     };
+    let mut room = ReplyRoom::new();
     let mut served = 0;
     'links: while served < links {
         match k.next_link() {
-            Ok(true) => serve_standing(bench, &mut reader, k, clock),
+            Ok(true) => serve_standing(bench, &mut reader, k, clock, &mut room),
             Ok(false) => return Ok(served),
             Err(_) => return Err(BenchEnd::Link),
         }
@@ -77,6 +78,7 @@ fn serve_standing<K: Link, T: Trade>(
     reader: &mut HeadReader,
     k: &mut K,
     clock: &Clock,
+    room: &mut ReplyRoom,
 )
     requires stands { IsTrue (K.link k.old).stands }
     requires house { (h : History) × IsHouse T.trade bench.old h }
@@ -86,7 +88,7 @@ fn serve_standing<K: Link, T: Trade>(
     ensures course { Refines T.trade (BySteps (λ steps s. HadLink (Step (limits_of bench.old)) clock.now steps s (K.link k.old) (K.link k.new))) bench.old bench.new }
 {
     reader.restart();
-    serve_turns(bench, reader, k, clock);
+    serve_turns(bench, reader, k, clock, room);
     k.end_link();
 }
 
@@ -96,6 +98,7 @@ fn serve_turns<K: Link, T: Trade>(
     reader: &mut HeadReader,
     k: &mut K,
     clock: &Clock,
+    room: &mut ReplyRoom,
 ) -> Turn
     requires stands { IsTrue (K.link k.old).stands }
     requires empty { reader.old ≡ nothing_held }
@@ -106,7 +109,7 @@ fn serve_turns<K: Link, T: Trade>(
     ensures ended { Refines T.trade (BySteps (λ steps s. Ended (Step (limits_of bench.old)) clock.now result steps s (K.link k.old) (K.link k.new))) bench.old bench.new }
 {
     'turns: loop {
-        match serve_next(bench, reader, k, clock) {
+        match serve_next(bench, reader, k, clock, room) {
             Turn::GoOn => {}
             turn => return turn,
         }

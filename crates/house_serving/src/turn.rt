@@ -12,7 +12,7 @@ ghost use Rattle.house_serving.specs.declared.turn.Turn.TheVariants.{GoOn};
 ghost use Rattle.house_core.specs.Session.{State, Step};
 ghost use Rattle.house_serving.specs.Turns.{Sent, AnsweredItem, Turned, turn_after};
 
-use house_core::{Bench, Presented, Reply, Trade};
+use house_core::{Bench, Presented, Reply, ReplyRoom, Trade};
 use mc_base::Moment;
 use mc_outside::{Link, LinkFault};
 use millicent_http::{After, Clock, HeadOut, HeadReader, HeadRefusal};
@@ -36,6 +36,7 @@ pub(crate) fn serve_next<K: Link, T: Trade>(
     reader: &mut HeadReader,
     k: &mut K,
     clock: &Clock,
+    room: &mut ReplyRoom,
 ) -> Turn
     requires stands { IsTrue (K.link k.old).stands }
     ensures moved { K.link_moved k.old k.new }
@@ -44,8 +45,8 @@ pub(crate) fn serve_next<K: Link, T: Trade>(
     ensures turned { Refines T.trade (BySteps (λ steps s. Turned (Step (limits_of bench.old)) clock.now result steps s reader.old (K.link k.old) reader.new (K.link k.new))) bench.old bench.new }
 {
     match reader.take(k) {
-        HeadOut::Head(q, after) => serve_request(bench, &Presented::of(q), after, k, clock),
-        HeadOut::Refused(head, after) => serve_refused(bench, head, after, k, clock),
+        HeadOut::Head(q, after) => serve_request(bench, &Presented::of(q), after, k, clock, room),
+        HeadOut::Refused(head, after) => serve_refused(bench, head, after, k, clock, room),
         HeadOut::End => Turn::End,
         HeadOut::Fault => Turn::NotReceived,
     }
@@ -58,6 +59,7 @@ fn serve_request<K: Link, T: Trade>(
     after: After,
     k: &mut K,
     clock: &Clock,
+    room: &mut ReplyRoom,
 ) -> Turn
     requires stands { IsTrue (K.link k.old).stands }
     ensures moved { K.link_moved k.old k.new }
@@ -69,8 +71,7 @@ fn serve_request<K: Link, T: Trade>(
 {
     let reading = read_clock(k, clock);
     let said = bench.answer(reading, q);
-    let mut room = [0; 512];
-    send(&bench.reply(q, &said, &mut room), after, k)
+    send(&bench.reply(q, &said, room), after, k)
 }
 
 /// Answers a head that is refused.
@@ -80,6 +81,7 @@ fn serve_refused<K: Link, T: Trade>(
     after: After,
     k: &mut K,
     clock: &Clock,
+    room: &mut ReplyRoom,
 ) -> Turn
     requires stands { IsTrue (K.link k.old).stands }
     ensures moved { K.link_moved k.old k.new }
@@ -90,7 +92,7 @@ fn serve_refused<K: Link, T: Trade>(
         → AnsweredItem (Step (limits_of bench.old)) clock.now (refused (as_refusal head) closes) after result step s (K.link k.old) (K.link k.new))) bench.old bench.new }
 {
     let reading = read_clock(k, clock);
-    send(&bench.refuse_head(reading, head), after, k)
+    send(&bench.refuse_head(reading, head, room), after, k)
 }
 
 /// The reading of the clock.

@@ -6,7 +6,7 @@ ghost use Rattle.millicent_http.specs.Steps.{BySteps, IsSession, sent_of};
 ghost use Rattle.house_core.specs.Bench.{Refines, limits_of};
 ghost use Rattle.house_core.specs.Session.{Step};
 
-use house_core::{Bench, Presented, Trade};
+use house_core::{Bench, Presented, ReplyRoom, Trade};
 use mc_base::{Moment, NoMemory};
 use millicent_http::{ItemRef, MAX_ITEMS, next_item};
 
@@ -22,12 +22,13 @@ pub fn reply_to_link<T: Trade>(
     ensures limits { limits_of bench.new ≡ limits_of bench.old }
     ensures replied { OnOk result (Refines T.trade (BySteps (λ steps s. (out.new.items ≡ sent_of steps) × IsSession (Step (limits_of bench.old)) moment link.now s steps)) bench.old bench.new) }
 {
+    let mut room = ReplyRoom::new();
     let mut rest = link;
     for _ in 0..MAX_ITEMS {
         let Some((item, tail)) = next_item(rest) else {
             return Ok(());
         };
-        reply_to(bench, moment, &item, out)?;
+        reply_to(bench, moment, &item, &mut room, out)?;
         if item.closes() {
             return Ok(());
         }
@@ -41,6 +42,7 @@ fn reply_to<T: Trade>(
     bench: &mut Bench<T>,
     moment: Moment,
     item: &ItemRef<'_>,
+    room: &mut ReplyRoom,
     out: &mut Vec<u8>,
 ) -> Result<(), NoMemory>
     ensures limits { limits_of bench.new ≡ limits_of bench.old }
@@ -52,9 +54,8 @@ fn reply_to<T: Trade>(
         ItemRef::Request(q, _) => {
             let q = Presented::of(*q);
             let said = bench.answer(moment, &q);
-            let mut room = [0; 512];
-            bench.reply(&q, &said, &mut room).append_to(out)
+            bench.reply(&q, &said, room).append_to(out)
         }
-        ItemRef::Refused(head, _) => bench.refuse_head(moment, *head).append_to(out),
+        ItemRef::Refused(head, _) => bench.refuse_head(moment, *head, room).append_to(out),
     }
 }
