@@ -10,7 +10,7 @@ use Rattle.scrip_journal.specs.Exits.{EitherNoOutput}
 use Rattle.house_core.specs.declared.house.House.{House}
 use Rattle.house_core.specs.Bench.{house_time, limits_of}
 use Rattle.house_core.specs.Verdicts.{accept_entry}
-use Rattle.house_core.proofs.Accepting.{holds_roomed}
+use Rattle.house_core.proofs.Accepting.{holds_roomed, ready_as_before}
 use Rattle.house_core.proofs.Contents.{contents_roomed}
 use Rattle.house_core.proofs.HouseDisk.{ran_nothing, as_roomed, has_entered, asked_for, not_full}
 use Rattle.house_core.proofs.house.House.commit.Goals as goal
@@ -23,6 +23,9 @@ returns-in-Err-clause-back g c =
 pub returns-in-Err-clause-exact : goal.returns-in-Err-clause-exact
 returns-in-Err-clause-exact g c h st in_force brings takes =
     as_roomed g.D.Disk.disk g.T.Trade.trade c.args.self _ h refl c.in-Err.ensures.same st
+
+pub apply_accept-number-requires-clause-ready : goal.apply_accept-number-requires-clause-ready
+apply_accept-number-requires-clause-ready g c = ready_as_before c.in-Ok.ensures.same.state c.args.q.now.target c.args.authorization c.requires.ready
 
 pub apply_accept-number-requires-clause-new : goal.apply_accept-number-requires-clause-new
 apply_accept-number-requires-clause-new g c =

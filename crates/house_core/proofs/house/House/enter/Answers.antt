@@ -60,3 +60,10 @@ returns-in-Err-Disk-clause-ran g c h st =
 
 pub returns-in-Ok-append-clause-ran : goal.returns-in-Ok-append-clause-ran
 returns-in-Ok-append-clause-ran g c h st = c.in-Ok-append.ensures.ran h st.journal
+
+pub returns-in-Err-Refused-clause-exact : goal.returns-in-Err-Refused-clause-exact
+returns-in-Err-Refused-clause-exact g c h st =
+    let raised : House g.row.D.Denot g.row.T.Denot = record { journal = c.args.self.journal; bench = c.raise.new.self } in
+    let st' = stands_with g.D.Disk.disk g.T.Trade.trade c.args.self c.raise.new.self h st (c.raise.ensures.same h st.house.represents) (c.raise.ensures.contents h st.house.represents st.house.contents) c.raise.ensures.limits in
+    let fault = rw c.in-Err-Refused.field-0-is at (c.in-Err-Refused.ensures.fault h (c.raise.ensures.same h st.house.represents)) in
+    (rw c.raise.ensures.limits at fault.0, as_roomed g.D.Disk.disk g.T.Trade.trade raised _ h refl c.in-Err-Refused.ensures.same st')

@@ -1,9 +1,14 @@
 use Rattle.std.proofs.Common.{◌≡◌, ◌∙◌, ◌<◌, Some, sym, subst}
 use Rattle.house_core.specs.HouseState.{HouseStateView, end_by}
 use Rattle.house_core.specs.LiveWindows.{AreUsed}
-use Rattle.house_core.proofs.EndLaws.{ends_reserved}
+use Rattle.house_core.proofs.EndLaws.{one_end, ends_reserved}
 use Rattle.house_core.proofs.WindowCounts.{used_reserved}
 use Rattle.house_core.proofs.house_state.HouseState.reserve.Goals as goal
+
+pub reserve-requires-4 : goal.reserve-requires-4
+reserve-requires-4 c =
+    let its : end_by c.self.inside.terms.items c.args.id ≡ Some c.args.end = subst (λ (b : HouseStateView). end_by b.terms c.args.id ≡ Some c.args.end) (sym c.self.view_is) c.requires.its in
+    one_end c.self.inside.terms.items c.self.inside.spent c.args.id c.args.end c.self.invariant.ends its
 
 pub invariant_of-self-2 : goal.invariant_of-self-2
 invariant_of-self-2 c =
