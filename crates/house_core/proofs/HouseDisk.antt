@@ -2,13 +2,13 @@
 use Rattle.std.proofs.Common.{◌≡◌, ◌∙◌, ℕ, ◌+◌, ◌<◌, ◌≤◌, arith, false, Some, Option, option_map, Ok, List, [], ◌∷◌, ◌++◌, length, Err, subst, refl, sym, ap}
 use Rattle.std.specs.Prelude.{Result, MatchResult}
 use Rattle.std.specs.Result.{result_ok}
-use Rattle.mc_outside.specs.DiskView.{DiskView, IsDisk, Ran}
+use Rattle.mc_outside.specs.DiskView.{DiskView, IsDisk, LinkKeeps, Ran}
 use Rattle.mc_outside.proofs.Runs.{ran_none}
 use Rattle.mc_records.specs.Entry.{Entry, payload}
 use Rattle.mc_records.specs.Sizes.{size, entry_size}
 use Rattle.mc_records.proofs.SizeLaws.{length-tail}
 use Rattle.scrip_journal.specs.States.{AtRest, IsJournal}
-use Rattle.scrip_journal.specs.Rests.{journal_leaves}
+use Rattle.scrip_journal.specs.Rests.{journal_keeps, journal_leaves}
 use Rattle.scrip_journal.specs.Exits.{EncodesNoOutput}
 use Rattle.mc_records.specs.declared.limits.Limits.{Limits}
 use Rattle.ledger_model.specs.Histories.{History}
@@ -18,10 +18,13 @@ use Rattle.house_core.specs.declared.verdict.Authorization.{Authorization}
 use Rattle.house_core.specs.HouseState.{HouseStateView, size_with}
 use Rattle.house_core.specs.Representation.{StateRepresents, has_ended}
 use Rattle.house_core.specs.Verdicts.{accept_entry, IsReady, WasAsked}
-use Rattle.house_core.specs.Bench.{Represents, HasContents, IsRoomed, limits_of}
-use Rattle.house_core.specs.House.{HouseRepresents, IsAsItWas, HasEntered, AskedFor, Responds, Leaves}
-use Rattle.house_core.specs.declared.outcome.Outcome.TheVariants.{Done, Refused}
-use Rattle.house_core.specs.declared.outcome.Response.TheVariants.{Again}
+use Rattle.house_core.specs.Bench.{Represents, HasContents, IsRoomed, limits_of, IsHouse}
+use Rattle.house_core.specs.House.{HouseRepresents, IsAsItWas, HasEntered, AskedFor, Responds, Accepted, Leaves, HouseRests}
+use Rattle.house_core.specs.declared.outcome.Outcome.TheVariants.{Done, Refused, NoMemory, Halted}
+use Rattle.house_core.specs.declared.outcome.Response.{Response}
+use Rattle.house_core.specs.declared.outcome.Response.TheVariants.{New, Again}
+use Rattle.house_core.specs.declared.settled.Settled.{Settled}
+use Rattle.mc_records.specs.declared.refusal.Refusal.TheVariants.{Spent}
 use Rattle.mc_records.specs.declared.refusal.Refusal.{Refusal}
 use Rattle.scrip_form.specs.Scrip.{Scrip}
 use Rattle.mc_records.specs.Requests.{Asked}
@@ -126,6 +129,64 @@ pub ran_again : {D T : Type 0} (A : Type 0) (u v : DiskView) (a : Answer) (x : H
 ran_again {D = D} {T = T} A u v a x r n h aside e ran =
     subst (λ (b : Answer). Ran u v (Leaves {D = D} {T = T} {A = A} b (Done x r) h aside)) e ran
 
+-- ---- a call that is not for repeats
+
+-- what it comes to, by what the answer to any request comes to
+pub accepted_new : {D T : Type 0} (view : D → DiskView) (trade : T → TradeView) (disk : D) (h : History) (a : Answer) (x : House D T) (s : Settled)
+    → Responds view trade disk h a (Done x (New s)) → Accepted view trade disk h a (Done x s)
+accepted_new view trade disk h (answers.Take e) x s is = is
+accepted_new view trade disk h (answers.Again m) x s is = absurd is
+accepted_new view trade disk h (answers.Refused f) x s is = absurd is
+
+pub accepted_again : {D T : Type 0} (view : D → DiskView) (trade : T → TradeView) (disk : D) (h : History) (a : Answer) (x : House D T) (n : ℕ)
+    → Responds view trade disk h a (Done x (Again n)) → Accepted view trade disk h a (Refused x Spent)
+accepted_again view trade disk h (answers.Take e) x n is = absurd is
+accepted_again view trade disk h (answers.Again m) x n is = (refl, is.1)
+accepted_again view trade disk h (answers.Refused f) x n is = absurd is
+
+pub accepted_refused : {D T : Type 0} (view : D → DiskView) (trade : T → TradeView) (disk : D) (h : History) (a : Answer) (x : House D T) (g : Refusal)
+    → Responds view trade disk h a (Refused x g) → Accepted view trade disk h a (Refused x g)
+accepted_refused view trade disk h (answers.Take e) x g is = absurd is
+accepted_refused view trade disk h (answers.Again m) x g is = absurd is
+accepted_refused view trade disk h (answers.Refused f) x g is = is
+
+pub accepted_no_memory : {D T : Type 0} (view : D → DiskView) (trade : T → TradeView) (disk : D) (h : History) (a : Answer) (x : House D T)
+    → Responds view trade disk h a (NoMemory x) → Accepted view trade disk h a (NoMemory x)
+accepted_no_memory view trade disk h (answers.Take e) x is = is
+accepted_no_memory view trade disk h (answers.Again m) x is = absurd is
+accepted_no_memory view trade disk h (answers.Refused f) x is = absurd is
+
+-- and its crash pairs
+pub ran_new : {D T : Type 0} (u v : DiskView) (a : Answer) (x : House D T) (s : Settled) (h : History) (aside : List ℕ)
+    → Ran u v (Leaves {D = D} {T = T} {A = Response} a (Done x (New s)) h aside) → Ran u v (Leaves {D = D} {T = T} {A = Settled} a (Done x s) h aside)
+ran_new u v (answers.Take e) x s h aside ran = ran
+ran_new u v (answers.Again m) x s h aside ran = ran
+ran_new u v (answers.Refused f) x s h aside ran = ran
+
+pub ran_repeat : {D T : Type 0} (view : D → DiskView) (trade : T → TradeView) (disk : D) (u v : DiskView) (h : History) (a : Answer) (x : House D T) (n : ℕ) (aside : List ℕ) → Responds view trade disk h a (Done x (Again n))
+    → Ran u v (Leaves {D = D} {T = T} {A = Response} a (Done x (Again n)) h aside) → Ran u v (Leaves {D = D} {T = T} {A = Settled} a (Refused x Spent) h aside)
+ran_repeat view trade disk u v h (answers.Take e) x n aside is ran = absurd is
+ran_repeat view trade disk u v h (answers.Again m) x n aside is ran = ran
+ran_repeat view trade disk u v h (answers.Refused f) x n aside is ran = ran
+
+pub ran_same_refused : {D T : Type 0} (u v : DiskView) (a : Answer) (x : House D T) (g : Refusal) (h : History) (aside : List ℕ)
+    → Ran u v (Leaves {D = D} {T = T} {A = Response} a (Refused x g) h aside) → Ran u v (Leaves {D = D} {T = T} {A = Settled} a (Refused x g) h aside)
+ran_same_refused u v (answers.Take e) x g h aside ran = ran
+ran_same_refused u v (answers.Again m) x g h aside ran = ran
+ran_same_refused u v (answers.Refused f) x g h aside ran = ran
+
+pub ran_no_memory : {D T : Type 0} (u v : DiskView) (a : Answer) (x : House D T) (h : History) (aside : List ℕ)
+    → Ran u v (Leaves {D = D} {T = T} {A = Response} a (NoMemory x) h aside) → Ran u v (Leaves {D = D} {T = T} {A = Settled} a (NoMemory x) h aside)
+ran_no_memory u v (answers.Take e) x h aside ran = ran
+ran_no_memory u v (answers.Again m) x h aside ran = ran
+ran_no_memory u v (answers.Refused f) x h aside ran = ran
+
+pub ran_halted : {D : Type 0} (T : Type 0) (u v : DiskView) (a : Answer) (d : D) (h : History) (aside : List ℕ)
+    → Ran u v (Leaves {D = D} {T = T} {A = Response} a (Halted d) h aside) → Ran u v (Leaves {D = D} {T = T} {A = Settled} a (Halted d) h aside)
+ran_halted T u v (answers.Take e) d h aside ran = ran
+ran_halted T u v (answers.Again m) d h aside ran = ran
+ran_halted T u v (answers.Refused f) d h aside ran = ran
+
 -- ---- an entry that accepts nothing
 
 -- an entry with this payload fits the journal
@@ -137,3 +198,14 @@ not_full_of b h limit bytes e st long fits limits full = omega (arith, length-ta
 pub applied : {E : Type 0} (r : Result ℕ E) (M A B C D : Type 0) (N : ℕ → Type 0) → M → MatchResult r (λ n. M × N n × A) (λ f. (M → ⊥) × B) → MatchResult r (λ n. C) (λ f. D) → A × C
 applied (Ok n) M A B C D N may is contents = (is.2, contents)
 applied (Err f) M A B C D N may is contents = absurd (is.0 may)
+
+-- ---- while links work
+
+-- what links do leaves the house
+pub house_keeps : {O T : Type 0} (disk : O → DiskView) (trade : T → TradeView) (x y : House O T) (h : History) → HouseRepresents disk trade x h
+    → LinkKeeps (disk x.journal.disk) (disk y.journal.disk) → HouseRests x y → HouseRepresents disk trade y h
+house_keeps {T = T} disk trade x y h st keeps rests = record {
+  journal = journal_keeps disk x.journal y.journal h st.journal keeps rests.journal;
+  house = subst (λ (b : Bench T). IsHouse trade b h) (sym rests.bench) st.house;
+  limit = rests.journal.limit ∙ st.limit ∙ ap (λ (b : Bench T). (limits_of b).journal) (sym rests.bench);
+}

@@ -1,8 +1,8 @@
 -- A house over a journal.
-use Rattle.std.proofs.Common.{◌∙◌, ap, sym, subst}
+use Rattle.std.proofs.Common.{◌∙◌}
 use Rattle.std.specs.Prelude.{◌≡◌, refl, ℕ, ◌+◌, ◌<◌, ◌≤◌, false, max, List, [], ◌∷◌, ◌++◌, length, Some, option_map, Result, Ok, Err}
 use Rattle.mc_outside.specs.Bytes.{Rose, BeginsWith}
-use Rattle.mc_outside.specs.DiskView.{DiskView, LinkKeeps}
+use Rattle.mc_outside.specs.DiskView.{DiskView}
 use Rattle.mc_records.specs.declared.limits.Limits.{Limits}
 use Rattle.mc_records.specs.Entry.{Entry}
 use Rattle.mc_records.specs.declared.refusal.Refusal.{Refusal}
@@ -18,9 +18,8 @@ use Rattle.spent_windows.specs.Windows.{is_marked}
 use Rattle.spent_windows.specs.Fresh.{FreshView}
 use Rattle.scrip_journal.specs.Layout.{Encodes}
 use Rattle.scrip_journal.specs.States.{IsJournal}
-use Rattle.scrip_journal.specs.Rests.{RestsAs, rests_none, rests_then, journal_keeps}
+use Rattle.scrip_journal.specs.Rests.{RestsAs, rests_none, rests_then}
 use Rattle.scrip_journal.specs.Exits.{EncodesNoOutput, EitherNoOutput}
-use Rattle.house_core.specs.declared.bench.Bench.{Bench}
 use Rattle.house_core.specs.declared.house.House.{House}
 use Rattle.house_core.specs.declared.settled.Settled.{Settled}
 use Rattle.house_core.specs.declared.outcome.Outcome.{Outcome}
@@ -174,12 +173,3 @@ house_rests_none a = record { journal = rests_none a.journal; bench = refl }
 
 pub house_rests_then : {D T : Type 0} (a b c : House D T) → HouseRests a b → HouseRests b c → HouseRests a c
 house_rests_then a b c m n = record { journal = rests_then a.journal b.journal c.journal m.journal n.journal; bench = n.bench ∙ m.bench }
-
--- what links do leaves the house
-pub house_keeps : {O T : Type 0} (disk : O → DiskView) (trade : T → TradeView) (x y : House O T) (h : History) → HouseRepresents disk trade x h
-    → LinkKeeps (disk x.journal.disk) (disk y.journal.disk) → HouseRests x y → HouseRepresents disk trade y h
-house_keeps {T = T} disk trade x y h st keeps rests = record {
-  journal = journal_keeps disk x.journal y.journal h st.journal keeps rests.journal;
-  house = subst (λ (b : Bench T). IsHouse trade b h) (sym rests.bench) st.house;
-  limit = rests.journal.limit ∙ st.limit ∙ ap (λ (b : Bench T). (limits_of b).journal) (sym rests.bench);
-}

@@ -19,7 +19,8 @@ use Rattle.millicent_http.proofs.CourseLemmas.{links_start, links_go_on}
 use Rattle.house_core.specs.declared.bench.Bench.{Bench}
 use Rattle.house_core.specs.declared.house.House.{House}
 use Rattle.house_core.specs.Bench.{house_time, limits_of, state_of}
-use Rattle.house_core.specs.House.{HouseRepresents, house_keeps}
+use Rattle.house_core.specs.House.{HouseRepresents}
+use Rattle.house_core.proofs.HouseDisk.{house_keeps}
 use Rattle.house_core.specs.Session.{State, Step}
 use Rattle.house_serving.specs.declared.turn.Turn.{Turn}
 use Rattle.house_serving.specs.declared.turn.Turn.TheVariants as turns

@@ -38,7 +38,8 @@ use Rattle.house_core.specs.declared.outcome.Outcome.TheVariants as outcomes
 use Rattle.house_core.specs.declared.outcome.Response.{Response}
 use Rattle.house_core.specs.declared.outcome.Response.TheVariants.{New, Again}
 use Rattle.house_core.specs.Bench.{house_time, limits_of, state_of}
-use Rattle.house_core.specs.House.{HouseRepresents, HouseRests, HasEntered, IsAsItWas, Responds, Leaves, house_keeps}
+use Rattle.house_core.specs.House.{HouseRepresents, HouseRests, HasEntered, IsAsItWas, Responds, Leaves}
+use Rattle.house_core.proofs.HouseDisk.{house_keeps}
 use Rattle.house_core.specs.Session.{State, Gives, entered, raised, Step}
 use Rattle.house_serving.specs.declared.turn.Turn.{Turn}
 use Rattle.house_serving.specs.declared.turn.Turn.TheVariants.{GoOn, Last, End, NotReceived, NotSent}

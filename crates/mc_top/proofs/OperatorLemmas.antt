@@ -22,7 +22,8 @@ use Rattle.house_core.specs.declared.house.House.{House}
 use Rattle.house_core.specs.declared.outcome.Outcome.{Outcome}
 use Rattle.house_core.specs.declared.outcome.Outcome.TheVariants as outcomes
 use Rattle.house_core.specs.Bench.{house_time, limits_of}
-use Rattle.house_core.specs.House.{HouseRepresents, HouseRests, HandsBack, house_rests_none, house_keeps, KeepsTime, OfHouse, CountsFaults, outcome_disk}
+use Rattle.house_core.specs.House.{HouseRepresents, HouseRests, HandsBack, house_rests_none, KeepsTime, OfHouse, CountsFaults, outcome_disk}
+use Rattle.house_core.proofs.HouseDisk.{house_keeps}
 use Rattle.house_core.specs.Trade.{TradeView}
 use Rattle.house_opening.specs.Opening.{OpenedFor}
 use Rattle.house_core.specs.Tasks.{Task, Add, Stays, Refuse, after, IsDoable, Does, LeavesBy, Performs}

@@ -1,4 +1,4 @@
-use Rattle.house_core.specs.House.{house_keeps}
+use Rattle.house_core.proofs.HouseDisk.{house_keeps}
 use Rattle.house_core.proofs.house.House.raise_by_clock.Goals as goal
 
 pub returns-clause-stands : goal.returns-clause-stands
