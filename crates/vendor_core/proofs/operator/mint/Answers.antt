@@ -35,7 +35,7 @@ returns-in-Ok-clause-exact g c h st =
     let number = c.in-Some.minted.number in
     let at : IsMintAt h c.args.reference.now c.args.count c.args.value number = record { moment = is.0; first = c.in-Some.minted.first; entry = entry } in
     let state = st.house.represents.state in
-    let own = state.own.terms in
+    let own = state.own_terms in
     let earlier = earlier_mint (limits_of c.args.house.bench) h number is.0 c.args.reference.now c.args.count c.args.value c.in-Some.minted.first
     state.limits.series_most state.lawful st.journal.stands.fits st.house.represents.of_kind entry in
     let lines = c.in-Ok.ensures.lines h (take number h) c.args.house.bench.state.own.terms st own earlier.name earlier.terms earlier.fits in
@@ -71,5 +71,5 @@ returns-in-Ok-put_lines-clause-exact g c h st =
     let long : c.in-Ok-next_run.first < 2 ^ 64 = search rules in
     let few : own_count h series + c.args.count ≤ 2 ^ 32 = omega (arith, run.1, state.limits.series_most) in
     let fits = run_in_range series (own_count h series) c.args.count c.in-Ok-next_run.first run.0 few long in
-    let lines = c.in-Ok-put_lines.ensures.lines h h c.args.house.bench.state.own.terms st state.own.terms refl refl fits in
-    c.enter_mint.ensures.exact h c.args.house.bench.state.own.terms st state.own.terms lines
+    let lines = c.in-Ok-put_lines.ensures.lines h h c.args.house.bench.state.own.terms st state.own_terms refl refl fits in
+    c.enter_mint.ensures.exact h c.args.house.bench.state.own.terms st state.own_terms lines
