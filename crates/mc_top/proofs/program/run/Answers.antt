@@ -9,7 +9,7 @@ pub returns-clause-obeyed : goal.returns-clause-obeyed
 returns-clause-obeyed g c command words none = inr (
   c.obey-out.result.0,
   c.obey-out.result.1,
-  subst (λ (x : Command). Obeys g.O.Link.link g.O.Disk.disk x c.args.out c.obey-out.result.1 c.obey-out.result.0) (one_command _ _ command c.in-Ok-Some.ensures.command words) c.obey-out.ensures.obeyed,
+  subst (λ (x : Command). Obeys g.O.Link.link g.O.Disk.disk x c.args.out c.obey-out.result.1 c.obey-out.result.0) (one_command _ _ command (rw c.in-Ok-Some.field-0-is at c.in-Ok-Some.ensures.command) words) c.obey-out.ensures.obeyed,
   c.end-out-2.ensures.ends,
 )
 

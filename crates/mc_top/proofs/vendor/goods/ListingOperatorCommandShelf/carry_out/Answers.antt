@@ -6,7 +6,7 @@ use Rattle.mc_records.specs.declared.refusal.Refusal.TheVariants.{ContentsFull}
 use Rattle.vendor_core.specs.Shelf.{shelf_view}
 use Rattle.vendor_core.specs.Tasks.{goods_task}
 use Rattle.mc_top.specs.Operations.{goods_operation}
-use Rattle.mc_top.proofs.OperatorLemmas.{performs_as, performs_refused}
+use Rattle.mc_top.proofs.OperatorLemmas.{back_as, performs_as, performs_refused}
 use Rattle.mc_top.proofs.vendor.goods.ListingOperatorCommandShelf.carry_out.Goals as goal
 
 pub returns-then-input-gt-MOST_CONTENTS-clause-exact : goal.returns-then-input-gt-MOST_CONTENTS-clause-exact
@@ -14,6 +14,9 @@ returns-then-input-gt-MOST_CONTENTS-clause-exact g c h st all begun =
     let operation = goods_operation c.args.self.now in
     performs_refused g.D.Disk.disk shelf_view (operation.asks c.args.input.now h (house_time c.args.house.bench)) (λ task g answer. operation.says h task c.args.line.now.items) _ c.args.house h (ContentsFull 65537) g.met.D.Disk.is_disk st
     (inr (omega (arith, c.if-input-gt-MOST_CONTENTS.true), refl))
+
+pub returns-clause-back : goal.returns-clause-back
+returns-clause-back g c = rw c.without_answer.ensures (back_as g.D.Disk.disk g.D.Disk.disk_moved _ c.args.house.journal.disk c.set_goods.result c.set_goods.ensures.back)
 
 pub returns-clause-exact : goal.returns-clause-exact
 returns-clause-exact g c h st all begun =

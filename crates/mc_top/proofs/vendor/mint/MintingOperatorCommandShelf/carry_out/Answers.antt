@@ -6,11 +6,14 @@ use Rattle.vendor_core.specs.Shelf.{shelf_view}
 use Rattle.vendor_core.specs.Tasks.{TellsMint}
 use Rattle.mc_top.specs.Operations.{mint_operation}
 use Rattle.mc_top.proofs.MintLemmas.{mint_task_at, mint_line_at}
-use Rattle.mc_top.proofs.OperatorLemmas.{performs_as}
+use Rattle.mc_top.proofs.OperatorLemmas.{back_as, performs_as}
 use Rattle.mc_top.proofs.vendor.mint.MintingOperatorCommandShelf.carry_out.Goals as goal
 
 pub mint-requires-clause-empty : goal.mint-requires-clause-empty
 mint-requires-clause-empty g c = c.requires.begun.1
+
+pub returns-clause-back : goal.returns-clause-back
+returns-clause-back g c = rw c.without_answer.ensures (back_as g.D.Disk.disk g.D.Disk.disk_moved _ c.args.house.journal.disk c.mint.result c.mint.ensures.back)
 
 pub returns-clause-exact : goal.returns-clause-exact
 returns-clause-exact g c h st all begun =

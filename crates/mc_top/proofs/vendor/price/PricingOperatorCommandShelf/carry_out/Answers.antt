@@ -5,8 +5,11 @@ use Rattle.house_core.specs.Tasks.{TellsLast}
 use Rattle.vendor_core.specs.Shelf.{shelf_view}
 use Rattle.vendor_core.specs.Tasks.{price_task}
 use Rattle.mc_top.specs.Operations.{price_operation}
-use Rattle.mc_top.proofs.OperatorLemmas.{performs_as}
+use Rattle.mc_top.proofs.OperatorLemmas.{back_as, performs_as}
 use Rattle.mc_top.proofs.vendor.price.PricingOperatorCommandShelf.carry_out.Goals as goal
+
+pub returns-clause-back : goal.returns-clause-back
+returns-clause-back g c = rw c.without_answer.ensures (back_as g.D.Disk.disk g.D.Disk.disk_moved _ c.args.house.journal.disk c.set_price.result c.set_price.ensures.back)
 
 pub returns-clause-exact : goal.returns-clause-exact
 returns-clause-exact g c h st all begun =
