@@ -1,0 +1,17 @@
+//! Piece lines: the input of a broker's stock and of what a wallet takes. Each line is a scrip text, a
+//! space, the secret of the piece's customer as 32 lower-case hex digits, and an LF. An input is 1 to 256
+//! of them.
+//!
+//! Only [`read_piece_lines`] takes memory: room for what it appends.
+#![tactic(auto)]
+
+mod law;
+mod line;
+mod lines;
+mod rule;
+#[cfg(test)]
+mod tests;
+
+pub use law::{fronts_tell_the_input, input_lines_tell_the_input, lines_are_of_pieces};
+pub use lines::{PieceLinesFault, read_piece_lines};
+pub use rule::PieceRule;
