@@ -35,11 +35,7 @@ pub(crate) fn input_of<K: Link>(
 
 /// Reads what the next link brings, up to its end or to one byte more than `most`. All memory is taken before
 /// the link is.
-fn read_input<K: Link>(
-    alloc: Global,
-    k: &mut K,
-    most: usize,
-) -> Result<Vec<u8>, InputFault>
+fn read_input<K: Link>(alloc: Global, k: &mut K, most: usize) -> Result<Vec<u8>, InputFault>
     requires few { most < 2 ^ 32 }
     ensures moved { K.link_moved k.old k.new }
     ensures read { IfOk result (λ bytes. IsInput most (K.link k.old) bytes.items (K.link k.new)) }

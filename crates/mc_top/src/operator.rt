@@ -105,10 +105,7 @@ fn operate_house<O: Outside, T: Trade, C: OperatorCommand<T>>(
 
 /// The outside of a house that did what it was asked, or did not, and how that ended: with this line where it
 /// did.
-fn closed_with<O: Outside, T: Trade>(
-    outcome: Outcome<O, T, ()>,
-    line: List<u8>,
-) -> (O, Status)
+fn closed_with<O: Outside, T: Trade>(outcome: Outcome<O, T, ()>, line: List<u8>) -> (O, Status)
     ensures out { result.0 ≡ outcome_disk outcome }
     ensures status { result.1 ≡ outcome_status outcome line }
     ensures words { number_of result.1 ≡ 2 → ⊥ }

@@ -50,12 +50,6 @@ impl<'a> OperatorCommand<Shelf> for Listing<'a> {
         if input.len() > MOST_CONTENTS {
             return Outcome::Refused(house, Refusal::ContentsFull(65537));
         }
-        without_answer(set_goods(
-            house,
-            self.target(),
-            self.price(),
-            self.kind(),
-            input,
-        ))
+        without_answer(set_goods(house, self.target(), self.price(), self.kind(), input))
     }
 }

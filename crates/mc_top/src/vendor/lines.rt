@@ -11,11 +11,7 @@ use scrip_form::{Name, Target, Terms};
 use std::alloc::Global;
 
 /// The line of goods that were put on sale at a price.
-pub(crate) fn goods_line(
-    alloc: Global,
-    target: &Target,
-    price: Amount,
-) -> Result<Vec<u8>, NoMemory>
+pub(crate) fn goods_line(alloc: Global, target: &Target, price: Amount) -> Result<Vec<u8>, NoMemory>
     ensures { IfOk result (λ line. line.items ≡ goods_line target.now price) }
 {
     let mut line = Vec::new(alloc);
@@ -27,11 +23,7 @@ pub(crate) fn goods_line(
 }
 
 /// The line of a licence of a vendor's: its issuer, whose scrip the vendor takes, and all its terms.
-pub(crate) fn licence_line(
-    alloc: Global,
-    vendor: &Name,
-    terms: &Terms,
-) -> Result<Vec<u8>, NoMemory>
+pub(crate) fn licence_line(alloc: Global, vendor: &Name, terms: &Terms) -> Result<Vec<u8>, NoMemory>
     ensures { IfOk result (λ line. line.items ≡ licence_line vendor.now terms.now) }
 {
     let mut line = Vec::new(alloc);

@@ -45,12 +45,6 @@ impl<'a> OperatorCommand<Shelf> for Minting<'a> {
             (λ task g answer. (mint_operation self.now).says h task line.new.items)
             (limits_of house.bench) house.journal.disk h result }
     {
-        without_answer(mint(
-            house,
-            self.count(),
-            self.value(),
-            self.reference(),
-            line,
-        ))
+        without_answer(mint(house, self.count(), self.value(), self.reference(), line))
     }
 }
