@@ -1,21 +1,21 @@
 -- The reply that a request finds, by the marks.
-use Rattle.std.proofs.Common.{◌≡◌, ℕ, zero, suc, ◌+◌, ◌<◌, ◌≤◌, Bool, true, false, cond, ◌&&◌, ltb, eqb, List, [], ◌∷◌, length, get_or, find, All, IsTrue, slice_get, Option, Some, None, MatchOption, inl, inr, refl, sym, ap, ◌∙◌, arith}
+use Rattle.std.proofs.Common.{◌≡◌, ℕ, zero, suc, ◌+◌, ◌<◌, ◌≤◌, Bool, true, false, cond, ◌&&◌, ltb, eqb, List, [], ◌∷◌, length, get_or, find, All, IsTrue, IsNone, option_map, slice_get, Option, Some, None, MatchOption, inl, inr, refl, sym, subst, ap, ◌∙◌, arith}
 use Rattle.std.specs.Bool.{then_some}
 use Rattle.std.specs.Borrow.{Bor}
+use Rattle.std.specs.Map.{lookup}
 use Rattle.std.specs.Option.{option_copied}
 use Rattle.std.specs.List.Sorted.{IsPartitionPoint}
 use Rattle.std.proofs.lemmas.List.Elements.{All-head, All-tail, All-weaker, All-from_recursion}
 use Rattle.std.proofs.lemmas.Bool.{both_ways, false_from_ne_true, and_parts, and_cases, ltb-true, ltb-false, eqb-true, eqb-false, eq-eqb, ne_eqb}
 use Rattle.std.proofs.lemmas.Option.{same_Some, MatchOption-at_some, MatchOption-at_none, slice_get_past, slice_get_read}
 use Rattle.mc_records.specs.Requests.{Asked}
-use Rattle.kept_replies.specs.declared.index.Mark.{Mark}
 use Rattle.kept_replies.specs.Requests.{is_same_request}
 use Rattle.kept_replies.specs.Kept.{KeptReply, KeptView, AreRising, NoneInTime, is_in_time, with_number}
-use Rattle.kept_replies.specs.Index.{IndexView, request_tag, leads, is_mark_of}
+use Rattle.kept_replies.specs.Index.{IndexView, request_tag, leads, first_led, is_mark_of}
 use Rattle.kept_replies.specs.Store.{HaveOneNumber, AreToOwnRequests, has_mark, is_repeat, is_found}
 use Rattle.kept_replies.proofs.SearchLaws.{find_passes, find_from_all, find_none, none_passes}
-use Rattle.kept_replies.proofs.IndexLaws.{leads_weaker}
-use Rattle.kept_replies.proofs.ReplyLaws.{number, request_is, request_is_own, mark_parts}
+use Rattle.kept_replies.proofs.IndexLaws.{leads_weaker, led_passes, not_led}
+use Rattle.kept_replies.proofs.ReplyLaws.{number, request_is, request_is_own}
 
 -- ---- by its number
 
@@ -87,18 +87,18 @@ asks kept now q r = is_same_request r.asked q && is_in_time kept.keep now r
 
 -- the marks lead from the request's tag to a reply that is asked for
 mark_leads : (kept : KeptView) (index : IndexView) (now : ℕ) (q : Asked) (r : KeptReply) → with_number kept.replies (number r) ≡ Some r → has_mark index r ≡ true
-    → asks kept now q r ≡ true → leads index (request_tag q) (λ m. is_repeat kept now q m.number) ≡ true
+    → asks kept now q r ≡ true → leads index (request_tag q) (is_repeat kept now q) ≡ true
 mark_leads kept index now q r own has asked =
-    leads_weaker (is_mark_of r) (λ m. is_repeat kept now q m.number) it index (request_tag q) (ap (λ (a : Asked). leads index (request_tag a) (is_mark_of r)) (sym same) ∙ has)
+    leads_weaker (is_mark_of r) (is_repeat kept now q) it index (request_tag q) (ap (λ (a : Asked). leads index (request_tag a) (is_mark_of r)) (sym same) ∙ has)
   where
     same : r.asked ≡ q
     same = request_is r.asked q (and_parts (is_same_request r.asked q) (is_in_time kept.keep now r) asked).0
 
-    it : (m : Mark) → is_mark_of r m ≡ true → is_repeat kept now q m.number ≡ true
-    it m of = ap (λ (n : ℕ). is_found kept.keep now q (with_number kept.replies n)) (mark_parts r m of).number ∙ ap (is_found kept.keep now q) own ∙ asked
+    it : (m : ℕ) → is_mark_of r m ≡ true → is_repeat kept now q m ≡ true
+    it m of = ap (λ (n : ℕ). is_found kept.keep now q (with_number kept.replies n)) (eqb-true m (number r) of) ∙ ap (is_found kept.keep now q) own ∙ asked
 
 -- a reply that is asked for and has this number is the one that is found
-pub found_there : (kept : KeptView) (now : ℕ) (q : Asked) (n : ℕ) → AreToOwnRequests kept.replies → is_repeat kept now q n ≡ true
+found_there : (kept : KeptView) (now : ℕ) (q : Asked) (n : ℕ) → AreToOwnRequests kept.replies → is_repeat kept now q n ≡ true
     → find (asks kept now q) kept.replies ≡ with_number kept.replies n
 found_there kept now q n own repeat = go (with_number kept.replies n) refl repeat
   where
@@ -116,17 +116,17 @@ found_there kept now q n own repeat = go (with_number kept.replies n) refl repea
     go (Some r) there passes = found_by_number (asks kept now q) n kept.replies r there passes (one r there passes)
 
 -- where the marks lead from the request's tag to no repeat, none is found
-pub none_led : (kept : KeptView) (index : IndexView) (now : ℕ) (q : Asked) → AreRising kept.replies → All (λ r. has_mark index r ≡ true) kept.replies
-    → leads index (request_tag q) (λ m. is_repeat kept now q m.number) ≡ false → find (asks kept now q) kept.replies ≡ None
+none_led : (kept : KeptView) (index : IndexView) (now : ℕ) (q : Asked) → AreRising kept.replies → All (λ r. has_mark index r ≡ true) kept.replies
+    → leads index (request_tag q) (is_repeat kept now q) ≡ false → find (asks kept now q) kept.replies ≡ None
 none_led kept index now q rising marked none =
     find_none (asks kept now q) kept.replies (λ k d lt. false_from_ne_true (asks kept now q (get_or kept.replies k d)) (λ asked.
     let lead = mark_leads kept index now q (get_or kept.replies k d) (by_own_number kept.replies rising k d lt) (marked k d lt) asked in
-    both_ways (leads index (request_tag q) (λ m. is_repeat kept now q m.number)) none lead))
+    both_ways (leads index (request_tag q) (is_repeat kept now q)) none lead))
 
 -- ---- where none is found
 
 -- none is found where of each reply to the request the keeping time is over, and nowhere else
-pub none_in_time : (kept : KeptView) (now : ℕ) (q : Asked) → find (asks kept now q) kept.replies ≡ None → NoneInTime kept now q
+none_in_time : (kept : KeptView) (now : ℕ) (q : Asked) → find (asks kept now q) kept.replies ≡ None → NoneInTime kept now q
 none_in_time kept now q none =
     All-weaker (λ r. asks kept now q r ≡ false) (λ r. IsTrue (is_same_request r.asked q) → r.entry.moment + kept.keep ≤ now) over kept.replies (none_passes (asks kept now q) kept.replies none)
   where
@@ -137,9 +137,46 @@ none_in_time kept now q none =
           | inr late ↦ ltb-false now (r.entry.moment + kept.keep) late
         ]
 
-pub some_in_time : (kept : KeptView) (now : ℕ) (q : Asked) (r : KeptReply) → find (asks kept now q) kept.replies ≡ Some r → NoneInTime kept now q → ⊥
+some_in_time : (kept : KeptView) (now : ℕ) (q : Asked) (r : KeptReply) → find (asks kept now q) kept.replies ≡ Some r → NoneInTime kept now q → ⊥
 some_in_time kept now q r there none =
     let parts = and_parts (is_same_request r.asked q) (is_in_time kept.keep now r) (find_passes (asks kept now q) kept.replies r there) in
     let over : r.entry.moment + kept.keep ≤ now = find_from_all (λ x. IsTrue (is_same_request x.asked q) → x.entry.moment + kept.keep ≤ now) (asks kept now q) kept.replies r none there parts.0 in
     let before = ltb-true now (r.entry.moment + kept.keep) parts.1 in
     omega (arith, over, before)
+
+-- ---- the number that is found
+
+-- the number of a reply that may be there
+abbrev pub number_if : Option KeptReply → Option ℕ
+number_if o = option_map (λ e. e.number) (option_map (λ r. r.entry) o)
+
+-- the number of a repeat is that of its reply
+numbered : (kept : KeptView) (now : ℕ) (q : Asked) (n : ℕ) → is_repeat kept now q n ≡ true → number_if (with_number kept.replies n) ≡ Some n
+numbered kept now q n repeat = go (with_number kept.replies n) refl repeat
+  where
+    some : ℕ → Option ℕ
+    some m = Some m
+
+    go : (o : Option KeptReply) → with_number kept.replies n ≡ o → is_found kept.keep now q o ≡ true → number_if o ≡ Some n
+    go None there passes = absurd cc
+    go (Some r) there passes = ap some (eqb-true (number r) n (find_passes (λ x. eqb (number x) n) kept.replies r there))
+
+-- the first mark that leads to a repeat is the number of the reply that is asked for
+pub number_found : (kept : KeptView) (index : IndexView) (now : ℕ) (q : Asked) (newest o : Option ℕ) → AreRising kept.replies → AreToOwnRequests kept.replies → All (λ r. has_mark index r ≡ true) kept.replies
+    → newest ≡ lookup (λ t. eqb (request_tag q) t) index.newest → first_led (is_repeat kept now q) newest index.older ≡ o → o ≡ number_if (find (asks kept now q) kept.replies)
+number_found kept index now q newest None rising own marked its is =
+    sym (ap number_if (none_led kept index now q rising marked (not_led (is_repeat kept now q) index newest (request_tag q) its is)))
+number_found kept index now q newest (Some n) rising own marked its is =
+    let repeat = led_passes (is_repeat kept now q) newest index.older n is in
+    sym (ap number_if (found_there kept now q n own repeat) ∙ numbered kept now q n repeat)
+
+-- there is none where of each reply to the request the keeping time is over, and nowhere else
+pub none_exactly : (kept : KeptView) (now : ℕ) (q : Asked) (o : Option ℕ) → o ≡ number_if (find (asks kept now q) kept.replies) → (IsNone o → NoneInTime kept now q) × (NoneInTime kept now q → IsNone o)
+none_exactly kept now q o is = subst Exactly (sym is) (go (find (asks kept now q) kept.replies) refl)
+  where
+    Exactly : Option ℕ → Type 0
+    Exactly p = (IsNone p → NoneInTime kept now q) × (NoneInTime kept now q → IsNone p)
+
+    go : (f : Option KeptReply) → find (asks kept now q) kept.replies ≡ f → Exactly (number_if f)
+    go None there = (λ none. none_in_time kept now q there, λ over. refl)
+    go (Some r) there = (λ none. absurd cc, λ over. absurd (some_in_time kept now q r there over))

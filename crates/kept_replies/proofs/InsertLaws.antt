@@ -1,18 +1,17 @@
 -- A reply that is put among others by its number.
-use Rattle.std.proofs.Common.{◌≡◌, subst, ℕ, ◌<◌, Bool, true, false, cond, not, ◌&&◌, ◌||◌, ltb, eqb, List, [], ◌∷◌, ◌++◌, get_or, drop, filter, All, Option, Some, None, IfSome, MatchOption, inl, inr, refl, ap, ◌∙◌, arith}
-use Rattle.std.specs.Bool.{then_some}
+use Rattle.std.proofs.Common.{◌≡◌, subst, ℕ, zero, suc, ◌+◌, ◌<◌, ◌≤◌, Bool, true, false, cond, not, ◌&&◌, ◌||◌, ltb, leb, eqb, ◌-◌, Option, Some, None, IfSome, IsSome, MatchOption, List, [], ◌∷◌, ◌++◌, length, get_or, drop, filter, All, inl, inr, refl, sym, ap, ap₂, ◌∙◌, arith}
+use Rattle.std.specs.Borrow.{Bor}
 use Rattle.std.specs.List.{AllByRecursion, insert}
 use Rattle.std.specs.List.Sorted.{IsPartitionPoint}
-use Rattle.std.proofs.lemmas.List.Elements.{recursion_from_All, All-append, All-cons, All-filter, All-weaker}
+use Rattle.std.proofs.lemmas.List.{take_all, drop_all}
+use Rattle.std.proofs.lemmas.List.Elements.{recursion_from_All, All-append, All-cons, All-filter, All-weaker, All-from_recursion}
 use Rattle.std.proofs.lemmas.List.Folds.{list_any_none, list_any_at}
-use Rattle.std.proofs.lemmas.Option.{MatchOption-from_none}
-use Rattle.std.proofs.lemmas.Bool.{ltb-true, lt-ltb, le-ltb, eqb-false, ne_eqb, or_parts, or_left, or_right, and_from, eq-eqb, cases_lt, both_ways, false_from_ne_true}
+use Rattle.std.proofs.lemmas.Bool.{leb-true, ltb-true, lt-ltb, le-ltb, eqb-false, ne_eqb, or_parts, or_left, or_right, and_from, eq-eqb, cases_lt, both_ways, false_from_ne_true}
 use Rattle.mc_records.specs.Requests.{Asked}
-use Rattle.kept_replies.specs.declared.index.Mark.{Mark}
 use Rattle.kept_replies.specs.Requests.{is_same_request}
-use Rattle.kept_replies.specs.Kept.{KeptReply, AreRising, IsBelowAll, has_request, has_number, is_in_time, inserted}
+use Rattle.kept_replies.specs.Kept.{KeptReply, AreRising, IsBelowAll, has_request, has_number, inserted}
 use Rattle.kept_replies.specs.Index.{IndexView, request_tag, leads, is_mark_of}
-use Rattle.kept_replies.specs.Store.{HaveOneNumber, AreToOwnRequests, has_mark}
+use Rattle.kept_replies.specs.Store.{AreInOrder, HaveOneNumber, AreToOwnRequests, has_mark, room_in}
 use Rattle.kept_replies.proofs.SearchLaws.{front_is, rest_is}
 use Rattle.kept_replies.proofs.ReplyLaws.{number, AreRising-filter, request_is, request_is_own}
 
@@ -78,15 +77,13 @@ insert_is new rs at point fresh =
     ap (λ (t : List KeptReply). t ++ new ∷ drop at rs) (front_is (below (number new)) rs at point)
     ∙ ap (λ (t : List KeptReply). filter (below (number new)) rs ++ new ∷ t) (rest_is (below (number new)) rs at point ∙ not_below (number new) rs fresh)
 
--- the same by what the calls on the way say: what was searched are the old replies, and what was put
--- there is the new one
-pub kept_so : (searched old items : List KeptReply) (stored new : KeptReply) (at : ℕ) → searched ≡ old → stored ≡ new
-    → IsPartitionPoint (λ r. below (number new) r ≡ true) (λ r. below (number new) r ≡ false) searched at
-    → has_number old (number new) ≡ false → items ≡ insert old at stored → items ≡ inserted new old
-kept_so searched old items stored new at same is point fresh put =
-    let there : IsPartitionPoint (λ r. below (number new) r ≡ true) (λ r. below (number new) r ≡ false) old at =
-    subst (λ (rs : List KeptReply). IsPartitionPoint (λ r. below (number new) r ≡ true) (λ r. below (number new) r ≡ false) rs at) same point in
-    put ∙ ap (λ (r : KeptReply). insert old at r) is ∙ insert_is new old at there fresh
+-- what has fewer bytes than there is room has no more than the buffer may hold
+pub within_room : (replies places bytes size : ℕ) (has_place : Bool) → size < room_in replies places has_place bytes → size ≤ bytes
+within_room replies places bytes size has_place lt = go (ltb replies places && has_place) lt
+  where
+    go : (b : Bool) → size < cond b (bytes + 1) 0 → size ≤ bytes
+    go true less = omega (arith, less)
+    go false less = absurd (omega (arith, less))
 
 -- ---- what holds of the replies with the new one among them
 
@@ -119,8 +116,8 @@ own-inserted new rs fresh own =
     to_new r other_one same = absurd (both_ways (is_same_request r.asked new.asked) other_one same)
 
 -- each still has its mark, and the new one has its own, where it was put under the tag of its request
-pub marked-inserted : (new : KeptReply) (rs : List KeptReply) (tag : ℕ) (mark : Mark) (old index : IndexView) → tag ≡ request_tag new.asked → is_mark_of new mark ≡ true
-    → ((t : ℕ) (p : Mark → Bool) → (leads old t p || (eqb tag t && p mark)) ≡ true → leads index t p ≡ true)
+pub marked-inserted : (new : KeptReply) (rs : List KeptReply) (tag : ℕ) (mark : ℕ) (old index : IndexView) → tag ≡ request_tag new.asked → is_mark_of new mark ≡ true
+    → ((t : ℕ) (p : ℕ → Bool) → (leads old t p || (eqb tag t && p mark)) ≡ true → leads index t p ≡ true)
     → All (λ r. has_mark old r ≡ true) rs → All (λ r. has_mark index r ≡ true) (inserted new rs)
 marked-inserted new rs tag mark old index its_tag its_mark put marked =
     all-inserted (λ r. has_mark index r ≡ true) new rs
@@ -130,16 +127,44 @@ marked-inserted new rs tag mark old index its_tag its_mark put marked =
     under : KeptReply → Bool
     under r = eqb tag (request_tag r.asked) && is_mark_of r mark
 
--- all are still in time at the moment at which all were, where it is left since the new one is, too
-pub in_time-inserted : (keep : ℕ) (at left : Option ℕ) (new : KeptReply) (rs : List KeptReply)
-    → MatchOption at (left ≡ None) (λ t. left ≡ then_some (is_in_time keep t new) t)
-    → IfSome at (λ t. All (λ r. is_in_time keep t r ≡ true) rs) → IfSome left (λ t. All (λ r. is_in_time keep t r ≡ true) (inserted new rs))
-in_time-inserted keep None left new rs is all = MatchOption-from_none left (λ t. All (λ r. is_in_time keep t r ≡ true) (inserted new rs)) is
-in_time-inserted keep (Some t) left new rs is all = rw is (go (is_in_time keep t new) refl)
+-- ---- the moments
+
+-- put at the end, where no moment is later, a reply leaves moments in order
+order_pushed : (new : KeptReply) (rs : List KeptReply) → AreInOrder rs → AllByRecursion (λ r. r.entry.moment ≤ new.entry.moment) rs → AreInOrder (rs ++ new ∷ [])
+order_pushed new [] all low = (tt, tt)
+order_pushed new (r ∷ rs) all low = (all-append (λ o. r.entry.moment ≤ o.entry.moment) rs (new ∷ []) all.0 (low.0, tt), order_pushed new rs all.1 low.1)
+
+-- the moment of the last reply is above none
+pub last_is_latest : (rs : List KeptReply) (i : ℕ) (d : KeptReply) (m : ℕ) → AreInOrder rs → i + 1 ≡ length rs → (get_or rs i d).entry.moment ≤ m → AllByRecursion (λ r. r.entry.moment ≤ m) rs
+last_is_latest [] i d m all last low = tt
+last_is_latest (r ∷ []) i d m all last low = (ap_low (omega (arith, last)), tt)
   where
-    go : (b : Bool) → is_in_time keep t new ≡ b → IfSome (then_some b t) (λ u. All (λ r. is_in_time keep u r ≡ true) (inserted new rs))
-    go true first = all-inserted (λ r. is_in_time keep t r ≡ true) new rs first all
-    go false late = tt
+    ap_low : i ≡ 0 → r.entry.moment ≤ m
+    ap_low first = subst (λ (n : ℕ). (get_or (r ∷ []) n d).entry.moment ≤ m) first low
+last_is_latest (r ∷ s ∷ rs) zero d m all last low = absurd (omega (arith, last))
+last_is_latest (r ∷ s ∷ rs) (suc i) d m all last low =
+    let more = last_is_latest (s ∷ rs) i d m all.1 (omega (arith, last)) low in
+    let le : s.entry.moment ≤ m = more.0 in
+    (omega (arith, all.0.0, le), more)
+
+-- what is read of the last reply, where there is one, is judged of all
+pub judged_by_last : (rs : List KeptReply) (len m : ℕ) (o : Option (Bor KeptReply)) (b : Bool) → len ≡ length rs → AreInOrder rs → (0 < len → IsSome o) → IfSome o (λ r. r.now ≡ get_or rs (len - 1) r.now)
+    → MatchOption o (b ≡ true) (λ r. b ≡ leb r.now.entry.moment m) → b ≡ true → All (λ r. r.entry.moment ≤ m) rs
+judged_by_last [] len m o b all order some last said passed = λ k d lt. absurd (omega (arith, lt))
+judged_by_last (r ∷ rs) len m None b all order some last said passed = absurd (none (some (omega (arith, all))))
+  where
+    none : false ≡ true → ⊥
+    none e = absurd cc
+judged_by_last (r ∷ rs) len m (Some x) b all order some last said passed =
+    let le : x.now.entry.moment ≤ m = leb-true x.now.entry.moment m (sym said ∙ passed) in
+    let at_last : (get_or (r ∷ rs) (len - 1) x.now).entry.moment ≤ m = subst (λ (y : KeptReply). y.entry.moment ≤ m) last le in
+    All-from_recursion (λ y. y.entry.moment ≤ m) (r ∷ rs) (last_is_latest (r ∷ rs) (len - 1) x.now m order (omega (arith, all)) at_last)
+
+pub order-inserted : (new : KeptReply) (rs : List KeptReply) (at : ℕ) → insert rs at new ≡ inserted new rs → AreInOrder rs → at ≡ length rs
+    → All (λ r. r.entry.moment ≤ new.entry.moment) rs → AreInOrder (inserted new rs)
+order-inserted new rs at put all last low =
+    subst AreInOrder (ap₂ (λ xs ys. xs ++ new ∷ ys) (sym (take_all at rs (omega (arith, last)))) (sym (drop_all at rs (omega (arith, last)))) ∙ put)
+    (order_pushed new rs all (recursion_from_All (λ r. r.entry.moment ≤ new.entry.moment) rs low))
 
 -- ---- a number above all
 

@@ -1,6 +1,7 @@
 pub mod SearchLaws
-pub mod TextLaws
+pub mod PartLaws
 pub mod IndexLaws
 pub mod ReplyLaws
 pub mod InsertLaws
 pub mod FoundLaws
+pub mod ForgetLaws

@@ -1,19 +1,16 @@
 -- Replies of rising numbers, requests that are the same, and replies that are dropped.
-use Rattle.std.proofs.Common.{◌≡◌, ℕ, zero, suc, ◌+◌, ◌<◌, ◌≤◌, Bool, true, false, cond, ◌&&◌, ltb, eqb, List, [], ◌∷◌, length, get_or, filter, All, Option, Some, None, IfSome, MatchOption, leb, refl, sym, ap, ◌∙◌, arith}
+use Rattle.std.proofs.Common.{◌≡◌, ℕ, zero, suc, ◌+◌, ◌<◌, Bool, true, false, cond, ◌&&◌, List, [], ◌∷◌, length, get_or, filter, All, Option, Some, None, refl, ap, arith}
 use Rattle.std.specs.List.{AllPass}
 use Rattle.std.specs.Str.{bytes_eq}
 use Rattle.std.specs.List.Sorted.{IsNonDecreasingBy}
 use Rattle.std.proofs.lemmas.List.Elements.{All-from_recursion, All-filter, All-weaker, filter_passes}
 use Rattle.std.proofs.lemmas.List.Folds.{list_any_none}
 use Rattle.std.proofs.lemmas.Slice.Eq.{bytes_eq-Decides}
-use Rattle.std.proofs.lemmas.Bool.{both_ways, false_from_ne_true, leb-true, and_parts, and_from, ltb-true, lt-ltb, eqb-true, eq-eqb}
+use Rattle.std.proofs.lemmas.Bool.{false_from_ne_true, and_parts, and_from, ltb-true}
 use Rattle.mc_records.specs.Requests.{Asked}
-use Rattle.kept_replies.specs.declared.index.Mark.{Mark}
 use Rattle.kept_replies.specs.Requests.{is_same_text, is_same_request}
 use Rattle.kept_replies.specs.Kept.{KeptReply, AreRising, IsBelowAll, KeptView, has_request, is_in_time, NoneInTime}
-use Rattle.kept_replies.specs.Index.{IndexView, request_tag, leads, is_mark_of, is_mark_in_time}
-use Rattle.kept_replies.specs.Store.{HaveOneNumber, AreToOwnRequests, has_mark}
-use Rattle.kept_replies.proofs.SearchLaws.{filter_all}
+use Rattle.kept_replies.specs.Store.{HaveOneNumber, AreToOwnRequests}
 
 -- ---- rising numbers
 
@@ -76,53 +73,12 @@ request_is_own a =
     (and_from (bytes_eq a.target a.target) (is_same_text a.scrip a.scrip) ((bytes_eq-Decides a.target a.target).1 refl) (text_is_own a.scrip))
     (text_is_own a.sign)
 
--- ---- marks
-
--- a mark has the moment and the number of a reply
-pub record IsMarkOf (r : KeptReply) (m : Mark) : Type 0 where
-  pub moment : m.moment ≡ r.entry.moment
-  pub number : m.number ≡ r.entry.number
-
-pub mark_parts : (r : KeptReply) (m : Mark) → is_mark_of r m ≡ true → IsMarkOf r m
-mark_parts r m of =
-    let both = and_parts (eqb m.moment r.entry.moment) (eqb m.number r.entry.number) of in
-    record { moment = eqb-true m.moment r.entry.moment both.0; number = eqb-true m.number r.entry.number both.1 }
-
-pub mark_from_parts : (r : KeptReply) (m : Mark) → IsMarkOf r m → is_mark_of r m ≡ true
-mark_from_parts r m is =
-    and_from (eqb m.moment r.entry.moment) (eqb m.number r.entry.number)
-    (eq-eqb m.moment r.entry.moment is.moment) (eq-eqb m.number r.entry.number is.number)
-
 -- ---- what is forgotten
 
 -- of replies each to a request of its own so are those that pass a test
 pub own-filter : (p : KeptReply → Bool) (rs : List KeptReply) → AreToOwnRequests rs → AreToOwnRequests (filter p rs)
 own-filter p rs own =
     All-filter p (λ r. All (HaveOneNumber r) (filter p rs)) rs (All-weaker (λ r. All (HaveOneNumber r) rs) (λ r. All (HaveOneNumber r) (filter p rs)) (λ r all. All-filter p (HaveOneNumber r) rs all) rs own)
-
--- the replies that are in time have their marks still, where marks in time were left
-pub marked-filter : (keep now : ℕ) (old index : IndexView) (rs : List KeptReply)
-    → ((t : ℕ) (p : Mark → Bool) → ((m : Mark) → p m ≡ true → is_mark_in_time keep now m ≡ true) → leads old t p ≡ true → leads index t p ≡ true)
-    → All (λ r. has_mark old r ≡ true) rs → All (λ r. has_mark index r ≡ true) (filter (is_in_time keep now) rs)
-marked-filter keep now old index rs left marked k d lt =
-    let r = get_or (filter (is_in_time keep now) rs) k d in
-    let in_time : is_in_time keep now r ≡ true = filter_passes (is_in_time keep now) rs k d lt in
-    left (request_tag r.asked) (is_mark_of r) (λ m of. ap (λ (t : ℕ). ltb now (t + keep)) (mark_parts r m of).moment ∙ in_time)
-    (All-filter (is_in_time keep now) (λ r. has_mark old r ≡ true) rs marked k d lt)
-
--- until a moment at which all are in time, none is over
-none_over : (keep at now : ℕ) (rs : List KeptReply) → now ≤ at → All (λ r. is_in_time keep at r ≡ true) rs → filter (is_in_time keep now) rs ≡ rs
-none_over keep at now rs le all =
-    filter_all (is_in_time keep now) rs (All-weaker (λ r. is_in_time keep at r ≡ true) (λ r. is_in_time keep now r ≡ true) still rs all)
-  where
-    still : (r : KeptReply) → is_in_time keep at r ≡ true → is_in_time keep now r ≡ true
-    still r later = lt-ltb now (r.entry.moment + keep) (omega (arith, le, ltb-true at (r.entry.moment + keep) later))
-
--- the same by a test of whether there is such a moment, and it is not before this one
-pub none_over_yet : (keep now : ℕ) (at : Option ℕ) (rs : List KeptReply) (b : Bool) → MatchOption at (b ≡ false) (λ t. b ≡ leb now t) → b ≡ true
-    → IfSome at (λ t. All (λ r. is_in_time keep t r ≡ true) rs) → filter (is_in_time keep now) rs ≡ rs
-none_over_yet keep now None rs b said passed all = absurd (both_ways b said passed)
-none_over_yet keep now (Some at) rs b said passed all = none_over keep at now rs (leb-true now at (sym said ∙ passed)) all
 
 -- where what is over was forgotten, a request that is not found is not kept
 pub not_kept : (kept : KeptView) (now : ℕ) (q : Asked) (old : List KeptReply) → kept.replies ≡ filter (is_in_time kept.keep now) old

@@ -1,16 +1,16 @@
--- The marks by which the program finds kept replies. No clause of a public call cites this.
-use Rattle.std.specs.Prelude.{ℕ, ◌+◌, ◌-◌, Bool, false, ◌&&◌, ◌||◌, ◌==◌, nat_lt, if◌then◌else◌, List, length, drop, find, Option, Some, None, option_map}
+-- The marks by which the program finds kept replies: a mark is the number of a reply's entry. No clause
+-- of a public call cites this.
+use Rattle.std.specs.Prelude.{ℕ, ◌-◌, Bool, false, ◌||◌, ◌==◌, nat_lt, if◌then◌else◌, List, length, drop, find, Option, Some, None}
 use Rattle.std.specs.List.{list_any}
 use Rattle.std.specs.Map.{lookup}
 use Rattle.std.specs.Int.{from_le_bytes, w128}
 use Rattle.mc_records.specs.Requests.{Asked}
-use Rattle.kept_replies.specs.declared.index.Mark.{Mark}
 use Rattle.kept_replies.specs.Kept.{KeptReply}
 
 -- the newest mark of each tag, the older marks, and whether there is a place for one more
 pub record IndexView : Type 0 where
-  pub newest : List (ℕ × Mark)
-  pub older : List Mark
+  pub newest : List (ℕ × ℕ)
+  pub older : List ℕ
   pub has_place : Bool
 
 -- the last sixteen bytes of a text as a number, whose least byte is the first; 0 where it is shorter
@@ -28,28 +28,20 @@ abbrev pub request_tag : Asked → ℕ
 request_tag q = tag_if q.scrip q.sign
 
 -- whether a mark that may be there passes a test
-abbrev pub passes_if : (Mark → Bool) → Option Mark → Bool
+abbrev pub passes_if : (ℕ → Bool) → Option ℕ → Bool
 passes_if p None = false
 passes_if p (Some m) = p m
 
 -- whether the marks lead from a tag to one that passes a test: the newest of the tag does, or an older
 -- one of any tag
-abbrev pub leads : IndexView → ℕ → (Mark → Bool) → Bool
+abbrev pub leads : IndexView → ℕ → (ℕ → Bool) → Bool
 leads index tag p = passes_if p (lookup (λ t. tag == t) index.newest) || list_any p index.older
 
--- the number of the first mark whose number passes a test
-abbrev pub first_older : (ℕ → Bool) → List Mark → Option ℕ
-first_older p older = option_map (λ m. m.number) (find (λ m. p m.number) older)
-
--- the same of the newest mark of a tag, or else of the older marks
-abbrev pub first_led : (ℕ → Bool) → Option Mark → List Mark → Option ℕ
-first_led p None older = first_older p older
-first_led p (Some m) older = if p m.number then Some m.number else first_older p older
+-- the first of a mark that may be there and the older marks that passes a test
+abbrev pub first_led : (ℕ → Bool) → Option ℕ → List ℕ → Option ℕ
+first_led p None older = find p older
+first_led p (Some m) older = if p m then Some m else find p older
 
 -- whether a mark is that of a reply
-abbrev pub is_mark_of : KeptReply → Mark → Bool
-is_mark_of r m = m.moment == r.entry.moment && m.number == r.entry.number
-
--- whether a mark is in time: the time is below its moment plus the keeping time
-abbrev pub is_mark_in_time : ℕ → ℕ → Mark → Bool
-is_mark_in_time keep now m = nat_lt now (m.moment + keep)
+abbrev pub is_mark_of : KeptReply → ℕ → Bool
+is_mark_of r m = m == r.entry.number

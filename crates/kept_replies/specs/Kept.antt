@@ -1,9 +1,11 @@
 -- What is kept of first replies, without how it is stored.
-use Rattle.std.specs.Prelude.{ℕ, ◌+◌, ◌<◌, ◌≤◌, Bool, ◌&&◌, ◌==◌, nat_lt, List, [], ◌∷◌, ◌++◌, filter, find, All, IsTrue, Option, Some, None, option_map}
-use Rattle.std.specs.Borrow.{Bor}
+use Rattle.std.specs.Prelude.{ℕ, ◌+◌, ◌<◌, ◌≤◌, Bool, ◌&&◌, ◌==◌, nat_lt, List, [], ◌∷◌, ◌++◌, length, filter, find, All, IsTrue, Option, Some, None, option_map}
 use Rattle.std.specs.List.{list_any, AllByRecursion}
 use Rattle.mc_records.specs.declared.request.Request.{Request}
 use Rattle.mc_records.specs.Requests.{Asked, asked_of}
+use Rattle.scrip_form.specs.Scrip.{Scrip, scrip_text}
+use Rattle.kept_replies.specs.declared.deed.Deed.{Deed}
+use Rattle.kept_replies.specs.declared.deed.Deed.TheVariants as kept
 use Rattle.kept_replies.specs.declared.deed.KeptEntry.{KeptEntry}
 use Rattle.kept_replies.specs.Requests.{is_same_request}
 
@@ -12,8 +14,28 @@ pub record KeptReply : Type 0 where
   pub asked : Asked
   pub entry : KeptEntry
 
--- The keeping time in seconds, the replies in the order of their numbers, and the room that was made:
--- a request may be kept where its texts have fewer bytes than the room.
+-- How many bytes the texts have that are kept of an entry: the name and the properties of the change, and of
+-- a piece that is sold or drawn its text, and the secret.
+abbrev pub piece_size : Scrip → ℕ
+piece_size p = length p.vendor + length p.props
+
+abbrev pub change_size : Option (Scrip × List ℕ) → ℕ
+change_size None = 0
+change_size (Some c) = piece_size c.0
+
+abbrev pub sold_size : Scrip → List ℕ → List ℕ → ℕ
+sold_size piece cert secret = length (scrip_text piece cert) + length secret
+
+abbrev pub deed_size : Deed → ℕ
+deed_size (kept.Sale piece cert secret stock) = sold_size piece cert secret
+deed_size (kept.Draw piece cert secret) = sold_size piece cert secret
+deed_size _ = 0
+
+abbrev pub entry_size : KeptEntry → ℕ
+entry_size e = change_size e.change + deed_size e.deed
+
+-- The keeping time in seconds, the replies in the order of their numbers, and the room that was made: a
+-- request and an entry may be kept where their texts have fewer bytes than the room.
 pub record KeptView : Type 0 where
   pub keep : ℕ
   pub replies : List KeptReply
@@ -68,6 +90,6 @@ inserted new replies =
 
 -- ---- what the program shows
 
--- a request of the program with its entry, without where they lie in memory
-abbrev pub reply_of : Request × Bor KeptEntry → KeptReply
-reply_of p = record { asked = asked_of p.0; entry = p.1.now }
+-- a request of the program with its entry, without where it lies in memory
+abbrev pub reply_of : Request × KeptEntry → KeptReply
+reply_of p = record { asked = asked_of p.0; entry = p.1 }

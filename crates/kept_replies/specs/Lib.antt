@@ -1,4 +1,5 @@
 pub mod Requests
 pub mod Kept
 pub mod Index
+pub mod Parts
 pub mod Store

@@ -1,35 +1,10 @@
 -- How the program stores what is kept. No clause of a public call cites this.
-use Rattle.std.specs.Prelude.{◌≡◌, ℕ, ◌+◌, ◌≤◌, Bool, false, ◌&&◌, nat_lt, if◌then◌else◌, List, [], slice_range, All, IsTrue, Option, Some, None, option_map, IfSome}
+use Rattle.std.specs.Prelude.{◌≡◌, ℕ, ◌+◌, ◌<◌, ◌≤◌, ◌^◌, Bool, false, ◌&&◌, nat_lt, if◌then◌else◌, List, [], ◌∷◌, All, IsTrue, Option, Some, None}
+use Rattle.std.specs.List.{AllByRecursion}
 use Rattle.mc_records.specs.Requests.{Asked}
-use Rattle.kept_replies.specs.declared.texts.Span.{Span}
 use Rattle.kept_replies.specs.Requests.{is_same_request}
 use Rattle.kept_replies.specs.Kept.{KeptReply, KeptView, AreRising, is_in_time, with_number}
 use Rattle.kept_replies.specs.Index.{IndexView, request_tag, leads, is_mark_of}
-
--- the bytes of a text that may be there
-abbrev pub bytes_of_text : Option (List ℕ) → List ℕ
-bytes_of_text (Some text) = text
-bytes_of_text None = []
-
--- the bytes of a span of a buffer
-abbrev pub part : List ℕ → Span → List ℕ
-part bytes span = slice_range bytes span.start span.end
-
--- the bytes of a span that may be there
-abbrev pub part_if : List ℕ → Option Span → Option (List ℕ)
-part_if bytes span = option_map (part bytes) span
-
--- a span lies within so many bytes
-abbrev pub IsWithin : ℕ → Span → Type 0
-IsWithin size span = span.start ≤ span.end × (span.end ≤ size)
-
--- the spans of the three texts lie within so many bytes
-pub record AreWithin (size : ℕ) (a : Span) (b c : Option Span) : Type 0 where
-  pub target : IsWithin size a
-  pub scrip : IfSome b (IsWithin size)
-  pub sign : IfSome c (IsWithin size)
-
--- ---- replies
 
 -- two replies have one number where they are to the same request
 abbrev pub HaveOneNumber : KeptReply → KeptReply → Type 0
@@ -43,14 +18,25 @@ AreToOwnRequests replies = All (λ r. All (HaveOneNumber r) replies) replies
 abbrev pub has_mark : IndexView → KeptReply → Bool
 has_mark index r = leads index (request_tag r.asked) (is_mark_of r)
 
--- What holds of what is stored: the numbers rise, each reply is to a request of its own and has its
--- mark, all are in time at the moment that is noted, and the buffer for the next reply is empty.
-pub record IsStored (keep : ℕ) (replies : List KeptReply) (index : IndexView) (none_over_at : Option ℕ) (spare : List ℕ) : Type 0 where
+-- the moment of a reply is above the moment of none of some others
+abbrev pub IsAboveNone : KeptReply → List KeptReply → Type 0
+IsAboveNone r others = AllByRecursion (λ o. r.entry.moment ≤ o.entry.moment) others
+
+-- no moment of some replies is below one before it
+abbrev pub AreInOrder : List KeptReply → Type 0
+AreInOrder [] = Unit {0}
+AreInOrder (r ∷ rs) = IsAboveNone r rs × AreInOrder rs
+
+-- What holds of what is stored: the numbers rise, the moments are in order where it is noted, each reply
+-- is to a request of its own and has its mark, and the buffer for the next reply is empty and has room for
+-- fewer than 2^32 bytes.
+pub record IsStored (replies : List KeptReply) (in_order : Bool) (index : IndexView) (spare : List ℕ) (spare_room : ℕ) : Type 0 where
   pub rising : AreRising replies
+  pub order : IsTrue in_order → AreInOrder replies
   pub own : AreToOwnRequests replies
   pub marked : All (λ r. IsTrue (has_mark index r)) replies
-  pub in_time : IfSome none_over_at (λ at. All (λ r. IsTrue (is_in_time keep at r)) replies)
   pub empty : spare ≡ []
+  pub short : spare_room < 2 ^ 32
 
 -- the room of so many replies in so many places, where there is a place for a mark or not, with a
 -- buffer that may hold so many bytes: none without a free place and one for a mark, and else one more

@@ -1,3 +1,7 @@
+ghost use Rattle.std.specs.Prelude.{◌≡◌, ◌≤◌};
+ghost use Rattle.kept_replies.specs.Kept.{piece_size, deed_size, entry_size};
+
+use crate::sold::size_of_sold;
 use mc_base::Moment;
 use scrip_form::Piece;
 
@@ -28,6 +32,29 @@ pub enum Deed {
     },
 }
 
+impl Deed {
+    /// How many bytes its texts have: that of its piece with the certificate, and the secret.
+    pub fn size(&self) -> usize
+        ensures size { result ≡ deed_size self.now }
+        ensures most { result ≤ 309 }
+    {
+        match self {
+            Deed::Goods { .. } | Deed::Credit { .. } => 0,
+            Deed::Sale {
+                piece,
+                cert,
+                secret,
+                ..
+            }
+            | Deed::Draw {
+                piece,
+                cert,
+                secret,
+            } => size_of_sold(piece, cert, secret),
+        }
+    }
+}
+
 /// What is kept of an entry for its reply: the entry's number and moment, the price, the change with
 /// its certificate, the customer secret that signs, and the deed.
 #[derive(Clone, Copy, Drop)]
@@ -38,4 +65,25 @@ pub struct KeptEntry {
     pub change: Option<(Piece, [u8; 16])>,
     pub secret: [u8; 16],
     pub deed: Deed,
+}
+
+impl KeptEntry {
+    /// How many bytes its texts have together: the name and the properties of the change, and those of the
+    /// deed.
+    pub fn size(&self) -> usize
+        ensures { result ≡ entry_size self.now }
+    {
+        let change = match &self.change {
+            Some((piece, _)) => size_of_piece(piece),
+            None => 0,
+        };
+        change + self.deed.size()
+    }
+}
+
+fn size_of_piece(piece: &Piece) -> usize
+    ensures size { result ≡ piece_size piece.now }
+    ensures most { result ≤ 191 }
+{
+    piece.vendor().bytes().len() + piece.props().bytes().len()
 }

@@ -1,31 +1,23 @@
-ghost use Rattle.std.specs.Prelude.{◌≡◌, ℕ, ◌+◌, Bool, [], ◌==◌, ◌&&◌, ◌||◌, nat_lt, IsTrue, OnOk};
+ghost use Rattle.std.specs.Prelude.{◌≡◌, ℕ, Bool, [], ◌==◌, ◌&&◌, ◌||◌, IsTrue, IsFalse, OnOk};
 ghost use Rattle.std.specs.Map.{lookup};
 ghost use Rattle.mc_records.specs.Requests.{asked_of};
-ghost use Rattle.kept_replies.specs.declared.index.Mark.{Mark};
-ghost use Rattle.kept_replies.specs.Index.{text_tag, request_tag, leads, is_mark_in_time};
+ghost use Rattle.kept_replies.specs.Index.{text_tag, request_tag, leads};
 
-use mc_base::{Moment, NoMemory};
+use mc_base::NoMemory;
 use mc_records::Request;
 use std::alloc::Global;
 use std::collections::HashMap;
 use std::marker::Model;
 
-/// What leads to a kept reply: its entry's moment and number.
-#[derive(Clone, Copy, Drop)]
-pub(crate) struct Mark {
-    pub(crate) moment: Moment,
-    pub(crate) number: u64,
-}
-
-/// The marks of replies by the tags of their requests, so that the reply to a request is found in a
-/// few looks, however many are kept. Contracts see the newest mark of each tag, the older marks, and
-/// whether there is a place for one more.
+/// The numbers of the entries of replies, as their marks, by the tags of their requests, so that the
+/// reply to a request is found in a few looks, however many are kept. Contracts see the newest mark of
+/// each tag, the older marks, and whether there is a place for one more.
 #[derive(Drop)]
 pub(crate) struct Index {
     /// The mark that was put last under each tag.
-    newest: HashMap<u128, Mark>,
+    newest: HashMap<u128, u64>,
     /// Those in whose place another was put. Two requests hardly ever share a tag.
-    older: Vec<Mark>,
+    older: Vec<u64>,
 }
 
 impl Model for Index {
@@ -43,6 +35,7 @@ impl Index {
     pub(crate) fn new(alloc: Global) -> Index
         ensures newest { result.newest ≡ [] }
         ensures older { result.older ≡ [] }
+        ensures place { IsFalse result.has_place }
     {
         Index {
             newest: HashMap::new(alloc),
@@ -52,7 +45,7 @@ impl Index {
 
     /// Makes a place for one more mark. What is marked stays so, after an `Err` too.
     pub(crate) fn reserve(&mut self) -> Result<(), NoMemory>
-        ensures marks { (t : ℕ) (p : Mark → Bool) → leads self.new t p ≡ leads self.old t p }
+        ensures marks { (t : ℕ) (p : ℕ → Bool) → leads self.new t p ≡ leads self.old t p }
         ensures place { OnOk result (IsTrue self.new.has_place) }
     {
         self.newest.reserve(1)?;
@@ -62,9 +55,9 @@ impl Index {
 
     /// Puts a mark under a tag, for which there is a place. It leads to what it should, and the others
     /// still do. It takes no memory.
-    pub(crate) fn put(&mut self, tag: u128, mark: Mark)
+    pub(crate) fn put(&mut self, tag: u128, mark: u64)
         requires { IsTrue self.old.has_place }
-        ensures { (t : ℕ) (p : Mark → Bool) → IsTrue (leads self.old t p || (tag == t && p mark))
+        ensures { (t : ℕ) (p : ℕ → Bool) → IsTrue (leads self.old t p || (tag == t && p mark))
             → IsTrue (leads self.new t p) }
     {
         match self.newest.insert(tag, mark) {
@@ -77,40 +70,32 @@ impl Index {
         }
     }
 
-    /// Drops marks that are not in time, as soon as there are twice as many as the replies that are
-    /// left: so each mark is passed few times. It takes no memory.
-    pub(crate) fn forget(&mut self, left: usize, keep: u32, now: Moment)
-        ensures { (t : ℕ) (p : Mark → Bool) → ((m : Mark) → IsTrue (p m) → IsTrue (is_mark_in_time keep now m))
+    /// Drops this mark, which was put under this tag; the others lead to what they did. The older marks
+    /// are looked through only where it is not the newest of its tag. It takes no memory.
+    pub(crate) fn drop_mark(&mut self, tag: u128, mark: u64)
+        ensures { (t : ℕ) (p : ℕ → Bool) → IsFalse (p mark)
             → IsTrue (leads self.old t p) → IsTrue (leads self.new t p) }
     {
-        if self.newest.len() / 2 < left {
-            return;
+        if self.newest(tag) == Some(mark) {
+            self.newest.remove(&tag);
+        } else {
+            self.older.retain(|m| *m != mark);
         }
-        self.newest.retain(|_, m| is_in_time(m.moment, keep, now));
-        self.older.retain(|m| is_in_time(m.moment, keep, now));
     }
 
     /// The newest mark of a tag.
-    pub(crate) fn newest(&self, tag: u128) -> Option<Mark>
+    pub(crate) fn newest(&self, tag: u128) -> Option<u64>
         ensures { result ≡ lookup (λ t. tag == t) self.now.newest }
     {
         self.newest.get(&tag).copied()
     }
 
     /// The older marks, whatever their tags.
-    pub(crate) fn older(&self) -> &[Mark]
+    pub(crate) fn older(&self) -> &[u64]
         ensures { result.now ≡ self.now.older }
     {
         &self.older
     }
-}
-
-/// Whether what is kept from this moment on is in time: `now` is below the moment plus the keeping
-/// time.
-pub(crate) fn is_in_time(moment: Moment, keep: u32, now: Moment) -> bool
-    ensures { result ≡ nat_lt now (moment + keep) }
-{
-    now.seconds() < moment.seconds() + u64::from(keep)
 }
 
 /// The tag of a request: the last sixteen bytes of its scrip text as a number, whose least byte is

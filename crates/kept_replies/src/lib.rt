@@ -6,7 +6,10 @@
 mod deed;
 mod index;
 mod kept;
-mod texts;
+mod parts;
+mod reply;
+mod sold;
+mod span;
 
 pub use deed::{Deed, KeptEntry};
 pub use kept::Kept;

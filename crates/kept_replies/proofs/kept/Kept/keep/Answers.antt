@@ -1,45 +1,54 @@
-use Rattle.std.proofs.Common.{◌≡◌, true, None, MatchOption, ltb, refl, ap, rules, of_calls}
-use Rattle.std.specs.Bool.{then_some}
+use Rattle.std.proofs.Common.{◌≡◌, ◌+◌, true, false, ltb, refl, ap, ◌∙◌, arith, rules, of_calls}
+use Rattle.std.specs.List.{insert}
+use Rattle.std.specs.List.Sorted.{IsPartitionPoint}
+use Rattle.std.proofs.lemmas.Bool.{eq-eqb}
 use Rattle.std.proofs.lemmas.List.Sorted.{IsPartitionPoint-from_clause, IsPartitionedBy-ltb}
-use Rattle.mc_records.specs.Requests.{asked_of, Asked}
-use Rattle.kept_replies.specs.declared.index.Mark.{Mark}
-use Rattle.kept_replies.specs.Kept.{KeptReply, AreRising, is_in_time, inserted}
-use Rattle.kept_replies.specs.Index.{is_mark_of}
-use Rattle.kept_replies.proofs.ReplyLaws.{number, IsNonDecreasingBy-rising, mark_from_parts}
-use Rattle.kept_replies.proofs.InsertLaws.{kept_so, AreRising-inserted, own-inserted, marked-inserted, in_time-inserted}
+use Rattle.mc_records.specs.Requests.{asked_of}
+use Rattle.kept_replies.specs.Requests.{text_size}
+use Rattle.kept_replies.specs.Kept.{KeptReply, AreRising, inserted, entry_size}
+use Rattle.kept_replies.proofs.ReplyLaws.{number, IsNonDecreasingBy-rising}
+use Rattle.kept_replies.proofs.InsertLaws.{insert_is, AreRising-inserted, own-inserted, marked-inserted, order-inserted, within_room}
 use Rattle.kept_replies.proofs.kept.Kept.keep.Goals as goal
 use Rattle.kept_replies.proofs.kept.Kept.keep.Goals.{In-Ok}
 
 abbrev new : In-Ok → KeptReply
 new c = record { asked = asked_of c.args.q.now; entry = c.args.e }
 
+-- the place that was searched for
+point : (c : In-Ok) → IsPartitionPoint (λ r. ltb (number r) c.args.e.number ≡ true) (λ r. ltb (number r) c.args.e.number ≡ false) c.self.inside.replies.items c.partition_point-at.result
+point c =
+    let rs = c.self.inside.replies.items in
+    let n = c.args.e.number in
+    IsPartitionPoint-from_clause (λ r. ltb (number r) n) rs c.partition_point-at.result c.partition_point-at.ensures.partitioned (IsPartitionedBy-ltb number rs n (IsNonDecreasingBy-rising rs c.self.invariant.rising)) (λ a r f k. search (rules, of_calls))
+
+put_there : (c : In-Ok) → insert c.self.inside.replies.items c.partition_point-at.result (new c) ≡ inserted (new c) c.self.inside.replies.items
+put_there c = insert_is (new c) c.self.inside.replies.items c.partition_point-at.result (point c) (rw (← c.self.view_is) at c.requires.new_number)
+
 now_kept : (c : In-Ok) → c.insert.new.self.items ≡ inserted (new c) c.self.inside.replies.items
 now_kept c =
-    let rs = c.deref.result.now in
-    let n = c.args.e.number in
-    let rising : AreRising rs = rw c.deref.ensures.value c.self.invariant.rising in
-    let point = IsPartitionPoint-from_clause (λ r. ltb (number r) n) rs c.partition_point-at.result c.partition_point-at.ensures.partitioned (IsPartitionedBy-ltb number rs n (IsNonDecreasingBy-rising rs rising)) (λ a r f k. search (rules, of_calls)) in
-    kept_so rs c.self.inside.replies.items c.insert.new.self.items (record { asked = c.of.result; entry = c.args.e }) (new c) c.partition_point-at.result
-    c.deref.ensures.value (ap with_entry c.of.ensures) point (rw (← c.self.view_is) at c.requires.new_number) c.in-Ok.ensures.items
-  where
-    with_entry : Asked → KeptReply
-    with_entry q = record { asked = q; entry = c.args.e }
+    c.in-Ok.ensures.items ∙ ap (λ (r : KeptReply). insert c.self.inside.replies.items c.partition_point-at.result r) c.of.ensures ∙ put_there c
 
 rise : (c : In-Ok) → AreRising c.insert.new.self.items
 rise c = rw (now_kept c) (AreRising-inserted (new c) c.self.inside.replies.items c.self.invariant.rising)
 
+pub of-requires-clause-room : goal.of-requires-clause-room
+of-requires-clause-room c =
+    let inside = c.self.inside in
+    rw c.replace-buffer.ensures.value
+    (within_room inside.replies.len inside.replies.cap inside.spare.cap (text_size (asked_of c.args.q.now) + entry_size c.args.e) inside.index.has_place (rw (← c.self.view_is) at c.requires.room))
+
 pub invariant_of-self : goal.invariant_of-self
 invariant_of-self c =
     let rs = c.self.inside.replies.items in
-    let mark : Mark = record { moment = c.args.e.moment; number = c.args.e.number } in
-    let its : is_mark_of (new c) mark ≡ true = mark_from_parts (new c) mark (record { moment = refl; number = refl }) in
-    let said : MatchOption c.self.inside.none_over_at (c.filter-self-inside.result ≡ None) (λ at. c.filter-self-inside.result ≡ then_some (is_in_time c.self.inside.keep at (new c)) at) = search (rules, of_calls) in
     record {
       rising = rise c;
+      order = λ noted.
+          let last = c.goes_last-self-inside.ensures noted in
+          rw (now_kept c) (order-inserted (new c) rs c.partition_point-at.result (put_there c) last.0 last.1 last.2);
       own = rw (now_kept c) (own-inserted (new c) rs (rw (← c.self.view_is) at c.requires.new_request) c.self.invariant.own);
-      marked = rw (now_kept c) (marked-inserted (new c) rs c.tag_of.result mark c.self.inside.index c.put.new.self c.tag_of.ensures its c.put.ensures c.self.invariant.marked);
-      in_time = rw (now_kept c) (in_time-inserted c.self.inside.keep c.self.inside.none_over_at c.filter-self-inside.result (new c) rs said c.self.invariant.in_time);
+      marked = rw (now_kept c) (marked-inserted (new c) rs c.tag_of.result c.args.e.number c.self.inside.index c.put.new.self c.tag_of.ensures (eq-eqb c.args.e.number c.args.e.number refl) c.put.ensures c.self.invariant.marked);
       empty = rw c.replace-buffer.ensures.after c.new.ensures.items;
+      short = rw c.replace-buffer.ensures.after (omega (arith, c.new.ensures.capacity));
     }
 
 pub returns-clause-replies : goal.returns-clause-replies
