@@ -3,7 +3,7 @@ use Rattle.std.proofs.Common.{◌≡◌, ℕ, List, [], ◌∷◌, Some}
 use Rattle.mc_records.specs.Entry.{Entry, Site}
 use Rattle.ledger_model.specs.Histories.{History}
 use Rattle.ledger_model.specs.Houses.{site_kind}
-use Rattle.scrip_journal.specs.Causes.{Only, FoundsSite, IsOfKind, BeginsWithEntries}
+use Rattle.scrip_journal.specs.Causes.{Only, FoundsSite, BeginsWithEntries}
 use Rattle.scrip_journal.proofs.Beginnings as beginnings
 use Rattle.house_opening.specs.Opening.{IsOfOther}
 
@@ -11,10 +11,6 @@ use Rattle.house_opening.specs.Opening.{IsOfOther}
 founds_kind : (kind : ℕ) (e : Entry) (es : History) → site_kind (e ∷ es) ≡ Some kind → FoundsSite (Only kind) e
 founds_kind kind (Site m k name house) es is = cc is
 founds_kind kind e es is = absurd (cc is)
-
-pub kind_of_first : (kind : ℕ) (h : History) → site_kind h ≡ Some kind → IsOfKind (Only kind) h
-kind_of_first kind [] is = tt
-kind_of_first kind (e ∷ es) is = founds_kind kind e es is
 
 -- its book is of no other kind
 pub kind_tells : (kind : ℕ) (h : History) (bytes : List ℕ) → site_kind h ≡ Some kind → BeginsWithEntries h bytes → IsOfOther kind bytes → ⊥

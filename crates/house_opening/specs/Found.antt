@@ -3,7 +3,6 @@ use Rattle.std.specs.Prelude.{◌≡◌, ℕ, List, [], ◌∷◌, Result, Ok, E
 use Rattle.mc_outside.specs.DiskView.{DiskView}
 use Rattle.mc_records.specs.declared.limits.Limits.{Limits}
 use Rattle.mc_records.specs.Entry.{Entry, moment_of}
-use Rattle.ledger_model.specs.Histories.{History}
 use Rattle.scrip_journal.specs.Founds.{IsFree, IsTaken}
 use Rattle.scrip_journal.specs.declared.fault.HouseFault.{HouseFault}
 use Rattle.scrip_journal.specs.declared.fault.HouseFault.TheVariants.{NotEmpty, Disk, NoMemory}

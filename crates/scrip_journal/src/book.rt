@@ -77,7 +77,11 @@ fn empty_book<D: Disk>(alloc: Global, disk: D, limits: Limits) -> Result<Journal
 
 /// A journal without entries in place of what the disk has, where that is nine bytes at most. The disk was
 /// synced.
-fn empty_small<D: Disk>(alloc: Global, disk: D, limits: Limits) -> Result<Journal<D>, HouseFault<D>>
+fn empty_small<D: Disk>(
+    alloc: Global,
+    mut disk: D,
+    limits: Limits,
+) -> Result<Journal<D>, HouseFault<D>>
     requires limits { AreInRange limits }
     ensures moved { D.disk_moved disk (book_disk result) }
     ensures exact { (x : List ℕ) → (D.disk disk).contents ≡ Some x → ClearsSmall D.disk x result }
@@ -87,7 +91,6 @@ fn empty_small<D: Disk>(alloc: Global, disk: D, limits: Limits) -> Result<Journa
     ensures read { ReadsOnly D.disk disk result }
     ensures fault { CountsBy result (D.disk disk).faults (D.disk (book_disk result)).faults }
 {
-    let mut disk = disk;
     let size = match disk.size() {
         Ok(size) => size,
         Err(DiskFault) => return Err(HouseFault::Disk(disk)),

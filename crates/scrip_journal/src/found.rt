@@ -27,7 +27,7 @@ const EMPTY: [u8; 9] = *b"MCJRNL1\n\0";
 /// which bytes, nobody can say.
 pub fn found_journal<D: Disk>(
     alloc: Global,
-    disk: D,
+    mut disk: D,
     limits: Limits,
 ) -> Result<Journal<D>, OpenFault<D>>
     requires { AreInRange limits }
@@ -42,7 +42,6 @@ pub fn found_journal<D: Disk>(
         (λ d. d ≡ disk)) }
     ensures same_count { OnOk result ((D.disk (found_disk result)).faults ≡ (D.disk disk).faults) }
 {
-    let mut disk = disk;
     let buf = match new_buffer(alloc) {
         Ok(buf) => buf,
         Err(NoMemory) => return Err(OpenFault::NoMemory(disk)),

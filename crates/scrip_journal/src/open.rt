@@ -24,7 +24,7 @@ use std::alloc::Global;
 /// the disk failed. Nothing is written. A disk that is no journal is synced, too.
 pub fn open_journal<D: Disk>(
     alloc: Global,
-    disk: D,
+    mut disk: D,
     limits: Limits,
 ) -> Result<Replay<D>, OpenFault<D>>
     requires { AreInRange limits }
@@ -43,7 +43,6 @@ pub fn open_journal<D: Disk>(
         (λ f. MatchOpenFault f (λ d. IsSynced (D.disk d)) (λ d. Unit {0}) (λ d. Unit {0})) }
     ensures same_count { OnOk result ((D.disk (open_disk result)).faults ≡ (D.disk disk).faults) }
 {
-    let mut disk = disk;
     let buf = match new_buffer(alloc) {
         Ok(buf) => buf,
         Err(NoMemory) => return Err(OpenFault::NoMemory(disk)),

@@ -1,0 +1,2 @@
+pub mod Opener
+pub mod Opening
