@@ -1,5 +1,5 @@
 -- The serials of the pieces that a lawful history hands out and mints: 0, 1, 2 and so on.
-use Rattle.std.proofs.Common.{◌≡◌, ℕ, zero, suc, ◌+◌, ◌/◌, ◌%◌, ◌^◌, ◌<◌, ◌≤◌, Bool, true, false, cond, List, [], ◌∷◌, ◌++◌, Option, Some, None, Result, Ok, Err, refl, sym, ap, subst, ◌∙◌, append_assoc, append-nil, arith, leb, ltb, eqb, option_map}
+use Rattle.std.proofs.Common.{◌≡◌, ℕ, zero, suc, ◌+◌, ◌/◌, ◌%◌, ◌^◌, ◌<◌, ◌≤◌, Bool, true, false, cond, List, [], ◌∷◌, ◌++◌, Option, Some, None, Result, Ok, Err, refl, sym, ap, ◌∙◌, append_assoc, append-nil, arith, leb, ltb, eqb, option_map}
 use Rattle.std.specs.Prelude.{count_by, option_to_list}
 use Rattle.std.proofs.lemmas.Bool.{leb-false, le-ltb, eq-eqb}
 use Rattle.std.proofs.lemmas.Bool.Decides.{nat_tests}
@@ -8,16 +8,18 @@ use Rattle.scrip_form.specs.Identities.{series_of, numbered}
 use Rattle.scrip_form.specs.Scrip.{Scrip}
 use Rattle.mc_records.specs.declared.limits.Limits.{Limits}
 use Rattle.mc_records.specs.declared.refusal.Refusal.TheVariants.{SeriesFull}
-use Rattle.mc_records.specs.Entry.{Deed, Entry, Accept, Mint}
+use Rattle.mc_records.specs.Entry.{Deed, Entry, Accept, Mint, Draw}
 use Rattle.ledger_model.specs.Histories.{History}
 use Rattle.ledger_model.specs.Houses.{own_series}
-use Rattle.ledger_model.specs.Pieces.{change_piece, own_out, own_out_from, minted, minted_from, minted_pieces, run_from, first_hand, in_series, own_count, piece_of, change_from}
+use Rattle.ledger_model.specs.Orders.{Order, order_of}
+use Rattle.ledger_model.specs.Pieces.{change_piece, drawn_piece, handed_piece, own_out, own_out_from, minted, minted_from, minted_pieces, run_from, first_hand, in_series, own_count, piece_of, change_from}
 use Rattle.ledger_model.specs.Lines.{Stop, refused_if}
 use Rattle.ledger_model.specs.Stages.{next_by, needed}
 use Rattle.ledger_model.specs.Answer.{next_own}
-use Rattle.ledger_model.specs.Lawful.{unbounded, IsAllowed, AllFollow, IsLawful}
+use Rattle.ledger_model.specs.Lawful.{unbounded, draw_request, IsAllowed, MayFollow, IsLawfulBook}
 use Rattle.ledger_model.specs.Laws.{with_id, HaveNoGap}
-use Rattle.ledger_model.proofs.TableLaws.{line_ok, refused_ok, ok_is}
+use Rattle.ledger_model.proofs.FollowLaws.{book_walk}
+use Rattle.ledger_model.proofs.TableLaws.{line_ok, refused_ok, ok_is, draw_answer}
 use Rattle.ledger_model.proofs.AcceptLaws.{some_is, accept_change, accept_through}
 
 -- ---- counts, which know no order
@@ -28,7 +30,7 @@ count-cons test p ps = sum_by-cons (λ (x : Scrip). cond (test x) 1 0) p ps
 pub count-append : (test : Scrip → Bool) (xs ys : List Scrip) → count_by test (xs ++ ys) ≡ count_by test xs + count_by test ys
 count-append test xs ys = sum_by-append (λ (x : Scrip). cond (test x) 1 0) xs ys
 
-same_gap : (xs ys : List Scrip) → ((test : Scrip → Bool) → count_by test xs ≡ count_by test ys) → HaveNoGap xs → HaveNoGap ys
+pub same_gap : (xs ys : List Scrip) → ((test : Scrip → Bool) → count_by test xs ≡ count_by test ys) → HaveNoGap xs → HaveNoGap ys
 same_gap xs ys same no_gap series serial lt =
     sym (same (λ p. eqb p.id (numbered series serial))) ∙ no_gap series serial lt
     ∙ ap (λ (n : ℕ). cond (ltb serial n) 1 0) (same (λ p. eqb (series_of p.id) series))
@@ -76,12 +78,12 @@ next_run before value s (suc n) ps c first no_gap is first_is le =
 
 -- ---- the pieces at one more entry
 
-pub own_out_snoc : (before h : History) (e : Entry) → own_out_from before (h ++ e ∷ []) ≡ own_out_from before h ++ option_to_list (change_piece (before ++ h) e)
-own_out_snoc before [] e = append-nil (option_to_list (change_piece before e)) ∙ ap (λ (b : History). option_to_list (change_piece b e)) (sym (append-nil before))
+pub own_out_snoc : (before h : History) (e : Entry) → own_out_from before (h ++ e ∷ []) ≡ own_out_from before h ++ option_to_list (handed_piece (before ++ h) e)
+own_out_snoc before [] e = append-nil (option_to_list (handed_piece before e)) ∙ ap (λ (b : History). option_to_list (handed_piece b e)) (sym (append-nil before))
 own_out_snoc before (x ∷ xs) e =
-    ap (λ (ps : List Scrip). option_to_list (change_piece before x) ++ ps)
-    (own_out_snoc (before ++ x ∷ []) xs e ∙ ap (λ (b : History). own_out_from (before ++ x ∷ []) xs ++ option_to_list (change_piece b e)) (append_assoc before (x ∷ []) xs))
-    ∙ sym (append_assoc (option_to_list (change_piece before x)) (own_out_from (before ++ x ∷ []) xs) (option_to_list (change_piece (before ++ x ∷ xs) e)))
+    ap (λ (ps : List Scrip). option_to_list (handed_piece before x) ++ ps)
+    (own_out_snoc (before ++ x ∷ []) xs e ∙ ap (λ (b : History). own_out_from (before ++ x ∷ []) xs ++ option_to_list (handed_piece b e)) (append_assoc before (x ∷ []) xs))
+    ∙ sym (append_assoc (option_to_list (handed_piece before x)) (own_out_from (before ++ x ∷ []) xs) (option_to_list (handed_piece (before ++ x ∷ xs) e)))
 
 pub minted_snoc : (before h : History) (e : Entry) → minted_from before (h ++ e ∷ []) ≡ minted_from before h ++ minted_pieces (before ++ h) e
 minted_snoc before [] e = append-nil (minted_pieces before e) ∙ ap (λ (b : History). minted_pieces b e) (sym (append-nil before))
@@ -91,13 +93,13 @@ minted_snoc before (x ∷ xs) e =
     ∙ sym (append_assoc (minted_pieces before x) (minted_from (before ++ x ∷ []) xs) (minted_pieces (before ++ x ∷ xs) e))
 
 -- the pieces that the house made, in any order
-abbrev made : History → List Scrip
+abbrev pub made : History → List Scrip
 made h = own_out h ++ minted h
 
 made_snoc : (h : History) (e : Entry) (test : Scrip → Bool)
-    → count_by test (option_to_list (change_piece h e) ++ (minted_pieces h e ++ made h)) ≡ count_by test (made (h ++ e ∷ []))
+    → count_by test (option_to_list (handed_piece h e) ++ (minted_pieces h e ++ made h)) ≡ count_by test (made (h ++ e ∷ []))
 made_snoc h e test =
-    let c = option_to_list (change_piece h e) in
+    let c = option_to_list (handed_piece h e) in
     let m = minted_pieces h e in
     let left = count-append test c (m ++ made h) in
     let left2 = count-append test m (made h) in
@@ -109,12 +111,12 @@ made_snoc h e test =
 
 -- ---- each kind of entry
 
-needed_next : (b : Bool) (next : Result ℕ Stop) (id : ℕ) → needed b next ≡ Ok (Some id) → next ≡ Ok id
+pub needed_next : (b : Bool) (next : Result ℕ Stop) (id : ℕ) → needed b next ≡ Ok (Some id) → next ≡ Ok id
 needed_next false next id e = absurd cc
 needed_next true (Ok i) id e = cc
 needed_next true (Err stop) id e = absurd cc
 
-next_is : (limit series count id : ℕ) → next_by limit series count ≡ Ok id → (count < limit) × (id ≡ numbered series count)
+pub next_is : (limit series count id : ℕ) → next_by limit series count ≡ Ok id → (count < limit) × (id ≡ numbered series count)
 next_is limit series count id e =
     let a = line_ok (refused_if (leb limit count) (SeriesFull series)) (λ _. Ok (numbered series count)) id e in
     let below : count < limit = leb-false limit count (refused_ok _ _ a.0 a.1) in
@@ -125,7 +127,7 @@ with_change : (h : History) (id : ℕ) (o : Option Scrip) → ((p : Scrip) → o
 with_change h id None is no_gap series next lt = no_gap
 with_change h id (Some p) is no_gap series next lt = next_piece (made h) p series no_gap (is p refl ∙ next) lt
 
-change_id : (h : History) (m : ℕ) (scrip target : List ℕ) (sign : Option (List ℕ)) (price id : ℕ) (deed : Deed) (p : Scrip)
+pub change_id : (h : History) (m : ℕ) (scrip target : List ℕ) (sign : Option (List ℕ)) (price id : ℕ) (deed : Deed) (p : Scrip)
     → change_piece h (Accept m scrip target sign price (Some id) deed) ≡ Some p → p.id ≡ id
 change_id h m scrip target sign price id deed p e = go (piece_of scrip) e
   where
@@ -134,7 +136,7 @@ change_id h m scrip target sign price id deed p e = go (piece_of scrip) e
     go (Some q) r = let is = some_is (change_from h q price id) p r in sym (ap (λ (x : Scrip). x.id) is)
 
 step_no_gap : (limits : Limits) (h : History) (e : Entry) → limits.series ≤ 2 ^ 32 → IsAllowed limits h e → HaveNoGap (made h)
-    → HaveNoGap (option_to_list (change_piece h e) ++ (minted_pieces h e ++ made h))
+    → HaveNoGap (option_to_list (handed_piece h e) ++ (minted_pieces h e ++ made h))
 step_no_gap limits h (Accept m scrip target sign price None deed) le allowed no_gap = no_gap
 step_no_gap limits h (Accept m scrip target sign price (Some id) deed) le allowed no_gap =
     let x = accept_through limits h m scrip target sign price (Some id) deed allowed in
@@ -147,30 +149,47 @@ step_no_gap limits h (Accept m scrip target sign price (Some id) deed) le allowe
     ok_option o = Ok o
 step_no_gap limits h (Mint m reference count value first) le allowed no_gap =
     next_run h value (own_series h m) count (made h) (own_count h (own_series h m)) first no_gap refl allowed.2 (let room = allowed.3 in omega (arith, room))
+step_no_gap limits h (Draw m target sign drawn) le allowed no_gap =
+    let x = (draw_answer h m (unbounded limits) (draw_request target sign) m target sign drawn allowed).through in
+    let id_is : x.id ≡ drawn = ap draw_id x.is in
+    let next = next_is limits.series (own_series h m) (own_count h (own_series h m)) drawn (x.is_next ∙ ap ok_id id_is) in
+    with_change h drawn (drawn_piece h drawn (order_of target)) (drawn_id h drawn (order_of target)) no_gap (own_series h m) next.1 (omega (arith, next.0))
+  where
+    ok_id : ℕ → Result ℕ Stop
+    ok_id n = Ok n
+
+    draw_id : Entry → ℕ
+    draw_id (Draw a b c d) = d
+    draw_id e = 0
+
+    drawn_id : (before : History) (id : ℕ) (o : Option Order) (p : Scrip) → drawn_piece before id o ≡ Some p → p.id ≡ id
+    drawn_id before id None p e = absurd cc
+    drawn_id before id (Some o) p e = let is = some_is (first_hand before o.amount id) p e in sym (ap (λ (s : Scrip). s.id) is)
 step_no_gap limits h e le allowed no_gap = no_gap
 
-no_gap_from : (limits : Limits) (before es : History) → limits.series ≤ 2 ^ 32 → AllFollow limits before es → HaveNoGap (made before) → HaveNoGap (made (before ++ es))
-no_gap_from limits before [] le lawful no_gap = subst (λ (h : History). HaveNoGap (made h)) (sym (append-nil before)) no_gap
-no_gap_from limits before (e ∷ es) le lawful no_gap =
-    subst (λ (h : History). HaveNoGap (made h)) (append_assoc before (e ∷ []) es)
-    (no_gap_from limits (before ++ e ∷ []) es le lawful.1 (same_gap (option_to_list (change_piece before e) ++ (minted_pieces before e ++ made before)) (made (before ++ e ∷ [])) (made_snoc before e) (step_no_gap limits before e le lawful.0.allowed no_gap)))
-
-empty_no_gap : HaveNoGap []
+pub empty_no_gap : HaveNoGap []
 empty_no_gap series serial lt = sym (ap (λ (b : Bool). cond b 1 0) (le-ltb serial 0 (omega arith)))
 
--- the serials that a lawful history handed out or minted have no gap
-pub serials_have_no_gap : (limits : Limits) (h : History) → limits.series ≤ 2 ^ 32 → IsLawful limits h → HaveNoGap (own_out h ++ minted h)
-serials_have_no_gap limits [] le lawful = absurd lawful
-serials_have_no_gap limits (e ∷ es) le lawful = no_gap_from limits [] (e ∷ es) le lawful empty_no_gap
+pub made_step : (limits : Limits) (h : History) (e : Entry) → limits.series ≤ 2 ^ 32 → MayFollow limits h e → HaveNoGap (made h) → HaveNoGap (made (h ++ e ∷ []))
+made_step limits h e le may no_gap =
+    same_gap (option_to_list (handed_piece h e) ++ (minted_pieces h e ++ made h)) (made (h ++ e ∷ [])) (made_snoc h e) (step_no_gap limits h e le may.allowed no_gap)
+
+-- the serials that a lawful book handed out or minted have no gap
+pub serials_have_no_gap : (limits : Limits) (kind : ℕ) (h : History) → limits.series ≤ 2 ^ 32 → IsLawfulBook limits kind h → HaveNoGap (own_out h ++ minted h)
+serials_have_no_gap limits kind h le lawful =
+    book_walk (λ g. HaveNoGap (made g)) limits kind (λ g e may no_gap. made_step limits g e le may no_gap) (λ m name house. empty_no_gap) h lawful
 
 -- so no identity stands twice among them
-pub made_once : (limits : Limits) (h : History) (id : ℕ) → limits.series ≤ 2 ^ 32 → IsLawful limits h → with_id (own_out h ++ minted h) id ≤ 1
-made_once limits h id le lawful =
+pub gap_once : (ps : List Scrip) (id : ℕ) → HaveNoGap ps → with_id ps id ≤ 1
+gap_once ps id no_gap =
     let is : numbered (id / 2 ^ 32) (id % 2 ^ 32) ≡ id = omega arith in
     let small : id % 2 ^ 32 < 2 ^ 32 = omega arith in
-    let e = ap (with_id (own_out h ++ minted h)) (sym is) ∙ serials_have_no_gap limits h le lawful (id / 2 ^ 32) (id % 2 ^ 32) small in
+    let e = ap (with_id ps) (sym is) ∙ no_gap (id / 2 ^ 32) (id % 2 ^ 32) small in
     go _ e
   where
-    go : (b : Bool) → with_id (own_out h ++ minted h) id ≡ cond b 1 0 → with_id (own_out h ++ minted h) id ≤ 1
+    go : (b : Bool) → with_id ps id ≡ cond b 1 0 → with_id ps id ≤ 1
     go true e = omega (arith, e)
     go false e = omega (arith, e)
+
+pub made_once : (limits : Limits) (kind : ℕ) (h : History) (id : ℕ) → limits.series ≤ 2 ^ 32 → IsLawfulBook limits kind h → with_id (own_out h ++ minted h) id ≤ 1
+made_once limits kind h id le lawful = gap_once (own_out h ++ minted h) id (serials_have_no_gap limits kind h le lawful)

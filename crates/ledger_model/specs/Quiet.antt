@@ -1,11 +1,11 @@
--- Entries that the pieces, the terms and the goods of a house do not see.
+-- Entries that the own pieces, the terms and the goods of a house do not see.
 use Rattle.std.specs.Prelude.{◌≡◌, ℕ, false, List, [], ◌∷◌, None}
 use Rattle.mc_records.specs.Requests.{Asked}
 use Rattle.mc_records.specs.Entry.{Entry}
 use Rattle.ledger_model.specs.Histories.{History}
 use Rattle.ledger_model.specs.Houses.{terms_of}
 use Rattle.ledger_model.specs.Goods.{is_goods_of, in_force}
-use Rattle.ledger_model.specs.Pieces.{accepted_piece, change_piece, minted_pieces}
+use Rattle.ledger_model.specs.Pieces.{accepted_piece, handed_piece, minted_pieces}
 use Rattle.ledger_model.specs.Sums.{price_paid}
 use Rattle.ledger_model.specs.Stages.{is_repeat}
 use Rattle.ledger_model.specs.Replies.{reply_after}
@@ -14,13 +14,14 @@ use Rattle.ledger_model.specs.Replies.{reply_after}
 -- paid, and it has no reply.
 pub record AcceptsNothing (e : Entry) : Type 0 where
   pub piece : accepted_piece e ≡ None
-  pub change : (before : History) → change_piece before e ≡ None
+  pub handed : (before : History) → handed_piece before e ≡ None
   pub repeats : (keep t : ℕ) (q : Asked) → is_repeat keep t q e ≡ false
   pub price : price_paid e ≡ 0
   pub reply : (before : History) → reply_after before e ≡ []
 
--- A quiet entry: it accepts nothing, brings no terms and no goods, and mints nothing. Deposits and withdrawals
--- are quiet, though their references and amounts are seen; and each entry has its moment and its size.
+-- A quiet entry: it accepts nothing, brings no terms and no goods, and mints nothing. What a broker keeps besides its
+-- pieces is quiet, though it is seen: accounts, deposits and withdrawals with their references, licences and stock.
+-- And each entry has its moment and its size.
 pub record IsQuiet (e : Entry) : Type 0 where
   pub accepts_nothing : AcceptsNothing e
   pub terms : terms_of e ≡ None

@@ -1,0 +1,36 @@
+-- What a vendor's lawful book drew: nothing.
+use Rattle.std.proofs.Common.{◌≡◌, Bool, true, false, [], ◌∷◌, ◌++◌, Some, refl, ◌∙◌, arith}
+use Rattle.mc_records.specs.declared.limits.Limits.{Limits}
+use Rattle.mc_records.specs.Entry.{Entry, Site, Draw}
+use Rattle.ledger_model.specs.Histories.{History}
+use Rattle.ledger_model.specs.Houses.{site_kind, is_broker}
+use Rattle.ledger_model.specs.Sums.{amount_drawn, all_drawn}
+use Rattle.ledger_model.specs.Lawful.{unbounded, draw_request, IsAllowed, MayFollow, IsLawfulBook}
+use Rattle.ledger_model.proofs.ListLaws.{sum_snoc}
+use Rattle.ledger_model.proofs.TakenLaws.{taken_draw}
+use Rattle.ledger_model.proofs.FollowLaws.{book_walk}
+use Rattle.ledger_model.proofs.KindLaws.{no_broker}
+
+pub first_kind : (x : Entry) (xs ys : History) → site_kind (x ∷ xs) ≡ site_kind (x ∷ ys)
+first_kind (Site m kind name house) xs ys = refl
+first_kind x xs ys = refl
+
+pub not_both : (b : Bool) → b ≡ true → b ≡ false → ⊥
+not_both b t f = absurd cc
+
+undrawn : (limits : Limits) (h : History) (e : Entry) → is_broker h ≡ false → IsAllowed limits h e → amount_drawn e ≡ 0
+undrawn limits h (Draw m target sign drawn) none allowed =
+    absurd (not_both (is_broker h) (taken_draw h m (unbounded limits) (draw_request target sign) m target sign drawn allowed).at_broker none)
+undrawn limits h e none allowed = refl
+
+abbrev DrawsNothing : History → Type 0
+DrawsNothing h = (site_kind h ≡ Some 0) × (all_drawn h ≡ 0)
+
+draws_no_more : (limits : Limits) (h : History) (e : Entry) → MayFollow limits h e → DrawsNothing h → DrawsNothing (h ++ e ∷ [])
+draws_no_more limits [] e may before = absurd (cc before.0)
+draws_no_more limits (x ∷ xs) e may before =
+    let one = sum_snoc amount_drawn (x ∷ xs) e in
+    (first_kind x (xs ++ e ∷ []) xs ∙ before.0, omega (arith, one, before.1, undrawn limits (x ∷ xs) e (no_broker (x ∷ xs) before.0) may.allowed))
+
+pub none_drawn : (limits : Limits) (h : History) → IsLawfulBook limits 0 h → all_drawn h ≡ 0
+none_drawn limits h lawful = (book_walk DrawsNothing limits 0 (draws_no_more limits) (λ m name house. (refl, refl)) h lawful).1
