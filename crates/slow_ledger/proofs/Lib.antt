@@ -1,0 +1,8 @@
+pub mod SlowLaws
+pub mod CountLaws
+pub mod ErrandTargets
+pub mod Found
+pub mod NewLaws
+pub mod TableSteps
+pub mod LawfulSteps
+pub mod FirstUnlawful

@@ -1,0 +1,3 @@
+pub mod NewStock
+pub mod Slow
+pub mod Shown
