@@ -1,0 +1,10 @@
+pub mod Grouping
+pub mod Meeting
+pub mod OwnIssuer
+pub mod VendorBalance
+pub mod Sold
+pub mod Balanced
+pub mod Strange
+pub mod Expiry
+pub mod Rows
+pub mod Brokers

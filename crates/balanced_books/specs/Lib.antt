@@ -1,0 +1,4 @@
+pub mod Meets
+pub mod Books
+pub mod Strangers
+pub mod Brokers
