@@ -21,8 +21,9 @@ use Rattle.ledger_model.specs.Pieces.{accepted, own_out, first_hand, run_from, m
 use Rattle.ledger_model.specs.Sums.{price_paid, values}
 use Rattle.ledger_model.specs.Stages.{is_repeat}
 use Rattle.ledger_model.specs.Quiet.{AcceptsNothing}
-use Rattle.ledger_model.specs.Lawful.{MayFollow, IsAllowed}
+use Rattle.ledger_model.specs.Lawful.{IsLawful, MayFollow, IsAllowed}
 use Rattle.ledger_model.proofs.QuietLaws.{quiet}
+use Rattle.ledger_model.proofs.KindLaws.{lawful_no_broker, no_broker_entry}
 use Rattle.ledger_model.proofs.AcceptLaws.{accepted_snoc}
 use Rattle.ledger_model.proofs.SerialLaws.{own_out_snoc, minted_snoc, count-append, count-cons}
 use Rattle.mc_records.proofs.SizeLaws.{length-tail, tail_size-more}
@@ -51,11 +52,12 @@ goes_on_own own series first n is fits some most =
 
 accepts_nothing : (e : Entry) → IsCommand e → AcceptsNothing e
 accepts_nothing (Site m kind name house) is = absurd is
-accepts_nothing (AddTerms m terms) is = record { piece = refl; change = λ before. refl; repeats = λ keep t q. refl; price = refl; reply = λ before. refl }
-accepts_nothing (Goods m target price k contents) is = record { piece = refl; change = λ before. refl; repeats = λ keep t q. refl; price = refl; reply = λ before. refl }
+accepts_nothing (AddTerms m terms) is = record { piece = refl; handed = λ before. refl; repeats = λ keep t q. refl; price = refl; reply = λ before. refl }
+accepts_nothing (Goods m target price k contents) is = record { piece = refl; handed = λ before. refl; repeats = λ keep t q. refl; price = refl; reply = λ before. refl }
 accepts_nothing (Accept m scrip target sign price change deed) is = absurd is
-accepts_nothing (Mint m reference count value first) is = record { piece = refl; change = λ before. refl; repeats = λ keep t q. refl; price = refl; reply = λ before. refl }
-accepts_nothing e is = (quiet e (omega arith)).accepts_nothing
+accepts_nothing (Mint m reference count value first) is = record { piece = refl; handed = λ before. refl; repeats = λ keep t q. refl; price = refl; reply = λ before. refl }
+accepts_nothing (Draw m target sign drawn) is = absurd is
+accepts_nothing e is = (quiet e (omega arith) (λ same. absurd (omega (arith, same)))).accepts_nothing
 
 -- ---- minted pieces
 
@@ -90,7 +92,7 @@ minted_counted h b e s is on most = refl
 own_count_more : (h : History) (b : HouseStateView) (e : Entry) (s : ℕ) → IsCommand e → GoesOn b e → b.own.most ≤ 2 ^ 32 → own_count (h ++ e ∷ []) s ≡ own_count h s + minted_count e s
 own_count_more h b e s is on most =
     let test : Scrip → Bool = λ p. series_of p.id == s in
-    let out : own_out (h ++ e ∷ []) ≡ own_out h = own_out_snoc [] h e ∙ ap (λ (o : Option Scrip). own_out h ++ option_to_list o) ((accepts_nothing e is).change h) ∙ append-nil (own_out h) in
+    let out : own_out (h ++ e ∷ []) ≡ own_out h = own_out_snoc [] h e ∙ ap (λ (o : Option Scrip). own_out h ++ option_to_list o) ((accepts_nothing e is).handed h) ∙ append-nil (own_out h) in
     let made = minted_snoc [] h e in
     let longer : own_count (h ++ e ∷ []) s ≡ count_by test (own_out h ++ (minted h ++ minted_pieces h e)) = ap₂ (λ (ps qs : List Scrip). count_by test (ps ++ qs)) out made in
     omega (
@@ -133,13 +135,14 @@ follows passes limits kind h (Mint m reference count value first) same is a b = 
 follows passes limits kind h (Draw m target sign drawn) same is a b = absurd is
 follows passes limits kind h e same is a b = absurd b
 
-pub halves : (passes : History → Entry → Type 0) (limits : Limits) (kind : ℕ) (h : History) (e : Entry) → site_kind h ≡ Some kind → IsCommand e → IsAllowed limits h e → ByHouse limits kind h e × ByTrade passes kind h e
-halves passes limits kind h (Site m k name house) same is a = absurd is
-halves passes limits kind h (AddTerms m terms) same is a = (tt, (of_vendors h kind same a.0, a.1))
-halves passes limits kind h (Goods m target price k contents) same is a = (tt, (of_vendors h kind same a.0, a.1))
-halves passes limits kind h (Accept m scrip target sign price change deed) same is a = absurd is
-halves passes limits kind h (Mint m reference count value first) same is a = ((a.2, a.3), (of_vendors h kind same a.0, a.1))
-halves passes limits kind h e same is a = absurd a
+pub halves : (passes : History → Entry → Type 0) (limits : Limits) (kind : ℕ) (h : History) (e : Entry) → IsLawful limits h → site_kind h ≡ Some kind → IsCommand e → IsAllowed limits h e
+    → ByHouse limits kind h e × ByTrade passes kind h e
+halves passes limits kind h (Site m k name house) lawful same is a = absurd is
+halves passes limits kind h (AddTerms m terms) lawful same is a = (tt, (of_vendors h kind same a.0, a.1))
+halves passes limits kind h (Goods m target price k contents) lawful same is a = (tt, (of_vendors h kind same a.0, a.1))
+halves passes limits kind h (Accept m scrip target sign price change deed) lawful same is a = absurd is
+halves passes limits kind h (Mint m reference count value first) lawful same is a = ((a.2, a.3), (of_vendors h kind same a.0, a.1))
+halves passes limits kind h e lawful same is a = absurd (no_broker_entry limits h e (lawful_no_broker limits h lawful) (omega arith) a)
 
 -- ---- the goods
 
@@ -160,7 +163,7 @@ stands_applied {old = old} {new = new} {h = h} st e bytes command at goes may le
     let still = accepts_nothing e command in
     let most : old.own.most ≤ 2 ^ 32 = omega (arith, st.most, st.limits.series_most) in
     let accepts : accepted (h ++ e ∷ []) ≡ accepted h = accepted_snoc h e ∙ ap (λ (o : Option Scrip). accepted h ++ cons_option o []) still.piece ∙ append-nil (accepted h) in
-    let out : own_out (h ++ e ∷ []) ≡ own_out h = own_out_snoc [] h e ∙ ap (λ (o : Option Scrip). own_out h ++ option_to_list o) (still.change h) ∙ append-nil (own_out h) in
+    let out : own_out (h ++ e ∷ []) ≡ own_out h = own_out_snoc [] h e ∙ ap (λ (o : Option Scrip). own_out h ++ option_to_list o) (still.handed h) ∙ append-nil (own_out h) in
     let terms : all_terms (h ++ e ∷ []) ≡ all_terms h ++ all_terms (e ∷ []) = filter_map-append terms_of h (e ∷ []) in
     record {
       name = same.name ∙ st.name ∙ sym is.name;

@@ -14,7 +14,7 @@ use Rattle.scrip_form.specs.Issuing.{Issuing}
 use Rattle.scrip_form.specs.Scrip.{Scrip}
 use Rattle.scrip_form.specs.Reading.{scrip_of}
 use Rattle.mc_records.specs.declared.limits.Limits.{Limits}
-use Rattle.mc_records.specs.Entry.{House, Entry, Site, Accept, Mint, moment_of}
+use Rattle.mc_records.specs.Entry.{House, Entry, Site, Accept, Mint, Draw, moment_of}
 use Rattle.mc_records.specs.Requests.{Asked}
 use Rattle.kept_replies.specs.Requests.{is_same_text, is_same_request}
 use Rattle.kept_replies.specs.Kept.{KeptReply, is_in_time, found}
@@ -25,8 +25,8 @@ use Rattle.ledger_model.specs.Pieces.{piece_of, accepted, change_from, change_pi
 use Rattle.ledger_model.specs.Sums.{price_paid, values}
 use Rattle.ledger_model.specs.Stages.{is_same_scrip, is_repeat, is_same_sign}
 use Rattle.ledger_model.specs.Answer.{answer, Take}
-use Rattle.ledger_model.specs.Lawful.{IsLawful, MayFollow, IsAllowed, request_of}
-use Rattle.ledger_model.proofs.TableLaws.{answer_through}
+use Rattle.ledger_model.specs.Lawful.{IsLawful, MayFollow, IsAllowed, request_of, draw_request}
+use Rattle.ledger_model.proofs.TableLaws.{accept_answer}
 use Rattle.ledger_model.proofs.AcceptLaws.{accepted_snoc, offer_below}
 use Rattle.ledger_model.proofs.SerialLaws.{own_out_snoc, minted_snoc, count-append}
 use Rattle.mc_records.proofs.SizeLaws.{length-tail, tail_size-more}
@@ -165,8 +165,7 @@ record IsTaken (h : History) (t : ℕ) (q : Asked) (a : Authorization) : Type 0 
 is_taken : (h : History) (t : ℕ) (limits : Limits) (q : Asked) (a : Authorization) → scrip_of a.scrip.now.text ≡ Ok (a.scrip.now.piece, a.scrip.now.cert)
     → answer h t limits q ≡ Take (accept_entry t q.target a) → IsTaken h t q a
 is_taken h t limits q a read takes =
-    let e = accept_entry t q.target a in
-    let x = answer_through h t limits q e takes in
+    let x = accept_answer h t limits q t a.scrip.now.text q.target a.sign a.price a.change (entry_deed a.deed) takes in
     let text : x.scrip.text ≡ a.scrip.now.text = ap accept_text x.is in
     let sign : x.sign ≡ a.sign = ap accept_sign x.is in
     let price : x.offered.price ≡ a.price = ap price_paid x.is in
@@ -177,7 +176,7 @@ is_taken h t limits q a read takes =
     record {
       piece = ap (λ (r : Result (Scrip × List ℕ) ℕ). option_map (λ p. p.0) (result_ok r)) read;
       price = omega (arith, below, price, ap (λ (p : Scrip). p.value) piece);
-      sign = ap (option_map encode_lower) (sym sign) ∙ ap (λ (p : Asked). p.sign) (same_request h t limits q e x);
+      sign = ap (option_map encode_lower) (sym sign) ∙ ap (λ (p : Asked). p.sign) (same_request h t limits q (accept_entry t q.target a) x);
     }
 
 -- ---- the change
@@ -270,6 +269,7 @@ same_series limits own h e same may = record { in_order = may.in_order; allowed 
     allowed : (x : Entry) → IsAllowed limits h x → IsAllowed own h x
     allowed (Accept m scrip target sign price change deed) a = ap (λ (n : ℕ). answer h m (bounds n) (request_of scrip target sign)) (sym same) ∙ a
     allowed (Mint m reference count value first) a = (a.0, a.1, a.2, omega (arith, a.3, same))
+    allowed (Draw m target sign drawn) a = ap (λ (n : ℕ). answer h m (bounds n) (draw_request target sign)) (sym same) ∙ a
     allowed e a = a
 
 -- the entry that the answer takes may follow

@@ -1,5 +1,5 @@
 -- The state before and after an authorization was entered, by what the calls on the way say.
-use Rattle.std.proofs.Common.{◌^◌, ◌≡◌, ℕ, ◌+◌, ◌-◌, ◌<◌, ◌≤◌, Bool, true, false, cond, List, [], ◌∷◌, ◌++◌, filter, find, All, Option, Some, None, refl, sym, ap, subst, ◌∙◌, arith, eqb}
+use Rattle.std.proofs.Common.{◌^◌, ◌≡◌, ℕ, ◌+◌, ◌-◌, ◌<◌, ◌≤◌, Bool, true, false, cond, is_some, List, [], ◌∷◌, ◌++◌, length, filter, find, All, Option, Some, None, refl, sym, ap, subst, ◌∙◌, arith, eqb}
 use Rattle.std.specs.Prelude.{◌&&◌, ◌||◌, ◌==◌, min, option_map, IsTrue}
 use Rattle.std.proofs.lemmas.Bool.{lt-ltb}
 use Rattle.std.proofs.lemmas.List.Elements.{All-head, All-tail, All-push, All-weaker, All-filter, filter_passes}
@@ -10,7 +10,7 @@ use Rattle.mc_records.specs.declared.limits.Limits.{Limits}
 use Rattle.mc_records.specs.Requests.{Asked}
 use Rattle.ledger_model.specs.Houses.{certificate_in}
 use Rattle.kept_replies.specs.Requests.{is_same_request}
-use Rattle.kept_replies.specs.Kept.{KeptReply, KeptView, is_in_time, has_request, has_number, inserted}
+use Rattle.kept_replies.specs.Kept.{KeptReply, KeptView, is_in_time, has_request, has_number, inserted, change_size}
 use Rattle.kept_replies.proofs.InsertLaws.{inserted_last}
 use Rattle.change_issue.specs.Registers.{Register, count_in, issued_in, redeemed_in}
 use Rattle.change_issue.specs.IssuedPieces.{issued_piece}
@@ -98,6 +98,16 @@ change_is old paid price change piece made is_piece is_made = is_made ∙ ap cer
     certify o = option_map (λ p. (p, certificate_in (version_of old (series_of p.id)) old.own.terms (scrip_body p) p.id)) o
 
     go : (o : Option ℕ) → certify (option_map (λ id. issued_piece old.own.terms old.time old.name (paid.value - price) id (Some paid.cust) paid.props) o) ≡ option_map (certified_change old paid price) o
+    go None = refl
+    go (Some id) = refl
+
+-- the change has the name of the house and the properties of the piece
+pub change_fits : (terms : Issuing) (time worth : ℕ) (name : List ℕ) (cust : ℕ) (props : List ℕ) (certify : Scrip → List ℕ) (change : Option ℕ) (piece : Option Scrip) (made : Option (Scrip × List ℕ))
+    → piece ≡ option_map (λ id. issued_piece terms time name worth id (Some cust) props) change → made ≡ option_map (λ p. (p, certify p)) piece
+    → change_size made ≡ cond (is_some change) (length name + length props) 0
+change_fits terms time worth name cust props certify change piece made is_piece is_made = ap change_size (is_made ∙ ap (option_map (λ p. (p, certify p))) is_piece) ∙ go change
+  where
+    go : (o : Option ℕ) → change_size (option_map (λ p. (p, certify p)) (option_map (λ id. issued_piece terms time name worth id (Some cust) props) o)) ≡ cond (is_some o) (length name + length props) 0
     go None = refl
     go (Some id) = refl
 

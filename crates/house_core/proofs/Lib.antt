@@ -1,3 +1,4 @@
+pub mod TallyLaws
 pub mod PartLaws
 pub mod KeptLaws
 pub mod Tabled

@@ -8,6 +8,7 @@ use Rattle.ledger_model.specs.Histories.{History}
 use Rattle.ledger_model.specs.Answer as answers
 use Rattle.ledger_model.specs.Answer.{Answer, answer}
 use Rattle.house_core.specs.declared.bench.Bench.{Bench}
+use Rattle.house_core.specs.declared.tally.Tally.{Tally}
 use Rattle.house_core.specs.declared.verdict.BenchFault.{BenchFault}
 use Rattle.house_core.specs.declared.verdict.BenchFault.TheVariants as faults
 use Rattle.house_core.specs.Session.{State, raised, Says}
@@ -62,3 +63,14 @@ says trade old mid new reading q r time limits still same contents accepts keeps
     let accepted : Accepts trade new h (answer h s.time (limits_of old) q) r = rw (time, limits) at (accepts h st) in
     let kept : KeepsContents trade new h (answer h s.time (limits_of old) q) r = rw (time, limits) at (keeps h st has) in
     came trade s new (answer h s.time (limits_of old) q) r (still ∙ time) accepted kept
+
+-- what a house counts is no part of what it represents
+pub counted_beside : {T : Type 0} (trade : T → TradeView) (P : State → Type 0) (b : Bench T) (tally : Tally) → Reaches trade P b → Reaches trade P (record b { tally = tally })
+counted_beside trade P b tally came = record {
+  history = came.history;
+  house = record {
+    represents = record { state = came.house.represents.state; learned = came.house.represents.learned; of_kind = came.house.represents.of_kind };
+    contents = record { in_force = came.house.contents.in_force; held = came.house.contents.held };
+  };
+  related = came.related;
+}

@@ -19,8 +19,9 @@ use Rattle.ledger_model.specs.Houses.{site_name, all_terms, terms_by, terms_in, 
 use Rattle.ledger_model.specs.Pieces.{is_spent}
 use Rattle.ledger_model.specs.Lines.{Stop, Repeat, ◌>>=◌, given, refused_if, again_if}
 use Rattle.ledger_model.specs.Stages.{read_by, is_right, genuine_by, spendable_by, Offer, next_by, needed, fitted_by}
-use Rattle.ledger_model.specs.Answer.{repeated, after_read, after_repeat, genuine, spendable, offer, next_own, fitted, taken, answered, answer}
-use Rattle.ledger_model.proofs.TableLaws.{line_ok, refused_ok, given_ok, read_ok}
+use Rattle.ledger_model.specs.Answer.{repeated, after_read, after_repeat, genuine, spendable, offer, next_own, fitted, taken, lines, answered, answer}
+use Rattle.ledger_model.proofs.TableLaws.{line_ok, refused_ok, given_ok, read_ok, answer_by_lines}
+use Rattle.ledger_model.proofs.KindLaws.{no_draws}
 use Rattle.house_core.specs.HouseState.{HouseStateView, end_by, version_of, tail_of, series_now}
 use Rattle.house_core.specs.House.{HasRun}
 use Rattle.spent_windows.specs.Windows.{is_marked}
@@ -170,24 +171,25 @@ kept_number b q = option_map (λ e. e.number) (found b.kept b.time q)
 again_is : {b : HouseStateView} {h : History} → StateRepresents b h → (q : Asked) (c : Certified) → Ok c ≡ read_by q.scrip → repeated h b.time c q ≡ kept_number b q
 again_is {b = b} st q c read = st.again b.time (scrip_request c.text q.target q.sign) (omega arith) ∙ ap (kept_number b) (sym (scrip_asked q c read))
 
+-- a house answers by the column of requests with scrip
+of_scrip : {b : HouseStateView} {h : History} → StateRepresents b h → (t : ℕ) (limits : Limits) (q : Asked) → answered (lines h t limits q) ≡ answer h t limits q
+of_scrip {b = b} {h = h} st t limits q = sym (answer_by_lines h t limits q (no_draws b.limits h q.target st.lawful))
+
 -- there is no scrip text that can be read
-pub unread : (h : History) (t : ℕ) (limits : Limits) (q : Asked) (s : Stop) → Err s ≡ read_by q.scrip → answered (Err s) ≡ answer h t limits q
-unfolding answer
-unread h t limits q s none = ap (λ (r : Result Certified Stop). answered (r >>= λ c. after_read h t limits q c)) none
+pub unread : {b : HouseStateView} {h : History} → StateRepresents b h → (t : ℕ) (limits : Limits) (q : Asked) (s : Stop) → Err s ≡ read_by q.scrip → answered (Err s) ≡ answer h t limits q
+unread {h = h} st t limits q s none = ap (λ (r : Result Certified Stop). answered (r >>= λ c. after_read h t limits q c)) none ∙ of_scrip st t limits q
 
 -- the same request was accepted within the keeping time
 pub comes_again : {b : HouseStateView} {h : History} → StateRepresents b h → (limits : Limits) (q : Asked) (c : Certified) (n : ℕ) → Ok c ≡ read_by q.scrip → Some n ≡ kept_number b q
     → answered (Err (Repeat n)) ≡ answer h b.time limits q
-unfolding answer
 comes_again {b = b} {h = h} st limits q c n read is =
     ap (λ (o : Option ℕ). answered (again_if o >>= λ _. after_repeat h b.time limits q c)) (is ∙ sym (again_is st q c read))
-    ∙ ap (λ (r : Result Certified Stop). answered (r >>= λ c. after_read h b.time limits q c)) read
+    ∙ ap (λ (r : Result Certified Stop). answered (r >>= λ c. after_read h b.time limits q c)) read ∙ of_scrip st b.time limits q
 
 -- it was not
 pub is_new : {b : HouseStateView} {h : History} → StateRepresents b h → (limits : Limits) (q : Asked) (c : Certified) (r : Result Entry Stop) → Ok c ≡ read_by q.scrip → None ≡ kept_number b q
     → r ≡ after_repeat h b.time limits q c → answered r ≡ answer h b.time limits q
-unfolding answer
 is_new {b = b} {h = h} st limits q c r read none e =
     ap answered e
     ∙ ap (λ (o : Option ℕ). answered (again_if o >>= λ _. after_repeat h b.time limits q c)) (none ∙ sym (again_is st q c read))
-    ∙ ap (λ (r : Result Certified Stop). answered (r >>= λ c. after_read h b.time limits q c)) read
+    ∙ ap (λ (r : Result Certified Stop). answered (r >>= λ c. after_read h b.time limits q c)) read ∙ of_scrip st b.time limits q

@@ -11,6 +11,7 @@ use Rattle.ledger_model.specs.Lines.{Refuse}
 use Rattle.ledger_model.specs.Answer.{fitted, Answer, Refused, Again, Take}
 use Rattle.ledger_model.specs.Lawful.{MayFollow}
 use Rattle.house_core.specs.declared.bench.Bench.{Bench}
+use Rattle.house_core.specs.declared.tally.Tally.{Tally}
 use Rattle.house_core.specs.declared.verdict.NotAuthorized.{NotAuthorized}
 use Rattle.house_core.specs.declared.verdict.NotAuthorized.TheVariants as stops
 use Rattle.house_core.specs.declared.verdict.EnterFault.{EnterFault}
@@ -24,6 +25,7 @@ use Rattle.house_core.specs.HouseState.{IsAsBefore}
 use Rattle.house_core.specs.Trade.{OfGoods, Replaces, TradeView}
 use Rattle.house_core.specs.Replying.{IsOfSite}
 use Rattle.house_core.specs.Session.{State}
+use Rattle.house_core.specs.Tallies.{IsWithin}
 
 abbrev pub house_time : {T : Type 0} → Bench T → ℕ
 house_time b = b.state.time
@@ -33,6 +35,13 @@ limits_of b = b.state.limits
 
 abbrev pub windows_of : {T : Type 0} → Bench T → List WindowView
 windows_of b = b.state.spent
+
+abbrev pub tally_of : {T : Type 0} → Bench T → Tally
+tally_of b = b.tally
+
+-- its tally has no more than its entries allow: that of a new house has, and every call keeps it so
+abbrev pub IsTallied : {T : Type 0} → Bench T → Type 0
+IsTallied b = IsWithin b.state.count b.tally
 
 -- Entries that replace the goods which a reply brings come after the entry of the reply.
 abbrev pub IsInForceFor : History → KeptReply → Type 0
@@ -62,6 +71,7 @@ KeepsReply b n = IsTrue (has_number b.state.kept.replies n)
 -- had.
 pub record IsRoomed {T : Type 0} (trade : T → TradeView) (old new : Bench T) : Type 0 where
   pub state : IsAsBefore old.state new.state
+  pub tally : tally_of new ≡ tally_of old
   pub site' : (trade new.trade).site ≡ (trade old.trade).site
   pub represents : (h : History) → (trade old.trade).represents h → (trade new.trade).represents h
   pub held : (n : ℕ) → (trade old.trade).holds n → (trade new.trade).holds n

@@ -1,8 +1,10 @@
 -- What a house keeps in place of its history, without how it is stored.
-use Rattle.std.specs.Prelude.{◌≡◌, ℕ, ◌+◌, ◌-◌, ◌*◌, ◌<◌, ◌≤◌, ◌^◌, ◌==◌, ◌||◌, nat_le, Bool, false, min, List, [], ◌∷◌, ◌++◌, All, IsTrue, Option, Some, None, option_map, unwrap_or, MatchOption, if◌then◌else◌}
+use Rattle.std.specs.Prelude.{◌≡◌, ℕ, ◌+◌, ◌-◌, ◌*◌, ◌<◌, ◌≤◌, ◌^◌, ◌==◌, ◌||◌, nat_le, Bool, false, min, List, [], ◌∷◌, ◌++◌, length, is_some, All, IsTrue, Option, Some, None, option_map, unwrap_or, MatchOption, if◌then◌else◌}
+use Rattle.mc_base.specs.declared.amount.TheConstants.Amount.{MOST}
 use Rattle.scrip_form.specs.Identities.{issuer_of, epoch_of, series_of}
 use Rattle.scrip_form.specs.Issuing.{Issuing, epoch, series_at, series_end}
 use Rattle.scrip_form.specs.Scrip.{Scrip, scrip_body}
+use Rattle.mc_records.specs.declared.limits.TheConstants.Limits.{MOST_JOURNAL}
 use Rattle.mc_records.specs.declared.limits.Limits.{Limits}
 use Rattle.mc_records.specs.Limits.{AreInRange}
 use Rattle.mc_records.specs.Entry.{Entry, AddTerms, Mint}
@@ -11,7 +13,7 @@ use Rattle.mc_records.specs.Sizes.{tail_size, framed_size}
 use Rattle.ledger_model.specs.Houses.{version, certificate_in, all_terms, terms_by}
 use Rattle.kept_replies.specs.declared.deed.KeptEntry.{KeptEntry}
 use Rattle.kept_replies.specs.Requests.{text_size}
-use Rattle.kept_replies.specs.Kept.{KeptView, is_in_time}
+use Rattle.kept_replies.specs.Kept.{KeptView, is_in_time, deed_size}
 use Rattle.change_issue.specs.Registers.{Register, has_room, count_in, issued_in, redeemed_in, next_in}
 use Rattle.change_issue.specs.IssuedPieces.{issued_piece}
 use Rattle.house_core.specs.declared.verdict.Authorization.{Authorization}
@@ -64,22 +66,23 @@ pub record IsSound (b : HouseStateView) : Type 0 where
   pub limits : AreInRange b.limits
   pub most : b.own.most ≡ b.limits.series
   pub counted : b.count ≤ b.size
-  pub sized : b.size ≤ 2 ^ 40
+  pub sized : b.size ≤ MOST_JOURNAL
   pub keeps : 0 < b.kept.keep
   pub numbers : All (λ r. r.entry.number < b.count) b.kept.replies
   pub in_time : All (λ r. IsTrue (is_in_time b.kept.keep b.time r)) b.kept.replies
-  pub redeemed : (series : ℕ) → redeemed_in b.own series ≤ b.count * 2 ^ 40
-  pub takings : b.takings ≤ b.count * 2 ^ 40
+  pub redeemed : (series : ℕ) → redeemed_in b.own series ≤ b.count * MOST
+  pub takings : b.takings ≤ b.count * MOST
   -- each window ends with its series, which has not ended
   pub ends : (id end : ℕ) → end_of b.spent id ≡ Some end → end_by b.terms id ≡ Some end
   pub alive : (id end : ℕ) → end_of b.spent id ≡ Some end → b.time < end
 
 -- ---- an accepted piece
 
--- there is room to enter this request with a piece of this identity at the house time
-pub record HasRoom (b : HouseStateView) (q : Asked) (id : ℕ) : Type 0 where
+-- there is room to enter this request with a piece of this identity at the house time, where the texts of the
+-- pieces that are kept for its reply have so many bytes
+pub record HasRoom (b : HouseStateView) (q : Asked) (pieces id : ℕ) : Type 0 where
   pub spent : IsTrue (windows.has_room b.spent id)
-  pub reply : text_size q < b.kept.room
+  pub reply : text_size q + pieces < b.kept.room
   pub change : IsTrue (has_room b.own (series_now b))
   pub redeemed : IsTrue (has_room b.own (series_of id))
 
@@ -105,6 +108,15 @@ kept_entry b paid a = record {
   secret = a.secret;
   deed = a.deed;
 }
+
+-- how many bytes the texts of its pieces have, in a house of this name: those of the change are the name of
+-- the house and the properties of the piece
+abbrev pub pieces_size : List ℕ → Scrip → Authorization → ℕ
+pieces_size name paid a = (if is_some a.change then length name + length paid.props else 0) + deed_size a.deed
+
+-- there is room to enter an authorization of this request at the house time
+abbrev pub HasRoomToEnter : HouseStateView → Asked → Authorization → Type 0
+HasRoomToEnter b q a = HasRoom b q (pieces_size b.name a.scrip.now.piece a) a.scrip.now.piece.id
 
 -- a number at one series, 0 at the others
 abbrev pub at_series : ℕ → ℕ → ℕ → ℕ

@@ -1,6 +1,7 @@
 -- Which entries a trade may learn: the lawfulness of an entry in two halves, of which the house tells
 -- one and the trade the other.
 use Rattle.std.specs.Prelude.{◌≡◌, ℕ, ◌+◌, ◌<◌, ◌≤◌, ◌^◌, ◌⊎◌, IsFalse, IsNone, [], ◌∷◌, ◌++◌, length, Some}
+use Rattle.mc_records.specs.declared.ranges.TheConstants.{MOST_CONTENTS}
 use Rattle.mc_records.specs.declared.limits.Limits.{Limits}
 use Rattle.mc_records.specs.Entry.{Entry, Site, AddTerms, Goods, Accept, Mint, Draw, moment_of}
 use Rattle.ledger_model.specs.Histories.{History, time}
@@ -41,7 +42,7 @@ pub record MayLearn (limits : Limits) (kind number : ℕ) (h : History) (e : Ent
 
 -- the goods of an entry are in range: their kind is below 3, and they have at most 65,536 bytes
 abbrev pub GoodsFit : Entry → Type 0
-GoodsFit (Goods m target price kind contents) = (kind < 3) × (length contents ≤ 65536)
+GoodsFit (Goods m target price kind contents) = (kind < 3) × (length contents ≤ MOST_CONTENTS)
 GoodsFit _ = Unit {0}
 
 -- an entry that puts goods on sale

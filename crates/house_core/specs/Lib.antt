@@ -10,6 +10,7 @@ pub mod Replying
 pub mod Presented
 pub mod Verdicts
 pub mod Session
+pub mod Tallies
 pub mod Bench
 pub mod House
 pub mod Tasks

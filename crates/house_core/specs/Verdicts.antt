@@ -1,5 +1,6 @@
 -- What a house says of a request, as the ledger's answer to it.
-use Rattle.std.specs.Prelude.{◌≡◌, ℕ, ◌<◌, ◌≤◌, ◌^◌, List, Option, Some, None, length, IsTrue, Result, Ok, Err}
+use Rattle.std.specs.Prelude.{◌≡◌, ℕ, ◌<◌, ◌≤◌, List, Option, Some, None, length, IsTrue, Result, Ok, Err}
+use Rattle.mc_records.specs.declared.limits.TheConstants.Limits.{MOST_JOURNAL}
 use Rattle.mc_records.specs.declared.refusal.Refusal.{Refusal}
 use Rattle.mc_records.specs.Entry.{Deed, Entry, Accept, payload}
 use Rattle.kept_replies.specs.Kept.{has_number}
@@ -64,7 +65,7 @@ pub record IsReady (b : HouseStateView) (target : List ℕ) (a : Authorization) 
   pub fresh : WasAsked b a.scrip.now.piece.id a.fresh
   pub change : HasChange b a.price a.scrip.now.piece.value a.change
   pub payload : a.payload ≡ length (payload (accept_entry b.time target a))
-  pub fits : size_with b a.payload ≤ 2 ^ 40
+  pub fits : size_with b a.payload ≤ MOST_JOURNAL
 
 -- an entry says what an authorization says: this signature, price, change and deed
 pub record IsSaid (a : Authorization) (signed : Option (List ℕ)) (asked : ℕ) (handed : Option ℕ) (sold : Deed) : Type 0 where

@@ -1,11 +1,12 @@
 //! What a house says to a request, and its reply.
 
-ghost use Rattle.std.specs.Prelude.{◌≡◌, IfOk, IfErr, option_map};
+ghost use Rattle.std.specs.Prelude.{◌≡◌, [], ◌∷◌, IfOk, IfErr, is_ok, option_map};
 ghost use Rattle.ledger_model.specs.Histories.{History};
 ghost use Rattle.ledger_model.specs.Answer.{answer};
 ghost use Rattle.ledger_model.specs.Replies as ledger;
 ghost use Rattle.millicent_http.specs.HeadRefusals.{as_refusal};
-ghost use Rattle.house_core.specs.Bench.{Represents, IsHouse, KeepsReply, Refines, house_time, limits_of, windows_of, state_of};
+ghost use Rattle.house_core.specs.Bench.{Represents, IsHouse, KeepsReply, Refines, house_time, limits_of, windows_of, tally_of, IsTallied, state_of};
+ghost use Rattle.house_core.specs.Tallies.{RefusedBy, tallied, told};
 ghost use Rattle.house_core.specs.LiveWindows.{AreUsed};
 ghost use Rattle.house_core.specs.Replying.{IsOfSite};
 ghost use Rattle.house_core.specs.Session.{raised, Says, said_reply, refused_reply};
@@ -28,11 +29,17 @@ impl<T: Trade> Bench<T> {
         ensures used { AreUsed (windows_of self.old) → AreUsed (windows_of self.new) }
         ensures kept { IfOk result (KeepsReply self.new) }
         ensures site { IfErr result IsOfSite }
+        ensures within { IsTallied self.old → IsTallied self.new }
+        ensures tally { (h : History) → IsHouse T.trade self.old h → IsTallied self.old
+            → tally_of self.new ≡ tallied (tally_of self.old) (told (answer h (raised (state_of h self.old) reading).time (limits_of self.old) q.now) (is_ok result) ∷ []) }
         ensures went { Refines T.trade
             (λ s t. Says (answer (raised s reading).history (raised s reading).time (limits_of self.old) q.now) result (raised s reading) t) self.old self.new }
     {
         self.raise(reading);
-        match self.respond(q) {
+        let mut tally = self.tally;
+        let answered = self.respond(q, &mut tally);
+        self.tally = tally;
+        match answered {
             Ok(number) => Ok(number),
             Err(BenchFault::Refused(refusal)) => Err(refusal),
             Err(BenchFault::NoMemory) => Err(Refusal::NoMemory),
@@ -69,10 +76,14 @@ impl<T: Trade> Bench<T> {
         ensures limits { limits_of self.new ≡ limits_of self.old }
         ensures used { AreUsed (windows_of self.old) → AreUsed (windows_of self.new) }
         ensures reply { result ≡ ledger.head_refusal (house_time self.new) (as_refusal head) }
+        ensures within { IsTallied self.old → IsTallied self.new }
+        ensures tally { IsTallied self.old
+            → tally_of self.new ≡ tallied (tally_of self.old) (RefusedBy (as_refusal head) ∷ []) }
         ensures went { Refines T.trade (λ s t. t ≡ raised s reading) self.old self.new }
     {
         let time = self.raise(reading);
         let refusal = Refusal::from(head);
+        self.tally.refuse(&refusal);
         Reply::of(
             &refusal_head(time, &refusal, None),
             b"",
@@ -90,7 +101,7 @@ impl<T: Trade> Bench<T> {
             unreachable!();
         };
         let body = self.trade.body(&entry.deed, &mut room.contents);
-        taken_reply(&q, entry, &body, &mut room.change, &mut room.page)
+        taken_reply(&q, &entry, &body, &mut room.change, &mut room.page)
     }
 
     /// The reply to a request that is refused at the house time.

@@ -1,4 +1,4 @@
-ghost use Rattle.std.specs.Prelude.{◌≡◌, ◌+◌, ◌≤◌, ◌==◌, ◌^◌, ℕ, Err, [], ◌∷◌, ◌++◌, MatchResult, OnOk, OnErr, length, max, None, Some, Ok, IfOk, IfErr, IfSome};
+ghost use Rattle.std.specs.Prelude.{◌≡◌, ◌+◌, ◌≤◌, ◌==◌, ℕ, Err, [], ◌∷◌, ◌++◌, MatchResult, OnOk, OnErr, length, max, None, Some, Ok, IfOk, IfErr, IfSome, is_ok};
 ghost use Rattle.mc_records.specs.declared.limits.Limits.{Limits as Bounds};
 ghost use Rattle.mc_records.specs.Limits.{AreInRange};
 ghost use Rattle.mc_records.specs.Entry.{Fits, moment_of, payload};
@@ -13,8 +13,9 @@ ghost use Rattle.kept_replies.specs.Kept.{found};
 ghost use Rattle.ledger_model.specs.Histories.{History, time};
 ghost use Rattle.ledger_model.specs.Answer as model;
 ghost use Rattle.ledger_model.specs.Stages.{read_by};
-ghost use Rattle.house_core.specs.Bench.{Represents, HasContents, IsRoomed, KeepsReply, Takes, Accepts, KeepsContents, FaultIsOfSite, Enters, Follows, stopped_with, house_time, limits_of, windows_of};
-ghost use Rattle.house_core.specs.HouseState.{size_with, HasRoom, HasRoomFor, GoesOn};
+ghost use Rattle.house_core.specs.Bench.{Represents, HasContents, IsRoomed, KeepsReply, Takes, Accepts, KeepsContents, FaultIsOfSite, Enters, Follows, stopped_with, house_time, limits_of, windows_of, tally_of, IsTallied};
+ghost use Rattle.house_core.specs.Tallies.{IsWithin, no_tally, tallied, told};
+ghost use Rattle.house_core.specs.HouseState.{size_with, HasRoomToEnter, HasRoomFor, GoesOn};
 ghost use Rattle.house_core.specs.Views.{entry_deed};
 ghost use Rattle.std.specs.Set.{distinct_count};
 ghost use Rattle.spent_windows.specs.Windows.{window_of};
@@ -31,6 +32,7 @@ use crate::presented::Presented;
 use crate::ranges::authorization_fits;
 use crate::replaying::ReplayEnd;
 use crate::stages::fitted;
+use crate::tally::Tally;
 use crate::trade::Trade;
 use crate::verdict::{Authorization, BenchFault, EnterFault, NotAuthorized, Verdict};
 use kept_replies::Deed;
@@ -43,6 +45,8 @@ use std::alloc::Global;
 pub struct Bench<T> {
     pub(crate) state: HouseState,
     pub(crate) trade: T,
+    /// How the items were answered that it served.
+    pub(crate) tally: Tally,
 }
 
 impl<T: Trade> Bench<T> {
@@ -64,6 +68,8 @@ impl<T: Trade> Bench<T> {
         ensures time { IfOk result (λ b. house_time b ≡ moment_of (entry site.now)) }
         ensures limits { IfOk result (λ b. limits_of b ≡ limits) }
         ensures used { IfOk result (λ b. AreUsed (windows_of b)) }
+        ensures tally { IfOk result (λ b. tally_of b ≡ no_tally) }
+        ensures within { IfOk result IsTallied }
     {
         payloads_are_short();
         let bytes = site.payload_len();
@@ -73,7 +79,11 @@ impl<T: Trade> Bench<T> {
             Err(NoMemory) => return Err(NoMemory),
         }
         match trade.learn(0, site) {
-            Ok(()) => Ok(Bench { state, trade }),
+            Ok(()) => Ok(Bench {
+                state,
+                trade,
+                tally: Tally::none(),
+            }),
             Err(Unlawful) => unreachable!(),
         }
     }
@@ -99,6 +109,14 @@ impl<T: Trade> Bench<T> {
             → result ≡ distinct_count (λ a b. a == b) (live_windows h (house_time self.now)) }
     {
         self.state.windows()
+    }
+
+    /// How the items were answered that it served so far: those of `answer` and `refuse_head`, by which links
+    /// are served. No other call counts. It takes no memory.
+    pub fn tally(&self) -> Tally
+        ensures { result ≡ tally_of self.now }
+    {
+        self.tally
     }
 
     /// What the house says of a request at the house time: the ledger's answer without its entry. It
@@ -137,6 +155,8 @@ impl<T: Trade> Bench<T> {
         ensures time { result ≡ max (house_time self.old) reading }
         ensures raised { house_time self.new ≡ max (house_time self.old) reading }
         ensures limits { limits_of self.new ≡ limits_of self.old }
+        ensures tally { tally_of self.new ≡ tally_of self.old }
+        ensures count { self.new.state.count ≡ self.old.state.count }
         ensures used { AreUsed (windows_of self.old) → AreUsed (windows_of self.new) }
         ensures same { (h : History) → Represents T.trade self.old h
             → Represents T.trade self.new h }
@@ -156,6 +176,8 @@ impl<T: Trade> Bench<T> {
         ensures site { IfErr result FaultIsOfSite }
         ensures time { house_time self.new ≡ house_time self.old }
         ensures limits { limits_of self.new ≡ limits_of self.old }
+        ensures tally { tally_of self.new ≡ tally_of self.old }
+        ensures within { IsTallied self.old → IsTallied self.new }
         ensures used { AreUsed (windows_of self.old) → AreUsed (windows_of self.new) }
         ensures exact { (h : History) → Represents T.trade self.old h
             → Accepts T.trade self.new h (model.answer h (house_time self.old) (limits_of self.old) (asked_of q.now)) result }
@@ -163,11 +185,22 @@ impl<T: Trade> Bench<T> {
             → HasContents T.trade self.old h
             → KeepsContents T.trade self.new h (model.answer h (house_time self.old) (limits_of self.old) (asked_of q.now)) result }
     {
-        self.respond(&Presented::of(*q))
+        self.respond(&Presented::of(*q), &mut Tally::none())
     }
 
-    /// Accepts a request, as [`Bench::accept`] does.
-    pub fn respond(&mut self, q: &Presented<'_>) -> Result<u64, BenchFault>
+    /// Accepts a request, as [`Bench::accept`] does, and counts in a tally what is told to it.
+    pub(crate) fn respond(
+        &mut self,
+        q: &Presented<'_>,
+        tally: &mut Tally,
+    ) -> Result<u64, BenchFault>
+        ensures within { IsWithin self.old.state.count tally.old
+            → IsWithin self.new.state.count tally.new }
+        ensures counted { (h : History) → Represents T.trade self.old h
+            → IsWithin self.old.state.count tally.old
+            → tally.new ≡ tallied tally.old (told (model.answer h (house_time self.old) (limits_of self.old) q.now) (is_ok result) ∷ []) }
+        ensures tally { tally_of self.new ≡ tally_of self.old }
+        ensures grows { self.old.state.count ≤ self.new.state.count }
         ensures kept { IfOk result (KeepsReply self.new) }
         ensures site { IfErr result FaultIsOfSite }
         ensures time { house_time self.new ≡ house_time self.old }
@@ -181,11 +214,20 @@ impl<T: Trade> Bench<T> {
     {
         let authorization = match evaluate(&self.state, self.state.limits(), &self.trade, q) {
             Ok(authorization) => authorization,
-            Err(stopped) => return stopped_with(stopped),
+            Err(stopped) => {
+                tally.stop(&stopped);
+                return stopped_with(stopped);
+            }
         };
         match self.commit(q, &authorization) {
-            Ok(number) => Ok(number),
-            Err(NoMemory) => Err(BenchFault::NoMemory),
+            Ok(number) => {
+                tally.take(authorization.price, authorization.change_worth());
+                Ok(number)
+            }
+            Err(NoMemory) => {
+                tally.refuse(&Refusal::NoMemory);
+                Err(BenchFault::NoMemory)
+            }
         }
     }
 
@@ -199,6 +241,8 @@ impl<T: Trade> Bench<T> {
             → time h ≤ moment_of (entry r.now) }
         ensures time { house_time self.new ≡ max (house_time self.old) (moment_of (entry r.now)) }
         ensures limits { limits_of self.new ≡ limits_of self.old }
+        ensures tally { tally_of self.new ≡ tally_of self.old }
+        ensures within { IsTallied self.old → IsTallied self.new }
         ensures used { AreUsed (windows_of self.old) → AreUsed (windows_of self.new) }
         ensures exact { (h : History) → Represents T.trade self.old h
             → Enters T.trade self.new (limits_of self.old) h (entry r.now) result }
@@ -227,7 +271,7 @@ impl<T: Trade> Bench<T> {
         ensures len { IfOk result (λ n. n ≡ length (payload (entry r.now))) }
         ensures fits { IfOk result
             (λ n. size_with self.new.state n ≤ self.new.state.limits.journal) }
-        ensures room { IfOk result (λ n. size_with self.new.state n ≤ 2 ^ 40) }
+        ensures room { IfOk result (λ n. size_with self.new.state n ≤ Limits.MOST_JOURNAL) }
         ensures goes_on { OnOk result (GoesOn self.new.state (entry r.now)) }
         ensures trade { OnOk result ((T.trade self.new.trade).has_room (entry r.now)) }
         ensures state { OnOk result (HasRoomFor self.new.state (entry r.now)) }
@@ -283,13 +327,15 @@ impl<T: Trade> Bench<T> {
         requires command { IsCommand (entry r.now) }
         requires time { moment_of (entry r.now) ≤ house_time self.old }
         requires len { bytes ≡ length (payload (entry r.now)) }
-        requires room { size_with self.old.state bytes ≤ 2 ^ 40 }
+        requires room { size_with self.old.state bytes ≤ Limits.MOST_JOURNAL }
         requires goes_on { GoesOn self.old.state (entry r.now) }
         requires trade { (T.trade self.old.trade).has_room (entry r.now) }
         requires state { HasRoomFor self.old.state (entry r.now) }
         ensures time { house_time self.new ≡ house_time self.old }
         ensures limits { limits_of self.new ≡ limits_of self.old }
         ensures spent { windows_of self.new ≡ windows_of self.old }
+        ensures tally { tally_of self.new ≡ tally_of self.old }
+        ensures grows { self.old.state.count ≤ self.new.state.count }
         ensures exact { (h : History) → Represents T.trade self.old h
             → time h ≤ moment_of (entry r.now)
             → MatchResult result
@@ -327,9 +373,12 @@ impl<T: Trade> Bench<T> {
         ensures kept { IfOk result (KeepsReply self.new) }
         ensures time { house_time self.new ≡ house_time self.old }
         ensures limits { limits_of self.new ≡ limits_of self.old }
+        ensures tally { tally_of self.new ≡ tally_of self.old }
+        ensures more { MatchResult result (λ n. self.new.state.count ≡ self.old.state.count + 1)
+            (λ f. self.new.state.count ≡ self.old.state.count) }
         ensures used { AreUsed (windows_of self.old) → AreUsed (windows_of self.new) }
         ensures exact { (limits : Bounds) (h : History) → Represents T.trade self.old h
-            → limits.series ≡ (limits_of self.old).series → limits.journal ≤ 2 ^ 40
+            → limits.series ≡ (limits_of self.old).series → limits.journal ≤ Limits.MOST_JOURNAL
             → model.answer h (house_time self.old) limits q.now ≡ model.Take (accept_entry (house_time self.old) q.now.target authorization.now)
             → Takes T.trade self.new h (accept_entry (house_time self.old) q.now.target authorization.now) result }
         ensures contents { (h : History) → Represents T.trade self.old h
@@ -358,7 +407,7 @@ impl<T: Trade> Bench<T> {
         requires ready { IsReady self.old.state q.now.target authorization.now }
         ensures same { IsRoomed T.trade self.old self.new }
         ensures trade { OnOk result ((T.trade self.new.trade).has_room (entry r.now)) }
-        ensures state { OnOk result (HasRoom self.new.state q.now authorization.now.scrip.now.piece.id) }
+        ensures state { OnOk result (HasRoomToEnter self.new.state q.now authorization.now) }
         ensures used { OnOk result (AreUsed (windows_of self.old)
             → AreUsedBut (window_of authorization.now.scrip.now.piece.id) (windows_of self.new)) }
         ensures left { OnErr result (windows_of self.new ≡ windows_of self.old) }
@@ -368,7 +417,9 @@ impl<T: Trade> Bench<T> {
             Err(NoMemory) => return Err(NoMemory),
         }
         let piece = authorization.scrip.piece();
-        self.state.reserve(q.request(), piece.id(), piece.expires())
+        let pieces = authorization.pieces_size(&self.state.site_name());
+        self.state
+            .reserve(q.request(), pieces, piece.id(), piece.expires())
     }
 
     /// Enters the entry of an authorization, for which there is room, and answers its number. It takes no
@@ -385,15 +436,17 @@ impl<T: Trade> Bench<T> {
         requires held { OfGoods (T.trade self.old.trade).holds authorization.now.deed }
         requires ready { IsReady self.old.state q.now.target authorization.now }
         requires trade { (T.trade self.old.trade).has_room (entry r.now) }
-        requires state { HasRoom self.old.state q.now authorization.now.scrip.now.piece.id }
+        requires state { HasRoomToEnter self.old.state q.now authorization.now }
         ensures kept { KeepsReply self.new result }
         ensures time { house_time self.new ≡ house_time self.old }
         ensures limits { limits_of self.new ≡ limits_of self.old }
+        ensures tally { tally_of self.new ≡ tally_of self.old }
+        ensures more { self.new.state.count ≡ self.old.state.count + 1 }
         ensures used { AreUsedBut (window_of authorization.now.scrip.now.piece.id) (windows_of self.old)
             → AreUsed (windows_of self.new) }
         ensures exact { (limits : Bounds) (h : History) → Represents T.trade self.old h
             → BringsFor h q.now.target authorization.now.deed
-            → limits.series ≡ (limits_of self.old).series → limits.journal ≤ 2 ^ 40
+            → limits.series ≡ (limits_of self.old).series → limits.journal ≤ Limits.MOST_JOURNAL
             → model.answer h (house_time self.old) limits q.now ≡ model.Take (accept_entry (house_time self.old) q.now.target authorization.now)
             → (result ≡ length h)
             × Represents T.trade self.new (h ++ accept_entry (house_time self.old) q.now.target authorization.now ∷ []) }

@@ -1,6 +1,6 @@
 //! The answer to a request, a stage after the other.
 
-ghost use Rattle.std.specs.Prelude.{◌≡◌, ◌+◌, ◌<◌, ◌≤◌, ◌^◌, Some, None, Ok, IfSome, IfOk, IfErr, OnOk};
+ghost use Rattle.std.specs.Prelude.{◌≡◌, ◌+◌, ◌<◌, ◌≤◌, Some, None, Ok, IfSome, IfOk, IfErr, OnOk};
 ghost use Rattle.ledger_model.specs.Stages.{genuine_by, read_by};
 ghost use Rattle.mc_records.specs.Entry.{IsKey};
 ghost use Rattle.mc_records.specs.Requests.{asked_of};
@@ -37,7 +37,7 @@ fn taken<'q, 'a, T: Trade>(
     spendable: Spendable,
 ) -> Result<Authorization<'q, 'a>, Refusal>
     requires series { limits.series ≡ state.now.limits.series }
-    requires journal { limits.journal ≤ 2 ^ 40 }
+    requires journal { limits.journal ≤ Limits.MOST_JOURNAL }
     requires sign { IfSome spendable.sign IsKey }
     requires live { state.now.time < scrip.now.piece.expires }
     requires fresh { WasAsked state.now scrip.now.piece.id spendable.fresh }
@@ -91,7 +91,7 @@ fn evaluate_new<'q, 'a, T: Trade>(
     scrip: &'q ScripRef<'a>,
 ) -> Result<Authorization<'q, 'a>, Refusal>
     requires series { limits.series ≡ state.now.limits.series }
-    requires journal { limits.journal ≤ 2 ^ 40 }
+    requires journal { limits.journal ≤ Limits.MOST_JOURNAL }
     ensures scrip { IfOk result (λ a. a.scrip.now ≡ scrip.now) }
     ensures ready { IfOk result (IsReady state.now q.now.target.now) }
     ensures room { IfOk result (λ a. size_with state.now a.payload ≤ limits.journal) }
@@ -126,7 +126,7 @@ pub(crate) fn evaluate<'q, 'a, T: Trade>(
     q: &'q Presented<'a>,
 ) -> Result<Authorization<'q, 'a>, NotAuthorized>
     requires series { limits.series ≡ state.now.limits.series }
-    requires journal { limits.journal ≤ 2 ^ 40 }
+    requires journal { limits.journal ≤ Limits.MOST_JOURNAL }
     ensures read { IfOk result (λ a. Ok a.scrip.now ≡ read_by q.now.scrip) }
     ensures new { OnOk result (found state.now.kept state.now.time q.now ≡ None) }
     ensures ready { IfOk result (IsReady state.now q.now.target) }

@@ -14,7 +14,7 @@ ghost use Rattle.mc_records.specs.Requests.{asked_of};
 ghost use Rattle.kept_replies.specs.Kept.{found, has_number, is_in_time, reply_of, with_number};
 ghost use Rattle.spent_windows.specs.Windows.{is_marked, window_of, AreInOrder};
 ghost use Rattle.house_core.specs.LiveWindows.{AreUsed, AreUsedBut};
-ghost use Rattle.house_core.specs.HouseState.{IsSound, HasRoom, HasChange, HasRoomFor, GoesOn, IsEntered, IsApplied, IsAsBefore, version_of, size_with, series_now, end_by, ended_by};
+ghost use Rattle.house_core.specs.HouseState.{IsSound, HasRoom, HasChange, pieces_size, HasRoomFor, GoesOn, IsEntered, IsApplied, IsAsBefore, version_of, size_with, series_now, end_by, ended_by};
 ghost use Rattle.spent_windows.specs.Looks.{Tells};
 
 use crate::money::{certificate_by, certified, certified_if, redeem, secret_by};
@@ -167,7 +167,7 @@ impl HouseState {
     /// How many bytes the journal has with one entry more, with a payload of so many bytes.
     #[tactic(auto, unfolding(mc_records::specs::Sizes::tail_size))]
     pub(crate) fn size_with(&self, payload: u64) -> u64
-        requires { payload ≤ 2 ^ 40 }
+        requires { payload ≤ Limits.MOST_JOURNAL }
         ensures { result ≡ size_with self.now payload }
     {
         self.size + payload + FRAME
@@ -216,14 +216,11 @@ impl HouseState {
         ensures { result ≡ option_map
             (λ e. e.number) (found self.now.kept self.now.time (asked_of q.now)) }
     {
-        match self.kept.find(self.time, q) {
-            Some(entry) => Some(number_of(entry)),
-            None => None,
-        }
+        self.kept.find(self.time, q)
     }
 
     /// The request and what is kept of the entry of this number.
-    pub(crate) fn kept(&self, number: u64) -> Option<(Request<'_>, &KeptEntry)>
+    pub(crate) fn kept(&self, number: u64) -> Option<(Request<'_>, KeptEntry)>
         ensures reply { option_map reply_of result ≡ with_number self.now.kept.replies number }
         ensures none { IsNone result ↔ IsFalse (has_number self.now.kept.replies number) }
     {
@@ -257,17 +254,24 @@ impl HouseState {
     }
 
     /// Makes room to enter a request at the house time with a piece of this identity, whose series ends
-    /// then. All that is kept stays as it is, after an `Err` too.
-    pub(crate) fn reserve(&mut self, q: &Request<'_>, id: Id, end: u64) -> Result<(), NoMemory>
+    /// then, where the texts of the pieces that are kept for its reply have so many bytes. All that is
+    /// kept stays as it is, after an `Err` too.
+    pub(crate) fn reserve(
+        &mut self,
+        q: &Request<'_>,
+        pieces: usize,
+        id: Id,
+        end: u64,
+    ) -> Result<(), NoMemory>
         requires its { end_by self.old.terms id ≡ Some end }
         requires live { self.old.time < end }
         ensures same { IsAsBefore self.old self.new }
-        ensures room { OnOk result (HasRoom self.new (asked_of q.now) id) }
+        ensures room { OnOk result (HasRoom self.new (asked_of q.now) pieces id) }
         ensures used { OnOk result (AreUsed self.old.spent → AreUsedBut (window_of id) self.new.spent) }
         ensures left { OnErr result (self.new.spent ≡ self.old.spent) }
     {
         let series = self.series_now();
-        self.kept.reserve(q)?;
+        self.kept.reserve(q, pieces)?;
         self.own.reserve(id.series())?;
         self.own.reserve(series)?;
         // The last, so that want of memory leaves no window without a mark.
@@ -343,7 +347,7 @@ impl HouseState {
         requires goes_on { GoesOn self.old (entry r.now) }
         requires payload { Fits (entry r.now) }
         requires site { IsNoSite (entry r.now) }
-        requires fits { size_with self.old bytes ≤ 2 ^ 40 }
+        requires fits { size_with self.old bytes ≤ Limits.MOST_JOURNAL }
         ensures { IsApplied self.old self.new (entry r.now) bytes }
     {
         let size = self.size_with(bytes);
@@ -374,10 +378,10 @@ impl HouseState {
 
     /// Enters a request that is accepted with a piece, for which there is room. It takes no memory.
     pub(crate) fn enter(&mut self, q: &Request<'_>, paid: &Piece, a: &Authorization<'_, '_>)
-        requires room { HasRoom self.old (asked_of q.now) paid.now.id }
+        requires room { HasRoom self.old (asked_of q.now) (pieces_size self.old.name paid.now a.now) paid.now.id }
         requires fresh { found self.old.kept self.old.time (asked_of q.now) ≡ None }
         requires change { HasChange self.old a.now.price paid.now.value a.now.change }
-        requires fits { size_with self.old a.now.payload ≤ 2 ^ 40 }
+        requires fits { size_with self.old a.now.payload ≤ Limits.MOST_JOURNAL }
         ensures { IsEntered self.old self.new (asked_of q.now) paid.now a.now }
     {
         let _series = self.series_now();
@@ -412,10 +416,4 @@ fn later(a: Moment, b: Moment) -> Moment
     ensures { result ≡ max a b }
 {
     if a.seconds() < b.seconds() { b } else { a }
-}
-
-fn number_of(entry: &KeptEntry) -> u64
-    ensures { result ≡ entry.now.number }
-{
-    entry.number
 }

@@ -1,6 +1,6 @@
 //! How long the payload of an Accept entry is, without writing it.
 
-ghost use Rattle.std.specs.Prelude.{◌≡◌, ◌≤◌, ◌<◌, ◌^◌, ℕ, length, IfSome};
+ghost use Rattle.std.specs.Prelude.{◌≡◌, ◌≤◌, ◌<◌, ℕ, length, IfSome};
 ghost use Rattle.mc_fields.specs.Field.{spelled};
 ghost use Rattle.mc_records.specs.Entry as entries;
 ghost use Rattle.mc_records.specs.Entry.{IsKey, Accept, payload, sign_fields, change_fields, deed_fields};

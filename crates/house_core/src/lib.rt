@@ -27,6 +27,7 @@ mod sending;
 mod settled;
 mod signing;
 mod stages;
+mod tally;
 mod trade;
 mod verdict;
 
@@ -42,5 +43,6 @@ pub use replaying::ReplayEnd;
 pub use reply::{Reply, ReplyRoom};
 pub use sending::{send_again, send_disk_fault, send_refusal, send_settled};
 pub use settled::{Settled, drop_settled};
+pub use tally::Tally;
 pub use trade::Trade;
 pub use verdict::{BenchFault, EnterFault, Verdict};

@@ -1,6 +1,6 @@
 //! How a house takes the entries of a history as they are read from a journal.
 
-ghost use Rattle.std.specs.Prelude.{◌≡◌, ◌+◌, ◌≤◌, ◌^◌, ◌↔◌, [], ◌∷◌, ◌++◌, length, option_map, IsTrue, IfOk, MatchResult};
+ghost use Rattle.std.specs.Prelude.{◌≡◌, ◌+◌, ◌≤◌, ◌↔◌, [], ◌∷◌, ◌++◌, length, option_map, IsTrue, IfOk, MatchResult};
 ghost use Rattle.mc_records.specs.Entry.{Fits, Accept, moment_of, payload};
 ghost use Rattle.mc_records.specs.Views.{deed_of, entry};
 ghost use Rattle.mc_records.specs.Requests.{asked_of};
@@ -43,7 +43,7 @@ impl<T: Trade> Bench<T> {
         requires command { IsCommand (entry r.now) }
         requires time { moment_of (entry r.now) ≡ house_time self.old }
         requires len { bytes ≡ length (payload (entry r.now)) }
-        requires room { size_with self.old.state bytes ≤ 2 ^ 40 }
+        requires room { size_with self.old.state bytes ≤ Limits.MOST_JOURNAL }
         ensures time { house_time self.new ≡ house_time self.old }
         ensures limits { limits_of self.new ≡ limits_of self.old }
         ensures exact { (h : History) → Represents T.trade self.old h
@@ -71,7 +71,7 @@ impl<T: Trade> Bench<T> {
         requires fits { Fits (entry r.now) }
         ensures limits { limits_of self.new ≡ limits_of self.old }
         ensures exact { (h : History) → Represents T.trade self.old h → house_time self.old ≡ time h
-            → size h + entry_size h (entry r.now) ≤ 2 ^ 40
+            → size h + entry_size h (entry r.now) ≤ Limits.MOST_JOURNAL
             → Replays T.trade self.new (limits_of self.old) h (entry r.now) result }
         ensures contents { (h : History) → Represents T.trade self.old h
             → HasContents T.trade self.old h
@@ -105,7 +105,7 @@ impl<T: Trade> Bench<T> {
         requires time { moment_of (entry r.now) ≡ house_time self.old }
         ensures limits { limits_of self.new ≡ limits_of self.old }
         ensures exact { (h : History) → Represents T.trade self.old h
-            → size h + entry_size h (entry r.now) ≤ 2 ^ 40
+            → size h + entry_size h (entry r.now) ≤ Limits.MOST_JOURNAL
             → Replays T.trade self.new (limits_of self.old) h (entry r.now) result }
         ensures contents { (h : History) → Represents T.trade self.old h
             → HasContents T.trade self.old h

@@ -1,6 +1,9 @@
+ghost use Rattle.std.specs.Prelude.{◌≡◌};
+ghost use Rattle.house_core.specs.HouseState.{change_worth, pieces_size};
+
 use kept_replies::Deed;
 use mc_records::Refusal;
-use scrip_form::{Id, ScripRef};
+use scrip_form::{Id, Name, ScripRef};
 use spent_windows::Fresh;
 
 /// What a house says of a request, before it enters anything.
@@ -61,4 +64,31 @@ pub(crate) struct Authorization<'q, 'a> {
     pub(crate) deed: Deed,
     pub(crate) payload: u64,
     pub(crate) fresh: Fresh,
+}
+
+impl<'q, 'a> Authorization<'q, 'a> {
+    /// What the piece is worth above the price, where there is change.
+    pub(crate) fn change_worth(&self) -> u64
+        ensures { result ≡ change_worth self.now.price self.now.scrip.now.piece.value self.now.change }
+    {
+        match self.change {
+            Some(_) => {
+                let value = self.scrip.piece().value();
+                value.get().saturating_sub(self.price)
+            }
+            None => 0,
+        }
+    }
+
+    /// How many bytes the texts of the pieces have that are kept for its reply, in a house of this name:
+    /// those of the change are the name of the house and the properties of the piece.
+    pub(crate) fn pieces_size(&self, name: &Name) -> usize
+        ensures { result ≡ pieces_size name.now self.now.scrip.now.piece self.now }
+    {
+        let change = match self.change {
+            Some(_) => name.bytes().len() + self.scrip.piece().props().bytes().len(),
+            None => 0,
+        };
+        change + self.deed.size()
+    }
 }

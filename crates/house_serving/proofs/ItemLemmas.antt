@@ -1,6 +1,7 @@
 -- An item that was answered.
-use Rattle.std.proofs.Common.{◌≡◌, inl, inr, ℕ, ◌<◌, List, [], ◌∷◌, length, take, refl, sym, ap, ap₂, ◌∙◌, Option, Result, Ok, Err, subst}
-use Rattle.std.specs.Prelude.{OnOk, OnErr}
+use Rattle.std.proofs.Common.{◌≡◌, inl, inr, ℕ, ◌<◌, List, [], ◌∷◌, length, take, refl, sym, ap, ap₂, ◌∙◌, Option, Result, Ok, Err, subst, ◌≤◌, arith, length-append}
+use Rattle.std.specs.Prelude.{OnOk, OnErr, is_ok, nat_lt}
+use Rattle.std.proofs.lemmas.Bool.{lt-ltb, le-ltb}
 use Rattle.mc_outside.specs.declared.link.LinkFault.{LinkFault}
 use Rattle.mc_outside.specs.LinkView.{LinkView, after_send, Failed}
 use Rattle.mc_records.specs.declared.refusal.Refusal.{Refusal}
@@ -17,6 +18,7 @@ use Rattle.millicent_http.specs.Steps.{StepRelation}
 use Rattle.house_serving.specs.declared.turn.Turn.{Turn}
 use Rattle.house_serving.specs.declared.turn.Turn.TheVariants.{GoOn, Last, End, NotReceived, NotSent}
 use Rattle.house_core.specs.Session.{State, Gives, Says, said_reply}
+use Rattle.house_core.specs.Tallies.{told}
 use Rattle.house_serving.specs.Turns.{AnsweredItem, Sent, turn_after}
 
 -- what is said to a request is its reply
@@ -27,6 +29,17 @@ says_gives s t q (answers.Again m) (Ok number) is = (ap₂ (λ (u : State) (n : 
 says_gives s t q (answers.Again m) (Err f) is = absurd is
 says_gives s t q (answers.Refused g) (Ok number) is = absurd is
 says_gives s t q (answers.Refused g) (Err f) is = (ap₂ (λ (u : State) (x : Refusal). refusal_of u.history u.time q x) is.1 is.0, is.1)
+
+-- what is told is by the history after it
+pub says_told : (s t : State) (a : Answer) (said : Result ℕ Refusal) → Says a said s t → told a (is_ok said) ≡ told a (nat_lt (length s.history) (length t.history))
+says_told s t (answers.Take e) (Ok number) is =
+    let longer : length s.history < length t.history = omega (arith, ap (λ (u : State). length u.history) is.1, length-append s.history (e ∷ [])) in
+    ap (told (answers.Take e)) (sym (lt-ltb (length s.history) (length t.history) longer))
+says_told s t (answers.Take e) (Err f) is =
+    let same : length t.history ≤ length s.history = omega (arith, ap (λ (u : State). length u.history) is.1) in
+    ap (told (answers.Take e)) (sym (le-ltb (length s.history) (length t.history) same))
+says_told s t (answers.Again m) said is = refl
+says_told s t (answers.Refused g) said is = refl
 
 -- sending reads no clock
 sent_readings : (after : After) (reply : List ℕ) (turn : Turn) (part : List ℕ) (before link : LinkView) → Sent after reply turn part before link → link.readings ≡ before.readings

@@ -1,4 +1,6 @@
 pub mod RefinesLemmas
+pub mod OtherStates
+pub mod CountsLemmas
 pub mod ServingLemmas
 pub mod TurnLemmas
 pub mod ItemLemmas

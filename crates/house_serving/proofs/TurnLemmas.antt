@@ -1,5 +1,5 @@
 -- One turn of serving a link.
-use Rattle.std.proofs.Common.{◌≡◌, ℕ, Bool, List, [], ◌∷◌, refl, subst}
+use Rattle.std.proofs.Common.{◌≡◌, ℕ, Bool, List, [], ◌∷◌, refl, sym, subst}
 use Rattle.mc_outside.specs.LinkView.{LinkView, after_recv}
 use Rattle.mc_records.specs.declared.request.Request.{Request}
 use Rattle.mc_records.specs.Requests.{asked_of}
@@ -12,7 +12,7 @@ use Rattle.millicent_http.specs.HeadRefusals.{as_refusal}
 use Rattle.millicent_http.specs.Held.{Held}
 use Rattle.millicent_http.specs.Takes.{Took, TookItem, LeadsTo, with_more}
 use Rattle.millicent_http.specs.declared.clock.Clock.{Clock}
-use Rattle.millicent_http.specs.Steps.{Did, BySteps, StepRelation}
+use Rattle.millicent_http.specs.Steps.{Did, StepRelation}
 use Rattle.house_serving.specs.declared.turn.Turn.{Turn}
 use Rattle.house_serving.specs.declared.turn.Turn.TheVariants.{GoOn, Last, End, NotReceived, NotSent}
 use Rattle.house_serving.specs.Turns.{Answered, AnsweredItem, Turned}
@@ -43,40 +43,36 @@ item_turned Step clock turn step s old before mid more item after new link took 
 pub leads_so : (old : Held) (before : LinkView) (out made : HeadOut) (new : Held) (mid : LinkView) (took : Took old before out new mid) → out ≡ made → LeadsTo (with_more old took.got) made new (after_recv took.got before) mid
 leads_so old before out made new mid took is = subst (λ (o : HeadOut). LeadsTo (with_more old took.got) o new (after_recv took.got before) mid) is took.leads
 
--- so the turn's step leads from the one state to the other
-abbrev pub TurnedBy : {S : Type 0} → StepRelation S → Clock → Turn → S → Held → LinkView → S → Held → LinkView → Type 0
-TurnedBy Step clock turn s old before t new link = BySteps (λ steps s. Turned Step clock turn steps s old before new link) s t
+-- a request was answered
+pub head_turned : {S : Type 0} (Step : StepRelation S) (clock : Clock) (turn : Turn) (step : Did S) (steps : List (Did S)) (s : S) (old : Held) (before mid : LinkView) (out : HeadOut) (q : Request) (after : After) (new : Held) (link : LinkView)
+    → Took old before out new mid → out ≡ outs.Head q after → steps ≡ step ∷ []
+    → ((closes : Bool) → AnsweredItem Step clock (request (asked_of q) closes) after turn step s mid link)
+    → Turned Step clock turn steps s old before new link
+head_turned {S = S} Step clock turn step steps s old before mid out q after new link took is one did =
+    let leads = leads_so old before out (outs.Head q after) new mid took is in
+    subst (λ (ds : List (Did S)). Turned Step clock turn ds s old before new link) (sym one)
+    (item_turned Step clock turn step s old before mid took.got (request (asked_of q) leads.0.0) after new link leads.0.1 leads.1 (did leads.0.0))
 
-pub head_turned : {S : Type 0} (Step : StepRelation S) (clock : Clock) (turn : Turn) (s : S) (old : Held) (before mid : LinkView) (out : HeadOut) (q : Request) (after : After) (t : S) (new : Held) (link : LinkView)
-    → Took old before out new mid → out ≡ outs.Head q after
-    → ((step : Did S) × (t ≡ step.after) × ((closes : Bool) → AnsweredItem Step clock (request (asked_of q) closes) after turn step s mid link))
-    → TurnedBy Step clock turn s old before t new link
-head_turned Step clock turn s old before mid out q after t new link took is did =
-    let leads = leads_so old before out (outs.Head q after) new mid took is in (
-      did.0 ∷ [],
-      did.1,
-      item_turned Step clock turn did.0 s old before mid took.got (request (asked_of q) leads.0.0) after new link leads.0.1 leads.1 (did.2 leads.0.0),
-    )
+-- a head was refused
+pub refused_turned : {S : Type 0} (Step : StepRelation S) (clock : Clock) (turn : Turn) (step : Did S) (steps : List (Did S)) (s : S) (old : Held) (before mid : LinkView) (out : HeadOut) (f : HeadRefusal) (after : After) (new : Held) (link : LinkView)
+    → Took old before out new mid → out ≡ outs.Refused f after → steps ≡ step ∷ []
+    → ((closes : Bool) → AnsweredItem Step clock (refused (as_refusal f) closes) after turn step s mid link)
+    → Turned Step clock turn steps s old before new link
+refused_turned {S = S} Step clock turn step steps s old before mid out f after new link took is one did =
+    let leads = leads_so old before out (outs.Refused f after) new mid took is in
+    subst (λ (ds : List (Did S)). Turned Step clock turn ds s old before new link) (sym one)
+    (item_turned Step clock turn step s old before mid took.got (refused (as_refusal f) leads.0.0) after new link leads.0.1 leads.1 (did leads.0.0))
 
-pub refused_turned : {S : Type 0} (Step : StepRelation S) (clock : Clock) (turn : Turn) (s : S) (old : Held) (before mid : LinkView) (out : HeadOut) (f : HeadRefusal) (after : After) (t : S) (new : Held) (link : LinkView)
-    → Took old before out new mid → out ≡ outs.Refused f after
-    → ((step : Did S) × (t ≡ step.after) × ((closes : Bool) → AnsweredItem Step clock (refused (as_refusal f) closes) after turn step s mid link))
-    → TurnedBy Step clock turn s old before t new link
-refused_turned Step clock turn s old before mid out f after t new link took is did =
-    let leads = leads_so old before out (outs.Refused f after) new mid took is in (
-      did.0 ∷ [],
-      did.1,
-      item_turned Step clock turn did.0 s old before mid took.got (refused (as_refusal f) leads.0.0) after new link leads.0.1 leads.1 (did.2 leads.0.0),
-    )
-
+-- the link was at its end
 pub end_turned : {S : Type 0} (Step : StepRelation S) (clock : Clock) (s : S) (old : Held) (before : LinkView) (out : HeadOut) (new : Held) (link : LinkView)
-    → Took old before out new link → out ≡ outs.End → TurnedBy Step clock End s old before s new link
+    → Took old before out new link → out ≡ outs.End → Turned Step clock End [] s old before new link
 end_turned Step clock s old before out new link took is =
     let leads = leads_so old before out outs.End new link took is in
-    ([], refl, record { none_done = refl; more = took.got; none = leads.1; then' = leads.2 })
+    record { none_done = refl; more = took.got; none = leads.1; then' = leads.2 }
 
+-- a call of it failed
 pub fault_turned : {S : Type 0} (Step : StepRelation S) (clock : Clock) (s : S) (old : Held) (before : LinkView) (out : HeadOut) (new : Held) (link : LinkView)
-    → Took old before out new link → out ≡ outs.Fault → TurnedBy Step clock NotReceived s old before s new link
+    → Took old before out new link → out ≡ outs.Fault → Turned Step clock NotReceived [] s old before new link
 fault_turned Step clock s old before out new link took is =
     let leads = leads_so old before out outs.Fault new link took is in
-    ([], refl, record { none_done = refl; more = took.got; none = leads.1; then' = leads.2 })
+    record { none_done = refl; more = took.got; none = leads.1; then' = leads.2 }

@@ -3,6 +3,7 @@
 ghost use Rattle.std.specs.Prelude.{◌≡◌, ◌<◌, ◌+◌, [], ◌∷◌, ℕ, max, IsTrue, IfOk};
 ghost use Rattle.scrip_form.specs.Texts.{IsTarget};
 ghost use Rattle.ledger_model.specs.Histories.{History};
+ghost use Rattle.millicent_http.specs.declared.reader.TheConstants.{MAX_ITEMS};
 ghost use Rattle.millicent_http.specs.declared.item.After.TheVariants.{Close};
 ghost use Rattle.millicent_http.specs.HeadRefusals.{as_refusal};
 ghost use Rattle.millicent_http.specs.declared.clock.Clock.TheVariants.{OfLinks};
@@ -25,7 +26,7 @@ use scrip_journal::Halted;
 
 /// Answers the next item of the standing link.
 pub(crate) fn take_turn<O: Outside, T: Trade>(
-    house: House<O, T>,
+    mut house: House<O, T>,
     reader: &mut HeadReader,
     room: &mut ReplyRoom,
 ) -> Result<(House<O, T>, Turn), Halted<O>>
@@ -34,11 +35,10 @@ pub(crate) fn take_turn<O: Outside, T: Trade>(
     ensures limits { IfOk result (λ r. limits_of r.0.bench ≡ limits_of house.bench) }
     ensures stands { IfOk result (λ r. r.1 ≡ GoOn → IsTrue (O.link r.0.journal.disk).stands) }
     ensures given { IfOk result (λ r. r.1 ≡ GoOn → (reader.new.given ≡ reader.old.given + 1)
-        × (reader.old.given < 1000)) }
+        × (reader.old.given < MAX_ITEMS)) }
     ensures turned { (h : History) → HouseRepresents O.disk T.trade house h
         → TurnsHouse O.link O.disk T.trade (limits_of house.bench) house.journal.disk (state_of h house.bench) reader.old reader.new result }
 {
-    let mut house = house;
     match reader.take(&mut house) {
         HeadOut::Head(q, after) => answer_request(house, &Presented::of(q), after, room),
         HeadOut::Refused(head, after) => Ok(answer_refused(house, head, after, room)),
@@ -49,7 +49,7 @@ pub(crate) fn take_turn<O: Outside, T: Trade>(
 
 /// Answers a request at a reading of the clock.
 fn answer_request<O: Outside, T: Trade>(
-    house: House<O, T>,
+    mut house: House<O, T>,
     q: &Presented<'_>,
     after: After,
     room: &mut ReplyRoom,
@@ -63,14 +63,13 @@ fn answer_request<O: Outside, T: Trade>(
     ensures answered { (h : History) → HouseRepresents O.disk T.trade house h
         → AnswersRequest O.link O.disk T.trade (limits_of house.bench) q.now after house.journal.disk (state_of h house.bench) result }
 {
-    let mut house = house;
     let _reading = house.raise_by_clock();
     reply_to(house, q, after, room)
 }
 
 /// Answers a head that is refused, at a reading of the clock.
 fn answer_refused<O: Outside, T: Trade>(
-    house: House<O, T>,
+    mut house: House<O, T>,
     head: HeadRefusal,
     after: After,
     room: &mut ReplyRoom,
@@ -83,7 +82,6 @@ fn answer_refused<O: Outside, T: Trade>(
     ensures answered { (h : History) → HouseRepresents O.disk T.trade house h
         → RefusesHead O.link O.disk T.trade (limits_of house.bench) (as_refusal head) after house.journal.disk (state_of h house.bench) result }
 {
-    let mut house = house;
     let _reading = house.raise_by_clock();
     let sent = send_refusal(&mut house, None, &Refusal::from(head), room);
     (house, turn_of(sent, after))
@@ -107,8 +105,7 @@ fn reply_to<O: Outside, T: Trade>(
 {
     let time = house.time();
     match house.respond(q) {
-        Outcome::Done(house, response) => {
-            let mut house = house;
+        Outcome::Done(mut house, response) => {
             match response {
                 Response::New(settled) => {
                     let sent = send_settled(&mut house, settled, room);
@@ -120,18 +117,15 @@ fn reply_to<O: Outside, T: Trade>(
                 }
             }
         }
-        Outcome::Refused(house, refusal) => {
-            let mut house = house;
+        Outcome::Refused(mut house, refusal) => {
             let sent = send_refusal(&mut house, Some(q), &refusal, room);
             Ok((house, turn_of(sent, after)))
         }
-        Outcome::NoMemory(house) => {
-            let mut house = house;
+        Outcome::NoMemory(mut house) => {
             let sent = send_refusal(&mut house, Some(q), &Refusal::NoMemory, room);
             Ok((house, turn_of(sent, after)))
         }
-        Outcome::Halted(halted) => {
-            let mut halted = halted;
+        Outcome::Halted(mut halted) => {
             let _told = send_disk_fault(&mut halted, time, room);
             Err(halted)
         }

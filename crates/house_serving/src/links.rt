@@ -34,7 +34,7 @@ pub enum ServeOut<O, T> {
 /// The entry of an accepted request is on the disk before its reply begins, wherever a crash falls.
 /// `NoMemory` comes before the first link alone, `Link` only where `next_link` failed, and `Halted` only
 /// where the disk failed.
-pub fn serve_links<O: Outside, T: Trade>(house: House<O, T>, links: u32) -> ServeOut<O, T>
+pub fn serve_links<O: Outside, T: Trade>(mut house: House<O, T>, links: u32) -> ServeOut<O, T>
     ensures causes { HaveCauses O.link O.disk house.journal.disk result }
     ensures served { (h : History) → HouseRepresents O.disk T.trade house h
         → ServesLinks O.link O.disk T.trade (limits_of house.bench) links house.journal.disk (state_of h house.bench) result }
@@ -43,7 +43,6 @@ pub fn serve_links<O: Outside, T: Trade>(house: House<O, T>, links: u32) -> Serv
         return ServeOut::NoMemory(house);
     };
     let mut room = ReplyRoom::new();
-    let mut house = house;
     let mut served = 0;
     'links: while served < links {
         match house.next_link() {
@@ -74,13 +73,11 @@ fn serve_link<O: Outside, T: Trade>(
 {
     reader.restart();
     match serve_turns(house, reader, room) {
-        Ok((house, _turn)) => {
-            let mut house = house;
+        Ok((mut house, _turn)) => {
             house.end_link();
             Ok(house)
         }
-        Err(halted) => {
-            let mut halted = halted;
+        Err(mut halted) => {
             halted.end_link();
             Err(halted)
         }
@@ -89,7 +86,7 @@ fn serve_link<O: Outside, T: Trade>(
 
 /// Takes turns until one ends the link.
 fn serve_turns<O: Outside, T: Trade>(
-    house: House<O, T>,
+    mut house: House<O, T>,
     reader: &mut HeadReader,
     room: &mut ReplyRoom,
 ) -> Result<(House<O, T>, Turn), Halted<O>>
@@ -100,7 +97,6 @@ fn serve_turns<O: Outside, T: Trade>(
     ensures ended { (h : History) → HouseRepresents O.disk T.trade house h
         → EndsTurns O.link O.disk T.trade (limits_of house.bench) house.journal.disk (state_of h house.bench) result }
 {
-    let mut house = house;
     'turns: loop {
         match take_turn(house, reader, room) {
             Ok((after, turn)) => match turn {

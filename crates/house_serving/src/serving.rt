@@ -8,6 +8,8 @@ ghost use Rattle.millicent_http.specs.Courses.{HadLink};
 ghost use Rattle.house_core.specs.Bench.{IsHouse, Refines, limits_of, windows_of};
 ghost use Rattle.house_core.specs.LiveWindows.{AreUsed};
 ghost use Rattle.house_core.specs.Session.{Step};
+ghost use Rattle.house_core.specs.Tallies.{ToldStep};
+ghost use Rattle.house_serving.specs.Counting.{Counts};
 ghost use Rattle.house_serving.specs.Turns.{Ended};
 ghost use Rattle.house_serving.specs.Served.{Served};
 
@@ -37,6 +39,7 @@ pub fn serve_bench<K: Link, T: Trade>(
     ensures moved { K.link_moved k.old k.new }
     ensures limits { limits_of bench.new ≡ limits_of bench.old }
     ensures used { AreUsed (windows_of bench.old) → AreUsed (windows_of bench.new) }
+    ensures tallied { Counts T.trade (λ steps s. Served (ToldStep (limits_of bench.old)) Clock.OfLinks links result steps s (K.link k.old) (K.link k.new)) bench.old bench.new }
     ensures served { Refines T.trade (BySteps (λ steps s. Served (Step (limits_of bench.old)) Clock.OfLinks links result steps s (K.link k.old) (K.link k.new))) bench.old bench.new }
 {
     serve_bench_by(bench, k, links, &Clock::OfLinks)
@@ -53,6 +56,7 @@ pub fn serve_bench_by<K: Link, T: Trade>(
     ensures moved { K.link_moved k.old k.new }
     ensures limits { limits_of bench.new ≡ limits_of bench.old }
     ensures used { AreUsed (windows_of bench.old) → AreUsed (windows_of bench.new) }
+    ensures tallied { Counts T.trade (λ steps s. Served (ToldStep (limits_of bench.old)) clock.now links result steps s (K.link k.old) (K.link k.new)) bench.old bench.new }
     ensures served { Refines T.trade (BySteps (λ steps s. Served (Step (limits_of bench.old)) clock.now links result steps s (K.link k.old) (K.link k.new))) bench.old bench.new }
 {
     let Ok(mut reader) = HeadReader::new(bench.alloc()) else {
@@ -85,7 +89,7 @@ fn serve_standing<K: Link, T: Trade>(
     ensures moved { K.link_moved k.old k.new }
     ensures limits { limits_of bench.new ≡ limits_of bench.old }
     ensures used { AreUsed (windows_of bench.old) → AreUsed (windows_of bench.new) }
-    ensures course { Refines T.trade (BySteps (λ steps s. HadLink (Step (limits_of bench.old)) clock.now steps s (K.link k.old) (K.link k.new))) bench.old bench.new }
+    ensures course { Counts T.trade (λ steps s. HadLink (ToldStep (limits_of bench.old)) clock.now steps s (K.link k.old) (K.link k.new)) bench.old bench.new }
 {
     reader.restart();
     serve_turns(bench, reader, k, clock, room);
@@ -106,7 +110,7 @@ fn serve_turns<K: Link, T: Trade>(
     ensures moved { K.link_moved k.old k.new }
     ensures limits { limits_of bench.new ≡ limits_of bench.old }
     ensures used { AreUsed (windows_of bench.old) → AreUsed (windows_of bench.new) }
-    ensures ended { Refines T.trade (BySteps (λ steps s. Ended (Step (limits_of bench.old)) clock.now result steps s (K.link k.old) (K.link k.new))) bench.old bench.new }
+    ensures ended { Counts T.trade (λ steps s. Ended (ToldStep (limits_of bench.old)) clock.now result steps s (K.link k.old) (K.link k.new)) bench.old bench.new }
 {
     'turns: loop {
         match serve_next(bench, reader, k, clock, room) {

@@ -5,11 +5,11 @@ ghost use Rattle.millicent_http.specs.declared.item.After.TheVariants.{Close};
 ghost use Rattle.millicent_http.specs.HeadRefusals.{as_refusal};
 ghost use Rattle.millicent_http.specs.Items.{request, refused};
 ghost use Rattle.millicent_http.specs.Courses.{AreRead, with_readings};
-ghost use Rattle.millicent_http.specs.Steps.{Did, BySteps};
-ghost use Rattle.house_core.specs.Bench.{Refines, limits_of, windows_of};
+ghost use Rattle.house_core.specs.Bench.{limits_of, windows_of};
 ghost use Rattle.house_core.specs.LiveWindows.{AreUsed};
 ghost use Rattle.house_serving.specs.declared.turn.Turn.TheVariants.{GoOn};
-ghost use Rattle.house_core.specs.Session.{State, Step};
+ghost use Rattle.house_core.specs.Tallies.{ToldStep};
+ghost use Rattle.house_serving.specs.Counting.{Counts, IsOne};
 ghost use Rattle.house_serving.specs.Turns.{Sent, AnsweredItem, Turned, turn_after};
 
 use house_core::{Bench, Presented, Reply, ReplyRoom, Trade};
@@ -42,7 +42,7 @@ pub(crate) fn serve_next<K: Link, T: Trade>(
     ensures moved { K.link_moved k.old k.new }
     ensures limits { limits_of bench.new ≡ limits_of bench.old }
     ensures used { AreUsed (windows_of bench.old) → AreUsed (windows_of bench.new) }
-    ensures turned { Refines T.trade (BySteps (λ steps s. Turned (Step (limits_of bench.old)) clock.now result steps s reader.old (K.link k.old) reader.new (K.link k.new))) bench.old bench.new }
+    ensures turned { Counts T.trade (λ steps s. Turned (ToldStep (limits_of bench.old)) clock.now result steps s reader.old (K.link k.old) reader.new (K.link k.new)) bench.old bench.new }
 {
     match reader.take(k) {
         HeadOut::Head(q, after) => serve_request(bench, &Presented::of(q), after, k, clock, room),
@@ -65,9 +65,8 @@ fn serve_request<K: Link, T: Trade>(
     ensures moved { K.link_moved k.old k.new }
     ensures limits { limits_of bench.new ≡ limits_of bench.old }
     ensures used { AreUsed (windows_of bench.old) → AreUsed (windows_of bench.new) }
-    ensures answered { Refines T.trade (λ s t. (step : Did State) × (t ≡ step.after)
-        × ((closes : Bool)
-        → AnsweredItem (Step (limits_of bench.old)) clock.now (request q.now closes) after result step s (K.link k.old) (K.link k.new))) bench.old bench.new }
+    ensures answered { Counts T.trade (IsOne (λ step s. (closes : Bool)
+        → AnsweredItem (ToldStep (limits_of bench.old)) clock.now (request q.now closes) after result step s (K.link k.old) (K.link k.new))) bench.old bench.new }
 {
     let reading = read_clock(k, clock);
     let said = bench.answer(reading, q);
@@ -87,9 +86,8 @@ fn serve_refused<K: Link, T: Trade>(
     ensures moved { K.link_moved k.old k.new }
     ensures limits { limits_of bench.new ≡ limits_of bench.old }
     ensures used { AreUsed (windows_of bench.old) → AreUsed (windows_of bench.new) }
-    ensures answered { Refines T.trade (λ s t. (step : Did State) × (t ≡ step.after)
-        × ((closes : Bool)
-        → AnsweredItem (Step (limits_of bench.old)) clock.now (refused (as_refusal head) closes) after result step s (K.link k.old) (K.link k.new))) bench.old bench.new }
+    ensures answered { Counts T.trade (IsOne (λ step s. (closes : Bool)
+        → AnsweredItem (ToldStep (limits_of bench.old)) clock.now (refused (as_refusal head) closes) after result step s (K.link k.old) (K.link k.new))) bench.old bench.new }
 {
     let reading = read_clock(k, clock);
     send(&bench.refuse_head(reading, head, room), after, k)

@@ -12,3 +12,4 @@ pub mod ReadLemmas
 pub mod StepLemmas
 pub mod LinkCalls
 pub mod CourseLemmas
+pub mod RunLemmas

@@ -8,5 +8,6 @@ pub mod Awaits
 pub mod Reads
 pub mod Steps
 pub mod Courses
+pub mod Runs
 pub mod Occurs
 pub mod ReplyHeads

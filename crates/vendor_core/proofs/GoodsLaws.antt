@@ -6,8 +6,7 @@ use Rattle.std.proofs.lemmas.List.Folds.{list_any-append}
 use Rattle.std.proofs.lemmas.Slice.Eq.{bytes_eq-Decides}
 use Rattle.mc_records.specs.Entry.{Entry, Goods}
 use Rattle.ledger_model.specs.Histories.{History}
-use Rattle.ledger_model.specs.Goods.{is_goods_of, goods_in, goods_contents, in_force}
-use Rattle.ledger_model.specs.Slow.{bytes_in}
+use Rattle.ledger_model.specs.Goods.{is_goods_of, goods_in, goods_contents, bytes_in, in_force}
 use Rattle.vendor_core.proofs.ListLemmas.{last_snoc, last_some}
 
 -- the bytes that are compared are equal, either way round

@@ -15,13 +15,12 @@ use Rattle.mc_records.specs.declared.refusal.Refusal.TheVariants.{TooLittle}
 use Rattle.mc_records.specs.Entry.{Entry, Goods, Mint, goods_deed}
 use Rattle.ledger_model.specs.Histories.{History}
 use Rattle.ledger_model.specs.Houses.{site_kind, terms_of, all_terms, terms_in}
-use Rattle.ledger_model.specs.Goods.{goods_in, goods_price, goods_kind, goods_contents, price_in, in_force}
+use Rattle.ledger_model.specs.Goods.{goods_in, goods_price, goods_kind, goods_contents, price_in, bytes_in, in_force}
 use Rattle.ledger_model.specs.Answer.{offer, broker_offer}
 use Rattle.ledger_model.specs.Lines.{Refuse}
 use Rattle.ledger_model.specs.Stages.{shelf_by}
 use Rattle.ledger_model.specs.Pieces.{reference_of, has_reference}
 use Rattle.ledger_model.specs.Replies.{Contents, no_contents, goods_brought, brought, price_asked, sale_price}
-use Rattle.ledger_model.specs.Slow.{bytes_in}
 use Rattle.name_places.specs.NamePlaces.{NamePlacesView, place_of}
 use Rattle.vendor_core.specs.declared.minted.Minting.{Minting}
 use Rattle.vendor_core.specs.declared.edition.Article.{Article}

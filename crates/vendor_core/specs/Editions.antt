@@ -2,6 +2,7 @@
 use Rattle.std.specs.Prelude.{◌≡◌, ℕ, ◌<◌, ◌≤◌, ◌⊎◌, Bool, true, false, nat_lt, nat_eq, is_some, IsTrue, IfSome, List, [], ◌∷◌, length, Option, Some, None, option_map, option_and_then, slice_get, All}
 use Rattle.std.specs.List.{AllPairs, Contains}
 use Rattle.std.specs.Map.{lookup}
+use Rattle.mc_records.specs.declared.ranges.TheConstants.{MOST_CONTENTS}
 use Rattle.mc_records.specs.Entry.{Entry, Goods}
 use Rattle.ledger_model.specs.Histories.{History}
 use Rattle.ledger_model.specs.Goods.{is_goods_of, goods_in, goods_price}
@@ -16,7 +17,7 @@ use Rattle.vendor_core.specs.declared.catalogue.Replaced.{Replaced}
 -- the kind of an article is below 3, and it has at most 65,536 bytes of contents
 pub record IsInRange (a : Article) : Type 0 where
   pub kind : a.kind < 3
-  pub short : length a.contents.items ≤ 65536
+  pub short : length a.contents.items ≤ MOST_CONTENTS
 
 -- the article of the Goods entry of a number, among articles by the numbers of their entries
 abbrev pub edition_of : List (ℕ × Article) → ℕ → Option Article

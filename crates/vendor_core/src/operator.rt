@@ -2,6 +2,8 @@
 
 ghost use Rattle.std.specs.Prelude.{◌≡◌, ◌<◌, ◌≤◌, [], ℕ, length, IsFalse, Some, Ok};
 ghost use Rattle.scrip_form.specs.Issuing.{Issuing};
+ghost use Rattle.mc_records.specs.declared.ranges.TheConstants.{MOST_PIECES};
+ghost use Rattle.mc_records.specs.declared.ranges.TheConstants.{MOST_CONTENTS};
 ghost use Rattle.mc_records.specs.Entry.{AddTerms, AreSecrets, Fits};
 ghost use Rattle.mc_records.specs.Views.{entry};
 ghost use Rattle.ledger_model.specs.Histories.{History};
@@ -37,7 +39,7 @@ pub fn set_goods<D: Disk>(
 ) -> Outcome<D, Shelf, Receipt>
     requires price { 0 < price }
     requires kind { kind < 3 }
-    requires short { length contents.now ≤ 65536 }
+    requires short { length contents.now ≤ MOST_CONTENTS }
     ensures back { HandsBack D.disk D.disk_moved (KeepsTime house) house.journal.disk result }
     ensures exact { (h : History) → HouseRepresents D.disk shelf_view house h
         → Performs D.disk shelf_view
@@ -154,7 +156,7 @@ pub fn mint<D: Disk>(
     out: &mut Vec<u8>,
 ) -> Outcome<D, Shelf, u64>
     requires some { 0 < count }
-    requires few { count ≤ 256 }
+    requires few { count ≤ MOST_PIECES }
     requires value { 0 < value }
     requires empty { out.old.items ≡ [] }
     ensures back { HandsBack D.disk D.disk_moved (KeepsTime house) house.journal.disk result }
@@ -194,7 +196,7 @@ fn enter_mint<D: Disk>(
     out: &mut Vec<u8>,
 ) -> Outcome<D, Shelf, u64>
     requires some { 0 < count }
-    requires few { count ≤ 256 }
+    requires few { count ≤ MOST_PIECES }
     requires value { 0 < value }
     requires new { (h : History) → HouseRepresents D.disk shelf_view house h
         → IsFalse (has_reference h reference.now) }

@@ -1,4 +1,5 @@
 ghost use Rattle.std.specs.Prelude.{◌≡◌, ℕ, ◌↔◌, ◌≤◌, ◌^◌, [], ◌∷◌, ◌++◌, Some, option_map, IsSome, IfSome, IsFalse, IsOk, OnOk, OnErr, length};
+ghost use Rattle.mc_records.specs.declared.ranges.TheConstants.{MOST_CONTENTS};
 ghost use Rattle.mc_records.specs.Entry.{Goods, Mint};
 ghost use Rattle.ledger_model.specs.Histories.{History};
 ghost use Rattle.ledger_model.specs.Goods as goods;
@@ -57,7 +58,7 @@ impl Shelf {
 
     /// How many bytes of contents are on sale once a target sells these.
     pub(crate) fn in_force_with(&self, target: &[u8], contents: &[u8]) -> u64
-        requires { length contents.now ≤ 65536 }
+        requires { length contents.now ≤ MOST_CONTENTS }
         ensures { (h : History) (m price kind : ℕ) → ShelfRepresents self.now h
             → result ≡ goods.in_force (h ++ Goods m target.now price kind contents.now ∷ []) }
     {
@@ -93,7 +94,7 @@ impl Shelf {
         requires place { HasRoomAt self.old.catalogue target.now }
         requires ready { IsSome self.old.next_article }
         requires range { IfSome self.old.next_article IsInRange }
-        requires short { length contents.now ≤ 65536 }
+        requires short { length contents.now ≤ MOST_CONTENTS }
         ensures held { (n : ℕ) → HasGoods self.old n → HasGoods self.new n }
         ensures goods { OnOk result (HasGoods self.new number) }
         ensures learned { OnOk result ((h : History) (m price kind : ℕ) → ShelfRepresents self.old h

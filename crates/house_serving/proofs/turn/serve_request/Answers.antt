@@ -1,31 +1,46 @@
-use Rattle.std.proofs.Common.{Bool, refl, subst, List, ℕ}
+use Rattle.std.proofs.Common.{Bool, false, [], ◌∷◌, refl, subst, ap, ◌∙◌, List, ℕ}
+use Rattle.millicent_http.specs.Steps.{Did}
 use Rattle.ledger_model.specs.Answer.{answer}
 use Rattle.millicent_http.specs.Items.{request}
-use Rattle.house_core.specs.Bench.{limits_of, state_of}
-use Rattle.house_core.specs.Session.{raised, said_reply, Step}
+use Rattle.house_core.specs.Bench.{limits_of, state_of, tally_of}
+use Rattle.house_core.specs.Session.{State, raised, said_reply}
+use Rattle.house_core.specs.Tallies.{Told, ToldState, ToldStep, told_item, tallied}
 use Rattle.house_serving.specs.Turns.{Sent}
-use Rattle.house_serving.proofs.ItemLemmas.{says_gives, item_answered}
+use Rattle.house_serving.specs.Counting.{told_state}
+use Rattle.house_serving.proofs.ItemLemmas.{says_gives, says_told, item_answered}
 use Rattle.house_serving.proofs.turn.serve_request.Goals as goal
 
 pub returns-clause-answered : goal.returns-clause-answered
-returns-clause-answered g c h house =
+returns-clause-answered g c h last house =
     let limits = limits_of c.args.bench.now in
     let q = c.args.q.now in
-    let s = state_of h c.args.bench.now in
+    let s : State = state_of h c.args.bench.now in
     let reading = c.read_clock-reading.result in
     let came = c.answer-said.ensures.went h house in
-    let t = state_of came.history c.answer-said.new.self in
+    let t : State = state_of came.history c.answer-said.new.self in
     let reply : List ℕ = said_reply t q c.answer-said.result in
+    let told : Told = told_item limits (raised s reading) (request q false) t in
+    let after : ToldState = record { state = t; told_last = told } in
+    let step : Did ToldState = record { sent = c.send.ensures.sent.0; after = after } in
     record {
-      history = came.history;
-      house = came.house;
-      related = (
-        record { sent = c.send.ensures.sent.0; after = t },
+      steps = step ∷ [];
+      did = (
+        step,
         refl,
         λ (closes : Bool).
-            item_answered (Step limits) c.args.clock.now (request q closes) c.args.after c.send.result s t (g.K.Link.link c.args.k.now) (g.K.Link.link c.read_clock-reading.new.k) (g.K.Link.link c.send.new.k) reading reply c.send.ensures.sent.0
+            item_answered (ToldStep limits) c.args.clock.now (request q closes) c.args.after c.send.result (told_state last h c.args.bench.now) after (g.K.Link.link c.args.k.now) (g.K.Link.link c.read_clock-reading.new.k) (g.K.Link.link c.send.new.k) reading reply c.send.ensures.sent.0
             c.read_clock-reading.ensures.read c.read_clock-reading.ensures.rest
-            (says_gives (raised s reading) t q (answer (raised s reading).history (raised s reading).time limits q) c.answer-said.result came.related)
+            (record {
+              step = says_gives (raised s reading) t q (answer (raised s reading).history (raised s reading).time limits q) c.answer-said.result came.related;
+              told' = refl;
+            })
             (subst (λ (l : List ℕ). Sent c.args.after l c.send.result c.send.ensures.sent.0 (g.K.Link.link c.read_clock-reading.new.k) (g.K.Link.link c.send.new.k)) (c.reply.ensures came.history came.house) c.send.ensures.sent.1),
       );
+      history = came.history;
+      house = came.house;
+      state = refl;
+      tally = λ within.
+          c.answer-said.ensures.tally h house within
+          ∙ ap (λ (w : Told). tallied (tally_of c.args.bench.now) (w ∷ [])) (says_told (raised s reading) t (answer (raised s reading).history (raised s reading).time limits q) c.answer-said.result came.related);
+      within = c.answer-said.ensures.within;
     }

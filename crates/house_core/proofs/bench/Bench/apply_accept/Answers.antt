@@ -37,7 +37,7 @@ pub returns-clause-contents : goal.returns-clause-contents
 returns-clause-contents g c h st has in_force =
     let b = c.args.self.now.state in
     let a = c.args.authorization.now in
-    let after : Bench g.row.T.Denot = record { state = c.enter.new.self; trade = c.learn-learned.new.self } in
+    let after : Bench g.row.T.Denot = record { state = c.enter.new.self; trade = c.learn-learned.new.self; tally = c.args.self.now.tally } in
     let r : KeptReply = record { asked = asked_of c.request.result.now; entry = kept_entry b c.piece.result a } in
     contents_taken g.T.Trade.trade c.args.self.now after h (accept_entry b.time c.args.q.now.target a) r has (λ target. refl)
     c.enter.ensures.replies c.learn-learned.ensures.held c.requires.held in_force

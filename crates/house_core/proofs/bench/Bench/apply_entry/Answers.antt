@@ -18,7 +18,7 @@ returns-in-Err-clause-exact g c h st in_order =
     let counted = c.count-number.ensures ∙ sym st.state.counted in
     let may : MayLearn b.limits kind c.count-number.result h e = record { counted = counted; in_order = in_order; by_house = half.0 c.requires.goes_on } in (
       λ follows'.
-          let ok = (c.in-Err.ensures.exact b.limits h st.learned may).1 (halves g.T.Trade.passes b.limits kind h e st.of_kind c.requires.command follows'.allowed).1 in
+          let ok = (c.in-Err.ensures.exact b.limits h st.learned may).1 (halves g.T.Trade.passes b.limits kind h e st.state.lawful st.of_kind c.requires.command follows'.allowed).1 in
           absurd (cc),
       record { state = st.state; learned = c.in-Err.ensures.same h st.learned; of_kind = rw c.in-Err.ensures.site st.of_kind },
     )
@@ -44,13 +44,13 @@ returns-clause-exact g c h st in_order =
 
 pub returns-clause-contents : goal.returns-clause-contents
 returns-clause-contents g c h st has =
-    let after : Bench g.row.T.Denot = record { state = c.apply_entry.new.self; trade = c.learn.new.self } in
+    let after : Bench g.row.T.Denot = record { state = c.apply_entry.new.self; trade = c.learn.new.self; tally = c.args.self.now.tally } in
     contents_applied g.T.Trade.trade c.args.self.now after h (entry c.args.r.now) has st.state.replies
     (ap (λ (k : KeptView). k.replies) c.apply_entry.ensures.kept) c.in-Ok.ensures.held
 
 pub returns-in-Err-clause-contents : goal.returns-in-Err-clause-contents
 returns-in-Err-clause-contents g c h st has =
-    let after : Bench g.row.T.Denot = record { state = c.args.self.now.state; trade = c.learn.new.self } in
+    let after : Bench g.row.T.Denot = record { state = c.args.self.now.state; trade = c.learn.new.self; tally = c.args.self.now.tally } in
     contents_as_before g.T.Trade.trade c.args.self.now after h has refl c.in-Err.ensures.held
 
 pub learn-requires-clause-fits : goal.learn-requires-clause-fits

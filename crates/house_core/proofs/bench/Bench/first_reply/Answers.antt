@@ -12,7 +12,7 @@ pub returns : goal.returns
 returns g c h house =
     let st = house.represents in
     let replies = c.args.self.now.state.kept.replies in
-    let r : KeptReply = record { asked = asked_of c.in-Some.q; entry = c.in-Some.entry.now } in
+    let r : KeptReply = record { asked = asked_of c.in-Some.q; entry = c.in-Some.entry } in
     let found : with_number replies c.args.number ≡ Some r = sym c.in-Some.ensures.reply in
     let is = of_found (IsReply h) (λ x. eqb x.entry.number c.args.number) replies r st.state.replies found in
     let held = of_found (λ x. OfGoods (g.T.Trade.trade c.args.self.now.trade).holds x.entry.deed) (λ x. eqb x.entry.number c.args.number) replies r house.contents.held found in

@@ -17,5 +17,5 @@ returns-clause-same g c h st =
 
 pub returns-clause-contents : goal.returns-clause-contents
 returns-clause-contents g c h st has =
-    contents_later g.T.Trade.trade c.args.self.now (record { state = c.raise-time.new.self; trade = c.forget.new.self }) h (max c.args.self.now.state.time c.args.reading) c.first_kept.result has
+    contents_later g.T.Trade.trade c.args.self.now (record { state = c.raise-time.new.self; trade = c.forget.new.self; tally = c.args.self.now.tally }) h (max c.args.self.now.state.time c.args.reading) c.first_kept.result has
     c.raise-time.ensures.replies c.first_kept.ensures.least (λ e. c.first_kept.ensures.none.0 (rw e refl)) (λ n kept held. c.forget.ensures.held h n st.learned kept held)

@@ -1,10 +1,11 @@
-use Rattle.std.proofs.Common.{refl, sym, ap, subst, ◌∙◌, Ok, Err}
+use Rattle.std.proofs.Common.{refl, sym, ap, subst, ◌∙◌, arith, Ok, Err}
 use Rattle.mc_records.specs.declared.limits.Limits.{Limits}
 use Rattle.ledger_model.specs.Answer.{Answer, answer}
 use Rattle.house_core.specs.declared.verdict.BenchFault.TheVariants as faults
 use Rattle.house_core.specs.Bench.{Accepts, KeepsContents, house_time}
 use Rattle.house_core.proofs.Accepting.{stopped_kept, stopped_site, makes_none}
 use Rattle.house_core.proofs.Contents.{keeps_all}
+use Rattle.house_core.proofs.TallyLaws.{change_is}
 use Rattle.house_core.proofs.bench.Bench.respond.Goals as goal
 
 pub returns-in-Err-clause-exact : goal.returns-in-Err-clause-exact
@@ -39,3 +40,22 @@ returns-clause-exact g c h st =
     let is = c.in-Ok.ensures.exact h st.state st.learned st.of_kind ∙ ap (λ (l : Limits). answer h (house_time c.args.self.now) l c.args.q.now) c.limits.ensures.limits in
     subst (λ (a : Answer). Accepts g.T.Trade.trade c.commit.new.self h a (Err faults.NoMemory)) is
     (c.in-Err-commit.ensures.exact c.args.self.now.state.limits h st refl c.limits.ensures.sound.limits.journal_most (sym is))
+
+-- ---- the tally
+
+pub returns-in-Err-clause-within : goal.returns-in-Err-clause-within
+returns-in-Err-clause-within g c is = c.stop.ensures.within c.args.self.now.state.count is
+
+pub returns-in-Ok-commit-clause-within : goal.returns-in-Ok-commit-clause-within
+returns-in-Ok-commit-clause-within g c is = rw c.in-Ok-commit.ensures.more (c.take.ensures.within c.args.self.now.state.count is)
+
+pub returns-in-Ok-commit-clause-counted : goal.returns-in-Ok-commit-clause-counted
+returns-in-Ok-commit-clause-counted g c h st is =
+    let a = c.in-Ok.authorization in
+    let takes = c.in-Ok.ensures.exact h st.state st.learned st.of_kind ∙ ap (λ (l : Limits). answer h (house_time c.args.self.now) l c.args.q.now) c.limits.ensures.limits in
+    let sound = c.limits.ensures.sound in
+    rw (← takes) (c.take.ensures.counted _ c.args.self.now.state.count is (omega (arith, sound.counted, sound.sized)) refl
+    (change_is (house_time c.args.self.now) c.args.q.now.target a c.args.q.now c.in-Ok.ensures.read ∙ sym c.change_worth.ensures))
+
+pub returns-clause-within : goal.returns-clause-within
+returns-clause-within g c is = rw c.in-Err-commit.ensures.more (c.refuse.ensures.within c.args.self.now.state.count is)

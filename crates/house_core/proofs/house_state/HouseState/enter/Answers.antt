@@ -2,10 +2,20 @@ use Rattle.scrip_form.specs.Issuing.{epoch}
 use Rattle.std.proofs.Common.{◌<◌, ◌^◌, ◌≡◌, ◌+◌, ◌≤◌, None, sym, subst}
 use Rattle.std.specs.Prelude.{◌-◌, vec_len, vec_capacity}
 use Rattle.mc_records.specs.Requests.{asked_of}
+use Rattle.kept_replies.specs.Requests.{text_size}
 use Rattle.kept_replies.specs.Kept.{found}
-use Rattle.house_core.specs.HouseState.{HouseStateView, IsEntered, size_with}
-use Rattle.house_core.proofs.Entering.{no_request, no_number, entered, sound_entered}
+use Rattle.house_core.specs.HouseState.{HouseStateView, IsEntered, size_with, pieces_size}
+use Rattle.house_core.proofs.Entering.{no_request, no_number, change_fits, entered, sound_entered}
 use Rattle.house_core.proofs.house_state.HouseState.enter.Goals as goal
+
+pub keep-requires-clause-room : goal.keep-requires-clause-room
+keep-requires-clause-room c =
+    let q = asked_of c.args.q.now in
+    let paid = c.args.paid.now in
+    let a = c.args.a.now in
+    let room = subst (λ (b : HouseStateView). text_size q + pieces_size b.name paid a < b.kept.room) (sym c.self.view_is) c.requires.room.reply in
+    let change = change_fits c.self.inside.own.terms c.self.inside.time (paid.value - a.price) c.self.inside.name paid.cust paid.props _ a.change c.redeem-piece.result c.certified_if-change.result c.redeem-piece.ensures.piece (rw (c.terms.ensures, c.redeem-piece.ensures.terms) at c.certified_if-change.ensures c.self.inside.name) in
+    rw change room
 
 pub keep-requires-clause-new_request : goal.keep-requires-clause-new_request
 keep-requires-clause-new_request c =
