@@ -1,20 +1,21 @@
 -- The words of a command are of no other.
 use Rattle.std.proofs.Common.{◌≡◌, ℕ, List, [], ◌∷◌, Option, Some, None, refl, sym, ap, ◌∙◌, arith}
-use Rattle.std.specs.Prelude.{◌<◌, ◌-◌, ◌^◌, IfSome, decimal, option_map, slice_index}
+use Rattle.std.specs.Prelude.{◌+◌, ◌*◌, ◌<◌, ◌-◌, ◌^◌, IfSome, decimal, option_map, slice_index}
 use Rattle.std.proofs.lemmas.Fmt.{decimal_injective}
 use Rattle.clap.specs.Walk.{Row, Text}
 use Rattle.mc_fields.specs.Texts.{IsNumber}
+use Rattle.mc_records.specs.declared.ranges.TheConstants.{LEAST_KEEP, MOST_KEEP, MOST_PIECES}
 use Rattle.scrip_form.specs.Issuing.{Issuing}
 use Rattle.mc_words.specs.declared.operation.Operation.{Operation}
 use Rattle.mc_words.specs.declared.operation.Operation.TheVariants.{Goods, Price, Licence, Mint}
 use Rattle.mc_words.specs.declared.command.Command.{Command}
-use Rattle.mc_words.specs.declared.command.Command.TheVariants.{Once, Init, Serve, Operate}
+use Rattle.mc_words.specs.declared.command.Command.TheVariants.{Once, Init, Serve, Play, Operate}
 use Rattle.mc_words.specs.declared.table.CommandName.{CommandName}
 use Rattle.mc_words.specs.declared.table.CommandName.TheVariants as names
 use Rattle.mc_words.specs.Table.{AreOf, form_of}
 use Rattle.mc_words.specs.Ranges.{AreTerms, IsWithin}
-use Rattle.mc_words.specs.Words.{FindsTerms, Shop, FindsShop, Founder, FindsFounder, own_terms, Server, FindsServer, Listing, FindsListing, Pricing, FindsPricing, Licensing, FindsLicensing, licensed_terms, Minting, FindsMinting}
-use Rattle.mc_words.specs.Commands.{AreOperationWords, AreWords}
+use Rattle.mc_words.specs.Words.{FindsTerms, Shop, FindsShop, Founder, FindsFounder, own_terms, Server, FindsServer, Playing, FindsPlaying, Listing, FindsListing, listed_pricing, Pricing, FindsPricing, Licensing, FindsLicensing, licensed_terms, Minting, FindsMinting}
+use Rattle.mc_words.specs.Commands.{AreOnceWords, AreInitWords, AreServeWords, ArePlayWords, AreGoodsWords, ArePriceWords, AreLicenceWords, AreMintWords, AreOperationWords, AreWords, AreNoWords}
 use Rattle.mc_words.proofs.TableLemmas.{one_value, read_once}
 use Rattle.mc_words.proofs.SecretLemmas.{same_secret, same_secrets}
 
@@ -54,7 +55,7 @@ one_founder rows a b fa fb =
     let book = one_value fa.book fb.book in
     let name = one_value fa.name fb.name in
     let t = one_terms rows (own_terms a) (own_terms b) fa.founder'.terms fb.founder'.terms fa.terms fb.terms refl in
-    let keep = same_option 60 86400 a.keep b.keep (omega arith) fa.founder'.keep fb.founder'.keep fa.keep fb.keep in
+    let keep = same_option LEAST_KEEP MOST_KEEP a.keep b.keep (omega arith) fa.founder'.keep fb.founder'.keep fa.keep fb.keep in
     let clear = sym fa.clear ∙ fb.clear in
     λ i. record { book = book i; name = name i; period = (t i).period; life = (t i).life; scrip = (t i).scrip; customer = (t i).customer; keep = keep i; clear = clear i }
 
@@ -65,13 +66,10 @@ one_server rows a b fa fb =
     let links = same_number (2 ^ 32 - 1) a.links b.links (omega arith) fa.server'.links fb.server'.links fa.links fb.links in
     λ i. record { book = book i; listen = listen i; links = links i }
 
-one_listing : (rows : List Row) (a b : Listing) → FindsListing rows a → FindsListing rows b → a ≡ b
-one_listing rows a b fa fb =
-    let book = one_value fa.book fb.book in
-    let target = one_value fa.target fb.target in
-    let price = same_number (2 ^ 40) a.price b.price (omega arith) fa.listing'.price fb.listing'.price fa.price fb.price in
-    let kind = same_option 0 2 a.kind b.kind (omega arith) fa.listing'.kind fb.listing'.kind fa.kind fb.kind in
-    λ i. record { book = book i; target = target i; price = price i; kind = kind i }
+one_playing : (rows : List Row) (a b : Playing) → FindsPlaying rows a → FindsPlaying rows b → a ≡ b
+one_playing rows a b fa fb =
+    let count = same_number 1000000 a.count b.count (omega arith) fa.playing'.count fb.playing'.count fa.count fb.count in
+    λ i. record { count = count i }
 
 one_pricing : (rows : List Row) (a b : Pricing) → FindsPricing rows a → FindsPricing rows b → a ≡ b
 one_pricing rows a b fa fb =
@@ -79,6 +77,12 @@ one_pricing rows a b fa fb =
     let target = one_value fa.target fb.target in
     let price = same_number (2 ^ 40) a.price b.price (omega arith) fa.pricing'.price fb.pricing'.price fa.price fb.price in
     λ i. record { book = book i; target = target i; price = price i }
+
+one_listing : (rows : List Row) (a b : Listing) → FindsListing rows a → FindsListing rows b → a ≡ b
+one_listing rows a b fa fb =
+    let pricing = one_pricing rows (listed_pricing a) (listed_pricing b) fa.pricing fb.pricing in
+    let kind = same_option 0 2 a.kind b.kind (omega arith) fa.listing'.kind fb.listing'.kind fa.kind fb.kind in
+    λ i. record { book = (pricing i).book; target = (pricing i).target; price = (pricing i).price; kind = kind i }
 
 one_licensing : (rows : List Row) (a b : Licensing) → FindsLicensing rows a → FindsLicensing rows b → a ≡ b
 one_licensing rows a b fa fb =
@@ -90,7 +94,7 @@ one_licensing rows a b fa fb =
 one_minting : (rows : List Row) (a b : Minting) → FindsMinting rows a → FindsMinting rows b → a ≡ b
 one_minting rows a b fa fb =
     let book = one_value fa.book fb.book in
-    let count = same_number 256 a.count b.count (omega arith) fa.minting'.count fb.minting'.count fa.count fb.count in
+    let count = same_number MOST_PIECES a.count b.count (omega arith) fa.minting'.count fb.minting'.count fa.count fb.count in
     let value = same_number (2 ^ 40) a.value b.value (omega arith) fa.minting'.value fb.minting'.value fa.value fb.value in
     let reference = one_value fa.reference fb.reference in
     λ i. record { book = book i; count = count i; value = value i; reference = reference i }
@@ -102,37 +106,39 @@ one_of : {X : Type 0} (name : CommandName) (words : List Text) (Finds : List Row
     → (a b : X) → AreOf name words (λ rows. Finds rows a) → AreOf name words (λ rows. Finds rows b) → a ≡ b
 one_of name words Finds one a b fa fb = one fa.rows a b fa.finds (rw (read_once name words fa.rows fb.rows fa.read fb.read) at fb.finds)
 
--- the first letter of the second word, which is another one for each command
-abbrev letter : List Text → ℕ
-letter [] = 0
-letter (role ∷ []) = 0
-letter (role ∷ command ∷ words) = slice_index command 0
+-- the first two letters of the second word, as one number, which is another one for each command
+abbrev letters : List Text → ℕ
+letters [] = 0
+letters (role ∷ []) = 0
+letters (role ∷ command ∷ words) = 256 * slice_index command 0 + slice_index command 1
 
-abbrev letter_of : Command → ℕ
-letter_of (Once shop) = 111
-letter_of (Init founder) = 105
-letter_of (Serve server) = 115
-letter_of (Operate (Goods listing)) = 103
-letter_of (Operate (Price pricing)) = 112
-letter_of (Operate (Licence licensing)) = 108
-letter_of (Operate (Mint minting)) = 109
+abbrev letters_of : Command → ℕ
+letters_of (Once shop) = 256 * 111 + 110
+letters_of (Init founder) = 256 * 105 + 110
+letters_of (Serve server) = 256 * 115 + 101
+letters_of (Play playing) = 256 * 112 + 108
+letters_of (Operate (Goods listing)) = 256 * 103 + 111
+letters_of (Operate (Price pricing)) = 256 * 112 + 114
+letters_of (Operate (Licence licensing)) = 256 * 108 + 105
+letters_of (Operate (Mint minting)) = 256 * 109 + 105
 
-has_letter : (words : List Text) (c : Command) → AreWords words c → letter words ≡ letter_of c
+have_letters : (words : List Text) (c : Command) → AreWords words c → letters words ≡ letters_of c
 unfolding form_of
-has_letter words (Once shop) are = ap letter are.read.words'
-has_letter words (Init founder) are = ap letter are.read.words'
-has_letter words (Serve server) are = ap letter are.read.words'
-has_letter words (Operate (Goods listing)) are = ap letter are.read.words'
-has_letter words (Operate (Price pricing)) are = ap letter are.read.words'
-has_letter words (Operate (Licence licensing)) are = ap letter are.read.words'
-has_letter words (Operate (Mint minting)) are = ap letter are.read.words'
+have_letters words (Once shop) are = ap letters are.read.words'
+have_letters words (Init founder) are = ap letters are.read.words'
+have_letters words (Serve server) are = ap letters are.read.words'
+have_letters words (Play playing) are = ap letters are.read.words'
+have_letters words (Operate (Goods listing)) are = ap letters are.read.words'
+have_letters words (Operate (Price pricing)) are = ap letters are.read.words'
+have_letters words (Operate (Licence licensing)) are = ap letters are.read.words'
+have_letters words (Operate (Mint minting)) are = ap letters are.read.words'
 
 one_operation : (words : List Text) (a b : Operation) → AreOperationWords words a → AreOperationWords words b → a ≡ b
 one_operation words (Goods a) (Goods b) fa fb = ap Goods (one_of names.VendorGoods words FindsListing one_listing a b fa fb)
 one_operation words (Price a) (Price b) fa fb = ap Price (one_of names.VendorPrice words FindsPricing one_pricing a b fa fb)
 one_operation words (Licence a) (Licence b) fa fb = ap Licence (one_of names.VendorLicence words FindsLicensing one_licensing a b fa fb)
 one_operation words (Mint a) (Mint b) fa fb = ap Mint (one_of names.VendorMint words FindsMinting one_minting a b fa fb)
-one_operation words a b fa fb = absurd (omega (arith, has_letter words (Operate a) fa, has_letter words (Operate b) fb))
+one_operation words a b fa fb = absurd (omega (arith, have_letters words (Operate a) fa, have_letters words (Operate b) fb))
 
 abbrev IsOperate : Command → Type 0
 IsOperate (Operate operation) = Unit {0}
@@ -141,16 +147,34 @@ IsOperate _ = ⊥
 -- the words of an operation are of no command but an operator's
 operate_alone : (words : List Text) (operation : Operation) (c : Command) → AreOperationWords words operation → AreWords words c → IsOperate c
 operate_alone words operation (Operate other) fo fc = tt
-operate_alone words (Goods operation) c fo fc = absurd (omega (arith, has_letter words (Operate (Goods operation)) fo, has_letter words c fc))
-operate_alone words (Price operation) c fo fc = absurd (omega (arith, has_letter words (Operate (Price operation)) fo, has_letter words c fc))
-operate_alone words (Licence operation) c fo fc = absurd (omega (arith, has_letter words (Operate (Licence operation)) fo, has_letter words c fc))
-operate_alone words (Mint operation) c fo fc = absurd (omega (arith, has_letter words (Operate (Mint operation)) fo, has_letter words c fc))
+operate_alone words (Goods operation) c fo fc = absurd (omega (arith, have_letters words (Operate (Goods operation)) fo, have_letters words c fc))
+operate_alone words (Price operation) c fo fc = absurd (omega (arith, have_letters words (Operate (Price operation)) fo, have_letters words c fc))
+operate_alone words (Licence operation) c fo fc = absurd (omega (arith, have_letters words (Operate (Licence operation)) fo, have_letters words c fc))
+operate_alone words (Mint operation) c fo fc = absurd (omega (arith, have_letters words (Operate (Mint operation)) fo, have_letters words c fc))
 
 pub one_command : (words : List Text) (a b : Command) → AreWords words a → AreWords words b → a ≡ b
 one_command words (Once a) (Once b) fa fb = ap Once (one_of names.VendorOnce words FindsShop one_shop a b fa fb)
 one_command words (Init a) (Init b) fa fb = ap Init (one_of names.VendorInit words FindsFounder one_founder a b fa fb)
 one_command words (Serve a) (Serve b) fa fb = ap Serve (one_of names.VendorServe words FindsServer one_server a b fa fb)
+one_command words (Play a) (Play b) fa fb = ap Play (one_of names.VendorPlay words FindsPlaying one_playing a b fa fb)
 one_command words (Operate a) (Operate b) fa fb = ap Operate (one_operation words a b fa fb)
 one_command words (Operate a) b fa fb = absurd (operate_alone words a b fa fb)
 one_command words a (Operate b) fa fb = absurd (operate_alone words b a fb fa)
-one_command words a b fa fb = absurd (omega (arith, has_letter words a fa, has_letter words b fb))
+one_command words a b fa fb = absurd (omega (arith, have_letters words a fa, have_letters words b fb))
+
+-- ---- words that are of none
+
+pub no_operation : (words : List Text) → ((x : Listing) → AreGoodsWords words x → ⊥) → ((x : Pricing) → ArePriceWords words x → ⊥)
+    → ((x : Licensing) → AreLicenceWords words x → ⊥) → ((x : Minting) → AreMintWords words x → ⊥) → (operation : Operation) → AreOperationWords words operation → ⊥
+no_operation words goods price licence mint (Goods x) are = goods x are
+no_operation words goods price licence mint (Price x) are = price x are
+no_operation words goods price licence mint (Licence x) are = licence x are
+no_operation words goods price licence mint (Mint x) are = mint x are
+
+pub no_command : (words : List Text) → ((x : Shop) → AreOnceWords words x → ⊥) → ((x : Founder) → AreInitWords words x → ⊥)
+    → ((x : Server) → AreServeWords words x → ⊥) → ((x : Playing) → ArePlayWords words x → ⊥) → ((x : Operation) → AreOperationWords words x → ⊥) → AreNoWords words
+no_command words once init serve play operate (Once x) are = once x are
+no_command words once init serve play operate (Init x) are = init x are
+no_command words once init serve play operate (Serve x) are = serve x are
+no_command words once init serve play operate (Play x) are = play x are
+no_command words once init serve play operate (Operate x) are = operate x are

@@ -3,10 +3,10 @@ use Rattle.std.specs.Prelude.{ℕ, List}
 use Rattle.mc_words.specs.declared.operation.Operation.{Operation}
 use Rattle.mc_words.specs.declared.operation.Operation.TheVariants.{Goods, Price, Licence, Mint}
 use Rattle.mc_words.specs.declared.command.Command.{Command}
-use Rattle.mc_words.specs.declared.command.Command.TheVariants.{Once, Init, Serve, Operate}
+use Rattle.mc_words.specs.declared.command.Command.TheVariants.{Once, Init, Serve, Play, Operate}
 use Rattle.mc_words.specs.declared.table.CommandName.TheVariants as names
 use Rattle.mc_words.specs.Table.{AreOf}
-use Rattle.mc_words.specs.Words.{Shop, FindsShop, Founder, FindsFounder, Server, FindsServer, Listing, FindsListing, Pricing, FindsPricing, Licensing, FindsLicensing, Minting, FindsMinting}
+use Rattle.mc_words.specs.Words.{Shop, FindsShop, Founder, FindsFounder, Server, FindsServer, Playing, FindsPlaying, Listing, FindsListing, Pricing, FindsPricing, Licensing, FindsLicensing, Minting, FindsMinting}
 
 -- the words are `vendor once`, and spell this shop
 abbrev pub AreOnceWords : List (List ℕ) → Shop → Type 0
@@ -22,6 +22,9 @@ AreInitWords words founder = AreOf names.VendorInit words (λ rows. FindsFounder
 
 abbrev pub AreServeWords : List (List ℕ) → Server → Type 0
 AreServeWords words server = AreOf names.VendorServe words (λ rows. FindsServer rows server)
+
+abbrev pub ArePlayWords : List (List ℕ) → Playing → Type 0
+ArePlayWords words playing = AreOf names.VendorPlay words (λ rows. FindsPlaying rows playing)
 
 abbrev pub AreGoodsWords : List (List ℕ) → Listing → Type 0
 AreGoodsWords words listing = AreOf names.VendorGoods words (λ rows. FindsListing rows listing)
@@ -54,6 +57,7 @@ abbrev pub AreWords : List (List ℕ) → Command → Type 0
 AreWords words (Once shop) = AreOnceWords words shop
 AreWords words (Init founder) = AreInitWords words founder
 AreWords words (Serve server) = AreServeWords words server
+AreWords words (Play playing) = ArePlayWords words playing
 AreWords words (Operate operation) = AreOperationWords words operation
 
 -- the words are of no command

@@ -3,3 +3,4 @@ pub mod Ranges
 pub mod Words
 pub mod Commands
 pub mod Usage
+pub mod Wrong

@@ -2,6 +2,7 @@
 use Rattle.std.specs.Prelude.{ℕ, ◌<◌, ◌≤◌, List, length, map}
 use Rattle.std.specs.List.{AllByRecursion, join_with_byte}
 use Rattle.hex.specs.Hex.{encode_lower}
+use Rattle.mc_records.specs.declared.ranges.TheConstants.{LEAST_KEEP, MOST_KEEP}
 use Rattle.scrip_form.specs.Scrip.{IsCert}
 use Rattle.scrip_form.specs.Issuing.{Issuing, HasPeriod}
 
@@ -17,7 +18,7 @@ pub record IsWithin (least most n : ℕ) : Type 0 where
 
 -- a keeping time of 60 to 86,400 seconds
 abbrev pub IsKeepingTime : ℕ → Type 0
-IsKeepingTime keep = IsWithin 60 86400 keep
+IsKeepingTime keep = IsWithin LEAST_KEEP MOST_KEEP keep
 
 -- the kinds of contents are 0, 1 and 2
 abbrev pub IsKind : ℕ → Type 0

@@ -3,6 +3,7 @@ use Rattle.std.specs.Prelude.{◌≡◌, ℕ, ◌≤◌, ◌-◌, ◌^◌, Bool,
 use Rattle.hex.specs.Hex.{encode_lower}
 use Rattle.clap.specs.Walk.{Row}
 use Rattle.mc_fields.specs.Texts.{IsNumber}
+use Rattle.mc_records.specs.declared.ranges.TheConstants.{MOST_CONTENTS, MOST_PIECES}
 use Rattle.scrip_form.specs.Texts.{IsName, IsTarget}
 use Rattle.scrip_form.specs.Scrip.{IsCert}
 use Rattle.scrip_form.specs.Issuing.{Issuing}
@@ -32,7 +33,7 @@ pub record IsShop (shop : Shop) : Type 0 where
   pub target : IsTarget shop.target
   pub price : IsNumber (2 ^ 40) shop.price
   pub secret : IsCert shop.secret
-  pub contents : length shop.contents ≤ 65536
+  pub contents : length shop.contents ≤ MOST_CONTENTS
 
 pub record FindsShop (rows : List Row) (shop : Shop) : Type 0 where
   pub name : value_of rows (codes "NAME") ≡ Some shop.name
@@ -94,28 +95,18 @@ pub record FindsServer (rows : List Row) (server : Server) : Type 0 where
   pub links : value_of rows (codes "LINKS") ≡ Some (decimal server.links)
   pub server' : IsServer server
 
--- ---- `vendor goods BOOK TARGET PRICE [--kind KIND]`
+-- ---- `vendor play COUNT`
 
--- what is put on sale: the book of the vendor, the target and the price of the goods, and the kind of
--- their contents where the words say one
-pub record Listing : Type 0 where
-  pub book : List ℕ
-  pub target : List ℕ
-  pub price : ℕ
-  pub kind : Option ℕ
+-- how many heads are played
+pub record Playing : Type 0 where
+  pub count : ℕ
 
-pub record IsListing (listing : Listing) : Type 0 where
-  pub book : IsPathOrAddress listing.book
-  pub target : IsTarget listing.target
-  pub price : IsNumber (2 ^ 40) listing.price
-  pub kind : IfSome listing.kind IsKind
+pub record IsPlaying (playing : Playing) : Type 0 where
+  pub count : IsNumber 1000000 playing.count
 
-pub record FindsListing (rows : List Row) (listing : Listing) : Type 0 where
-  pub book : value_of rows (codes "BOOK") ≡ Some listing.book
-  pub target : value_of rows (codes "TARGET") ≡ Some listing.target
-  pub price : value_of rows (codes "PRICE") ≡ Some (decimal listing.price)
-  pub kind : value_of rows (codes "kind") ≡ option_map decimal listing.kind
-  pub listing' : IsListing listing
+pub record FindsPlaying (rows : List Row) (playing : Playing) : Type 0 where
+  pub count : value_of rows (codes "COUNT") ≡ Some (decimal playing.count)
+  pub playing' : IsPlaying playing
 
 -- ---- `vendor price BOOK TARGET PRICE`
 
@@ -135,6 +126,29 @@ pub record FindsPricing (rows : List Row) (pricing : Pricing) : Type 0 where
   pub target : value_of rows (codes "TARGET") ≡ Some pricing.target
   pub price : value_of rows (codes "PRICE") ≡ Some (decimal pricing.price)
   pub pricing' : IsPricing pricing
+
+-- ---- `vendor goods BOOK TARGET PRICE [--kind KIND]`
+
+-- what is put on sale: the book of the vendor, the target and the price of the goods, and the kind of
+-- their contents where the words say one
+pub record Listing : Type 0 where
+  pub book : List ℕ
+  pub target : List ℕ
+  pub price : ℕ
+  pub kind : Option ℕ
+
+-- the pricing that a listing gives
+abbrev pub listed_pricing : Listing → Pricing
+listed_pricing listing = record { book = listing.book; target = listing.target; price = listing.price }
+
+pub record IsListing (listing : Listing) : Type 0 where
+  pub pricing : IsPricing (listed_pricing listing)
+  pub kind : IfSome listing.kind IsKind
+
+pub record FindsListing (rows : List Row) (listing : Listing) : Type 0 where
+  pub pricing : FindsPricing rows (listed_pricing listing)
+  pub kind : value_of rows (codes "kind") ≡ option_map decimal listing.kind
+  pub listing' : IsListing listing
 
 -- ---- `vendor licence BOOK ISSUER PERIOD LIFE SCRIP CUSTOMER`
 
@@ -175,7 +189,7 @@ pub record Minting : Type 0 where
 
 pub record IsMinting (minting : Minting) : Type 0 where
   pub book : IsPathOrAddress minting.book
-  pub count : IsNumber 256 minting.count
+  pub count : IsNumber MOST_PIECES minting.count
   pub value : IsNumber (2 ^ 40) minting.value
   pub reference : IsName minting.reference
 

@@ -1,10 +1,12 @@
 ghost use Rattle.std.specs.Prelude.{map, string_bytes, IfOk, IfSome, IsNone};
 ghost use Rattle.mc_words.specs.Commands.{AreWords, AreNoWords};
 
-use crate::init::{Founder, founder_of};
-use crate::once::{Shop, shop_of};
+use crate::init::Founder;
+use crate::once::Shop;
 use crate::operation::{Operation, operation_of};
-use crate::serve::{Server, server_of};
+use crate::play::Playing;
+use crate::serve::Server;
+use crate::spelled::values_of;
 use std::alloc::{AllocError, Global};
 
 /// What the words say to do.
@@ -16,6 +18,8 @@ pub enum Command<'a> {
     Init(Founder<'a>),
     /// Serves the vendor of a book.
     Serve(Server<'a>),
+    /// Plays heads that are made for it, with no book.
+    Play(Playing),
     /// Has something done to the book of a vendor, as its operator.
     Operate(Operation<'a>),
 }
@@ -28,14 +32,17 @@ pub fn command_of<'a>(alloc: Global, words: &'a [String]) -> Result<Option<Comma
     ensures none { IfOk result
         (λ r. IsNone r → AreNoWords (map string_bytes words.entry.now)) }
 {
-    if let Some(shop) = shop_of(alloc, words)? {
+    if let Some(shop) = values_of::<Shop>(alloc, words)? {
         return Ok(Some(Command::Once(shop)));
     }
-    if let Some(founder) = founder_of(alloc, words)? {
+    if let Some(founder) = values_of::<Founder>(alloc, words)? {
         return Ok(Some(Command::Init(founder)));
     }
-    if let Some(server) = server_of(alloc, words)? {
+    if let Some(server) = values_of::<Server>(alloc, words)? {
         return Ok(Some(Command::Serve(server)));
+    }
+    if let Some(playing) = values_of::<Playing>(alloc, words)? {
+        return Ok(Some(Command::Play(playing)));
     }
     if let Some(operation) = operation_of(alloc, words)? {
         return Ok(Some(Command::Operate(operation)));

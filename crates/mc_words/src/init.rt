@@ -1,25 +1,20 @@
-ghost use Rattle.std.specs.Prelude.{◌≡◌, ◌≤◌, map, string_bytes, IfOk, IfSome, IsNone, unwrap_or};
+ghost use Rattle.std.specs.Prelude.{◌≡◌, unwrap_or};
 ghost use Rattle.scrip_form.specs.Texts.{IsName};
 ghost use Rattle.mc_words.specs.Ranges.{AreTerms, IsKeepingTime};
-ghost use Rattle.mc_words.specs.Words.{Founder as Founding, FindsFounder, own_terms};
-ghost use Rattle.mc_words.specs.Commands.{AreInitWords};
+ghost use Rattle.mc_words.specs.Words.{FindsFounder, own_terms};
+ghost use Rattle.mc_words.specs.declared.table.CommandName.TheVariants.{VendorInit};
 
-use crate::table::{CommandName, read_command};
+use crate::spelled::Spelled;
+use crate::table::CommandName;
 use crate::terms::terms_in;
 use crate::value::{name_in, option_within, place_in};
 use command_words::Found;
+use mc_records::{LEAST_KEEP, MOST_KEEP};
 use scrip_form::{Name, Terms};
-use std::alloc::{AllocError, Global};
 use std::marker::Model;
 
 /// How long a request gets its first reply again where the words do not say it, in seconds.
 const KEEP: u32 = 600;
-
-/// The least keeping time, in seconds.
-const LEAST_KEEP: u64 = 60;
-
-/// The greatest keeping time, in seconds.
-const MOST_KEEP: u64 = 86400;
 
 /// What a site is founded with. Contracts see it as its texts and numbers.
 #[derive(Drop)]
@@ -82,41 +77,32 @@ impl<'a> Founder<'a> {
     }
 }
 
-/// The founder that the words `vendor init BOOK NAME PERIOD LIFE SCRIP CUSTOMER [--keep SECONDS] [--clear]`
-/// give; None exactly where they are of no founder.
-#[tactic(auto, using(crate::proofs::TableLemmas::none_of))]
-pub(crate) fn founder_of<'a>(
-    alloc: Global,
-    words: &'a [String],
-) -> Result<Option<Founder<'a>>, AllocError>
-    ensures some { IfOk result (λ r. IfSome r
-        (λ founder. AreInitWords (map string_bytes words.entry.now) founder)) }
-    ensures none { IfOk result (λ r. IsNone r → (founder : Founding)
-        → AreInitWords (map string_bytes words.entry.now) founder → ⊥) }
-{
-    match read_command(alloc, CommandName::VendorInit, words) {
-        Ok(Some(found)) => Ok(founder_in(&found)),
-        Ok(None) => Ok(None),
-        Err(error) => Err(error),
-    }
-}
+/// `vendor init BOOK NAME PERIOD LIFE SCRIP CUSTOMER [--keep SECONDS] [--clear]`.
+impl<'a> Spelled<'a> for Founder<'a> {
+    ghost named = { VendorInit };
 
-fn founder_in<'a>(found: &Found<'a>) -> Option<Founder<'a>>
-    ensures some { IfSome result (λ founder. FindsFounder found.now founder) }
-    ensures none { IsNone result → (founder : Founding) → FindsFounder found.now founder → ⊥ }
-{
-    let book = place_in(found, "BOOK")?;
-    let name = name_in(found, "NAME")?;
-    let terms = terms_in(found, 0)?;
-    let keep = option_within(found, "keep", LEAST_KEEP, MOST_KEEP)?;
-    Some(Founder {
-        book,
-        name,
-        terms,
-        keep: match keep {
-            Some(keep) => Some(keep as u32),
-            None => None,
-        },
-        clear: found.has_flag("clear"),
-    })
+    ghost finds = { FindsFounder };
+
+    fn command() -> CommandName
+        ensures { result ≡ VendorInit }
+    {
+        CommandName::VendorInit
+    }
+
+    fn read(found: &Found<'a>) -> Option<Founder<'a>> {
+        let book = place_in(found, "BOOK")?;
+        let name = name_in(found, "NAME")?;
+        let terms = terms_in(found, 0)?;
+        let keep = option_within(found, "keep", u64::from(LEAST_KEEP), u64::from(MOST_KEEP))?;
+        Some(Founder {
+            book,
+            name,
+            terms,
+            keep: match keep {
+                Some(keep) => Some(keep as u32),
+                None => None,
+            },
+            clear: found.has_flag("clear"),
+        })
+    }
 }

@@ -1,14 +1,14 @@
-ghost use Rattle.std.specs.Prelude.{◌≡◌, ◌<◌, map, string_bytes, IfOk, IfSome, IsNone};
+ghost use Rattle.std.specs.Prelude.{◌≡◌, ◌<◌};
 ghost use Rattle.mc_words.specs.Ranges.{AreTerms, IsPathOrAddress};
-ghost use Rattle.mc_words.specs.Words.{Licensing as Licensed, FindsLicensing, licensed_terms};
-ghost use Rattle.mc_words.specs.Commands.{AreLicenceWords};
+ghost use Rattle.mc_words.specs.Words.{FindsLicensing, licensed_terms};
+ghost use Rattle.mc_words.specs.declared.table.CommandName.TheVariants.{VendorLicence};
 
-use crate::table::{CommandName, read_command};
+use crate::spelled::Spelled;
+use crate::table::CommandName;
 use crate::terms::terms_in;
 use crate::value::{number_in, place_in};
 use command_words::Found;
 use scrip_form::Terms;
-use std::alloc::{AllocError, Global};
 use std::marker::Model;
 
 /// The greatest number of an issuer.
@@ -50,31 +50,22 @@ impl<'a> Licensing<'a> {
     }
 }
 
-/// The licensing that the words `vendor licence BOOK ISSUER PERIOD LIFE SCRIP CUSTOMER` give; None
-/// exactly where they are of no licensing.
-#[tactic(auto, using(crate::proofs::TableLemmas::none_of))]
-pub(crate) fn licensing_of<'a>(
-    alloc: Global,
-    words: &'a [String],
-) -> Result<Option<Licensing<'a>>, AllocError>
-    ensures some { IfOk result (λ r. IfSome r
-        (λ licensing. AreLicenceWords (map string_bytes words.entry.now) licensing)) }
-    ensures none { IfOk result (λ r. IsNone r → (licensing : Licensed)
-        → AreLicenceWords (map string_bytes words.entry.now) licensing → ⊥) }
-{
-    match read_command(alloc, CommandName::VendorLicence, words) {
-        Ok(Some(found)) => Ok(licensing_in(&found)),
-        Ok(None) => Ok(None),
-        Err(error) => Err(error),
-    }
-}
+/// `vendor licence BOOK ISSUER PERIOD LIFE SCRIP CUSTOMER`.
+impl<'a> Spelled<'a> for Licensing<'a> {
+    ghost named = { VendorLicence };
 
-fn licensing_in<'a>(found: &Found<'a>) -> Option<Licensing<'a>>
-    ensures some { IfSome result (λ licensing. FindsLicensing found.now licensing) }
-    ensures none { IsNone result → (licensing : Licensed) → FindsLicensing found.now licensing → ⊥ }
-{
-    let book = place_in(found, "BOOK")?;
-    let issuer = number_in(found, "ISSUER", MOST_ISSUER)?;
-    let terms = terms_in(found, issuer as u8)?;
-    Some(Licensing { book, terms })
+    ghost finds = { FindsLicensing };
+
+    fn command() -> CommandName
+        ensures { result ≡ VendorLicence }
+    {
+        CommandName::VendorLicence
+    }
+
+    fn read(found: &Found<'a>) -> Option<Licensing<'a>> {
+        let book = place_in(found, "BOOK")?;
+        let issuer = number_in(found, "ISSUER", MOST_ISSUER)?;
+        let terms = terms_in(found, issuer as u8)?;
+        Some(Licensing { book, terms })
+    }
 }

@@ -1,20 +1,18 @@
-ghost use Rattle.std.specs.Prelude.{◌≡◌, ◌<◌, map, string_bytes, IfOk, IfSome, IsNone};
+ghost use Rattle.std.specs.Prelude.{◌≡◌, ◌<◌};
 ghost use Rattle.mc_fields.specs.Texts.{IsNumber};
 ghost use Rattle.scrip_form.specs.Texts.{IsName};
 ghost use Rattle.mc_words.specs.Ranges.{IsPathOrAddress};
-ghost use Rattle.mc_words.specs.Words.{Minting as Minted, FindsMinting};
-ghost use Rattle.mc_words.specs.Commands.{AreMintWords};
+ghost use Rattle.mc_words.specs.Words.{FindsMinting};
+ghost use Rattle.mc_words.specs.declared.table.CommandName.TheVariants.{VendorMint};
 
-use crate::table::{CommandName, read_command};
+use crate::spelled::Spelled;
+use crate::table::CommandName;
 use crate::value::{amount_in, name_in, number_in, place_in};
 use command_words::Found;
 use mc_base::Amount;
+use mc_records::MOST_PIECES;
 use scrip_form::Name;
-use std::alloc::{AllocError, Global};
 use std::marker::Model;
-
-/// The most pieces that are minted at once.
-const MOST_PIECES: u64 = 256;
 
 /// What is minted. Contracts see it as its texts and numbers.
 #[derive(Drop)]
@@ -47,7 +45,7 @@ impl<'a> Minting<'a> {
     /// How many pieces are minted.
     pub fn count(&self) -> u16
         ensures value { result ≡ self.now.count }
-        ensures range { IsNumber 256 self.now.count }
+        ensures range { IsNumber MOST_PIECES self.now.count }
     {
         self.count
     }
@@ -69,37 +67,28 @@ impl<'a> Minting<'a> {
     }
 }
 
-/// The minting that the words `vendor mint BOOK COUNT VALUE REFERENCE` give; None exactly where they are of
-/// no minting.
-#[tactic(auto, using(crate::proofs::TableLemmas::none_of))]
-pub(crate) fn minting_of<'a>(
-    alloc: Global,
-    words: &'a [String],
-) -> Result<Option<Minting<'a>>, AllocError>
-    ensures some { IfOk result (λ r. IfSome r
-        (λ minting. AreMintWords (map string_bytes words.entry.now) minting)) }
-    ensures none { IfOk result (λ r. IsNone r → (minting : Minted)
-        → AreMintWords (map string_bytes words.entry.now) minting → ⊥) }
-{
-    match read_command(alloc, CommandName::VendorMint, words) {
-        Ok(Some(found)) => Ok(minting_in(&found)),
-        Ok(None) => Ok(None),
-        Err(error) => Err(error),
-    }
-}
+/// `vendor mint BOOK COUNT VALUE REFERENCE`.
+impl<'a> Spelled<'a> for Minting<'a> {
+    ghost named = { VendorMint };
 
-fn minting_in<'a>(found: &Found<'a>) -> Option<Minting<'a>>
-    ensures some { IfSome result (λ minting. FindsMinting found.now minting) }
-    ensures none { IsNone result → (minting : Minted) → FindsMinting found.now minting → ⊥ }
-{
-    let book = place_in(found, "BOOK")?;
-    let count = number_in(found, "COUNT", MOST_PIECES)?;
-    let value = amount_in(found, "VALUE")?;
-    let reference = name_in(found, "REFERENCE")?;
-    Some(Minting {
-        book,
-        count: count as u16,
-        value,
-        reference,
-    })
+    ghost finds = { FindsMinting };
+
+    fn command() -> CommandName
+        ensures { result ≡ VendorMint }
+    {
+        CommandName::VendorMint
+    }
+
+    fn read(found: &Found<'a>) -> Option<Minting<'a>> {
+        let book = place_in(found, "BOOK")?;
+        let count = number_in(found, "COUNT", u64::from(MOST_PIECES))?;
+        let value = amount_in(found, "VALUE")?;
+        let reference = name_in(found, "REFERENCE")?;
+        Some(Minting {
+            book,
+            count: count as u16,
+            value,
+            reference,
+        })
+    }
 }

@@ -1,17 +1,17 @@
 ghost use Rattle.std.specs.Prelude.{◌≡◌, map, string_bytes, IfOk, IfSome, IsNone};
-ghost use Rattle.mc_words.specs.Words.{Shop as Sold, IsShop, FindsShop};
+ghost use Rattle.mc_words.specs.Words.{IsShop, FindsShop};
 ghost use Rattle.mc_words.specs.Commands.{AreOnceWords, AreNoOnceWords};
+ghost use Rattle.mc_words.specs.declared.table.CommandName.TheVariants.{VendorOnce};
 
-use crate::table::{CommandName, read_command};
+use crate::spelled::{Spelled, values_of};
+use crate::table::CommandName;
 use crate::value::{amount_in, name_in, secret_in, target_in};
 use command_words::Found;
 use mc_base::Amount;
+use mc_records::MOST_CONTENTS;
 use scrip_form::{Name, Target};
 use std::alloc::{AllocError, Global};
 use std::marker::Model;
-
-/// The most bytes of the contents that are sold for one target.
-pub const MOST_CONTENTS: usize = 65536;
 
 /// A shop that sells one thing. Contracts see it as its texts.
 #[derive(Drop)]
@@ -75,39 +75,44 @@ impl<'a> Shop<'a> {
     }
 }
 
+/// `vendor once NAME TARGET PRICE SECRET CONTENTS`.
+impl<'a> Spelled<'a> for Shop<'a> {
+    ghost named = { VendorOnce };
+
+    ghost finds = { FindsShop };
+
+    fn command() -> CommandName
+        ensures { result ≡ VendorOnce }
+    {
+        CommandName::VendorOnce
+    }
+
+    fn read(found: &Found<'a>) -> Option<Shop<'a>> {
+        let name = name_in(found, "NAME")?;
+        let target = target_in(found, "TARGET")?;
+        let price = amount_in(found, "PRICE")?;
+        let secret = secret_in(found, "SECRET")?;
+        let contents = found.value_of("CONTENTS")?.as_bytes();
+        if contents.len() > MOST_CONTENTS {
+            return None;
+        }
+        Some(Shop {
+            name,
+            target,
+            price,
+            secret,
+            contents,
+        })
+    }
+}
+
 /// The shop that the words `vendor once NAME TARGET PRICE SECRET CONTENTS` give; None exactly where they
 /// are of no shop.
-#[tactic(auto, using(crate::proofs::TableLemmas::none_of))]
 pub fn shop_of<'a>(alloc: Global, words: &'a [String]) -> Result<Option<Shop<'a>>, AllocError>
     ensures some { IfOk result (λ r. IfSome r
         (λ shop. AreOnceWords (map string_bytes words.entry.now) shop)) }
     ensures none { IfOk result
         (λ r. IsNone r → AreNoOnceWords (map string_bytes words.entry.now)) }
 {
-    match read_command(alloc, CommandName::VendorOnce, words) {
-        Ok(Some(found)) => Ok(shop_in(&found)),
-        Ok(None) => Ok(None),
-        Err(error) => Err(error),
-    }
-}
-
-fn shop_in<'a>(found: &Found<'a>) -> Option<Shop<'a>>
-    ensures some { IfSome result (λ shop. FindsShop found.now shop) }
-    ensures none { IsNone result → (shop : Sold) → FindsShop found.now shop → ⊥ }
-{
-    let name = name_in(found, "NAME")?;
-    let target = target_in(found, "TARGET")?;
-    let price = amount_in(found, "PRICE")?;
-    let secret = secret_in(found, "SECRET")?;
-    let contents = found.value_of("CONTENTS")?.as_bytes();
-    if contents.len() > MOST_CONTENTS {
-        return None;
-    }
-    Some(Shop {
-        name,
-        target,
-        price,
-        secret,
-        contents,
-    })
+    values_of(alloc, words)
 }

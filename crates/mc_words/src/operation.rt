@@ -2,10 +2,11 @@ ghost use Rattle.std.specs.Prelude.{◌≡◌, map, string_bytes, IfOk, IfSome, 
 ghost use Rattle.mc_words.specs.Commands.{AreOperationWords, book_of};
 ghost use Rattle.mc_words.specs.declared.operation.Operation.{Operation as Said};
 
-use crate::goods::{Listing, listing_of};
-use crate::licence::{Licensing, licensing_of};
-use crate::mint::{Minting, minting_of};
-use crate::price::{Pricing, pricing_of};
+use crate::goods::Listing;
+use crate::licence::Licensing;
+use crate::mint::Minting;
+use crate::price::Pricing;
+use crate::spelled::values_of;
 use std::alloc::{AllocError, Global};
 
 /// What a vendor's operator has done to its book.
@@ -27,7 +28,7 @@ impl<'a> Operation<'a> {
         ensures { result.now ≡ book_of self.now }
     {
         match self {
-            Operation::Goods(listing) => listing.book(),
+            Operation::Goods(listing) => listing.pricing().book(),
             Operation::Price(pricing) => pricing.book(),
             Operation::Licence(licensing) => licensing.book(),
             Operation::Mint(minting) => minting.book(),
@@ -45,16 +46,16 @@ pub(crate) fn operation_of<'a>(
     ensures none { IfOk result (λ r. IsNone r → (operation : Said)
         → AreOperationWords (map string_bytes words.entry.now) operation → ⊥) }
 {
-    if let Some(listing) = listing_of(alloc, words)? {
+    if let Some(listing) = values_of::<Listing>(alloc, words)? {
         return Ok(Some(Operation::Goods(listing)));
     }
-    if let Some(pricing) = pricing_of(alloc, words)? {
+    if let Some(pricing) = values_of::<Pricing>(alloc, words)? {
         return Ok(Some(Operation::Price(pricing)));
     }
-    if let Some(licensing) = licensing_of(alloc, words)? {
+    if let Some(licensing) = values_of::<Licensing>(alloc, words)? {
         return Ok(Some(Operation::Licence(licensing)));
     }
-    if let Some(minting) = minting_of(alloc, words)? {
+    if let Some(minting) = values_of::<Minting>(alloc, words)? {
         return Ok(Some(Operation::Mint(minting)));
     }
     Ok(None)

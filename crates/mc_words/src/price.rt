@@ -1,15 +1,15 @@
-ghost use Rattle.std.specs.Prelude.{◌≡◌, ◌<◌, map, string_bytes, IfOk, IfSome, IsNone};
+ghost use Rattle.std.specs.Prelude.{◌≡◌, ◌<◌};
 ghost use Rattle.scrip_form.specs.Texts.{IsTarget};
 ghost use Rattle.mc_words.specs.Ranges.{IsPathOrAddress};
-ghost use Rattle.mc_words.specs.Words.{Pricing as Priced, FindsPricing};
-ghost use Rattle.mc_words.specs.Commands.{ArePriceWords};
+ghost use Rattle.mc_words.specs.Words.{FindsPricing};
+ghost use Rattle.mc_words.specs.declared.table.CommandName.TheVariants.{VendorPrice};
 
-use crate::table::{CommandName, read_command};
+use crate::spelled::Spelled;
+use crate::table::CommandName;
 use crate::value::{amount_in, place_in, target_in};
 use command_words::Found;
 use mc_base::Amount;
 use scrip_form::Target;
-use std::alloc::{AllocError, Global};
 use std::marker::Model;
 
 /// What is sold at another price. Contracts see it as its texts and its number.
@@ -56,35 +56,26 @@ impl<'a> Pricing<'a> {
     }
 }
 
-/// The pricing that the words `vendor price BOOK TARGET PRICE` give; None exactly where they are of no
-/// pricing.
-#[tactic(auto, using(crate::proofs::TableLemmas::none_of))]
-pub(crate) fn pricing_of<'a>(
-    alloc: Global,
-    words: &'a [String],
-) -> Result<Option<Pricing<'a>>, AllocError>
-    ensures some { IfOk result (λ r. IfSome r
-        (λ pricing. ArePriceWords (map string_bytes words.entry.now) pricing)) }
-    ensures none { IfOk result (λ r. IsNone r → (pricing : Priced)
-        → ArePriceWords (map string_bytes words.entry.now) pricing → ⊥) }
-{
-    match read_command(alloc, CommandName::VendorPrice, words) {
-        Ok(Some(found)) => Ok(pricing_in(&found)),
-        Ok(None) => Ok(None),
-        Err(error) => Err(error),
-    }
-}
+/// `vendor price BOOK TARGET PRICE`.
+impl<'a> Spelled<'a> for Pricing<'a> {
+    ghost named = { VendorPrice };
 
-fn pricing_in<'a>(found: &Found<'a>) -> Option<Pricing<'a>>
-    ensures some { IfSome result (λ pricing. FindsPricing found.now pricing) }
-    ensures none { IsNone result → (pricing : Priced) → FindsPricing found.now pricing → ⊥ }
-{
-    let book = place_in(found, "BOOK")?;
-    let target = target_in(found, "TARGET")?;
-    let price = amount_in(found, "PRICE")?;
-    Some(Pricing {
-        book,
-        target,
-        price,
-    })
+    ghost finds = { FindsPricing };
+
+    fn command() -> CommandName
+        ensures { result ≡ VendorPrice }
+    {
+        CommandName::VendorPrice
+    }
+
+    fn read(found: &Found<'a>) -> Option<Pricing<'a>> {
+        let book = place_in(found, "BOOK")?;
+        let target = target_in(found, "TARGET")?;
+        let price = amount_in(found, "PRICE")?;
+        Some(Pricing {
+            book,
+            target,
+            price,
+        })
+    }
 }

@@ -1,12 +1,12 @@
-ghost use Rattle.std.specs.Prelude.{◌≡◌, ◌-◌, ◌^◌, map, string_bytes, IfOk, IfSome, IsNone};
+ghost use Rattle.std.specs.Prelude.{◌≡◌, ◌-◌, ◌^◌};
 ghost use Rattle.mc_fields.specs.Texts.{IsNumber};
-ghost use Rattle.mc_words.specs.Words.{Server as Serving, FindsServer};
-ghost use Rattle.mc_words.specs.Commands.{AreServeWords};
+ghost use Rattle.mc_words.specs.Words.{FindsServer};
+ghost use Rattle.mc_words.specs.declared.table.CommandName.TheVariants.{VendorServe};
 
-use crate::table::{CommandName, read_command};
+use crate::spelled::Spelled;
+use crate::table::CommandName;
 use crate::value::{number_in, place_in};
 use command_words::Found;
-use std::alloc::{AllocError, Global};
 use std::marker::Model;
 
 /// The most links that are taken.
@@ -54,35 +54,26 @@ impl<'a> Server<'a> {
     }
 }
 
-/// The server that the words `vendor serve BOOK LISTEN LINKS` give; None exactly where they are of no
-/// server.
-#[tactic(auto, using(crate::proofs::TableLemmas::none_of))]
-pub(crate) fn server_of<'a>(
-    alloc: Global,
-    words: &'a [String],
-) -> Result<Option<Server<'a>>, AllocError>
-    ensures some { IfOk result (λ r. IfSome r
-        (λ server. AreServeWords (map string_bytes words.entry.now) server)) }
-    ensures none { IfOk result (λ r. IsNone r → (server : Serving)
-        → AreServeWords (map string_bytes words.entry.now) server → ⊥) }
-{
-    match read_command(alloc, CommandName::VendorServe, words) {
-        Ok(Some(found)) => Ok(server_in(&found)),
-        Ok(None) => Ok(None),
-        Err(error) => Err(error),
-    }
-}
+/// `vendor serve BOOK LISTEN LINKS`.
+impl<'a> Spelled<'a> for Server<'a> {
+    ghost named = { VendorServe };
 
-fn server_in<'a>(found: &Found<'a>) -> Option<Server<'a>>
-    ensures some { IfSome result (λ server. FindsServer found.now server) }
-    ensures none { IsNone result → (server : Serving) → FindsServer found.now server → ⊥ }
-{
-    let book = place_in(found, "BOOK")?;
-    let listen = place_in(found, "LISTEN")?;
-    let links = number_in(found, "LINKS", MOST_LINKS)?;
-    Some(Server {
-        book,
-        listen,
-        links: links as u32,
-    })
+    ghost finds = { FindsServer };
+
+    fn command() -> CommandName
+        ensures { result ≡ VendorServe }
+    {
+        CommandName::VendorServe
+    }
+
+    fn read(found: &Found<'a>) -> Option<Server<'a>> {
+        let book = place_in(found, "BOOK")?;
+        let listen = place_in(found, "LISTEN")?;
+        let links = number_in(found, "LINKS", MOST_LINKS)?;
+        Some(Server {
+            book,
+            listen,
+            links: links as u32,
+        })
+    }
 }

@@ -7,9 +7,6 @@ use crate::value::{number_in, number_within, secrets_in};
 use command_words::Found;
 use scrip_form::Terms;
 
-/// The greatest period and the greatest life of terms, in seconds.
-const MOST_SECONDS: u64 = 1 << 24;
-
 /// The terms of an issuer that the words PERIOD LIFE SCRIP CUSTOMER spell; None exactly where they spell
 /// none.
 pub(crate) fn terms_in(found: &Found<'_>, issuer: u8) -> Option<Terms>
@@ -19,8 +16,9 @@ pub(crate) fn terms_in(found: &Found<'_>, issuer: u8) -> Option<Terms>
     ensures none { IsNone result → (terms : Issuing) → AreTerms terms → FindsTerms found.now terms
         → ⊥ }
 {
-    let period = number_in(found, "PERIOD", MOST_SECONDS)?;
-    let life = number_within(found, "LIFE", 0, MOST_SECONDS)?;
+    let most = u64::from(Terms::MOST_SECONDS);
+    let period = number_in(found, "PERIOD", most)?;
+    let life = number_within(found, "LIFE", 0, most)?;
     let scrip = secrets_in(found, "SCRIP")?;
     let customer = secrets_in(found, "CUSTOMER")?;
     Terms::new(issuer, period as u32, life as u32, scrip, customer)

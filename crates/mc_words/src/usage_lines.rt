@@ -7,7 +7,7 @@ ghost use Rattle.mc_words.specs.Usage.{IsUsage, usage_line};
 use crate::table::{CommandName, parts_of};
 
 /// The commands that are carried out.
-static CARRIED_OUT: [CommandName; 7] = [
+static CARRIED_OUT: [CommandName; 8] = [
     CommandName::VendorInit,
     CommandName::VendorGoods,
     CommandName::VendorPrice,
@@ -15,10 +15,11 @@ static CARRIED_OUT: [CommandName; 7] = [
     CommandName::VendorMint,
     CommandName::VendorServe,
     CommandName::VendorOnce,
+    CommandName::VendorPlay,
 ];
 
 /// The commands that are carried out, in one line.
-const COMMANDS: &str = "usage: millicent vendor init|goods|price|licence|mint|serve|once ..";
+const COMMANDS: &str = "usage: millicent vendor init|goods|price|licence|mint|serve|once|play ..";
 
 /// One line for standard error that tells which words the program has: those of the command that the words
 /// begin with, where it is carried out, or else the commands. It takes no memory.
@@ -58,6 +59,7 @@ fn line_of(name: CommandName) -> Option<&'static str>
         CommandName::VendorOnce => {
             Some("usage: millicent vendor once NAME TARGET PRICE SECRET CONTENTS")
         }
+        CommandName::VendorPlay => Some("usage: millicent vendor play COUNT"),
         _ => None,
     }
 }

@@ -1,0 +1,9 @@
+use Rattle.std.proofs.Common.{refl}
+use Rattle.mc_words.proofs.WordLaws.{no_command}
+use Rattle.mc_words.proofs.command.command_of.Goals as goal
+
+pub returns-clause-none : goal.returns-clause-none
+returns-clause-none c none = no_command _
+    (c.in_ok-shop.ensures.none (rw c.in_default.is refl)) (c.in_ok-founder.ensures.none (rw c.in_default-2.is refl))
+    (c.in_ok-server.ensures.none (rw c.in_default-3.is refl)) (c.in_ok-playing.ensures.none (rw c.in_default-4.is refl))
+    (c.in_ok-operation.ensures.none (rw c.in_default-5.is refl))

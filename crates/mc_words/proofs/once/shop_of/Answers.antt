@@ -1,5 +1,0 @@
-use Rattle.mc_words.proofs.TableLemmas.{none_read}
-use Rattle.mc_words.proofs.once.shop_of.Goals as goal
-
-pub returns-in-Ok-None-clause-none : goal.returns-in-Ok-None-clause-none
-returns-in-Ok-None-clause-none c = λ none shop are. none_read _ _ _ _ c.in-Ok-None.field-0-is c.in-Ok-None.ensures are
