@@ -1,11 +1,1 @@
-pub mod OpeningLemmas
-pub mod CourseLemmas
-pub mod LawfulRuns
-pub mod ServedLemmas
-pub mod InitLemmas
-pub mod OpenLaws
-pub mod InputLemmas
-pub mod LineLemmas
-pub mod OperatorLemmas
 pub mod CompleteLemmas
-pub mod MintLemmas

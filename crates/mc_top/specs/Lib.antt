@@ -1,13 +1,3 @@
 pub mod Places
-pub mod Founding
-pub mod Opening
-pub mod Session
-pub mod Statuses
-pub mod Course
-pub mod Endings
-pub mod Serving
-pub mod Init
-pub mod Inputs
-pub mod Operator
-pub mod Operations
+pub mod Saying
 pub mod Programs

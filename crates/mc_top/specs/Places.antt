@@ -1,7 +1,7 @@
 -- The places that words name.
 use Rattle.std.specs.Prelude.{◌≡◌, ◌⊎◌, ℕ, true, false, List, [], Some, None}
 use Rattle.mc_words.specs.declared.command.Command.{Command}
-use Rattle.mc_words.specs.declared.command.Command.TheVariants.{Once, Init, Serve, Operate}
+use Rattle.mc_words.specs.declared.command.Command.TheVariants.{Once, Init, Serve, Play, Operate}
 use Rattle.mc_words.specs.Commands.{AreWords, AreNoWords, book_of}
 use Rattle.mc_top.specs.declared.named.Places.{Places}
 
@@ -15,6 +15,7 @@ abbrev pub places_of : Command → Places
 places_of (Once shop) = no_places
 places_of (Init founder) = record { site = Some founder.book; founds = true; books = []; listen = None; connect = None }
 places_of (Serve server) = record { site = Some server.book; founds = false; books = []; listen = Some server.listen; connect = None }
+places_of (Play playing) = no_places
 places_of (Operate operation) = record { site = Some (book_of operation); founds = false; books = []; listen = None; connect = None }
 
 -- the places of the command that the words are of, or none where they are of none

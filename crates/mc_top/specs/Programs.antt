@@ -2,25 +2,22 @@
 use Rattle.std.specs.Prelude.{◌≡◌, ◌⊎◌, ◌≤◌, ℕ, zero, suc, List, Bool, true, false, Some}
 use Rattle.mc_outside.specs.DiskView.{DiskView, LinkKeeps}
 use Rattle.mc_outside.specs.LinkView.{LinkView}
-use Rattle.ledger_model.specs.Histories.{History}
-use Rattle.ledger_model.specs.Houses.{site_kind}
-use Rattle.ledger_model.specs.Lawful.{IsLawful}
-use Rattle.scrip_journal.specs.Layout.{Encodes}
 use Rattle.house_core.specs.declared.offer.SiteKind.TheVariants.{Vendor}
 use Rattle.house_core.specs.Views.{kind_number}
 use Rattle.millicent_http.specs.Courses.{NoLink}
 use Rattle.mc_words.specs.declared.command.Command.{Command}
 use Rattle.mc_words.specs.declared.command.Command.TheVariants as commands
-use Rattle.mc_top.specs.declared.status.Status.{Status}
-use Rattle.mc_top.specs.declared.status.Status.TheVariants as ends
+use Rattle.book_commands.specs.declared.status.Status.{Status}
+use Rattle.book_commands.specs.declared.status.Status.TheVariants as ends
 use Rattle.mc_words.specs.Words.{Shop}
-use Rattle.mc_top.specs.Opening.{full}
-use Rattle.mc_top.specs.Course.{IsDone, Says}
-use Rattle.mc_top.specs.Statuses.{number_of, line_of}
-use Rattle.mc_top.specs.Serving.{ServesBook, ServeCauses}
-use Rattle.mc_top.specs.Init.{FoundsBook, InitCauses}
-use Rattle.mc_top.specs.Operator.{OperatesBook, OperateCauses}
-use Rattle.mc_top.specs.Operations.{operation_view}
+use Rattle.vendor_commands.specs.Course.{IsDone}
+use Rattle.vendor_commands.specs.Play.{ArePlayLines}
+use Rattle.mc_top.specs.Saying.{Says}
+use Rattle.book_commands.specs.Statuses.{number_of, line_of}
+use Rattle.book_commands.specs.Serving.{HasSite, ServesBook, ServeCauses}
+use Rattle.book_commands.specs.Init.{FoundsBook, InitCauses}
+use Rattle.book_commands.specs.Operator.{OperatesBook, OperateCauses}
+use Rattle.vendor_commands.specs.Operations.{operation_view}
 
 -- how a shop served its one link, or why it took none
 abbrev pub ServesOnce : Shop → LinkView → Status → LinkView → Type 0
@@ -28,6 +25,13 @@ ServesOnce shop before ends.Done after = IsDone shop before after
 ServesOnce shop before ends.NoMemory after = after ≡ before
 ServesOnce shop before ends.LinkFault after = NoLink before after
 ServesOnce shop before _ after = ⊥
+
+-- what is said of a play of so many heads, unless memory was refused: by then to open the house, for one of the
+-- requests, or for the lines
+abbrev pub TellsPlay : ℕ → Status → Type 0
+TellsPlay count (ends.Did lines) = ArePlayLines count lines
+TellsPlay count ends.NoMemory = Unit {0}
+TellsPlay count _ = ⊥
 
 -- What a command does, up to the line that is said. What is said of a book holds where its disk tells its
 -- bytes; the causes of faults hold of every outside.
@@ -37,6 +41,7 @@ Obeys link disk (commands.Init founder) a status b =
     InitCauses link disk a status b × ((bytes : List ℕ) → (disk a).contents ≡ Some bytes → FoundsBook link disk (kind_number Vendor) founder bytes a status b)
 Obeys link disk (commands.Serve server) a status b =
     ServeCauses link disk a status b × ((bytes : List ℕ) → (disk a).contents ≡ Some bytes → ServesBook link disk (kind_number Vendor) server.links bytes a status b)
+Obeys link disk (commands.Play playing) a status b = (b ≡ a) × TellsPlay playing.count status
 Obeys link disk (commands.Operate operation) a status b =
     OperateCauses link disk (operation_view operation) a status b
     × ((bytes : List ℕ) → (disk a).contents ≡ Some bytes → OperatesBook link disk (kind_number Vendor) (operation_view operation) bytes a status b)
@@ -67,20 +72,12 @@ RunsAs {O} link disk command a number c = Unread link disk a number c ⊎ ((b : 
 abbrev pub Refuses : {O : Type 0} → (O → LinkView) → (O → DiskView) → O → ℕ → O → Type 0
 Refuses link disk a number c = Ends link disk ends.BadWords a c number
 
--- The disk tells bytes that encode a lawful history of a site of this kind.
-pub record HasSite (kind : ℕ) (d : DiskView) : Type 0 where
-  pub history : History
-  pub bytes : List ℕ
-  pub told : d.contents ≡ Some bytes
-  pub stands : Encodes history bytes
-  pub lawful : IsLawful full history
-  pub of_kind : site_kind history ≡ Some kind
-
--- The book that a command opens is there. `vendor once` has none, and `vendor init` founds one on any disk.
+-- The book that a command opens is there. `vendor once` and `vendor play` have none, and `vendor init` founds one on any disk.
 abbrev pub HasBook : DiskView → Command → Type 0
 HasBook d (commands.Once shop) = Unit {0}
 HasBook d (commands.Init founder) = Unit {0}
 HasBook d (commands.Serve server) = HasSite (kind_number Vendor) d
+HasBook d (commands.Play playing) = Unit {0}
 HasBook d (commands.Operate operation) = HasSite (kind_number Vendor) d
 
 -- the statuses of a command that has its book, where no call failed: it is done, memory was refused, or a
@@ -89,4 +86,5 @@ abbrev pub EndsWell : Command → ℕ → Type 0
 EndsWell (commands.Once shop) number = (number ≡ 0) ⊎ (number ≡ 5)
 EndsWell (commands.Init founder) number = (number ≡ 0) ⊎ ((number ≡ 5) ⊎ (number ≡ 7))
 EndsWell (commands.Serve server) number = (number ≡ 0) ⊎ (number ≡ 5)
+EndsWell (commands.Play playing) number = (number ≡ 0) ⊎ (number ≡ 5)
 EndsWell (commands.Operate operation) number = (number ≡ 0) ⊎ ((number ≡ 5) ⊎ (number ≡ 7))

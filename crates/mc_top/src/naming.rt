@@ -34,7 +34,7 @@ pub fn places(alloc: Global, words: &[String]) -> Result<Places, NoMemory>
             listen: None,
             connect: None,
         }),
-        Some(Command::Once(_)) | None => Ok(Places {
+        Some(Command::Once(_)) | Some(Command::Play(_)) | None => Ok(Places {
             site: None,
             founds: false,
             books,

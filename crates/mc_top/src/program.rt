@@ -1,24 +1,20 @@
-ghost use Rattle.std.specs.Prelude.{◌≡◌, ◌⊎◌, ◌↔◌, ◌<◌, ◌≤◌, ℕ, List, map, length, string_bytes, codes};
+ghost use Rattle.std.specs.Prelude.{◌≡◌, ◌⊎◌, ◌↔◌, ◌<◌, map, length, string_bytes, codes};
 ghost use Rattle.mc_outside.specs.Bytes.{Rose};
 ghost use Rattle.mc_outside.specs.DiskView.{LinkKeeps};
 ghost use Rattle.mc_words.specs.declared.command.Command.{Command as Commanded};
 ghost use Rattle.mc_words.specs.Commands.{AreWords, AreNoWords};
-ghost use Rattle.mc_top.specs.Course.{IsSaid, Says, EndsOnce};
+ghost use Rattle.mc_top.specs.Saying.{IsSaid, Says};
 ghost use Rattle.mc_top.specs.Programs as programs;
 ghost use Rattle.mc_top.specs.Programs.{Obeys, Ends, Refuses, Unread, RunsAs, HasBook, EndsWell};
-ghost use Rattle.mc_top.specs.Statuses.{number_of};
+ghost use Rattle.book_commands.specs.Statuses.{number_of};
 
-use crate::init::found_book;
-use crate::serving::serve_book;
-use crate::shop::open_shop;
-use crate::status::Status;
-use crate::vendor::operate_vendor;
-use house_serving::{BenchEnd, serve_bench_by};
-use mc_base::{Moment, NoMemory};
+use book_commands::{Status, found_book, operate_book, serve_book};
+use house_serving::BenchEnd;
+use mc_base::NoMemory;
 use mc_outside::{Disk, Link, Outside};
-use mc_words::{Command, Shop, command_of};
-use millicent_http::Clock;
+use mc_words::{Command, command_of};
 use std::alloc::Global;
+use vendor_commands::{VendorOperation, answer_play, serve_once};
 use vendor_core::Shelf;
 
 /// How the program ended: its status, and the outside and the books that it was given.
@@ -33,7 +29,8 @@ pub struct Ran<O, D> {
 /// books of other houses that the words name; no command of today names any.
 ///
 /// `vendor once NAME TARGET PRICE SECRET CONTENTS` serves one link by a house in memory, and touches no
-/// disk. `vendor init BOOK NAME PERIOD LIFE SCRIP CUSTOMER [--keep S] [--clear]` founds a vendor in the
+/// disk. `vendor play COUNT` plays so many heads that it makes itself by such a house, and says what it counted.
+/// `vendor init BOOK NAME PERIOD LIFE SCRIP CUSTOMER [--keep S] [--clear]` founds a vendor in the
 /// book on the outside's disk. `vendor serve BOOK LISTEN LINKS` serves so many links by the house of that
 /// book, or all that come. `vendor goods`, `vendor price`, `vendor licence` and `vendor mint` enter into that
 /// book what its operator says, at the reading of the clock; the contents of goods come on one link.
@@ -104,23 +101,17 @@ fn obey<O: Outside>(alloc: Global, command: &Command<'_>, out: O) -> (O, Status)
         }
         Command::Init(founder) => found_book(alloc, founder, Shelf::new(alloc), out),
         Command::Serve(server) => serve_book(alloc, server.links(), Shelf::new(alloc), out),
-        Command::Operate(operation) => operate_vendor(alloc, operation, out),
-    }
-}
-
-/// Opens the shop, takes one link, where one comes, and serves it. The clock stands at 0.
-fn serve_once<K: Link>(alloc: Global, shop: &Shop<'_>, k: &mut K) -> Result<(), BenchEnd>
-    ensures moved { K.link_moved k.old k.new }
-    ensures ended { EndsOnce result shop.now (K.link k.old) (K.link k.new) }
-    ensures grown { (K.link k.old).faults ≤ (K.link k.new).faults }
-{
-    let mut bench = match open_shop(alloc, shop) {
-        Ok(bench) => bench,
-        Err(NoMemory) => return Err(BenchEnd::NoMemory),
-    };
-    match serve_bench_by(&mut bench, k, 1, &Clock::At(Moment::clamped(0))) {
-        Ok(_) => Ok(()),
-        Err(end) => Err(end),
+        Command::Play(playing) => {
+            let status = match answer_play(alloc, playing.count()) {
+                Ok(lines) => Status::Did(lines),
+                Err(NoMemory) => Status::NoMemory,
+            };
+            (out, status)
+        }
+        Command::Operate(operation) => {
+            let command = VendorOperation::of(operation);
+            operate_book(alloc, &command, Shelf::new(alloc), out)
+        }
     }
 }
 

@@ -1,14 +1,12 @@
-ghost use Rattle.std.specs.Prelude.{◌≡◌, ◌≢◌, ◌⊎◌, ◌↔◌, [], map, string_bytes, OnOk};
+ghost use Rattle.std.specs.Prelude.{◌≡◌, ◌≢◌, ◌⊎◌, [], map, string_bytes};
 ghost use Rattle.mc_words.specs.Words.{Shop as Sold};
 ghost use Rattle.mc_words.specs.Commands.{AreOnceWords, AreNoOnceWords};
-ghost use Rattle.mc_top.specs.Session.{IsSession};
+ghost use Rattle.vendor_commands.specs.Session.{IsSession};
 
-use crate::shop::open_shop;
-use crate::status::Status;
-use house_serving::reply_to_link;
-use mc_base::{Moment, NoMemory};
-use mc_words::{Shop, shop_of};
+use book_commands::Status;
+use mc_words::shop_of;
 use std::alloc::Global;
+use vendor_commands::reply_to_all;
 
 /// `vendor once` over a whole link whose bytes are all there: the replies that [`run`](crate::run) sends,
 /// at the end of an empty `reply`, and the status.
@@ -39,18 +37,4 @@ pub fn once(alloc: Global, words: &[String], link: &[u8], reply: &mut Vec<u8>) -
             Status::NoMemory.number()
         }
     }
-}
-
-/// Appends the replies of the shop to a whole link. An `Err` leaves a part of them.
-fn reply_to_all(
-    alloc: Global,
-    shop: &Shop<'_>,
-    link: &[u8],
-    out: &mut Vec<u8>,
-) -> Result<(), NoMemory>
-    requires { out.old.items ≡ [] }
-    ensures { OnOk result (IsSession shop.now link.now out.new.items) }
-{
-    let mut bench = open_shop(alloc, shop)?;
-    reply_to_link(&mut bench, link, Moment::clamped(0), out)
 }

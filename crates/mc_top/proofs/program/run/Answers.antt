@@ -1,4 +1,4 @@
-use Rattle.std.proofs.Common.{inl, inr, subst}
+use Rattle.std.proofs.Common.{inr, subst}
 use Rattle.mc_words.specs.declared.command.Command.{Command}
 use Rattle.mc_words.proofs.WordLaws.{one_command}
 use Rattle.mc_top.specs.Programs.{Obeys, RunsAs}

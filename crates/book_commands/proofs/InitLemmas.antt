@@ -1,0 +1,83 @@
+-- How founding a site in a book ends.
+use Rattle.std.proofs.Common.{◌≡◌, inl, inr, ⊎_elim, ℕ, ◌+◌, ◌≤◌, ◌^◌, List, [], ◌∷◌, ◌++◌, length, refl, ap, ◌∙◌, subst, arith, length-append, Err}
+use Rattle.std.specs.Prelude.{IsSome}
+use Rattle.mc_outside.specs.Bytes.{BeginsWith}
+use Rattle.mc_outside.specs.DiskView.{DiskView, LinkKeeps, Ran}
+use Rattle.mc_outside.specs.LinkView.{LinkView}
+use Rattle.mc_outside.proofs.Runs.{ran_then, ran_weaker, ran_link}
+use Rattle.mc_records.specs.Entry.{Entry, Fits}
+use Rattle.mc_records.specs.Sizes.{empty_size, entry_size}
+use Rattle.mc_records.proofs.SizeLaws.{tail_is_short}
+use Rattle.mc_records.proofs.PayloadSizes.{payload_is_short}
+use Rattle.mc_records.specs.declared.limits.Limits.{Limits}
+use Rattle.ledger_model.specs.Lawful.{IsLawful}
+use Rattle.scrip_journal.specs.declared.fault.HouseFault.{HouseFault}
+use Rattle.scrip_journal.specs.declared.fault.HouseFault.TheVariants as faults
+use Rattle.millicent_http.specs.Courses.{with_readings}
+use Rattle.house_core.specs.declared.house.House.{House}
+use Rattle.scrip_journal.specs.Founds.{fault_disk, FoundNoOutput, CountsBy, ReadsOnly}
+use Rattle.house_opening.specs.Found.{FoundedFor, FoundsHouseBy}
+use Rattle.house_serving.proofs.AsideLemmas.{TellsAside, no_more_still, aside_still}
+use Rattle.operator_command.specs.Operations.{full}
+use Rattle.mc_words.specs.Words.{Founder}
+use Rattle.book_commands.specs.Founding.{site_of}
+use Rattle.book_commands.specs.Endings.{fault_status}
+use Rattle.book_commands.specs.Init.{FoundPair, FoundsBy, FoundCauses}
+use Rattle.book_commands.specs.Serving.{EncodesLawful}
+use Rattle.book_commands.proofs.ServedLemmas.{stands_lawful}
+use Rattle.house_core.specs.Trade.{TradeView}
+
+-- any entry that fits has room as the first
+pub first_has_room : (e : Entry) → Fits e → empty_size + entry_size [] e ≤ 2 ^ 40
+first_has_room e fits = omega (arith, payload_is_short e fits, tail_is_short [] e)
+
+-- nothing before and nothing after
+pub none_between : (x y : List ℕ) → BeginsWith x y → BeginsWith y x → y ≡ x
+none_between x y p q =
+    let longer : length y ≡ length x + length p.0 = ap length p.1 ∙ length-append x p.0 in
+    let shorter : length x ≡ length y + length q.0 = ap length q.1 ∙ length-append y q.0 in
+    p.1 ∙ nothing_more x p.0 (omega (arith, longer, shorter))
+  where
+    nothing_more : (x r : List ℕ) → length r ≡ 0 → x ++ r ≡ x
+    nothing_more [] [] is = refl
+    nothing_more [] (n ∷ r) is = absurd (cc is)
+    nothing_more (n ∷ x) r is = ap (λ (l : List ℕ). n ∷ l) (nothing_more x r is)
+
+-- the clock was read, and then the book was founded
+pub found_pairs : {O : Type 0} (link : O → LinkView) (disk : O → DiskView) (a m b : O) (e : Entry) → TellsAside link (λ o. (disk o).aside) → LinkKeeps (disk a) (disk m) → link m ≡ with_readings (link m).readings (link a)
+    → Ran (disk m) (disk b) (FoundNoOutput (disk m) e) → Ran (disk a) (disk b) (FoundPair (IsSome (link a).sessions) (disk a) e)
+found_pairs link disk a m b e tells keeps rest ran =
+    let same : IsSome (link a).sessions → (disk m).aside ≡ (disk a).aside = λ told'. aside_still link (λ o. (disk o).aside) a m tells told' (no_more_still (link a) (link m) (ap (λ (v : LinkView). v.sessions) rest)) in
+    ran_then (disk a) (disk m) (disk b) (FoundPair (IsSome (link a).sessions) (disk a) e)
+    (ran_link (disk a) (disk m) (FoundPair (IsSome (link a).sessions) (disk a) e) keeps (λ i x l from upto. (inl (inr l), λ told'. none_between (disk a).aside x from (subst (λ (z : List ℕ). BeginsWith x z) (same told') upto))))
+    (ran_weaker (disk m) (disk b) _ _ ran (λ i x quiet. (
+      ⊎_elim (λ short. inl (⊎_elim (λ few. inl few) (λ l. inr ((keeps.leaves i).0 l)) short)) (λ encoded. inr encoded) quiet.0,
+      λ told'. quiet.1 ∙ same told',
+    )))
+
+-- why it was not founded
+pub fault_causes : {O : Type 0} (A : Type 0) (disk : O → DiskView) (before : DiskView) (fault : HouseFault O) → CountsBy {D = O} {A = A} (Err fault) before.faults (disk (fault_disk fault)).faults → FoundCauses before (fault_status fault) (disk (fault_disk fault))
+fault_causes A disk before (faults.NotEmpty d size) counts = ((size, refl), counts)
+fault_causes A disk before (faults.NoMemory d) counts = counts
+fault_causes A disk before (faults.Disk d) counts = counts
+fault_causes A disk before (faults.NotJournal d) counts = absurd counts
+fault_causes A disk before (faults.BadRecord d place) counts = absurd counts
+fault_causes A disk before (faults.Unlawful d place) counts = absurd counts
+fault_causes A disk before (faults.WrongKind d) counts = absurd counts
+
+-- the disk encodes the Site entry
+pub founded_for : {O T : Type 0} (disk : O → DiskView) (trade : T → TradeView) (e : Entry) (bytes : List ℕ) (x : House O T) → FoundedFor disk trade full e bytes x
+    → EncodesLawful (disk x.journal.disk) (e ∷ [])
+founded_for disk trade e bytes x at =
+    stands_lawful disk trade x (e ∷ []) at.house (subst (λ (l : Limits). IsLawful l (e ∷ [])) at.limits' at.house.house.represents.state.lawful)
+
+-- nothing was founded
+pub not_founded : {O T : Type 0} (disk : O → DiskView) (trade : T → TradeView) (kind : ℕ) (founder : Founder) (moment : ℕ) (bytes : List ℕ) (a m : O) (fault : HouseFault O) → LinkKeeps (disk a) (disk m)
+    → FoundsHouseBy {D = O} {T = T} disk trade full (site_of kind founder moment) bytes (Err fault) → ReadsOnly {D = O} {A = House O T} disk m (Err fault) → FoundsBy (disk a) kind founder bytes moment (fault_status fault) (disk (fault_disk fault))
+not_founded disk trade kind founder moment bytes a m (faults.NotEmpty d size) keeps by read = (size, refl, by, read.contents ∙ keeps.contents)
+not_founded disk trade kind founder moment bytes a m (faults.NoMemory d) keeps by read = read.contents ∙ keeps.contents
+not_founded disk trade kind founder moment bytes a m (faults.Disk d) keeps by read = tt
+not_founded disk trade kind founder moment bytes a m (faults.NotJournal d) keeps by read = absurd by
+not_founded disk trade kind founder moment bytes a m (faults.BadRecord d place) keeps by read = absurd by
+not_founded disk trade kind founder moment bytes a m (faults.Unlawful d place) keeps by read = absurd by
+not_founded disk trade kind founder moment bytes a m (faults.WrongKind d) keeps by read = absurd by

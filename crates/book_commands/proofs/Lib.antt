@@ -1,0 +1,7 @@
+pub mod LawfulRuns
+pub mod ServedLemmas
+pub mod InitLemmas
+pub mod OpenLaws
+pub mod InputLemmas
+pub mod OperatorLemmas
+pub mod EndLemmas

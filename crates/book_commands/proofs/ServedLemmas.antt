@@ -1,0 +1,143 @@
+-- How serving the book of a site ends.
+use Rattle.std.proofs.Common.{◌≤◌, ◌≡◌, ◌⊎◌, inl, inr, ℕ, List, ◌++◌, refl, sym, ap, ◌∙◌, subst, arith, Err}
+use Rattle.std.specs.Prelude.{IsSome}
+use Rattle.mc_outside.specs.Bytes.{Rose}
+use Rattle.mc_outside.specs.DiskView.{DiskView, OnlyRead, Ran}
+use Rattle.mc_outside.specs.LinkView.{LinkView}
+use Rattle.mc_outside.proofs.Runs.{ran_then, ran_weaker}
+use Rattle.mc_records.specs.declared.limits.Limits.{Limits}
+use Rattle.ledger_model.specs.Histories.{History}
+use Rattle.ledger_model.specs.Lawful.{IsLawful}
+use Rattle.ledger_model.proofs.AcceptLaws.{accepted_once}
+use Rattle.millicent_http.specs.declared.clock.Clock.TheVariants.{OfLinks}
+use Rattle.millicent_http.specs.Steps.{Did, sent_of, state_after}
+use Rattle.millicent_http.specs.Courses.{ServedAll, ServedSome}
+use Rattle.house_core.specs.declared.house.House.{House}
+use Rattle.house_core.specs.Bench.{limits_of, state_of}
+use Rattle.house_core.specs.House.{HouseRepresents}
+use Rattle.scrip_journal.specs.Layout.{Encodes}
+use Rattle.scrip_journal.specs.declared.fault.HouseFault.{HouseFault}
+use Rattle.scrip_journal.specs.declared.fault.HouseFault.TheVariants as faults
+use Rattle.scrip_journal.specs.Founds.{fault_disk}
+use Rattle.house_opening.specs.Opening.{OpenedFor, OpensHouse}
+use Rattle.house_core.specs.Session.{State, Step}
+use Rattle.house_serving.specs.declared.links.ServeOut.{ServeOut}
+use Rattle.house_serving.specs.declared.links.ServeOut.TheVariants as outs
+use Rattle.house_serving.specs.InDoubt.{InDoubtLinks}
+use Rattle.house_serving.specs.Orders.{InOrder, MovedBy, RefinesBy, InDoubt}
+use Rattle.house_serving.specs.Links.{ServesLinks, HaveCauses, served_outside}
+use Rattle.operator_command.specs.Operations.{full}
+use Rattle.book_commands.specs.Endings.{served_status, fault_status}
+use Rattle.book_commands.specs.Serving.{EncodesLawful, ServePair, ServedFrom, Unserved, NotOpened, ServesLinksOf, ServeCauses}
+use Rattle.book_commands.proofs.LawfulRuns.{IsSound, all_sound, links_sound, doubt_sound}
+use Rattle.house_core.specs.Trade.{TradeView}
+
+-- ---- counts
+
+pub serve_causes : {O T : Type 0} (link : O → LinkView) (disk : O → DiskView) (a b : O) (out : ServeOut O T) → (disk b).faults ≡ (disk a).faults → link b ≡ link a → HaveCauses link disk b out
+    → ServeCauses link disk a (served_status out) (served_outside out)
+serve_causes link disk a b (outs.Done x n) same links kept = (kept.disk' ∙ same, subst (λ (v : LinkView). v.faults ≤ (link x.journal.disk).faults) links kept.link')
+serve_causes link disk a b (outs.Link x) same links kept =
+    let grown : (link a).faults ≤ (link kept.before).faults = subst (λ (v : LinkView). v.faults ≤ (link kept.before).faults) links kept.counts.link' in (
+      kept.keeps.faults ∙ kept.counts.disk' ∙ same,
+      omega (arith, grown, kept.fault.rose),
+      record { before = kept.before; counts = record { disk' = kept.counts.disk' ∙ same; link' = grown }; keeps = kept.keeps; fault = kept.fault },
+    )
+serve_causes link disk a b (outs.NoMemory x) same links kept = ap (λ d. (disk d).faults) kept ∙ same
+serve_causes link disk a b (outs.Halted d) same links kept = subst (λ (n : ℕ). Rose n (disk d).faults) same kept
+
+-- ---- from the opened house on
+
+-- the book was only read, and then the house went by these steps
+pub read_then_moved : (tells : Type 0) (a b c : DiskView) (s : State) (steps : List (Did State)) → OnlyRead a b → MovedBy tells b c s steps → Ran a c (ServePair tells a s steps)
+read_then_moved tells a b c s steps read moved =
+    ran_then a b c (ServePair tells a s steps) (ran_weaker a b _ _ read.ran (λ i x p. inl p))
+    (subst (λ (l : List ℕ). Ran b c (λ i x. (a.leaves i × (x ≡ a.aside)) ⊎ InOrder tells s l steps i x)) read.aside (ran_weaker b c _ _ moved.ran (λ i x o. inr o)))
+
+-- the state of the house that was opened
+opened_sound : {O T : Type 0} (disk : O → DiskView) (trade : T → TradeView) (bytes : List ℕ) (x : House O T) (at : OpenedFor disk trade full bytes x)
+    → IsSound full (state_of at.history x.bench)
+opened_sound disk trade bytes x at = record {
+  lawful = subst (λ (l : Limits). IsLawful l at.history) at.limits' at.house.house.represents.state.lawful;
+  in_time = at.house.house.represents.state.in_time;
+}
+
+pub stands_lawful : {O T : Type 0} (disk : O → DiskView) (trade : T → TradeView) (x : House O T) (h : History) → HouseRepresents disk trade x h → IsLawful full h → EncodesLawful (disk x.journal.disk) h
+stands_lawful disk trade x h st lawful = record {
+  bytes = st.journal.bytes;
+  told = st.journal.told;
+  stands = st.journal.stands;
+  lawful = lawful;
+  once = accepted_once full h lawful;
+  lasts = λ image left. subst (λ (x : List ℕ). Encodes h x) (sym (st.journal.synced image left)) st.journal.stands;
+}
+
+served_from : {O T : Type 0} (link : O → LinkView) (disk : O → DiskView) (trade : T → TradeView) (bytes : List ℕ) (a : O) (x y : House O T) (steps : List (Did State))
+    (at : OpenedFor disk trade full bytes x) → OnlyRead (disk a) (disk x.journal.disk) → link x.journal.disk ≡ link a → RefinesBy link disk trade x.journal.disk (state_of at.history x.bench) steps y
+    → IsLawful full (state_after (state_of at.history x.bench) steps).history → ServedFrom link disk bytes a y.journal.disk (state_of at.history x.bench) steps
+served_from link disk trade bytes a x y steps at read same went lawful = record {
+  encoded = record { stands = at.of_bytes; time' = at.time' };
+  left = stands_lawful disk trade y (state_after (state_of at.history x.bench) steps).history went.house lawful;
+  pairs = read_then_moved (IsSome (link a).sessions) (disk a) (disk x.journal.disk) (disk y.journal.disk) (state_of at.history x.bench) steps read
+      (subst (λ (v : LinkView). MovedBy (IsSome v.sessions) (disk x.journal.disk) (disk y.journal.disk) (state_of at.history x.bench) steps) same went.moved);
+}
+
+-- why a book was not opened
+pub not_opened : {O T : Type 0} (link : O → LinkView) (disk : O → DiskView) (trade : T → TradeView) (kind : ℕ) (bytes : List ℕ) (a : O) (fault : HouseFault O)
+    → OpensHouse {D = O} {T = T} disk trade full kind bytes (Err fault) → link (fault_disk fault) ≡ link a → OnlyRead (disk a) (disk (fault_disk fault)) → NotOpened link disk kind bytes a (fault_status fault) (fault_disk fault)
+not_opened link disk trade kind bytes a (faults.NotJournal d) by same read = (by, record { link' = same; read = read })
+not_opened link disk trade kind bytes a (faults.BadRecord d place) by same read = (by, record { link' = same; read = read })
+not_opened link disk trade kind bytes a (faults.Unlawful d place) by same read = (by, record { link' = same; read = read })
+not_opened link disk trade kind bytes a (faults.WrongKind d) by same read = (refl, by, record { link' = same; read = read })
+not_opened link disk trade kind bytes a (faults.NotEmpty d size) by same read = absurd by
+not_opened link disk trade kind bytes a (faults.Disk d) by same read = record { link' = same; read = read }
+not_opened link disk trade kind bytes a (faults.NoMemory d) by same read = record { link' = same; read = read }
+
+-- the book of the house that was opened is served
+pub serves_book : {O T : Type 0} (link : O → LinkView) (disk : O → DiskView) (trade : T → TradeView) (links : ℕ) (bytes : List ℕ) (a : O) (x : House O T) (out : ServeOut O T)
+    (at : OpenedFor disk trade full bytes x) → OnlyRead (disk a) (disk x.journal.disk) → (disk x.journal.disk).faults ≡ (disk a).faults → link x.journal.disk ≡ link a
+    → ((h : History) → HouseRepresents disk trade x h → ServesLinks link disk trade (limits_of x.bench) links x.journal.disk (state_of h x.bench) out)
+    → ServesLinksOf link disk links bytes a (served_status out) (served_outside out)
+serves_book link disk trade links bytes a x (outs.Done y n) at read calm same served =
+    let s : State = state_of at.history x.bench in
+    let by = served at.history at.house in
+    let all = subst (λ (v : LinkView). ServedAll (Step full) OfLinks links n by.0 s v (link y.journal.disk)) same
+    (subst (λ (l : Limits). ServedAll (Step l) OfLinks links n by.0 s (link x.journal.disk) (link y.journal.disk)) at.limits' by.2) in
+    let sound = all_sound full links n by.0 s (link a) (link y.journal.disk) (omega arith) (opened_sound disk trade bytes x at) all in
+    (s, by.0, served_from link disk trade bytes a x y by.0 at read same by.1 sound.lawful, all)
+serves_book link disk trade links bytes a x (outs.Link y) at read calm same served =
+    let s : State = state_of at.history x.bench in
+    let by = served at.history at.house in
+    let some = subst (λ (v : LinkView). ServedSome (Step full) OfLinks links by.0 s v (link y.journal.disk)) same
+    (subst (λ (l : Limits). ServedSome (Step l) OfLinks links by.0 s (link x.journal.disk) (link y.journal.disk)) at.limits' by.2) in
+    let sound = links_sound full some.n by.0 s (link a) some.between (omega arith) (opened_sound disk trade bytes x at) some.links_had in
+    (s, by.0, served_from link disk trade bytes a x y by.0 at read same by.1 sound.lawful, some)
+serves_book {O = O} link disk trade links bytes a x (outs.NoMemory y) at read calm same served =
+    let by = served at.history at.house in
+    subst (λ (d : O). Unserved link disk a d) (sym by.1) (record { link' = same; read = read })
+serves_book link disk trade links bytes a x (outs.Halted d) at read calm same served =
+    let s : State = state_of at.history x.bench in
+    let by = served at.history at.house in
+    let halted = by.3 in
+    let tells : Type 0 = IsSome (link a).sessions in
+    let until : MovedBy tells (disk x.journal.disk) (disk halted.taken) s by.0 =
+    subst (λ (v : LinkView). MovedBy (IsSome v.sessions) (disk x.journal.disk) (disk halted.taken) s by.0) same halted.until in
+    let doubt = subst (λ (v : LinkView). InDoubtLinks full links by.0 s v by.1 by.2 (link d)) same
+    (subst (λ (l : Limits). InDoubtLinks l links by.0 s (link x.journal.disk) by.1 by.2 (link d)) at.limits' by.4) in
+    let sound = doubt_sound full links by.0 s (link a) by.1 by.2 (link d) (omega arith) (opened_sound disk trade bytes x at) doubt in (
+      s,
+      by.0,
+      by.1,
+      by.2,
+      record {
+        encoded = record { stands = at.of_bytes; time' = at.time' };
+        left = record { leaves = halted.leaves; lawful = sound.1; once = accepted_once full _ sound.1 };
+        taken = halted.taken;
+        quiet = halted.quiet ∙ calm;
+        aside = λ told'. until.aside told' ∙ ap (λ (l : List ℕ). l ++ sent_of by.0) read.aside;
+        until = read_then_moved tells (disk a) (disk x.journal.disk) (disk halted.taken) s by.0 read until;
+        rose = halted.rose;
+        since = subst (λ (v : LinkView). Ran (disk halted.taken) (disk d) (InDoubt (IsSome v.sessions) (state_after s by.0).history (disk halted.taken).aside by.1 by.2)) same halted.since;
+      },
+      doubt,
+    )

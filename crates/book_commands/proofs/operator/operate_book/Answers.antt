@@ -1,0 +1,17 @@
+use Rattle.std.proofs.Common.{inl, inr}
+use Rattle.book_commands.proofs.ServedLemmas.{not_opened}
+use Rattle.book_commands.proofs.OperatorLemmas.{causes_opened}
+use Rattle.book_commands.proofs.operator.operate_book.Goals as goal
+
+pub returns-in-Err-clause-operated : goal.returns-in-Err-clause-operated
+returns-in-Err-clause-operated g c x told =
+    rw (c.not_opened.ensures.disk, c.not_opened.ensures.status)
+    (inl (not_opened g.O.Link.link g.O.Disk.disk g.T.Trade.trade (g.T.Trade.trade c.args.trade).site x c.args.out c.in-Err.fault (c.in-Err.ensures.exact x told) (g.met.O.Outside.disk_keeps _ _ c.in-Err.ensures.moved) c.in-Err.ensures.read))
+
+pub returns-in-Ok-clause-causes : goal.returns-in-Ok-clause-causes
+returns-in-Ok-clause-causes g c =
+    causes_opened g.O.Link.link g.O.Disk.disk (g.C.OperatorCommand.operation c.args.command.now) c.args.out c.in-Ok.house.journal.disk c.operate_house.result.1 c.operate_house.result.0 c.in-Ok.ensures.fault (g.met.O.Outside.disk_keeps _ _ c.in-Ok.ensures.moved) c.operate_house.ensures.causes
+
+pub returns-in-Ok-clause-operated : goal.returns-in-Ok-clause-operated
+returns-in-Ok-clause-operated g c x told =
+    inr (c.operate_house.ensures.operated c.args.out x (record { house = c.in-Ok.ensures.exact x told; read = c.in-Ok.ensures.read; link' = g.met.O.Outside.disk_keeps _ _ c.in-Ok.ensures.moved }))

@@ -1,0 +1,31 @@
+ghost use Rattle.std.specs.Prelude.{◌≡◌, ◌<◌};
+ghost use Rattle.mc_records.specs.Entry.{Fits};
+ghost use Rattle.mc_records.specs.Views.{entry};
+ghost use Rattle.house_core.specs.Views.{kind_number};
+ghost use Rattle.book_commands.specs.Founding.{site_of};
+
+use house_core::SiteKind;
+use mc_base::Moment;
+use mc_records::{PieceList, Record, SiteTerms};
+use mc_words::Founder;
+
+/// The first entry of the book that is founded, as a site of this kind, which is no wallet.
+pub(crate) fn site<'a>(founder: &'a Founder<'_>, kind: SiteKind, moment: Moment) -> Record<'a>
+    requires house { kind_number kind < 2 }
+    ensures site { entry result ≡ site_of (kind_number kind) founder.now moment }
+    ensures fits { Fits (site_of (kind_number kind) founder.now moment) }
+{
+    // The check lets a record go only where the types of its parts are named.
+    let _pieces: Option<PieceList<'_>> = None;
+    Record::Site {
+        moment,
+        kind: kind.number(),
+        name: founder.name().bytes(),
+        house: Some(SiteTerms {
+            keep: founder.keep(),
+            fee: 0,
+            clear: founder.clear(),
+            terms: *founder.terms(),
+        }),
+    }
+}

@@ -1,0 +1,21 @@
+ghost use Rattle.std.specs.Prelude.{◌≡◌, ℕ, List, Some};
+ghost use Rattle.mc_outside.specs.Bytes.{BeginsWith};
+ghost use Rattle.ledger_model.specs.Histories.{History};
+ghost use Rattle.ledger_model.specs.Houses.{site_kind};
+ghost use Rattle.ledger_model.specs.Lawful.{IsLawful};
+ghost use Rattle.scrip_journal.specs.Layout.{header, Encodes};
+ghost use Rattle.house_opening.specs.Opening.{SpoilsAt, IsUnlawfulAt, IsOfOther};
+ghost use Rattle.operator_command.specs.Operations.{full};
+
+/// Bytes that encode a lawful history of a site give no cause to refuse the book to one of its kind: they begin
+/// with the header, nothing in them can't stand, no entry breaks, and the site is of no other kind. So `vendor
+/// serve` ends on those of a vendor with neither status 3 nor 7.
+pub fn lawful_books_are_opened()
+    ensures header { (h : History) (bytes : List ℕ) → Encodes h bytes → BeginsWith header bytes }
+    ensures whole { (kind : ℕ) (h : History) (bytes : List ℕ) (place : ℕ) → Encodes h bytes
+        → SpoilsAt full kind bytes place → ⊥ }
+    ensures lawful { (kind : ℕ) (h : History) (bytes : List ℕ) (place : ℕ) → Encodes h bytes
+        → IsLawful full h → IsUnlawfulAt full kind bytes place → ⊥ }
+    ensures kind { (kind : ℕ) (h : History) (bytes : List ℕ) → Encodes h bytes
+        → site_kind h ≡ Some kind → IsOfOther kind bytes → ⊥ }
+{}

@@ -1,0 +1,108 @@
+ghost use Rattle.std.specs.Prelude.{◌≡◌, ◌+◌, ◌≤◌, ◌++◌, length, take, codes, decimal};
+ghost use Rattle.book_commands.specs.declared.status.Status.TheVariants.{Refused};
+ghost use Rattle.book_commands.specs.Statuses.{number_of, line_of, IsMade};
+
+use mc_base::List;
+use mc_fields::{put, put_number};
+use mc_records::{Refusal, put_refusal_text};
+use scrip_form::Name;
+
+/// How the program ends.
+#[derive(Drop)]
+pub enum Status {
+    /// The one link of a shop was served, or none came.
+    Done,
+    /// So many links were served.
+    Served(u32),
+    /// A site of this name was founded.
+    Founded(Name),
+    /// What the operator of a book has said was done. This is said of it.
+    Did(List<u8>),
+    BadWords,
+    NotJournal,
+    /// The bytes of the book can't stand from this place on.
+    BadEntry(u64),
+    /// The entry behind the gate at this place may not follow those before it.
+    UnlawfulEntry(u64),
+    DiskFault,
+    NoMemory,
+    LinkFault,
+    Refused(Refusal),
+}
+
+impl Status {
+    /// The number that a program ends with.
+    pub fn number(&self) -> u8
+        ensures { result ≡ number_of self.now }
+    {
+        match self {
+            Status::Done | Status::Served(_) | Status::Founded(_) | Status::Did(_) => 0,
+            Status::BadWords => 2,
+            Status::NotJournal | Status::BadEntry(_) | Status::UnlawfulEntry(_) => 3,
+            Status::DiskFault => 4,
+            Status::NoMemory => 5,
+            Status::LinkFault => 6,
+            Status::Refused(_) => 7,
+        }
+    }
+
+    /// The line that is said. `room` is for one that is made here.
+    pub fn line<'a>(&'a self, room: &'a mut [u8; 256]) -> &'a [u8]
+        ensures { result.now ≡ line_of self.now }
+    {
+        if let Status::Did(line) = self {
+            return line.slice();
+        }
+        let len = self.put_line(room);
+        &room[..len]
+    }
+
+    /// Writes the line of a status that brings none to the front of the buffer, and answers its length.
+    fn put_line(&self, out: &mut [u8; 256]) -> usize
+        ensures within { result ≤ 256 }
+        ensures line { IsMade self.now → take result out.new ≡ line_of self.now }
+    {
+        match self {
+            Status::Done | Status::Did(_) => 0,
+            Status::Served(links) => put_numbered(out, b"served ", u64::from(*links)),
+            Status::Founded(name) => put_named(out, name),
+            Status::BadWords => put(out, 0, b"bad words\n"),
+            Status::NotJournal => put(out, 0, b"not a journal\n"),
+            Status::BadEntry(place) => put_numbered(out, b"bad entry at ", *place),
+            Status::UnlawfulEntry(place) => put_numbered(out, b"unlawful entry at ", *place),
+            Status::DiskFault => put(out, 0, b"disk fault\n"),
+            Status::NoMemory => put(out, 0, b"no memory\n"),
+            Status::LinkFault => put(out, 0, b"link fault\n"),
+            Status::Refused(refusal) => put_refused(out, refusal),
+        }
+    }
+}
+
+/// Words and a number.
+fn put_numbered(out: &mut [u8; 256], words: &[u8], number: u64) -> usize
+    requires { length words.now ≤ 100 }
+    ensures within { result ≤ 256 }
+    ensures line { take result out.new ≡ words.now ++ decimal number ++ codes "\n" }
+{
+    let at = put(out, 0, words);
+    let at = put_number(out, at, number);
+    put(out, at, b"\n")
+}
+
+fn put_named(out: &mut [u8; 256], name: &Name) -> usize
+    ensures within { result ≤ 256 }
+    ensures line { take result out.new ≡ codes "founded " ++ name.now ++ codes "\n" }
+{
+    let at = put(out, 0, b"founded ");
+    let at = put(out, at, name.bytes());
+    put(out, at, b"\n")
+}
+
+fn put_refused(out: &mut [u8; 256], refusal: &Refusal) -> usize
+    ensures within { result ≤ 256 }
+    ensures line { take result out.new ≡ line_of (Refused refusal.now) }
+{
+    let at = put(out, 0, b"refused ");
+    let at = put_refusal_text(out, at, refusal);
+    put(out, at, b"\n")
+}

@@ -1,6 +1,0 @@
-use Rattle.std.proofs.Common.{◌≡◌, ◌++◌, codes, take}
-use Rattle.mc_words.specs.Ranges.{joined}
-use Rattle.mc_top.proofs.vendor.lines.append_secrets.Given as goal
-
-abbrev pub invariant-loop-i : goal.invariant-loop-i
-invariant-loop-i l = l.line.items ≡ l.fn.line.items ++ codes " " ++ joined (take l.i l.secrets)

@@ -1,0 +1,35 @@
+-- What the operations of a site's operator mean.
+use Rattle.std.specs.Prelude.{◌^◌, ℕ, List, Option}
+use Rattle.mc_records.specs.declared.limits.Limits.{Limits}
+use Rattle.ledger_model.specs.Histories.{History}
+use Rattle.house_core.specs.declared.house.House.{House}
+use Rattle.house_core.specs.declared.outcome.Outcome.{Outcome}
+use Rattle.house_core.specs.declared.outcome.Outcome.TheVariants as outcomes
+use Rattle.house_core.specs.Bench.{house_time, limits_of}
+use Rattle.house_core.specs.Tasks.{Task, Performs}
+use Rattle.house_core.specs.Trade.{TradeView}
+use Rattle.mc_outside.specs.DiskView.{DiskView}
+
+-- the greatest limits, under which the program runs
+abbrev pub full : Limits
+full = record { journal = 2 ^ 40; series = 2 ^ 32 }
+
+-- What an operation means to the book that it is for.
+pub record OperationView : Type 1 where
+  -- the next link brings its input, of at most so many bytes; or it takes none
+  pub input : Option ℕ
+  -- with this input it sets a task over a history, at a time
+  pub asks : List ℕ → History → ℕ → Task → Type 0
+  -- what is said where it was done, by the history that it was set over and its task
+  pub says : History → Task → List ℕ → Type 0
+
+-- what an operation asks of a history was done with this input over a house, and this line says so
+abbrev pub CarriesOut : {D T : Type 0} → (D → DiskView) → (T → TradeView) → OperationView → House D T → List ℕ → List ℕ → History → Outcome D T (Unit {0}) → Type 0
+CarriesOut disk trade operation house input line h result = Performs disk trade (operation.asks input h (house_time house.bench)) (λ task g answer. operation.says h task line) (limits_of house.bench) house.journal.disk h result
+
+-- the outcome of an operation, without what was answered
+abbrev pub without_answer : {D T A : Type 0} → Outcome D T A → Outcome D T (Unit {0})
+without_answer (outcomes.Done x a) = outcomes.Done x tt
+without_answer (outcomes.Refused x f) = outcomes.Refused x f
+without_answer (outcomes.NoMemory x) = outcomes.NoMemory x
+without_answer (outcomes.Halted d) = outcomes.Halted d

@@ -1,0 +1,7 @@
+//! What a command of a site's operator is, whatever the trade: the input that it reads, what it does over the house
+//! of the site's book, and the line that is said of it.
+#![tactic(auto)]
+
+mod command;
+
+pub use command::{OperatorCommand, without_answer};

@@ -1,0 +1,23 @@
+use Rattle.std.proofs.Common.{◌≡◌, ◌∙◌, sym}
+use Rattle.mc_words.specs.declared.operation.Operation.TheVariants as operations
+use Rattle.vendor_commands.proofs.operation.VendorOperationOperatorCommandShelf.carry_out.Goals as goal
+
+pub returns-in-Goods-clause-exact : goal.returns-in-Goods-clause-exact
+returns-in-Goods-clause-exact g c h st all begun =
+    let said : c.args.self.now ≡ operations.Goods c.in-Goods.listing = sym c.self.view_is ∙ c.in-Goods.is in
+    rw said (c.list_goods.ensures.exact h c.args.line.now.items st (rw said at begun))
+
+pub returns-in-Price-clause-exact : goal.returns-in-Price-clause-exact
+returns-in-Price-clause-exact g c h st all begun =
+    let said : c.args.self.now ≡ operations.Price c.in-Price.pricing = sym c.self.view_is ∙ c.in-Price.is in
+    rw said (c.price_goods.ensures.exact h c.args.input.now c.args.line.now.items st (rw said at begun))
+
+pub returns-in-Licence-clause-exact : goal.returns-in-Licence-clause-exact
+returns-in-Licence-clause-exact g c h st all begun =
+    let said : c.args.self.now ≡ operations.Licence c.in-Licence.licensing = sym c.self.view_is ∙ c.in-Licence.is in
+    rw said (c.take_issuer.ensures.exact h c.args.input.now c.args.line.now.items st (rw said at begun))
+
+pub returns-in-Mint-clause-exact : goal.returns-in-Mint-clause-exact
+returns-in-Mint-clause-exact g c h st all begun =
+    let said : c.args.self.now ≡ operations.Mint c.in-Mint.minting = sym c.self.view_is ∙ c.in-Mint.is in
+    rw said (c.mint_pieces.ensures.exact h c.args.input.now st all)

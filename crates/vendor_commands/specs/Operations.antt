@@ -1,0 +1,90 @@
+-- What the operations of a vendor's operator mean.
+use Rattle.std.specs.Prelude.{◌≡◌, ◌⊎◌, ℕ, ◌<◌, ◌≤◌, List, [], ◌++◌, length, Some, None, unwrap_or, codes, decimal}
+use Rattle.scrip_form.specs.Issuing.{Issuing}
+use Rattle.mc_records.specs.declared.refusal.Refusal.TheVariants.{ContentsFull}
+use Rattle.ledger_model.specs.Houses.{site_name}
+use Rattle.house_core.specs.Tasks.{Refuse, after}
+use Rattle.vendor_core.specs.Tasks.{goods_task, price_task, terms_task, IsMintTask, IsMintAt, mint_lines}
+use Rattle.mc_words.specs.declared.operation.Operation.{Operation}
+use Rattle.mc_words.specs.declared.operation.Operation.TheVariants as operations
+use Rattle.mc_words.specs.Ranges.{joined}
+use Rattle.mc_words.specs.Words.{Listing, Pricing, Licensing, Minting, licensed_terms}
+use Rattle.operator_command.specs.Operations.{full, OperationView}
+
+-- ---- the lines
+
+abbrev pub goods_line : List ℕ → ℕ → List ℕ
+goods_line target price = codes "goods " ++ target ++ codes " " ++ decimal price ++ codes "\n"
+
+-- The line of a licence: the vendor, the issuer, the period and the life of its series, its secrets of scrip
+-- and of customers, as words are spelled.
+abbrev pub licence_line : List ℕ → Issuing → List ℕ
+licence_line vendor t =
+    codes "licence " ++ vendor ++ codes " " ++ decimal t.issuer ++ codes " " ++ decimal t.period ++ codes " " ++ decimal t.life
+    ++ codes " " ++ joined t.scrip ++ codes " " ++ joined t.customer ++ codes "\n"
+
+-- ---- what each means
+
+-- Goods are put on sale, whose contents are the input; contents of more than 65,536 bytes are refused.
+abbrev pub goods_operation : Listing → OperationView
+goods_operation l = record {
+  input = Some 65536;
+  asks = λ input h t task.
+      ((length input ≤ 65536) × (task ≡ goods_task h t l.target l.price (unwrap_or l.kind 0) input))
+      ⊎ ((65536 < length input) × (task ≡ Refuse (ContentsFull 65537)));
+  says = λ h task line. line ≡ goods_line l.target l.price;
+}
+
+-- goods are sold at another price
+abbrev pub price_operation : Pricing → OperationView
+price_operation p = record {
+  input = None;
+  asks = λ input h t task. task ≡ price_task h t p.target p.price;
+  says = λ h task line. line ≡ goods_line p.target p.price;
+}
+
+-- scrip of an issuer is taken from now on
+abbrev pub licence_operation : Licensing → OperationView
+licence_operation l = record {
+  input = None;
+  asks = λ input h t task. task ≡ terms_task h t (licensed_terms l);
+  says = λ h task line. line ≡ licence_line (site_name h) (licensed_terms l);
+}
+
+-- pieces of the vendor's own scrip are minted, whose lines are said
+abbrev pub mint_operation : Minting → OperationView
+mint_operation m = record {
+  input = None;
+  asks = λ input h t task. IsMintTask h t full m.reference m.count m.value task;
+  says = λ h task line. (number : ℕ) × IsMintAt (after task h) m.reference m.count m.value number × (line ≡ mint_lines (after task h) number);
+}
+
+-- ---- the line as far as it is known before the book is touched
+
+abbrev pub begins_goods : Listing → List ℕ → List ℕ → Type 0
+begins_goods l site line = line ≡ goods_line l.target l.price
+
+abbrev pub begins_price : Pricing → List ℕ → List ℕ → Type 0
+begins_price p site line = line ≡ goods_line p.target p.price
+
+abbrev pub begins_licence : Licensing → List ℕ → List ℕ → Type 0
+begins_licence l site line = line ≡ licence_line site (licensed_terms l)
+
+abbrev pub begins_mint : Minting → List ℕ → List ℕ → Type 0
+begins_mint m site line = line ≡ []
+
+-- ---- all of them
+
+-- what an operation of a vendor's operator means
+abbrev pub operation_view : Operation → OperationView
+operation_view (operations.Goods l) = goods_operation l
+operation_view (operations.Price p) = price_operation p
+operation_view (operations.Licence l) = licence_operation l
+operation_view (operations.Mint m) = mint_operation m
+
+-- its line as far as it is known before the book is touched
+abbrev pub begins : Operation → List ℕ → List ℕ → Type 0
+begins (operations.Goods l) = begins_goods l
+begins (operations.Price p) = begins_price p
+begins (operations.Licence l) = begins_licence l
+begins (operations.Mint m) = begins_mint m

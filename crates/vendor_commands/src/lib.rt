@@ -1,0 +1,17 @@
+//! What the commands of a vendor do: what its operator enters into its book, the shop of `vendor once` and the
+//! house of `vendor play`, which have none.
+#![tactic(auto)]
+
+mod goods;
+mod licence;
+mod lines;
+mod mint;
+mod once;
+mod operation;
+mod play;
+mod price;
+mod shop;
+
+pub use once::{reply_to_all, serve_once};
+pub use operation::VendorOperation;
+pub use play::answer_play;

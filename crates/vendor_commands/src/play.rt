@@ -1,0 +1,98 @@
+//! A play: a house in memory answers heads that are made for it, and what it counted is said.
+
+ghost use Rattle.std.specs.Prelude.{◌≡◌, [], ◌∷◌, IfOk};
+ghost use Rattle.vendor_commands.specs.Opening.{IsOpen};
+ghost use Rattle.vendor_commands.specs.Play.{ArePlayLines, house_terms, play_founding, play_opening};
+
+use crate::lines::play_lines;
+use crate::shop::{enter, start};
+use house_core::Bench;
+use house_serving::serve_bench;
+use mc_base::{List, NoMemory};
+use mc_records::{Limits, PieceList, Record, SiteTerms};
+use play_heads::{Heads, heads_told_are_of_their_play, play_terms};
+use scrip_form::{Secrets, Terms};
+use std::alloc::Global;
+use vendor_core::Shelf;
+
+/// How many heads a link has.
+const LINK_HEADS: u32 = 1000;
+
+/// The period of the house's series, in seconds. They have no life behind it.
+const PERIOD: u32 = 2048;
+
+/// How long a request gets its first reply again, in seconds.
+const KEEP: u32 = 60;
+
+/// Answers so many heads of a play over links in memory, and answers the lines that are said of it. An `Err`
+/// is want of memory, before the first head, for one of the requests, or for the lines.
+pub fn answer_play(alloc: Global, count: u32) -> Result<List<u8>, NoMemory>
+    ensures { IfOk result (ArePlayLines count) }
+{
+    heads_told_are_of_their_play();
+    let mut bench = open_play(alloc)?;
+    let mut heads = Heads::new(count);
+    let Ok(_links) = serve_bench(&mut bench, &mut heads, count.div_ceil(LINK_HEADS)) else {
+        return Err(NoMemory);
+    };
+    let tally = bench.tally();
+    // No head ends its link, so all are received.
+    if tally.memory != 0 || !heads.is_done() {
+        return Err(NoMemory);
+    }
+    let lines = play_lines(alloc, count, &tally, bench.windows())?;
+    Ok(List::of(lines))
+}
+
+/// Opens the house of a play, which sells one thing for scrip of its own issuer 0 and of issuer 1, at the
+/// moment 0.
+fn open_play(alloc: Global) -> Result<Bench<Shelf>, NoMemory>
+    ensures { IfOk result (λ b. IsOpen b play_opening) }
+{
+    // The check lets a record go only where the types of its parts are named.
+    let _pieces: Option<PieceList<'_>> = None;
+    let licence = Record::Terms {
+        moment: start(),
+        terms: play_terms(),
+    };
+    let goods = Record::Goods {
+        moment: start(),
+        target: b"/p",
+        price: 25,
+        kind: 0,
+        contents: b"ok",
+    };
+    let mut bench = found_play(alloc)?;
+    enter(&mut bench, &licence)?;
+    enter(&mut bench, &goods)?;
+    Ok(bench)
+}
+
+/// The house as it is founded.
+fn found_play(alloc: Global) -> Result<Bench<Shelf>, NoMemory>
+    ensures { IfOk result (λ b. IsOpen b (play_founding ∷ [])) }
+{
+    // The check lets a record go only where the types of its parts are named.
+    let _pieces: Option<PieceList<'_>> = None;
+    let site = Record::Site {
+        moment: start(),
+        kind: 0,
+        name: b"play.example",
+        house: Some(SiteTerms {
+            keep: KEEP,
+            fee: 0,
+            clear: true,
+            terms: house_terms(),
+        }),
+    };
+    Bench::new(alloc, &site, Limits::FULL, Shelf::new(alloc))
+}
+
+/// The terms of the house itself.
+fn house_terms() -> Terms
+    ensures { result ≡ house_terms }
+{
+    let scrip = Secrets::new(&[[1; 16]]).unwrap();
+    let customer = Secrets::new(&[[2; 16]]).unwrap();
+    Terms::new(0, PERIOD, 0, scrip, customer).unwrap()
+}

@@ -1,0 +1,103 @@
+ghost use Rattle.std.specs.Prelude.{◌≡◌, ◌≤◌, ◌++◌, ◌∷◌, [], IfOk, OnOk};
+ghost use Rattle.mc_records.specs.Entry.{Fits, moment_of};
+ghost use Rattle.mc_records.specs.Views.{entry};
+ghost use Rattle.house_core.specs.CommandEntries.{IsCommand};
+ghost use Rattle.ledger_model.specs.Histories.{History};
+ghost use Rattle.vendor_commands.specs.Opening.{terms_of, founding, opening, IsOpen, MayEnter};
+
+use house_core::{Bench, EnterFault};
+use mc_base::{Moment, NoMemory};
+use mc_records::{Limits, PieceList, Record, SiteTerms};
+use mc_words::Shop;
+use scrip_form::{Secrets, Terms};
+use std::alloc::Global;
+use vendor_core::Shelf;
+
+/// The period of the shop's series, in seconds.
+const PERIOD: u32 = 4096;
+
+/// How long a series stays good after its period, in seconds.
+const LIFE: u32 = 8192;
+
+/// How long a request gets its first reply again, in seconds.
+const KEEP: u32 = 600;
+
+/// The kind of the contents that are sold: bytes of no type of their own.
+const KIND: u8 = 0;
+
+/// Opens a shop for scrip of its own issuer 0 and of issuer 1: a house with its terms and its goods, at the
+/// moment 0.
+pub(crate) fn open_shop(alloc: Global, shop: &Shop<'_>) -> Result<Bench<Shelf>, NoMemory>
+    ensures { IfOk result (λ b. IsOpen b (opening shop.now)) }
+{
+    // The check lets a record go only where the types of its parts are named.
+    let _pieces: Option<PieceList<'_>> = None;
+    let goods = Record::Goods {
+        moment: start(),
+        target: shop.target().bytes(),
+        price: shop.price().get(),
+        kind: KIND,
+        contents: shop.contents(),
+    };
+    let licence = Record::Terms {
+        moment: start(),
+        terms: terms_of(shop, 1),
+    };
+    let mut bench = found_shop(alloc, shop)?;
+    enter(&mut bench, &licence)?;
+    enter(&mut bench, &goods)?;
+    Ok(bench)
+}
+
+/// The house that the shop is founded as.
+fn found_shop(alloc: Global, shop: &Shop<'_>) -> Result<Bench<Shelf>, NoMemory>
+    ensures { IfOk result (λ b. IsOpen b (founding shop.now ∷ [])) }
+{
+    // The check lets a record go only where the types of its parts are named.
+    let _pieces: Option<PieceList<'_>> = None;
+    let site = Record::Site {
+        moment: start(),
+        kind: 0,
+        name: shop.name().bytes(),
+        house: Some(SiteTerms {
+            keep: KEEP,
+            fee: 0,
+            clear: true,
+            terms: terms_of(shop, 0),
+        }),
+    };
+    Bench::new(alloc, &site, Limits::FULL, Shelf::new(alloc))
+}
+
+/// The terms of an issuer.
+fn terms_of(shop: &Shop<'_>, issuer: u8) -> Terms
+    requires { issuer ≤ 1 }
+    ensures { result ≡ terms_of shop.now issuer }
+{
+    let secrets = Secrets::new(&[*shop.secret()]).unwrap();
+    Terms::new(issuer, PERIOD, LIFE, secrets, secrets).unwrap()
+}
+
+/// Enters an entry that may follow and fits, so that only memory can be refused.
+pub(crate) fn enter(bench: &mut Bench<Shelf>, r: &Record<'_>) -> Result<(), NoMemory>
+    requires fits { Fits (entry r.now) }
+    requires command { IsCommand (entry r.now) }
+    requires time { moment_of (entry r.now) ≡ 0 }
+    requires may { (h : History) × IsOpen bench.old h × MayEnter h (entry r.now) }
+    ensures { OnOk result ((h : History) → IsOpen bench.old h
+        → IsOpen bench.new (h ++ entry r.now ∷ [])) }
+{
+    match bench.enter(r) {
+        Ok(_) => Ok(()),
+        Err(EnterFault::NoMemory) => Err(NoMemory),
+        Err(EnterFault::Unlawful) => unreachable!(),
+        Err(EnterFault::Refused(_)) => unreachable!(),
+    }
+}
+
+/// The moment 0, at which a house in memory opens.
+pub(crate) fn start() -> Moment
+    ensures { result ≡ 0 }
+{
+    Moment::clamped(0)
+}
