@@ -42,19 +42,18 @@ impl<F> Book<F> {
 
 impl Book<File> {
     /// The book at this path, for this process alone: the file's lock is taken, and lasts as long as the
-    /// file is open, so a kill ends it too. Where there is no file one is made, if `create` says so. A file
-    /// that can't be opened, is not a regular one, or is locked by another process, is a book of none.
-    pub fn open<R: Files<File = File>>(rt: &R, path: &str, create: bool) -> Book<File>
-        ensures { result.faults ≡ 0 }
+    /// file is open, so a kill ends it too. Where there is no file one is made, if `create` says so. An Err
+    /// says why there is none: the file can't be opened, is not a regular one, or is locked by another process
+    /// (`cause_of`).
+    pub fn open<R: Files<File = File>>(rt: &R, path: &str, create: bool) -> io::Result<Book<File>>
+        ensures { IfOk result (λ book. book.faults ≡ 0) }
     {
-        match file_at(rt, path, create) {
-            Ok((file, made)) => Book {
-                file: Some(file),
-                faults: 0,
-                made,
-            },
-            Err(_) => Book::none(),
-        }
+        let (file, made) = file_at(rt, path, create)?;
+        Ok(Book {
+            file: Some(file),
+            faults: 0,
+            made,
+        })
     }
 
     /// Takes the file away that was made for the book, where it has no bytes.
@@ -76,6 +75,21 @@ impl Book<File> {
 
     fn mode(&self) -> io::Result<u32> {
         Ok(self.opened()?.metadata()?.mode())
+    }
+}
+
+/// Why a book was not opened, in a few words, by what the system tells.
+pub(crate) fn cause_of(kind: ErrorKind) -> &'static str {
+    match kind {
+        ErrorKind::WouldBlock => "locked by another process",
+        ErrorKind::NotFound => "no such file",
+        ErrorKind::PermissionDenied => "not permitted",
+        ErrorKind::IsADirectory | ErrorKind::Unsupported => "no regular file",
+        ErrorKind::NotADirectory => "no such folder",
+        ErrorKind::AlreadyExists => "exists already",
+        ErrorKind::StorageFull => "disk full",
+        ErrorKind::ReadOnlyFilesystem => "read-only disk",
+        _ => "not to be opened",
     }
 }
 
@@ -226,12 +240,20 @@ mod tests {
 
     const PATH: &str = "a.book";
 
+    /// Why there is no book at this path; nothing where there is one.
+    fn refused<R: Files<File = File>>(rt: &R, path: &str, create: bool) -> &'static str {
+        match Book::open(rt, path, create) {
+            Ok(_) => "",
+            Err(error) => cause_of(error.kind()),
+        }
+    }
+
     #[test]
     fn a_book_over_a_file(rt: HostRuntime) -> Result<(), Fail> {
         let _ = fs::remove_file(&rt, PATH);
-        assert_eq!(rt; Book::open(&rt, PATH, false).size(), Err(DiskFault));
+        assert_eq!(rt; refused(&rt, PATH, false), "no such file");
         assert!(rt; !fs::exists(&rt, PATH)?);
-        let mut book = Book::open(&rt, PATH, true);
+        let mut book = Book::open(&rt, PATH, true)?;
         assert_eq!(rt; book.write_at(3, b"abc"), Ok(()));
         assert_eq!(rt; book.size(), Ok(6));
         let mut buf = [7; 5];
@@ -256,10 +278,10 @@ mod tests {
     }
 
     #[test]
-    fn a_locked_book_fails(rt: HostRuntime) -> Result<(), Fail> {
+    fn a_locked_book_is_refused(rt: HostRuntime) -> Result<(), Fail> {
         let path = "locked.book";
-        let mut first = Book::open(&rt, path, true);
-        let mut second = Book::open(&rt, path, true);
+        let mut first = Book::open(&rt, path, true)?;
+        let mut second = Book::<File>::none();
         let mut buf = [0; 4];
         assert_eq!(rt; second.size(), Err(DiskFault));
         assert_eq!(rt; second.read(0, &mut buf), Err(DiskFault));
@@ -267,14 +289,17 @@ mod tests {
         assert_eq!(rt; second.cut(0), Err(DiskFault));
         assert_eq!(rt; second.sync(), Err(DiskFault));
         assert_eq!(rt; second.faults, 5);
+        assert_eq!(rt; refused(&rt, path, true), "locked by another process");
+        assert_eq!(rt; refused(&rt, path, false), "locked by another process");
         assert_eq!(rt; first.size(), Ok(0));
         drop(first);
-        let again = Book::open(&rt, path, true);
+        let again = Book::open(&rt, path, true)?;
         again.forget_if_empty(&rt, path);
         assert!(rt; fs::exists(&rt, path)?);
         fs::remove_file(&rt, path)?;
-        assert_eq!(rt; Book::open(&rt, ".", true).size(), Err(DiskFault));
-        assert_eq!(rt; Book::open(&rt, "", true).size(), Err(DiskFault));
+        assert_eq!(rt; refused(&rt, ".", true), "no regular file");
+        assert_eq!(rt; refused(&rt, "", true), "no such file");
+        assert_eq!(rt; refused(&rt, "none/a.book", true), "no such file");
         Ok(())
     }
 }

@@ -9,11 +9,11 @@ mod faults;
 mod site;
 mod streams;
 
-use book::Book;
+use book::{Book, cause_of};
 use mc_base::{List, NoMemory};
 use mc_door::listen;
 use mc_top::{Places, places, run};
-use mc_words::usage;
+use mc_words::{usage, wrong_word};
 use site::Site;
 use std::alloc::{AllocError, Global};
 use std::fs::File;
@@ -48,8 +48,15 @@ fn main(rt: HostRuntime) -> ExitCode {
 /// The status of words that are of no command.
 const BAD_WORDS: u8 = 2;
 
-/// Tells on standard error which words the command has that these begin with, or which commands there are.
+/// Tells on standard error which word is wrong, where one is, and which words the command has that these begin
+/// with, or which commands there are.
 fn tell_usage(rt: &HostRuntime, words: &[String]) {
+    if let Ok(Some(place)) = wrong_word(rt.alloc(), words)
+        && let Some(word) = words.get(place)
+    {
+        let word = word.as_str();
+        let _ = eprintln!(rt; "millicent: {word}: wrong word");
+    }
     let line = usage(words);
     let _ = eprintln!(rt; "{line}");
 }
@@ -145,8 +152,17 @@ fn open_all(rt: &HostRuntime, paths: &[List<u8>]) -> Result<Vec<Book<File>>, All
     Ok(books)
 }
 
+/// The book at this path. Where it can't be opened standard error says why, and it is a book of none.
 fn book_at(rt: &HostRuntime, path: &[u8], create: bool) -> Book<File> {
-    Book::open(rt, text(path), create)
+    let path = text(path);
+    match Book::open(rt, path, create) {
+        Ok(book) => book,
+        Err(error) => {
+            let cause = cause_of(error.kind());
+            let _ = eprintln!(rt; "millicent: {path}: {cause}");
+            Book::none()
+        }
+    }
 }
 
 /// The text of a word. Words are UTF-8; other bytes are no path and no address, as no text is.
