@@ -145,6 +145,7 @@ ONE = Issuer(1, [0x33], [0x44])
 TWO = Issuer(2, [0x55, 0x56], [0x66, 0x67, 0x68])
 NINE = Issuer(9, [0x99], [0x9a], 2048, 0)
 STRANGE = Issuer(7, [0x77], [0x78])
+STOCKED = Issuer(0, [0x5a], [0x5b])
 
 
 def faults():
@@ -441,6 +442,194 @@ def answers():
     out.write("answers")
 
 
+class BrokerHistory:
+    """A history of a broker, as it is spelled, with what a next entry depends on."""
+
+    def __init__(self, fee, clear, keep, time):
+        self.fee, self.clear, self.keep, self.time = fee, clear, keep, time
+        self.keys, self.balances, self.orders = {}, {}, {}
+        self.licences, self.stock, self.sold, self.licensed = {}, {}, set(), {}
+        self.spent, self.serials, self.drawn, self.bought, self.entries = set(), 0, [], [], []
+        self.add(1, "x01", string("bank"), digits(keep, 4), digits(fee, 8), digits(clear, 1), OWN.spelled())
+
+    def add(self, kind, *fields):
+        self.entries.append("+".join(["x%02x" % kind, digits(self.time, 8), *fields]))
+
+    def book(self):
+        return "+".join(["$front", *("x01%08x+%s" % (length(s), s) for s in self.entries), "$shut"])
+
+    def next(self):
+        self.serials += 1
+        return OWN.identity(self.time, self.serials - 1)
+
+    def open(self, name, key):
+        self.keys[name], self.balances[name], self.orders[name] = bytes([key]) * 16, 0, 0
+        self.add(6, string(name), "x%02x*16" % key)
+
+    def move(self, kind, name, amount, reference):
+        self.balances[name] += amount if kind == 7 else -amount
+        self.add(kind, string(name), digits(amount, 8), string(reference))
+
+    def draw(self, name, order, amount):
+        target = "/draw/%s/%d/%d" % (name, order, amount)
+        self.balances[name] -= amount
+        self.orders[name] = order
+        sign = signature("-", target, self.keys[name])
+        self.drawn.append((self.time, target, sign))
+        self.add(9, string(target), "x" + sign, digits(self.next(), 8))
+
+    def license(self, vendor, issuer):
+        self.licences[vendor] = issuer
+        self.add(10, string(vendor), issuer.spelled())
+
+    def put(self, vendor, held):
+        self.stock.setdefault(vendor, []).extend(held)
+        self.add(11, string(vendor), digits(len(held), 2), *(
+            "%s+$%s+x%s" % (digits(length("$" + name), 2), name, secret.hex()) for name, _, _, _, secret in held))
+
+    def for_sale(self, vendor, value):
+        return next((p for p in self.stock.get(vendor, ()) if p[2] == value and (vendor, p[3]) not in self.sold
+                     and self.time < int(p[1].split("|")[5])), None)
+
+    def take(self, piece, target, price, deed):
+        name, text, value, identity, secret = piece
+        self.spent.add(identity)
+        sign = None if self.clear else signature(text, target, secret)
+        change = ["x01", digits(self.next(), 8)] if value > price else ["x00"]
+        self.bought.append((self.time, name, target, sign))
+        self.add(4, digits(len(text), 2), "$" + name, string(target), *(["x01", "x" + sign] if sign else ["x00"]),
+                 digits(price, 8), *change, deed)
+
+    def sell(self, piece, vendor, value):
+        """Sells scrip of a vendor for a piece that covers it, where there is some."""
+        issuer, held = self.licences.get(vendor), self.for_sale(vendor, value)
+        if issuer:
+            series = vendor, issuer.epoch(self.time)
+            identity = issuer.identity(self.time, self.licensed.get(series, 0))
+            self.licensed[series] = self.licensed.get(series, 0) + 1
+        elif held:
+            identity = held[3]
+            self.sold.add((vendor, identity))
+        else:
+            return
+        deed = "x01%02x%016x" % (0 if issuer else 1, identity)
+        self.take(piece, "/buy/%s/%d" % (vendor, value), value + self.fee, deed)
+
+    def credit(self, piece, name):
+        self.balances[name] += piece[2]
+        self.take(piece, "/credit/" + name, piece[2], "x02%016x" % self.balances[name])
+
+
+VENDORS = ("news.example", "shop.example", "press.example", "none.example")
+
+
+def grown(numbers, h, pool, stock, steps):
+    """Enters this and that, each lawful behind those before it."""
+    waiting = {vendor: list(held) for vendor, held in stock.items()}
+    for step in range(steps):
+        h.time += numbers.of((0, 0, 0, 1, 100, 599, 600, 4096))
+        name, deed = numbers.of(("ann", "bob")), numbers.below(9)
+        good = [p for p in pool if p[3] not in h.spent and h.time < int(p[1].split("|")[5])]
+        if name not in h.keys:
+            h.open(name, 0x88 if name == "ann" else 0x99)
+        elif deed < 2:
+            h.move(7, name, numbers.of((1, 50, 1000, 2**40)), "d%d" % step)
+        elif deed == 2 and h.balances[name]:
+            h.move(8, name, numbers.between(1, min(200, h.balances[name])), "w%d" % step)
+        elif deed == 3 and h.balances[name]:
+            h.draw(name, h.orders[name] + numbers.between(1, 3), numbers.between(1, min(300, h.balances[name])))
+        elif deed == 4:
+            vendor = numbers.of(VENDORS[:3])
+            if vendor not in h.licences and numbers.below(2):
+                h.license(vendor, numbers.of((ONE, TWO, NINE)))
+            elif waiting.get(vendor):
+                count = numbers.between(1, 3)
+                h.put(vendor, waiting[vendor][:count])
+                del waiting[vendor][:count]
+        elif deed == 5 and good:
+            h.credit(numbers.of(good), name)
+        elif good:
+            vendor, value, piece = numbers.of(VENDORS[:3]), numbers.of((1, 7, 50, 60)), numbers.of(good)
+            if piece[2] >= value + h.fee:
+                h.sell(piece, vendor, value)
+
+
+def broker_request(numbers, h, pool):
+    """A draw, or a request with a piece, that may be taken or not."""
+    late = (0, 0, 0, 0, 0, 1, 600, 4096, 11711, 11712)
+    time = h.time + numbers.of(late)
+    ask = numbers.below(6)
+    if ask == 0 and h.drawn + h.bought:
+        moment, *asked = numbers.of(h.drawn + h.bought)
+        name, target, sign = asked if len(asked) == 3 else (None, *asked)
+        return max(h.time, moment + numbers.of((0, h.keep - 1, h.keep))), target, name, sign
+    if ask < 3:
+        account = numbers.of([*h.keys] * 6 + ["cid"])
+        last, balance = h.orders.get(account, 0), h.balances.get(account, 0)
+        target = "/draw/%s/%d/%d" % (account, max(1, last + numbers.of((-1, 0, 1, 1, 1, 2))),
+                                     max(1, numbers.of((1, 1, 7, balance, balance + 1))))
+        right = signature("-", target, h.keys.get(account, b"\x77" * 16))
+        return time, target, None, numbers.of((right, right, right, right, None, right[1:] + right[0], right.upper()))
+    fresh = [p for p in pool if p[3] not in h.spent] or pool
+    name, text, value, identity, secret = numbers.of(fresh if numbers.below(6) else pool)
+    if ask == 3:
+        target = "/credit/" + numbers.of([*h.keys] * 5 + ["cid"])
+    else:
+        target = "/buy/%s/%d" % (numbers.of([*h.licences, *h.stock] * 4 + [*VENDORS[2:]]), numbers.of((1, 7, 50, 50, 60, max(1, value - h.fee), value)))
+    right = signature(text, target, secret)
+    return time, target, name, numbers.of((right, right, right, None, right if not h.clear else None, right[::-1]))
+
+
+def brokers():
+    out = Cases("Histories of a broker, with accounts, draws, licences, stock, sales and credits: the answers of the ledger\n"
+                "over times, targets and limits; and which entry may follow those before it.")
+    numbers, pool, stock = Numbers(16), [], {vendor: [] for vendor in VENDORS[1:3]}
+
+    def piece(name, issuer, vendor, value, identity, cust):
+        text = issuer.scrip_text(vendor, value, identity, cust)
+        out.let(name, '"%s"' % text)
+        return name, text, value, identity, issuer.customer_secret(cust)
+
+    out.group("Pieces of the broker's own, and pieces of vendors.")
+    for number in range(24):
+        identity = OWN.identity(NOW + (0, 0, 4096, 8192)[number % 4], 1000 + number)
+        cust = identity if number % 3 else OWN.identity(NOW, 2000 + number)
+        pool.append(piece("q%d" % number, OWN, "bank", numbers.of((1, 8, 51, 52, 61, 199, 1000, 2**40)), identity, cust))
+    for number in range(16):
+        vendor = VENDORS[1 + number % 2]
+        identity = STOCKED.identity(NOW + (0, 0, 0, -4096)[number // 4], number)
+        held = piece("v%d" % number, STOCKED, vendor, numbers.of((50, 50, 60, 7)), identity, identity)
+        stock[vendor].append(held)
+    for round in range(220):
+        h = BrokerHistory(numbers.of((0, 1, 1, 1, 9)), numbers.below(3) > 0, numbers.of((60, 600, 86400)), NOW)
+        grown(numbers, h, pool, stock, numbers.below(14))
+        lines, size = [], length(h.book())
+        if len(h.entries) > 2:
+            place = numbers.between(1, len(h.entries) - 1)
+            lines += ["book " + spoiled(numbers, h, place), "follows %d" % place]
+        lines += ["book " + h.book(), *("follows %d" % number for number in range(1, len(h.entries)))]
+        for ask in range(8):
+            if ask == 6:
+                lines.append("limits %d %d" % (numbers.of((2**40, size, size + 60 + numbers.below(120))),
+                                               max(1, h.serials + numbers.of((0, 0, 1)))))
+            time, target, name, sign = broker_request(numbers, h, pool)
+            lines.append('answer %d "%s" %s %s' % (
+                time, target, "$" + name if name else "-", "-" if sign is None else '"%s"' % sign))
+        out.case("desk %d, of %d entries" % (round, len(h.entries)), *lines)
+    out.write("brokers")
+
+
+def spoiled(numbers, h, place):
+    """The book of a history up to an entry, of which the last number is one more or less, or the one before it again."""
+    kept = h.entries[:place + 1]
+    if numbers.below(3) == 0:
+        kept[place] = kept[place - 1]
+    else:
+        data = bytes_of(kept[place], NAMES)
+        kept[place] = "x" + (data[:-1] + bytes([data[-1] ^ numbers.of((1, 2)) if data[0] in (4, 9) else data[-1]])).hex()
+    return "+".join(["$front", *("x01%08x+%s" % (length(s), s) for s in kept), "$shut"])
+
+
 def operators():
     out = Cases("Operations of an operator one after another over one book, with repeats, other values under one reference\n"
                 "and taken issuers; and then the book is served.")
@@ -490,4 +679,5 @@ if __name__ == "__main__":
     bytes_and_bounds()
     links()
     answers()
+    brokers()
     operators()

@@ -3,11 +3,15 @@ from dataclasses import dataclass
 from email.utils import formatdate
 from types import SimpleNamespace
 
+from desk import Desk, is_stock_for, read_errand
 from forms import Fault, epoch_of, id_of, issuer_of, read_scrip, reply_signature, request_signature, series_of
-from payloads import ACCEPT, DEPOSIT, GOODS, MINT, SITE, TERMS, WITHDRAW, entry_of
+from payloads import (
+    ACCEPT, ACCOUNT, DEPOSIT, DRAW, GOODS, LICENCE, MINT, SITE, STOCK, TERMS, WITHDRAW, entry_of)
 from refusals import Refusal, refused
 
 MOST_CONTENTS = 2**26
+MOST_BALANCE = 2**60
+GOODS_DEED, SALE, CREDIT = 0, 1, 2
 REASONS = {
     200: "OK", 400: "Bad Request", 402: "Payment Required", 403: "Forbidden", 404: "Not Found",
     405: "Method Not Allowed", 409: "Conflict", 410: "Gone", 413: "Content Too Large",
@@ -42,6 +46,7 @@ class History:
         self.terms, self.goods, self.in_force = {}, {}, 0
         self.spent, self.accepts, self.counts, self.references = set(), {}, {}, {}
         self.goods_before = {}
+        self.desk = Desk()
         for entry in entries:
             self.push(entry)
 
@@ -59,6 +64,10 @@ class History:
     def is_vendor(self):
         return self.site is not None and self.site.site == 0
 
+    @property
+    def is_broker(self):
+        return self.site is not None and self.site.site == 1
+
     def push(self, entry):
         number = len(self.entries)
         self.entries.append(entry)
@@ -75,8 +84,13 @@ class History:
         elif entry.kind == MINT:
             for ident in range(entry.first, entry.first + entry.count):
                 self.count_piece(ident)
+        elif entry.kind == DRAW:
+            self.accepts.setdefault((None, entry.target, entry.sign), []).append(number)
+            if (read_errand(entry.target) or [None])[0] == "draw":
+                self.count_piece(entry.drawn)
         if entry.kind in (MINT, DEPOSIT, WITHDRAW):
             self.references.setdefault(entry.reference, entry)
+        self.desk.push(entry)
 
     def push_accept(self, number, entry):
         self.spent.add(read_scrip(entry.scrip).id)
@@ -125,6 +139,9 @@ def signature_of(text):
 
 def answer(history, time, limits, request):
     """A Refusal, the number of the entry that comes again, or the entry that is taken."""
+    errand = read_errand(request.target) if history.is_broker else None
+    if errand and errand[0] == "draw":
+        return draw_answer(history, time, limits, Request(request.target, None, request.sign), *errand[1:])
     if request.scrip is None:
         return refused(20)
     try:
@@ -134,8 +151,34 @@ def answer(history, time, limits, request):
     number = history.repeat_of(request, time)
     if number is not None:
         return number
-    return (genuine(history, piece) or spendable(history, time, request, piece)
-            or offered(history, time, limits, request, piece) or fitted(history, time, limits, request, piece))
+    refusal = genuine(history, piece) or spendable(history, time, request, piece)
+    if refusal:
+        return refusal
+    offer = sold_at_vendor(history, request, piece) if history.is_vendor else desk_offer(history, time, limits, request, piece)
+    return offer if is_refusal(offer) else fitted(history, time, limits, request, piece, *offer)
+
+
+def draw_answer(history, time, limits, request, account, order, amount):
+    """The answer to a draw at a broker."""
+    desk = history.desk
+    number = history.repeat_of(request, time)
+    if number is not None:
+        return number
+    if account not in desk.keys:
+        return refused(40)
+    if request.sign is None:
+        return refused(28)
+    right = request_signature(b"-", request.target, desk.keys[account])
+    if request.sign != right.hex().encode():
+        return refused(29)
+    if order <= desk.orders.get(account, 0):
+        return refused(41, desk.orders[account])
+    if amount > desk.balance(account):
+        return refused(42, desk.balance(account))
+    if history.room(time, limits) <= 0:
+        return refused(32, history.own_series(time))
+    entry = entry_of(DRAW, time, target=request.target, sign=right, drawn=history.next_identity(time))
+    return journal_full(history.size, limits, entry) or entry
 
 
 def genuine(history, piece):
@@ -165,24 +208,55 @@ def spendable(history, time, request, piece):
     return None if request.sign == right.hex().encode() else refused(29)
 
 
-def offered(history, time, limits, request, piece):
-    """Refusals 30 to 32."""
+def sold_at_vendor(history, request, piece):
+    """The price and the deed of goods, or refusal 30 or 31."""
     goods = goods_at(history, request.target)
     if goods is None:
         return refused(30)
-    if piece.value < goods.price:
-        return refused(31, goods.price)
-    if piece.value > goods.price and history.room(time, limits) <= 0:
+    return refused(31, goods.price) if piece.value < goods.price else (goods.price, (GOODS_DEED,))
+
+
+def desk_offer(history, time, limits, request, piece):
+    """The price and the deed of a broker's sale or credit, or one of 30, 31, 32 of a licence, 40, 43, 44, 45."""
+    errand = read_errand(request.target)
+    if errand and errand[0] == "buy":
+        return sale_offer(history, time, limits, piece, *errand[1:])
+    if errand and errand[0] == "credit":
+        return credit_offer(history, piece, errand[1])
+    return refused(30)
+
+
+def sale_offer(history, time, limits, piece, vendor, amount):
+    desk, price = history.desk, amount + history.house.fee
+    if piece.value < price:
+        return refused(31, price)
+    if vendor in desk.licences:
+        ident = desk.next_licensed(vendor, time, limits.series)
+        if ident is None:
+            return refused(32, desk.licences[vendor].series(time))
+        return price, (SALE, 0, ident)
+    if vendor not in desk.stock:
+        return refused(43)
+    ident = desk.for_sale(vendor, amount, time)
+    return refused(44, amount) if ident is None else (price, (SALE, 1, ident))
+
+
+def credit_offer(history, piece, account):
+    if account not in history.desk.keys:
+        return refused(40)
+    balance = history.desk.balance(account)
+    if balance + piece.value > MOST_BALANCE:
+        return refused(45, balance)
+    return piece.value, (CREDIT, balance + piece.value)
+
+
+def fitted(history, time, limits, request, piece, price, deed):
+    """The entry of a request that nothing else refuses, or refusal 32 or 33."""
+    if piece.value > price and history.room(time, limits) <= 0:
         return refused(32, history.own_series(time))
-    return None
-
-
-def fitted(history, time, limits, request, piece):
-    """The entry of a request that nothing else refuses, or refusal 33."""
-    price = goods_at(history, request.target).price
     entry = entry_of(
         ACCEPT, time, scrip=request.scrip, target=request.target, sign=signature_of(request.sign), price=price,
-        change=history.next_identity(time) if piece.value > price else None, deed=(0,))
+        change=history.next_identity(time) if piece.value > price else None, deed=deed)
     return journal_full(history.size, limits, entry) or entry
 
 
@@ -193,7 +267,7 @@ def journal_full(size, limits, entry):
 
 
 def goods_at(history, target):
-    """The goods in force at a vendor; a broker has none yet."""
+    """The goods in force at a vendor."""
     return history.goods.get(target) if history.is_vendor else None
 
 
@@ -202,24 +276,42 @@ def secret_of(history, piece):
 
 
 def may_follow(history, entry, series):
-    """Whether an entry is lawful behind those of a lawful history."""
+    """Whether an entry is lawful behind those before it."""
+    if entry.moment < history.time:
+        return False
+    if entry.kind in (ACCEPT, DRAW):
+        sign = None if entry.sign is None else entry.sign.hex().encode()
+        request = Request(entry.target, entry.scrip if entry.kind == ACCEPT else None, sign)
+        given = answer(history, entry.moment, Limits(series=series), request)
+        return isinstance(given, SimpleNamespace) and given.payload == entry.payload
     if entry.kind == SITE:
         return not history.entries and entry.site == 0
-    if not history.is_vendor or entry.moment < history.time:
-        return False
+    if entry.kind in (TERMS, GOODS, MINT):
+        return history.is_vendor and vendor_may_enter(history, entry, series)
+    return history.is_broker and broker_may_enter(history, entry)
+
+
+def vendor_may_enter(history, entry, series):
     if entry.kind == TERMS:
         return entry.terms.issuer not in history.terms
     if entry.kind == GOODS:
         return history.in_force_with(entry.target, entry.contents) <= MOST_CONTENTS
-    limits = Limits(series=series)
-    if entry.kind == ACCEPT:
-        sign = None if entry.sign is None else entry.sign.hex().encode()
-        given = answer(history, entry.moment, limits, Request(entry.target, entry.scrip, sign))
-        return isinstance(given, SimpleNamespace) and given.payload == entry.payload
-    if entry.kind == MINT:
-        fits = entry.count <= history.room(entry.moment, limits)
-        return entry.reference not in history.references and fits and entry.first == history.next_identity(entry.moment)
-    return False
+    fits = entry.count <= history.room(entry.moment, Limits(series=series))
+    return entry.reference not in history.references and fits and entry.first == history.next_identity(entry.moment)
+
+
+def broker_may_enter(history, entry):
+    desk = history.desk
+    if entry.kind == ACCOUNT:
+        return entry.name not in desk.keys
+    if entry.kind in (DEPOSIT, WITHDRAW):
+        if entry.name not in desk.keys or entry.reference in history.references:
+            return False
+        balance = desk.balance(entry.name)
+        return balance + entry.amount <= MOST_BALANCE if entry.kind == DEPOSIT else entry.amount <= balance
+    if entry.kind == LICENCE:
+        return entry.vendor not in desk.licences
+    return entry.kind == STOCK and is_stock_for(entry.vendor, desk.stocked(entry.vendor), entry.pieces)
 
 
 def first_unlawful(entries, series):

@@ -215,7 +215,7 @@ class Pieces:
 
 AMOUNT = Number(8, 1, MOST_VALUE)
 MOMENT = Number(8, 0, MOMENTS - 1)
-SITE, TERMS, GOODS, ACCEPT, MINT, DEPOSIT, WITHDRAW = 1, 2, 3, 4, 5, 7, 8
+SITE, TERMS, GOODS, ACCEPT, MINT, ACCOUNT, DEPOSIT, WITHDRAW, DRAW, LICENCE, STOCK = range(1, 12)
 FORMS = {
     1: (("site", Number(1, 0, 2)), ("name", NAME), ("house", House())),
     2: (("terms", TermsField(1, 255)),),

@@ -1,6 +1,7 @@
 """The program: what its words ask for, and what it does."""
 from types import SimpleNamespace
 
+import play
 from forms import MOST_VALUE, Terms, digest_of, is_name, is_target, whole_number
 from house import Ends, bench, founded, opened
 from ledger import FULL
@@ -94,6 +95,10 @@ def parse_serve(words):
     return SimpleNamespace(book=place(words[0]), listen=place(words[1]), links=number(words[2], 1, MOST_LINKS))
 
 
+def parse_play(words):
+    return SimpleNamespace(count=number(words[0], 1, 1_000_000))
+
+
 def parse_goods(words, kind=b"0"):
     order = parse_price(words)
     order.kind = number(kind, 0, 2)
@@ -166,6 +171,10 @@ def init(order, stage):
 
 def serve(order, stage):
     return b"served %d\n" % opened(stage, FULL).serve(order.links)
+
+
+def play_heads(order, stage):
+    return play.play(order.count)
 
 
 def received(stage, most):
@@ -263,6 +272,7 @@ COMMANDS = {
     b"once": (5, (), (), parse_once, once),
     b"init": (6, (b"--keep",), (b"--clear",), parse_init, init),
     b"serve": (3, (), (), parse_serve, serve),
+    b"play": (1, (), (), parse_play, play_heads),
     b"goods": (3, (b"--kind",), (), parse_goods, goods),
     b"price": (3, (), (), parse_price, price),
     b"licence": (6, (), (), parse_licence, licence),

@@ -6,7 +6,7 @@ from forms import MOMENTS, MOST_VALUE, Fault
 from heads import HeadReader
 from house import Ends, opened
 from journal import BadEntry, Halted, NotJournal, Replay, found
-from ledger import History, Limits, Request, answer, first_unlawful, is_refusal
+from ledger import History, Limits, Request, answer, first_unlawful, is_refusal, may_follow
 from payloads import read_entry
 from program import BadWords, add_terms, bench, mint_pieces, parsed, places, put_goods, run, set_price
 from refusals import refused
@@ -286,6 +286,15 @@ def do_lawful(setting, words):
     return ["lawful" if number_of_entry is None else "unlawful %d" % number_of_entry]
 
 
+def do_follows(setting, words):
+    place, = setting.arguments(words, number)
+    entries = history_of(setting)
+    if place >= len(entries):
+        raise CaseError("there is no such entry")
+    follows = may_follow(History(entries[:place]), entries[place], setting.limits.series)
+    return ["follows yes" if follows else "follows no"]
+
+
 def by_hand(name, call, *kinds):
     """The verb of one call of a stage by hand."""
     def verb(setting, words):
@@ -321,7 +330,7 @@ VERBS = {
     "book": set_book, "link": set_link, "clock": set_clock, "fail": set_fail, "books": set_books, "limits": set_limits,
     "run": do_run, "serve": do_serve, "found": do_found, "goods": do_goods, "price": do_price, "licence": do_licence,
     "mint": do_mint, "coming": do_coming, "replay": do_replay, "heads": do_heads, "whole": do_whole, "crash": do_crash, "once": do_once,
-    "places": do_places, "answer": do_answer, "lawful": do_lawful,
+    "places": do_places, "answer": do_answer, "lawful": do_lawful, "follows": do_follows,
     "write": by_hand("write", done(Stage.write), number, data), "cut": by_hand("cut", done(Stage.cut), number),
     "sync": by_hand("sync", done(Stage.sync)), "size": by_hand("size", Stage.size),
     "read": by_hand("read", lambda stage, at, length: shown(stage.read(at, length)), number, number),

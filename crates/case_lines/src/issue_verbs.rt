@@ -195,7 +195,7 @@ fn keep(state: &mut State, args: &[&[u8]], out: &mut Lines) -> Result<(), Fault>
 fn put_entry(kept: &mut Kept, q: &Request<'_>, e: KeptEntry) -> Result<bool, Fault> {
     let start = Moment::clamped(0);
     kept.forget(start);
-    kept.reserve(q)?;
+    kept.reserve(q, e.size())?;
     if kept.find(start, q).is_some() || kept.entry(e.number).is_some() {
         return Ok(false);
     }
@@ -210,7 +210,7 @@ fn find(state: &mut State, args: &[&[u8]], out: &mut Lines) -> Result<(), Fault>
     let asked = Asked::of(state, target, scrip, sign)?;
     let now = Moment::clamped(number(moment)?);
     match kept(state)?.find(now, &asked.request()) {
-        Some(e) => out.counted("find", e.number),
+        Some(number) => out.counted("find", number),
         None => out.line("find none"),
     }
     Ok(())

@@ -62,8 +62,7 @@ fn told(stage: Stage, line: &str, out: &mut Lines) -> Stage {
 }
 
 /// Enters payloads, up to one that fails, and prints what came of each.
-fn enter_all(journal: Journal<Stage>, payloads: &[Vec<u8>], out: &mut Lines) -> Stage {
-    let mut journal = journal;
+fn enter_all(mut journal: Journal<Stage>, payloads: &[Vec<u8>], out: &mut Lines) -> Stage {
     for payload in payloads {
         match enter(journal, payload) {
             Entered::Receipt(after, number) => {
@@ -115,8 +114,7 @@ fn replay(state: &mut State, out: &mut Lines) -> Result<(), Fault> {
     state.show_stage(stage, out)
 }
 
-fn read_all(alloc: Global, replay: Replay<Stage>, out: &mut Lines) -> Stage {
-    let mut replay = replay;
+fn read_all(alloc: Global, mut replay: Replay<Stage>, out: &mut Lines) -> Stage {
     for _ in 0..u64::MAX {
         if !read_one(alloc, &mut replay, out) {
             break;

@@ -6,11 +6,12 @@ use crate::program_verbs::unopened;
 use case_lines::{Asked, Fault, Lines, State, number};
 use house_core::Verdict;
 use house_opening::open_house;
-use ledger_model::{History, ModelAnswer, slow_answer, slow_lawful};
+use ledger_model::History;
 use mc_base::{List, Moment};
 use mc_records::{Limits, MOST_REFUSAL_BYTES, Refusal, Request, put_refusal_text};
 use mc_stage::{Failing, Stage};
 use scrip_journal::{OpenFault, Replay, open_journal};
+use slow_ledger::{ModelAnswer, slow_answer, slow_follows, slow_lawful};
 use std::alloc::Global;
 use vendor_core::Shelf;
 
@@ -24,6 +25,7 @@ pub(crate) fn ask(
     Some(match verb {
         b"answer" => answer(state, args, out),
         b"lawful" if args.is_empty() => lawful(state, out),
+        b"follows" => follows(state, args, out),
         _ => return None,
     })
 }
@@ -62,6 +64,21 @@ fn lawful(state: &mut State, out: &mut Lines) -> Result<(), Fault> {
     Ok(())
 }
 
+fn follows(state: &mut State, args: &[&[u8]], out: &mut Lines) -> Result<(), Fault> {
+    let [place] = *args else {
+        return Err(Fault::Arguments);
+    };
+    let place = number(place)? as usize;
+    let limits = state.limits;
+    let history = history(state)?;
+    if !limits.are_in_range() || place >= history.len() {
+        return Err(Fault::Value);
+    }
+    let follows = slow_follows(state.alloc, &history, place, limits)?;
+    out.line(if follows { "follows yes" } else { "follows no" });
+    Ok(())
+}
+
 /// A stage that has the book, and no more.
 fn stage_of_book(state: &State) -> Result<Stage, Fault> {
     let alloc = state.alloc;
@@ -76,8 +93,7 @@ fn stage_of_book(state: &State) -> Result<Stage, Fault> {
 /// The entries of the book.
 fn history(state: &State) -> Result<History, Fault> {
     match open_journal(state.alloc, stage_of_book(state)?, Limits::FULL) {
-        Ok(replay) => {
-            let mut replay = replay;
+        Ok(mut replay) => {
             let history = read_all(state.alloc, &mut replay);
             let _stage = replay.close();
             history
@@ -121,8 +137,7 @@ fn judged(
     requires { AreInRange limits }
 {
     match open_house(alloc, stage, limits, Shelf::new(alloc)) {
-        Ok(house) => {
-            let mut house = house;
+        Ok(mut house) => {
             let _time = house.raise(time);
             let verdict = house.judge(request);
             let _stage = house.close();

@@ -60,8 +60,7 @@ fn opened(state: &mut State, time: &[u8]) -> Result<Result<Opened, Stage>, Fault
     let stage = state.make_stage()?;
     Ok(
         match open_house(state.alloc, stage, limits, Shelf::new(state.alloc)) {
-            Ok(house) => {
-                let mut house = house;
+            Ok(mut house) => {
                 let _time = house.raise(time);
                 Ok(house)
             }
