@@ -1,6 +1,7 @@
 -- Accounts, without how they are found.
-use Rattle.std.specs.Prelude.{ℕ, ◌+◌, ◌-◌, ◌^◌, nat_lt, nat_le, Bool, List, [], ◌∷◌, map, find, sum_by, bytes_eq, if◌then◌else◌, IsFalse, Option, Some, None}
+use Rattle.std.specs.Prelude.{ℕ, ◌+◌, ◌-◌, nat_lt, nat_le, Bool, List, [], ◌∷◌, map, find, sum_by, bytes_eq, if◌then◌else◌, IsFalse, Option, Some, None}
 use Rattle.std.specs.List.{list_any}
+use Rattle.mc_records.specs.declared.ranges.TheConstants.{MOST_IN_ACCOUNT}
 use Rattle.mc_records.specs.declared.refusal.Refusal.{Refusal}
 use Rattle.mc_records.specs.declared.refusal.Refusal.TheVariants.{NoAccount, StaleOrder, PoorAccount, AccountFull}
 
@@ -57,10 +58,10 @@ changed name change accounts = map (λ a. if is_named name a then change a else 
 
 -- ---- why a call is refused, by the account of the name, if there is one; None where it is not
 
--- of so much that is put in: the balance may be 2^60 at most
+-- of so much that is put in
 abbrev pub put_refusal : ℕ → Option AccountView → Option Refusal
 put_refusal n None = Some NoAccount
-put_refusal n (Some a) = if nat_lt (2 ^ 60) (a.balance + n) then Some (AccountFull a.balance) else None
+put_refusal n (Some a) = if nat_lt MOST_IN_ACCOUNT (a.balance + n) then Some (AccountFull a.balance) else None
 
 -- of a withdrawal of so much
 abbrev pub withdraw_refusal : ℕ → Option AccountView → Option Refusal

@@ -1,4 +1,5 @@
-ghost use Rattle.std.specs.Prelude.{◌≡◌, ◌+◌, ◌<◌, ◌≤◌, ◌^◌, ◌↔◌, IsNone, IfNone, IfSome};
+ghost use Rattle.std.specs.Prelude.{◌≡◌, ◌+◌, ◌<◌, ◌≤◌, ◌↔◌, IsNone, IfNone, IfSome};
+ghost use Rattle.mc_records.specs.declared.ranges.TheConstants.{MOST_IN_ACCOUNT};
 ghost use Rattle.broker_accounts.specs.Accounts.{new_account, credited, debited, drawn};
 
 use mc_base::{Amount, Coin, Total};
@@ -16,14 +17,15 @@ pub(crate) struct Account {
 }
 
 impl Model for Account {
-    ghost use Rattle.std.specs.Prelude.{◌≤◌, ◌^◌};
+    ghost use Rattle.std.specs.Prelude.{◌≤◌};
+    ghost use Rattle.mc_records.specs.declared.ranges.TheConstants.{MOST_IN_ACCOUNT};
     ghost use Rattle.broker_accounts.specs.Accounts.{AccountView};
 
     ghost Value = { AccountView };
 
     ghost view = { λ a. record { name = a.name; key = a.key; balance = a.balance; last = a.last } };
 
-    ghost invariant = { λ a. a.balance ≤ 2 ^ 60 };
+    ghost invariant = { λ a. a.balance ≤ MOST_IN_ACCOUNT };
 }
 
 impl Account {
@@ -47,7 +49,7 @@ impl Account {
 
     pub(crate) fn balance(&self) -> u64
         ensures value { result ≡ self.now.balance }
-        ensures most { self.now.balance ≤ 2 ^ 60 }
+        ensures most { self.now.balance ≤ MOST_IN_ACCOUNT }
     {
         self.balance.number() as u64
     }
@@ -60,7 +62,7 @@ impl Account {
 
     /// Takes a coin in, with which the balance is 2^60 at most.
     pub(crate) fn put(&mut self, c: Coin)
-        requires { self.old.balance + c ≤ 2 ^ 60 }
+        requires { self.old.balance + c ≤ MOST_IN_ACCOUNT }
         ensures { self.new ≡ credited c self.old }
     {
         self.balance.put(c);

@@ -1,18 +1,16 @@
-ghost use Rattle.std.specs.Prelude.{◌≡◌, ◌+◌, ◌≤◌, ◌^◌, ◌↔◌, ◌∷◌, ◌++◌, [], Some, None, position, option_map, IsSome, IsErr, IfSome, IfErr, IfOk, OnOk, OnErr};
+ghost use Rattle.std.specs.Prelude.{◌≡◌, ◌+◌, ◌≤◌, ◌↔◌, ◌∷◌, ◌++◌, [], Some, None, position, option_map, IsSome, IsErr, IfSome, IfErr, IfOk, OnOk, OnErr};
 ghost use Rattle.std.specs.Result.{result_err};
+ghost use Rattle.mc_records.specs.declared.ranges.TheConstants.{MOST_IN_ACCOUNT};
 ghost use Rattle.mc_records.specs.declared.refusal.Refusal.TheVariants as refusals;
 ghost use Rattle.broker_accounts.specs.Accounts.{account_of, is_named, balances, AreNamedApart, new_account, credited, debited, drawn, changed, put_refusal, withdraw_refusal, draw_refusal};
 
 use crate::account::Account;
 use mc_base::{Amount, Coin, NoMemory};
-use mc_records::Refusal;
+use mc_records::{MOST_IN_ACCOUNT, Refusal};
 use name_places::NamePlaces;
 use scrip_form::Name;
 use std::alloc::Global;
 use std::marker::Model;
-
-/// The most that may stand in an account, in units.
-const FULL: u64 = 1 << 60;
 
 /// The accounts of a broker, each under a name of its own. An account has a key, a balance of 0 to
 /// 2^60 units, and the order of the last draw from it. It is found by its name in a few looks, however
@@ -104,7 +102,7 @@ impl Accounts {
         };
         let account = &mut self.accounts[place];
         let balance = account.balance();
-        if FULL - balance < c.amount().get() {
+        if MOST_IN_ACCOUNT - balance < c.amount().get() {
             return Err((c, Refusal::AccountFull(balance)));
         }
         account.put(c);
@@ -172,7 +170,7 @@ impl Accounts {
 
     /// The balance of the account of a name, in units; None exactly where there is none.
     pub fn balance(&self, name: &Name) -> Option<u64>
-        ensures most { IfSome result (λ n. n ≤ 2 ^ 60) }
+        ensures most { IfSome result (λ n. n ≤ MOST_IN_ACCOUNT) }
         ensures value { result ≡ option_map (λ a. a.balance) (account_of self.now.accounts name.now) }
     {
         match self.account(name.bytes()) {

@@ -9,6 +9,7 @@ pub mod Following
 pub mod Sizes
 pub mod Forms
 pub mod Pieces
+pub mod PieceLine
 pub mod PieceViews
 pub mod Views
 pub mod Cells

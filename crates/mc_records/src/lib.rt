@@ -35,7 +35,7 @@ pub use errand_reading::read_errand;
 pub use law::{bytes_after_a_payload, no_payload_begins_another, payloads_are_short};
 pub use limits::Limits;
 pub use piece_list::PieceList;
-pub use ranges::{LEAST_KEEP, MOST_CONTENTS, MOST_KEEP, MOST_PIECES};
+pub use ranges::{LEAST_KEEP, MOST_CONTENTS, MOST_IN_ACCOUNT, MOST_KEEP, MOST_PIECES};
 pub use reading::read_record;
 pub use record::{Record, RecordDeed, RecordFault, SiteTerms};
 pub use refusal::Refusal;

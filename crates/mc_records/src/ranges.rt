@@ -11,3 +11,6 @@ pub const LEAST_KEEP: u32 = 60;
 
 /// The greatest keeping time of a house, in seconds: a day.
 pub const MOST_KEEP: u32 = 86_400;
+
+/// The most units that may stand in one account of a broker, 2^60.
+pub const MOST_IN_ACCOUNT: u64 = 1 << 60;

@@ -11,7 +11,8 @@ use Rattle.scrip_form.specs.Scrip.{Scrip}
 use Rattle.scrip_form.proofs.Laws.{text_is_short}
 use Rattle.mc_records.specs.Entry.{Held, HeldFits, ArePieces}
 use Rattle.mc_records.specs.declared.ranges.TheConstants.{MOST_PIECES}
-use Rattle.piece_lines.specs.PieceLines.{line_of, secret_part, LineFits, AreLines, BeginsNoLine, BreaksBehind, IsTold, line_at, behind, lines_from, input_lines}
+use Rattle.mc_records.specs.PieceLine.{piece_line}
+use Rattle.piece_lines.specs.PieceLines.{secret_part, LineFits, AreLines, BeginsNoLine, BreaksBehind, IsTold, line_at, behind, lines_from, input_lines}
 use Rattle.piece_lines.proofs.LineLaws.{line_sound, line_again, input_told}
 use Rattle.piece_lines.proofs.LoopLaws.{breaks, none_before, all_read, too_many, line_breaks, line_read}
 
@@ -20,15 +21,15 @@ use Rattle.piece_lines.proofs.LoopLaws.{breaks, none_before, all_read, too_many,
 secret_length : (secret : List ℕ) → length (secret_part secret) ≡ suc (length (encode_lower secret) + 1)
 secret_length secret = ap suc (length-append (encode_lower secret) (codes "\n"))
 
-line_length : (p : Held) → length (line_of p) ≡ length p.text + suc (length (encode_lower p.secret) + 1)
+line_length : (p : Held) → length (piece_line p) ≡ length p.text + suc (length (encode_lower p.secret) + 1)
 line_length p = length-append p.text (secret_part p.secret) ∙ ap (λ (n : ℕ). length p.text + n) (secret_length p.secret)
 
-line_is_long : (p : Held) (rest : List ℕ) → 0 < length (line_of p ++ rest)
-line_is_long p rest = omega (arith, length-append (line_of p) rest, line_length p)
+line_is_long : (p : Held) (rest : List ℕ) → 0 < length (piece_line p ++ rest)
+line_is_long p rest = omega (arith, length-append (piece_line p) rest, line_length p)
 
 -- right lines are read, as far as there are no more than the most
 lines_read : (test : Scrip → Bool) (ps before : List Held) (most number : ℕ) (rest : List ℕ) (total : Result (List Held) ℕ) → length ps ≤ most → AllByRecursion (LineFits test) ps
-    → total ≡ behind before (lines_from test most number (flat_map line_of ps ++ rest)) → total ≡ behind (before ++ ps) (lines_from test (most - length ps) (number + length ps) rest)
+    → total ≡ behind before (lines_from test most number (flat_map piece_line ps ++ rest)) → total ≡ behind (before ++ ps) (lines_from test (most - length ps) (number + length ps) rest)
 lines_read test [] before most number rest total few fit h =
     let same : most ≡ most - 0 = omega arith in
     let first : number ≡ number + 0 = omega arith in
@@ -36,10 +37,10 @@ lines_read test [] before most number rest total few fit h =
     ∙ ap (λ (k : ℕ). behind (before ++ []) (lines_from test k number rest)) same ∙ ap (λ (k : ℕ). behind (before ++ []) (lines_from test (most - 0) k rest)) first
 lines_read test (p ∷ ps) before zero number rest total few fit h = absurd (omega (arith, few))
 lines_read test (p ∷ ps) before (suc most) number rest total few fit h =
-    let tail = flat_map line_of ps ++ rest in
-    let there : total ≡ behind before (lines_from test (suc most) number (line_of p ++ tail)) =
-    h ∙ ap (λ (k : List ℕ). behind before (lines_from test (suc most) number k)) (append_assoc (line_of p) (flat_map line_of ps) rest) in
-    let next = line_read test (suc most) most number (line_of p ++ tail) before total p tail refl (line_is_long p tail) (line_again test p tail fit.0) there in
+    let tail = flat_map piece_line ps ++ rest in
+    let there : total ≡ behind before (lines_from test (suc most) number (piece_line p ++ tail)) =
+    h ∙ ap (λ (k : List ℕ). behind before (lines_from test (suc most) number k)) (append_assoc (piece_line p) (flat_map piece_line ps) rest) in
+    let next = line_read test (suc most) most number (piece_line p ++ tail) before total p tail refl (line_is_long p tail) (line_again test p tail fit.0) there in
     let all = lines_read test ps (before ++ p ∷ []) most (number + 1) rest total (omega (arith, few)) fit.1 next in
     let same : most - length ps ≡ suc most - length (p ∷ ps) = omega arith in
     let next_number : number + 1 + length ps ≡ number + length (p ∷ ps) = omega arith in
@@ -57,7 +58,7 @@ breaks_there test rest none = go (line_at test rest) refl
 only_pieces : (test : Scrip → Bool) (bytes : List ℕ) (ps : List Held) → AreLines test bytes ps → lines_from test MOST_PIECES 1 bytes ≡ Ok ps
 only_pieces test bytes ps are =
     let total = lines_from test MOST_PIECES 1 bytes in
-    let spelled : bytes ≡ flat_map line_of ps ++ [] = are.spelled ∙ sym (append-nil (flat_map line_of ps)) in
+    let spelled : bytes ≡ flat_map piece_line ps ++ [] = are.spelled ∙ sym (append-nil (flat_map piece_line ps)) in
     all_read test (MOST_PIECES - length ps) (1 + length ps) [] ps total refl
     (lines_read test ps [] MOST_PIECES 1 [] total are.few are.fit (none_before total ∙ ap (λ (k : List ℕ). behind [] (lines_from test MOST_PIECES 1 k)) spelled))
 
@@ -81,7 +82,7 @@ only_line test bytes line b = go (MOST_PIECES - length b.before) refl ∙ ap bre
 
 pub told_only : (test : Scrip → Bool) (bytes : List ℕ) (r : Result (List Held) ℕ) → IsTold test bytes r → r ≡ input_lines test bytes
 told_only test [] (Ok []) t = absurd (omega (arith, t.some))
-told_only test [] (Ok (p ∷ ps)) t = absurd (omega (arith, line_is_long p (flat_map line_of ps), ap length t.spelled))
+told_only test [] (Ok (p ∷ ps)) t = absurd (omega (arith, line_is_long p (flat_map piece_line ps), ap length t.spelled))
 told_only test [] (Err line) t = ap breaks t
 told_only test (b ∷ bytes) (Ok ps) t = sym (only_pieces test (b ∷ bytes) ps t)
 told_only test (b ∷ bytes) (Err line) t = sym (only_line test (b ∷ bytes) line t)
@@ -107,23 +108,23 @@ some_taken zero xs a b = absurd (omega (arith, a))
 some_taken (suc k) [] a b = absurd (omega (arith, b))
 some_taken (suc k) (x ∷ xs) a b = omega arith
 
-line_is_short : (test : Scrip → Bool) (p : Held) → LineFits test p → length (line_of p) ≤ 327
+line_is_short : (test : Scrip → Bool) (p : Held) → LineFits test p → length (piece_line p) ≤ 327
 line_is_short test p f =
     omega (arith, line_length p, text_is_short p.text f.piece f.cert f.text, f.secret.0, length-encode_with lower_digits p.secret)
 
-lines_are_short : (test : Scrip → Bool) (ps : List Held) → AllByRecursion (LineFits test) ps → length (flat_map line_of ps) ≤ 327 * length ps
+lines_are_short : (test : Scrip → Bool) (ps : List Held) → AllByRecursion (LineFits test) ps → length (flat_map piece_line ps) ≤ 327 * length ps
 lines_are_short test [] fit = omega arith
 lines_are_short test (p ∷ ps) fit =
-    omega (arith, line_is_short test p fit.0, lines_are_short test ps fit.1, length-append (line_of p) (flat_map line_of ps))
+    omega (arith, line_is_short test p fit.0, lines_are_short test ps fit.1, length-append (piece_line p) (flat_map piece_line ps))
 
 -- what begins no line has no front that begins one
 front_begins_none : (test : Scrip → Bool) (rest : List ℕ) (k : ℕ) → BeginsNoLine test rest → BeginsNoLine test (take k rest)
 front_begins_none test rest k none p more f is =
-    none p (more ++ drop k rest) f (sym (take-append-drop k rest) ∙ ap (λ (t : List ℕ). t ++ drop k rest) is ∙ append_assoc (line_of p) more (drop k rest))
+    none p (more ++ drop k rest) f (sym (take-append-drop k rest) ∙ ap (λ (t : List ℕ). t ++ drop k rest) is ∙ append_assoc (piece_line p) more (drop k rest))
 
 front_breaks : (test : Scrip → Bool) (bytes : List ℕ) (n line : ℕ) → 83712 < n → BreaksBehind test bytes line → BreaksBehind test (take n bytes) line
 front_breaks test bytes n line long b =
-    let x = flat_map line_of b.before in
+    let x = flat_map piece_line b.before in
     let short : length x < n = omega (arith, most_is, long, b.few, lines_are_short test b.before b.fit) in
     let k = n - length x in
     let n_is : n ≡ length x + k = omega (arith, short) in

@@ -15,7 +15,8 @@ use Rattle.scrip_form.specs.Reading.{scrip_at, scrip_of}
 use Rattle.scrip_form.proofs.Laws.{scrip_reads, text_of, left-le}
 use Rattle.mc_records.specs.Entry.{Held}
 use Rattle.mc_records.specs.declared.ranges.TheConstants.{MOST_PIECES}
-use Rattle.piece_lines.specs.PieceLines.{line_of, secret_part, LineFits, BeginsNoLine, IsTold, secret_at, tested, line_at, behind, after_line, lines_from, input_lines}
+use Rattle.mc_records.specs.PieceLine.{piece_line}
+use Rattle.piece_lines.specs.PieceLines.{secret_part, LineFits, BeginsNoLine, IsTold, secret_at, tested, line_at, behind, after_line, lines_from, input_lines}
 
 -- ---- the scrip text at the front
 
@@ -58,7 +59,7 @@ secret_reads =
     map_reads (pair_reads (literal_reads (codes " ")) (pair_reads (hex_reads 16) (literal_reads (codes "\n")) tt tt) (zeros 16, tt) (AreBytes-zeros 16, tt))
     secret_part (AreBytes 16) secret_at (λ x. x.1.0) (λ s. (tt, (s, tt))) (λ bytes. refl) secret_there (λ s f. (refl, (tt, (f, tt)), refl))
 
-pub line_sound : (test : Scrip → Bool) (bytes : List ℕ) (p : Held) (rest : List ℕ) → line_at test bytes ≡ Ok (p, rest) → (bytes ≡ line_of p ++ rest) × LineFits test p
+pub line_sound : (test : Scrip → Bool) (bytes : List ℕ) (p : Held) (rest : List ℕ) → line_at test bytes ≡ Ok (p, rest) → (bytes ≡ piece_line p ++ rest) × LineFits test p
 unfolding line_at
 line_sound test bytes p rest e =
     let a = bind_ok (scrip_at bytes) (λ x. secret_at x.1 >>= tested test (length bytes) x.0) (p, rest) e in
@@ -68,15 +69,15 @@ line_sound test bytes p rest e =
     let g = guard_else (test x.0) (length bytes) (Ok (held, b.0.1)) (p, rest) b.2 in
     let s = scrip_reads.sound bytes x a.0.1 a.1 in
     let t = secret_reads.sound a.0.1 b.0.0 b.0.1 b.1 in
-    let parts : bytes ≡ line_of held ++ b.0.1 = s.0 ∙ ap (λ (k : List ℕ). text_of x ++ k) t.0 ∙ sym (append_assoc (text_of x) (secret_part b.0.0) b.0.1) in
+    let parts : bytes ≡ piece_line held ++ b.0.1 = s.0 ∙ ap (λ (k : List ℕ). text_of x ++ k) t.0 ∙ sym (append_assoc (text_of x) (secret_part b.0.0) b.0.1) in
     let fits : LineFits test held = record { piece = x.0; cert = x.1; text = record { is_piece = s.1.0; is_cert = s.1.1; spelled = refl }; passes = g.0; secret = t.1 } in
-    subst (λ (y : Held × List ℕ). (bytes ≡ line_of y.0 ++ y.1) × LineFits test y.0) (ok_is (held, b.0.1) (p, rest) g.1) (parts, fits)
+    subst (λ (y : Held × List ℕ). (bytes ≡ piece_line y.0 ++ y.1) × LineFits test y.0) (ok_is (held, b.0.1) (p, rest) g.1) (parts, fits)
 
-pub line_again : (test : Scrip → Bool) (p : Held) (rest : List ℕ) → LineFits test p → line_at test (line_of p ++ rest) ≡ Ok (p, rest)
+pub line_again : (test : Scrip → Bool) (p : Held) (rest : List ℕ) → LineFits test p → line_at test (piece_line p ++ rest) ≡ Ok (p, rest)
 unfolding line_at
 line_again test p rest f =
-    let n = length (line_of p ++ rest) in
-    let first = text_front (line_of p ++ rest) p.text (secret_part p.secret ++ rest) f.piece f.cert (sym (append_assoc p.text (secret_part p.secret) rest)) f.text in
+    let n = length (piece_line p ++ rest) in
+    let first = text_front (piece_line p ++ rest) p.text (secret_part p.secret ++ rest) f.piece f.cert (sym (append_assoc p.text (secret_part p.secret) rest)) f.text in
     let second = secret_reads.again p.secret rest f.secret in
     let passed : tested test n (f.piece, f.cert) (p.secret, rest) ≡ found (scrip_text f.piece f.cert) = rw f.passes refl in
     ap (λ (r : Read (Scrip × List ℕ)). r >>= λ x. secret_at x.1 >>= tested test n x.0) first
@@ -93,14 +94,14 @@ no_line test bytes left e p more f is = let r = sym (line_again test p more f) �
 pub record Lines (test : Scrip → Bool) (most : ℕ) (bytes : List ℕ) (pieces : List Held) : Type 0 where
   pub few : length pieces ≤ most
   pub fit : AllByRecursion (LineFits test) pieces
-  pub spelled : bytes ≡ flat_map line_of pieces
+  pub spelled : bytes ≡ flat_map piece_line pieces
 
 pub record Breaks (test : Scrip → Bool) (most number : ℕ) (bytes : List ℕ) (line : ℕ) : Type 0 where
   pub before : List Held
   pub rest : List ℕ
   pub few : length before ≤ most
   pub fit : AllByRecursion (LineFits test) before
-  pub spelled : bytes ≡ flat_map line_of before ++ rest
+  pub spelled : bytes ≡ flat_map piece_line before ++ rest
   pub more : 0 < length rest
   pub breaks : length before < most → BeginsNoLine test rest
   pub is_line : line ≡ length before + number
@@ -109,15 +110,15 @@ abbrev pub Told : (Scrip → Bool) → ℕ → ℕ → List ℕ → Result (List
 Told test most number bytes (Ok pieces) = Lines test most bytes pieces
 Told test most number bytes (Err line) = Breaks test most number bytes line
 
-one_more : (test : Scrip → Bool) (most number : ℕ) (bytes : List ℕ) (p : Held) (rest : List ℕ) (r : Result (List Held) ℕ) → bytes ≡ line_of p ++ rest → LineFits test p
+one_more : (test : Scrip → Bool) (most number : ℕ) (bytes : List ℕ) (p : Held) (rest : List ℕ) (r : Result (List Held) ℕ) → bytes ≡ piece_line p ++ rest → LineFits test p
     → Told test most (number + 1) rest r → Told test (suc most) number bytes (behind (p ∷ []) r)
-one_more test most number bytes p rest (Ok ps) is f t = record { few = omega (arith, t.few); fit = (f, t.fit); spelled = is ∙ ap (λ (k : List ℕ). line_of p ++ k) t.spelled }
+one_more test most number bytes p rest (Ok ps) is f t = record { few = omega (arith, t.few); fit = (f, t.fit); spelled = is ∙ ap (λ (k : List ℕ). piece_line p ++ k) t.spelled }
 one_more test most number bytes p rest (Err line) is f t = record {
   before = p ∷ t.before;
   rest = t.rest;
   few = omega (arith, t.few);
   fit = (f, t.fit);
-  spelled = is ∙ ap (λ (k : List ℕ). line_of p ++ k) t.spelled ∙ sym (append_assoc (line_of p) (flat_map line_of t.before) t.rest);
+  spelled = is ∙ ap (λ (k : List ℕ). piece_line p ++ k) t.spelled ∙ sym (append_assoc (piece_line p) (flat_map piece_line t.before) t.rest);
   more = t.more;
   breaks = λ lt. t.breaks (omega (arith, lt));
   is_line = omega (arith, t.is_line);

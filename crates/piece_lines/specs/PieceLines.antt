@@ -6,15 +6,12 @@ use Rattle.mc_fields.specs.Reading.{Read, literal_at, hex_at, pair_at, map_read,
 use Rattle.scrip_form.specs.Scrip.{Scrip, IsCert, IsTextOf, scrip_text}
 use Rattle.scrip_form.specs.Reading.{scrip_at}
 use Rattle.mc_records.specs.Entry.{Held}
+use Rattle.mc_records.specs.PieceLine.{piece_line}
 use Rattle.mc_records.specs.declared.ranges.TheConstants.{MOST_PIECES}
 
 -- the space, the digits of a secret and the LF
 abbrev pub secret_part : List ℕ → List ℕ
 secret_part secret = codes " " ++ (encode_lower secret ++ codes "\n")
-
--- the line of a scrip text and a secret
-abbrev pub line_of : Held → List ℕ
-line_of p = p.text ++ secret_part p.secret
 
 -- ---- what an input is
 
@@ -31,10 +28,10 @@ pub record AreLines (test : Scrip → Bool) (bytes : List ℕ) (pieces : List He
   pub some : 1 ≤ length pieces
   pub few : length pieces ≤ MOST_PIECES
   pub fit : AllByRecursion (LineFits test) pieces
-  pub spelled : bytes ≡ flat_map line_of pieces
+  pub spelled : bytes ≡ flat_map piece_line pieces
 
 abbrev pub BeginsNoLine : (Scrip → Bool) → List ℕ → Type 0
-BeginsNoLine test bytes = (p : Held) (more : List ℕ) → LineFits test p → bytes ≡ line_of p ++ more → ⊥
+BeginsNoLine test bytes = (p : Held) (more : List ℕ) → LineFits test p → bytes ≡ piece_line p ++ more → ⊥
 
 -- Behind some right lines, at most 256, more bytes follow. Where there are fewer than 256, these don't begin
 -- with a right line. The line that breaks is the one behind the right ones.
@@ -43,7 +40,7 @@ pub record BreaksBehind (test : Scrip → Bool) (bytes : List ℕ) (line : ℕ) 
   pub rest : List ℕ
   pub few : length before ≤ MOST_PIECES
   pub fit : AllByRecursion (LineFits test) before
-  pub spelled : bytes ≡ flat_map line_of before ++ rest
+  pub spelled : bytes ≡ flat_map piece_line before ++ rest
   pub more : 0 < length rest
   pub breaks : length before < MOST_PIECES → BeginsNoLine test rest
   pub is_line : line ≡ length before + 1
