@@ -5,14 +5,15 @@ use Rattle.std.specs.List.{list_any, AllByRecursion}
 use Rattle.std.proofs.lemmas.List.Sums.{sum_by-cons}
 use Rattle.std.proofs.lemmas.Slice.Eq.{bytes_eq-Decides}
 use Rattle.mc_records.specs.declared.limits.Limits.{Limits}
+use Rattle.ledger_model.specs.declared.numbers.TheConstants.{VENDOR_KIND, BROKER_KIND}
 use Rattle.ledger_model.specs.Histories.{History}
 use Rattle.ledger_model.specs.Houses.{site_name}
 use Rattle.ledger_model.specs.Pieces.{accepted, own_out, minted}
 use Rattle.ledger_model.specs.Stock.{Sale, sales, is_of_vendor, sold, stock_sold, licensed_sold}
 use Rattle.ledger_model.specs.Sums.{paid_in, sold_values, handed_out}
-use Rattle.ledger_model.specs.Lawful.{IsLawfulBook}
+use Rattle.ledger_model.specs.Lawful.{IsLawful}
 use Rattle.ledger_model.proofs.ListLaws.{counts_cons, counts_append}
-use Rattle.ledger_model.proofs.AcceptLaws.{book_accepts_once}
+use Rattle.ledger_model.proofs.AcceptLaws.{accepted_once}
 use Rattle.ledger_model.proofs.SerialLaws.{gap_once, made_once}
 use Rattle.ledger_model.proofs.StockLaws.{all_made, stock_sold_once, sold_parts}
 use Rattle.ledger_model.proofs.LicenceLaws.{licensed_serials}
@@ -28,30 +29,30 @@ use Rattle.balanced_books.proofs.Sold.{sale_value, picked_values, licensed_high}
 -- ---- the broker
 
 -- the pieces that a house handed out in its own series stand once each
-pub own_once : (limits : Limits) (kind : ℕ) (h : History) → limits.series ≤ 2 ^ 32 → IsLawfulBook limits kind h → StandOnce (own_out h)
-own_once limits kind h le lawful id =
+pub own_once : (limits : Limits) (h : History) → limits.series ≤ 2 ^ 32 → IsLawful limits h → StandOnce (own_out h)
+own_once limits h le lawful id =
     let both = counts_append (λ p. eqb p.id id) (own_out h) (minted h) in
-    omega (arith, both, made_once limits kind h id le lawful)
+    omega (arith, both, made_once limits h id le lawful)
 
 -- a broker's book: what was paid in is its own sum, and the values of its sales
-pub broker_balances : (limits : Limits) (b : History) → limits.series ≤ 2 ^ 32 → IsBook limits 1 b → AreAmong (own_out b) (accepted b) → paid_in b ≡ broker_sum b + sold_values b
+pub broker_balances : (limits : Limits) (b : History) → limits.series ≤ 2 ^ 32 → IsBook limits BROKER_KIND b → AreAmong (own_out b) (accepted b) → paid_in b ≡ broker_sum b + sold_values b
 broker_balances limits b le book among =
-    let once = distinct_once (accepted b) (book_accepts_once limits 1 b book.lawful) in
-    let parts = split b (own_out b) (own_once limits 1 b le book.lawful) once among in
-    omega (arith, broker_keeps limits b book.lawful, parts)
+    let once = distinct_once (accepted b) (accepted_once limits b book.lawful) in
+    let parts = split b (own_out b) (own_once limits b le book.lawful) once among in
+    omega (arith, broker_keeps limits b book.lawful book.site, parts)
 
 -- ---- one vendor
 
-one_vendor : (limits : Limits) (b v : History) → limits.series ≤ 2 ^ 32 → IsBook limits 1 b → IsBook limits 0 v → AreAmong (handed_out b v) (accepted v) → AreAmong (minted v) (stock_sold b (site_name v))
+one_vendor : (limits : Limits) (b v : History) → limits.series ≤ 2 ^ 32 → IsBook limits BROKER_KIND b → IsBook limits VENDOR_KIND v → AreAmong (handed_out b v) (accepted v) → AreAmong (minted v) (stock_sold b (site_name v))
     → sum_by sale_value (filter (is_of_vendor (site_name v)) (sales b)) ≡ vendor_sum b v
 one_vendor limits b v le broker vendor among stock =
     let name = site_name v in
-    let no_gap = licensed_serials limits 1 b name le broker.lawful in
+    let no_gap = licensed_serials limits b name le broker.lawful in
     let apart = sales_apart limits v (sold b name) (licensed_sold b name) (stock_sold b name) le vendor (sold_parts b name)
-    (λ id. gap_once (licensed_sold b name) id no_gap) (licensed_high limits 1 b name broker) (λ id. stock_sold_once limits 1 b name id broker.lawful) stock in
-    sym (picked_values b (is_of_vendor name) (sales b) (all_made limits 1 b broker.lawful)) ∙ vendor_balances limits v (sold b name) vendor.lawful apart among
+    (λ id. gap_once (licensed_sold b name) id no_gap) (licensed_high limits BROKER_KIND b name broker) (λ id. stock_sold_once limits b name id broker.lawful) stock in
+    sym (picked_values b (is_of_vendor name) (sales b) (all_made limits b broker.lawful)) ∙ vendor_balances limits v (sold b name) vendor apart among
 
-all_vendors : (limits : Limits) (b : History) (vs : List History) → limits.series ≤ 2 ^ 32 → IsBook limits 1 b → AllByRecursion (IsBook limits 0) vs
+all_vendors : (limits : Limits) (b : History) (vs : List History) → limits.series ≤ 2 ^ 32 → IsBook limits BROKER_KIND b → AllByRecursion (IsBook limits VENDOR_KIND) vs
     → AllByRecursion (λ v. AreAmong (handed_out b v) (accepted v)) vs → AllByRecursion (λ v. AreAmong (minted v) (stock_sold b (site_name v))) vs
     → sum_by (λ v. sum_by sale_value (filter (is_of_vendor (site_name v)) (sales b))) vs ≡ sum_by (vendor_sum b) vs
 all_vendors limits b [] le broker vendors among stock = refl

@@ -7,6 +7,7 @@ use Rattle.std.proofs.lemmas.List.Sums.{sum_by-cons, sum_by-append}
 use Rattle.std.proofs.lemmas.List.Filters.{sum_by-filter_both}
 use Rattle.scrip_form.specs.Scrip.{Scrip}
 use Rattle.mc_records.specs.declared.limits.Limits.{Limits}
+use Rattle.ledger_model.specs.declared.numbers.TheConstants.{VENDOR_KIND, BROKER_KIND}
 use Rattle.ledger_model.specs.Histories.{History}
 use Rattle.ledger_model.specs.Houses.{site_name}
 use Rattle.ledger_model.specs.Pieces.{accepted, own_out, minted}
@@ -144,7 +145,7 @@ by_deeds Q b name (s ∷ ss) licensed stock = go s.stock (bytes_eq s.vendor name
     go true false l k ih = ih l k
     go false false l k ih = ih l k
 
-all_issued : (limits : Limits) (name : List ℕ) (bs : List History) → AllByRecursion (IsBook limits 1) bs → AllByRecursion IsIssued (licensed_by bs name)
+all_issued : (limits : Limits) (name : List ℕ) (bs : List History) → AllByRecursion (IsBook limits BROKER_KIND) bs → AllByRecursion IsIssued (licensed_by bs name)
 all_issued limits name [] books = tt
 all_issued limits name (b ∷ bs) books = all_append IsIssued (licensed_sold b name) (licensed_by bs name) (licensed_high limits 1 b name books.0) (all_issued limits name bs books.1)
 
@@ -163,7 +164,7 @@ proper bs v p high genuine = go (is_among (minted v) p) genuine
     go true e low = refl
     go false e low = absurd (low (among_issued (licensed_by bs (site_name v)) p high e))
 
-proper_sales : (limits : Limits) (all bs : List History) (v : History) → AllByRecursion IsIssued (licensed_by all (site_name v)) → AllByRecursion (IsBook limits 1) bs
+proper_sales : (limits : Limits) (all bs : List History) (v : History) → AllByRecursion IsIssued (licensed_by all (site_name v)) → AllByRecursion (IsBook limits BROKER_KIND) bs
     → AllByRecursion (λ b. AllByRecursion (IsGenuineStock all v) (stock_sold b (site_name v))) bs → AllByRecursion (IsProper v) (sold_by bs (site_name v))
 proper_sales limits all [] v high books stock = tt
 proper_sales limits all (b ∷ bs) v high books stock =
@@ -199,7 +200,7 @@ kept_minted v (p ∷ ps) all = go (is_high p) refl (kept_minted v ps all.1)
     go true is ih = ih
     go false is ih = let low = leb-false (2 ^ 56) p.id is in (all.0 (λ big. absurd (omega (arith, low, big))), ih)
 
-apart_in_tree : (limits : Limits) (v : History) (ps : List Scrip) → limits.series ≤ 2 ^ 32 → IsBook limits 0 v → AllByRecursion (IsProper v) ps → StandOnce (once ps ++ own_out v)
+apart_in_tree : (limits : Limits) (v : History) (ps : List Scrip) → limits.series ≤ 2 ^ 32 → IsBook limits VENDOR_KIND v → AllByRecursion (IsProper v) ps → StandOnce (once ps ++ own_out v)
 apart_in_tree limits v ps le book proper =
     let parts = filter_parts (once ps) in
     let one = stand_once ps in
@@ -229,37 +230,37 @@ once_distinct (p ∷ ps) once =
     let most = once p.id in
     (count_none (λ q. eqb q.id p.id) ps (omega (arith, here, one, most)), once_distinct ps (λ id. let more = counts_cons (λ q. eqb q.id id) p ps in let le = once id in omega (arith, more, le)))
 
-fresh_own : (limits : Limits) (v : History) (ps qs : List Scrip) → limits.series ≤ 2 ^ 32 → IsBook limits 0 v → AllByRecursion (IsProper v) ps
+fresh_own : (limits : Limits) (v : History) (ps qs : List Scrip) → limits.series ≤ 2 ^ 32 → IsBook limits VENDOR_KIND v → AllByRecursion (IsProper v) ps
     → AllByRecursion (λ q. q.id < 2 ^ 56) qs → AllByRecursion (λ q. 1 ≤ with_id (own_out v) q.id) qs → AllByRecursion (Fresh [] ps) qs
 fresh_own limits v ps [] le book proper small there = tt
 fresh_own limits v ps (q ∷ qs) le book proper small there =
     let made = counts_append (λ p. eqb p.id q.id) (own_out v) (minted v) in
-    let most = made_once limits 0 v q.id le book.lawful in
+    let most = made_once limits v q.id le book.lawful in
     let here = there.0 in
     let low = small.0 in
     let none : with_id (minted v) q.id ≡ 0 = omega (arith, made, most, here) in
     let never_sold = never (IsProper v) q.id ps (λ p is_proper is. not_among (minted v) p (ap (with_id (minted v)) is ∙ none) (is_proper (λ big. absurd (omega (arith, big, low, is))))) proper in
     ((refl, count_none (λ p. eqb p.id q.id) ps never_sold), fresh_own limits v ps qs le book proper small.1 there.1)
 
-one_vendor : (limits : Limits) (bs : List History) (v : History) → limits.series ≤ 2 ^ 32 → AllByRecursion (IsBook limits 1) bs → IsBook limits 0 v → AreAmong (handed_by bs v) (accepted v)
+one_vendor : (limits : Limits) (bs : List History) (v : History) → limits.series ≤ 2 ^ 32 → AllByRecursion (IsBook limits BROKER_KIND) bs → IsBook limits VENDOR_KIND v → AreAmong (handed_by bs v) (accepted v)
     → AllByRecursion (λ b. AllByRecursion (IsGenuineStock bs v) (stock_sold b (site_name v))) bs
     → values (sold_by bs (site_name v)) ≡ vendor_sum_by bs v + values (again (sold_by bs (site_name v)))
 one_vendor limits bs v le brokers book among stock =
     let ps = sold_by bs (site_name v) in
     let proper_ones = proper_sales limits bs bs v (all_issued limits (site_name v) bs brokers) brokers stock in
     let apart = apart_in_tree limits v ps le book proper_ones in
-    let own = own_below limits 0 v le book.lawful book.fits in
-    let own_ones = own_once limits 0 v le book.lawful in
+    let own = own_below limits v le book.lawful book.fits in
+    let own_ones = own_once limits v le book.lawful in
     let is : handed_by bs v ≡ once ps ++ own_out v = once_append [] ps (own_out v) (once_distinct (own_out v) own_ones) (fresh_own limits v ps (own_out v) le book proper_ones own.0 (present (own_out v))) in
     let balance : values (once ps) ≡ vendor_sum_by bs v =
     subst (λ (hs : List Scrip). values (once ps) ≡ takings v + outstanding hs v + lapsed hs v) (sym is)
-    (vendor_balances limits v (once ps) book.lawful apart (subst (λ (hs : List Scrip). AreAmong hs (accepted v)) is among)) in
+    (vendor_balances limits v (once ps) book apart (subst (λ (hs : List Scrip). AreAmong hs (accepted v)) is among)) in
     let split = once_and_again [] ps in
     omega (arith, balance, split)
 
 -- ---- all vendors and all brokers
 
-all_vendors : (limits : Limits) (bs vs : List History) → limits.series ≤ 2 ^ 32 → AllByRecursion (IsBook limits 1) bs → AllByRecursion (IsBook limits 0) vs
+all_vendors : (limits : Limits) (bs vs : List History) → limits.series ≤ 2 ^ 32 → AllByRecursion (IsBook limits BROKER_KIND) bs → AllByRecursion (IsBook limits VENDOR_KIND) vs
     → AllByRecursion (λ v. AreAmong (handed_by bs v) (accepted v)) vs → AllByRecursion (λ v. AllByRecursion (λ b. AllByRecursion (IsGenuineStock bs v) (stock_sold b (site_name v))) bs) vs
     → sum_by (λ v. values (sold_by bs (site_name v))) vs ≡ sum_by (vendor_sum_by bs) vs + relayed bs vs
 all_vendors limits bs [] le brokers vendors among stock = refl
@@ -271,14 +272,14 @@ all_vendors limits bs (v ∷ vs) le brokers vendors among stock =
     omega (arith, one, a, b, c, all_vendors limits bs vs le brokers vendors.1 among.1 stock.1)
 
 -- what a broker sold is what it sold of the vendors
-one_broker : (limits : Limits) (b : History) (vs : List History) → IsBook limits 1 b → HaveOwnNames vs
+one_broker : (limits : Limits) (b : History) (vs : List History) → IsBook limits BROKER_KIND b → HaveOwnNames vs
     → AllByRecursion (λ s. IsTrue (list_any (λ v. bytes_eq s.vendor (site_name v)) vs)) (sales b) → sold_values b ≡ sum_by (λ v. values (sold b (site_name v))) vs
 one_broker limits b vs book own known =
-    let made = all_made limits 1 b book.lawful in
+    let made = all_made limits b book.lawful in
     sym (joined (sales b) vs own known)
     ∙ sum_same (λ v. sum_by sale_value (filter (is_of_vendor (site_name v)) (sales b))) (λ v. values (sold b (site_name v))) (λ v. sym (picked_values b (is_of_vendor (site_name v)) (sales b) made)) vs
 
-all_brokers : (limits : Limits) (bs vs : List History) → limits.series ≤ 2 ^ 32 → AllByRecursion (IsBook limits 1) bs → AllByRecursion (λ b. AreAmong (own_out b) (accepted b)) bs → HaveOwnNames vs
+all_brokers : (limits : Limits) (bs vs : List History) → limits.series ≤ 2 ^ 32 → AllByRecursion (IsBook limits BROKER_KIND) bs → AllByRecursion (λ b. AreAmong (own_out b) (accepted b)) bs → HaveOwnNames vs
     → AllByRecursion (λ b. AllByRecursion (λ s. IsTrue (list_any (λ v. bytes_eq s.vendor (site_name v)) vs)) (sales b)) bs
     → sum_by paid_in bs ≡ sum_by broker_sum bs + sum_by (λ v. values (sold_by bs (site_name v))) vs
 all_brokers limits [] vs le books among own known =

@@ -13,7 +13,7 @@ use Rattle.ledger_model.specs.Houses.{terms_of, all_terms, terms_in, own_series}
 use Rattle.ledger_model.specs.Pieces.{change_piece, first_hand, drawn_piece, handed_piece, own_out, own_out_from, minted, minted_from, minted_pieces, run_from, own_count}
 use Rattle.ledger_model.specs.Lines.{Stop}
 use Rattle.ledger_model.specs.Answer.{next_own}
-use Rattle.ledger_model.specs.Lawful.{unbounded, draw_request, IsAllowed, AllFollow, IsLawfulBook}
+use Rattle.ledger_model.specs.Lawful.{unbounded, draw_request, IsAllowed, AllFollow, IsLawful}
 use Rattle.ledger_model.specs.Orders.{Order, order_of}
 use Rattle.ledger_model.proofs.ListLaws.{all_append, found_holds}
 use Rattle.ledger_model.proofs.AcceptLaws.{accept_change, accept_through}
@@ -109,9 +109,8 @@ below_from limits before (e ∷ es) le before_fits fits follow =
       all_append IsOwn (minted_pieces before e) _ (minted_below limits before e le before_fits fits.0 follow.0.allowed) more.1,
     )
 
--- the pieces that a lawful book hands out and mints in the house's own series are of issuer 0
-pub own_below : (limits : Limits) (kind : ℕ) (h : History) → limits.series ≤ 2 ^ 32 → IsLawfulBook limits kind h → AllByRecursion Fits h
+-- the pieces that a lawful history hands out and mints in the house's own series are of issuer 0
+pub own_below : (limits : Limits) (h : History) → limits.series ≤ 2 ^ 32 → IsLawful limits h → AllByRecursion Fits h
     → AllByRecursion IsOwn (own_out h) × AllByRecursion IsOwn (minted h)
-own_below limits kind [] le lawful fits = absurd lawful
-own_below limits kind (Site m k name house ∷ es) le lawful fits = below_from limits (Site m k name house ∷ []) es le (fits.0, tt) fits.1 lawful.1
-own_below limits kind (e ∷ es) le lawful fits = absurd lawful.0
+own_below limits [] le lawful fits = absurd lawful
+own_below limits (e ∷ es) le lawful fits = below_from limits [] (e ∷ es) le tt fits lawful

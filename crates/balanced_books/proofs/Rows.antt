@@ -24,7 +24,7 @@ use Rattle.ledger_model.specs.Pieces.{own_out}
 use Rattle.ledger_model.specs.Accounts.{all_balances}
 use Rattle.ledger_model.specs.Sums.{paid_in, paid_out, fees, takings, handed_out, outstanding, lapsed}
 use Rattle.ledger_model.specs.Answer.{broker_offer, answer}
-use Rattle.ledger_model.specs.Lawful.{IsLawfulBook}
+use Rattle.ledger_model.specs.Lawful.{IsLawful}
 use Rattle.ledger_model.specs.Replies.{sale_brought, sale_price}
 use Rattle.balanced_books.specs.Books.{vendor_sum, broker_sum, AreBooks, IsHandedOut, IsBalanced}
 use Rattle.balanced_books.specs.Brokers.{relayed, AreBalanced}
@@ -86,21 +86,21 @@ vendors = news ∷ shop ∷ []
 
 -- ---- they are lawful
 
-row_bank : IsLawfulBook full 1 bank
+row_bank : IsLawful full bank
 unfolding tail tail_size answer broker_offer sale_brought sale_price certificate_in secret_in errand_of digits scrip_of scrip_at id_at literal_at field_at field_of is_text digit_of digit_at hex_at scrip_body certificate customer_secret encode_with request_signature md5 block_words rounds compress hash_after digest_bytes
-row_bank = (refl, (record { in_order = omega arith; allowed = (refl, refl) }, (record { in_order = omega arith; allowed = (refl, refl, refl, omega arith) }, (record { in_order = omega arith; allowed = (refl, refl) }, (record { in_order = omega arith; allowed = (refl, refl) }, (record { in_order = omega arith; allowed = refl }, (record { in_order = omega arith; allowed = refl }, (record { in_order = omega arith; allowed = refl }, (record { in_order = omega arith; allowed = refl }, tt)))))))))
+row_bank = (record { in_order = omega arith; allowed = (refl, omega arith) }, (record { in_order = omega arith; allowed = (refl, refl) }, (record { in_order = omega arith; allowed = (refl, refl, refl, omega arith) }, (record { in_order = omega arith; allowed = (refl, refl) }, (record { in_order = omega arith; allowed = (refl, refl) }, (record { in_order = omega arith; allowed = refl }, (record { in_order = omega arith; allowed = refl }, (record { in_order = omega arith; allowed = refl }, (record { in_order = omega arith; allowed = refl }, tt)))))))))
 
-row_news : IsLawfulBook full 0 news
+row_news : IsLawful full news
 unfolding tail tail_size answer broker_offer sale_brought sale_price certificate_in secret_in errand_of digits scrip_of scrip_at id_at literal_at field_at field_of is_text digit_of digit_at hex_at scrip_body certificate customer_secret encode_with request_signature md5 block_words rounds compress hash_after digest_bytes
-row_news = (refl, (record { in_order = omega arith; allowed = (refl, refl) }, (record { in_order = omega arith; allowed = (refl, omega arith) }, (record { in_order = omega arith; allowed = refl }, tt))))
+row_news = (record { in_order = omega arith; allowed = (refl, omega arith) }, (record { in_order = omega arith; allowed = (refl, refl) }, (record { in_order = omega arith; allowed = (refl, omega arith) }, (record { in_order = omega arith; allowed = refl }, tt))))
 
-row_forged : IsLawfulBook full 0 forged
+row_forged : IsLawful full forged
 unfolding tail tail_size answer broker_offer sale_brought sale_price certificate_in secret_in errand_of digits scrip_of scrip_at id_at literal_at field_at field_of is_text digit_of digit_at hex_at scrip_body certificate customer_secret encode_with request_signature md5 block_words rounds compress hash_after digest_bytes
-row_forged = (refl, (record { in_order = omega arith; allowed = (refl, refl) }, (record { in_order = omega arith; allowed = (refl, omega arith) }, (record { in_order = omega arith; allowed = refl }, (record { in_order = omega arith; allowed = refl }, tt)))))
+row_forged = (record { in_order = omega arith; allowed = (refl, omega arith) }, (record { in_order = omega arith; allowed = (refl, refl) }, (record { in_order = omega arith; allowed = (refl, omega arith) }, (record { in_order = omega arith; allowed = refl }, (record { in_order = omega arith; allowed = refl }, tt)))))
 
-row_shop : IsLawfulBook full 0 shop
+row_shop : IsLawful full shop
 unfolding tail tail_size answer broker_offer sale_brought sale_price certificate_in secret_in errand_of digits scrip_of scrip_at id_at literal_at field_at field_of is_text digit_of digit_at hex_at scrip_body certificate customer_secret encode_with request_signature md5 block_words rounds compress hash_after digest_bytes
-row_shop = (refl, (record { in_order = omega arith; allowed = (refl, refl, refl, omega arith) }, (record { in_order = omega arith; allowed = (refl, omega arith) }, tt)))
+row_shop = (record { in_order = omega arith; allowed = (refl, omega arith) }, (record { in_order = omega arith; allowed = (refl, refl, refl, omega arith) }, (record { in_order = omega arith; allowed = (refl, omega arith) }, tt)))
 
 -- ---- the sums
 
@@ -158,9 +158,9 @@ kiosk =
     ∷ Accept 1000000 (codes "MS1|kiosk|60|000000f400000000|000000f400000000|1011712||e149aa588ca1fc48717b0dc958aebc4f") (codes "/buy/shop.example/50") None 51 (Some 0x000000f400000001) (sale true 0x000000f400000000)
     ∷ []
 
-row_kiosk : IsLawfulBook full 1 kiosk
+row_kiosk : IsLawful full kiosk
 unfolding tail tail_size answer broker_offer sale_brought sale_price certificate_in secret_in errand_of digits scrip_of scrip_at id_at literal_at field_at field_of is_text digit_of digit_at hex_at scrip_body certificate customer_secret encode_with request_signature md5 block_words rounds compress hash_after digest_bytes
-row_kiosk = (refl, (record { in_order = omega arith; allowed = (refl, refl) }, (record { in_order = omega arith; allowed = (refl, refl, refl, omega arith) }, (record { in_order = omega arith; allowed = (refl, refl) }, (record { in_order = omega arith; allowed = refl }, (record { in_order = omega arith; allowed = refl }, tt))))))
+row_kiosk = (record { in_order = omega arith; allowed = (refl, omega arith) }, (record { in_order = omega arith; allowed = (refl, refl) }, (record { in_order = omega arith; allowed = (refl, refl, refl, omega arith) }, (record { in_order = omega arith; allowed = (refl, refl) }, (record { in_order = omega arith; allowed = refl }, (record { in_order = omega arith; allowed = refl }, tt))))))
 
 row_brokers : (sum_by paid_in (bank ∷ kiosk ∷ []) ≡ 1100) × (broker_sum kiosk ≡ 50) × (relayed (bank ∷ kiosk ∷ []) vendors ≡ 50) × AreBalanced (bank ∷ kiosk ∷ []) vendors
 unfolding errand_of digits scrip_of scrip_at id_at literal_at field_at field_of is_text digit_of digit_at hex_at scrip_body encode_with
@@ -255,8 +255,8 @@ shop_fits = (
 row_books : AreBooks full bank vendors
 unfolding errand_of digits scrip_of scrip_at id_at literal_at field_at field_of is_text digit_of digit_at hex_at scrip_body encode_with
 row_books = record {
-  broker = record { lawful = row_bank; fits = bank_fits };
-  vendors = (record { lawful = row_news; fits = news_fits }, (record { lawful = row_shop; fits = shop_fits }, tt));
+  broker = record { lawful = row_bank; site = refl; fits = bank_fits };
+  vendors = (record { lawful = row_news; site = refl; fits = news_fits }, (record { lawful = row_shop; site = refl; fits = shop_fits }, tt));
   names = (refl, (refl, tt));
   sold_for = (refl, (refl, tt));
 }

@@ -7,11 +7,11 @@ use Rattle.std.proofs.lemmas.Option.{same_Some}
 use Rattle.scrip_form.specs.Issuing.{Issuing}
 use Rattle.scrip_form.specs.Scrip.{Scrip}
 use Rattle.mc_records.specs.declared.limits.Limits.{Limits}
-use Rattle.mc_records.specs.Entry.{Entry, Site, Licence, Fits, moment_of}
+use Rattle.mc_records.specs.Entry.{Entry, Licence, Fits, moment_of}
 use Rattle.ledger_model.specs.Histories.{History}
 use Rattle.ledger_model.specs.Stock.{is_licence_of, licence_terms, licence_in, Sale, sale_of, sales, is_licensed, sold_piece, licensed_sold}
 use Rattle.ledger_model.specs.Sums.{values}
-use Rattle.ledger_model.specs.Lawful.{IsAllowed, AllFollow, IsLawfulBook}
+use Rattle.ledger_model.specs.Lawful.{IsAllowed, AllFollow, IsLawful}
 use Rattle.ledger_model.specs.Taken.{IsSupplied}
 use Rattle.ledger_model.specs.Laws.{HasPiece}
 use Rattle.ledger_model.proofs.ListLaws.{all_append, found_holds}
@@ -74,10 +74,9 @@ high_from limits before (e ∷ es) before_fits fits follow =
     high_sale limits before e before_fits follow.0.allowed (sales es)
     (high_from limits (before ++ e ∷ []) es (all_append Fits before (e ∷ []) before_fits (fits.0, tt)) fits.1 follow.1)
 
-all_high : (limits : Limits) (kind : ℕ) (h : History) → IsLawfulBook limits kind h → AllByRecursion Fits h → AllByRecursion IsHigh (sales h)
-all_high limits kind [] lawful fits = absurd lawful
-all_high limits kind (Site m k name house ∷ es) lawful fits = high_from limits (Site m k name house ∷ []) es (fits.0, tt) fits.1 lawful.1
-all_high limits kind (e ∷ es) lawful fits = absurd lawful.0
+all_high : (limits : Limits) (h : History) → IsLawful limits h → AllByRecursion Fits h → AllByRecursion IsHigh (sales h)
+all_high limits [] lawful fits = absurd lawful
+all_high limits (e ∷ es) lawful fits = high_from limits [] (e ∷ es) tt fits lawful
 
 abbrev pub IsIssued : Scrip → Type 0
 IsIssued p = 2 ^ 56 ≤ p.id
@@ -98,4 +97,4 @@ high_pieces h vendor (s ∷ ss) made high = go s.stock high.0 (bytes_eq s.vendor
         subst (λ (o : Option Scrip). AllByRecursion IsIssued (cons_option o (filter_map (sold_piece h) rest))) (sym x.is) (omega (arith, least, x.id), more)
 
 pub licensed_high : (limits : Limits) (kind : ℕ) (h : History) (vendor : List ℕ) → IsBook limits kind h → AllByRecursion IsIssued (licensed_sold h vendor)
-licensed_high limits kind h vendor book = high_pieces h vendor (sales h) (all_made limits kind h book.lawful) (all_high limits kind h book.lawful book.fits)
+licensed_high limits kind h vendor book = high_pieces h vendor (sales h) (all_made limits h book.lawful) (all_high limits h book.lawful book.fits)

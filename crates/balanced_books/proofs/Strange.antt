@@ -5,12 +5,13 @@ use Rattle.std.specs.List.{list_any, AllByRecursion, cons_option}
 use Rattle.scrip_form.specs.Scrip.{Scrip}
 use Rattle.mc_records.specs.declared.limits.Limits.{Limits}
 use Rattle.mc_records.specs.Entry.{goods_deed, sale, credit, Entry, Site, Accept}
+use Rattle.ledger_model.specs.declared.numbers.TheConstants.{VENDOR_KIND}
 use Rattle.ledger_model.specs.Histories.{History}
 use Rattle.ledger_model.specs.Houses.{site_name, is_vendor, is_broker}
 use Rattle.ledger_model.specs.Pieces.{accepted, accepted_piece, own_out, minted}
 use Rattle.ledger_model.specs.Stock.{Sale, sale_of, sales, is_of_stock, sold_piece}
 use Rattle.ledger_model.specs.Sums.{handed_out}
-use Rattle.ledger_model.specs.Lawful.{unbounded, request_of, IsAllowed, AllFollow, IsLawfulBook}
+use Rattle.ledger_model.specs.Lawful.{unbounded, request_of, IsAllowed, AllFollow}
 use Rattle.ledger_model.proofs.TakenLaws.{taken_sale}
 use Rattle.ledger_model.proofs.DrawnLaws.{first_kind, not_both}
 use Rattle.balanced_books.specs.Meets.{is_among, AreAmong}
@@ -228,22 +229,19 @@ no_sale limits before (Accept m scrip target sign price change (sale stock id)) 
     absurd (not_both (is_vendor before) vendor (taken_sale before m (unbounded limits) (request_of scrip target sign) m scrip target sign price change stock id allowed).no_vendor)
 no_sale limits before e vendor allowed = refl
 
-abbrev vendor_kind : Option ℕ → Bool
-vendor_kind o = unwrap_or (option_map (λ kind. eqb kind 0) o) false
+abbrev is_vendors : Option ℕ → Bool
+is_vendors o = unwrap_or (option_map (λ kind. eqb kind 0) o) false
 
 nothing_sold : (limits : Limits) (x : Entry) (xs es : History) → is_vendor (x ∷ xs) ≡ true → AllFollow limits (x ∷ xs) es → sales es ≡ []
 nothing_sold limits x xs [] vendor follow = refl
 nothing_sold limits x xs (e ∷ es) vendor follow =
     ap (λ (o : Option Sale). cons_option o (sales es)) (no_sale limits (x ∷ xs) e vendor follow.0.allowed)
-    ∙ nothing_sold limits x (xs ++ e ∷ []) es (ap vendor_kind (first_kind x (xs ++ e ∷ []) xs) ∙ vendor) follow.1
+    ∙ nothing_sold limits x (xs ++ e ∷ []) es (ap is_vendors (first_kind x (xs ++ e ∷ []) xs) ∙ vendor) follow.1
 
-sells_nothing : (limits : Limits) (v : History) → IsLawfulBook limits 0 v → sales v ≡ []
-sells_nothing limits [] lawful = absurd lawful
-sells_nothing limits (Site m kind name house ∷ es) lawful = nothing_sold limits (Site m kind name house) [] es (ap is_zero lawful.0) lawful.1
-  where
-    is_zero : ℕ → Bool
-    is_zero n = eqb n 0
-sells_nothing limits (e ∷ es) lawful = absurd lawful.0
+sells_nothing : (limits : Limits) (v : History) → IsBook limits VENDOR_KIND v → sales v ≡ []
+sells_nothing limits [] book = absurd book.lawful
+sells_nothing limits (Site m kind name house ∷ es) book = nothing_sold limits (Site m kind name house) [] es (ap is_vendors book.site) book.lawful.1
+sells_nothing limits (e ∷ es) book = absurd (cc book.site)
 
 -- ---- all books
 
@@ -321,11 +319,11 @@ all_merge P test (x ∷ xs) yes' no' = go (test x) refl yes' no' (all_merge P te
     go true is f g ih = (f.0 is, ih f.1 g)
     go false is f g ih = (g.0 is, ih f g.1)
 
-no_vendor_strangers : (limits : Limits) (b : History) (vs ws : List History) → AllByRecursion (IsBook limits 0) ws → AllByRecursion (λ v. AreAmong (handed_out b v) (accepted v)) ws
+no_vendor_strangers : (limits : Limits) (b : History) (vs ws : List History) → AllByRecursion (IsBook limits VENDOR_KIND) ws → AllByRecursion (λ v. AreAmong (handed_out b v) (accepted v)) ws
     → AllByRecursion (λ v. is_broker v ≡ false → strangers b vs v ≡ []) ws
 no_vendor_strangers limits b vs [] books among = tt
 no_vendor_strangers limits b vs (v ∷ ws) books among =
-    ((λ is. none_by b vs v v (of_vendor b v (is_broker v) is among.0) (subst (AllByRecursion (IsMinted vs v)) (sym (sells_nothing limits v books.0.lawful)) tt)), no_vendor_strangers limits b vs ws books.1 among.1)
+    ((λ is. none_by b vs v v (of_vendor b v (is_broker v) is among.0) (subst (AllByRecursion (IsMinted vs v)) (sym (sells_nothing limits v books.0)) tt)), no_vendor_strangers limits b vs ws books.1 among.1)
 
 -- where all was handed out, no stranger stands
 pub none_strange : (limits : Limits) (b : History) (vs books : List History) → AreBooks limits b vs → AreOfMarket b vs books → IsHandedOut b vs → first_stranger b vs books ≡ None

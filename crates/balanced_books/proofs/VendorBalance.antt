@@ -5,13 +5,13 @@ use Rattle.std.proofs.lemmas.Bool.{eqb-true, cases_lt}
 use Rattle.std.proofs.lemmas.List.Sums.{sum_by-append}
 use Rattle.scrip_form.specs.Scrip.{Scrip}
 use Rattle.mc_records.specs.declared.limits.Limits.{Limits}
+use Rattle.ledger_model.specs.declared.numbers.TheConstants.{VENDOR_KIND}
 use Rattle.ledger_model.specs.Histories.{History}
 use Rattle.ledger_model.specs.Pieces.{accepted, own_out, minted}
 use Rattle.ledger_model.specs.Sums.{values, takings, outstanding, lapsed}
-use Rattle.ledger_model.specs.Lawful.{IsLawfulBook}
 use Rattle.ledger_model.specs.Laws.{with_id}
 use Rattle.ledger_model.proofs.ListLaws.{counts_cons, counts_append}
-use Rattle.ledger_model.proofs.AcceptLaws.{book_accepts_once, values_are_kept}
+use Rattle.ledger_model.proofs.AcceptLaws.{accepted_once, values_are_kept}
 use Rattle.ledger_model.proofs.SerialLaws.{made_once}
 use Rattle.ledger_model.proofs.DrawnLaws.{none_drawn}
 use Rattle.balanced_books.specs.Meets.{is_among, AreAmong}
@@ -19,12 +19,12 @@ use Rattle.balanced_books.specs.Books.{IsBook}
 use Rattle.balanced_books.proofs.Meeting.{StandOnce, split, distinct_once}
 use Rattle.balanced_books.proofs.OwnIssuer.{own_below}
 
-pub vendor_balances : (limits : Limits) (v : History) (sales : List Scrip) → IsLawfulBook limits 0 v → StandOnce (sales ++ own_out v) → AreAmong (sales ++ own_out v) (accepted v)
+pub vendor_balances : (limits : Limits) (v : History) (sales : List Scrip) → IsBook limits VENDOR_KIND v → StandOnce (sales ++ own_out v) → AreAmong (sales ++ own_out v) (accepted v)
     → values sales ≡ takings v + outstanding (sales ++ own_out v) v + lapsed (sales ++ own_out v) v
-vendor_balances limits v sales lawful once among =
-    let handed = split v (sales ++ own_out v) once (distinct_once (accepted v) (book_accepts_once limits 0 v lawful)) among in
+vendor_balances limits v sales book once among =
+    let handed = split v (sales ++ own_out v) once (distinct_once (accepted v) (accepted_once limits v book.lawful)) among in
     let both = sum_by-append (λ (p : Scrip). p.value) sales (own_out v) in
-    omega (arith, handed, both, values_are_kept limits 0 v lawful, none_drawn limits v lawful)
+    omega (arith, handed, both, values_are_kept limits v book.lawful, none_drawn limits v book.lawful book.site)
 
 -- ---- sales stand apart from change
 
@@ -49,17 +49,17 @@ not_among (q ∷ qs) p none among = go (eqb q.id p.id) (sym (counts_cons (λ x. 
 
 -- The pieces that a broker sold of a vendor: licensed ones, of issuers above 0, and stock, which the vendor minted.
 -- No identity stands twice among them and the vendor's own change.
-pub sales_apart : (limits : Limits) (v : History) (sales licensed stock : List Scrip) → limits.series ≤ 2 ^ 32 → IsBook limits 0 v
+pub sales_apart : (limits : Limits) (v : History) (sales licensed stock : List Scrip) → limits.series ≤ 2 ^ 32 → IsBook limits VENDOR_KIND v
     → ((id : ℕ) → with_id sales id ≡ with_id licensed id + with_id stock id)
     → StandOnce licensed → AllByRecursion (λ p. 2 ^ 56 ≤ p.id) licensed → StandOnce stock → AreAmong (minted v) stock
     → StandOnce (sales ++ own_out v)
 sales_apart limits v sales licensed stock le book parts licensed_once issued stock_once minted_all id =
     let all = counts_append (λ p. eqb p.id id) sales (own_out v) in
     let made = counts_append (λ p. eqb p.id id) (own_out v) (minted v) in
-    let made_at_most = made_once limits 0 v id le book.lawful in
+    let made_at_most = made_once limits v id le book.lawful in
     let l = licensed_once id in
     let s = stock_once id in
-    let low = own_below limits 0 v le book.lawful book.fits in
+    let low = own_below limits v le book.lawful book.fits in
     elim (cases_lt id (2 ^ 56)) [
       | inl lt ↦
           let no_licensed = never (λ p. 2 ^ 56 ≤ p.id) id licensed (λ p big is. omega (arith, lt, big, is)) issued in

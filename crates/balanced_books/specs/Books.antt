@@ -1,22 +1,24 @@
 -- The books of one broker and of vendors, what was handed out of them, and the sum of all money.
-use Rattle.std.specs.Prelude.{◌≡◌, ℕ, ◌+◌, IsTrue, IsFalse, List, [], ◌∷◌, sum_by, bytes_eq}
+use Rattle.std.specs.Prelude.{◌≡◌, ℕ, ◌+◌, IsTrue, IsFalse, List, [], ◌∷◌, Some, sum_by, bytes_eq}
 use Rattle.std.specs.List.{list_any, AllByRecursion}
 use Rattle.mc_records.specs.declared.limits.Limits.{Limits}
 use Rattle.mc_records.specs.Entry.{Fits}
+use Rattle.ledger_model.specs.declared.numbers.TheConstants.{VENDOR_KIND, BROKER_KIND}
 use Rattle.ledger_model.specs.Histories.{History}
-use Rattle.ledger_model.specs.Houses.{site_name}
+use Rattle.ledger_model.specs.Houses.{site_name, site_kind}
 use Rattle.ledger_model.specs.Pieces.{accepted, own_out, minted}
 use Rattle.ledger_model.specs.Accounts.{all_balances}
 use Rattle.ledger_model.specs.Stock.{sales, stock_sold}
 use Rattle.ledger_model.specs.Sums.{paid_in, paid_out, fees, takings, handed_out, outstanding, lapsed}
-use Rattle.ledger_model.specs.Lawful.{IsLawfulBook}
+use Rattle.ledger_model.specs.Lawful.{IsLawful}
 use Rattle.balanced_books.specs.Meets.{AreAmong}
 
 -- ---- books
 
--- the lawful book of a kind of site, whose entries are within the ranges that a journal has room for
+-- a lawful history of a kind of site, whose entries are within the ranges that a journal has room for
 pub record IsBook (limits : Limits) (kind : ℕ) (h : History) : Type 0 where
-  pub lawful : IsLawfulBook limits kind h
+  pub lawful : IsLawful limits h
+  pub site : site_kind h ≡ Some kind
   pub fits : AllByRecursion Fits h
 
 -- the names of some sites differ
@@ -26,8 +28,8 @@ HaveOwnNames (v ∷ vs) = IsFalse (list_any (λ w. bytes_eq (site_name w) (site_
 
 -- the books of one broker and of vendors with names of their own, among them each vendor of which the broker sold
 pub record AreBooks (limits : Limits) (b : History) (vs : List History) : Type 0 where
-  pub broker : IsBook limits 1 b
-  pub vendors : AllByRecursion (IsBook limits 0) vs
+  pub broker : IsBook limits BROKER_KIND b
+  pub vendors : AllByRecursion (IsBook limits VENDOR_KIND) vs
   pub names : HaveOwnNames vs
   pub sold_for : AllByRecursion (λ s. IsTrue (list_any (λ v. bytes_eq s.vendor (site_name v)) vs)) (sales b)
 

@@ -3,6 +3,7 @@ use Rattle.std.specs.Prelude.{◌≡◌, ℕ, ◌+◌, ◌==◌, ◌||◌, IsTru
 use Rattle.std.specs.List.{list_any, AllByRecursion}
 use Rattle.scrip_form.specs.Scrip.{Scrip}
 use Rattle.mc_records.specs.declared.limits.Limits.{Limits}
+use Rattle.ledger_model.specs.declared.numbers.TheConstants.{VENDOR_KIND, BROKER_KIND}
 use Rattle.ledger_model.specs.Histories.{History}
 use Rattle.ledger_model.specs.Houses.{site_name}
 use Rattle.ledger_model.specs.Pieces.{accepted, own_out, minted}
@@ -44,8 +45,8 @@ relayed bs vs = sum_by (λ v. values (again (sold_by bs (site_name v)))) vs
 
 -- the books of brokers and of vendors with names of their own, among them each vendor of which a broker sold
 pub record AreBooksOf (limits : Limits) (bs vs : List History) : Type 0 where
-  pub brokers : AllByRecursion (IsBook limits 1) bs
-  pub vendors : AllByRecursion (IsBook limits 0) vs
+  pub brokers : AllByRecursion (IsBook limits BROKER_KIND) bs
+  pub vendors : AllByRecursion (IsBook limits VENDOR_KIND) vs
   pub names : HaveOwnNames vs
   pub sold_for : AllByRecursion (λ b. AllByRecursion (λ s. IsTrue (list_any (λ v. bytes_eq s.vendor (site_name v)) vs)) (sales b)) bs
 

@@ -7,10 +7,11 @@ use Rattle.std.proofs.lemmas.Bool.{ltb-true, ltb-false}
 use Rattle.std.proofs.lemmas.Bool.Decides.{nat_tests}
 use Rattle.std.proofs.lemmas.List.Sums.{sum_by-cons}
 use Rattle.scrip_form.specs.Scrip.{Scrip}
+use Rattle.mc_records.specs.declared.ranges.TheConstants.{MOST_IN_ACCOUNT}
 use Rattle.mc_records.specs.declared.limits.Limits.{Limits}
 use Rattle.mc_records.specs.declared.refusal.Refusal.TheVariants.{TooLittle, NoSuchGoods, NoAccount, AccountFull}
 use Rattle.mc_records.specs.Errands.{Errand, buy, pay_in, draw, errand_of}
-use Rattle.mc_records.specs.Entry.{Deed, goods_deed, credit, Entry, Site, Accept, Draw}
+use Rattle.mc_records.specs.Entry.{Deed, goods_deed, credit, Entry, Accept, Draw}
 use Rattle.ledger_model.specs.Histories.{History}
 use Rattle.ledger_model.specs.Houses.{is_vendor, fee}
 use Rattle.ledger_model.specs.Goods.{price_in}
@@ -19,12 +20,11 @@ use Rattle.ledger_model.specs.Pieces.{piece_of, accepted, accepted_piece, change
 use Rattle.ledger_model.specs.Accounts.{account_in, balance}
 use Rattle.ledger_model.specs.Sums.{price_paid, takings, values, amount_drawn, all_drawn}
 use Rattle.ledger_model.specs.Lines.{Stop, ◌>>=◌, given, refused_if}
-use Rattle.ledger_model.specs.Stages.{Offer, shelf_by, Supply, supplied, sale_by, most_in_account, credit_by, needed}
+use Rattle.ledger_model.specs.Stages.{Offer, shelf_by, Supply, supplied, sale_by, credit_by, needed}
 use Rattle.ledger_model.specs.Answer.{offer, supply_of, errand_offer, broker_offer}
-use Rattle.ledger_model.specs.Lawful.{unbounded, request_of, IsAllowed, AllFollow, IsLawful, IsLawfulBook}
+use Rattle.ledger_model.specs.Lawful.{unbounded, request_of, IsAllowed, AllFollow, IsLawful}
 use Rattle.ledger_model.specs.Laws.{AreDistinct, worth, IsPaid, ArePaid}
-use Rattle.ledger_model.proofs.FollowLaws.{book_walk}
-use Rattle.ledger_model.proofs.BookLaws.{lawful_book}
+use Rattle.ledger_model.proofs.FollowLaws.{lawful_walk}
 use Rattle.ledger_model.proofs.TableLaws.{line_ok, refused_ok, ok_is, Through, accept_answer}
 
 -- ---- an Accept entry that may follow
@@ -86,12 +86,9 @@ step_distinct limits h (Accept m scrip target sign price change deed) allowed d 
     subst (λ (ps : List Scrip). AreDistinct ps) (sym (accepted_snoc h e ∙ ap (λ (ps : List Scrip). accepted h ++ ps) one)) (snoc_distinct (accepted h) t.scrip.piece d t.is_spendable.is_new)
 step_distinct limits h e allowed d = same_distinct h e refl d
 
-pub book_accepts_once : (limits : Limits) (kind : ℕ) (h : History) → IsLawfulBook limits kind h → AreDistinct (accepted h)
-book_accepts_once limits kind h lawful =
-    book_walk (λ g. AreDistinct (accepted g)) limits kind (λ g e may d. step_distinct limits g e may.allowed d) (λ m name house. tt) h lawful
-
 pub accepted_once : (limits : Limits) (h : History) → IsLawful limits h → AreDistinct (accepted h)
-accepted_once limits h lawful = book_accepts_once limits 0 h (lawful_book limits h lawful)
+accepted_once limits h lawful =
+    lawful_walk (λ g. AreDistinct (accepted g)) limits (λ g e may d. step_distinct limits g e may.allowed d) tt h lawful
 
 -- ---- a piece's value is its price and its change
 
@@ -107,8 +104,8 @@ sold_below limit t fee asked value supply o r =
 
 credit_below : (balance : Option ℕ) (value : ℕ) (o : Offer) → credit_by balance value ≡ Ok o → o.price ≤ value
 credit_below balance value o r =
-    let a = line_ok (given balance NoAccount) (λ b. refused_if (ltb most_in_account (b + value)) (AccountFull b) >>= λ _. Ok (record { price = value; deed = credit (b + value) })) o r in
-    let b = line_ok (refused_if (ltb most_in_account (a.0 + value)) (AccountFull a.0)) (λ _. Ok (record { price = value; deed = credit (a.0 + value) })) o a.2 in
+    let a = line_ok (given balance NoAccount) (λ b. refused_if (ltb MOST_IN_ACCOUNT (b + value)) (AccountFull b) >>= λ _. Ok (record { price = value; deed = credit (b + value) })) o r in
+    let b = line_ok (refused_if (ltb MOST_IN_ACCOUNT (a.0 + value)) (AccountFull a.0)) (λ _. Ok (record { price = value; deed = credit (a.0 + value) })) o a.2 in
     let is : value ≡ o.price = ap (λ (x : Offer). x.price) (ok_is (record { price = value; deed = credit (a.0 + value) }) o b.2) in
     omega arith
 
@@ -184,10 +181,9 @@ pub all_paid : (limits : Limits) (before es : History) → AllFollow limits befo
 all_paid limits before [] lawful = tt
 all_paid limits before (e ∷ es) lawful = (paid_step limits before e lawful.0.allowed, all_paid limits (before ++ e ∷ []) es lawful.1)
 
-pub values_are_paid : (limits : Limits) (kind : ℕ) (h : History) → IsLawfulBook limits kind h → ArePaid [] h
-values_are_paid limits kind [] lawful = absurd lawful
-values_are_paid limits kind (Site m k name house ∷ es) lawful = (tt, all_paid limits (Site m k name house ∷ []) es lawful.1)
-values_are_paid limits kind (e ∷ es) lawful = absurd lawful.0
+pub values_are_paid : (limits : Limits) (h : History) → IsLawful limits h → ArePaid [] h
+values_are_paid limits [] lawful = absurd lawful
+values_are_paid limits (e ∷ es) lawful = all_paid limits [] (e ∷ es) lawful
 
 -- ---- the sums of a history that was paid
 
@@ -221,5 +217,5 @@ paid_sums before (e ∷ es) paid =
     let drew : all_drawn (e ∷ es) ≡ amount_drawn e + all_drawn es = sum_by-cons amount_drawn e es in
     omega (arith, ih, one, came, went, prices, drew)
 
-pub values_are_kept : (limits : Limits) (kind : ℕ) (h : History) → IsLawfulBook limits kind h → values (accepted h) + all_drawn h ≡ takings h + values (own_out h)
-values_are_kept limits kind h lawful = paid_sums [] h (values_are_paid limits kind h lawful)
+pub values_are_kept : (limits : Limits) (h : History) → IsLawful limits h → values (accepted h) + all_drawn h ≡ takings h + values (own_out h)
+values_are_kept limits h lawful = paid_sums [] h (values_are_paid limits h lawful)

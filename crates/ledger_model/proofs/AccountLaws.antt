@@ -5,18 +5,18 @@ use Rattle.std.specs.List.{list_any, cons_option, last_or, AllByRecursion}
 use Rattle.std.proofs.lemmas.List.Elements.{filter_map-append}
 use Rattle.std.proofs.lemmas.Option.{same_Some}
 use Rattle.std.proofs.lemmas.Slice.Eq.{bytes_eq-Decides}
+use Rattle.mc_records.specs.declared.ranges.TheConstants.{MOST_IN_ACCOUNT}
 use Rattle.mc_records.specs.declared.limits.Limits.{Limits}
 use Rattle.mc_records.specs.Errands.{Errand}
 use Rattle.mc_records.specs.Entry.{goods_deed, sale, credit, Entry, Accept, Account, Deposit, Withdraw, Draw}
 use Rattle.ledger_model.specs.Histories.{History}
 use Rattle.ledger_model.specs.Orders.{Order}
 use Rattle.ledger_model.specs.Accounts.{is_account_of, account_in, account_key, account_name, account_names, Movement, movement, credited_for, put_in, taken_out, moved, amount_to, amount_from, balance, order_at, order_drawn, orders_of, last_order}
-use Rattle.ledger_model.specs.Stages.{most_in_account}
-use Rattle.ledger_model.specs.Lawful.{unbounded, request_of, draw_request, IsAllowed, MayFollow, IsLawfulBook}
+use Rattle.ledger_model.specs.Lawful.{unbounded, request_of, draw_request, IsAllowed, MayFollow, IsLawful}
 use Rattle.ledger_model.specs.Laws.{AreRising}
 use Rattle.ledger_model.proofs.ListLaws.{sum_snoc, counts_none, once_snoc, all_append, all_weaker, all_snoc, found_stays}
 use Rattle.ledger_model.proofs.TakenLaws.{taken_credit, taken_draw}
-use Rattle.ledger_model.proofs.FollowLaws.{book_walk}
+use Rattle.ledger_model.proofs.FollowLaws.{lawful_walk}
 
 -- ---- which accounts there are
 
@@ -30,7 +30,7 @@ turned a b = go (bytes_eq a b) refl (bytes_eq b a) refl
     go false p true q = sym p ∙ (bytes_eq-Decides a b).1 (sym ((bytes_eq-Decides b a).0 q))
 
 -- an account that is not there has no name among the accounts
-none_named : (name : List ℕ) (h : History) → account_in h name ≡ None → list_any (bytes_eq name) (account_names h) ≡ false
+pub none_named : (name : List ℕ) (h : History) → account_in h name ≡ None → list_any (bytes_eq name) (account_names h) ≡ false
 none_named name [] is = refl
 none_named name (e ∷ es) is = one e is (none_named name es)
   where
@@ -66,7 +66,7 @@ mapped f (Some x) y e = refl
 -- ---- what a lawful entry moves
 
 record Moves (h : History) (e : Entry) : Type 0 where
-  into : (x : Movement) → put_in e ≡ Some x → IsKnown h x × (balance h x.account + x.amount ≤ most_in_account)
+  into : (x : Movement) → put_in e ≡ Some x → IsKnown h x × (balance h x.account + x.amount ≤ MOST_IN_ACCOUNT)
   out_of : (x : Movement) → taken_out e ≡ Some x → IsKnown h x × (x.amount ≤ balance h x.account)
   opens : (name : List ℕ) → account_name e ≡ Some name → account_in h name ≡ None
   orders : (name : List ℕ) (k : ℕ) → order_drawn name e ≡ Some k → last_order h name < k
@@ -98,7 +98,7 @@ moves limits h (Account m name key) allowed = record {
   orders = λ n k is. absurd cc;
 }
 moves limits h (Deposit m name amount reference) allowed = record {
-  into = λ x is. subst (λ (y : Movement). IsKnown h y × (balance h y.account + y.amount ≤ most_in_account)) (same_Some (movement name amount) x is) (allowed.1, allowed.3);
+  into = λ x is. subst (λ (y : Movement). IsKnown h y × (balance h y.account + y.amount ≤ MOST_IN_ACCOUNT)) (same_Some (movement name amount) x is) (allowed.1, allowed.3);
   out_of = λ x is. absurd cc;
   opens = λ n is. absurd cc;
   orders = λ n k is. absurd cc;
@@ -126,9 +126,9 @@ moves limits h (Accept m scrip target sign price change (sale stock id)) allowed
 moves limits h (Accept m scrip target sign price change (credit after)) allowed =
     let c = taken_credit h m (unbounded limits) (request_of scrip target sign) m scrip target sign price change after allowed in
     let asks : put_in (Accept m scrip target sign price change (credit after)) ≡ Some (movement c.account price) = ap (λ (o : Option Errand). credited_for o price) c.asks in
-    let fits : balance h c.account + price ≤ most_in_account = omega (arith, c.after_is, c.fits) in
+    let fits : balance h c.account + price ≤ MOST_IN_ACCOUNT = omega (arith, c.after_is, c.fits) in
     record {
-      into = λ x is. subst (λ (y : Movement). IsKnown h y × (balance h y.account + y.amount ≤ most_in_account)) (same_Some (movement c.account price) x (sym asks ∙ is)) (c.stands, fits);
+      into = λ x is. subst (λ (y : Movement). IsKnown h y × (balance h y.account + y.amount ≤ MOST_IN_ACCOUNT)) (same_Some (movement c.account price) x (sym asks ∙ is)) (c.stands, fits);
       out_of = λ x is. absurd cc;
       opens = λ n is. absurd cc;
       orders = λ n k is. absurd cc;
@@ -154,7 +154,7 @@ rising_more ns (Some k) rising above = rising_snoc ns k rising (above k refl)
 -- ---- the accounts of a history
 
 -- how much of a movement, where it is at most so much of its account, is that of an account
-moved_within : (P : List ℕ → ℕ → Type 0) (name : List ℕ) (o : Option Movement) → P name 0 → ((x : Movement) → o ≡ Some x → P x.account x.amount) → P name (moved name o)
+pub moved_within : (P : List ℕ → ℕ → Type 0) (name : List ℕ) (o : Option Movement) → P name 0 → ((x : Movement) → o ≡ Some x → P x.account x.amount) → P name (moved name o)
 moved_within P name None none one = none
 moved_within P name (Some x) none one = go (bytes_eq x.account name) refl
   where
@@ -167,7 +167,7 @@ pub record Books (h : History) : Type 0 where
   pub ins_known : AllByRecursion (IsKnown h) (filter_map put_in h)
   pub outs_known : AllByRecursion (IsKnown h) (filter_map taken_out h)
   pub covered : (name : List ℕ) → sum_by (amount_from name) h ≤ sum_by (amount_to name) h
-  pub bounded : (name : List ℕ) → balance h name ≤ most_in_account
+  pub bounded : (name : List ℕ) → balance h name ≤ MOST_IN_ACCOUNT
   pub rising : (name : List ℕ) → AreRising (orders_of h name)
 
 known_snoc : (h : History) (e : Entry) (f : Entry → Option Movement) → AllByRecursion (IsKnown h) (filter_map f h) → ((x : Movement) → f e ≡ Some x → IsKnown h x) → AllByRecursion (IsKnown (h ++ e ∷ [])) (filter_map f (h ++ e ∷ []))
@@ -194,30 +194,30 @@ books_snoc h e b m = record {
     fits_out : (name : List ℕ) → amount_from name e ≤ balance h name
     fits_out name = moved_within (λ n amount. amount ≤ balance h n) name (taken_out e) (omega arith) (λ x is. (m.out_of x is).1)
 
-    fits_in : (name : List ℕ) → balance h name + amount_to name e ≤ most_in_account
-    fits_in name = moved_within (λ n amount. balance h n + amount ≤ most_in_account) name (put_in e) (let le = b.bounded name in omega (arith, le)) (λ x is. (m.into x is).1)
+    fits_in : (name : List ℕ) → balance h name + amount_to name e ≤ MOST_IN_ACCOUNT
+    fits_in name = moved_within (λ n amount. balance h n + amount ≤ MOST_IN_ACCOUNT) name (put_in e) (let le = b.bounded name in omega (arith, le)) (λ x is. (m.into x is).1)
 
 pub books_step : (limits : Limits) (h : History) (e : Entry) → MayFollow limits h e → Books h → Books (h ++ e ∷ [])
 books_step limits h e may b = books_snoc h e b (moves limits h e may.allowed)
 
-pub books : (limits : Limits) (kind : ℕ) (h : History) → IsLawfulBook limits kind h → Books h
-books limits kind h lawful =
-    book_walk Books limits kind (books_step limits)
-    (λ m site house. record { names_once = λ name. omega arith; ins_known = tt; outs_known = tt; covered = λ name. omega arith; bounded = λ name. omega arith; rising = λ name. tt }) h lawful
+pub books : (limits : Limits) (h : History) → IsLawful limits h → Books h
+books limits h lawful =
+    lawful_walk Books limits (books_step limits)
+    (record { names_once = λ name. omega arith; ins_known = tt; outs_known = tt; covered = λ name. omega arith; bounded = λ name. omega arith; rising = λ name. tt }) h lawful
 
 -- ---- the laws
 
-pub none_overdrawn : (limits : Limits) (kind : ℕ) (h : History) (name : List ℕ) → IsLawfulBook limits kind h → sum_by (amount_from name) h ≤ sum_by (amount_to name) h
-none_overdrawn limits kind h name lawful = (books limits kind h lawful).covered name
+pub none_overdrawn : (limits : Limits) (h : History) (name : List ℕ) → IsLawful limits h → sum_by (amount_from name) h ≤ sum_by (amount_to name) h
+none_overdrawn limits h name lawful = (books limits h lawful).covered name
 
-pub balance_is : (limits : Limits) (kind : ℕ) (h : History) (name : List ℕ) → IsLawfulBook limits kind h → sum_by (amount_to name) h ≡ sum_by (amount_from name) h + balance h name
-balance_is limits kind h name lawful = let le = none_overdrawn limits kind h name lawful in omega (arith, le)
+pub balance_is : (limits : Limits) (h : History) (name : List ℕ) → IsLawful limits h → sum_by (amount_to name) h ≡ sum_by (amount_from name) h + balance h name
+balance_is limits h name lawful = let le = none_overdrawn limits h name lawful in omega (arith, le)
 
-pub balance_fits : (limits : Limits) (kind : ℕ) (h : History) (name : List ℕ) → IsLawfulBook limits kind h → balance h name ≤ most_in_account
-balance_fits limits kind h name lawful = (books limits kind h lawful).bounded name
+pub balance_fits : (limits : Limits) (h : History) (name : List ℕ) → IsLawful limits h → balance h name ≤ MOST_IN_ACCOUNT
+balance_fits limits h name lawful = (books limits h lawful).bounded name
 
-pub orders_rise : (limits : Limits) (kind : ℕ) (h : History) (name : List ℕ) → IsLawfulBook limits kind h → AreRising (orders_of h name)
-orders_rise limits kind h name lawful = (books limits kind h lawful).rising name
+pub orders_rise : (limits : Limits) (h : History) (name : List ℕ) → IsLawful limits h → AreRising (orders_of h name)
+orders_rise limits h name lawful = (books limits h lawful).rising name
 
-pub accounts_once : (limits : Limits) (kind : ℕ) (h : History) (name : List ℕ) → IsLawfulBook limits kind h → count_by (bytes_eq name) (account_names h) ≤ 1
-accounts_once limits kind h name lawful = (books limits kind h lawful).names_once name
+pub accounts_once : (limits : Limits) (h : History) (name : List ℕ) → IsLawful limits h → count_by (bytes_eq name) (account_names h) ≤ 1
+accounts_once limits h name lawful = (books limits h lawful).names_once name

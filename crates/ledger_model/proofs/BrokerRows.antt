@@ -26,7 +26,7 @@ use Rattle.ledger_model.specs.Accounts.{balance, last_order, all_balances}
 use Rattle.ledger_model.specs.Stock.{licence_in, sold, stock_sold, licensed_sold, stock_ids, are_stock}
 use Rattle.ledger_model.specs.Sums.{paid_in, fees, values, all_drawn, outstanding}
 use Rattle.ledger_model.specs.Answer.{broker_offer, answer, Take, Again, Refused}
-use Rattle.ledger_model.specs.Lawful.{IsLawfulBook}
+use Rattle.ledger_model.specs.Lawful.{IsLawful}
 use Rattle.ledger_model.specs.Replies.{sale_brought, sale_price, reply_of, refusal_of}
 
 abbrev terms : ℕ → ℕ → ℕ → Issuing
@@ -143,9 +143,9 @@ unfolding errand_of literal_at field_at field_of is_text
 row_balance = (refl, refl, refl)
 
 -- the book of a draw is lawful
-row_lawful : IsLawfulBook full 1 (site ∷ opened ++ drawn_300 ∷ [])
+row_lawful : IsLawful full (site ∷ opened ++ drawn_300 ∷ [])
 unfolding tail tail_size answer broker_offer sale_brought sale_price certificate_in secret_in errand_of digits scrip_of scrip_at id_at literal_at field_at field_of is_text digit_of digit_at hex_at scrip_body certificate customer_secret encode_with request_signature md5 block_words rounds compress hash_after digest_bytes
-row_lawful = (refl, (record { in_order = omega arith; allowed = (refl, refl) }, (record { in_order = omega arith; allowed = (refl, refl, refl, omega arith) }, (record { in_order = omega arith; allowed = refl }, tt))))
+row_lawful = (record { in_order = omega arith; allowed = (refl, omega arith) }, (record { in_order = omega arith; allowed = (refl, refl) }, (record { in_order = omega arith; allowed = (refl, refl, refl, omega arith) }, (record { in_order = omega arith; allowed = refl }, tt))))
 
 row_reference : (has_reference bank (codes "r1") ≡ true) × (has_reference bank (codes "r2") ≡ false)
 row_reference = (refl, refl)
@@ -204,15 +204,15 @@ row_credit : answer bought_once 1000000 full (asks (codes "/credit/ann") c148) �
 unfolding tail tail_size answer broker_offer sale_brought sale_price certificate_in secret_in errand_of digits scrip_of scrip_at id_at literal_at field_at field_of is_text digit_of digit_at hex_at scrip_body certificate customer_secret encode_with request_signature md5 block_words rounds compress hash_after digest_bytes
 row_credit = refl
 
--- a lawful book with each kind of entry that a broker has
+-- a lawful history with each kind of entry that a broker has
 abbrev whole_book : History
 whole_book =
     site ∷ opened ++ draw_199 ∷ Stock 1000000 shop (held ∷ []) ∷ bought ∷ Accept 1000000 c148 (codes "/credit/ann") None 148 None (credit 949)
     ∷ Withdraw 1000000 ann 949 (codes "r2") ∷ Licence 1000000 (codes "news.example") (terms 1 0x33 0x44) ∷ []
 
-row_lawful_sales : IsLawfulBook full 1 whole_book
+row_lawful_sales : IsLawful full whole_book
 unfolding tail tail_size answer broker_offer sale_brought sale_price certificate_in secret_in errand_of digits scrip_of scrip_at id_at literal_at field_at field_of is_text digit_of digit_at hex_at scrip_body certificate customer_secret encode_with request_signature md5 block_words rounds compress hash_after digest_bytes
-row_lawful_sales = (refl, (record { in_order = omega arith; allowed = (refl, refl) }, (record { in_order = omega arith; allowed = (refl, refl, refl, omega arith) }, (record { in_order = omega arith; allowed = refl }, (record { in_order = omega arith; allowed = (refl, refl) }, (record { in_order = omega arith; allowed = refl }, (record { in_order = omega arith; allowed = refl }, (record { in_order = omega arith; allowed = (refl, refl, refl, omega arith) }, (record { in_order = omega arith; allowed = (refl, refl) }, tt)))))))))
+row_lawful_sales = (record { in_order = omega arith; allowed = (refl, omega arith) }, (record { in_order = omega arith; allowed = (refl, refl) }, (record { in_order = omega arith; allowed = (refl, refl, refl, omega arith) }, (record { in_order = omega arith; allowed = refl }, (record { in_order = omega arith; allowed = (refl, refl) }, (record { in_order = omega arith; allowed = refl }, (record { in_order = omega arith; allowed = refl }, (record { in_order = omega arith; allowed = (refl, refl, refl, omega arith) }, (record { in_order = omega arith; allowed = (refl, refl) }, tt)))))))))
 
 row_credit_nowhere : answer bought_once 1000000 full (asks (codes "/credit/bob") c148) ≡ Refused refusals.NoAccount
 unfolding tail tail_size answer broker_offer sale_brought sale_price certificate_in secret_in errand_of digits scrip_of scrip_at id_at literal_at field_at field_of is_text digit_of digit_at hex_at scrip_body certificate customer_secret encode_with request_signature md5 block_words rounds compress hash_after digest_bytes
@@ -254,9 +254,9 @@ unfolding digits sale_brought sale_price version certificate_in secret_in errand
 row_licensed_reply = refl
 
 -- the book of a sale under a licence is lawful
-row_lawful_licensed : IsLawfulBook full 1 (licensed_bank ++ licensed_sale ∷ [])
+row_lawful_licensed : IsLawful full (licensed_bank ++ licensed_sale ∷ [])
 unfolding tail tail_size answer broker_offer sale_brought sale_price certificate_in secret_in errand_of digits scrip_of scrip_at id_at literal_at field_at field_of is_text digit_of digit_at hex_at scrip_body certificate customer_secret encode_with request_signature md5 block_words rounds compress hash_after digest_bytes
-row_lawful_licensed = (refl, (record { in_order = omega arith; allowed = (refl, refl) }, (record { in_order = omega arith; allowed = (refl, refl, refl, omega arith) }, (record { in_order = omega arith; allowed = refl }, (record { in_order = omega arith; allowed = (refl, refl) }, (record { in_order = omega arith; allowed = (refl, refl) }, (record { in_order = omega arith; allowed = refl }, tt)))))))
+row_lawful_licensed = (record { in_order = omega arith; allowed = (refl, omega arith) }, (record { in_order = omega arith; allowed = (refl, refl) }, (record { in_order = omega arith; allowed = (refl, refl, refl, omega arith) }, (record { in_order = omega arith; allowed = refl }, (record { in_order = omega arith; allowed = (refl, refl) }, (record { in_order = omega arith; allowed = (refl, refl) }, (record { in_order = omega arith; allowed = refl }, tt)))))))
 
 row_licensed_full : answer licensed_bank 1000000 (record { journal = 2 ^ 40; series = 0 }) (asks (codes "/buy/news.example/100") p199) ≡ Refused (refusals.SeriesFull 0x010000f4)
 unfolding tail tail_size answer broker_offer sale_brought sale_price certificate_in secret_in errand_of digits scrip_of scrip_at id_at literal_at field_at field_of is_text digit_of digit_at hex_at scrip_body certificate customer_secret encode_with request_signature md5 block_words rounds compress hash_after digest_bytes

@@ -1,51 +1,57 @@
--- What a site that is no broker does not have.
-use Rattle.std.proofs.Common.{◌≡◌, ◌<◌, ℕ, Bool, false, cond, List, [], ◌∷◌, Option, Some, None, refl, ap, arith, option_map, eqb}
+-- Which sites are houses, and what a vendor does not have.
+use Rattle.std.proofs.Common.{◌≡◌, ℕ, zero, suc, Bool, false, not, cond, List, [], ◌∷◌, Option, Some, None, bytes_eq, refl, ap, arith, option_map}
 use Rattle.std.specs.Prelude.{◌==◌, unwrap_or}
 use Rattle.mc_records.specs.declared.limits.Limits.{Limits}
-use Rattle.mc_records.specs.Cells.{kind_of}
+use Rattle.mc_records.specs.declared.refusal.Refusal.TheVariants.{WrongVendor}
 use Rattle.mc_records.specs.Entry.{Entry, Site, AddTerms, Goods, Accept, Mint, Account, Deposit, Withdraw, Draw, Licence, Stock}
 use Rattle.ledger_model.specs.Histories.{History}
-use Rattle.ledger_model.specs.Houses.{site_kind, is_broker}
+use Rattle.ledger_model.specs.Houses.{site_kind, IsHouseKind, is_vendor, is_broker}
+use Rattle.ledger_model.specs.declared.numbers.TheConstants.{VENDOR_KIND}
+use Rattle.ledger_model.specs.Lines.{refused_if}
 use Rattle.ledger_model.specs.Orders.{order_of}
 use Rattle.ledger_model.specs.Answer.{draw_in}
-use Rattle.ledger_model.specs.Lawful.{unbounded, draw_request, IsAllowed, IsLawful}
-use Rattle.ledger_model.proofs.TableLaws.{draw_answer}
+use Rattle.ledger_model.specs.Lawful.{unbounded, request_of, draw_request, MayFollow, IsHouseSite, IsLawful}
+use Rattle.ledger_model.proofs.TableLaws.{line_ok, accept_answer, draw_answer}
 
--- ---- which sites are no brokers
+-- ---- what comes first
 
--- a site of kind 0
-pub no_broker : (h : History) → site_kind h ≡ Some 0 → is_broker h ≡ false
+-- only an entry that founds a house may be the first
+pub first_founds : (limits : Limits) (e : Entry) → MayFollow limits [] e → IsHouseSite e
+first_founds limits (Site m kind name house) may = may.allowed.1
+first_founds limits (AddTerms m terms) may = absurd (cc may.allowed.0)
+first_founds limits (Goods m target price kind contents) may = absurd (cc may.allowed.0)
+first_founds limits (Accept m scrip target sign price change deed) may =
+    let t = accept_answer [] m (unbounded limits) (request_of scrip target sign) m scrip target sign price change deed may.allowed in
+    let vendor = line_ok (refused_if (not (bytes_eq t.scrip.piece.vendor [])) WrongVendor) _ t.secret t.is_genuine in
+    absurd (cc vendor.2)
+first_founds limits (Mint m reference count value first) may = absurd (cc may.allowed.0)
+first_founds limits (Account m name key) may = absurd (cc may.allowed.0)
+first_founds limits (Deposit m name amount reference) may = absurd (cc may.allowed.0)
+first_founds limits (Withdraw m name amount reference) may = absurd (cc may.allowed.0)
+first_founds limits (Draw m target sign drawn) may = absurd (cc (draw_answer [] m (unbounded limits) (draw_request target sign) m target sign drawn may.allowed).at_broker)
+first_founds limits (Licence m vendor terms) may = absurd (cc may.allowed.0)
+first_founds limits (Stock m vendor pieces) may = absurd (cc may.allowed.0)
+first_founds limits e may = absurd may.allowed
+
+one_kind : (kind : ℕ) → IsHouseKind kind → (kind == 1) ≡ not (kind == 0)
+one_kind zero house = refl
+one_kind (suc zero) house = refl
+one_kind (suc (suc n)) house = absurd (omega (arith, house))
+
+founded : (e : Entry) (es : History) → IsHouseSite e → is_broker (e ∷ es) ≡ not (is_vendor (e ∷ es))
+founded (Site m kind name house) es founds = one_kind kind founds
+founded e es founds = absurd founds
+
+-- so a lawful history is of a vendor or of a broker, and of one of the two
+pub one_house : (limits : Limits) (h : History) → IsLawful limits h → is_broker h ≡ not (is_vendor h)
+one_house limits [] lawful = absurd lawful
+one_house limits (e ∷ es) lawful = founded e es (first_founds limits e lawful.0)
+
+-- ---- a vendor
+
+pub no_broker : (h : History) → site_kind h ≡ Some VENDOR_KIND → is_broker h ≡ false
 no_broker h vendor = ap (λ (k : Option ℕ). unwrap_or (option_map (λ kind. kind == 1) k) false) vendor
 
--- and the site of a lawful history, which is a vendor
-pub lawful_no_broker : (limits : Limits) (h : History) → IsLawful limits h → is_broker h ≡ false
-lawful_no_broker limits [] lawful = absurd lawful
-lawful_no_broker limits (Site m kind name house ∷ es) lawful = ap (λ (n : ℕ). eqb n 1) lawful.0.allowed.1
-lawful_no_broker limits (e ∷ es) lawful = refl
-
--- ---- they have no draws
-
-no_draw : (h : History) (target : List ℕ) → is_broker h ≡ false → draw_in h target ≡ None
-no_draw h target none = ap (λ (b : Bool). cond b (order_of target) None) none
-
-pub vendor_draws_nothing : (h : History) (target : List ℕ) → site_kind h ≡ Some 0 → draw_in h target ≡ None
-vendor_draws_nothing h target vendor = no_draw h target (no_broker h vendor)
-
-pub no_draws : (limits : Limits) (h : History) (target : List ℕ) → IsLawful limits h → draw_in h target ≡ None
-no_draws limits h target lawful = no_draw h target (lawful_no_broker limits h lawful)
-
--- ---- nor entries of a kind above 5
-
-pub no_broker_entry : (limits : Limits) (h : History) (e : Entry) → is_broker h ≡ false → 5 < kind_of e → IsAllowed limits h e → ⊥
-no_broker_entry limits h (Site m kind name house) none above a = absurd (omega (arith, above))
-no_broker_entry limits h (AddTerms m terms) none above a = absurd (omega (arith, above))
-no_broker_entry limits h (Goods m target price kind contents) none above a = absurd (omega (arith, above))
-no_broker_entry limits h (Accept m scrip target sign price change deed) none above a = absurd (omega (arith, above))
-no_broker_entry limits h (Mint m reference count value first) none above a = absurd (omega (arith, above))
-no_broker_entry limits h (Account m name key) none above a = absurd (cc (none, a.0))
-no_broker_entry limits h (Deposit m name amount reference) none above a = absurd (cc (none, a.0))
-no_broker_entry limits h (Withdraw m name amount reference) none above a = absurd (cc (none, a.0))
-no_broker_entry limits h (Draw m target sign drawn) none above a = absurd (let x = draw_answer h m (unbounded limits) (draw_request target sign) m target sign drawn a in cc (none, x.at_broker))
-no_broker_entry limits h (Licence m vendor terms) none above a = absurd (cc (none, a.0))
-no_broker_entry limits h (Stock m vendor pieces) none above a = absurd (cc (none, a.0))
-no_broker_entry limits h e none above a = a
+-- has no draws
+pub vendor_draws_nothing : (h : History) (target : List ℕ) → site_kind h ≡ Some VENDOR_KIND → draw_in h target ≡ None
+vendor_draws_nothing h target vendor = ap (λ (b : Bool). cond b (order_of target) None) (no_broker h vendor)

@@ -12,13 +12,13 @@ use Rattle.mc_records.specs.Entry.{Entry, moment_of}
 use Rattle.ledger_model.specs.Histories.{History}
 use Rattle.ledger_model.specs.Pieces.{in_series}
 use Rattle.ledger_model.specs.Stock.{Sale, sale_of, sales, is_licensed, licensed_count, licensed_sold}
-use Rattle.ledger_model.specs.Lawful.{MayFollow, IsLawfulBook}
+use Rattle.ledger_model.specs.Lawful.{MayFollow, IsLawful}
 use Rattle.ledger_model.specs.Taken.{IsSupplied}
 use Rattle.ledger_model.specs.Laws.{HaveNoGap}
 use Rattle.ledger_model.proofs.ListLaws.{counts_cons, counts_append}
 use Rattle.ledger_model.proofs.SerialLaws.{next_piece, same_gap, empty_no_gap}
 use Rattle.ledger_model.proofs.StockLaws.{supplied_sale, SoldWell, sold_well, HasId, pieces_counted, sold_counted}
-use Rattle.ledger_model.proofs.FollowLaws.{book_walk}
+use Rattle.ledger_model.proofs.FollowLaws.{lawful_walk}
 
 -- a sale's identity, as a piece
 abbrev pub stub : Sale → Option Scrip
@@ -70,9 +70,9 @@ licence_step limits h e vendor le may no_gap =
     subst HaveNoGap (sym (ap (licensed vendor) (filter_map-append sale_of h (e ∷ [])) ∙ licensed_append vendor (sales h) (cons_option (sale_of e) [])))
     (sale_no_gap limits.series (moment_of e) h vendor (sale_of e) le (λ s is. supplied_sale limits h e s may.allowed is) no_gap)
 
-pub licensed_no_gap : (limits : Limits) (kind : ℕ) (h : History) (vendor : List ℕ) → limits.series ≤ 2 ^ 32 → IsLawfulBook limits kind h → HaveNoGap (licensed vendor (sales h))
-licensed_no_gap limits kind h vendor le lawful =
-    book_walk (λ g. HaveNoGap (licensed vendor (sales g))) limits kind (λ g e may no_gap. licence_step limits g e vendor le may no_gap) (λ m name house. empty_no_gap) h lawful
+pub licensed_no_gap : (limits : Limits) (h : History) (vendor : List ℕ) → limits.series ≤ 2 ^ 32 → IsLawful limits h → HaveNoGap (licensed vendor (sales h))
+licensed_no_gap limits h vendor le lawful =
+    lawful_walk (λ g. HaveNoGap (licensed vendor (sales g))) limits (λ g e may no_gap. licence_step limits g e vendor le may no_gap) empty_no_gap h lawful
 
 -- the serials of the sales are those of the pieces
 pub sold_no_gap : (h : History) (vendor : List ℕ) → SoldWell h → HaveNoGap (licensed vendor (sales h)) → HaveNoGap (licensed_sold h vendor)
@@ -81,6 +81,6 @@ sold_no_gap h vendor w no_gap series serial lt =
     ids (λ n. eqb n (numbered series serial)) ∙ no_gap series serial lt
     ∙ ap (λ (n : ℕ). cond (ltb serial n) 1 0) (sym (ids (λ n. eqb (series_of n) series)))
 
--- the serials that a lawful book sold under the licence of a vendor have no gap
-pub licensed_serials : (limits : Limits) (kind : ℕ) (h : History) (vendor : List ℕ) → limits.series ≤ 2 ^ 32 → IsLawfulBook limits kind h → HaveNoGap (licensed_sold h vendor)
-licensed_serials limits kind h vendor le lawful = sold_no_gap h vendor (sold_well limits kind h lawful) (licensed_no_gap limits kind h vendor le lawful)
+-- the serials that a lawful history sold under the licence of a vendor have no gap
+pub licensed_serials : (limits : Limits) (h : History) (vendor : List ℕ) → limits.series ≤ 2 ^ 32 → IsLawful limits h → HaveNoGap (licensed_sold h vendor)
+licensed_serials limits h vendor le lawful = sold_no_gap h vendor (sold_well limits h lawful) (licensed_no_gap limits h vendor le lawful)

@@ -1,5 +1,5 @@
 -- Lists: counts, sums, and one more element at the end.
-use Rattle.std.proofs.Common.{◌≡◌, ℕ, ◌+◌, ◌≤◌, Bool, true, false, cond, ◌||◌, List, [], ◌∷◌, ◌++◌, Option, Some, None, refl, sym, ap, subst, ◌∙◌, append-nil, arith, count_by, find}
+use Rattle.std.proofs.Common.{◌≡◌, ℕ, zero, suc, ◌<◌, length, slice_get, ◌+◌, ◌≤◌, Bool, true, false, cond, ◌||◌, List, [], ◌∷◌, ◌++◌, Option, Some, None, refl, sym, ap, subst, ◌∙◌, append-nil, arith, count_by, find}
 use Rattle.std.specs.Prelude.{sum_by, filter_map}
 use Rattle.std.specs.List.{list_any, cons_option, AllByRecursion}
 use Rattle.std.proofs.lemmas.List.Sums.{sum_by-cons, sum_by-append}
@@ -81,3 +81,16 @@ found_stays test (z ∷ zs) ys x is = go (test z) is (found_stays test zs ys x)
     go : (b : Bool) → cond b (Some z) (find test zs) ≡ Some x → (find test zs ≡ Some x → find test (zs ++ ys) ≡ Some x) → cond b (Some z) (find test (zs ++ ys)) ≡ Some x
     go true e ih = e
     go false e ih = ih e
+
+-- ---- elements by their place
+
+-- an element stays in its place where more elements follow
+pub get_stays : {X : Type 0} (xs ys : List X) (n : ℕ) → n < length xs → slice_get (xs ++ ys) n ≡ slice_get xs n
+get_stays [] ys n lt = absurd (omega arith)
+get_stays (x ∷ xs) ys zero lt = refl
+get_stays (x ∷ xs) ys (suc n) lt = get_stays xs ys n (omega arith)
+
+-- the element behind a list
+pub get_end : {X : Type 0} (xs : List X) (y : X) → slice_get (xs ++ y ∷ []) (length xs) ≡ Some y
+get_end [] y = refl
+get_end (x ∷ xs) y = get_end xs y

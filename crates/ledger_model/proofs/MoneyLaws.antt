@@ -10,18 +10,19 @@ use Rattle.mc_records.specs.Errands.{Errand, errand_of}
 use Rattle.mc_records.specs.Entry.{goods_deed, sale, credit, Entry, Site, Accept, Account, Deposit, Withdraw, Draw}
 use Rattle.ledger_model.specs.Histories.{History}
 use Rattle.ledger_model.specs.Houses.{site_kind, is_vendor, fee}
+use Rattle.ledger_model.specs.declared.numbers.TheConstants.{BROKER_KIND}
 use Rattle.ledger_model.specs.Orders.{Order, order_of, order_amount}
 use Rattle.ledger_model.specs.Pieces.{accepted, own_out}
 use Rattle.ledger_model.specs.Accounts.{is_account_of, account_in, account_name, account_names, Movement, movement, credited_for, put_in, taken_out, moved, amount_to, amount_from, balance, all_balances}
 use Rattle.ledger_model.specs.Stock.{Sale, sale_at, sale_of, sales}
 use Rattle.ledger_model.specs.Sums.{price_paid, takings, values, fee_of, fees, sold_values, amount_credited, all_credited, amount_drawn, all_drawn, amount_in, amount_out, paid_in, paid_out}
-use Rattle.ledger_model.specs.Lawful.{unbounded, request_of, IsAllowed, MayFollow, IsLawfulBook}
+use Rattle.ledger_model.specs.Lawful.{unbounded, request_of, IsAllowed, MayFollow, IsLawful}
 use Rattle.ledger_model.proofs.ListLaws.{counts_cons, sum_snoc}
 use Rattle.ledger_model.proofs.TakenLaws.{taken_goods, taken_sale, taken_credit}
 use Rattle.ledger_model.proofs.AcceptLaws.{values_are_kept}
 use Rattle.ledger_model.proofs.AccountLaws.{turned, IsKnown, Books, books}
 use Rattle.ledger_model.proofs.DrawnLaws.{first_kind, not_both}
-use Rattle.ledger_model.proofs.FollowLaws.{book_walk}
+use Rattle.ledger_model.proofs.FollowLaws.{lawful_walk}
 
 -- ---- sums of sums
 
@@ -165,10 +166,10 @@ ins_snoc limits h e may before =
     omega (arith, all, paid, credits, before, in_one limits h e may.allowed)
 
 -- what was deposited and credited is what was withdrawn and drawn, and what stands in the accounts
-pub accounts_hold : (limits : Limits) (kind : ℕ) (h : History) → IsLawfulBook limits kind h → paid_in h + all_credited h ≡ paid_out h + all_drawn h + all_balances h
-accounts_hold limits kind h lawful =
-    let ins : InsSum h = book_walk InsSum limits kind (ins_snoc limits) (λ m name house. refl) h lawful in
-    omega (arith, accounts_balance h (books limits kind h lawful), ins, outs_sum h)
+pub accounts_hold : (limits : Limits) (h : History) → IsLawful limits h → paid_in h + all_credited h ≡ paid_out h + all_drawn h + all_balances h
+accounts_hold limits h lawful =
+    let ins : InsSum h = lawful_walk InsSum limits (ins_snoc limits) refl h lawful in
+    omega (arith, accounts_balance h (books limits h lawful), ins, outs_sum h)
 
 -- ---- prices of a broker
 
@@ -199,26 +200,28 @@ first_fee : (x : Entry) (xs ys : History) → fee (x ∷ xs) ≡ fee (x ∷ ys)
 first_fee (Site m kind name house) xs ys = refl
 first_fee x xs ys = refl
 
-broker_kind : (h : History) → site_kind h ≡ Some 1 → is_vendor h ≡ false
-broker_kind h broker = ap (λ (k : Option ℕ). unwrap_or (option_map (λ kind. kind == 0) k) false) broker
+no_vendor : (h : History) → site_kind h ≡ Some BROKER_KIND → is_vendor h ≡ false
+no_vendor h broker = ap (λ (k : Option ℕ). unwrap_or (option_map (λ kind. kind == 0) k) false) broker
 
 abbrev PricesSum : History → Type 0
-PricesSum h = (site_kind h ≡ Some 1) × (takings h ≡ sold_values h + fees h + all_credited h)
+PricesSum h = site_kind h ≡ Some BROKER_KIND → takings h ≡ sold_values h + fees h + all_credited h
 
 prices_snoc : (limits : Limits) (h : History) (e : Entry) → MayFollow limits h e → PricesSum h → PricesSum (h ++ e ∷ [])
-prices_snoc limits [] e may before = absurd (cc before.0)
-prices_snoc limits (x ∷ xs) e may before =
+prices_snoc limits [] (Site m kind name house) may before broker = refl
+prices_snoc limits [] e may before broker = absurd (cc broker)
+prices_snoc limits (x ∷ xs) e may before broker =
     let h = x ∷ xs in
+    let stays : site_kind h ≡ Some BROKER_KIND = first_kind x xs (xs ++ e ∷ []) ∙ broker in
     let fee_is : fee (h ++ e ∷ []) ≡ fee h = first_fee x (xs ++ e ∷ []) xs in
     let prices = sum_snoc price_paid h e in
     let credits = sum_snoc amount_credited h e in
     let charged : fees (h ++ e ∷ []) ≡ fees h + fee_of (fee h) e = ap (λ (n : ℕ). sum_by (fee_of n) (h ++ e ∷ [])) fee_is ∙ sum_snoc (fee_of (fee h)) h e in
-    (first_kind x (xs ++ e ∷ []) xs ∙ before.0, omega (arith, prices, credits, charged, values_sold h e, before.1, price_one limits h e (broker_kind h before.0) may.allowed))
+    omega (arith, prices, credits, charged, values_sold h e, before stays, price_one limits h e (no_vendor h stays) may.allowed)
 
 -- the prices that a broker took are the values that it sold, its fees and its credits
-pub prices_split : (limits : Limits) (h : History) → IsLawfulBook limits 1 h → takings h ≡ sold_values h + fees h + all_credited h
-prices_split limits h lawful = (book_walk PricesSum limits 1 (prices_snoc limits) (λ m name house. (refl, refl)) h lawful).1
+pub prices_split : (limits : Limits) (h : History) → IsLawful limits h → site_kind h ≡ Some BROKER_KIND → takings h ≡ sold_values h + fees h + all_credited h
+prices_split limits h lawful = lawful_walk PricesSum limits (prices_snoc limits) (λ broker. refl) h lawful
 
 -- what came in, as money and as pieces, is what went out, what stands in the accounts, and what was sold and handed out
-pub broker_keeps : (limits : Limits) (h : History) → IsLawfulBook limits 1 h → paid_in h + values (accepted h) ≡ paid_out h + all_balances h + fees h + sold_values h + values (own_out h)
-broker_keeps limits h lawful = omega (arith, accounts_hold limits 1 h lawful, prices_split limits h lawful, values_are_kept limits 1 h lawful)
+pub broker_keeps : (limits : Limits) (h : History) → IsLawful limits h → site_kind h ≡ Some BROKER_KIND → paid_in h + values (accepted h) ≡ paid_out h + all_balances h + fees h + sold_values h + values (own_out h)
+broker_keeps limits h lawful broker = omega (arith, accounts_hold limits h lawful, prices_split limits h lawful broker, values_are_kept limits h lawful)

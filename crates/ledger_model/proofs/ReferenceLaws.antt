@@ -8,9 +8,9 @@ use Rattle.mc_records.specs.declared.limits.Limits.{Limits}
 use Rattle.mc_records.specs.Entry.{Entry, Mint, Deposit, Withdraw}
 use Rattle.ledger_model.specs.Histories.{History}
 use Rattle.ledger_model.specs.Pieces.{reference_of, has_reference}
-use Rattle.ledger_model.specs.Lawful.{IsAllowed, MayFollow, IsLawfulBook}
+use Rattle.ledger_model.specs.Lawful.{IsAllowed, MayFollow, IsLawful}
 use Rattle.ledger_model.proofs.ListLaws.{counts_none, once_snoc}
-use Rattle.ledger_model.proofs.FollowLaws.{book_walk}
+use Rattle.ledger_model.proofs.FollowLaws.{lawful_walk}
 
 -- an entry that may follow has a new reference, where it has one
 new_reference : (limits : Limits) (h : History) (e : Entry) (r : List ℕ) → IsAllowed limits h e → reference_of e ≡ Some r → has_reference h r ≡ false
@@ -26,8 +26,8 @@ reference_twice limits h e r stands is may = not_both (has_reference h r) stands
     not_both : (b : Bool) → b ≡ true → b ≡ false → ⊥
     not_both b t f = absurd cc
 
-pub references_once : (limits : Limits) (kind : ℕ) (h : History) (reference : List ℕ) → IsLawfulBook limits kind h → count_by (λ r. bytes_eq r reference) (filter_map reference_of h) ≤ 1
-references_once limits kind h reference lawful = book_walk Once limits kind step (λ m name house. omega arith) h lawful
+pub references_once : (limits : Limits) (h : History) (reference : List ℕ) → IsLawful limits h → count_by (λ r. bytes_eq r reference) (filter_map reference_of h) ≤ 1
+references_once limits h reference lawful = lawful_walk Once limits step (omega arith) h lawful
   where
     test : List ℕ → Bool
     test r = bytes_eq r reference

@@ -16,9 +16,9 @@ use Rattle.ledger_model.specs.Pieces.{change_piece, drawn_piece, handed_piece, o
 use Rattle.ledger_model.specs.Lines.{Stop, refused_if}
 use Rattle.ledger_model.specs.Stages.{next_by, needed}
 use Rattle.ledger_model.specs.Answer.{next_own}
-use Rattle.ledger_model.specs.Lawful.{unbounded, draw_request, IsAllowed, MayFollow, IsLawfulBook}
+use Rattle.ledger_model.specs.Lawful.{unbounded, draw_request, IsAllowed, MayFollow, IsLawful}
 use Rattle.ledger_model.specs.Laws.{with_id, HaveNoGap}
-use Rattle.ledger_model.proofs.FollowLaws.{book_walk}
+use Rattle.ledger_model.proofs.FollowLaws.{lawful_walk}
 use Rattle.ledger_model.proofs.TableLaws.{line_ok, refused_ok, ok_is, draw_answer}
 use Rattle.ledger_model.proofs.AcceptLaws.{some_is, accept_change, accept_through}
 
@@ -174,10 +174,10 @@ pub made_step : (limits : Limits) (h : History) (e : Entry) → limits.series �
 made_step limits h e le may no_gap =
     same_gap (option_to_list (handed_piece h e) ++ (minted_pieces h e ++ made h)) (made (h ++ e ∷ [])) (made_snoc h e) (step_no_gap limits h e le may.allowed no_gap)
 
--- the serials that a lawful book handed out or minted have no gap
-pub serials_have_no_gap : (limits : Limits) (kind : ℕ) (h : History) → limits.series ≤ 2 ^ 32 → IsLawfulBook limits kind h → HaveNoGap (own_out h ++ minted h)
-serials_have_no_gap limits kind h le lawful =
-    book_walk (λ g. HaveNoGap (made g)) limits kind (λ g e may no_gap. made_step limits g e le may no_gap) (λ m name house. empty_no_gap) h lawful
+-- the serials that a lawful history handed out or minted have no gap
+pub serials_have_no_gap : (limits : Limits) (h : History) → limits.series ≤ 2 ^ 32 → IsLawful limits h → HaveNoGap (own_out h ++ minted h)
+serials_have_no_gap limits h le lawful =
+    lawful_walk (λ g. HaveNoGap (made g)) limits (λ g e may no_gap. made_step limits g e le may no_gap) empty_no_gap h lawful
 
 -- so no identity stands twice among them
 pub gap_once : (ps : List Scrip) (id : ℕ) → HaveNoGap ps → with_id ps id ≤ 1
@@ -191,5 +191,5 @@ gap_once ps id no_gap =
     go true e = omega (arith, e)
     go false e = omega (arith, e)
 
-pub made_once : (limits : Limits) (kind : ℕ) (h : History) (id : ℕ) → limits.series ≤ 2 ^ 32 → IsLawfulBook limits kind h → with_id (own_out h ++ minted h) id ≤ 1
-made_once limits kind h id le lawful = gap_once (own_out h ++ minted h) id (serials_have_no_gap limits kind h le lawful)
+pub made_once : (limits : Limits) (h : History) (id : ℕ) → limits.series ≤ 2 ^ 32 → IsLawful limits h → with_id (own_out h ++ minted h) id ≤ 1
+made_once limits h id le lawful = gap_once (own_out h ++ minted h) id (serials_have_no_gap limits h le lawful)

@@ -14,13 +14,13 @@ use Rattle.mc_records.specs.Entry.{goods_deed, sale, credit, Held, Entry, Accept
 use Rattle.ledger_model.specs.Histories.{History}
 use Rattle.ledger_model.specs.Pieces.{in_series, is_first_hand}
 use Rattle.ledger_model.specs.Stock.{is_licence_of, licence_terms, licence_in, stock_of, stock_in, held_piece, held_pieces, stock_pieces, ids_of, stock_ids, may_be_stock, are_new, Sale, sale_at, sale_of, sales, is_of_vendor, is_of_stock, is_licensed, is_sold, licensed_count, is_for_sale, licensed_piece, sold_piece, sold, stock_sold, licensed_sold}
-use Rattle.ledger_model.specs.Lawful.{unbounded, request_of, IsAllowed, IsLawfulBook}
+use Rattle.ledger_model.specs.Lawful.{unbounded, request_of, IsAllowed, IsLawful}
 use Rattle.ledger_model.specs.Taken.{IsSupplied}
 use Rattle.ledger_model.specs.Laws.{AreDistinct, HasPiece, with_id}
 use Rattle.ledger_model.proofs.ListLaws.{counts_cons, counts_none, once_snoc, all_append, all_weaker, all_snoc, found_passes, found_holds, found_stays}
 use Rattle.ledger_model.proofs.AcceptLaws.{snoc_distinct}
 use Rattle.ledger_model.proofs.TakenLaws.{taken_sale}
-use Rattle.ledger_model.proofs.FollowLaws.{book_walk}
+use Rattle.ledger_model.proofs.FollowLaws.{lawful_walk}
 
 -- ---- the sale of a lawful entry
 
@@ -241,7 +241,7 @@ sold_before most m h s vendor id supplied same = go s.stock supplied same
         counts_none (is_this vendor id) (sales h)
         (ap (λ (n : List ℕ). list_any (is_this n id) (sales h)) (sym ((bytes_eq-Decides s.vendor vendor).0 parts.0)) ∙ ap (λ (n : ℕ). list_any (is_this s.vendor n) (sales h)) (sym (eqb-true s.id id parts.1)) ∙ none)
 
--- ---- a lawful book
+-- ---- a lawful history
 
 pub record SoldWell (h : History) : Type 0 where
   pub stocked : (vendor : List ℕ) → Stocked h vendor
@@ -257,19 +257,19 @@ well_snoc limits h e allowed w = record {
       (once_snoc (is_this vendor id) (sales h) (sale_of e) (w.stock_once vendor id) (λ s is same. sold_before limits.series (moment_of e) h s vendor id (supplied_sale limits h e s allowed is) same));
 }
 
-pub sold_well : (limits : Limits) (kind : ℕ) (h : History) → IsLawfulBook limits kind h → SoldWell h
-sold_well limits kind h lawful =
-    book_walk SoldWell limits kind (λ g e may w. well_snoc limits g e may.allowed w)
-    (λ m name house. record { stocked = λ vendor. record { fit = tt; once = tt }; made = tt; stock_once = λ vendor id. omega arith }) h lawful
+pub sold_well : (limits : Limits) (h : History) → IsLawful limits h → SoldWell h
+sold_well limits h lawful =
+    lawful_walk SoldWell limits (λ g e may w. well_snoc limits g e may.allowed w)
+    (record { stocked = λ vendor. record { fit = tt; once = tt }; made = tt; stock_once = λ vendor id. omega arith }) h lawful
 
-pub all_made : (limits : Limits) (kind : ℕ) (h : History) → IsLawfulBook limits kind h → AllByRecursion (HasPiece h) (sales h)
-all_made limits kind h lawful = (sold_well limits kind h lawful).made
+pub all_made : (limits : Limits) (h : History) → IsLawful limits h → AllByRecursion (HasPiece h) (sales h)
+all_made limits h lawful = (sold_well limits h lawful).made
 
-pub stock_stands_once : (limits : Limits) (kind : ℕ) (h : History) (vendor : List ℕ) → IsLawfulBook limits kind h → AreDistinct (stock_pieces h vendor)
-stock_stands_once limits kind h vendor lawful = ((sold_well limits kind h lawful).stocked vendor).once
+pub stock_stands_once : (limits : Limits) (h : History) (vendor : List ℕ) → IsLawful limits h → AreDistinct (stock_pieces h vendor)
+stock_stands_once limits h vendor lawful = ((sold_well limits h lawful).stocked vendor).once
 
-pub stock_fits : (limits : Limits) (kind : ℕ) (h : History) (vendor : List ℕ) → IsLawfulBook limits kind h → AllByRecursion (λ p. IsTrue (may_be_stock vendor p)) (stock_pieces h vendor)
-stock_fits limits kind h vendor lawful = ((sold_well limits kind h lawful).stocked vendor).fit
+pub stock_fits : (limits : Limits) (h : History) (vendor : List ℕ) → IsLawful limits h → AllByRecursion (λ p. IsTrue (may_be_stock vendor p)) (stock_pieces h vendor)
+stock_fits limits h vendor lawful = ((sold_well limits h lawful).stocked vendor).fit
 
 -- ---- pieces by the identities of their sales
 
@@ -304,11 +304,11 @@ well_sold_once h vendor id w =
     let counted = sold_counted h (is_of_stock vendor) (λ n. eqb n id) w in
     omega (arith, counted, w.stock_once vendor id)
 
-pub stock_sold_once : (limits : Limits) (kind : ℕ) (h : History) (vendor : List ℕ) (id : ℕ) → IsLawfulBook limits kind h → with_id (stock_sold h vendor) id ≤ 1
-stock_sold_once limits kind h vendor id lawful = well_sold_once h vendor id (sold_well limits kind h lawful)
+pub stock_sold_once : (limits : Limits) (h : History) (vendor : List ℕ) (id : ℕ) → IsLawful limits h → with_id (stock_sold h vendor) id ≤ 1
+stock_sold_once limits h vendor id lawful = well_sold_once h vendor id (sold_well limits h lawful)
 
-pub licensed_counted : (limits : Limits) (kind : ℕ) (h : History) (vendor : List ℕ) (series : ℕ) → IsLawfulBook limits kind h → in_series (licensed_sold h vendor) series ≡ licensed_count h vendor series
-licensed_counted limits kind h vendor series lawful = sold_counted h (is_licensed vendor) (λ n. eqb (series_of n) series) (sold_well limits kind h lawful)
+pub licensed_counted : (limits : Limits) (h : History) (vendor : List ℕ) (series : ℕ) → IsLawful limits h → in_series (licensed_sold h vendor) series ≡ licensed_count h vendor series
+licensed_counted limits h vendor series lawful = sold_counted h (is_licensed vendor) (λ n. eqb (series_of n) series) (sold_well limits h lawful)
 
 -- ---- what is sold under a licence, and what out of stock
 

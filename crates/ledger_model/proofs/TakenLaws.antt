@@ -5,6 +5,7 @@ use Rattle.std.proofs.lemmas.Bool.{leb-false, ltb-false, le-ltb}
 use Rattle.scrip_form.specs.Issuing.{Issuing, series_at}
 use Rattle.scrip_form.specs.Scrip.{Scrip}
 use Rattle.scrip_certs.specs.Digests.{request_signature}
+use Rattle.mc_records.specs.declared.ranges.TheConstants.{MOST_IN_ACCOUNT}
 use Rattle.mc_records.specs.declared.limits.Limits.{Limits}
 use Rattle.mc_records.specs.declared.refusal.Refusal.TheVariants.{TooLittle, NoSuchGoods, NoAccount, AccountFull, NoVendor, NoStock}
 use Rattle.mc_records.specs.Requests.{Asked}
@@ -18,7 +19,7 @@ use Rattle.ledger_model.specs.Accounts.{account_in, balance, last_order}
 use Rattle.ledger_model.specs.Stock.{licence_in, licensed_count, for_sale}
 use Rattle.ledger_model.specs.Sums.{price_paid}
 use Rattle.ledger_model.specs.Lines.{Stop, ◌>>=◌, given, refused_if}
-use Rattle.ledger_model.specs.Stages.{Offer, shelf_by, next_by, supplied, most_in_account, needed}
+use Rattle.ledger_model.specs.Stages.{Offer, shelf_by, next_by, supplied, needed}
 use Rattle.ledger_model.specs.Answer.{offer, supply_of, errand_offer, broker_offer, Take, answer}
 use Rattle.ledger_model.specs.Taken.{IsSupplied, IsBought, IsSale, IsCredit, IsDraw}
 use Rattle.ledger_model.proofs.TableLaws.{line_ok, refused_ok, given_ok, ok_is, accept_answer, draw_answer}
@@ -105,7 +106,7 @@ record Credits (h : History) (target : List ℕ) (value : ℕ) (o : Offer) : Typ
   stands : IsSome (account_in h account)
   price_is : o.price ≡ value
   deed_is : o.deed ≡ credit (balance h account + value)
-  fits : balance h account + value ≤ most_in_account
+  fits : balance h account + value ≤ MOST_IN_ACCOUNT
 
 data Offers (most : ℕ) (h : History) (t : ℕ) (target : List ℕ) (value : ℕ) (o : Offer) : Type 0 where
   goods : o.deed ≡ goods_deed → IsBought h target o.price → Offers most h t target value o
@@ -140,11 +141,11 @@ credited_is : (limits : Limits) (h : History) (t : ℕ) (target account : List �
     → errand_offer h t limits value (Some (pay_in account)) ≡ Ok o → Credits h target value o
 credited_is limits h t target account value o kind asks r =
     let there = option_map (λ _. balance h account) (account_in h account) in
-    let a = line_ok (given there NoAccount) (λ b. refused_if (ltb most_in_account (b + value)) (AccountFull b) >>= λ _. Ok (record { price = value; deed = credit (b + value) })) o r in
-    let b = line_ok (refused_if (ltb most_in_account (a.0 + value)) (AccountFull a.0)) (λ _. Ok (record { price = value; deed = credit (a.0 + value) })) o a.2 in
+    let a = line_ok (given there NoAccount) (λ b. refused_if (ltb MOST_IN_ACCOUNT (b + value)) (AccountFull b) >>= λ _. Ok (record { price = value; deed = credit (b + value) })) o r in
+    let b = line_ok (refused_if (ltb MOST_IN_ACCOUNT (a.0 + value)) (AccountFull a.0)) (λ _. Ok (record { price = value; deed = credit (a.0 + value) })) o a.2 in
     let known : there ≡ Some a.0 = given_ok there NoAccount a.0 a.1 in
     let is : balance h account ≡ a.0 = balance_is h account (account_in h account) a.0 known in
-    let below : a.0 + value ≤ most_in_account = ltb-false most_in_account (a.0 + value) (refused_ok _ _ b.0 b.1) in
+    let below : a.0 + value ≤ MOST_IN_ACCOUNT = ltb-false MOST_IN_ACCOUNT (a.0 + value) (refused_ok _ _ b.0 b.1) in
     subst (Credits h target value) (ok_is (record { price = value; deed = credit (a.0 + value) }) o b.2) (record {
       account = account;
       no_vendor = kind;

@@ -4,6 +4,7 @@ use Rattle.scrip_form.specs.Identities.{numbered}
 use Rattle.scrip_form.specs.Issuing.{Issuing, series_at}
 use Rattle.scrip_form.specs.Scrip.{Scrip}
 use Rattle.scrip_certs.specs.Digests.{request_signature}
+use Rattle.mc_records.specs.declared.ranges.TheConstants.{MOST_IN_ACCOUNT}
 use Rattle.mc_records.specs.Errands.{buy, pay_in, errand_of}
 use Rattle.ledger_model.specs.Histories.{History}
 use Rattle.ledger_model.specs.Houses.{fee, is_vendor, is_broker, own_series}
@@ -12,7 +13,6 @@ use Rattle.ledger_model.specs.Orders.{Order, order_of}
 use Rattle.ledger_model.specs.Pieces.{piece_of, own_count, next_identity}
 use Rattle.ledger_model.specs.Accounts.{account_in, key_in, balance, last_order}
 use Rattle.ledger_model.specs.Stock.{licence_in, licensed_count, for_sale}
-use Rattle.ledger_model.specs.Stages.{most_in_account}
 
 -- a piece that is made under a licence has the next identity of the licence's series of a moment, which is not full
 pub record IsMade (most : ℕ) (h : History) (m : ℕ) (vendor : List ℕ) (id : ℕ) : Type 0 where
@@ -58,7 +58,7 @@ pub record IsCredit (h : History) (scrip target : List ℕ) (price : ℕ) (chang
   pub price_is : price ≡ piece.value
   pub change_is : change ≡ None
   pub after_is : after ≡ balance h account + price
-  pub fits : after ≤ most_in_account
+  pub fits : after ≤ MOST_IN_ACCOUNT
 
 -- a draw: signed under the key of the account that the target names, under an order above its last one, for an amount
 -- that it has; the drawn piece has the next identity of the house's own series, which is not full

@@ -1,44 +1,41 @@
 //! Laws over the definitions, each on a function that does nothing.
 
-ghost use Rattle.std.specs.Prelude.{◌≡◌, ◌+◌, ◌<◌, ◌≤◌, ◌^◌, ℕ, [], ◌∷◌, ◌++◌, length, List, Some, true, option_map, slice_get};
+ghost use Rattle.std.specs.Prelude.{◌≡◌, ◌+◌, ◌<◌, ◌≤◌, ◌^◌, ℕ, [], ◌∷◌, ◌++◌, length, not, List, Some, true, option_map, slice_get};
 ghost use Rattle.mc_records.specs.declared.limits.Limits.{Limits as Bounds};
+ghost use Rattle.mc_records.specs.declared.limits.TheConstants.Limits.{MOST_JOURNAL};
 ghost use Rattle.mc_records.specs.declared.refusal.Refusal.{Refusal};
 ghost use Rattle.mc_records.specs.Refusals.{number_of};
 ghost use Rattle.mc_records.specs.Requests.{Asked};
 ghost use Rattle.mc_records.specs.Entry.{Entry};
 ghost use Rattle.mc_records.specs.Sizes.{size};
 ghost use Rattle.ledger_model.specs.Histories.{History, time};
-ghost use Rattle.ledger_model.specs.Houses.{keeping, site_kind};
+ghost use Rattle.ledger_model.specs.Houses.{keeping, is_vendor, is_broker};
 ghost use Rattle.ledger_model.specs.Pieces.{accepted, own_out, minted};
 ghost use Rattle.ledger_model.specs.Sums.{takings, values, all_drawn};
 ghost use Rattle.ledger_model.specs.Stages.{is_repeat};
 ghost use Rattle.ledger_model.specs.Answer.{answer, draw_in, as_counted, Take, Again};
-ghost use Rattle.ledger_model.specs.Lawful.{IsLawful, IsLawfulBook, IsFirstUnlawful, MayFollow};
+ghost use Rattle.ledger_model.specs.Lawful.{IsLawful, IsFirstUnlawful, MayFollow};
 ghost use Rattle.ledger_model.specs.Replies.{reply_after, reply_of, refusal_of, head_refusal};
 ghost use Rattle.ledger_model.specs.Laws.{AreDistinct, ArePaid, HaveNoGap, with_id};
 
-/// A lawful history is the lawful book of a vendor, and the other way round; so the laws of lawful books
-/// hold of it. The kind of a book is that of its site.
-pub fn lawful_histories_are_books()
-    ensures book { (limits : Bounds) (h : History) → IsLawful limits h → IsLawfulBook limits 0 h }
-    ensures history { (limits : Bounds) (h : History) → IsLawfulBook limits 0 h → IsLawful limits h }
-    ensures kind { (limits : Bounds) (kind : ℕ) (h : History) → IsLawfulBook limits kind h
-        → site_kind h ≡ Some kind }
+/// A lawful history is that of a vendor or of a broker, and of one of the two.
+#[tactic(auto, using(crate::proofs::KindLaws::one_house))]
+pub fn lawful_histories_are_of_houses()
+    ensures { (limits : Bounds) (h : History) → IsLawful limits h → is_broker h ≡ not (is_vendor h) }
 {}
 
-/// In a lawful book no identity is accepted twice.
-#[tactic(auto, using(crate::proofs::AcceptLaws::book_accepts_once))]
+/// In a lawful history no identity is accepted twice.
+#[tactic(auto, using(crate::proofs::AcceptLaws::accepted_once))]
 pub fn accepted_once()
-    ensures { (limits : Bounds) (kind : ℕ) (h : History) → IsLawfulBook limits kind h
+    ensures { (limits : Bounds) (h : History) → IsLawful limits h
         → AreDistinct (accepted h) }
 {}
 
-/// A prefix of a lawful history or book, from its first entry on, is lawful.
+/// A prefix of a lawful history, from its first entry on, is lawful.
+#[tactic(auto, using(crate::proofs::FollowLaws::prefix_lawful))]
 pub fn prefixes_are_lawful()
-    ensures history { (limits : Bounds) (e : Entry) (xs ys : History)
+    ensures { (limits : Bounds) (e : Entry) (xs ys : History)
         → IsLawful limits ((e ∷ xs) ++ ys) → IsLawful limits (e ∷ xs) }
-    ensures book { (limits : Bounds) (kind : ℕ) (e : Entry) (xs ys : History)
-        → IsLawfulBook limits kind ((e ∷ xs) ++ ys) → IsLawfulBook limits kind (e ∷ xs) }
 {}
 
 /// A history with a first unlawful entry is not lawful, and there is one number of that entry.
@@ -72,42 +69,39 @@ pub fn first_replies_stay()
         → reply_of (h ++ more) n ≡ reply_of h n }
 {}
 
-/// In a lawful book the value that an entry accepts is its price and the value of its change.
+/// In a lawful history the value that an entry accepts is its price and the value of its change.
 #[tactic(auto, using(crate::proofs::AcceptLaws::values_are_paid))]
 pub fn values_are_paid()
-    ensures { (limits : Bounds) (kind : ℕ) (h : History) → IsLawfulBook limits kind h
+    ensures { (limits : Bounds) (h : History) → IsLawful limits h
         → ArePaid [] h }
 {}
 
-/// In a lawful book the values of the accepted pieces and of the draws are the takings and the values of
+/// In a lawful history the values of the accepted pieces and of the draws are the takings and the values of
 /// the pieces that the house handed out in its own series. A vendor has no draws.
 #[tactic(auto, using(crate::proofs::AcceptLaws::values_are_kept))]
 pub fn values_are_kept()
-    ensures { (limits : Bounds) (kind : ℕ) (h : History) → IsLawfulBook limits kind h
+    ensures { (limits : Bounds) (h : History) → IsLawful limits h
         → values (accepted h) + all_drawn h ≡ takings h + values (own_out h) }
 {}
 
-/// The pieces that a lawful book hands out and mints in a series of the house's own have the serials
+/// The pieces that a lawful history hands out and mints in a series of the house's own have the serials
 /// 0, 1, 2 and so on without a gap, and so no identity stands twice among them.
 pub fn serials_have_no_gap()
-    ensures serials { (limits : Bounds) (kind : ℕ) (h : History) → limits.series ≤ 2 ^ 32
-        → IsLawfulBook limits kind h → HaveNoGap (own_out h ++ minted h) }
-    ensures once { (limits : Bounds) (kind : ℕ) (h : History) (id : ℕ) → limits.series ≤ 2 ^ 32
-        → IsLawfulBook limits kind h → with_id (own_out h ++ minted h) id ≤ 1 }
+    ensures serials { (limits : Bounds) (h : History) → limits.series ≤ 2 ^ 32
+        → IsLawful limits h → HaveNoGap (own_out h ++ minted h) }
+    ensures once { (limits : Bounds) (h : History) (id : ℕ) → limits.series ≤ 2 ^ 32
+        → IsLawful limits h → with_id (own_out h ++ minted h) id ≤ 1 }
 {}
 
-/// The entry that an answer takes may follow the history, and so makes a longer lawful history or book;
-/// it stays within the journal's limit.
+/// The entry that an answer takes may follow the history, and so makes a longer lawful history; it
+/// stays within the journal's limit.
 pub fn taken_entries_follow()
     ensures follows { (h : History) (t : ℕ) (limits : Bounds) (q : Asked) (e : Entry)
-        → time h ≤ t → limits.journal ≤ 2 ^ 40 → answer h t limits q ≡ Take e
+        → time h ≤ t → limits.journal ≤ MOST_JOURNAL → answer h t limits q ≡ Take e
         → MayFollow limits h e }
     ensures lawful { (h : History) (t : ℕ) (limits : Bounds) (q : Asked) (e : Entry)
-        → IsLawful limits h → time h ≤ t → limits.journal ≤ 2 ^ 40 → answer h t limits q ≡ Take e
+        → IsLawful limits h → time h ≤ t → limits.journal ≤ MOST_JOURNAL → answer h t limits q ≡ Take e
         → IsLawful limits (h ++ e ∷ []) }
-    ensures book { (h : History) (t : ℕ) (limits : Bounds) (kind : ℕ) (q : Asked) (e : Entry)
-        → IsLawfulBook limits kind h → time h ≤ t → limits.journal ≤ 2 ^ 40
-        → answer h t limits q ≡ Take e → IsLawfulBook limits kind (h ++ e ∷ []) }
     ensures fits { (h : History) (t : ℕ) (limits : Bounds) (q : Asked) (e : Entry)
         → answer h t limits q ≡ Take e → size (h ++ e ∷ []) ≤ limits.journal }
 {}

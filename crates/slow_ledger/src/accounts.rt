@@ -119,7 +119,7 @@ fn slow_taken(h: &Prefix<'_>, name: &[u8]) -> Result<u64, NoMemory>
 }
 
 /// The balance of an account.
-pub(crate) fn slow_balance(h: &Prefix<'_>, name: &[u8]) -> Result<u64, NoMemory>
+pub fn slow_balance(h: &Prefix<'_>, name: &[u8]) -> Result<u64, NoMemory>
     ensures { IfOk result (λ all. all ≡ model.balance h.now name.now) }
 {
     let put = slow_put(h, name)?;

@@ -11,12 +11,13 @@ ghost use Rattle.ledger_model.specs.Goods.{is_goods_of, goods_price, price_in};
 ghost use Rattle.ledger_model.specs.Pieces.{accepted_piece, is_spent, reference_of, has_reference};
 
 use crate::prefix::Prefix;
+use ledger_model::{BROKER_KIND, VENDOR_KIND};
 use mc_base::Moment;
 use mc_records::{PieceList, Record, SiteTerms};
 use scrip_form::{Id, Terms, read_scrip};
 
 /// The moment of the entry of a number.
-pub(crate) fn moment_at(h: &Prefix<'_>, n: usize) -> Moment
+pub fn moment_at(h: &Prefix<'_>, n: usize) -> Moment
     requires { n < length h.now }
     ensures { IfSome (slice_get h.now n) (λ e. result ≡ entries.moment_of e) }
 {
@@ -26,7 +27,7 @@ pub(crate) fn moment_at(h: &Prefix<'_>, n: usize) -> Moment
 }
 
 /// The greatest moment of the entries.
-pub(crate) fn slow_time(h: &Prefix<'_>) -> u64
+pub fn slow_time(h: &Prefix<'_>) -> u64
     ensures { result ≡ time h.now }
 {
     let mut greatest = 0;
@@ -37,7 +38,7 @@ pub(crate) fn slow_time(h: &Prefix<'_>) -> u64
 }
 
 /// The name of the site.
-pub(crate) fn slow_name<'a>(h: &'a Prefix<'_>) -> &'a [u8]
+pub fn slow_name<'a>(h: &'a Prefix<'_>) -> &'a [u8]
     ensures { result.now ≡ site_name h.now }
 {
     if h.len() == 0 {
@@ -57,26 +58,26 @@ pub(crate) fn slow_is_vendor(h: &Prefix<'_>) -> bool
         return false;
     }
     match h.record(0) {
-        Record::Site { kind, .. } => kind == 0,
+        Record::Site { kind, .. } => kind == VENDOR_KIND,
         _ => false,
     }
 }
 
 /// Whether the site is a broker.
-pub(crate) fn slow_is_broker(h: &Prefix<'_>) -> bool
+pub fn slow_is_broker(h: &Prefix<'_>) -> bool
     ensures { result ≡ is_broker h.now }
 {
     if h.len() == 0 {
         return false;
     }
     match h.record(0) {
-        Record::Site { kind, .. } => kind == 1,
+        Record::Site { kind, .. } => kind == BROKER_KIND,
         _ => false,
     }
 }
 
 /// A broker's fee for each piece that it sells.
-pub(crate) fn slow_fee(h: &Prefix<'_>) -> u64
+pub fn slow_fee(h: &Prefix<'_>) -> u64
     ensures { result ≡ fee h.now }
 {
     if h.len() == 0 {
@@ -159,7 +160,7 @@ fn terms_of_issuer_at(h: &Prefix<'_>, n: usize, issuer: u8) -> Option<Terms>
 }
 
 /// The terms of an issuer.
-pub(crate) fn slow_terms(h: &Prefix<'_>, issuer: u8) -> Option<Terms>
+pub fn slow_terms(h: &Prefix<'_>, issuer: u8) -> Option<Terms>
     ensures { result ≡ terms_in h.now issuer }
 {
     for n in 0..h.len() {
@@ -215,7 +216,7 @@ fn accepts_at(h: &Prefix<'_>, n: usize, id: Id) -> bool
 }
 
 /// Whether an identity was accepted.
-pub(crate) fn slow_is_spent(h: &Prefix<'_>, id: Id) -> bool
+pub fn slow_is_spent(h: &Prefix<'_>, id: Id) -> bool
     ensures { result ≡ is_spent h.now id }
 {
     for n in 0..h.len() {

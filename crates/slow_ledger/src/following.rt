@@ -1,12 +1,13 @@
 //! What each kind of entry asks of the entries before it, and the first entry that breaks it.
 
 ghost use Rattle.std.specs.Prelude.{◌≡◌, ℕ, List, ◌≤◌, ◌<◌, ◌+◌, ◌↔◌, ◌^◌, ◌++◌, ◌∷◌, [], IsTrue, IsFalse, IsNone, IsSome, None, Some, IfOk, IfSome, slice_get, length, take, option_map};
+ghost use Rattle.mc_records.specs.declared.ranges.TheConstants.{MOST_IN_ACCOUNT};
 ghost use Rattle.mc_records.specs.Entry as entries;
 ghost use Rattle.mc_records.specs.Entry.{Entry, Fits, payload};
 ghost use Rattle.mc_records.specs.Limits.{AreInRange};
 ghost use Rattle.mc_records.specs.declared.limits.Limits.{Limits as Bounds};
 ghost use Rattle.mc_records.specs.Requests.{seen};
-ghost use Rattle.ledger_model.specs.Stages.{most_in_account};
+ghost use Rattle.ledger_model.specs.declared.numbers.TheConstants.{MOST_IN_FORCE};
 ghost use Rattle.ledger_model.specs.Histories.{time};
 ghost use Rattle.ledger_model.specs.Houses as houses;
 ghost use Rattle.ledger_model.specs.Houses.{is_vendor, is_broker};
@@ -26,9 +27,9 @@ use crate::prefix::Prefix;
 use crate::stages::{Stopped, own_series};
 use crate::stock::{slow_are_stock, slow_licence};
 use crate::table::evaluate;
-use ledger_model::History;
+use ledger_model::{BROKER_KIND, History, MOST_IN_FORCE};
 use mc_base::{Moment, NoMemory};
-use mc_records::{Limits, Record, Request, no_payload_begins_another};
+use mc_records::{Limits, MOST_IN_ACCOUNT, Record, Request, no_payload_begins_another};
 use scrip_certs::hex_of;
 use scrip_form::Id;
 use std::alloc::Global;
@@ -40,7 +41,7 @@ fn unbounded_of(limits: Limits) -> Limits
     ensures range { AreInRange result }
 {
     Limits {
-        journal: 1 << 40,
+        journal: Limits::MOST_JOURNAL,
         series: limits.series,
     }
 }
@@ -147,10 +148,10 @@ fn mint_allowed(
 /// Whether a vendor may bring the goods that are the last of these entries.
 fn goods_allowed(before: &Prefix<'_>, h: &Prefix<'_>) -> Result<bool, NoMemory>
     ensures { IfOk result (λ b. IsTrue b ↔ (IsTrue (is_vendor before.now)
-        × (in_force h.now ≤ 2 ^ 26))) }
+        × (in_force h.now ≤ MOST_IN_FORCE))) }
 {
     let all = slow_in_force(h)?;
-    Ok(slow_is_vendor(before) && all <= 1 << 26)
+    Ok(slow_is_vendor(before) && all <= MOST_IN_FORCE)
 }
 
 /// Whether a broker may enter a deposit.
@@ -163,13 +164,13 @@ fn deposit_allowed(
     ensures { IfOk result (λ b. IsTrue b ↔ (IsTrue (is_broker h.now)
         × IsSome (account_in h.now name.now)
         × IsFalse (has_reference h.now reference.now)
-        × (balance h.now name.now + amount ≤ most_in_account))) }
+        × (balance h.now name.now + amount ≤ MOST_IN_ACCOUNT))) }
 {
     if !slow_is_broker(h) || slow_key(h, name).is_none() || slow_has_reference(h, reference) {
         return Ok(false);
     }
     let balance = slow_balance(h, name)?;
-    Ok(has_room(1 << 60, balance, amount))
+    Ok(has_room(MOST_IN_ACCOUNT, balance, amount))
 }
 
 /// Whether a broker may enter a withdrawal.
@@ -232,7 +233,7 @@ fn allowed(alloc: Global, h: &Prefix<'_>, n: usize, limits: Limits) -> Result<bo
 {
     let before = h.first(n);
     match h.record(n) {
-        Record::Site { kind, .. } => Ok(n == 0 && kind == 0),
+        Record::Site { kind, .. } => Ok(n == 0 && kind <= BROKER_KIND),
         Record::Terms { terms, .. } => Ok(
             slow_is_vendor(&before) && slow_terms(&before, terms.issuer()).is_none(),
         ),
@@ -294,17 +295,6 @@ fn may_follow(alloc: Global, h: &Prefix<'_>, n: usize, limits: Limits) -> Result
     let in_order = slow_time(&h.first(n)) <= moment_at(h, n).seconds();
     let allowed = allowed(alloc, h, n, limits)?;
     Ok(in_order && allowed)
-}
-
-/// Whether the entry of a number may follow those before it, by the definitions, be those lawful or
-/// not. Want of memory is free.
-pub fn slow_follows(alloc: Global, h: &History, n: usize, limits: Limits) -> Result<bool, NoMemory>
-    requires number { n < length h.now }
-    requires limits { AreInRange limits }
-    ensures { IfOk result
-        (λ b. IfSome (slice_get h.now n) (λ e. IsTrue b ↔ MayFollow limits (take n h.now) e)) }
-{
-    may_follow(alloc, &Prefix::whole(h), n, limits)
 }
 
 /// The number of the first entry that may not follow those before it; 0 where there are none.

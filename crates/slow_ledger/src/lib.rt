@@ -13,5 +13,11 @@ mod stages;
 mod stock;
 mod table;
 
-pub use following::{slow_follows, slow_lawful};
+pub use accounts::slow_balance;
+pub use filters::{
+    moment_at, slow_fee, slow_is_broker, slow_is_spent, slow_name, slow_terms, slow_time,
+};
+pub use following::slow_lawful;
+pub use prefix::Prefix;
+pub use stock::slow_licence;
 pub use table::{ModelAnswer, slow_answer};

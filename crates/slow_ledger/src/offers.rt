@@ -20,7 +20,9 @@ use crate::prefix::Prefix;
 use crate::stages::Stopped;
 use crate::stock::{slow_for_sale, slow_knows_vendor, slow_licence, slow_licensed_count};
 use mc_base::{Moment, NoMemory};
-use mc_records::{Errand, Limits, RecordDeed, Refusal, errands_are_texts, read_errand};
+use mc_records::{
+    Errand, Limits, MOST_IN_ACCOUNT, RecordDeed, Refusal, errands_are_texts, read_errand,
+};
 use scrip_form::{Id, Terms};
 
 /// A price, and what it buys.
@@ -138,7 +140,7 @@ fn credit(h: &Prefix<'_>, account: &[u8], value: u64) -> Result<Purchase, Stoppe
         Ok(after) => after,
         Err(NoMemory) => return Err(Stopped::NoMemory),
     };
-    if after > 1 << 60 {
+    if after > MOST_IN_ACCOUNT {
         return Err(Stopped::Refused(Refusal::AccountFull(balance)));
     }
     Ok(Purchase {

@@ -10,7 +10,7 @@ use std::marker::Model;
 /// The first entries of a history, as many as it counts, on which definitions are evaluated.
 /// Contracts see it as the history that these entries are.
 #[derive(Drop)]
-pub(crate) struct Prefix<'a> {
+pub struct Prefix<'a> {
     history: &'a History,
     count: usize,
 }
@@ -28,7 +28,7 @@ impl<'a> Model for Prefix<'a> {
 
 impl<'a> Prefix<'a> {
     /// All entries of a history.
-    pub(crate) fn whole(history: &'a History) -> Prefix<'a>
+    pub fn whole(history: &'a History) -> Prefix<'a>
         ensures { result ≡ history.now }
     {
         let count = history.len();
@@ -36,7 +36,7 @@ impl<'a> Prefix<'a> {
     }
 
     /// The first so many of the entries.
-    pub(crate) fn first(&self, count: usize) -> Prefix<'a>
+    pub fn first(&self, count: usize) -> Prefix<'a>
         requires { count ≤ length self.now }
         ensures { result ≡ take count self.now }
     {
@@ -47,7 +47,7 @@ impl<'a> Prefix<'a> {
     }
 
     /// The entries up to and with that of a number.
-    pub(crate) fn through(&self, n: usize) -> Prefix<'a>
+    pub fn through(&self, n: usize) -> Prefix<'a>
         requires { n < length self.now }
         ensures { result ≡ take (n + 1) self.now }
     {
@@ -57,14 +57,14 @@ impl<'a> Prefix<'a> {
     }
 
     /// How many entries there are.
-    pub(crate) fn len(&self) -> usize
+    pub fn len(&self) -> usize
         ensures { result ≡ length self.now }
     {
         self.count
     }
 
     /// The entry of a number.
-    pub(crate) fn record(&self, n: usize) -> Record<'_>
+    pub fn record(&self, n: usize) -> Record<'_>
         requires { n < length self.now }
         ensures found { slice_get self.now n ≡ Some (entry result) }
         ensures fits { Fits (entry result) }
@@ -76,7 +76,7 @@ impl<'a> Prefix<'a> {
     }
 
     /// The payload of the entry of a number.
-    pub(crate) fn payload(&self, n: usize) -> &[u8]
+    pub fn payload(&self, n: usize) -> &[u8]
         requires { n < length self.now }
         ensures { IfSome (slice_get self.now n) (λ e. result.now ≡ entries.payload e) }
     {

@@ -32,7 +32,7 @@ fn licence_at(h: &Prefix<'_>, n: usize, vendor: &[u8]) -> Option<Terms>
 }
 
 /// The terms of the licence for a vendor.
-pub(crate) fn slow_licence(h: &Prefix<'_>, vendor: &[u8]) -> Option<Terms>
+pub fn slow_licence(h: &Prefix<'_>, vendor: &[u8]) -> Option<Terms>
     ensures { result ≡ licence_in h.now vendor.now }
 {
     for n in 0..h.len() {
