@@ -25,13 +25,13 @@ use Rattle.house_core.specs.declared.verdict.Authorization.{Authorization}
 use Rattle.house_core.specs.declared.verdict.NotAuthorized.{NotAuthorized}
 use Rattle.house_core.specs.declared.verdict.NotAuthorized.TheVariants as stops
 use Rattle.house_core.specs.declared.verdict.BenchFault.TheVariants as faults
-use Rattle.house_core.specs.Learning.{MayLearn}
 use Rattle.house_core.specs.Trade.{BringsFor, TradeView}
 use Rattle.house_core.specs.HouseState.{HouseStateView, HasChange, GoesOn, IsEntered, IsAsBefore, series_now}
 use Rattle.house_core.specs.Representation.{StateRepresents, has_ended}
 use Rattle.house_core.specs.Verdicts.{accept_entry, stop_of, IsReady, RepeatsKept, StopIsOfSite}
 use Rattle.house_core.specs.Bench.{Represents, IsRoomed, Accepts, KeepsReply, FaultIsOfSite, house_time, limits_of, stopped_with}
-use Rattle.house_core.proofs.Entered.{stands_entered, takes_follow}
+use Rattle.house_core.proofs.Entered.{takes_follow, stands_more}
+use Rattle.house_core.proofs.AcceptSays.{says_accept}
 use Rattle.house_core.proofs.Tabled.{scrip_asked}
 
 -- ---- a request that makes no entry
@@ -135,22 +135,18 @@ ready_as_before {old = old} {new = new} is target a ready = record {
 
 -- ---- the new entry
 
-pub may_learn : {b : HouseStateView} {h : History} → StateRepresents b h → (kind : ℕ) (limits : Limits) (q : Asked) (a : Authorization) → limits.series ≡ b.limits.series → limits.journal ≤ 2 ^ 40
-    → answer h b.time limits q ≡ answers.Take (accept_entry b.time q.target a) → MayLearn b.limits kind b.count h (accept_entry b.time q.target a)
-may_learn {b = b} {h = h} st kind limits q a series most takes =
-    let may = takes_follow st limits q a series most takes in
-    record { counted = sym st.counted; in_order = may.in_order; by_house = may.allowed }
-
 pub stands_taken : {old mid new : HouseStateView} {h : History} → StateRepresents old h → IsAsBefore old mid → (q : Asked) (a : Authorization) → Ok a.scrip.now ≡ read_by q.scrip
     → IsReady old q.target a → BringsFor h q.target a.deed → (limits : Limits) → limits.series ≡ old.limits.series → limits.journal ≤ 2 ^ 40
     → answer h old.time limits q ≡ answers.Take (accept_entry old.time q.target a)
     → IsEntered mid new q a.scrip.now.piece a → StateRepresents new (h ++ accept_entry old.time q.target a ∷ [])
 stands_taken {old = old} {mid = mid} {new = new} {h = h} st before q a read ready brings limits series most takes is =
-    let later : answer h mid.time limits q ≡ answers.Take (accept_entry mid.time q.target a) = rw before.time takes in
+    let st' = stands_as_before st before in
+    let e = accept_entry mid.time q.target a in
+    let later : answer h mid.time limits q ≡ answers.Take e = rw before.time takes in
     let same : limits.series ≡ mid.limits.series = series ∙ ap (λ (l : Limits). l.series) (sym before.limits) in
-    subst (λ (t : ℕ). StateRepresents new (h ++ accept_entry t q.target a ∷ [])) before.time
-    (stands_entered (stands_as_before st before) q a (read_ok q.scrip a.scrip.now (sym read)).1 (ready_as_before before q.target a ready) brings limits same most later
-    (subst (λ (p : Asked). IsEntered mid new p a.scrip.now.piece a) (scrip_asked q a.scrip.now read) is))
+    let entered = subst (λ (p : Asked). IsEntered mid new p a.scrip.now.piece a) (scrip_asked q a.scrip.now read) is in
+    let says = says_accept st' q a (read_ok q.scrip a.scrip.now (sym read)).1 (ready_as_before before q.target a ready) brings limits later entered.short in
+    subst (λ (t : ℕ). StateRepresents new (h ++ accept_entry t q.target a ∷ [])) before.time (stands_more st' e _ says (takes_follow st' limits q e same most later) entered)
 
 -- ---- an entry that accepts nothing
 

@@ -1,44 +1,24 @@
--- What the state keeps after an entry that accepts nothing says what the longer history says.
-use Rattle.std.proofs.Common.{◌≡◌, ℕ, zero, suc, ◌+◌, ◌≤◌, ◌^◌, Bool, true, false, cond, List, [], ◌∷◌, ◌++◌, length, Option, Some, None, refl, sym, ap, ap₂, subst, ◌∙◌, arith, eqb, append-nil, length-append, All}
-use Rattle.std.specs.Prelude.{◌==◌, option_map, option_to_list, unwrap_or, position, count_by, IsTrue, ◌↔◌}
-use Rattle.std.specs.Option.{option_or}
-use Rattle.std.specs.List.{list_any, cons_option}
-use Rattle.std.proofs.lemmas.Bool.{eqb-true}
-use Rattle.std.proofs.lemmas.List.Elements.{filter_map-append, All-weaker}
-use Rattle.std.proofs.lemmas.List.Folds.{find-append}
-use Rattle.std.proofs.lemmas.List.Sums.{sum_by-append}
+-- What the ledger says of an entry that accepts nothing, and the house's half of what makes it lawful.
+use Rattle.std.proofs.Common.{◌≡◌, ℕ, zero, suc, ◌+◌, ◌≤◌, ◌^◌, Bool, true, false, cond, [], length, refl, sym, ap, ap₂, subst, ◌∙◌, arith, eqb}
+use Rattle.std.specs.Prelude.{◌==◌, count_by, ◌↔◌}
 use Rattle.scrip_form.specs.Identities.{series_of, numbered}
-use Rattle.scrip_form.specs.Issuing.{Issuing, series_at}
+use Rattle.scrip_form.specs.Issuing.{series_at}
 use Rattle.scrip_form.specs.Scrip.{Scrip}
-use Rattle.mc_records.specs.declared.limits.Limits.{Limits}
-use Rattle.mc_records.specs.Entry.{House, Entry, Site, AddTerms, Goods, Accept, Mint, Draw, Fits, moment_of, payload}
-use Rattle.kept_replies.specs.declared.deed.KeptEntry.{KeptEntry}
-use Rattle.kept_replies.specs.Kept.{KeptView, found}
+use Rattle.mc_records.specs.Entry.{Entry, Site, AddTerms, Goods, Accept, Mint, Draw, Fits, moment_of, payload}
 use Rattle.change_issue.specs.Registers.{Register, count_in, next_in}
 use Rattle.ledger_model.specs.Histories.{History}
-use Rattle.ledger_model.specs.Houses.{site_kind, house, keeping, is_vendor, terms_of, all_terms, terms_by, version, own_series}
-use Rattle.ledger_model.specs.Pieces.{accepted, own_out, first_hand, run_from, minted_pieces, minted, own_count, next_identity}
-use Rattle.ledger_model.specs.Sums.{price_paid, values}
-use Rattle.ledger_model.specs.Stages.{is_repeat}
+use Rattle.ledger_model.specs.Houses.{own_series}
+use Rattle.ledger_model.specs.Pieces.{first_hand, run_from, minted_pieces, own_count, next_identity}
 use Rattle.ledger_model.specs.Quiet.{AcceptsNothing}
-use Rattle.ledger_model.specs.Lawful.{IsLawful, MayFollow, IsAllowed}
 use Rattle.ledger_model.proofs.QuietLaws.{quiet}
-use Rattle.ledger_model.proofs.KindLaws.{lawful_no_broker, no_broker_entry}
-use Rattle.ledger_model.proofs.AcceptLaws.{accepted_snoc}
-use Rattle.ledger_model.proofs.SerialLaws.{own_out_snoc, minted_snoc, count-append, count-cons}
-use Rattle.mc_records.proofs.SizeLaws.{length-tail, tail_size-more}
-use Rattle.ledger_model.proofs.VersionLaws.{version-more}
-use Rattle.ledger_model.proofs.FollowLaws.{longer_lawful, size_snoc}
-use Rattle.house_core.specs.Learning.{ByHouse, ByTrade, GoodsFit}
+use Rattle.ledger_model.proofs.SerialLaws.{count-cons}
+use Rattle.house_core.specs.Learning.{ByHouse, CommandFits}
 use Rattle.house_core.specs.CommandEntries.{IsCommand}
-use Rattle.spent_windows.specs.Windows.{WindowView, is_marked}
-use Rattle.house_core.specs.HouseState.{HouseStateView, ended_by, IsApplied, GoesOn, at_series, minted_count}
-use Rattle.house_core.specs.Representation.{StateRepresents, IsReply, has_ended, of_series}
-use Rattle.house_core.proofs.EndLaws.{ended_kept}
+use Rattle.house_core.specs.HouseState.{HouseStateView, GoesOn, at_series, minted_count, command_growth}
+use Rattle.house_core.specs.Representation.{StateRepresents}
 use Rattle.house_core.proofs.Tabled.{series_stands}
-use Rattle.house_core.proofs.Replied.{reply_kept}
 use Rattle.house_core.proofs.Entering.{at_most}
-use Rattle.house_core.proofs.Entered.{same_house, time_snoc, position_snoc}
+use Rattle.house_core.proofs.Entered.{Says}
 
 -- ---- the program's test of minted pieces
 
@@ -89,22 +69,7 @@ minted_counted h b (Accept m scrip target sign price change deed) s is on most =
 minted_counted h b (Mint m reference count value first) s is on most = minted_by h value (series_at b.own.terms m) (count_in b.own (series_at b.own.terms m)) count first s on.0 (omega (arith, on.1, most))
 minted_counted h b e s is on most = refl
 
-own_count_more : (h : History) (b : HouseStateView) (e : Entry) (s : ℕ) → IsCommand e → GoesOn b e → b.own.most ≤ 2 ^ 32 → own_count (h ++ e ∷ []) s ≡ own_count h s + minted_count e s
-own_count_more h b e s is on most =
-    let test : Scrip → Bool = λ p. series_of p.id == s in
-    let out : own_out (h ++ e ∷ []) ≡ own_out h = own_out_snoc [] h e ∙ ap (λ (o : Option Scrip). own_out h ++ option_to_list o) ((accepts_nothing e is).handed h) ∙ append-nil (own_out h) in
-    let made = minted_snoc [] h e in
-    let longer : own_count (h ++ e ∷ []) s ≡ count_by test (own_out h ++ (minted h ++ minted_pieces h e)) = ap₂ (λ (ps qs : List Scrip). count_by test (ps ++ qs)) out made in
-    omega (
-      arith,
-      longer,
-      count-append test (own_out h) (minted h ++ minted_pieces h e),
-      count-append test (minted h) (minted_pieces h e),
-      count-append test (own_out h) (minted h),
-      minted_counted h b e s is on most,
-    )
-
--- ---- the halves of what makes it lawful
+-- ---- the house's half of what makes it lawful
 
 pub house_half : {b : HouseStateView} {h : History} → StateRepresents b h → (kind : ℕ) (e : Entry) → IsCommand e → GoesOn b e ↔ ByHouse b.limits kind h e
 house_half st kind (Site m k name house) is = absurd is
@@ -117,86 +82,29 @@ house_half {b = b} {h = h} st kind (Mint m reference count value first) is =
 house_half st kind (Draw m target sign drawn) is = absurd is
 house_half st kind e is = (λ g. g, λ g. g)
 
-vendor_by : (h : History) (kind : ℕ) → site_kind h ≡ Some kind → is_vendor h ≡ eqb kind 0
-vendor_by h kind same = ap (λ (k : Option ℕ). unwrap_or (option_map (λ n. n == 0) k) false) same
+-- ---- its ranges
 
-is_vendors : (h : History) (kind : ℕ) → site_kind h ≡ Some kind → kind ≡ 0 → IsTrue (is_vendor h)
-is_vendors h kind same none = vendor_by h kind same ∙ ap (λ (n : ℕ). eqb n 0) none
+pub command_fits : (e : Entry) → Fits e → CommandFits e
+command_fits (Accept m scrip target sign price change deed) fits = tt
+command_fits (Draw m target sign drawn) fits = tt
+command_fits e fits = fits
 
-of_vendors : (h : History) (kind : ℕ) → site_kind h ≡ Some kind → IsTrue (is_vendor h) → kind ≡ 0
-of_vendors h kind same is = eqb-true kind 0 (sym (vendor_by h kind same) ∙ is)
+-- ---- what it brings
 
-pub follows : (passes : History → Entry → Type 0) (limits : Limits) (kind : ℕ) (h : History) (e : Entry) → site_kind h ≡ Some kind → IsCommand e → ByHouse limits kind h e → ByTrade passes kind h e → IsAllowed limits h e
-follows passes limits kind h (Site m k name house) same is a b = absurd is
-follows passes limits kind h (AddTerms m terms) same is a b = (is_vendors h kind same b.0, b.1)
-follows passes limits kind h (Goods m target price k contents) same is a b = (is_vendors h kind same b.0, b.1)
-follows passes limits kind h (Accept m scrip target sign price change deed) same is a b = absurd is
-follows passes limits kind h (Mint m reference count value first) same is a b = (is_vendors h kind same b.0, b.1, a.0, a.1)
-follows passes limits kind h (Draw m target sign drawn) same is a b = absurd is
-follows passes limits kind h e same is a b = absurd b
-
-pub halves : (passes : History → Entry → Type 0) (limits : Limits) (kind : ℕ) (h : History) (e : Entry) → IsLawful limits h → site_kind h ≡ Some kind → IsCommand e → IsAllowed limits h e
-    → ByHouse limits kind h e × ByTrade passes kind h e
-halves passes limits kind h (Site m k name house) lawful same is a = absurd is
-halves passes limits kind h (AddTerms m terms) lawful same is a = (tt, (of_vendors h kind same a.0, a.1))
-halves passes limits kind h (Goods m target price k contents) lawful same is a = (tt, (of_vendors h kind same a.0, a.1))
-halves passes limits kind h (Accept m scrip target sign price change deed) lawful same is a = absurd is
-halves passes limits kind h (Mint m reference count value first) lawful same is a = ((a.2, a.3), (of_vendors h kind same a.0, a.1))
-halves passes limits kind h e lawful same is a = absurd (no_broker_entry limits h e (lawful_no_broker limits h lawful) (omega arith) a)
-
--- ---- the goods
-
-pub goods_fit : (e : Entry) → Fits e → GoodsFit e
-goods_fit (Goods m target price k contents) fits = (fits.kind, fits.contents)
-goods_fit _ fits = tt
-
--- ---- the state
-
-or_none : {X : Type 0} (o : Option X) → option_or o None ≡ o
-or_none None = refl
-or_none (Some x) = refl
-
-pub stands_applied : {old new : HouseStateView} {h : History} → StateRepresents old h → (e : Entry) (bytes : ℕ) → IsCommand e → moment_of e ≤ old.time → GoesOn old e → MayFollow old.limits h e → bytes ≡ length (payload e)
-    → IsApplied old new e bytes → StateRepresents new (h ++ e ∷ [])
-stands_applied {old = old} {new = new} {h = h} st e bytes command at goes may len is =
-    let same = same_house old.limits h e st.lawful in
+-- what the ledger says of an entry by a command
+pub says_command : {b : HouseStateView} {h : History} → StateRepresents b h → (e : Entry) (bytes : ℕ) → IsCommand e → moment_of e ≤ b.time → GoesOn b e → bytes ≡ length (payload e) → Says b h e (command_growth e bytes)
+says_command {b = b} {h = h} st e bytes command at goes len =
     let still = accepts_nothing e command in
-    let most : old.own.most ≤ 2 ^ 32 = omega (arith, st.most, st.limits.series_most) in
-    let accepts : accepted (h ++ e ∷ []) ≡ accepted h = accepted_snoc h e ∙ ap (λ (o : Option Scrip). accepted h ++ cons_option o []) still.piece ∙ append-nil (accepted h) in
-    let out : own_out (h ++ e ∷ []) ≡ own_out h = own_out_snoc [] h e ∙ ap (λ (o : Option Scrip). own_out h ++ option_to_list o) (still.handed h) ∙ append-nil (own_out h) in
-    let terms : all_terms (h ++ e ∷ []) ≡ all_terms h ++ all_terms (e ∷ []) = filter_map-append terms_of h (e ∷ []) in
     record {
-      name = same.name ∙ st.name ∙ sym is.name;
-      clear = ap (λ (o : Option House). unwrap_or (option_map (λ x. x.clear) o) false) same.house ∙ st.clear ∙ sym is.clear;
-      keep = ap (λ (o : Option House). unwrap_or (option_map (λ x. x.keep) o) 0) same.house ∙ st.keep ∙ ap (λ (k : KeptView). k.keep) (sym is.kept);
-      terms = terms ∙ ap (λ (ts : List Issuing). ts ++ all_terms (e ∷ [])) st.terms ∙ sym is.terms;
-      own_terms = ap (λ (ts : List Issuing). terms_by ts 0) terms ∙ find-append (λ t. t.issuer == 0) (all_terms h) (all_terms (e ∷ []))
-          ∙ ap (λ (o : Option Issuing). option_or o (terms_by (all_terms (e ∷ [])) 0)) st.own_terms ∙ ap some (sym is.issuer);
-      in_time = omega (arith, time_snoc h e, st.in_time, is.time, at);
-      spent = λ id live.
-          let before : has_ended h old.time id ≡ false =
-          ended_kept (all_terms h) (all_terms (e ∷ [])) old.time id (ap₂ (λ (ts : List Issuing) (t : ℕ). ended_by ts t id) (sym terms) (sym is.time) ∙ live) in
-          ap (list_any (λ p. p.id == id)) accepts ∙ st.spent id before ∙ ap (λ (ws : List WindowView). is_marked ws id) (sym is.spent);
-      again = λ t q later.
-          ap (λ (o : Option House). position (is_repeat (unwrap_or (option_map (λ x. x.keep) o) 0) t q) (h ++ e ∷ [])) same.house
-          ∙ position_snoc (is_repeat (keeping h) t q) h e
-          ∙ ap (λ (b : Bool). option_or (position (is_repeat (keeping h) t q) h) (cond b (Some (length h)) None)) (still.repeats (keeping h) t q)
-          ∙ or_none (position (is_repeat (keeping h) t q) h)
-          ∙ st.again t q (omega (arith, later, is.time))
-          ∙ ap (λ (k : KeptView). option_map (λ (x : KeptEntry). x.number) (found k t q)) (sym is.kept);
-      replies = subst (λ (k : KeptView). All (IsReply (h ++ e ∷ [])) k.replies) (sym is.kept) (All-weaker (IsReply h) (IsReply (h ++ e ∷ [])) (λ r. reply_kept h e r) old.kept.replies st.replies);
-      issued = λ s. own_count_more h old e s command goes most ∙ ap (λ (n : ℕ). n + minted_count e s) (st.issued s) ∙ sym (is.issued s);
-      most = is.most ∙ st.most ∙ ap (λ (l : Limits). l.series) (sym is.limits);
-      redeemed = λ s. ap (λ (ps : List Scrip). values (of_series s ps)) accepts ∙ st.redeemed s ∙ sym (is.redeemed s);
-      worth = λ s. ap (λ (ps : List Scrip). values (of_series s ps)) out ∙ st.worth s ∙ sym (is.worth s);
-      takings = omega (arith, sum_by-append price_paid h (e ∷ []), still.price, st.takings, is.takings);
-      counted = omega (arith, length-append h (e ∷ []), st.counted, is.counted);
-      sized = omega (arith, size_snoc h e, length-tail h e, st.sized, st.tail, len, is.sized);
-      tail = tail_size-more h e ∙ st.tail;
-      version = ap₂ (λ (v : List ℕ → ℕ → ℕ) (n : List ℕ). v n) (version-more h e) same.name ∙ st.version ∙ ap (version []) (sym is.name);
-      limits = rw is.limits st.limits;
-      lawful = rw is.limits (longer_lawful old.limits h e st.lawful may);
+      moment = at;
+      paid = still.piece;
+      handed = still.handed h;
+      series = tt;
+      repeats = still.repeats;
+      number = tt;
+      reply = tt;
+      takings = still.price;
+      terms = refl;
+      minted = λ s. minted_counted h b e s command goes (omega (arith, st.most, st.limits.series_most));
+      payload = sym len;
     }
-  where
-    some : Issuing → Option Issuing
-    some t = Some t

@@ -1,45 +1,38 @@
--- What the state keeps after an authorization was entered says what the longer history says.
-use Rattle.std.proofs.Common.{◌≡◌, ℕ, ◌+◌, ◌-◌, ◌<◌, ◌≤◌, ◌^◌, Bool, true, false, not, cond, List, [], ◌∷◌, ◌++◌, length, filter, find, Option, Some, None, Result, Ok, refl, sym, ap, ap₂, ◌∙◌, arith, eqb, ltb, inl, inr, append-nil, length-append, All, subst}
-use Rattle.std.specs.Prelude.{◌&&◌, ◌||◌, ◌==◌, max, option_map, option_to_list, unwrap_or, position, count_by, bytes_eq}
+-- What the state keeps after one more entry says what the longer history says.
+use Rattle.std.proofs.Common.{◌≡◌, ℕ, ◌+◌, ◌<◌, ◌≤◌, ◌^◌, Bool, true, false, not, cond, List, [], ◌∷◌, ◌++◌, length, filter, find, Option, Some, None, refl, sym, ap, ap₂, ◌∙◌, arith, eqb, inl, inr, length-append, All, subst}
+use Rattle.std.specs.Prelude.{◌&&◌, ◌||◌, ◌==◌, max, option_map, option_to_list, unwrap_or, position, count_by, MatchOption, IfSome}
 use Rattle.std.specs.Option.{option_or}
 use Rattle.std.specs.List.{list_any, cons_option, position_or_len}
-use Rattle.std.specs.Result.{result_ok}
 use Rattle.std.proofs.lemmas.Bool.{lt-ltb, le-ltb, eq-eqb, cases_lt}
 use Rattle.std.proofs.lemmas.List.Elements.{filter-append, filter_map-append, All-push, All-weaker}
 use Rattle.std.proofs.lemmas.List.Folds.{find-append, list_any-append, position_or_len_push}
 use Rattle.std.proofs.lemmas.List.Sums.{sum_by-append}
-use Rattle.hex.specs.Hex.{encode_lower}
 use Rattle.scrip_form.specs.Identities.{series_of}
 use Rattle.scrip_form.specs.Issuing.{Issuing}
 use Rattle.scrip_form.specs.Scrip.{Scrip}
-use Rattle.scrip_form.specs.Reading.{scrip_of}
 use Rattle.mc_records.specs.declared.limits.Limits.{Limits}
-use Rattle.mc_records.specs.Entry.{House, Entry, Site, Accept, Mint, Draw, moment_of}
+use Rattle.mc_records.specs.Entry.{House, Entry, Site, Accept, Mint, Draw, moment_of, payload}
 use Rattle.mc_records.specs.Requests.{Asked}
-use Rattle.kept_replies.specs.Requests.{is_same_text, is_same_request}
-use Rattle.kept_replies.specs.Kept.{KeptReply, is_in_time, found}
-use Rattle.change_issue.specs.Registers.{count_in, next_in}
+use Rattle.mc_records.proofs.SizeLaws.{length-tail, tail_size-more}
+use Rattle.kept_replies.specs.declared.deed.KeptEntry.{KeptEntry}
+use Rattle.kept_replies.specs.Requests.{is_same_request}
+use Rattle.kept_replies.specs.Kept.{KeptReply, KeptView, is_in_time, found}
+use Rattle.spent_windows.specs.Windows.{WindowView, is_marked}
 use Rattle.ledger_model.specs.Histories.{History, time}
 use Rattle.ledger_model.specs.Houses.{site_name, site_kind, house, keeping, terms_of, all_terms, terms_by, version}
-use Rattle.ledger_model.specs.Pieces.{piece_of, accepted, change_from, change_piece, own_out, minted, own_count}
+use Rattle.ledger_model.specs.Pieces.{accepted_piece, accepted, handed_piece, own_out, minted_pieces, minted, in_series, own_count}
 use Rattle.ledger_model.specs.Sums.{price_paid, values}
-use Rattle.ledger_model.specs.Stages.{is_same_scrip, is_repeat, is_same_sign}
+use Rattle.ledger_model.specs.Stages.{is_repeat}
 use Rattle.ledger_model.specs.Answer.{answer, Take}
 use Rattle.ledger_model.specs.Lawful.{IsLawful, MayFollow, IsAllowed, request_of, draw_request}
-use Rattle.ledger_model.proofs.TableLaws.{accept_answer}
-use Rattle.ledger_model.proofs.AcceptLaws.{accepted_snoc, offer_below}
+use Rattle.ledger_model.proofs.AcceptLaws.{accepted_snoc}
 use Rattle.ledger_model.proofs.SerialLaws.{own_out_snoc, minted_snoc, count-append}
-use Rattle.mc_records.proofs.SizeLaws.{length-tail, tail_size-more}
 use Rattle.ledger_model.proofs.VersionLaws.{version-more}
-use Rattle.ledger_model.proofs.FollowLaws.{same_request, may_follow, longer_lawful, size_snoc}
-use Rattle.house_core.specs.declared.verdict.Authorization.{Authorization}
-use Rattle.house_core.specs.Views.{entry_deed}
-use Rattle.house_core.specs.Trade.{BringsFor}
-use Rattle.house_core.specs.HouseState.{HouseStateView, ended_by, HasChange, IsEntered, series_now, kept_entry, at_series, change_count, change_worth}
-use Rattle.house_core.specs.Representation.{StateRepresents, IsReply, has_ended, scrip_request, of_series}
-use Rattle.house_core.specs.Verdicts.{accept_entry, IsReady}
-use Rattle.house_core.proofs.Replied.{reply_kept, reply_new}
-use Rattle.house_core.proofs.Entering.{at_most}
+use Rattle.ledger_model.proofs.FollowLaws.{may_follow, longer_lawful, size_snoc}
+use Rattle.house_core.specs.HouseState.{HouseStateView, ended_by, series_now, at_series, Growth, IsGrown, IsMarkedToo, IsKeptToo, count_handed, worth_handed, worth_redeemed}
+use Rattle.house_core.specs.Representation.{StateRepresents, IsReply, has_ended, of_series}
+use Rattle.house_core.proofs.EndLaws.{ended_kept}
+use Rattle.house_core.proofs.Replied.{reply_kept}
 
 -- ---- what the first entry founds
 
@@ -99,22 +92,6 @@ position_snoc p h e = elim (cases_lt (position_or_len p h) (length h)) [
         let place : position_or_len p (h ++ e ∷ []) ≡ length h + 1 = rw (position_or_len_push p h e, eq-eqb n (length h) same, is) (omega arith) in
         rw (place, longer, le-ltb (length h + 1) (length h + 1) (omega arith), le-ltb n (length h) (omega (arith, same)), is) refl
 
-sign_as_text : (sign other : Option (List ℕ)) → is_same_text (option_map encode_lower sign) other ≡ is_same_sign sign other
-sign_as_text None None = refl
-sign_as_text None (Some t) = refl
-sign_as_text (Some s) None = refl
-sign_as_text (Some s) (Some t) = refl
-
-scrip_as_text : (text : List ℕ) (scrip : Option (List ℕ)) → is_same_scrip scrip text ≡ is_same_text (Some text) scrip
-scrip_as_text text None = refl
-scrip_as_text text (Some s) = refl
-
-swap_and : (a b c d : Bool) → (a && b && c && d) ≡ (b && a && c && d)
-swap_and true true c d = refl
-swap_and true false c d = refl
-swap_and false true c d = refl
-swap_and false false c d = refl
-
 number_or : (o : Option KeptReply) (b : Bool) (r : KeptReply) → option_or (option_map (λ e. e.number) (option_map (λ x. x.entry) o)) (cond b (Some r.entry.number) None)
     ≡ option_map (λ e. e.number) (option_map (λ x. x.entry) (option_or o (cond b (Some r) None)))
 number_or None true r = refl
@@ -122,142 +99,49 @@ number_or None false r = refl
 number_or (Some x) true r = refl
 number_or (Some x) false r = refl
 
+-- ---- what the ledger says of an entry
+
+-- whether a request is that of a kept reply, where there is one, within the keeping time
+abbrev pub is_repeat_of : ℕ → ℕ → Asked → Option KeptReply → Bool
+is_repeat_of keep t q None = false
+is_repeat_of keep t q (Some r) = is_same_request r.asked q && is_in_time keep t r
+
+-- What the ledger says of an entry behind a history, where it brings this to the state of a house.
+pub record Says (old : HouseStateView) (h : History) (e : Entry) (g : Growth) : Type 0 where
+  pub moment : moment_of e ≤ old.time
+  pub paid : accepted_piece e ≡ g.paid
+  pub handed : handed_piece h e ≡ g.handed
+  pub series : IfSome g.handed (λ p. series_of p.id ≡ series_now old)
+  pub repeats : (keep t : ℕ) (q : Asked) → is_repeat keep t q e ≡ is_repeat_of keep t q g.kept
+  pub number : IfSome g.kept (λ r. r.entry.number ≡ old.count)
+  pub reply : IfSome g.kept (IsReply (h ++ e ∷ []))
+  pub takings : price_paid e ≡ g.takings
+  pub terms : all_terms (e ∷ []) ≡ g.terms
+  pub minted : (s : ℕ) → in_series (minted_pieces h e) s ≡ g.minted s
+  pub payload : length (payload e) ≡ g.bytes
+
 -- ---- sums and counts at one more piece
 
-pub or_end : (b : Bool) → (b || false) ≡ b
+or_end : (b : Bool) → (b || false) ≡ b
 or_end true = refl
 or_end false = refl
 
-one_value : (series s value : ℕ) (p : Scrip) → series_of p.id ≡ series → p.value ≡ value → values (of_series s (p ∷ [])) ≡ at_series series value s
-one_value series s value p is same = rw is (go (eqb series s))
+one_value : (series s : ℕ) (p : Scrip) → series_of p.id ≡ series → values (of_series s (p ∷ [])) ≡ at_series series p.value s
+one_value series s p is = rw is (go (eqb series s))
   where
-    go : (b : Bool) → values (cond b (p ∷ []) []) ≡ cond b value 0
-    go true = omega (arith, same)
+    go : (b : Bool) → values (cond b (p ∷ []) []) ≡ cond b p.value 0
+    go true = omega arith
     go false = refl
 
 one_count : (series s : ℕ) (p : Scrip) → series_of p.id ≡ series → count_by (λ x. series_of x.id == s) (p ∷ []) ≡ at_series series 1 s
 one_count series s p is = let one : count_by (λ x. series_of x.id == s) (p ∷ []) ≡ at_series (series_of p.id) 1 s = omega arith in one ∙ ap (λ (n : ℕ). at_series n 1 s) is
 
-zero_at : (series s : ℕ) → at_series series 0 s ≡ 0
-zero_at series s = omega (arith, at_most series 0 s)
-
-pub values_more : (s : ℕ) (ps qs : List Scrip) → values (of_series s (ps ++ qs)) ≡ values (of_series s ps) + values (of_series s qs)
+values_more : (s : ℕ) (ps qs : List Scrip) → values (of_series s (ps ++ qs)) ≡ values (of_series s ps) + values (of_series s qs)
 values_more s ps qs =
     let test : Scrip → Bool = λ p. series_of p.id == s in
     ap values (filter-append test ps qs) ∙ sum_by-append (λ (p : Scrip). p.value) (filter test ps) (filter test qs)
 
--- ---- the entry
-
-abbrev accept_text : Entry → List ℕ
-accept_text (Accept m scrip target sign price change deed) = scrip
-accept_text _ = []
-
-abbrev accept_sign : Entry → Option (List ℕ)
-accept_sign (Accept m scrip target sign price change deed) = sign
-accept_sign _ = None
-
--- what is known of an authorization that the answer takes
-record IsTaken (h : History) (t : ℕ) (q : Asked) (a : Authorization) : Type 0 where
-  pub piece : piece_of a.scrip.now.text ≡ Some a.scrip.now.piece
-  pub price : a.price ≤ a.scrip.now.piece.value
-  pub sign : option_map encode_lower a.sign ≡ q.sign
-
-is_taken : (h : History) (t : ℕ) (limits : Limits) (q : Asked) (a : Authorization) → scrip_of a.scrip.now.text ≡ Ok (a.scrip.now.piece, a.scrip.now.cert)
-    → answer h t limits q ≡ Take (accept_entry t q.target a) → IsTaken h t q a
-is_taken h t limits q a read takes =
-    let x = accept_answer h t limits q t a.scrip.now.text q.target a.sign a.price a.change (entry_deed a.deed) takes in
-    let text : x.scrip.text ≡ a.scrip.now.text = ap accept_text x.is in
-    let sign : x.sign ≡ a.sign = ap accept_sign x.is in
-    let price : x.offered.price ≡ a.price = ap price_paid x.is in
-    let whole : Scrip × List ℕ = (x.scrip.piece, x.scrip.cert) in
-    let pair : whole ≡ (a.scrip.now.piece, a.scrip.now.cert) = cc (x.is_scrip, ap scrip_of text, read) in
-    let piece : x.scrip.piece ≡ a.scrip.now.piece = ap (λ (p : Scrip × List ℕ). p.0) pair in
-    let below : x.offered.price ≤ x.scrip.piece.value = offer_below h t limits q.target x.scrip.piece.value x.offered x.is_offered in
-    record {
-      piece = ap (λ (r : Result (Scrip × List ℕ) ℕ). option_map (λ p. p.0) (result_ok r)) read;
-      price = omega (arith, below, price, ap (λ (p : Scrip). p.value) piece);
-      sign = ap (option_map encode_lower) (sym sign) ∙ ap (λ (p : Asked). p.sign) (same_request h t limits q (accept_entry t q.target a) x);
-    }
-
--- ---- the change
-
--- the change piece of an entry is of the series in which it was handed out
-series_is : (b : HouseStateView) (id : ℕ) → count_in b.own (series_now b) < 2 ^ 32 → id ≡ next_in b.own (series_now b) → series_of id ≡ series_now b
-series_is b id below is = omega (arith, below, is)
-
-change_counted : (h : History) (b : HouseStateView) (target : List ℕ) (paid : Scrip) (a : Authorization) (s : ℕ) → b.own.most ≤ 2 ^ 32 → piece_of a.scrip.now.text ≡ Some paid → HasChange b a.price paid.value a.change
-    → count_by (λ p. series_of p.id == s) (option_to_list (change_piece h (accept_entry b.time target a))) ≡ at_series (series_now b) (change_count a.change) s
-change_counted h b target paid a s most piece has = go a.change has
-  where
-    go : (o : Option ℕ) → HasChange b a.price paid.value o
-        → count_by (λ p. series_of p.id == s) (option_to_list (change_piece h (Accept b.time a.scrip.now.text target a.sign a.price o (entry_deed a.deed)))) ≡ at_series (series_now b) (change_count o) s
-    go None has = sym (zero_at (series_now b) s)
-    go (Some id) has =
-        let series : series_of id ≡ series_now b = series_is b id (omega (arith, most, has.1)) has.2 in
-        ap (λ (o : Option Scrip). count_by (λ p. series_of p.id == s) (option_to_list (option_map (λ p. change_from h p a.price id) o))) piece
-        ∙ one_count (series_now b) s (change_from h paid a.price id) series
-
-change_worthy : (h : History) (b : HouseStateView) (target : List ℕ) (paid : Scrip) (a : Authorization) (s : ℕ) → b.own.most ≤ 2 ^ 32 → piece_of a.scrip.now.text ≡ Some paid → HasChange b a.price paid.value a.change
-    → values (of_series s (option_to_list (change_piece h (accept_entry b.time target a)))) ≡ at_series (series_now b) (change_worth a.price paid.value a.change) s
-change_worthy h b target paid a s most piece has = go a.change has
-  where
-    go : (o : Option ℕ) → HasChange b a.price paid.value o
-        → values (of_series s (option_to_list (change_piece h (Accept b.time a.scrip.now.text target a.sign a.price o (entry_deed a.deed))))) ≡ at_series (series_now b) (change_worth a.price paid.value o) s
-    go None has = sym (zero_at (series_now b) s)
-    go (Some id) has =
-        let series : series_of id ≡ series_now b = series_is b id (omega (arith, most, has.1)) has.2 in
-        ap (λ (o : Option Scrip). values (of_series s (option_to_list (option_map (λ p. change_from h p a.price id) o)))) piece
-        ∙ one_value (series_now b) s (paid.value - a.price) (change_from h paid a.price id) series refl
-
-own_count_snoc : (h : History) (b : HouseStateView) (target : List ℕ) (a : Authorization) (s : ℕ)
-    → own_count (h ++ accept_entry b.time target a ∷ []) s ≡ own_count h s + count_by (λ p. series_of p.id == s) (option_to_list (change_piece h (accept_entry b.time target a)))
-own_count_snoc h b target a s =
-    let e = accept_entry b.time target a in
-    let test : Scrip → Bool = λ p. series_of p.id == s in
-    let change = option_to_list (change_piece h e) in
-    let out = own_out_snoc [] h e in
-    let made : minted (h ++ e ∷ []) ≡ minted h = minted_snoc [] h e ∙ append-nil (minted h) in
-    let longer : own_count (h ++ e ∷ []) s ≡ count_by test ((own_out h ++ change) ++ minted h) = ap₂ (λ (ps qs : List Scrip). count_by test (ps ++ qs)) out made in
-    omega (arith, longer, count-append test (own_out h ++ change) (minted h), count-append test (own_out h) change, count-append test (own_out h) (minted h))
-
--- ---- the state
-
-all_terms_stay : (h : History) (b : HouseStateView) (target : List ℕ) (a : Authorization) → all_terms (h ++ accept_entry b.time target a ∷ []) ≡ all_terms h
-all_terms_stay h b target a = filter_map-append terms_of h (accept_entry b.time target a ∷ []) ∙ append-nil (all_terms h)
-
-accepted_more : (h : History) (b : HouseStateView) (target : List ℕ) (paid : Scrip) (a : Authorization) → piece_of a.scrip.now.text ≡ Some paid
-    → accepted (h ++ accept_entry b.time target a ∷ []) ≡ accepted h ++ paid ∷ []
-accepted_more h b target paid a piece =
-    let e = accept_entry b.time target a in
-    accepted_snoc h e ∙ ap (λ (o : Option Scrip). accepted h ++ cons_option o []) piece
-
--- a repeat of the new entry is a repeat of its reply
-repeats_alike : (b : HouseStateView) (paid : Scrip) (a : Authorization) (t : ℕ) (p : Asked) (own_target : List ℕ) (own_sign : Option (List ℕ)) → option_map encode_lower a.sign ≡ own_sign
-    → is_repeat b.kept.keep t p (accept_entry b.time own_target a)
-    ≡ (is_same_request (scrip_request a.scrip.now.text own_target own_sign) p && is_in_time b.kept.keep t (record { asked = scrip_request a.scrip.now.text own_target own_sign; entry = kept_entry b paid a }))
-repeats_alike b paid a t p own_target own_sign same =
-    swap_and (is_same_scrip p.scrip a.scrip.now.text) (bytes_eq own_target p.target) (is_same_sign a.sign p.sign) (ltb t (b.time + b.kept.keep))
-    ∙ ap₂ (λ (x y : Bool). bytes_eq own_target p.target && x && y && ltb t (b.time + b.kept.keep)) (scrip_as_text a.scrip.now.text p.scrip)
-    (sym (sign_as_text a.sign p.sign) ∙ ap (λ (o : Option (List ℕ)). is_same_text o p.sign) same)
-
-again_more : {old new : HouseStateView} {h : History} → StateRepresents old h → (q : Asked) (a : Authorization) → option_map encode_lower a.sign ≡ q.sign
-    → IsEntered old new (scrip_request a.scrip.now.text q.target q.sign) a.scrip.now.piece a
-    → (t : ℕ) (p : Asked) → old.time ≤ t
-    → position (is_repeat (keeping h) t p) (h ++ accept_entry old.time q.target a ∷ []) ≡ option_map (λ e. e.number) (found new.kept t p)
-again_more {old = old} {new = new} {h = h} st q a same is t p later =
-    let e = accept_entry old.time q.target a in
-    let r : KeptReply = record { asked = scrip_request a.scrip.now.text q.target q.sign; entry = kept_entry old a.scrip.now.piece a } in
-    let asks : KeptReply → Bool = λ x. is_same_request x.asked p && is_in_time old.kept.keep t x in
-    let number : Option KeptReply → Option ℕ = λ o. option_map (λ x. x.number) (option_map (λ x. x.entry) o) in
-    let one : is_repeat (keeping h) t p e ≡ asks r = ap (λ (k : ℕ). is_repeat k t p e) st.keep ∙ repeats_alike old a.scrip.now.piece a t p q.target q.sign same in
-    let kept : number (find asks (old.kept.replies ++ r ∷ [])) ≡ option_map (λ x. x.number) (found new.kept t p) =
-    ap₂ (λ (k : ℕ) (rs : List KeptReply). number (find (λ x. is_same_request x.asked p && is_in_time k t x) rs)) (sym is.keep) (sym is.replies) in
-    position_snoc (is_repeat (keeping h) t p) h e
-    ∙ ap₂ (λ (o : Option ℕ) (b : Bool). option_or o (cond b (Some (length h)) None)) (st.again t p later) one
-    ∙ ap (λ (n : ℕ). option_or (number (find asks old.kept.replies)) (cond (asks r) (Some n) None)) st.counted
-    ∙ number_or (find asks old.kept.replies) (asks r) r
-    ∙ ap number (sym (find-append asks old.kept.replies (r ∷ [])))
-    ∙ kept
+-- ---- what may follow
 
 -- what the state's own limits allow is what limits of the same series allow
 pub same_series : (limits own : Limits) (h : History) (e : Entry) → limits.series ≡ own.series → MayFollow limits h e → MayFollow own h e
@@ -273,53 +157,117 @@ same_series limits own h e same may = record { in_order = may.in_order; allowed 
     allowed e a = a
 
 -- the entry that the answer takes may follow
-pub takes_follow : {b : HouseStateView} {h : History} → StateRepresents b h → (limits : Limits) (q : Asked) (a : Authorization) → limits.series ≡ b.limits.series → limits.journal ≤ 2 ^ 40
-    → answer h b.time limits q ≡ Take (accept_entry b.time q.target a) → MayFollow b.limits h (accept_entry b.time q.target a)
-takes_follow {b = b} {h = h} st limits q a series most takes =
-    let e = accept_entry b.time q.target a in
-    same_series limits b.limits h e series (may_follow h b.time limits q e st.in_time most takes)
+pub takes_follow : {b : HouseStateView} {h : History} → StateRepresents b h → (limits : Limits) (q : Asked) (e : Entry) → limits.series ≡ b.limits.series → limits.journal ≤ 2 ^ 40
+    → answer h b.time limits q ≡ Take e → MayFollow b.limits h e
+takes_follow {b = b} {h = h} st limits q e series most takes = same_series limits b.limits h e series (may_follow h b.time limits q e st.in_time most takes)
 
-pub stands_entered : {old new : HouseStateView} {h : History} → StateRepresents old h → (q : Asked) (a : Authorization) → scrip_of a.scrip.now.text ≡ Ok (a.scrip.now.piece, a.scrip.now.cert)
-    → IsReady old q.target a → BringsFor h q.target a.deed → (limits : Limits) → limits.series ≡ old.limits.series → limits.journal ≤ 2 ^ 40 → answer h old.time limits q ≡ Take (accept_entry old.time q.target a)
-    → IsEntered old new (scrip_request a.scrip.now.text q.target q.sign) a.scrip.now.piece a → StateRepresents new (h ++ accept_entry old.time q.target a ∷ [])
-stands_entered {old = old} {new = new} {h = h} st q a read ready brings limits series bound takes is =
-    let e = accept_entry old.time q.target a in
-    let taken = is_taken h old.time limits q a read takes in
+-- ---- the parts of the state
+
+marked_more : (old new : List WindowView) (o : Option Scrip) (id : ℕ) → MatchOption o (new ≡ old) (IsMarkedToo old new)
+    → (is_marked old id || list_any (λ p. p.id == id) (cons_option o [])) ≡ is_marked new id
+marked_more old new None id is = or_end (is_marked old id) ∙ ap (λ (ws : List WindowView). is_marked ws id) (sym is)
+marked_more old new (Some p) id is = ap (λ (b : Bool). is_marked old id || b) (or_end (eqb p.id id)) ∙ sym (is.marked id)
+
+keep_stays : (old new : KeptView) (o : Option KeptReply) → MatchOption o (new ≡ old) (IsKeptToo old new) → new.keep ≡ old.keep
+keep_stays old new None is = ap (λ (k : KeptView). k.keep) is
+keep_stays old new (Some r) is = is.keep
+
+or_none : {X : Type 0} (o : Option X) → option_or o None ≡ o
+or_none None = refl
+or_none (Some x) = refl
+
+abbrev number_found : KeptView → ℕ → Asked → Option ℕ
+number_found kept t q = option_map (λ e. e.number) (found kept t q)
+
+found_more : (old new : KeptView) (o : Option KeptReply) (count t : ℕ) (q : Asked) → IfSome o (λ r. r.entry.number ≡ count) → MatchOption o (new ≡ old) (IsKeptToo old new)
+    → option_or (number_found old t q) (cond (is_repeat_of old.keep t q o) (Some count) None) ≡ number_found new t q
+found_more old new None count t q number is = or_none (number_found old t q) ∙ ap (λ (k : KeptView). number_found k t q) (sym is)
+found_more old new (Some r) count t q number is =
+    let asks : KeptReply → Bool = λ x. is_same_request x.asked q && is_in_time old.keep t x in
+    let numbers : Option KeptReply → Option ℕ = λ o. option_map (λ (x : KeptEntry). x.number) (option_map (λ (x : KeptReply). x.entry) o) in
+    ap (λ (n : ℕ). option_or (number_found old t q) (cond (asks r) (Some n) None)) (sym number)
+    ∙ number_or (find asks old.replies) (asks r) r
+    ∙ ap numbers (sym (find-append asks old.replies (r ∷ [])))
+    ∙ ap₂ (λ (k : ℕ) (rs : List KeptReply). numbers (find (λ x. is_same_request x.asked q && is_in_time k t x) rs)) (sym is.keep) (sym is.replies)
+
+replies_more : (old new : KeptView) (o : Option KeptReply) (P : KeptReply → Type 0) → IfSome o P → MatchOption o (new ≡ old) (IsKeptToo old new) → All P old.replies → All P new.replies
+replies_more old new None P reply is all = subst (λ (k : KeptView). All P k.replies) (sym is) all
+replies_more old new (Some r) P reply is all = subst (All P) (sym is.replies) (All-push P old.replies r all reply)
+
+-- ---- sums and counts of the pieces
+
+redeemed_more : (o : Option Scrip) (s : ℕ) → values (of_series s (cons_option o [])) ≡ worth_redeemed o s
+redeemed_more None s = refl
+redeemed_more (Some p) s = one_value (series_of p.id) s p refl
+
+worth_more : (series s : ℕ) (o : Option Scrip) → IfSome o (λ p. series_of p.id ≡ series) → values (of_series s (option_to_list o)) ≡ worth_handed series o s
+worth_more series s None of = refl
+worth_more series s (Some p) of = one_value series s p of
+
+count_more : (series s : ℕ) (o : Option Scrip) → IfSome o (λ p. series_of p.id ≡ series) → in_series (option_to_list o) s ≡ count_handed series o s
+count_more series s None of = refl
+count_more series s (Some p) of = one_count series s p of
+
+own_count_snoc : (h : History) (e : Entry) (s : ℕ) → own_count (h ++ e ∷ []) s ≡ own_count h s + in_series (option_to_list (handed_piece h e)) s + in_series (minted_pieces h e) s
+own_count_snoc h e s =
+    let test : Scrip → Bool = λ p. series_of p.id == s in
+    let handed = option_to_list (handed_piece h e) in
+    let pieces = minted_pieces h e in
+    let longer : own_count (h ++ e ∷ []) s ≡ count_by test ((own_out h ++ handed) ++ (minted h ++ pieces)) =
+    ap₂ (λ (ps qs : List Scrip). count_by test (ps ++ qs)) (own_out_snoc [] h e) (minted_snoc [] h e) in
+    omega (
+      arith,
+      longer,
+      count-append test (own_out h ++ handed) (minted h ++ pieces),
+      count-append test (own_out h) handed,
+      count-append test (minted h) pieces,
+      count-append test (own_out h) (minted h),
+    )
+
+-- ---- the state
+
+pub stands_more : {old new : HouseStateView} {h : History} → StateRepresents old h → (e : Entry) (g : Growth) → Says old h e g → MayFollow old.limits h e → IsGrown old new g → StateRepresents new (h ++ e ∷ [])
+stands_more {old = old} {new = new} {h = h} st e g says may is =
     let same = same_house old.limits h e st.lawful in
-    let terms = all_terms_stay h old q.target a in
-    let most : old.own.most ≤ 2 ^ 32 = omega (arith, st.most, st.limits.series_most) in
-    let accepts = accepted_more h old q.target a.scrip.now.piece a taken.piece in
+    let series = series_now old in
+    let terms : all_terms (h ++ e ∷ []) ≡ all_terms h ++ all_terms (e ∷ []) = filter_map-append terms_of h (e ∷ []) in
+    let accepts : accepted (h ++ e ∷ []) ≡ accepted h ++ cons_option g.paid [] = accepted_snoc h e ∙ ap (λ (o : Option Scrip). accepted h ++ cons_option o []) says.paid in
+    let out : own_out (h ++ e ∷ []) ≡ own_out h ++ option_to_list g.handed = own_out_snoc [] h e ∙ ap (λ (o : Option Scrip). own_out h ++ option_to_list o) says.handed in
     record {
       name = same.name ∙ st.name ∙ sym is.name;
       clear = ap (λ (o : Option House). unwrap_or (option_map (λ x. x.clear) o) false) same.house ∙ st.clear ∙ sym is.clear;
-      keep = ap (λ (o : Option House). unwrap_or (option_map (λ x. x.keep) o) 0) same.house ∙ st.keep ∙ sym is.keep;
-      terms = terms ∙ st.terms ∙ sym is.terms;
-      own_terms = ap (λ (ts : List Issuing). terms_by ts 0) terms ∙ st.own_terms ∙ ap some (sym is.issuer);
-      in_time = omega (arith, time_snoc h e, st.in_time, is.time);
+      keep = ap (λ (o : Option House). unwrap_or (option_map (λ x. x.keep) o) 0) same.house ∙ st.keep ∙ sym (keep_stays old.kept new.kept g.kept is.kept);
+      terms = terms ∙ ap₂ (λ (xs ys : List Issuing). xs ++ ys) st.terms says.terms ∙ sym is.terms;
+      own_terms = ap (λ (ts : List Issuing). terms_by ts 0) terms ∙ find-append (λ t. t.issuer == 0) (all_terms h) (all_terms (e ∷ []))
+          ∙ ap (λ (o : Option Issuing). option_or o (terms_by (all_terms (e ∷ [])) 0)) st.own_terms ∙ ap some (sym is.issuer);
+      in_time = omega (arith, time_snoc h e, st.in_time, is.time, says.moment);
       spent = λ id live.
-          let ends : has_ended (h ++ e ∷ []) new.time id ≡ has_ended h old.time id =
-          ap₂ (λ (ts : List Issuing) (t : ℕ). ended_by ts t id) terms is.time in
-          ap (list_any (λ p. p.id == id)) accepts ∙ list_any-append (λ p. p.id == id) (accepted h) (a.scrip.now.piece ∷ [])
-          ∙ ap₂ (λ (x y : Bool). x || y) (st.spent id (sym ends ∙ live)) (or_end (eqb a.scrip.now.piece.id id)) ∙ sym (is.spent id);
-      again = λ t p later.
-          ap (λ (o : Option House). position (is_repeat (unwrap_or (option_map (λ x. x.keep) o) 0) t p) (h ++ e ∷ [])) same.house
-          ∙ again_more st q a taken.sign is t p (omega (arith, later, is.time));
-      replies = subst (All (IsReply (h ++ e ∷ []))) (sym is.replies)
-          (All-push (IsReply (h ++ e ∷ [])) old.kept.replies (record { asked = scrip_request a.scrip.now.text q.target q.sign; entry = kept_entry old a.scrip.now.piece a })
-          (All-weaker (IsReply h) (IsReply (h ++ e ∷ [])) (λ r. reply_kept h e r) old.kept.replies st.replies) (reply_new st q a taken.piece ready is.short most brings));
-      issued = λ s. own_count_snoc h old q.target a s ∙ ap₂ (λ (m n : ℕ). m + n) (st.issued s) (change_counted h old q.target a.scrip.now.piece a s most taken.piece ready.change) ∙ sym (is.issued s);
+          let before : has_ended h old.time id ≡ false =
+          ended_kept (all_terms h) (all_terms (e ∷ [])) old.time id (ap₂ (λ (ts : List Issuing) (t : ℕ). ended_by ts t id) (sym terms) (sym is.time) ∙ live) in
+          ap (list_any (λ p. p.id == id)) accepts ∙ list_any-append (λ p. p.id == id) (accepted h) (cons_option g.paid [])
+          ∙ ap (λ (b : Bool). b || list_any (λ p. p.id == id) (cons_option g.paid [])) (st.spent id before) ∙ marked_more old.spent new.spent g.paid id is.spent;
+      again = λ t q later.
+          ap (λ (o : Option House). position (is_repeat (unwrap_or (option_map (λ x. x.keep) o) 0) t q) (h ++ e ∷ [])) same.house
+          ∙ position_snoc (is_repeat (keeping h) t q) h e
+          ∙ ap₂ (λ (o : Option ℕ) (b : Bool). option_or o (cond b (Some (length h)) None)) (st.again t q (omega (arith, later, is.time))) (says.repeats (keeping h) t q)
+          ∙ ap₂ (λ (keep n : ℕ). option_or (number_found old.kept t q) (cond (is_repeat_of keep t q g.kept) (Some n) None)) st.keep st.counted
+          ∙ found_more old.kept new.kept g.kept old.count t q says.number is.kept;
+      replies = replies_more old.kept new.kept g.kept (IsReply (h ++ e ∷ [])) says.reply is.kept (All-weaker (IsReply h) (IsReply (h ++ e ∷ [])) (λ r. reply_kept h e r) old.kept.replies st.replies);
+      issued = λ s. own_count_snoc h e s
+          ∙ ap₂ (λ (m n : ℕ). m + n) (ap₂ (λ (m n : ℕ). m + n) (st.issued s) (ap (λ (o : Option Scrip). in_series (option_to_list o) s) says.handed ∙ count_more series s g.handed says.series)) (says.minted s)
+          ∙ sym (is.issued s);
       most = is.most ∙ st.most ∙ ap (λ (l : Limits). l.series) (sym is.limits);
-      redeemed = λ s. ap (λ (ps : List Scrip). values (of_series s ps)) accepts ∙ values_more s (accepted h) (a.scrip.now.piece ∷ [])
-          ∙ ap₂ (λ (m n : ℕ). m + n) (st.redeemed s) (one_value (series_of a.scrip.now.piece.id) s a.scrip.now.piece.value a.scrip.now.piece refl refl) ∙ sym (is.redeemed s);
-      worth = λ s. ap (λ (ps : List Scrip). values (of_series s ps)) (own_out_snoc [] h e) ∙ values_more s (own_out h) (option_to_list (change_piece h e))
-          ∙ ap₂ (λ (m n : ℕ). m + n) (st.worth s) (change_worthy h old q.target a.scrip.now.piece a s most taken.piece ready.change) ∙ sym (is.worth s);
-      takings = omega (arith, sum_by-append price_paid h (e ∷ []), st.takings, is.takings, taken.price);
+      redeemed = λ s. ap (λ (ps : List Scrip). values (of_series s ps)) accepts ∙ values_more s (accepted h) (cons_option g.paid [])
+          ∙ ap₂ (λ (m n : ℕ). m + n) (st.redeemed s) (redeemed_more g.paid s) ∙ sym (is.redeemed s);
+      worth = λ s. ap (λ (ps : List Scrip). values (of_series s ps)) out ∙ values_more s (own_out h) (option_to_list g.handed)
+          ∙ ap₂ (λ (m n : ℕ). m + n) (st.worth s) (worth_more series s g.handed says.series) ∙ sym (is.worth s);
+      takings = omega (arith, sum_by-append price_paid h (e ∷ []), says.takings, st.takings, is.takings);
       counted = omega (arith, length-append h (e ∷ []), st.counted, is.counted);
-      sized = omega (arith, size_snoc h e, length-tail h e, st.sized, st.tail, ready.payload, is.sized);
+      sized = omega (arith, size_snoc h e, length-tail h e, st.sized, st.tail, says.payload, is.sized);
       tail = tail_size-more h e ∙ st.tail;
       version = ap₂ (λ (v : List ℕ → ℕ → ℕ) (n : List ℕ). v n) (version-more h e) same.name ∙ st.version ∙ ap (version []) (sym is.name);
       limits = rw is.limits st.limits;
-      lawful = rw is.limits (longer_lawful old.limits h e st.lawful (takes_follow st limits q a series bound takes));
+      lawful = rw is.limits (longer_lawful old.limits h e st.lawful may);
     }
   where
     some : Issuing → Option Issuing

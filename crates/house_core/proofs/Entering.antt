@@ -1,8 +1,9 @@
 -- The state before and after an authorization was entered, by what the calls on the way say.
-use Rattle.std.proofs.Common.{◌^◌, ◌≡◌, ℕ, ◌+◌, ◌-◌, ◌<◌, ◌≤◌, Bool, true, false, cond, is_some, List, [], ◌∷◌, ◌++◌, length, filter, find, All, Option, Some, None, refl, sym, ap, subst, ◌∙◌, arith, eqb}
-use Rattle.std.specs.Prelude.{◌&&◌, ◌||◌, ◌==◌, min, option_map, IsTrue}
+use Rattle.std.proofs.Common.{◌^◌, ◌≡◌, ℕ, ◌+◌, ◌-◌, ◌<◌, ◌≤◌, Bool, true, false, cond, is_some, List, [], ◌∷◌, ◌++◌, length, filter, find, All, Option, Some, None, refl, sym, ap, subst, ◌∙◌, arith, eqb, append-nil}
+use Rattle.std.specs.Prelude.{◌&&◌, ◌||◌, ◌==◌, min, option_map, IsTrue, IfSome, MatchOption}
 use Rattle.std.proofs.lemmas.Bool.{lt-ltb}
 use Rattle.std.proofs.lemmas.List.Elements.{All-head, All-tail, All-push, All-weaker, All-filter, filter_passes}
+use Rattle.mc_base.specs.declared.amount.TheConstants.Amount.{MOST}
 use Rattle.scrip_form.specs.Identities.{series_of}
 use Rattle.scrip_form.specs.Issuing.{Issuing, epoch}
 use Rattle.scrip_form.specs.Scrip.{Scrip, IsPiece, scrip_body}
@@ -16,8 +17,8 @@ use Rattle.change_issue.specs.Registers.{Register, count_in, issued_in, redeemed
 use Rattle.change_issue.specs.IssuedPieces.{issued_piece}
 use Rattle.house_core.specs.declared.verdict.Authorization.{Authorization}
 use Rattle.spent_windows.specs.Windows.{WindowView, is_marked, end_of, later_than}
-use Rattle.house_core.specs.HouseState.{HouseStateView, end_by, IsSound, IsEntered, version_of, size_with, series_now, kept_entry, certified_change, at_series, change_count, change_worth}
-use Rattle.house_core.proofs.EndLaws.{EndInTime, ends_dropped}
+use Rattle.house_core.specs.HouseState.{HouseStateView, end_by, IsSound, Growth, IsGrown, IsMarkedToo, IsKeptToo, IsEntered, version_of, size_with, series_now, change_made, certified_change, at_series, count_handed, worth_handed, worth_redeemed, change_count, change_worth, accept_growth}
+use Rattle.house_core.proofs.EndLaws.{end_kept, EndInTime, ends_dropped}
 
 -- ---- a later time
 
@@ -87,6 +88,18 @@ no_number n (r ∷ rs) all =
     let other : eqb r.entry.number n ≡ false = grind (arith, below) in
     rw (other, more) refl
 
+-- ---- what is handed out
+
+pub at_most : (series n s : ℕ) → at_series series n s ≤ n
+at_most series n s = go (eqb series s)
+  where
+    go : (b : Bool) → cond b n 0 ≤ n
+    go true = omega arith
+    go false = omega arith
+
+zero_at : (series s : ℕ) → at_series series 0 s ≡ 0
+zero_at series s = omega (arith, at_most series 0 s)
+
 -- what is kept of the change
 pub change_is : (old : HouseStateView) (paid : Scrip) (price : ℕ) (change : Option ℕ) (piece : Option Scrip) (made : Option (Scrip × List ℕ))
     → piece ≡ option_map (λ id. issued_piece old.own.terms old.time old.name (paid.value - price) id (Some paid.cust) paid.props) change
@@ -111,6 +124,19 @@ change_fits terms time worth name cust props certify change piece made is_piece 
     go None = refl
     go (Some id) = refl
 
+if_change : (f : ℕ → Scrip) (change : Option ℕ) {P : Type 0} → P → IfSome (option_map f change) (λ p. P)
+if_change f None holds = tt
+if_change f (Some id) holds = holds
+
+change_counted : (series s : ℕ) (f : ℕ → Scrip) (change : Option ℕ) → at_series series (change_count change) s ≡ count_handed series (option_map f change) s
+change_counted series s f None = zero_at series s
+change_counted series s f (Some id) = refl
+
+change_valued : (old : HouseStateView) (paid : Scrip) (price : ℕ) (change : Option ℕ) (s : ℕ)
+    → at_series (series_now old) (change_worth price paid.value change) s ≡ worth_handed (series_now old) (option_map (change_made old paid price) change) s
+change_valued old paid price None s = zero_at (series_now old) s
+change_valued old paid price (Some id) s = refl
+
 pub entered : (old : HouseStateView) (spent : List WindowView) (kept : KeptView) (own : Register) (takings size : ℕ) (q : Asked) (paid : Scrip) (a : Authorization) (piece : Option Scrip) (made : Option (Scrip × List ℕ)) → IsSound old → epoch old.own.terms old.time < 2 ^ 24
     → ((k : ℕ) → is_marked spent k ≡ (is_marked old.spent k || (paid.id == k))) → ((k : ℕ) → end_of spent k ≡ end_of old.spent k)
     → kept.keep ≡ old.kept.keep
@@ -129,18 +155,19 @@ entered old spent kept own takings size q paid a piece made sound short marks sa
     record {
       name = refl;
       clear = refl;
-      terms = refl;
+      terms = sym (append-nil old.terms);
       time = refl;
       limits = refl;
-      short = short;
-      spent = marks;
-      ends = same_ends;
-      keep = keep;
-      replies = replies ∙ inserted_last (reply made) old.kept.replies sound.numbers ∙ ap (λ (c : Option (Scrip × List ℕ)). old.kept.replies ++ reply c ∷ []) change;
+      short = if_change (change_made old paid a.price) a.change short;
+      spent = record { marked = marks; ends = same_ends };
+      kept = record {
+        keep = keep;
+        replies = replies ∙ inserted_last (reply made) old.kept.replies sound.numbers ∙ ap (λ (c : Option (Scrip × List ℕ)). old.kept.replies ++ reply c ∷ []) change;
+      };
       issuer = terms;
       most = most;
-      issued = count;
-      worth = worth;
+      issued = λ s. omega (arith, count s, change_counted (series_now old) s (change_made old paid a.price) a.change);
+      worth = λ s. omega (arith, worth s, change_valued old paid a.price a.change s);
       redeemed = redeemed;
       takings = took;
       counted = refl;
@@ -149,29 +176,59 @@ entered old spent kept own takings size q paid a piece made sound short marks sa
 
 -- ---- that the state stays sound
 
-pub at_most : (series n s : ℕ) → at_series series n s ≤ n
-at_most series n s = go (eqb series s)
+-- what an entry brings leaves the state sound
+pub record IsSoundGrowth (b : HouseStateView) (g : Growth) : Type 0 where
+  pub paid : IfSome g.paid IsPiece
+  pub takings : g.takings ≤ MOST
+  pub number : IfSome g.kept (λ r. r.entry.number ≡ b.count)
+  pub moment : IfSome g.kept (λ r. r.entry.moment ≡ b.time)
+  pub fits : size_with b g.bytes ≤ 2 ^ 40
+
+redeemed_most : (o : Option Scrip) (s : ℕ) → IfSome o IsPiece → worth_redeemed o s ≤ MOST
+redeemed_most None s piece = omega arith
+redeemed_most (Some p) s piece = omega (arith, at_most (series_of p.id) p.value s, piece.most)
+
+ends_stay : (old new : List WindowView) (o : Option Scrip) (id : ℕ) → MatchOption o (new ≡ old) (IsMarkedToo old new) → end_of new id ≡ end_of old id
+ends_stay old new None id is = ap (λ (ws : List WindowView). end_of ws id) is
+ends_stay old new (Some p) id is = is.ends id
+
+keeps_more : (old new : KeptView) (o : Option KeptReply) → 0 < old.keep → MatchOption o (new ≡ old) (IsKeptToo old new) → 0 < new.keep
+keeps_more old new None keeps is = subst (λ (k : KeptView). 0 < k.keep) (sym is) keeps
+keeps_more old new (Some r) keeps is = subst (λ (n : ℕ). 0 < n) (sym is.keep) keeps
+
+numbers_more : (old new : KeptView) (o : Option KeptReply) (count : ℕ) → All (λ r. r.entry.number < count) old.replies → IfSome o (λ r. r.entry.number ≡ count)
+    → MatchOption o (new ≡ old) (IsKeptToo old new) → All (λ r. r.entry.number < count + 1) new.replies
+numbers_more old new o count below number is = go o number is
   where
-    go : (b : Bool) → cond b n 0 ≤ n
-    go true = omega arith
-    go false = omega arith
+    more : All (λ r. r.entry.number < count + 1) old.replies
+    more = All-weaker (λ r. r.entry.number < count) (λ r. r.entry.number < count + 1) (λ r lt. omega (arith, lt)) old.replies below
+
+    go : (p : Option KeptReply) → IfSome p (λ r. r.entry.number ≡ count) → MatchOption p (new ≡ old) (IsKeptToo old new) → All (λ r. r.entry.number < count + 1) new.replies
+    go None number is = subst (λ (k : KeptView). All (λ r. r.entry.number < count + 1) k.replies) (sym is) more
+    go (Some r) number is = subst (All (λ r. r.entry.number < count + 1)) (sym is.replies) (All-push (λ r. r.entry.number < count + 1) old.replies r more (omega (arith, number)))
+
+in_time_more : (old new : KeptView) (o : Option KeptReply) (t : ℕ) → 0 < old.keep → All (λ r. IsTrue (is_in_time old.keep t r)) old.replies → IfSome o (λ r. r.entry.moment ≡ t)
+    → MatchOption o (new ≡ old) (IsKeptToo old new) → All (λ r. IsTrue (is_in_time new.keep t r)) new.replies
+in_time_more old new None t keeps all moment is = subst (λ (k : KeptView). All (λ r. IsTrue (is_in_time k.keep t r)) k.replies) (sym is) all
+in_time_more old new (Some r) t keeps all moment is =
+    let live : t < r.entry.moment + old.keep = omega (arith, keeps, moment) in
+    rw (is.replies, is.keep) (All-push (λ r. IsTrue (is_in_time old.keep t r)) old.replies r all (lt-ltb t (r.entry.moment + old.keep) live))
+
+pub sound_more : (old new : HouseStateView) (g : Growth) → IsSound old → IsSoundGrowth old g → IsGrown old new g → IsSound new
+sound_more old new g sound brings is = record {
+  limits = rw is.limits sound.limits;
+  most = is.most ∙ sound.most ∙ ap (λ (l : Limits). l.series) (sym is.limits);
+  counted = omega (arith, is.counted, is.sized, sound.counted);
+  sized = omega (arith, is.sized, brings.fits);
+  keeps = keeps_more old.kept new.kept g.kept sound.keeps is.kept;
+  numbers = rw is.counted (numbers_more old.kept new.kept g.kept old.count sound.numbers brings.number is.kept);
+  in_time = rw is.time (in_time_more old.kept new.kept g.kept old.time sound.keeps sound.in_time brings.moment is.kept);
+  redeemed = λ s. omega (arith, is.redeemed s, sound.redeemed s, is.counted, redeemed_most g.paid s brings.paid);
+  takings = omega (arith, is.takings, sound.takings, is.counted, brings.takings);
+  ends = λ id end found. rw is.terms (end_kept old.terms g.terms id end (sound.ends id end (sym (ends_stay old.spent new.spent g.paid id is.spent) ∙ found)));
+  alive = λ id end found. rw is.time (sound.alive id end (sym (ends_stay old.spent new.spent g.paid id is.spent) ∙ found));
+}
 
 pub sound_entered : (old new : HouseStateView) (q : Asked) (paid : Scrip) (a : Authorization) → IsSound old → IsPiece paid → size_with old a.payload ≤ 2 ^ 40 → IsEntered old new q paid a → IsSound new
-sound_entered old new q paid a sound piece fits e = record {
-  limits = rw e.limits sound.limits;
-  most = e.most ∙ sound.most ∙ ap (λ (l : Limits). l.series) (sym e.limits);
-  counted = omega (arith, e.counted, e.sized, sound.counted);
-  sized = omega (arith, e.sized, fits);
-  keeps = subst (λ (n : ℕ). 0 < n) (sym e.keep) sound.keeps;
-  numbers = rw (e.replies, e.counted) (All-push (λ r. r.entry.number < old.count + 1) old.kept.replies last
-      (All-weaker (λ r. r.entry.number < old.count) (λ r. r.entry.number < old.count + 1) (λ r lt. omega (arith, lt)) old.kept.replies sound.numbers) (omega arith));
-  in_time = rw (e.replies, e.keep, e.time) (All-push (λ r. IsTrue (is_in_time old.kept.keep old.time r)) old.kept.replies last sound.in_time
-      (let live : old.time < old.time + old.kept.keep = omega (arith, sound.keeps) in lt-ltb old.time (old.time + old.kept.keep) live));
-  redeemed = λ s. omega (arith, e.redeemed s, sound.redeemed s, e.counted, at_most (series_of paid.id) paid.value s, piece.most);
-  takings = omega (arith, e.takings, sound.takings, e.counted, piece.most);
-  ends = λ id end is. rw e.terms (sound.ends id end (sym (e.ends id) ∙ is));
-  alive = λ id end is. rw e.time (sound.alive id end (sym (e.ends id) ∙ is));
-}
-  where
-    last : KeptReply
-    last = record { asked = q; entry = kept_entry old paid a }
+sound_entered old new q paid a sound piece fits is =
+    sound_more old new (accept_growth old q paid a) sound (record { paid = piece; takings = omega (arith, piece.most); number = refl; moment = refl; fits = fits }) is

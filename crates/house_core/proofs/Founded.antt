@@ -1,26 +1,29 @@
 -- The state of a house that was just founded represents its one entry.
-use Rattle.std.proofs.Common.{◌≡◌, ℕ, ◌≤◌, List, [], ◌∷◌, Option, Some, None, refl, sym, ap, ap₂, subst, ◌∙◌, arith}
+use Rattle.std.proofs.Common.{◌≡◌, ℕ, zero, suc, ◌≤◌, List, [], ◌∷◌, Option, Some, None, refl, sym, ap, ap₂, ◌∙◌, arith}
 use Rattle.std.proofs.lemmas.Bool.{eq-eqb}
+use Rattle.mc_base.specs.declared.amount.TheConstants.Amount.{MOST}
 use Rattle.scrip_form.specs.Issuing.{Issuing}
 use Rattle.mc_records.specs.declared.limits.Limits.{Limits}
 use Rattle.mc_records.specs.Limits.{AreInRange}
-use Rattle.mc_records.specs.Entry.{House, HouseFits, SiteFits, Entry, Site, Goods}
+use Rattle.mc_records.specs.Entry.{House, HouseFits, Entry, Site}
 use Rattle.mc_records.proofs.SizeLaws.{length-tail, tail_size-more}
 use Rattle.ledger_model.proofs.VersionLaws.{version-more}
 use Rattle.ledger_model.specs.Houses.{site_kind, terms_by}
 use Rattle.ledger_model.specs.Lawful.{MayFollow}
 use Rattle.ledger_model.specs.Histories.{History}
 use Rattle.spent_windows.specs.Windows.{WindowView, is_marked}
-use Rattle.house_core.specs.Learning.{ByTrade, MayLearn, GoodsFit}
+use Rattle.house_core.specs.Learning.{ByTrade, MayLearn, CommandFits}
 use Rattle.house_core.specs.HouseState.{HouseStateView}
 use Rattle.house_core.specs.Founding.{IsStateOf, FoundsHouse}
 use Rattle.std.proofs.lemmas.List.Elements.{All-nil}
 use Rattle.house_core.specs.Representation.{StateRepresents, IsReply}
 use Rattle.house_core.proofs.EndLaws.{none_marked}
 
--- a vendor's house has its ranges
-pub house_fits : (limits : Limits) (m kind : ℕ) (name : List ℕ) (h : House) → FoundsHouse (Site m kind name (Some h)) → MayFollow limits [] (Site m kind name (Some h)) → HouseFits 0 h
-house_fits limits m kind name h fits may = subst (λ (k : ℕ). SiteFits k (Some h)) may.allowed.1 fits.house
+-- a house has its ranges; that of a vendor has no fee
+pub house_fits : (limits : Limits) (m kind : ℕ) (name : List ℕ) (h : House) → FoundsHouse (Site m kind name (Some h)) → MayFollow limits [] (Site m kind name (Some h)) → HouseFits MOST h
+house_fits limits m zero name h fits may = let f = fits.house in record { keep = f.keep; fee = omega (arith, f.fee); terms = f.terms }
+house_fits limits m (suc zero) name h fits may = fits.house
+house_fits limits m (suc (suc k)) name h fits may = absurd (omega (arith, may.allowed.1))
 
 own_found : (t : Issuing) → t.issuer ≤ 0 → terms_by (t ∷ []) 0 ≡ Some t
 own_found t le = rw (eq-eqb t.issuer 0 (omega (arith, le))) refl
@@ -87,7 +90,7 @@ pub none_spent : (b : HouseStateView) (limits : Limits) (e : Entry) → IsStateO
 none_spent b limits (Site m kind name (Some h)) is = is.spent
 none_spent b limits e is = absurd is
 
--- it puts no goods on sale
-pub founds_fit : (e : Entry) → FoundsHouse e → GoodsFit e
-founds_fit (Goods m target price k contents) founds = absurd founds
-founds_fit _ founds = tt
+-- it is in its ranges
+pub founds_fit : (e : Entry) → FoundsHouse e → CommandFits e
+founds_fit (Site m kind name (Some h)) founds = founds
+founds_fit e founds = absurd founds

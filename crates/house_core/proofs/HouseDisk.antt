@@ -17,7 +17,7 @@ use Rattle.house_core.specs.declared.house.House.{House}
 use Rattle.house_core.specs.declared.verdict.Authorization.{Authorization}
 use Rattle.house_core.specs.HouseState.{HouseStateView, size_with}
 use Rattle.house_core.specs.Representation.{StateRepresents, has_ended}
-use Rattle.house_core.specs.Verdicts.{accept_entry, IsReady, WasAsked}
+use Rattle.house_core.specs.Verdicts.{accept_entry, WasAsked}
 use Rattle.house_core.specs.Bench.{Represents, HasContents, IsRoomed, limits_of, IsHouse}
 use Rattle.house_core.specs.House.{HouseRepresents, IsAsItWas, HasEntered, AskedFor, Responds, Accepted, Leaves, HouseRests}
 use Rattle.house_core.specs.declared.outcome.Outcome.TheVariants.{Done, Refused, NoMemory, Halted}
@@ -87,7 +87,7 @@ has_entered view trade x y h e f number same st written limit limits counted ent
 
 -- the windows were asked for the piece of the entry of an authorization
 pub asked_for : {b : HouseStateView} {h : History} {t : ℕ} → StateRepresents b h → (q : Asked) (a : Authorization) → Ok a.scrip.now ≡ read_by q.scrip → WasAsked b a.scrip.now.piece.id a.fresh
-    → t ≡ b.time → AskedFor h t (accept_entry b.time q.target a) a.fresh
+    → t ≡ b.time → AskedFor h t (accept_entry b.time q.target a) (Some a.fresh)
 asked_for {h = h} st q a read asked same = record {
   its = ap (λ (r : Result (Scrip × List ℕ) ℕ). option_map (λ p. p.id) (option_map (λ x. x.0) (result_ok r))) (read_ok q.scrip a.scrip.now (sym read)).1 ∙ ap some (sym asked.its);
   seen = λ id live. asked.seen id ∙ sym (st.spent id (subst (λ (u : ℕ). has_ended h u id ≡ false) same live));
@@ -95,14 +95,6 @@ asked_for {h = h} st q a read asked same = record {
   where
     some : ℕ → Option ℕ
     some n = Some n
-
--- the entry of an authorization that has room fits the journal
-pub not_full : (b : HouseStateView) (h : History) (target : List ℕ) (a : Authorization) (limit : ℕ) (f : Entry) → StateRepresents b h → IsReady b target a
-    → size_with b a.payload ≤ b.limits.journal → limit ≡ b.limits.journal
-    → f ≡ accept_entry b.time target a → limit < size h + entry_size h f → ⊥
-not_full b h target a limit f st ready room limits same full =
-    let long : length (payload f) ≡ a.payload = ap (λ (e : Entry). length (payload e)) same ∙ sym ready.payload in
-    omega (arith, long, room, length-tail h f, st.sized, st.tail, limits, full)
 
 -- ---- a request that makes no entry
 

@@ -13,12 +13,12 @@ use Rattle.house_core.specs.Trade.{contents_in, brought_by, Replaces, IsInForce,
 use Rattle.house_core.specs.Learning.{IsGoods}
 
 -- an element stays in its place where more follow
-get_stays : (xs ys : History) (n : ℕ) → n < length xs → slice_get (xs ++ ys) n ≡ slice_get xs n
+pub get_stays : (xs ys : History) (n : ℕ) → n < length xs → slice_get (xs ++ ys) n ≡ slice_get xs n
 get_stays [] ys n lt = absurd (omega arith)
 get_stays (x ∷ xs) ys zero lt = refl
 get_stays (x ∷ xs) ys (suc n) lt = get_stays xs ys n (omega arith)
 
-get_next : (xs ys : History) (y : Entry) → slice_get (xs ++ y ∷ ys) (length xs) ≡ Some y
+pub get_next : (xs ys : History) (y : Entry) → slice_get (xs ++ y ∷ ys) (length xs) ≡ Some y
 get_next [] ys y = refl
 get_next (x ∷ xs) ys y = get_next xs ys y
 

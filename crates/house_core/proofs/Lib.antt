@@ -2,12 +2,16 @@ pub mod TallyLaws
 pub mod PartLaws
 pub mod KeptLaws
 pub mod Tabled
+pub mod Ordered
 pub mod KeptLater
 pub mod EndLaws
 pub mod WindowCounts
 pub mod Entering
+pub mod Drawn
 pub mod Replied
 pub mod Entered
+pub mod AcceptSays
+pub mod DrawSays
 pub mod Accepting
 pub mod Founded
 pub mod Applied
@@ -18,4 +22,5 @@ pub mod Refused
 pub mod FirstReply
 pub mod Said
 pub mod HouseDisk
+pub mod Committing
 pub mod TaskLemmas

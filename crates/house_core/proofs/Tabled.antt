@@ -8,8 +8,8 @@ use Rattle.scrip_form.specs.Scrip.{Certified}
 use Rattle.scrip_certs.specs.Digests.{request_signature}
 use Rattle.mc_records.specs.declared.limits.Limits.{Limits}
 use Rattle.mc_records.specs.declared.refusal.Refusal.{Refusal}
-use Rattle.mc_records.specs.declared.refusal.Refusal.TheVariants.{SeriesFull, WrongVendor, UnknownIssuer, ExpiryMismatch, Expired, Spent, NeedSignature, BadSignature}
-use Rattle.mc_records.specs.Entry.{Entry, Accept}
+use Rattle.mc_records.specs.declared.refusal.Refusal.TheVariants.{SeriesFull, WrongVendor, UnknownIssuer, ExpiryMismatch, Expired, Spent, NeedSignature, BadSignature, NoAccount}
+use Rattle.mc_records.specs.Entry.{Entry, Accept, Draw}
 use Rattle.mc_records.specs.Requests.{Asked}
 use Rattle.mc_records.proofs.SizeLaws.{length-tail}
 use Rattle.kept_replies.specs.Kept.{found}
@@ -17,11 +17,15 @@ use Rattle.change_issue.specs.Registers.{count_in, next_in}
 use Rattle.ledger_model.specs.Histories.{History}
 use Rattle.ledger_model.specs.Houses.{site_name, all_terms, terms_by, terms_in, version, own_series}
 use Rattle.ledger_model.specs.Pieces.{is_spent}
-use Rattle.ledger_model.specs.Lines.{Stop, Repeat, ◌>>=◌, given, refused_if, again_if}
-use Rattle.ledger_model.specs.Stages.{read_by, is_right, genuine_by, spendable_by, Offer, next_by, needed, fitted_by}
-use Rattle.ledger_model.specs.Answer.{repeated, after_read, after_repeat, genuine, spendable, offer, next_own, fitted, taken, lines, answered, answer}
-use Rattle.ledger_model.proofs.TableLaws.{line_ok, refused_ok, given_ok, read_ok, answer_by_lines}
-use Rattle.ledger_model.proofs.KindLaws.{no_draws}
+use Rattle.ledger_model.specs.Lines.{Stop, Refuse, Repeat, ◌>>=◌, given, refused_if, again_if}
+use Rattle.ledger_model.specs.Stages.{read_by, is_right, genuine_by, spendable_by, Offer, next_by, needed, drawable_by, payable_by, fitted_by}
+use Rattle.ledger_model.specs.Answer.{repeated, after_read, after_repeat, genuine, spendable, offer, next_own, fitted, taken, lines, without_scrip, drawn_before, known_in, drawn, draw_lines}
+use Rattle.ledger_model.specs.Orders.{Order}
+use Rattle.ledger_model.specs.Accounts.{key_in}
+use Rattle.ledger_model.proofs.TableLaws.{line_ok, refused_ok, given_ok, read_ok}
+use Rattle.house_core.specs.declared.offer.DrawAsk.{DrawAsk}
+use Rattle.house_core.specs.Trade.{asked_of_account}
+use Rattle.house_core.specs.Verdicts.{order_in, known_by}
 use Rattle.house_core.specs.HouseState.{HouseStateView, end_by, version_of, tail_of, series_now}
 use Rattle.house_core.specs.House.{HasRun}
 use Rattle.spent_windows.specs.Windows.{is_marked}
@@ -117,9 +121,11 @@ pub run_stands : {b : HouseStateView} {h : History} → StateRepresents b h → 
 run_stands {b = b} {h = h} st count (Ok id) m = rw (series_stands st b.time, st.issued (series_now b), ← st.most) m
 run_stands {b = b} {h = h} st count (Err f) m = rw (series_stands st b.time, st.issued (series_now b), ← st.most) m
 
+next_stands : {b : HouseStateView} {h : History} → StateRepresents b h → (limits : Limits) → limits.series ≡ b.limits.series → next_own h b.time limits ≡ next_by b.own.most (series_now b) (count_in b.own (series_now b))
+next_stands {b = b} st limits same = rw (series_stands st b.time, st.issued (series_now b), st.most, same) refl
+
 change_stands : {b : HouseStateView} {h : History} → StateRepresents b h → (limits : Limits) → limits.series ≡ b.limits.series → (price value : ℕ) → needed (nat_lt price value) (next_own h b.time limits) ≡ change_in b price value
-change_stands {b = b} {h = h} st limits same price value =
-    rw (series_stands st b.time, st.issued (series_at b.own.terms b.time), st.most, same) refl
+change_stands {b = b} st limits same price value = ap (needed (nat_lt price value)) (next_stands st limits same)
 
 pub fitted_stands : {b : HouseStateView} {h : History} → StateRepresents b h → (limits : Limits) (e : Entry) → fitted h limits e ≡ fitted_by limits.journal b.size (tail_of b) e
 fitted_stands {b = b} {h = h} st limits e = ap₂ (λ (n t : ℕ). fitted_by limits.journal n t e) st.sized (length-tail h e ∙ st.tail)
@@ -171,25 +177,61 @@ kept_number b q = option_map (λ e. e.number) (found b.kept b.time q)
 again_is : {b : HouseStateView} {h : History} → StateRepresents b h → (q : Asked) (c : Certified) → Ok c ≡ read_by q.scrip → repeated h b.time c q ≡ kept_number b q
 again_is {b = b} st q c read = st.again b.time (scrip_request c.text q.target q.sign) (omega arith) ∙ ap (kept_number b) (sym (scrip_asked q c read))
 
--- a house answers by the column of requests with scrip
-of_scrip : {b : HouseStateView} {h : History} → StateRepresents b h → (t : ℕ) (limits : Limits) (q : Asked) → answered (lines h t limits q) ≡ answer h t limits q
-of_scrip {b = b} {h = h} st t limits q = sym (answer_by_lines h t limits q (no_draws b.limits h q.target st.lawful))
-
 -- there is no scrip text that can be read
-pub unread : {b : HouseStateView} {h : History} → StateRepresents b h → (t : ℕ) (limits : Limits) (q : Asked) (s : Stop) → Err s ≡ read_by q.scrip → answered (Err s) ≡ answer h t limits q
-unread {h = h} st t limits q s none = ap (λ (r : Result Certified Stop). answered (r >>= λ c. after_read h t limits q c)) none ∙ of_scrip st t limits q
+pub unread : (h : History) (t : ℕ) (limits : Limits) (q : Asked) (s : Stop) → Err s ≡ read_by q.scrip → Err s ≡ lines h t limits q
+unread h t limits q s none = ap (λ (r : Result Certified Stop). r >>= λ c. after_read h t limits q c) none
 
 -- the same request was accepted within the keeping time
 pub comes_again : {b : HouseStateView} {h : History} → StateRepresents b h → (limits : Limits) (q : Asked) (c : Certified) (n : ℕ) → Ok c ≡ read_by q.scrip → Some n ≡ kept_number b q
-    → answered (Err (Repeat n)) ≡ answer h b.time limits q
+    → Err (Repeat n) ≡ lines h b.time limits q
 comes_again {b = b} {h = h} st limits q c n read is =
-    ap (λ (o : Option ℕ). answered (again_if o >>= λ _. after_repeat h b.time limits q c)) (is ∙ sym (again_is st q c read))
-    ∙ ap (λ (r : Result Certified Stop). answered (r >>= λ c. after_read h b.time limits q c)) read ∙ of_scrip st b.time limits q
+    ap (λ (o : Option ℕ). again_if o >>= λ _. after_repeat h b.time limits q c) (is ∙ sym (again_is st q c read))
+    ∙ ap (λ (r : Result Certified Stop). r >>= λ c. after_read h b.time limits q c) read
 
 -- it was not
 pub is_new : {b : HouseStateView} {h : History} → StateRepresents b h → (limits : Limits) (q : Asked) (c : Certified) (r : Result Entry Stop) → Ok c ≡ read_by q.scrip → None ≡ kept_number b q
-    → r ≡ after_repeat h b.time limits q c → answered r ≡ answer h b.time limits q
+    → r ≡ after_repeat h b.time limits q c → r ≡ lines h b.time limits q
 is_new {b = b} {h = h} st limits q c r read none e =
-    ap answered e
-    ∙ ap (λ (o : Option ℕ). answered (again_if o >>= λ _. after_repeat h b.time limits q c)) (none ∙ sym (again_is st q c read))
-    ∙ ap (λ (r : Result Certified Stop). answered (r >>= λ c. after_read h b.time limits q c)) read ∙ of_scrip st b.time limits q
+    e
+    ∙ ap (λ (o : Option ℕ). again_if o >>= λ _. after_repeat h b.time limits q c) (none ∙ sym (again_is st q c read))
+    ∙ ap (λ (r : Result Certified Stop). r >>= λ c. after_read h b.time limits q c) read
+
+-- ---- the table of draws
+
+again_drawn : {b : HouseStateView} {h : History} → StateRepresents b h → (q : Asked) → drawn_before h b.time q ≡ kept_number b (without_scrip q)
+again_drawn {b = b} st q = st.again b.time (without_scrip q) (omega arith)
+
+-- the same draw was made within the keeping time
+pub draw_comes_again : {b : HouseStateView} {h : History} → StateRepresents b h → (limits : Limits) (q : Asked) (o : Order) (n : ℕ) → Some n ≡ kept_number b (without_scrip q)
+    → Err (Repeat n) ≡ draw_lines h b.time limits q o
+draw_comes_again st limits q o n is = rw (again_drawn st q, ← is) refl
+
+-- there is no such account
+pub draws_on_none : {b : HouseStateView} {h : History} → StateRepresents b h → (limits : Limits) (q : Asked) (o : Order) → None ≡ kept_number b (without_scrip q) → None ≡ key_in h o.account
+    → Err (Refuse NoAccount) ≡ draw_lines h b.time limits q o
+draws_on_none st limits q o new none = rw (again_drawn st q, ← new, ← none) refl
+
+-- what is asked of an account, in the words of the ledger
+pub payable_is : (h : History) (o : Order) (ask : DrawAsk) → ask ≡ asked_of_account h o → payable_by (order_in ask) (known_by ask) ≡ payable_by o (known_in h o.account)
+payable_is h o ask is = ap (λ (a : DrawAsk). payable_by (order_in a) (known_by a)) is
+
+-- it is not signed under the key
+pub not_drawable : {b : HouseStateView} {h : History} → StateRepresents b h → (limits : Limits) (q : Asked) (o : Order) (key : List ℕ) (s : Stop) → None ≡ kept_number b (without_scrip q) → Some key ≡ key_in h o.account
+    → Err s ≡ drawable_by key q.target q.sign → Err s ≡ draw_lines h b.time limits q o
+not_drawable st limits q o key s new known refused = rw (again_drawn st q, ← new, ← known, ← refused) refl
+
+-- what is left of the table for a draw that is signed and was not made before
+pub draw_goes_on : {b : HouseStateView} {h : History} → StateRepresents b h → (limits : Limits) (q : Asked) (o : Order) (key sign : List ℕ) (r : Result Entry Stop) → None ≡ kept_number b (without_scrip q) → Some key ≡ key_in h o.account
+    → Ok sign ≡ drawable_by key q.target q.sign → r ≡ (payable_by o (known_in h o.account) >>= λ _. drawn h b.time limits q sign) → r ≡ draw_lines h b.time limits q o
+draw_goes_on st limits q o key sign r new known may is = rw (again_drawn st q, ← new, ← known, ← may) is
+
+-- the series is full
+pub draw_series_full : {b : HouseStateView} {h : History} → StateRepresents b h → (limits : Limits) → limits.series ≡ b.limits.series → (q : Asked) (sign : List ℕ) (s : Stop)
+    → Err s ≡ next_by b.own.most (series_now b) (count_in b.own (series_now b)) → Err s ≡ drawn h b.time limits q sign
+draw_series_full st limits same q sign s full = rw (next_stands st limits same, ← full) refl
+
+-- the entry fits, or does not
+pub draw_fitted : {b : HouseStateView} {h : History} → StateRepresents b h → (limits : Limits) → limits.series ≡ b.limits.series → (q : Asked) (sign : List ℕ) (id : ℕ) (r : Result Entry Stop)
+    → Ok id ≡ next_by b.own.most (series_now b) (count_in b.own (series_now b)) → r ≡ fitted_by limits.journal b.size (tail_of b) (Draw b.time q.target sign id) → r ≡ drawn h b.time limits q sign
+draw_fitted {b = b} {h = h} st limits same q sign id r next is =
+    rw (next_stands st limits same, ← next, fitted_stands st limits (Draw b.time q.target sign id)) is

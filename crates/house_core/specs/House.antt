@@ -1,6 +1,6 @@
 -- A house over a journal.
 use Rattle.std.proofs.Common.{◌∙◌}
-use Rattle.std.specs.Prelude.{◌≡◌, refl, ℕ, ◌+◌, ◌<◌, ◌≤◌, false, max, List, [], ◌∷◌, ◌++◌, length, Some, option_map, Result, Ok, Err}
+use Rattle.std.specs.Prelude.{◌≡◌, refl, ℕ, ◌+◌, ◌<◌, ◌≤◌, false, max, List, [], ◌∷◌, ◌++◌, length, Option, option_map, IfSome, Result, Ok, Err}
 use Rattle.mc_outside.specs.Bytes.{Rose, BeginsWith}
 use Rattle.mc_outside.specs.DiskView.{DiskView}
 use Rattle.mc_records.specs.declared.limits.Limits.{Limits}
@@ -108,12 +108,12 @@ pub record HasEntered {D T : Type 0} (view : D → DiskView) (trade : T → Trad
   pub represents : HouseRepresents view trade x (h ++ e ∷ [])
   pub number' : number ≡ length h
 
--- The windows were asked for the identity of the piece that an entry accepts. Of the identities whose
--- series has not ended at a time, those that were marked then are those that the history before the entry
--- accepted.
-pub record AskedFor (h : History) (t : ℕ) (e : Entry) (f : FreshView) : Type 0 where
-  pub its : option_map (λ p. p.id) (accepted_piece e) ≡ Some f.id
-  pub seen : (id : ℕ) → has_ended h t id ≡ false → is_marked f.seen id ≡ is_spent h id
+-- The windows were asked for the identity of the piece that an entry accepts, where it accepts one. Of the
+-- identities whose series has not ended at a time, those that were marked then are those that the history before
+-- the entry accepted.
+pub record AskedFor (h : History) (t : ℕ) (e : Entry) (fresh : Option FreshView) : Type 0 where
+  pub its : option_map (λ p. p.id) (accepted_piece e) ≡ option_map (λ f. f.id) fresh
+  pub seen : IfSome fresh (λ f. (id : ℕ) → has_ended h t id ≡ false → is_marked f.seen id ≡ is_spent h id)
 
 -- the number of the entry whose first reply a request gets
 abbrev pub number_in : Response → ℕ

@@ -1,37 +1,48 @@
 -- Which entries a trade may learn: the lawfulness of an entry in two halves, of which the house tells
 -- one and the trade the other.
-use Rattle.std.specs.Prelude.{◌≡◌, ℕ, ◌+◌, ◌<◌, ◌≤◌, ◌^◌, ◌⊎◌, IsFalse, IsNone, [], ◌∷◌, ◌++◌, length, Some}
-use Rattle.mc_records.specs.declared.ranges.TheConstants.{MOST_CONTENTS}
+use Rattle.std.specs.Prelude.{◌≡◌, ℕ, ◌+◌, ◌<◌, ◌≤◌, ◌⊎◌, IsTrue, IsFalse, IsNone, IsSome, [], ◌∷◌, ◌++◌, length, Some}
+use Rattle.mc_records.specs.declared.ranges.TheConstants.{MOST_CONTENTS, MOST_IN_ACCOUNT}
 use Rattle.mc_records.specs.declared.limits.Limits.{Limits}
-use Rattle.mc_records.specs.Entry.{Entry, Site, AddTerms, Goods, Accept, Mint, Draw, moment_of}
+use Rattle.mc_records.specs.Entry.{Entry, Site, AddTerms, Goods, Accept, Mint, Account, Deposit, Withdraw, Draw, Licence, Stock, Fits, moment_of}
+use Rattle.ledger_model.specs.declared.numbers.TheConstants.{VENDOR_KIND, BROKER_KIND, MOST_IN_FORCE}
 use Rattle.ledger_model.specs.Histories.{History, time}
 use Rattle.ledger_model.specs.Houses.{site_kind, terms_in, own_series}
 use Rattle.ledger_model.specs.Goods.{in_force}
 use Rattle.ledger_model.specs.Pieces.{own_count, next_identity, has_reference}
+use Rattle.ledger_model.specs.Accounts.{account_in, balance}
+use Rattle.ledger_model.specs.Stock.{licence_in, stock_ids, are_stock}
 use Rattle.ledger_model.specs.Answer.{answer, Take}
-use Rattle.ledger_model.specs.Lawful.{unbounded, request_of}
+use Rattle.ledger_model.specs.Lawful.{unbounded, request_of, draw_request}
 
--- The house's half: a Site entry comes first and is of its kind; what was accepted is what the house
--- answers; the pieces of a mint go on with the serials of its series. Draws stand here.
+-- The house's half: a Site entry comes first and is of its kind; what was accepted or drawn is what the house
+-- answers; the pieces of a mint go on with the serials of its series.
 abbrev pub ByHouse : Limits → ℕ → History → Entry → Type 0
 ByHouse limits kind h (Site m k name house) = (h ≡ []) × (k ≡ kind)
 ByHouse limits kind h (Accept m scrip target sign price change deed) =
     answer h m (unbounded limits) (request_of scrip target sign) ≡ Take (Accept m scrip target sign price change deed)
 ByHouse limits kind h (Mint m reference count value first) =
     (first ≡ next_identity h (own_series h m)) × (own_count h (own_series h m) + count ≤ limits.series)
-ByHouse limits kind h (Draw m target sign drawn) = ⊥
+ByHouse limits kind h (Draw m target sign drawn) = answer h m (unbounded limits) (draw_request target sign) ≡ Take (Draw m target sign drawn)
 ByHouse limits kind h _ = Unit {0}
 
--- The trade's half: a vendor's terms are of a new issuer, its contents in force stay within 2^26
--- bytes, and the reference of a mint is new. Accounts, money paid in and out, licences and stock of a
--- broker stand here, and notes, which pass the trade's own test; no house has an entry of a wallet.
+-- The trade's half. A vendor's terms are of a new issuer, its contents in force stay within their most bytes, and
+-- the reference of a mint is new. A broker's accounts are new, and money moves in and out of those that stand, under
+-- a new reference, within what an account holds; a vendor has one licence, and his stock is new and of him. Notes
+-- stand here, which pass the trade's own test; no house has an entry of a wallet.
 abbrev pub ByTrade : (History → Entry → Type 0) → ℕ → History → Entry → Type 0
 ByTrade passes kind h (Site m k name house) = Unit {0}
-ByTrade passes kind h (AddTerms m terms) = (kind ≡ 0) × IsNone (terms_in h terms.issuer)
-ByTrade passes kind h (Goods m target price k contents) = (kind ≡ 0) × (in_force (h ++ Goods m target price k contents ∷ []) ≤ 2 ^ 26)
+ByTrade passes kind h (AddTerms m terms) = (kind ≡ VENDOR_KIND) × IsNone (terms_in h terms.issuer)
+ByTrade passes kind h (Goods m target price k contents) = (kind ≡ VENDOR_KIND) × (in_force (h ++ Goods m target price k contents ∷ []) ≤ MOST_IN_FORCE)
 ByTrade passes kind h (Accept m scrip target sign price change deed) = Unit {0}
-ByTrade passes kind h (Mint m reference count value first) = (kind ≡ 0) × IsFalse (has_reference h reference)
+ByTrade passes kind h (Mint m reference count value first) = (kind ≡ VENDOR_KIND) × IsFalse (has_reference h reference)
+ByTrade passes kind h (Account m name key) = (kind ≡ BROKER_KIND) × IsNone (account_in h name)
+ByTrade passes kind h (Deposit m name amount reference) =
+    (kind ≡ BROKER_KIND) × IsSome (account_in h name) × IsFalse (has_reference h reference) × (balance h name + amount ≤ MOST_IN_ACCOUNT)
+ByTrade passes kind h (Withdraw m name amount reference) =
+    (kind ≡ BROKER_KIND) × IsSome (account_in h name) × IsFalse (has_reference h reference) × (amount ≤ balance h name)
 ByTrade passes kind h (Draw m target sign drawn) = Unit {0}
+ByTrade passes kind h (Licence m vendor terms) = (kind ≡ BROKER_KIND) × IsNone (licence_in h vendor)
+ByTrade passes kind h (Stock m vendor pieces) = (kind ≡ BROKER_KIND) × IsTrue (are_stock vendor (stock_ids h vendor) pieces)
 ByTrade passes kind h _ = ⊥
 
 -- what the house has told of the entry of a number before the trade learns it
@@ -40,10 +51,11 @@ pub record MayLearn (limits : Limits) (kind number : ℕ) (h : History) (e : Ent
   pub in_order : time h ≤ moment_of e
   pub by_house : ByHouse limits kind h e
 
--- the goods of an entry are in range: their kind is below 3, and they have at most 65,536 bytes
-abbrev pub GoodsFit : Entry → Type 0
-GoodsFit (Goods m target price kind contents) = (kind < 3) × (length contents ≤ MOST_CONTENTS)
-GoodsFit _ = Unit {0}
+-- An entry is in its ranges. Of what was accepted or drawn nothing is said: the house tells of it by its answer.
+abbrev pub CommandFits : Entry → Type 0
+CommandFits (Accept m scrip target sign price change deed) = Unit {0}
+CommandFits (Draw m target sign drawn) = Unit {0}
+CommandFits e = Fits e
 
 -- an entry that puts goods on sale
 abbrev pub IsGoods : Entry → Type 0
@@ -52,14 +64,14 @@ IsGoods _ = ⊥
 
 -- ---- the halves together
 
--- the entry that founds a site
-abbrev pub IsSite : Entry → Type 0
-IsSite (Site m kind name house) = Unit {0}
-IsSite _ = ⊥
+-- the Site entry of this kind of site
+abbrev pub IsSiteOf : ℕ → Entry → Type 0
+IsSiteOf kind (Site m k name house) = k ≡ kind
+IsSiteOf kind _ = ⊥
 
 -- a history of this kind of site, or the Site entry of one
 abbrev pub IsOfKind : ℕ → History → Entry → Type 0
-IsOfKind kind h e = (site_kind h ≡ Some kind) ⊎ IsSite e
+IsOfKind kind h e = (site_kind h ≡ Some kind) ⊎ IsSiteOf kind e
 
 -- both halves hold of the entry that comes next
 pub record InParts (passes : History → Entry → Type 0) (limits : Limits) (kind : ℕ) (h : History) (e : Entry) : Type 0 where

@@ -1,5 +1,5 @@
 -- What a house keeps says what its history says, part by part.
-use Rattle.std.specs.Prelude.{◌≡◌, ℕ, ◌≤◌, ◌==◌, Bool, false, List, [], filter, length, Option, Some, option_map, unwrap_or, position, ◌<◌, take, All}
+use Rattle.std.specs.Prelude.{◌≡◌, ℕ, ◌≤◌, ◌==◌, Bool, false, List, codes, filter, length, Option, Some, option_map, unwrap_or, position, slice_get, ◌<◌, take, All}
 use Rattle.scrip_form.specs.Identities.{series_of}
 use Rattle.scrip_form.specs.Scrip.{Scrip, scrip_text}
 use Rattle.mc_records.specs.Limits.{AreInRange}
@@ -12,9 +12,8 @@ use Rattle.ledger_model.specs.Houses.{site_name, keeping, is_clear, all_terms, t
 use Rattle.ledger_model.specs.Pieces.{accepted, is_spent, own_out, own_count}
 use Rattle.ledger_model.specs.Sums.{values, takings}
 use Rattle.ledger_model.specs.Stages.{is_repeat}
-use Rattle.ledger_model.specs.Replies.{Contents, brought, taken_values, taken_reply, reply_of}
+use Rattle.ledger_model.specs.Replies.{Contents, no_contents, contents_after, taken_values, taken_reply, reply_of}
 use Rattle.ledger_model.specs.Lawful.{IsLawful}
-use Rattle.house_core.specs.Views.{entry_deed}
 use Rattle.house_core.specs.HouseState.{HouseStateView, ended_by, version_of, tail_of}
 use Rattle.spent_windows.specs.Windows.{is_marked}
 use Rattle.house_core.specs.Trade.{brought_by}
@@ -28,16 +27,22 @@ has_ended h t id = ended_by (all_terms h) t id
 abbrev pub scrip_request : List ℕ → List ℕ → Option (List ℕ) → Asked
 scrip_request text target sign = record { target = target; scrip = Some text; sign = sign }
 
--- what the entry of a kept reply brought, after the entries before it
-abbrev pub brought_then : History → KeptReply → Contents
-brought_then h r = brought (take r.entry.number h) r.asked.target (entry_deed r.entry.deed)
+-- what the entry of a number brought, after the entries before it
+abbrev pub brought_then : History → ℕ → Contents
+brought_then h n = unwrap_or (option_map (contents_after (take n h)) (slice_get h n)) no_contents
+
+-- the reply that is made of what is kept, and of what it brings: the text that stands for the scrip of a draw is `-`
+abbrev pub kept_reply : KeptReply → Contents → List ℕ
+kept_reply r contents =
+    taken_reply (Some r.entry.secret) (unwrap_or r.asked.scrip (codes "-")) r.asked.target contents
+    (taken_values r.entry.moment contents r.entry.price (option_map (λ c. scrip_text c.0 c.1) r.entry.change))
 
 -- The first reply to the entry is made of what is kept of it, and of what the entry brought, which is
 -- what the kept deed brings.
 pub record IsReply (h : History) (r : KeptReply) : Type 0 where
-  pub brings : brought_by h r.entry.deed ≡ Some (brought_then h r)
+  pub brings : brought_by h r.entry.deed ≡ Some (brought_then h r.entry.number)
   pub within : r.entry.number < length h
-  pub reply : reply_of h r.entry.number ≡ taken_reply (Some r.entry.secret) (unwrap_or r.asked.scrip []) r.asked.target (brought_then h r) (taken_values r.entry.moment (brought_then h r) r.entry.price (option_map (λ c. scrip_text c.0 c.1) r.entry.change))
+  pub reply : reply_of h r.entry.number ≡ kept_reply r (brought_then h r.entry.number)
 
 -- the pieces of a series
 abbrev pub of_series : ℕ → List Scrip → List Scrip

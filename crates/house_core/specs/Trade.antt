@@ -1,13 +1,15 @@
 -- What a history says of a trade.
-use Rattle.std.specs.Prelude.{◌≡◌, ℕ, ◌<◌, true, List, ◌++◌, length, codes, decimal, Option, Some, None, option_map, option_and_then, slice_get, if◌then◌else◌}
-use Rattle.scrip_form.specs.Scrip.{Scrip}
+use Rattle.std.specs.Prelude.{◌≡◌, ℕ, ◌<◌, true, List, ◌++◌, length, codes, decimal, Option, Some, None, option_map, option_and_then, slice_get}
+use Rattle.scrip_form.specs.Scrip.{Scrip, scrip_text}
 use Rattle.kept_replies.specs.declared.deed.Deed.{Deed}
 use Rattle.kept_replies.specs.declared.deed.Deed.TheVariants as kept
 use Rattle.mc_records.specs.Entry.{Entry, Goods}
 use Rattle.ledger_model.specs.Histories.{History}
-use Rattle.ledger_model.specs.Houses.{is_vendor}
 use Rattle.ledger_model.specs.Goods.{is_goods_of}
-use Rattle.ledger_model.specs.Replies.{Contents, brought, no_contents}
+use Rattle.ledger_model.specs.Orders.{Order}
+use Rattle.ledger_model.specs.Accounts.{key_in, balance, last_order}
+use Rattle.ledger_model.specs.Answer.{draw_in}
+use Rattle.ledger_model.specs.Replies.{Contents, brought, held_contents}
 use Rattle.house_core.specs.declared.offer.DrawAsk.{DrawAsk}
 use Rattle.house_core.specs.Views.{entry_deed}
 
@@ -26,22 +28,29 @@ pub record TradeView : Type 1 where
 
 -- ---- what is asked and brought
 
--- a broker's targets of draws and its accounts stand here
-unfoldable pub broker_draw : History → List ℕ → Option DrawAsk
-broker_draw h target = None
+-- what a draw asks for, with what a history says of its account
+abbrev pub asked_of_account : History → Order → DrawAsk
+asked_of_account h o = record {
+  account = o.account;
+  order = o.order;
+  amount = o.amount;
+  key = key_in h o.account;
+  last = last_order h o.account;
+  balance = balance h o.account;
+}
 
 -- The draw that a target asks for, with what a history says of its account. A vendor has no accounts.
 abbrev pub draw_asked : History → List ℕ → Option DrawAsk
-draw_asked h target = if is_vendor h then None else broker_draw h target
+draw_asked h target = option_map (asked_of_account h) (draw_in h target)
 
 -- the contents of a Goods entry; other entries have none
 abbrev pub contents_in : Entry → Option Contents
 contents_in (Goods m target price kind contents) = Some (record { kind = kind; bytes = contents })
 contents_in _ = None
 
--- the line of a piece that is sold or drawn stands here
+-- the line of a piece that is sold or drawn
 unfoldable pub piece_brought : Scrip → List ℕ → List ℕ → Contents
-piece_brought piece cert secret = no_contents
+piece_brought piece cert secret = held_contents (record { text = scrip_text piece cert; secret = secret })
 
 -- What a kept deed brings: the contents of the Goods entry of its number, where there is one; the piece that was sold or
 -- drawn; of a credit the balance as a line.

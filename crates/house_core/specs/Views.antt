@@ -3,6 +3,7 @@ use Rattle.std.specs.Prelude.{ℕ, false}
 use Rattle.kept_replies.specs.declared.deed.Deed.{Deed}
 use Rattle.kept_replies.specs.declared.deed.Deed.TheVariants as kept
 use Rattle.mc_records.specs.Entry as entries
+use Rattle.ledger_model.specs.declared.numbers.TheConstants.{VENDOR_KIND, BROKER_KIND}
 use Rattle.ledger_model.specs.Stages as ledger
 use Rattle.ledger_model.specs.Replies.{Contents}
 use Rattle.house_core.specs.declared.offer.SiteKind.{SiteKind}
@@ -12,12 +13,12 @@ use Rattle.house_core.specs.declared.offer.Body.{Body}
 
 -- the number of a kind of site
 abbrev pub kind_number : SiteKind → ℕ
-kind_number Vendor = 0
-kind_number Broker = 1
+kind_number Vendor = VENDOR_KIND
+kind_number Broker = BROKER_KIND
 kind_number Wallet = 2
 
--- The deed of an Accept entry that is kept so. A draw is no Accept entry; were it one, it would be a
--- sale that took nothing out of stock.
+-- The deed of an Accept entry that is kept so. It is not asked of a draw, which makes no Accept entry; an offer
+-- with such a deed would be a sale that took nothing out of stock.
 abbrev pub entry_deed : Deed → entries.Deed
 entry_deed (kept.Goods number) = entries.goods_deed
 entry_deed (kept.Sale piece cert secret stock) = entries.sale stock piece.id

@@ -2,7 +2,8 @@
 
 ghost use Rattle.std.specs.Prelude.{◌≡◌, [], ◌∷◌, IfOk, IfErr, is_ok, option_map};
 ghost use Rattle.ledger_model.specs.Histories.{History};
-ghost use Rattle.ledger_model.specs.Answer.{answer};
+ghost use Rattle.ledger_model.specs.Answer.{answer, as_counted, draw_in};
+ghost use Rattle.mc_records.specs.Requests.{asked_of};
 ghost use Rattle.ledger_model.specs.Replies as ledger;
 ghost use Rattle.millicent_http.specs.HeadRefusals.{as_refusal};
 ghost use Rattle.house_core.specs.Bench.{Represents, IsHouse, KeepsReply, Refines, house_time, limits_of, windows_of, tally_of, IsTallied, state_of};
@@ -12,13 +13,13 @@ ghost use Rattle.house_core.specs.Replying.{IsOfSite};
 ghost use Rattle.house_core.specs.Session.{raised, Says, said_reply, refused_reply};
 
 use crate::bench::Bench;
-use crate::presented::Presented;
+use crate::presented::{Presented, without_scrip};
 use crate::reply::{Page, Reply, ReplyRoom, refusal_head};
 use crate::signing::{customer_of, signed_refusal, taken_reply};
 use crate::trade::Trade;
 use crate::verdict::BenchFault;
 use mc_base::Moment;
-use mc_records::Refusal;
+use mc_records::{Refusal, Request};
 use millicent_http::HeadRefusal;
 
 impl<T: Trade> Bench<T> {
@@ -116,10 +117,10 @@ impl<T: Trade> Bench<T> {
             → result ≡ ledger.refusal_of h (house_time self.now) q.now refusal.now }
     {
         let time = self.state.time();
-        let request = q.request();
+        let request = self.as_counted(q.request());
         let price = self.price_told(request.target, refusal);
         match self.secret_of_refusal(q, refusal) {
-            Some(secret) => signed_refusal(time, request, refusal, price, &secret, page),
+            Some(secret) => signed_refusal(time, &request, refusal, price, &secret, page),
             None => Reply::of(
                 &refusal_head(time, refusal, price),
                 b"",
@@ -172,9 +173,32 @@ impl<T: Trade> Bench<T> {
             → result ≡ ledger.secret_of_refusal h q.now refusal.now }
     {
         if refusal.is_signed() {
-            customer_of(&self.state, q)
+            self.asker_secret(q)
         } else {
             None
+        }
+    }
+
+    /// The secret of whoever asks: the key of the account of a draw, else that of the customer of the
+    /// request's piece.
+    fn asker_secret(&self, q: &Presented<'_>) -> Option<[u8; 16]>
+        ensures { (h : History) → Represents T.trade self.now h
+            → result ≡ ledger.asker_secret h (draw_in h q.now.target) q.now.scrip }
+    {
+        match self.trade.draw(q.request().target) {
+            Some(ask) => ask.key,
+            None => customer_of(&self.state, q),
+        }
+    }
+
+    /// The request as its column of the answer sees it: the scrip text of a draw does not count.
+    fn as_counted<'q>(&self, q: &Request<'q>) -> Request<'q>
+        ensures { (h : History) → Represents T.trade self.now h
+            → asked_of result ≡ as_counted (draw_in h q.now.target.now) (asked_of q.now) }
+    {
+        match self.trade.draw(q.target) {
+            Some(_) => without_scrip(q),
+            None => *q,
         }
     }
 }

@@ -9,32 +9,31 @@ ghost use Rattle.house_core.specs.Founding.{FoundsHouse};
 ghost use Rattle.scrip_form.specs.Texts.{IsTarget};
 ghost use Rattle.mc_records.specs.Requests.{asked_of};
 ghost use Rattle.mc_records.specs.Views.{deed_of, entry};
-ghost use Rattle.kept_replies.specs.Kept.{found};
 ghost use Rattle.ledger_model.specs.Histories.{History, time};
 ghost use Rattle.ledger_model.specs.Answer as model;
-ghost use Rattle.ledger_model.specs.Stages.{read_by};
 ghost use Rattle.house_core.specs.Bench.{Represents, HasContents, IsRoomed, KeepsReply, Takes, Accepts, KeepsContents, FaultIsOfSite, Enters, Follows, stopped_with, house_time, limits_of, windows_of, tally_of, IsTallied};
 ghost use Rattle.house_core.specs.Tallies.{IsWithin, no_tally, tallied, told};
-ghost use Rattle.house_core.specs.HouseState.{size_with, HasRoomToEnter, HasRoomFor, GoesOn};
+ghost use Rattle.house_core.specs.HouseState.{size_with, HasRoomFor, GoesOn};
 ghost use Rattle.house_core.specs.Views.{entry_deed};
 ghost use Rattle.std.specs.Set.{distinct_count};
-ghost use Rattle.spent_windows.specs.Windows.{window_of};
-ghost use Rattle.house_core.specs.LiveWindows.{AreUsed, AreUsedBut, live_windows};
-ghost use Rattle.house_core.specs.Trade.{OfGoods, NamesInForce, BringsFor};
+ghost use Rattle.house_core.specs.LiveWindows.{AreUsed, live_windows};
+ghost use Rattle.house_core.specs.Trade.{OfGoods, NamesInForce};
 ghost use Rattle.house_core.specs.declared.verdict.Verdict.TheVariants as verdicts;
-ghost use Rattle.house_core.specs.Verdicts.{judged, judged_of, repeat_of, accept_entry, IsReady};
+ghost use Rattle.house_core.specs.Verdicts.{judged, judged_of, repeat_of, accept_entry, draw_entry, authorized_entry, AreUsedFor, BringsAs, HasRoomToCommit, IsOfNew, MayCommit, OfDeed};
 
 use crate::evaluate::evaluate;
 use crate::founding::found_state;
 use crate::house_state::HouseState;
 use crate::offer::Unlawful;
 use crate::presented::Presented;
-use crate::ranges::authorization_fits;
+use crate::ranges::{authorization_fits, draw_fits};
 use crate::replaying::ReplayEnd;
 use crate::stages::fitted;
 use crate::tally::Tally;
 use crate::trade::Trade;
-use crate::verdict::{Authorization, BenchFault, EnterFault, NotAuthorized, Verdict};
+use crate::verdict::{
+    Authorization, Authorized, BenchFault, DrawAuthorization, EnterFault, NotAuthorized, Verdict,
+};
 use kept_replies::Deed;
 use mc_base::{Moment, NoMemory};
 use mc_records::{Limits, PieceList, Record, RecordDeed, Refusal, Request, payloads_are_short};
@@ -221,7 +220,7 @@ impl<T: Trade> Bench<T> {
         };
         match self.commit(q, &authorization) {
             Ok(number) => {
-                tally.take(authorization.price, authorization.change_worth());
+                tally.take(authorization.price(), authorization.change_worth());
                 Ok(number)
             }
             Err(NoMemory) => {
@@ -361,15 +360,14 @@ impl<T: Trade> Bench<T> {
     pub(crate) fn commit(
         &mut self,
         q: &Presented<'_>,
-        authorization: &Authorization<'_, '_>,
+        authorization: &Authorized<'_, '_>,
     ) -> Result<u64, NoMemory>
-        requires read { Ok authorization.now.scrip.now ≡ read_by q.now.scrip }
-        requires new { found self.old.state.kept self.old.state.time q.now ≡ None }
-        requires held { OfGoods (T.trade self.old.trade).holds authorization.now.deed }
-        requires ready { IsReady self.old.state q.now.target authorization.now }
+        requires new { IsOfNew self.old.state q.now authorization.now }
+        requires held { OfDeed (OfGoods (T.trade self.old.trade).holds) authorization.now }
+        requires ready { MayCommit self.old.state q.now.target authorization.now }
         requires brings { (h : History) → (T.trade self.old.trade).represents h
             → site_kind h ≡ Some (T.trade self.old.trade).site
-            → BringsFor h q.now.target authorization.now.deed }
+            → BringsAs h q.now.target authorization.now }
         ensures kept { IfOk result (KeepsReply self.new) }
         ensures time { house_time self.new ≡ house_time self.old }
         ensures limits { limits_of self.new ≡ limits_of self.old }
@@ -379,12 +377,12 @@ impl<T: Trade> Bench<T> {
         ensures used { AreUsed (windows_of self.old) → AreUsed (windows_of self.new) }
         ensures exact { (limits : Bounds) (h : History) → Represents T.trade self.old h
             → limits.series ≡ (limits_of self.old).series → limits.journal ≤ Limits.MOST_JOURNAL
-            → model.answer h (house_time self.old) limits q.now ≡ model.Take (accept_entry (house_time self.old) q.now.target authorization.now)
-            → Takes T.trade self.new h (accept_entry (house_time self.old) q.now.target authorization.now) result }
+            → model.answer h (house_time self.old) limits q.now ≡ model.Take (authorized_entry (house_time self.old) q.now.target authorization.now)
+            → Takes T.trade self.new h (authorized_entry (house_time self.old) q.now.target authorization.now) result }
         ensures contents { (h : History) → Represents T.trade self.old h
-            → HasContents T.trade self.old h → NamesInForce h authorization.now.deed
+            → HasContents T.trade self.old h → OfDeed (NamesInForce h) authorization.now
             → MatchResult result
-            (λ n. HasContents T.trade self.new (h ++ accept_entry (house_time self.old) q.now.target authorization.now ∷ [])) (λ f. HasContents T.trade self.new h) }
+            (λ n. HasContents T.trade self.new (h ++ authorized_entry (house_time self.old) q.now.target authorization.now ∷ [])) (λ f. HasContents T.trade self.new h) }
     {
         // The check lets a record go only where the types of its parts are named.
         let _pieces: Option<PieceList<'_>> = None;
@@ -393,7 +391,7 @@ impl<T: Trade> Bench<T> {
             Ok(()) => (),
             Err(NoMemory) => return Err(NoMemory),
         }
-        Ok(self.apply_accept(q, authorization, &record))
+        Ok(self.apply(q, authorization, &record))
     }
 
     /// Makes room to enter the entry of an authorization, in the trade and in the state. The house stays as it
@@ -401,86 +399,105 @@ impl<T: Trade> Bench<T> {
     pub(crate) fn make_room(
         &mut self,
         q: &Presented<'_>,
-        authorization: &Authorization<'_, '_>,
+        authorization: &Authorized<'_, '_>,
         r: &Record<'_>,
     ) -> Result<(), NoMemory>
-        requires ready { IsReady self.old.state q.now.target authorization.now }
+        requires is { entry r.now ≡ authorized_entry (house_time self.old) q.now.target authorization.now }
+        requires ready { MayCommit self.old.state q.now.target authorization.now }
         ensures same { IsRoomed T.trade self.old self.new }
         ensures trade { OnOk result ((T.trade self.new.trade).has_room (entry r.now)) }
-        ensures state { OnOk result (HasRoomToEnter self.new.state q.now authorization.now) }
+        ensures state { OnOk result (HasRoomToCommit self.new.state q.now authorization.now) }
         ensures used { OnOk result (AreUsed (windows_of self.old)
-            → AreUsedBut (window_of authorization.now.scrip.now.piece.id) (windows_of self.new)) }
+            → AreUsedFor authorization.now (windows_of self.new)) }
         ensures left { OnErr result (windows_of self.new ≡ windows_of self.old) }
     {
         match self.trade.reserve(r) {
             Ok(()) => (),
             Err(NoMemory) => return Err(NoMemory),
         }
-        let piece = authorization.scrip.piece();
-        let pieces = authorization.pieces_size(&self.state.site_name());
-        self.state
-            .reserve(q.request(), pieces, piece.id(), piece.expires())
+        self.state.make_room(q.request(), authorization)
     }
 
     /// Enters the entry of an authorization, for which there is room, and answers its number. It takes no
     /// memory.
-    pub(crate) fn apply_accept(
+    pub(crate) fn apply(
         &mut self,
         q: &Presented<'_>,
-        authorization: &Authorization<'_, '_>,
+        authorization: &Authorized<'_, '_>,
         r: &Record<'_>,
     ) -> u64
-        requires is { entry r.now ≡ accept_entry (house_time self.old) q.now.target authorization.now }
-        requires read { Ok authorization.now.scrip.now ≡ read_by q.now.scrip }
-        requires new { found self.old.state.kept self.old.state.time q.now ≡ None }
-        requires held { OfGoods (T.trade self.old.trade).holds authorization.now.deed }
-        requires ready { IsReady self.old.state q.now.target authorization.now }
+        requires is { entry r.now ≡ authorized_entry (house_time self.old) q.now.target authorization.now }
+        requires new { IsOfNew self.old.state q.now authorization.now }
+        requires held { OfDeed (OfGoods (T.trade self.old.trade).holds) authorization.now }
+        requires ready { MayCommit self.old.state q.now.target authorization.now }
         requires trade { (T.trade self.old.trade).has_room (entry r.now) }
-        requires state { HasRoomToEnter self.old.state q.now authorization.now }
+        requires state { HasRoomToCommit self.old.state q.now authorization.now }
         ensures kept { KeepsReply self.new result }
         ensures time { house_time self.new ≡ house_time self.old }
         ensures limits { limits_of self.new ≡ limits_of self.old }
         ensures tally { tally_of self.new ≡ tally_of self.old }
         ensures more { self.new.state.count ≡ self.old.state.count + 1 }
-        ensures used { AreUsedBut (window_of authorization.now.scrip.now.piece.id) (windows_of self.old)
+        ensures used { AreUsedFor authorization.now (windows_of self.old)
             → AreUsed (windows_of self.new) }
         ensures exact { (limits : Bounds) (h : History) → Represents T.trade self.old h
-            → BringsFor h q.now.target authorization.now.deed
+            → BringsAs h q.now.target authorization.now
             → limits.series ≡ (limits_of self.old).series → limits.journal ≤ Limits.MOST_JOURNAL
-            → model.answer h (house_time self.old) limits q.now ≡ model.Take (accept_entry (house_time self.old) q.now.target authorization.now)
+            → model.answer h (house_time self.old) limits q.now ≡ model.Take (authorized_entry (house_time self.old) q.now.target authorization.now)
             → (result ≡ length h)
-            × Represents T.trade self.new (h ++ accept_entry (house_time self.old) q.now.target authorization.now ∷ []) }
+            × Represents T.trade self.new (h ++ authorized_entry (house_time self.old) q.now.target authorization.now ∷ []) }
         ensures contents { (h : History) → Represents T.trade self.old h
-            → HasContents T.trade self.old h → NamesInForce h authorization.now.deed
-            → HasContents T.trade self.new (h ++ accept_entry (house_time self.old) q.now.target authorization.now ∷ []) }
+            → HasContents T.trade self.old h → OfDeed (NamesInForce h) authorization.now
+            → HasContents T.trade self.new (h ++ authorized_entry (house_time self.old) q.now.target authorization.now ∷ []) }
     {
         let number = self.state.count();
         // What the house answers may follow, so an `Err` comes only where it represents no history.
         let _learned = self.trade.learn(number, r);
-        self.state
-            .enter(q.request(), &authorization.scrip.piece(), authorization);
+        self.state.commit(q.request(), authorization);
         number
     }
 }
 
-/// The entry of an authorization at the house time.
+/// The entry of what was authorized at the house time.
 pub(crate) fn entry_of<'a>(
     time: Moment,
     q: &Request<'a>,
-    authorization: &Authorization<'_, 'a>,
+    authorized: &Authorized<'_, 'a>,
 ) -> Record<'a>
-    ensures same { entry result ≡ accept_entry time q.now.target.now authorization.now }
+    ensures same { entry result ≡ authorized_entry time q.now.target.now authorized.now }
     ensures fits { IsTarget q.now.target.now → Fits (entry result) }
 {
-    authorization_fits(time, q.target, authorization);
+    match authorized {
+        Authorized::Scrip(a) => accept_record(time, q.target, a),
+        Authorized::Draw(d) => draw_record(time, q.target, d),
+    }
+}
+
+fn accept_record<'a>(time: Moment, target: &'a [u8], a: &Authorization<'_, 'a>) -> Record<'a>
+    ensures same { entry result ≡ accept_entry time target.now a.now }
+    ensures fits { IsTarget target.now → Fits (entry result) }
+{
+    authorization_fits(time, target, a);
     Record::Accept {
         moment: time,
-        scrip: authorization.scrip.text(),
-        target: q.target,
-        sign: authorization.sign,
-        price: authorization.price,
-        change: authorization.change,
-        deed: record_deed(&authorization.deed),
+        scrip: a.scrip.text(),
+        target,
+        sign: a.sign,
+        price: a.price,
+        change: a.change,
+        deed: record_deed(&a.deed),
+    }
+}
+
+fn draw_record<'a>(time: Moment, target: &'a [u8], d: &DrawAuthorization) -> Record<'a>
+    ensures same { entry result ≡ draw_entry time target.now d.now }
+    ensures fits { IsTarget target.now → Fits (entry result) }
+{
+    draw_fits(time, target, d);
+    Record::Draw {
+        moment: time,
+        target,
+        sign: d.sign,
+        drawn: d.id,
     }
 }
 

@@ -11,10 +11,8 @@ ghost use Rattle.mc_records.specs.Entry.{Entry, Fits, moment_of};
 ghost use Rattle.mc_records.specs.Requests.{asked_of};
 ghost use Rattle.mc_records.specs.Sizes.{size, entry_size};
 ghost use Rattle.mc_records.specs.Views.{entry};
-ghost use Rattle.kept_replies.specs.Kept.{found};
 ghost use Rattle.ledger_model.specs.Histories.{History};
 ghost use Rattle.ledger_model.specs.Answer as model;
-ghost use Rattle.ledger_model.specs.Stages.{read_by};
 ghost use Rattle.ledger_model.specs.Houses.{site_name, terms_in, version, certificate_in, secret_in};
 ghost use Rattle.ledger_model.specs.Lawful.{MayFollow};
 ghost use Rattle.house_core.specs.CommandEntries.{IsCommand};
@@ -22,10 +20,10 @@ ghost use Rattle.scrip_journal.specs.States.{IsJournal};
 ghost use Rattle.scrip_journal.specs.Exits.{EitherNoOutput, MatchStageFault};
 ghost use Rattle.house_core.specs.HouseState.{size_with};
 ghost use Rattle.house_core.specs.Bench.{IsHouse, KeepsReply, house_time, limits_of};
-ghost use Rattle.house_core.specs.Trade.{OfGoods, NamesInForce, BringsFor};
+ghost use Rattle.house_core.specs.Trade.{OfGoods, NamesInForce};
 ghost use Rattle.house_core.specs.Replying.{IsOfSite};
 ghost use Rattle.house_core.specs.declared.verdict.Verdict.TheVariants as verdicts;
-ghost use Rattle.house_core.specs.Verdicts.{judged, judged_of, repeat_of, accept_entry, IsReady};
+ghost use Rattle.house_core.specs.Verdicts.{judged, judged_of, repeat_of, authorized_entry, payload_of, BringsAs, IsOfNew, MayCommit, OfDeed};
 ghost use Rattle.house_core.specs.House.{HouseRepresents, HandsBack, HasRun, KeepsTime, RaisedTo, IfDone, IfRefused, Accepted, Responds, Entered, Leaves, number_in, outcome_disk};
 
 use crate::bench::{Bench, entry_of};
@@ -35,7 +33,7 @@ use crate::presented::Presented;
 use crate::settled::Settled;
 use crate::stages::terms_of;
 use crate::trade::Trade;
-use crate::verdict::{Authorization, EnterFault, NotAuthorized, Verdict};
+use crate::verdict::{Authorized, EnterFault, NotAuthorized, Verdict};
 use mc_base::{Moment, NoMemory};
 use mc_outside::Disk;
 use mc_records::{Limits, PieceList, Record, Refusal, Request};
@@ -236,28 +234,23 @@ impl<D: Disk, T: Trade> House<D, T> {
     }
 
     /// Commits a request that was evaluated: makes room for its entry, writes it and enters it.
-    fn commit(
-        self,
-        q: &Presented<'_>,
-        authorization: Authorization<'_, '_>,
-    ) -> Outcome<D, T, Response>
+    fn commit(self, q: &Presented<'_>, authorization: Authorized<'_, '_>) -> Outcome<D, T, Response>
         requires target { IsTarget q.now.target }
-        requires read { Ok authorization.scrip.now ≡ read_by q.now.scrip }
-        requires new { found self.bench.state.kept self.bench.state.time q.now ≡ None }
-        requires held { OfGoods (T.trade self.bench.trade).holds authorization.deed }
-        requires ready { IsReady self.bench.state q.now.target authorization }
-        requires room { size_with self.bench.state authorization.payload ≤ self.bench.state.limits.journal }
+        requires new { IsOfNew self.bench.state q.now authorization }
+        requires held { OfDeed (OfGoods (T.trade self.bench.trade).holds) authorization }
+        requires ready { MayCommit self.bench.state q.now.target authorization }
+        requires room { size_with self.bench.state (payload_of authorization) ≤ self.bench.state.limits.journal }
         ensures back { HandsBack D.disk D.disk_moved (KeepsTime self) self.journal.disk result }
         ensures site { IfRefused IsOfSite result }
         ensures kept { IfDone (λ x r. KeepsReply x.bench (number_in r)) result }
         ensures exact { (h : History) → HouseRepresents D.disk T.trade self h
-            → NamesInForce h authorization.entry.deed
-            → BringsFor h q.now.target authorization.entry.deed
-            → model.answer h (house_time self.bench) (limits_of self.bench) q.now ≡ model.Take (accept_entry (house_time self.bench) q.now.target authorization.entry)
-            → Responds D.disk T.trade self.journal.disk h (model.Take (accept_entry (house_time self.bench) q.now.target authorization.entry)) result }
+            → OfDeed (NamesInForce h) authorization.entry
+            → BringsAs h q.now.target authorization.entry
+            → model.answer h (house_time self.bench) (limits_of self.bench) q.now ≡ model.Take (authorized_entry (house_time self.bench) q.now.target authorization.entry)
+            → Responds D.disk T.trade self.journal.disk h (model.Take (authorized_entry (house_time self.bench) q.now.target authorization.entry)) result }
         ensures ran { (h : History) → HouseRepresents D.disk T.trade self h
             → Ran (D.disk self.journal.disk) (D.disk (outcome_disk result))
-            (Leaves (model.Take (accept_entry (house_time self.bench) q.now.target authorization.entry)) result h (D.disk self.journal.disk).aside) }
+            (Leaves (model.Take (authorized_entry (house_time self.bench) q.now.target authorization.entry)) result h (D.disk self.journal.disk).aside) }
     {
         let House { journal, bench } = self;
         let mut bench = bench;
@@ -270,18 +263,17 @@ impl<D: Disk, T: Trade> House<D, T> {
         }
         match journal.append(&record) {
             Ok((journal, receipt)) => {
-                let number = bench.apply_accept(q, &authorization, &record);
-                let Authorization { fresh, .. } = authorization;
+                let number = bench.apply(q, &authorization, &record);
                 let settled = Settled {
                     receipt,
                     number,
-                    fresh,
+                    fresh: authorization.into_fresh(),
                 };
                 Outcome::Done(House { journal, bench }, Response::New(settled))
             }
             // It fits, so this comes only where the house represents no history.
             Err(StageFault::Full(journal)) => {
-                let full = Refusal::JournalFull(bench.state.size(), authorization.payload);
+                let full = Refusal::JournalFull(bench.state.size(), authorization.payload());
                 Outcome::Refused(House { journal, bench }, full)
             }
             Err(StageFault::Disk(halted)) => Outcome::Halted(halted),

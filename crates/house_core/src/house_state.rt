@@ -14,11 +14,13 @@ ghost use Rattle.mc_records.specs.Requests.{asked_of};
 ghost use Rattle.kept_replies.specs.Kept.{found, has_number, is_in_time, reply_of, with_number};
 ghost use Rattle.spent_windows.specs.Windows.{is_marked, window_of, AreInOrder};
 ghost use Rattle.house_core.specs.LiveWindows.{AreUsed, AreUsedBut};
-ghost use Rattle.house_core.specs.HouseState.{IsSound, HasRoom, HasChange, pieces_size, HasRoomFor, GoesOn, IsEntered, IsApplied, IsAsBefore, version_of, size_with, series_now, end_by, ended_by};
+ghost use Rattle.house_core.specs.HouseState.{IsSound, HasRoom, HasRoomToEnter, HasRoomToDraw, HasChange, pieces_size, HasRoomFor, GoesOn, IsEntered, IsDrawn, IsApplied, IsAsBefore, version_of, size_with, series_now, end_by, ended_by};
+ghost use Rattle.house_core.specs.Verdicts.{IsReady, IsDrawReady, IsOfNew, MayCommit, HasRoomToCommit, AreUsedFor, IsCommitted};
 ghost use Rattle.spent_windows.specs.Looks.{Tells};
 
-use crate::money::{certificate_by, certified, certified_if, redeem, secret_by};
-use crate::verdict::Authorization;
+use crate::money::{certificate_by, certified, certified_if, drawn, redeem, secret_by};
+use crate::presented::without_scrip;
+use crate::verdict::{Authorization, Authorized, DrawAuthorization};
 use change_issue::Issuer;
 use kept_replies::{Kept, KeptEntry};
 use mc_base::{Moment, NoMemory, Total};
@@ -27,6 +29,9 @@ use scrip_form::{Id, Name, Piece, Terms};
 use spent_windows::{Look, Steps, Windows};
 use std::alloc::Global;
 use std::marker::Model;
+
+/// The most bytes that the texts of what was sold or drawn have.
+pub(crate) const MOST_DEED: usize = 309;
 
 /// What a house keeps in place of its history, beside its trade. Contracts see it as the record
 /// `HouseStateView`.
@@ -279,6 +284,53 @@ impl HouseState {
         Ok(())
     }
 
+    /// Makes room to enter a draw by this request at the house time, whatever its piece is. All that is kept
+    /// stays as it is, after an `Err` too.
+    pub(crate) fn reserve_draw(&mut self, q: &Request<'_>) -> Result<(), NoMemory>
+        ensures same { IsAsBefore self.old self.new }
+        ensures room { OnOk result (HasRoomToDraw self.new (asked_of q.now)) }
+        ensures spent { self.new.spent ≡ self.old.spent }
+    {
+        let series = self.series_now();
+        self.kept.reserve(q, MOST_DEED)?;
+        self.own.reserve(series)?;
+        Ok(())
+    }
+
+    /// Makes room to enter what was authorized of a request. All that is kept stays as it is, after an `Err`
+    /// too.
+    pub(crate) fn make_room(
+        &mut self,
+        q: &Request<'_>,
+        authorized: &Authorized<'_, '_>,
+    ) -> Result<(), NoMemory>
+        requires ready { MayCommit self.old q.now.target.now authorized.now }
+        ensures same { IsAsBefore self.old self.new }
+        ensures room { OnOk result (HasRoomToCommit self.new (asked_of q.now) authorized.now) }
+        ensures used { OnOk result
+            (AreUsed self.old.spent → AreUsedFor authorized.now self.new.spent) }
+        ensures left { OnErr result (self.new.spent ≡ self.old.spent) }
+    {
+        match authorized {
+            Authorized::Scrip(a) => self.reserve_piece(q, a),
+            Authorized::Draw(_) => self.reserve_draw(&without_scrip(q)),
+        }
+    }
+
+    /// Makes room to enter a request with a piece, likewise.
+    fn reserve_piece(&mut self, q: &Request<'_>, a: &Authorization<'_, '_>) -> Result<(), NoMemory>
+        requires ready { IsReady self.old q.now.target.now a.now }
+        ensures same { IsAsBefore self.old self.new }
+        ensures room { OnOk result (HasRoomToEnter self.new (asked_of q.now) a.now) }
+        ensures used { OnOk result (AreUsed self.old.spent
+            → AreUsedBut (window_of a.now.scrip.now.piece.id) self.new.spent) }
+        ensures left { OnErr result (self.new.spent ≡ self.old.spent) }
+    {
+        let piece = a.scrip.piece();
+        let pieces = a.pieces_size(&self.name);
+        self.reserve(q, pieces, piece.id(), piece.expires())
+    }
+
     /// Whether the pieces that an entry mints go on with the serials of the series of its moment and fit the
     /// limit of it; of other entries it asks nothing.
     pub(crate) fn goes_on(&self, r: &Record<'_>) -> bool
@@ -408,6 +460,45 @@ impl HouseState {
         self.spent.mark(paid.id());
         self.count += 1;
         self.size = size;
+    }
+
+    /// Enters a draw by a request, which has no scrip text, for which there is room: its piece is handed out
+    /// in the series of the house time. It takes no memory.
+    pub(crate) fn enter_draw(&mut self, q: &Request<'_>, d: &DrawAuthorization)
+        requires room { HasRoomToDraw self.old (asked_of q.now) }
+        requires fresh { found self.old.kept self.old.time (asked_of q.now) ≡ None }
+        requires ready { IsDrawReady self.old q.now.target.now d.now }
+        ensures { IsDrawn self.old self.new (asked_of q.now) d.now }
+    {
+        let _series = self.series_now();
+        let size = self.size_with(d.payload);
+        let deed = drawn(&mut self.own, self.time, self.name, d.amount);
+        // At most as many bytes as there is room for.
+        let _size = deed.size();
+        let entry = KeptEntry {
+            number: self.count,
+            moment: self.time,
+            price: d.amount.get(),
+            change: None,
+            secret: d.key,
+            deed,
+        };
+        self.kept.keep(q, entry);
+        self.count += 1;
+        self.size = size;
+    }
+
+    /// Enters what was authorized of a request, for which there is room. It takes no memory.
+    pub(crate) fn commit(&mut self, q: &Request<'_>, authorized: &Authorized<'_, '_>)
+        requires new { IsOfNew self.old (asked_of q.now) authorized.now }
+        requires ready { MayCommit self.old q.now.target.now authorized.now }
+        requires room { HasRoomToCommit self.old (asked_of q.now) authorized.now }
+        ensures { IsCommitted self.old self.new (asked_of q.now) authorized.now }
+    {
+        match authorized {
+            Authorized::Scrip(a) => self.enter(q, &a.scrip.piece(), a),
+            Authorized::Draw(d) => self.enter_draw(&without_scrip(q), d),
+        }
     }
 }
 

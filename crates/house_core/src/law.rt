@@ -5,6 +5,7 @@ ghost use Rattle.kept_replies.specs.declared.deed.Deed.{Deed};
 ghost use Rattle.mc_records.specs.declared.limits.Limits.{Limits as Bounds};
 ghost use Rattle.mc_records.specs.Entry.{Entry};
 ghost use Rattle.ledger_model.specs.Histories.{History};
+ghost use Rattle.ledger_model.specs.Houses.{IsHouseKind};
 ghost use Rattle.ledger_model.specs.Lawful.{MayFollow};
 ghost use Rattle.ledger_model.specs.Replies.{Contents};
 ghost use Rattle.house_core.specs.Trade.{brought_by, IsInForce, IsKeptFrom};
@@ -12,11 +13,11 @@ ghost use Rattle.house_core.specs.Learning.{IsGoods, IsOfKind, InParts};
 
 use crate::trade::Trade;
 
-/// In a vendor's history an entry may follow exactly where the house's half and the trade's half of
-/// what makes it lawful hold.
+/// In a history of a kind of house an entry may follow exactly where the house's half and the trade's half
+/// of what makes it lawful hold.
 pub fn entries_follow_in_parts<T: Trade>()
-    ensures { (limits : Bounds) (h : History) (e : Entry) → IsOfKind 0 h e
-        → MayFollow limits h e ↔ InParts T.passes limits 0 h e }
+    ensures { (limits : Bounds) (kind : ℕ) (h : History) (e : Entry) → IsHouseKind kind
+        → IsOfKind kind h e → MayFollow limits h e ↔ InParts T.passes limits kind h e }
 {}
 
 /// What a kept deed brings stays, whatever entries follow.

@@ -1,9 +1,9 @@
-//! How long the payload of an Accept entry is, without writing it.
+//! How long the payload of an Accept entry or of a Draw entry is, without writing it.
 
-ghost use Rattle.std.specs.Prelude.{◌≡◌, ◌≤◌, ◌<◌, ℕ, length, IfSome};
+ghost use Rattle.std.specs.Prelude.{◌≡◌, ◌≤◌, ◌<◌, ℕ, List, length, IfSome};
 ghost use Rattle.mc_fields.specs.Field.{spelled};
 ghost use Rattle.mc_records.specs.Entry as entries;
-ghost use Rattle.mc_records.specs.Entry.{IsKey, Accept, payload, sign_fields, change_fields, deed_fields};
+ghost use Rattle.mc_records.specs.Entry.{IsKey, Accept, Draw, payload, sign_fields, change_fields, deed_fields};
 ghost use Rattle.house_core.specs.Views.{entry_deed};
 
 use kept_replies::Deed;
@@ -23,6 +23,14 @@ pub(crate) fn accept_len(
 {
     let texts = scrip.text().len() as u64 + target.len() as u64;
     21 + texts + sign_len(sign) + change_len(change) + deed_len(deed)
+}
+
+/// The length of the payload of the Draw entry of a target, in bytes.
+pub(crate) fn draw_len(target: &[u8]) -> u64
+    ensures { (m id : ℕ) (sign : List ℕ) → IsKey sign
+        → result ≡ length (payload (Draw m target.now sign id)) }
+{
+    35 + target.len() as u64
 }
 
 fn sign_len(sign: &Option<[u8; 16]>) -> u64

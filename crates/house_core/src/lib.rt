@@ -32,7 +32,7 @@ mod trade;
 mod verdict;
 
 pub use bench::Bench;
-pub use body::body_of_deed;
+pub use body::{body_of_deed, put_piece_line};
 pub use house::House;
 pub use house_state::HouseState;
 pub use law::{contents_stay, entries_follow_in_parts, goods_in_force_are_kept};

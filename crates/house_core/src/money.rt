@@ -1,18 +1,19 @@
-//! The money of an accepted piece, and its change.
+//! The money of an accepted piece and its change, and of a draw.
 
-ghost use Rattle.std.specs.Prelude.{◌≡◌, ◌+◌, ◌-◌, ◌≤◌, ◌<◌, ◌^◌, ℕ, List, [], Some, option_map, min, MatchOption, IsTrue};
+ghost use Rattle.std.specs.Prelude.{◌≡◌, ◌+◌, ◌-◌, ◌≤◌, ◌<◌, ◌^◌, ℕ, List, [], Some, None, option_map, min, MatchOption, IsTrue};
 ghost use Rattle.scrip_form.specs.Identities.{series_of};
 ghost use Rattle.scrip_form.specs.Issuing.{series_at};
 ghost use Rattle.scrip_form.specs.Scrip.{scrip_body};
 ghost use Rattle.ledger_model.specs.Houses.{version, certificate_in, secret_in};
 ghost use Rattle.change_issue.specs.Registers.{has_room, count_in, issued_in, redeemed_in, next_in};
 ghost use Rattle.change_issue.specs.IssuedPieces.{issued_piece};
-ghost use Rattle.house_core.specs.HouseState.{at_series, change_count, change_worth};
+ghost use Rattle.house_core.specs.HouseState.{at_series, change_count, change_worth, deed_drawn};
 
 use change_issue::Issuer;
+use kept_replies::Deed;
 use mc_base::{Amount, Coin, Moment, Total};
 use scrip_certs::{certificate, customer_secret};
-use scrip_form::{Id, Name, Piece, Terms, write_scrip};
+use scrip_form::{Id, Name, Piece, Props, Terms, write_scrip};
 
 /// The certificate of a body under an identity, by the terms of its issuer, in the version that a series has
 /// before any entry.
@@ -108,5 +109,31 @@ pub(crate) fn redeem(
             rest.end();
             None
         }
+    }
+}
+
+/// The piece of a draw of this amount, handed out in the series of a moment, with its certificate and the secret
+/// of its customer. The coin of it was taken out of the account. It takes no memory.
+pub(crate) fn drawn(own: &mut Issuer, time: Moment, vendor: Name, amount: Amount) -> Deed
+    requires some { 0 < amount }
+    requires room { IsTrue (has_room own.old (series_at own.old.terms time)) }
+    requires below { count_in own.old (series_at own.old.terms time) < own.old.most }
+    ensures deed { (site : List ℕ) → result ≡ deed_drawn (version [] site) own.old.terms (issued_piece own.old.terms time vendor amount (next_in own.old (series_at own.old.terms time)) None []) }
+    ensures count { (s : ℕ)
+        → count_in own.new s ≡ count_in own.old s + at_series (series_at own.old.terms time) 1 s }
+    ensures worth { (s : ℕ)
+        → issued_in own.new s ≡ issued_in own.old s + at_series (series_at own.old.terms time) amount s }
+    ensures redeemed { (s : ℕ) → redeemed_in own.new s ≡ redeemed_in own.old s }
+    ensures terms { own.new.terms ≡ own.old.terms }
+    ensures most { own.new.most ≡ own.old.most }
+{
+    let no_props = Props::new(b"").unwrap();
+    let piece = own.issue(time, vendor, Coin::minted(amount), None, no_props);
+    let (piece, cert) = certified(own.terms(), piece);
+    let secret = secret_by(own.terms(), piece.cust());
+    Deed::Draw {
+        piece,
+        cert,
+        secret,
     }
 }

@@ -1,7 +1,9 @@
-ghost use Rattle.std.specs.Prelude.{◌≡◌};
+ghost use Rattle.std.specs.Prelude.{◌≡◌, ◌↔◌, IsTrue};
+ghost use Rattle.ledger_model.specs.Houses.{IsHouseKind};
 ghost use Rattle.house_core.specs.Views.{kind_number};
 
 use kept_replies::Deed;
+use ledger_model::{BROKER_KIND, VENDOR_KIND};
 use mc_base::Amount;
 use scrip_form::Name;
 
@@ -20,9 +22,19 @@ impl SiteKind {
         ensures { result ≡ kind_number self }
     {
         match self {
-            SiteKind::Vendor => 0,
-            SiteKind::Broker => 1,
+            SiteKind::Vendor => VENDOR_KIND,
+            SiteKind::Broker => BROKER_KIND,
             SiteKind::Wallet => 2,
+        }
+    }
+
+    /// Whether a site of the kind is a house: a vendor or a broker.
+    pub fn is_house(self) -> bool
+        ensures { IsTrue result ↔ IsHouseKind (kind_number self) }
+    {
+        match self {
+            SiteKind::Vendor | SiteKind::Broker => true,
+            SiteKind::Wallet => false,
         }
     }
 }

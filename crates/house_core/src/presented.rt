@@ -4,6 +4,7 @@ ghost use Rattle.std.specs.Prelude.{◌≡◌, IfErr};
 ghost use Rattle.mc_records.specs.Requests.{asked_of};
 ghost use Rattle.ledger_model.specs.Lines.{as_line};
 ghost use Rattle.ledger_model.specs.Stages.{read_by};
+ghost use Rattle.ledger_model.specs.Answer.{without_scrip};
 ghost use Rattle.house_core.specs.Replying.{IsOfSite};
 
 use mc_records::{Refusal, Request};
@@ -61,5 +62,16 @@ impl<'a> Presented<'a> {
             Ok(scrip) => Ok(scrip),
             Err(refusal) => Err(*refusal),
         }
+    }
+}
+
+/// A request without its scrip text, as which a draw is kept and told apart: that of a draw does not count.
+pub(crate) fn without_scrip<'a>(q: &Request<'a>) -> Request<'a>
+    ensures { asked_of result ≡ without_scrip (asked_of q.now) }
+{
+    Request {
+        target: q.target,
+        scrip: None,
+        sign: q.sign,
     }
 }

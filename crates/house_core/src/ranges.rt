@@ -1,13 +1,13 @@
-//! The parts of an Accept entry are in their ranges. Each function reads a part, and does no more.
+//! The parts of an Accept entry and of a Draw entry are in their ranges. Each function reads a part, and does no more.
 
 ghost use Rattle.std.specs.Prelude.{length, IfSome};
 ghost use Rattle.scrip_form.specs.Scrip.{IsScripText};
 ghost use Rattle.scrip_form.specs.Texts.{IsTarget};
 ghost use Rattle.mc_records.specs.Entry.{Fits, IsKey, IsLong, DeedFits};
 ghost use Rattle.house_core.specs.Views.{entry_deed};
-ghost use Rattle.house_core.specs.Verdicts.{accept_entry};
+ghost use Rattle.house_core.specs.Verdicts.{accept_entry, draw_entry};
 
-use crate::verdict::Authorization;
+use crate::verdict::{Authorization, DrawAuthorization};
 use kept_replies::Deed;
 use mc_base::Moment;
 use scrip_form::Id;
@@ -22,6 +22,15 @@ pub(crate) fn authorization_fits(time: Moment, target: &[u8], a: &Authorization<
     keys(&a.sign);
     longs(&a.change);
     deeds(&a.deed);
+}
+
+/// And so has that of a draw.
+pub(crate) fn draw_fits(time: Moment, target: &[u8], d: &DrawAuthorization)
+    ensures { IsTarget target.now → Fits (draw_entry time target.now d.now) }
+{
+    let _seconds = time.seconds();
+    let _first = d.sign[0];
+    let _number = d.id.number();
 }
 
 /// A signature that may be there has 16 bytes.

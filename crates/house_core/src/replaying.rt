@@ -1,7 +1,7 @@
 //! How a house takes the entries of a history as they are read from a journal.
 
-ghost use Rattle.std.specs.Prelude.{◌≡◌, ◌+◌, ◌≤◌, ◌↔◌, [], ◌∷◌, ◌++◌, length, option_map, IsTrue, IfOk, MatchResult};
-ghost use Rattle.mc_records.specs.Entry.{Fits, Accept, moment_of, payload};
+ghost use Rattle.std.specs.Prelude.{◌≡◌, ◌+◌, ◌≤◌, ◌↔◌, [], ◌∷◌, ◌++◌, length, Some, None, option_map, IsTrue, IfOk, MatchResult};
+ghost use Rattle.mc_records.specs.Entry.{Fits, Accept, Draw, moment_of, payload};
 ghost use Rattle.mc_records.specs.Views.{deed_of, entry};
 ghost use Rattle.mc_records.specs.Requests.{asked_of};
 ghost use Rattle.mc_records.specs.Sizes.{size, entry_size};
@@ -9,7 +9,7 @@ ghost use Rattle.ledger_model.specs.Histories.{History, time};
 ghost use Rattle.ledger_model.specs.Lawful.{unbounded};
 ghost use Rattle.hex.specs.Hex.{encode_lower};
 ghost use Rattle.house_core.specs.Representation.{scrip_request};
-ghost use Rattle.house_core.specs.Verdicts.{IsSaid};
+ghost use Rattle.house_core.specs.Verdicts.{IsSaid, SaysDraw};
 ghost use Rattle.house_core.specs.CommandEntries.{IsCommand};
 ghost use Rattle.house_core.specs.HouseState.{size_with};
 ghost use Rattle.house_core.specs.Bench.{Represents, HasContents, Follows, Replays, house_time, limits_of};
@@ -20,7 +20,7 @@ use crate::offer::Unlawful;
 use crate::presented::Presented;
 use crate::stages::fitted;
 use crate::trade::Trade;
-use crate::verdict::Authorization;
+use crate::verdict::Authorized;
 use mc_base::NoMemory;
 use mc_records::{Limits, Record, RecordDeed, Request};
 use scrip_certs::hex_of;
@@ -84,7 +84,12 @@ impl<T: Trade> Bench<T> {
         self.raise(moment);
         match r {
             Record::Site { .. } => Err(ReplayEnd::Unlawful),
-            Record::Draw { .. } => Err(ReplayEnd::Unlawful),
+            Record::Draw {
+                target,
+                sign,
+                drawn,
+                ..
+            } => self.replay_draw(target, sign, *drawn),
             Record::Accept {
                 scrip,
                 target,
@@ -156,6 +161,32 @@ impl<T: Trade> Bench<T> {
             Err(NoMemory) => Err(ReplayEnd::NoMemory),
         }
     }
+
+    /// Learns the next entry of a history, which is a draw at the house time, likewise.
+    fn replay_draw(&mut self, target: &[u8], sign: &[u8; 16], drawn: Id) -> Result<(), ReplayEnd>
+        ensures limits { limits_of self.new ≡ limits_of self.old }
+        ensures exact { (h : History) → Represents T.trade self.old h
+            → Replays T.trade self.new (limits_of self.old) h (Draw (house_time self.old) target.now sign.now drawn) result }
+        ensures contents { (h : History) → Represents T.trade self.old h
+            → HasContents T.trade self.old h
+            → IfOk result
+            (λ u. HasContents T.trade self.new (h ++ Draw (house_time self.old) target.now sign.now drawn ∷ [])) }
+    {
+        let digits = hex_of(sign);
+        let q = Presented::of(draw_request(target, &digits));
+        let limits = unbounded_of(self.state.limits());
+        let authorization = match evaluate(&self.state, limits, &self.trade, &q) {
+            Ok(authorization) => authorization,
+            Err(_) => return Err(ReplayEnd::Unlawful),
+        };
+        if !is_drawn(&authorization, sign, drawn) {
+            return Err(ReplayEnd::Unlawful);
+        }
+        match self.commit(&q, &authorization) {
+            Ok(_) => Ok(()),
+            Err(NoMemory) => Err(ReplayEnd::NoMemory),
+        }
+    }
 }
 
 /// The limits with the greatest journal, on which what is lawful depends.
@@ -196,20 +227,49 @@ fn request_for<'a>(scrip: &'a [u8], target: &'a [u8], digits: &'a Option<[u8; 32
     }
 }
 
-/// Whether an entry says what an authorization says: the signature, the price, the change and the deed.
+/// The request for a draw, with a signature of these digits.
+fn draw_request<'a>(target: &'a [u8], digits: &'a [u8; 32]) -> Request<'a>
+    ensures { asked_of result ≡ record { target = target.now; scrip = None; sign = Some digits.now } }
+{
+    Request {
+        target,
+        scrip: None,
+        sign: Some(digits),
+    }
+}
+
+/// Whether an Accept entry says what was authorized: the signature, the price, the change and the deed.
 fn is_said(
-    a: &Authorization<'_, '_>,
+    authorized: &Authorized<'_, '_>,
     sign: &Option<[u8; 16]>,
     price: u64,
     change: &Option<Id>,
     deed: &RecordDeed,
 ) -> bool
-    ensures { IsTrue result ↔ IsSaid a.now sign.now price change.now (deed_of deed.now) }
+    ensures { IsTrue result
+        ↔ IsSaid authorized.now sign.now price change.now (deed_of deed.now) }
 {
-    is_same_sign(&a.sign, sign)
-        && a.price == price
-        && is_same_change(&a.change, change)
-        && is_same_deed(&record_deed(&a.deed), deed)
+    match authorized {
+        Authorized::Scrip(a) => {
+            is_same_sign(&a.sign, sign)
+                && a.price == price
+                && is_same_change(&a.change, change)
+                && is_same_deed(&record_deed(&a.deed), deed)
+        }
+        Authorized::Draw(_) => false,
+    }
+}
+
+/// Whether a Draw entry says what was authorized: the signature and the identity of the piece.
+fn is_drawn(authorized: &Authorized<'_, '_>, sign: &[u8; 16], drawn: Id) -> bool
+    ensures { IsTrue result ↔ SaysDraw authorized.now sign.now drawn }
+{
+    match authorized {
+        Authorized::Scrip(_) => false,
+        Authorized::Draw(d) => {
+            d.sign.as_slice() == sign.as_slice() && d.id.number() == drawn.number()
+        }
+    }
 }
 
 fn is_same_sign(a: &Option<[u8; 16]>, b: &Option<[u8; 16]>) -> bool

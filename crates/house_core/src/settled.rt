@@ -7,13 +7,13 @@ use spent_windows::Fresh;
 
 /// What says that a request was accepted, and that its entry is on the disk behind an open gate. It is
 /// not let go by itself: it has to be spent, by sending its reply, or by [`drop_settled`] where no reply
-/// can be sent. Only `House::respond` makes one, which `House::accept` calls, from a [`Receipt`] and from
-/// the proof that the windows were asked for the identity of the accepted piece.
+/// can be sent. Only `House::respond` makes one, which `House::accept` calls, from a [`Receipt`] and, where
+/// a piece was accepted, from the proof that the windows were asked for its identity.
 pub struct Settled {
     pub(crate) receipt: Receipt,
     /// The number under which the house keeps the entry's reply.
     pub(crate) number: u64,
-    pub(crate) fresh: Fresh,
+    pub(crate) fresh: Option<Fresh>,
 }
 
 impl Settled {

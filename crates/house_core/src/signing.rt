@@ -1,6 +1,6 @@
-//! Replies that are signed under the secret of a customer.
+//! Replies that are signed under a secret: that of a customer, or the key of an account.
 
-ghost use Rattle.std.specs.Prelude.{◌≡◌, ◌≤◌, [], length, option_map, option_and_then, unwrap_or, Some, IfSome};
+ghost use Rattle.std.specs.Prelude.{◌≡◌, ◌≤◌, [], codes, length, option_map, option_and_then, unwrap_or, Some, IfSome};
 ghost use Rattle.scrip_form.specs.Scrip.{scrip_text};
 ghost use Rattle.scrip_certs.specs.Digests.{reply_signature};
 ghost use Rattle.mc_records.specs.Requests.{seen};
@@ -34,7 +34,7 @@ pub(crate) fn taken_reply<'a>(
     page: &'a mut Page,
 ) -> Reply<'a>
     requires { AreContents body.now }
-    ensures { result ≡ ledger.taken_reply (Some entry.now.secret) (unwrap_or (seen q.now.scrip) []) q.now.target.now (contents_of body.now)
+    ensures { result ≡ ledger.taken_reply (Some entry.now.secret) (unwrap_or (seen q.now.scrip) (codes "-")) q.now.target.now (contents_of body.now)
         (ledger.taken_values entry.now.moment (contents_of body.now) entry.now.price (option_map (λ c. scrip_text c.0 c.1) entry.now.change)) }
 {
     match entry.change {
@@ -57,7 +57,7 @@ fn give<'a>(
 ) -> Reply<'a>
     requires contents { AreContents body.now }
     requires change { IfSome change (λ text. length text.now ≤ 293) }
-    ensures { result ≡ ledger.taken_reply (Some entry.now.secret) (unwrap_or (seen q.now.scrip) []) q.now.target.now (contents_of body.now)
+    ensures { result ≡ ledger.taken_reply (Some entry.now.secret) (unwrap_or (seen q.now.scrip) (codes "-")) q.now.target.now (contents_of body.now)
         (ledger.taken_values entry.now.moment (contents_of body.now) entry.now.price (seen change.entry)) }
 {
     let mut head = ReplyHead {
@@ -84,14 +84,15 @@ pub(crate) fn signed_refusal<'a>(
     page: &'a mut Page,
 ) -> Reply<'a>
     requires { IsOfSite refusal.now }
-    ensures { result ≡ reply_head (ledger.signed (Some secret.now) (unwrap_or (seen q.now.scrip) []) q.now.target.now [] (ledger.refused_values time refusal.now price)) }
+    ensures { result ≡ reply_head (ledger.signed (Some secret.now) (unwrap_or (seen q.now.scrip) (codes "-")) q.now.target.now [] (ledger.refused_values time refusal.now price)) }
 {
     let mut head = refusal_head(time, refusal, price);
     head.sign = Some(sign(q, &head, b"", secret, &mut page.text));
     Reply::of(&head, b"", &mut page.head, &mut page.bytes)
 }
 
-/// The signature of a reply to a request. `text` is for the text that is signed.
+/// The signature of a reply to a request, with `-` for a scrip text that is not there. `text` is for the text
+/// that is signed.
 fn sign(
     q: &Request<'_>,
     head: &ReplyHead<'_>,
@@ -100,11 +101,11 @@ fn sign(
     text: &mut [u8; 1024],
 ) -> [u8; 16]
     requires { IsReplyHead head.now }
-    ensures { result ≡ reply_signature (unwrap_or (seen q.now.scrip) []) q.now.target.now (reply_text (reply_of head.now)) contents.now secret.now }
+    ensures { result ≡ reply_signature (unwrap_or (seen q.now.scrip) (codes "-")) q.now.target.now (reply_text (reply_of head.now)) contents.now secret.now }
 {
     let len = write_reply_text(head, text);
     sign_reply(
-        q.scrip.unwrap_or(b""),
+        q.scrip.unwrap_or(b"-"),
         q.target,
         &text[..len],
         contents,

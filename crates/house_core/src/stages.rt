@@ -1,4 +1,4 @@
-//! The stages of the answer to a scrip request, each over what it asks.
+//! The stages of the answer to a request, each over what it asks.
 
 ghost use Rattle.std.specs.Prelude.{◌≡◌, ◌+◌, ◌<◌, ◌≤◌, ◌==◌, ℕ, nat_lt, find, length, option_map, IfOk, IfErr, IfSome, MatchOption, OnOk, OnErr};
 ghost use Rattle.scrip_form.specs.Issuing.{series_at};
@@ -7,14 +7,15 @@ ghost use Rattle.mc_records.specs.Entry as entries;
 ghost use Rattle.mc_records.specs.Requests.{seen};
 ghost use Rattle.change_issue.specs.Registers.{count_in, next_in};
 ghost use Rattle.ledger_model.specs.Houses.{terms_by};
-ghost use Rattle.ledger_model.specs.Stages.{genuine_by, spendable_by, next_by, needed, fitted_by};
+ghost use Rattle.ledger_model.specs.Stages.{genuine_by, spendable_by, next_by, needed, drawable_by, payable_by, fitted_by};
 ghost use Rattle.ledger_model.specs.Lines.{as_line};
 ghost use Rattle.house_core.specs.HouseState.{version_of, tail_of, size_with};
 ghost use Rattle.house_core.specs.Replying.{IsOfSite};
-ghost use Rattle.house_core.specs.Verdicts.{WasAsked};
+ghost use Rattle.house_core.specs.Verdicts.{WasAsked, order_in, known_by};
 ghost use Rattle.spent_windows.specs.Windows.{is_marked};
 
 use crate::house_state::HouseState;
+use crate::offer::DrawAsk;
 use crate::verdict::Spendable;
 use change_issue::Issuer;
 use mc_base::Moment;
@@ -102,6 +103,20 @@ pub(crate) fn spendable(
     }
 }
 
+/// The identity of the next piece of the series of a moment; refused where that is full.
+pub(crate) fn next_own(own: &Issuer, time: Moment) -> Result<Id, Refusal>
+    ensures lines { as_line
+        (λ id. id) result ≡ next_by own.now.most (series_at own.now.terms time) (count_in own.now (series_at own.now.terms time)) }
+    ensures site { IfErr result IsOfSite }
+    ensures next { IfOk result (λ id. (count_in own.now (series_at own.now.terms time) < own.now.most)
+        × (id ≡ next_in own.now (series_at own.now.terms time))) }
+{
+    match own.next(time) {
+        Ok(id) => Ok(id),
+        Err(full) => Err(Refusal::SeriesFull(u64::from(full.series))),
+    }
+}
+
 /// The identity of the change of a value, where it is above the price; refused where the series of the
 /// moment is full.
 pub(crate) fn change(
@@ -120,10 +135,42 @@ pub(crate) fn change(
     if value <= price {
         return Ok(None);
     }
-    match own.next(time) {
+    match next_own(own, time) {
         Ok(id) => Ok(Some(id)),
-        Err(full) => Err(Refusal::SeriesFull(u64::from(full.series))),
+        Err(refusal) => Err(refusal),
     }
+}
+
+/// The signature of a draw under the key of its account; refused where the request has none, or another.
+pub(crate) fn drawable(key: &[u8; 16], q: &Request<'_>) -> Result<[u8; 16], Refusal>
+    ensures lines { as_line (λ s. s) result ≡ drawable_by key.now q.now.target.now (seen q.now.sign) }
+    ensures sign { IfOk result IsKey }
+    ensures site { IfErr result IsOfSite }
+{
+    let Some(sign) = q.sign else {
+        return Err(Refusal::NeedSignature);
+    };
+    let right = sign_request(b"-", q.target, key);
+    if sign == hex_of(&right).as_slice() {
+        Ok(right)
+    } else {
+        Err(Refusal::BadSignature)
+    }
+}
+
+/// Refused where the order of a draw is not above the last one of the account, or the account has less than
+/// the amount.
+pub(crate) fn payable(ask: &DrawAsk) -> Result<(), Refusal>
+    ensures lines { as_line (λ u. u) result ≡ payable_by (order_in ask.now) (known_by ask.now) }
+    ensures site { IfErr result IsOfSite }
+{
+    if ask.order <= ask.last {
+        return Err(Refusal::StaleOrder(ask.last));
+    }
+    if ask.balance < ask.amount.get() {
+        return Err(Refusal::PoorAccount(ask.balance));
+    }
+    Ok(())
 }
 
 /// Refused where the journal would pass a limit with one entry more, with a payload of so many bytes.

@@ -1,4 +1,4 @@
-ghost use Rattle.std.specs.Prelude.{◌≡◌, ℕ, ◌↔◌, [], ◌∷◌, ◌++◌, Some, IfOk, IfErr, IsOk, OnOk, OnErr};
+ghost use Rattle.std.specs.Prelude.{◌≡◌, ℕ, ◌↔◌, [], ◌∷◌, ◌++◌, Some, ◌<◌, IfSome, IfOk, IfErr, IsOk, OnOk, OnErr};
 ghost use Rattle.mc_records.specs.declared.limits.Limits.{Limits as Bounds};
 ghost use Rattle.mc_records.specs.Entry.{Entry};
 ghost use Rattle.mc_records.specs.Views.{entry};
@@ -9,7 +9,7 @@ ghost use Rattle.ledger_model.specs.Replies.{brought, price_asked};
 ghost use Rattle.ledger_model.specs.Lines.{as_line};
 ghost use Rattle.house_core.specs.Views.{kind_number, entry_deed, offer_of, contents_of};
 ghost use Rattle.house_core.specs.Trade.{TradeView, draw_asked, brought_by, OfGoods, IsInForce, IsKeptFrom};
-ghost use Rattle.house_core.specs.Learning.{ByTrade, GoodsFit, MayLearn, IsGoods};
+ghost use Rattle.house_core.specs.Learning.{ByTrade, CommandFits, MayLearn, IsGoods};
 ghost use Rattle.house_core.specs.Replying.{AreContents, IsOfSite};
 
 use crate::offer::{Body, DrawAsk, Offer, SiteKind, Unlawful};
@@ -61,11 +61,13 @@ pub trait Trade: Drop {
 
     /// The draw that a target asks for, with what is known of its account; None where it asks for none.
     fn draw(&self, target: &[u8]) -> Option<DrawAsk>
-        ensures { (h : History) → (trade self.now).represents h
+        ensures some { IfSome result (λ ask. 0 < ask.amount) }
+        ensures asked { (h : History) → (trade self.now).represents h
             → site_kind h ≡ Some (trade self.now).site → result ≡ draw_asked h target.now };
 
     /// Makes room to learn an entry. The trade represents what it represented, also after an `Err`.
     fn reserve(&mut self, r: &Record<'_>) -> Result<(), NoMemory>
+        requires fits { CommandFits (entry r.now) }
         ensures site { (trade self.new).site ≡ (trade self.old).site }
         ensures same { (h : History) → (trade self.old).represents h
             → (trade self.new).represents h }
@@ -76,7 +78,7 @@ pub trait Trade: Drop {
     /// exactly where the trade's half does not hold, and leaves the trade representing what it represented.
     fn learn(&mut self, number: u64, r: &Record<'_>) -> Result<(), Unlawful>
         requires room { (trade self.old).has_room (entry r.now) }
-        requires fits { GoodsFit (entry r.now) }
+        requires fits { CommandFits (entry r.now) }
         ensures site { (trade self.new).site ≡ (trade self.old).site }
         ensures held { (n : ℕ) → (trade self.old).holds n → (trade self.new).holds n }
         ensures learned { OnOk result ((limits : Bounds) (h : History)

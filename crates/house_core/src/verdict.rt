@@ -1,7 +1,9 @@
 ghost use Rattle.std.specs.Prelude.{◌≡◌};
 ghost use Rattle.house_core.specs.HouseState.{change_worth, pieces_size};
+ghost use Rattle.house_core.specs.Verdicts.{change_of, fresh_of, payload_of, price_of};
 
 use kept_replies::Deed;
+use mc_base::Amount;
 use mc_records::Refusal;
 use scrip_form::{Id, Name, ScripRef};
 use spent_windows::Fresh;
@@ -64,6 +66,69 @@ pub(crate) struct Authorization<'q, 'a> {
     pub(crate) deed: Deed,
     pub(crate) payload: u64,
     pub(crate) fresh: Fresh,
+}
+
+/// What an entry for a draw says beside the moment and the target, with the key of the account, the amount,
+/// and the length of the payload. Its piece is made when it is entered.
+#[derive(Drop)]
+pub(crate) struct DrawAuthorization {
+    pub(crate) key: [u8; 16],
+    pub(crate) sign: [u8; 16],
+    pub(crate) amount: Amount,
+    pub(crate) id: Id,
+    pub(crate) payload: u64,
+}
+
+/// What the entry of a request says, by the column of the answer that the request belongs to.
+#[derive(Drop)]
+pub(crate) enum Authorized<'q, 'a> {
+    Scrip(Authorization<'q, 'a>),
+    Draw(DrawAuthorization),
+}
+
+impl<'q, 'a> Authorized<'q, 'a> {
+    /// The length of the payload of the entry.
+    pub(crate) fn payload(&self) -> u64
+        ensures { result ≡ payload_of self.now }
+    {
+        match self {
+            Authorized::Scrip(a) => a.payload,
+            Authorized::Draw(d) => d.payload,
+        }
+    }
+
+    /// What the entry takes for what it brings. A draw takes nothing.
+    pub(crate) fn price(&self) -> u64
+        ensures { result ≡ price_of self.now }
+    {
+        match self {
+            Authorized::Scrip(a) => a.price,
+            Authorized::Draw(_) => 0,
+        }
+    }
+
+    /// The worth of the change that the entry gives.
+    pub(crate) fn change_worth(&self) -> u64
+        ensures { result ≡ change_of self.now }
+    {
+        match self {
+            Authorized::Scrip(a) => a.change_worth(),
+            Authorized::Draw(_) => 0,
+        }
+    }
+
+    /// The proof that the windows were asked for the piece, where one is accepted.
+    pub(crate) fn into_fresh(self) -> Option<Fresh>
+        ensures { result ≡ fresh_of self.entry }
+    {
+        match self {
+            Authorized::Scrip(a) => {
+                let Authorization { fresh, .. } = a;
+                Some(fresh)
+            }
+            Authorized::Draw(_) => None,
+        }
+    }
 }
 
 impl<'q, 'a> Authorization<'q, 'a> {

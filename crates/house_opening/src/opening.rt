@@ -8,7 +8,7 @@ ghost use Rattle.house_core.specs.Bench.{limits_of};
 ghost use Rattle.house_opening.specs.Opening.{house_disk, OpensHouse};
 
 use book_opening::{LearnFault, Opener, open_book};
-use house_core::{Bench, House, ReplayEnd, SiteKind, Trade};
+use house_core::{Bench, House, ReplayEnd, Trade};
 use mc_base::NoMemory;
 use mc_outside::Disk;
 use mc_records::{Limits, Record};
@@ -36,7 +36,7 @@ impl<T: Trade> Opener for HouseOpener<T> {
 
     fn begin(self, alloc: Global, first: &Record<'_>) -> Result<Bench<T>, LearnFault> {
         let HouseOpener { limits, trade } = self;
-        if trade.kind().number() != SiteKind::Vendor.number() {
+        if !trade.kind().is_house() {
             return Err(LearnFault::Unlawful);
         }
         match Bench::new(alloc, first, limits, trade) {

@@ -5,8 +5,9 @@ use Rattle.ledger_model.specs.Lawful.{MayFollow}
 use Rattle.house_core.specs.declared.bench.Bench.{Bench}
 use Rattle.house_core.specs.Learning.{MayLearn}
 use Rattle.house_core.proofs.Contents.{contents_applied, contents_as_before}
-use Rattle.house_core.proofs.Entered.{kind_stays}
-use Rattle.house_core.proofs.Applied.{goods_fit, house_half, follows, halves, stands_applied}
+use Rattle.house_core.proofs.Entered.{kind_stays, stands_more}
+use Rattle.house_core.proofs.Applied.{command_fits, house_half, says_command}
+use Rattle.house_core.proofs.PartLaws.{halves}
 use Rattle.house_core.proofs.bench.Bench.apply_entry.Goals as goal
 
 pub returns-in-Err-clause-exact : goal.returns-in-Err-clause-exact
@@ -18,7 +19,7 @@ returns-in-Err-clause-exact g c h st in_order =
     let counted = c.count-number.ensures ∙ sym st.state.counted in
     let may : MayLearn b.limits kind c.count-number.result h e = record { counted = counted; in_order = in_order; by_house = half.0 c.requires.goes_on } in (
       λ follows'.
-          let ok = (c.in-Err.ensures.exact b.limits h st.learned may).1 (halves g.T.Trade.passes b.limits kind h e st.state.lawful st.of_kind c.requires.command follows'.allowed).1 in
+          let ok = (c.in-Err.ensures.exact b.limits h st.learned may).1 ((halves g.T.Trade.passes b.limits kind h e st.of_kind).0 follows'.allowed).1 in
           absurd (cc),
       record { state = st.state; learned = c.in-Err.ensures.same h st.learned; of_kind = rw c.in-Err.ensures.site st.of_kind },
     )
@@ -32,11 +33,11 @@ returns-clause-exact g c h st in_order =
     let counted = c.count-number.ensures ∙ sym st.state.counted in
     let may : MayLearn b.limits kind c.count-number.result h e = record { counted = counted; in_order = in_order; by_house = half.0 c.requires.goes_on } in
     let trades = (c.in-Ok.ensures.exact b.limits h st.learned may).0 refl in
-    let follow : MayFollow b.limits h e = record { in_order = in_order; allowed = follows g.T.Trade.passes b.limits kind h e st.of_kind c.requires.command (half.0 c.requires.goes_on) trades } in (
+    let follow : MayFollow b.limits h e = record { in_order = in_order; allowed = (halves g.T.Trade.passes b.limits kind h e st.of_kind).1 (half.0 c.requires.goes_on, trades) } in (
       follow,
       counted,
       record {
-        state = stands_applied st.state e c.args.bytes c.requires.command c.requires.time c.requires.goes_on follow c.requires.len c.apply_entry.ensures;
+        state = stands_more st.state e _ (says_command st.state e c.args.bytes c.requires.command c.requires.time c.requires.goes_on c.requires.len) follow c.apply_entry.ensures;
         learned = c.in-Ok.ensures.learned b.limits h st.learned may;
         of_kind = kind_stays b.limits h e st.state.lawful ∙ rw c.in-Ok.ensures.site st.of_kind;
       },
@@ -54,4 +55,4 @@ returns-in-Err-clause-contents g c h st has =
     contents_as_before g.T.Trade.trade c.args.self.now after h has refl c.in-Err.ensures.held
 
 pub learn-requires-clause-fits : goal.learn-requires-clause-fits
-learn-requires-clause-fits g c = goods_fit (entry c.args.r.now) c.requires.fits
+learn-requires-clause-fits g c = command_fits (entry c.args.r.now) c.requires.fits

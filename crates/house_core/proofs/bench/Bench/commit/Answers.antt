@@ -2,8 +2,9 @@ use Rattle.std.proofs.Common.{◌≡◌, ◌∙◌, sym, ap}
 use Rattle.mc_records.specs.declared.limits.Limits.{Limits}
 use Rattle.mc_records.specs.Requests.{Asked}
 use Rattle.house_core.specs.Bench.{house_time, limits_of}
-use Rattle.house_core.specs.Verdicts.{accept_entry}
+use Rattle.house_core.specs.Verdicts.{authorized_entry}
 use Rattle.house_core.proofs.Accepting.{holds_roomed}
+use Rattle.house_core.proofs.Committing.{may_as_before, new_as_before}
 use Rattle.house_core.proofs.Contents.{contents_roomed}
 use Rattle.house_core.proofs.bench.Bench.commit.Goals as goal
 
@@ -15,19 +16,20 @@ returns-clause-exact g c limits h st series most takes =
     let same = c.in-Ok.ensures.same in
     let time : house_time c.make_room.new.self ≡ house_time c.args.self.now = same.state.time in
     let still : limits.series ≡ (limits_of c.make_room.new.self).series = series ∙ ap (λ (l : Limits). l.series) (sym same.state.limits) in
-    (rw time at (c.apply_accept.ensures.exact limits h (holds_roomed g.T.Trade.trade _ _ h same st) (c.requires.brings h st.learned st.of_kind) still most)) takes
+    (rw time at (c.apply.ensures.exact limits h (holds_roomed g.T.Trade.trade _ _ h same st) (c.requires.brings h st.learned st.of_kind) still most)) takes
 
 pub returns-clause-contents : goal.returns-clause-contents
 returns-clause-contents g c h st has in_force =
     let same = c.in-Ok.ensures.same in
     let time : house_time c.make_room.new.self ≡ house_time c.args.self.now = same.state.time in
-    rw time at (c.apply_accept.ensures.contents h (holds_roomed g.T.Trade.trade _ _ h same st) (contents_roomed g.T.Trade.trade _ _ h same has) in_force)
+    rw time at (c.apply.ensures.contents h (holds_roomed g.T.Trade.trade _ _ h same st) (contents_roomed g.T.Trade.trade _ _ h same has) in_force)
 
-pub apply_accept-requires-clause-is : goal.apply_accept-requires-clause-is
-apply_accept-requires-clause-is g c =
-    rw c.in-Ok.ensures.same.state.time (rw (c.entry_of-record.ensures.same, c.time.ensures) (ap (λ (q : Asked). accept_entry (house_time c.args.self.now) q.target c.args.authorization.now) c.request.ensures))
+pub apply-requires-clause-is : goal.apply-requires-clause-is
+apply-requires-clause-is g c =
+    rw c.in-Ok.ensures.same.state.time (rw (c.entry_of-record.ensures.same, c.time.ensures) (ap (λ (q : Asked). authorized_entry (house_time c.args.self.now) q.target c.args.authorization.now) c.request.ensures))
 
-pub apply_accept-requires-clause-new : goal.apply_accept-requires-clause-new
-apply_accept-requires-clause-new g c =
-    let same = c.in-Ok.ensures.same.state in
-    rw (same.time, same.keep, same.replies) c.requires.new
+pub apply-requires-clause-new : goal.apply-requires-clause-new
+apply-requires-clause-new g c = new_as_before c.in-Ok.ensures.same.state c.args.q.now c.args.authorization.now c.requires.new
+
+pub apply-requires-clause-ready : goal.apply-requires-clause-ready
+apply-requires-clause-ready g c = may_as_before c.in-Ok.ensures.same.state c.args.q.now.target c.args.authorization.now c.requires.ready

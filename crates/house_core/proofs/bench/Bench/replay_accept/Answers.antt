@@ -1,4 +1,4 @@
-use Rattle.std.proofs.Common.{◌≡◌, ◌≤◌, ◌^◌, [], ◌∷◌, ◌++◌, Some, refl, sym, ap, ap₂, subst, ◌∙◌, arith}
+use Rattle.std.proofs.Common.{◌≡◌, ◌≤◌, ◌^◌, [], ◌∷◌, ◌++◌, refl, sym, ap, ap₂, subst, ◌∙◌, arith}
 use Rattle.mc_records.specs.declared.limits.Limits.{Limits}
 use Rattle.mc_records.specs.Entry.{Entry, Accept}
 use Rattle.mc_records.specs.Requests.{Asked}
@@ -6,9 +6,8 @@ use Rattle.mc_records.specs.Views.{deed_of}
 use Rattle.ledger_model.specs.Answer as answers
 use Rattle.ledger_model.specs.Answer.{answer}
 use Rattle.ledger_model.specs.Lawful.{unbounded, request_of}
-use Rattle.ledger_model.proofs.TableLaws.{read_ok}
 use Rattle.house_core.specs.Representation.{scrip_request}
-use Rattle.house_core.specs.Verdicts.{accept_entry, stop_of}
+use Rattle.house_core.specs.Verdicts.{authorized_entry, stop_of}
 use Rattle.house_core.specs.Bench.{Represents, HasContents, house_time, limits_of}
 use Rattle.house_core.proofs.Replayed.{stops, said_entry, is_said}
 use Rattle.house_core.proofs.bench.Bench.replay_accept.Goals as goal
@@ -45,11 +44,9 @@ returns-in-Ok-commit-clause-exact g c h st =
     let asked : c.of-q.result ≡ request_of c.args.scrip.now c.args.target.now c.args.sign.now = c.of-q.ensures ∙ c.request_for.ensures ∙ ap (scrip_request c.args.scrip.now c.args.target.now) c.digits_of-digits.ensures in
     let is = c.in-Ok.ensures.exact h st.state st.learned st.of_kind
     ∙ ap (λ (l : Limits). answer h t l c.of-q.result) (c.unbounded_of-limits.ensures ∙ ap unbounded c.limits.ensures.limits) in
-    let read : c.of-q.result.scrip ≡ Some a.scrip.now.text = (read_ok c.of-q.result.scrip a.scrip.now (sym c.in-Ok.ensures.read)).0 in
-    let text : a.scrip.now.text ≡ c.args.scrip.now = cc (read, ap (λ (q : Asked). q.scrip) asked) in
-    let same : accept_entry t c.of-q.result.target a ≡ e =
-    said_entry t c.args.scrip.now c.of-q.result.target c.args.target.now a c.args.sign.now c.args.price c.args.change (deed_of c.args.deed.now)
-    text (ap (λ (q : Asked). q.target) asked) (c.is_said.ensures.0 c.if-not-is_said.false) in
+    let same : authorized_entry t c.of-q.result.target a ≡ e =
+    said_entry c.args.self.now.state c.of-q.result t c.args.scrip.now c.args.target.now a c.args.sign.now c.args.price c.args.change (deed_of c.args.deed.now)
+    c.in-Ok.ensures.new (ap (λ (q : Asked). q.scrip) asked) (ap (λ (q : Asked). q.target) asked) (c.is_said.ensures.0 c.if-not-is_said.false) in
     let most : 2 ^ 40 ≤ 2 ^ 40 = omega arith in
     let taken = c.in-Ok-commit.ensures.exact bounds h st refl most (sym is) in (
       record { in_order = st.state.in_time; allowed = sym (is ∙ ap (answer h t bounds) asked) ∙ ap (λ (x : Entry). answers.Take x) same },
@@ -63,9 +60,7 @@ returns-in-Ok-commit-clause-contents g c h st has =
     let a = c.in-Ok.authorization in
     let e = Accept t c.args.scrip.now c.args.target.now c.args.sign.now c.args.price c.args.change (deed_of c.args.deed.now) in
     let asked : c.of-q.result ≡ request_of c.args.scrip.now c.args.target.now c.args.sign.now = c.of-q.ensures ∙ c.request_for.ensures ∙ ap (scrip_request c.args.scrip.now c.args.target.now) c.digits_of-digits.ensures in
-    let read : c.of-q.result.scrip ≡ Some a.scrip.now.text = (read_ok c.of-q.result.scrip a.scrip.now (sym c.in-Ok.ensures.read)).0 in
-    let text : a.scrip.now.text ≡ c.args.scrip.now = cc (read, ap (λ (q : Asked). q.scrip) asked) in
-    let same : accept_entry t c.of-q.result.target a ≡ e =
-    said_entry t c.args.scrip.now c.of-q.result.target c.args.target.now a c.args.sign.now c.args.price c.args.change (deed_of c.args.deed.now)
-    text (ap (λ (q : Asked). q.target) asked) (c.is_said.ensures.0 c.if-not-is_said.false) in
+    let same : authorized_entry t c.of-q.result.target a ≡ e =
+    said_entry c.args.self.now.state c.of-q.result t c.args.scrip.now c.args.target.now a c.args.sign.now c.args.price c.args.change (deed_of c.args.deed.now)
+    c.in-Ok.ensures.new (ap (λ (q : Asked). q.scrip) asked) (ap (λ (q : Asked). q.target) asked) (c.is_said.ensures.0 c.if-not-is_said.false) in
     subst (λ (x : Entry). HasContents g.T.Trade.trade c.commit.new.self (h ++ x ∷ [])) same (c.in-Ok-commit.ensures.contents h st has (c.in-Ok.ensures.in_force h st.learned st.of_kind))

@@ -5,7 +5,7 @@ use Rattle.house_core.specs.declared.verdict.BenchFault.TheVariants as faults
 use Rattle.house_core.specs.Bench.{Accepts, KeepsContents, house_time}
 use Rattle.house_core.proofs.Accepting.{stopped_kept, stopped_site, makes_none}
 use Rattle.house_core.proofs.Contents.{keeps_all}
-use Rattle.house_core.proofs.TallyLaws.{change_is}
+use Rattle.house_core.proofs.Committing.{price_paid_is, change_given_is}
 use Rattle.house_core.proofs.bench.Bench.respond.Goals as goal
 
 pub returns-in-Err-clause-exact : goal.returns-in-Err-clause-exact
@@ -54,8 +54,9 @@ returns-in-Ok-commit-clause-counted g c h st is =
     let a = c.in-Ok.authorization in
     let takes = c.in-Ok.ensures.exact h st.state st.learned st.of_kind ∙ ap (λ (l : Limits). answer h (house_time c.args.self.now) l c.args.q.now) c.limits.ensures.limits in
     let sound = c.limits.ensures.sound in
-    rw (← takes) (c.take.ensures.counted _ c.args.self.now.state.count is (omega (arith, sound.counted, sound.sized)) refl
-    (change_is (house_time c.args.self.now) c.args.q.now.target a c.args.q.now c.in-Ok.ensures.read ∙ sym c.change_worth.ensures))
+    rw (← takes) (c.take.ensures.counted _ c.args.self.now.state.count is (omega (arith, sound.counted, sound.sized))
+    (price_paid_is (house_time c.args.self.now) c.args.q.now.target a ∙ sym c.price.ensures)
+    (change_given_is c.args.self.now.state c.args.q.now (house_time c.args.self.now) c.args.q.now.target a c.in-Ok.ensures.new ∙ sym c.change_worth.ensures))
 
 pub returns-clause-within : goal.returns-clause-within
 returns-clause-within g c is = rw c.in-Err-commit.ensures.more (c.refuse.ensures.within c.args.self.now.state.count is)

@@ -1,6 +1,7 @@
 use Rattle.mc_records.specs.Views.{entry}
 use Rattle.house_core.proofs.Accepting.{stands_as_before}
-use Rattle.house_core.proofs.Applied.{house_half, halves}
+use Rattle.house_core.proofs.Applied.{house_half}
+use Rattle.house_core.proofs.PartLaws.{halves}
 use Rattle.house_core.proofs.bench.Bench.room_for.Goals as goal
 
 pub returns-then-not-goes_on-clause-end : goal.returns-then-not-goes_on-clause-end
@@ -8,7 +9,7 @@ returns-then-not-goes_on-clause-end g c h st = (
   λ may.
       let e = entry c.args.r.now in
       let half = house_half st.state (g.T.Trade.trade c.args.self.now.trade).site e c.requires.command in
-      let goes = half.1 (halves g.T.Trade.passes c.args.self.now.state.limits (g.T.Trade.trade c.args.self.now.trade).site h e st.state.lawful st.of_kind c.requires.command may.allowed).0 in
+      let goes = half.1 ((halves g.T.Trade.passes c.args.self.now.state.limits (g.T.Trade.trade c.args.self.now.trade).site h e st.of_kind).0 may.allowed).0 in
       let yes' = c.goes_on.ensures.1 goes in
       absurd (cc),
   st,

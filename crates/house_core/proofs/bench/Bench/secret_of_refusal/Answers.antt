@@ -1,10 +1,11 @@
-use Rattle.std.proofs.Common.{◌≡◌, true, sym, ◌∙◌}
+use Rattle.std.proofs.Common.{◌≡◌, Bool, true, None, cond, sym, ap, ◌∙◌}
 use Rattle.mc_records.specs.Refusals.{is_signed}
-use Rattle.ledger_model.proofs.KindLaws.{no_draws}
-use Rattle.house_core.proofs.Refused.{secret_of_customer}
+use Rattle.ledger_model.specs.Answer.{draw_in}
+use Rattle.ledger_model.specs.Replies.{asker_secret}
 use Rattle.house_core.proofs.bench.Bench.secret_of_refusal.Goals as goal
 
 pub returns-then-is_signed : goal.returns-then-is_signed
 returns-then-is_signed g c h st =
+    let q = c.args.q.now in
     let signed : is_signed c.args.refusal.now ≡ true = sym c.is_signed.ensures ∙ c.if-is_signed.true in
-    c.customer_of.ensures h st.state ∙ secret_of_customer h c.args.q.now c.args.refusal.now (no_draws _ h c.args.q.now.target st.state.lawful) signed
+    c.asker_secret.ensures h st ∙ ap (λ (b : Bool). cond b (asker_secret h (draw_in h q.target) q.scrip) None) (sym signed)

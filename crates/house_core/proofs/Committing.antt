@@ -1,0 +1,130 @@
+-- What was authorized, by the column of the answer that it belongs to.
+use Rattle.std.proofs.Common.{◌≡◌, ◌≤◌, ◌^◌, ℕ, false, List, [], ◌∷◌, ◌++◌, length, refl, sym, subst, arith}
+use Rattle.mc_records.specs.declared.limits.Limits.{Limits}
+use Rattle.mc_records.specs.Entry.{Entry, payload}
+use Rattle.mc_records.specs.Requests.{Asked}
+use Rattle.kept_replies.specs.Kept.{KeptReply}
+use Rattle.ledger_model.specs.Histories.{History}
+use Rattle.ledger_model.specs.Goods.{is_goods_of}
+use Rattle.ledger_model.specs.Sums.{price_paid}
+use Rattle.ledger_model.specs.Lawful.{IsAllowed}
+use Rattle.ledger_model.specs.Answer as answers
+use Rattle.ledger_model.specs.Answer.{answer, without_scrip}
+use Rattle.house_core.specs.declared.verdict.DrawAuthorization.{DrawAuthorization}
+use Rattle.house_core.specs.declared.verdict.Authorized.{Authorized}
+use Rattle.house_core.specs.declared.verdict.Authorized.TheVariants as by
+use Rattle.house_core.specs.Learning.{ByHouse, ByTrade, MayLearn}
+use Rattle.house_core.specs.Trade.{OfGoods, NamesInForce}
+use Rattle.house_core.specs.Tallies.{change_given}
+use Rattle.house_core.specs.HouseState.{HouseStateView, IsAsBefore, IsDrawn, series_now, kept_entry, kept_draw}
+use Rattle.house_core.specs.LiveWindows.{AreUsed}
+use Rattle.house_core.specs.Representation.{StateRepresents}
+use Rattle.house_core.specs.House.{AskedFor}
+use Rattle.house_core.specs.Verdicts.{draw_entry, authorized_entry, payload_of, price_of, change_of, fresh_of, IsDrawReady, IsOrdered, MayCommit, IsOfNew, OfDeed, BringsAs, IsCommitted, AreUsedFor}
+use Rattle.house_core.proofs.Accepting.{as_it_was, ready_as_before, stands_taken}
+use Rattle.house_core.proofs.Contents.{held_by}
+use Rattle.house_core.proofs.Entered.{takes_follow, stands_more}
+use Rattle.house_core.proofs.DrawSays.{says_draw}
+use Rattle.house_core.proofs.HouseDisk.{asked_for}
+use Rattle.house_core.proofs.TallyLaws.{change_is}
+use Rattle.house_core.proofs.WindowCounts.{used_marked}
+
+-- ---- where room was made
+
+pub draw_as_before : {old new : HouseStateView} → IsAsBefore old new → (target : List ℕ) (d : DrawAuthorization) → IsDrawReady old target d → IsDrawReady new target d
+draw_as_before {old = old} {new = new} is target d ready =
+    let series : series_now new ≡ series_now old = rw (is.issuer, is.time) refl in
+    record {
+      some = ready.some;
+      below = rw (series, is.issued (series_now old), is.most) ready.below;
+      next = rw (series, is.issued (series_now old)) ready.next;
+      payload = subst (λ (t : ℕ). d.payload ≡ length (payload (draw_entry t target d))) (sym is.time) ready.payload;
+      fits = omega (arith, ready.fits, is.sized);
+    }
+
+pub may_as_before : {old new : HouseStateView} → IsAsBefore old new → (target : List ℕ) (a : Authorized) → MayCommit old target a → MayCommit new target a
+may_as_before is target (by.Scrip a) ready = ready_as_before is target a ready
+may_as_before is target (by.Draw d) ready = draw_as_before is target d ready
+
+pub new_as_before : {old new : HouseStateView} → IsAsBefore old new → (q : Asked) (a : Authorized) → IsOfNew old q a → IsOfNew new q a
+new_as_before is q (by.Scrip a) new = (new.0, rw (is.time, is.keep, is.replies) new.1)
+new_as_before is q (by.Draw d) new = rw (is.time, is.keep, is.replies) new
+
+pub held_as : (old new : ℕ → Type 0) → ((n : ℕ) → old n → new n) → (a : Authorized) → OfDeed (OfGoods old) a → OfDeed (OfGoods new) a
+held_as old new keeps (by.Scrip a) held = held_by old new keeps a.deed held
+held_as old new keeps (by.Draw d) held = tt
+
+-- ---- the entry
+
+pub price_paid_is : (t : ℕ) (target : List ℕ) (a : Authorized) → price_paid (authorized_entry t target a) ≡ price_of a
+price_paid_is t target (by.Scrip a) = refl
+price_paid_is t target (by.Draw d) = refl
+
+pub change_given_is : (b : HouseStateView) (q : Asked) (t : ℕ) (target : List ℕ) (a : Authorized) → IsOfNew b q a → change_given (authorized_entry t target a) ≡ change_of a
+change_given_is b q t target (by.Scrip a) new = change_is t target a q new.0
+change_given_is b q t target (by.Draw d) new = refl
+
+pub puts_no_goods : (t : ℕ) (at target : List ℕ) (a : Authorized) → is_goods_of target (authorized_entry t at a) ≡ false
+puts_no_goods t at target (by.Scrip a) = refl
+puts_no_goods t at target (by.Draw d) = refl
+
+pub trade_half : (passes : History → Entry → Type 0) (kind : ℕ) (h : History) (t : ℕ) (target : List ℕ) (a : Authorized) → ByTrade passes kind h (authorized_entry t target a)
+trade_half passes kind h t target (by.Scrip a) = tt
+trade_half passes kind h t target (by.Draw d) = tt
+
+house_half : (limits : Limits) (kind : ℕ) (h : History) (t : ℕ) (target : List ℕ) (a : Authorized) → IsAllowed limits h (authorized_entry t target a) → ByHouse limits kind h (authorized_entry t target a)
+house_half limits kind h t target (by.Scrip a) allowed = allowed
+house_half limits kind h t target (by.Draw d) allowed = allowed
+
+-- the entry that is answered may be learned
+pub may_learn : {b : HouseStateView} {h : History} → StateRepresents b h → (kind : ℕ) (limits : Limits) (q : Asked) (a : Authorized) → limits.series ≡ b.limits.series → limits.journal ≤ 2 ^ 40
+    → answer h b.time limits q ≡ answers.Take (authorized_entry b.time q.target a) → MayLearn b.limits kind b.count h (authorized_entry b.time q.target a)
+may_learn {b = b} {h = h} st kind limits q a series most takes =
+    let may = takes_follow st limits q (authorized_entry b.time q.target a) series most takes in
+    record { counted = sym st.counted; in_order = may.in_order; by_house = house_half b.limits kind h b.time q.target a may.allowed }
+
+-- ---- the state
+
+-- what is kept for its reply
+abbrev pub kept_of : HouseStateView → Asked → Authorized → KeptReply
+kept_of b q (by.Scrip a) = record { asked = q; entry = kept_entry b a.scrip.now.piece a }
+kept_of b q (by.Draw d) = record { asked = without_scrip q; entry = kept_draw b d }
+
+pub replies_committed : (old new : HouseStateView) (q : Asked) (a : Authorized) → IsCommitted old new q a → new.kept.replies ≡ old.kept.replies ++ kept_of old q a ∷ []
+replies_committed old new q (by.Scrip a) is = is.kept.replies
+replies_committed old new q (by.Draw d) is = is.kept.replies
+
+pub kept_held : (b : HouseStateView) (q : Asked) (P : ℕ → Type 0) (a : Authorized) → OfDeed (OfGoods P) a → OfGoods P (kept_of b q a).entry.deed
+kept_held b q P (by.Scrip a) held = held
+kept_held b q P (by.Draw d) held = tt
+
+pub kept_in_force : (b : HouseStateView) (q : Asked) (h : History) (a : Authorized) → OfDeed (NamesInForce h) a → NamesInForce h (kept_of b q a).entry.deed
+kept_in_force b q h (by.Scrip a) in_force = in_force
+kept_in_force b q h (by.Draw d) in_force = tt
+
+pub used_committed : (old new : HouseStateView) (q : Asked) (a : Authorized) → IsCommitted old new q a → AreUsedFor a old.spent → AreUsed new.spent
+used_committed old new q (by.Scrip a) is used = used_marked a.scrip.now.piece.id old.spent new.spent is.spent.marked is.spent.ends used
+used_committed old new q (by.Draw d) is used = subst AreUsed (sym is.spent) used
+
+pub stands_drawn : {old new : HouseStateView} {h : History} → StateRepresents old h → (q : Asked) (d : DrawAuthorization) → IsDrawReady old q.target d → IsOrdered h q.target d → (limits : Limits) → limits.series ≡ old.limits.series → limits.journal ≤ 2 ^ 40
+    → answer h old.time limits q ≡ answers.Take (draw_entry old.time q.target d) → IsDrawn old new (without_scrip q) d → StateRepresents new (h ++ draw_entry old.time q.target d ∷ [])
+stands_drawn {old = old} {new = new} {h = h} st q d ready ordered limits series most takes is =
+    let e = draw_entry old.time q.target d in
+    stands_more st e _ (says_draw st q d ready ordered limits takes is.short) (takes_follow st limits q e series most takes) is
+
+pub stands_committed : {old new : HouseStateView} {h : History} → StateRepresents old h → (q : Asked) (a : Authorized) → IsOfNew old q a → MayCommit old q.target a → BringsAs h q.target a → (limits : Limits) → limits.series ≡ old.limits.series → limits.journal ≤ 2 ^ 40
+    → answer h old.time limits q ≡ answers.Take (authorized_entry old.time q.target a) → IsCommitted old new q a → StateRepresents new (h ++ authorized_entry old.time q.target a ∷ [])
+stands_committed {old = old} st q (by.Scrip a) new ready brings limits series most takes is = stands_taken st (as_it_was old) q a new.0 ready brings limits series most takes is
+stands_committed st q (by.Draw d) new ready brings limits series most takes is = stands_drawn st q d ready brings limits series most takes is
+
+-- ---- what a house answers
+
+-- the windows were asked for the piece of the entry, where it accepts one
+pub asked_for_it : {b : HouseStateView} {h : History} {t : ℕ} → StateRepresents b h → (q : Asked) (a : Authorized) → IsOfNew b q a → MayCommit b q.target a → t ≡ b.time
+    → AskedFor h t (authorized_entry b.time q.target a) (fresh_of a)
+asked_for_it st q (by.Scrip a) new ready same = asked_for st q a new.0 ready.fresh same
+asked_for_it st q (by.Draw d) new ready same = record { its = refl; seen = tt }
+
+pub payload_is : (b : HouseStateView) (target : List ℕ) (a : Authorized) → MayCommit b target a → payload_of a ≡ length (payload (authorized_entry b.time target a))
+payload_is b target (by.Scrip a) ready = ready.payload
+payload_is b target (by.Draw d) ready = ready.payload
