@@ -1,10 +1,10 @@
 -- What a house serves keeps its history lawful.
-use Rattle.std.proofs.Common.{◌≡◌, inl, inr, ℕ, zero, suc, ◌≤◌, ◌^◌, List, [], ◌∷◌, ◌++◌, refl, sym, ap, subst, arith}
+use Rattle.std.proofs.Common.{◌≡◌, inl, inr, ℕ, zero, suc, ◌≤◌, ◌^◌, List, [], ◌∷◌, ◌++◌, refl, sym, subst, arith}
 use Rattle.mc_outside.specs.LinkView.{LinkView, next_taken}
 use Rattle.mc_records.specs.declared.limits.Limits.{Limits}
 use Rattle.mc_records.specs.Requests.{Asked}
 use Rattle.mc_records.specs.Entry.{Entry}
-use Rattle.ledger_model.specs.Histories.{History, time}
+use Rattle.ledger_model.specs.Histories.{time}
 use Rattle.ledger_model.specs.Answer as answers
 use Rattle.ledger_model.specs.Answer.{Answer, answer}
 use Rattle.ledger_model.specs.Lawful.{IsLawful}

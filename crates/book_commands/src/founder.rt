@@ -1,6 +1,7 @@
-ghost use Rattle.std.specs.Prelude.{◌≡◌, ◌<◌};
+ghost use Rattle.std.specs.Prelude.{◌≡◌};
 ghost use Rattle.mc_records.specs.Entry.{Fits};
 ghost use Rattle.mc_records.specs.Views.{entry};
+ghost use Rattle.ledger_model.specs.Houses.{IsHouseKind};
 ghost use Rattle.house_core.specs.Views.{kind_number};
 ghost use Rattle.book_commands.specs.Founding.{site_of};
 
@@ -9,9 +10,9 @@ use mc_base::Moment;
 use mc_records::{PieceList, Record, SiteTerms};
 use mc_words::Founder;
 
-/// The first entry of the book that is founded, as a site of this kind, which is no wallet.
+/// The first entry of the book that is founded, as a house of this kind.
 pub(crate) fn site<'a>(founder: &'a Founder<'_>, kind: SiteKind, moment: Moment) -> Record<'a>
-    requires house { kind_number kind < 2 }
+    requires house { IsHouseKind (kind_number kind) }
     ensures site { entry result ≡ site_of (kind_number kind) founder.now moment }
     ensures fits { Fits (site_of (kind_number kind) founder.now moment) }
 {

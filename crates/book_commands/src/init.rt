@@ -24,7 +24,7 @@ pub fn found_book<O: Outside, T: Trade>(
     alloc: Global,
     founder: &Founder<'_>,
     trade: T,
-    out: O,
+    mut out: O,
 ) -> (O, Status)
     requires trade { (T.trade trade).represents [] }
     requires first { (moment : ℕ)
@@ -37,7 +37,6 @@ pub fn found_book<O: Outside, T: Trade>(
     // The check lets a record go only where the types of its parts are named.
     let _pieces: Option<PieceList<'_>> = None;
     let kind = trade.kind();
-    let mut out = out;
     let moment = out.now();
     let site = site(founder, kind, moment);
     match found_house(alloc, out, Limits::FULL, trade, &site) {

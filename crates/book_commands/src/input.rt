@@ -24,7 +24,8 @@ pub(crate) fn input_of<K: Link>(
 ) -> Result<Vec<u8>, InputFault>
     requires few { IfSome most (λ n. n < 2 ^ 32) }
     ensures moved { K.link_moved k.old k.new }
-    ensures read { IfOk result (λ bytes. TakesInput most (K.link k.old) bytes.items (K.link k.new)) }
+    ensures read { IfOk result
+        (λ bytes. TakesInput most (K.link k.old) bytes.items (K.link k.new)) }
     ensures fault { IfErr result (λ fault. InputFailed fault most (K.link k.old) (K.link k.new)) }
 {
     match most {
@@ -39,7 +40,8 @@ fn read_input<K: Link>(alloc: Global, k: &mut K, most: usize) -> Result<Vec<u8>,
     requires few { most < 2 ^ 32 }
     ensures moved { K.link_moved k.old k.new }
     ensures read { IfOk result (λ bytes. IsInput most (K.link k.old) bytes.items (K.link k.new)) }
-    ensures fault { IfErr result (λ fault. InputFailed fault (Some most) (K.link k.old) (K.link k.new)) }
+    ensures fault { IfErr result
+        (λ fault. InputFailed fault (Some most) (K.link k.old) (K.link k.new)) }
 {
     let mut bytes = Vec::new(alloc);
     match bytes.resize(most + 1, 0) {

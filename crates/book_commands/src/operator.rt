@@ -29,7 +29,8 @@ pub fn operate_book<O: Outside, T: Trade, C: OperatorCommand<T>>(
     ensures words { number_of result.1 ≡ 2 → ⊥ }
     ensures causes { OperateCauses O.link O.disk (C.operation command.now) out result.1 result.0 }
     ensures operated { (x : Items ℕ) → (O.disk out).contents ≡ Some x
-        → OperatesBook O.link O.disk (T.trade trade).site (C.operation command.now) x out result.1 result.0 }
+        → OperatesBook O.link O.disk (T.trade trade).site (C.operation command.now) x
+        out result.1 result.0 }
 {
     match open_house(alloc, out, Limits::FULL, trade) {
         Ok(house) => operate_house(alloc, command, house),
@@ -42,24 +43,23 @@ pub fn operate_book<O: Outside, T: Trade, C: OperatorCommand<T>>(
 fn operate_house<O: Outside, T: Trade, C: OperatorCommand<T>>(
     alloc: Global,
     command: &C,
-    house: House<O, T>,
+    mut house: House<O, T>,
 ) -> (O, Status)
     ensures words { number_of result.1 ≡ 2 → ⊥ }
-    ensures causes { OperateCauses O.link O.disk (C.operation command.now) house.journal.disk result.1 result.0 }
+    ensures causes { OperateCauses O.link O.disk (C.operation command.now)
+        house.journal.disk result.1 result.0 }
     ensures operated { (a : O) (x : Items ℕ) → Opened O.link O.disk T.trade x a house
         → OperatesOpened O.link O.disk (C.operation command.now) x a result.1 result.0 }
 {
-    let Ok(line) = command.begin(alloc, &house.name()) else {
+    let Ok(mut line) = command.begin(alloc, &house.name()) else {
         return (house.close(), Status::NoMemory);
     };
-    let mut house = house;
     let input = match input_of(alloc, &mut house, command.input()) {
         Ok(input) => input,
         Err(InputFault::NoMemory) => return (house.close(), Status::NoMemory),
         Err(InputFault::Link) => return (house.close(), Status::LinkFault),
     };
     let _reading = house.raise_by_clock();
-    let mut line = line;
     let outcome = command.carry_out(house, &input, &mut line);
     closed_with(outcome, List::of(line))
 }

@@ -97,10 +97,12 @@ fn learn_book<D: Disk, O: Opener>(
     ensures read { ReadOn D.disk D.disk_moved replay.old replay.new }
     ensures closed { OnOk result (replay.new.ended ≡ Some Closed) }
     ensures belongs { IfOk result (O.opener opener).belongs }
-    ensures counts { HaltCounts result (D.disk replay.old.disk).faults (D.disk replay.new.disk).faults }
+    ensures counts { HaltCounts result (D.disk replay.old.disk).faults
+        (D.disk replay.new.disk).faults }
     ensures exact { (x : List ℕ) → (D.disk replay.old.disk).contents ≡ Some x
         → IsReading D.disk replay.old []
-        → MatchResult result (LearnedAll D.disk (O.opener opener) x replay.new) (HaltsBy (O.opener opener) x) }
+        → MatchResult result (LearnedAll D.disk (O.opener opener) x replay.new)
+        (HaltsBy (O.opener opener) x) }
 {
     let mut learner = match learn_first(alloc, replay, opener) {
         Ok(learner) => learner,
@@ -124,10 +126,12 @@ fn learn_first<D: Disk, O: Opener>(
     ensures read { ReadOn D.disk D.disk_moved replay.old replay.new }
     ensures going { OnOk result (replay.new.ended ≡ None) }
     ensures belongs { IfOk result (O.opener opener).belongs }
-    ensures counts { HaltCounts result (D.disk replay.old.disk).faults (D.disk replay.new.disk).faults }
+    ensures counts { HaltCounts result (D.disk replay.old.disk).faults
+        (D.disk replay.new.disk).faults }
     ensures exact { (x : List ℕ) → (D.disk replay.old.disk).contents ≡ Some x
         → IsReading D.disk replay.old []
-        → MatchResult result (LearnedSome D.disk (O.opener opener) replay.new) (HaltsBy (O.opener opener) x) }
+        → MatchResult result (LearnedSome D.disk (O.opener opener) replay.new)
+        (HaltsBy (O.opener opener) x) }
 {
     match replay.next_record() {
         Ok(Some(_)) => {}
@@ -172,10 +176,12 @@ fn learn_rest<D: Disk, O: Opener>(
     ensures closed { OnOk result (replay.new.ended ≡ Some Closed) }
     ensures belongs { (o : O) → (O.opener o).belongs learner.old
         → OnOk result ((O.opener o).belongs learner.new) }
-    ensures counts { HaltCounts result (D.disk replay.old.disk).faults (D.disk replay.new.disk).faults }
+    ensures counts { HaltCounts result (D.disk replay.old.disk).faults
+        (D.disk replay.new.disk).faults }
     ensures exact { (o : O) (x : List ℕ) → (D.disk replay.old.disk).contents ≡ Some x
         → (O.opener o).belongs learner.old → LearnedSome D.disk (O.opener o) replay.old learner.old
-        → MatchResult result (λ u. LearnedAll D.disk (O.opener o) x replay.new learner.new) (HaltsBy (O.opener o) x) }
+        → MatchResult result (λ u. LearnedAll D.disk (O.opener o) x replay.new learner.new)
+        (HaltsBy (O.opener o) x) }
 {
     'entries: loop {
         match learn_next::<D, O>(replay, learner) {
@@ -196,7 +202,8 @@ fn learn_next<D: Disk, O: Opener>(
     ensures further { GoesFurther replay.old result replay.new }
     ensures belongs { (o : O) → (O.opener o).belongs learner.old
         → OnOk result ((O.opener o).belongs learner.new) }
-    ensures counts { HaltCounts result (D.disk replay.old.disk).faults (D.disk replay.new.disk).faults }
+    ensures counts { HaltCounts result (D.disk replay.old.disk).faults
+        (D.disk replay.new.disk).faults }
     ensures exact { (o : O) (x : List ℕ) → (D.disk replay.old.disk).contents ≡ Some x
         → (O.opener o).belongs learner.old → LearnedSome D.disk (O.opener o) replay.old learner.old
         → LearnsNext D.disk (O.opener o) x replay.new learner.new result }

@@ -129,7 +129,7 @@ impl Stage {
     fn start(
         alloc: Global,
         contents: Vec<u8>,
-        links: Vec<Vec<Vec<u8>>>,
+        mut links: Vec<Vec<Vec<u8>>>,
         clock: Clock,
         disk: List<u32>,
         link: List<u32>,
@@ -145,7 +145,6 @@ impl Stage {
         }) }
     {
         let tape = Tape::new(alloc, contents)?;
-        let mut links = links;
         links.reverse();
         Ok(Stage {
             alloc,

@@ -85,13 +85,12 @@ pub fn run<O: Outside, D: Disk>(alloc: Global, words: &[String], out: O, books: 
 }
 
 /// Does what a command says, and tells how it ended.
-fn obey<O: Outside>(alloc: Global, command: &Command<'_>, out: O) -> (O, Status)
+fn obey<O: Outside>(alloc: Global, command: &Command<'_>, mut out: O) -> (O, Status)
     ensures obeyed { Obeys O.link O.disk command.now out result.1 result.0 }
     ensures words { number_of result.1 ≡ 2 → ⊥ }
 {
     match command {
         Command::Once(shop) => {
-            let mut out = out;
             let status = match serve_once(alloc, shop, &mut out) {
                 Ok(()) => Status::Done,
                 Err(BenchEnd::NoMemory) => Status::NoMemory,
@@ -138,11 +137,10 @@ fn answered(is_said: bool, number: u8) -> u8
 }
 
 /// Says a line, where there is one, and answers whether it was said whole.
-fn say<O: Outside>(out: O, line: &[u8]) -> (O, bool)
+fn say<O: Outside>(mut out: O, line: &[u8]) -> (O, bool)
     ensures said { Says line.now result.1 (O.link out) (O.link result.0) }
     ensures keeps { LinkKeeps (O.disk out) (O.disk result.0) }
 {
-    let mut out = out;
     if line.is_empty() {
         return (out, true);
     }

@@ -1,6 +1,7 @@
 -- What the operations of a site's operator mean.
-use Rattle.std.specs.Prelude.{◌^◌, ℕ, List, Option}
+use Rattle.std.specs.Prelude.{ℕ, List, Option}
 use Rattle.mc_records.specs.declared.limits.Limits.{Limits}
+use Rattle.mc_records.specs.declared.limits.TheConstants.Limits.{MOST_JOURNAL, MOST_SERIES}
 use Rattle.ledger_model.specs.Histories.{History}
 use Rattle.house_core.specs.declared.house.House.{House}
 use Rattle.house_core.specs.declared.outcome.Outcome.{Outcome}
@@ -12,7 +13,7 @@ use Rattle.mc_outside.specs.DiskView.{DiskView}
 
 -- the greatest limits, under which the program runs
 abbrev pub full : Limits
-full = record { journal = 2 ^ 40; series = 2 ^ 32 }
+full = record { journal = MOST_JOURNAL; series = MOST_SERIES }
 
 -- What an operation means to the book that it is for.
 pub record OperationView : Type 1 where

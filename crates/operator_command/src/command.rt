@@ -40,7 +40,8 @@ pub trait OperatorCommand<T: Trade> {
         ensures back { HandsBack D.disk D.disk_moved (KeepsTime house) house.journal.disk result }
         ensures exact { (h : History) → HouseRepresents D.disk T.trade house h
             → limits_of house.bench ≡ full → begun self.now (site_name h) line.old.items
-            → CarriesOut D.disk T.trade (operation self.now) house input.now line.new.items h result };
+            → CarriesOut D.disk T.trade (operation self.now) house input.now
+            line.new.items h result };
 }
 
 /// The outcome, without what was answered.

@@ -4,3 +4,4 @@ pub mod PlayOpening
 pub mod PlayLemmas
 pub mod LineLemmas
 pub mod MintLemmas
+pub mod PlayLaws

@@ -1,5 +1,5 @@
 -- The lines of a play, from the links that were served.
-use Rattle.std.proofs.Common.{◌≡◌, ℕ, List, [], Some, Ok, refl, sym, ap, ap₂, ◌∙◌, subst}
+use Rattle.std.proofs.Common.{◌≡◌, ℕ, List, Ok, sym, ap, ap₂, ◌∙◌, subst}
 use Rattle.std.specs.Prelude.{◌==◌, map}
 use Rattle.std.specs.Set.{distinct_count}
 use Rattle.mc_outside.specs.LinkView.{LinkView}

@@ -1,14 +1,12 @@
 -- The entries that the house of a play opens with have payloads, and each may follow those before it.
-use Rattle.std.proofs.Common.{◌≡◌, ℕ, ◌≤◌, true, [], ◌∷◌, refl, arith}
+use Rattle.std.proofs.Common.{◌≡◌, ℕ, true, [], ◌∷◌, refl, arith}
 use Rattle.std.specs.Prelude.{codes, replicate}
 use Rattle.mc_fields.specs.Texts.{is_text}
 use Rattle.mc_fields.proofs.TextTest.{text_decides}
-use Rattle.scrip_form.specs.Issuing.{Issuing}
 use Rattle.scrip_form.specs.Texts.{IsName, IsTarget, is_letter_or_digit, is_name_byte, is_slash, is_visible, is_name, is_target}
-use Rattle.mc_records.specs.Entry.{AreSecrets, AreTerms, Fits}
-use Rattle.play_heads.specs.PlayHeads.{issuer_terms}
+use Rattle.mc_records.specs.Entry.{AreSecrets, Fits}
 use Rattle.vendor_commands.specs.Opening.{MayEnter}
-use Rattle.vendor_commands.specs.Play.{house_terms, play_founding, play_licence, play_goods}
+use Rattle.vendor_commands.specs.Play.{play_founding, play_licence, play_goods}
 use Rattle.vendor_commands.proofs.OpeningLemmas.{fits_behind, size_of_one, size_of_two}
 
 name_passes : is_name (codes "play.example") ≡ true

@@ -14,15 +14,16 @@ use Rattle.vendor_core.specs.Shelf.{shelf_view}
 use Rattle.scrip_form.specs.Issuing.{Issuing}
 use Rattle.operator_command.specs.Operations.{full}
 use Rattle.mc_words.specs.Words.{Shop}
+use Rattle.vendor_commands.specs.declared.shop.TheConstants.{KEEP, LIFE, PERIOD}
 
 -- the terms of an issuer of the shop, which are those of issuer 0 and of issuer 1 alike
 abbrev pub terms_of : Shop → ℕ → Issuing
-terms_of shop issuer = record { issuer = issuer; period = 4096; life = 8192; scrip = shop.secret ∷ []; customer = shop.secret ∷ [] }
+terms_of shop issuer = record { issuer = issuer; period = PERIOD; life = LIFE; scrip = shop.secret ∷ []; customer = shop.secret ∷ [] }
 
 -- A shop is founded at moment 0 as a vendor's site, with the clear flag and a keeping time of 600
 -- seconds.
 abbrev pub founding : Shop → Entry
-founding shop = Site 0 0 shop.name (Some (record { keep = 600; fee = 0; clear = true; terms = terms_of shop 0 }))
+founding shop = Site 0 0 shop.name (Some (record { keep = KEEP; fee = 0; clear = true; terms = terms_of shop 0 }))
 
 -- it takes scrip of issuer 1 beside its own
 abbrev pub licence : Shop → Entry

@@ -1,6 +1,7 @@
 -- What the operations of a vendor's operator mean.
-use Rattle.std.specs.Prelude.{◌≡◌, ◌⊎◌, ℕ, ◌<◌, ◌≤◌, List, [], ◌++◌, length, Some, None, unwrap_or, codes, decimal}
+use Rattle.std.specs.Prelude.{◌≡◌, ◌⊎◌, ℕ, ◌+◌, ◌<◌, ◌≤◌, List, [], ◌++◌, length, Some, None, unwrap_or, codes, decimal}
 use Rattle.scrip_form.specs.Issuing.{Issuing}
+use Rattle.mc_records.specs.declared.ranges.TheConstants.{MOST_CONTENTS}
 use Rattle.mc_records.specs.declared.refusal.Refusal.TheVariants.{ContentsFull}
 use Rattle.ledger_model.specs.Houses.{site_name}
 use Rattle.house_core.specs.Tasks.{Refuse, after}
@@ -25,13 +26,13 @@ licence_line vendor t =
 
 -- ---- what each means
 
--- Goods are put on sale, whose contents are the input; contents of more than 65,536 bytes are refused.
+-- Goods are put on sale, whose contents are the input; contents of more bytes than goods may have are refused.
 abbrev pub goods_operation : Listing → OperationView
 goods_operation l = record {
-  input = Some 65536;
+  input = Some MOST_CONTENTS;
   asks = λ input h t task.
-      ((length input ≤ 65536) × (task ≡ goods_task h t l.target l.price (unwrap_or l.kind 0) input))
-      ⊎ ((65536 < length input) × (task ≡ Refuse (ContentsFull 65537)));
+      ((length input ≤ MOST_CONTENTS) × (task ≡ goods_task h t l.target l.price (unwrap_or l.kind 0) input))
+      ⊎ ((MOST_CONTENTS < length input) × (task ≡ Refuse (ContentsFull (MOST_CONTENTS + 1))));
   says = λ h task line. line ≡ goods_line l.target l.price;
 }
 

@@ -13,6 +13,7 @@ use Rattle.house_core.specs.Tallies.{Repeated, ToldState, ToldStep, no_tally, ta
 use Rattle.play_heads.specs.PlayHeads.{issuer_terms, play_links}
 use Rattle.play_heads.specs.Receiving.{readings_of}
 use Rattle.operator_command.specs.Operations.{full}
+use Rattle.vendor_commands.specs.declared.play.TheConstants.{KEEP, PERIOD}
 
 -- ---- the house
 
@@ -20,7 +21,7 @@ use Rattle.operator_command.specs.Operations.{full}
 abbrev pub house_terms : Issuing
 house_terms = record {
   issuer = 0;
-  period = 2048;
+  period = PERIOD;
   life = 0;
   scrip = replicate 16 1 ∷ [];
   customer = replicate 16 2 ∷ [];
@@ -28,7 +29,7 @@ house_terms = record {
 
 -- it is founded with the clear flag and a keeping time of 60 seconds
 abbrev pub play_founding : Entry
-play_founding = Site 0 0 (codes "play.example") (Some (record { keep = 60; fee = 0; clear = true; terms = house_terms }))
+play_founding = Site 0 0 (codes "play.example") (Some (record { keep = KEEP; fee = 0; clear = true; terms = house_terms }))
 
 -- it takes the scrip of issuer 1
 abbrev pub play_licence : Entry

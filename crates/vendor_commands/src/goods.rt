@@ -27,7 +27,7 @@ pub(crate) fn list_goods<D: Disk>(
         → CarriesOut D.disk shelf_view (goods_operation listing.now) house input.now line h result }
 {
     if input.len() > MOST_CONTENTS {
-        return Outcome::Refused(house, Refusal::ContentsFull(65537));
+        return Outcome::Refused(house, Refusal::ContentsFull(MOST_CONTENTS as u64 + 1));
     }
     let pricing = listing.pricing();
     without_answer(set_goods(

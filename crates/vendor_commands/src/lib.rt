@@ -3,6 +3,7 @@
 #![tactic(auto)]
 
 mod goods;
+mod law;
 mod licence;
 mod lines;
 mod mint;
@@ -12,6 +13,7 @@ mod play;
 mod price;
 mod shop;
 
+pub use law::a_play_has_one_text;
 pub use once::{reply_to_all, serve_once};
 pub use operation::VendorOperation;
 pub use play::answer_play;

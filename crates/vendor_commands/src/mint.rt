@@ -24,7 +24,8 @@ pub(crate) fn mint_pieces<D: Disk>(
     ensures back { HandsBack D.disk D.disk_moved (KeepsTime house) house.journal.disk result }
     ensures exact { (h : History) (input : Items ℕ) → HouseRepresents D.disk shelf_view house h
         → limits_of house.bench ≡ full
-        → CarriesOut D.disk shelf_view (mint_operation minting.now) house input line.new.items h result }
+        → CarriesOut D.disk shelf_view (mint_operation minting.now) house input
+        line.new.items h result }
 {
     without_answer(mint(
         house,

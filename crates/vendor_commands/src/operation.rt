@@ -84,7 +84,8 @@ impl<'a> OperatorCommand<Shelf> for VendorOperation<'a> {
         ensures back { HandsBack D.disk D.disk_moved (KeepsTime house) house.journal.disk result }
         ensures exact { (h : History) → HouseRepresents D.disk shelf_view house h
             → limits_of house.bench ≡ full → begins self.now (site_name h) line.old.items
-            → CarriesOut D.disk shelf_view (operation_view self.now) house input.now line.new.items h result }
+            → CarriesOut D.disk shelf_view (operation_view self.now) house input.now
+            line.new.items h result }
     {
         match self.said {
             Operation::Goods(listing) => list_goods(listing, house, input),

@@ -10,12 +10,13 @@ use Rattle.scrip_form.specs.Identities.{numbered}
 use Rattle.scrip_form.specs.Issuing.{Issuing, HasPeriod, series_end}
 use Rattle.mc_records.specs.declared.limits.Limits.{Limits}
 use Rattle.mc_records.specs.Entry.{House, Entry, Site, Mint, Fits, SiteFits}
+use Rattle.ledger_model.specs.declared.numbers.TheConstants.{VENDOR_KIND}
 use Rattle.ledger_model.specs.Histories.{History}
 use Rattle.ledger_model.specs.Houses.{site_name, site_kind, own_series, terms_of, all_terms, terms_by, terms_in, version}
 use Rattle.ledger_model.specs.Lawful.{MayFollow, AllFollow, IsLawful}
 use Rattle.ledger_model.specs.Pieces.{first_hand, run_from, minted_pieces, own_count}
 use Rattle.vendor_core.specs.Tasks.{mint_lines}
-use Rattle.vendor_core.specs.Lines.{piece_line, piece_lines}
+use Rattle.vendor_core.specs.Lines.{own_line, piece_lines}
 
 -- the end of the series of an epoch below 2^24 is one that a piece may have
 pub ends_in_range : (t : Issuing) (epoch : ℕ) → HasPeriod t.period t.life → epoch < 2 ^ 24 → (0 < series_end t epoch) × (series_end t epoch ≤ 2 ^ 49)
@@ -29,17 +30,17 @@ ends_in_range t epoch has below =
 
 -- one more piece of a run puts one more line behind the others
 line_behind : (h : History) (v : ℕ → ℕ) (t : Issuing) (value first n : ℕ)
-    → piece_lines v t (run_from h value first (suc n)) ≡ piece_lines v t (run_from h value first n) ++ piece_line v t (first_hand h value (first + n))
-line_behind h v t value first zero = append-nil (piece_line v t (first_hand h value first)) ∙ ap (λ (id : ℕ). piece_line v t (first_hand h value id)) (omega arith)
+    → piece_lines v t (run_from h value first (suc n)) ≡ piece_lines v t (run_from h value first n) ++ own_line v t (first_hand h value (first + n))
+line_behind h v t value first zero = append-nil (own_line v t (first_hand h value first)) ∙ ap (λ (id : ℕ). own_line v t (first_hand h value id)) (omega arith)
 line_behind h v t value first (suc n) =
-    let line = piece_line v t (first_hand h value first) in
+    let line = own_line v t (first_hand h value first) in
     let next : first + 1 + n ≡ first + suc n = omega arith in
     ap (λ (rest : List ℕ). line ++ rest) (line_behind h v t value (first + 1) n)
-    ∙ ap (λ (id : ℕ). line ++ (piece_lines v t (run_from h value (first + 1) n) ++ piece_line v t (first_hand h value id))) next
-    ∙ sym (append_assoc line (piece_lines v t (run_from h value (first + 1) n)) (piece_line v t (first_hand h value (first + suc n))))
+    ∙ ap (λ (id : ℕ). line ++ (piece_lines v t (run_from h value (first + 1) n) ++ own_line v t (first_hand h value id))) next
+    ∙ sym (append_assoc line (piece_lines v t (run_from h value (first + 1) n)) (own_line v t (first_hand h value (first + suc n))))
 
 pub line_added : (h : History) (v : ℕ → ℕ) (t : Issuing) (value first n : ℕ)
-    → piece_lines v t (run_from h value first (n + 1)) ≡ piece_lines v t (run_from h value first n) ++ piece_line v t (first_hand h value (first + n))
+    → piece_lines v t (run_from h value first (n + 1)) ≡ piece_lines v t (run_from h value first n) ++ own_line v t (first_hand h value (first + n))
 line_added h v t value first n = rw (add-one n) (line_behind h v t value first n)
 
 -- so many identities of a series fit 64 bits
@@ -80,7 +81,7 @@ own_first m kind name x es zero_is = ap (λ (b : Bool). cond b (Some x.terms) (t
 some_number : (a b : ℕ) → Some a ≡ Some b → a ≡ b
 some_number a b e = cc
 
-front : (h : History) (n m : ℕ) (reference : List ℕ) (count value first : ℕ) → AllByRecursion Fits h → site_kind h ≡ Some 0 → slice_get h n ≡ Some (Mint m reference count value first)
+front : (h : History) (n m : ℕ) (reference : List ℕ) (count value first : ℕ) → AllByRecursion Fits h → site_kind h ≡ Some VENDOR_KIND → slice_get h n ≡ Some (Mint m reference count value first)
     → (site_name (take n h) ≡ site_name h) × (terms_in (take n h) 0 ≡ terms_in h 0)
 front [] n m reference count value first fits kind is = absurd cc
 front (Site sm k name house ∷ es) zero m reference count value first fits kind is = absurd cc
@@ -106,7 +107,7 @@ all_follow limits [] lawful = tt
 all_follow limits (x ∷ xs) lawful = lawful
 
 pub earlier_mint : (limits : Limits) (h : History) (n m : ℕ) (reference : List ℕ) (count value first : ℕ) → limits.series ≤ 2 ^ 32 → IsLawful limits h → AllByRecursion Fits h
-    → site_kind h ≡ Some 0 → slice_get h n ≡ Some (Mint m reference count value first) → IsEarlierMint h n count first
+    → site_kind h ≡ Some VENDOR_KIND → slice_get h n ≡ Some (Mint m reference count value first) → IsEarlierMint h n count first
 earlier_mint limits h n m reference count value first most lawful fits kind is =
     let e = Mint m reference count value first in
     let same = front h n m reference count value first fits kind is in

@@ -1,5 +1,5 @@
 -- Lists searched by a test.
-use Rattle.std.proofs.Common.{◌≡◌, ℕ, zero, suc, ◌<◌, Bool, true, false, ◌||◌, cond, List, [], ◌∷◌, ◌++◌, length, map, filter, find, Option, Some, None, is_some, Bor, refl, sym, ap, slice_get, arith}
+use Rattle.std.proofs.Common.{◌≡◌, ℕ, Bool, true, false, ◌||◌, cond, List, [], ◌∷◌, ◌++◌, length, map, filter, find, Option, Some, None, is_some, Bor, refl, sym, ap, slice_get, arith}
 use Rattle.std.specs.List.{list_any, last_or}
 use Rattle.std.specs.Option.{option_copied}
 use Rattle.std.specs.Slice.{IsItemAt}
@@ -45,17 +45,6 @@ last_some {X = X} p o (y ∷ ys) = go (p y) (last_some p (Some y) ys) (last_some
     go false there none = none
 
 -- ---- elements by their place
-
--- an element stays in its place where more elements follow
-pub get_stays : {X : Type 0} (xs ys : List X) (n : ℕ) → n < length xs → slice_get (xs ++ ys) n ≡ slice_get xs n
-get_stays [] ys n lt = absurd (omega arith)
-get_stays (x ∷ xs) ys zero lt = refl
-get_stays (x ∷ xs) ys (suc n) lt = get_stays xs ys n (omega arith)
-
--- the element behind a list
-pub get_end : {X : Type 0} (xs : List X) (y : X) → slice_get (xs ++ y ∷ []) (length xs) ≡ Some y
-get_end [] y = refl
-get_end (x ∷ xs) y = get_end xs y
 
 -- what is lent of the element at a place, where there is one
 pub item_at : {X : Type 0} (xs : List X) (i : ℕ) (o : Option (Bor X)) → IsItemAt xs i o → option_copied o ≡ slice_get xs i

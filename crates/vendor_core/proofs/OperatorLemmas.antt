@@ -1,5 +1,5 @@
 -- What there is to do by the calls of a vendor's operator.
-use Rattle.std.proofs.Common.{◌≡◌, ℕ, ◌<◌, ◌≤◌, ◌^◌, true, false, [], ◌∷◌, ◌++◌, length, List, Option, Some, None, refl, sym, ap, ap₂, ◌∙◌, take, slice_get, eqb, subst, arith, length-append}
+use Rattle.std.proofs.Common.{◌≡◌, ℕ, ◌<◌, ◌≤◌, true, false, [], ◌∷◌, ◌++◌, length, List, Option, Some, None, refl, sym, ap, ap₂, ◌∙◌, take, slice_get, eqb, subst, arith, length-append}
 use Rattle.std.specs.Prelude.{option_map, unwrap_or, IsFalse, Ok}
 use Rattle.std.proofs.lemmas.Option.{slice_get-get_or}
 use Rattle.std.proofs.Math.Seq.{get_or-append_seam, take-append_seam}
@@ -9,6 +9,7 @@ use Rattle.scrip_form.specs.Issuing.{Issuing}
 use Rattle.mc_records.specs.declared.limits.Limits.{Limits}
 use Rattle.mc_records.specs.declared.refusal.Refusal.TheVariants.{ContentsFull, IssuerTaken}
 use Rattle.mc_records.specs.Entry.{Entry, AddTerms, Goods, Mint}
+use Rattle.ledger_model.specs.declared.numbers.TheConstants.{VENDOR_KIND, MOST_IN_FORCE}
 use Rattle.ledger_model.specs.Histories.{History, time}
 use Rattle.ledger_model.specs.Houses.{site_name, site_kind, terms_in, version}
 use Rattle.ledger_model.specs.Lawful.{MayFollow}
@@ -28,19 +29,19 @@ use Rattle.vendor_core.proofs.LineLemmas.{lines_of_mint, terms_under_mint}
 
 -- ---- goods
 
-pub goods_refused : (e : Entry) (bytes n : ℕ) → bytes ≡ n → 2 ^ 26 < bytes → Refuse (ContentsFull bytes) ≡ goods_entered e n
-goods_refused e bytes n is more = ap (λ (k : ℕ). Refuse (ContentsFull k)) is ∙ sym (rw (lt-ltb (2 ^ 26) n (omega (arith, is, more))) refl)
+pub goods_refused : (e : Entry) (bytes n : ℕ) → bytes ≡ n → MOST_IN_FORCE < bytes → Refuse (ContentsFull bytes) ≡ goods_entered e n
+goods_refused e bytes n is more = ap (λ (k : ℕ). Refuse (ContentsFull k)) is ∙ sym (rw (lt-ltb MOST_IN_FORCE n (omega (arith, is, more))) refl)
 
-pub goods_added : (e : Entry) (bytes n : ℕ) → bytes ≡ n → bytes ≤ 2 ^ 26 → Add e ≡ goods_entered e n
-goods_added e bytes n is most = sym (rw (le-ltb (2 ^ 26) n (omega (arith, is, most))) refl)
+pub goods_added : (e : Entry) (bytes n : ℕ) → bytes ≡ n → bytes ≤ MOST_IN_FORCE → Add e ≡ goods_entered e n
+goods_added e bytes n is most = sym (rw (le-ltb MOST_IN_FORCE n (omega (arith, is, most))) refl)
 
 -- at another price the goods of a target have the contents in force, which stay within the bound
-pub repriced_is_goods : (h : History) (t price kind : ℕ) (target contents : List ℕ) (e : Entry) → in_force h ≤ 2 ^ 26
+pub repriced_is_goods : (h : History) (t price kind : ℕ) (target contents : List ℕ) (e : Entry) → in_force h ≤ MOST_IN_FORCE
     → goods_in h target ≡ Some e → goods_kind e ≡ kind → goods_contents e ≡ contents → goods_task h t target price kind contents ≡ price_task h t target price
 repriced_is_goods h t price kind target contents e most is of_kind has =
     let put = Goods t target price kind contents in
     let old : bytes_of (goods_in h target) ≡ length contents = ap bytes_of is ∙ ap (λ (c : List ℕ). length c) has in
-    let within : in_force (h ++ put ∷ []) ≤ 2 ^ 26 = omega (arith, most, old, in_force_goods h t price kind target contents) in
+    let within : in_force (h ++ put ∷ []) ≤ MOST_IN_FORCE = omega (arith, most, old, in_force_goods h t price kind target contents) in
     sym (goods_added put (in_force (h ++ put ∷ [])) (in_force (h ++ put ∷ [])) refl within)
     ∙ ap₂ (λ (k : ℕ) (c : List ℕ). Add (Goods t target price k c)) (sym of_kind) (sym has)
     ∙ ap (λ (o : Option Entry). repriced t target price o) (sym is)
@@ -67,7 +68,7 @@ last_there h e n is =
     ap (λ (k : ℕ). slice_get (h ++ e ∷ []) k) is ∙ slice_get-get_or (h ++ e ∷ []) (length h) e within ∙ ap (λ (x : Entry). Some x) (get_or-append_seam h e [] e)
 
 module _ (limits : Limits) (h : History) (t : ℕ) (reference : List ℕ) (count value first : ℕ) (e : Entry) (same : e ≡ Mint t reference count value first) (new : IsFalse (has_reference h reference)) (run : HasRun h t limits count (Ok first)) where
-  pub mint_may_follow : time h ≤ t → site_kind h ≡ Some 0 → MayFollow limits h e
+  pub mint_may_follow : time h ≤ t → site_kind h ≡ Some VENDOR_KIND → MayFollow limits h e
   mint_may_follow order kind = subst (λ (x : Entry). MayFollow limits h x) (sym same) (record {
     in_order = order;
     allowed = (ap (λ (o : Option ℕ). unwrap_or (option_map (λ k. eqb k 0) o) false) kind, new, run.0, run.1);

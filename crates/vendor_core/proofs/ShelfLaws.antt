@@ -1,5 +1,5 @@
 -- What a shelf represents at one more entry, and what it answers.
-use Rattle.std.proofs.Common.{◌≡◌, ℕ, ◌+◌, ◌-◌, ◌<◌, ◌≤◌, ◌^◌, Bool, true, false, cond, List, [], ◌∷◌, ◌++◌, length, map, filter_map, Option, Some, None, Ok, Err, option_map, unwrap_or, is_some, IsNone, refl, sym, ap, subst, ◌∙◌, slice_get, arith, append-nil}
+use Rattle.std.proofs.Common.{◌≡◌, ℕ, ◌+◌, ◌-◌, ◌<◌, ◌≤◌, Bool, true, false, cond, List, [], ◌∷◌, ◌++◌, length, map, filter_map, Option, Some, None, Ok, Err, option_map, unwrap_or, is_some, IsNone, refl, sym, ap, subst, ◌∙◌, slice_get, arith, append-nil}
 use Rattle.std.specs.Prelude.{◌||◌, bytes_eq, ◌==◌, option_and_then, IfSome}
 use Rattle.house_core.specs.Trade.{contents_in, IsInForce}
 use Rattle.std.specs.List.{list_any}
@@ -13,6 +13,7 @@ use Rattle.scrip_form.specs.Issuing.{Issuing}
 use Rattle.mc_records.specs.declared.limits.Limits.{Limits}
 use Rattle.mc_records.specs.declared.refusal.Refusal.TheVariants.{TooLittle}
 use Rattle.mc_records.specs.Entry.{Entry, Goods, Mint, goods_deed}
+use Rattle.ledger_model.specs.declared.numbers.TheConstants.{VENDOR_KIND, MOST_IN_FORCE}
 use Rattle.ledger_model.specs.Histories.{History}
 use Rattle.ledger_model.specs.Houses.{site_kind, terms_of, all_terms, terms_in}
 use Rattle.ledger_model.specs.Goods.{goods_in, goods_price, goods_kind, goods_contents, price_in, bytes_in, in_force}
@@ -21,6 +22,7 @@ use Rattle.ledger_model.specs.Lines.{Refuse}
 use Rattle.ledger_model.specs.Stages.{shelf_by}
 use Rattle.ledger_model.specs.Pieces.{reference_of, has_reference}
 use Rattle.ledger_model.specs.Replies.{Contents, no_contents, goods_brought, brought, price_asked, sale_price}
+use Rattle.ledger_model.proofs.ListLaws.{get_stays, get_end}
 use Rattle.name_places.specs.NamePlaces.{NamePlacesView, place_of}
 use Rattle.vendor_core.specs.declared.minted.Minting.{Minting}
 use Rattle.vendor_core.specs.declared.edition.Article.{Article}
@@ -28,7 +30,7 @@ use Rattle.vendor_core.specs.declared.catalogue.Catalogue.{Catalogue}
 use Rattle.vendor_core.specs.Editions.{edition_of, sold_at, goods_entry, bytes_of_edition, Sold, sold_by_entry, sold_by, IsEditionOf, IsSoldAt}
 use Rattle.vendor_core.specs.Catalogue.{CatalogueRepresents, HasEdition}
 use Rattle.vendor_core.specs.Shelf.{IsMintOf, Shows, IsMinting}
-use Rattle.vendor_core.proofs.ListLemmas.{find_any, any_map, get_stays, get_end}
+use Rattle.vendor_core.proofs.ListLemmas.{find_any, any_map}
 use Rattle.vendor_core.proofs.GoodsLaws.{BringsNoGoods, bytes_of, in_force_quiet, in_force_goods, in_force_most, bytes_eq_turned}
 use Rattle.vendor_core.proofs.CatalogueLaws.{goods_quiet}
 
@@ -96,7 +98,7 @@ quiet_learned c issuers more references mints bytes h e quiet none same_issuers 
 }
 
 pub goods_learned : (c new : Catalogue) (issuers : List ℕ) (references : NamePlacesView) (mints : List Minting) (bytes now : ℕ) (h : History) (moment : ℕ) (target : List ℕ) (a : Article)
-    → CatalogueRepresents new (h ++ goods_entry moment target a ∷ []) → now ≡ in_force (h ++ goods_entry moment target a ∷ []) → now ≤ 2 ^ 26
+    → CatalogueRepresents new (h ++ goods_entry moment target a ∷ []) → now ≡ in_force (h ++ goods_entry moment target a ∷ []) → now ≤ MOST_IN_FORCE
     → Shows c issuers references mints bytes h → Shows new issuers references mints now (h ++ goods_entry moment target a ∷ [])
 goods_learned c new issuers references mints bytes now h moment target a goods is_now most s = record {
   of_goods = goods;
@@ -238,14 +240,14 @@ price_is (Some x) None e = absurd cc
 price_is (Some x) (Some a) e = ap (λ (s : Sold). some_number s.price) (same_Some (sold_by_entry x) (sold_by a) e)
 
 -- the price of what a vendor sells at a target
-pub price_sold : (h : History) (target : List ℕ) (o : Option Article) → site_kind h ≡ Some 0 → option_map sold_by_entry (goods_in h target) ≡ option_map sold_by o
+pub price_sold : (h : History) (target : List ℕ) (o : Option Article) → site_kind h ≡ Some VENDOR_KIND → option_map sold_by_entry (goods_in h target) ≡ option_map sold_by o
     → option_map (λ a. a.price) o ≡ price_asked h target
 price_sold h target o kind sells =
     sym (price_is (goods_in h target) o sells)
     ∙ sym (ap (λ (k : Option ℕ). cond (unwrap_or (option_map (λ kind. kind == 0) k) false) (price_in h target) (sale_price h target)) kind)
 
 -- what a vendor offers at a target
-pub offer_is : (h : History) (t : ℕ) (limits : Limits) (target : List ℕ) (value : ℕ) (o : Option Article) → site_kind h ≡ Some 0 → option_map sold_by_entry (goods_in h target) ≡ option_map sold_by o
+pub offer_is : (h : History) (t : ℕ) (limits : Limits) (target : List ℕ) (value : ℕ) (o : Option Article) → site_kind h ≡ Some VENDOR_KIND → option_map sold_by_entry (goods_in h target) ≡ option_map sold_by o
     → offer h t limits target value ≡ shelf_by (option_map (λ a. a.price) o) value
 offer_is h t limits target value o kind sells =
     ap (λ (k : Option ℕ). cond (unwrap_or (option_map (λ kind. kind == 0) k) false) (shelf_by (price_in h target) value) (broker_offer h t limits target value)) kind

@@ -1,18 +1,23 @@
--- The lines of pieces.
-use Rattle.std.specs.Prelude.{ℕ, List, [], ◌∷◌, ◌++◌, codes}
-use Rattle.hex.specs.Hex.{encode_lower}
+-- The lines of pieces of the house's own.
+use Rattle.std.specs.Prelude.{ℕ, List, [], ◌∷◌, ◌++◌}
 use Rattle.scrip_form.specs.Issuing.{Issuing}
 use Rattle.scrip_form.specs.Scrip.{Scrip, scrip_body, scrip_text}
 use Rattle.scrip_form.specs.Identities.{series_of}
+use Rattle.mc_records.specs.Entry.{Held}
+use Rattle.mc_records.specs.PieceLine.{piece_line}
 use Rattle.ledger_model.specs.Houses.{certificate_in, secret_in}
 
--- The line of a piece: its scrip text, a space, the secret of its customer as 32 hex digits, and an LF. The
--- house's own terms certify it, in the version of its series.
-abbrev pub piece_line : (ℕ → ℕ) → Issuing → Scrip → List ℕ
-piece_line version terms p =
-    scrip_text p (certificate_in (version (series_of p.id)) terms (scrip_body p) p.id) ++ codes " "
-    ++ encode_lower (secret_in (version (series_of p.cust)) terms p.cust) ++ codes "\n"
+-- the text and the customer secret of a piece that the house's own terms certify, in the version of its series
+abbrev pub own_held : (ℕ → ℕ) → Issuing → Scrip → Held
+own_held version terms p = record {
+  text = scrip_text p (certificate_in (version (series_of p.id)) terms (scrip_body p) p.id);
+  secret = secret_in (version (series_of p.cust)) terms p.cust;
+}
+
+-- its line
+abbrev pub own_line : (ℕ → ℕ) → Issuing → Scrip → List ℕ
+own_line version terms p = piece_line (own_held version terms p)
 
 abbrev pub piece_lines : (ℕ → ℕ) → Issuing → List Scrip → List ℕ
 piece_lines version terms [] = []
-piece_lines version terms (p ∷ ps) = piece_line version terms p ++ piece_lines version terms ps
+piece_lines version terms (p ∷ ps) = own_line version terms p ++ piece_lines version terms ps

@@ -1,6 +1,7 @@
 -- What a shelf represents.
-use Rattle.std.specs.Prelude.{◌≡◌, ℕ, ◌<◌, ◌≤◌, ◌^◌, IsFalse, IfSome, is_some, List, map, Option, Some, None, option_map, slice_get, vec_len, vec_capacity}
+use Rattle.std.specs.Prelude.{◌≡◌, ℕ, ◌<◌, ◌≤◌, IsFalse, IfSome, is_some, List, map, Option, Some, None, option_map, slice_get, vec_len, vec_capacity}
 use Rattle.mc_records.specs.Entry.{Entry, Site, AddTerms, Goods, Mint}
+use Rattle.ledger_model.specs.declared.numbers.TheConstants.{VENDOR_KIND, MOST_IN_FORCE}
 use Rattle.ledger_model.specs.Histories.{History}
 use Rattle.ledger_model.specs.Houses.{all_terms}
 use Rattle.ledger_model.specs.Goods as goods
@@ -28,7 +29,7 @@ pub record Shows (catalogue : Catalogue) (issuers : List ℕ) (references : Name
   pub all_references : (reference : List ℕ) → has_reference h reference ≡ is_some (place_of references reference)
   pub of_mints : (reference : List ℕ) → IfSome (place_of references reference) (λ i. IsMintOf h reference (slice_get mints i))
   pub in_force : goods.in_force h ≡ bytes
-  pub most : bytes ≤ 2 ^ 26
+  pub most : bytes ≤ MOST_IN_FORCE
 
 -- a shelf represents a history
 abbrev pub ShelfRepresents : Shelf → History → Type 0
@@ -56,9 +57,9 @@ HasRoom s (Goods m target price kind contents) = HasRoomForGoods s (Goods m targ
 HasRoom s (Mint m reference count value first) = HasRoomForMint s reference
 HasRoom s _ = Unit {0}
 
--- what a shelf means: the trade of a vendor, whose kind of site is 0
+-- what a shelf means: the trade of a vendor
 abbrev pub shelf_view : Shelf → TradeView
-shelf_view s = record { represents = ShelfRepresents s; site = 0; has_room = HasRoom s; holds = HasGoods s }
+shelf_view s = record { represents = ShelfRepresents s; site = VENDOR_KIND; has_room = HasRoom s; holds = HasGoods s }
 
 -- ---- what it is asked
 

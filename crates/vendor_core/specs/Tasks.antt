@@ -1,10 +1,11 @@
 -- What there is to do by a command of a vendor's operator, and what a mint answers.
-use Rattle.std.specs.Prelude.{◌≡◌, ℕ, ◌+◌, ◌<◌, ◌≤◌, ◌^◌, ◌==◌, ◌&&◌, ◌⊎◌, nat_lt, IsFalse, Bool, if◌then◌else◌, List, [], ◌∷◌, ◌++◌, take, Option, Some, None, slice_get, option_map, unwrap_or, bytes_eq}
+use Rattle.std.specs.Prelude.{◌≡◌, ℕ, ◌+◌, ◌<◌, ◌≤◌, ◌==◌, ◌&&◌, ◌⊎◌, nat_lt, IsFalse, Bool, if◌then◌else◌, List, [], ◌∷◌, ◌++◌, take, Option, Some, None, slice_get, option_map, unwrap_or, bytes_eq}
 use Rattle.std.specs.Cmp.Lexicographic.{pointwise}
 use Rattle.scrip_form.specs.Issuing.{Issuing}
 use Rattle.mc_records.specs.declared.limits.Limits.{Limits}
 use Rattle.mc_records.specs.declared.refusal.Refusal.TheVariants.{NoSuchGoods, SeriesFull, ContentsFull, IssuerTaken, RefUsed}
 use Rattle.mc_records.specs.Entry.{Entry, AddTerms, Goods, Mint}
+use Rattle.ledger_model.specs.declared.numbers.TheConstants.{MOST_IN_FORCE}
 use Rattle.ledger_model.specs.Histories.{History}
 use Rattle.ledger_model.specs.Houses.{site_name, terms_in, version, own_series}
 use Rattle.ledger_model.specs.Goods.{goods_in, goods_kind, goods_contents, in_force}
@@ -14,10 +15,10 @@ use Rattle.vendor_core.specs.Lines.{piece_lines}
 
 -- ---- what there is to do
 
--- Goods are put on sale where the contents in force stay within 2^26 bytes. Else 54 ContentsFull tells how
+-- Goods are put on sale where the contents in force stay within their most bytes. Else 54 ContentsFull tells how
 -- many bytes would be in force.
 abbrev pub goods_entered : Entry → ℕ → Task
-goods_entered e bytes = if nat_lt (2 ^ 26) bytes then Refuse (ContentsFull bytes) else Add e
+goods_entered e bytes = if nat_lt MOST_IN_FORCE bytes then Refuse (ContentsFull bytes) else Add e
 
 abbrev pub goods_task : History → ℕ → List ℕ → ℕ → ℕ → List ℕ → Task
 goods_task h t target price kind contents = goods_entered (Goods t target price kind contents) (in_force (h ++ Goods t target price kind contents ∷ []))

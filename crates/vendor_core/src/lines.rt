@@ -6,15 +6,14 @@ ghost use Rattle.ledger_model.specs.Histories.{History};
 ghost use Rattle.ledger_model.specs.Houses.{site_name, terms_in, version};
 ghost use Rattle.ledger_model.specs.Pieces.{first_hand, run_from};
 ghost use Rattle.house_core.specs.House.{HouseRepresents};
-ghost use Rattle.vendor_core.specs.Lines.{piece_line, piece_lines};
+ghost use Rattle.vendor_core.specs.Lines.{own_line, piece_lines};
 ghost use Rattle.vendor_core.specs.Shelf.{shelf_view};
 
 use crate::shelf::Shelf;
-use house_core::House;
+use house_core::{House, put_piece_line};
 use mc_base::{Amount, NoMemory};
 use mc_outside::Disk;
-use scrip_certs::hex_of;
-use scrip_form::{Id, Name, Piece, Props, Terms, write_scrip};
+use scrip_form::{Id, Name, Piece, Props, Terms};
 
 /// Puts the lines of so many pieces of a value into an empty list, with identities that follow the first, as
 /// the house made them after a history of its name and terms, or is to make them next. After an `Err` the list
@@ -61,8 +60,7 @@ fn new_piece(name: Name, terms: Terms, id: Id, value: Amount) -> Piece
     Piece::new(name, value, id, id, expires, no_props).unwrap()
 }
 
-/// Puts the line of a piece of the house's own behind what a list has. After an `Err` the list may have a part
-/// of it.
+/// Puts the line of a piece of the house's own behind what a list has. After an `Err` the list is as it was.
 fn put_line<D: Disk>(
     house: &House<D, Shelf>,
     piece: &Piece,
@@ -70,15 +68,12 @@ fn put_line<D: Disk>(
 ) -> Result<(), NoMemory>
     ensures { OnOk result ((h : History) (terms : Issuing)
         → HouseRepresents D.disk shelf_view house.now h → terms_in h 0 ≡ Some terms
-        → out.new.items ≡ out.old.items ++ piece_line (version h (site_name h)) terms piece.now) }
+        → out.new.items ≡ out.old.items ++ own_line (version h (site_name h)) terms piece.now) }
 {
     let cert = house.own_certificate(piece);
     let secret = house.own_secret(piece.cust());
-    let mut text = [0; 512];
-    let len = write_scrip(piece, &cert, &mut text);
-    out.extend_from_slice(&text[..len])?;
-    out.extend_from_slice(b" ")?;
-    out.extend_from_slice(&hex_of(&secret))?;
-    out.extend_from_slice(b"\n")?;
+    let mut line = [0; 512];
+    let len = put_piece_line(&mut line, piece, &cert, &secret);
+    out.extend_from_slice(&line[..len])?;
     Ok(())
 }

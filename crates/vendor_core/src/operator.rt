@@ -17,8 +17,9 @@ ghost use Rattle.vendor_core.specs.Shelf.{shelf_view};
 ghost use Rattle.vendor_core.specs.Tasks.{goods_task, price_task, are_same_terms, terms_task, IsMintTask, TellsMint};
 
 use crate::lines::put_lines;
-use crate::shelf::{MOST_IN_FORCE, Shelf};
+use crate::shelf::Shelf;
 use house_core::{House, Outcome};
+use ledger_model::MOST_IN_FORCE;
 use mc_base::{Amount, Moment, NoMemory};
 use mc_outside::Disk;
 use mc_records::{PieceList, Record, Refusal};

@@ -1,6 +1,7 @@
-ghost use Rattle.std.specs.Prelude.{◌≡◌, ℕ, ◌↔◌, ◌≤◌, ◌^◌, [], ◌∷◌, ◌++◌, Some, option_map, IsSome, IfSome, IsFalse, IsOk, OnOk, OnErr, length};
+ghost use Rattle.std.specs.Prelude.{◌≡◌, ℕ, ◌↔◌, ◌≤◌, [], ◌∷◌, ◌++◌, Some, option_map, IsSome, IfSome, IsFalse, IsOk, OnOk, OnErr, length};
 ghost use Rattle.mc_records.specs.declared.ranges.TheConstants.{MOST_CONTENTS};
 ghost use Rattle.mc_records.specs.Entry.{Goods, Mint};
+ghost use Rattle.ledger_model.specs.declared.numbers.TheConstants.{MOST_IN_FORCE};
 ghost use Rattle.ledger_model.specs.Histories.{History};
 ghost use Rattle.ledger_model.specs.Goods as goods;
 ghost use Rattle.ledger_model.specs.Pieces.{has_reference};
@@ -11,13 +12,11 @@ use crate::edition::Article;
 use crate::minted::Minting;
 use house_core::{Body, DrawAsk, Offer, SiteKind, Trade, Unlawful, body_of_deed};
 use kept_replies::Deed;
+use ledger_model::MOST_IN_FORCE;
 use mc_base::{Amount, Moment, NoMemory};
 use mc_records::{Limits, Record, Refusal};
 use name_places::NamePlaces;
 use std::alloc::Global;
-
-/// The most bytes of contents that a vendor may have on sale.
-pub(crate) const MOST_IN_FORCE: u64 = 1 << 26;
 
 /// The trade of a vendor: its goods by their targets, the issuers whose scrip it takes, and what it minted
 /// by the references. Goods and mints are found in a few looks, however many there are; there are at most 255
@@ -103,7 +102,7 @@ impl Shelf {
             ≡ Some (Goods m target.now price kind contents.now)
             → ShelfRepresents self.new (h ++ Goods m target.now price kind contents.now ∷ [])) }
         ensures exact { (h : History) (m price kind : ℕ) → ShelfRepresents self.old h
-            → IsOk result ↔ (goods.in_force (h ++ Goods m target.now price kind contents.now ∷ []) ≤ 2 ^ 26) }
+            → IsOk result ↔ (goods.in_force (h ++ Goods m target.now price kind contents.now ∷ []) ≤ MOST_IN_FORCE) }
         ensures same { OnErr result ((h : History) → ShelfRepresents self.old h
             → ShelfRepresents self.new h) }
     {

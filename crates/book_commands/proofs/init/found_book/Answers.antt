@@ -8,6 +8,7 @@ use Rattle.millicent_http.specs.Courses.{AreRead, with_readings}
 use Rattle.house_core.specs.declared.house.House.{House}
 use Rattle.house_opening.specs.Found.{FoundsHouseBy}
 use Rattle.scrip_journal.specs.Founds.{FoundNoOutput, CountsBy, fault_disk}
+use Rattle.ledger_model.specs.Houses.{IsHouseKind}
 use Rattle.house_core.specs.Views.{kind_number}
 use Rattle.book_commands.specs.Founding.{site_of}
 use Rattle.book_commands.specs.declared.status.Status.{Status}
@@ -16,11 +17,11 @@ use Rattle.book_commands.specs.Init.{FoundAt, FoundsBy}
 use Rattle.book_commands.proofs.InitLemmas.{first_has_room, found_pairs, fault_causes, founded_for, not_founded}
 use Rattle.book_commands.proofs.init.found_book.Goals as goal
 
--- only a vendor may begin a book
+-- only a house may begin a book
 pub site-site-requires : goal.site-site-requires
 site-site-requires g c =
-    let vendor : (g.T.Trade.trade c.args.trade).site ≡ 0 = (c.requires.first 0).allowed.1 in
-    omega (arith, c.kind-kind.ensures, vendor)
+    let house : IsHouseKind (g.T.Trade.trade c.args.trade).site = (c.requires.first 0).allowed.1 in
+    omega (arith, c.kind-kind.ensures, house)
 
 pub found_house-requires-clause-room : goal.found_house-requires-clause-room
 found_house-requires-clause-room g c = rw c.site-site.ensures.site (first_has_room (site_of (kind_number c.kind-kind.result) c.args.founder.now c.now-moment.result) c.site-site.ensures.fits)

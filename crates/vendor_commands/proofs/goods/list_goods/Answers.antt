@@ -1,6 +1,7 @@
-use Rattle.std.proofs.Common.{ℕ, List, inl, inr, refl, ap, ap₂, ◌∙◌, arith}
+use Rattle.std.proofs.Common.{ℕ, ◌+◌, List, inl, inr, refl, ap, ap₂, ◌∙◌, arith}
 use Rattle.house_core.specs.Bench.{house_time}
 use Rattle.house_core.specs.Tasks.{TellsLast}
+use Rattle.mc_records.specs.declared.ranges.TheConstants.{MOST_CONTENTS}
 use Rattle.mc_records.specs.declared.refusal.Refusal.TheVariants.{ContentsFull}
 use Rattle.vendor_core.specs.Shelf.{shelf_view}
 use Rattle.vendor_core.specs.Tasks.{goods_task}
@@ -12,7 +13,7 @@ use Rattle.vendor_commands.proofs.goods.list_goods.Goals as goal
 pub returns-then-input-gt-MOST_CONTENTS-clause-exact : goal.returns-then-input-gt-MOST_CONTENTS-clause-exact
 returns-then-input-gt-MOST_CONTENTS-clause-exact g c h line st begun =
     let operation = goods_operation c.args.listing.now in
-    performs_refused g.D.Disk.disk shelf_view (operation.asks c.args.input.now h (house_time c.args.house.bench)) (λ task g answer. operation.says h task line) _ c.args.house h (ContentsFull 65537) g.met.D.Disk.is_disk st
+    performs_refused g.D.Disk.disk shelf_view (operation.asks c.args.input.now h (house_time c.args.house.bench)) (λ task g answer. operation.says h task line) _ c.args.house h (ContentsFull (MOST_CONTENTS + 1)) g.met.D.Disk.is_disk st
     (inr (omega (arith, c.if-input-gt-MOST_CONTENTS.true), refl))
 
 pub returns-clause-back : goal.returns-clause-back

@@ -1,6 +1,5 @@
 use Rattle.std.proofs.Common.{◌≡◌, ◌∙◌, ℕ, refl, ap, subst}
 use Rattle.house_core.specs.declared.tally.Tally.{Tally}
-use Rattle.house_core.specs.Bench.{tally_of}
 use Rattle.play_heads.specs.Playing.{Plays, count_of, link_of}
 use Rattle.play_heads.specs.Receiving.{IsPlay, HasPlayed}
 use Rattle.vendor_commands.specs.Play.{play_lines}

@@ -1,6 +1,6 @@
 use Rattle.std.proofs.Common.{◌≡◌, ℕ, [], ◌∷◌, sym, subst}
 use Rattle.std.specs.Prelude.{codes}
-use Rattle.mc_records.specs.Entry.{Entry, AddTerms, Goods, Fits}
+use Rattle.mc_records.specs.Entry.{AddTerms, Goods, Fits}
 use Rattle.vendor_commands.specs.Opening.{IsOpen}
 use Rattle.vendor_commands.specs.Play.{play_founding, play_licence, play_goods}
 use Rattle.vendor_commands.proofs.OpeningLemmas.{may_enter, open_with}

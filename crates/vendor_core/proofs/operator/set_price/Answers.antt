@@ -1,5 +1,6 @@
-use Rattle.std.proofs.Common.{◌≡◌, ◌≤◌, ◌^◌, Option, sym, ap, ◌∙◌, arith}
+use Rattle.std.proofs.Common.{◌≡◌, ◌≤◌, Option, sym, ap, ◌∙◌, arith}
 use Rattle.mc_records.specs.Entry.{Entry, Goods}
+use Rattle.ledger_model.specs.declared.numbers.TheConstants.{MOST_IN_FORCE}
 use Rattle.ledger_model.specs.Goods.{goods_kind, goods_contents, in_force}
 use Rattle.house_core.specs.Bench.{house_time, limits_of}
 use Rattle.house_core.specs.Tasks.{Add, TellsLast}
@@ -27,7 +28,7 @@ pub returns-clause-exact : goal.returns-clause-exact
 returns-clause-exact g c h st =
     let t = house_time c.args.house.bench in
     let stands = c.trade.ensures h st in
-    let most : in_force h ≤ 2 ^ 26 = omega (arith, stands.in_force, stands.most) in
+    let most : in_force h ≤ MOST_IN_FORCE = omega (arith, stands.in_force, stands.most) in
     let goods = rw c.bytes.ensures.value at (c.in-Some.ensures.goods h stands) in
     let same : goods_task h t c.args.target.now c.args.price c.in-Some.goods.kind c.deref.result.now ≡ price_task h t c.args.target.now c.args.price =
     repriced_is_goods h t c.args.price _ c.args.target.now _ goods.0 most goods.1 goods.2 (rw (c.deref.ensures.value, c.in-Ok.ensures.items) goods.3) in
