@@ -1,9 +1,9 @@
 -- What the clauses of `clap` say of the command that has these arguments and nothing else.
-use Rattle.std.proofs.Common.{◌≡◌, ◌∙◌, Bool, true, false, refl, sym, ap, List, [], Some, None}
+use Rattle.std.proofs.Common.{◌≡◌, ◌∙◌, Bool, true, false, refl, sym, ap, List, [], ◌∷◌, ◌++◌, Some, None}
 use Rattle.clap.specs.Values.{kind_of}
 use Rattle.clap.specs.Matches.{found_of}
 use Rattle.clap.specs.Walk.{Rule, Text, nothing_held, rows_of}
-use Rattle.clap.specs.Simple.{App, HasMatchesOf, argument_words, built, is_simple, matches_of}
+use Rattle.clap.specs.Simple.{App, HasMatchesOf, argument_words, built, is_simple, matches_of, with_rule}
 use Rattle.clap.specs.Takes.{takes}
 use Rattle.clap.specs.Faults.{fault_of, has_free_rules, is_simple_and_free}
 use Rattle.clap.specs.declared.error.Error.{Error}
@@ -54,3 +54,8 @@ untaken a rs words e is passes other = rw (no (takes (command rs) words) refl) r
     no : (b : Bool) → takes (command rs) words ≡ b → b ≡ false
     no true t = absurd (other (passes (ap (λ (x : App). takes x words) is ∙ t)))
     no false t = refl
+
+-- a command with one argument more
+pub one_more : (rs : List Rule) (r : Rule) → with_rule (command rs) r ≡ command (rs ++ r ∷ [])
+unfolding command
+one_more rs r = refl

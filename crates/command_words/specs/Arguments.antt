@@ -29,6 +29,10 @@ value name = record (new_rule name) { long = Some name; action = Some Set }
 abbrev pub flag : Text → Rule
 flag name = record (new_rule name) { long = Some name; action = Some SetTrue }
 
+-- an argument that may be left out
+abbrev pub optional : Rule → Rule
+optional rule = record rule { required = false }
+
 -- the arguments as the code writes them
 abbrev pub rule_of_argument : Argument → Rule
 rule_of_argument (Positional name) = positional name.now

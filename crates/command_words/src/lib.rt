@@ -11,4 +11,4 @@ mod reading;
 
 pub use argument::Argument;
 pub use found::Found;
-pub use reading::read_words;
+pub use reading::{read_beginning, read_words};

@@ -1,6 +1,7 @@
-ghost use Rattle.std.specs.Prelude.{◌≡◌, true, map, string_bytes, IfOk};
+ghost use Rattle.std.specs.Prelude.{◌≡◌, true, List, [], map, string_bytes, IfOk};
 ghost use Rattle.clap.specs.Simple.{app_of};
-ghost use Rattle.command_words.specs.Arguments.{command, found, is_exact, rules_of};
+ghost use Rattle.clap.specs.Walk.{Rule};
+ghost use Rattle.command_words.specs.Arguments.{command, found, is_exact, optional, rules_of};
 
 use crate::argument::Argument;
 use crate::found::Found;
@@ -24,7 +25,29 @@ pub fn read_words<'a>(
     ensures { IfOk result (λ r. r ≡ found (rules_of arguments.now) (map string_bytes words.entry.now)) }
 {
     let command = command_of(alloc, arguments)?;
-    match command.try_get_matches_from(words) {
+    read_by(command, words)
+}
+
+/// Reads words with which those of a command may begin: as `read_words`, where no argument is required.
+pub fn read_beginning<'a>(
+    alloc: Global,
+    arguments: &[Argument],
+    words: &'a [String],
+) -> Result<Option<Found<'a>>, AllocError>
+    requires { is_exact (map optional (rules_of arguments.now)) ≡ true }
+    ensures { IfOk result (λ r. r ≡ found (map optional (rules_of arguments.now))
+        (map string_bytes words.entry.now)) }
+{
+    let command = beginning_of(alloc, arguments)?;
+    read_by(command, words)
+}
+
+/// What a command of `clap` finds in the words.
+fn read_by<'a>(app: Command<'a>, words: &'a [String]) -> Result<Option<Found<'a>>, AllocError>
+    ensures { (rules : List Rule) → app_of app.entry ≡ command rules → is_exact rules ≡ true
+        → IfOk result (λ r. r ≡ found rules (map string_bytes words.entry.now)) }
+{
+    match app.try_get_matches_from(words) {
         Ok(matches) => Ok(Some(Found::of(matches))),
         Err(error) => match error.kind() {
             ErrorKind::OutOfMemory => Err(AllocError),
@@ -33,16 +56,34 @@ pub fn read_words<'a>(
     }
 }
 
-/// The command of `clap` with these arguments and nothing else. Its name is written in the texts of
-/// errors alone, which nobody reads.
+/// The command of `clap` with these arguments and nothing else.
 fn command_of<'a>(alloc: Global, arguments: &[Argument]) -> Result<Command<'a>, AllocError>
     ensures { IfOk result (λ c. app_of c ≡ command (rules_of arguments.now)) }
 {
-    let mut command = Command::new(alloc, "millicent")
-        .no_binary_name(true)
-        .disable_help_flag(true);
+    let mut command = no_arguments(alloc);
     for argument in arguments {
         command = command.arg(argument.arg(alloc))?;
     }
     Ok(command)
+}
+
+/// The command of `clap` that has these arguments, none of them required.
+fn beginning_of<'a>(alloc: Global, arguments: &[Argument]) -> Result<Command<'a>, AllocError>
+    ensures { IfOk result (λ c. app_of c ≡ command (map optional (rules_of arguments.now))) }
+{
+    let mut command = no_arguments(alloc);
+    for argument in arguments {
+        command = command.arg(argument.arg(alloc).required(false))?;
+    }
+    Ok(command)
+}
+
+/// The command of `clap` with no arguments. Its name is written in the texts of errors alone, which nobody
+/// reads.
+fn no_arguments<'a>(alloc: Global) -> Command<'a>
+    ensures { app_of result ≡ command [] }
+{
+    Command::new(alloc, "millicent")
+        .no_binary_name(true)
+        .disable_help_flag(true)
 }

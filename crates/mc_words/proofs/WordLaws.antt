@@ -1,6 +1,6 @@
 -- The words of a command are of no other.
 use Rattle.std.proofs.Common.{◌≡◌, ℕ, List, [], ◌∷◌, Option, Some, None, refl, sym, ap, ◌∙◌, arith}
-use Rattle.std.specs.Prelude.{◌+◌, ◌*◌, ◌<◌, ◌-◌, ◌^◌, IfSome, decimal, option_map, slice_index}
+use Rattle.std.specs.Prelude.{◌+◌, ◌*◌, ◌<◌, ◌^◌, IfSome, decimal, option_map, slice_index}
 use Rattle.std.proofs.lemmas.Fmt.{decimal_injective}
 use Rattle.clap.specs.Walk.{Row, Text}
 use Rattle.mc_fields.specs.Texts.{IsNumber}
@@ -12,6 +12,10 @@ use Rattle.mc_words.specs.declared.command.Command.{Command}
 use Rattle.mc_words.specs.declared.command.Command.TheVariants.{Once, Init, Serve, Play, Operate}
 use Rattle.mc_words.specs.declared.table.CommandName.{CommandName}
 use Rattle.mc_words.specs.declared.table.CommandName.TheVariants as names
+use Rattle.mc_words.specs.declared.licence.TheConstants.{MOST_ISSUER}
+use Rattle.mc_words.specs.declared.play.TheConstants.{MOST_HEADS}
+use Rattle.mc_words.specs.declared.serve.TheConstants.{MOST_LINKS}
+use Rattle.mc_words.specs.declared.goods.TheConstants.{MOST_KIND}
 use Rattle.mc_words.specs.Table.{AreOf, form_of}
 use Rattle.mc_words.specs.Ranges.{AreTerms, IsWithin}
 use Rattle.mc_words.specs.Words.{FindsTerms, Shop, FindsShop, Founder, FindsFounder, own_terms, Server, FindsServer, Playing, FindsPlaying, Listing, FindsListing, listed_pricing, Pricing, FindsPricing, Licensing, FindsLicensing, licensed_terms, Minting, FindsMinting}
@@ -63,12 +67,12 @@ one_server : (rows : List Row) (a b : Server) → FindsServer rows a → FindsSe
 one_server rows a b fa fb =
     let book = one_value fa.book fb.book in
     let listen = one_value fa.listen fb.listen in
-    let links = same_number (2 ^ 32 - 1) a.links b.links (omega arith) fa.server'.links fb.server'.links fa.links fb.links in
+    let links = same_number MOST_LINKS a.links b.links (omega arith) fa.server'.links fb.server'.links fa.links fb.links in
     λ i. record { book = book i; listen = listen i; links = links i }
 
 one_playing : (rows : List Row) (a b : Playing) → FindsPlaying rows a → FindsPlaying rows b → a ≡ b
 one_playing rows a b fa fb =
-    let count = same_number 1000000 a.count b.count (omega arith) fa.playing'.count fb.playing'.count fa.count fb.count in
+    let count = same_number MOST_HEADS a.count b.count (omega arith) fa.playing'.count fb.playing'.count fa.count fb.count in
     λ i. record { count = count i }
 
 one_pricing : (rows : List Row) (a b : Pricing) → FindsPricing rows a → FindsPricing rows b → a ≡ b
@@ -81,13 +85,13 @@ one_pricing rows a b fa fb =
 one_listing : (rows : List Row) (a b : Listing) → FindsListing rows a → FindsListing rows b → a ≡ b
 one_listing rows a b fa fb =
     let pricing = one_pricing rows (listed_pricing a) (listed_pricing b) fa.pricing fb.pricing in
-    let kind = same_option 0 2 a.kind b.kind (omega arith) fa.listing'.kind fb.listing'.kind fa.kind fb.kind in
+    let kind = same_option 0 MOST_KIND a.kind b.kind (omega arith) fa.listing'.kind fb.listing'.kind fa.kind fb.kind in
     λ i. record { book = (pricing i).book; target = (pricing i).target; price = (pricing i).price; kind = kind i }
 
 one_licensing : (rows : List Row) (a b : Licensing) → FindsLicensing rows a → FindsLicensing rows b → a ≡ b
 one_licensing rows a b fa fb =
     let book = one_value fa.book fb.book in
-    let issuer = same_number 255 a.issuer b.issuer (omega arith) fa.licensing'.issuer fb.licensing'.issuer fa.issuer fb.issuer in
+    let issuer = same_number MOST_ISSUER a.issuer b.issuer (omega arith) fa.licensing'.issuer fb.licensing'.issuer fa.issuer fb.issuer in
     let t = one_terms rows (licensed_terms a) (licensed_terms b) fa.licensing'.terms fb.licensing'.terms fa.terms fb.terms issuer in
     λ i. record { book = book i; issuer = (t i).issuer; period = (t i).period; life = (t i).life; scrip = (t i).scrip; customer = (t i).customer }
 

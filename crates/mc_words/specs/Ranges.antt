@@ -4,12 +4,14 @@ use Rattle.std.specs.List.{AllByRecursion, join_with_byte}
 use Rattle.hex.specs.Hex.{encode_lower}
 use Rattle.mc_records.specs.declared.ranges.TheConstants.{LEAST_KEEP, MOST_KEEP}
 use Rattle.scrip_form.specs.Scrip.{IsCert}
+use Rattle.mc_words.specs.declared.goods.TheConstants.{MOST_KIND}
+use Rattle.mc_words.specs.declared.value.TheConstants.{MOST_PLACE}
 use Rattle.scrip_form.specs.Issuing.{Issuing, HasPeriod}
 
 -- a word that names a book or a place to listen at has 1 to 255 bytes
 pub record IsPathOrAddress (word : List ℕ) : Type 0 where
   pub some : 0 < length word
-  pub short : length word ≤ 255
+  pub short : length word ≤ MOST_PLACE
 
 -- a number from the least to the most
 pub record IsWithin (least most n : ℕ) : Type 0 where
@@ -22,7 +24,7 @@ IsKeepingTime keep = IsWithin LEAST_KEEP MOST_KEEP keep
 
 -- the kinds of contents are 0, 1 and 2
 abbrev pub IsKind : ℕ → Type 0
-IsKind kind = IsWithin 0 2 kind
+IsKind kind = IsWithin 0 MOST_KIND kind
 
 -- 1 to 16 secrets of sixteen bytes
 pub record IsSecretList (secrets : List (List ℕ)) : Type 0 where

@@ -1,5 +1,5 @@
 -- The values of each command, their ranges, and what `clap` finds of them in its words.
-use Rattle.std.specs.Prelude.{◌≡◌, ℕ, ◌≤◌, ◌-◌, ◌^◌, Bool, List, length, Option, Some, IfSome, option_map, codes, decimal}
+use Rattle.std.specs.Prelude.{◌≡◌, ℕ, ◌≤◌, ◌^◌, Bool, List, length, Option, Some, IfSome, option_map, codes, decimal}
 use Rattle.hex.specs.Hex.{encode_lower}
 use Rattle.clap.specs.Walk.{Row}
 use Rattle.mc_fields.specs.Texts.{IsNumber}
@@ -8,6 +8,9 @@ use Rattle.scrip_form.specs.Texts.{IsName, IsTarget}
 use Rattle.scrip_form.specs.Scrip.{IsCert}
 use Rattle.scrip_form.specs.Issuing.{Issuing}
 use Rattle.command_words.specs.Arguments.{has_flag, value_of}
+use Rattle.mc_words.specs.declared.licence.TheConstants.{MOST_ISSUER}
+use Rattle.mc_words.specs.declared.play.TheConstants.{MOST_HEADS}
+use Rattle.mc_words.specs.declared.serve.TheConstants.{MOST_LINKS}
 use Rattle.mc_words.specs.Ranges.{AreTerms, IsKeepingTime, IsKind, IsPathOrAddress, joined}
 
 -- PERIOD LIFE SCRIP CUSTOMER: the terms of an issuer, whoever the issuer is
@@ -87,7 +90,7 @@ pub record Server : Type 0 where
 pub record IsServer (server : Server) : Type 0 where
   pub book : IsPathOrAddress server.book
   pub listen : IsPathOrAddress server.listen
-  pub links : IsNumber (2 ^ 32 - 1) server.links
+  pub links : IsNumber MOST_LINKS server.links
 
 pub record FindsServer (rows : List Row) (server : Server) : Type 0 where
   pub book : value_of rows (codes "BOOK") ≡ Some server.book
@@ -102,7 +105,7 @@ pub record Playing : Type 0 where
   pub count : ℕ
 
 pub record IsPlaying (playing : Playing) : Type 0 where
-  pub count : IsNumber 1000000 playing.count
+  pub count : IsNumber MOST_HEADS playing.count
 
 pub record FindsPlaying (rows : List Row) (playing : Playing) : Type 0 where
   pub count : value_of rows (codes "COUNT") ≡ Some (decimal playing.count)
@@ -168,7 +171,7 @@ licensed_terms licensing = record { issuer = licensing.issuer; period = licensin
 
 pub record IsLicensing (licensing : Licensing) : Type 0 where
   pub book : IsPathOrAddress licensing.book
-  pub issuer : IsNumber 255 licensing.issuer
+  pub issuer : IsNumber MOST_ISSUER licensing.issuer
   pub terms : AreTerms (licensed_terms licensing)
 
 pub record FindsLicensing (rows : List Row) (licensing : Licensing) : Type 0 where

@@ -2,6 +2,7 @@ ghost use Rattle.std.specs.Prelude.{◌≡◌, ◌<◌, unwrap_or};
 ghost use Rattle.mc_words.specs.Words.{FindsListing, listed_pricing};
 ghost use Rattle.mc_words.specs.declared.table.CommandName.TheVariants.{VendorGoods};
 
+use crate::may::may_number;
 use crate::price::Pricing;
 use crate::spelled::Spelled;
 use crate::table::CommandName;
@@ -71,5 +72,11 @@ impl<'a> Spelled<'a> for Listing<'a> {
                 None => None,
             },
         })
+    }
+
+    fn fits(found: &Found<'a>) -> bool {
+        let pricing = Pricing::fits(found);
+        let kind = may_number(found, "kind", 0, MOST_KIND);
+        pricing & kind
     }
 }

@@ -4,9 +4,10 @@ ghost use Rattle.mc_words.specs.Ranges.{AreTerms, IsKeepingTime};
 ghost use Rattle.mc_words.specs.Words.{FindsFounder, own_terms};
 ghost use Rattle.mc_words.specs.declared.table.CommandName.TheVariants.{VendorInit};
 
+use crate::may::{may_name, may_number, may_place};
 use crate::spelled::Spelled;
 use crate::table::CommandName;
-use crate::terms::terms_in;
+use crate::terms::{may_terms, terms_in};
 use crate::value::{name_in, option_within, place_in};
 use command_words::Found;
 use mc_records::{LEAST_KEEP, MOST_KEEP};
@@ -63,7 +64,7 @@ impl<'a> Founder<'a> {
 
     /// How long a request gets its first reply again, in seconds: 600 where the words do not say it.
     pub fn keep(&self) -> u32
-        ensures value { result ≡ unwrap_or self.now.keep 600 }
+        ensures value { result ≡ unwrap_or self.now.keep KEEP }
         ensures range { IsKeepingTime result }
     {
         self.keep.unwrap_or(KEEP)
@@ -104,5 +105,13 @@ impl<'a> Spelled<'a> for Founder<'a> {
             },
             clear: found.has_flag("clear"),
         })
+    }
+
+    fn fits(found: &Found<'a>) -> bool {
+        let book = may_place(found, "BOOK");
+        let name = may_name(found, "NAME");
+        let terms = may_terms(found);
+        let keep = may_number(found, "keep", u64::from(LEAST_KEEP), u64::from(MOST_KEEP));
+        book & name & terms & keep
     }
 }

@@ -3,9 +3,10 @@ ghost use Rattle.mc_words.specs.Ranges.{AreTerms, IsPathOrAddress};
 ghost use Rattle.mc_words.specs.Words.{FindsLicensing, licensed_terms};
 ghost use Rattle.mc_words.specs.declared.table.CommandName.TheVariants.{VendorLicence};
 
+use crate::may::{may_number, may_place};
 use crate::spelled::Spelled;
 use crate::table::CommandName;
-use crate::terms::terms_in;
+use crate::terms::{may_terms, terms_in};
 use crate::value::{number_in, place_in};
 use command_words::Found;
 use scrip_form::Terms;
@@ -67,5 +68,12 @@ impl<'a> Spelled<'a> for Licensing<'a> {
         let issuer = number_in(found, "ISSUER", MOST_ISSUER)?;
         let terms = terms_in(found, issuer as u8)?;
         Some(Licensing { book, terms })
+    }
+
+    fn fits(found: &Found<'a>) -> bool {
+        let book = may_place(found, "BOOK");
+        let issuer = may_number(found, "ISSUER", 1, MOST_ISSUER);
+        let terms = may_terms(found);
+        book & issuer & terms
     }
 }

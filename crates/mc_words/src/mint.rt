@@ -5,6 +5,7 @@ ghost use Rattle.mc_words.specs.Ranges.{IsPathOrAddress};
 ghost use Rattle.mc_words.specs.Words.{FindsMinting};
 ghost use Rattle.mc_words.specs.declared.table.CommandName.TheVariants.{VendorMint};
 
+use crate::may::{may_name, may_number, may_place};
 use crate::spelled::Spelled;
 use crate::table::CommandName;
 use crate::value::{amount_in, name_in, number_in, place_in};
@@ -90,5 +91,13 @@ impl<'a> Spelled<'a> for Minting<'a> {
             value,
             reference,
         })
+    }
+
+    fn fits(found: &Found<'a>) -> bool {
+        let book = may_place(found, "BOOK");
+        let count = may_number(found, "COUNT", 1, u64::from(MOST_PIECES));
+        let value = may_number(found, "VALUE", 1, Amount::MOST);
+        let reference = may_name(found, "REFERENCE");
+        book & count & value & reference
     }
 }

@@ -3,12 +3,12 @@ ghost use Rattle.mc_words.specs.Words.{IsShop, FindsShop};
 ghost use Rattle.mc_words.specs.Commands.{AreOnceWords, AreNoOnceWords};
 ghost use Rattle.mc_words.specs.declared.table.CommandName.TheVariants.{VendorOnce};
 
+use crate::may::{may_contents, may_name, may_number, may_secret, may_target};
 use crate::spelled::{Spelled, values_of};
 use crate::table::CommandName;
-use crate::value::{amount_in, name_in, secret_in, target_in};
+use crate::value::{amount_in, contents_in, name_in, secret_in, target_in};
 use command_words::Found;
 use mc_base::Amount;
-use mc_records::MOST_CONTENTS;
 use scrip_form::{Name, Target};
 use std::alloc::{AllocError, Global};
 use std::marker::Model;
@@ -92,10 +92,7 @@ impl<'a> Spelled<'a> for Shop<'a> {
         let target = target_in(found, "TARGET")?;
         let price = amount_in(found, "PRICE")?;
         let secret = secret_in(found, "SECRET")?;
-        let contents = found.value_of("CONTENTS")?.as_bytes();
-        if contents.len() > MOST_CONTENTS {
-            return None;
-        }
+        let contents = contents_in(found, "CONTENTS")?;
         Some(Shop {
             name,
             target,
@@ -103,6 +100,15 @@ impl<'a> Spelled<'a> for Shop<'a> {
             secret,
             contents,
         })
+    }
+
+    fn fits(found: &Found<'a>) -> bool {
+        let name = may_name(found, "NAME");
+        let target = may_target(found, "TARGET");
+        let price = may_number(found, "PRICE", 1, Amount::MOST);
+        let secret = may_secret(found, "SECRET");
+        let contents = may_contents(found, "CONTENTS");
+        name & target & price & secret & contents
     }
 }
 

@@ -3,6 +3,7 @@ ghost use Rattle.mc_fields.specs.Texts.{IsNumber};
 ghost use Rattle.mc_words.specs.Words.{FindsPlaying};
 ghost use Rattle.mc_words.specs.declared.table.CommandName.TheVariants.{VendorPlay};
 
+use crate::may::may_number;
 use crate::spelled::Spelled;
 use crate::table::CommandName;
 use crate::value::number_in;
@@ -32,7 +33,7 @@ impl Playing {
     /// How many heads are played.
     pub fn count(&self) -> u32
         ensures value { result ≡ self.now.count }
-        ensures range { IsNumber 1000000 self.now.count }
+        ensures range { IsNumber MOST_HEADS self.now.count }
     {
         self.count
     }
@@ -55,5 +56,9 @@ impl<'a> Spelled<'a> for Playing {
         Some(Playing {
             count: count as u32,
         })
+    }
+
+    fn fits(found: &Found<'a>) -> bool {
+        may_number(found, "COUNT", 1, MOST_HEADS)
     }
 }

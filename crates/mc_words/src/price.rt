@@ -4,6 +4,7 @@ ghost use Rattle.mc_words.specs.Ranges.{IsPathOrAddress};
 ghost use Rattle.mc_words.specs.Words.{FindsPricing};
 ghost use Rattle.mc_words.specs.declared.table.CommandName.TheVariants.{VendorPrice};
 
+use crate::may::{may_number, may_place, may_target};
 use crate::spelled::Spelled;
 use crate::table::CommandName;
 use crate::value::{amount_in, place_in, target_in};
@@ -77,5 +78,12 @@ impl<'a> Spelled<'a> for Pricing<'a> {
             target,
             price,
         })
+    }
+
+    fn fits(found: &Found<'a>) -> bool {
+        let book = may_place(found, "BOOK");
+        let target = may_target(found, "TARGET");
+        let price = may_number(found, "PRICE", 1, Amount::MOST);
+        book & target & price
     }
 }

@@ -1,8 +1,9 @@
-ghost use Rattle.std.specs.Prelude.{◌≡◌, ◌-◌, ◌^◌};
+ghost use Rattle.std.specs.Prelude.{◌≡◌};
 ghost use Rattle.mc_fields.specs.Texts.{IsNumber};
 ghost use Rattle.mc_words.specs.Words.{FindsServer};
 ghost use Rattle.mc_words.specs.declared.table.CommandName.TheVariants.{VendorServe};
 
+use crate::may::{may_number, may_place};
 use crate::spelled::Spelled;
 use crate::table::CommandName;
 use crate::value::{number_in, place_in};
@@ -48,7 +49,7 @@ impl<'a> Server<'a> {
     /// How many links are taken at most.
     pub fn links(&self) -> u32
         ensures value { result ≡ self.now.links }
-        ensures range { IsNumber (2 ^ 32 - 1) self.now.links }
+        ensures range { IsNumber MOST_LINKS self.now.links }
     {
         self.links
     }
@@ -75,5 +76,12 @@ impl<'a> Spelled<'a> for Server<'a> {
             listen,
             links: links as u32,
         })
+    }
+
+    fn fits(found: &Found<'a>) -> bool {
+        let book = may_place(found, "BOOK");
+        let listen = may_place(found, "LISTEN");
+        let links = may_number(found, "LINKS", 1, MOST_LINKS);
+        book & listen & links
     }
 }

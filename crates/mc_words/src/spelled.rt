@@ -1,8 +1,9 @@
 //! The values that the words of a command spell.
 
-ghost use Rattle.std.specs.Prelude.{◌≡◌, List as Items, map, string_bytes, IfOk, IfSome, IsNone};
+ghost use Rattle.std.specs.Prelude.{◌≡◌, List as Items, map, string_bytes, IfOk, IfSome, IsNone, IsTrue, ◌↔◌};
 ghost use Rattle.clap.specs.Walk.{Row};
-ghost use Rattle.mc_words.specs.Table.{AreOf};
+ghost use Rattle.mc_words.specs.Table.{AreOf, form_of};
+ghost use Rattle.mc_words.specs.Wrong.{MayBecome};
 ghost use Rattle.mc_words.specs.declared.table.CommandName.{CommandName as Named};
 
 use crate::table::{CommandName, read_command};
@@ -25,6 +26,11 @@ pub(crate) trait Spelled<'a> {
     fn read(found: &Found<'a>) -> Option<Self>
         ensures some { IfSome result (λ values. finds found.now values) }
         ensures none { IsNone result → (values : Self) → finds found.now values → ⊥ };
+
+    /// Whether what was found may still become values, where words of arguments lack.
+    fn fits(found: &Found<'a>) -> bool
+        ensures { IsTrue result ↔ MayBecome (form_of named).rules
+            (λ rows. (values : Self) × finds rows values) found.now };
 }
 
 /// The values that the words of their command spell; None exactly where the words spell none, or are of no

@@ -1,9 +1,9 @@
 ghost use Rattle.std.specs.Prelude.{◌≡◌, ◌<◌, ◌∷◌, length, map, string_bytes, IfOk, IfSome, IsNone};
-ghost use Rattle.command_words.specs.Arguments.{rules_of};
+ghost use Rattle.command_words.specs.Arguments.{found, optional, rules_of};
 ghost use Rattle.mc_words.specs.Table.{Reads, form_of};
 
 use command_words::Argument::{Flag, Positional, Positionals, Value};
-use command_words::{Argument, Found, read_words};
+use command_words::{Argument, Found, read_beginning, read_words};
 use std::alloc::{AllocError, Global};
 
 /// The commands that the program has words for, also those that it does not carry out yet.
@@ -234,7 +234,7 @@ static BOOKS: [Argument; 1] = [Positionals("BOOK")];
 pub(crate) struct CommandForm {
     pub(crate) role: &'static str,
     pub(crate) name: &'static str,
-    arguments: &'static [Argument],
+    pub(crate) arguments: &'static [Argument],
 }
 
 /// A row of the table.
@@ -327,6 +327,19 @@ pub fn read_command<'a>(
         return Ok(None);
     }
     read_words(alloc, form.arguments, behind)
+}
+
+/// What `clap` finds in words behind the name of a command, where none of its arguments is required; None exactly
+/// where it doesn't take them. An Err is want of memory alone.
+pub(crate) fn read_beginning_of<'a>(
+    alloc: Global,
+    name: CommandName,
+    words: &'a [String],
+) -> Result<Option<Found<'a>>, AllocError>
+    ensures { IfOk result (λ r. r ≡ found (map optional (form_of name).rules)
+        (map string_bytes words.entry.now)) }
+{
+    read_beginning(alloc, name.form().arguments, words)
 }
 
 /// The role, the name and the words behind them; None exactly below two words.

@@ -1,8 +1,10 @@
-ghost use Rattle.std.specs.Prelude.{◌≡◌, IfSome, IsNone};
+ghost use Rattle.std.specs.Prelude.{◌≡◌, IfSome, IsNone, IsTrue, ◌↔◌};
 ghost use Rattle.scrip_form.specs.Issuing.{Issuing};
 ghost use Rattle.mc_words.specs.Ranges.{AreTerms};
 ghost use Rattle.mc_words.specs.Words.{FindsTerms};
+ghost use Rattle.mc_words.specs.Wrong.{MaySpellTerms};
 
+use crate::may::{may_number, may_secrets};
 use crate::value::{number_in, number_within, secrets_in};
 use command_words::Found;
 use scrip_form::Terms;
@@ -22,4 +24,16 @@ pub(crate) fn terms_in(found: &Found<'_>, issuer: u8) -> Option<Terms>
     let scrip = secrets_in(found, "SCRIP")?;
     let customer = secrets_in(found, "CUSTOMER")?;
     Terms::new(issuer, period as u32, life as u32, scrip, customer)
+}
+
+/// Whether each of these words may be of the terms of an issuer, or is not there.
+pub(crate) fn may_terms(found: &Found<'_>) -> bool
+    ensures { IsTrue result ↔ MaySpellTerms found.now }
+{
+    let most = u64::from(Terms::MOST_SECONDS);
+    let period = may_number(found, "PERIOD", u64::from(Terms::LEAST_PERIOD), most);
+    let life = may_number(found, "LIFE", 0, most);
+    let scrip = may_secrets(found, "SCRIP");
+    let customer = may_secrets(found, "CUSTOMER");
+    period & life & scrip & customer
 }

@@ -1,4 +1,4 @@
-ghost use Rattle.std.specs.Prelude.{◌≡◌, ◌≤◌, ◌^◌, ℕ, List, Option, Some, IfSome, IsNone, option_map, decimal};
+ghost use Rattle.std.specs.Prelude.{◌≡◌, ◌≤◌, ◌^◌, ℕ, List, Option, Some, length, IfSome, IsNone, option_map, decimal};
 ghost use Rattle.hex.specs.Hex.{encode_lower};
 ghost use Rattle.mc_fields.specs.Texts.{IsNumber};
 ghost use Rattle.scrip_form.specs.Texts.{IsName, IsTarget};
@@ -10,6 +10,7 @@ use crate::secrets::{secret_of, secrets_of};
 use command_words::Found;
 use mc_base::Amount;
 use mc_fields::number_of;
+use mc_records::MOST_CONTENTS;
 use scrip_form::{Name, Secrets, Target};
 
 /// The most bytes of a word that names a book or a place to listen at.
@@ -65,6 +66,20 @@ pub(crate) fn secrets_in(found: &Found<'_>, name: &str) -> Option<Secrets>
         → value_of found.now name.now ≡ Some (joined s) → ⊥ }
 {
     secrets_of(found.value_of(name)?.as_bytes())
+}
+
+/// The contents that a word is, likewise.
+pub(crate) fn contents_in<'a>(found: &Found<'a>, name: &str) -> Option<&'a [u8]>
+    ensures some { IfSome result
+        (λ c. (length c.now ≤ MOST_CONTENTS) × (value_of found.now name.now ≡ Some c.now)) }
+    ensures none { IsNone result → (c : List ℕ) → length c ≤ MOST_CONTENTS
+        → value_of found.now name.now ≡ Some c → ⊥ }
+{
+    let contents = found.value_of(name)?.as_bytes();
+    if contents.len() > MOST_CONTENTS {
+        return None;
+    }
+    Some(contents)
 }
 
 /// The amount above 0 that a word spells, likewise.

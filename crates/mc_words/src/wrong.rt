@@ -1,53 +1,89 @@
 //! Which word of bad words is wrong.
 
-ghost use Rattle.std.specs.Prelude.{◌≡◌, ◌<◌, ◌++◌, ◌↔◌, [], get_or, length, map, string_bytes, IfOk, IsTrue};
-ghost use Rattle.mc_words.specs.Wrong.{GoOn, IsFirstWrong, end_at};
+ghost use Rattle.std.specs.Prelude.{◌≡◌, ◌<◌, ◌++◌, ◌∷◌, ◌↔◌, List, [], true, false, codes, length, map, string_bytes, IfOk, IfSome, IsNone, IsTrue};
+ghost use Rattle.std.specs.List.{list_any};
+ghost use Rattle.std.specs.Str.{bytes_eq};
+ghost use Rattle.clap.specs.Walk.{Text};
+ghost use Rattle.command_words.specs.Arguments.{rule_of_argument, rules_of};
+ghost use Rattle.mc_words.specs.Table.{form_of};
+ghost use Rattle.mc_words.specs.Wrong.{AreTaken, EndInOption, GoOn, IsFirstWrong, IsShown, IsToldOf, LackValue, MayBegin, ReadSecrets, is_option};
 
-use crate::command::command_of;
+use crate::goods::Listing;
+use crate::init::Founder;
+use crate::licence::Licensing;
+use crate::mint::Minting;
+use crate::once::Shop;
+use crate::play::Playing;
+use crate::price::Pricing;
+use crate::serve::Server;
+use crate::spelled::Spelled;
+use crate::table::{CommandName, parts_of, read_beginning_of};
+use command_words::Argument;
 use std::alloc::{AllocError, Global};
 
-const SECRET: &str = "55555555555555555555555555555555";
+/// What is told of a wrong word.
+#[derive(Clone, Copy)]
+pub enum WrongWord<'a> {
+    /// Its text.
+    Word(&'a str),
+    /// Its place, counted from 1, and nothing of its text: the command reads secrets, and one of them may
+    /// stand there.
+    Place(usize),
+}
 
-/// Words that may stand behind others: where some right words begin with these, the others and one of these ends
-/// are right words, too.
-const ENDS: [&[&str]; 32] = [
-    &["b", "1", "4096", "0", SECRET, SECRET],
-    &["1", "4096", "0", SECRET, SECRET],
-    &["4096", "0", SECRET, SECRET],
-    &["0", SECRET, SECRET],
-    &[SECRET, SECRET],
-    &[SECRET],
-    &[],
-    &["b", "/a", "1"],
-    &["/a", "1"],
-    &["1"],
-    &["b", "1", "1", "1"],
-    &["1", "1", "1"],
-    &["1", "1"],
-    &["b", "b", "1"],
-    &["b", "1"],
-    &["1", "/a", "1", SECRET, "b"],
-    &["/a", "1", SECRET, "b"],
-    &["1", SECRET, "b"],
-    &[SECRET, "b"],
-    &["b"],
-    &["60", "b", "1", "4096", "0", SECRET, SECRET],
-    &["60", "1", "4096", "0", SECRET, SECRET],
-    &["60", "4096", "0", SECRET, SECRET],
-    &["60", "0", SECRET, SECRET],
-    &["60", SECRET, SECRET],
-    &["60", SECRET],
-    &["60"],
-    &["0", "b", "/a", "1"],
-    &["0", "/a", "1"],
-    &["0", "1"],
-    &["0"],
-    &["price", "b", "/a", "1"],
+/// The commands that read secrets.
+static WITH_SECRETS: [CommandName; 6] = [
+    CommandName::VendorInit,
+    CommandName::VendorLicence,
+    CommandName::VendorOnce,
+    CommandName::BrokerInit,
+    CommandName::BrokerAccount,
+    CommandName::WalletDraw,
 ];
 
-/// The place, counted from 0, of the first word with which the words go on to no right words; None where each
-/// goes on, so that words lack. An Err is want of memory alone.
-pub fn wrong_word(alloc: Global, words: &[String]) -> Result<Option<usize>, AllocError>
+/// The first word that no command could have there, given the words before; None where each could be there, so
+/// that words lack. An Err is want of memory alone.
+pub fn wrong_word<'a>(
+    alloc: Global,
+    words: &'a [String],
+) -> Result<Option<WrongWord<'a>>, AllocError>
+    ensures { IfOk result (IsToldOf (map string_bytes words.entry.now)) }
+{
+    let Some(place) = first_wrong(alloc, words)? else {
+        return Ok(None);
+    };
+    Ok(Some(shown(words, place)))
+}
+
+/// What is shown of the word at this place.
+fn shown<'a>(words: &'a [String], place: usize) -> WrongWord<'a>
+    requires { place < length words.now }
+    ensures { IsShown (map string_bytes words.entry.now) place result }
+{
+    if place >= 2 && read_secrets(words) {
+        return WrongWord::Place(place + 1);
+    }
+    WrongWord::Word(words[place].as_str())
+}
+
+/// Whether the words begin as those of a command that reads secrets.
+fn read_secrets(words: &[String]) -> bool
+    ensures { IsTrue result ↔ ReadSecrets (map string_bytes words.now) }
+{
+    let Some((role, command, _)) = parts_of(words) else {
+        return false;
+    };
+    for name in &WITH_SECRETS {
+        let form = name.form();
+        if role == form.role && command == form.name {
+            return true;
+        }
+    }
+    false
+}
+
+/// The place of the first word that is wrong, counted from 0.
+fn first_wrong(alloc: Global, words: &[String]) -> Result<Option<usize>, AllocError>
     ensures { IfOk result (IsFirstWrong (map string_bytes words.now)) }
 {
     for place in 0..words.len() {
@@ -58,47 +94,136 @@ pub fn wrong_word(alloc: Global, words: &[String]) -> Result<Option<usize>, Allo
     Ok(None)
 }
 
-/// Whether one of the ends behind the words makes them right words.
+/// Whether the words of a command that is carried out may begin with these.
 fn go_on(alloc: Global, words: &[String]) -> Result<bool, AllocError>
     ensures { IfOk result (λ r. IsTrue r ↔ GoOn (map string_bytes words.now)) }
 {
-    for i in 0..ENDS.len() {
-        let whole = joined(alloc, words, end_at(i))?;
-        if command_of(alloc, &whole)?.is_some() {
-            return Ok(true);
+    let once = may_begin::<Shop>(alloc, words)?;
+    let init = may_begin::<Founder>(alloc, words)?;
+    let serve = may_begin::<Server>(alloc, words)?;
+    let play = may_begin::<Playing>(alloc, words)?;
+    let goods = may_begin::<Listing>(alloc, words)?;
+    let price = may_begin::<Pricing>(alloc, words)?;
+    let licence = may_begin::<Licensing>(alloc, words)?;
+    let mint = may_begin::<Minting>(alloc, words)?;
+    Ok(once | init | serve | play | goods | price | licence | mint)
+}
+
+/// Whether the words of the command of these values may begin with these.
+fn may_begin<'a, T: Spelled<'a>>(alloc: Global, words: &'a [String]) -> Result<bool, AllocError>
+    ensures { IfOk result (λ r. IsTrue r ↔ MayBegin T.named
+        (λ rows. (values : T) × T.finds rows values) (map string_bytes words.entry.now)) }
+{
+    let form = T::command().form();
+    let Some((role, command, behind)) = parts_of(words) else {
+        return Ok(is_role(words, form.role));
+    };
+    if role != form.role || command != form.name {
+        return Ok(false);
+    }
+    if are_taken::<T>(alloc, behind)? {
+        return Ok(true);
+    }
+    lack_value::<T>(alloc, behind)
+}
+
+/// Whether the one word is the role, where there is one.
+fn is_role(words: &[String], role: &str) -> bool
+    requires { length words.now < 2 }
+    ensures none { length words.now ≡ 0 → IsTrue result }
+    ensures one { (word : Text) → map string_bytes words.now ≡ word ∷ []
+        → (IsTrue result ↔ (word ≡ role.now)) }
+{
+    match words.split_first() {
+        Some((word, _)) => word.as_str() == role,
+        None => true,
+    }
+}
+
+/// Whether the words behind the name may become those of the values, by the words that lack.
+fn are_taken<'a, T: Spelled<'a>>(alloc: Global, words: &'a [String]) -> Result<bool, AllocError>
+    ensures { IfOk result (λ r. IsTrue r ↔ AreTaken (form_of T.named).rules
+        (λ rows. (values : T) × T.finds rows values) (map string_bytes words.entry.now)) }
+{
+    let Some(found) = read_beginning_of(alloc, T::command(), words)? else {
+        return Ok(false);
+    };
+    Ok(T::fits(&found))
+}
+
+/// Whether they may where the last one is an option, by its value and the words that lack.
+fn lack_value<'a, T: Spelled<'a>>(alloc: Global, words: &'a [String]) -> Result<bool, AllocError>
+    ensures { IfOk result (λ r. IsTrue r ↔ LackValue (form_of T.named).rules
+        (λ rows. (values : T) × T.finds rows values) (map string_bytes words.entry.now)) }
+{
+    let Some((front, name)) = last_option(T::command().form().arguments, words) else {
+        return Ok(false);
+    };
+    let Some(found) = read_beginning_of(alloc, T::command(), front)? else {
+        return Ok(false);
+    };
+    Ok(T::fits(&found) & found.value_of(name).is_none())
+}
+
+/// The words before the last one and its name, where that is an option with a value.
+fn last_option<'a>(
+    arguments: &'static [Argument],
+    words: &'a [String],
+) -> Option<(&'a [String], &'static str)>
+    ensures some { IfSome result (λ p. EndInOption (rules_of arguments.now)
+        (map string_bytes words.entry.now) (map string_bytes p.0.now) p.1.now) }
+    ensures none { IsNone result → (front : List Text) (name : Text)
+        → EndInOption (rules_of arguments.now) (map string_bytes words.entry.now) front name → ⊥ }
+{
+    let (last, front) = words.split_last()?;
+    if has_hyphens(front) {
+        return None;
+    }
+    let name = behind_hyphens(last.as_bytes())?;
+    let option = option_named(arguments, name)?;
+    Some((front, option))
+}
+
+/// What is behind `--` in a word.
+fn behind_hyphens(word: &[u8]) -> Option<&[u8]>
+    ensures some { IfSome result (λ name. word.now ≡ codes "--" ++ name.now) }
+    ensures none { IsNone result → (name : Text) → word.now ≡ codes "--" ++ name → ⊥ }
+{
+    match word {
+        [b'-', b'-', name @ ..] => Some(name),
+        _ => None,
+    }
+}
+
+/// Whether one of the words is `--`.
+fn has_hyphens(words: &[String]) -> bool
+    ensures { result ≡ list_any (λ word. bytes_eq (string_bytes word) (codes "--")) words.now }
+{
+    words.iter().any(|word| word.as_str() == "--")
+}
+
+/// The name of the option with a value that has this name.
+fn option_named(arguments: &'static [Argument], name: &[u8]) -> Option<&'static str>
+    ensures some { IfSome result (λ option. (option.now ≡ name.now)
+        × (list_any (is_option name.now) (rules_of arguments.now) ≡ true)) }
+    ensures none { IsNone result → list_any (is_option name.now) (rules_of arguments.now) ≡ false }
+{
+    for argument in arguments {
+        if let Some(option) = name_of(argument, name) {
+            return Some(option);
         }
     }
-    Ok(false)
+    None
 }
 
-/// The end at this place.
-fn end_at(place: usize) -> &'static [&'static str]
-    requires { place < length ENDS }
-    ensures { map (λ word. word.now) result.now ≡ end_at place }
+/// The name of the argument, where it is an option with a value that has this name.
+fn name_of(argument: &Argument, name: &[u8]) -> Option<&'static str>
+    ensures some { IfSome result (λ option. (option.now ≡ name.now)
+        × (is_option name.now (rule_of_argument argument.now) ≡ true)) }
+    ensures none { IsNone result → is_option name.now (rule_of_argument argument.now) ≡ false }
 {
-    item_at(&ENDS, place)
-}
-
-/// The words at this place of a table.
-fn item_at(table: &[&'static [&'static str]], place: usize) -> &'static [&'static str]
-    requires { place < length table.now }
-    ensures { map (λ word. word.now) result.now
-        ≡ get_or (map (λ item. map (λ word. word.now) item.now) table.now) place [] }
-{
-    table[place]
-}
-
-/// The words, and an end behind them.
-fn joined(alloc: Global, words: &[String], end: &[&str]) -> Result<Vec<String>, AllocError>
-    ensures { IfOk result (λ whole. map string_bytes whole.items
-        ≡ map string_bytes words.now ++ map (λ word. word.now) end.now) }
-{
-    let mut whole = Vec::new(alloc);
-    for word in words {
-        whole.push(String::from_str(alloc, word.as_str())?)?;
+    match argument {
+        Argument::Value(option) if option.as_bytes() == name => Some(option),
+        _ => None,
     }
-    for word in end {
-        whole.push(String::from_str(alloc, word)?)?;
-    }
-    Ok(whole)
 }

@@ -1,9 +1,7 @@
-use Rattle.std.proofs.Common.{◌≡◌, ℕ, ◌+◌, map, string_bytes, take, sym, subst, arith, List, true, false, below_more}
+use Rattle.std.proofs.Common.{◌+◌, map, string_bytes, take, sym, subst, arith, below_more}
 use Rattle.std.proofs.lemmas.List.{length-map, take-map}
-use Rattle.std.specs.Prelude.{IsTrue}
-use Rattle.clap.specs.Walk.{Text}
 use Rattle.mc_words.specs.Wrong.{GoOn}
-use Rattle.mc_words.proofs.wrong.wrong_word.Goals as goal
+use Rattle.mc_words.proofs.wrong.first_wrong.Goals as goal
 
 pub returns-then-not-branch : goal.returns-then-not-branch
 returns-then-not-branch c = (

@@ -1,0 +1,372 @@
+-- What is found of some words of a command may become values of it exactly where each word spells a value.
+use Rattle.std.proofs.Common.{◌≡◌, ℕ, ◌≤◌, false, List, [], ◌∷◌, length, Option, Some, None, refl, sym, ◌∙◌, arith, codes, option_map}
+use Rattle.std.specs.Option.{option_map_or}
+use Rattle.std.specs.Prelude.{◌^◌, ◌-◌, ◌<◌, IfSome, decimal, slice_get}
+use Rattle.std.specs.Str.{bytes_eq}
+use Rattle.hex.specs.Hex.{encode_lower}
+use Rattle.clap.specs.Walk.{Row, Text}
+use Rattle.clap.specs.declared.builder.value_parser.Reading.TheVariants.{AsWritten}
+use Rattle.command_words.specs.Arguments.{value_of}
+use Rattle.mc_fields.specs.Texts.{IsNumber, is_text}
+use Rattle.mc_records.specs.declared.ranges.TheConstants.{MOST_CONTENTS, MOST_PIECES}
+use Rattle.scrip_form.specs.Texts.{IsName, IsTarget}
+use Rattle.scrip_form.specs.Scrip.{IsCert}
+use Rattle.scrip_form.specs.Issuing.{Issuing}
+use Rattle.scrip_form.specs.declared.terms.TheConstants.Terms.{LEAST_PERIOD, MOST_SECONDS}
+use Rattle.scrip_form.proofs.TextTests.{name_decides, target_decides}
+use Rattle.mc_words.specs.declared.table.CommandName.TheVariants as names
+use Rattle.mc_words.specs.declared.licence.TheConstants.{MOST_ISSUER}
+use Rattle.mc_words.specs.declared.play.TheConstants.{MOST_HEADS}
+use Rattle.mc_words.specs.declared.serve.TheConstants.{MOST_LINKS}
+use Rattle.mc_words.specs.Table.{form_of}
+use Rattle.mc_words.specs.Ranges.{AreTerms, IsKeepingTime, IsKind, IsPathOrAddress, IsSecretList, IsWithin, joined}
+use Rattle.mc_words.specs.Words.{FindsTerms, Shop, IsShop, FindsShop, Founder, IsFounder, FindsFounder, Server, IsServer, FindsServer, Playing, IsPlaying, FindsPlaying, Listing, IsListing, FindsListing, listed_pricing, Pricing, IsPricing, FindsPricing, Licensing, IsLicensing, FindsLicensing, Minting, IsMinting, FindsMinting}
+use Rattle.mc_words.specs.Wrong.{MayBecome, MaySpell, MaySpellTerms}
+use Rattle.mc_words.proofs.WrongLemmas.{filled, option_in, spelled_in}
+
+-- ---- samples
+
+a_place : IsPathOrAddress (codes "a")
+a_place = record { some = omega arith; short = omega arith }
+
+a_name : IsName (codes "a")
+unfolding is_text
+a_name = (name_decides (codes "a")).0 refl
+
+a_target : IsTarget (codes "/")
+unfolding is_text
+a_target = (target_decides (codes "/")).0 refl
+
+abbrev a_secret : Text
+a_secret = 0 ∷ 0 ∷ 0 ∷ 0 ∷ 0 ∷ 0 ∷ 0 ∷ 0 ∷ 0 ∷ 0 ∷ 0 ∷ 0 ∷ 0 ∷ 0 ∷ 0 ∷ 0 ∷ []
+
+is_secret : IsCert a_secret
+is_secret = let b : 0 < 256 = omega arith in (refl, (b, (b, (b, (b, (b, (b, (b, (b, (b, (b, (b, (b, (b, (b, (b, (b, tt)))))))))))))))))
+
+are_secrets : IsSecretList (a_secret ∷ [])
+are_secrets = record { some = omega arith; few = omega arith; secrets' = (is_secret, tt) }
+
+within_one : (most : ℕ) → 1 ≤ most → IsWithin 1 most 1
+within_one most le = record { least' = omega arith; most' = le }
+
+-- the number is not 0
+is_number : (most n : ℕ) → IsWithin 1 most n → IsNumber most n
+is_number most n is = record { some = omega (arith, is.least'); within = is.most' }
+
+is_within : (most n : ℕ) → IsNumber most n → IsWithin 1 most n
+is_within most n is = record { least' = omega (arith, is.some); most' = is.within }
+
+-- ---- rows
+
+abbrev words_of : Option Text → List Text
+words_of None = []
+words_of (Some word) = word ∷ []
+
+-- what is found of an argument
+abbrev row : Text → Option Text → Row
+row id word = record { id = id; values = words_of word; count = None; source = None; reading = AsWritten }
+
+-- the word of a row is found
+word_at : (o : Option Text) → slice_get (words_of o) 0 ≡ o
+word_at None = refl
+word_at (Some word) = refl
+
+kept_word : (o : Option Text) → IfSome o (λ w. slice_get (words_of o) 0 ≡ Some w)
+kept_word None = tt
+kept_word (Some word) = refl
+
+kept_at : {X : Type 0} (word : Option Text) (Is : X → Type 0) (spelled : X → Text) (may : MaySpell word Is spelled) → IfSome word (λ w. slice_get (words_of (option_map spelled may.0)) 0 ≡ Some w)
+kept_at None Is spelled may = tt
+kept_at (Some w) Is spelled may = word_at (option_map spelled may.0) ∙ sym may.2
+
+same_kept : (word found other : Option Text) → found ≡ other → IfSome word (λ w. found ≡ Some w) → IfSome word (λ w. other ≡ Some w)
+same_kept None found other e is = tt
+same_kept (Some w) found other e is = sym e ∙ is
+
+-- ---- the terms of an issuer
+
+-- terms with the words that are there
+record Terms (rows : List Row) : Type 0 where
+  terms : Issuing
+  are : AreTerms terms
+  period : IfSome (value_of rows (codes "PERIOD")) (λ w. Some (decimal terms.period) ≡ Some w)
+  life : IfSome (value_of rows (codes "LIFE")) (λ w. Some (decimal terms.life) ≡ Some w)
+  scrip : IfSome (value_of rows (codes "SCRIP")) (λ w. Some (joined terms.scrip) ≡ Some w)
+  customer : IfSome (value_of rows (codes "CUSTOMER")) (λ w. Some (joined terms.customer) ≡ Some w)
+
+terms_with : (rows : List Row) (issuer : ℕ) → MaySpellTerms rows → Terms rows
+terms_with rows issuer may =
+    let period = filled (value_of rows (codes "PERIOD")) (IsWithin LEAST_PERIOD MOST_SECONDS) decimal LEAST_PERIOD (record { least' = omega arith; most' = omega arith }) may.period in
+    let life = filled (value_of rows (codes "LIFE")) (IsWithin 0 MOST_SECONDS) decimal 0 (record { least' = omega arith; most' = omega arith }) may.life in
+    let scrip = filled (value_of rows (codes "SCRIP")) IsSecretList joined (a_secret ∷ []) are_secrets may.scrip in
+    let customer = filled (value_of rows (codes "CUSTOMER")) IsSecretList joined (a_secret ∷ []) are_secrets may.customer in
+    record {
+      terms = record { issuer = issuer; period = period.0; life = life.0; scrip = scrip.0; customer = customer.0 };
+      are = record { period = record { least = period.1.least'; most = period.1.most'; short = life.1.most' }; scrip = scrip.1; customer = customer.1 };
+      period = period.2;
+      life = life.2;
+      scrip = scrip.2;
+      customer = customer.2;
+    }
+
+terms_are : (terms : Issuing) (issuer : ℕ) → AreTerms terms → AreTerms (record terms { issuer = issuer })
+terms_are terms issuer are = record { period = are.period; scrip = are.scrip; customer = are.customer }
+
+-- the words that are there, where these are found of terms
+terms_in : (rows whole : List Row) (terms : Issuing) → AreTerms terms → FindsTerms whole terms → IfSome (value_of rows (codes "PERIOD")) (λ w. value_of whole (codes "PERIOD") ≡ Some w)
+    → IfSome (value_of rows (codes "LIFE")) (λ w. value_of whole (codes "LIFE") ≡ Some w) → IfSome (value_of rows (codes "SCRIP")) (λ w. value_of whole (codes "SCRIP") ≡ Some w)
+    → IfSome (value_of rows (codes "CUSTOMER")) (λ w. value_of whole (codes "CUSTOMER") ≡ Some w) → MaySpellTerms rows
+terms_in rows whole terms are finds period life scrip customer = record {
+  period = spelled_in (value_of rows (codes "PERIOD")) (value_of whole (codes "PERIOD")) (IsWithin LEAST_PERIOD MOST_SECONDS) decimal terms.period (record { least' = are.period.least; most' = are.period.most }) finds.period period;
+  life = spelled_in (value_of rows (codes "LIFE")) (value_of whole (codes "LIFE")) (IsWithin 0 MOST_SECONDS) decimal terms.life (record { least' = omega arith; most' = are.period.short }) finds.life life;
+  scrip = spelled_in (value_of rows (codes "SCRIP")) (value_of whole (codes "SCRIP")) IsSecretList joined terms.scrip are.scrip finds.scrip scrip;
+  customer = spelled_in (value_of rows (codes "CUSTOMER")) (value_of whole (codes "CUSTOMER")) IsSecretList joined terms.customer are.customer finds.customer customer;
+}
+
+-- ---- commands
+
+pub shop_fits : (rows : List Row) → MaySpell (value_of rows (codes "NAME")) IsName (λ n. n)
+    → MaySpell (value_of rows (codes "TARGET")) IsTarget (λ t. t)
+    → MaySpell (value_of rows (codes "PRICE")) (IsWithin 1 (2 ^ 40)) decimal
+    → MaySpell (value_of rows (codes "SECRET")) IsCert encode_lower
+    → MaySpell (value_of rows (codes "CONTENTS")) (λ c. length c ≤ MOST_CONTENTS) (λ c. c)
+    → MayBecome (form_of names.VendorOnce).rules (λ whole. (values : Shop) × FindsShop whole values) rows
+unfolding form_of
+shop_fits rows m_name m_target m_price m_secret m_contents =
+    let name = filled (value_of rows (codes "NAME")) IsName (λ n. n) (codes "a") a_name m_name in
+    let target = filled (value_of rows (codes "TARGET")) IsTarget (λ t. t) (codes "/") a_target m_target in
+    let price = filled (value_of rows (codes "PRICE")) (IsWithin 1 (2 ^ 40)) decimal 1 (within_one (2 ^ 40) (omega arith)) m_price in
+    let secret = filled (value_of rows (codes "SECRET")) IsCert encode_lower a_secret is_secret m_secret in
+    let contents = filled (value_of rows (codes "CONTENTS")) (λ c. length c ≤ MOST_CONTENTS) (λ c. c) [] (omega arith) m_contents in
+    let whole : List Row = row (codes "NAME") (Some name.0) ∷ row (codes "TARGET") (Some target.0) ∷ row (codes "PRICE") (Some (decimal price.0)) ∷ row (codes "SECRET") (Some (encode_lower secret.0)) ∷ row (codes "CONTENTS") (Some contents.0) ∷ [] in
+    let values : Shop = record { name = name.0; target = target.0; price = price.0; secret = secret.0; contents = contents.0 } in
+    let are : IsShop values = record { name = name.1; target = target.1; price = is_number (2 ^ 40) price.0 price.1; secret = secret.1; contents = contents.1 } in
+    record {
+      whole = whole;
+      finds = (values, record { name = refl; target = refl; price = refl; secret = refl; contents = refl; shop' = are });
+      kept = (name.2, (target.2, (price.2, (secret.2, (contents.2, tt)))));
+    }
+
+pub shop_spells : (rows : List Row) → MayBecome (form_of names.VendorOnce).rules (λ whole. (values : Shop) × FindsShop whole values) rows
+    → (MaySpell (value_of rows (codes "NAME")) IsName (λ n. n)) × (MaySpell (value_of rows (codes "TARGET")) IsTarget (λ t. t)) × (MaySpell (value_of rows (codes "PRICE")) (IsWithin 1 (2 ^ 40)) decimal) × (MaySpell (value_of rows (codes "SECRET")) IsCert encode_lower) × (MaySpell (value_of rows (codes "CONTENTS")) (λ c. length c ≤ MOST_CONTENTS) (λ c. c))
+unfolding form_of
+shop_spells rows may =
+    let values = may.finds.0 in
+    let finds = may.finds.1 in
+    let are = finds.shop' in (
+      spelled_in (value_of rows (codes "NAME")) (value_of may.whole (codes "NAME")) IsName (λ n. n) values.name are.name finds.name may.kept.0,
+      spelled_in (value_of rows (codes "TARGET")) (value_of may.whole (codes "TARGET")) IsTarget (λ t. t) values.target are.target finds.target may.kept.1.0,
+      spelled_in (value_of rows (codes "PRICE")) (value_of may.whole (codes "PRICE")) (IsWithin 1 (2 ^ 40)) decimal values.price (is_within (2 ^ 40) values.price are.price) finds.price may.kept.1.1.0,
+      spelled_in (value_of rows (codes "SECRET")) (value_of may.whole (codes "SECRET")) IsCert encode_lower values.secret are.secret finds.secret may.kept.1.1.1.0,
+      spelled_in (value_of rows (codes "CONTENTS")) (value_of may.whole (codes "CONTENTS")) (λ c. length c ≤ MOST_CONTENTS) (λ c. c) values.contents are.contents finds.contents may.kept.1.1.1.1.0,
+    )
+
+pub founder_fits : (rows : List Row) → MaySpell (value_of rows (codes "BOOK")) IsPathOrAddress (λ p. p)
+    → MaySpell (value_of rows (codes "NAME")) IsName (λ n. n)
+    → MaySpellTerms rows
+    → MaySpell (value_of rows (codes "keep")) IsKeepingTime decimal
+    → MayBecome (form_of names.VendorInit).rules (λ whole. (values : Founder) × FindsFounder whole values) rows
+unfolding form_of
+founder_fits rows m_book m_name m_terms m_keep =
+    let book = filled (value_of rows (codes "BOOK")) IsPathOrAddress (λ p. p) (codes "a") a_place m_book in
+    let name = filled (value_of rows (codes "NAME")) IsName (λ n. n) (codes "a") a_name m_name in
+    let t = terms_with rows 0 m_terms in
+    let whole : List Row = row (codes "BOOK") (Some book.0) ∷ row (codes "NAME") (Some name.0) ∷ row (codes "PERIOD") (Some (decimal t.terms.period)) ∷ row (codes "LIFE") (Some (decimal t.terms.life)) ∷ row (codes "SCRIP") (Some (joined t.terms.scrip)) ∷ row (codes "CUSTOMER") (Some (joined t.terms.customer)) ∷ row (codes "keep") (option_map decimal m_keep.0) ∷ row (codes "clear") (value_of rows (codes "clear")) ∷ [] in
+    let values : Founder = record { book = book.0; name = name.0; period = t.terms.period; life = t.terms.life; scrip = t.terms.scrip; customer = t.terms.customer; keep = m_keep.0; clear = option_map_or (λ text. bytes_eq text (codes "true")) (slice_get (words_of (value_of rows (codes "clear"))) 0) false } in
+    let are : IsFounder values = record { book = book.1; name = name.1; terms = terms_are t.terms 0 t.are; keep = m_keep.1 } in
+    record {
+      whole = whole;
+      finds = (values, record { book = refl; name = refl; terms = record { period = refl; life = refl; scrip = refl; customer = refl }; keep = word_at (option_map decimal m_keep.0); clear = refl; founder' = are });
+      kept = (book.2, (name.2, (t.period, (t.life, (t.scrip, (t.customer, (kept_at (value_of rows (codes "keep")) IsKeepingTime decimal m_keep, (kept_word (value_of rows (codes "clear")), tt))))))));
+    }
+
+pub founder_spells : (rows : List Row) → MayBecome (form_of names.VendorInit).rules (λ whole. (values : Founder) × FindsFounder whole values) rows
+    → (MaySpell (value_of rows (codes "BOOK")) IsPathOrAddress (λ p. p)) × (MaySpell (value_of rows (codes "NAME")) IsName (λ n. n)) × (MaySpellTerms rows) × (MaySpell (value_of rows (codes "keep")) IsKeepingTime decimal)
+unfolding form_of
+founder_spells rows may =
+    let values = may.finds.0 in
+    let finds = may.finds.1 in
+    let are = finds.founder' in (
+      spelled_in (value_of rows (codes "BOOK")) (value_of may.whole (codes "BOOK")) IsPathOrAddress (λ p. p) values.book are.book finds.book may.kept.0,
+      spelled_in (value_of rows (codes "NAME")) (value_of may.whole (codes "NAME")) IsName (λ n. n) values.name are.name finds.name may.kept.1.0,
+      terms_in rows may.whole _ are.terms finds.terms may.kept.1.1.0 may.kept.1.1.1.0 may.kept.1.1.1.1.0 may.kept.1.1.1.1.1.0,
+      option_in (value_of rows (codes "keep")) (value_of may.whole (codes "keep")) IsKeepingTime decimal values.keep are.keep finds.keep may.kept.1.1.1.1.1.1.0,
+    )
+
+pub server_fits : (rows : List Row) → MaySpell (value_of rows (codes "BOOK")) IsPathOrAddress (λ p. p)
+    → MaySpell (value_of rows (codes "LISTEN")) IsPathOrAddress (λ p. p)
+    → MaySpell (value_of rows (codes "LINKS")) (IsWithin 1 MOST_LINKS) decimal
+    → MayBecome (form_of names.VendorServe).rules (λ whole. (values : Server) × FindsServer whole values) rows
+unfolding form_of
+server_fits rows m_book m_listen m_links =
+    let book = filled (value_of rows (codes "BOOK")) IsPathOrAddress (λ p. p) (codes "a") a_place m_book in
+    let listen = filled (value_of rows (codes "LISTEN")) IsPathOrAddress (λ p. p) (codes "a") a_place m_listen in
+    let links = filled (value_of rows (codes "LINKS")) (IsWithin 1 MOST_LINKS) decimal 1 (within_one MOST_LINKS (omega arith)) m_links in
+    let whole : List Row = row (codes "BOOK") (Some book.0) ∷ row (codes "LISTEN") (Some listen.0) ∷ row (codes "LINKS") (Some (decimal links.0)) ∷ [] in
+    let values : Server = record { book = book.0; listen = listen.0; links = links.0 } in
+    let are : IsServer values = record { book = book.1; listen = listen.1; links = is_number MOST_LINKS links.0 links.1 } in
+    record {
+      whole = whole;
+      finds = (values, record { book = refl; listen = refl; links = refl; server' = are });
+      kept = (book.2, (listen.2, (links.2, tt)));
+    }
+
+pub server_spells : (rows : List Row) → MayBecome (form_of names.VendorServe).rules (λ whole. (values : Server) × FindsServer whole values) rows
+    → (MaySpell (value_of rows (codes "BOOK")) IsPathOrAddress (λ p. p)) × (MaySpell (value_of rows (codes "LISTEN")) IsPathOrAddress (λ p. p)) × (MaySpell (value_of rows (codes "LINKS")) (IsWithin 1 MOST_LINKS) decimal)
+unfolding form_of
+server_spells rows may =
+    let values = may.finds.0 in
+    let finds = may.finds.1 in
+    let are = finds.server' in (
+      spelled_in (value_of rows (codes "BOOK")) (value_of may.whole (codes "BOOK")) IsPathOrAddress (λ p. p) values.book are.book finds.book may.kept.0,
+      spelled_in (value_of rows (codes "LISTEN")) (value_of may.whole (codes "LISTEN")) IsPathOrAddress (λ p. p) values.listen are.listen finds.listen may.kept.1.0,
+      spelled_in (value_of rows (codes "LINKS")) (value_of may.whole (codes "LINKS")) (IsWithin 1 MOST_LINKS) decimal values.links (is_within MOST_LINKS values.links are.links) finds.links may.kept.1.1.0,
+    )
+
+pub playing_fits : (rows : List Row) → MaySpell (value_of rows (codes "COUNT")) (IsWithin 1 MOST_HEADS) decimal
+    → MayBecome (form_of names.VendorPlay).rules (λ whole. (values : Playing) × FindsPlaying whole values) rows
+unfolding form_of
+playing_fits rows m_count =
+    let count = filled (value_of rows (codes "COUNT")) (IsWithin 1 MOST_HEADS) decimal 1 (within_one MOST_HEADS (omega arith)) m_count in
+    let whole : List Row = row (codes "COUNT") (Some (decimal count.0)) ∷ [] in
+    let values : Playing = record { count = count.0 } in
+    let are : IsPlaying values = record { count = is_number MOST_HEADS count.0 count.1 } in
+    record {
+      whole = whole;
+      finds = (values, record { count = refl; playing' = are });
+      kept = (count.2, tt);
+    }
+
+pub playing_spells : (rows : List Row) → MayBecome (form_of names.VendorPlay).rules (λ whole. (values : Playing) × FindsPlaying whole values) rows
+    → MaySpell (value_of rows (codes "COUNT")) (IsWithin 1 MOST_HEADS) decimal
+unfolding form_of
+playing_spells rows may =
+    let values = may.finds.0 in
+    let finds = may.finds.1 in
+    let are = finds.playing' in
+    spelled_in (value_of rows (codes "COUNT")) (value_of may.whole (codes "COUNT")) (IsWithin 1 MOST_HEADS) decimal values.count (is_within MOST_HEADS values.count are.count) finds.count may.kept.0
+
+pub pricing_fits : (rows : List Row) → MaySpell (value_of rows (codes "BOOK")) IsPathOrAddress (λ p. p)
+    → MaySpell (value_of rows (codes "TARGET")) IsTarget (λ t. t)
+    → MaySpell (value_of rows (codes "PRICE")) (IsWithin 1 (2 ^ 40)) decimal
+    → MayBecome (form_of names.VendorPrice).rules (λ whole. (values : Pricing) × FindsPricing whole values) rows
+unfolding form_of
+pricing_fits rows m_book m_target m_price =
+    let book = filled (value_of rows (codes "BOOK")) IsPathOrAddress (λ p. p) (codes "a") a_place m_book in
+    let target = filled (value_of rows (codes "TARGET")) IsTarget (λ t. t) (codes "/") a_target m_target in
+    let price = filled (value_of rows (codes "PRICE")) (IsWithin 1 (2 ^ 40)) decimal 1 (within_one (2 ^ 40) (omega arith)) m_price in
+    let whole : List Row = row (codes "BOOK") (Some book.0) ∷ row (codes "TARGET") (Some target.0) ∷ row (codes "PRICE") (Some (decimal price.0)) ∷ [] in
+    let values : Pricing = record { book = book.0; target = target.0; price = price.0 } in
+    let are : IsPricing values = record { book = book.1; target = target.1; price = is_number (2 ^ 40) price.0 price.1 } in
+    record {
+      whole = whole;
+      finds = (values, record { book = refl; target = refl; price = refl; pricing' = are });
+      kept = (book.2, (target.2, (price.2, tt)));
+    }
+
+pub pricing_spells : (rows : List Row) → MayBecome (form_of names.VendorPrice).rules (λ whole. (values : Pricing) × FindsPricing whole values) rows
+    → (MaySpell (value_of rows (codes "BOOK")) IsPathOrAddress (λ p. p)) × (MaySpell (value_of rows (codes "TARGET")) IsTarget (λ t. t)) × (MaySpell (value_of rows (codes "PRICE")) (IsWithin 1 (2 ^ 40)) decimal)
+unfolding form_of
+pricing_spells rows may =
+    let values = may.finds.0 in
+    let finds = may.finds.1 in
+    let are = finds.pricing' in (
+      spelled_in (value_of rows (codes "BOOK")) (value_of may.whole (codes "BOOK")) IsPathOrAddress (λ p. p) values.book are.book finds.book may.kept.0,
+      spelled_in (value_of rows (codes "TARGET")) (value_of may.whole (codes "TARGET")) IsTarget (λ t. t) values.target are.target finds.target may.kept.1.0,
+      spelled_in (value_of rows (codes "PRICE")) (value_of may.whole (codes "PRICE")) (IsWithin 1 (2 ^ 40)) decimal values.price (is_within (2 ^ 40) values.price are.price) finds.price may.kept.1.1.0,
+    )
+
+pub licensing_fits : (rows : List Row) → MaySpell (value_of rows (codes "BOOK")) IsPathOrAddress (λ p. p)
+    → MaySpell (value_of rows (codes "ISSUER")) (IsWithin 1 MOST_ISSUER) decimal
+    → MaySpellTerms rows
+    → MayBecome (form_of names.VendorLicence).rules (λ whole. (values : Licensing) × FindsLicensing whole values) rows
+unfolding form_of
+licensing_fits rows m_book m_issuer m_terms =
+    let book = filled (value_of rows (codes "BOOK")) IsPathOrAddress (λ p. p) (codes "a") a_place m_book in
+    let issuer = filled (value_of rows (codes "ISSUER")) (IsWithin 1 MOST_ISSUER) decimal 1 (within_one MOST_ISSUER (omega arith)) m_issuer in
+    let t = terms_with rows issuer.0 m_terms in
+    let whole : List Row = row (codes "BOOK") (Some book.0) ∷ row (codes "ISSUER") (Some (decimal issuer.0)) ∷ row (codes "PERIOD") (Some (decimal t.terms.period)) ∷ row (codes "LIFE") (Some (decimal t.terms.life)) ∷ row (codes "SCRIP") (Some (joined t.terms.scrip)) ∷ row (codes "CUSTOMER") (Some (joined t.terms.customer)) ∷ [] in
+    let values : Licensing = record { book = book.0; issuer = issuer.0; period = t.terms.period; life = t.terms.life; scrip = t.terms.scrip; customer = t.terms.customer } in
+    let are : IsLicensing values = record { book = book.1; issuer = is_number MOST_ISSUER issuer.0 issuer.1; terms = terms_are t.terms issuer.0 t.are } in
+    record {
+      whole = whole;
+      finds = (values, record { book = refl; issuer = refl; terms = record { period = refl; life = refl; scrip = refl; customer = refl }; licensing' = are });
+      kept = (book.2, (issuer.2, (t.period, (t.life, (t.scrip, (t.customer, tt))))));
+    }
+
+pub licensing_spells : (rows : List Row) → MayBecome (form_of names.VendorLicence).rules (λ whole. (values : Licensing) × FindsLicensing whole values) rows
+    → (MaySpell (value_of rows (codes "BOOK")) IsPathOrAddress (λ p. p)) × (MaySpell (value_of rows (codes "ISSUER")) (IsWithin 1 MOST_ISSUER) decimal) × (MaySpellTerms rows)
+unfolding form_of
+licensing_spells rows may =
+    let values = may.finds.0 in
+    let finds = may.finds.1 in
+    let are = finds.licensing' in (
+      spelled_in (value_of rows (codes "BOOK")) (value_of may.whole (codes "BOOK")) IsPathOrAddress (λ p. p) values.book are.book finds.book may.kept.0,
+      spelled_in (value_of rows (codes "ISSUER")) (value_of may.whole (codes "ISSUER")) (IsWithin 1 MOST_ISSUER) decimal values.issuer (is_within MOST_ISSUER values.issuer are.issuer) finds.issuer may.kept.1.0,
+      terms_in rows may.whole _ are.terms finds.terms may.kept.1.1.0 may.kept.1.1.1.0 may.kept.1.1.1.1.0 may.kept.1.1.1.1.1.0,
+    )
+
+pub minting_fits : (rows : List Row) → MaySpell (value_of rows (codes "BOOK")) IsPathOrAddress (λ p. p)
+    → MaySpell (value_of rows (codes "COUNT")) (IsWithin 1 MOST_PIECES) decimal
+    → MaySpell (value_of rows (codes "VALUE")) (IsWithin 1 (2 ^ 40)) decimal
+    → MaySpell (value_of rows (codes "REFERENCE")) IsName (λ n. n)
+    → MayBecome (form_of names.VendorMint).rules (λ whole. (values : Minting) × FindsMinting whole values) rows
+unfolding form_of
+minting_fits rows m_book m_count m_value m_reference =
+    let book = filled (value_of rows (codes "BOOK")) IsPathOrAddress (λ p. p) (codes "a") a_place m_book in
+    let count = filled (value_of rows (codes "COUNT")) (IsWithin 1 MOST_PIECES) decimal 1 (within_one MOST_PIECES (omega arith)) m_count in
+    let value = filled (value_of rows (codes "VALUE")) (IsWithin 1 (2 ^ 40)) decimal 1 (within_one (2 ^ 40) (omega arith)) m_value in
+    let reference = filled (value_of rows (codes "REFERENCE")) IsName (λ n. n) (codes "a") a_name m_reference in
+    let whole : List Row = row (codes "BOOK") (Some book.0) ∷ row (codes "COUNT") (Some (decimal count.0)) ∷ row (codes "VALUE") (Some (decimal value.0)) ∷ row (codes "REFERENCE") (Some reference.0) ∷ [] in
+    let values : Minting = record { book = book.0; count = count.0; value = value.0; reference = reference.0 } in
+    let are : IsMinting values = record { book = book.1; count = is_number MOST_PIECES count.0 count.1; value = is_number (2 ^ 40) value.0 value.1; reference = reference.1 } in
+    record {
+      whole = whole;
+      finds = (values, record { book = refl; count = refl; value = refl; reference = refl; minting' = are });
+      kept = (book.2, (count.2, (value.2, (reference.2, tt))));
+    }
+
+pub minting_spells : (rows : List Row) → MayBecome (form_of names.VendorMint).rules (λ whole. (values : Minting) × FindsMinting whole values) rows
+    → (MaySpell (value_of rows (codes "BOOK")) IsPathOrAddress (λ p. p)) × (MaySpell (value_of rows (codes "COUNT")) (IsWithin 1 MOST_PIECES) decimal) × (MaySpell (value_of rows (codes "VALUE")) (IsWithin 1 (2 ^ 40)) decimal) × (MaySpell (value_of rows (codes "REFERENCE")) IsName (λ n. n))
+unfolding form_of
+minting_spells rows may =
+    let values = may.finds.0 in
+    let finds = may.finds.1 in
+    let are = finds.minting' in (
+      spelled_in (value_of rows (codes "BOOK")) (value_of may.whole (codes "BOOK")) IsPathOrAddress (λ p. p) values.book are.book finds.book may.kept.0,
+      spelled_in (value_of rows (codes "COUNT")) (value_of may.whole (codes "COUNT")) (IsWithin 1 MOST_PIECES) decimal values.count (is_within MOST_PIECES values.count are.count) finds.count may.kept.1.0,
+      spelled_in (value_of rows (codes "VALUE")) (value_of may.whole (codes "VALUE")) (IsWithin 1 (2 ^ 40)) decimal values.value (is_within (2 ^ 40) values.value are.value) finds.value may.kept.1.1.0,
+      spelled_in (value_of rows (codes "REFERENCE")) (value_of may.whole (codes "REFERENCE")) IsName (λ n. n) values.reference are.reference finds.reference may.kept.1.1.1.0,
+    )
+
+-- what is put on sale is a pricing, and a kind
+pub listing_fits : (rows : List Row) → MayBecome (form_of names.VendorPrice).rules (λ whole. (values : Pricing) × FindsPricing whole values) rows → MaySpell (value_of rows (codes "kind")) IsKind decimal
+    → MayBecome (form_of names.VendorGoods).rules (λ whole. (values : Listing) × FindsListing whole values) rows
+unfolding form_of
+listing_fits rows m_pricing m_kind =
+    let p = m_pricing.finds.0 in
+    let finds = m_pricing.finds.1 in
+    let whole : List Row = row (codes "BOOK") (Some p.book) ∷ row (codes "TARGET") (Some p.target) ∷ row (codes "PRICE") (Some (decimal p.price)) ∷ row (codes "kind") (option_map decimal m_kind.0) ∷ [] in
+    let values : Listing = record { book = p.book; target = p.target; price = p.price; kind = m_kind.0 } in
+    let are : IsListing values = record { pricing = finds.pricing'; kind = m_kind.1 } in
+    record {
+      whole = whole;
+      finds = (values, record { pricing = record { book = refl; target = refl; price = refl; pricing' = finds.pricing' }; kind = word_at (option_map decimal m_kind.0); listing' = are });
+      kept = (
+        same_kept (value_of rows (codes "BOOK")) _ _ finds.book m_pricing.kept.0,
+        (
+          same_kept (value_of rows (codes "TARGET")) _ _ finds.target m_pricing.kept.1.0,
+          (same_kept (value_of rows (codes "PRICE")) _ _ finds.price m_pricing.kept.1.1.0, (kept_at (value_of rows (codes "kind")) IsKind decimal m_kind, tt)),
+        ),
+      );
+    }
+
+pub listing_spells : (rows : List Row) → MayBecome (form_of names.VendorGoods).rules (λ whole. (values : Listing) × FindsListing whole values) rows
+    → MayBecome (form_of names.VendorPrice).rules (λ whole. (values : Pricing) × FindsPricing whole values) rows × MaySpell (value_of rows (codes "kind")) IsKind decimal
+unfolding form_of
+listing_spells rows may =
+    let values = may.finds.0 in
+    let finds = may.finds.1 in (
+      record { whole = may.whole; finds = (listed_pricing values, finds.pricing); kept = (may.kept.0, (may.kept.1.0, (may.kept.1.1.0, tt))) },
+      option_in (value_of rows (codes "kind")) (value_of may.whole (codes "kind")) IsKind decimal values.kind finds.listing'.kind finds.kind may.kept.1.1.1.0,
+    )
