@@ -1,0 +1,5 @@
+mod LedgerLaws
+pub mod LearnLaws
+mod TaskLaws
+mod FollowLaws
+mod Rows

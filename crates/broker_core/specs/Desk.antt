@@ -1,0 +1,67 @@
+-- What a desk represents.
+use Rattle.std.specs.Prelude.{◌≡◌, ℕ, false, List, Option, Some, None, option_map, unwrap_or, Result}
+use Rattle.mc_records.specs.Errands.{Errand, pay_in}
+use Rattle.mc_records.specs.Entry.{Entry, Site, Accept, Account, Deposit, Withdraw, Draw, Licence, Stock}
+use Rattle.ledger_model.specs.Histories.{History}
+use Rattle.ledger_model.specs.Houses.{fee}
+use Rattle.ledger_model.specs.Accounts.{account_in, balance}
+use Rattle.ledger_model.specs.Stock.{knows_vendor}
+use Rattle.ledger_model.specs.Stages.{Offer, credit_by}
+use Rattle.ledger_model.specs.Lines.{Stop}
+use Rattle.ledger_model.specs.declared.numbers.TheConstants.{BROKER_KIND}
+use Rattle.kept_replies.specs.declared.deed.Deed.{Deed}
+use Rattle.kept_replies.specs.declared.deed.Deed.TheVariants as kept
+use Rattle.account_ledger.specs.Ledger.{Represents, HasRoom}
+use Rattle.house_core.specs.Trade.{TradeView}
+use Rattle.broker_core.specs.declared.desk.Desk.{Desk}
+
+-- Accounts and fee are what a history says, which has heard of no vendor.
+pub record DeskRepresents (d : Desk) (h : History) : Type 0 where
+  pub of_accounts : Represents d.accounts h
+  pub of_fee : fee h ≡ d.fee
+  pub no_vendors : (vendor : List ℕ) → knows_vendor h vendor ≡ false
+
+-- an entry of scrip of a vendor that is to be sold: a licence or stock
+abbrev pub IsVendors : Entry → Type 0
+IsVendors (Licence m vendor terms) = Unit {0}
+IsVendors (Stock m vendor pieces) = Unit {0}
+IsVendors _ = ⊥
+
+-- there is room for what an entry adds; for vendors' scrip there is none
+abbrev pub DeskHasRoom : Desk → Entry → Type 0
+DeskHasRoom d (Licence m vendor terms) = ⊥
+DeskHasRoom d (Stock m vendor pieces) = ⊥
+DeskHasRoom d e = HasRoom d.accounts e
+
+-- what a desk means: the trade of a broker, which has no goods
+abbrev pub desk_view : Desk → TradeView
+desk_view d = record { represents = DeskRepresents d; site = BROKER_KIND; has_room = DeskHasRoom d; holds = λ n. ⊥ }
+
+-- what is offered for a piece whose value is asked to be credited in an account
+abbrev pub credit_offer : History → List ℕ → ℕ → Result Offer Stop
+credit_offer h account value = credit_by (option_map (λ _. balance h account) (account_in h account)) value
+
+-- a deed that gives credit
+abbrev pub IsCredit : Deed → Type 0
+IsCredit (kept.Credit balance) = Unit {0}
+IsCredit _ = ⊥
+
+-- the account that an errand asks credit in
+abbrev pub account_credited : Option Errand → Option (List ℕ)
+account_credited (Some (pay_in account)) = Some account
+account_credited _ = None
+
+-- an entry of a kind that this broker learns
+abbrev pub IsOfBroker : Entry → Type 0
+IsOfBroker (Site m kind name house) = Unit {0}
+IsOfBroker (Account m name key) = Unit {0}
+IsOfBroker (Deposit m name amount reference) = Unit {0}
+IsOfBroker (Withdraw m name amount reference) = Unit {0}
+IsOfBroker (Accept m scrip target sign price change deed) = Unit {0}
+IsOfBroker (Draw m target sign drawn) = Unit {0}
+IsOfBroker _ = ⊥
+
+-- the fee after an entry: a Site entry of a house sets it
+abbrev pub fee_by : ℕ → Entry → ℕ
+fee_by before (Site m kind name house) = unwrap_or (option_map (λ x. x.fee) house) before
+fee_by before _ = before

@@ -1,0 +1,6 @@
+//! A broker: the accounts of its customers, which draws and credits move money in.
+#![tactic(auto)]
+
+mod desk;
+
+pub use desk::Desk;
