@@ -1,0 +1,2 @@
+mod RackLaws
+mod ShelfLaws

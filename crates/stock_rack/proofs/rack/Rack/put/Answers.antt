@@ -1,0 +1,12 @@
+use Rattle.std.proofs.Common.{[], ◌∷◌, List, sym, subst, arith, length-append}
+use Rattle.stock_rack.specs.declared.piece.StockPiece.{StockPiece}
+use Rattle.stock_rack.specs.Racks.{IsPassed}
+use Rattle.stock_rack.proofs.RackLaws.{closed_push}
+use Rattle.stock_rack.proofs.rack.Rack.put.Goals as goal
+
+pub invariant_of-self : goal.invariant_of-self
+invariant_of-self c =
+    let items = c.self.inside.pieces.items in
+    let passed = c.self.invariant in
+    subst (λ (ps : List StockPiece). IsPassed c.self.inside.noted c.self.inside.head ps) (sym c.push_reserved.ensures.items)
+    (record { within = omega (arith, passed.within, length-append items (c.args.piece ∷ [])); closed = closed_push c.self.inside.noted c.self.inside.head items c.args.piece passed.closed })

@@ -1,0 +1,4 @@
+mod ListedLaws
+mod StepLaws
+pub mod ShownLaws
+pub mod EntryLaws

@@ -1,0 +1,3 @@
+pub mod Stalls
+pub mod Listed
+pub mod Shown
