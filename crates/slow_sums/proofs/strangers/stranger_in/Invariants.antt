@@ -1,0 +1,8 @@
+use Rattle.std.proofs.Common.{◌≡◌, drop}
+use Rattle.balanced_books.specs.Strangers.{strangers}
+use Rattle.slow_sums.specs.Strangers.{first_of, vendors_of}
+use Rattle.slow_sums.proofs.Strange.{first_in}
+use Rattle.slow_sums.proofs.strangers.stranger_in.Given as goal
+
+abbrev pub invariant-loop-n : goal.invariant-loop-n
+invariant-loop-n l = first_in l.broker (vendors_of l.books) l.h (drop l.n l.h) ≡ first_of (strangers l.broker (vendors_of l.books) l.h)

@@ -1,0 +1,10 @@
+use Rattle.std.proofs.Common.{arith, ℕ, ◌+◌, sum_by}
+use Rattle.std.proofs.lemmas.List.Sums.{sum_by-cons}
+use Rattle.ledger_model.specs.Sums.{price_paid}
+use Rattle.slow_ledger.proofs.SlowLaws.{from_next}
+use Rattle.slow_sums.proofs.vendor.slow_takings.Goals as goal
+
+pub loop-n-preserved : goal.loop-n-preserved
+loop-n-preserved c =
+    let f = price_paid in
+    omega (arith, from_next (λ (a b : ℕ). a + b) f (sum_by f) (sum_by-cons f) c.args.h.now c.loop-n.n c.price_at.result (omega arith) c.price_at.ensures, c.loop-n.invariant, c.in_ok-all.ensures)

@@ -1,0 +1,67 @@
+//! Pieces, as sums and strangers ask of them.
+
+ghost use Rattle.std.specs.Prelude.{◌≡◌, ◌<◌, ◌++◌, ◌==◌, ◌&&◌, option_map, option_to_list, length, slice_get, IfOk, IfSome};
+ghost use Rattle.std.specs.List.{list_any};
+ghost use Rattle.ledger_model.specs.Pieces.{accepted_piece, piece_of};
+ghost use Rattle.slow_sums.specs.Parts.{part_of};
+
+use mc_base::NoMemory;
+use mc_records::Record;
+use scrip_form::{Id, read_scrip};
+use slow_ledger::Prefix;
+
+/// What sums ask of a piece: its identity, its value in units, and its end in seconds since 1970.
+#[derive(Clone, Copy, Drop)]
+pub(crate) struct Part {
+    pub(crate) id: Id,
+    pub(crate) value: u64,
+    pub(crate) expires: u64,
+}
+
+/// The piece of a scrip text.
+pub(crate) fn part_in(text: &[u8]) -> Option<Part>
+    ensures { result ≡ option_map part_of (piece_of text.now) }
+{
+    match read_scrip(text) {
+        Ok(read) => {
+            let piece = read.piece();
+            Some(Part {
+                id: piece.id(),
+                value: piece.value().get(),
+                expires: piece.expires(),
+            })
+        }
+        Err(_) => None,
+    }
+}
+
+/// The piece that the entry of a number accepts.
+pub(crate) fn accepted_at(h: &Prefix<'_>, n: usize) -> Option<Part>
+    requires { n < length h.now }
+    ensures { IfSome (slice_get h.now n) (λ e. result ≡ option_map part_of (accepted_piece e)) }
+{
+    match h.record(n) {
+        Record::Accept { scrip, .. } => part_in(scrip),
+        _ => None,
+    }
+}
+
+/// Some pieces, and behind them one more where there is one.
+pub(crate) fn with(mut parts: Vec<Part>, part: Option<Part>) -> Result<Vec<Part>, NoMemory>
+    ensures { IfOk result (λ all. all.items ≡ parts.items ++ option_to_list part) }
+{
+    match part {
+        Some(part) => parts.push(part)?,
+        None => (),
+    }
+    Ok(parts)
+}
+
+/// Whether a piece stands among others, with its identity and its value.
+pub(crate) fn is_among(parts: &[Part], part: &Part) -> bool
+    ensures { result ≡ list_any (λ q. (q.id == part.now.id) && (q.value == part.now.value)) parts.now }
+{
+    parts
+        .iter()
+        .any(|other| other.id == part.id && other.value == part.value)
+}
