@@ -1,0 +1,21 @@
+//! A wallet's book by slow programs: what the definitions of `wallet_model` say of a history, each found by
+//! going over its entries. Cases ask them; no wallet stands on them.
+#![tactic(auto)]
+
+mod came;
+mod holdings;
+mod kept;
+mod lawful;
+mod newness;
+mod replies;
+mod requests;
+mod settle;
+mod states;
+
+pub use holdings::{Holding, slow_holding};
+pub use kept::{Numbered, slow_kept};
+pub use lawful::slow_wallet_book;
+pub use replies::slow_check;
+pub use requests::{Pending, slow_is_kept, slow_pending};
+pub use settle::slow_settlement;
+pub use states::{State, slow_state};

@@ -1,0 +1,8 @@
+-- The reply text of a reply as a wallet read it.
+use Rattle.std.specs.Prelude.{ℕ, List, ◌++◌, codes, decimal}
+use Rattle.mc_records.specs.Replies.{or_dash}
+use Rattle.reply_reader.specs.Replies.{Received}
+
+-- up to and with its line feed, of the values as they stand in the reply
+abbrev pub line_read : Received → List ℕ
+line_read r = decimal r.status ++ codes " " ++ or_dash r.refusal ++ codes " " ++ r.price ++ codes " " ++ r.change ++ codes "\n"
