@@ -22,5 +22,6 @@ pub use reader::{HeadReader, MAX_HEAD, MAX_ITEMS};
 pub use reply::ReplyHead;
 pub use reply_head::write_reply_head;
 pub use reply_text::write_reply_text;
+pub use scan::{find_end, skip_line_ends};
 pub use send::send_all;
 pub use whole::{ends_item, next_item};

@@ -2,7 +2,7 @@ ghost use Rattle.std.specs.Prelude.{◌≡◌, ◌≤◌, ◌+◌, length, take,
 ghost use Rattle.millicent_http.specs.HeadEnds.{line_ends, ends_empty, ends_at, HasNoEnd, IsFirstEnd};
 
 /// How many bytes the line ends at the front take, where the first `known` bytes are line ends.
-pub(crate) fn skip_line_ends(bytes: &[u8], known: usize) -> usize
+pub fn skip_line_ends(bytes: &[u8], known: usize) -> usize
     requires within { known ≤ length bytes.now }
     requires known { line_ends (take known bytes.now) ≡ known }
     ensures { result ≡ line_ends bytes.now }
@@ -54,7 +54,7 @@ fn ends_at(bytes: &[u8], skip: usize, end: usize) -> bool
 }
 
 /// Where the first empty line ends, which doesn't in the first `searched` bytes.
-pub(crate) fn find_end(bytes: &[u8], skip: usize, searched: usize) -> Option<usize>
+pub fn find_end(bytes: &[u8], skip: usize, searched: usize) -> Option<usize>
     requires within { skip ≤ searched }
     requires front { skip ≡ line_ends bytes.now }
     requires before { HasNoEnd bytes.now searched }
