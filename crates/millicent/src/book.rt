@@ -278,6 +278,26 @@ mod tests {
     }
 
     #[test]
+    fn each_cause_has_its_words(rt: HostRuntime) -> Result<(), Fail> {
+        let causes = [
+            (ErrorKind::WouldBlock, "locked by another process"),
+            (ErrorKind::NotFound, "no such file"),
+            (ErrorKind::PermissionDenied, "not permitted"),
+            (ErrorKind::IsADirectory, "no regular file"),
+            (ErrorKind::Unsupported, "no regular file"),
+            (ErrorKind::NotADirectory, "no such folder"),
+            (ErrorKind::AlreadyExists, "exists already"),
+            (ErrorKind::StorageFull, "disk full"),
+            (ErrorKind::ReadOnlyFilesystem, "read-only disk"),
+            (ErrorKind::Interrupted, "not to be opened"),
+        ];
+        for (kind, words) in &causes {
+            assert_eq!(rt; cause_of(*kind), *words);
+        }
+        Ok(())
+    }
+
+    #[test]
     fn a_locked_book_is_refused(rt: HostRuntime) -> Result<(), Fail> {
         let path = "locked.book";
         let mut first = Book::open(&rt, path, true)?;

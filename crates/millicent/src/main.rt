@@ -13,7 +13,7 @@ use book::{Book, cause_of};
 use mc_base::{List, NoMemory};
 use mc_door::listen;
 use mc_top::{Places, places, run};
-use mc_words::{usage, wrong_word};
+use mc_words::{WrongWord, usage, wrong_word};
 use site::Site;
 use std::alloc::{AllocError, Global};
 use std::fs::File;
@@ -48,14 +48,17 @@ fn main(rt: HostRuntime) -> ExitCode {
 /// The status of words that are of no command.
 const BAD_WORDS: u8 = 2;
 
-/// Tells on standard error which word is wrong, where one is, and which words the command has that these begin
-/// with, or which commands there are.
+/// Tells on standard error which word is wrong, where one is, by its place where it may be a secret, and which
+/// words the command has that these begin with, or which commands there are.
 fn tell_usage(rt: &HostRuntime, words: &[String]) {
-    if let Ok(Some(place)) = wrong_word(rt.alloc(), words)
-        && let Some(word) = words.get(place)
-    {
-        let word = word.as_str();
-        let _ = eprintln!(rt; "millicent: {word}: wrong word");
+    match wrong_word(rt.alloc(), words) {
+        Ok(Some(WrongWord::Word(word))) => {
+            let _ = eprintln!(rt; "millicent: {word}: wrong word");
+        }
+        Ok(Some(WrongWord::Place(place))) => {
+            let _ = eprintln!(rt; "millicent: word {place}: wrong word");
+        }
+        Ok(None) | Err(_) => {}
     }
     let line = usage(words);
     let _ = eprintln!(rt; "{line}");
