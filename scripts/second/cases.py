@@ -3,11 +3,13 @@ import re
 
 import forms_verbs
 import ledger_verbs
+import market
 import stage_verbs
 from bytes_text import CaseError, bytes_of, words_of
 from setting import Setting
 
-VERBS = {**stage_verbs.VERBS, **forms_verbs.VERBS, **ledger_verbs.VERBS}
+VERBS = {**stage_verbs.VERBS, **forms_verbs.VERBS, **ledger_verbs.VERBS,
+         **market.VERBS}
 NAME = re.compile("[a-z0-9_]+")
 
 

@@ -582,7 +582,7 @@ def broker_request(numbers, h, pool):
 
 def brokers():
     out = Cases("Histories of a broker, with accounts, draws, licences, stock, sales and credits: the answers of the ledger\n"
-                "over times, targets and limits; and which entry may follow those before it.")
+                "over times, targets and limits; and which of them are lawful.")
     numbers, pool, stock = Numbers(16), [], {vendor: [] for vendor in VENDORS[1:3]}
 
     def piece(name, issuer, vendor, value, identity, cust):
@@ -606,8 +606,8 @@ def brokers():
         lines, size = [], length(h.book())
         if len(h.entries) > 2:
             place = numbers.between(1, len(h.entries) - 1)
-            lines += ["book " + spoiled(numbers, h, place), "follows %d" % place]
-        lines += ["book " + h.book(), *("follows %d" % number for number in range(1, len(h.entries)))]
+            lines += ["book " + spoiled(numbers, h, place), "lawful"]
+        lines += ["book " + h.book(), "lawful"]
         for ask in range(8):
             if ask == 6:
                 lines.append("limits %d %d" % (numbers.of((2**40, size, size + 60 + numbers.below(120))),

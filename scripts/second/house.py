@@ -5,7 +5,7 @@ from forms import Terms
 from heads import HeadReader
 from journal import BadEntry, Halted, NotJournal, Replay, found
 from ledger import FULL, History, answer, is_refusal, journal_full, may_follow, refusal_of, reply_of
-from payloads import GOODS, SITE, TERMS, entry_of
+from payloads import GOODS, SITE, TERMS, VENDOR, entry_of
 from refusals import refused
 from stage import DiskFault, LinkFault
 
@@ -111,15 +111,15 @@ class House:
             self.stage.send(reply[PAGE:])
 
 
-def opened(stage, limits):
-    """The house of a book."""
+def opened(stage, limits, site=VENDOR):
+    """The house of a book of this kind of site."""
     history = History()
     try:
         replay = Replay(stage)
         gate = 8
         while read := replay.next():
             gate, entry = read
-            if not history.entries and entry.kind == SITE and entry.site != 0:
+            if not history.entries and entry.kind == SITE and entry.site != site:
                 raise Ends.refused(refused(52))
             if not may_follow(history, entry, limits.series):
                 raise unlawful(gate)
@@ -166,6 +166,6 @@ def bench(order, stage):
     own, licensed = (Terms(i, 4096, 8192, (order.secret,), (order.secret,)) for i in (0, 1))
     house = SimpleNamespace(keep=600, fee=0, clear=True, terms=own)
     entries = [
-        entry_of(SITE, 0, site=0, name=order.name, house=house), entry_of(TERMS, 0, terms=licensed),
+        entry_of(SITE, 0, site=VENDOR, name=order.name, house=house), entry_of(TERMS, 0, terms=licensed),
         entry_of(GOODS, 0, target=order.target, price=order.price, goods=0, contents=order.contents)]
     return House(History(entries), stage, FULL, None, has_clock=False)

@@ -6,7 +6,7 @@ from types import SimpleNamespace
 from desk import Desk, is_stock_for, read_errand
 from forms import Fault, epoch_of, id_of, issuer_of, read_scrip, reply_signature, request_signature, series_of
 from payloads import (
-    ACCEPT, ACCOUNT, DEPOSIT, DRAW, GOODS, LICENCE, MINT, SITE, STOCK, TERMS, WITHDRAW, entry_of)
+    ACCEPT, ACCOUNT, BROKER, DEPOSIT, DRAW, GOODS, LICENCE, MINT, SITE, STOCK, TERMS, VENDOR, WITHDRAW, entry_of)
 from refusals import Refusal, refused
 
 MOST_CONTENTS = 2**26
@@ -62,11 +62,11 @@ class History:
 
     @property
     def is_vendor(self):
-        return self.site is not None and self.site.site == 0
+        return self.site is not None and self.site.site == VENDOR
 
     @property
     def is_broker(self):
-        return self.site is not None and self.site.site == 1
+        return self.site is not None and self.site.site == BROKER
 
     def push(self, entry):
         number = len(self.entries)
@@ -285,7 +285,7 @@ def may_follow(history, entry, series):
         given = answer(history, entry.moment, Limits(series=series), request)
         return isinstance(given, SimpleNamespace) and given.payload == entry.payload
     if entry.kind == SITE:
-        return not history.entries and entry.site == 0
+        return not history.entries and entry.site in (VENDOR, BROKER)
     if entry.kind in (TERMS, GOODS, MINT):
         return history.is_vendor and vendor_may_enter(history, entry, series)
     return history.is_broker and broker_may_enter(history, entry)
@@ -336,31 +336,71 @@ def reply_bytes(status, date, kind, refusal, price, change, sign, contents):
     return "\r\n".join(lines).encode() + contents
 
 
+def drawn_at(history, target):
+    """The account, the order and the amount of a draw that is asked of a broker; None where none is."""
+    errand = read_errand(target) if history.is_broker else None
+    return errand[1:] if errand and errand[0] == "draw" else None
+
+
 def signed(history, request, status, refusal, price, change, contents):
-    """The digits of a reply's signature."""
+    """The digits of a reply's signature, `-` where nobody's secret is known. To a draw it is that of the key of the
+    account, with `-` in place of a scrip text."""
     head = ("%d %s %s %s\n" % (status, refusal, price, change)).encode()
-    secret = secret_of(history, read_scrip(request.scrip))
-    return reply_signature(request.scrip, request.target, head, contents, secret).hex()
+    drawn = drawn_at(history, request.target)
+    if drawn:
+        text, secret = b"-", history.desk.keys.get(drawn[0])
+    else:
+        text, secret = request.scrip, secret_of(history, read_scrip(request.scrip))
+    return reply_signature(text, request.target, head, contents, secret).hex() if secret else "-"
+
+
+def draw_reply(history, entry):
+    """The first reply of a Draw entry: the line of the drawn piece."""
+    _, _, amount = drawn_at(history, entry.target)
+    terms = history.terms[0]
+    text = terms.scrip_text(history.site.name, amount, entry.drawn, entry.drawn, b"")
+    contents = text + b" " + terms.secret(entry.drawn).hex().encode() + b"\n"
+    sign = signed(history, Request(entry.target, None, None), 200, "-", str(amount), "-", contents)
+    return reply_bytes(200, entry.moment, 1, "-", str(amount), "-", sign, contents)
+
+
+def sold_by(history, entry, number):
+    """The kind and the bytes of what an Accept entry of goods or credit brings."""
+    if entry.deed[0] == 2:
+        return 1, b"%d\n" % entry.deed[1]
+    goods = history.goods_before[number]
+    return goods.goods, goods.contents
 
 
 def reply_of(history, number):
-    """The first reply of an Accept entry."""
+    """The first reply of a Draw entry, or of an Accept entry of goods or credit."""
     entry = history.entries[number]
-    piece, goods = read_scrip(entry.scrip), history.goods_before[number]
+    if entry.kind == DRAW:
+        return draw_reply(history, entry)
+    piece, (kind, contents) = read_scrip(entry.scrip), sold_by(history, entry, number)
     change = "-"
     if entry.change is not None:
         rest = piece.value - entry.price
         change = history.terms[0].scrip_text(history.site.name, rest, entry.change, piece.cust, piece.props).decode()
     price = str(entry.price)
-    sign = signed(history, Request(entry.target, entry.scrip, None), 200, "-", price, change, goods.contents)
-    return reply_bytes(200, entry.moment, goods.goods, "-", price, change, sign, goods.contents)
+    sign = signed(history, Request(entry.target, entry.scrip, None), 200, "-", price, change, contents)
+    return reply_bytes(200, entry.moment, kind, "-", price, change, sign, contents)
+
+
+def asked_price(history, target):
+    """What a target costs: goods at a vendor, a sale and its fee at a broker; None where nothing is sold there."""
+    if history.is_vendor:
+        goods = goods_at(history, target)
+        return goods.price if goods else None
+    errand = read_errand(target)
+    return errand[2] + history.site.house.fee if errand and errand[0] == "buy" else None
 
 
 def refusal_of(history, time, request, refusal):
     """The reply of a refusal; the request is None where a head was refused or nothing is told of it."""
     price = "-"
-    if request and refusal.number == 20 and goods_at(history, request.target):
-        price = str(goods_at(history, request.target).price)
+    if request and refusal.number == 20 and asked_price(history, request.target) is not None:
+        price = str(asked_price(history, request.target))
     elif refusal.number == 31:
         price = str(refusal.kept[0])
     sign = "-"

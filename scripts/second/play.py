@@ -5,7 +5,7 @@ from types import SimpleNamespace
 from forms import Terms, id_of, read_scrip
 from house import House
 from ledger import FULL, History, answer, is_refusal
-from payloads import GOODS, SITE, TERMS, entry_of
+from payloads import GOODS, SITE, TERMS, VENDOR, entry_of
 
 NAME, PERIOD, LINK_HEADS, KEEP = b"play.example", 2048, 1000, 60
 # Longer plays are told by the rules alone, since the house here looks through all entries.
@@ -64,7 +64,7 @@ class Player(House):
     def __init__(self, links):
         house = SimpleNamespace(keep=KEEP, fee=0, clear=True, terms=OWN)
         entries = [
-            entry_of(SITE, 0, site=0, name=NAME, house=house), entry_of(TERMS, 0, terms=ISSUER),
+            entry_of(SITE, 0, site=VENDOR, name=NAME, house=house), entry_of(TERMS, 0, terms=ISSUER),
             entry_of(GOODS, 0, target=b"/p", price=25, goods=0, contents=b"ok")]
         super().__init__(History(entries), links, FULL, None)
         self.told, self.takings, self.change, self.pieces = Counter(), 0, 0, []

@@ -5,7 +5,7 @@ import play
 from forms import MOST_VALUE, Terms, digest_of, is_name, is_target, whole_number
 from house import Ends, bench, founded, opened
 from ledger import FULL
-from payloads import GOODS, MINT, SITE, TERMS, entry_of
+from payloads import GOODS, MINT, SITE, TERMS, VENDOR, entry_of
 from refusals import refused
 from stage import LinkFault
 
@@ -164,7 +164,7 @@ def once(order, stage):
 
 def init(order, stage):
     house = SimpleNamespace(keep=order.keep, fee=0, clear=order.clear, terms=order.terms)
-    entry = entry_of(SITE, stage.now(), site=0, name=order.name, house=house)
+    entry = entry_of(SITE, stage.now(), site=VENDOR, name=order.name, house=house)
     founded(stage, entry)
     return b"founded %s\n" % order.name
 

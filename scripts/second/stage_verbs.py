@@ -6,8 +6,8 @@ from forms import MOMENTS, MOST_VALUE, Fault
 from heads import HeadReader
 from house import Ends, opened
 from journal import BadEntry, Halted, NotJournal, Replay, found
-from ledger import History, Limits, Request, answer, first_unlawful, is_refusal, may_follow
-from payloads import read_entry
+from ledger import History, Limits, Request, answer, first_unlawful, is_refusal
+from payloads import BROKER, LICENCE, STOCK, VENDOR, read_entry
 from program import BadWords, add_terms, bench, mint_pieces, parsed, places, put_goods, run, set_price
 from refusals import refused
 from setting import U32, changed, data, maybe_data, number, up_to, word_bytes
@@ -51,16 +51,20 @@ def do_run(setting, words):
     return ["run %d" % status] + setting.ended(stage)
 
 
-def do_serve(setting, words):
+def do_serve(setting, words, site=VENDOR):
     links, = setting.arguments(words, up_to(U32))
     stage = setting.stage()
-    return ["serve " + served(stage, setting.limits, links)] + setting.ended(stage)
+    return ["serve " + served(stage, setting.limits, links, site)] + setting.ended(stage)
 
 
-def served(stage, limits, links):
-    """How serving ends."""
+def do_desk(setting, words):
+    return do_serve(setting, words, BROKER)
+
+
+def served(stage, limits, links, site):
+    """How serving ends, as a house of this kind of site."""
     try:
-        house = opened(stage, limits)
+        house = opened(stage, limits, site)
     except Ends as end:
         return end.line.decode().rstrip("\n")
     try:
@@ -263,9 +267,13 @@ def do_answer(setting, words):
 
 
 def house_answer(setting, time, request):
-    """What a house answers that opens the book and raises its time."""
+    """What a house of the book's kind of site answers that opens the book and raises its time. A broker's has no room
+    for licences and stock."""
+    history = History(history_of(setting))
+    if any(entry.kind in (LICENCE, STOCK) for entry in history.entries):
+        return "closed"
     try:
-        house = opened(Stage(setting.book, readings=[time]), setting.limits)
+        house = opened(Stage(setting.book, readings=[time]), setting.limits, BROKER if history.is_broker else VENDOR)
     except Ends:
         return "closed"
     house.raise_time()
@@ -284,15 +292,6 @@ def do_lawful(setting, words):
     setting.arguments(words)
     number_of_entry = first_unlawful(history_of(setting), setting.limits.series)
     return ["lawful" if number_of_entry is None else "unlawful %d" % number_of_entry]
-
-
-def do_follows(setting, words):
-    place, = setting.arguments(words, number)
-    entries = history_of(setting)
-    if place >= len(entries):
-        raise CaseError("there is no such entry")
-    follows = may_follow(History(entries[:place]), entries[place], setting.limits.series)
-    return ["follows yes" if follows else "follows no"]
 
 
 def by_hand(name, call, *kinds):
@@ -328,9 +327,9 @@ def end_by_hand(setting, words):
 
 VERBS = {
     "book": set_book, "link": set_link, "clock": set_clock, "fail": set_fail, "books": set_books, "limits": set_limits,
-    "run": do_run, "serve": do_serve, "found": do_found, "goods": do_goods, "price": do_price, "licence": do_licence,
+    "run": do_run, "serve": do_serve, "desk": do_desk, "found": do_found, "goods": do_goods, "price": do_price, "licence": do_licence,
     "mint": do_mint, "coming": do_coming, "replay": do_replay, "heads": do_heads, "whole": do_whole, "crash": do_crash, "once": do_once,
-    "places": do_places, "answer": do_answer, "lawful": do_lawful, "follows": do_follows,
+    "places": do_places, "answer": do_answer, "lawful": do_lawful,
     "write": by_hand("write", done(Stage.write), number, data), "cut": by_hand("cut", done(Stage.cut), number),
     "sync": by_hand("sync", done(Stage.sync)), "size": by_hand("size", Stage.size),
     "read": by_hand("read", lambda stage, at, length: shown(stage.read(at, length)), number, number),

@@ -1,17 +1,19 @@
 //! Lines that ask what the entries of the book say.
 
+ghost use Rattle.std.specs.Prelude.{[]};
 ghost use Rattle.mc_records.specs.Limits.{AreInRange};
 
 use crate::program_verbs::unopened;
+use broker_core::Desk;
 use case_lines::{Asked, Fault, Lines, State, number};
-use house_core::Verdict;
+use house_core::{Trade, Verdict};
 use house_opening::open_house;
 use ledger_model::History;
 use mc_base::{List, Moment};
 use mc_records::{Limits, MOST_REFUSAL_BYTES, Refusal, Request, put_refusal_text};
 use mc_stage::{Failing, Stage};
 use scrip_journal::{OpenFault, Replay, open_journal};
-use slow_ledger::{ModelAnswer, slow_answer, slow_follows, slow_lawful};
+use slow_ledger::{ModelAnswer, slow_answer, slow_lawful};
 use std::alloc::Global;
 use vendor_core::Shelf;
 
@@ -25,7 +27,6 @@ pub(crate) fn ask(
     Some(match verb {
         b"answer" => answer(state, args, out),
         b"lawful" if args.is_empty() => lawful(state, out),
-        b"follows" => follows(state, args, out),
         _ => return None,
     })
 }
@@ -44,7 +45,8 @@ fn answer(state: &mut State, args: &[&[u8]], out: &mut Lines) -> Result<(), Faul
     let history = history(state)?;
     let told = slow_answer(state.alloc, &history, time, limits, &request)?;
     show_ledger(&told, out);
-    match judged(state.alloc, stage_of_book(state)?, limits, time, &request) {
+    let book = stage_of_book(state)?;
+    match judged_of_kind(state.alloc, book, limits, time, &request) {
         Some(verdict) => show_house(&verdict, out),
         None => out.line("house closed"),
     }
@@ -64,25 +66,16 @@ fn lawful(state: &mut State, out: &mut Lines) -> Result<(), Fault> {
     Ok(())
 }
 
-fn follows(state: &mut State, args: &[&[u8]], out: &mut Lines) -> Result<(), Fault> {
-    let [place] = *args else {
-        return Err(Fault::Arguments);
-    };
-    let place = number(place)? as usize;
-    let limits = state.limits;
-    let history = history(state)?;
-    if !limits.are_in_range() || place >= history.len() {
-        return Err(Fault::Value);
-    }
-    let follows = slow_follows(state.alloc, &history, place, limits)?;
-    out.line(if follows { "follows yes" } else { "follows no" });
-    Ok(())
-}
-
 /// A stage that has the book, and no more.
 fn stage_of_book(state: &State) -> Result<Stage, Fault> {
-    let alloc = state.alloc;
-    let contents = Vec::from_slice(alloc, &state.setting.book)?;
+    stage_of(
+        state.alloc,
+        Vec::from_slice(state.alloc, &state.setting.book)?,
+    )
+}
+
+/// A stage that has a book of these bytes, and no more.
+fn stage_of(alloc: Global, contents: Vec<u8>) -> Result<Stage, Fault> {
     let failing = Failing {
         disk: List::of(Vec::new(alloc)),
         link: List::of(Vec::new(alloc)),
@@ -92,9 +85,19 @@ fn stage_of_book(state: &State) -> Result<Stage, Fault> {
 
 /// The entries of the book.
 fn history(state: &State) -> Result<History, Fault> {
-    match open_journal(state.alloc, stage_of_book(state)?, Limits::FULL) {
+    history_on(state.alloc, stage_of_book(state)?)
+}
+
+/// The entries of a book of these bytes.
+pub(crate) fn history_of(alloc: Global, book: Vec<u8>) -> Result<History, Fault> {
+    history_on(alloc, stage_of(alloc, book)?)
+}
+
+/// The entries of the book that a stage has.
+fn history_on(alloc: Global, stage: Stage) -> Result<History, Fault> {
+    match open_journal(alloc, stage, Limits::FULL) {
         Ok(mut replay) => {
-            let history = read_all(state.alloc, &mut replay);
+            let history = read_all(alloc, &mut replay);
             let _stage = replay.close();
             history
         }
@@ -126,26 +129,52 @@ fn read_all(alloc: Global, replay: &mut Replay<Stage>) -> Result<History, Fault>
     Ok(history)
 }
 
-/// What a house that opens the book says of a request at this time; None where it is not opened.
-fn judged(
+/// What a house of the kind of the book's site says of a request at this time; None where none opens it.
+fn judged_of_kind(
     alloc: Global,
-    stage: Stage,
+    book: Stage,
     limits: Limits,
     time: Moment,
     request: &Request<'_>,
 ) -> Option<Verdict>
     requires { AreInRange limits }
 {
-    match open_house(alloc, stage, limits, Shelf::new(alloc)) {
+    let book = match judged(alloc, book, limits, Shelf::new(alloc), time, request) {
+        Ok(verdict) => return Some(verdict),
+        Err(book) => book,
+    };
+    match judged(alloc, book, limits, Desk::new(alloc), time, request) {
+        Ok(verdict) => Some(verdict),
+        Err(book) => {
+            let _book = book;
+            None
+        }
+    }
+}
+
+/// What a house that opens the book with this trade says of a request at this time. `Err` hands the book back, where
+/// it is not opened.
+fn judged<T: Trade>(
+    alloc: Global,
+    stage: Stage,
+    limits: Limits,
+    trade: T,
+    time: Moment,
+    request: &Request<'_>,
+) -> Result<Verdict, Stage>
+    requires limits { AreInRange limits }
+    requires trade { (T.trade trade).represents [] }
+{
+    match open_house(alloc, stage, limits, trade) {
         Ok(mut house) => {
             let _time = house.raise(time);
             let verdict = house.judge(request);
             let _stage = house.close();
-            Some(verdict)
+            Ok(verdict)
         }
         Err(fault) => {
-            let _unopened = unopened(fault);
-            None
+            let (_, stage) = unopened(fault);
+            Err(stage)
         }
     }
 }

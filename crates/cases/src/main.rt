@@ -6,6 +6,7 @@
 
 mod files;
 mod ledger_verbs;
+mod market_verbs;
 mod operator_verbs;
 mod program_verbs;
 

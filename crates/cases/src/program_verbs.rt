@@ -1,6 +1,10 @@
 //! Lines that run the program over a stage, or a house that serves, and those that read words.
 
+ghost use Rattle.std.specs.Prelude.{[]};
+
+use broker_core::Desk;
 use case_lines::{Fault, Lines, State, number, show_book, small};
+use house_core::Trade;
 use house_opening::open_house;
 use house_serving::{ServeOut, serve_links};
 use mc_base::List;
@@ -19,7 +23,8 @@ pub(crate) fn act(
 ) -> Option<Result<(), Fault>> {
     Some(match verb {
         b"run" => run_words(state, args, out),
-        b"serve" => serve(state, args, out),
+        b"serve" => serve(state, args, Shelf::new(state.alloc), out),
+        b"desk" => serve(state, args, Desk::new(state.alloc), out),
         b"crash" => crash(state, args, out),
         b"once" => once_words(state, args, out),
         b"places" => places_of(state, args, out),
@@ -77,7 +82,15 @@ impl End {
     }
 }
 
-fn serve(state: &mut State, args: &[&[u8]], out: &mut Lines) -> Result<(), Fault> {
+/// Serves links with the book, as a house that carries this trade.
+fn serve<T: Trade>(
+    state: &mut State,
+    args: &[&[u8]],
+    trade: T,
+    out: &mut Lines,
+) -> Result<(), Fault>
+    requires { (T.trade trade).represents [] }
+{
     let [links] = *args else {
         return Err(Fault::Arguments);
     };
@@ -87,7 +100,7 @@ fn serve(state: &mut State, args: &[&[u8]], out: &mut Lines) -> Result<(), Fault
         return Err(Fault::Value);
     }
     let stage = state.make_stage()?;
-    let (end, stage) = match open_house(state.alloc, stage, limits, Shelf::new(state.alloc)) {
+    let (end, stage) = match open_house(state.alloc, stage, limits, trade) {
         Ok(house) => served(serve_links(house, links)),
         Err(fault) => unopened(fault),
     };
@@ -95,7 +108,7 @@ fn serve(state: &mut State, args: &[&[u8]], out: &mut Lines) -> Result<(), Fault
     state.show_stage(stage, out)
 }
 
-fn served(out: ServeOut<Stage, Shelf>) -> (End, Stage) {
+fn served<T: Trade>(out: ServeOut<Stage, T>) -> (End, Stage) {
     match out {
         ServeOut::Done(house, served) => (End::Done(served), house.close()),
         ServeOut::Link(house) => (End::Link, house.close()),
