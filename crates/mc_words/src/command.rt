@@ -1,11 +1,12 @@
 ghost use Rattle.std.specs.Prelude.{map, string_bytes, IfOk, IfSome, IsNone};
 ghost use Rattle.mc_words.specs.Commands.{AreWords, AreNoWords};
 
-use crate::init::Founder;
+use crate::broker_operation::{BrokerOperation, broker_operation_of};
+use crate::init::{BrokerFounder, Founder, VendorFounder};
 use crate::once::Shop;
 use crate::operation::{Operation, operation_of};
 use crate::play::Playing;
-use crate::serve::Server;
+use crate::serve::{BrokerServer, Server, VendorServer};
 use crate::spelled::values_of;
 use std::alloc::{AllocError, Global};
 
@@ -22,6 +23,12 @@ pub enum Command<'a> {
     Play(Playing),
     /// Has something done to the book of a vendor, as its operator.
     Operate(Operation<'a>),
+    /// Founds a broker in a book.
+    BrokerInit(Founder<'a>),
+    /// Serves the broker of a book.
+    BrokerServe(Server<'a>),
+    /// Has something done to the book of a broker, as its operator.
+    BrokerOperate(BrokerOperation<'a>),
 }
 
 /// The command that the words, those after the program's name, are of; None exactly where they are of
@@ -35,10 +42,10 @@ pub fn command_of<'a>(alloc: Global, words: &'a [String]) -> Result<Option<Comma
     if let Some(shop) = values_of::<Shop>(alloc, words)? {
         return Ok(Some(Command::Once(shop)));
     }
-    if let Some(founder) = values_of::<Founder>(alloc, words)? {
+    if let Some(VendorFounder(founder)) = values_of::<VendorFounder>(alloc, words)? {
         return Ok(Some(Command::Init(founder)));
     }
-    if let Some(server) = values_of::<Server>(alloc, words)? {
+    if let Some(VendorServer(server)) = values_of::<VendorServer>(alloc, words)? {
         return Ok(Some(Command::Serve(server)));
     }
     if let Some(playing) = values_of::<Playing>(alloc, words)? {
@@ -46,6 +53,15 @@ pub fn command_of<'a>(alloc: Global, words: &'a [String]) -> Result<Option<Comma
     }
     if let Some(operation) = operation_of(alloc, words)? {
         return Ok(Some(Command::Operate(operation)));
+    }
+    if let Some(BrokerFounder(founder)) = values_of::<BrokerFounder>(alloc, words)? {
+        return Ok(Some(Command::BrokerInit(founder)));
+    }
+    if let Some(BrokerServer(server)) = values_of::<BrokerServer>(alloc, words)? {
+        return Ok(Some(Command::BrokerServe(server)));
+    }
+    if let Some(operation) = broker_operation_of(alloc, words)? {
+        return Ok(Some(Command::BrokerOperate(operation)));
     }
     Ok(None)
 }
