@@ -8,7 +8,7 @@ use Rattle.mc_words.specs.declared.command.Command.{Command}
 use Rattle.mc_words.specs.declared.command.Command.TheVariants.{Once, Init, Serve, Play, Operate, BrokerInit, BrokerServe, BrokerOperate}
 use Rattle.mc_words.specs.declared.table.CommandName.TheVariants as names
 use Rattle.mc_words.specs.Table.{AreOf}
-use Rattle.mc_words.specs.Words.{Shop, FindsShop, Founder, FindsVendorFounder, FindsBrokerFounder, Server, FindsServer, Playing, FindsPlaying, Listing, FindsListing, Pricing, FindsPricing, Licensing, FindsLicensing, Minting, FindsMinting, Opening, FindsOpening, Payment, FindsPayment, Inquiry, FindsInquiry, Taking, FindsTaking, Stocking, FindsStocking}
+use Rattle.mc_words.specs.Words.{Shop, FindsShop, Founder, FindsVendorFounder, FindsBrokerFounder, Server, FindsServer, Playing, FindsPlaying, Listing, FindsListing, Pricing, FindsPricing, Licensing, FindsLicensing, Minting, FindsMinting, FindsOpening, FindsPayment, FindsInquiry, FindsTaking, FindsStocking}
 
 -- the words are `vendor once`, and spell this shop
 abbrev pub AreOnceWords : List (List ℕ) → Shop → Type 0

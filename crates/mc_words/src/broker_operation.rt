@@ -57,11 +57,11 @@ pub(crate) fn broker_operation_of<'a>(
     if let Some(opening) = values_of::<Opening>(alloc, words)? {
         return Ok(Some(BrokerOperation::Account(opening)));
     }
-    if let Some(Deposit(payment)) = values_of::<Deposit>(alloc, words)? {
-        return Ok(Some(BrokerOperation::Deposit(payment)));
+    if let Some(deposit) = values_of::<Deposit>(alloc, words)? {
+        return Ok(Some(BrokerOperation::Deposit(deposit.0)));
     }
-    if let Some(Withdrawal(payment)) = values_of::<Withdrawal>(alloc, words)? {
-        return Ok(Some(BrokerOperation::Withdraw(payment)));
+    if let Some(withdrawal) = values_of::<Withdrawal>(alloc, words)? {
+        return Ok(Some(BrokerOperation::Withdraw(withdrawal.0)));
     }
     if let Some(inquiry) = values_of::<Inquiry>(alloc, words)? {
         return Ok(Some(BrokerOperation::Balance(inquiry)));

@@ -17,7 +17,7 @@ use scrip_form::{Name, Terms};
 use std::marker::Model;
 
 /// How long a request gets its first reply again where the words do not say it, in seconds.
-const KEEP: u32 = 600;
+pub const KEEP: u32 = 600;
 
 /// What a site is founded with. Contracts see it as its texts and numbers.
 #[derive(Drop)]
@@ -126,16 +126,31 @@ fn may_founder(found: &Found<'_>) -> bool
     book & name & terms & keep
 }
 
-/// What a vendor is founded with. Contracts see it as the founder.
+/// What a vendor is founded with: it has no fee. Contracts see it as the founder.
 #[derive(Drop)]
-pub(crate) struct VendorFounder<'a>(pub(crate) Founder<'a>);
+pub struct VendorFounder<'a> {
+    founder: Founder<'a>,
+}
 
 impl<'a> Model for VendorFounder<'a> {
+    ghost use Rattle.std.specs.Prelude.{◌≡◌};
     ghost use Rattle.mc_words.specs.Words.{Founder as Founding};
 
     ghost Value = { Founding };
 
-    ghost view = { λ f. f.0 };
+    ghost view = { λ f. f.founder };
+
+    ghost invariant = { λ f. f.founder.fee ≡ 0 };
+}
+
+impl<'a> VendorFounder<'a> {
+    /// The founder.
+    pub fn founder(&self) -> &Founder<'a>
+        ensures value { result.now ≡ self.now }
+        ensures fee { self.now.fee ≡ 0 }
+    {
+        &self.founder
+    }
 }
 
 /// `vendor init BOOK NAME PERIOD LIFE SCRIP CUSTOMER [--keep SECONDS] [--clear]`.
@@ -152,7 +167,8 @@ impl<'a> Spelled<'a> for VendorFounder<'a> {
 
     fn read(found: &Found<'a>) -> Option<VendorFounder<'a>> {
         let fee = Amount::new(0)?;
-        Some(VendorFounder(founder_in(found, fee)?))
+        let founder = founder_in(found, fee)?;
+        Some(VendorFounder { founder })
     }
 
     fn fits(found: &Found<'a>) -> bool {
@@ -162,14 +178,25 @@ impl<'a> Spelled<'a> for VendorFounder<'a> {
 
 /// What a broker is founded with. Contracts see it as the founder.
 #[derive(Drop)]
-pub(crate) struct BrokerFounder<'a>(pub(crate) Founder<'a>);
+pub struct BrokerFounder<'a> {
+    founder: Founder<'a>,
+}
 
 impl<'a> Model for BrokerFounder<'a> {
     ghost use Rattle.mc_words.specs.Words.{Founder as Founding};
 
     ghost Value = { Founding };
 
-    ghost view = { λ f. f.0 };
+    ghost view = { λ f. f.founder };
+}
+
+impl<'a> BrokerFounder<'a> {
+    /// The founder.
+    pub fn founder(&self) -> &Founder<'a>
+        ensures { result.now ≡ self.now }
+    {
+        &self.founder
+    }
 }
 
 /// `broker init BOOK NAME PERIOD LIFE SCRIP CUSTOMER FEE [--keep SECONDS] [--clear]`.
@@ -186,7 +213,8 @@ impl<'a> Spelled<'a> for BrokerFounder<'a> {
 
     fn read(found: &Found<'a>) -> Option<BrokerFounder<'a>> {
         let fee = amount_or_zero_in(found, "FEE")?;
-        Some(BrokerFounder(founder_in(found, fee)?))
+        let founder = founder_in(found, fee)?;
+        Some(BrokerFounder { founder })
     }
 
     fn fits(found: &Found<'a>) -> bool {
