@@ -4,6 +4,7 @@ ghost use Rattle.mc_records.specs.Errands.{errand_of};
 ghost use Rattle.mc_records.specs.Views.{entry};
 ghost use Rattle.ledger_model.specs.Replies.{errand_price};
 ghost use Rattle.ledger_model.specs.Lines.{as_line};
+ghost use Rattle.account_ledger.specs.Ledger.{Represents};
 ghost use Rattle.house_core.specs.Learning.{CommandFits};
 ghost use Rattle.house_core.specs.Replying.{IsOfSite};
 ghost use Rattle.house_core.specs.Views.{offer_of};
@@ -37,6 +38,13 @@ impl Desk {
             accounts: AccountLedger::new(alloc),
             fee: Amount::new(0).unwrap(),
         }
+    }
+
+    /// The accounts, and what the operator put in and paid out.
+    pub fn accounts(&self) -> &AccountLedger
+        ensures { (h : History) → DeskRepresents self.now h → Represents result.now h }
+    {
+        &self.accounts
     }
 
     /// Credit for the whole of a piece in an account.
