@@ -5,8 +5,7 @@ ghost use Rattle.scrip_form.specs.Issuing.{Issuing};
 ghost use Rattle.scrip_form.specs.Identities.{series_of};
 ghost use Rattle.change_issue.specs.Registers.{IsRaisedAt};
 ghost use Rattle.ledger_model.specs.Histories.{History};
-ghost use Rattle.ledger_model.specs.Stock.{stock_pieces, licence_in, ids_of, names_vendor, sale_of, for_sale, stock_ids, are_stock};
-ghost use Rattle.ledger_model.specs.Laws.{AreDistinct};
+ghost use Rattle.ledger_model.specs.Stock.{licence_in, ids_of, names_vendor, sale_of, for_sale, stock_ids, are_stock};
 ghost use Rattle.scrip_form.specs.Scrip.{Scrip};
 ghost use Rattle.mc_records.specs.Entry.{Entry, Licence, Stock, Held};
 ghost use Rattle.stock_rack.specs.Racks.{is_open, sold_first};
@@ -46,8 +45,8 @@ pub fn stalls_follow_entries()
         → Shows h vendor s → Shows (h ++ e ∷ []) vendor s' }
     ensures sale { (h : History) (vendor : List ℕ) (s s' : StallView) (e : Entry) (t value id : ℕ) (p : Scrip)
         → sale_of e ≡ Some (record { vendor = vendor; value = value; stock = true; id = id })
-        → names_vendor vendor e ≡ false → AreDistinct (stock_pieces h vendor)
-        → for_sale h t vendor value ≡ Some p → p.id ≡ id → s'.licence ≡ s.licence → s'.ids ≡ s.ids
+        → names_vendor vendor e ≡ false → for_sale h t vendor value ≡ Some p → p.id ≡ id
+        → s'.licence ≡ s.licence → s'.ids ≡ s.ids
         → ((u : ℕ) → stocked_at s' u
         ≡ (if value == u then sold_first t (stocked_at s u) else stocked_at s u))
         → Shows h vendor s → Shows (h ++ e ∷ []) vendor s' }
