@@ -252,7 +252,7 @@ count_with h vendor e x is series =
     let one : count_by test (x ∷ []) ≡ cond (test x) 1 0 + 0 = counts_cons test x [] in
     omega (arith, snoc, one)
 
-known_alike : (s s' : StallView) → terms_of s' ≡ terms_of s → s'.ids ≡ s.ids → is_known s' ≡ is_known s
+pub known_alike : (s s' : StallView) → terms_of s' ≡ terms_of s → s'.ids ≡ s.ids → is_known s' ≡ is_known s
 known_alike s s' terms ids =
     ap₂ (λ (b : Bool) (k : StockIdsView). b || not (eqb (length k.ids) 0)) (some_of s'.licence ∙ ap is_some terms ∙ sym (some_of s.licence)) ids
   where

@@ -3,3 +3,5 @@ mod StepLaws
 pub mod ShownLaws
 pub mod EntryLaws
 pub mod StockedLaws
+pub mod VendorLaws
+pub mod FollowLaws

@@ -4,7 +4,9 @@ ghost use Rattle.std.specs.Option.{option_or};
 ghost use Rattle.scrip_form.specs.Issuing.{Issuing};
 ghost use Rattle.scrip_form.specs.Identities.{series_of};
 ghost use Rattle.change_issue.specs.Registers.{IsRaisedAt};
+ghost use Rattle.mc_records.specs.declared.limits.Limits.{Limits as Bounds};
 ghost use Rattle.ledger_model.specs.Histories.{History};
+ghost use Rattle.ledger_model.specs.Lawful.{MayFollow};
 ghost use Rattle.ledger_model.specs.Stock.{licence_in, ids_of, names_vendor, sale_of, for_sale, stock_ids, are_stock};
 ghost use Rattle.scrip_form.specs.Scrip.{Scrip};
 ghost use Rattle.mc_records.specs.Entry.{Entry, Licence, Stock, Held};
@@ -12,6 +14,7 @@ ghost use Rattle.stock_rack.specs.Racks.{is_open, sold_first};
 ghost use Rattle.vendor_stalls.specs.Stalls.{StallView, terms_of, sold_count, was_stocked, stocked_at, is_known};
 ghost use Rattle.vendor_stalls.specs.Listed.{listed_at};
 ghost use Rattle.vendor_stalls.specs.Shown.{IsOfOther, Shows};
+ghost use Rattle.vendor_stalls.specs.Vendors.{StallsAllow, StallsAnswer};
 
 /// The first open piece of a value in a stall that shows a vendor is the first piece that is for sale, and what may
 /// be put into stock is told by the identities of the stall.
@@ -50,4 +53,12 @@ pub fn stalls_follow_entries()
         → ((u : ℕ) → stocked_at s' u
         ≡ (if value == u then sold_first t (stocked_at s u) else stocked_at s u))
         → Shows h vendor s → Shows (h ++ e ∷ []) vendor s' }
+{}
+
+/// An entry that may follow at a broker is one that the stalls allow, and of a sale holds what the stalls answered.
+pub fn stalls_follow()
+    ensures allowed { (limits : Bounds) (h : History) (e : Entry) → MayFollow limits h e
+        → StallsAllow h e }
+    ensures answered { (limits : Bounds) (h : History) (e : Entry) → MayFollow limits h e
+        → StallsAnswer limits.series h e }
 {}
