@@ -15,7 +15,7 @@ use Rattle.scrip_form.specs.Scrip.{Scrip}
 use Rattle.scrip_form.specs.Reading.{scrip_of}
 use Rattle.mc_records.specs.Entry.{Held, Entry, Licence, Stock}
 use Rattle.ledger_model.specs.Histories.{History}
-use Rattle.ledger_model.specs.Stock.{is_licence_of, licence_terms, licence_in, stock_of, stock_in, names_vendor, knows_vendor, held_piece, held_pieces, ids_of, stock_ids, stock_pieces, for_sale, may_be_stock, are_new, are_stock, Sale, sale_of, sales, is_of_vendor, is_of_stock, is_licensed, is_sold, licensed_count}
+use Rattle.ledger_model.specs.Stock.{is_licence_of, licence_terms, licence_in, stock_of, stock_in, names_vendor, knows_vendor, held_piece, held_pieces, ids_of, stock_ids, for_sale, may_be_stock, are_new, are_stock, Sale, sale_of, sales, is_of_vendor, is_of_stock, is_licensed, is_sold, licensed_count}
 use Rattle.ledger_model.specs.Laws.{AreDistinct}
 use Rattle.ledger_model.proofs.ListLaws.{counts_append, counts_cons}
 use Rattle.change_issue.specs.Registers.{Register, count_in}

@@ -1,5 +1,5 @@
 -- What may follow, as the stalls answer it.
-use Rattle.std.proofs.Common.{◌≡◌, ℕ, List, Option, refl, sym, ap, subst, ◌∙◌}
+use Rattle.std.proofs.Common.{◌≡◌, ℕ, List, Option, sym, ap, subst}
 use Rattle.std.specs.Prelude.{IfSome, Bool}
 use Rattle.mc_records.specs.declared.limits.Limits.{Limits}
 use Rattle.mc_records.specs.Entry.{goods_deed, sale, credit, Entry, Accept, Licence, Stock}

@@ -1,18 +1,16 @@
 -- The stalls of all vendors where one of them changes, and after one more entry.
-use Rattle.std.proofs.Common.{◌≡◌, ℕ, zero, suc, ◌+◌, ◌<◌, ◌≤◌, Bool, true, false, cond, eqb, not, List, [], ◌∷◌, ◌++◌, length, get_or, Option, Some, None, refl, sym, ap, ap₂, subst, ◌∙◌, arith, bytes_eq, length-append}
-use Rattle.std.specs.Prelude.{IsTrue, IsNone, IsSome, IfSome, option_and_then, option_map, unwrap_or, is_none, is_some, find, slice_get, if◌then◌else◌}
+use Rattle.std.proofs.Common.{◌≡◌, ℕ, zero, suc, ◌+◌, ◌<◌, Bool, true, false, cond, List, [], ◌∷◌, ◌++◌, length, get_or, Option, Some, None, refl, sym, ap, ap₂, subst, ◌∙◌, arith, bytes_eq, length-append}
+use Rattle.std.specs.Prelude.{IsSome, IfSome, option_and_then, option_map, unwrap_or, is_none, is_some, slice_get}
 use Rattle.std.specs.Bool.{OnTrue}
 use Rattle.std.specs.Option.{option_or}
-use Rattle.std.specs.List.{list_any}
 use Rattle.std.specs.Borrow.{Bor}
 use Rattle.std.proofs.Math.ListN.{set}
 use Rattle.std.proofs.lemmas.Bool.{false≢true, true≢false}
-use Rattle.std.proofs.lemmas.Option.{slice_get_read, same_Some, none-some}
+use Rattle.std.proofs.lemmas.Option.{slice_get_read, same_Some}
 use Rattle.std.proofs.lemmas.Slice.Eq.{bytes_eq-Decides}
-use Rattle.scrip_form.specs.Identities.{series_of}
 use Rattle.scrip_form.specs.Issuing.{Issuing}
 use Rattle.scrip_form.specs.Scrip.{Scrip}
-use Rattle.mc_records.specs.Entry.{Deed, goods_deed, sale, credit, Held, Entry, Accept, Licence, Stock, moment_of}
+use Rattle.mc_records.specs.Entry.{Held, Entry, Accept, Licence, Stock, moment_of}
 use Rattle.mc_records.specs.Errands.{Errand, buy, pay_in, draw, errand_of}
 use Rattle.mc_records.specs.ErrandViews.{errand}
 use Rattle.mc_records.specs.Views.{deed_of, entry}
@@ -23,18 +21,18 @@ use Rattle.mc_records.specs.declared.record.RecordDeed.{RecordDeed}
 use Rattle.mc_records.specs.declared.record.RecordDeed.TheVariants as deeds
 use Rattle.mc_records.specs.declared.piece_list.PieceList.{PieceList}
 use Rattle.ledger_model.specs.Histories.{History}
-use Rattle.ledger_model.specs.Stock.{Sale, sale_at, sale_of, licence_in, names_vendor, is_of_vendor, for_sale}
+use Rattle.ledger_model.specs.Stock.{Sale, sale_at, sale_of, licence_in, names_vendor, for_sale}
 use Rattle.ledger_model.specs.Taken.{IsSupplied, IsMade, IsFromStock}
 use Rattle.ledger_model.proofs.ListLaws.{get_stays, get_end}
 use Rattle.name_places.specs.NamePlaces.{NamePlacesView, place_of}
-use Rattle.stock_rack.specs.Racks.{RackView, is_open, sold_first}
+use Rattle.stock_rack.specs.Racks.{RackView}
 use Rattle.stock_rack.specs.Shelves.{pieces_at}
 use Rattle.vendor_stalls.specs.declared.target.Purchase.{Purchase}
-use Rattle.vendor_stalls.specs.Stalls.{StockIdsView, has_id, StallView, empty_stall, terms_of, sold_count, was_stocked, stocked_at, is_known, IsAlike}
+use Rattle.vendor_stalls.specs.Stalls.{StockIdsView, has_id, StallView, empty_stall, terms_of, sold_count, IsAlike}
 use Rattle.vendor_stalls.specs.Shown.{IsOfOther, Shows}
 use Rattle.vendor_stalls.specs.Vendors.{StallsView, AreFiled, stall_of, StallsRepresent, AreAlike, asked_to_buy, StallsAllow}
 use Rattle.vendor_stalls.proofs.ShownLaws.{first_is}
-use Rattle.vendor_stalls.proofs.EntryLaws.{stall_stays, licence_shown, sale_shown, stock_sale_shown, known_alike}
+use Rattle.vendor_stalls.proofs.EntryLaws.{stall_stays, known_alike}
 
 -- ---- the stall that stands in the place of a vendor
 

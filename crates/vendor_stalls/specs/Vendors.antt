@@ -1,9 +1,9 @@
 -- The stalls of all vendors, and what they are of a history.
-use Rattle.std.specs.Prelude.{◌≡◌, ℕ, ◌<◌, Bool, true, false, IsTrue, IsNone, IsSome, IfSome, List, length, slice_get, Option, Some, None, option_map, option_and_then, unwrap_or}
+use Rattle.std.specs.Prelude.{◌≡◌, ℕ, ◌<◌, false, IsTrue, IsNone, IsSome, IfSome, List, length, slice_get, Option, Some, None, option_map, option_and_then, unwrap_or}
 use Rattle.std.specs.Borrow.{Bor}
 use Rattle.scrip_form.specs.Identities.{series_of}
-use Rattle.mc_records.specs.Errands.{Errand, buy, errand_of}
-use Rattle.mc_records.specs.Entry.{Deed, sale, Entry, Accept, Licence, Stock, Fits, moment_of}
+use Rattle.mc_records.specs.Errands.{Errand, buy}
+use Rattle.mc_records.specs.Entry.{Entry, Licence, Stock, Fits, moment_of}
 use Rattle.ledger_model.specs.Histories.{History}
 use Rattle.ledger_model.specs.Stock.{Sale, sale_of, licence_in, stock_ids, are_stock}
 use Rattle.ledger_model.specs.Taken.{IsSupplied}

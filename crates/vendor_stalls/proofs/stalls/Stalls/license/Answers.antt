@@ -1,5 +1,4 @@
-use Rattle.std.proofs.Common.{sym, ap, ◌∙◌}
-use Rattle.std.specs.Prelude.{is_none}
+use Rattle.std.proofs.Common.{sym, ◌∙◌}
 use Rattle.vendor_stalls.specs.Stalls.{terms_of}
 use Rattle.mc_records.specs.Entry.{Licence}
 use Rattle.vendor_stalls.proofs.EntryLaws.{licence_shown}

@@ -1,6 +1,6 @@
-use Rattle.std.proofs.Common.{[], List, ℕ, Option, ap, sym, subst}
+use Rattle.std.proofs.Common.{[], ℕ, Option, ap, sym, subst}
 use Rattle.std.specs.Prelude.{option_and_then, slice_get, unwrap_or}
-use Rattle.vendor_stalls.specs.Stalls.{empty_stall, StallView}
+use Rattle.vendor_stalls.specs.Stalls.{empty_stall}
 use Rattle.vendor_stalls.specs.Shown.{Shows}
 use Rattle.vendor_stalls.proofs.VendorLaws.{nothing_shown}
 use Rattle.vendor_stalls.proofs.stalls.Stalls.new.Goals as goal

@@ -1,4 +1,4 @@
-use Rattle.std.proofs.Common.{◌≡◌, ℕ, List, [], Option, Some, None, true, false, sym, subst, refl, ◌∙◌}
+use Rattle.std.proofs.Common.{[], Option, None, true, false, subst, refl}
 use Rattle.std.specs.Prelude.{IfSome}
 use Rattle.mc_records.specs.Entry.{Entry, Accept}
 use Rattle.mc_records.specs.Views.{deed_of}

@@ -1,4 +1,4 @@
-use Rattle.std.proofs.Common.{true, List, sym, ap, subst, ◌∙◌}
+use Rattle.std.proofs.Common.{true, sym, subst, ◌∙◌}
 use Rattle.ledger_model.specs.Stock.{Sale}
 use Rattle.vendor_stalls.specs.Shown.{Shows}
 use Rattle.vendor_stalls.proofs.EntryLaws.{stock_sale_shown}

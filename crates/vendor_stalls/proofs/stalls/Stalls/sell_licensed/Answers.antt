@@ -1,4 +1,4 @@
-use Rattle.std.proofs.Common.{false, sym, ap, ◌∙◌}
+use Rattle.std.proofs.Common.{false, ap, ◌∙◌}
 use Rattle.std.specs.Prelude.{is_some}
 use Rattle.ledger_model.specs.Stock.{Sale}
 use Rattle.vendor_stalls.proofs.EntryLaws.{sale_shown}

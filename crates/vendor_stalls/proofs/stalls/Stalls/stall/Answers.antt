@@ -1,5 +1,4 @@
-use Rattle.std.proofs.Common.{◌≡◌, None, ap, sym, subst, ◌∙◌}
-use Rattle.vendor_stalls.specs.Stalls.{empty_stall}
+use Rattle.std.proofs.Common.{ap, sym, subst, ◌∙◌}
 use Rattle.vendor_stalls.specs.Shown.{Shows}
 use Rattle.vendor_stalls.specs.Vendors.{StallsView, stall_of}
 use Rattle.vendor_stalls.proofs.VendorLaws.{at_place, at_is, none_at}
