@@ -5,3 +5,4 @@ pub mod EntryLaws
 pub mod StockedLaws
 pub mod VendorLaws
 pub mod FollowLaws
+pub mod HeldLaws

@@ -12,7 +12,7 @@ free c = sym c.get.ensures ∙ none_from c.get.result (sym c.is_some.ensures ∙
 
 put : (c : After-push_reserved) (q : List ℕ) → place_of c.put.new.self q ≡ cond (bytes_eq q c.args.vendor.now) (Some (length c.self.inside.stalls.items)) (place_of c.self.inside.places q)
 put c q =
-    let number : c.len.result ≡ length c.self.inside.stalls.items = omega (arith, c.len.ensures, c.reserve.ensures.ok, c.reserve.ensures.len, c.self.inside.stalls.ok) in
+    let number : c.len.result ≡ length c.self.inside.stalls.items = omega (arith, c.len.ensures, c.reserve.ensures.len, c.self.inside.stalls.ok) in
     c.put.ensures.places c.args.vendor.now c.in_ok-reserve-2.ensures.room q
     ∙ ap (λ (o : Option ℕ). cond (bytes_eq q c.args.vendor.now) (Some c.len.result) o) (c.reserve-2.ensures.places q)
     ∙ ap (λ (n : ℕ). cond (bytes_eq q c.args.vendor.now) (Some n) (place_of c.self.inside.places q)) number
