@@ -1,7 +1,7 @@
 -- What a broker has of one vendor to sell.
 use Rattle.std.specs.Prelude.{ℕ, ◌+◌, ◌==◌, ◌||◌, ◌<◌, ◌^◌, ◌≡◌, not, Bool, IsTrue, IfSome, List, [], length, Option, None, option_map, unwrap_or, is_some}
 use Rattle.std.specs.List.{list_any}
-use Rattle.scrip_form.specs.Issuing.{Issuing}
+use Rattle.scrip_form.specs.Issuing.{Issuing, HasPeriod}
 use Rattle.change_issue.specs.Registers.{Register, has_room, count_in}
 use Rattle.stock_rack.specs.declared.piece.StockPiece.{StockPiece}
 use Rattle.stock_rack.specs.Racks.{RackView}
@@ -55,6 +55,7 @@ is_known s = is_some s.licence || not (length s.ids.ids == 0)
 pub record IsShort (r : Register) : Type 0 where
   pub most : r.most ≡ 2 ^ 32
   pub below : (series : ℕ) → count_in r series < 2 ^ 32
+  pub period : HasPeriod r.terms.period r.terms.life
 
 -- there is room for one more piece of a series under a licence
 pub record HasPlace (series : ℕ) (r : Register) : Type 0 where

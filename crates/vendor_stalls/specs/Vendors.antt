@@ -59,10 +59,11 @@ StallsHaveRoom s e = IfSome (sale_of e) (HasRoomToSell s)
 
 -- ---- what they are told
 
--- a Stock entry is in its ranges; of others nothing is asked
-abbrev pub StockFits : Entry → Type 0
-StockFits (Stock m vendor pieces) = Fits (Stock m vendor pieces)
-StockFits _ = Unit {0}
+-- a Licence or a Stock entry is in its ranges; of others nothing is asked
+abbrev pub StallFits : Entry → Type 0
+StallFits (Licence m vendor terms) = Fits (Licence m vendor terms)
+StallFits (Stock m vendor pieces) = Fits (Stock m vendor pieces)
+StallFits _ = Unit {0}
 
 -- What has to hold of the stalls for an entry of an operator to come next: a vendor has one licence, and what is put
 -- into his stock is new and of him.

@@ -3,6 +3,7 @@ ghost use Rattle.std.specs.Bool.{OnTrue, OnFalse};
 ghost use Rattle.std.specs.List.{list_any};
 ghost use Rattle.std.specs.Option.{option_or};
 ghost use Rattle.scrip_form.specs.Identities.{series_of};
+ghost use Rattle.scrip_form.specs.Issuing.{HasPeriod};
 ghost use Rattle.change_issue.specs.Registers.{count_in, IsRaisedAt};
 ghost use Rattle.mc_records.specs.declared.ranges.TheConstants.{MOST_PIECES};
 ghost use Rattle.mc_records.specs.PieceViews.{pieces_of};
@@ -58,7 +59,8 @@ impl Stall {
 
     /// The terms of the licence; None exactly where there is none.
     pub fn licence(&self) -> Option<&Terms>
-        ensures { option_map (λ t. t.now) result ≡ terms_of self.now }
+        ensures terms { option_map (λ t. t.now) result ≡ terms_of self.now }
+        ensures period { IfSome result (λ t. HasPeriod t.now.period t.now.life) }
     {
         match &self.licence {
             Some(issuer) => Some(issuer.terms()),
@@ -141,6 +143,7 @@ impl Stall {
     /// Takes a licence under which nothing was sold; false where one stands, and all is then as it was. It takes no
     /// memory.
     pub fn learn_licence(&mut self, terms: &Terms) -> bool
+        requires { HasPeriod terms.now.period terms.now.life }
         ensures learned { result ≡ is_none (terms_of self.old) }
         ensures terms { terms_of self.new ≡ option_or (terms_of self.old) (Some terms.now) }
         ensures counts { (s : ℕ) → sold_count self.new s ≡ sold_count self.old s }

@@ -1,5 +1,6 @@
 ghost use Rattle.std.specs.Prelude.{◌≡◌, ◌↔◌, ◌++◌, ◌∷◌, [], ℕ, List, Option, Some, false, true, IsTrue, IsFalse, IsNone, IsSome, OnOk};
 ghost use Rattle.scrip_form.specs.Identities.{series_of};
+ghost use Rattle.scrip_form.specs.Issuing.{HasPeriod};
 ghost use Rattle.scrip_form.specs.Texts.{IsName};
 ghost use Rattle.mc_records.specs.Entry.{Entry, Accept, Licence, Stock};
 ghost use Rattle.mc_records.specs.PieceViews.{pieces_of};
@@ -10,7 +11,7 @@ ghost use Rattle.ledger_model.specs.Taken.{IsFromStock};
 ghost use Rattle.vendor_stalls.specs.Stalls.{HasSeries};
 ghost use Rattle.vendor_stalls.specs.Listed.{HasRoomFor};
 ghost use Rattle.vendor_stalls.specs.Shown.{Shows};
-ghost use Rattle.vendor_stalls.specs.Vendors.{stall_of, found_stall, StallsRepresent, AreAlike, HasStall, StallsHaveRoom, StockFits, StallsAllow, StallsAnswer, HasRoomToSell};
+ghost use Rattle.vendor_stalls.specs.Vendors.{stall_of, found_stall, StallsRepresent, AreAlike, HasStall, StallsHaveRoom, StallFits, StallsAllow, StallsAnswer, HasRoomToSell};
 
 use crate::stall::Stall;
 use crate::target::bought;
@@ -89,7 +90,7 @@ impl Stalls {
     /// here. It takes no memory.
     pub fn learn(&mut self, r: &Record<'_>) -> bool
         requires room { StallsHaveRoom self.old (entry r.now) }
-        requires fits { StockFits (entry r.now) }
+        requires fits { StallFits (entry r.now) }
         ensures exact { (h : History) → StallsRepresent self.old h
             → IsTrue result ↔ StallsAllow h (entry r.now) }
         ensures learned { (most : ℕ) (h : History) → StallsRepresent self.old h
@@ -172,7 +173,8 @@ impl Stalls {
 
     /// Takes the licence of a vendor, who has a stall.
     fn license(&mut self, vendor: &[u8], terms: &Terms) -> bool
-        requires { HasStall self.old vendor.now }
+        requires placed { HasStall self.old vendor.now }
+        requires period { HasPeriod terms.now.period terms.now.life }
         ensures exact { (h : History) → StallsRepresent self.old h
             → IsTrue result ↔ IsNone (licence_in h vendor.now) }
         ensures learned { (h : History) (m : ℕ) → StallsRepresent self.old h → IsTrue result
