@@ -85,6 +85,13 @@ impl Stall {
         self.licence.is_some() || !self.ids.is_empty()
     }
 
+    /// Whether a piece of an identity was ever in stock.
+    pub fn has(&self, id: u64) -> bool
+        ensures { result ≡ was_stocked self.now id }
+    {
+        self.ids.has(id)
+    }
+
     /// The first piece of a value in stock that is for sale at a moment.
     pub fn first(&self, value: Amount, now: Moment) -> Option<StockPiece>
         ensures { result ≡ find (is_open now) (stocked_at self.now value) }
