@@ -1,4 +1,4 @@
-ghost use Rattle.std.specs.Prelude.{◌≡◌, ◌≤◌, length};
+ghost use Rattle.std.specs.Prelude.{◌≡◌, ◌≤◌, length, IfOk};
 ghost use Rattle.mc_records.specs.declared.ranges.TheConstants.{MOST_PIECES};
 ghost use Rattle.piece_lines.specs.Rules.{passes};
 ghost use Rattle.piece_lines.specs.PieceLines.{input_lines, lines_from};
@@ -13,7 +13,8 @@ use scrip_form::read_scrip;
 /// and answers how many there are. `Err` is the line at which the input breaks. It takes no memory.
 pub fn read_piece_ids(bytes: &[u8], rule: &PieceRule, ids: &mut [u64]) -> Result<u16, u16>
     requires { MOST_PIECES ≤ length ids.old }
-    ensures { TellsIds (input_lines (passes rule.now) bytes.now) ids.new result }
+    ensures tells { TellsIds (input_lines (passes rule.now) bytes.now) ids.new result }
+    ensures few { IfOk result (λ count. count ≤ MOST_PIECES) }
 {
     if bytes.is_empty() {
         return Err(0);
@@ -24,7 +25,8 @@ pub fn read_piece_ids(bytes: &[u8], rule: &PieceRule, ids: &mut [u64]) -> Result
 /// Puts the identities of the pieces of the lines into the front of a list.
 fn put_ids(bytes: &[u8], rule: &PieceRule, ids: &mut [u64]) -> Result<u16, u16>
     requires { MOST_PIECES ≤ length ids.old }
-    ensures { TellsIds (lines_from (passes rule.now) MOST_PIECES 1 bytes.now) ids.new result }
+    ensures tells { TellsIds (lines_from (passes rule.now) MOST_PIECES 1 bytes.now) ids.new result }
+    ensures few { IfOk result (λ count. count ≤ MOST_PIECES) }
 {
     let mut rest = bytes;
     for before in 0..MOST_PIECES {

@@ -15,8 +15,8 @@ use Rattle.piece_lines.proofs.ids.put_ids.Goals as goal
 pub loop-before-init : goal.loop-before-init
 loop-before-init c = ([], refl, refl, none_before (lines_from (passes c.args.rule.now) MOST_PIECES 1 c.args.bytes.now))
 
-pub returns-then-is_empty : goal.returns-then-is_empty
-returns-then-is_empty c =
+pub returns-then-is_empty-clause-tells : goal.returns-then-is_empty-clause-tells
+returns-then-is_empty-clause-tells c =
     let i = c.loop-before.invariant in
     let test = passes c.args.rule.now in
     let n = c.loop-before.before in
@@ -28,8 +28,8 @@ returns-then-is_empty c =
       ids' = i.2;
     }
 
-pub returns-in-Err : goal.returns-in-Err
-returns-in-Err c =
+pub returns-in-Err-clause-tells : goal.returns-in-Err-clause-tells
+returns-in-Err-clause-tells c =
     let i = c.loop-before.invariant in
     let test = passes c.args.rule.now in
     let n = c.loop-before.before in
@@ -59,8 +59,8 @@ loop-before-preserved c =
       line_read test (MOST_PIECES - n) (MOST_PIECES - (n + 1)) (n + 1) rest i.0 (lines_from test MOST_PIECES 1 c.args.bytes.now) p more one some c.in-Ok.ensures.gives i.3,
     )
 
-pub returns-then-is_empty-2 : goal.returns-then-is_empty-2
-returns-then-is_empty-2 c =
+pub returns-then-is_empty-2-clause-tells : goal.returns-then-is_empty-2-clause-tells
+returns-then-is_empty-2-clause-tells c =
     let i = c.loop-before.invariant in
     let test = passes c.args.rule.now in
     let n = c.loop-before.before in
@@ -73,8 +73,8 @@ returns-then-is_empty-2 c =
       ids' = ap (λ (k : ℕ). take k c.loop-before.ids) (sym all) ∙ i.2;
     }
 
-pub returns-else-is_empty-2 : goal.returns-else-is_empty-2
-returns-else-is_empty-2 c =
+pub returns-else-is_empty-2-clause-tells : goal.returns-else-is_empty-2-clause-tells
+returns-else-is_empty-2-clause-tells c =
     let i = c.loop-before.invariant in
     let test = passes c.args.rule.now in
     let n = c.loop-before.before in
