@@ -2,5 +2,6 @@
 #![tactic(auto)]
 
 mod desk;
+mod sale;
 
 pub use desk::Desk;
