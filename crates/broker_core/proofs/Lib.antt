@@ -1,1 +1,2 @@
 mod DeskLaws
+mod SaleLaws
