@@ -1,38 +1,36 @@
 -- What a desk represents at one more entry, and what it answers.
-use Rattle.std.proofs.Common.{◌≡◌, ℕ, ◌+◌, ◌<◌, ◌≤◌, Bool, true, false, cond, not, ◌||◌, List, [], ◌∷◌, ◌++◌, Option, Some, None, Result, Ok, Err, option_map, unwrap_or, IsSome, refl, sym, ap, ap₂, subst, ◌∙◌, arith, find, ltb}
+use Rattle.std.proofs.Common.{◌≡◌, ℕ, ◌+◌, ◌<◌, ◌≤◌, true, false, ◌||◌, List, [], ◌∷◌, ◌++◌, Option, Some, None, Result, Ok, Err, option_map, unwrap_or, IsSome, refl, sym, ap, subst, ◌∙◌, arith}
 use Rattle.std.specs.Borrow.{Bor}
-use Rattle.std.specs.Prelude.{is_some, IfSome, ◌==◌, ◌↔◌, option_and_then, bytes_eq}
+use Rattle.std.specs.Prelude.{is_some, IfSome, ◌==◌, ◌↔◌}
 use Rattle.std.specs.Result.{result_ok}
 use Rattle.std.proofs.lemmas.Option.{same_Some}
 use Rattle.std.specs.List.{list_any}
-use Rattle.std.proofs.lemmas.Bool.{lt-ltb, le-ltb, eq-eqb, false≢true}
-use Rattle.std.proofs.lemmas.List.Folds.{list_any-append}
+use Rattle.std.proofs.lemmas.Bool.{eq-eqb, false≢true}
 use Rattle.scrip_form.specs.Issuing.{Issuing}
 use Rattle.mc_records.specs.declared.ranges.TheConstants.{MOST_IN_ACCOUNT}
 use Rattle.mc_base.specs.declared.amount.TheConstants.Amount.{MOST}
-use Rattle.scrip_form.specs.Scrip.{Scrip, IsPiece}
+use Rattle.scrip_form.specs.Scrip.{Scrip}
 use Rattle.scrip_form.specs.Reading.{scrip_of}
 use Rattle.scrip_form.specs.Told.{IsTold}
 use Rattle.scrip_form.proofs.Laws.{scrip_of_tells}
 use Rattle.mc_records.specs.declared.limits.Limits.{Limits}
-use Rattle.mc_records.specs.declared.refusal.Refusal.TheVariants.{TooLittle, NoVendor, NoStock, NoSuchGoods}
+use Rattle.mc_records.specs.declared.refusal.Refusal.TheVariants.{NoSuchGoods}
 use Rattle.mc_records.specs.Views.{entry}
 use Rattle.mc_records.specs.declared.piece_list.PieceList.{PieceList}
 use Rattle.mc_records.specs.declared.record.Record.{Record}
 use Rattle.mc_records.specs.declared.record.Record.TheVariants as records
-use Rattle.mc_records.specs.Errands.{Errand, buy, pay_in, draw, IsErrand, errand_of}
+use Rattle.mc_records.specs.Errands.{Errand, buy, pay_in, draw, errand_of}
 use Rattle.mc_records.proofs.ErrandLaws.{errand_told}
-use Rattle.mc_records.specs.Entry.{Deed, goods_deed, sale, credit, House, SiteFits, Entry, Site, AddTerms, Goods, Accept, Mint, Account, Deposit, Withdraw, Draw, Licence, Stock, Got, Pend, Done, Refused}
+use Rattle.mc_records.specs.Entry.{goods_deed, sale, credit, Entry, Site, AddTerms, Goods, Accept, Mint, Account, Deposit, Withdraw, Draw, Licence, Stock, Got, Pend, Done, Refused}
 use Rattle.ledger_model.specs.declared.numbers.TheConstants.{BROKER_KIND}
 use Rattle.ledger_model.specs.Histories.{History}
 use Rattle.ledger_model.specs.Houses.{site_kind, is_vendor, is_broker, fee}
 use Rattle.ledger_model.specs.Orders.{Order, as_order, order_of}
 use Rattle.ledger_model.specs.Pieces.{piece_of}
-use Rattle.ledger_model.specs.Accounts.{account_in, account_key, key_in, credited_for, Movement, balance, last_order}
+use Rattle.ledger_model.specs.Accounts.{account_in, account_key, credited_for, Movement, balance, last_order}
 use Rattle.ledger_model.specs.Stock.{stock_ids}
-use Rattle.ledger_model.specs.Lines.{Stop, Refuse, ◌>>=◌, given, refused_if}
-use Rattle.ledger_model.specs.Stages.{Offer, Supply, supplied, sale_by}
-use Rattle.ledger_model.specs.Answer.{supply_of, errand_offer, broker_offer, offer, draw_in, Take, answer}
+use Rattle.ledger_model.specs.Lines.{Refuse}
+use Rattle.ledger_model.specs.Answer.{errand_offer, broker_offer, offer}
 use Rattle.ledger_model.specs.Lawful.{unbounded, request_of, draw_request}
 use Rattle.ledger_model.specs.Replies.{errand_price, sale_price, price_asked}
 use Rattle.ledger_model.proofs.TakenLaws.{taken_credit, taken_draw}
@@ -45,7 +43,6 @@ use Rattle.vendor_stalls.proofs.FollowLaws.{sale_answered}
 use Rattle.house_core.specs.Learning.{ByHouse, ByTrade, CommandFits}
 use Rattle.broker_core.specs.Desk.{IsOfBroker, DeskAllows, HasNothingOf, account_credited, credit_offer, fee_by}
 use Rattle.house_core.specs.Trade.{asked_of_account, draw_asked}
-use Rattle.house_core.specs.declared.offer.DrawAsk.{DrawAsk}
 
 -- ---- a broker
 
@@ -82,34 +79,6 @@ no_price fee (Some (buy vendor amount)) none = absurd cc
 no_price fee (Some (pay_in account)) none = refl
 no_price fee (Some (draw account order amount)) none = refl
 no_price fee None none = refl
-
--- a sale where the piece does not cover the price, and where it does
-module _ (limit t fee asked value price : ℕ) (supply : Supply) (costs : price ≡ asked + fee) where
-  supplied_now : Result Deed Stop
-  supplied_now = supplied limit t asked supply.licence supply.count supply.known supply.piece
-
-  offered : Deed → Result Offer Stop
-  offered deed = Ok (record { price = asked + fee; deed = deed })
-
-  pub too_little : value < price → Err (Refuse (TooLittle price)) ≡ sale_by limit t fee supply asked value
-  too_little low =
-      ap (λ (n : ℕ). little n) costs
-      ∙ sym (ap (λ (b : Bool). refused_if b (TooLittle (asked + fee)) >>= λ _. supplied_now >>= offered) (lt-ltb value (asked + fee) (omega (arith, low, costs))))
-    where
-      little : ℕ → Result Offer Stop
-      little n = Err (Refuse (TooLittle n))
-
-  covered : price ≤ value → (supplied_now >>= offered) ≡ sale_by limit t fee supply asked value
-  covered high = sym (ap (λ (b : Bool). refused_if b (TooLittle (asked + fee)) >>= λ _. supplied_now >>= offered) (le-ltb value (asked + fee) (omega (arith, high, costs))))
-
-  pub sold_for : price ≤ value → (deed : Deed) → Ok deed ≡ supplied_now → Ok (record { price = price; deed = deed }) ≡ sale_by limit t fee supply asked value
-  sold_for high deed is = ap (λ (n : ℕ). sold_at n) costs ∙ ap (λ (r : Result Deed Stop). r >>= offered) is ∙ covered high
-    where
-      sold_at : ℕ → Result Offer Stop
-      sold_at n = Ok (record { price = n; deed = deed })
-
-  pub not_sold : price ≤ value → (stop : Stop) → Err stop ≡ supplied_now → Err stop ≡ sale_by limit t fee supply asked value
-  not_sold high stop is = ap (λ (r : Result Deed Stop). r >>= offered) is ∙ covered high
 
 pub credits : (h : History) (t : ℕ) (limits : Limits) (value : ℕ) (o : Option Errand) (account : List ℕ) → Some account ≡ account_credited o → errand_offer h t limits value o ≡ credit_offer h account value
 credits h t limits value (Some (buy vendor asked)) account is = absurd cc

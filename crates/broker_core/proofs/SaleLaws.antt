@@ -1,8 +1,6 @@
 -- What is sold of a vendor, as the ledger answers it.
-use Rattle.std.proofs.Common.{◌≡◌, ℕ, ◌<◌, Bool, true, false, cond, not, List, [], Option, Some, None, Result, Ok, Err, option_map, unwrap_or, is_some, refl, sym, ap, ap₂, subst, ◌∙◌, find}
-use Rattle.std.specs.Prelude.{option_and_then, IfOk, is_none}
-use Rattle.std.proofs.lemmas.Bool.{false≢true, true≢false}
-use Rattle.std.proofs.lemmas.Option.{same_Some}
+use Rattle.std.proofs.Common.{◌≡◌, ℕ, Bool, true, false, cond, List, [], Option, Some, None, Result, Ok, Err, option_map, refl, sym, ap, ap₂, subst, ◌∙◌, find}
+use Rattle.std.specs.Prelude.{option_and_then, IfOk}
 use Rattle.scrip_form.specs.Identities.{series_of}
 use Rattle.scrip_form.specs.Issuing.{Issuing, series_at}
 use Rattle.scrip_form.specs.Scrip.{Scrip, scrip_body, scrip_text}
@@ -15,8 +13,8 @@ use Rattle.kept_replies.specs.declared.deed.Deed.{Deed}
 use Rattle.kept_replies.specs.declared.deed.Deed.TheVariants as kept
 use Rattle.ledger_model.specs.Histories.{History}
 use Rattle.ledger_model.specs.Houses.{version, certificate_in, secret_in}
-use Rattle.ledger_model.specs.Lines.{Stop, Refuse, ◌>>=◌, as_line, given, refused_if}
-use Rattle.ledger_model.specs.Stock.{Sale, sale_at, sold_held, licensed_held, licence_in, licensed_count, knows_vendor, for_sale, licensed_piece}
+use Rattle.ledger_model.specs.Lines.{Stop, Refuse, ◌>>=◌, as_line, given}
+use Rattle.ledger_model.specs.Stock.{sale_at, sold_held, licensed_held, licence_in, licensed_count, knows_vendor, for_sale, licensed_piece}
 use Rattle.ledger_model.specs.Stages.{supplied}
 use Rattle.ledger_model.specs.Replies.{Contents, sale_brought, contents_if}
 use Rattle.house_core.specs.Trade.{piece_brought, BringsFor}
@@ -24,7 +22,7 @@ use Rattle.house_core.specs.Views.{entry_deed}
 use Rattle.stock_rack.specs.declared.piece.StockPiece.{StockPiece}
 use Rattle.stock_rack.specs.Racks.{is_open}
 use Rattle.vendor_stalls.specs.Stalls.{StallView, terms_of, sold_count, stocked_at, is_known}
-use Rattle.vendor_stalls.specs.Listed.{piece_in_stock, held_in_stock}
+use Rattle.vendor_stalls.specs.Listed.{piece_in_stock}
 use Rattle.vendor_stalls.specs.Shown.{Shows}
 use Rattle.vendor_stalls.proofs.ShownLaws.{first_is}
 use Rattle.vendor_stalls.proofs.HeldLaws.{held_is}

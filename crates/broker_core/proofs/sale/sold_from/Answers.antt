@@ -1,4 +1,4 @@
-use Rattle.std.proofs.Common.{sym, ap, ◌∙◌}
+use Rattle.std.proofs.Common.{sym, ◌∙◌}
 use Rattle.house_core.specs.Trade.{BringsFor}
 use Rattle.vendor_stalls.proofs.HeldLaws.{piece_fits}
 use Rattle.broker_core.proofs.SaleLaws.{by_licence, made_brings, none_open, one_open, stock_brings, on_ok}

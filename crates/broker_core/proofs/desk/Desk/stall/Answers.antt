@@ -1,4 +1,3 @@
-use Rattle.std.proofs.Common.{refl}
 use Rattle.broker_core.proofs.DeskLaws.{nothing_of, none_found}
 use Rattle.broker_core.proofs.desk.Desk.stall.Goals as goal
 

@@ -20,8 +20,9 @@ returns-then-not-is_of_broker-clause-exact c limits h stands may =
     let e = entry c.args.r.now in
     elim c.then-not-is_of_broker.branch [
       | then-not-is_of_broker-via-then-not-is_of_broker w ↦
-          (λ ok. absurd (false≢true ok), λ b. absurd (not_by_trade _ h e (λ is. false≢true (sym w.if-not-is_of_broker.true ∙ c.is_of_broker.ensures.1 is)) b))
-      | then-not-is_of_broker-via-else-not-is_of_broker+then-not-learn_parts w ↦
-          (λ ok. absurd (false≢true ok),
-          λ b. absurd (false≢true (sym w.if-not-learn_parts.true ∙ (w.learn_parts.ensures.exact h stands).1 ((by_trade _ h e (c.is_of_broker.ensures.0 w.if-not-is_of_broker.false)).1 b))))
+          (λ ok. absurd (false≢true ok), λ b. absurd (not_by_trade (λ g x. Unit {0}) h e (λ is. false≢true (sym w.if-not-is_of_broker.true ∙ c.is_of_broker.ensures.1 is)) b))
+      | then-not-is_of_broker-via-else-not-is_of_broker+then-not-learn_parts w ↦ (
+        λ ok. absurd (false≢true ok),
+        λ b. absurd (false≢true (sym w.if-not-learn_parts.true ∙ (w.learn_parts.ensures.exact h stands).1 ((by_trade (λ g x. Unit {0}) h e (c.is_of_broker.ensures.0 w.if-not-is_of_broker.false)).1 b))),
+      )
     ]
