@@ -1,18 +1,11 @@
 -- What a desk represents at one more entry, and what it answers.
-use Rattle.std.proofs.Common.{◌≡◌, ℕ, ◌+◌, ◌<◌, ◌≤◌, true, false, ◌||◌, List, [], ◌∷◌, ◌++◌, Option, Some, None, Result, Ok, Err, option_map, unwrap_or, IsSome, refl, sym, ap, subst, ◌∙◌, arith}
+use Rattle.std.proofs.Common.{◌≡◌, ℕ, ◌<◌, true, false, ◌||◌, List, [], ◌∷◌, ◌++◌, Option, Some, None, Err, option_map, unwrap_or, refl, sym, ap, ◌∙◌, arith}
 use Rattle.std.specs.Borrow.{Bor}
-use Rattle.std.specs.Prelude.{is_some, IfSome, ◌==◌, ◌↔◌}
-use Rattle.std.specs.Result.{result_ok}
+use Rattle.std.specs.Prelude.{is_some, ◌==◌, ◌↔◌}
 use Rattle.std.proofs.lemmas.Option.{same_Some}
 use Rattle.std.specs.List.{list_any}
 use Rattle.std.proofs.lemmas.Bool.{eq-eqb, false≢true}
 use Rattle.scrip_form.specs.Issuing.{Issuing}
-use Rattle.mc_records.specs.declared.ranges.TheConstants.{MOST_IN_ACCOUNT}
-use Rattle.mc_base.specs.declared.amount.TheConstants.Amount.{MOST}
-use Rattle.scrip_form.specs.Scrip.{Scrip}
-use Rattle.scrip_form.specs.Reading.{scrip_of}
-use Rattle.scrip_form.specs.Told.{IsTold}
-use Rattle.scrip_form.proofs.Laws.{scrip_of_tells}
 use Rattle.mc_records.specs.declared.limits.Limits.{Limits}
 use Rattle.mc_records.specs.declared.refusal.Refusal.TheVariants.{NoSuchGoods}
 use Rattle.mc_records.specs.Views.{entry}
@@ -21,26 +14,22 @@ use Rattle.mc_records.specs.declared.record.Record.{Record}
 use Rattle.mc_records.specs.declared.record.Record.TheVariants as records
 use Rattle.mc_records.specs.Errands.{Errand, buy, pay_in, draw, errand_of}
 use Rattle.mc_records.proofs.ErrandLaws.{errand_told}
-use Rattle.mc_records.specs.Entry.{goods_deed, sale, credit, Entry, Site, AddTerms, Goods, Accept, Mint, Account, Deposit, Withdraw, Draw, Licence, Stock, Got, Pend, Done, Refused}
+use Rattle.mc_records.specs.Entry.{Deed, Entry, Site, AddTerms, Goods, Accept, Mint, Account, Deposit, Withdraw, Draw, Licence, Stock, Got, Pend, Done, Refused}
 use Rattle.ledger_model.specs.declared.numbers.TheConstants.{BROKER_KIND}
 use Rattle.ledger_model.specs.Histories.{History}
 use Rattle.ledger_model.specs.Houses.{site_kind, is_vendor, is_broker, fee}
 use Rattle.ledger_model.specs.Orders.{Order, as_order, order_of}
-use Rattle.ledger_model.specs.Pieces.{piece_of}
-use Rattle.ledger_model.specs.Accounts.{account_in, account_key, credited_for, Movement, balance, last_order}
 use Rattle.ledger_model.specs.Stock.{stock_ids}
 use Rattle.ledger_model.specs.Lines.{Refuse}
 use Rattle.ledger_model.specs.Answer.{errand_offer, broker_offer, offer}
-use Rattle.ledger_model.specs.Lawful.{unbounded, request_of, draw_request}
+use Rattle.ledger_model.specs.Lawful.{MayFollow}
 use Rattle.ledger_model.specs.Replies.{errand_price, sale_price, price_asked}
-use Rattle.ledger_model.proofs.TakenLaws.{taken_credit, taken_draw}
 use Rattle.account_ledger.specs.Ledger.{AccountsAnswer, PaymentFits}
 use Rattle.vendor_stalls.specs.declared.target.Purchase.{Purchase}
 use Rattle.vendor_stalls.specs.Stalls.{StallView, has_id, empty_stall}
 use Rattle.vendor_stalls.specs.Shown.{Shows}
 use Rattle.vendor_stalls.specs.Vendors.{found_stall, asked_to_buy, StallFits, StallsAllow, StallsAnswer}
-use Rattle.vendor_stalls.proofs.FollowLaws.{sale_answered}
-use Rattle.house_core.specs.Learning.{ByHouse, ByTrade, CommandFits}
+use Rattle.house_core.specs.Learning.{ByHouse, ByTrade, MayLearn, CommandFits}
 use Rattle.broker_core.specs.Desk.{IsOfBroker, DeskAllows, HasNothingOf, account_credited, credit_offer, fee_by}
 use Rattle.house_core.specs.Trade.{asked_of_account, draw_asked}
 
@@ -123,14 +112,6 @@ stall_fits (Licence m vendor terms) fits = fits
 stall_fits (Stock m vendor pieces) fits = fits
 stall_fits e fits = tt
 
--- a read piece is worth an amount at most
-piece_most : (text : List ℕ) (p : Scrip) → piece_of text ≡ Some p → p.value ≤ MOST
-piece_most text p is = go (scrip_of text) refl (scrip_of_tells text) is
-  where
-    go : (r : Result (Scrip × List ℕ) ℕ) → scrip_of text ≡ r → IsTold text r → option_map (λ x. x.0) (result_ok r) ≡ Some p → p.value ≤ MOST
-    go (Ok x) read told e = subst (λ (q : Scrip). q.value ≤ MOST) (same_Some x.0 p e) told.is_piece.most
-    go (Err place) read told e = absurd cc
-
 -- what a draw asks for is more than nothing
 pub order_some : (target : List ℕ) (o : Order) → Some o ≡ order_of target → 0 < o.amount
 order_some target o is = go (errand_of target) refl is
@@ -144,32 +125,26 @@ order_some target o is = go (errand_of target) refl is
     go (Some (pay_in account)) asks same = absurd cc
     go None asks same = absurd cc
 
-there : (o : Option Entry) (key : List ℕ) → option_map account_key o ≡ Some key → IsSome o
-there None key is = absurd cc
-there (Some x) key is = refl
+-- The house answers credits and draws by the accounts, and sales by the stalls: what holds of each entry that may
+-- follow holds of those that it answered.
+module _ (P : Limits → History → Entry → Type 0) (law : (limits : Limits) (h : History) (e : Entry) → MayFollow limits h e → P limits h e) where
+  pub accepted_by : (limits : Limits) (h : History) (m number : ℕ) (scrip target : List ℕ) (sign : Option (List ℕ)) (price : ℕ) (change : Option ℕ) (deed : Deed)
+      → MayLearn limits BROKER_KIND number h (Accept m scrip target sign price change deed) → P limits h (Accept m scrip target sign price change deed)
+  accepted_by limits h m number scrip target sign price change deed may = law limits h (Accept m scrip target sign price change deed) (record { in_order = may.in_order; allowed = may.by_house })
 
--- the house answers credits and draws by the accounts
-pub answered_by : (limits : Limits) (h : History) (e : Entry) → ByHouse limits BROKER_KIND h e → AccountsAnswer h e
-answered_by limits h (Accept m scrip target sign price change (credit after)) told =
-    let c = taken_credit h m (unbounded limits) (request_of scrip target sign) m scrip target sign price change after told in
-    let most : price ≤ MOST = omega (arith, piece_most scrip c.piece c.is_piece, c.price_is) in
-    let fits : balance h c.account + price ≤ MOST_IN_ACCOUNT = omega (arith, c.after_is, c.fits) in
-    subst (λ (o : Option Movement). IfSome o (λ x. IsSome (account_in h x.account) × (balance h x.account + x.amount ≤ MOST_IN_ACCOUNT) × (x.amount ≤ MOST)))
-    (sym (ap (λ (o : Option Errand). credited_for o price) c.asks)) (c.stands, fits, most)
-answered_by limits h (Accept m scrip target sign price change goods_deed) told = tt
-answered_by limits h (Accept m scrip target sign price change (sale stock id)) told = tt
-answered_by limits h (Draw m target sign drawn) told =
-    let d = taken_draw h m (unbounded limits) (draw_request target sign) m target sign drawn told in
-    subst (λ (o : Option Order). IfSome o (λ x. IsSome (account_in h x.account) × (last_order h x.account < x.order) × (x.amount ≤ balance h x.account)))
-    (sym d.asks) (there (account_in h d.order.account) d.key d.stands, d.rises, d.covered)
-answered_by limits h e told = tt
+  pub drawn_by : (limits : Limits) (h : History) (m number : ℕ) (target sign : List ℕ) (drawn : ℕ) → MayLearn limits BROKER_KIND number h (Draw m target sign drawn) → P limits h (Draw m target sign drawn)
+  drawn_by limits h m number target sign drawn may = law limits h (Draw m target sign drawn) (record { in_order = may.in_order; allowed = may.by_house })
 
--- the house answers sales by the stalls
-pub sold_by : (limits : Limits) (h : History) (e : Entry) → ByHouse limits BROKER_KIND h e → StallsAnswer limits.series h e
-sold_by limits h (Accept m scrip target sign price change goods_deed) told = tt
-sold_by limits h (Accept m scrip target sign price change (credit after)) told = tt
-sold_by limits h (Accept m scrip target sign price change (sale stock id)) told = sale_answered limits h m scrip target sign price change stock id told
-sold_by limits h e told = tt
+pub answered_by : ((limits : Limits) (h : History) (e : Entry) → MayFollow limits h e → AccountsAnswer h e)
+    → (limits : Limits) (number : ℕ) (h : History) (e : Entry) → MayLearn limits BROKER_KIND number h e → AccountsAnswer h e
+answered_by law limits number h (Accept m scrip target sign price change deed) may = accepted_by (λ l g x. AccountsAnswer g x) law limits h m number scrip target sign price change deed may
+answered_by law limits number h (Draw m target sign drawn) may = drawn_by (λ l g x. AccountsAnswer g x) law limits h m number target sign drawn may
+answered_by law limits number h e may = tt
+
+pub sold_by : ((limits : Limits) (h : History) (e : Entry) → MayFollow limits h e → StallsAnswer limits.series h e)
+    → (limits : Limits) (number : ℕ) (h : History) (e : Entry) → MayLearn limits BROKER_KIND number h e → StallsAnswer limits.series h e
+sold_by law limits number h (Accept m scrip target sign price change deed) may = accepted_by (λ l g x. StallsAnswer l.series g x) law limits h m number scrip target sign price change deed may
+sold_by law limits number h e may = tt
 
 -- the trade's half is what accounts and stalls allow
 pub by_trade : (passes : History → Entry → Type 0) (h : History) (e : Entry) → IsOfBroker e → DeskAllows h e ↔ ByTrade passes BROKER_KIND h e

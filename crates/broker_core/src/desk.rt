@@ -18,7 +18,7 @@ ghost use Rattle.broker_core.specs.Sales.{IsSale};
 ghost use Rattle.broker_core.specs.Desk.{DeskRepresents, DeskAllows, HasNothingOf, IsCredit, IsOfBroker, account_credited, credit_offer, fee_by};
 
 use crate::sale::sold_from;
-use account_ledger::{AccountLedger, order_of};
+use account_ledger::{AccountLedger, accounts_follow, order_of};
 use house_core::{Body, DrawAsk, Offer, SiteKind, Trade, Unlawful, body_of_deed};
 use kept_replies::Deed;
 use mc_base::{Amount, Moment, NoMemory};
@@ -27,7 +27,7 @@ use mc_records::{
 };
 use scrip_form::Name;
 use std::alloc::Global;
-use vendor_stalls::{Purchase, Stall, Stalls, bought};
+use vendor_stalls::{Purchase, Stall, Stalls, bought, stalls_follow};
 
 /// The trade of a broker: the accounts of its customers, the scrip of vendors that it sells, and its fee.
 #[derive(Drop)]
@@ -240,6 +240,8 @@ impl Trade for Desk {
     }
 
     fn learn(&mut self, _number: u64, r: &Record<'_>) -> Result<(), Unlawful> {
+        accounts_follow();
+        stalls_follow();
         if !is_of_broker(r) || !self.learn_parts(r) {
             return Err(Unlawful);
         }

@@ -1,4 +1,5 @@
-//! A broker: the accounts of its customers, which draws and credits move money in.
+//! A broker: the accounts of its customers, which draws and credits move money in, and the scrip of vendors that
+//! it sells.
 #![tactic(auto)]
 
 mod desk;

@@ -10,8 +10,8 @@ pub returns-clause-learned : goal.returns-clause-learned
 returns-clause-learned c limits h stands may =
     let e = entry c.args.r.now in
     record {
-      of_accounts = c.learn_parts.ensures.accounts h stands (answered_by limits h e may.by_house) c.if-not-learn_parts.false;
-      of_stalls = c.learn_parts.ensures.stalls limits.series h stands (sold_by limits h e may.by_house) c.if-not-learn_parts.false;
+      of_accounts = c.learn_parts.ensures.accounts h stands (answered_by c.accounts_follow.ensures.answered limits c.args._number h e may) c.if-not-learn_parts.false;
+      of_stalls = c.learn_parts.ensures.stalls limits.series h stands (sold_by c.stalls_follow.ensures.answered limits c.args._number h e may) c.if-not-learn_parts.false;
       of_fee = fee_more h e limits may.by_house ∙ ap (λ (n : ℕ). fee_by n e) stands.of_fee ∙ ap (λ (n : ℕ). fee_by n e) (sym c.learn_parts.ensures.fee) ∙ sym c.fee_after-self.ensures;
     }
 
