@@ -303,6 +303,9 @@ is_of_none r accept licence stock = record { allowed = λ h. tt; names = λ q. r
 pub name_is : (o : Option (List ℕ)) (n bytes : List ℕ) → IfSome o (λ x. x ≡ bytes) → o ≡ Some n → n ≡ bytes
 name_is o n bytes told is = subst (λ (o : Option (List ℕ)). IfSome o (λ x. x ≡ bytes)) is told
 
+pub amount_is : (o : Option ℕ) (n number : ℕ) → IfSome o (λ x. x ≡ number) → o ≡ Some n → n ≡ number
+amount_is o n number told is = subst (λ (o : Option ℕ). IfSome o (λ x. x ≡ number)) is told
+
 pub on_true : {P : Type 0} (b : Bool) → b ≡ true → OnTrue b P → P
 on_true true is holds = holds
 on_true false is holds = absurd (false≢true is)

@@ -1,4 +1,4 @@
-ghost use Rattle.std.specs.Prelude.{◌≡◌};
+ghost use Rattle.std.specs.Prelude.{◌≡◌, ◌<◌, IfSome};
 ghost use Rattle.mc_records.specs.Errands.{errand_of};
 ghost use Rattle.vendor_stalls.specs.Vendors.{asked_to_buy};
 
@@ -15,7 +15,8 @@ pub struct Purchase {
 
 /// What a target asks to buy; None exactly where it asks for no scrip of a vendor.
 pub fn bought(target: &[u8]) -> Option<Purchase>
-    ensures { result ≡ asked_to_buy (errand_of target.now) }
+    ensures asked { result ≡ asked_to_buy (errand_of target.now) }
+    ensures some { IfSome result (λ x. 0 < x.value) }
 {
     errands_are_texts();
     let Some(Errand::Buy { vendor, amount }) = read_errand(target) else {
