@@ -1,1 +1,3 @@
 mod DeskLaws
+mod OperatorLemmas
+mod SaleLaws
