@@ -1,16 +1,20 @@
 -- What there is to do by the calls of a broker's operator, and what comes of it.
-use Rattle.std.proofs.Common.{◌≡◌, ℕ, ◌≤◌, [], ◌∷◌, ◌++◌, eqb, Option, Some, None, Result, Ok, Err, refl, sym, ap, subst, ◌∙◌}
-use Rattle.std.specs.Prelude.{option_map, unwrap_or, IfOk, IfSome, IsTrue, false}
+use Rattle.std.proofs.Common.{◌≡◌, ℕ, ◌≤◌, [], ◌∷◌, ◌++◌, eqb, List, Option, Some, None, Result, Ok, Err, refl, sym, ap, subst, ◌∙◌}
+use Rattle.std.specs.Prelude.{option_map, unwrap_or, IfOk, IfSome, IsSome, IsNone, IsTrue, true, false}
 use Rattle.mc_outside.specs.DiskView.{DiskView, Ran}
 use Rattle.mc_records.specs.declared.limits.Limits.{Limits}
 use Rattle.mc_records.specs.declared.record.Record.{Record}
+use Rattle.scrip_form.specs.Issuing.{Issuing}
+use Rattle.issuer_terms.specs.Terms.{are_same_terms}
 use Rattle.mc_records.specs.declared.refusal.Refusal.{Refusal}
-use Rattle.mc_records.specs.Entry.{Entry, Account, Deposit, Withdraw, Fits, moment_of}
+use Rattle.mc_records.specs.declared.refusal.Refusal.TheVariants.{LicenceTwice}
+use Rattle.mc_records.specs.Entry.{Entry, Account, Deposit, Withdraw, Licence, Fits, moment_of}
 use Rattle.mc_records.specs.Views.{entry}
 use Rattle.ledger_model.specs.declared.numbers.TheConstants.{BROKER_KIND}
 use Rattle.ledger_model.specs.Histories.{History, time}
 use Rattle.ledger_model.specs.Houses.{site_kind, is_broker}
 use Rattle.ledger_model.specs.Lawful.{MayFollow, IsAllowed}
+use Rattle.ledger_model.specs.Stock.{licence_in}
 use Rattle.account_ledger.specs.Ledger.{AccountsAllow}
 use Rattle.account_ledger.specs.Tasks.{task_of}
 use Rattle.house_core.specs.CommandEntries.{IsCommand}
@@ -20,7 +24,7 @@ use Rattle.house_core.specs.declared.house.House.{House}
 use Rattle.house_core.specs.House.{HouseRepresents, IfDone, outcome_disk}
 use Rattle.house_core.specs.Tasks.{Task, Add, Stays, Refuse, Does, LeavesBy, Performs}
 use Rattle.house_core.specs.Trade.{TradeView}
-use Rattle.broker_core.specs.Tasks.{as_task, IfAdded, IsCommandAt}
+use Rattle.broker_core.specs.Tasks.{as_task, licensed, IfAdded, IsCommandAt}
 
 -- ---- the entry of a task
 
@@ -31,13 +35,7 @@ IsOfAccounts (Deposit m name amount reference) = Unit {0}
 IsOfAccounts (Withdraw m name amount reference) = Unit {0}
 IsOfAccounts _ = ⊥
 
-of_command : (e : Entry) → IsOfAccounts e → IsCommand e
-of_command (Account m name key) is = tt
-of_command (Deposit m name amount reference) is = tt
-of_command (Withdraw m name amount reference) is = tt
-of_command _ is = absurd is
-
-broker_is : (h : History) → site_kind h ≡ Some BROKER_KIND → IsTrue (is_broker h)
+pub broker_is : (h : History) → site_kind h ≡ Some BROKER_KIND → IsTrue (is_broker h)
 broker_is h kind = ap (λ (o : Option ℕ). unwrap_or (option_map (λ k. eqb k 1) o) false) kind
 
 -- what the accounts allow may follow at a broker
@@ -47,20 +45,19 @@ allowed_there limits h (Deposit m name amount reference) is kind a = (broker_is 
 allowed_there limits h (Withdraw m name amount reference) is kind a = (broker_is h kind, a.0, a.1, a.2)
 allowed_there limits h _ is kind a = absurd is
 
-module _ (e : Entry) (of : IsOfAccounts e) where
-  pub added_command : (r : Result (Option Record) Refusal) → IfOk r (λ o. IfSome o (λ x. Fits (entry x))) → IfOk r (λ o. IfSome o (λ x. entry x ≡ e))
-      → IfAdded (IsCommandAt (moment_of e)) (as_task (task_of r))
-  added_command (Ok (Some x)) fits same = record { fits = fits; command = subst IsCommand (sym same) (of_command e of); at = ap moment_of same }
-  added_command (Ok None) fits same = tt
-  added_command (Err f) fits same = tt
+pub added_command : (e : Entry) (r : Result (Option Record) Refusal) → IsCommand e → IfOk r (λ o. IfSome o (λ x. Fits (entry x))) → IfOk r (λ o. IfSome o (λ x. entry x ≡ e))
+    → IfAdded (IsCommandAt (moment_of e)) (as_task (task_of r))
+added_command e (Ok (Some x)) command fits same = record { fits = fits; command = subst IsCommand (sym same) command; at = ap moment_of same }
+added_command e (Ok None) command fits same = tt
+added_command e (Err f) command fits same = tt
 
-  pub added_may : (limits : Limits) (h : History) (r : Result (Option Record) Refusal) → time h ≤ moment_of e → site_kind h ≡ Some BROKER_KIND
-      → IfOk r (λ o. IfSome o (λ x. AccountsAllow h (entry x))) → IfOk r (λ o. IfSome o (λ x. entry x ≡ e)) → IfAdded (MayFollow limits h) (as_task (task_of r))
-  added_may limits h (Ok (Some x)) order kind allow same =
-      let may : MayFollow limits h e = record { in_order = order; allowed = allowed_there limits h e of kind (subst (AccountsAllow h) same allow) } in
-      subst (MayFollow limits h) (sym same) may
-  added_may limits h (Ok None) order kind allow same = tt
-  added_may limits h (Err f) order kind allow same = tt
+pub added_may : (limits : Limits) (h : History) (e : Entry) (r : Result (Option Record) Refusal) → IsOfAccounts e → time h ≤ moment_of e → site_kind h ≡ Some BROKER_KIND
+    → IfOk r (λ o. IfSome o (λ x. AccountsAllow h (entry x))) → IfOk r (λ o. IfSome o (λ x. entry x ≡ e)) → IfAdded (MayFollow limits h) (as_task (task_of r))
+added_may limits h e (Ok (Some x)) of order kind allow same =
+    let may : MayFollow limits h e = record { in_order = order; allowed = allowed_there limits h e of kind (subst (AccountsAllow h) same allow) } in
+    subst (MayFollow limits h) (sym same) may
+added_may limits h e (Ok None) of order kind allow same = tt
+added_may limits h e (Err f) of order kind allow same = tt
 
 -- ---- the task of a call
 
@@ -75,6 +72,31 @@ stays_is r o is none = sym (ap (λ (y : Given). as_task (task_of y)) (is ∙ ap 
 
 pub refused_is : (r : Result (Option Record) Refusal) (f : Refusal) → r ≡ Err f → Refuse f ≡ as_task (task_of r)
 refused_is r f is = sym (ap (λ (y : Given). as_task (task_of y)) is)
+
+-- ---- licences
+
+pub licence_may : (limits : Limits) (h : History) (r : Result (Option Record) Refusal) (e : Entry) (t : ℕ) (vendor : List ℕ) (terms : Issuing) → e ≡ Licence t vendor terms → time h ≤ t → site_kind h ≡ Some BROKER_KIND
+    → IfOk r (λ o. IsSome o → licence_in h vendor ≡ None) → IfOk r (λ o. IfSome o (λ x. entry x ≡ e)) → IfAdded (MayFollow limits h) (as_task (task_of r))
+licence_may limits h (Ok (Some x)) e t vendor terms is order kind new same =
+    let may : MayFollow limits h (Licence t vendor terms) = record { in_order = order; allowed = (broker_is h kind, none_there (licence_in h vendor) (new refl)) } in
+    subst (MayFollow limits h) (sym (same ∙ is)) may
+  where
+    none_there : (o : Option Issuing) → o ≡ None → IsNone o
+    none_there None e = refl
+    none_there (Some y) e = absurd cc
+licence_may limits h (Ok None) e t vendor terms is order kind new same = tt
+licence_may limits h (Err f) e t vendor terms is order kind new same = tt
+
+pub same_licensed : (t : ℕ) (vendor : List ℕ) (terms standing : Issuing) (o : Option Issuing) → Some standing ≡ o → are_same_terms standing terms ≡ true → Stays ≡ licensed t vendor terms o
+same_licensed t vendor terms standing o is same = sym (ap (λ (x : Option Issuing). licensed t vendor terms x) (sym is) ∙ rw same refl)
+
+pub other_licensed : (t : ℕ) (vendor : List ℕ) (terms standing : Issuing) (o : Option Issuing) (issuer : ℕ) → Some standing ≡ o → are_same_terms standing terms ≡ false → issuer ≡ standing.issuer
+    → Refuse (LicenceTwice issuer) ≡ licensed t vendor terms o
+other_licensed t vendor terms standing o issuer is other number =
+    ap (λ (n : ℕ). Refuse (LicenceTwice n)) number ∙ sym (ap (λ (x : Option Issuing). licensed t vendor terms x) (sym is) ∙ rw other refl)
+
+pub new_licensed : (t : ℕ) (vendor : List ℕ) (terms : Issuing) (o : Option Issuing) → None ≡ o → Add (Licence t vendor terms) ≡ licensed t vendor terms o
+new_licensed t vendor terms o is = ap (λ (x : Option Issuing). licensed t vendor terms x) is
 
 -- ---- another answer
 

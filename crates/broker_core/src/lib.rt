@@ -5,6 +5,7 @@
 mod desk;
 mod operator;
 mod sale;
+mod stock;
 
 pub use desk::Desk;
-pub use operator::{deposit, open_account, withdraw};
+pub use operator::{add_licence, add_stock, deposit, open_account, withdraw};

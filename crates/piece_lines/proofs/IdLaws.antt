@@ -7,7 +7,8 @@ use Rattle.mc_fields.specs.Reading.{whole}
 use Rattle.scrip_form.specs.Scrip.{Scrip}
 use Rattle.mc_records.specs.Entry.{Held}
 use Rattle.piece_lines.specs.Answers.{text_id}
-use Rattle.piece_lines.specs.PieceLines.{line_at}
+use Rattle.scrip_form.specs.Reading.{scrip_of}
+use Rattle.piece_lines.specs.PieceLines.{LineFits, line_at}
 use Rattle.piece_lines.proofs.LineLaws.{line_sound, text_whole, scrip_of_is}
 
 abbrev ids_in : List Held → List ℕ
@@ -22,12 +23,15 @@ one_more_id ps p ids n id room before is =
     last : (o : Option ℕ) → o ≡ Some id → ids_in (p ∷ []) ≡ id ∷ []
     last o is' = rw is refl
 
+-- what is read of the text of a line
+pub text_read : (test : Scrip → Bool) (p : Held) (f : LineFits test p) → scrip_of p.text ≡ Ok (f.piece, f.cert)
+text_read test p f = sym (scrip_of_is p.text) ∙ ap (whole (length p.text)) (text_whole p.text [] f.piece f.cert refl f.text)
+
 -- the text of a line is of a piece
 pub line_has_id : (test : Scrip → Bool) (bytes : List ℕ) (p : Held) (more : List ℕ) → line_at test bytes ≡ Ok (p, more) → text_id p.text ≡ None → ⊥
 line_has_id test bytes p more read none =
     let f = (line_sound test bytes p more read).1 in
-    let is = sym (scrip_of_is p.text) ∙ ap (whole (length p.text)) (text_whole p.text [] f.piece f.cert refl f.text) in
-    let some : text_id p.text ≡ Some f.piece.id = ap (λ (r : Result (Scrip × List ℕ) ℕ). option_map (λ q. q.id) (option_map (λ x. x.0) (result_ok r))) is in
+    let some : text_id p.text ≡ Some f.piece.id = ap (λ (r : Result (Scrip × List ℕ) ℕ). option_map (λ q. q.id) (option_map (λ x. x.0) (result_ok r))) (text_read test p f) in
     absurd (nothing (sym some ∙ none))
   where
     nothing : {n : ℕ} → Some n ≡ None → ⊥

@@ -10,14 +10,14 @@ use Rattle.broker_core.proofs.operator.open_account.Goals as goal
 pub perform-requires-clause-command : goal.perform-requires-clause-command
 perform-requires-clause-command g c =
     let e = Account c.time.result c.args.name.now c.args.key in
-    let command = added_command e tt c.account_task-task.result c.account_task-task.ensures.fits c.account_task-task.ensures.entry in
+    let command = added_command e c.account_task-task.result tt c.account_task-task.ensures.fits c.account_task-task.ensures.entry in
     rw c.time.ensures at command
 
 pub perform-requires-clause-may : goal.perform-requires-clause-may
 perform-requires-clause-may g c h st =
     let e = Account c.time.result c.args.name.now c.args.key in
     let order : time h ≤ c.time.result = omega (arith, st.house.represents.state.in_time, c.time.ensures) in
-    added_may e tt (limits_of c.args.house.bench) h c.account_task-task.result order st.house.represents.of_kind
+    added_may (limits_of c.args.house.bench) h e c.account_task-task.result tt order st.house.represents.of_kind
     (c.account_task-task.ensures.allowed h (c.accounts-accounts.ensures h (c.trade.ensures h st))) c.account_task-task.ensures.entry
 
 pub returns-clause-exact : goal.returns-clause-exact

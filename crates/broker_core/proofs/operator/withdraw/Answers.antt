@@ -10,14 +10,14 @@ use Rattle.broker_core.proofs.operator.withdraw.Goals as goal
 pub pay-requires-clause-command : goal.pay-requires-clause-command
 pay-requires-clause-command g c =
     let e = Withdraw c.time.result c.args.name.now c.args.amount c.args.reference.now in
-    let command = added_command e tt c.withdraw_task-task.result c.withdraw_task-task.ensures.fits c.withdraw_task-task.ensures.entry in
+    let command = added_command e c.withdraw_task-task.result tt c.withdraw_task-task.ensures.fits c.withdraw_task-task.ensures.entry in
     rw c.time.ensures at command
 
 pub pay-requires-clause-may : goal.pay-requires-clause-may
 pay-requires-clause-may g c h st =
     let e = Withdraw c.time.result c.args.name.now c.args.amount c.args.reference.now in
     let order : time h ≤ c.time.result = omega (arith, st.house.represents.state.in_time, c.time.ensures) in
-    added_may e tt (limits_of c.args.house.bench) h c.withdraw_task-task.result order st.house.represents.of_kind
+    added_may (limits_of c.args.house.bench) h e c.withdraw_task-task.result tt order st.house.represents.of_kind
     (c.withdraw_task-task.ensures.allowed h (c.accounts-accounts.ensures h (c.trade.ensures h st))) c.withdraw_task-task.ensures.entry
 
 pub returns-clause-exact : goal.returns-clause-exact
