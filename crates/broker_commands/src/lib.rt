@@ -2,6 +2,7 @@
 #![tactic(auto)]
 
 mod account;
+mod answer;
 mod balance;
 mod licence;
 mod lines;

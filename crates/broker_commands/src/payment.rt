@@ -1,19 +1,19 @@
 //! Money that is paid into an account, or out of it.
 
-ghost use Rattle.std.specs.Prelude.{◌≡◌, ◌++◌, ◌≤◌, ◌+◌, List as Items, ℕ, codes, decimal, vec_len, vec_capacity};
+ghost use Rattle.std.specs.Prelude.{◌≡◌, List as Items, ℕ};
 ghost use Rattle.ledger_model.specs.Histories.{History};
 ghost use Rattle.house_core.specs.House.{HandsBack, HouseRepresents, KeepsTime};
 ghost use Rattle.broker_core.specs.Desk.{desk_view};
 ghost use Rattle.operator_command.specs.Operations.{CarriesOut};
-ghost use Rattle.operator_command.specs.Operations.{without_answer};
-ghost use Rattle.broker_commands.specs.Answers.{IfDone};
 ghost use Rattle.broker_commands.specs.Operations.{balance_words, deposit_operation, withdraw_operation};
 
+use crate::answer::answer_of;
 use crate::lines::{NUMBER_ROOM, end_line};
 use broker_core::{Desk, deposit, withdraw};
 use house_core::{House, Outcome};
 use mc_outside::Disk;
 use mc_words::Payment;
+use operator_command::without_answer;
 
 /// Pays into an account, and ends its line by the balance.
 pub(crate) fn pay_in<D: Disk>(
@@ -30,7 +30,10 @@ pub(crate) fn pay_in<D: Disk>(
         return Outcome::NoMemory(house);
     }
     let paid = deposit(house, payment.account(), payment.amount(), payment.reference());
-    with_number(paid, line)
+    if let Some(balance) = answer_of(&paid) {
+        end_line(line, balance);
+    }
+    without_answer(paid)
 }
 
 /// Pays out of an account likewise.
@@ -48,26 +51,8 @@ pub(crate) fn pay_out<D: Disk>(
         return Outcome::NoMemory(house);
     }
     let paid = withdraw(house, payment.account(), payment.amount(), payment.reference());
-    with_number(paid, line)
-}
-
-/// Ends a line, which has room for it, by the number that was answered, where it is done.
-pub(crate) fn with_number<D: Disk>(
-    outcome: Outcome<D, Desk, u64>,
-    line: &mut Vec<u8>,
-) -> Outcome<D, Desk, ()>
-    requires room { vec_len line.old + NUMBER_ROOM ≤ vec_capacity line.old }
-    ensures same { result ≡ without_answer outcome }
-    ensures line { IfDone outcome
-        (λ n. line.new.items ≡ line.old.items ++ decimal n ++ codes "\n") }
-{
-    match outcome {
-        Outcome::Done(house, number) => {
-            end_line(line, number);
-            Outcome::Done(house, ())
-        }
-        Outcome::Refused(house, refusal) => Outcome::Refused(house, refusal),
-        Outcome::NoMemory(house) => Outcome::NoMemory(house),
-        Outcome::Halted(halted) => Outcome::Halted(halted),
+    if let Some(balance) = answer_of(&paid) {
+        end_line(line, balance);
     }
+    without_answer(paid)
 }

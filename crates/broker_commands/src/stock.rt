@@ -7,12 +7,13 @@ ghost use Rattle.broker_core.specs.Desk.{desk_view};
 ghost use Rattle.operator_command.specs.Operations.{CarriesOut};
 ghost use Rattle.broker_commands.specs.Operations.{stock_words, stock_operation};
 
-use crate::lines::NUMBER_ROOM;
-use crate::payment::with_number;
+use crate::answer::answer_of;
+use crate::lines::{NUMBER_ROOM, end_line};
 use broker_core::{Desk, add_stock};
 use house_core::{House, Outcome};
 use mc_outside::Disk;
 use mc_words::Stocking;
+use operator_command::without_answer;
 
 /// Takes the pieces whose lines are the input as stock, and ends its line by their count.
 pub(crate) fn take_stock<D: Disk>(
@@ -29,5 +30,9 @@ pub(crate) fn take_stock<D: Disk>(
     if line.reserve(NUMBER_ROOM).is_err() {
         return Outcome::NoMemory(house);
     }
-    with_number(add_stock(house, stocking.vendor(), input), line)
+    let taken = add_stock(house, stocking.vendor(), input);
+    if let Some(count) = answer_of(&taken) {
+        end_line(line, u64::from(count));
+    }
+    without_answer(taken)
 }
