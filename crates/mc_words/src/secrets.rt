@@ -8,7 +8,7 @@ use scrip_form::Secrets;
 
 /// The secrets that a word spells, each as 32 lower-case hex digits, with a comma between each two;
 /// None exactly where it spells none or more than 16.
-pub(crate) fn secrets_of(word: &[u8]) -> Option<Secrets>
+pub fn secrets_of(word: &[u8]) -> Option<Secrets>
     ensures range { IfSome result IsSecretList }
     ensures spelled { IfSome result (λ secrets. word.now ≡ joined secrets) }
     ensures none { IsNone result → (secrets : List (List ℕ)) → IsSecretList secrets

@@ -1,0 +1,2 @@
+mod CutLaws
+mod FieldLaws
