@@ -2,8 +2,9 @@
 use Rattle.std.specs.Prelude.{ℕ, Some, unwrap_or}
 use Rattle.mc_records.specs.Entry.{Entry, Site}
 use Rattle.mc_words.specs.Words.{Founder, own_terms}
+use Rattle.mc_words.specs.declared.init.TheConstants.{KEEP}
 
--- A site of a kind is founded at a moment with no fee, and with a keeping time of 600 seconds where the
--- words say none.
+-- A site of a kind is founded at a moment, with the keeping time of `KEEP` where the words say none.
 abbrev pub site_of : ℕ → Founder → ℕ → Entry
-site_of kind founder moment = Site moment kind founder.name (Some (record { keep = unwrap_or founder.keep 600; fee = 0; clear = founder.clear; terms = own_terms founder }))
+site_of kind founder moment =
+    Site moment kind founder.name (Some (record { keep = unwrap_or founder.keep KEEP; fee = founder.fee; clear = founder.clear; terms = own_terms founder }))

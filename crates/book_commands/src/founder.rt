@@ -3,6 +3,7 @@ ghost use Rattle.mc_records.specs.Entry.{Fits};
 ghost use Rattle.mc_records.specs.Views.{entry};
 ghost use Rattle.ledger_model.specs.Houses.{IsHouseKind};
 ghost use Rattle.house_core.specs.Views.{kind_number};
+ghost use Rattle.house_core.specs.declared.offer.SiteKind.TheVariants.{Vendor};
 ghost use Rattle.book_commands.specs.Founding.{site_of};
 
 use house_core::SiteKind;
@@ -13,6 +14,7 @@ use mc_words::Founder;
 /// The first entry of the book that is founded, as a house of this kind.
 pub(crate) fn site<'a>(founder: &'a Founder<'_>, kind: SiteKind, moment: Moment) -> Record<'a>
     requires house { IsHouseKind (kind_number kind) }
+    requires fee { kind_number kind ≡ kind_number Vendor → founder.now.fee ≡ 0 }
     ensures site { entry result ≡ site_of (kind_number kind) founder.now moment }
     ensures fits { Fits (site_of (kind_number kind) founder.now moment) }
 {
@@ -24,7 +26,7 @@ pub(crate) fn site<'a>(founder: &'a Founder<'_>, kind: SiteKind, moment: Moment)
         name: founder.name().bytes(),
         house: Some(SiteTerms {
             keep: founder.keep(),
-            fee: 0,
+            fee: founder.fee().get(),
             clear: founder.clear(),
             terms: *founder.terms(),
         }),

@@ -2,6 +2,8 @@
 
 ghost use Rattle.std.specs.Prelude.{◌≡◌, [], List, ℕ, Some};
 ghost use Rattle.ledger_model.specs.Lawful.{MayFollow};
+ghost use Rattle.house_core.specs.Views.{kind_number};
+ghost use Rattle.house_core.specs.declared.offer.SiteKind.TheVariants.{Vendor};
 ghost use Rattle.book_commands.specs.Founding.{site_of};
 ghost use Rattle.book_commands.specs.Init.{FoundsBook, InitCauses};
 ghost use Rattle.operator_command.specs.Operations.{full};
@@ -18,8 +20,8 @@ use mc_words::Founder;
 use std::alloc::Global;
 
 /// Founds a site of the trade's kind in the book on the outside's disk, at the reading of the clock. The trade
-/// has learned nothing yet, and the ledger lets the site be founded. Hands the outside back, and tells how it
-/// ended.
+/// has learned nothing yet, the ledger lets the site be founded, and a vendor has no fee. Hands the outside back,
+/// and tells how it ended.
 pub fn found_book<O: Outside, T: Trade>(
     alloc: Global,
     founder: &Founder<'_>,
@@ -29,6 +31,7 @@ pub fn found_book<O: Outside, T: Trade>(
     requires trade { (T.trade trade).represents [] }
     requires first { (moment : ℕ)
         → MayFollow full [] (site_of (T.trade trade).site founder.now moment) }
+    requires fee { (T.trade trade).site ≡ kind_number Vendor → founder.now.fee ≡ 0 }
     ensures words { number_of result.1 ≡ 2 → ⊥ }
     ensures causes { InitCauses O.link O.disk out result.1 result.0 }
     ensures founded { (x : List ℕ) → (O.disk out).contents ≡ Some x

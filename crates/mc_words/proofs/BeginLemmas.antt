@@ -1,6 +1,6 @@
 -- How the words of a command may begin.
-use Rattle.std.proofs.Common.{◌≡◌, ◌⊎◌, ◌<◌, ◌&&◌, ◌||◌, Bool, Bor, not, is_some, drop, option_map, ap₂, true, false, List, [], ◌∷◌, ◌++◌, length, map, Option, Some, None, refl, sym, subst, ap, ◌∙◌, arith}
-use Rattle.std.specs.Prelude.{IsTrue, ◌↔◌, codes}
+use Rattle.std.proofs.Common.{◌≡◌, ◌⊎◌, ℕ, ◌<◌, ◌&&◌, Bool, Bor, not, is_some, drop, option_map, ap₂, get_or, true, false, List, [], ◌∷◌, ◌++◌, length, map, Option, Some, None, refl, sym, subst, ap, ◌∙◌, arith}
+use Rattle.std.specs.Prelude.{IsTrue, IfOk, Result, Ok, Err, ◌↔◌, codes}
 use Rattle.std.specs.List.{list_any}
 use Rattle.std.specs.Str.{bytes_eq}
 use Rattle.std.proofs.lemmas.List.{map-append, same_from_push}
@@ -8,10 +8,11 @@ use Rattle.clap.specs.Walk.{Row, Rule, Text}
 use Rattle.command_words.specs.Arguments.{found, optional, value_of}
 use Rattle.mc_words.specs.declared.table.CommandName.{CommandName}
 use Rattle.mc_words.specs.declared.table.CommandName.TheVariants as names
+use Rattle.mc_words.specs.declared.usage_lines.TheConstants.{CARRIED_OUT}
 use Rattle.mc_words.specs.Table.{form_of}
-use Rattle.mc_words.specs.Wrong.{AreTaken, EndInOption, GoOn, HaveValues, LackValue, MayBecome, MayBegin, MaySpellTerms, is_option}
+use Rattle.mc_words.specs.Wrong.{AreTaken, EndInOption, GoOnAs, HaveValues, LackValue, MayBecome, MayBegin, MaySpellFounder, MaySpellTerms, is_option}
 use Rattle.mc_words.proofs.WrongLemmas.{and_iff}
-use Rattle.mc_words.proofs.FitLemmas.{shop_fits, founder_fits, server_fits, playing_fits, pricing_fits, listing_fits, licensing_fits, minting_fits}
+use Rattle.mc_words.proofs.FitLemmas.{shop_fits, vendor_founder_fits, broker_founder_fits, server_fits, playing_fits, pricing_fits, listing_fits, licensing_fits, minting_fits, opening_fits, payment_fits, inquiry_fits, taking_fits, stocking_fits}
 
 -- ---- words behind the name of a command
 
@@ -135,65 +136,87 @@ name_begins name Finds words behind role command b e is_role is_name may = (
 open_terms : MaySpellTerms []
 open_terms = record { period = (None, tt, refl); life = (None, tt, refl); scrip = (None, tt, refl); customer = (None, tt, refl) }
 
--- words that a command has values of
-some_of : (name : CommandName) (rules : List Rule) (rows : List Row) (words : List Text) → MayBecome rules (HaveValues name) rows → MayBegin name (HaveValues name) words → GoOn words
-some_of name rules rows words may begin' = record { name = name; rows = may.whole; values = may.finds; begin = begin' }
+open_founder : MaySpellFounder []
+open_founder = record { book = (None, tt, refl); name = (None, tt, refl); terms = open_terms; keep = (None, tt, refl) }
 
-once_goes : (words : List Text) → MayBegin names.VendorOnce (HaveValues names.VendorOnce) words → GoOn words
-once_goes words = some_of names.VendorOnce (form_of names.VendorOnce).rules [] words (shop_fits [] (None, tt, refl) (None, tt, refl) (None, tt, refl) (None, tt, refl) (None, tt, refl))
+-- rows that have values of the command
+abbrev HasSome : CommandName → Type 0
+HasSome name = (rows : List Row) × HaveValues name rows
 
-init_goes : (words : List Text) → MayBegin names.VendorInit (HaveValues names.VendorInit) words → GoOn words
-init_goes words = some_of names.VendorInit (form_of names.VendorInit).rules [] words (founder_fits [] (None, tt, refl) (None, tt, refl) open_terms (None, tt, refl))
+some_of : (name : CommandName) (rules : List Rule) → MayBecome rules (HaveValues name) [] → HasSome name
+some_of name rules may = (may.whole, may.finds)
 
-serve_goes : (words : List Text) → MayBegin names.VendorServe (HaveValues names.VendorServe) words → GoOn words
-serve_goes words = some_of names.VendorServe (form_of names.VendorServe).rules [] words (server_fits [] (None, tt, refl) (None, tt, refl) (None, tt, refl))
+pub some_vendor_init : HasSome names.VendorInit
+some_vendor_init = some_of names.VendorInit _ (vendor_founder_fits [] open_founder)
 
-play_goes : (words : List Text) → MayBegin names.VendorPlay (HaveValues names.VendorPlay) words → GoOn words
-play_goes words = some_of names.VendorPlay (form_of names.VendorPlay).rules [] words (playing_fits [] (None, tt, refl))
+pub some_vendor_goods : HasSome names.VendorGoods
+some_vendor_goods = some_of names.VendorGoods _ (listing_fits [] (pricing_fits [] (None, tt, refl) (None, tt, refl) (None, tt, refl)) (None, tt, refl))
 
-price_goes : (words : List Text) → MayBegin names.VendorPrice (HaveValues names.VendorPrice) words → GoOn words
-price_goes words = some_of names.VendorPrice (form_of names.VendorPrice).rules [] words (pricing_fits [] (None, tt, refl) (None, tt, refl) (None, tt, refl))
+pub some_vendor_price : HasSome names.VendorPrice
+some_vendor_price = some_of names.VendorPrice _ (pricing_fits [] (None, tt, refl) (None, tt, refl) (None, tt, refl))
 
-goods_goes : (words : List Text) → MayBegin names.VendorGoods (HaveValues names.VendorGoods) words → GoOn words
-goods_goes words = some_of names.VendorGoods (form_of names.VendorGoods).rules [] words (listing_fits [] (pricing_fits [] (None, tt, refl) (None, tt, refl) (None, tt, refl)) (None, tt, refl))
+pub some_vendor_licence : HasSome names.VendorLicence
+some_vendor_licence = some_of names.VendorLicence _ (licensing_fits [] (None, tt, refl) (None, tt, refl) open_terms)
 
-licence_goes : (words : List Text) → MayBegin names.VendorLicence (HaveValues names.VendorLicence) words → GoOn words
-licence_goes words = some_of names.VendorLicence (form_of names.VendorLicence).rules [] words (licensing_fits [] (None, tt, refl) (None, tt, refl) open_terms)
+pub some_vendor_mint : HasSome names.VendorMint
+some_vendor_mint = some_of names.VendorMint _ (minting_fits [] (None, tt, refl) (None, tt, refl) (None, tt, refl) (None, tt, refl))
 
-mint_goes : (words : List Text) → MayBegin names.VendorMint (HaveValues names.VendorMint) words → GoOn words
-mint_goes words = some_of names.VendorMint (form_of names.VendorMint).rules [] words (minting_fits [] (None, tt, refl) (None, tt, refl) (None, tt, refl) (None, tt, refl))
+pub some_vendor_serve : HasSome names.VendorServe
+some_vendor_serve = some_of names.VendorServe _ (server_fits [] (None, tt, refl) (None, tt, refl) (None, tt, refl))
 
-either : (a b : Bool) {P : Type 0} → (IsTrue a → P) → (IsTrue b → P) → IsTrue (a || b) → P
-either true b p q t = p refl
-either false b p q t = q t
+pub some_vendor_once : HasSome names.VendorOnce
+some_vendor_once = some_of names.VendorOnce _ (shop_fits [] (None, tt, refl) (None, tt, refl) (None, tt, refl) (None, tt, refl) (None, tt, refl))
 
-first : (a b : Bool) → IsTrue a → IsTrue (a || b)
-first true b t = refl
-first false b t = absurd (cc t)
+pub some_vendor_play : HasSome names.VendorPlay
+some_vendor_play = some_of names.VendorPlay _ (playing_fits [] (None, tt, refl))
 
-later : (a b : Bool) → IsTrue b → IsTrue (a || b)
-later true b t = refl
-later false b t = t
+pub some_broker_init : HasSome names.BrokerInit
+some_broker_init = some_of names.BrokerInit _ (broker_founder_fits [] open_founder (None, tt, refl))
 
--- the words go on where they do in one of the commands that are carried out
-pub go_on_by : (words : List Text) (once init serve play goods price licence mint : Bool) → (IsTrue once ↔ MayBegin names.VendorOnce (HaveValues names.VendorOnce) words)
-    → (IsTrue init ↔ MayBegin names.VendorInit (HaveValues names.VendorInit) words)
-    → (IsTrue serve ↔ MayBegin names.VendorServe (HaveValues names.VendorServe) words)
-    → (IsTrue play ↔ MayBegin names.VendorPlay (HaveValues names.VendorPlay) words)
-    → (IsTrue goods ↔ MayBegin names.VendorGoods (HaveValues names.VendorGoods) words)
-    → (IsTrue price ↔ MayBegin names.VendorPrice (HaveValues names.VendorPrice) words)
-    → (IsTrue licence ↔ MayBegin names.VendorLicence (HaveValues names.VendorLicence) words)
-    → (IsTrue mint ↔ MayBegin names.VendorMint (HaveValues names.VendorMint) words)
-    → IsTrue (((((((once || init) || serve) || play) || goods) || price) || licence) || mint) ↔ GoOn words
-go_on_by words once init serve play goods price licence mint is_once is_init is_serve is_play is_goods is_price is_licence is_mint = (either _ _ (either _ _ (either _ _ (either _ _ (either _ _ (either _ _ (either _ _ (λ t. once_goes words (is_once.0 t)) (λ t. init_goes words (is_init.0 t))) (λ t. serve_goes words (is_serve.0 t))) (λ t. play_goes words (is_play.0 t))) (λ t. goods_goes words (is_goods.0 t))) (λ t. price_goes words (is_price.0 t))) (λ t. licence_goes words (is_licence.0 t))) (λ t. mint_goes words (is_mint.0 t)), λ goes. go goes.name goes.rows goes.values goes.begin)
-  where
-    go : (name : CommandName) (rows : List Row) → HaveValues name rows → MayBegin name (HaveValues name) words → IsTrue (((((((once || init) || serve) || play) || goods) || price) || licence) || mint)
-    go names.VendorOnce rows values begins = first _ _ (first _ _ (first _ _ (first _ _ (first _ _ (first _ _ (first _ _ (is_once.1 begins)))))))
-    go names.VendorInit rows values begins = first _ _ (first _ _ (first _ _ (first _ _ (first _ _ (first _ _ (later _ _ (is_init.1 begins)))))))
-    go names.VendorServe rows values begins = first _ _ (first _ _ (first _ _ (first _ _ (first _ _ (later _ _ (is_serve.1 begins))))))
-    go names.VendorPlay rows values begins = first _ _ (first _ _ (first _ _ (first _ _ (later _ _ (is_play.1 begins)))))
-    go names.VendorGoods rows values begins = first _ _ (first _ _ (first _ _ (later _ _ (is_goods.1 begins))))
-    go names.VendorPrice rows values begins = first _ _ (first _ _ (later _ _ (is_price.1 begins)))
-    go names.VendorLicence rows values begins = first _ _ (later _ _ (is_licence.1 begins))
-    go names.VendorMint rows values begins = later _ _ (is_mint.1 begins)
-    go _ rows values begins = absurd values
+pub some_broker_account : HasSome names.BrokerAccount
+some_broker_account = some_of names.BrokerAccount _ (opening_fits [] (None, tt, refl) (None, tt, refl) (None, tt, refl))
+
+pub some_broker_deposit : HasSome names.BrokerDeposit
+some_broker_deposit = some_of names.BrokerDeposit _ (payment_fits [] (None, tt, refl) (None, tt, refl) (None, tt, refl) (None, tt, refl))
+
+pub some_broker_withdraw : HasSome names.BrokerWithdraw
+some_broker_withdraw = some_of names.BrokerWithdraw _ (payment_fits [] (None, tt, refl) (None, tt, refl) (None, tt, refl) (None, tt, refl))
+
+pub some_broker_balance : HasSome names.BrokerBalance
+some_broker_balance = some_of names.BrokerBalance _ (inquiry_fits [] (None, tt, refl) (None, tt, refl))
+
+pub some_broker_licence : HasSome names.BrokerLicence
+some_broker_licence = some_of names.BrokerLicence _ (taking_fits [] (None, tt, refl))
+
+pub some_broker_stock : HasSome names.BrokerStock
+some_broker_stock = some_of names.BrokerStock _ (stocking_fits [] (None, tt, refl) (None, tt, refl))
+
+pub some_broker_serve : HasSome names.BrokerServe
+some_broker_serve = some_of names.BrokerServe _ (server_fits [] (None, tt, refl) (None, tt, refl) (None, tt, refl))
+
+-- the words go on as those of a command that has values where they may begin so
+pub goes_as : {E : Type 0} (name other : CommandName) (words : List Text) (r : Result Bool E) → other ≡ name → HasSome name → IfOk r (λ b. IsTrue b ↔ MayBegin name (HaveValues name) words)
+    → IfOk r (λ b. IsTrue b ↔ GoOnAs other words)
+goes_as name other words (Err error) is some may = tt
+goes_as name other words (Ok b) is some may =
+    subst (λ (n : CommandName). IsTrue b ↔ GoOnAs n words) (sym is) (λ t. record { rows = some.0; values = some.1; begin = may.0 t }, λ goes. may.1 goes.begin)
+
+-- a command that has values stands among those that are carried out
+pub carried_out : (name : CommandName) (rows : List Row) → HaveValues name rows → (k : ℕ) × (k < 16) × (get_or CARRIED_OUT k name ≡ name)
+carried_out names.VendorInit rows values = (0, omega arith, refl)
+carried_out names.VendorGoods rows values = (1, omega arith, refl)
+carried_out names.VendorPrice rows values = (2, omega arith, refl)
+carried_out names.VendorLicence rows values = (3, omega arith, refl)
+carried_out names.VendorMint rows values = (4, omega arith, refl)
+carried_out names.VendorServe rows values = (5, omega arith, refl)
+carried_out names.VendorOnce rows values = (6, omega arith, refl)
+carried_out names.VendorPlay rows values = (7, omega arith, refl)
+carried_out names.BrokerInit rows values = (8, omega arith, refl)
+carried_out names.BrokerAccount rows values = (9, omega arith, refl)
+carried_out names.BrokerDeposit rows values = (10, omega arith, refl)
+carried_out names.BrokerWithdraw rows values = (11, omega arith, refl)
+carried_out names.BrokerBalance rows values = (12, omega arith, refl)
+carried_out names.BrokerLicence rows values = (13, omega arith, refl)
+carried_out names.BrokerStock rows values = (14, omega arith, refl)
+carried_out names.BrokerServe rows values = (15, omega arith, refl)
+carried_out _ rows values = absurd values

@@ -248,3 +248,39 @@ broker_init_plain = refl
 broker_init_no_fee : taken names.BrokerInit (codes "b" ∷ codes "n" ∷ codes "4096" ∷ codes "0" ∷ codes "s" ∷ codes "c" ∷ codes "--clear" ∷ []) ≡ false
 unfolding clap_on_literals found command form_of
 broker_init_no_fee = refl
+
+-- the life and the fee, of the words behind `broker init`
+abbrev broker_init : List Text → Option (Option Text × Option Text)
+broker_init words = option_map (λ rows. (value_of rows (codes "LIFE"), value_of rows (codes "FEE"))) (found (form_of names.BrokerInit).rules words)
+
+broker_init_fee : broker_init (codes "b" ∷ codes "n" ∷ codes "4096" ∷ codes "0" ∷ codes "s" ∷ codes "c" ∷ codes "1" ∷ []) ≡ Some (Some (codes "0"), Some (codes "1"))
+unfolding clap_on_literals found command form_of
+broker_init_fee = refl
+
+account_two : taken names.BrokerAccount (codes "b" ∷ codes "a" ∷ []) ≡ false
+unfolding clap_on_literals found command form_of
+account_two = refl
+
+deposit_plain : taken names.BrokerDeposit (codes "b" ∷ codes "a" ∷ codes "5" ∷ codes "r" ∷ []) ≡ true
+unfolding clap_on_literals found command form_of
+deposit_plain = refl
+
+withdraw_three : taken names.BrokerWithdraw (codes "b" ∷ codes "a" ∷ codes "5" ∷ []) ≡ false
+unfolding clap_on_literals found command form_of
+withdraw_three = refl
+
+balance_keep : taken names.BrokerBalance (codes "b" ∷ codes "a" ∷ codes "--keep=60" ∷ []) ≡ false
+unfolding clap_on_literals found command form_of
+balance_keep = refl
+
+broker_licence_two : taken names.BrokerLicence (codes "b" ∷ codes "v" ∷ []) ≡ false
+unfolding clap_on_literals found command form_of
+broker_licence_two = refl
+
+stock_plain : taken names.BrokerStock (codes "b" ∷ codes "v" ∷ []) ≡ true
+unfolding clap_on_literals found command form_of
+stock_plain = refl
+
+broker_serve_plain : taken names.BrokerServe (codes "b" ∷ codes "127.0.0.1:0" ∷ codes "1" ∷ []) ≡ true
+unfolding clap_on_literals found command form_of
+broker_serve_plain = refl

@@ -2,11 +2,13 @@
 use Rattle.std.specs.Prelude.{ℕ, List}
 use Rattle.mc_words.specs.declared.operation.Operation.{Operation}
 use Rattle.mc_words.specs.declared.operation.Operation.TheVariants.{Goods, Price, Licence, Mint}
+use Rattle.mc_words.specs.declared.broker_operation.BrokerOperation.{BrokerOperation}
+use Rattle.mc_words.specs.declared.broker_operation.BrokerOperation.TheVariants as brokers
 use Rattle.mc_words.specs.declared.command.Command.{Command}
-use Rattle.mc_words.specs.declared.command.Command.TheVariants.{Once, Init, Serve, Play, Operate}
+use Rattle.mc_words.specs.declared.command.Command.TheVariants.{Once, Init, Serve, Play, Operate, BrokerInit, BrokerServe, BrokerOperate}
 use Rattle.mc_words.specs.declared.table.CommandName.TheVariants as names
 use Rattle.mc_words.specs.Table.{AreOf}
-use Rattle.mc_words.specs.Words.{Shop, FindsShop, Founder, FindsFounder, Server, FindsServer, Playing, FindsPlaying, Listing, FindsListing, Pricing, FindsPricing, Licensing, FindsLicensing, Minting, FindsMinting}
+use Rattle.mc_words.specs.Words.{Shop, FindsShop, Founder, FindsVendorFounder, FindsBrokerFounder, Server, FindsServer, Playing, FindsPlaying, Listing, FindsListing, Pricing, FindsPricing, Licensing, FindsLicensing, Minting, FindsMinting, FindsOpening, FindsPayment, FindsInquiry, FindsTaking, FindsStocking}
 
 -- the words are `vendor once`, and spell this shop
 abbrev pub AreOnceWords : List (List ℕ) → Shop → Type 0
@@ -18,7 +20,7 @@ AreNoOnceWords words = (shop : Shop) → AreOnceWords words shop → ⊥
 
 -- likewise `vendor init`, and so on
 abbrev pub AreInitWords : List (List ℕ) → Founder → Type 0
-AreInitWords words founder = AreOf names.VendorInit words (λ rows. FindsFounder rows founder)
+AreInitWords words founder = AreOf names.VendorInit words (λ rows. FindsVendorFounder rows founder)
 
 abbrev pub AreServeWords : List (List ℕ) → Server → Type 0
 AreServeWords words server = AreOf names.VendorServe words (λ rows. FindsServer rows server)
@@ -52,6 +54,31 @@ book_of (Price pricing) = pricing.book
 book_of (Licence licensing) = licensing.book
 book_of (Mint minting) = minting.book
 
+-- likewise of a broker
+abbrev pub AreBrokerInitWords : List (List ℕ) → Founder → Type 0
+AreBrokerInitWords words founder = AreOf names.BrokerInit words (λ rows. FindsBrokerFounder rows founder)
+
+abbrev pub AreBrokerServeWords : List (List ℕ) → Server → Type 0
+AreBrokerServeWords words server = AreOf names.BrokerServe words (λ rows. FindsServer rows server)
+
+-- the words are of this operation of a broker's operator
+abbrev pub AreBrokerOperationWords : List (List ℕ) → BrokerOperation → Type 0
+AreBrokerOperationWords words (brokers.Account opening) = AreOf names.BrokerAccount words (λ rows. FindsOpening rows opening)
+AreBrokerOperationWords words (brokers.Deposit payment) = AreOf names.BrokerDeposit words (λ rows. FindsPayment rows payment)
+AreBrokerOperationWords words (brokers.Withdraw payment) = AreOf names.BrokerWithdraw words (λ rows. FindsPayment rows payment)
+AreBrokerOperationWords words (brokers.Balance inquiry) = AreOf names.BrokerBalance words (λ rows. FindsInquiry rows inquiry)
+AreBrokerOperationWords words (brokers.Licence taking) = AreOf names.BrokerLicence words (λ rows. FindsTaking rows taking)
+AreBrokerOperationWords words (brokers.Stock stocking) = AreOf names.BrokerStock words (λ rows. FindsStocking rows stocking)
+
+-- the book that it is for
+abbrev pub broker_book_of : BrokerOperation → List ℕ
+broker_book_of (brokers.Account opening) = opening.book
+broker_book_of (brokers.Deposit payment) = payment.book
+broker_book_of (brokers.Withdraw payment) = payment.book
+broker_book_of (brokers.Balance inquiry) = inquiry.book
+broker_book_of (brokers.Licence taking) = taking.book
+broker_book_of (brokers.Stock stocking) = stocking.book
+
 -- the words are of this command
 abbrev pub AreWords : List (List ℕ) → Command → Type 0
 AreWords words (Once shop) = AreOnceWords words shop
@@ -59,6 +86,9 @@ AreWords words (Init founder) = AreInitWords words founder
 AreWords words (Serve server) = AreServeWords words server
 AreWords words (Play playing) = ArePlayWords words playing
 AreWords words (Operate operation) = AreOperationWords words operation
+AreWords words (BrokerInit founder) = AreBrokerInitWords words founder
+AreWords words (BrokerServe server) = AreBrokerServeWords words server
+AreWords words (BrokerOperate operation) = AreBrokerOperationWords words operation
 
 -- the words are of no command
 abbrev pub AreNoWords : List (List ℕ) → Type 0

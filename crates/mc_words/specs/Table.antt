@@ -37,13 +37,21 @@ terms rules = positional (codes "PERIOD") ∷ positional (codes "LIFE") ∷ posi
 abbrev pub house_options : List Rule
 house_options = value (codes "keep") ∷ flag (codes "clear") ∷ []
 
+-- BOOK LISTEN LINKS
+abbrev pub serve_rules : List Rule
+serve_rules = book ∷ positional (codes "LISTEN") ∷ positional (codes "LINKS") ∷ []
+
+-- BOOK ACCOUNT AMOUNT REFERENCE
+abbrev pub payment_rules : List Rule
+payment_rules = book ∷ positional (codes "ACCOUNT") ∷ positional (codes "AMOUNT") ∷ positional (codes "REFERENCE") ∷ []
+
 unfoldable pub form_of : CommandName → CommandForm
 form_of names.VendorInit = vendor (codes "init") (book ∷ positional (codes "NAME") ∷ terms house_options)
 form_of names.VendorGoods = vendor (codes "goods") (book ∷ positional (codes "TARGET") ∷ positional (codes "PRICE") ∷ value (codes "kind") ∷ [])
 form_of names.VendorPrice = vendor (codes "price") (book ∷ positional (codes "TARGET") ∷ positional (codes "PRICE") ∷ [])
 form_of names.VendorLicence = vendor (codes "licence") (book ∷ positional (codes "ISSUER") ∷ terms [])
 form_of names.VendorMint = vendor (codes "mint") (book ∷ positional (codes "COUNT") ∷ positional (codes "VALUE") ∷ positional (codes "REFERENCE") ∷ [])
-form_of names.VendorServe = vendor (codes "serve") (book ∷ positional (codes "LISTEN") ∷ positional (codes "LINKS") ∷ [])
+form_of names.VendorServe = vendor (codes "serve") serve_rules
 form_of names.VendorOnce = vendor (codes "once") (positional (codes "NAME") ∷ positional (codes "TARGET") ∷ positional (codes "PRICE") ∷ positional (codes "SECRET") ∷ positional (codes "CONTENTS") ∷ [])
 form_of names.VendorPlay = vendor (codes "play") (positional (codes "COUNT") ∷ [])
 form_of names.VendorUpgrade = vendor (codes "upgrade") (book ∷ positional (codes "ISSUER") ∷ positional (codes "EPOCH") ∷ [])
@@ -51,12 +59,12 @@ form_of names.VendorChain = vendor (codes "chain") (book ∷ [])
 form_of names.VendorStatement = vendor (codes "statement") (book ∷ positional (codes "ISSUER") ∷ positional (codes "EPOCH") ∷ [])
 form_of names.BrokerInit = broker (codes "init") (book ∷ positional (codes "NAME") ∷ terms (positional (codes "FEE") ∷ house_options))
 form_of names.BrokerAccount = broker (codes "account") (book ∷ positional (codes "ACCOUNT") ∷ positional (codes "KEY") ∷ [])
-form_of names.BrokerDeposit = broker (codes "deposit") (book ∷ positional (codes "ACCOUNT") ∷ positional (codes "AMOUNT") ∷ positional (codes "REFERENCE") ∷ [])
-form_of names.BrokerWithdraw = broker (codes "withdraw") (book ∷ positional (codes "ACCOUNT") ∷ positional (codes "AMOUNT") ∷ positional (codes "REFERENCE") ∷ [])
+form_of names.BrokerDeposit = broker (codes "deposit") payment_rules
+form_of names.BrokerWithdraw = broker (codes "withdraw") payment_rules
 form_of names.BrokerBalance = broker (codes "balance") (book ∷ positional (codes "ACCOUNT") ∷ [])
 form_of names.BrokerLicence = broker (codes "licence") (book ∷ [])
 form_of names.BrokerStock = broker (codes "stock") (book ∷ positional (codes "VENDOR") ∷ [])
-form_of names.BrokerServe = broker (codes "serve") (book ∷ positional (codes "LISTEN") ∷ positional (codes "LINKS") ∷ [])
+form_of names.BrokerServe = broker (codes "serve") serve_rules
 form_of names.BrokerUpgrade = broker (codes "upgrade") (book ∷ positional (codes "VENDOR") ∷ positional (codes "EPOCH") ∷ [])
 form_of names.BrokerChain = broker (codes "chain") (book ∷ [])
 form_of names.BrokerSettle = broker (codes "settle") (book ∷ [])

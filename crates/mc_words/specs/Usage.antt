@@ -25,4 +25,4 @@ pub record IsUsageOf (name : CommandName) (words : List Text) (line : Text) : Ty
 
 -- what is told of words: the line of the command that they begin with, or the commands
 abbrev pub IsUsage : List Text → Text → Type 0
-IsUsage words line = ((name : CommandName) × IsUsageOf name words line) ⊎ (line ≡ codes "usage: millicent vendor init|goods|price|licence|mint|serve|once|play ..")
+IsUsage words line = ((name : CommandName) × IsUsageOf name words line) ⊎ (line ≡ codes "usage: millicent vendor init|goods|price|licence|mint|serve|once|play .. or broker init|account|deposit|withdraw|balance|licence|stock|serve ..")

@@ -1,7 +1,8 @@
 -- The values of each command, their ranges, and what `clap` finds of them in its words.
-use Rattle.std.specs.Prelude.{◌≡◌, ℕ, ◌≤◌, ◌^◌, Bool, List, length, Option, Some, IfSome, option_map, codes, decimal}
+use Rattle.std.specs.Prelude.{◌≡◌, ℕ, ◌≤◌, Bool, List, length, Option, Some, IfSome, option_map, codes, decimal}
 use Rattle.hex.specs.Hex.{encode_lower}
 use Rattle.clap.specs.Walk.{Row}
+use Rattle.mc_base.specs.declared.amount.TheConstants.Amount.{MOST}
 use Rattle.mc_fields.specs.Texts.{IsNumber}
 use Rattle.mc_records.specs.declared.ranges.TheConstants.{MOST_CONTENTS, MOST_PIECES}
 use Rattle.scrip_form.specs.Texts.{IsName, IsTarget}
@@ -34,7 +35,7 @@ pub record Shop : Type 0 where
 pub record IsShop (shop : Shop) : Type 0 where
   pub name : IsName shop.name
   pub target : IsTarget shop.target
-  pub price : IsNumber (2 ^ 40) shop.price
+  pub price : IsNumber MOST shop.price
   pub secret : IsCert shop.secret
   pub contents : length shop.contents ≤ MOST_CONTENTS
 
@@ -46,11 +47,12 @@ pub record FindsShop (rows : List Row) (shop : Shop) : Type 0 where
   pub contents : value_of rows (codes "CONTENTS") ≡ Some shop.contents
   pub shop' : IsShop shop
 
--- ---- `vendor init BOOK NAME PERIOD LIFE SCRIP CUSTOMER [--keep SECONDS] [--clear]`
+-- ---- `vendor init BOOK NAME PERIOD LIFE SCRIP CUSTOMER [--keep SECONDS] [--clear]`, and `broker init`, which has FEE
+-- behind CUSTOMER
 
--- what a vendor is founded with: its book, its name, the period and the life of its series, its secrets
--- of scrip and of customers, its keeping time where the words say one, and whether it takes requests
--- without a signature
+-- what a site is founded with: its book, its name, the period and the life of its series, its secrets
+-- of scrip and of customers, its fee, its keeping time where the words say one, and whether it takes
+-- requests without a signature
 pub record Founder : Type 0 where
   pub book : List ℕ
   pub name : List ℕ
@@ -58,6 +60,7 @@ pub record Founder : Type 0 where
   pub life : ℕ
   pub scrip : List (List ℕ)
   pub customer : List (List ℕ)
+  pub fee : ℕ
   pub keep : Option ℕ
   pub clear : Bool
 
@@ -69,8 +72,10 @@ pub record IsFounder (founder : Founder) : Type 0 where
   pub book : IsPathOrAddress founder.book
   pub name : IsName founder.name
   pub terms : AreTerms (own_terms founder)
+  pub fee : founder.fee ≤ MOST
   pub keep : IfSome founder.keep IsKeepingTime
 
+-- what the words of a vendor and of a broker have alike
 pub record FindsFounder (rows : List Row) (founder : Founder) : Type 0 where
   pub book : value_of rows (codes "BOOK") ≡ Some founder.book
   pub name : value_of rows (codes "NAME") ≡ Some founder.name
@@ -79,9 +84,19 @@ pub record FindsFounder (rows : List Row) (founder : Founder) : Type 0 where
   pub clear : has_flag rows (codes "clear") ≡ founder.clear
   pub founder' : IsFounder founder
 
--- ---- `vendor serve BOOK LISTEN LINKS`
+-- a vendor takes no fee
+pub record FindsVendorFounder (rows : List Row) (founder : Founder) : Type 0 where
+  pub found : FindsFounder rows founder
+  pub fee : founder.fee ≡ 0
 
--- what a vendor is served by: its book, where its links come, and how many are taken at most
+-- a broker's fee is the word FEE
+pub record FindsBrokerFounder (rows : List Row) (founder : Founder) : Type 0 where
+  pub found : FindsFounder rows founder
+  pub fee : value_of rows (codes "FEE") ≡ Some (decimal founder.fee)
+
+-- ---- `vendor serve BOOK LISTEN LINKS`, and `broker serve` likewise
+
+-- what a site is served by: its book, where its links come, and how many are taken at most
 pub record Server : Type 0 where
   pub book : List ℕ
   pub listen : List ℕ
@@ -122,7 +137,7 @@ pub record Pricing : Type 0 where
 pub record IsPricing (pricing : Pricing) : Type 0 where
   pub book : IsPathOrAddress pricing.book
   pub target : IsTarget pricing.target
-  pub price : IsNumber (2 ^ 40) pricing.price
+  pub price : IsNumber MOST pricing.price
 
 pub record FindsPricing (rows : List Row) (pricing : Pricing) : Type 0 where
   pub book : value_of rows (codes "BOOK") ≡ Some pricing.book
@@ -193,7 +208,7 @@ pub record Minting : Type 0 where
 pub record IsMinting (minting : Minting) : Type 0 where
   pub book : IsPathOrAddress minting.book
   pub count : IsNumber MOST_PIECES minting.count
-  pub value : IsNumber (2 ^ 40) minting.value
+  pub value : IsNumber MOST minting.value
   pub reference : IsName minting.reference
 
 pub record FindsMinting (rows : List Row) (minting : Minting) : Type 0 where
@@ -202,3 +217,90 @@ pub record FindsMinting (rows : List Row) (minting : Minting) : Type 0 where
   pub value : value_of rows (codes "VALUE") ≡ Some (decimal minting.value)
   pub reference : value_of rows (codes "REFERENCE") ≡ Some minting.reference
   pub minting' : IsMinting minting
+
+-- ---- `broker account BOOK ACCOUNT KEY`
+
+-- the account that is opened: the book of the broker, the name of the account, and its key of sixteen bytes
+pub record Opening : Type 0 where
+  pub book : List ℕ
+  pub account : List ℕ
+  pub key : List ℕ
+
+pub record IsOpening (opening : Opening) : Type 0 where
+  pub book : IsPathOrAddress opening.book
+  pub account : IsName opening.account
+  pub key : IsCert opening.key
+
+pub record FindsOpening (rows : List Row) (opening : Opening) : Type 0 where
+  pub book : value_of rows (codes "BOOK") ≡ Some opening.book
+  pub account : value_of rows (codes "ACCOUNT") ≡ Some opening.account
+  pub key : value_of rows (codes "KEY") ≡ Some (encode_lower opening.key)
+  pub opening' : IsOpening opening
+
+-- ---- `broker deposit BOOK ACCOUNT AMOUNT REFERENCE`, and `broker withdraw` likewise
+
+-- what is paid into an account or out of it: the book of the broker, the name of the account, the amount,
+-- and the reference by which the payment is known
+pub record Payment : Type 0 where
+  pub book : List ℕ
+  pub account : List ℕ
+  pub amount : ℕ
+  pub reference : List ℕ
+
+pub record IsPayment (payment : Payment) : Type 0 where
+  pub book : IsPathOrAddress payment.book
+  pub account : IsName payment.account
+  pub amount : IsNumber MOST payment.amount
+  pub reference : IsName payment.reference
+
+pub record FindsPayment (rows : List Row) (payment : Payment) : Type 0 where
+  pub book : value_of rows (codes "BOOK") ≡ Some payment.book
+  pub account : value_of rows (codes "ACCOUNT") ≡ Some payment.account
+  pub amount : value_of rows (codes "AMOUNT") ≡ Some (decimal payment.amount)
+  pub reference : value_of rows (codes "REFERENCE") ≡ Some payment.reference
+  pub payment' : IsPayment payment
+
+-- ---- `broker balance BOOK ACCOUNT`
+
+-- the account whose balance is asked for: the book of the broker, and the name of the account
+pub record Inquiry : Type 0 where
+  pub book : List ℕ
+  pub account : List ℕ
+
+pub record IsInquiry (inquiry : Inquiry) : Type 0 where
+  pub book : IsPathOrAddress inquiry.book
+  pub account : IsName inquiry.account
+
+pub record FindsInquiry (rows : List Row) (inquiry : Inquiry) : Type 0 where
+  pub book : value_of rows (codes "BOOK") ≡ Some inquiry.book
+  pub account : value_of rows (codes "ACCOUNT") ≡ Some inquiry.account
+  pub inquiry' : IsInquiry inquiry
+
+-- ---- `broker licence BOOK`
+
+-- the book of the broker that takes a licence
+pub record Taking : Type 0 where
+  pub book : List ℕ
+
+pub record IsTaking (taking : Taking) : Type 0 where
+  pub book : IsPathOrAddress taking.book
+
+pub record FindsTaking (rows : List Row) (taking : Taking) : Type 0 where
+  pub book : value_of rows (codes "BOOK") ≡ Some taking.book
+  pub taking' : IsTaking taking
+
+-- ---- `broker stock BOOK VENDOR`
+
+-- whose pieces are taken as stock: the book of the broker, and the name of the vendor
+pub record Stocking : Type 0 where
+  pub book : List ℕ
+  pub vendor : List ℕ
+
+pub record IsStocking (stocking : Stocking) : Type 0 where
+  pub book : IsPathOrAddress stocking.book
+  pub vendor : IsName stocking.vendor
+
+pub record FindsStocking (rows : List Row) (stocking : Stocking) : Type 0 where
+  pub book : value_of rows (codes "BOOK") ≡ Some stocking.book
+  pub vendor : value_of rows (codes "VENDOR") ≡ Some stocking.vendor
+  pub stocking' : IsStocking stocking

@@ -12,9 +12,10 @@ use Rattle.mc_words.specs.declared.table.CommandName.TheVariants as names
 use Rattle.mc_words.specs.declared.wrong.WrongWord.{WrongWord}
 use Rattle.mc_words.specs.declared.wrong.WrongWord.TheVariants.{Word, Place}
 use Rattle.scrip_form.specs.declared.terms.TheConstants.Terms.{LEAST_PERIOD, MOST_SECONDS}
-use Rattle.mc_words.specs.Ranges.{IsSecretList, IsWithin, joined}
+use Rattle.scrip_form.specs.Texts.{IsName}
+use Rattle.mc_words.specs.Ranges.{IsKeepingTime, IsPathOrAddress, IsSecretList, IsWithin, joined}
 use Rattle.mc_words.specs.Table.{form_of}
-use Rattle.mc_words.specs.Words.{Shop, FindsShop, Founder, FindsFounder, Server, FindsServer, Playing, FindsPlaying, Listing, FindsListing, Pricing, FindsPricing, Licensing, FindsLicensing, Minting, FindsMinting}
+use Rattle.mc_words.specs.Words.{Shop, FindsShop, Founder, FindsVendorFounder, FindsBrokerFounder, Server, FindsServer, Playing, FindsPlaying, Listing, FindsListing, Pricing, FindsPricing, Licensing, FindsLicensing, Minting, FindsMinting, Opening, FindsOpening, Payment, FindsPayment, Inquiry, FindsInquiry, Taking, FindsTaking, Stocking, FindsStocking}
 
 -- the word of an argument spells a value in its range, or is not there
 abbrev pub MaySpell : {X : Type 0} → Option Text → (X → Type 0) → (X → Text) → Type 0
@@ -25,6 +26,13 @@ pub record MaySpellTerms (rows : List Row) : Type 0 where
   pub life : MaySpell (value_of rows (codes "LIFE")) (IsWithin 0 MOST_SECONDS) decimal
   pub scrip : MaySpell (value_of rows (codes "SCRIP")) IsSecretList joined
   pub customer : MaySpell (value_of rows (codes "CUSTOMER")) IsSecretList joined
+
+-- of the words that a vendor's founder and a broker's have alike
+pub record MaySpellFounder (rows : List Row) : Type 0 where
+  pub book : MaySpell (value_of rows (codes "BOOK")) IsPathOrAddress (λ p. p)
+  pub name : MaySpell (value_of rows (codes "NAME")) IsName (λ n. n)
+  pub terms : MaySpellTerms rows
+  pub keep : MaySpell (value_of rows (codes "keep")) IsKeepingTime decimal
 
 -- What was found of these arguments is also found where none lacks: these rows have values of a command.
 pub record MayBecome (rules : List Rule) (Finds : List Row → Type 0) (rows : List Row) : Type 0 where
@@ -70,21 +78,32 @@ MayBegin name Finds (role ∷ command ∷ words) = (role ≡ (form_of name).role
 -- these rows have values of the command; a command that is not carried out has none
 abbrev pub HaveValues : CommandName → List Row → Type 0
 HaveValues names.VendorOnce rows = (values : Shop) × FindsShop rows values
-HaveValues names.VendorInit rows = (values : Founder) × FindsFounder rows values
+HaveValues names.VendorInit rows = (values : Founder) × FindsVendorFounder rows values
 HaveValues names.VendorServe rows = (values : Server) × FindsServer rows values
 HaveValues names.VendorPlay rows = (values : Playing) × FindsPlaying rows values
 HaveValues names.VendorGoods rows = (values : Listing) × FindsListing rows values
 HaveValues names.VendorPrice rows = (values : Pricing) × FindsPricing rows values
 HaveValues names.VendorLicence rows = (values : Licensing) × FindsLicensing rows values
 HaveValues names.VendorMint rows = (values : Minting) × FindsMinting rows values
+HaveValues names.BrokerInit rows = (values : Founder) × FindsBrokerFounder rows values
+HaveValues names.BrokerServe rows = (values : Server) × FindsServer rows values
+HaveValues names.BrokerAccount rows = (values : Opening) × FindsOpening rows values
+HaveValues names.BrokerDeposit rows = (values : Payment) × FindsPayment rows values
+HaveValues names.BrokerWithdraw rows = (values : Payment) × FindsPayment rows values
+HaveValues names.BrokerBalance rows = (values : Inquiry) × FindsInquiry rows values
+HaveValues names.BrokerLicence rows = (values : Taking) × FindsTaking rows values
+HaveValues names.BrokerStock rows = (values : Stocking) × FindsStocking rows values
 HaveValues _ rows = ⊥
 
--- The words of a command that is carried out may begin with these.
-pub record GoOn (words : List Text) : Type 0 where
-  pub name : CommandName
+-- This command is carried out, and its words may begin with these.
+pub record GoOnAs (name : CommandName) (words : List Text) : Type 0 where
   pub rows : List Row
   pub values : HaveValues name rows
   pub begin : MayBegin name (HaveValues name) words
+
+-- The words of a command that is carried out may begin with these.
+abbrev pub GoOn : List Text → Type 0
+GoOn words = (name : CommandName) × GoOnAs name words
 
 -- The first word that no command could have there, given the words before; or each could be there.
 abbrev pub IsFirstWrong : List Text → Option ℕ → Type 0

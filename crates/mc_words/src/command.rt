@@ -1,11 +1,12 @@
 ghost use Rattle.std.specs.Prelude.{map, string_bytes, IfOk, IfSome, IsNone};
 ghost use Rattle.mc_words.specs.Commands.{AreWords, AreNoWords};
 
-use crate::init::Founder;
+use crate::broker_operation::{BrokerOperation, broker_operation_of};
+use crate::init::{BrokerFounder, VendorFounder};
 use crate::once::Shop;
 use crate::operation::{Operation, operation_of};
 use crate::play::Playing;
-use crate::serve::Server;
+use crate::serve::{BrokerServer, Server, VendorServer};
 use crate::spelled::values_of;
 use std::alloc::{AllocError, Global};
 
@@ -15,13 +16,19 @@ pub enum Command<'a> {
     /// Sells one thing over one link, with no book.
     Once(Shop<'a>),
     /// Founds a vendor in a book.
-    Init(Founder<'a>),
+    Init(VendorFounder<'a>),
     /// Serves the vendor of a book.
     Serve(Server<'a>),
     /// Plays heads that are made for it, with no book.
     Play(Playing),
     /// Has something done to the book of a vendor, as its operator.
     Operate(Operation<'a>),
+    /// Founds a broker in a book.
+    BrokerInit(BrokerFounder<'a>),
+    /// Serves the broker of a book.
+    BrokerServe(Server<'a>),
+    /// Has something done to the book of a broker, as its operator.
+    BrokerOperate(BrokerOperation<'a>),
 }
 
 /// The command that the words, those after the program's name, are of; None exactly where they are of
@@ -35,17 +42,26 @@ pub fn command_of<'a>(alloc: Global, words: &'a [String]) -> Result<Option<Comma
     if let Some(shop) = values_of::<Shop>(alloc, words)? {
         return Ok(Some(Command::Once(shop)));
     }
-    if let Some(founder) = values_of::<Founder>(alloc, words)? {
+    if let Some(founder) = values_of::<VendorFounder>(alloc, words)? {
         return Ok(Some(Command::Init(founder)));
     }
-    if let Some(server) = values_of::<Server>(alloc, words)? {
-        return Ok(Some(Command::Serve(server)));
+    if let Some(server) = values_of::<VendorServer>(alloc, words)? {
+        return Ok(Some(Command::Serve(server.0)));
     }
     if let Some(playing) = values_of::<Playing>(alloc, words)? {
         return Ok(Some(Command::Play(playing)));
     }
     if let Some(operation) = operation_of(alloc, words)? {
         return Ok(Some(Command::Operate(operation)));
+    }
+    if let Some(founder) = values_of::<BrokerFounder>(alloc, words)? {
+        return Ok(Some(Command::BrokerInit(founder)));
+    }
+    if let Some(server) = values_of::<BrokerServer>(alloc, words)? {
+        return Ok(Some(Command::BrokerServe(server.0)));
+    }
+    if let Some(operation) = broker_operation_of(alloc, words)? {
+        return Ok(Some(Command::BrokerOperate(operation)));
     }
     Ok(None)
 }

@@ -24,13 +24,16 @@ pub struct Listing<'a> {
 }
 
 impl<'a> Model for Listing<'a> {
-    ghost use Rattle.mc_words.specs.Words.{Listing as Listed, IsListing};
+    ghost use Rattle.mc_words.specs.Words.{Listing as Listed};
 
     ghost Value = { Listed };
 
-    ghost view = { λ l. record { book = l.pricing.book; target = l.pricing.target; price = l.pricing.price; kind = l.kind } };
+    ghost use Rattle.mc_words.specs.Words.{IsListing};
+    ghost use Rattle.mc_words.specs.Views.{listing_view};
 
-    ghost invariant = { λ l. IsListing (record { book = l.pricing.book; target = l.pricing.target; price = l.pricing.price; kind = l.kind }) };
+    ghost view = { listing_view };
+
+    ghost invariant = { λ l. IsListing (listing_view l) };
 }
 
 impl<'a> Listing<'a> {

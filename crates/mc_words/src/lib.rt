@@ -4,6 +4,9 @@
 //! project's own readers. Whether a book is there, or is one, is no matter of this crate.
 #![tactic(auto)]
 
+mod account;
+mod balance;
+mod broker_operation;
 mod command;
 mod goods;
 mod init;
@@ -13,30 +16,39 @@ mod may;
 mod mint;
 mod once;
 mod operation;
+mod payment;
 mod play;
 mod price;
 mod secrets;
 mod serve;
 mod spelled;
+mod stock;
 mod table;
+mod taking;
 mod terms;
 mod usage_lines;
 mod value;
 mod wrong;
 
+pub use account::Opening;
+pub use balance::Inquiry;
+pub use broker_operation::BrokerOperation;
 pub use command::{Command, command_of};
 pub use goods::Listing;
-pub use init::Founder;
+pub use init::{BrokerFounder, Founder, KEEP, VendorFounder};
 pub use law::words_are_of_one_command;
 pub use licence::Licensing;
 pub use mint::Minting;
 pub use once::{Shop, shop_of};
 pub use operation::Operation;
+pub use payment::Payment;
 pub use play::Playing;
 pub use price::Pricing;
 pub use secrets::secrets_of;
 pub use serve::Server;
+pub use stock::Stocking;
 pub use table::{CommandName, read_command};
+pub use taking::Taking;
 pub use usage_lines::usage;
 pub use value::number_from;
 pub use wrong::{WrongWord, wrong_word};

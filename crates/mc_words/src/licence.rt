@@ -23,13 +23,16 @@ pub struct Licensing<'a> {
 }
 
 impl<'a> Model for Licensing<'a> {
-    ghost use Rattle.mc_words.specs.Words.{Licensing as Licensed, IsLicensing};
+    ghost use Rattle.mc_words.specs.Words.{Licensing as Licensed};
 
     ghost Value = { Licensed };
 
-    ghost view = { λ l. record { book = l.book.now; issuer = l.terms.issuer; period = l.terms.period; life = l.terms.life; scrip = l.terms.scrip; customer = l.terms.customer } };
+    ghost use Rattle.mc_words.specs.Words.{IsLicensing};
+    ghost use Rattle.mc_words.specs.Views.{licensing_view};
 
-    ghost invariant = { λ l. IsLicensing (record { book = l.book.now; issuer = l.terms.issuer; period = l.terms.period; life = l.terms.life; scrip = l.terms.scrip; customer = l.terms.customer }) };
+    ghost view = { licensing_view };
+
+    ghost invariant = { λ l. IsLicensing (licensing_view l) };
 }
 
 impl<'a> Licensing<'a> {

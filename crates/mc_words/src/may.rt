@@ -10,7 +10,7 @@ ghost use Rattle.mc_words.specs.Ranges.{IsPathOrAddress, IsSecretList, IsWithin,
 ghost use Rattle.mc_words.specs.Wrong.{MaySpell};
 
 use crate::value::{
-    contents_in, name_in, option_within, place_in, secret_in, secrets_in, target_in,
+    MOST_NUMBER, contents_in, name_in, option_within, place_in, secret_in, secrets_in, target_in,
 };
 use command_words::Found;
 
@@ -59,7 +59,7 @@ pub(crate) fn may_contents(found: &Found<'_>, name: &str) -> bool
 
 /// Whether the word spells a number from `least` to `most`, likewise.
 pub(crate) fn may_number(found: &Found<'_>, name: &str, least: u64, most: u64) -> bool
-    requires { most ≤ 2 ^ 60 }
+    requires { most ≤ MOST_NUMBER }
     ensures { IsTrue result
         ↔ MaySpell (value_of found.now name.now) (IsWithin least most) decimal }
 {

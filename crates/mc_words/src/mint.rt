@@ -25,13 +25,16 @@ pub struct Minting<'a> {
 }
 
 impl<'a> Model for Minting<'a> {
-    ghost use Rattle.mc_words.specs.Words.{Minting as Minted, IsMinting};
+    ghost use Rattle.mc_words.specs.Words.{Minting as Minted};
 
     ghost Value = { Minted };
 
-    ghost view = { λ m. record { book = m.book.now; count = m.count; value = m.value; reference = m.reference } };
+    ghost use Rattle.mc_words.specs.Words.{IsMinting};
+    ghost use Rattle.mc_words.specs.Views.{minting_view};
 
-    ghost invariant = { λ m. IsMinting (record { book = m.book.now; count = m.count; value = m.value; reference = m.reference }) };
+    ghost view = { minting_view };
+
+    ghost invariant = { λ m. IsMinting (minting_view m) };
 }
 
 impl<'a> Minting<'a> {

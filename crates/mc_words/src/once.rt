@@ -24,13 +24,16 @@ pub struct Shop<'a> {
 }
 
 impl<'a> Model for Shop<'a> {
-    ghost use Rattle.mc_words.specs.Words.{Shop as Sold, IsShop};
+    ghost use Rattle.mc_words.specs.Words.{Shop as Sold};
 
     ghost Value = { Sold };
 
-    ghost view = { λ s. record { name = s.name; target = s.target; price = s.price; secret = s.secret; contents = s.contents.now } };
+    ghost use Rattle.mc_words.specs.Words.{IsShop};
+    ghost use Rattle.mc_words.specs.Views.{shop_view};
 
-    ghost invariant = { λ s. IsShop (record { name = s.name; target = s.target; price = s.price; secret = s.secret; contents = s.contents.now }) };
+    ghost view = { shop_view };
+
+    ghost invariant = { λ s. IsShop (shop_view s) };
 }
 
 impl<'a> Shop<'a> {

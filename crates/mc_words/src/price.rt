@@ -22,13 +22,16 @@ pub struct Pricing<'a> {
 }
 
 impl<'a> Model for Pricing<'a> {
-    ghost use Rattle.mc_words.specs.Words.{Pricing as Priced, IsPricing};
+    ghost use Rattle.mc_words.specs.Words.{Pricing as Priced};
 
     ghost Value = { Priced };
 
-    ghost view = { λ p. record { book = p.book.now; target = p.target; price = p.price } };
+    ghost use Rattle.mc_words.specs.Words.{IsPricing};
+    ghost use Rattle.mc_words.specs.Views.{pricing_view};
 
-    ghost invariant = { λ p. IsPricing (record { book = p.book.now; target = p.target; price = p.price }) };
+    ghost view = { pricing_view };
+
+    ghost invariant = { λ p. IsPricing (pricing_view p) };
 }
 
 impl<'a> Pricing<'a> {

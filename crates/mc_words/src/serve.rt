@@ -1,7 +1,9 @@
-ghost use Rattle.std.specs.Prelude.{◌≡◌};
+ghost use Rattle.std.specs.Prelude.{◌≡◌, IfSome, IsNone, IsTrue, ◌↔◌};
 ghost use Rattle.mc_fields.specs.Texts.{IsNumber};
-ghost use Rattle.mc_words.specs.Words.{FindsServer};
-ghost use Rattle.mc_words.specs.declared.table.CommandName.TheVariants.{VendorServe};
+ghost use Rattle.mc_words.specs.Table.{serve_rules};
+ghost use Rattle.mc_words.specs.Words.{Server as Serving, FindsServer};
+ghost use Rattle.mc_words.specs.Wrong.{MayBecome};
+ghost use Rattle.mc_words.specs.declared.table.CommandName.TheVariants.{BrokerServe, VendorServe};
 
 use crate::may::{may_number, may_place};
 use crate::spelled::Spelled;
@@ -13,7 +15,7 @@ use std::marker::Model;
 /// The most links that are taken.
 const MOST_LINKS: u64 = u32::MAX as u64;
 
-/// What a vendor is served by. Contracts see it as its texts and its number.
+/// What a site is served by. Contracts see it as its texts and its number.
 #[derive(Drop)]
 pub struct Server<'a> {
     book: &'a [u8],
@@ -22,17 +24,20 @@ pub struct Server<'a> {
 }
 
 impl<'a> Model for Server<'a> {
-    ghost use Rattle.mc_words.specs.Words.{Server as Serving, IsServer};
+    ghost use Rattle.mc_words.specs.Words.{Server as Serving};
 
     ghost Value = { Serving };
 
-    ghost view = { λ s. record { book = s.book.now; listen = s.listen.now; links = s.links } };
+    ghost use Rattle.mc_words.specs.Words.{IsServer};
+    ghost use Rattle.mc_words.specs.Views.{server_view};
 
-    ghost invariant = { λ s. IsServer (record { book = s.book.now; listen = s.listen.now; links = s.links }) };
+    ghost view = { server_view };
+
+    ghost invariant = { λ s. IsServer (server_view s) };
 }
 
 impl<'a> Server<'a> {
-    /// The book of the vendor.
+    /// The book of the site.
     pub fn book(&self) -> &'a [u8]
         ensures { result.now ≡ self.now.book }
     {
@@ -55,8 +60,46 @@ impl<'a> Server<'a> {
     }
 }
 
+/// The server that was found; None exactly where there is none.
+fn server_in<'a>(found: &Found<'a>) -> Option<Server<'a>>
+    ensures some { IfSome result (FindsServer found.now) }
+    ensures none { IsNone result → (server : Serving) → FindsServer found.now server → ⊥ }
+{
+    let book = place_in(found, "BOOK")?;
+    let listen = place_in(found, "LISTEN")?;
+    let links = number_in(found, "LINKS", MOST_LINKS)?;
+    Some(Server {
+        book,
+        listen,
+        links: links as u32,
+    })
+}
+
+/// Whether what was found may still become a server.
+fn may_server(found: &Found<'_>) -> bool
+    ensures { IsTrue result
+        ↔ MayBecome serve_rules (λ rows. (server : Serving) × FindsServer rows server) found.now }
+{
+    let book = may_place(found, "BOOK");
+    let listen = may_place(found, "LISTEN");
+    let links = may_number(found, "LINKS", 1, MOST_LINKS);
+    book & listen & links
+}
+
+/// What a vendor is served by. Contracts see it as the server.
+#[derive(Drop)]
+pub(crate) struct VendorServer<'a>(pub(crate) Server<'a>);
+
+impl<'a> Model for VendorServer<'a> {
+    ghost use Rattle.mc_words.specs.Words.{Server as Serving};
+
+    ghost Value = { Serving };
+
+    ghost view = { λ s. s.0 };
+}
+
 /// `vendor serve BOOK LISTEN LINKS`.
-impl<'a> Spelled<'a> for Server<'a> {
+impl<'a> Spelled<'a> for VendorServer<'a> {
     ghost named = { VendorServe };
 
     ghost finds = { FindsServer };
@@ -67,21 +110,46 @@ impl<'a> Spelled<'a> for Server<'a> {
         CommandName::VendorServe
     }
 
-    fn read(found: &Found<'a>) -> Option<Server<'a>> {
-        let book = place_in(found, "BOOK")?;
-        let listen = place_in(found, "LISTEN")?;
-        let links = number_in(found, "LINKS", MOST_LINKS)?;
-        Some(Server {
-            book,
-            listen,
-            links: links as u32,
-        })
+    fn read(found: &Found<'a>) -> Option<VendorServer<'a>> {
+        Some(VendorServer(server_in(found)?))
     }
 
+    #[tactic(auto, unfolding(crate::specs::Table::form_of))]
     fn fits(found: &Found<'a>) -> bool {
-        let book = may_place(found, "BOOK");
-        let listen = may_place(found, "LISTEN");
-        let links = may_number(found, "LINKS", 1, MOST_LINKS);
-        book & listen & links
+        may_server(found)
+    }
+}
+
+/// What a broker is served by. Contracts see it as the server.
+#[derive(Drop)]
+pub(crate) struct BrokerServer<'a>(pub(crate) Server<'a>);
+
+impl<'a> Model for BrokerServer<'a> {
+    ghost use Rattle.mc_words.specs.Words.{Server as Serving};
+
+    ghost Value = { Serving };
+
+    ghost view = { λ s. s.0 };
+}
+
+/// `broker serve BOOK LISTEN LINKS`.
+impl<'a> Spelled<'a> for BrokerServer<'a> {
+    ghost named = { BrokerServe };
+
+    ghost finds = { FindsServer };
+
+    fn command() -> CommandName
+        ensures { result ≡ BrokerServe }
+    {
+        CommandName::BrokerServe
+    }
+
+    fn read(found: &Found<'a>) -> Option<BrokerServer<'a>> {
+        Some(BrokerServer(server_in(found)?))
+    }
+
+    #[tactic(auto, unfolding(crate::specs::Table::form_of))]
+    fn fits(found: &Found<'a>) -> bool {
+        may_server(found)
     }
 }

@@ -7,7 +7,7 @@ ghost use Rattle.mc_words.specs.Usage.{IsUsage, usage_line};
 use crate::table::{CommandName, parts_of};
 
 /// The commands that are carried out.
-static CARRIED_OUT: [CommandName; 8] = [
+pub(crate) static CARRIED_OUT: [CommandName; 16] = [
     CommandName::VendorInit,
     CommandName::VendorGoods,
     CommandName::VendorPrice,
@@ -16,10 +16,19 @@ static CARRIED_OUT: [CommandName; 8] = [
     CommandName::VendorServe,
     CommandName::VendorOnce,
     CommandName::VendorPlay,
+    CommandName::BrokerInit,
+    CommandName::BrokerAccount,
+    CommandName::BrokerDeposit,
+    CommandName::BrokerWithdraw,
+    CommandName::BrokerBalance,
+    CommandName::BrokerLicence,
+    CommandName::BrokerStock,
+    CommandName::BrokerServe,
 ];
 
 /// The commands that are carried out, in one line.
-const COMMANDS: &str = "usage: millicent vendor init|goods|price|licence|mint|serve|once|play ..";
+const COMMANDS: &str =
+    "usage: millicent vendor init|goods|price|licence|mint|serve|once|play .. or broker init|account|deposit|withdraw|balance|licence|stock|serve ..";
 
 /// One line for standard error that tells which words the program has: those of the command that the words
 /// begin with, where it is carried out, or else the commands. It takes no memory.
@@ -60,6 +69,20 @@ fn line_of(name: CommandName) -> Option<&'static str>
             Some("usage: millicent vendor once NAME TARGET PRICE SECRET CONTENTS")
         }
         CommandName::VendorPlay => Some("usage: millicent vendor play COUNT"),
+        CommandName::BrokerInit => Some(
+            "usage: millicent broker init BOOK NAME PERIOD LIFE SCRIP CUSTOMER FEE [--keep VALUE] [--clear]",
+        ),
+        CommandName::BrokerAccount => Some("usage: millicent broker account BOOK ACCOUNT KEY"),
+        CommandName::BrokerDeposit => {
+            Some("usage: millicent broker deposit BOOK ACCOUNT AMOUNT REFERENCE")
+        }
+        CommandName::BrokerWithdraw => {
+            Some("usage: millicent broker withdraw BOOK ACCOUNT AMOUNT REFERENCE")
+        }
+        CommandName::BrokerBalance => Some("usage: millicent broker balance BOOK ACCOUNT"),
+        CommandName::BrokerLicence => Some("usage: millicent broker licence BOOK"),
+        CommandName::BrokerStock => Some("usage: millicent broker stock BOOK VENDOR"),
+        CommandName::BrokerServe => Some("usage: millicent broker serve BOOK LISTEN LINKS"),
         _ => None,
     }
 }

@@ -13,6 +13,9 @@ use mc_fields::number_of;
 use mc_records::MOST_CONTENTS;
 use scrip_form::{Name, Secrets, Target};
 
+/// The greatest number that a word may spell.
+pub(crate) const MOST_NUMBER: u64 = 1 << 60;
+
 /// The most bytes of a word that names a book or a place to listen at.
 const MOST_PLACE: usize = 255;
 
@@ -85,16 +88,26 @@ pub(crate) fn contents_in<'a>(found: &Found<'a>, name: &str) -> Option<&'a [u8]>
 /// The amount above 0 that a word spells, likewise.
 pub(crate) fn amount_in(found: &Found<'_>, name: &str) -> Option<Amount>
     ensures some { IfSome result
-        (λ a. IsNumber (2 ^ 40) a × (value_of found.now name.now ≡ Some (decimal a))) }
-    ensures none { IsNone result → (n : ℕ) → IsNumber (2 ^ 40) n
+        (λ a. IsNumber Amount.MOST a × (value_of found.now name.now ≡ Some (decimal a))) }
+    ensures none { IsNone result → (n : ℕ) → IsNumber Amount.MOST n
         → value_of found.now name.now ≡ Some (decimal n) → ⊥ }
 {
     Amount::new(number_in(found, name, Amount::MOST)?)
 }
 
+/// The amount that a word spells, which may be 0, likewise.
+pub(crate) fn amount_or_zero_in(found: &Found<'_>, name: &str) -> Option<Amount>
+    ensures some { IfSome result
+        (λ a. (a ≤ Amount.MOST) × (value_of found.now name.now ≡ Some (decimal a))) }
+    ensures none { IsNone result → (n : ℕ) → n ≤ Amount.MOST
+        → value_of found.now name.now ≡ Some (decimal n) → ⊥ }
+{
+    Amount::new(number_within(found, name, 0, Amount::MOST)?)
+}
+
 /// The number from 1 to `most` that a word spells, likewise.
 pub(crate) fn number_in(found: &Found<'_>, name: &str, most: u64) -> Option<u64>
-    requires { most ≤ 2 ^ 60 }
+    requires { most ≤ MOST_NUMBER }
     ensures some { IfSome result
         (λ n. IsNumber most n × (value_of found.now name.now ≡ Some (decimal n))) }
     ensures none { IsNone result → (n : ℕ) → IsNumber most n
@@ -105,7 +118,7 @@ pub(crate) fn number_in(found: &Found<'_>, name: &str, most: u64) -> Option<u64>
 
 /// The number from `least` to `most` that a word spells, likewise.
 pub(crate) fn number_within(found: &Found<'_>, name: &str, least: u64, most: u64) -> Option<u64>
-    requires { most ≤ 2 ^ 60 }
+    requires { most ≤ MOST_NUMBER }
     ensures some { IfSome result
         (λ n. IsWithin least most n × (value_of found.now name.now ≡ Some (decimal n))) }
     ensures none { IsNone result → (n : ℕ) → IsWithin least most n
@@ -122,7 +135,7 @@ pub(crate) fn option_within(
     least: u64,
     most: u64,
 ) -> Option<Option<u64>>
-    requires { most ≤ 2 ^ 60 }
+    requires { most ≤ MOST_NUMBER }
     ensures some { IfSome result (λ o. IfSome o (IsWithin least most)
         × (value_of found.now name.now ≡ option_map decimal o)) }
     ensures none { IsNone result → (o : Option ℕ) → IfSome o (IsWithin least most)
@@ -137,7 +150,7 @@ pub(crate) fn option_within(
 /// The number from `least` to `most` that the bytes spell whole, in decimal and without a leading zero;
 /// None exactly where they spell none.
 pub fn number_from(least: u64, most: u64, bytes: &[u8]) -> Option<u64>
-    requires { most ≤ 2 ^ 60 }
+    requires { most ≤ MOST_NUMBER }
     ensures some { IfSome result (λ n. IsWithin least most n × (bytes.now ≡ decimal n)) }
     ensures none { IsNone result → (n : ℕ) → IsWithin least most n → bytes.now ≡ decimal n → ⊥ }
 {
@@ -147,7 +160,7 @@ pub fn number_from(least: u64, most: u64, bytes: &[u8]) -> Option<u64>
 
 /// The number from 0 to `most` that the bytes spell, likewise.
 fn number_or_zero(most: u64, bytes: &[u8]) -> Option<u64>
-    requires { most ≤ 2 ^ 60 }
+    requires { most ≤ MOST_NUMBER }
     ensures number { IfSome result (λ n. (n ≤ most) × (bytes.now ≡ decimal n)) }
     ensures none { IsNone result → (n : ℕ) → n ≤ most → bytes.now ≡ decimal n → ⊥ }
 {

@@ -6,18 +6,24 @@ ghost use Rattle.std.specs.Str.{bytes_eq};
 ghost use Rattle.clap.specs.Walk.{Text};
 ghost use Rattle.command_words.specs.Arguments.{rule_of_argument, rules_of};
 ghost use Rattle.mc_words.specs.Table.{form_of};
-ghost use Rattle.mc_words.specs.Wrong.{AreTaken, EndInOption, GoOn, IsFirstWrong, IsShown, IsToldOf, LackValue, MayBegin, ReadSecrets, is_option};
+ghost use Rattle.mc_words.specs.Wrong.{AreTaken, EndInOption, GoOn, GoOnAs, IsFirstWrong, IsShown, IsToldOf, LackValue, MayBegin, ReadSecrets, is_option};
 
+use crate::account::Opening;
+use crate::balance::Inquiry;
 use crate::goods::Listing;
-use crate::init::Founder;
+use crate::init::{BrokerFounder, VendorFounder};
 use crate::licence::Licensing;
 use crate::mint::Minting;
 use crate::once::Shop;
+use crate::payment::{Deposit, Withdrawal};
 use crate::play::Playing;
 use crate::price::Pricing;
-use crate::serve::Server;
+use crate::serve::{BrokerServer, VendorServer};
 use crate::spelled::Spelled;
+use crate::stock::Stocking;
 use crate::table::{CommandName, parts_of, read_beginning_of};
+use crate::taking::Taking;
+use crate::usage_lines::CARRIED_OUT;
 use command_words::Argument;
 use std::alloc::{AllocError, Global};
 
@@ -98,15 +104,37 @@ fn first_wrong(alloc: Global, words: &[String]) -> Result<Option<usize>, AllocEr
 fn go_on(alloc: Global, words: &[String]) -> Result<bool, AllocError>
     ensures { IfOk result (λ r. IsTrue r ↔ GoOn (map string_bytes words.now)) }
 {
-    let once = may_begin::<Shop>(alloc, words)?;
-    let init = may_begin::<Founder>(alloc, words)?;
-    let serve = may_begin::<Server>(alloc, words)?;
-    let play = may_begin::<Playing>(alloc, words)?;
-    let goods = may_begin::<Listing>(alloc, words)?;
-    let price = may_begin::<Pricing>(alloc, words)?;
-    let licence = may_begin::<Licensing>(alloc, words)?;
-    let mint = may_begin::<Minting>(alloc, words)?;
-    Ok(once | init | serve | play | goods | price | licence | mint)
+    for name in &CARRIED_OUT {
+        if go_on_as(alloc, *name, words)? {
+            return Ok(true);
+        }
+    }
+    Ok(false)
+}
+
+/// Whether this command is carried out, and its words may begin with these.
+fn go_on_as(alloc: Global, name: CommandName, words: &[String]) -> Result<bool, AllocError>
+    ensures { IfOk result (λ r. IsTrue r ↔ GoOnAs name (map string_bytes words.now)) }
+{
+    match name {
+        CommandName::VendorInit => may_begin::<VendorFounder>(alloc, words),
+        CommandName::VendorGoods => may_begin::<Listing>(alloc, words),
+        CommandName::VendorPrice => may_begin::<Pricing>(alloc, words),
+        CommandName::VendorLicence => may_begin::<Licensing>(alloc, words),
+        CommandName::VendorMint => may_begin::<Minting>(alloc, words),
+        CommandName::VendorServe => may_begin::<VendorServer>(alloc, words),
+        CommandName::VendorOnce => may_begin::<Shop>(alloc, words),
+        CommandName::VendorPlay => may_begin::<Playing>(alloc, words),
+        CommandName::BrokerInit => may_begin::<BrokerFounder>(alloc, words),
+        CommandName::BrokerAccount => may_begin::<Opening>(alloc, words),
+        CommandName::BrokerDeposit => may_begin::<Deposit>(alloc, words),
+        CommandName::BrokerWithdraw => may_begin::<Withdrawal>(alloc, words),
+        CommandName::BrokerBalance => may_begin::<Inquiry>(alloc, words),
+        CommandName::BrokerLicence => may_begin::<Taking>(alloc, words),
+        CommandName::BrokerStock => may_begin::<Stocking>(alloc, words),
+        CommandName::BrokerServe => may_begin::<BrokerServer>(alloc, words),
+        _ => Ok(false),
+    }
 }
 
 /// Whether the words of the command of these values may begin with these.

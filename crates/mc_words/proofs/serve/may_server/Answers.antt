@@ -1,6 +1,6 @@
 use Rattle.mc_words.proofs.FitLemmas.{server_fits, server_spells}
 use Rattle.mc_words.proofs.WrongLemmas.{and_iff}
-use Rattle.mc_words.proofs.serve.ServerSpelled.fits.Goals as goal
+use Rattle.mc_words.proofs.serve.may_server.Goals as goal
 
 pub returns : goal.returns
 returns c =
