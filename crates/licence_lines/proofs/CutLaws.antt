@@ -1,8 +1,8 @@
 -- Where a line is cut.
-use Rattle.std.proofs.Common.{◌≡◌, ℕ, zero, suc, ◌+◌, ◌-◌, ◌<◌, ◌≤◌, Bool, true, false, eqb, eq-eqb, List, [], ◌∷◌, ◌++◌, length, get_or, take, drop, Option, Some, None, option_map, refl, sym, ap, ap₂, ◌∙◌, arith}
+use Rattle.std.proofs.Common.{◌≡◌, ℕ, zero, suc, ◌+◌, ◌-◌, ◌<◌, Bool, true, false, eqb, eq-eqb, List, [], ◌∷◌, ◌++◌, length, get_or, take, drop, Option, Some, None, option_map, refl, sym, ap, ap₂, ◌∙◌, arith}
 use Rattle.std.specs.Prelude.{◌==◌, if◌then◌else◌}
 use Rattle.std.specs.List.{list_any}
-use Rattle.std.proofs.lemmas.Bool.{eqb-true, false_from_ne_true}
+use Rattle.std.proofs.lemmas.Bool.{eqb-true, false_from_ne_true, or_parts}
 use Rattle.std.proofs.lemmas.Option.{same_Some}
 use Rattle.std.proofs.lemmas.List.{take_all, length-drop}
 use Rattle.licence_lines.specs.Fields.{cut}
@@ -40,19 +40,19 @@ cut_nowhere stop (c ∷ cs) none = rw (other c stop (none 0 (omega arith)), sym 
 pub cut_sound : (stop : ℕ) (bytes word rest : List ℕ) → cut stop bytes ≡ found word rest → bytes ≡ word ++ stop ∷ rest
 unfolding cut
 cut_sound stop [] word rest is = absurd cc
-cut_sound stop (c ∷ cs) word rest is = go (eqb c stop) refl (cut stop cs) refl is
+cut_sound stop (c ∷ cs) word rest is = go (eqb c stop) refl (cut stop cs) refl is (λ w r. cut_sound stop cs w r)
   where
     goes_on : Bool → Option (List ℕ × List ℕ) → Option (List ℕ × List ℕ)
     goes_on b o = if b then found [] cs else option_map (λ x. (c ∷ x.0, x.1)) o
 
-    go : (b : Bool) → eqb c stop ≡ b → (o : Option (List ℕ × List ℕ)) → cut stop cs ≡ o → goes_on b o ≡ found word rest → c ∷ cs ≡ word ++ stop ∷ rest
-    go true e o p q =
+    go : (b : Bool) → eqb c stop ≡ b → (o : Option (List ℕ × List ℕ)) → cut stop cs ≡ o → goes_on b o ≡ found word rest → ((w r : List ℕ) → cut stop cs ≡ found w r → cs ≡ w ++ stop ∷ r) → c ∷ cs ≡ word ++ stop ∷ rest
+    go true e o p q more =
         let x = same_Some ([], cs) (word, rest) q in
         rw (eqb-true c stop e) (ap₂ (λ (w r : List ℕ). w ++ stop ∷ r) (ap (λ (y : List ℕ × List ℕ). y.0) x) (ap (λ (y : List ℕ × List ℕ). y.1) x))
-    go false e None p q = absurd cc
-    go false e (Some y) p q =
+    go false e None p q more = absurd cc
+    go false e (Some y) p q more =
         let x = same_Some (c ∷ y.0, y.1) (word, rest) q in
-        ap (λ (l : List ℕ). c ∷ l) (cut_sound stop cs y.0 y.1 p)
+        ap (λ (l : List ℕ). c ∷ l) (more y.0 y.1 p)
         ∙ ap₂ (λ (w r : List ℕ). w ++ stop ∷ r) (ap (λ (z : List ℕ × List ℕ). z.0) x) (ap (λ (z : List ℕ × List ℕ). z.1) x)
 
 -- no such byte stands in a word
@@ -63,5 +63,5 @@ pub cut_again : (stop : ℕ) (word rest : List ℕ) → IsFree stop word → cut
 unfolding cut
 cut_again stop [] rest free = rw (eq-eqb stop stop refl) refl
 cut_again stop (c ∷ cs) rest free =
-    let parts = or_false (eqb c stop) (list_any (λ b. b == stop) cs) free in
+    let parts = or_parts (eqb c stop) (list_any (λ b. b == stop) cs) free in
     rw (parts.0, cut_again stop cs rest parts.1) refl

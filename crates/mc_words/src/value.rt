@@ -149,7 +149,7 @@ pub(crate) fn option_within(
 
 /// The number from `least` to `most` that the bytes spell whole, in decimal and without a leading zero;
 /// None exactly where they spell none.
-fn number_from(least: u64, most: u64, bytes: &[u8]) -> Option<u64>
+pub fn number_from(least: u64, most: u64, bytes: &[u8]) -> Option<u64>
     requires { most ≤ MOST_NUMBER }
     ensures some { IfSome result (λ n. IsWithin least most n × (bytes.now ≡ decimal n)) }
     ensures none { IsNone result → (n : ℕ) → IsWithin least most n → bytes.now ≡ decimal n → ⊥ }

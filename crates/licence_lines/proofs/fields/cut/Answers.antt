@@ -1,4 +1,4 @@
-use Rattle.std.proofs.Common.{◌<◌, arith}
+use Rattle.std.proofs.Common.{arith}
 use Rattle.licence_lines.proofs.CutLaws.{cut_there, cut_nowhere}
 use Rattle.licence_lines.proofs.fields.cut.Goals as goal
 
