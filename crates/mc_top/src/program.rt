@@ -103,9 +103,7 @@ fn obey<O: Outside>(alloc: Global, command: &Command<'_>, mut out: O) -> (O, Sta
             };
             (out, status)
         }
-        Command::Init(founder) => {
-            found_book(alloc, founder.founder(), Shelf::new(alloc), out)
-        }
+        Command::Init(founder) => { found_book(alloc, founder.founder(), Shelf::new(alloc), out) }
         Command::Serve(server) => serve_book(alloc, server.links(), Shelf::new(alloc), out),
         Command::Play(playing) => {
             let status = match answer_play(alloc, playing.count()) {
