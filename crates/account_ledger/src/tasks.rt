@@ -1,5 +1,5 @@
 ghost use Rattle.std.specs.Prelude.{◌≡◌, ◌<◌, IfOk, IfSome};
-ghost use Rattle.mc_records.specs.Entry.{Fits};
+ghost use Rattle.mc_records.specs.Entry.{Account, Deposit, Withdraw, Fits};
 ghost use Rattle.mc_records.specs.Views.{entry};
 ghost use Rattle.ledger_model.specs.Histories.{History};
 ghost use Rattle.account_ledger.specs.Ledger.{Represents, AccountsAllow};
@@ -28,6 +28,7 @@ impl AccountLedger {
         ensures allowed { (h : History) → Represents self.now h
             → IfOk result (λ r. IfSome r (λ r. AccountsAllow h (entry r))) }
         ensures fits { IfOk result (λ r. IfSome r (λ r. Fits (entry r))) }
+        ensures entry { IfOk result (λ r. IfSome r (λ r. entry r ≡ Account moment name.now key)) }
     {
         // What the moment knows of itself.
         let _moment = moment.seconds();
@@ -62,6 +63,7 @@ impl AccountLedger {
         ensures allowed { (h : History) → Represents self.now h
             → IfOk result (λ r. IfSome r (λ r. AccountsAllow h (entry r))) }
         ensures fits { IfOk result (λ r. IfSome r (λ r. Fits (entry r))) }
+        ensures entry { IfOk result (λ r. IfSome r (λ r. entry r ≡ Deposit moment name.now amount reference.now)) }
     {
         // What the moment knows of itself.
         let _moment = moment.seconds();
@@ -104,6 +106,7 @@ impl AccountLedger {
         ensures allowed { (h : History) → Represents self.now h
             → IfOk result (λ r. IfSome r (λ r. AccountsAllow h (entry r))) }
         ensures fits { IfOk result (λ r. IfSome r (λ r. Fits (entry r))) }
+        ensures entry { IfOk result (λ r. IfSome r (λ r. entry r ≡ Withdraw moment name.now amount reference.now)) }
     {
         // What the moment knows of itself.
         let _moment = moment.seconds();

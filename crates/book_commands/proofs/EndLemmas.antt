@@ -135,25 +135,25 @@ pub served_well : {O : Type 0} (link : O → LinkView) (disk : O → DiskView) (
 served_well link disk kind links a b status has calm causes (inl not) = inr (only_memory link disk kind (TakesNoLink link disk) has.history has.bytes a b status has.stands has.lawful has.of_kind calm causes not)
 served_well link disk kind links a b status has calm causes (inr served) = links_well link disk links has.bytes a b status calm causes served
 
-did_well : {O : Type 0} (link : O → LinkView) (disk : O → DiskView) (operation : OperationView) (h : History) (task : Task) (a b : O) (status : Status) → Calm link disk a b → OperateCauses link disk operation a status b → DidBy (disk b) operation h task status
+did_well : {O : Type 0} (link : O → LinkView) (disk : O → DiskView) (operation : OperationView) (input : List ℕ) (h : History) (task : Task) (a b : O) (status : Status) → Calm link disk a b → OperateCauses link disk operation a status b → DidBy (disk b) operation input h task status
     → (number_of status ≡ 0) ⊎ ((number_of status ≡ 5) ⊎ (number_of status ≡ 7))
-did_well link disk operation h task a b ends.Done calm causes did = inl refl
-did_well link disk operation h task a b (ends.Served n) calm causes did = inl refl
-did_well link disk operation h task a b (ends.Founded name) calm causes did = inl refl
-did_well link disk operation h task a b (ends.Did line) calm causes did = inl refl
-did_well link disk operation h task a b ends.NoMemory calm causes did = inr (inl refl)
-did_well link disk operation h task a b (ends.Refused f) calm causes did = inr (inr refl)
-did_well link disk operation h task a b ends.DiskFault calm causes did = absurd (calm.disk' causes)
-did_well link disk operation h task a b ends.LinkFault calm causes did = absurd did
-did_well link disk operation h task a b ends.BadWords calm causes did = absurd did
-did_well link disk operation h task a b ends.NotJournal calm causes did = absurd did
-did_well link disk operation h task a b (ends.BadEntry place) calm causes did = absurd did
-did_well link disk operation h task a b (ends.UnlawfulEntry place) calm causes did = absurd did
+did_well link disk operation input h task a b ends.Done calm causes did = inl refl
+did_well link disk operation input h task a b (ends.Served n) calm causes did = inl refl
+did_well link disk operation input h task a b (ends.Founded name) calm causes did = inl refl
+did_well link disk operation input h task a b (ends.Did line) calm causes did = inl refl
+did_well link disk operation input h task a b ends.NoMemory calm causes did = inr (inl refl)
+did_well link disk operation input h task a b (ends.Refused f) calm causes did = inr (inr refl)
+did_well link disk operation input h task a b ends.DiskFault calm causes did = absurd (calm.disk' causes)
+did_well link disk operation input h task a b ends.LinkFault calm causes did = absurd did
+did_well link disk operation input h task a b ends.BadWords calm causes did = absurd did
+did_well link disk operation input h task a b ends.NotJournal calm causes did = absurd did
+did_well link disk operation input h task a b (ends.BadEntry place) calm causes did = absurd did
+did_well link disk operation input h task a b (ends.UnlawfulEntry place) calm causes did = absurd did
 
 pub operated_well : {O : Type 0} (link : O → LinkView) (disk : O → DiskView) (kind : ℕ) (operation : OperationView) (a b : O) (status : Status) (has : HasSite kind (disk a)) → Calm link disk a b → OperateCauses link disk operation a status b
     → OperatesBook link disk kind operation has.bytes a status b → (number_of status ≡ 0) ⊎ ((number_of status ≡ 5) ⊎ (number_of status ≡ 7))
 operated_well link disk kind operation a b status has calm causes (inl not) = inr (inl (only_memory link disk kind (λ x y. LosesInput operation.input (link x) (link y)) has.history has.bytes a b status has.stands has.lawful has.of_kind calm causes not))
-operated_well link disk kind operation a b status has calm causes (inr (inr kept)) = did_well link disk operation kept.history kept.task a b status calm causes kept.did
+operated_well link disk kind operation a b status has calm causes (inr (inr kept)) = did_well link disk operation kept.input kept.history kept.task a b status calm causes kept.did
 operated_well link disk kind operation a b status has calm causes (inr (inl unread)) = go unread.lost
   where
     go : ((status ≡ ends.LinkFault) × LosesInput operation.input (link a) (link b)) ⊎ ((status ≡ ends.NoMemory) × (link b ≡ link a)) → (number_of status ≡ 0) ⊎ ((number_of status ≡ 5) ⊎ (number_of status ≡ 7))

@@ -186,25 +186,25 @@ unread_at_once link disk trade operation bytes a x tells keeps at =
 -- ---- the task
 
 -- how the disk is left, by what was done
-did : {O T : Type 0} (disk : O → DiskView) (trade : T → TradeView) (operation : OperationView) (line : List ℕ) (y : House O T) (h : History) (task : Task) (out : Outcome O T (Unit {0})) → limits_of y.bench ≡ full → IsLawful full h
+did : {O T : Type 0} (disk : O → DiskView) (trade : T → TradeView) (operation : OperationView) (input line : List ℕ) (y : House O T) (h : History) (task : Task) (out : Outcome O T (Unit {0})) → limits_of y.bench ≡ full → IsLawful full h
     → ((o : O) → IsDisk (disk o)) → OfHouse (KeepsTime y) out
-    → Does disk trade (λ t g answer. operation.says h t line) (limits_of y.bench) y.journal.disk h task out → Ran (disk y.journal.disk) (disk (outcome_disk out)) (LeavesBy task out h (disk y.journal.disk).aside)
-    → DidBy (disk (outcome_disk out)) operation h task (outcome_status out line)
-did disk trade operation line y h (Add e) (outcomes.Done x n) limits lawful is_disk keeps does ran = (tt, does.1, lawful_in disk trade x (h ++ e ∷ []) (keeps.limits ∙ limits) does.0)
-did disk trade operation line y h (Add e) (outcomes.Refused x f) limits lawful is_disk keeps does ran =
+    → Does disk trade (λ t g answer. operation.says input h t line) (limits_of y.bench) y.journal.disk h task out → Ran (disk y.journal.disk) (disk (outcome_disk out)) (LeavesBy task out h (disk y.journal.disk).aside)
+    → DidBy (disk (outcome_disk out)) operation input h task (outcome_status out line)
+did disk trade operation input line y h (Add e) (outcomes.Done x n) limits lawful is_disk keeps does ran = (tt, does.1, lawful_in disk trade x (h ++ e ∷ []) (keeps.limits ∙ limits) does.0)
+did disk trade operation input line y h (Add e) (outcomes.Refused x f) limits lawful is_disk keeps does ran =
     (subst (λ (l : Limits). fitted h l e ≡ Err (lines.Refuse f)) limits does.0, lawful_in disk trade x h (keeps.limits ∙ limits) does.1.represents)
-did disk trade operation line y h (Add e) (outcomes.NoMemory x) limits lawful is_disk keeps does ran = lawful_in disk trade x h (keeps.limits ∙ limits) does.represents
-did disk trade operation line y h (Add e) (outcomes.Halted d) limits lawful is_disk keeps does ran =
+did disk trade operation input line y h (Add e) (outcomes.NoMemory x) limits lawful is_disk keeps does ran = lawful_in disk trade x h (keeps.limits ∙ limits) does.represents
+did disk trade operation input line y h (Add e) (outcomes.Halted d) limits lawful is_disk keeps does ran =
     let more : IsLawful full (h ++ e ∷ []) = longer_lawful full h e lawful (subst (λ (l : Limits). MayFollow l h e) limits does.0) in
     record { leaves = λ image l. (ran_now (disk y.journal.disk) (disk d) _ (is_disk d) ran image l).0; lawful = more; once = accepted_once full (h ++ e ∷ []) more }
-did disk trade operation line y h Stays (outcomes.Done x n) limits lawful is_disk keeps does ran = (tt, does.1, lawful_in disk trade x h (keeps.limits ∙ limits) does.0.represents)
-did disk trade operation line y h Stays (outcomes.Refused x f) limits lawful is_disk keeps does ran = absurd does
-did disk trade operation line y h Stays (outcomes.NoMemory x) limits lawful is_disk keeps does ran = lawful_in disk trade x h (keeps.limits ∙ limits) does.represents
-did disk trade operation line y h Stays (outcomes.Halted d) limits lawful is_disk keeps does ran = absurd does
-did disk trade operation line y h (Refuse g) (outcomes.Done x n) limits lawful is_disk keeps does ran = absurd does
-did disk trade operation line y h (Refuse g) (outcomes.Refused x f) limits lawful is_disk keeps does ran = (does.0, lawful_in disk trade x h (keeps.limits ∙ limits) does.1.represents)
-did disk trade operation line y h (Refuse g) (outcomes.NoMemory x) limits lawful is_disk keeps does ran = absurd does
-did disk trade operation line y h (Refuse g) (outcomes.Halted d) limits lawful is_disk keeps does ran = absurd does
+did disk trade operation input line y h Stays (outcomes.Done x n) limits lawful is_disk keeps does ran = (tt, does.1, lawful_in disk trade x h (keeps.limits ∙ limits) does.0.represents)
+did disk trade operation input line y h Stays (outcomes.Refused x f) limits lawful is_disk keeps does ran = absurd does
+did disk trade operation input line y h Stays (outcomes.NoMemory x) limits lawful is_disk keeps does ran = lawful_in disk trade x h (keeps.limits ∙ limits) does.represents
+did disk trade operation input line y h Stays (outcomes.Halted d) limits lawful is_disk keeps does ran = absurd does
+did disk trade operation input line y h (Refuse g) (outcomes.Done x n) limits lawful is_disk keeps does ran = absurd does
+did disk trade operation input line y h (Refuse g) (outcomes.Refused x f) limits lawful is_disk keeps does ran = (does.0, lawful_in disk trade x h (keeps.limits ∙ limits) does.1.represents)
+did disk trade operation input line y h (Refuse g) (outcomes.NoMemory x) limits lawful is_disk keeps does ran = absurd does
+did disk trade operation input line y h (Refuse g) (outcomes.Halted d) limits lawful is_disk keeps does ran = absurd does
 
 -- the crash pairs of a task
 leaves_pair : {O T A : Type 0} (tells : Type 0) (before : DiskView) (task : Task) (out : Outcome O T A) (h : History) (aside image sent : List ℕ) → (tells → aside ≡ before.aside) → LeavesBy task out h aside image sent → OperatePair tells before task h image sent
@@ -218,7 +218,7 @@ leaves_pair tells before (Refuse f) out h aside image sent same p = (inr (inl p.
 -- an operation that the book's house was ready for
 pub operated : {O T : Type 0} (link : O → LinkView) (disk : O → DiskView) (trade : T → TradeView) (operation : OperationView) (bytes input line : List ℕ) (a : O) (y : House O T) (h : History) (out : Outcome O T (Unit {0}))
     → Ready link disk trade operation bytes input a y h → ((o : O) → IsDisk (disk o)) → link (outcome_disk out) ≡ link y.journal.disk → OfHouse (KeepsTime y) out
-    → Performs disk trade (operation.asks input h (house_time y.bench)) (λ task g answer. operation.says h task line) (limits_of y.bench) y.journal.disk h out
+    → Performs disk trade (operation.asks input h (house_time y.bench)) (λ task g answer. operation.says input h task line) (limits_of y.bench) y.journal.disk h out
     → Operated link disk operation bytes a (outcome_status out line) (outcome_disk out)
 operated link disk trade operation bytes input line a y h out at is_disk same keeps does = record {
   history = h;
@@ -231,7 +231,7 @@ operated link disk trade operation bytes input line a y h out at is_disk same ke
   rest = subst (λ (v : LinkView). v ≡ with_readings v.readings at.taken) (sym same) at.rest;
   task = does.task;
   asks = subst (λ (t : ℕ). operation.asks input h t does.task) at.time' does.asks;
-  did = did disk trade operation line y h does.task out at.limits' (subst (λ (l : Limits). IsLawful l h) at.limits' at.house.house.represents.state.lawful) is_disk keeps does.does does.ran;
+  did = did disk trade operation input line y h does.task out at.limits' (subst (λ (l : Limits). IsLawful l h) at.limits' at.house.house.represents.state.lawful) is_disk keeps does.does does.ran;
   pairs = ran_then (disk a) (disk y.journal.disk) (disk (outcome_disk out)) (OperatePair (Tells link a) (disk a) does.task h)
       (ran_weaker (disk a) (disk y.journal.disk) _ _ at.pairs.0 (λ i s p. (inl p.0, p.1)))
       (ran_weaker (disk y.journal.disk) (disk (outcome_disk out)) _ _ does.ran (λ i s p. leaves_pair (Tells link a) (disk a) does.task out h (disk y.journal.disk).aside i s at.pairs.1 p));

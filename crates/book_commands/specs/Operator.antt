@@ -24,12 +24,12 @@ LeavesEither d h (Add e) = EncodesEither d h e
 LeavesEither d h _ = ⊥
 
 -- what the disk encodes, by how the operation ended
-abbrev pub DidBy : DiskView → OperationView → History → Task → Status → Type 0
-DidBy d operation h task (ends.Did line) = IsDoable task × operation.says h task line × EncodesLawful d (after task h)
-DidBy d operation h task (ends.Refused f) = IsRefused full task h f × EncodesLawful d h
-DidBy d operation h task ends.NoMemory = EncodesLawful d h
-DidBy d operation h task ends.DiskFault = LeavesEither d h task
-DidBy d operation h task _ = ⊥
+abbrev pub DidBy : DiskView → OperationView → List ℕ → History → Task → Status → Type 0
+DidBy d operation input h task (ends.Did line) = IsDoable task × operation.says input h task line × EncodesLawful d (after task h)
+DidBy d operation input h task (ends.Refused f) = IsRefused full task h f × EncodesLawful d h
+DidBy d operation input h task ends.NoMemory = EncodesLawful d h
+DidBy d operation input h task ends.DiskFault = LeavesEither d h task
+DidBy d operation input h task _ = ⊥
 
 -- A crash pair: of before, or with the entries as they were, or with the one that is added. Where what is sent
 -- is told, nothing was sent.
@@ -55,7 +55,7 @@ pub record Operated {O : Type 0} (link : O → LinkView) (disk : O → DiskView)
   pub rest : link b ≡ with_readings (link b).readings taken
   pub task : Task
   pub asks : operation.asks input history (max (time history) moment) task
-  pub did : DidBy (disk b) operation history task status
+  pub did : DidBy (disk b) operation input history task status
   pub pairs : Ran (disk a) (disk b) (OperatePair (IsSome (link a).sessions) (disk a) task history)
 
 -- The book encoded a history, and still does; the input was not read.

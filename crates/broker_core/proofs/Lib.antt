@@ -1,1 +1,4 @@
 mod DeskLaws
+mod OperatorLemmas
+mod SaleLaws
+mod StockLemmas

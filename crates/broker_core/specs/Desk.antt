@@ -1,37 +1,40 @@
 -- What a desk represents.
-use Rattle.std.specs.Prelude.{◌≡◌, ℕ, false, List, Option, Some, None, option_map, unwrap_or, Result}
+use Rattle.std.specs.Prelude.{◌≡◌, ℕ, false, List, [], Option, Some, None, option_map, unwrap_or, Result}
 use Rattle.mc_records.specs.Errands.{Errand, pay_in}
 use Rattle.mc_records.specs.Entry.{Entry, Site, Accept, Account, Deposit, Withdraw, Draw, Licence, Stock}
 use Rattle.ledger_model.specs.Histories.{History}
 use Rattle.ledger_model.specs.Houses.{fee}
 use Rattle.ledger_model.specs.Accounts.{account_in, balance}
-use Rattle.ledger_model.specs.Stock.{knows_vendor}
+use Rattle.ledger_model.specs.Stock.{licence_in, stock_ids, knows_vendor}
 use Rattle.ledger_model.specs.Stages.{Offer, credit_by}
 use Rattle.ledger_model.specs.Lines.{Stop}
 use Rattle.ledger_model.specs.declared.numbers.TheConstants.{BROKER_KIND}
 use Rattle.kept_replies.specs.declared.deed.Deed.{Deed}
 use Rattle.kept_replies.specs.declared.deed.Deed.TheVariants as kept
-use Rattle.account_ledger.specs.Ledger.{Represents, HasRoom}
+use Rattle.account_ledger.specs.Ledger.{Represents, HasRoom, AccountsAllow}
+use Rattle.vendor_stalls.specs.Vendors.{StallsRepresent, StallsHaveRoom, StallsAllow}
 use Rattle.house_core.specs.Trade.{TradeView}
 use Rattle.broker_core.specs.declared.desk.Desk.{Desk}
 
--- Accounts and fee are what a history says, which has heard of no vendor.
+-- accounts, stalls and fee are what a history says
 pub record DeskRepresents (d : Desk) (h : History) : Type 0 where
   pub of_accounts : Represents d.accounts h
+  pub of_stalls : StallsRepresent d.stalls h
   pub of_fee : fee h ≡ d.fee
-  pub no_vendors : (vendor : List ℕ) → knows_vendor h vendor ≡ false
 
--- an entry of scrip of a vendor that is to be sold: a licence or stock
-abbrev pub IsVendors : Entry → Type 0
-IsVendors (Licence m vendor terms) = Unit {0}
-IsVendors (Stock m vendor pieces) = Unit {0}
-IsVendors _ = ⊥
-
--- there is room for what an entry adds; for vendors' scrip there is none
+-- there is room for what an entry adds
 abbrev pub DeskHasRoom : Desk → Entry → Type 0
-DeskHasRoom d (Licence m vendor terms) = ⊥
-DeskHasRoom d (Stock m vendor pieces) = ⊥
-DeskHasRoom d e = HasRoom d.accounts e
+DeskHasRoom d e = HasRoom d.accounts e × StallsHaveRoom d.stalls e
+
+-- what has to hold of accounts and stalls for an entry of an operator to come next
+abbrev pub DeskAllows : History → Entry → Type 0
+DeskAllows h e = AccountsAllow h e × StallsAllow h e
+
+-- a broker has nothing of a vendor, and has not heard of him
+pub record HasNothingOf (h : History) (vendor : List ℕ) : Type 0 where
+  pub licence : licence_in h vendor ≡ None
+  pub stock : stock_ids h vendor ≡ []
+  pub known : knows_vendor h vendor ≡ false
 
 -- what a desk means: the trade of a broker, which has no goods
 abbrev pub desk_view : Desk → TradeView
@@ -51,7 +54,7 @@ abbrev pub account_credited : Option Errand → Option (List ℕ)
 account_credited (Some (pay_in account)) = Some account
 account_credited _ = None
 
--- an entry of a kind that this broker learns
+-- an entry of a kind that a broker learns
 abbrev pub IsOfBroker : Entry → Type 0
 IsOfBroker (Site m kind name house) = Unit {0}
 IsOfBroker (Account m name key) = Unit {0}
@@ -59,6 +62,8 @@ IsOfBroker (Deposit m name amount reference) = Unit {0}
 IsOfBroker (Withdraw m name amount reference) = Unit {0}
 IsOfBroker (Accept m scrip target sign price change deed) = Unit {0}
 IsOfBroker (Draw m target sign drawn) = Unit {0}
+IsOfBroker (Licence m vendor terms) = Unit {0}
+IsOfBroker (Stock m vendor pieces) = Unit {0}
 IsOfBroker _ = ⊥
 
 -- the fee after an entry: a Site entry of a house sets it

@@ -1,1 +1,3 @@
 pub mod Desk
+pub mod Sales
+pub mod Tasks

@@ -1,15 +1,24 @@
-ghost use Rattle.std.specs.Prelude.{◌≡◌, ◌↔◌, [], IsTrue, IfOk, IfErr};
+ghost use Rattle.std.specs.Prelude.{◌≡◌, ◌<◌, ◌+◌, ◌++◌, ◌∷◌, ◌↔◌, ℕ, List, [], Some, IsTrue, IsFalse, IsNone, IfOk, IfErr};
 ghost use Rattle.ledger_model.specs.Histories.{History};
-ghost use Rattle.mc_records.specs.Errands.{errand_of};
-ghost use Rattle.mc_records.specs.Views.{entry};
-ghost use Rattle.ledger_model.specs.Replies.{errand_price};
+ghost use Rattle.ledger_model.specs.Houses.{fee};
+ghost use Rattle.ledger_model.specs.Stock.{licence_in, licensed_count, knows_vendor, for_sale};
 ghost use Rattle.ledger_model.specs.Lines.{as_line};
+ghost use Rattle.ledger_model.specs.Stages.{supplied, sale_by};
+ghost use Rattle.ledger_model.specs.Answer.{supply_of};
+ghost use Rattle.mc_records.specs.Errands.{buy, errand_of};
+ghost use Rattle.mc_records.specs.Views.{entry};
+ghost use Rattle.account_ledger.specs.Ledger.{Represents, HasRoom, AccountsAnswer};
+ghost use Rattle.vendor_stalls.specs.Shown.{Shows};
+ghost use Rattle.vendor_stalls.specs.Vendors.{found_stall, StallsRepresent, StallsHaveRoom, StallsAnswer};
 ghost use Rattle.house_core.specs.Learning.{CommandFits};
 ghost use Rattle.house_core.specs.Replying.{IsOfSite};
-ghost use Rattle.house_core.specs.Views.{offer_of};
-ghost use Rattle.broker_core.specs.Desk.{DeskRepresents, IsCredit, IsOfBroker, account_credited, credit_offer, fee_by};
+ghost use Rattle.house_core.specs.Trade.{BringsFor};
+ghost use Rattle.house_core.specs.Views.{entry_deed, offer_of};
+ghost use Rattle.broker_core.specs.Sales.{IsSale};
+ghost use Rattle.broker_core.specs.Desk.{DeskRepresents, DeskAllows, HasNothingOf, IsCredit, IsOfBroker, account_credited, credit_offer, fee_by};
 
-use account_ledger::{AccountLedger, order_of};
+use crate::sale::sold_from;
+use account_ledger::{AccountLedger, accounts_follow, order_of};
 use house_core::{Body, DrawAsk, Offer, SiteKind, Trade, Unlawful, body_of_deed};
 use kept_replies::Deed;
 use mc_base::{Amount, Moment, NoMemory};
@@ -18,12 +27,13 @@ use mc_records::{
 };
 use scrip_form::Name;
 use std::alloc::Global;
+use vendor_stalls::{Purchase, Stall, Stalls, bought, stalls_follow};
 
-/// The trade of a broker: the accounts of its customers, and its fee. It has no vendor's scrip to sell yet,
-/// neither under a licence nor out of stock: for entries of such it has no room.
+/// The trade of a broker: the accounts of its customers, the scrip of vendors that it sells, and its fee.
 #[derive(Drop)]
 pub struct Desk {
     accounts: AccountLedger,
+    stalls: Stalls,
     /// What it takes for a sale.
     fee: Amount,
 }
@@ -35,8 +45,80 @@ impl Desk {
     {
         Desk {
             accounts: AccountLedger::new(alloc),
+            stalls: Stalls::new(alloc),
             fee: Amount::new(0).unwrap(),
         }
+    }
+
+    /// The accounts, and what the operator put in and paid out.
+    pub fn accounts(&self) -> &AccountLedger
+        ensures { (h : History) → DeskRepresents self.now h → Represents result.now h }
+    {
+        &self.accounts
+    }
+
+    /// The stall of a vendor. Where there is none, he has no licence and no stock.
+    pub fn stall(&self, vendor: &[u8]) -> Option<&Stall>
+        ensures shows { (h : History) → DeskRepresents self.now h
+            → Shows h vendor.now (found_stall result) }
+        ensures none { (h : History) → DeskRepresents self.now h → IsNone result
+            → HasNothingOf h vendor.now }
+    {
+        self.stalls.stall(vendor)
+    }
+
+    /// Scrip of a vendor for a piece of this value, which has to cover the fee too.
+    fn sell(
+        &self,
+        time: Moment,
+        limits: Limits,
+        asked: &Purchase,
+        value: Amount,
+    ) -> Result<Offer, Refusal>
+        requires { 0 < asked.now.value }
+        ensures offer { (h : History) → DeskRepresents self.now h → as_line offer_of result
+            ≡ sale_by limits.series time (fee h)
+            (supply_of h time asked.now.vendor asked.now.value) asked.now.value value }
+        ensures brings { (h : History) (target : List ℕ) → DeskRepresents self.now h
+            → errand_of target ≡ Some (buy asked.now.vendor asked.now.value)
+            → IfOk result (λ o. BringsFor h target o.deed) }
+        ensures site { IfErr result IsOfSite }
+        ensures sale { IfOk result (λ o. IsSale o.deed) }
+    {
+        let price = self.price_of(asked);
+        if value.get() < price {
+            return Err(Refusal::TooLittle(price));
+        }
+        match self.supply(time, limits, asked) {
+            Ok(deed) => Ok(Offer { price, deed }),
+            Err(refusal) => Err(refusal),
+        }
+    }
+
+    /// What is sold of a vendor, by his stall.
+    fn supply(&self, time: Moment, limits: Limits, asked: &Purchase) -> Result<Deed, Refusal>
+        requires { 0 < asked.now.value }
+        ensures deed { (h : History) → DeskRepresents self.now h → as_line entry_deed result
+            ≡ supplied limits.series time asked.now.value (licence_in h asked.now.vendor)
+            (licensed_count h asked.now.vendor) (knows_vendor h asked.now.vendor)
+            (for_sale h time asked.now.vendor asked.now.value) }
+        ensures brings { (h : History) (target : List ℕ) → DeskRepresents self.now h
+            → errand_of target ≡ Some (buy asked.now.vendor asked.now.value)
+            → IfOk result (BringsFor h target) }
+        ensures site { IfErr result IsOfSite }
+        ensures sale { IfOk result IsSale }
+    {
+        match self.stall(asked.vendor.bytes()) {
+            Some(stall) => sold_from(stall, time, limits, asked),
+            None => Err(Refusal::NoVendor),
+        }
+    }
+
+    /// What scrip of a vendor costs: its value, and the fee.
+    fn price_of(&self, asked: &Purchase) -> u64
+        ensures { result ≡ asked.now.value + self.now.fee }
+    {
+        asked.value.get() + self.fee.get()
     }
 
     /// Credit for the whole of a piece in an account.
@@ -59,14 +141,35 @@ impl Desk {
         })
     }
 
-    /// What a target costs, where it asks for scrip of a vendor: its value, and the fee.
-    fn cost(&self, target: &[u8]) -> Option<u64>
-        ensures { result ≡ errand_price self.now.fee (errand_of target.now) }
+    /// Learns the next entry, for which there is room: false exactly where its accounts or its stalls don't allow it.
+    fn learn_parts(&mut self, r: &Record<'_>) -> bool
+        requires accounts { HasRoom self.old.accounts (entry r.now) }
+        requires stalls { StallsHaveRoom self.old.stalls (entry r.now) }
+        requires fits { CommandFits (entry r.now) }
+        ensures exact { (h : History) → DeskRepresents self.old h
+            → IsTrue result ↔ DeskAllows h (entry r.now) }
+        ensures accounts { (h : History) → DeskRepresents self.old h → AccountsAnswer h (entry r.now)
+            → IsTrue result → Represents self.new.accounts (h ++ entry r.now ∷ []) }
+        ensures stalls { (most : ℕ) (h : History) → DeskRepresents self.old h
+            → StallsAnswer most h (entry r.now) → IsTrue result
+            → StallsRepresent self.new.stalls (h ++ entry r.now ∷ []) }
+        ensures same { (h : History) → DeskRepresents self.old h → IsFalse result
+            → DeskRepresents self.new h }
+        ensures fee { self.new.fee ≡ self.old.fee }
     {
-        errands_are_texts();
-        match read_errand(target) {
-            Some(Errand::Buy { amount, .. }) => Some(amount + self.fee.get()),
-            _ => None,
+        match r {
+            Record::Licence { .. } | Record::Stock { .. } => {
+                if !self.stalls.learn(r) {
+                    return false;
+                }
+                self.accounts.learn(r)
+            }
+            _ => {
+                if !self.accounts.learn(r) {
+                    return false;
+                }
+                self.stalls.learn(r)
+            }
         }
     }
 }
@@ -83,19 +186,21 @@ impl Trade for Desk {
     }
 
     fn price(&self, target: &[u8]) -> Option<u64> {
-        self.cost(target)
+        match bought(target) {
+            Some(asked) => Some(self.price_of(&asked)),
+            None => None,
+        }
     }
 
     fn offer(
         &self,
-        _time: Moment,
-        _limits: Limits,
+        time: Moment,
+        limits: Limits,
         target: &[u8],
         value: Amount,
     ) -> Result<Offer, Refusal> {
-        match self.cost(target) {
-            Some(price) if value.get() < price => return Err(Refusal::TooLittle(price)),
-            Some(_) => return Err(Refusal::NoVendor),
+        match bought(target) {
+            Some(asked) => return self.sell(time, limits, &asked, value),
             None => (),
         }
         match credited(target) {
@@ -130,14 +235,14 @@ impl Trade for Desk {
     }
 
     fn reserve(&mut self, r: &Record<'_>) -> Result<(), NoMemory> {
-        match r {
-            Record::Licence { .. } | Record::Stock { .. } => Err(NoMemory),
-            _ => self.accounts.reserve(r),
-        }
+        self.accounts.reserve(r)?;
+        self.stalls.reserve(r)
     }
 
     fn learn(&mut self, _number: u64, r: &Record<'_>) -> Result<(), Unlawful> {
-        if !is_of_broker(r) || !self.accounts.learn(r) {
+        accounts_follow();
+        stalls_follow();
+        if !is_of_broker(r) || !self.learn_parts(r) {
             return Err(Unlawful);
         }
         self.fee = fee_after(self.fee, r);
@@ -163,7 +268,7 @@ fn credited(target: &[u8]) -> Option<Name>
     Some(account)
 }
 
-/// Whether an entry is of a kind that this broker learns.
+/// Whether an entry is of a kind that a broker learns.
 fn is_of_broker(r: &Record<'_>) -> bool
     ensures { IsTrue result ↔ IsOfBroker (entry r.now) }
 {
@@ -173,7 +278,9 @@ fn is_of_broker(r: &Record<'_>) -> bool
         | Record::Deposit { .. }
         | Record::Withdraw { .. }
         | Record::Accept { .. }
-        | Record::Draw { .. } => true,
+        | Record::Draw { .. }
+        | Record::Licence { .. }
+        | Record::Stock { .. } => true,
         _ => false,
     }
 }

@@ -21,12 +21,12 @@ pub record OperationView : Type 1 where
   pub input : Option ℕ
   -- with this input it sets a task over a history, at a time
   pub asks : List ℕ → History → ℕ → Task → Type 0
-  -- what is said where it was done, by the history that it was set over and its task
-  pub says : History → Task → List ℕ → Type 0
+  -- what is said where it was done, by the input, the history that it was set over and its task
+  pub says : List ℕ → History → Task → List ℕ → Type 0
 
 -- what an operation asks of a history was done with this input over a house, and this line says so
 abbrev pub CarriesOut : {D T : Type 0} → (D → DiskView) → (T → TradeView) → OperationView → House D T → List ℕ → List ℕ → History → Outcome D T (Unit {0}) → Type 0
-CarriesOut disk trade operation house input line h result = Performs disk trade (operation.asks input h (house_time house.bench)) (λ task g answer. operation.says h task line) (limits_of house.bench) house.journal.disk h result
+CarriesOut disk trade operation house input line h result = Performs disk trade (operation.asks input h (house_time house.bench)) (λ task g answer. operation.says input h task line) (limits_of house.bench) house.journal.disk h result
 
 -- the outcome of an operation, without what was answered
 abbrev pub without_answer : {D T A : Type 0} → Outcome D T A → Outcome D T (Unit {0})

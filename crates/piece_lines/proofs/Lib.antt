@@ -1,3 +1,4 @@
 pub mod LineLaws
 pub mod LoopLaws
 pub mod InputLaws
+pub mod IdLaws

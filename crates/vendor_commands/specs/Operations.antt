@@ -33,7 +33,7 @@ goods_operation l = record {
   asks = λ input h t task.
       ((length input ≤ MOST_CONTENTS) × (task ≡ goods_task h t l.target l.price (unwrap_or l.kind 0) input))
       ⊎ ((MOST_CONTENTS < length input) × (task ≡ Refuse (ContentsFull (MOST_CONTENTS + 1))));
-  says = λ h task line. line ≡ goods_line l.target l.price;
+  says = λ input h task line. line ≡ goods_line l.target l.price;
 }
 
 -- goods are sold at another price
@@ -41,7 +41,7 @@ abbrev pub price_operation : Pricing → OperationView
 price_operation p = record {
   input = None;
   asks = λ input h t task. task ≡ price_task h t p.target p.price;
-  says = λ h task line. line ≡ goods_line p.target p.price;
+  says = λ input h task line. line ≡ goods_line p.target p.price;
 }
 
 -- scrip of an issuer is taken from now on
@@ -49,7 +49,7 @@ abbrev pub licence_operation : Licensing → OperationView
 licence_operation l = record {
   input = None;
   asks = λ input h t task. task ≡ terms_task h t (licensed_terms l);
-  says = λ h task line. line ≡ licence_line (site_name h) (licensed_terms l);
+  says = λ input h task line. line ≡ licence_line (site_name h) (licensed_terms l);
 }
 
 -- pieces of the vendor's own scrip are minted, whose lines are said
@@ -57,7 +57,7 @@ abbrev pub mint_operation : Minting → OperationView
 mint_operation m = record {
   input = None;
   asks = λ input h t task. IsMintTask h t full m.reference m.count m.value task;
-  says = λ h task line. (number : ℕ) × IsMintAt (after task h) m.reference m.count m.value number × (line ≡ mint_lines (after task h) number);
+  says = λ input h task line. (number : ℕ) × IsMintAt (after task h) m.reference m.count m.value number × (line ≡ mint_lines (after task h) number);
 }
 
 -- ---- the line as far as it is known before the book is touched

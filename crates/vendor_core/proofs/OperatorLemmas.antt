@@ -6,6 +6,7 @@ use Rattle.std.proofs.Math.Seq.{get_or-append_seam, take-append_seam}
 use Rattle.std.proofs.lemmas.Bool.{lt-ltb, le-ltb}
 use Rattle.mc_outside.specs.DiskView.{DiskView, Ran}
 use Rattle.scrip_form.specs.Issuing.{Issuing}
+use Rattle.issuer_terms.specs.Terms.{are_same_terms}
 use Rattle.mc_records.specs.declared.limits.Limits.{Limits}
 use Rattle.mc_records.specs.declared.refusal.Refusal.TheVariants.{ContentsFull, IssuerTaken}
 use Rattle.mc_records.specs.Entry.{Entry, AddTerms, Goods, Mint}
@@ -22,7 +23,7 @@ use Rattle.house_core.specs.House.{HasRun, Entered, Leaves, outcome_disk}
 use Rattle.house_core.specs.Tasks.{Add, Stays, Refuse, Performs}
 use Rattle.house_core.specs.Trade.{TradeView}
 use Rattle.house_core.proofs.TaskLemmas.{IsDone, answered_as, enters}
-use Rattle.vendor_core.specs.Tasks.{goods_entered, goods_task, repriced, price_task, are_same_terms, licensed, IsMintTask, TellsMint}
+use Rattle.vendor_core.specs.Tasks.{goods_entered, goods_task, repriced, price_task, licensed, IsMintTask, TellsMint}
 use Rattle.vendor_core.specs.Lines.{piece_lines}
 use Rattle.vendor_core.proofs.GoodsLaws.{bytes_of, in_force_goods}
 use Rattle.vendor_core.proofs.LineLemmas.{lines_of_mint, terms_under_mint}

@@ -1,7 +1,7 @@
 -- What there is to do by a command of a vendor's operator, and what a mint answers.
-use Rattle.std.specs.Prelude.{◌≡◌, ℕ, ◌+◌, ◌<◌, ◌≤◌, ◌==◌, ◌&&◌, ◌⊎◌, nat_lt, IsFalse, Bool, if◌then◌else◌, List, [], ◌∷◌, ◌++◌, take, Option, Some, None, slice_get, option_map, unwrap_or, bytes_eq}
-use Rattle.std.specs.Cmp.Lexicographic.{pointwise}
+use Rattle.std.specs.Prelude.{◌≡◌, ℕ, ◌+◌, ◌<◌, ◌≤◌, ◌⊎◌, nat_lt, IsFalse, Bool, if◌then◌else◌, List, [], ◌∷◌, ◌++◌, take, Option, Some, None, slice_get, option_map, unwrap_or}
 use Rattle.scrip_form.specs.Issuing.{Issuing}
+use Rattle.issuer_terms.specs.Terms.{are_same_terms}
 use Rattle.mc_records.specs.declared.limits.Limits.{Limits}
 use Rattle.mc_records.specs.declared.refusal.Refusal.TheVariants.{NoSuchGoods, SeriesFull, ContentsFull, IssuerTaken, RefUsed}
 use Rattle.mc_records.specs.Entry.{Entry, AddTerms, Goods, Mint}
@@ -30,11 +30,6 @@ repriced t target price (Some e) = Add (Goods t target price (goods_kind e) (goo
 
 abbrev pub price_task : History → ℕ → List ℕ → ℕ → Task
 price_task h t target price = repriced t target price (goods_in h target)
-
--- whether terms are the same, part by part
-abbrev pub are_same_terms : Issuing → Issuing → Bool
-are_same_terms a b =
-    a.issuer == b.issuer && a.period == b.period && a.life == b.life && pointwise bytes_eq a.scrip b.scrip && pointwise bytes_eq a.customer b.customer
 
 -- Terms are added where their issuer is new; 55 IssuerTaken where others of it stand.
 abbrev pub licensed : ℕ → Issuing → Option Issuing → Task

@@ -4,7 +4,7 @@ ghost use Rattle.std.specs.Prelude.{◌≡◌, ◌<◌, ◌≤◌, [], ℕ, leng
 ghost use Rattle.scrip_form.specs.Issuing.{Issuing};
 ghost use Rattle.mc_records.specs.declared.ranges.TheConstants.{MOST_PIECES};
 ghost use Rattle.mc_records.specs.declared.ranges.TheConstants.{MOST_CONTENTS};
-ghost use Rattle.mc_records.specs.Entry.{AddTerms, AreSecrets, Fits};
+ghost use Rattle.mc_records.specs.Entry.{AddTerms, Fits};
 ghost use Rattle.mc_records.specs.Views.{entry};
 ghost use Rattle.ledger_model.specs.Histories.{History};
 ghost use Rattle.ledger_model.specs.Houses.{site_name, terms_in, version};
@@ -14,11 +14,12 @@ ghost use Rattle.house_core.specs.House.{HouseRepresents, HandsBack, HasRun, Kee
 ghost use Rattle.house_core.specs.Tasks.{Performs, TellsLast, TellsAdded, NoLines};
 ghost use Rattle.vendor_core.specs.Lines.{piece_lines};
 ghost use Rattle.vendor_core.specs.Shelf.{shelf_view};
-ghost use Rattle.vendor_core.specs.Tasks.{goods_task, price_task, are_same_terms, terms_task, IsMintTask, TellsMint};
+ghost use Rattle.vendor_core.specs.Tasks.{goods_task, price_task, terms_task, IsMintTask, TellsMint};
 
 use crate::lines::put_lines;
 use crate::shelf::Shelf;
 use house_core::{House, Outcome};
+use issuer_terms::{are_same, terms_fit};
 use ledger_model::MOST_IN_FORCE;
 use mc_base::{Amount, Moment, NoMemory};
 use mc_outside::Disk;
@@ -127,20 +128,11 @@ fn terms_record<'a>(moment: Moment, terms: Terms) -> Record<'a>
     ensures fits { Fits (entry result) }
     ensures entry { entry result ≡ AddTerms moment terms }
 {
-    // What the parts know of themselves.
+    // What the moment and the terms know of themselves.
     let _moment = moment.seconds();
-    let _issuer = terms.issuer();
-    secrets_have_keys(terms.scrip().list());
-    secrets_have_keys(terms.customer().list());
+    terms_fit(terms);
     Record::Terms { moment, terms }
 }
-
-/// Secrets of 16 bytes each are as an entry has them.
-fn secrets_have_keys(list: &[[u8; 16]])
-    requires some { 0 < length list.now }
-    requires few { length list.now ≤ 16 }
-    ensures { AreSecrets list.now }
-{}
 
 /// Mints 1 to 256 pieces of a value, 1 to 2^40 units, to be sold elsewhere, and puts their lines into an empty
 /// list. Answers the number of the Mint entry. Where the same count and value were minted under the reference
@@ -234,15 +226,4 @@ fn enter_mint<D: Disk>(
             Outcome::Halted(halted)
         }
     }
-}
-
-/// Whether terms are the same, part by part.
-fn are_same(a: &Terms, b: &Terms) -> bool
-    ensures { result ≡ are_same_terms a.now b.now }
-{
-    a.issuer() == b.issuer()
-        && a.period() == b.period()
-        && a.life() == b.life()
-        && a.scrip_list() == b.scrip_list()
-        && a.customer_list() == b.customer_list()
 }

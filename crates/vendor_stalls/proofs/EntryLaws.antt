@@ -1,8 +1,8 @@
 -- A stall that shows a vendor after one more entry.
 use Rattle.std.proofs.Common.{◌≡◌, ℕ, ◌+◌, Bool, true, false, cond, eqb, ◌&&◌, ◌||◌, not, List, [], ◌∷◌, ◌++◌, Option, Some, None, refl, sym, ap, ap₂, subst, ◌∙◌, append-nil, append_assoc, find, count_by, bytes_eq, ltb, length, Result, Ok, Err, arith}
-use Rattle.std.specs.Prelude.{option_and_then, option_map, unwrap_or, is_some, if◌then◌else◌}
+use Rattle.std.specs.Prelude.{IsTrue, option_and_then, option_map, unwrap_or, is_some, if◌then◌else◌}
 use Rattle.std.specs.Option.{option_or}
-use Rattle.std.specs.List.{list_any, cons_option}
+use Rattle.std.specs.List.{list_any, cons_option, AllByRecursion}
 use Rattle.std.proofs.lemmas.Bool.{false≢true, true≢false, and_parts, eqb-true, eq-eqb}
 use Rattle.std.proofs.lemmas.List.Elements.{filter_map-append}
 use Rattle.std.proofs.lemmas.List.{map-append}
@@ -15,7 +15,7 @@ use Rattle.scrip_form.specs.Scrip.{Scrip}
 use Rattle.scrip_form.specs.Reading.{scrip_of}
 use Rattle.mc_records.specs.Entry.{Held, Entry, Licence, Stock}
 use Rattle.ledger_model.specs.Histories.{History}
-use Rattle.ledger_model.specs.Stock.{is_licence_of, licence_terms, licence_in, stock_of, stock_in, names_vendor, knows_vendor, held_piece, held_pieces, ids_of, stock_ids, stock_pieces, for_sale, are_new, are_stock, Sale, sale_of, sales, is_of_vendor, is_of_stock, is_licensed, is_sold, licensed_count}
+use Rattle.ledger_model.specs.Stock.{is_licence_of, licence_terms, licence_in, stock_of, stock_in, names_vendor, knows_vendor, held_piece, held_pieces, ids_of, stock_ids, for_sale, may_be_stock, are_new, are_stock, Sale, sale_of, sales, is_of_vendor, is_of_stock, is_licensed, is_sold, licensed_count}
 use Rattle.ledger_model.specs.Laws.{AreDistinct}
 use Rattle.ledger_model.proofs.ListLaws.{counts_append, counts_cons}
 use Rattle.change_issue.specs.Registers.{Register, count_in}
@@ -24,6 +24,7 @@ use Rattle.stock_rack.specs.Shelves.{pieces_at}
 use Rattle.stock_rack.specs.declared.piece.StockPiece.{StockPiece}
 use Rattle.vendor_stalls.specs.Stalls.{StockIdsView, has_id, StallView, terms_of, sold_count, was_stocked, stocked_at, is_known}
 use Rattle.vendor_stalls.specs.Listed.{stock_piece, listed_at, listed_piece}
+use Rattle.vendor_stalls.proofs.StockedLaws.{fits_more, once_more}
 use Rattle.vendor_stalls.proofs.ListedLaws.{listed_more, ids_more, any_turned, eqb_turned}
 use Rattle.vendor_stalls.specs.Shown.{marked, IsOfOther, Shows}
 
@@ -97,6 +98,13 @@ or_true false b e = e
 abbrev one_id : Held → Option ℕ
 one_id held = option_map (λ p. p.id) (held_piece held)
 
+-- the same stock fits as before, and stands once
+fits_same : (vendor : List ℕ) {new old : List Held} → new ≡ old → AllByRecursion (λ p. IsTrue (may_be_stock vendor p)) (held_pieces old) → AllByRecursion (λ p. IsTrue (may_be_stock vendor p)) (held_pieces new)
+fits_same vendor same fits = subst (λ (helds : List Held). AllByRecursion (λ p. IsTrue (may_be_stock vendor p)) (held_pieces helds)) (sym same) fits
+
+once_same : {new old : List Held} → new ≡ old → AreDistinct (held_pieces old) → AreDistinct (held_pieces new)
+once_same same once = subst (λ (helds : List Held). AreDistinct (held_pieces helds)) (sym same) once
+
 -- ---- entries of others
 
 -- an entry that neither names a vendor nor sells his scrip leaves his stall
@@ -112,6 +120,8 @@ stall_stays h vendor s e none other shows =
           ∙ ap (λ (helds : List Held). marked (is_sold (h ++ e ∷ []) vendor) (listed_at value helds)) (sym stock);
       known = shows.known ∙ sym (knows_snoc h e vendor ∙ or_false (knows_vendor h vendor) (names_vendor vendor e) none);
       sold = λ id is. ap (λ (known : List ℕ). list_any (λ k. eqb id k) known) ids ∙ shows.sold id (sym (sold_same h vendor e other id) ∙ is);
+      fits = fits_same vendor stock shows.fits;
+      once = once_same stock shows.once;
     }
 
 -- ---- a licence
@@ -155,6 +165,8 @@ licence_shown h vendor s s' m terms none taken counts ids racks shows =
           ∙ ap (λ (helds : List Held). marked (is_sold (h ++ e ∷ []) vendor) (listed_at value helds)) (sym stock);
       known = known_by_terms s' terms has ∙ sym (knows_snoc h e vendor ∙ or_true (knows_vendor h vendor) (names_vendor vendor e) (same_name vendor));
       sold = λ id is. ap (λ (helds : List Held). list_any (λ k. eqb id k) (ids_of helds)) stock ∙ shows.sold id (sym (sold_same h vendor e tt id) ∙ is);
+      fits = fits_same vendor stock shows.fits;
+      once = once_same stock shows.once;
     }
 
 -- ---- stock
@@ -218,6 +230,8 @@ stock_shown h vendor s s' m pieces may licence ids stocked known shows =
           ∙ ap (λ (helds : List Held). marked (is_sold (h ++ e ∷ []) vendor) (listed_at value helds)) (sym stock);
       known = known ∙ sym (knows_snoc h e vendor ∙ or_true (knows_vendor h vendor) (names_vendor vendor e) (same_name vendor));
       sold = λ id is. any id ∙ ap (λ b. b || list_any (λ k. eqb id k) (ids_of pieces)) (shows.sold id (sym (sold_same h vendor e tt id) ∙ is));
+      fits = fits_same vendor stock (fits_more vendor (stock_in h vendor) pieces (and_parts _ _ may).0 shows.fits);
+      once = once_same stock (once_more (stock_in h vendor) pieces (and_parts _ _ may).1 shows.once);
     }
 
 -- ---- a sale under the licence
@@ -238,7 +252,7 @@ count_with h vendor e x is series =
     let one : count_by test (x ∷ []) ≡ cond (test x) 1 0 + 0 = counts_cons test x [] in
     omega (arith, snoc, one)
 
-known_alike : (s s' : StallView) → terms_of s' ≡ terms_of s → s'.ids ≡ s.ids → is_known s' ≡ is_known s
+pub known_alike : (s s' : StallView) → terms_of s' ≡ terms_of s → s'.ids ≡ s.ids → is_known s' ≡ is_known s
 known_alike s s' terms ids =
     ap₂ (λ (b : Bool) (k : StockIdsView). b || not (eqb (length k.ids) 0)) (some_of s'.licence ∙ ap is_some terms ∙ sym (some_of s.licence)) ids
   where
@@ -263,6 +277,8 @@ sale_shown h vendor s s' e value id is none terms counts ids racks shows =
           ∙ ap (λ (helds : List Held). marked (is_sold (h ++ e ∷ []) vendor) (listed_at u helds)) (sym stock);
       known = known_alike s s' terms ids ∙ shows.known ∙ sym (knows_snoc h e vendor ∙ or_false (knows_vendor h vendor) (names_vendor vendor e) none);
       sold = λ k was. ap (λ (helds : List Held). list_any (λ j. eqb k j) (ids_of helds)) stock ∙ shows.sold k (sym (sold k) ∙ was);
+      fits = fits_same vendor stock shows.fits;
+      once = once_same stock shows.once;
     }
 
 -- ---- a sale out of stock
@@ -400,9 +416,9 @@ found_known test (held ∷ helds) p found = go (scrip_of held.text) refl (found_
         first false e = or_true (eqb p.id x.0.id) _ (more e)
 
 pub stock_sale_shown : (h : History) (vendor : List ℕ) (s s' : StallView) (e : Entry) (t value id : ℕ) (p : Scrip) → sale_of e ≡ Some (record { vendor = vendor; value = value; stock = true; id = id })
-    → names_vendor vendor e ≡ false → AreDistinct (stock_pieces h vendor) → for_sale h t vendor value ≡ Some p → p.id ≡ id → s'.licence ≡ s.licence → s'.ids ≡ s.ids
+    → names_vendor vendor e ≡ false → for_sale h t vendor value ≡ Some p → p.id ≡ id → s'.licence ≡ s.licence → s'.ids ≡ s.ids
     → ((u : ℕ) → stocked_at s' u ≡ (if eqb value u then sold_first t (stocked_at s u) else stocked_at s u)) → Shows h vendor s → Shows (h ++ e ∷ []) vendor s'
-stock_sale_shown h vendor s s' e t value id p is none distinct first same licence ids stocked shows =
+stock_sale_shown h vendor s s' e t value id p is none first same licence ids stocked shows =
     let x : Sale = record { vendor = vendor; value = value; stock = true; id = id } in
     let f = is_sold h vendor in
     let sold : (k : ℕ) → is_sold (h ++ e ∷ []) vendor k ≡ (f k || eqb p.id k) =
@@ -415,12 +431,14 @@ stock_sale_shown h vendor s s' e t value id p is none distinct first same licenc
           ∙ sym (let more = count_with h vendor e x is series in omega (arith, more));
       ids = λ k. ap (λ (v : StockIdsView). has_id v k) ids ∙ shows.ids k ∙ ap (λ (helds : List Held). list_any (λ j. eqb k j) (ids_of helds)) (sym stock);
       pieces = λ u. stocked u ∙ ap (λ (ps : List StockPiece). cond (eqb value u) (sold_first t ps) ps) (shows.pieces u)
-          ∙ marks_first f t value u (stock_in h vendor) p distinct first
+          ∙ marks_first f t value u (stock_in h vendor) p shows.once first
           ∙ marked_alike (λ k. f k || eqb p.id k) (is_sold (h ++ e ∷ []) vendor) (λ k. sym (sold k)) (listed_at u (stock_in h vendor))
           ∙ ap (λ (helds : List Held). marked (is_sold (h ++ e ∷ []) vendor) (listed_at u helds)) (sym stock);
       known = ap₂ (λ (o : Option Register) (k : StockIdsView). is_some o || not (eqb (length k.ids) 0)) licence ids ∙ shows.known
           ∙ sym (knows_snoc h e vendor ∙ or_false (knows_vendor h vendor) (names_vendor vendor e) none);
       sold = λ k was. ap (λ (helds : List Held). list_any (λ j. eqb k j) (ids_of helds)) stock ∙ there k (f k) refl (sym (sold k) ∙ was);
+      fits = fits_same vendor stock shows.fits;
+      once = once_same stock shows.once;
     }
   where
     there : (k : ℕ) (b : Bool) → is_sold h vendor k ≡ b → (b || eqb p.id k) ≡ true → list_any (λ j. eqb k j) (stock_ids h vendor) ≡ true

@@ -1,3 +1,4 @@
 pub mod Stalls
 pub mod Listed
 pub mod Shown
+pub mod Vendors

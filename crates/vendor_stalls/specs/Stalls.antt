@@ -1,9 +1,8 @@
 -- What a broker has of one vendor to sell.
-use Rattle.std.specs.Prelude.{ℕ, ◌==◌, ◌||◌, ◌<◌, ◌^◌, ◌≡◌, not, Bool, IsTrue, IfSome, List, length, Option, option_map, unwrap_or, is_some}
+use Rattle.std.specs.Prelude.{ℕ, ◌+◌, ◌==◌, ◌||◌, ◌<◌, ◌^◌, ◌≡◌, not, Bool, IsTrue, IfSome, List, [], length, Option, None, option_map, unwrap_or, is_some}
 use Rattle.std.specs.List.{list_any}
-use Rattle.scrip_form.specs.Identities.{series_of}
-use Rattle.scrip_form.specs.Issuing.{Issuing}
-use Rattle.change_issue.specs.Registers.{Register, has_room, count_in, next_in}
+use Rattle.scrip_form.specs.Issuing.{Issuing, HasPeriod}
+use Rattle.change_issue.specs.Registers.{Register, has_room, count_in}
 use Rattle.stock_rack.specs.declared.piece.StockPiece.{StockPiece}
 use Rattle.stock_rack.specs.Racks.{RackView}
 use Rattle.stock_rack.specs.Shelves.{pieces_at}
@@ -17,12 +16,20 @@ pub record StockIdsView : Type 0 where
 unfoldable pub has_id : StockIdsView → ℕ → Bool
 has_id s id = list_any (λ k. id == k) s.ids
 
+-- no identities
+abbrev pub no_ids : StockIdsView
+no_ids = record { ids = []; room = 0 }
+
 -- A stall: what is sold under a licence, where there is one; the identities of all pieces that ever were in stock;
 -- and the pieces in stock by their value, the sold ones too.
 pub record StallView : Type 0 where
   pub licence : Option Register
   pub ids : StockIdsView
   pub racks : List (ℕ × RackView)
+
+-- a stall with nothing
+abbrev pub empty_stall : StallView
+empty_stall = record { licence = None; ids = no_ids; racks = [] }
 
 -- the terms of the licence
 abbrev pub terms_of : StallView → Option Issuing
@@ -44,12 +51,25 @@ stocked_at s value = pieces_at s.racks value
 abbrev pub is_known : StallView → Bool
 is_known s = is_some s.licence || not (length s.ids.ids == 0)
 
--- an identity is the next one of its series under a licence, the series has room for it, and it is not full
-pub record IsNext (id : ℕ) (r : Register) : Type 0 where
-  pub next : id ≡ next_in r (series_of id)
-  pub below : count_in r (series_of id) < 2 ^ 32
-  pub room : IsTrue (has_room r (series_of id))
+-- Under a licence at most 2^32 - 1 pieces of a series are sold, as many as a count of 32 bits tells.
+pub record IsShort (r : Register) : Type 0 where
+  pub most : r.most ≡ 2 ^ 32
+  pub below : (series : ℕ) → count_in r series < 2 ^ 32
+  pub period : HasPeriod r.terms.period r.terms.life
 
--- where there is a licence, a series of it has room
+-- there is room for one more piece of a series under a licence
+pub record HasPlace (series : ℕ) (r : Register) : Type 0 where
+  pub room : IsTrue (has_room r series)
+  pub left : count_in r series + 1 < 2 ^ 32
+
+-- where there is a licence, there is room for one more piece of a series
 abbrev pub HasSeries : StallView → ℕ → Type 0
-HasSeries s series = IfSome s.licence (λ r. IsTrue (has_room r series))
+HasSeries s series = IfSome s.licence (HasPlace series)
+
+-- two stalls tell the same
+pub record IsAlike (s s' : StallView) : Type 0 where
+  pub terms : terms_of s' ≡ terms_of s
+  pub counts : (series : ℕ) → sold_count s' series ≡ sold_count s series
+  pub ids : (id : ℕ) → was_stocked s' id ≡ was_stocked s id
+  pub pieces : (value : ℕ) → stocked_at s' value ≡ stocked_at s value
+  pub known : is_known s' ≡ is_known s

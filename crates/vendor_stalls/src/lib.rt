@@ -6,8 +6,12 @@
 mod law;
 mod listed;
 mod stall;
+mod stalls;
 mod stock_ids;
+mod target;
 
-pub use law::{stalls_follow_entries, stalls_tell_stock};
+pub use law::{stalls_follow, stalls_follow_entries, stalls_tell_stock};
 pub use stall::Stall;
+pub use stalls::Stalls;
 pub use stock_rack::StockPiece;
+pub use target::{Purchase, bought};

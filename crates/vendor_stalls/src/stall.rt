@@ -3,13 +3,14 @@ ghost use Rattle.std.specs.Bool.{OnTrue, OnFalse};
 ghost use Rattle.std.specs.List.{list_any};
 ghost use Rattle.std.specs.Option.{option_or};
 ghost use Rattle.scrip_form.specs.Identities.{series_of};
-ghost use Rattle.change_issue.specs.Registers.{IsRaisedAt};
+ghost use Rattle.scrip_form.specs.Issuing.{HasPeriod};
+ghost use Rattle.change_issue.specs.Registers.{count_in, IsRaisedAt};
 ghost use Rattle.mc_records.specs.declared.ranges.TheConstants.{MOST_PIECES};
 ghost use Rattle.mc_records.specs.PieceViews.{pieces_of};
 ghost use Rattle.ledger_model.specs.Stock.{may_be_stock, are_stock, ids_of};
 ghost use Rattle.stock_rack.specs.Racks.{is_open, sold_first};
 ghost use Rattle.stock_rack.specs.Shelves.{pieces_at, room_at};
-ghost use Rattle.vendor_stalls.specs.Stalls.{has_id, terms_of, sold_count, was_stocked, stocked_at, is_known, IsNext, HasSeries};
+ghost use Rattle.vendor_stalls.specs.Stalls.{has_id, empty_stall, terms_of, sold_count, was_stocked, stocked_at, is_known, IsAlike, IsShort, HasPlace, HasSeries};
 ghost use Rattle.vendor_stalls.specs.Listed.{listed_at, HasRoomFor};
 
 use crate::listed::{may_be_stock_of, piece_of, stock_piece};
@@ -33,24 +34,20 @@ pub struct Stall {
 }
 
 impl Model for Stall {
-    ghost use Rattle.std.specs.Prelude.{◌≡◌, ◌^◌, IfSome};
-    ghost use Rattle.vendor_stalls.specs.Stalls.{StallView};
+    ghost use Rattle.std.specs.Prelude.{IfSome};
+    ghost use Rattle.vendor_stalls.specs.Stalls.{StallView, IsShort};
 
     ghost Value = { StallView };
 
     ghost view = { λ s. record { licence = s.licence; ids = s.ids; racks = s.racks } };
 
-    ghost invariant = { λ s. IfSome s.licence (λ r. r.most ≡ 2 ^ 32) };
+    ghost invariant = { λ s. IfSome s.licence IsShort };
 }
 
 impl Stall {
     /// No licence and no stock. It takes no memory.
     pub fn new(alloc: Global) -> Stall
-        ensures terms { terms_of result ≡ None }
-        ensures counts { (series : ℕ) → sold_count result series ≡ 0 }
-        ensures ids { (id : ℕ) → was_stocked result id ≡ false }
-        ensures pieces { (value : ℕ) → stocked_at result value ≡ [] }
-        ensures known { is_known result ≡ false }
+        ensures { IsAlike empty_stall result }
     {
         Stall {
             licence: None,
@@ -62,7 +59,8 @@ impl Stall {
 
     /// The terms of the licence; None exactly where there is none.
     pub fn licence(&self) -> Option<&Terms>
-        ensures { option_map (λ t. t.now) result ≡ terms_of self.now }
+        ensures terms { option_map (λ t. t.now) result ≡ terms_of self.now }
+        ensures period { IfSome result (λ t. HasPeriod t.now.period t.now.life) }
     {
         match &self.licence {
             Some(issuer) => Some(issuer.terms()),
@@ -71,11 +69,11 @@ impl Stall {
     }
 
     /// How many pieces of a series were sold under the licence: the next serial of the series.
-    pub fn count(&self, series: u32) -> u64
+    pub fn count(&self, series: u32) -> u32
         ensures { result ≡ sold_count self.now series }
     {
         match &self.licence {
-            Some(issuer) => issuer.count(series),
+            Some(issuer) => issuer.count(series) as u32,
             None => 0,
         }
     }
@@ -87,6 +85,13 @@ impl Stall {
         self.licence.is_some() || !self.ids.is_empty()
     }
 
+    /// Whether a piece of an identity was ever in stock.
+    pub fn has(&self, id: u64) -> bool
+        ensures { result ≡ was_stocked self.now id }
+    {
+        self.ids.has(id)
+    }
+
     /// The first piece of a value in stock that is for sale at a moment.
     pub fn first(&self, value: Amount, now: Moment) -> Option<StockPiece>
         ensures { result ≡ find (is_open now) (stocked_at self.now value) }
@@ -94,7 +99,8 @@ impl Stall {
         self.racks.first(value.get(), now)
     }
 
-    /// Makes room for a series of the licence, if there is one. What is told of the vendor stays.
+    /// Makes room for one more piece of a series of the licence, if there is one. There is none for the last of the
+    /// 2^32 serials of a series. What is told of the vendor stays.
     pub fn reserve_series(&mut self, series: u32) -> Result<(), NoMemory>
         ensures room { OnOk result (HasSeries self.new series) }
         ensures terms { terms_of self.new ≡ terms_of self.old }
@@ -103,7 +109,7 @@ impl Stall {
         ensures racks { self.new.racks ≡ self.old.racks }
     {
         match &mut self.licence {
-            Some(issuer) => issuer.reserve(series),
+            Some(issuer) => reserve_place(issuer, series),
             None => Ok(()),
         }
     }
@@ -144,6 +150,7 @@ impl Stall {
     /// Takes a licence under which nothing was sold; false where one stands, and all is then as it was. It takes no
     /// memory.
     pub fn learn_licence(&mut self, terms: &Terms) -> bool
+        requires { HasPeriod terms.now.period terms.now.life }
         ensures learned { result ≡ is_none (terms_of self.old) }
         ensures terms { terms_of self.new ≡ option_or (terms_of self.old) (Some terms.now) }
         ensures counts { (s : ℕ) → sold_count self.new s ≡ sold_count self.old s }
@@ -157,18 +164,24 @@ impl Stall {
         true
     }
 
-    /// Counts a piece that was sold under the licence: the next one of its series, which has room. It takes no
-    /// memory.
-    pub fn sell_licensed(&mut self, id: Id)
-        requires { IsSomeAnd self.old.licence (IsNext id) }
-        ensures counts { IsRaisedAt (series_of id) 1 (sold_count self.old) (sold_count self.new) }
+    /// Counts a piece that was sold under the licence, in the series of its identity, which has room; false where
+    /// there is no licence, and all is then as it was. It takes no memory.
+    pub fn sell_licensed(&mut self, id: Id) -> bool
+        requires { HasSeries self.old (series_of id) }
+        ensures some { result ≡ is_some (terms_of self.old) }
+        ensures counts { OnTrue result
+            (IsRaisedAt (series_of id) 1 (sold_count self.old) (sold_count self.new)) }
+        ensures same { OnFalse result (self.new ≡ self.old) }
         ensures terms { terms_of self.new ≡ terms_of self.old }
         ensures ids { self.new.ids ≡ self.old.ids }
         ensures racks { self.new.racks ≡ self.old.racks }
     {
         match &mut self.licence {
-            Some(issuer) => issuer.count_on(id, 1),
-            None => unreachable!(),
+            Some(issuer) => {
+                count_one(issuer, id.series());
+                true
+            }
+            None => false,
         }
     }
 
@@ -183,6 +196,32 @@ impl Stall {
     {
         self.racks.sell_first(value.get(), now)
     }
+}
+
+/// Makes room for one more piece of a series under a licence.
+fn reserve_place(licence: &mut Issuer, series: u32) -> Result<(), NoMemory>
+    requires { IsShort licence.old }
+    ensures room { OnOk result (HasPlace series licence.new) }
+    ensures terms { licence.new.terms ≡ licence.old.terms }
+    ensures most { licence.new.most ≡ licence.old.most }
+    ensures counts { (s : ℕ) → count_in licence.new s ≡ count_in licence.old s }
+{
+    if licence.count(series) >= u64::from(u32::MAX) {
+        return Err(NoMemory);
+    }
+    licence.reserve(series)
+}
+
+/// Counts one more piece of a series under a licence, which has room for it.
+fn count_one(licence: &mut Issuer, series: u32)
+    requires place { HasPlace series licence.old }
+    requires most { licence.old.most ≡ 2 ^ 32 }
+    ensures terms { licence.new.terms ≡ licence.old.terms }
+    ensures most { licence.new.most ≡ licence.old.most }
+    ensures counts { IsRaisedAt series 1 (count_in licence.old) (count_in licence.new) }
+{
+    let next = u64::from(series) * (1 << 32) + licence.count(series);
+    licence.count_on(Id::of_number(next), 1);
 }
 
 /// Puts the pieces of a list into stock, behind the others.

@@ -13,7 +13,7 @@ use Rattle.vendor_commands.proofs.goods.list_goods.Goals as goal
 pub returns-then-input-gt-MOST_CONTENTS-clause-exact : goal.returns-then-input-gt-MOST_CONTENTS-clause-exact
 returns-then-input-gt-MOST_CONTENTS-clause-exact g c h line st begun =
     let operation = goods_operation c.args.listing.now in
-    performs_refused g.D.Disk.disk shelf_view (operation.asks c.args.input.now h (house_time c.args.house.bench)) (λ task g answer. operation.says h task line) _ c.args.house h (ContentsFull (MOST_CONTENTS + 1)) g.met.D.Disk.is_disk st
+    performs_refused g.D.Disk.disk shelf_view (operation.asks c.args.input.now h (house_time c.args.house.bench)) (λ task g answer. operation.says c.args.input.now h task line) _ c.args.house h (ContentsFull (MOST_CONTENTS + 1)) g.met.D.Disk.is_disk st
     (inr (omega (arith, c.if-input-gt-MOST_CONTENTS.true), refl))
 
 pub returns-clause-back : goal.returns-clause-back
@@ -23,7 +23,7 @@ pub returns-clause-exact : goal.returns-clause-exact
 returns-clause-exact g c h line st begun =
     let operation = goods_operation c.args.listing.now in
     rw c.without_answer.ensures
-    (performs_as g.D.Disk.disk shelf_view _ (operation.asks c.args.input.now h (house_time c.args.house.bench)) TellsLast (λ task. operation.says h task line) _ c.args.house.journal.disk h c.set_goods.result
+    (performs_as g.D.Disk.disk shelf_view _ (operation.asks c.args.input.now h (house_time c.args.house.bench)) TellsLast (λ task. operation.says c.args.input.now h task line) _ c.args.house.journal.disk h c.set_goods.result
     (λ task is. inl (
       omega (arith, c.if-input-gt-MOST_CONTENTS.false),
       is ∙ ap₂ (λ (target : List ℕ) (price : ℕ). goods_task h (house_time c.args.house.bench) target price c.kind.result c.args.input.now) (c.target.ensures.value ∙ ap (λ (p : Pricing). p.target) c.pricing-pricing.ensures) (c.price.ensures.value ∙ ap (λ (p : Pricing). p.price) c.pricing-pricing.ensures)

@@ -15,6 +15,6 @@ pub returns-clause-exact : goal.returns-clause-exact
 returns-clause-exact g c h input line st begun =
     let operation = licence_operation c.args.licensing.now in
     rw c.without_answer.ensures
-    (performs_as g.D.Disk.disk shelf_view _ (operation.asks input h (house_time c.args.house.bench)) TellsAdded (λ task. operation.says h task line) _ c.args.house.journal.disk h c.add_terms.result
+    (performs_as g.D.Disk.disk shelf_view _ (operation.asks input h (house_time c.args.house.bench)) TellsAdded (λ task. operation.says input h task line) _ c.args.house.journal.disk h c.add_terms.result
     (λ task is. is ∙ ap (λ (t : Issuing). terms_task h (house_time c.args.house.bench) t) c.terms.ensures.value)
     (λ task answer doable told. begun) (c.add_terms.ensures.exact h st))

@@ -16,7 +16,7 @@ returns-clause-exact g c h input st all =
     let operation = mint_operation c.args.minting.now in
     let m = c.args.minting.now in
     rw c.without_answer.ensures
-    (performs_as g.D.Disk.disk shelf_view _ (operation.asks input h (house_time c.args.house.bench)) (TellsMint c.reference.result.now c.count.result c.value.result c.mint.new.out.items) (λ task. operation.says h task c.mint.new.out.items) _ c.args.house.journal.disk h c.mint.result
+    (performs_as g.D.Disk.disk shelf_view _ (operation.asks input h (house_time c.args.house.bench)) (TellsMint c.reference.result.now c.count.result c.value.result c.mint.new.out.items) (λ task. operation.says input h task c.mint.new.out.items) _ c.args.house.journal.disk h c.mint.result
     (λ task is. mint_task_at h (house_time c.args.house.bench) (limits_of c.args.house.bench) c.reference.result.now m.reference c.count.result m.count c.value.result m.value task all c.reference.ensures.value c.count.ensures.value c.value.ensures.value is)
     (λ task answer doable told. mint_line_at (after task h) c.reference.result.now m.reference c.count.result m.count c.value.result m.value answer c.mint.new.out.items c.mint.new.out.items c.reference.ensures.value c.count.ensures.value c.value.ensures.value refl told)
     (c.mint.ensures.exact h st))

@@ -14,6 +14,6 @@ pub returns-clause-exact : goal.returns-clause-exact
 returns-clause-exact g c h input line st begun =
     let operation = price_operation c.args.pricing.now in
     rw c.without_answer.ensures
-    (performs_as g.D.Disk.disk shelf_view _ (operation.asks input h (house_time c.args.house.bench)) TellsLast (λ task. operation.says h task line) _ c.args.house.journal.disk h c.set_price.result
+    (performs_as g.D.Disk.disk shelf_view _ (operation.asks input h (house_time c.args.house.bench)) TellsLast (λ task. operation.says input h task line) _ c.args.house.journal.disk h c.set_price.result
     (λ task is. is ∙ ap₂ (λ (target : List ℕ) (price : ℕ). price_task h (house_time c.args.house.bench) target price) c.target.ensures.value c.price.ensures.value)
     (λ task answer doable told. begun) (c.set_price.ensures.exact h st))

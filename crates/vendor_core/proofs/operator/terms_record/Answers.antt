@@ -1,15 +1,4 @@
-use Rattle.std.proofs.Common.{◌∙◌, ◌≤◌, rules, arith}
-use Rattle.scrip_form.specs.Issuing.{HasPeriod}
-use Rattle.mc_records.specs.Entry.{AreSecrets}
 use Rattle.vendor_core.proofs.operator.terms_record.Goals as goal
 
 pub returns-clause-fits : goal.returns-clause-fits
-returns-clause-fits c =
-    let has : HasPeriod c.args.terms.period c.args.terms.life = search rules in
-    let byte : c.args.terms.issuer ≤ 255 = omega (arith, c.issuer-issuer.type_inv, c.issuer-issuer.ensures) in
-    let scrip : AreSecrets c.args.terms.scrip = rw (c.list.ensures.value ∙ c.scrip.ensures) at c.secrets_have_keys.ensures in
-    let customer : AreSecrets c.args.terms.customer = rw (c.list-2.ensures.value ∙ c.customer.ensures) at c.secrets_have_keys-2.ensures in
-    record {
-      moment = c.seconds-moment.ensures.last;
-      terms = record { issuer = (c.requires, byte); period = has; scrip = scrip; customer = customer };
-    }
+returns-clause-fits c = record { moment = c.seconds-moment.ensures.last; terms = c.terms_fit.ensures }

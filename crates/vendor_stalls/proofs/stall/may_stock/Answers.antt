@@ -1,4 +1,4 @@
-use Rattle.std.proofs.Common.{◌≡◌, ℕ, true, false, ◌&&◌, List, [], ◌∷◌, ◌++◌, length, take, sym, ap, refl, ◌∙◌, arith}
+use Rattle.std.proofs.Common.{◌≡◌, ℕ, ◌&&◌, List, [], ◌∷◌, ◌++◌, length, take, sym, ap, refl, ◌∙◌, arith}
 use Rattle.std.proofs.lemmas.List.{take_more_set}
 use Rattle.mc_records.specs.PieceViews.{pieces_of, piece_of, pieces_left}
 use Rattle.ledger_model.specs.Stock.{are_stock}

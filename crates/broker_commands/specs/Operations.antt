@@ -1,0 +1,117 @@
+-- What the operations of a broker's operator mean.
+use Rattle.std.specs.Prelude.{◌≡◌, ◌++◌, ℕ, List, [], length, Option, Some, None, Result, Ok, Err, is_some, if◌then◌else◌, codes, decimal}
+use Rattle.scrip_form.specs.Issuing.{Issuing}
+use Rattle.mc_records.specs.declared.refusal.Refusal.TheVariants.{NoAccount, BadInput}
+use Rattle.ledger_model.specs.Histories.{History}
+use Rattle.ledger_model.specs.Accounts.{account_in, balance}
+use Rattle.house_core.specs.Tasks.{Task, Stays, Refuse, after}
+use Rattle.broker_core.specs.Tasks.{account_task, deposit_task, withdraw_task, licence_task, stock_task, stock_lines, pieces_in}
+use Rattle.licence_lines.specs.Licences.{IsTold}
+use Rattle.broker_commands.specs.declared.operation.TheConstants.{MOST_LINES}
+use Rattle.mc_words.specs.declared.broker_operation.BrokerOperation.{BrokerOperation}
+use Rattle.mc_words.specs.declared.broker_operation.BrokerOperation.TheVariants as operations
+use Rattle.mc_words.specs.Words.{Opening, Payment, Inquiry, Taking, Stocking}
+use Rattle.operator_command.specs.Operations.{OperationView}
+
+-- ---- the lines
+
+abbrev pub account_line : List ℕ → List ℕ
+account_line name = codes "account " ++ name ++ codes "\n"
+
+-- a line up to its number, and the line
+abbrev pub balance_words : List ℕ → List ℕ
+balance_words name = codes "balance " ++ name ++ codes " "
+
+abbrev pub stock_words : List ℕ → List ℕ
+stock_words vendor = codes "stock " ++ vendor ++ codes " "
+
+abbrev pub with_number : List ℕ → ℕ → List ℕ
+with_number words n = words ++ decimal n ++ codes "\n"
+
+-- ---- what each means
+
+-- an account is opened
+abbrev pub account_operation : Opening → OperationView
+account_operation o = record {
+  input = None;
+  asks = λ input h t task. task ≡ account_task h t o.account o.key;
+  says = λ input h task line. line ≡ account_line o.account;
+}
+
+-- the balance of an account, by the history that stands when it was done
+abbrev pub says_balance : List ℕ → List ℕ → History → Task → List ℕ → Type 0
+says_balance name input h task line = line ≡ with_number (balance_words name) (balance (after task h) name)
+
+-- money is paid into an account, or out of it
+abbrev pub deposit_operation : Payment → OperationView
+deposit_operation p = record {
+  input = None;
+  asks = λ input h t task. task ≡ deposit_task h t p.account p.amount p.reference;
+  says = says_balance p.account;
+}
+
+abbrev pub withdraw_operation : Payment → OperationView
+withdraw_operation p = record {
+  input = None;
+  asks = λ input h t task. task ≡ withdraw_task h t p.account p.amount p.reference;
+  says = says_balance p.account;
+}
+
+-- A balance is told and nothing is entered; 40 NoAccount where there is no account of the name.
+abbrev pub balance_task : History → List ℕ → Task
+balance_task h name = if is_some (account_in h name) then Stays else Refuse NoAccount
+
+abbrev pub balance_operation : Inquiry → OperationView
+balance_operation i = record {
+  input = None;
+  asks = λ input h t task. task ≡ balance_task h i.account;
+  says = says_balance i.account;
+}
+
+-- A licence is taken, which the input gives as its one line: 53 BadInput tells the line at which it breaks.
+abbrev pub taken : History → ℕ → Result (List ℕ × Issuing) ℕ → Task
+taken h t (Ok x) = licence_task h t x.0 x.1
+taken h t (Err line) = Refuse (BadInput line)
+
+abbrev pub taken_line : List ℕ → ℕ → List ℕ
+taken_line vendor issuer = codes "licence " ++ vendor ++ codes " " ++ decimal issuer ++ codes "\n"
+
+-- its line tells the vendor and the issuer that the input gives
+abbrev pub says_taken : List ℕ → Result (List ℕ × Issuing) ℕ → Type 0
+says_taken line (Ok x) = line ≡ taken_line x.0 x.1.issuer
+says_taken line (Err place) = ⊥
+
+abbrev pub licence_operation : OperationView
+licence_operation = record {
+  input = Some MOST_LINES;
+  asks = λ input h t task. (told : Result (List ℕ × Issuing) ℕ) × IsTold input told × (task ≡ taken h t told);
+  says = λ input h task line. (told : Result (List ℕ × Issuing) ℕ) × IsTold input told × says_taken line told;
+}
+
+-- pieces of a vendor are taken as stock, whose lines are the input
+abbrev pub stock_operation : Stocking → OperationView
+stock_operation s = record {
+  input = Some MOST_LINES;
+  asks = λ input h t task. task ≡ stock_task h t s.vendor input;
+  says = λ input h task line. line ≡ with_number (stock_words s.vendor) (length (pieces_in (stock_lines s.vendor input)));
+}
+
+-- ---- all of them
+
+-- what an operation of a broker's operator means
+abbrev pub operation_view : BrokerOperation → OperationView
+operation_view (operations.Account o) = account_operation o
+operation_view (operations.Deposit p) = deposit_operation p
+operation_view (operations.Withdraw p) = withdraw_operation p
+operation_view (operations.Balance i) = balance_operation i
+operation_view (operations.Licence l) = licence_operation
+operation_view (operations.Stock s) = stock_operation s
+
+-- its line as far as it is known before the book is touched
+abbrev pub begins : BrokerOperation → List ℕ → List ℕ → Type 0
+begins (operations.Account o) site line = line ≡ account_line o.account
+begins (operations.Deposit p) site line = line ≡ balance_words p.account
+begins (operations.Withdraw p) site line = line ≡ balance_words p.account
+begins (operations.Balance i) site line = line ≡ balance_words i.account
+begins (operations.Licence l) site line = line ≡ []
+begins (operations.Stock s) site line = line ≡ stock_words s.vendor

@@ -1,0 +1,13 @@
+//! What a broker's operator has done, as commands over the house of a broker's book.
+#![tactic(auto)]
+
+mod account;
+mod answer;
+mod balance;
+mod licence;
+mod lines;
+mod operation;
+mod payment;
+mod stock;
+
+pub use operation::DeskOperation;

@@ -1,0 +1,3 @@
+pub mod Licences
+pub mod Fields
+pub mod Views

@@ -1,0 +1,11 @@
+//! Licence lines: the terms under which a broker makes a vendor's scrip. The line is the word `licence`, the
+//! vendor, the issuer, the period and the life of its series, its secrets of scrip and those of customers,
+//! with one space between each two, and an LF.
+//!
+//! No call takes memory.
+#![tactic(auto)]
+
+mod fields;
+mod licence;
+
+pub use licence::read_licence_line;
