@@ -14,7 +14,7 @@ use Rattle.mc_words.specs.Words.{Shop}
 use Rattle.mc_top.specs.Saying.{Says}
 use Rattle.book_commands.specs.Statuses.{number_of, line_of}
 use Rattle.vendor_commands.specs.Operations.{operation_view}
-use Rattle.broker_commands.specs.Operations.{broker_view}
+use Rattle.broker_commands.specs.Operations as brokers
 use Rattle.mc_top.specs.Programs.{ServesOnce, TellsPlay, Obeys, Ends, RunsAs, HasBook, EndsWell, answered}
 use Rattle.book_commands.proofs.EndLemmas.{Calm, served_grew, operated_grew, init_well, served_well, operated_well}
 
@@ -45,7 +45,7 @@ grew {O = O} link disk (commands.Play playing) a b status has calm obeys = omega
 grew link disk (commands.Operate operation) a b status has calm obeys = operated_grew link disk (kind_number Vendor) (operation_view operation) has.bytes a b status calm obeys.0 (obeys.1 has.bytes has.told)
 grew link disk (commands.BrokerInit founder) a b status has calm obeys = omega (arith, obeys.0.1)
 grew link disk (commands.BrokerServe server) a b status has calm obeys = served_grew link disk (kind_number Broker) server.links has.bytes a b status calm obeys.0 (obeys.1 has.bytes has.told)
-grew link disk (commands.BrokerOperate operation) a b status has calm obeys = operated_grew link disk (kind_number Broker) (broker_view operation) has.bytes a b status calm obeys.0 (obeys.1 has.bytes has.told)
+grew link disk (commands.BrokerOperate operation) a b status has calm obeys = operated_grew link disk (kind_number Broker) (brokers.operation_view operation) has.bytes a b status calm obeys.0 (obeys.1 has.bytes has.told)
 
 -- ---- how it ends
 
@@ -114,4 +114,4 @@ ends_well {O = O} link disk command a c number has no_disk no_link (inr (b, stat
     by_command (commands.Operate operation) has obeys calm = operated_well link disk (kind_number Vendor) (operation_view operation) a b status has calm obeys.0 (obeys.1 has.bytes has.told)
     by_command (commands.BrokerInit founder) has obeys calm = init_well link disk a b status calm obeys.0.0
     by_command (commands.BrokerServe server) has obeys calm = served_well link disk (kind_number Broker) server.links a b status has calm obeys.0 (obeys.1 has.bytes has.told)
-    by_command (commands.BrokerOperate operation) has obeys calm = operated_well link disk (kind_number Broker) (broker_view operation) a b status has calm obeys.0 (obeys.1 has.bytes has.told)
+    by_command (commands.BrokerOperate operation) has obeys calm = operated_well link disk (kind_number Broker) (brokers.operation_view operation) a b status has calm obeys.0 (obeys.1 has.bytes has.told)

@@ -20,7 +20,7 @@ use Rattle.book_commands.specs.Init.{FoundsBook, InitCauses}
 use Rattle.book_commands.specs.Operator.{OperatesBook, OperateCauses}
 use Rattle.operator_command.specs.Operations.{OperationView}
 use Rattle.vendor_commands.specs.Operations.{operation_view}
-use Rattle.broker_commands.specs.Operations.{broker_view}
+use Rattle.broker_commands.specs.Operations as brokers
 
 -- how a shop served its one link, or why it took none
 abbrev pub ServesOnce : Shop → LinkView → Status → LinkView → Type 0
@@ -61,7 +61,7 @@ Obeys link disk (commands.Play playing) a status b = (b ≡ a) × TellsPlay play
 Obeys link disk (commands.Operate operation) a status b = Operates link disk Vendor (operation_view operation) a status b
 Obeys link disk (commands.BrokerInit founder) a status b = Founds link disk Broker founder a status b
 Obeys link disk (commands.BrokerServe server) a status b = Serves link disk Broker server.links a status b
-Obeys link disk (commands.BrokerOperate operation) a status b = Operates link disk Broker (broker_view operation) a status b
+Obeys link disk (commands.BrokerOperate operation) a status b = Operates link disk Broker (brokers.operation_view operation) a status b
 
 -- the number that is answered where the line was said; where it was not, a number other than 0 stays, and 6 takes the
 -- place of 0, so that nothing is told to be done whose line is lost

@@ -9,7 +9,7 @@ ghost use Rattle.mc_top.specs.Programs.{Obeys, Ends, Refuses, Unread, RunsAs, Ha
 ghost use Rattle.book_commands.specs.Statuses.{number_of};
 
 use book_commands::{Status, found_book, operate_book, serve_book};
-use broker_commands::BrokerCommand;
+use broker_commands::DeskOperation;
 use broker_core::Desk;
 use house_serving::BenchEnd;
 use mc_base::NoMemory;
@@ -121,7 +121,7 @@ fn obey<O: Outside>(alloc: Global, command: &Command<'_>, mut out: O) -> (O, Sta
         }
         Command::BrokerServe(server) => serve_book(alloc, server.links(), Desk::new(alloc), out),
         Command::BrokerOperate(operation) => {
-            let command = BrokerCommand::of(operation);
+            let command = DeskOperation::of(operation);
             operate_book(alloc, &command, Desk::new(alloc), out)
         }
     }
