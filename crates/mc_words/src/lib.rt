@@ -50,4 +50,5 @@ pub use stock::Stocking;
 pub use table::{CommandName, read_command};
 pub use taking::Taking;
 pub use usage_lines::usage;
+pub use value::{MOST_NUMBER, number_from};
 pub use wrong::{WrongWord, wrong_word};

@@ -1,6 +1,6 @@
 //! Whether an argument has a word that spells a value, or none yet.
 
-ghost use Rattle.std.specs.Prelude.{◌≡◌, ◌≤◌, ◌^◌, length, decimal, IsTrue, ◌↔◌};
+ghost use Rattle.std.specs.Prelude.{◌≡◌, ◌≤◌, length, decimal, IsTrue, ◌↔◌};
 ghost use Rattle.hex.specs.Hex.{encode_lower};
 ghost use Rattle.scrip_form.specs.Texts.{IsName, IsTarget};
 ghost use Rattle.scrip_form.specs.Scrip.{IsCert};

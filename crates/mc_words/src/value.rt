@@ -1,4 +1,4 @@
-ghost use Rattle.std.specs.Prelude.{◌≡◌, ◌≤◌, ◌^◌, ℕ, List, Option, Some, length, IfSome, IsNone, option_map, decimal};
+ghost use Rattle.std.specs.Prelude.{◌≡◌, ◌≤◌, ℕ, List, Option, Some, length, IfSome, IsNone, option_map, decimal};
 ghost use Rattle.hex.specs.Hex.{encode_lower};
 ghost use Rattle.mc_fields.specs.Texts.{IsNumber};
 ghost use Rattle.scrip_form.specs.Texts.{IsName, IsTarget};
@@ -14,7 +14,7 @@ use mc_records::MOST_CONTENTS;
 use scrip_form::{Name, Secrets, Target};
 
 /// The greatest number that a word may spell.
-pub(crate) const MOST_NUMBER: u64 = 1 << 60;
+pub const MOST_NUMBER: u64 = 1 << 60;
 
 /// The most bytes of a word that names a book or a place to listen at.
 const MOST_PLACE: usize = 255;
@@ -149,7 +149,7 @@ pub(crate) fn option_within(
 
 /// The number from `least` to `most` that the bytes spell whole, in decimal and without a leading zero;
 /// None exactly where they spell none.
-fn number_from(least: u64, most: u64, bytes: &[u8]) -> Option<u64>
+pub fn number_from(least: u64, most: u64, bytes: &[u8]) -> Option<u64>
     requires { most ≤ MOST_NUMBER }
     ensures some { IfSome result (λ n. IsWithin least most n × (bytes.now ≡ decimal n)) }
     ensures none { IsNone result → (n : ℕ) → IsWithin least most n → bytes.now ≡ decimal n → ⊥ }
