@@ -4,7 +4,7 @@ use Rattle.std.proofs.Common.{◌≡◌, ◌∙◌, ◌≤◌, ◌⊎◌, inl, i
 use Rattle.mc_outside.specs.Bytes.{Rose}
 use Rattle.mc_outside.specs.DiskView.{DiskView}
 use Rattle.mc_outside.specs.LinkView.{LinkView}
-use Rattle.house_core.specs.declared.offer.SiteKind.TheVariants.{Vendor}
+use Rattle.house_core.specs.declared.offer.SiteKind.TheVariants.{Vendor, Broker}
 use Rattle.house_core.specs.Views.{kind_number}
 use Rattle.mc_words.specs.declared.command.Command.{Command}
 use Rattle.mc_words.specs.declared.command.Command.TheVariants as commands
@@ -14,6 +14,7 @@ use Rattle.mc_words.specs.Words.{Shop}
 use Rattle.mc_top.specs.Saying.{Says}
 use Rattle.book_commands.specs.Statuses.{number_of, line_of}
 use Rattle.vendor_commands.specs.Operations.{operation_view}
+use Rattle.broker_commands.specs.Operations as brokers
 use Rattle.mc_top.specs.Programs.{ServesOnce, TellsPlay, Obeys, Ends, RunsAs, HasBook, EndsWell, answered}
 use Rattle.book_commands.proofs.EndLemmas.{Calm, served_grew, operated_grew, init_well, served_well, operated_well}
 
@@ -42,6 +43,9 @@ grew link disk (commands.Init founder) a b status has calm obeys = omega (arith,
 grew link disk (commands.Serve server) a b status has calm obeys = served_grew link disk (kind_number Vendor) server.links has.bytes a b status calm obeys.0 (obeys.1 has.bytes has.told)
 grew {O = O} link disk (commands.Play playing) a b status has calm obeys = omega (arith, ap (λ (o : O). (link o).faults) obeys.0)
 grew link disk (commands.Operate operation) a b status has calm obeys = operated_grew link disk (kind_number Vendor) (operation_view operation) has.bytes a b status calm obeys.0 (obeys.1 has.bytes has.told)
+grew link disk (commands.BrokerInit founder) a b status has calm obeys = omega (arith, obeys.0.1)
+grew link disk (commands.BrokerServe server) a b status has calm obeys = served_grew link disk (kind_number Broker) server.links has.bytes a b status calm obeys.0 (obeys.1 has.bytes has.told)
+grew link disk (commands.BrokerOperate operation) a b status has calm obeys = operated_grew link disk (kind_number Broker) (brokers.operation_view operation) has.bytes a b status calm obeys.0 (obeys.1 has.bytes has.told)
 
 -- ---- how it ends
 
@@ -80,6 +84,9 @@ without_memory (commands.Init founder) number is = inr (inl is)
 without_memory (commands.Serve server) number is = inr is
 without_memory (commands.Play playing) number is = inr is
 without_memory (commands.Operate operation) number is = inr (inl is)
+without_memory (commands.BrokerInit founder) number is = inr (inl is)
+without_memory (commands.BrokerServe server) number is = inr is
+without_memory (commands.BrokerOperate operation) number is = inr (inl is)
 
 -- want of memory stays want of memory where the line can't be said
 memory_stays : (whole : Bool) → answered whole 5 ≡ 5
@@ -105,3 +112,6 @@ ends_well {O = O} link disk command a c number has no_disk no_link (inr (b, stat
     by_command (commands.Serve server) has obeys calm = served_well link disk (kind_number Vendor) server.links a b status has calm obeys.0 (obeys.1 has.bytes has.told)
     by_command (commands.Play playing) has obeys calm = play_well playing.count status obeys.1
     by_command (commands.Operate operation) has obeys calm = operated_well link disk (kind_number Vendor) (operation_view operation) a b status has calm obeys.0 (obeys.1 has.bytes has.told)
+    by_command (commands.BrokerInit founder) has obeys calm = init_well link disk a b status calm obeys.0.0
+    by_command (commands.BrokerServe server) has obeys calm = served_well link disk (kind_number Broker) server.links a b status has calm obeys.0 (obeys.1 has.bytes has.told)
+    by_command (commands.BrokerOperate operation) has obeys calm = operated_well link disk (kind_number Broker) (brokers.operation_view operation) a b status has calm obeys.0 (obeys.1 has.bytes has.told)

@@ -2,14 +2,15 @@
 use Rattle.std.specs.Prelude.{◌≡◌, ◌⊎◌, ◌≤◌, ℕ, zero, suc, List, Bool, true, false, Some}
 use Rattle.mc_outside.specs.DiskView.{DiskView, LinkKeeps}
 use Rattle.mc_outside.specs.LinkView.{LinkView}
-use Rattle.house_core.specs.declared.offer.SiteKind.TheVariants.{Vendor}
+use Rattle.house_core.specs.declared.offer.SiteKind.{SiteKind}
+use Rattle.house_core.specs.declared.offer.SiteKind.TheVariants.{Vendor, Broker}
 use Rattle.house_core.specs.Views.{kind_number}
 use Rattle.millicent_http.specs.Courses.{NoLink}
 use Rattle.mc_words.specs.declared.command.Command.{Command}
 use Rattle.mc_words.specs.declared.command.Command.TheVariants as commands
 use Rattle.book_commands.specs.declared.status.Status.{Status}
 use Rattle.book_commands.specs.declared.status.Status.TheVariants as ends
-use Rattle.mc_words.specs.Words.{Shop}
+use Rattle.mc_words.specs.Words.{Shop, Founder}
 use Rattle.vendor_commands.specs.Course.{IsDone}
 use Rattle.vendor_commands.specs.Play.{ArePlayLines}
 use Rattle.mc_top.specs.Saying.{Says}
@@ -17,7 +18,9 @@ use Rattle.book_commands.specs.Statuses.{number_of, line_of}
 use Rattle.book_commands.specs.Serving.{HasSite, ServesBook, ServeCauses}
 use Rattle.book_commands.specs.Init.{FoundsBook, InitCauses}
 use Rattle.book_commands.specs.Operator.{OperatesBook, OperateCauses}
+use Rattle.operator_command.specs.Operations.{OperationView}
 use Rattle.vendor_commands.specs.Operations.{operation_view}
+use Rattle.broker_commands.specs.Operations as brokers
 
 -- how a shop served its one link, or why it took none
 abbrev pub ServesOnce : Shop → LinkView → Status → LinkView → Type 0
@@ -33,18 +36,32 @@ TellsPlay count (ends.Did lines) = ArePlayLines count lines
 TellsPlay count ends.NoMemory = Unit {0}
 TellsPlay count _ = ⊥
 
--- What a command does, up to the line that is said. What is said of a book holds where its disk tells its
--- bytes; the causes of faults hold of every outside.
+-- Up to the line that is said: what founding a site of a kind does, serving so many links by one, and having an
+-- operation done to one. What is said of a book holds where its disk tells its bytes; the causes of faults
+-- hold of every outside.
+abbrev pub Founds : {O : Type 0} → (O → LinkView) → (O → DiskView) → SiteKind → Founder → O → Status → O → Type 0
+Founds link disk kind founder a status b =
+    InitCauses link disk a status b × ((bytes : List ℕ) → (disk a).contents ≡ Some bytes → FoundsBook link disk (kind_number kind) founder bytes a status b)
+
+abbrev pub Serves : {O : Type 0} → (O → LinkView) → (O → DiskView) → SiteKind → ℕ → O → Status → O → Type 0
+Serves link disk kind links a status b =
+    ServeCauses link disk a status b × ((bytes : List ℕ) → (disk a).contents ≡ Some bytes → ServesBook link disk (kind_number kind) links bytes a status b)
+
+abbrev pub Operates : {O : Type 0} → (O → LinkView) → (O → DiskView) → SiteKind → OperationView → O → Status → O → Type 0
+Operates link disk kind operation a status b =
+    OperateCauses link disk operation a status b
+    × ((bytes : List ℕ) → (disk a).contents ≡ Some bytes → OperatesBook link disk (kind_number kind) operation bytes a status b)
+
+-- what a command does, up to the line that is said
 abbrev pub Obeys : {O : Type 0} → (O → LinkView) → (O → DiskView) → Command → O → Status → O → Type 0
 Obeys link disk (commands.Once shop) a status b = ServesOnce shop (link a) status (link b) × LinkKeeps (disk a) (disk b) × ((link a).faults ≤ (link b).faults)
-Obeys link disk (commands.Init founder) a status b =
-    InitCauses link disk a status b × ((bytes : List ℕ) → (disk a).contents ≡ Some bytes → FoundsBook link disk (kind_number Vendor) founder bytes a status b)
-Obeys link disk (commands.Serve server) a status b =
-    ServeCauses link disk a status b × ((bytes : List ℕ) → (disk a).contents ≡ Some bytes → ServesBook link disk (kind_number Vendor) server.links bytes a status b)
+Obeys link disk (commands.Init founder) a status b = Founds link disk Vendor founder a status b
+Obeys link disk (commands.Serve server) a status b = Serves link disk Vendor server.links a status b
 Obeys link disk (commands.Play playing) a status b = (b ≡ a) × TellsPlay playing.count status
-Obeys link disk (commands.Operate operation) a status b =
-    OperateCauses link disk (operation_view operation) a status b
-    × ((bytes : List ℕ) → (disk a).contents ≡ Some bytes → OperatesBook link disk (kind_number Vendor) (operation_view operation) bytes a status b)
+Obeys link disk (commands.Operate operation) a status b = Operates link disk Vendor (operation_view operation) a status b
+Obeys link disk (commands.BrokerInit founder) a status b = Founds link disk Broker founder a status b
+Obeys link disk (commands.BrokerServe server) a status b = Serves link disk Broker server.links a status b
+Obeys link disk (commands.BrokerOperate operation) a status b = Operates link disk Broker (brokers.operation_view operation) a status b
 
 -- the number that is answered where the line was said; where it was not, a number other than 0 stays, and 6 takes the
 -- place of 0, so that nothing is told to be done whose line is lost
@@ -72,19 +89,33 @@ RunsAs {O} link disk command a number c = Unread link disk a number c ⊎ ((b : 
 abbrev pub Refuses : {O : Type 0} → (O → LinkView) → (O → DiskView) → O → ℕ → O → Type 0
 Refuses link disk a number c = Ends link disk ends.BadWords a c number
 
--- The book that a command opens is there. `vendor once` and `vendor play` have none, and `vendor init` founds one on any disk.
+-- The book that a command opens is there, and of a site of its kind. `vendor once` and `vendor play` have none, and
+-- `vendor init` and `broker init` found one on any disk.
 abbrev pub HasBook : DiskView → Command → Type 0
 HasBook d (commands.Once shop) = Unit {0}
 HasBook d (commands.Init founder) = Unit {0}
 HasBook d (commands.Serve server) = HasSite (kind_number Vendor) d
 HasBook d (commands.Play playing) = Unit {0}
 HasBook d (commands.Operate operation) = HasSite (kind_number Vendor) d
+HasBook d (commands.BrokerInit founder) = Unit {0}
+HasBook d (commands.BrokerServe server) = HasSite (kind_number Broker) d
+HasBook d (commands.BrokerOperate operation) = HasSite (kind_number Broker) d
 
--- the statuses of a command that has its book, where no call failed: it is done, memory was refused, or a
--- refusal is told
+-- it is done, or memory was refused
+abbrev pub IsDoneOrShort : ℕ → Type 0
+IsDoneOrShort number = (number ≡ 0) ⊎ (number ≡ 5)
+
+-- it is done, memory was refused, or a refusal is told
+abbrev pub IsDoneOrRefused : ℕ → Type 0
+IsDoneOrRefused number = (number ≡ 0) ⊎ ((number ≡ 5) ⊎ (number ≡ 7))
+
+-- the statuses of a command that has its book, where no call failed
 abbrev pub EndsWell : Command → ℕ → Type 0
-EndsWell (commands.Once shop) number = (number ≡ 0) ⊎ (number ≡ 5)
-EndsWell (commands.Init founder) number = (number ≡ 0) ⊎ ((number ≡ 5) ⊎ (number ≡ 7))
-EndsWell (commands.Serve server) number = (number ≡ 0) ⊎ (number ≡ 5)
-EndsWell (commands.Play playing) number = (number ≡ 0) ⊎ (number ≡ 5)
-EndsWell (commands.Operate operation) number = (number ≡ 0) ⊎ ((number ≡ 5) ⊎ (number ≡ 7))
+EndsWell (commands.Once shop) number = IsDoneOrShort number
+EndsWell (commands.Init founder) number = IsDoneOrRefused number
+EndsWell (commands.Serve server) number = IsDoneOrShort number
+EndsWell (commands.Play playing) number = IsDoneOrShort number
+EndsWell (commands.Operate operation) number = IsDoneOrRefused number
+EndsWell (commands.BrokerInit founder) number = IsDoneOrRefused number
+EndsWell (commands.BrokerServe server) number = IsDoneOrShort number
+EndsWell (commands.BrokerOperate operation) number = IsDoneOrRefused number

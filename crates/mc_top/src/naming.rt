@@ -1,9 +1,9 @@
 ghost use Rattle.std.specs.Prelude.{◌≡◌, map, string_bytes, IfOk};
-ghost use Rattle.mc_top.specs.Places.{ArePlaces};
+ghost use Rattle.mc_top.specs.Places.{ArePlaces, founded_places, operated_places, served_places};
 
 use crate::named::Places;
 use mc_base::{List, NoMemory};
-use mc_words::{Command, command_of};
+use mc_words::{Command, Server, command_of};
 use std::alloc::Global;
 
 /// Tells what the words, those after the program's name, name: None, or no books, where they are of no
@@ -11,37 +11,59 @@ use std::alloc::Global;
 pub fn places(alloc: Global, words: &[String]) -> Result<Places, NoMemory>
     ensures { IfOk result (ArePlaces (map string_bytes words.now)) }
 {
-    let books = List::of(Vec::new(alloc));
     match command_of(alloc, words)? {
-        Some(Command::Init(founder)) => Ok(Places {
-            site: Some(list_of(alloc, founder.book())?),
-            founds: true,
-            books,
-            listen: None,
-            connect: None,
-        }),
-        Some(Command::Serve(server)) => Ok(Places {
-            site: Some(list_of(alloc, server.book())?),
-            founds: false,
-            books,
-            listen: Some(list_of(alloc, server.listen())?),
-            connect: None,
-        }),
-        Some(Command::Operate(operation)) => Ok(Places {
-            site: Some(list_of(alloc, operation.book())?),
-            founds: false,
-            books,
-            listen: None,
-            connect: None,
-        }),
+        Some(Command::Init(founder)) => founded(alloc, founder.founder().book()),
+        Some(Command::BrokerInit(founder)) => founded(alloc, founder.founder().book()),
+        Some(Command::Serve(server)) | Some(Command::BrokerServe(server)) => served(alloc, &server),
+        Some(Command::Operate(operation)) => operated(alloc, operation.book()),
+        Some(Command::BrokerOperate(operation)) => operated(alloc, operation.book()),
         Some(Command::Once(_)) | Some(Command::Play(_)) | None => Ok(Places {
             site: None,
             founds: false,
-            books,
+            books: List::of(Vec::new(alloc)),
             listen: None,
             connect: None,
         }),
     }
+}
+
+/// The places of a command that founds this book.
+fn founded(alloc: Global, book: &[u8]) -> Result<Places, NoMemory>
+    ensures { IfOk result (λ places. places ≡ founded_places book.now) }
+{
+    Ok(Places {
+        site: Some(list_of(alloc, book)?),
+        founds: true,
+        books: List::of(Vec::new(alloc)),
+        listen: None,
+        connect: None,
+    })
+}
+
+/// The places of a command that serves a site.
+fn served(alloc: Global, server: &Server<'_>) -> Result<Places, NoMemory>
+    ensures { IfOk result (λ places. places ≡ served_places server.now) }
+{
+    Ok(Places {
+        site: Some(list_of(alloc, server.book())?),
+        founds: false,
+        books: List::of(Vec::new(alloc)),
+        listen: Some(list_of(alloc, server.listen())?),
+        connect: None,
+    })
+}
+
+/// The places of an operation for this book.
+fn operated(alloc: Global, book: &[u8]) -> Result<Places, NoMemory>
+    ensures { IfOk result (λ places. places ≡ operated_places book.now) }
+{
+    Ok(Places {
+        site: Some(list_of(alloc, book)?),
+        founds: false,
+        books: List::of(Vec::new(alloc)),
+        listen: None,
+        connect: None,
+    })
 }
 
 /// The bytes as a list of their own.

@@ -9,6 +9,8 @@ ghost use Rattle.mc_top.specs.Programs.{Obeys, Ends, Refuses, Unread, RunsAs, Ha
 ghost use Rattle.book_commands.specs.Statuses.{number_of};
 
 use book_commands::{Status, found_book, operate_book, serve_book};
+use broker_commands::DeskOperation;
+use broker_core::Desk;
 use house_serving::BenchEnd;
 use mc_base::NoMemory;
 use mc_outside::{Disk, Link, Outside};
@@ -34,15 +36,18 @@ pub struct Ran<O, D> {
 /// book on the outside's disk. `vendor serve BOOK LISTEN LINKS` serves so many links by the house of that
 /// book, or all that come. `vendor goods`, `vendor price`, `vendor licence` and `vendor mint` enter into that
 /// book what its operator says, at the reading of the clock; the contents of goods come on one link.
+/// `broker init` founds a broker, with its FEE behind CUSTOMER, and `broker serve` serves its links. `broker account`,
+/// `broker deposit`, `broker withdraw`, `broker licence` and `broker stock` enter into its book what its operator says;
+/// a licence and the pieces of stock come on one link. `broker balance` enters nothing.
 ///
 /// 0: it is done. 2: the words are of no command, or there are books; nothing was touched but what is said.
 /// Of words of no command that is so up to want of memory, since `clap` reads the words.
 /// 3: the book that is opened is no journal, or has bytes that can't stand, or an entry that may not follow.
 /// 4: the disk failed. 5: memory was refused before anything was done, or to read the words; memory that is refused later, to
 /// accept a request, is a reply with refusal 90 (`503`), and the link goes on. 6: `next_link` failed, or
-/// receiving the contents of goods, or saying the line of what is done. 7: a refusal is told: that the book to
-/// be founded has bytes already (50), that the book that is opened is of a site of another kind (52), or what
-/// `set_goods`, `set_price`, `add_terms` or `mint` refuses. A line says how it ended; where it can't be said, 0
+/// receiving an operator's input, or saying the line of what is done. 7: a refusal is told: that the book to
+/// be founded has bytes already (50), that the book that is opened is of a site of another kind (52), or what an
+/// operator's call refuses. A line says how it ended; where it can't be said, 0
 /// becomes 6, and any other status stays. The outside and the books are handed back.
 pub fn run<O: Outside, D: Disk>(alloc: Global, words: &[String], out: O, books: Vec<D>) -> Ran<O, D>
     ensures books { result.books ≡ books }
@@ -98,7 +103,7 @@ fn obey<O: Outside>(alloc: Global, command: &Command<'_>, mut out: O) -> (O, Sta
             };
             (out, status)
         }
-        Command::Init(founder) => found_book(alloc, founder, Shelf::new(alloc), out),
+        Command::Init(founder) => { found_book(alloc, founder.founder(), Shelf::new(alloc), out) }
         Command::Serve(server) => serve_book(alloc, server.links(), Shelf::new(alloc), out),
         Command::Play(playing) => {
             let status = match answer_play(alloc, playing.count()) {
@@ -110,6 +115,14 @@ fn obey<O: Outside>(alloc: Global, command: &Command<'_>, mut out: O) -> (O, Sta
         Command::Operate(operation) => {
             let command = VendorOperation::of(operation);
             operate_book(alloc, &command, Shelf::new(alloc), out)
+        }
+        Command::BrokerInit(founder) => {
+            found_book(alloc, founder.founder(), Desk::new(alloc), out)
+        }
+        Command::BrokerServe(server) => serve_book(alloc, server.links(), Desk::new(alloc), out),
+        Command::BrokerOperate(operation) => {
+            let command = DeskOperation::of(operation);
+            operate_book(alloc, &command, Desk::new(alloc), out)
         }
     }
 }
