@@ -1,38 +1,27 @@
 -- What was answered is what is told of it.
-use Rattle.std.proofs.Common.{◌≡◌, ℕ, List, Some, None, sym, subst}
-use Rattle.std.proofs.Math.Option.{some-injective, some-ne-none}
-use Rattle.mc_outside.specs.DiskView.{DiskView}
+use Rattle.std.proofs.Common.{◌≡◌, ℕ, List, Bool, true, false, Option, Some, None, IfSome, is_some, option_map, refl, sym, ap, ap₂, subst, ◌∙◌}
+use Rattle.std.proofs.lemmas.Option.{none-some}
+use Rattle.mc_outside.specs.DiskView.{DiskView, IsDisk}
+use Rattle.mc_outside.proofs.Runs.{ran_none}
 use Rattle.mc_records.specs.declared.limits.Limits.{Limits}
+use Rattle.mc_records.specs.declared.refusal.Refusal.TheVariants.{NoAccount}
 use Rattle.ledger_model.specs.Histories.{History}
+use Rattle.ledger_model.specs.Accounts.{key_in, balance}
+use Rattle.account_ledger.specs.declared.account_ledger.Standing.{Standing}
+use Rattle.account_ledger.specs.Ledger.{standing_in}
+use Rattle.scrip_journal.specs.Exits.{EncodesNoOutput}
+use Rattle.scrip_journal.specs.Rests.{journal_leaves}
+use Rattle.house_core.specs.declared.house.House.{House}
 use Rattle.house_core.specs.declared.outcome.Outcome.{Outcome}
 use Rattle.house_core.specs.declared.outcome.Outcome.TheVariants as outcomes
+use Rattle.house_core.specs.House.{HouseRepresents}
 use Rattle.house_core.specs.Trade.{TradeView}
 use Rattle.house_core.specs.Tasks.{Task, Add, Stays, Refuse, Does, Performs}
 use Rattle.broker_commands.specs.Answers.{answer_in}
-
--- P of the answer, where it was done
-abbrev pub IfDone : {D T A : Type 0} → Outcome D T A → (A → Type 0) → Type 0
-IfDone (outcomes.Done x a) P = P a
-IfDone _ P = Unit {0}
-
-if_some : {A : Type 0} (P : A → Type 0) (a b : A) → Some a ≡ Some b → P b → P a
-if_some P a b e p = subst P (sym (some-injective a b e)) p
-
--- it holds where it holds of the answer that was found, or where none was
-pub done_with : {D T A : Type 0} (out : Outcome D T A) (P : A → Type 0) (b : A) → answer_in out ≡ Some b → P b → IfDone out P
-done_with (outcomes.Done x a) P b e p = if_some P a b e p
-done_with (outcomes.Refused x f) P b e p = tt
-done_with (outcomes.NoMemory x) P b e p = tt
-done_with (outcomes.Halted d) P b e p = tt
-
-pub not_done : {D T A : Type 0} (out : Outcome D T A) (P : A → Type 0) → answer_in out ≡ None → IfDone out P
-not_done (outcomes.Done x a) P e = absurd (some-ne-none a e)
-not_done (outcomes.Refused x f) P e = tt
-not_done (outcomes.NoMemory x) P e = tt
-not_done (outcomes.Halted d) P e = tt
+use Rattle.broker_commands.specs.Operations.{balance_words, with_number, balance_task}
 
 does_told : {D T A : Type 0} (disk : D → DiskView) (trade : T → TradeView) (Told : Task → History → A → Type 0) (L : A → Type 0) (limits : Limits) (d : D) (h : History) (task : Task) (out : Outcome D T A)
-    → IfDone out L → Does disk trade Told limits d h task out → Does disk trade (λ t g a. Told t g a × L a) limits d h task out
+    → IfSome (answer_in out) L → Does disk trade Told limits d h task out → Does disk trade (λ t g a. Told t g a × L a) limits d h task out
 does_told disk trade Told L limits d h (Add e) (outcomes.Done x a) is does = (does.0, (does.1, is))
 does_told disk trade Told L limits d h (Add e) (outcomes.Refused x f) is does = does
 does_told disk trade Told L limits d h (Add e) (outcomes.NoMemory x) is does = does
@@ -48,10 +37,48 @@ does_told disk trade Told L limits d h (Refuse g) (outcomes.Halted y) is does = 
 
 -- what holds of the answer is told with it
 pub performs_told : {D T A : Type 0} (disk : D → DiskView) (trade : T → TradeView) (Asks : Task → Type 0) (Told : Task → History → A → Type 0) (L : A → Type 0) (limits : Limits) (d : D) (h : History) (out : Outcome D T A)
-    → IfDone out L → Performs disk trade Asks Told limits d h out → Performs disk trade Asks (λ t g a. Told t g a × L a) limits d h out
+    → IfSome (answer_in out) L → Performs disk trade Asks Told limits d h out → Performs disk trade Asks (λ t g a. Told t g a × L a) limits d h out
 performs_told disk trade Asks Told L limits d h out is does = record {
   task = does.task;
   asks = does.asks;
   does = does_told disk trade Told L limits d h does.task out is does.does;
   ran = does.ran;
+}
+
+-- a line that ends by the balance that was answered
+pub balance_said : (g : History) (name account : List ℕ) (answer : ℕ) (bare line : List ℕ) → name ≡ account → bare ≡ balance_words account → answer ≡ balance g name → line ≡ with_number bare answer
+    → line ≡ with_number (balance_words account) (balance g account)
+balance_said g name account answer bare line same is_bare is_balance is_line =
+    is_line ∙ ap₂ (λ (words : List ℕ) (n : ℕ). with_number words n) is_bare (is_balance ∙ ap (balance g) same)
+
+-- whether there is an account, by what was found of it
+none_found : (o : Option (List ℕ)) (f : List ℕ → Standing) → option_map f o ≡ None → is_some o ≡ false
+none_found None f e = refl
+none_found (Some key) f e = absurd (none-some (f key) (sym e))
+
+some_found : (o : Option (List ℕ)) (f : List ℕ → Standing) (s : Standing) → option_map f o ≡ Some s → is_some o ≡ true
+some_found None f s e = absurd (none-some s e)
+some_found (Some key) f s e = refl
+
+pub no_account : (h : History) (name account : List ℕ) → name ≡ account → standing_in h name ≡ None → Refuse NoAccount ≡ balance_task h account
+no_account h name account same none = rw (← same, none_found (key_in h name) _ none) refl
+
+pub an_account : (h : History) (name account : List ℕ) (s : Standing) → name ≡ account → standing_in h name ≡ Some s → Stays ≡ balance_task h account
+an_account h name account s same some = rw (← same, some_found (key_in h name) _ s some) refl
+
+same_balance : (o : Option (List ℕ)) (f : List ℕ → Standing) (n : ℕ) (s : Standing) → ((key : List ℕ) → (f key).balance ≡ n) → option_map f o ≡ Some s → s.balance ≡ n
+same_balance None f n s all e = absurd (none-some s e)
+same_balance (Some key) f n s all e = subst (λ (o : Option Standing). IfSome o (λ x. x.balance ≡ n)) e (all key)
+
+pub balance_found : (h : History) (name : List ℕ) (s : Standing) → standing_in h name ≡ Some s → s.balance ≡ balance h name
+balance_found h name s some = same_balance (key_in h name) _ (balance h name) s (λ key. refl) some
+
+-- nothing is entered, and the line is said
+pub performs_stays : {D T : Type 0} (disk : D → DiskView) (trade : T → TradeView) (Wanted : Task → Type 0) (Told : Task → History → Unit {0} → Type 0) (limits : Limits) (x : House D T) (h : History)
+    → ((d : D) → IsDisk (disk d)) → HouseRepresents disk trade x h → Wanted Stays → Told Stays h tt → Performs disk trade Wanted Told limits x.journal.disk h (outcomes.Done x tt)
+performs_stays {D = D} disk trade Wanted Told limits x h is_disk st wanted told = record {
+  task = Stays;
+  asks = wanted;
+  does = (record { represents = st; disk' = refl }, told);
+  ran = ran_none (disk x.journal.disk) (EncodesNoOutput h (disk x.journal.disk).aside) (is_disk x.journal.disk) (λ c leaves. (journal_leaves disk x.journal h st.journal c leaves, refl));
 }

@@ -1,12 +1,13 @@
 -- What the operations of a broker's operator mean.
-use Rattle.std.specs.Prelude.{◌≡◌, ◌++◌, ℕ, List, [], length, Option, Some, None, Result, Ok, Err, is_some, if◌then◌else◌, codes, decimal}
+use Rattle.std.specs.Prelude.{◌≡◌, ◌++◌, ℕ, List, [], length, replicate, Option, Some, None, Result, Ok, Err, is_some, if◌then◌else◌, codes, decimal}
 use Rattle.scrip_form.specs.Issuing.{Issuing}
 use Rattle.mc_records.specs.declared.refusal.Refusal.TheVariants.{NoAccount, BadInput}
 use Rattle.ledger_model.specs.Histories.{History}
-use Rattle.ledger_model.specs.Accounts.{account_in, balance}
+use Rattle.ledger_model.specs.Accounts.{key_in, balance}
 use Rattle.house_core.specs.Tasks.{Task, Stays, Refuse, after}
 use Rattle.broker_core.specs.Tasks.{account_task, deposit_task, withdraw_task, licence_task, stock_task, stock_lines, pieces_in}
 use Rattle.licence_lines.specs.Licences.{IsTold}
+use Rattle.broker_commands.specs.declared.lines.TheConstants.{READY}
 use Rattle.broker_commands.specs.declared.operation.TheConstants.{MOST_LINES}
 use Rattle.mc_words.specs.declared.broker_operation.BrokerOperation.{BrokerOperation}
 use Rattle.mc_words.specs.declared.broker_operation.BrokerOperation.TheVariants as operations
@@ -27,6 +28,10 @@ stock_words vendor = codes "stock " ++ vendor ++ codes " "
 
 abbrev pub with_number : List ℕ → ℕ → List ℕ
 with_number words n = words ++ decimal n ++ codes "\n"
+
+-- words that a line begins with, and behind them bytes that hold the place of the rest
+abbrev pub ready : List ℕ → List ℕ
+ready words = words ++ replicate READY 0
 
 -- ---- what each means
 
@@ -59,7 +64,7 @@ withdraw_operation p = record {
 
 -- A balance is told and nothing is entered; 40 NoAccount where there is no account of the name.
 abbrev pub balance_task : History → List ℕ → Task
-balance_task h name = if is_some (account_in h name) then Stays else Refuse NoAccount
+balance_task h name = if is_some (key_in h name) then Stays else Refuse NoAccount
 
 abbrev pub balance_operation : Inquiry → OperationView
 balance_operation i = record {
@@ -110,8 +115,8 @@ operation_view (operations.Stock s) = stock_operation s
 -- its line as far as it is known before the book is touched
 abbrev pub begins : BrokerOperation → List ℕ → List ℕ → Type 0
 begins (operations.Account o) site line = line ≡ account_line o.account
-begins (operations.Deposit p) site line = line ≡ balance_words p.account
-begins (operations.Withdraw p) site line = line ≡ balance_words p.account
-begins (operations.Balance i) site line = line ≡ balance_words i.account
-begins (operations.Licence l) site line = line ≡ []
-begins (operations.Stock s) site line = line ≡ stock_words s.vendor
+begins (operations.Deposit p) site line = line ≡ ready (balance_words p.account)
+begins (operations.Withdraw p) site line = line ≡ ready (balance_words p.account)
+begins (operations.Balance i) site line = line ≡ ready (balance_words i.account)
+begins (operations.Licence l) site line = line ≡ ready []
+begins (operations.Stock s) site line = line ≡ ready (stock_words s.vendor)

@@ -15,3 +15,13 @@ pub(crate) fn answer_of<D, A: Copy>(outcome: &Outcome<D, Desk, A>) -> Option<A>
         _ => None,
     }
 }
+
+/// A count that was answered, as a number.
+pub(crate) fn counted(answer: Option<u16>) -> Option<u64>
+    ensures { result ≡ answer }
+{
+    match answer {
+        Some(count) => Some(u64::from(count)),
+        None => None,
+    }
+}

@@ -5,9 +5,9 @@ ghost use Rattle.ledger_model.specs.Histories.{History};
 ghost use Rattle.house_core.specs.House.{HandsBack, HouseRepresents, KeepsTime};
 ghost use Rattle.broker_core.specs.Desk.{desk_view};
 ghost use Rattle.operator_command.specs.Operations.{CarriesOut};
-ghost use Rattle.broker_commands.specs.Operations.{balance_words, balance_operation};
+ghost use Rattle.broker_commands.specs.Operations.{balance_words, ready, balance_operation};
 
-use crate::lines::{NUMBER_ROOM, end_line};
+use crate::lines::{end_line, lay_bare};
 use broker_core::Desk;
 use house_core::{House, Outcome};
 use mc_outside::Disk;
@@ -20,7 +20,7 @@ pub(crate) fn tell_balance<D: Disk>(
     house: House<D, Desk>,
     line: &mut Vec<u8>,
 ) -> Outcome<D, Desk, ()>
-    requires begun { line.old.items ≡ balance_words inquiry.now.account }
+    requires begun { line.old.items ≡ ready (balance_words inquiry.now.account) }
     ensures back { HandsBack D.disk D.disk_moved (KeepsTime house) house.journal.disk result }
     ensures exact { (h : History) (input : Items ℕ) → HouseRepresents D.disk desk_view house h
         → CarriesOut D.disk desk_view (balance_operation inquiry.now) house input line.new.items h result }
@@ -28,9 +28,7 @@ pub(crate) fn tell_balance<D: Disk>(
     let Some(standing) = house.trade().accounts().standing(inquiry.account()) else {
         return Outcome::Refused(house, Refusal::NoAccount);
     };
-    if line.reserve(NUMBER_ROOM).is_err() {
-        return Outcome::NoMemory(house);
-    }
+    lay_bare(line);
     end_line(line, standing.balance);
     Outcome::Done(house, ())
 }

@@ -5,9 +5,9 @@ ghost use Rattle.ledger_model.specs.Histories.{History};
 ghost use Rattle.house_core.specs.House.{HandsBack, HouseRepresents, KeepsTime};
 ghost use Rattle.broker_core.specs.Desk.{desk_view};
 ghost use Rattle.operator_command.specs.Operations.{CarriesOut};
-ghost use Rattle.broker_commands.specs.Operations.{licence_operation};
+ghost use Rattle.broker_commands.specs.Operations.{licence_operation, ready};
 
-use crate::lines::append_taken;
+use crate::lines::{lay_bare, put_taken};
 use broker_core::{Desk, add_licence};
 use house_core::{House, Outcome};
 use licence_lines::read_licence_line;
@@ -21,7 +21,7 @@ pub(crate) fn take_licence<D: Disk>(
     input: &[u8],
     line: &mut Vec<u8>,
 ) -> Outcome<D, Desk, ()>
-    requires empty { line.old.items ≡ [] }
+    requires begun { line.old.items ≡ ready [] }
     ensures back { HandsBack D.disk D.disk_moved (KeepsTime house) house.journal.disk result }
     ensures exact { (h : History) → HouseRepresents D.disk desk_view house h
         → CarriesOut D.disk desk_view licence_operation house input.now line.new.items h result }
@@ -30,8 +30,7 @@ pub(crate) fn take_licence<D: Disk>(
         Ok(licence) => licence,
         Err(place) => return Outcome::Refused(house, Refusal::BadInput(u64::from(place))),
     };
-    if append_taken(line, &vendor, terms.issuer()).is_err() {
-        return Outcome::NoMemory(house);
-    }
+    lay_bare(line);
+    put_taken(line, &vendor, terms.issuer());
     without_answer(add_licence(house, &vendor, &terms))
 }

@@ -69,11 +69,16 @@ impl<'a> OperatorCommand<Desk> for DeskOperation<'a> {
     fn begin(&self, alloc: Global, _site: &Name) -> Result<Vec<u8>, NoMemory> {
         match self.said {
             BrokerOperation::Account(opening) => lines::account_line(alloc, opening.account()),
-            BrokerOperation::Deposit(payment) => lines::balance_words(alloc, payment.account()),
-            BrokerOperation::Withdraw(payment) => lines::balance_words(alloc, payment.account()),
-            BrokerOperation::Balance(inquiry) => lines::balance_words(alloc, inquiry.account()),
-            BrokerOperation::Licence(_) => Ok(Vec::new(alloc)),
-            BrokerOperation::Stock(stocking) => lines::stock_words(alloc, stocking.vendor()),
+            BrokerOperation::Deposit(payment) | BrokerOperation::Withdraw(payment) => {
+                lines::ready(lines::balance_words(alloc, payment.account())?)
+            }
+            BrokerOperation::Balance(inquiry) => {
+                lines::ready(lines::balance_words(alloc, inquiry.account())?)
+            }
+            BrokerOperation::Licence(_) => lines::ready(Vec::new(alloc)),
+            BrokerOperation::Stock(stocking) => {
+                lines::ready(lines::stock_words(alloc, stocking.vendor())?)
+            }
         }
     }
 

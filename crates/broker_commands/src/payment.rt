@@ -5,10 +5,10 @@ ghost use Rattle.ledger_model.specs.Histories.{History};
 ghost use Rattle.house_core.specs.House.{HandsBack, HouseRepresents, KeepsTime};
 ghost use Rattle.broker_core.specs.Desk.{desk_view};
 ghost use Rattle.operator_command.specs.Operations.{CarriesOut};
-ghost use Rattle.broker_commands.specs.Operations.{balance_words, deposit_operation, withdraw_operation};
+ghost use Rattle.broker_commands.specs.Operations.{balance_words, ready, deposit_operation, withdraw_operation};
 
 use crate::answer::answer_of;
-use crate::lines::{NUMBER_ROOM, end_line};
+use crate::lines::{end_by, lay_bare};
 use broker_core::{Desk, deposit, withdraw};
 use house_core::{House, Outcome};
 use mc_outside::Disk;
@@ -21,18 +21,19 @@ pub(crate) fn pay_in<D: Disk>(
     house: House<D, Desk>,
     line: &mut Vec<u8>,
 ) -> Outcome<D, Desk, ()>
-    requires begun { line.old.items ≡ balance_words payment.now.account }
+    requires begun { line.old.items ≡ ready (balance_words payment.now.account) }
     ensures back { HandsBack D.disk D.disk_moved (KeepsTime house) house.journal.disk result }
     ensures exact { (h : History) (input : Items ℕ) → HouseRepresents D.disk desk_view house h
         → CarriesOut D.disk desk_view (deposit_operation payment.now) house input line.new.items h result }
 {
-    if line.reserve(NUMBER_ROOM).is_err() {
-        return Outcome::NoMemory(house);
-    }
-    let paid = deposit(house, payment.account(), payment.amount(), payment.reference());
-    if let Some(balance) = answer_of(&paid) {
-        end_line(line, balance);
-    }
+    lay_bare(line);
+    let paid = deposit(
+        house,
+        payment.account(),
+        payment.amount(),
+        payment.reference(),
+    );
+    end_by(line, answer_of(&paid));
     without_answer(paid)
 }
 
@@ -42,17 +43,18 @@ pub(crate) fn pay_out<D: Disk>(
     house: House<D, Desk>,
     line: &mut Vec<u8>,
 ) -> Outcome<D, Desk, ()>
-    requires begun { line.old.items ≡ balance_words payment.now.account }
+    requires begun { line.old.items ≡ ready (balance_words payment.now.account) }
     ensures back { HandsBack D.disk D.disk_moved (KeepsTime house) house.journal.disk result }
     ensures exact { (h : History) (input : Items ℕ) → HouseRepresents D.disk desk_view house h
         → CarriesOut D.disk desk_view (withdraw_operation payment.now) house input line.new.items h result }
 {
-    if line.reserve(NUMBER_ROOM).is_err() {
-        return Outcome::NoMemory(house);
-    }
-    let paid = withdraw(house, payment.account(), payment.amount(), payment.reference());
-    if let Some(balance) = answer_of(&paid) {
-        end_line(line, balance);
-    }
+    lay_bare(line);
+    let paid = withdraw(
+        house,
+        payment.account(),
+        payment.amount(),
+        payment.reference(),
+    );
+    end_by(line, answer_of(&paid));
     without_answer(paid)
 }

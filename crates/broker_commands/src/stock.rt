@@ -5,10 +5,10 @@ ghost use Rattle.ledger_model.specs.Histories.{History};
 ghost use Rattle.house_core.specs.House.{HandsBack, HouseRepresents, KeepsTime};
 ghost use Rattle.broker_core.specs.Desk.{desk_view};
 ghost use Rattle.operator_command.specs.Operations.{CarriesOut};
-ghost use Rattle.broker_commands.specs.Operations.{stock_words, stock_operation};
+ghost use Rattle.broker_commands.specs.Operations.{ready, stock_words, stock_operation};
 
-use crate::answer::answer_of;
-use crate::lines::{NUMBER_ROOM, end_line};
+use crate::answer::{answer_of, counted};
+use crate::lines::{end_by, lay_bare};
 use broker_core::{Desk, add_stock};
 use house_core::{House, Outcome};
 use mc_outside::Disk;
@@ -22,17 +22,13 @@ pub(crate) fn take_stock<D: Disk>(
     input: &[u8],
     line: &mut Vec<u8>,
 ) -> Outcome<D, Desk, ()>
-    requires begun { line.old.items ≡ stock_words stocking.now.vendor }
+    requires begun { line.old.items ≡ ready (stock_words stocking.now.vendor) }
     ensures back { HandsBack D.disk D.disk_moved (KeepsTime house) house.journal.disk result }
     ensures exact { (h : History) → HouseRepresents D.disk desk_view house h
         → CarriesOut D.disk desk_view (stock_operation stocking.now) house input.now line.new.items h result }
 {
-    if line.reserve(NUMBER_ROOM).is_err() {
-        return Outcome::NoMemory(house);
-    }
+    lay_bare(line);
     let taken = add_stock(house, stocking.vendor(), input);
-    if let Some(count) = answer_of(&taken) {
-        end_line(line, u64::from(count));
-    }
+    end_by(line, counted(answer_of(&taken)));
     without_answer(taken)
 }
