@@ -2,3 +2,4 @@ mod DeskLaws
 mod OperatorLemmas
 mod SaleLaws
 mod StockLemmas
+mod Rows

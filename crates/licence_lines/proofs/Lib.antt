@@ -1,2 +1,3 @@
 mod CutLaws
 mod FieldLaws
+mod OneLicence

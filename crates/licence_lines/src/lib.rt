@@ -6,6 +6,8 @@
 #![tactic(auto)]
 
 mod fields;
+mod law;
 mod licence;
 
+pub use law::inputs_are_of_one_licence;
 pub use licence::read_licence_line;

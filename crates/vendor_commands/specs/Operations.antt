@@ -1,6 +1,5 @@
 -- What the operations of a vendor's operator mean.
 use Rattle.std.specs.Prelude.{◌≡◌, ◌⊎◌, ℕ, ◌+◌, ◌<◌, ◌≤◌, List, [], ◌++◌, length, Some, None, unwrap_or, codes, decimal}
-use Rattle.scrip_form.specs.Issuing.{Issuing}
 use Rattle.mc_records.specs.declared.ranges.TheConstants.{MOST_CONTENTS}
 use Rattle.mc_records.specs.declared.refusal.Refusal.TheVariants.{ContentsFull}
 use Rattle.ledger_model.specs.Houses.{site_name}
@@ -8,7 +7,7 @@ use Rattle.house_core.specs.Tasks.{Refuse, after}
 use Rattle.vendor_core.specs.Tasks.{goods_task, price_task, terms_task, IsMintTask, IsMintAt, mint_lines}
 use Rattle.mc_words.specs.declared.operation.Operation.{Operation}
 use Rattle.mc_words.specs.declared.operation.Operation.TheVariants as operations
-use Rattle.mc_words.specs.Ranges.{joined}
+use Rattle.licence_lines.specs.Licences.{licence_line}
 use Rattle.mc_words.specs.Words.{Listing, Pricing, Licensing, Minting, licensed_terms}
 use Rattle.operator_command.specs.Operations.{full, OperationView}
 
@@ -16,13 +15,6 @@ use Rattle.operator_command.specs.Operations.{full, OperationView}
 
 abbrev pub goods_line : List ℕ → ℕ → List ℕ
 goods_line target price = codes "goods " ++ target ++ codes " " ++ decimal price ++ codes "\n"
-
--- The line of a licence: the vendor, the issuer, the period and the life of its series, its secrets of scrip
--- and of customers, as words are spelled.
-abbrev pub licence_line : List ℕ → Issuing → List ℕ
-licence_line vendor t =
-    codes "licence " ++ vendor ++ codes " " ++ decimal t.issuer ++ codes " " ++ decimal t.period ++ codes " " ++ decimal t.life
-    ++ codes " " ++ joined t.scrip ++ codes " " ++ joined t.customer ++ codes "\n"
 
 -- ---- what each means
 

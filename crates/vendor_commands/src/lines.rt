@@ -2,7 +2,8 @@
 
 ghost use Rattle.std.specs.Prelude.{◌≡◌, ◌++◌, OnOk, IfOk, codes, decimal};
 ghost use Rattle.mc_words.specs.Ranges.{joined};
-ghost use Rattle.vendor_commands.specs.Operations.{goods_line, licence_line};
+ghost use Rattle.licence_lines.specs.Licences.{licence_line};
+ghost use Rattle.vendor_commands.specs.Operations.{goods_line};
 ghost use Rattle.vendor_commands.specs.Play.{play_line, play_lines};
 
 use house_core::Tally;

@@ -1,5 +1,5 @@
 -- What there is to do by a command of a vendor's operator, and what a mint answers.
-use Rattle.std.specs.Prelude.{◌≡◌, ℕ, ◌+◌, ◌<◌, ◌≤◌, ◌⊎◌, nat_lt, IsFalse, Bool, if◌then◌else◌, List, [], ◌∷◌, ◌++◌, take, Option, Some, None, slice_get, option_map, unwrap_or}
+use Rattle.std.specs.Prelude.{◌≡◌, ℕ, ◌+◌, ◌<◌, ◌≤◌, ◌⊎◌, nat_lt, IsFalse, if◌then◌else◌, List, [], ◌∷◌, ◌++◌, take, Option, Some, None, slice_get, option_map, unwrap_or}
 use Rattle.scrip_form.specs.Issuing.{Issuing}
 use Rattle.issuer_terms.specs.Terms.{are_same_terms}
 use Rattle.mc_records.specs.declared.limits.Limits.{Limits}

@@ -1,7 +1,7 @@
-use Rattle.std.proofs.Common.{◌≡◌, ℕ, ◌≤◌, ◌∙◌, ap, refl, arith}
+use Rattle.std.proofs.Common.{ℕ, ◌≤◌, ◌∙◌, ap, refl, arith}
 use Rattle.mc_records.specs.Entry.{Licence}
 use Rattle.ledger_model.specs.Histories.{time}
-use Rattle.house_core.specs.Bench.{house_time, limits_of}
+use Rattle.house_core.specs.Bench.{limits_of}
 use Rattle.broker_core.specs.Tasks as tasks
 use Rattle.broker_core.proofs.OperatorLemmas.{added_command, licence_may}
 use Rattle.broker_core.proofs.operator.add_licence.Goals as goal

@@ -1,4 +1,4 @@
-use Rattle.std.proofs.Common.{◌≡◌, ℕ, ◌≤◌, ◌∙◌, length, sym, ap, ap₂, subst, arith, List, Option, Result, Ok}
+use Rattle.std.proofs.Common.{◌≡◌, ℕ, ◌≤◌, ◌∙◌, length, sym, ap, arith, List, Result, Ok}
 use Rattle.mc_records.specs.Entry.{Entry, Held, Stock}
 use Rattle.mc_records.specs.PieceViews.{pieces_of}
 use Rattle.ledger_model.specs.Histories.{time}

@@ -1,4 +1,4 @@
-use Rattle.std.proofs.Common.{◌∙◌, sym}
+use Rattle.std.proofs.Common.{◌∙◌}
 use Rattle.broker_core.proofs.operator.licence_of.Goals as goal
 
 pub returns-in-Some : goal.returns-in-Some

@@ -1,6 +1,4 @@
-use Rattle.std.proofs.Common.{◌≡◌, ◌∙◌, ap, sym}
-use Rattle.mc_records.specs.Entry.{Entry, Licence}
-use Rattle.house_core.specs.Tasks.{Add}
+use Rattle.std.proofs.Common.{◌∙◌, sym}
 use Rattle.broker_core.proofs.OperatorLemmas.{same_licensed, other_licensed, new_licensed}
 use Rattle.broker_core.proofs.operator.licence_task.Goals as goal
 

@@ -1,4 +1,4 @@
-use Rattle.std.proofs.Common.{◌≡◌, ℕ, Option}
+use Rattle.std.proofs.Common.{◌≡◌}
 use Rattle.account_ledger.specs.Tasks.{task_of}
 use Rattle.house_core.specs.Bench.{limits_of}
 use Rattle.house_core.specs.declared.outcome.Outcome.TheVariants.{Done, Refused, NoMemory, Halted}

@@ -1,4 +1,4 @@
-use Rattle.std.proofs.Common.{◌≡◌, ℕ, Some, Ok, Err, refl}
+use Rattle.std.proofs.Common.{◌≡◌, Some, refl}
 use Rattle.mc_records.specs.Views.{entry}
 use Rattle.account_ledger.specs.Tasks.{task_of}
 use Rattle.house_core.specs.Bench.{limits_of}

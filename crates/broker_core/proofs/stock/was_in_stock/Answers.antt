@@ -1,4 +1,4 @@
-use Rattle.std.proofs.Common.{◌≡◌, ap, sym, ◌∙◌, Option, Bool}
+use Rattle.std.proofs.Common.{ap, sym, ◌∙◌, Option}
 use Rattle.std.specs.Borrow.{Bor}
 use Rattle.vendor_stalls.specs.Stalls.{StallView, was_stocked}
 use Rattle.vendor_stalls.specs.Vendors.{found_stall}

@@ -1,12 +1,9 @@
-use Rattle.std.proofs.Common.{◌≡◌, ◌+◌, ◌-◌, ◌<◌, ◌≤◌, List, ◌∷◌, [], ◌++◌, Option, Some, None, Ok, Err, arith, length, take, set, filter_map, refl, sym, ap, ap₂, ◌∙◌, suc, ℕ}
+use Rattle.std.proofs.Common.{◌≡◌, ◌+◌, ◌-◌, ◌<◌, ◌∷◌, [], ◌++◌, arith, length, take, refl, sym, ap, ◌∙◌, suc, ℕ}
 use Rattle.std.proofs.lemmas.Bool.{eqb-true, eqb-false}
-use Rattle.std.proofs.lemmas.List.{length-append, take_more_set}
-use Rattle.std.proofs.lemmas.List.Elements.{filter_map-append}
-use Rattle.mc_records.specs.Entry.{Held}
+use Rattle.std.proofs.lemmas.List.{length-append}
 use Rattle.mc_records.specs.Views.{held_of}
 use Rattle.mc_records.specs.declared.ranges.TheConstants.{MOST_PIECES}
 use Rattle.piece_lines.specs.Rules.{passes}
-use Rattle.piece_lines.specs.Answers.{text_id}
 use Rattle.piece_lines.specs.PieceLines.{lines_from}
 use Rattle.piece_lines.proofs.LoopLaws.{breaks, none_before, all_read, too_many, line_breaks, line_read}
 use Rattle.piece_lines.proofs.IdLaws.{one_more_id, line_has_id}

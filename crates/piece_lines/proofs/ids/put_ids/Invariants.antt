@@ -1,4 +1,4 @@
-use Rattle.std.proofs.Common.{◌≡◌, ◌≤◌, ◌+◌, ◌-◌, length, take, List, filter_map}
+use Rattle.std.proofs.Common.{◌≡◌, ◌+◌, ◌-◌, length, take, List, filter_map}
 use Rattle.mc_records.specs.Entry.{Held}
 use Rattle.mc_records.specs.declared.ranges.TheConstants.{MOST_PIECES}
 use Rattle.piece_lines.specs.Rules.{passes}
