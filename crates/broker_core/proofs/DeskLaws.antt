@@ -1,5 +1,5 @@
 -- What a desk represents at one more entry, and what it answers.
-use Rattle.std.proofs.Common.{◌≡◌, ℕ, ◌<◌, true, false, ◌||◌, List, [], ◌∷◌, ◌++◌, Option, Some, None, Err, option_map, unwrap_or, refl, sym, ap, ◌∙◌, arith}
+use Rattle.std.proofs.Common.{◌≡◌, ℕ, ◌<◌, false, ◌||◌, List, [], ◌∷◌, ◌++◌, Option, Some, None, Err, option_map, unwrap_or, refl, sym, ap, ◌∙◌, arith}
 use Rattle.std.specs.Borrow.{Bor}
 use Rattle.std.specs.Prelude.{is_some, ◌==◌, ◌↔◌}
 use Rattle.std.proofs.lemmas.Option.{same_Some}
@@ -17,29 +17,25 @@ use Rattle.mc_records.proofs.ErrandLaws.{errand_told}
 use Rattle.mc_records.specs.Entry.{Deed, Entry, Site, AddTerms, Goods, Accept, Mint, Account, Deposit, Withdraw, Draw, Licence, Stock, Got, Pend, Done, Refused}
 use Rattle.ledger_model.specs.declared.numbers.TheConstants.{BROKER_KIND}
 use Rattle.ledger_model.specs.Histories.{History}
-use Rattle.ledger_model.specs.Houses.{site_kind, is_vendor, is_broker, fee}
+use Rattle.ledger_model.specs.Houses.{site_kind, is_vendor, fee}
 use Rattle.ledger_model.specs.Orders.{Order, as_order, order_of}
 use Rattle.ledger_model.specs.Stock.{stock_ids}
 use Rattle.ledger_model.specs.Lines.{Refuse}
 use Rattle.ledger_model.specs.Answer.{errand_offer, broker_offer, offer}
 use Rattle.ledger_model.specs.Lawful.{MayFollow}
 use Rattle.ledger_model.specs.Replies.{errand_price, sale_price, price_asked}
-use Rattle.account_ledger.specs.Ledger.{AccountsAnswer, PaymentFits}
+use Rattle.account_ledger.specs.Ledger.{AccountsAnswer}
 use Rattle.vendor_stalls.specs.declared.target.Purchase.{Purchase}
 use Rattle.vendor_stalls.specs.Stalls.{StallView, has_id, empty_stall}
 use Rattle.vendor_stalls.specs.Shown.{Shows}
-use Rattle.vendor_stalls.specs.Vendors.{found_stall, asked_to_buy, StallFits, StallsAllow, StallsAnswer}
-use Rattle.house_core.specs.Learning.{ByHouse, ByTrade, MayLearn, CommandFits}
+use Rattle.vendor_stalls.specs.Vendors.{found_stall, asked_to_buy, StallsAllow, StallsAnswer}
+use Rattle.house_core.specs.Learning.{ByHouse, ByTrade, MayLearn}
 use Rattle.broker_core.specs.Desk.{IsOfBroker, DeskAllows, HasNothingOf, account_credited, credit_offer, fee_by}
-use Rattle.house_core.specs.Trade.{asked_of_account, draw_asked}
 
 -- ---- a broker
 
 vendor_by : (h : History) → site_kind h ≡ Some BROKER_KIND → is_vendor h ≡ false
 vendor_by h is = ap (λ (k : Option ℕ). unwrap_or (option_map (λ n. n == 0) k) false) is
-
-pub broker_by : (h : History) → site_kind h ≡ Some BROKER_KIND → is_broker h ≡ true
-broker_by h is = ap (λ (k : Option ℕ). unwrap_or (option_map (λ n. n == 1) k) false) is
 
 pub price_is : (h : History) (target : List ℕ) → site_kind h ≡ Some BROKER_KIND → errand_price (fee h) (errand_of target) ≡ price_asked h target
 unfolding sale_price
@@ -48,9 +44,6 @@ price_is h target is = rw (vendor_by h is) refl
 pub offer_is : (h : History) (t : ℕ) (limits : Limits) (target : List ℕ) (value : ℕ) → site_kind h ≡ Some BROKER_KIND → errand_offer h t limits value (errand_of target) ≡ offer h t limits target value
 unfolding broker_offer
 offer_is h t limits target value is = rw (vendor_by h is) refl
-
-pub draw_is : (h : History) (target : List ℕ) → site_kind h ≡ Some BROKER_KIND → option_map (asked_of_account h) (order_of target) ≡ draw_asked h target
-draw_is h target is = rw (broker_by h is) refl
 
 -- ---- what is offered for an errand
 
@@ -98,19 +91,6 @@ fee_more (x ∷ xs) e limits told = after x e
     after : (y z : Entry) → fee (y ∷ (xs ++ z ∷ [])) ≡ fee (y ∷ xs)
     after (Site m kind name house) z = refl
     after y z = refl
-
--- the ranges that the accounts ask for
-pub payment_fits : (e : Entry) → CommandFits e → PaymentFits e
-payment_fits (Account m name key) fits = fits
-payment_fits (Deposit m name amount reference) fits = fits
-payment_fits (Withdraw m name amount reference) fits = fits
-payment_fits e fits = tt
-
--- the ranges that the stalls ask for
-pub stall_fits : (e : Entry) → CommandFits e → StallFits e
-stall_fits (Licence m vendor terms) fits = fits
-stall_fits (Stock m vendor pieces) fits = fits
-stall_fits e fits = tt
 
 -- what a draw asks for is more than nothing
 pub order_some : (target : List ℕ) (o : Order) → Some o ≡ order_of target → 0 < o.amount
