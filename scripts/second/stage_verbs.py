@@ -4,14 +4,16 @@ from types import SimpleNamespace
 from bytes_text import CaseError, digest, shown
 from forms import MOMENTS, MOST_VALUE, Fault
 from heads import HeadReader
-from house import Ends, opened
+from house import Ends, bench, opened
 from journal import BadEntry, Halted, NotJournal, Replay, found
 from ledger import History, Limits, Request, answer, first_unlawful, is_refusal
-from payloads import BROKER, LICENCE, STOCK, VENDOR, read_entry
-from program import BadWords, add_terms, bench, mint_pieces, parsed, places, put_goods, run, set_price
+from payloads import BROKER, VENDOR, read_entry
+from program import parsed, places, run
 from refusals import refused
 from setting import U32, changed, data, maybe_data, number, up_to, word_bytes
 from stage import DiskFault, LinkFault, Stage, change_of
+from vendor import add_terms, mint_pieces, put_goods, set_price
+from words import BadWords
 
 
 def set_book(setting, words):
@@ -235,7 +237,7 @@ def do_once(setting, words):
     stage = Stage(links=[[setting.first_link()]])
     try:
         name, order, _ = parsed([word_bytes(setting, word) for word in words])
-        if name != b"once":
+        if name != [b"vendor", b"once"]:
             raise BadWords
         bench(order, stage).serve(1)
     except BadWords:
@@ -267,11 +269,8 @@ def do_answer(setting, words):
 
 
 def house_answer(setting, time, request):
-    """What a house of the book's kind of site answers that opens the book and raises its time. A broker's has no room
-    for licences and stock."""
+    """What a house of the book's kind of site answers that opens the book and raises its time."""
     history = History(history_of(setting))
-    if any(entry.kind in (LICENCE, STOCK) for entry in history.entries):
-        return "closed"
     try:
         house = opened(Stage(setting.book, readings=[time]), setting.limits, BROKER if history.is_broker else VENDOR)
     except Ends:
