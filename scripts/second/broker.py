@@ -125,7 +125,7 @@ def read_licence(lines):
     line, end, more = lines.partition(b"\n")
     words = line.split(b" ")
     try:
-        want(end and len(words) == 7 and words[0] == b"licence")
+        want(bool(end) and len(words) == 7 and words[0] == b"licence")
         read = text(is_name, words[1]), terms(number(words[2], 1, 255), words[3:])
     except BadWords:
         raise Ends.refused(refused(53, 1 if lines else 0))
