@@ -124,6 +124,7 @@ fn stocked(state: &mut State, args: &[&[u8]], out: &mut Lines) -> Result<(), Fau
 
 /// The accounts of a broker in memory, with one account, and the payments of its operator, each under a reference of
 /// its own.
+#[derive(Drop)]
 struct Payments {
     alloc: Global,
     ledger: AccountLedger,
@@ -134,7 +135,7 @@ struct Payments {
 
 /// What a payment comes to.
 #[derive(Drop)]
-enum Paid {
+enum Came {
     Done,
     Refused(Refusal),
 }
@@ -169,7 +170,7 @@ impl Payments {
     }
 
     /// A step `+N` or `-N`, or `+N*COUNT`, which is so many deposits, up to one that is refused.
-    fn step(&mut self, step: &[u8]) -> Result<Paid, Fault> {
+    fn step(&mut self, step: &[u8]) -> Result<Came, Fault> {
         let Some((sign, rest)) = step.split_first() else {
             return Err(Fault::Arguments);
         };
@@ -189,10 +190,10 @@ impl Payments {
             match task {
                 Ok(Some(record)) => learn(&mut self.ledger, &record)?,
                 Ok(None) => return Err(Fault::Value),
-                Err(refusal) => return Ok(Paid::Refused(refusal)),
+                Err(refusal) => return Ok(Came::Refused(refusal)),
             }
         }
-        Ok(Paid::Done)
+        Ok(Came::Done)
     }
 
     /// A reference that is new.
@@ -206,10 +207,10 @@ impl Payments {
         }
     }
 
-    fn show(&self, came: Paid, out: &mut Lines) {
+    fn show(&self, came: Came, out: &mut Lines) {
         match came {
-            Paid::Refused(refusal) => show_refusal("paid refused", &refusal, out),
-            Paid::Done => match self.ledger.standing(&self.account) {
+            Came::Refused(refusal) => show_refusal("paid refused", &refusal, out),
+            Came::Done => match self.ledger.standing(&self.account) {
                 Some(standing) => out.counted("paid", standing.balance),
                 None => out.said("paid", "nothing"),
             },
