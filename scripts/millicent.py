@@ -81,9 +81,12 @@ def stock_entry(moment, vendor, pieces):
     return entry_of(STOCK, moment, vendor=vendor, pieces=pieces)
 
 
-def book_of(entries):
-    """The bytes of a book of these entries."""
-    return HEADER + b"".join(b"\1%s%s" % (len(e.payload).to_bytes(4, "big"), e.payload) for e in entries) + b"\0"
+def write_book(file, entries):
+    """Writes the bytes of a book of these entries."""
+    file.write(HEADER)
+    for entry in entries:
+        file.write(b"\1" + len(entry.payload).to_bytes(4, "big") + entry.payload)
+    file.write(b"\0")
 
 
 def entries_of(data):
