@@ -162,7 +162,7 @@ def look(log, bank, number):
 
 def round_of_load(bank, customers):
     ended = threading.Event()
-    threads = [threading.Thread(target=customer.load, args=(ended,)) for customer in customers]
+    threads = [threading.Thread(target=customer.load, args=(ended,), daemon=True) for customer in customers]
     for thread in threads:
         thread.start()
     time.sleep(random.uniform(0, 0.3))

@@ -154,7 +154,7 @@ class Market:
         ended = threading.Event()
         for site in self.sites:
             site.start()
-        threads = [threading.Thread(target=customer.live, args=(ended,)) for customer in self.customers]
+        threads = [threading.Thread(target=customer.live, args=(ended,), daemon=True) for customer in self.customers]
         for thread in threads:
             thread.start()
         for _ in range(kills):
