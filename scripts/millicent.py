@@ -7,11 +7,11 @@ from types import SimpleNamespace
 sys.path.insert(0, str(Path(__file__).resolve().parent / "second"))
 
 from desk import read_errand  # noqa: E402, F401
-from forms import Terms, id_of, piece_line, read_scrip, reply_signature, request_signature  # noqa: E402, F401
+from forms import Terms, id_of, read_scrip, reply_signature, request_signature  # noqa: E402, F401
 from journal import HEADER, Replay  # noqa: E402
 from market import Book, broker_sums, first_stranger, vendor_sums  # noqa: E402, F401
 from payloads import (  # noqa: E402, F401
-    ACCEPT, ACCOUNT, BROKER, DEPOSIT, DRAW, GOODS, MINT, SITE, STOCK, TERMS, VENDOR, WITHDRAW, entry_of)
+    ACCEPT, ACCOUNT, BROKER, DEPOSIT, DRAW, GOODS, MINT, SITE, STOCK, TERMS, VENDOR, entry_of)
 from stage import Stage  # noqa: E402
 
 

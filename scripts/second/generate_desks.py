@@ -244,8 +244,8 @@ def desks():
         out.case("broker's orders %d" % round, *desk.lines, *("run broker balance b " + name for name in KEYS), "lawful", "replay")
     for count in (255, 256, 257):
         lines = [piece_line(STOCKED, "shop.example", 1 + serial % 3, STOCKED.identity(NOW, serial)) for serial in range(count)]
-        out.case("stock of %d lines" % count, "book $f_rich", "clock 1000000", "link " + " ".join(lines), "run broker stock b shop.example",
-                 'link "GET /buy/shop.example/2 HTTP/1.1\\r\\nHost: bank\\r\\n"+$scrip+"%s"+$ee' % own_piece(3, 90), "run broker serve b l 1")
+        out.case("stock of %d lines" % count, "book $f_rich", "clock 1000000", "link " + " ".join(lines),
+                 "run broker stock b shop.example", "link " + head("/buy/shop.example/2", own_piece(3, 90)), "run broker serve b l 1")
         out.case("stock of %d lines, and one that is none" % count, "book $f_rich", "clock 1000000",
                  "link " + "+".join(lines) + '+"x"', "run broker stock b shop.example")
     out.write("desks")

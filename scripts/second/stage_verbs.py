@@ -383,10 +383,11 @@ def end_by_hand(setting, words):
 
 VERBS = {
     "book": set_book, "link": set_link, "clock": set_clock, "fail": set_fail, "books": set_books, "limits": set_limits,
-    "run": do_run, "serve": do_serve, "desk": do_desk, "found": do_found, "goods": do_goods, "price": do_price, "licence": do_licence,
-    "mint": do_mint, "coming": do_coming, "account": do_account, "deposit": paying("deposit", DEPOSIT),
-    "withdraw": paying("withdraw", WITHDRAW), "licensed": do_licensed, "stock": do_stock, "paid": do_paid, "replay": do_replay, "heads": do_heads, "whole": do_whole, "crash": do_crash, "once": do_once,
-    "places": do_places, "answer": do_answer, "lawful": do_lawful,
+    "run": do_run, "serve": do_serve, "desk": do_desk, "found": do_found, "goods": do_goods, "price": do_price,
+    "licence": do_licence, "mint": do_mint, "coming": do_coming, "account": do_account,
+    "deposit": paying("deposit", DEPOSIT), "withdraw": paying("withdraw", WITHDRAW), "licensed": do_licensed,
+    "stock": do_stock, "paid": do_paid, "replay": do_replay, "heads": do_heads, "whole": do_whole, "crash": do_crash,
+    "once": do_once, "places": do_places, "answer": do_answer, "lawful": do_lawful,
     "write": by_hand("write", done(Stage.write), number, data), "cut": by_hand("cut", done(Stage.cut), number),
     "sync": by_hand("sync", done(Stage.sync)), "size": by_hand("size", Stage.size),
     "read": by_hand("read", lambda stage, at, length: shown(stage.read(at, length)), number, number),
