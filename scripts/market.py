@@ -44,7 +44,7 @@ class Customer:
     def __init__(self, market, name):
         self.market, self.name = market, name
         self.held = {site: [] for site in market.sites}
-        self.counts = Counter()
+        self.counts, self.replies = Counter(), 0
 
     def live(self, ended):
         while not ended.is_set():
@@ -74,7 +74,9 @@ class Customer:
         while True:
             try:
                 with Link(site.address) as link:
-                    return millicent.Reply(link.ask(asked))
+                    reply = millicent.Reply(link.ask(asked))
+                self.replies += 1
+                return reply
             except OSError:
                 self.counts["asked again"] += 1
                 time.sleep(0.005)
@@ -158,7 +160,7 @@ class Market:
         for thread in threads:
             thread.start()
         for _ in range(kills):
-            time.sleep(random.uniform(0, 0.3))
+            self.wait_for(random.randrange(60))
             site = random.choice((self.bank, self.bank, *self.vendors))
             site.kill()
             time.sleep(random.choice((0, random.uniform(0, 0.1))))
@@ -168,6 +170,15 @@ class Market:
             thread.join()
         for site in self.sites:
             site.kill()
+
+    def wait_for(self, replies):
+        """Waits for so many replies to customers, for 5 seconds at most."""
+        until, end = self.replies() + replies, time.monotonic() + 5
+        while self.replies() < until and time.monotonic() < end:
+            time.sleep(0.001)
+
+    def replies(self):
+        return sum(customer.replies for customer in self.customers)
 
     def sum_up(self):
         """The sums of the three books, and what the customers hold."""
