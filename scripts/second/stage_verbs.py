@@ -1,15 +1,14 @@
 """The verbs that say what a stage has, use one, call one by hand, or look at its book."""
 from types import SimpleNamespace
 
-from broker import add_licence, add_stock, move, open_account, unpaid
+from broker import add_licence, add_stock, move, open_account
 from bytes_text import CaseError, digest, shown
-from desk import Desk
 from forms import MOMENTS, MOST_VALUE, Fault, is_name
 from heads import HeadReader
 from house import Ends, bench, opened
 from journal import BadEntry, Halted, NotJournal, Replay, found
 from ledger import History, Limits, Request, answer, first_unlawful, is_refusal
-from payloads import ACCOUNT, BROKER, DEPOSIT, VENDOR, WITHDRAW, entry_of, read_entry
+from payloads import BROKER, DEPOSIT, VENDOR, WITHDRAW, read_entry
 from program import parsed, places, run
 from refusals import refused
 from setting import U32, changed, data, maybe_data, number, of_length, up_to, word_bytes
@@ -175,28 +174,6 @@ def do_licensed(setting, words):
 def do_stock(setting, words):
     time, vendor, lines = setting.arguments(words, number, name, data)
     return kept_by(setting, "stock", time, lambda house: add_stock(house, vendor, lines), BROKER)
-
-
-def do_paid(setting, words):
-    """Payments of one account that no book keeps, each under a reference of its own."""
-    desk = Desk()
-    desk.push(entry_of(ACCOUNT, 1000000, name=b"ann", key=b"\x88" * 16))
-    return [paid_step(setting, desk, word) for word in words]
-
-
-def paid_step(setting, desk, word):
-    units, _, times = word[1:].partition("*")
-    if word[0] not in "+-":
-        raise CaseError("no such step: %s" % word)
-    kind, amount = DEPOSIT if word[0] == "+" else WITHDRAW, number(setting, units, MOST_VALUE)
-    order = SimpleNamespace(account=b"ann", amount=amount)
-    entry = entry_of(kind, 1000000, name=b"ann", amount=amount, reference=b"r")
-    for _ in range(number(setting, times or "1")):
-        refusal = unpaid(desk, kind, order)
-        if refusal:
-            return "paid refused " + refusal.text()
-        desk.push(entry)
-    return "paid %d" % desk.balance(b"ann")
 
 
 def kept_by(setting, verb, time, enter, site=VENDOR):
@@ -386,7 +363,7 @@ VERBS = {
     "run": do_run, "serve": do_serve, "desk": do_desk, "found": do_found, "goods": do_goods, "price": do_price,
     "licence": do_licence, "mint": do_mint, "coming": do_coming, "account": do_account,
     "deposit": paying("deposit", DEPOSIT), "withdraw": paying("withdraw", WITHDRAW), "licensed": do_licensed,
-    "stock": do_stock, "paid": do_paid, "replay": do_replay, "heads": do_heads, "whole": do_whole, "crash": do_crash,
+    "stock": do_stock, "replay": do_replay, "heads": do_heads, "whole": do_whole, "crash": do_crash,
     "once": do_once, "places": do_places, "answer": do_answer, "lawful": do_lawful,
     "write": by_hand("write", done(Stage.write), number, data), "cut": by_hand("cut", done(Stage.cut), number),
     "sync": by_hand("sync", done(Stage.sync)), "size": by_hand("size", Stage.size),
