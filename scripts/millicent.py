@@ -1,14 +1,17 @@
-"""What the scripts beside this file need of the second program: terms, entries and books, and beside them the requests
-and replies of a customer."""
+"""What the scripts beside this file need of the second program: terms, entries, books and their sums, and beside them the
+requests and replies of a customer."""
 import sys
 from pathlib import Path
 from types import SimpleNamespace
 
 sys.path.insert(0, str(Path(__file__).resolve().parent / "second"))
 
-from forms import Terms, id_of, reply_signature, request_signature  # noqa: E402, F401
-from journal import Replay  # noqa: E402
-from payloads import GOODS, MINT, SITE, TERMS, entry_of  # noqa: E402
+from desk import read_errand  # noqa: E402, F401
+from forms import Terms, id_of, read_scrip, reply_signature, request_signature  # noqa: E402, F401
+from journal import HEADER, Replay  # noqa: E402
+from market import Book, broker_sums, first_stranger, vendor_sums  # noqa: E402, F401
+from payloads import (  # noqa: E402, F401
+    ACCEPT, ACCOUNT, BROKER, DEPOSIT, DRAW, GOODS, MINT, SITE, STOCK, TERMS, VENDOR, entry_of)
 from stage import Stage  # noqa: E402
 
 
@@ -24,10 +27,16 @@ def reply_sign(piece, target, reply, secret):
 
 
 def request(piece, target, sign=None, host=b"news.example"):
-    """The bytes of a request, with its signature where that is given."""
-    lines = [b"GET %s HTTP/1.1" % target, b"Host: " + host, b"Millicent-Scrip: " + piece]
+    """The bytes of a request, with its piece and its signature where they are given."""
+    lines = [b"GET %s HTTP/1.1" % target, b"Host: " + host]
+    lines += [b"Millicent-Scrip: " + piece] if piece else []
     lines += [b"Millicent-Sign: " + sign.hex().encode()] if sign else []
     return b"\r\n".join(lines) + b"\r\n\r\n"
+
+
+def draw_request(target, key, host=b"bank"):
+    """The bytes of a draw, signed with the key of its account."""
+    return request(None, target, request_signature(b"-", target, key), host)
 
 
 class Reply:
@@ -42,9 +51,10 @@ class Reply:
         return self.fields.get(b"Millicent-" + name, b"-")
 
 
-def site_entry(moment, name, terms, keep=600, clear=False):
-    house = SimpleNamespace(keep=keep, fee=0, clear=clear, terms=terms)
-    return entry_of(SITE, moment, site=0, name=name, house=house)
+def site_entry(moment, name, terms, keep=600, clear=False, fee=None):
+    """That of a vendor, or of a broker with a fee."""
+    house = SimpleNamespace(keep=keep, fee=fee or 0, clear=clear, terms=terms)
+    return entry_of(SITE, moment, site=VENDOR if fee is None else BROKER, name=name, house=house)
 
 
 def terms_entry(moment, terms):
@@ -57,6 +67,26 @@ def goods_entry(moment, target, price, kind, contents):
 
 def mint_entry(moment, reference, count, value, first):
     return entry_of(MINT, moment, reference=reference, count=count, value=value, first=first)
+
+
+def account_entry(moment, name, key):
+    return entry_of(ACCOUNT, moment, name=name, key=key)
+
+
+def deposit_entry(moment, name, amount, reference):
+    return entry_of(DEPOSIT, moment, name=name, amount=amount, reference=reference)
+
+
+def stock_entry(moment, vendor, pieces):
+    return entry_of(STOCK, moment, vendor=vendor, pieces=pieces)
+
+
+def write_book(file, entries):
+    """Writes the bytes of a book of these entries."""
+    file.write(HEADER)
+    for entry in entries:
+        file.write(b"\1" + len(entry.payload).to_bytes(4, "big") + entry.payload)
+    file.write(b"\0")
 
 
 def entries_of(data):

@@ -1,6 +1,8 @@
 """What a broker has: accounts with their balances and orders, licences, stock, and what was sold of them."""
-from forms import MOST_VALUE, id_of, is_name, issuer_of, read_scrip, series_of, whole_number
+from forms import MOST_VALUE, id_of, is_name, issuer_of, piece_line, read_scrip, series_of, whole_number
 from payloads import ACCEPT, ACCOUNT, DEPOSIT, DRAW, LICENCE, STOCK, WITHDRAW
+
+MOST_BALANCE = 2**60
 
 
 def read_errand(target):
@@ -33,7 +35,8 @@ class Desk:
             self.licences.setdefault(entry.vendor, entry.terms)
             self.stock.setdefault(entry.vendor, [])
         elif entry.kind == STOCK:
-            self.stock.setdefault(entry.vendor, []).extend(read_scrip(text) for text, _ in entry.pieces)
+            held = [(read_scrip(text), secret) for text, secret in entry.pieces]
+            self.stock.setdefault(entry.vendor, []).extend(held)
         elif entry.kind == DRAW:
             self.push_draw(read_errand(entry.target))
         elif entry.kind == ACCEPT:
@@ -63,14 +66,20 @@ class Desk:
 
     def for_sale(self, vendor, value, time):
         """The identity of the first piece in stock of this value that is unsold and has not ended."""
-        for piece in self.stock[vendor]:
+        for piece, _ in self.stock[vendor]:
             if piece.value == value and time < piece.expires and (vendor, 1, piece.id) not in self.sold:
                 return piece.id
         return None
 
     def stocked(self, vendor):
         """The identities of a vendor that were ever put into stock."""
-        return {piece.id for piece in self.stock.get(vendor, ())}
+        return {piece.id for piece, _ in self.stock.get(vendor, ())}
+
+    def sold_line(self, vendor, value, stock, ident):
+        """The line of a piece that was sold: out of stock as it came, or under the licence."""
+        if not stock:
+            return self.licences[vendor].piece_line(vendor, value, ident)
+        return next(piece_line(piece.text, secret) for piece, secret in self.stock[vendor] if piece.id == ident)
 
 
 def add(sums, name, amount):

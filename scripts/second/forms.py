@@ -129,6 +129,20 @@ def read_scrip(data):
     return Scrip(data, vendor, value, int.from_bytes(ident, "big"), int.from_bytes(cust, "big"), expires, props, cert)
 
 
+def piece_line(text, secret):
+    """The line of a piece: its text and the secret of its customer."""
+    return b"%s %s\n" % (text, secret.hex().encode())
+
+
+def read_piece_line(line):
+    """The scrip and the secret of a line, with its line end."""
+    text, _, rest = line.partition(b" ")
+    secret = digest_of(rest[:-1]) if rest.endswith(b"\n") else None
+    if secret is None:
+        raise Fault(0)
+    return read_scrip(text), secret
+
+
 def is_scrip(data):
     try:
         return bool(read_scrip(data))
@@ -184,6 +198,10 @@ class Terms:
         """The text of a piece of a series of these terms."""
         body = b"MS1|%s|%d|%016x|%016x|%d|%s|" % (vendor, value, ident, cust, self.end(epoch_of(ident)), props)
         return body + self.certificate(body, ident).hex().encode()
+
+    def piece_line(self, vendor, value, ident):
+        """The line of a piece of these terms at first hand."""
+        return piece_line(self.scrip_text(vendor, value, ident, ident, b""), self.secret(ident))
 
 
 def are_terms(terms):

@@ -139,6 +139,27 @@ def unlawful(gate):
     return Ends(3, b"unlawful entry at %d" % gate)
 
 
+def kept(stage, site=VENDOR):
+    """The house of a book, opened for its operator at the reading of the clock."""
+    house = opened(stage, FULL, site)
+    house.raise_time()
+    return house
+
+
+def received(stage, most):
+    """What comes on the next link, up to so many bytes."""
+    data = b""
+    try:
+        if not stage.next_link():
+            return data
+        while len(data) < most and (more := stage.recv(most - len(data))):
+            data += more
+    except LinkFault:
+        raise Ends.link_fault()
+    stage.end_link()
+    return data
+
+
 def free_journal(stage):
     """The empty journal of a disk that encodes nothing, founded where it has no header."""
     try:

@@ -65,7 +65,8 @@ class Replay:
     """A journal that is read: it is synced, and each byte is read once."""
 
     def __init__(self, stage):
-        self.stage, self.held, self.at = stage, b"", 0
+        # Of the bytes that are held the first `used` are read.
+        self.stage, self.held, self.used, self.at = stage, b"", 0, 0
         stage.sync()
         if self.peek(len(HEADER)) != HEADER:
             raise NotJournal
@@ -73,15 +74,15 @@ class Replay:
 
     def peek(self, count):
         """The next bytes, or fewer where the book ends before."""
-        while len(self.held) < count:
-            more = self.stage.read(self.at + len(self.held), BUFFER - len(self.held))
+        while (left := len(self.held) - self.used) < count:
+            more = self.stage.read(self.at + left, BUFFER - left)
             if not more:
                 break
-            self.held += more
-        return self.held[:count]
+            self.held, self.used = self.held[self.used:] + more, 0
+        return self.held[self.used:self.used + count]
 
     def drop(self, count):
-        self.held, self.at = self.held[count:], self.at + count
+        self.used, self.at = self.used + count, self.at + count
 
     def need(self, count):
         """The next bytes, all of which have to be there."""

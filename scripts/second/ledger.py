@@ -3,14 +3,14 @@ from dataclasses import dataclass
 from email.utils import formatdate
 from types import SimpleNamespace
 
-from desk import Desk, is_stock_for, read_errand
-from forms import Fault, epoch_of, id_of, issuer_of, read_scrip, reply_signature, request_signature, series_of
+from desk import MOST_BALANCE, Desk, is_stock_for, read_errand
+from forms import (
+    Fault, epoch_of, id_of, issuer_of, piece_line, read_scrip, reply_signature, request_signature, series_of)
 from payloads import (
     ACCEPT, ACCOUNT, BROKER, DEPOSIT, DRAW, GOODS, LICENCE, MINT, SITE, STOCK, TERMS, VENDOR, WITHDRAW, entry_of)
 from refusals import Refusal, refused
 
 MOST_CONTENTS = 2**26
-MOST_BALANCE = 2**60
 GOODS_DEED, SALE, CREDIT = 0, 1, 2
 REASONS = {
     200: "OK", 400: "Bad Request", 402: "Payment Required", 403: "Forbidden", 404: "Not Found",
@@ -359,21 +359,24 @@ def draw_reply(history, entry):
     _, _, amount = drawn_at(history, entry.target)
     terms = history.terms[0]
     text = terms.scrip_text(history.site.name, amount, entry.drawn, entry.drawn, b"")
-    contents = text + b" " + terms.secret(entry.drawn).hex().encode() + b"\n"
+    contents = piece_line(text, terms.secret(entry.drawn))
     sign = signed(history, Request(entry.target, None, None), 200, "-", str(amount), "-", contents)
     return reply_bytes(200, entry.moment, 1, "-", str(amount), "-", sign, contents)
 
 
 def sold_by(history, entry, number):
-    """The kind and the bytes of what an Accept entry of goods or credit brings."""
-    if entry.deed[0] == 2:
+    """The kind and the bytes of what an Accept entry brings."""
+    if entry.deed[0] == CREDIT:
         return 1, b"%d\n" % entry.deed[1]
+    if entry.deed[0] == SALE:
+        _, vendor, value = read_errand(entry.target)
+        return 1, history.desk.sold_line(vendor, value, *entry.deed[1:])
     goods = history.goods_before[number]
     return goods.goods, goods.contents
 
 
 def reply_of(history, number):
-    """The first reply of a Draw entry, or of an Accept entry of goods or credit."""
+    """The first reply of a Draw entry, or of an Accept entry."""
     entry = history.entries[number]
     if entry.kind == DRAW:
         return draw_reply(history, entry)

@@ -18,6 +18,13 @@ class Book:
         site = entries[0] if entries and entries[0].kind == SITE else None
         self.name, self.house = (site.name, site.house) if site else (b"", None)
         self.is_broker = site is not None and site.site == 1
+        self.founded = next((number for number, entry in enumerate(entries) if entry.kind == SITE and entry.house), None)
+        self.licences, self.held = {}, {}
+        for entry in self.of(LICENCE):
+            self.licences.setdefault(entry.vendor, entry.terms)
+        for entry in self.of(STOCK):
+            for piece in (read_scrip(text) for text, _ in entry.pieces):
+                self.held.setdefault((entry.vendor, piece.id), (piece.id, piece.value, piece.expires))
         self.spent = {read_scrip(entry.scrip).id for entry in self.of(ACCEPT)}
         self.own = [piece for number in range(len(entries)) for piece in self.own_at(number)]
         self.minted = {(ident, e.value) for e in self.of(MINT) for ident in range(e.first, e.first + e.count)}
@@ -28,8 +35,9 @@ class Book:
 
     def own_end(self, number, ident):
         """The end of a series of the house's own, by the terms that stand before an entry."""
-        terms = [entry.house.terms for entry in self.entries[:number] if entry.kind == SITE and entry.house]
-        return terms[0].end(epoch_of(ident)) if terms else 0
+        if self.founded is None or self.founded >= number:
+            return 0
+        return self.entries[self.founded].house.terms.end(epoch_of(ident))
 
     def own_at(self, number):
         """The piece that an entry hands out in the house's own series: change, or what was drawn."""
@@ -54,12 +62,11 @@ class Book:
 
     def stocked(self, vendor, ident):
         """The first piece of a vendor with this identity that was put into stock."""
-        texts = [text for entry in self.of(STOCK) if entry.vendor == vendor for text, _ in entry.pieces]
-        return next(((p.id, p.value, p.expires) for p in map(read_scrip, texts) if p.id == ident), None)
+        return self.held.get((vendor, ident))
 
     def licensed(self, vendor, value, ident):
         """A piece of a vendor that is made under his licence."""
-        terms = next((entry.terms for entry in self.of(LICENCE) if entry.vendor == vendor), None)
+        terms = self.licences.get(vendor)
         return terms and (ident, value, terms.end(epoch_of(ident)))
 
     def sold(self, vendor):

@@ -1,17 +1,20 @@
 """The verbs that say what a stage has, use one, call one by hand, or look at its book."""
 from types import SimpleNamespace
 
+from broker import add_licence, add_stock, move, open_account
 from bytes_text import CaseError, digest, shown
-from forms import MOMENTS, MOST_VALUE, Fault
+from forms import MOMENTS, MOST_VALUE, Fault, is_name
 from heads import HeadReader
-from house import Ends, opened
+from house import Ends, bench, opened
 from journal import BadEntry, Halted, NotJournal, Replay, found
 from ledger import History, Limits, Request, answer, first_unlawful, is_refusal
-from payloads import BROKER, LICENCE, STOCK, VENDOR, read_entry
-from program import BadWords, add_terms, bench, mint_pieces, parsed, places, put_goods, run, set_price
+from payloads import BROKER, DEPOSIT, VENDOR, WITHDRAW, read_entry
+from program import parsed, places, run
 from refusals import refused
-from setting import U32, changed, data, maybe_data, number, up_to, word_bytes
+from setting import U32, changed, data, maybe_data, number, of_length, up_to, word_bytes
 from stage import DiskFault, LinkFault, Stage, change_of
+from vendor import add_terms, mint_pieces, put_goods, set_price
+from words import BadWords
 
 
 def set_book(setting, words):
@@ -140,11 +143,44 @@ def coming(house):
     return house.history.next_identity(house.time)
 
 
-def kept_by(setting, verb, time, enter):
+def name(setting, word):
+    found = data(setting, word)
+    if not is_name(found):
+        raise CaseError("no name: %s" % word)
+    return found
+
+
+def do_account(setting, words):
+    time, account, key = setting.arguments(words, number, name, of_length(16))
+    order = SimpleNamespace(account=account, key=key)
+    return kept_by(setting, "account", time, lambda house: open_account(house, order), BROKER)
+
+
+def paying(verb, kind):
+    """The verb of a deposit or of a withdrawal."""
+    def do(setting, words):
+        time, account, amount, reference = setting.arguments(words, number, name, up_to(MOST_VALUE), name)
+        order = SimpleNamespace(account=account, amount=amount, reference=reference)
+        return kept_by(setting, verb, time, lambda house: move(house, kind, order), BROKER)
+    return do
+
+
+def do_licensed(setting, words):
+    time, vendor = setting.arguments(words, number, name)
+    terms = setting.given("terms")
+    return kept_by(setting, "licensed", time, lambda house: add_licence(house, vendor, terms), BROKER)
+
+
+def do_stock(setting, words):
+    time, vendor, lines = setting.arguments(words, number, name, data)
+    return kept_by(setting, "stock", time, lambda house: add_stock(house, vendor, lines), BROKER)
+
+
+def kept_by(setting, verb, time, enter, site=VENDOR):
     """The lines of an operator's call of the house of the book."""
     stage = setting.stage()
     try:
-        house = opened(stage, setting.limits)
+        house = opened(stage, setting.limits, site)
     except Ends:
         return [verb + " closed"] + setting.ended(stage)
     house.time = max(house.time, min(time, MOMENTS - 1))
@@ -235,7 +271,7 @@ def do_once(setting, words):
     stage = Stage(links=[[setting.first_link()]])
     try:
         name, order, _ = parsed([word_bytes(setting, word) for word in words])
-        if name != b"once":
+        if name != [b"vendor", b"once"]:
             raise BadWords
         bench(order, stage).serve(1)
     except BadWords:
@@ -267,11 +303,8 @@ def do_answer(setting, words):
 
 
 def house_answer(setting, time, request):
-    """What a house of the book's kind of site answers that opens the book and raises its time. A broker's has no room
-    for licences and stock."""
+    """What a house of the book's kind of site answers that opens the book and raises its time."""
     history = History(history_of(setting))
-    if any(entry.kind in (LICENCE, STOCK) for entry in history.entries):
-        return "closed"
     try:
         house = opened(Stage(setting.book, readings=[time]), setting.limits, BROKER if history.is_broker else VENDOR)
     except Ends:
@@ -327,9 +360,11 @@ def end_by_hand(setting, words):
 
 VERBS = {
     "book": set_book, "link": set_link, "clock": set_clock, "fail": set_fail, "books": set_books, "limits": set_limits,
-    "run": do_run, "serve": do_serve, "desk": do_desk, "found": do_found, "goods": do_goods, "price": do_price, "licence": do_licence,
-    "mint": do_mint, "coming": do_coming, "replay": do_replay, "heads": do_heads, "whole": do_whole, "crash": do_crash, "once": do_once,
-    "places": do_places, "answer": do_answer, "lawful": do_lawful,
+    "run": do_run, "serve": do_serve, "desk": do_desk, "found": do_found, "goods": do_goods, "price": do_price,
+    "licence": do_licence, "mint": do_mint, "coming": do_coming, "account": do_account,
+    "deposit": paying("deposit", DEPOSIT), "withdraw": paying("withdraw", WITHDRAW), "licensed": do_licensed,
+    "stock": do_stock, "replay": do_replay, "heads": do_heads, "whole": do_whole, "crash": do_crash,
+    "once": do_once, "places": do_places, "answer": do_answer, "lawful": do_lawful,
     "write": by_hand("write", done(Stage.write), number, data), "cut": by_hand("cut", done(Stage.cut), number),
     "sync": by_hand("sync", done(Stage.sync)), "size": by_hand("size", Stage.size),
     "read": by_hand("read", lambda stage, at, length: shown(stage.read(at, length)), number, number),

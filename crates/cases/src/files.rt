@@ -1,6 +1,6 @@
 //! Files of cases, line by line.
 
-use crate::{ledger_verbs, market_verbs, operator_verbs, program_verbs};
+use crate::{desk_verbs, ledger_verbs, market_verbs, operator_verbs, program_verbs};
 use case_lines::{Fault, Lines, State, number, tokens};
 
 /// How far a file was read.
@@ -100,6 +100,9 @@ fn on_houses(
         return Some(done);
     }
     if let Some(done) = operator_verbs::enter(state, verb, args, out) {
+        return Some(done);
+    }
+    if let Some(done) = desk_verbs::enter(state, verb, args, out) {
         return Some(done);
     }
     if let Some(done) = market_verbs::ask(state, verb, args, out) {

@@ -4,6 +4,7 @@
 //! program with status 1, and so does a file that cannot be read or does not end with its count of cases.
 #![tactic(auto)]
 
+mod desk_verbs;
 mod files;
 mod ledger_verbs;
 mod market_verbs;

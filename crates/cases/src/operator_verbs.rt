@@ -1,11 +1,12 @@
-//! Lines by which a vendor's operator enters something into the book, within the limits.
+//! Lines by which a vendor's operator enters something into the book, within the limits; and how a house is opened for
+//! that, whatever its trade, and what came of it is shown.
 
-ghost use Rattle.std.specs.Prelude.{◌<◌, ◌≤◌, IfOk, length};
+ghost use Rattle.std.specs.Prelude.{◌<◌, ◌≤◌, [], IfOk, length};
 
 use crate::ledger_verbs::show_refusal;
 use crate::program_verbs::unopened;
 use case_lines::{Fault, Lines, State, number, terms};
-use house_core::{House, Outcome};
+use house_core::{House, Outcome, Trade};
 use house_opening::open_house;
 use mc_base::{Amount, Moment};
 use mc_records::Refusal;
@@ -32,16 +33,14 @@ pub(crate) fn enter(
 
 /// What came of it.
 #[derive(Drop)]
-enum Entered {
+pub(crate) enum Entered {
     Done,
     Refused(Refusal),
     NoMemory,
     Halted,
 }
 
-type Opened = House<Stage, Shelf>;
-
-fn came_of<A: Drop>(outcome: Outcome<Stage, Shelf, A>) -> (Entered, Stage) {
+pub(crate) fn came_of<T: Trade, A: Drop>(outcome: Outcome<Stage, T, A>) -> (Entered, Stage) {
     match outcome {
         Outcome::Done(house, _) => (Entered::Done, house.close()),
         Outcome::Refused(house, refusal) => (Entered::Refused(refusal), house.close()),
@@ -50,26 +49,30 @@ fn came_of<A: Drop>(outcome: Outcome<Stage, Shelf, A>) -> (Entered, Stage) {
     }
 }
 
-/// Opens the book as a house at this time, within the limits.
-fn opened(state: &mut State, time: &[u8]) -> Result<Result<Opened, Stage>, Fault> {
+/// Opens the book as a house that carries this trade at this time, within the limits.
+pub(crate) fn opened<T: Trade>(
+    state: &mut State,
+    time: &[u8],
+    trade: T,
+) -> Result<Result<House<Stage, T>, Stage>, Fault>
+    requires { (T.trade trade).represents [] }
+{
     let time = Moment::clamped(number(time)?);
     let limits = state.limits;
     if !limits.are_in_range() {
         return Err(Fault::Value);
     }
     let stage = state.make_stage()?;
-    Ok(
-        match open_house(state.alloc, stage, limits, Shelf::new(state.alloc)) {
-            Ok(mut house) => {
-                let _time = house.raise(time);
-                Ok(house)
-            }
-            Err(fault) => Err(unopened(fault).1),
-        },
-    )
+    Ok(match open_house(state.alloc, stage, limits, trade) {
+        Ok(mut house) => {
+            let _time = house.raise(time);
+            Ok(house)
+        }
+        Err(fault) => Err(unopened(fault).1),
+    })
 }
 
-fn show(
+pub(crate) fn show(
     state: &mut State,
     verb: &str,
     entered: (Entered, Stage),
@@ -88,13 +91,18 @@ fn show(
     state.show_stage(stage, out)
 }
 
-fn show_closed(state: &mut State, verb: &str, stage: Stage, out: &mut Lines) -> Result<(), Fault> {
+pub(crate) fn show_closed(
+    state: &mut State,
+    verb: &str,
+    stage: Stage,
+    out: &mut Lines,
+) -> Result<(), Fault> {
     out.said(verb, "closed");
     state.show_stage(stage, out)
 }
 
 /// An amount above 0.
-fn amount(token: &[u8]) -> Result<Amount, Fault>
+pub(crate) fn amount(token: &[u8]) -> Result<Amount, Fault>
     ensures { IfOk result (λ a. 0 < a) }
 {
     match Amount::new(number(token)?) {
@@ -122,7 +130,8 @@ fn goods(state: &mut State, args: &[&[u8]], out: &mut Lines) -> Result<(), Fault
     if kind > 2 || contents.len() > 65_536 {
         return Err(Fault::Value);
     }
-    match opened(state, time)? {
+    let shelf = Shelf::new(state.alloc);
+    match opened(state, time, shelf)? {
         Ok(house) => {
             let done = came_of(set_goods(house, &at, price, kind, &contents));
             show(state, "goods", done, out)
@@ -136,7 +145,8 @@ fn price(state: &mut State, args: &[&[u8]], out: &mut Lines) -> Result<(), Fault
         return Err(Fault::Arguments);
     };
     let (at, price) = (target(state, at)?, amount(price)?);
-    match opened(state, time)? {
+    let shelf = Shelf::new(state.alloc);
+    match opened(state, time, shelf)? {
         Ok(house) => show(state, "price", came_of(set_price(house, &at, price)), out),
         Err(stage) => show_closed(state, "price", stage, out),
     }
@@ -150,7 +160,8 @@ fn licence(state: &mut State, args: &[&[u8]], out: &mut Lines) -> Result<(), Fau
     if terms.issuer() == 0 {
         return Err(Fault::Value);
     }
-    match opened(state, time)? {
+    let shelf = Shelf::new(state.alloc);
+    match opened(state, time, shelf)? {
         Ok(house) => show(state, "licence", came_of(add_terms(house, &terms)), out),
         Err(stage) => show_closed(state, "licence", stage, out),
     }
@@ -171,7 +182,8 @@ fn minted(state: &mut State, args: &[&[u8]], out: &mut Lines) -> Result<(), Faul
         return Err(Fault::Value);
     }
     let mut lines = Vec::new(state.alloc);
-    match opened(state, time)? {
+    let shelf = Shelf::new(state.alloc);
+    match opened(state, time, shelf)? {
         Ok(house) => {
             let done = came_of(mint(house, count, value, &reference, &mut lines));
             out.given("lines", &lines);
@@ -186,7 +198,8 @@ fn coming(state: &mut State, args: &[&[u8]], out: &mut Lines) -> Result<(), Faul
     let [time] = *args else {
         return Err(Fault::Arguments);
     };
-    match opened(state, time)? {
+    let shelf = Shelf::new(state.alloc);
+    match opened(state, time, shelf)? {
         Ok(house) => {
             let next = house.next();
             let stage = house.close();

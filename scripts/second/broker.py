@@ -1,0 +1,193 @@
+"""The commands of a broker."""
+from types import SimpleNamespace
+
+import vendor
+from desk import MOST_BALANCE
+from forms import MOST_VALUE, Fault, is_name, issuer_of, read_piece_line, read_scrip
+from house import Ends, kept, opened, received
+from ledger import FULL
+from payloads import ACCOUNT, BROKER, DEPOSIT, LICENCE, STOCK, WITHDRAW, entry_of
+from refusals import refused
+from words import BadWords, number, place, secret, terms, text, want
+
+MOST_INPUT = 131_072
+MOST_PIECES = 256
+
+
+def parse_init(words, keep=b"600", clear=False):
+    order = vendor.parse_init(words, keep, clear)
+    order.fee = number(words[6], 0, MOST_VALUE)
+    return order
+
+
+def parse_account(words):
+    return SimpleNamespace(book=place(words[0]), account=text(is_name, words[1]), key=secret(words[2]))
+
+
+def parse_move(words):
+    """The words of a deposit and of a withdrawal."""
+    return SimpleNamespace(
+        book=place(words[0]), account=text(is_name, words[1]), amount=number(words[2], 1, MOST_VALUE),
+        reference=text(is_name, words[3]))
+
+
+def parse_balance(words):
+    return SimpleNamespace(book=place(words[0]), account=text(is_name, words[1]))
+
+
+def parse_licence(words):
+    return SimpleNamespace(book=place(words[0]))
+
+
+def parse_stock(words):
+    return SimpleNamespace(book=place(words[0]), vendor=text(is_name, words[1]))
+
+
+def init(order, stage):
+    return vendor.found_site(order, stage, BROKER, order.fee)
+
+
+def serve(order, stage):
+    return b"served %d\n" % opened(stage, FULL, BROKER).serve(order.links)
+
+
+def account(order, stage):
+    return open_account(kept(stage, BROKER), order)
+
+
+def open_account(house, order):
+    """Opens an account, and answers its line."""
+    key = house.history.desk.keys.get(order.account)
+    if key not in (None, order.key):
+        raise Ends.refused(refused(60))
+    if key is None:
+        house.enter(entry_of(ACCOUNT, house.time, name=order.account, key=order.key))
+    return b"account %s\n" % order.account
+
+
+def deposit(order, stage):
+    return move(kept(stage, BROKER), DEPOSIT, order)
+
+
+def withdraw(order, stage):
+    return move(kept(stage, BROKER), WITHDRAW, order)
+
+
+def move(house, kind, order):
+    """Enters a deposit or a withdrawal where its reference is new, and answers the line of the balance."""
+    stands = house.history.references.get(order.reference)
+    if stands is None:
+        refusal = unpaid(house.history.desk, kind, order)
+        if refusal:
+            raise Ends.refused(refusal)
+        house.enter(entry_of(kind, house.time, name=order.account, amount=order.amount, reference=order.reference))
+    elif (stands.kind, stands.name, stands.amount) != (kind, order.account, order.amount):
+        raise Ends.refused(refused(56, order.reference))
+    return balance_line(house, order)
+
+
+def unpaid(desk, kind, order):
+    """Why an amount is not paid into an account, or out of it."""
+    if order.account not in desk.keys:
+        return refused(40)
+    balance_now = desk.balance(order.account)
+    if kind == DEPOSIT:
+        return refused(45, balance_now) if balance_now + order.amount > MOST_BALANCE else None
+    return refused(42, balance_now) if balance_now < order.amount else None
+
+
+def balance(order, stage):
+    house = kept(stage, BROKER)
+    if order.account not in house.history.desk.keys:
+        raise Ends.refused(refused(40))
+    return balance_line(house, order)
+
+
+def balance_line(house, order):
+    return b"balance %s %d\n" % (order.account, house.history.desk.balance(order.account))
+
+
+def input_house(stage):
+    """A house of the book, and the lines that its operator brings."""
+    house = opened(stage, FULL, BROKER)
+    lines = received(stage, MOST_INPUT + 1)
+    house.raise_time()
+    return house, lines[:MOST_INPUT]
+
+
+def licence(order, stage):
+    house, lines = input_house(stage)
+    return add_licence(house, *read_licence(lines))
+
+
+def read_licence(lines):
+    """The vendor and the terms of a licence line."""
+    line, end, more = lines.partition(b"\n")
+    words = line.split(b" ")
+    try:
+        want(bool(end) and len(words) == 7 and words[0] == b"licence")
+        read = text(is_name, words[1]), terms(number(words[2], 1, 255), words[3:])
+    except BadWords:
+        raise Ends.refused(refused(53, 1 if lines else 0))
+    if more:
+        raise Ends.refused(refused(53, 2))
+    return read
+
+
+def add_licence(house, vendor_name, terms_of):
+    """Takes the licence of a vendor, and answers its line."""
+    old = house.history.desk.licences.get(vendor_name)
+    if old not in (None, terms_of):
+        raise Ends.refused(refused(59, old.issuer))
+    if old is None:
+        house.enter(entry_of(LICENCE, house.time, vendor=vendor_name, terms=terms_of))
+    return b"licence %s %d\n" % (vendor_name, terms_of.issuer)
+
+
+def stock(order, stage):
+    house, lines = input_house(stage)
+    return add_stock(house, order.vendor, lines)
+
+
+def read_stock(vendor_name, lines):
+    """The texts and the secrets of 1 to 256 piece lines, each of the vendor, first-hand and of issuer 0."""
+    read, at = [], 0
+    while at < len(lines):
+        number_of_line, end = len(read) + 1, lines.find(b"\n", at) + 1
+        try:
+            piece, held = read_piece_line(lines[at:end])
+            is_right = piece.vendor == vendor_name and piece.cust == piece.id and not piece.props
+            is_right = is_right and not issuer_of(piece.id) and number_of_line <= MOST_PIECES
+        except Fault:
+            is_right = False
+        if number_of_line > MOST_PIECES or not is_right:
+            raise Ends.refused(refused(53, number_of_line))
+        read.append((piece.text, held))
+        at = end
+    if not read:
+        raise Ends.refused(refused(53, 0))
+    return read
+
+
+def add_stock(house, vendor_name, lines):
+    """Puts pieces of a vendor into stock, and answers the line of their count."""
+    pieces = read_stock(vendor_name, lines)
+    ids, stocked = [read_scrip(text).id for text, _ in pieces], house.history.desk.stocked(vendor_name)
+    for ident in ids:
+        if ident in stocked or ids.count(ident) > 1:
+            raise Ends.refused(refused(57, ident))
+    house.enter(entry_of(STOCK, house.time, vendor=vendor_name, pieces=pieces))
+    return b"stock %s %d\n" % (vendor_name, len(pieces))
+
+
+# As those of a vendor.
+COMMANDS = {
+    b"init": (7, (b"--keep",), (b"--clear",), parse_init, init),
+    b"account": (3, (), (), parse_account, account),
+    b"deposit": (4, (), (), parse_move, deposit),
+    b"withdraw": (4, (), (), parse_move, withdraw),
+    b"balance": (2, (), (), parse_balance, balance),
+    b"licence": (1, (), (), parse_licence, licence),
+    b"stock": (2, (), (), parse_stock, stock),
+    b"serve": (3, (), (), vendor.parse_serve, serve),
+}

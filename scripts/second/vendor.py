@@ -1,0 +1,157 @@
+"""The commands of a vendor."""
+from types import SimpleNamespace
+
+import play
+from forms import MOST_VALUE, digest_of, is_name, is_target
+from house import Ends, bench, founded, kept, opened, received
+from ledger import FULL
+from payloads import GOODS, MINT, SITE, TERMS, VENDOR, entry_of
+from refusals import refused
+from words import number, place, spelled, terms, text, want
+
+MOST_CONTENTS = 65_536
+MOST_LINKS = 2**32 - 1
+
+
+def parse_once(words):
+    want(len(words[4]) <= MOST_CONTENTS)
+    return SimpleNamespace(
+        name=text(is_name, words[0]), target=text(is_target, words[1]), price=number(words[2], 1, MOST_VALUE),
+        secret=want(digest_of(words[3])), contents=words[4])
+
+
+def parse_init(words, keep=b"600", clear=False):
+    return SimpleNamespace(
+        book=place(words[0]), name=text(is_name, words[1]), terms=terms(0, words[2:]), keep=number(keep, 60, 86_400),
+        clear=clear)
+
+
+def parse_serve(words):
+    return SimpleNamespace(book=place(words[0]), listen=place(words[1]), links=number(words[2], 1, MOST_LINKS))
+
+
+def parse_play(words):
+    return SimpleNamespace(count=number(words[0], 1, 1_000_000))
+
+
+def parse_goods(words, kind=b"0"):
+    order = parse_price(words)
+    order.kind = number(kind, 0, 2)
+    return order
+
+
+def parse_price(words):
+    target, price_of = text(is_target, words[1]), number(words[2], 1, MOST_VALUE)
+    return SimpleNamespace(book=place(words[0]), target=target, price=price_of)
+
+
+def parse_licence(words):
+    return SimpleNamespace(book=place(words[0]), terms=terms(number(words[1], 1, 255), words[2:]))
+
+
+def parse_mint(words):
+    return SimpleNamespace(
+        book=place(words[0]), count=number(words[1], 1, 256), value=number(words[2], 1, MOST_VALUE),
+        reference=text(is_name, words[3]))
+
+
+def once(order, stage):
+    """Serves one link with a house in memory, whose clock stands."""
+    bench(order, stage).serve(1)
+    return b""
+
+
+def init(order, stage):
+    return found_site(order, stage, VENDOR, 0)
+
+
+def found_site(order, stage, site, fee):
+    house = SimpleNamespace(keep=order.keep, fee=fee, clear=order.clear, terms=order.terms)
+    founded(stage, entry_of(SITE, stage.now(), site=site, name=order.name, house=house))
+    return b"founded %s\n" % order.name
+
+
+def serve(order, stage):
+    return b"served %d\n" % opened(stage, FULL).serve(order.links)
+
+
+def play_heads(order, stage):
+    return play.play(order.count)
+
+
+def goods(order, stage):
+    house = opened(stage, FULL)
+    contents = received(stage, MOST_CONTENTS + 1)
+    house.raise_time()
+    if len(contents) > MOST_CONTENTS:
+        raise Ends.refused(refused(54, len(contents)))
+    return put_goods(house, order, order.kind, contents)
+
+
+def price(order, stage):
+    return set_price(kept(stage), order)
+
+
+def set_price(house, order):
+    """Gives goods another price, and answers their line."""
+    old = house.history.goods.get(order.target)
+    if old is None:
+        raise Ends.refused(refused(30))
+    return put_goods(house, order, old.goods, old.contents)
+
+
+def put_goods(house, order, kind, contents):
+    """Enters goods, and answers their line."""
+    in_force = house.history.in_force_with(order.target, contents)
+    if in_force > 2**26:
+        raise Ends.refused(refused(54, in_force))
+    house.enter(entry_of(GOODS, house.time, target=order.target, price=order.price, goods=kind, contents=contents))
+    return b"goods %s %d\n" % (order.target, order.price)
+
+
+def licence(order, stage):
+    return add_terms(kept(stage), order)
+
+
+def add_terms(house, order):
+    """Adds the terms of an issuer, and answers their line."""
+    old, new = house.history.terms.get(order.terms.issuer), order.terms
+    if old not in (None, new):
+        raise Ends.refused(refused(55, new.issuer))
+    if old is None:
+        house.enter(entry_of(TERMS, house.time, terms=new))
+    return b"licence %s %s\n" % (house.history.site.name, spelled(new))
+
+
+def mint(order, stage):
+    return mint_pieces(kept(stage), order)
+
+
+def mint_pieces(house, order):
+    """Mints pieces, and answers their lines."""
+    history = house.history
+    entry = history.references.get(order.reference)
+    if entry is None:
+        if order.count > history.room(house.time, house.limits):
+            raise Ends.refused(refused(32, history.own_series(house.time)))
+        entry = entry_of(MINT, house.time, reference=order.reference, count=order.count, value=order.value,
+                         first=history.next_identity(house.time))
+        house.enter(entry)
+    elif (entry.count, entry.value) != (order.count, order.value):
+        raise Ends.refused(refused(56, order.reference))
+    own = history.terms[0]
+    return b"".join(own.piece_line(history.site.name, entry.value, ident)
+                    for ident in range(entry.first, entry.first + entry.count))
+
+
+# Of each command, how many words it has, its options with a value and those without one, and what reads and does it.
+COMMANDS = {
+    b"once": (5, (), (), parse_once, once),
+    b"init": (6, (b"--keep",), (b"--clear",), parse_init, init),
+    b"serve": (3, (), (), parse_serve, serve),
+    b"play": (1, (), (), parse_play, play_heads),
+    b"goods": (3, (b"--kind",), (), parse_goods, goods),
+    b"price": (3, (), (), parse_price, price),
+    b"licence": (6, (), (), parse_licence, licence),
+    b"mint": (4, (), (), parse_mint, mint),
+}
