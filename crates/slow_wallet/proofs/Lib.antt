@@ -1,3 +1,4 @@
 pub mod Steps
 pub mod Places
 pub mod SoleLine
+pub mod ChoiceLaws

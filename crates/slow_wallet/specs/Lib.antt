@@ -1,1 +1,2 @@
 pub mod Slow
+pub mod Choices

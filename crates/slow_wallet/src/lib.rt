@@ -2,20 +2,26 @@
 //! going over its entries. Cases ask them; no wallet stands on them.
 #![tactic(auto)]
 
+mod asks;
 mod came;
+mod choice;
 mod holdings;
 mod kept;
 mod lawful;
 mod newness;
 mod replies;
 mod requests;
+mod sending;
 mod settle;
 mod states;
 
+pub use asks::{Asking, slow_pend_entry, slow_target};
+pub use choice::{Offer, slow_chosen};
 pub use holdings::{Holding, slow_holding};
 pub use kept::{Numbered, slow_kept};
 pub use lawful::slow_wallet_book;
 pub use replies::slow_check;
 pub use requests::{Pending, slow_is_kept, slow_pending};
+pub use sending::slow_request_bytes;
 pub use settle::slow_settlement;
 pub use states::{State, slow_state};

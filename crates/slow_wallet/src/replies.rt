@@ -59,7 +59,7 @@ pub(crate) fn price_of(r: &ReplyRef<'_>) -> Option<u64>
     last_number(r.price)
 }
 
-fn piece_of(text: &[u8]) -> Option<Piece>
+pub(crate) fn piece_of(text: &[u8]) -> Option<Piece>
     ensures { result ≡ pieces.piece_of text.now }
 {
     match read_scrip(text) {
@@ -232,7 +232,7 @@ fn fits_request(alloc: Global, p: &Pending<'_>, r: &ReplyRef<'_>) -> Result<bool
 
 // ---- the check
 
-fn or_dash<'a>(text: Option<&'a [u8]>) -> &'a [u8]
+pub(crate) fn or_dash<'a>(text: Option<&'a [u8]>) -> &'a [u8]
     ensures { result.now ≡ texts.or_dash (seen text.entry) }
 {
     match text {

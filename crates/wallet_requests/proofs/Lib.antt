@@ -1,0 +1,4 @@
+pub mod RequestLines
+pub mod ItemLemmas
+pub mod FieldLemmas
+pub mod SentLemmas
