@@ -13,8 +13,8 @@ from grow import md5sum, timed, used
 from serving import Link
 
 
-def alone(bank, asked):
-    with Link(bank.address) as link:
+def alone(bank, asked, patience=30):
+    with Link(bank.address, patience) as link:
         took(link.ask(asked))
 
 
@@ -22,7 +22,7 @@ def opened(bank, asked):
     """Starts the program, and tells how long it took to the reply to this request, and its memory."""
     def first():
         bank.start()
-        alone(bank, asked)
+        alone(bank, asked, 600)
     seconds = timed(first)
     print("opened in %.2f s to the first reply, md5sum of the book's %.0f MB %.2f s, memory %.0f MB" % (
         seconds, os.path.getsize(bank.book) / 1e6, md5sum(bank.book), used(bank.server)[1]), flush=True)

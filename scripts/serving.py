@@ -36,8 +36,8 @@ def words_of(terms):
 
 
 class Link:
-    def __init__(self, address):
-        self.socket = socket.create_connection(address, 30)
+    def __init__(self, address, patience=30):
+        self.socket = socket.create_connection(address, patience)
         self.socket.setsockopt(socket.IPPROTO_TCP, socket.TCP_NODELAY, 1)
         self.held = b""
 
