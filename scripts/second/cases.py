@@ -4,12 +4,14 @@ import re
 import forms_verbs
 import ledger_verbs
 import market
+import replies
 import stage_verbs
+import wallet
 from bytes_text import CaseError, bytes_of, words_of
 from setting import Setting
 
 VERBS = {**stage_verbs.VERBS, **forms_verbs.VERBS, **ledger_verbs.VERBS,
-         **market.VERBS}
+         **market.VERBS, **replies.VERBS, **wallet.VERBS}
 NAME = re.compile("[a-z0-9_]+")
 
 

@@ -215,7 +215,7 @@ class Pieces:
 
 AMOUNT = Number(8, 1, MOST_VALUE)
 MOMENT = Number(8, 0, MOMENTS - 1)
-SITE, TERMS, GOODS, ACCEPT, MINT, ACCOUNT, DEPOSIT, WITHDRAW, DRAW, LICENCE, STOCK = range(1, 12)
+SITE, TERMS, GOODS, ACCEPT, MINT, ACCOUNT, DEPOSIT, WITHDRAW, DRAW, LICENCE, STOCK, GOT, PEND, DONE, REFUSED = range(1, 16)
 VENDOR, BROKER = range(2)  # the kinds of sites that are houses
 FORMS = {
     1: (("site", Number(1, 0, 2)), ("name", NAME), ("house", House())),

@@ -1,6 +1,9 @@
 //! Files of cases, line by line.
 
-use crate::{desk_verbs, ledger_verbs, market_verbs, operator_verbs, program_verbs};
+use crate::{
+    desk_verbs, ledger_verbs, market_verbs, operator_verbs, program_verbs, reply_verbs,
+    wallet_verbs,
+};
 use case_lines::{Fault, Lines, State, number, tokens};
 
 /// How far a file was read.
@@ -83,9 +86,25 @@ fn act(state: &mut State, verb: &[u8], args: &[&[u8]], out: &mut Lines) -> Resul
     if let Some(done) = case_lines::act(state, verb, args, out) {
         return done;
     }
-    match on_houses(state, verb, args, out) {
+    if let Some(done) = on_houses(state, verb, args, out) {
+        return done;
+    }
+    match on_wallets(state, verb, args, out) {
         Some(done) => done,
         None => Err(Fault::Verb),
+    }
+}
+
+/// The verbs that ask a wallet's book, or read replies.
+fn on_wallets(
+    state: &mut State,
+    verb: &[u8],
+    args: &[&[u8]],
+    out: &mut Lines,
+) -> Option<Result<(), Fault>> {
+    match wallet_verbs::ask(state, verb, args, out) {
+        Some(done) => Some(done),
+        None => reply_verbs::read(state, verb, args, out),
     }
 }
 

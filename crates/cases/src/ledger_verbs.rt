@@ -84,7 +84,7 @@ fn stage_of(alloc: Global, contents: Vec<u8>) -> Result<Stage, Fault> {
 }
 
 /// The entries of the book.
-fn history(state: &State) -> Result<History, Fault> {
+pub(crate) fn history(state: &State) -> Result<History, Fault> {
     history_on(state.alloc, stage_of_book(state)?)
 }
 

@@ -10,6 +10,8 @@ mod ledger_verbs;
 mod market_verbs;
 mod operator_verbs;
 mod program_verbs;
+mod reply_verbs;
+mod wallet_verbs;
 
 use case_lines::{Fault, Lines, State};
 use files::Progress;
