@@ -8,14 +8,16 @@ ghost use Rattle.ledger_model.specs.Pieces.{accepted_piece};
 ghost use Rattle.ledger_model.specs.Stock.{sale_of};
 ghost use Rattle.balanced_books.specs.Meets.{is_among as is_piece_among};
 ghost use Rattle.balanced_books.specs.Strangers.{AreOfMarket, first_stranger, strangers, handed_of, entry_strangers, stranger, sold_stranger};
-ghost use Rattle.slow_sums.specs.Parts.{part_of, sale_by};
+ghost use Rattle.balanced_books.specs.Parts.{part_of};
+ghost use Rattle.slow_sums.specs.Parts.{sale_by};
 ghost use Rattle.slow_sums.specs.Strangers.{first_of, vendors_of, place_of};
 
 use crate::handed::with_own;
 use crate::minted::is_minted;
-use crate::parts::{Part, accepted_at, is_among};
+use crate::parts::{accepted_at, is_among};
 use crate::sold::{Sold, part_sold, sale_at};
 use crate::vendor::handed_beside;
+use balanced_books::Part;
 use ledger_model::History;
 use mc_base::NoMemory;
 use scrip_form::Id;
