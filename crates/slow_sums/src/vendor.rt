@@ -7,7 +7,7 @@ ghost use Rattle.balanced_books.specs.Sums.{vendor_sums};
 
 use crate::handed::with_own;
 use crate::left::{slow_lapsed, slow_outstanding, sum};
-use crate::parts::Part;
+use balanced_books::Part;
 use crate::sold::with_sold;
 use balanced_books::VendorSums;
 use mc_base::NoMemory;
