@@ -1,5 +1,5 @@
 -- What is kept of a book, by its history.
-use Rattle.std.specs.Prelude.{◌≡◌, ℕ, ◌+◌, map, filter_map, flat_map, Some}
+use Rattle.std.specs.Prelude.{◌≡◌, ℕ, ◌+◌, List, map, filter_map, flat_map, Some}
 use Rattle.mc_records.specs.Entry.{Entry}
 use Rattle.ledger_model.specs.Histories.{History, time}
 use Rattle.ledger_model.specs.Houses.{site_name, site_kind, fee, terms_in}
@@ -7,6 +7,12 @@ use Rattle.ledger_model.specs.Pieces.{own_out}
 use Rattle.ledger_model.specs.Stock.{sales}
 use Rattle.ledger_model.specs.Sums.{amount_in, amount_out, amount_credited, amount_drawn, fee_of, price_paid, paid_in, paid_out, all_credited, all_drawn, fees, takings}
 use Rattle.balanced_books.specs.Parts.{part_of}
+use Rattle.balanced_books.specs.declared.part.Part.{Part}
+use Rattle.book_sums.specs.declared.rows.Acceptance.{Acceptance}
+use Rattle.book_sums.specs.declared.rows.Run.{Run}
+use Rattle.book_sums.specs.declared.rows.Sold.{Sold}
+use Rattle.book_sums.specs.declared.rows.Licence.{Licence}
+use Rattle.book_sums.specs.declared.rows.Stocked.{Stocked}
 use Rattle.book_sums.specs.declared.till.Till.{Till}
 use Rattle.book_sums.specs.declared.pieces.Pieces.{Pieces}
 use Rattle.book_sums.specs.declared.market.Market.{Market}
@@ -59,3 +65,35 @@ pub record SumsRepresent (s : BookSums) (h : History) : Type 0 where
   pub money : ShowsMoney s.till h
   pub pieces' : ShowsPieces s.pieces h
   pub market' : ShowsMarket s.market h
+
+-- ---- what callers see
+
+abbrev pub name_of : BookSums → List ℕ
+name_of s = s.name
+
+abbrev pub kind_of : BookSums → ℕ
+kind_of s = s.kind
+
+abbrev pub time_of : BookSums → ℕ
+time_of s = s.time
+
+abbrev pub till_of : BookSums → Till
+till_of s = s.till
+
+abbrev pub accepted_of : BookSums → List Acceptance
+accepted_of s = s.pieces.accepted.items
+
+abbrev pub own_out_of : BookSums → List Part
+own_out_of s = s.pieces.own_out.items
+
+abbrev pub runs_of : BookSums → List Run
+runs_of s = s.pieces.minted.items
+
+abbrev pub sales_of : BookSums → List Sold
+sales_of s = s.market.sales.items
+
+abbrev pub licences_of : BookSums → List Licence
+licences_of s = s.market.licences.items
+
+abbrev pub stock_rows_of : BookSums → List Stocked
+stock_rows_of s = s.market.stock.items

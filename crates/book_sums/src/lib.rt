@@ -10,7 +10,5 @@ mod rows;
 mod till;
 
 pub use book_sums::BookSums;
-pub use market::Market;
-pub use pieces::Pieces;
 pub use rows::{Acceptance, Licence, Run, Sold, Stocked};
 pub use till::Till;

@@ -19,7 +19,7 @@ use std::alloc::Global;
 
 /// What a broker sold, its licences and its stock, in the order of its entries.
 #[derive(Drop)]
-pub struct Market {
+pub(crate) struct Market {
     pub(crate) sales: Vec<Sold>,
     pub(crate) licences: Vec<Licence>,
     pub(crate) stock: Vec<Stocked>,

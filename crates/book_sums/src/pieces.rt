@@ -16,7 +16,7 @@ use std::alloc::Global;
 
 /// The pieces of a book, in the order of its entries.
 #[derive(Drop)]
-pub struct Pieces {
+pub(crate) struct Pieces {
     pub(crate) accepted: Vec<Acceptance>,
     pub(crate) own_out: Vec<Part>,
     pub(crate) minted: Vec<Run>,
