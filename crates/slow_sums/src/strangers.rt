@@ -7,10 +7,10 @@ ghost use Rattle.ledger_model.specs.Houses.{is_broker};
 ghost use Rattle.ledger_model.specs.Pieces.{accepted_piece};
 ghost use Rattle.ledger_model.specs.Stock.{sale_of};
 ghost use Rattle.balanced_books.specs.Meets.{is_among as is_piece_among};
-ghost use Rattle.balanced_books.specs.Strangers.{AreOfMarket, first_stranger, strangers, handed_of, entry_strangers, stranger, sold_stranger};
+ghost use Rattle.balanced_books.specs.Strangers.{AreOfMarket, first_stranger, strangers, handed_of, entry_strangers, stranger, sold_stranger, first_of};
 ghost use Rattle.balanced_books.specs.Parts.{part_of};
 ghost use Rattle.slow_sums.specs.Parts.{sale_by};
-ghost use Rattle.slow_sums.specs.Strangers.{first_of, vendors_of, place_of};
+ghost use Rattle.slow_sums.specs.Strangers.{vendors_of, place_of};
 
 use crate::handed::with_own;
 use crate::minted::is_minted;
