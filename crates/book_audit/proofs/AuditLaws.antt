@@ -1,6 +1,5 @@
 -- What an audit finds by what was kept of the books is what their histories say.
-use Rattle.std.proofs.Common.{◌≡◌, ℕ, zero, suc, ◌+◌, ◌-◌, ◌≤◌, ◌^◌, Bool, true, false, cond, not, ◌||◌, eqb, eqb-true, true≢false, List, [], ◌∷◌, ◌++◌, map, filter, filter_map, flat_map, bytes_eq, Option, Some, None, option_map, unwrap_or, Result, Ok, Err, refl, sym, ap, ap₂, ◌∙◌, subst, IsTrue, slice_get, arith, append-nil}
-use Rattle.std.specs.Prelude.{IfSome}
+use Rattle.std.proofs.Common.{◌≡◌, ℕ, ◌+◌, Bool, true, false, cond, not, ◌||◌, eqb, eqb-true, true≢false, List, [], ◌∷◌, ◌++◌, map, filter, filter_map, bytes_eq, Option, Some, None, option_map, unwrap_or, refl, sym, ap, ap₂, ◌∙◌, subst, IsTrue}
 use Rattle.std.specs.Option.{option_or}
 use Rattle.std.specs.List.{list_any, AllByRecursion}
 use Rattle.std.proofs.lemmas.List.{map-append}
@@ -9,36 +8,33 @@ use Rattle.scrip_form.specs.Scrip.{Scrip}
 use Rattle.mc_records.specs.declared.limits.Limits.{Limits}
 use Rattle.ledger_model.specs.declared.numbers.TheConstants.{BROKER_KIND, VENDOR_KIND}
 use Rattle.ledger_model.specs.Histories.{History}
-use Rattle.ledger_model.specs.Houses.{site_name, site_kind, is_broker, is_vendor}
+use Rattle.ledger_model.specs.Houses.{site_name, is_broker, is_vendor}
 use Rattle.ledger_model.specs.Pieces.{own_out, is_spent}
 use Rattle.ledger_model.specs.Stock.{Sale, sales, sold, sold_piece}
-use Rattle.ledger_model.specs.Sums.{handed_out, outstanding, lapsed, takings}
+use Rattle.ledger_model.specs.Sums.{handed_out, outstanding, lapsed}
 use Rattle.ledger_model.proofs.KindLaws.{one_house}
 use Rattle.balanced_books.specs.declared.sums.VendorSums.{VendorSums}
 use Rattle.balanced_books.specs.declared.part.Part.{Part}
 use Rattle.balanced_books.specs.Parts.{part_of}
-use Rattle.balanced_books.specs.Meets.{is_among}
-use Rattle.balanced_books.specs.Books.{IsBook, HaveOwnNames, AreBooks}
-use Rattle.balanced_books.specs.Strangers.{handed_of, sold_stranger, strangers, first_of, first_by, first_from, first_stranger, AreOfMarket}
+use Rattle.balanced_books.specs.Books.{IsBook, HaveOwnNames}
+use Rattle.balanced_books.specs.Strangers.{handed_of, sold_stranger, strangers, first_of, first_by, first_from}
 use Rattle.balanced_books.specs.Sums.{vendor_sums}
 use Rattle.balanced_books.proofs.Strange.{sells_nothing}
 use Rattle.balanced_books.proofs.Left.{same_vendor}
 use Rattle.book_sums.specs.declared.rows.Acceptance.{Acceptance}
 use Rattle.book_sums.specs.declared.rows.Sold.{Sold}
 use Rattle.book_sums.specs.declared.book_sums.BookSums.{BookSums}
-use Rattle.book_sums.specs.Rows.{sale_by, acceptance_of}
-use Rattle.book_sums.specs.Learned.{SumsRepresent, name_of, kind_of, till_of, time_of, accepted_of, own_out_of, sales_of}
+use Rattle.book_sums.specs.Rows.{sale_by}
+use Rattle.book_sums.specs.Learned.{SumsRepresent, name_of, kind_of, time_of, accepted_of, sales_of}
 use Rattle.book_audit.specs.declared.shop.Shop.{Shop}
-use Rattle.book_audit.specs.declared.spent.Left.{Left}
 use Rattle.book_audit.specs.Known.{has_part, was_accepted}
 use Rattle.book_audit.specs.Shops.{parts_sold}
 use Rattle.book_audit.specs.Strange.{shop_in, not_in, not_minted, first_in}
-use Rattle.book_audit.specs.Checks.{is_desk, sold_from, handed_from, left_at, left_in, stranger_in, row_of, first_over}
-use Rattle.book_audit.specs.Findings.{vendors_among}
+use Rattle.book_audit.specs.Checks.{is_desk, handed_from, left_at, left_in, stranger_in, row_of, first_over}
 use Rattle.book_audit.specs.Audit.{IsLearned, AreLearned, has_book}
 use Rattle.book_audit.proofs.Ties.{is_same, parts_are, accepted_is, out_is, gone_is}
-use Rattle.book_audit.proofs.ShopLaws.{IsShopAt, sold_are}
-use Rattle.book_audit.proofs.StrangeLaws.{AreShopsAt, HasShop, has_shop, sale_tells, first_is}
+use Rattle.book_audit.proofs.ShopLaws.{sold_are}
+use Rattle.book_audit.proofs.StrangeLaws.{AreShopsAt, has_shop, sale_tells, first_is}
 use Rattle.book_audit.proofs.MarketLaws.{shops_among}
 
 -- ---- lists

@@ -1,16 +1,16 @@
 -- What an audit finds by what was kept of the books, it answers of their histories.
-use Rattle.std.proofs.Common.{◌≡◌, ℕ, zero, suc, ◌+◌, ◌-◌, ◌≤◌, ◌^◌, Bool, true, false, cond, not, List, [], ◌∷◌, map, filter, Option, Some, None, Result, Ok, Err, refl, sym, ap, ap₂, ◌∙◌, subst, slice_get, arith, IsTrue}
+use Rattle.std.proofs.Common.{◌≡◌, ℕ, zero, suc, ◌≤◌, ◌^◌, Bool, true, false, cond, not, List, [], ◌∷◌, map, filter, Result, Ok, Err, refl, sym, ap, ◌∙◌, subst, slice_get, arith, IsTrue}
 use Rattle.std.specs.Prelude.{IfSome}
 use Rattle.std.specs.List.{AllByRecursion}
 use Rattle.scrip_form.specs.Scrip.{Scrip}
 use Rattle.mc_records.specs.declared.limits.Limits.{Limits}
-use Rattle.ledger_model.specs.declared.numbers.TheConstants.{VENDOR_KIND, BROKER_KIND}
+use Rattle.ledger_model.specs.declared.numbers.TheConstants.{VENDOR_KIND}
 use Rattle.ledger_model.specs.Histories.{History}
 use Rattle.ledger_model.specs.Houses.{site_name, is_broker}
 use Rattle.ledger_model.specs.Pieces.{own_out}
 use Rattle.ledger_model.specs.Accounts.{all_balances}
 use Rattle.ledger_model.specs.Stock.{Sale, sales}
-use Rattle.ledger_model.specs.Sums.{handed_out, outstanding, lapsed, paid_in, paid_out, all_credited, all_drawn}
+use Rattle.ledger_model.specs.Sums.{handed_out, outstanding, lapsed}
 use Rattle.ledger_model.proofs.MoneyLaws.{accounts_hold}
 use Rattle.balanced_books.specs.declared.sums.Sums.{Sums}
 use Rattle.balanced_books.specs.declared.sums.Report.{Report}
@@ -20,19 +20,18 @@ use Rattle.balanced_books.specs.Strangers.{handed_of, AreOfMarket, first_strange
 use Rattle.balanced_books.specs.Sums.{vendor_sums, sums_of}
 use Rattle.balanced_books.proofs.Strange.{no_stranger_balanced}
 use Rattle.book_sums.specs.declared.book_sums.BookSums.{BookSums}
-use Rattle.book_sums.specs.declared.till.Till.{Till}
-use Rattle.book_sums.specs.Learned.{ShowsMoney, name_of, till_of, sales_of}
+use Rattle.book_sums.specs.Learned.{name_of, till_of, sales_of}
 use Rattle.book_audit.specs.declared.shop.Shop.{Shop}
 use Rattle.book_audit.specs.declared.totals.Totals.{Totals}
 use Rattle.book_audit.specs.declared.spent.Left.{Left}
 use Rattle.book_audit.specs.declared.fault.AuditFault.{AuditFault}
 use Rattle.book_audit.specs.declared.fault.AuditFault.TheVariants as faults
 use Rattle.book_audit.specs.Checks.{is_desk, left_in, row_of, first_over}
-use Rattle.book_audit.specs.Markets.{only, has_vendor, HasAll}
-use Rattle.book_audit.specs.Findings.{vendors_among, AreShopsOf, HasTotals, accounts_of, report_of, IsMarketOf, FindsReport, FindsMissing, FindsStranger, Finds}
-use Rattle.book_audit.specs.Audit.{IsLearned, AreLearned, has_book, AreMarket, IsReported, IsMissing, IsStranger, Audited}
+use Rattle.book_audit.specs.Markets.{has_vendor, HasAll, AreInOrder}
+use Rattle.book_audit.specs.Findings.{vendors_among, AreShopsOf, HasTotals, accounts_of, report_of, IsMarketOf, Finds}
+use Rattle.book_audit.specs.Audit.{IsLearned, AreLearned, has_book, Audited}
 use Rattle.book_audit.proofs.StrangeLaws.{AreShopsAt}
-use Rattle.book_audit.proofs.MarketLaws.{shops_among, desks, vendors, IsOne, one_kept, kept_one, own_are, are_own, sold_for, least_is, shops_at}
+use Rattle.book_audit.proofs.MarketLaws.{shops_among, desks, vendors, one_kept, kept_one, own_are, are_own, sold_for, least_is, shops_at}
 use Rattle.book_audit.proofs.AuditLaws.{only_one, each_has, broker_book, vendor_book, left_is, over_is, rows_are}
 
 same_sums : (a b : Sums) → a.paid_in ≡ b.paid_in → a.paid_out ≡ b.paid_out → a.accounts ≡ b.accounts → a.fees ≡ b.fees → a.outstanding ≡ b.outstanding → a.lapsed ≡ b.lapsed → a.vendors ≡ b.vendors → a ≡ b
@@ -146,12 +145,13 @@ module _ (limits : Limits) (le : limits.series ≤ 2 ^ 32) (books : List BookSum
             both true e f = absurd cc
             both false e f = absurd cc
 
-        sums_is : (t : Totals) → HasTotals shops (sales_of broker) books t → (report_of broker t).sums ≡ sums_of o.b (shops_among hs)
-        sums_is t has =
+        sums_is : (t : Totals) (rows : List VendorSums) → HasTotals shops (sales_of broker) books t
+            → (report_of broker t rows).sums ≡ record (sums_of o.b (shops_among hs)) { vendors = rows }
+        sums_is t rows has =
             let m = o.learned.sums.money in
             let desk = has.desk broker o.ss_are in
-            same_sums (report_of broker t).sums (sums_of o.b (shops_among hs)) (sym m.paid_in') (sym m.paid_out') (accounts_are limits broker o.b o.learned) (sym m.fees')
-            (ap (λ (l : Left). l.outstanding) desk ∙ desk_left.0) (ap (λ (l : Left). l.lapsed) desk ∙ desk_left.1) (has.rows ∙ rows_is)
+            same_sums (report_of broker t rows).sums (record (sums_of o.b (shops_among hs)) { vendors = rows }) (sym m.paid_in') (sym m.paid_out') (accounts_are limits broker o.b o.learned) (sym m.fees')
+            (ap (λ (l : Left). l.outstanding) desk ∙ desk_left.0) (ap (λ (l : Left). l.lapsed) desk ∙ desk_left.1) refl
 
   named_is : (ss : List BookSums) (gs : List History) (n : ℕ) (name : List ℕ) → AreLearned limits ss gs → IfSome (slice_get ss n) (λ s. name ≡ name_of s) → IfSome (slice_get gs n) (λ h. name ≡ site_name h)
   named_is [] [] n name every named = tt
@@ -172,8 +172,9 @@ module _ (limits : Limits) (le : limits.series ≤ 2 ^ 32) (books : List BookSum
         market = market_is broker o;
         none = none;
         balanced = no_stranger_balanced limits o.b (shops_among hs) hs le lawful (market_is broker o) none;
-        name = ap (λ (x : Report). x.broker) f.report ∙ sym o.learned.sums.name';
-        sums = ap (λ (x : Report). x.sums) f.report ∙ sums_is broker o f.all_there f.shops f.of_shops f.totals f.has;
+        name = ap (λ (x : Report). x.broker) f.report.is ∙ sym o.learned.sums.name';
+        sums = ap (λ (x : Report). x.sums) f.report.is ∙ sums_is broker o f.all_there f.shops f.of_shops f.totals r.sums.vendors f.has;
+        rows = subst (λ (l : List VendorSums). AreInOrder l r.sums.vendors) (f.has.rows ∙ rows_is broker o f.all_there f.shops f.of_shops) f.report.rows;
       }
   audited (Err faults.BadBooks) none = λ b ws market.
       let one = kept_one limits (filter is_desk books) (filter is_broker hs) b (desks limits books hs all) market.market.one_broker in

@@ -1,8 +1,18 @@
 -- What functions answer, by what those that they call answered.
-use Rattle.std.proofs.Common.{◌≡◌, ℕ, ◌+◌, ◌<◌, Bool, true, false, List, [], ◌∷◌, ◌++◌, length, take, drop, get_or, sum_by, Option, Some, None, Result, Ok, Err, IfOk, refl, sym, ap, ap₂, ◌∙◌, subst, arith}
+use Rattle.std.proofs.Common.{◌≡◌, ℕ, ◌+◌, ◌<◌, Bool, true, false, List, [], ◌∷◌, ◌++◌, length, take, drop, get_or, sum_by, Option, Some, Result, Ok, Err, IfOk, refl, sym, ap, ap₂, ◌∙◌, subst}
 use Rattle.std.specs.Prelude.{IfSome}
 use Rattle.std.proofs.lemmas.Option.{slice_get-get_or}
-use Rattle.std.proofs.lemmas.List.Sums.{sum_by-cons}
+use Rattle.std.specs.Borrow.{Bor}
+use denote.Param.Members.{Mut}
+use Rattle.std.specs.Fn.{Called, ComparesAs}
+use Rattle.std.specs.Cmp.{IsStrictWeakOrder}
+use Rattle.std.specs.Cmp.Lexicographic.{slice_cmp, nat_list_cmp_total}
+use Rattle.std.specs.Ordering.{nat_cmp, is_lt}
+use Rattle.std.specs.declared.cmp.Ordering.{Ordering}
+use Rattle.std.specs.List.Sorted.{IsSortedBy}
+use Rattle.std.proofs.lemmas.Fn.{always_returns_same}
+use Rattle.std.proofs.lemmas.List.MinMax.{ranks_by}
+use Rattle.balanced_books.specs.declared.sums.VendorSums.{VendorSums}
 use Rattle.balanced_books.specs.declared.part.Part.{Part}
 use Rattle.book_sums.specs.declared.rows.Acceptance.{Acceptance}
 use Rattle.book_sums.specs.declared.book_sums.BookSums.{BookSums}
@@ -18,7 +28,7 @@ use Rattle.book_audit.specs.declared.check.CheckFault.TheVariants as checks
 use Rattle.book_audit.specs.Known.{has_id, was_accepted, out_at, gone_at}
 use Rattle.book_audit.specs.Shops.{IsShopOf}
 use Rattle.book_audit.specs.Checks.{is_desk, left_at, ChecksBook, fault_at, first_over}
-use Rattle.book_audit.specs.Markets.{has_vendor, HasAll}
+use Rattle.book_audit.specs.Markets.{has_vendor, HasAll, by_name}
 use Rattle.book_audit.specs.Findings.{vendors_among, AreShopsOf, FindsTotals, IsMarketOf, Finds}
 use Rattle.book_audit.proofs.Ties.{sums_alike}
 use Rattle.book_audit.proofs.TotalLaws.{vendors_same, vendors_next, shops_more, search_ends}
@@ -76,3 +86,13 @@ finds_fault broker books shops (faults.MissingBook name) market there of found =
 -- what is found beside shops and sales that are the same
 pub found_same : (books : List BookSums) (r : Result Totals AuditFault) (shops shops2 : List Shop) (sales sales2 : List Sold) → shops ≡ shops2 → sales ≡ sales2 → FindsTotals shops sales books r → FindsTotals shops2 sales2 books r
 found_same books r shops shops2 sales sales2 e f found = subst (λ (x : List Shop). FindsTotals x sales2 books r) e (subst (λ (x : List Sold). FindsTotals shops x books r) f found)
+
+-- ---- the order of a report
+
+-- what a sort ensures where each call compares the names
+pub sorted_by_name : {F : Type 0} {g : Mut F (Bor VendorSums × (Bor VendorSums × Unit {0})) Ordering} {f : F} (xs : List VendorSums)
+    → ((lt : VendorSums → VendorSums → Bool) → IsStrictWeakOrder lt → ComparesAs g lt f → IsSortedBy lt xs)
+    → ((a : Bor VendorSums × (Bor VendorSums × Unit {0})) (r : Ordering) (f' : F) → Called g f a r f' → (r ≡ slice_cmp nat_cmp a.0.now.name a.1.0.now.name) × (f' ≡ f)) → IsSortedBy by_name xs
+sorted_by_name {g = g} {f = f} xs up h =
+    up by_name (ranks_by nat_list_cmp_total (λ (v : VendorSums). v.name))
+    (always_returns_same g (λ a r. is_lt r ≡ is_lt (slice_cmp nat_cmp a.0.now.name a.1.0.now.name)) f (λ a r f' k. (ap is_lt (h a r f' k).0, (h a r f' k).1)))

@@ -1,21 +1,20 @@
 -- Which books stand together, by what was kept of them and by their histories.
-use Rattle.std.proofs.Common.{◌≡◌, ℕ, Bool, true, false, cond, not, eqb, ◌&&◌, ◌||◌, List, [], ◌∷◌, ◌++◌, map, filter, bytes_eq, Option, Some, None, option_map, unwrap_or, refl, sym, ap, ap₂, ◌∙◌, subst, IsTrue, IsFalse}
+use Rattle.std.proofs.Common.{◌≡◌, ℕ, Bool, true, false, cond, not, eqb, ◌&&◌, ◌||◌, List, [], ◌∷◌, map, filter, bytes_eq, Option, Some, option_map, unwrap_or, refl, sym, ap, ap₂, ◌∙◌, subst, IsTrue}
 use Rattle.std.specs.List.{list_any, AllByRecursion}
-use Rattle.std.proofs.lemmas.Slice.Eq.{bytes_eq-Decides}
 use Rattle.mc_records.specs.declared.limits.Limits.{Limits}
 use Rattle.ledger_model.specs.declared.numbers.TheConstants.{BROKER_KIND}
 use Rattle.ledger_model.specs.Histories.{History}
-use Rattle.ledger_model.specs.Houses.{site_name, site_kind, is_broker}
+use Rattle.ledger_model.specs.Houses.{site_name, is_broker}
 use Rattle.ledger_model.specs.Stock.{Sale, sales}
 use Rattle.ledger_model.proofs.AccountLaws as names
 use Rattle.balanced_books.specs.Books.{HaveOwnNames}
 use Rattle.book_sums.specs.declared.rows.Sold.{Sold}
 use Rattle.book_sums.specs.declared.book_sums.BookSums.{BookSums}
 use Rattle.book_sums.specs.Rows.{sale_by}
-use Rattle.book_sums.specs.Learned.{SumsRepresent, name_of}
+use Rattle.book_sums.specs.Learned.{SumsRepresent}
 use Rattle.book_audit.specs.declared.shop.Shop.{Shop}
 use Rattle.book_audit.specs.Checks.{is_desk}
-use Rattle.book_audit.specs.Markets.{only, is_vendor_named, has_vendor, own_names, comes_before, IsLeast, HasAll}
+use Rattle.book_audit.specs.Markets.{only, has_vendor, own_names, comes_before, IsLeast, HasAll}
 use Rattle.book_audit.specs.Findings.{vendors_among, AreShopsOf}
 use Rattle.book_audit.specs.Audit.{IsLearned, AreLearned, has_book, IsLeastMissing}
 use Rattle.book_audit.proofs.ShopLaws.{shop_at}

@@ -1,6 +1,6 @@
 -- What loops over names keep, at one more of them.
-use Rattle.std.proofs.Common.{◌≡◌, ℕ, ◌+◌, ◌<◌, Bool, true, false, cond, not, ◌&&◌, ◌||◌, true≢false, List, [], ◌∷◌, ◌++◌, length, take, drop, get_or, bytes_eq, Option, Some, None, refl, sym, ap, ap₂, ◌∙◌, subst}
-use Rattle.std.specs.Prelude.{is_some, MatchOption, MatchResult}
+use Rattle.std.proofs.Common.{◌≡◌, ℕ, ◌+◌, ◌<◌, Bool, true, false, cond, not, ◌&&◌, ◌||◌, true≢false, List, [], ◌∷◌, ◌++◌, length, take, get_or, bytes_eq, Option, Some, None, refl, sym, ap, ap₂, ◌∙◌, subst}
+use Rattle.std.specs.Prelude.{is_some, MatchOption}
 use Rattle.std.specs.List.{list_any, AllByRecursion}
 use Rattle.std.specs.Ordering.{nat_cmp, is_lt, ordering_reverse}
 use Rattle.std.specs.declared.cmp.Ordering.{Ordering}
@@ -15,7 +15,7 @@ use Rattle.book_sums.specs.declared.book_sums.BookSums.{BookSums}
 use Rattle.book_sums.specs.Learned.{name_of}
 use Rattle.book_audit.specs.Checks.{is_desk}
 use Rattle.book_audit.specs.Markets.{is_vendor_named, has_vendor, own_names, comes_before, IsLeast, HasAll}
-use Rattle.book_audit.proofs.Loops.{one_more, any_more}
+use Rattle.book_audit.proofs.Loops.{any_more}
 
 -- ---- the order of names
 

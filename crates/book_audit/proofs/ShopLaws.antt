@@ -9,11 +9,11 @@ use Rattle.std.proofs.lemmas.List.Elements.{filter_map-append}
 use Rattle.std.proofs.lemmas.Slice.Eq.{bytes_eq-Decides}
 use Rattle.scrip_form.specs.Issuing.{Issuing}
 use Rattle.scrip_form.specs.Scrip.{Scrip}
-use Rattle.mc_records.specs.Entry.{Held, Entry, Licence, Stock}
+use Rattle.mc_records.specs.Entry.{Held, Licence, Stock}
 use Rattle.ledger_model.specs.Histories.{History}
 use Rattle.ledger_model.specs.Houses.{site_name}
 use Rattle.ledger_model.specs.Pieces.{piece_of, minted}
-use Rattle.ledger_model.specs.Stock.{licence_terms, is_licence_of, licence_in, stock_of, held_piece, held_pieces, stock_pieces, Sale, sales, is_of_vendor, licensed_piece, sold_piece, sold}
+use Rattle.ledger_model.specs.Stock.{licence_terms, is_licence_of, licence_in, stock_of, held_piece, held_pieces, stock_pieces, Sale, is_of_vendor, licensed_piece, sold_piece}
 use Rattle.balanced_books.specs.declared.part.Part.{Part}
 use Rattle.balanced_books.specs.Parts.{part_of}
 use Rattle.book_sums.specs.declared.rows.Sold.{Sold}

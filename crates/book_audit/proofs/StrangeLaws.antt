@@ -1,11 +1,10 @@
 -- The first stranger of a book, by what was kept of it and by its history.
-use Rattle.std.proofs.Common.{◌≡◌, ℕ, ◌+◌, Bool, true, false, cond, eqb, ◌&&◌, ◌||◌, List, [], ◌∷◌, ◌++◌, map, find, filter_map, flat_map, bytes_eq, Option, Some, None, option_map, refl, sym, ap, ap₂, ◌∙◌, IsTrue, append-nil}
+use Rattle.std.proofs.Common.{◌≡◌, ℕ, Bool, true, false, cond, ◌&&◌, ◌||◌, List, [], ◌∷◌, ◌++◌, map, filter_map, flat_map, bytes_eq, Option, Some, None, option_map, refl, sym, ap, ap₂, ◌∙◌}
 use Rattle.std.specs.Prelude.{option_and_then, is_some}
 use Rattle.std.specs.Option.{option_or}
 use Rattle.std.specs.List.{list_any, cons_option, AllByRecursion}
-use Rattle.std.proofs.lemmas.Slice.Eq.{bytes_eq-Decides}
 use Rattle.scrip_form.specs.Scrip.{Scrip}
-use Rattle.mc_records.specs.Entry.{Entry, Accept}
+use Rattle.mc_records.specs.Entry.{Accept}
 use Rattle.ledger_model.specs.Histories.{History}
 use Rattle.ledger_model.specs.Houses.{site_name}
 use Rattle.ledger_model.specs.Pieces.{piece_of, minted}
@@ -14,7 +13,6 @@ use Rattle.ledger_model.proofs.AccountLaws as names
 use Rattle.balanced_books.specs.Meets.{is_among}
 use Rattle.balanced_books.specs.Books.{HaveOwnNames}
 use Rattle.balanced_books.specs.Strangers.{handed_of, is_minted, stranger, sold_stranger, entry_strangers, first_of}
-use Rattle.balanced_books.specs.declared.part.Part.{Part}
 use Rattle.balanced_books.specs.Parts.{part_of}
 use Rattle.balanced_books.proofs.Balanced.{no_other}
 use Rattle.balanced_books.proofs.Strange.{none_minted}
@@ -23,8 +21,7 @@ use Rattle.book_sums.specs.Rows.{acceptance_of, sale_by}
 use Rattle.book_audit.specs.declared.shop.Shop.{Shop}
 use Rattle.book_audit.specs.Known.{knows}
 use Rattle.book_audit.specs.Shops.{part_sold}
-use Rattle.book_audit.specs.Strange.{not_in, is_shop, shop_in, not_minted, next_sale, later_sales, strange_of, first_in}
-use Rattle.book_audit.proofs.Ties.{is_same}
+use Rattle.book_audit.specs.Strange.{not_in, shop_in, not_minted, next_sale, later_sales, strange_of, first_in}
 use Rattle.book_audit.proofs.ShopLaws.{IsShopAt, part_is}
 
 first_append : (xs ys : List ℕ) → first_of (xs ++ ys) ≡ option_or (first_of xs) (first_of ys)

@@ -5,16 +5,15 @@ use Rattle.std.proofs.lemmas.Bool.Decides.{nat_tests}
 use Rattle.std.proofs.lemmas.List.Folds.{list_any-append}
 use Rattle.std.proofs.lemmas.List.Sums.{sum_by-cons}
 use Rattle.scrip_form.specs.Scrip.{Scrip}
-use Rattle.mc_records.specs.Entry.{Entry, Accept, Mint}
+use Rattle.mc_records.specs.Entry.{Accept, Mint}
 use Rattle.ledger_model.specs.Histories.{History, time}
-use Rattle.ledger_model.specs.Pieces.{piece_of, accepted, is_spent, run_from, minted_from, minted}
+use Rattle.ledger_model.specs.Pieces.{piece_of, accepted, is_spent, run_from, minted_from}
 use Rattle.ledger_model.specs.Sums.{outstanding, lapsed}
-use Rattle.balanced_books.specs.Meets.{is_among}
 use Rattle.balanced_books.specs.declared.part.Part.{Part}
 use Rattle.balanced_books.specs.Parts.{part_of, still_out, gone_by}
 use Rattle.balanced_books.proofs.Left.{outstanding_is, lapsed_is}
 use Rattle.book_sums.specs.Rows.{acceptance_of, run_of}
-use Rattle.book_audit.specs.Known.{has_part, is_part, is_in_run, is_piece, is_of, was_accepted, out_at, gone_at}
+use Rattle.book_audit.specs.Known.{has_part, is_in_run, is_piece, was_accepted, out_at, gone_at}
 
 pub turned : (a b : ℕ) → eqb a b ≡ eqb b a
 turned a b = go (eqb a b) refl (eqb b a) refl

@@ -1,5 +1,5 @@
 -- What an audit of books answers, by their histories.
-use Rattle.std.specs.Prelude.{◌≡◌, ℕ, Bool, true, false, List, [], ◌∷◌, bytes_eq, Option, None, Some, IfSome, slice_get, Result, Ok, Err}
+use Rattle.std.specs.Prelude.{◌≡◌, ℕ, Bool, true, false, List, [], ◌∷◌, map, bytes_eq, None, Some, IfSome, slice_get, Result, Ok, Err}
 use Rattle.std.specs.List.{list_any, AllByRecursion}
 use Rattle.mc_records.specs.declared.limits.Limits.{Limits}
 use Rattle.mc_records.specs.Entry.{Fits}
@@ -10,12 +10,12 @@ use Rattle.ledger_model.specs.Stock.{sales}
 use Rattle.balanced_books.specs.declared.sums.Report.{Report}
 use Rattle.balanced_books.specs.Books.{HaveOwnNames, AreBooks, IsBalanced}
 use Rattle.balanced_books.specs.Strangers.{AreOfMarket, first_stranger}
-use Rattle.balanced_books.specs.Sums.{sums_of}
+use Rattle.balanced_books.specs.Sums.{vendor_sums, sums_of}
 use Rattle.book_sums.specs.declared.book_sums.BookSums.{BookSums}
 use Rattle.book_sums.specs.Learned.{SumsRepresent}
 use Rattle.book_audit.specs.declared.fault.AuditFault.{AuditFault}
 use Rattle.book_audit.specs.declared.fault.AuditFault.TheVariants as faults
-use Rattle.book_audit.specs.Markets.{comes_before}
+use Rattle.book_audit.specs.Markets.{comes_before, AreInOrder}
 
 -- ---- what was learned
 
@@ -48,7 +48,8 @@ pub record IsLeastMissing (b : History) (vs : List History) (name : List ℕ) : 
   pub missing : has_book vs name ≡ false
   pub least : AllByRecursion (λ s. has_book vs s.vendor ≡ false → comes_before s.vendor name ≡ false) (sales b)
 
--- the books are reported: they balance, and no stranger stands in them
+-- The books are reported: they balance, and no stranger stands in them. The sums are those of the ledger, with the
+-- vendors' in the order of their names.
 pub record IsReported (limits : Limits) (books : List History) (r : Report) : Type 0 where
   pub broker : History
   pub vendors : List History
@@ -57,7 +58,8 @@ pub record IsReported (limits : Limits) (books : List History) (r : Report) : Ty
   pub none : first_stranger broker vendors books ≡ None
   pub balanced : IsBalanced broker vendors
   pub name : r.broker ≡ site_name broker
-  pub sums : r.sums ≡ sums_of broker vendors
+  pub sums : r.sums ≡ record (sums_of broker vendors) { vendors = r.sums.vendors }
+  pub rows : AreInOrder (map (vendor_sums broker) vendors) r.sums.vendors
 
 pub record IsMissing (books : List History) (name : List ℕ) : Type 0 where
   pub broker : History

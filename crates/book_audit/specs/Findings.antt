@@ -1,21 +1,18 @@
 -- What an audit finds, by what was kept of the books.
-use Rattle.std.specs.Prelude.{◌≡◌, ◌≢◌, ℕ, ◌+◌, ◌-◌, false, true, not, List, [], ◌∷◌, map, filter, Option, Some, None, IfSome, slice_get, Result, Ok, Err}
-use Rattle.std.specs.List.Sorted.{IsPermutation}
+use Rattle.std.specs.Prelude.{◌≡◌, ℕ, ◌+◌, ◌-◌, true, not, List, [], ◌∷◌, map, filter, Some, None, IfSome, slice_get, Result, Ok, Err}
 use Rattle.balanced_books.specs.declared.sums.Report.{Report}
-use Rattle.balanced_books.specs.declared.sums.Sums.{Sums}
 use Rattle.balanced_books.specs.declared.sums.VendorSums.{VendorSums}
 use Rattle.book_sums.specs.declared.rows.Sold.{Sold}
 use Rattle.book_sums.specs.declared.till.Till.{Till}
 use Rattle.book_sums.specs.declared.book_sums.BookSums.{BookSums}
 use Rattle.book_sums.specs.Learned.{name_of, till_of, sales_of}
 use Rattle.book_audit.specs.declared.shop.Shop.{Shop}
-use Rattle.book_audit.specs.declared.spent.Left.{Left}
 use Rattle.book_audit.specs.declared.totals.Totals.{Totals}
 use Rattle.book_audit.specs.declared.fault.AuditFault.{AuditFault}
 use Rattle.book_audit.specs.declared.fault.AuditFault.TheVariants as faults
 use Rattle.book_audit.specs.Shops.{IsShopOf}
 use Rattle.book_audit.specs.Checks.{is_desk, left_in, row_of, first_over}
-use Rattle.book_audit.specs.Markets.{only, has_vendor, own_names, IsLeast, HasAll}
+use Rattle.book_audit.specs.Markets.{only, has_vendor, own_names, IsLeast, HasAll, AreInOrder}
 
 -- the vendors' books
 abbrev pub vendors_among : List BookSums → List BookSums
@@ -57,9 +54,9 @@ pub record IsMarketOf (broker : BookSums) (books : List BookSums) : Type 0 where
   pub one : only (filter is_desk books) ≡ Some broker
   pub own : own_names books ≡ true
 
--- the report of these sums of all books
-abbrev pub report_of : BookSums → Totals → Report
-report_of broker t = record {
+-- the report of these sums of all books, with those of the vendors in this order
+abbrev pub report_of : BookSums → Totals → List VendorSums → Report
+report_of broker t rows = record {
   broker = name_of broker;
   sums = record {
     paid_in = (till_of broker).paid_in;
@@ -68,9 +65,14 @@ report_of broker t = record {
     fees = (till_of broker).fees;
     outstanding = t.desk.outstanding;
     lapsed = t.desk.lapsed;
-    vendors = t.vendors.items;
+    vendors = rows;
   };
 }
+
+-- it has the vendors in the order of their names
+pub record IsReportOf (broker : BookSums) (t : Totals) (r : Report) : Type 0 where
+  pub is : r ≡ report_of broker t r.sums.vendors
+  pub rows : AreInOrder t.vendors.items r.sums.vendors
 
 -- what is found beside a broker's book
 pub record FindsReport (broker : BookSums) (books : List BookSums) (r : Report) : Type 0 where
@@ -80,7 +82,7 @@ pub record FindsReport (broker : BookSums) (books : List BookSums) (r : Report) 
   pub of_shops : AreShopsOf broker (vendors_among books) shops
   pub totals : Totals
   pub has : HasTotals shops (sales_of broker) books totals
-  pub report : r ≡ report_of broker totals
+  pub report : IsReportOf broker totals r
 
 pub record FindsMissing (broker : BookSums) (books : List BookSums) (name : List ℕ) : Type 0 where
   pub market : IsMarketOf broker books

@@ -1,8 +1,10 @@
 -- Which books stand together, by what was kept of them.
-use Rattle.std.specs.Prelude.{◌≡◌, ℕ, Bool, true, false, not, ◌&&◌, ◌||◌, List, [], ◌∷◌, filter, bytes_eq, Option, Some, None, is_some}
+use Rattle.std.specs.Prelude.{◌≡◌, ℕ, Bool, true, false, not, ◌&&◌, ◌||◌, List, [], ◌∷◌, bytes_eq, Option, Some, None}
 use Rattle.std.specs.List.{list_any, AllByRecursion}
+use Rattle.std.specs.List.Sorted.{IsPermutation, IsSortedBy}
 use Rattle.std.specs.Ordering.{nat_cmp, is_lt}
 use Rattle.std.specs.Cmp.Lexicographic.{slice_cmp}
+use Rattle.balanced_books.specs.declared.sums.VendorSums.{VendorSums}
 use Rattle.book_sums.specs.declared.rows.Sold.{Sold}
 use Rattle.book_sums.specs.declared.book_sums.BookSums.{BookSums}
 use Rattle.book_sums.specs.Learned.{name_of}
@@ -38,3 +40,13 @@ pub record IsLeast (has : List ℕ → Bool) (sales : List Sold) (name : List �
 -- no name is lacking
 abbrev pub HasAll : (List ℕ → Bool) → List Sold → Type 0
 HasAll has sales = AllByRecursion (λ s. has s.vendor ≡ true) sales
+
+-- ---- the order of a report
+
+abbrev pub by_name : VendorSums → VendorSums → Bool
+by_name a b = comes_before a.name b.name
+
+-- the sums of vendors in the order of their names
+pub record AreInOrder (rows ordered : List VendorSums) : Type 0 where
+  pub same : IsPermutation rows ordered
+  pub order : IsSortedBy by_name ordered

@@ -1,5 +1,5 @@
 -- What a broker has of a vendor to sell, by what was kept of their books.
-use Rattle.std.specs.Prelude.{◌≡◌, ℕ, Bool, ◌==◌, ◌&&◌, if◌then◌else◌, List, filter, filter_map, find, bytes_eq, Option, option_map, option_and_then}
+use Rattle.std.specs.Prelude.{◌≡◌, ℕ, Bool, ◌==◌, ◌&&◌, if◌then◌else◌, List, filter, filter_map, find, bytes_eq, Option, option_map}
 use Rattle.std.specs.List.{list_any}
 use Rattle.std.specs.Map.{lookup}
 use Rattle.scrip_form.specs.Issuing.{Issuing, series_end}

@@ -4,18 +4,19 @@ ghost use Rattle.std.specs.Prelude.{◌≡◌, ◌≤◌, ◌^◌, List as Items
 ghost use Rattle.mc_records.specs.declared.limits.Limits.{Limits as Bounds};
 ghost use Rattle.ledger_model.specs.Histories.{History};
 ghost use Rattle.book_audit.specs.Audit.{AreLearned, Audited};
-ghost use Rattle.book_audit.specs.Findings.{Finds, report_of};
+ghost use Rattle.book_audit.specs.Findings.{Finds, IsReportOf};
+ghost use Rattle.book_audit.specs.Markets.{AreInOrder};
 
 use crate::fault::AuditFault;
 use crate::market::{least_lacking, only_broker, vendor_names};
 use crate::totals::{Totals, accounts_of, shops_of, totals_of};
-use balanced_books::{Report, Sums};
+use balanced_books::{Report, Sums, VendorSums};
 use book_sums::BookSums;
 use mc_base::{List, NoMemory};
 use std::alloc::Global;
 
 /// Audits books of which all was learned, in the order in which they were read: the report, with the sums of the vendors
-/// in the order of their books, or why there is none. `BadBooks` comes exactly where there is not one broker's book or two
+/// in the order of their names, or why there is none. `BadBooks` comes exactly where there is not one broker's book or two
 /// vendors share a name, and then `MissingBook` exactly where the broker sold of a vendor whose book is not there, with the
 /// least such name, and then `Stranger` exactly where one stands, with the first. `NotJournal`, `BadRecord`, `Unlawful` and
 /// `Disk` do not come. It takes memory for the pieces of one book at a time, beside what each vendor minted and what the
@@ -57,9 +58,9 @@ fn find(alloc: Global, books: &[BookSums]) -> Result<Report, AuditFault>
     }
 }
 
-/// The report of these sums.
+/// The report of these sums, with the vendors in the order of their names.
 fn report(broker: &BookSums, totals: Totals) -> Result<Report, NoMemory>
-    ensures { IfOk result (λ r. r ≡ report_of broker.now totals) }
+    ensures { IfOk result (IsReportOf broker.now totals) }
 {
     let Totals { desk, vendors } = totals;
     let till = broker.till();
@@ -72,7 +73,15 @@ fn report(broker: &BookSums, totals: Totals) -> Result<Report, NoMemory>
             fees: till.fees,
             outstanding: desk.outstanding,
             lapsed: desk.lapsed,
-            vendors: List::of(vendors),
+            vendors: List::of(by_name(vendors)?),
         },
     })
+}
+
+/// The sums of vendors in the order of their names, by their bytes.
+fn by_name(mut vendors: Vec<VendorSums>) -> Result<Vec<VendorSums>, NoMemory>
+    ensures { IfOk result (λ ordered. AreInOrder vendors.items ordered.items) }
+{
+    vendors.sort_by(|a, b| a.name.bytes().cmp(b.name.bytes()))?;
+    Ok(vendors)
 }

@@ -1,4 +1,4 @@
-use Rattle.std.proofs.Common.{◌≡◌, ℕ, ◌+◌, Bool, not, List, ◌++◌, ◌∷◌, [], take, Option, Some, sym, ap, ◌∙◌, subst}
+use Rattle.std.proofs.Common.{◌≡◌, ℕ, ◌+◌, Bool, not, List, ◌++◌, ◌∷◌, [], take, Option, sym, ap, ◌∙◌, subst}
 use Rattle.std.specs.Prelude.{is_some, MatchOption}
 use Rattle.name_places.specs.NamePlaces.{place_of}
 use Rattle.book_sums.specs.declared.rows.Sold.{Sold}
@@ -18,12 +18,12 @@ loop-sale-preserved c =
     let on : (o : Option (List ℕ)) → MatchOption o (HasAll has (take i sales ++ s ∷ [])) (IsLeast has (take i sales ++ s ∷ [])) → MatchOption o (HasAll has (take (i + 1) sales)) (IsLeast has (take (i + 1) sales)) =
     λ o. subst (λ (l : List Sold). MatchOption o (HasAll has l) (IsLeast has l)) (sym (one_more sales i s c.loop-sale-test.true c.sale-item.is)) in
     elim c.if-is_none.branch [
-      then-is_none w ↦
-        on c.if-is_none.least
-        (subst (λ (o : Option (List ℕ)). MatchOption o (HasAll has (take i sales ++ s ∷ [])) (IsLeast has (take i sales ++ s ∷ []))) (sym w.least-is)
-        (least_more has (take i sales) s c.loop-sale.least w.lesser.result (at ∙ c.is_none.ensures ∙ ap not w.if-is_none.true) c.loop-sale.invariant w.lesser.ensures))
-    | else-is_none w ↦
-        on c.if-is_none.least
-        (subst (λ (o : Option (List ℕ)). MatchOption o (HasAll has (take i sales ++ s ∷ [])) (IsLeast has (take i sales ++ s ∷ []))) (sym w.least-is)
-        (least_same has (take i sales) s c.loop-sale.least (at ∙ c.is_none.ensures ∙ ap not w.if-is_none.false) c.loop-sale.invariant))
+      | then-is_none w ↦
+          on c.if-is_none.least
+          (subst (λ (o : Option (List ℕ)). MatchOption o (HasAll has (take i sales ++ s ∷ [])) (IsLeast has (take i sales ++ s ∷ []))) (sym w.least-is)
+          (least_more has (take i sales) s c.loop-sale.least w.lesser.result (at ∙ c.is_none.ensures ∙ ap not w.if-is_none.true) c.loop-sale.invariant w.lesser.ensures))
+      | else-is_none w ↦
+          on c.if-is_none.least
+          (subst (λ (o : Option (List ℕ)). MatchOption o (HasAll has (take i sales ++ s ∷ [])) (IsLeast has (take i sales ++ s ∷ []))) (sym w.least-is)
+          (least_same has (take i sales) s c.loop-sale.least (at ∙ c.is_none.ensures ∙ ap not w.if-is_none.false) c.loop-sale.invariant))
     ]

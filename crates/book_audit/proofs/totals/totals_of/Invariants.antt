@@ -1,4 +1,4 @@
-use Rattle.std.proofs.Common.{◌≡◌, List, [], ◌∷◌, map, filter, take, drop}
+use Rattle.std.proofs.Common.{◌≡◌, [], ◌∷◌, map, filter, take, drop}
 use Rattle.book_sums.specs.declared.book_sums.BookSums.{BookSums}
 use Rattle.book_audit.specs.Checks.{is_desk, left_in, row_of, first_over}
 use Rattle.book_audit.specs.Findings.{vendors_among}

@@ -1,4 +1,3 @@
-use Rattle.std.proofs.Common.{arith}
 use Rattle.book_audit.proofs.Loops.{known_more}
 use Rattle.book_audit.proofs.known.Known.of_parts.Goals as goal
 

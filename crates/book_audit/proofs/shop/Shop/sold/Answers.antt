@@ -1,4 +1,4 @@
-use Rattle.std.proofs.Common.{◌≡◌, true, false, sym, ap, ap₂, ◌∙◌, Some, None, append-nil, bytes_eq}
+use Rattle.std.proofs.Common.{◌≡◌, sym, ap, ap₂, ◌∙◌, Some, None, append-nil, bytes_eq}
 use Rattle.book_audit.proofs.Loops.{sold_more, sold_other}
 use Rattle.book_audit.proofs.shop.Shop.sold.Goals as goal
 use Rattle.book_audit.proofs.shop.Shop.sold.Goals.{then-eq+in-Some+in_ok-push-in-Some, then-eq+in-None, else-eq}
