@@ -1,5 +1,5 @@
 -- What a reader that learned a history has kept of it.
-use Rattle.std.proofs.Common.{ℕ, List, [], ◌∷◌}
+use Rattle.std.proofs.Common.{[], ◌∷◌}
 use Rattle.std.specs.List.{AllByRecursion}
 use Rattle.mc_records.specs.Entry.{Fits}
 use Rattle.mc_records.specs.Following.{AllFollowBy}

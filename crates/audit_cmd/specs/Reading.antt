@@ -1,12 +1,10 @@
 -- What reading a book answers.
-use Rattle.std.specs.Prelude.{◌≡◌, ℕ, ◌≤◌, List, Result, Ok, Err}
-use Rattle.std.specs.List.{AllByRecursion}
+use Rattle.std.specs.Prelude.{◌≡◌, ℕ, List, Result, Ok, Err}
 use Rattle.mc_outside.specs.Bytes.{BeginsWith}
-use Rattle.mc_records.specs.Entry.{Entry, Fits}
 use Rattle.mc_records.specs.declared.limits.TheConstants.Limits.{FULL}
 use Rattle.ledger_model.specs.Histories.{History, time}
 use Rattle.ledger_model.specs.Houses.{IsHouseKind}
-use Rattle.ledger_model.specs.Lawful.{MayFollow, IsLawful}
+use Rattle.ledger_model.specs.Lawful.{MayFollow}
 use Rattle.scrip_journal.specs.Layout.{header, Encodes}
 use Rattle.scrip_journal.specs.Causes.{SpoilsAt, IsUnlawfulAt, IsOfOther}
 use Rattle.scrip_journal.specs.Founds.{fault_disk}
