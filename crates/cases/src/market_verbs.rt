@@ -1,9 +1,9 @@
 //! Lines that ask for the sums of the books of a broker and of vendors, and for the first stranger in them.
 
 use crate::ledger_verbs::history_of;
+use balanced_books::{Sums, VendorSums};
 use case_lines::{Fault, Lines, State};
 use ledger_model::History;
-use balanced_books::{Sums, VendorSums};
 use slow_sums::{slow_first_stranger, slow_sums};
 
 /// The verbs of this module; None where the verb is none of them.
