@@ -8,3 +8,4 @@ pub mod Strange
 pub mod Expiry
 pub mod Rows
 pub mod Brokers
+pub mod Left

@@ -103,7 +103,7 @@ none_by b vs h (e ∷ es) among all =
 
 -- ---- the one vendor of a name
 
-none_minted : (name : List ℕ) (p : Scrip) (vs : List History) → AllByRecursion (λ v. bytes_eq name (site_name v) ≡ false) vs → is_minted vs name p ≡ false
+pub none_minted : (name : List ℕ) (p : Scrip) (vs : List History) → AllByRecursion (λ v. bytes_eq name (site_name v) ≡ false) vs → is_minted vs name p ≡ false
 none_minted name p [] all = refl
 none_minted name p (v ∷ vs) all = go (bytes_eq name (site_name v)) all.0 (none_minted name p vs all.1)
   where
@@ -238,7 +238,7 @@ nothing_sold limits x xs (e ∷ es) vendor follow =
     ap (λ (o : Option Sale). cons_option o (sales es)) (no_sale limits (x ∷ xs) e vendor follow.0.allowed)
     ∙ nothing_sold limits x (xs ++ e ∷ []) es (ap is_vendors (first_kind x (xs ++ e ∷ []) xs) ∙ vendor) follow.1
 
-sells_nothing : (limits : Limits) (v : History) → IsBook limits VENDOR_KIND v → sales v ≡ []
+pub sells_nothing : (limits : Limits) (v : History) → IsBook limits VENDOR_KIND v → sales v ≡ []
 sells_nothing limits [] book = absurd book.lawful
 sells_nothing limits (Site m kind name house ∷ es) book = nothing_sold limits (Site m kind name house) [] es (ap is_vendors book.site) book.lawful.1
 sells_nothing limits (e ∷ es) book = absurd (cc book.site)

@@ -2,3 +2,5 @@ pub mod Meets
 pub mod Books
 pub mod Strangers
 pub mod Brokers
+pub mod Parts
+pub mod Sums

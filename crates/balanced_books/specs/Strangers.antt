@@ -42,6 +42,11 @@ strangers b vs h = flat_map (entry_strangers b vs h) h
 
 -- ---- the first stranger
 
+-- the first of some identities
+abbrev pub first_of : List ℕ → Option ℕ
+first_of [] = None
+first_of (id ∷ ids) = Some id
+
 abbrev pub first_by : ℕ → List ℕ → Option (ℕ × ℕ) → Option (ℕ × ℕ)
 first_by book [] later = later
 first_by book (id ∷ ids) later = Some (book, id)

@@ -4,8 +4,12 @@
 #![tactic(auto)]
 
 mod laws;
+mod part;
+mod sums;
 
 pub use laws::{
     books_of_brokers_balance, books_without_a_stranger_balance, expiry_moves_to_lapsed,
     lawful_books_balance, strangers_were_not_handed_out,
 };
+pub use part::Part;
+pub use sums::{Report, Sums, VendorSums};

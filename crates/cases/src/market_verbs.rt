@@ -1,9 +1,10 @@
 //! Lines that ask for the sums of the books of a broker and of vendors, and for the first stranger in them.
 
 use crate::ledger_verbs::history_of;
+use balanced_books::{Sums, VendorSums};
 use case_lines::{Fault, Lines, State};
 use ledger_model::History;
-use slow_sums::{Sums, VendorSums, slow_first_stranger, slow_sums};
+use slow_sums::{slow_first_stranger, slow_sums};
 
 /// The verbs of this module; None where the verb is none of them.
 pub(crate) fn ask(
@@ -54,7 +55,7 @@ fn show_sums(sums: &Sums, out: &mut Lines) {
 
 fn show_vendor(vendor: &VendorSums, out: &mut Lines) {
     out.start("vendor");
-    out.bytes(vendor.name.slice());
+    out.bytes(vendor.name.bytes());
     out.sum(vendor.takings);
     out.sum(vendor.outstanding);
     out.sum(vendor.lapsed);

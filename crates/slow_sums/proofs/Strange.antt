@@ -9,10 +9,10 @@ use Rattle.ledger_model.specs.Houses.{site_name, is_broker}
 use Rattle.ledger_model.specs.Pieces.{minted}
 use Rattle.ledger_model.specs.Stock.{Sale, sold_piece}
 use Rattle.balanced_books.specs.Meets.{is_among}
-use Rattle.balanced_books.specs.Strangers.{is_minted, stranger, sold_stranger, strangers, entry_strangers, first_by, first_from, first_stranger, AreOfMarket}
-use Rattle.slow_sums.specs.declared.parts.Part.{Part}
-use Rattle.slow_sums.specs.Parts.{part_of}
-use Rattle.slow_sums.specs.Strangers.{mints_for, first_of, vendors_of}
+use Rattle.balanced_books.specs.Strangers.{is_minted, stranger, sold_stranger, strangers, entry_strangers, first_by, first_from, first_stranger, AreOfMarket, first_of}
+use Rattle.balanced_books.specs.declared.part.Part.{Part}
+use Rattle.balanced_books.specs.Parts.{part_of}
+use Rattle.slow_sums.specs.Strangers.{mints_for, vendors_of}
 use Rattle.slow_ledger.proofs.SlowLaws.{next, of_next}
 use Rattle.slow_sums.proofs.Lists.{any_map, any_filter}
 

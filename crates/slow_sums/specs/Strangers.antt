@@ -1,11 +1,11 @@
 -- What is asked of pieces that may be strangers.
-use Rattle.std.specs.Prelude.{ℕ, Bool, not, ◌&&◌, ◌==◌, bytes_eq, List, [], ◌∷◌, Option, None, Some, filter}
+use Rattle.std.specs.Prelude.{ℕ, Bool, not, ◌&&◌, ◌==◌, bytes_eq, List, filter}
 use Rattle.std.specs.List.{list_any}
 use Rattle.scrip_form.specs.Scrip.{Scrip}
 use Rattle.ledger_model.specs.Histories.{History}
 use Rattle.ledger_model.specs.Houses.{site_name, is_broker}
 use Rattle.ledger_model.specs.Pieces.{minted}
-use Rattle.slow_sums.specs.declared.parts.Part.{Part}
+use Rattle.balanced_books.specs.declared.part.Part.{Part}
 use Rattle.slow_sums.specs.declared.strangers.Stranger.{Stranger}
 
 -- whether a piece has the identity and the value of another
@@ -15,11 +15,6 @@ same_as p q = (q.id == p.id) && (q.value == p.value)
 -- whether a book is no broker's, of this name, and minted a piece
 abbrev pub mints_for : List ℕ → Part → History → Bool
 mints_for vendor p v = not (is_broker v) && (bytes_eq vendor (site_name v) && list_any (same_as p) (minted v))
-
--- the first of some identities
-abbrev pub first_of : List ℕ → Option ℕ
-first_of [] = None
-first_of (id ∷ ids) = Some id
 
 -- the books that are no broker's
 abbrev pub vendors_of : List History → List History

@@ -1,14 +1,11 @@
--- The sums of the books, by their definitions.
-use Rattle.std.specs.Prelude.{ℕ, List, map, option_map, unwrap_or}
+-- The sums of a broker's book, by their definitions.
+use Rattle.std.specs.Prelude.{ℕ, option_map, unwrap_or}
 use Rattle.mc_records.specs.Entry.{Entry}
 use Rattle.ledger_model.specs.Histories.{History}
-use Rattle.ledger_model.specs.Houses.{site_name}
 use Rattle.ledger_model.specs.Accounts.{account_name, balance, all_balances}
 use Rattle.ledger_model.specs.Pieces.{own_out}
-use Rattle.ledger_model.specs.Sums.{paid_in, paid_out, fees, takings, handed_out, outstanding, lapsed}
+use Rattle.ledger_model.specs.Sums.{paid_in, paid_out, fees, outstanding, lapsed}
 use Rattle.slow_sums.specs.declared.broker.BrokerSums.{BrokerSums}
-use Rattle.slow_sums.specs.declared.vendor.VendorSums.{VendorSums}
-use Rattle.slow_sums.specs.declared.sums.Sums.{Sums}
 
 -- the balance of the account that an entry opens
 abbrev pub balance_at : History → Entry → ℕ
@@ -23,25 +20,4 @@ broker_sums b = record {
   fees = fees b;
   outstanding = outstanding (own_out b) b;
   lapsed = lapsed (own_out b) b;
-}
-
--- those of a vendor's book beside a broker's: of what the broker sold of it, and of its own change
-abbrev pub vendor_sums : History → History → VendorSums
-vendor_sums b v = record {
-  name = site_name v;
-  takings = takings v;
-  outstanding = outstanding (handed_out b v) v;
-  lapsed = lapsed (handed_out b v) v;
-}
-
--- those of a broker's book and of the vendors' beside it, in their order
-abbrev pub sums_of : History → List History → Sums
-sums_of b vs = record {
-  paid_in = paid_in b;
-  paid_out = paid_out b;
-  accounts = all_balances b;
-  fees = fees b;
-  outstanding = outstanding (own_out b) b;
-  lapsed = lapsed (own_out b) b;
-  vendors = map (vendor_sums b) vs;
 }

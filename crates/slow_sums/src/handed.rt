@@ -4,9 +4,10 @@ ghost use Rattle.std.specs.Prelude.{◌≡◌, ℕ, ◌<◌, ◌++◌, List, Opt
 ghost use Rattle.mc_records.specs.Entry.{Accept, Draw, Deed};
 ghost use Rattle.ledger_model.specs.Houses.{own_end};
 ghost use Rattle.ledger_model.specs.Pieces.{handed_piece, own_out};
-ghost use Rattle.slow_sums.specs.Parts.{part_of};
+ghost use Rattle.balanced_books.specs.Parts.{part_of};
 
-use crate::parts::{Part, part_in, with};
+use crate::parts::with;
+use balanced_books::Part;
 use mc_base::NoMemory;
 use mc_records::{Errand, Record, read_errand};
 use scrip_form::Id;
@@ -30,7 +31,7 @@ fn change_of(before: &Prefix<'_>, scrip: &[u8], price: u64, change: Option<Id>) 
     ensures { (m : ℕ) → (target : List ℕ) → (sign : Option (List ℕ)) → (deed : Deed)
         → result ≡ option_map part_of (handed_piece before.now (Accept m scrip.now target sign price change deed)) }
 {
-    match (change, part_in(scrip)) {
+    match (change, Part::read(scrip)) {
         (Some(id), Some(paid)) => Some(Part {
             id,
             value: paid.value.saturating_sub(price),

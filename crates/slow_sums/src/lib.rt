@@ -15,5 +15,4 @@ mod sums;
 mod vendor;
 
 pub use strangers::{Stranger, slow_first_stranger};
-pub use sums::{Sums, slow_sums};
-pub use vendor::VendorSums;
+pub use sums::slow_sums;

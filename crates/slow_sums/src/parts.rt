@@ -2,38 +2,13 @@
 
 ghost use Rattle.std.specs.Prelude.{◌≡◌, ◌<◌, ◌++◌, ◌==◌, ◌&&◌, option_map, option_to_list, length, slice_get, IfOk, IfSome};
 ghost use Rattle.std.specs.List.{list_any};
-ghost use Rattle.ledger_model.specs.Pieces.{accepted_piece, piece_of};
-ghost use Rattle.slow_sums.specs.Parts.{part_of};
+ghost use Rattle.ledger_model.specs.Pieces.{accepted_piece};
+ghost use Rattle.balanced_books.specs.Parts.{part_of};
 
+use balanced_books::Part;
 use mc_base::NoMemory;
 use mc_records::Record;
-use scrip_form::{Id, read_scrip};
 use slow_ledger::Prefix;
-
-/// What sums ask of a piece: its identity, its value in units, and its end in seconds since 1970.
-#[derive(Clone, Copy, Drop)]
-pub(crate) struct Part {
-    pub(crate) id: Id,
-    pub(crate) value: u64,
-    pub(crate) expires: u64,
-}
-
-/// The piece of a scrip text.
-pub(crate) fn part_in(text: &[u8]) -> Option<Part>
-    ensures { result ≡ option_map part_of (piece_of text.now) }
-{
-    match read_scrip(text) {
-        Ok(read) => {
-            let piece = read.piece();
-            Some(Part {
-                id: piece.id(),
-                value: piece.value().get(),
-                expires: piece.expires(),
-            })
-        }
-        Err(_) => None,
-    }
-}
 
 /// The piece that the entry of a number accepts.
 pub(crate) fn accepted_at(h: &Prefix<'_>, n: usize) -> Option<Part>
@@ -41,7 +16,7 @@ pub(crate) fn accepted_at(h: &Prefix<'_>, n: usize) -> Option<Part>
     ensures { IfSome (slice_get h.now n) (λ e. result ≡ option_map part_of (accepted_piece e)) }
 {
     match h.record(n) {
-        Record::Accept { scrip, .. } => part_in(scrip),
+        Record::Accept { scrip, .. } => Part::read(scrip),
         _ => None,
     }
 }

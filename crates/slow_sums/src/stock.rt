@@ -3,9 +3,9 @@
 ghost use Rattle.std.specs.Prelude.{◌≡◌, ◌<◌, ◌==◌, option_map, option_to_list, find, length, slice_get, IfSome};
 ghost use Rattle.mc_records.specs.PieceViews.{pieces_of};
 ghost use Rattle.ledger_model.specs.Stock.{held_piece, held_pieces, stock_of, stock_pieces};
-ghost use Rattle.slow_sums.specs.Parts.{part_of};
+ghost use Rattle.balanced_books.specs.Parts.{part_of};
 
-use crate::parts::{Part, part_in};
+use balanced_books::Part;
 use mc_records::{PieceList, Record};
 use scrip_form::Id;
 use slow_ledger::Prefix;
@@ -16,7 +16,7 @@ fn held_at(pieces: &PieceList<'_>, k: u16) -> Option<Part>
         (λ x. result ≡ option_map part_of (held_piece x)) }
 {
     match pieces.get(k) {
-        Some((scrip, _)) => part_in(scrip.text()),
+        Some((scrip, _)) => Part::read(scrip.text()),
         None => None,
     }
 }

@@ -1,34 +1,15 @@
 //! The sums of the books of a broker and of vendors.
 
 ghost use Rattle.std.specs.Prelude.{◌≡◌, IfOk, map};
-ghost use Rattle.slow_sums.specs.Sums.{vendor_sums, sums_of};
+ghost use Rattle.balanced_books.specs.Sums.{vendor_sums, sums_of};
 
 use crate::broker::slow_broker;
-use crate::vendor::{VendorSums, slow_vendor};
+use crate::vendor::slow_vendor;
+use balanced_books::{Sums, VendorSums};
 use ledger_model::History;
 use mc_base::{List, NoMemory};
 use slow_ledger::Prefix;
 use std::alloc::Global;
-
-/// The sums of the books of a broker and of vendors, in units.
-#[derive(Drop)]
-pub struct Sums {
-    /// The amounts of the broker's deposits.
-    pub paid_in: u128,
-    /// Those of its withdrawals.
-    pub paid_out: u128,
-    /// The balances of all its accounts.
-    pub accounts: u128,
-    /// Its fees: one for each sale.
-    pub fees: u128,
-    /// The values of its own pieces that were handed out and did not come back, and whose end is after the
-    /// broker's time.
-    pub outstanding: u128,
-    /// Those of the ones that have ended.
-    pub lapsed: u128,
-    /// The sums of the vendors, in the order of their books.
-    pub vendors: List<VendorSums>,
-}
 
 fn slow_vendors(
     alloc: Global,
@@ -45,7 +26,7 @@ fn slow_vendors(
 }
 
 /// The sums of the books of a broker and of vendors, lawful or not. A sum that passes the range of its type is
-/// told as want of memory.
+/// told as want of memory, and so is a vendor's book without a site of a name, which no journal has.
 pub fn slow_sums(alloc: Global, broker: &History, vendors: &[History]) -> Result<Sums, NoMemory>
     ensures { IfOk result (λ sums. sums ≡ sums_of broker.now vendors.now) }
 {

@@ -2,31 +2,19 @@
 
 ghost use Rattle.std.specs.Prelude.{◌≡◌, ◌<◌, length, slice_get, IfOk, IfSome, map};
 ghost use Rattle.ledger_model.specs.Sums.{price_paid, takings, handed_out};
-ghost use Rattle.slow_sums.specs.Parts.{part_of};
-ghost use Rattle.slow_sums.specs.Sums.{vendor_sums};
+ghost use Rattle.balanced_books.specs.Parts.{part_of};
+ghost use Rattle.balanced_books.specs.Sums.{vendor_sums};
 
 use crate::handed::with_own;
 use crate::left::{slow_lapsed, slow_outstanding, sum};
-use crate::parts::Part;
+use balanced_books::Part;
 use crate::sold::with_sold;
-use mc_base::{List, NoMemory};
+use balanced_books::VendorSums;
+use mc_base::NoMemory;
 use mc_records::Record;
+use scrip_form::Name;
 use slow_ledger::{Prefix, slow_name};
 use std::alloc::Global;
-
-/// The sums of a vendor's book beside a broker's, in units.
-#[derive(Drop)]
-pub struct VendorSums {
-    /// The name of the vendor's site.
-    pub name: List<u8>,
-    /// The prices of what it accepted pieces for.
-    pub takings: u128,
-    /// The values of its pieces that were handed out, by the broker or as its change, and did not come back,
-    /// and whose end is after the vendor's time.
-    pub outstanding: u128,
-    /// Those of the ones that have ended.
-    pub lapsed: u128,
-}
 
 fn price_at(h: &Prefix<'_>, n: usize) -> u64
     requires { n < length h.now }
@@ -61,7 +49,7 @@ pub(crate) fn handed_beside(
     with_own(sold, h)
 }
 
-/// The sums of a vendor's book beside a broker's.
+/// The sums of a vendor's book beside a broker's. A book without a site of a name is told as want of memory.
 pub(crate) fn slow_vendor(
     alloc: Global,
     broker: &Prefix<'_>,
@@ -69,9 +57,12 @@ pub(crate) fn slow_vendor(
 ) -> Result<VendorSums, NoMemory>
     ensures { IfOk result (λ sums. sums ≡ vendor_sums broker.now h.now) }
 {
+    let Some(name) = Name::new(slow_name(h)) else {
+        return Err(NoMemory);
+    };
     let parts = handed_beside(alloc, broker, h)?;
     Ok(VendorSums {
-        name: List::of(Vec::from_slice(alloc, slow_name(h))?),
+        name,
         takings: slow_takings(h)?,
         outstanding: slow_outstanding(&parts, h)?,
         lapsed: slow_lapsed(&parts, h)?,

@@ -1,10 +1,11 @@
 use Rattle.std.proofs.Common.{◌≡◌, ◌∙◌, ◌++◌, ap, map, sum_by, List}
 use Rattle.ledger_model.specs.Pieces.{own_out}
 use Rattle.ledger_model.specs.Sums.{outstanding, lapsed}
-use Rattle.slow_sums.specs.declared.parts.Part.{Part}
-use Rattle.slow_sums.specs.Parts.{part_of, still_out, gone_by}
+use Rattle.balanced_books.specs.declared.part.Part.{Part}
+use Rattle.balanced_books.specs.Parts.{part_of, still_out, gone_by}
 use Rattle.slow_sums.specs.Sums.{broker_sums}
-use Rattle.slow_sums.proofs.LeftLaws.{same_broker, outstanding_is, lapsed_is}
+use Rattle.balanced_books.proofs.Left.{outstanding_is, lapsed_is}
+use Rattle.slow_sums.proofs.LeftLaws.{same_broker}
 use Rattle.slow_sums.proofs.broker.slow_broker.Goals as goal
 
 pub returns : goal.returns

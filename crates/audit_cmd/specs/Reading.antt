@@ -1,0 +1,79 @@
+-- What reading a book answers.
+use Rattle.std.specs.Prelude.{◌≡◌, ℕ, List, Result, Ok, Err}
+use Rattle.mc_outside.specs.Bytes.{BeginsWith}
+use Rattle.mc_records.specs.declared.limits.TheConstants.Limits.{FULL}
+use Rattle.ledger_model.specs.Histories.{History, time}
+use Rattle.ledger_model.specs.Houses.{IsHouseKind}
+use Rattle.ledger_model.specs.Lawful.{MayFollow}
+use Rattle.scrip_journal.specs.Layout.{header, Encodes}
+use Rattle.scrip_journal.specs.Causes.{SpoilsAt, IsUnlawfulAt, IsOfOther}
+use Rattle.scrip_journal.specs.Founds.{fault_disk}
+use Rattle.scrip_journal.specs.declared.fault.HouseFault.{HouseFault}
+use Rattle.scrip_journal.specs.declared.fault.HouseFault.TheVariants.{NotJournal, BadRecord, Unlawful, WrongKind, NotEmpty, Disk, NoMemory}
+use Rattle.book_opening.specs.Opener.{OpenerView}
+use Rattle.house_core.specs.Bench.{Represents, house_time, limits_of}
+use Rattle.house_core.specs.Trade.{TradeView}
+use Rattle.vendor_core.specs.Shelf.{shelf_view}
+use Rattle.broker_core.specs.Desk.{desk_view}
+use Rattle.book_sums.specs.declared.book_sums.BookSums.{BookSums}
+use Rattle.book_sums.specs.Learned.{SumsRepresent}
+use Rattle.book_audit.specs.Audit.{IsLearned}
+use Rattle.audit_cmd.specs.declared.reader.Reader.{Reader}
+use Rattle.audit_cmd.specs.declared.reading.BookReader.{BookReader}
+use Rattle.audit_cmd.specs.declared.reading.BookReader.TheVariants as readers
+
+-- what reads has learned a history, and its house time is that of the history
+pub record Reads {T : Type 0} (trade : T → TradeView) (r : Reader T) (h : History) : Type 0 where
+  pub house : Represents trade r.bench h
+  pub time' : house_time r.bench ≡ time h
+  pub sums' : SumsRepresent r.sums h
+
+-- ---- who opens a book
+
+-- the reader of a book has the greatest limits
+abbrev pub IsFull : BookReader → Type 0
+IsFull (readers.Vendor r) = limits_of r.bench ≡ FULL
+IsFull (readers.Broker r) = limits_of r.bench ≡ FULL
+
+-- it has learned a history
+abbrev pub HasRead : BookReader → History → Type 0
+HasRead (readers.Vendor r) h = Reads shelf_view r h
+HasRead (readers.Broker r) h = Reads desk_view r h
+
+-- what was kept of the book
+abbrev pub kept_by : BookReader → BookSums
+kept_by (readers.Vendor r) = r.sums
+kept_by (readers.Broker r) = r.sums
+
+-- books of vendors and brokers are opened, by the ledger under the greatest limits
+abbrev pub auditor : OpenerView BookReader
+auditor = record {
+  ready = Unit {0};
+  may = MayFollow FULL;
+  kinds = IsHouseKind;
+  belongs = IsFull;
+  holds = HasRead;
+}
+
+-- ---- what is answered
+
+abbrev pub read_disk : {D A : Type 0} → Result (D × A) (HouseFault D) → D
+read_disk (Ok x) = x.0
+read_disk (Err f) = fault_disk f
+
+-- the bytes encode a lawful history, of which all was kept
+pub record ReadsAs (bytes : List ℕ) (s : BookSums) : Type 0 where
+  pub history : History
+  pub of_bytes : Encodes history bytes
+  pub learned : IsLearned FULL s history
+
+-- what is answered by the bytes of the disk
+abbrev pub ReadsBook : {D : Type 0} → List ℕ → Result (D × BookSums) (HouseFault D) → Type 0
+ReadsBook bytes (Ok x) = ReadsAs bytes x.1
+ReadsBook bytes (Err (NotJournal d)) = BeginsWith header bytes → ⊥
+ReadsBook bytes (Err (BadRecord d place)) = SpoilsAt (MayFollow FULL) IsHouseKind bytes place
+ReadsBook bytes (Err (Unlawful d place)) = IsUnlawfulAt (MayFollow FULL) IsHouseKind bytes place
+ReadsBook bytes (Err (WrongKind d)) = IsOfOther IsHouseKind bytes
+ReadsBook bytes (Err (NotEmpty d count)) = ⊥
+ReadsBook bytes (Err (Disk d)) = Unit {0}
+ReadsBook bytes (Err (NoMemory d)) = Unit {0}

@@ -1,0 +1,75 @@
+//! What reads the entries of one book.
+
+ghost use Rattle.std.specs.Prelude.{◌≡◌, ◌+◌, ◌≤◌, [], ◌∷◌, IfOk};
+ghost use Rattle.mc_records.specs.Entry.{Fits};
+ghost use Rattle.mc_records.specs.Sizes.{size, entry_size};
+ghost use Rattle.mc_records.specs.Views.{entry};
+ghost use Rattle.mc_records.specs.declared.limits.TheConstants.Limits.{MOST_JOURNAL};
+ghost use Rattle.ledger_model.specs.Histories.{History};
+ghost use Rattle.ledger_model.specs.Lawful.{MayFollow};
+ghost use Rattle.ledger_model.specs.declared.numbers.TheConstants.{BROKER_KIND};
+ghost use Rattle.scrip_journal.specs.Causes.{FoundsSite, Only};
+ghost use Rattle.book_opening.specs.Opener.{Learns};
+ghost use Rattle.house_core.specs.Bench.{limits_of};
+ghost use Rattle.audit_cmd.specs.Reading.{Reads};
+
+use book_opening::LearnFault;
+use book_sums::BookSums;
+use house_core::{Bench, ReplayEnd, Trade};
+use mc_base::NoMemory;
+use mc_records::{Limits, Record};
+use std::alloc::Global;
+
+/// What reads the entries of one book: a bench with a trade of its kind tells which may follow, and sums keep of them what
+/// an audit needs.
+#[derive(Drop)]
+pub(crate) struct Reader<T> {
+    bench: Bench<T>,
+    sums: BookSums,
+}
+
+impl<T: Trade> Reader<T> {
+    /// Begins with the first entry of a book of the trade's kind.
+    pub(crate) fn begin(alloc: Global, first: &Record<'_>, trade: T) -> Result<Reader<T>, NoMemory>
+        requires fits { Fits (entry first.now) }
+        requires house { (T.trade trade).site ≤ BROKER_KIND }
+        requires kind { FoundsSite (Only (T.trade trade).site) (entry first.now) }
+        requires trade { (T.trade trade).represents [] }
+        ensures limits { IfOk result (λ r. limits_of r.bench ≡ Limits.FULL) }
+        ensures may { MayFollow Limits.FULL [] (entry first.now) }
+        ensures holds { IfOk result (λ r. Reads T.trade r (entry first.now ∷ [])) }
+    {
+        let bench = Bench::new(alloc, first, Limits::FULL, trade)?;
+        Ok(Reader {
+            bench,
+            sums: BookSums::new(alloc, first),
+        })
+    }
+
+    /// Learns the next entry. After an `Err` nothing is said of what reads.
+    pub(crate) fn learn(&mut self, r: &Record<'_>) -> Result<(), LearnFault>
+        requires { Fits (entry r.now) }
+        ensures limits { limits_of self.new.bench ≡ limits_of self.old.bench }
+        ensures exact { (h : History) → limits_of self.old.bench ≡ Limits.FULL
+            → Reads T.trade self.old h → size h + entry_size h (entry r.now) ≤ MOST_JOURNAL
+            → Learns (MayFollow Limits.FULL) (λ u. Reads T.trade self.new) h (entry r.now) result }
+    {
+        match self.bench.replay(r) {
+            Ok(()) => (),
+            Err(ReplayEnd::Unlawful) => return Err(LearnFault::Unlawful),
+            Err(ReplayEnd::NoMemory) => return Err(LearnFault::NoMemory),
+        }
+        match self.sums.learn(r) {
+            Ok(()) => Ok(()),
+            Err(NoMemory) => Err(LearnFault::NoMemory),
+        }
+    }
+
+    /// What was kept of the book.
+    pub(crate) fn into_sums(self) -> BookSums
+        ensures { result ≡ self.sums }
+    {
+        let Reader { bench: _, sums } = self;
+        sums
+    }
+}

@@ -1,0 +1,98 @@
+//! Reading one book.
+
+ghost use Rattle.std.specs.Prelude.{◌≡◌, List, ℕ, Some};
+ghost use Rattle.mc_outside.specs.DiskView.{OnlyRead};
+ghost use Rattle.book_opening.specs.Opening.{CountedBy};
+ghost use Rattle.audit_cmd.specs.Reading.{kept_by, read_disk, ReadsBook};
+
+use crate::reader::Reader;
+use book_opening::{LearnFault, Opener, open_book};
+use book_sums::BookSums;
+use broker_core::Desk;
+use ledger_model::{BROKER_KIND, VENDOR_KIND};
+use mc_base::NoMemory;
+use mc_outside::Disk;
+use mc_records::{Limits, Record};
+use scrip_journal::HouseFault;
+use std::alloc::Global;
+use vendor_core::Shelf;
+
+/// What reads a book, of the kind that its first entry tells.
+#[derive(Drop)]
+pub(crate) enum BookReader {
+    Vendor(Reader<Shelf>),
+    Broker(Reader<Desk>),
+}
+
+impl BookReader {
+    /// What was kept of the book.
+    fn into_sums(self) -> BookSums
+        ensures { result ≡ kept_by self }
+    {
+        match self {
+            BookReader::Vendor(reader) => reader.into_sums(),
+            BookReader::Broker(reader) => reader.into_sums(),
+        }
+    }
+}
+
+/// Who opens a book to audit it.
+#[derive(Clone, Copy, Drop)]
+pub(crate) struct Auditor;
+
+impl Opener for Auditor {
+    ghost use Rattle.audit_cmd.specs.Reading.{auditor};
+    ghost use Rattle.house_opening.specs.First.{site_first};
+    ghost use Rattle.mc_records.specs.declared.limits.TheConstants.Limits.{FULL};
+
+    type Learner = BookReader;
+
+    ghost opener = { λ o. auditor };
+
+    fn opens(&self, kind: u8) -> bool {
+        kind <= BROKER_KIND
+    }
+
+    fn begin(self, alloc: Global, first: &Record<'_>) -> Result<BookReader, LearnFault> {
+        match first {
+            Record::Site {
+                kind: VENDOR_KIND,
+                ..
+            } => match Reader::begin(alloc, first, Shelf::new(alloc)) {
+                Ok(reader) => Ok(BookReader::Vendor(reader)),
+                Err(NoMemory) => Err(LearnFault::NoMemory),
+            },
+            _ => match Reader::begin(alloc, first, Desk::new(alloc)) {
+                Ok(reader) => Ok(BookReader::Broker(reader)),
+                Err(NoMemory) => Err(LearnFault::NoMemory),
+            },
+        }
+    }
+
+    fn learn(reader: &mut BookReader, r: &Record<'_>) -> Result<(), LearnFault> {
+        match reader {
+            BookReader::Vendor(reader) => reader.learn(r),
+            BookReader::Broker(reader) => reader.learn(r),
+        }
+    }
+
+    ghost site_first = { λ o. site_first FULL };
+}
+
+/// Reads the book that the disk has, as that of a vendor or a broker, and keeps of its entries what an audit needs.
+///
+/// `NotJournal` comes where the disk does not begin with the header of a journal, and `BadRecord` where its bytes can't
+/// stand, from the place told on. `Unlawful` tells the place of the gate of the first entry that may not follow those
+/// before it, and 8 where there is no entry at all. `WrongKind` comes where the book is a wallet's. `Disk` comes only where
+/// the disk failed. Nothing is written, and the disk comes back.
+pub fn read_book<D: Disk>(alloc: Global, disk: D) -> Result<(D, BookSums), HouseFault<D>>
+    ensures moved { D.disk_moved disk (read_disk result) }
+    ensures read { OnlyRead (D.disk disk) (D.disk (read_disk result)) }
+    ensures exact { (x : List ℕ) → (D.disk disk).contents ≡ Some x → ReadsBook x result }
+    ensures fault { CountedBy result (D.disk disk).faults (D.disk (read_disk result)).faults }
+{
+    match open_book(alloc, disk, Limits::FULL, Auditor) {
+        Ok((journal, reader)) => Ok((journal.close(), reader.into_sums())),
+        Err(fault) => Err(fault),
+    }
+}

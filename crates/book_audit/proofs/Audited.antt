@@ -1,0 +1,204 @@
+-- What an audit finds by what was kept of the books, it answers of their histories.
+use Rattle.std.proofs.Common.{◌≡◌, ℕ, zero, suc, ◌≤◌, ◌^◌, Bool, true, false, cond, not, List, [], ◌∷◌, map, filter, Result, Ok, Err, refl, sym, ap, ◌∙◌, subst, slice_get, arith, IsTrue}
+use Rattle.std.specs.Prelude.{IfSome}
+use Rattle.std.specs.List.{AllByRecursion}
+use Rattle.scrip_form.specs.Scrip.{Scrip}
+use Rattle.mc_records.specs.declared.limits.Limits.{Limits}
+use Rattle.ledger_model.specs.declared.numbers.TheConstants.{VENDOR_KIND}
+use Rattle.ledger_model.specs.Histories.{History}
+use Rattle.ledger_model.specs.Houses.{site_name, is_broker}
+use Rattle.ledger_model.specs.Pieces.{own_out}
+use Rattle.ledger_model.specs.Accounts.{all_balances}
+use Rattle.ledger_model.specs.Stock.{Sale, sales}
+use Rattle.ledger_model.specs.Sums.{handed_out, outstanding, lapsed}
+use Rattle.ledger_model.proofs.MoneyLaws.{accounts_hold}
+use Rattle.balanced_books.specs.declared.sums.Sums.{Sums}
+use Rattle.balanced_books.specs.declared.sums.Report.{Report}
+use Rattle.balanced_books.specs.declared.sums.VendorSums.{VendorSums}
+use Rattle.balanced_books.specs.Books.{IsBook, HaveOwnNames, AreBooks}
+use Rattle.balanced_books.specs.Strangers.{handed_of, AreOfMarket, first_stranger}
+use Rattle.balanced_books.specs.Sums.{vendor_sums, sums_of}
+use Rattle.balanced_books.proofs.Strange.{no_stranger_balanced}
+use Rattle.book_sums.specs.declared.book_sums.BookSums.{BookSums}
+use Rattle.book_sums.specs.Learned.{name_of, till_of, sales_of}
+use Rattle.book_audit.specs.declared.shop.Shop.{Shop}
+use Rattle.book_audit.specs.declared.totals.Totals.{Totals}
+use Rattle.book_audit.specs.declared.spent.Left.{Left}
+use Rattle.book_audit.specs.declared.fault.AuditFault.{AuditFault}
+use Rattle.book_audit.specs.declared.fault.AuditFault.TheVariants as faults
+use Rattle.book_audit.specs.Checks.{is_desk, left_in, row_of, first_over}
+use Rattle.book_audit.specs.Markets.{has_vendor, HasAll, AreInOrder}
+use Rattle.book_audit.specs.Findings.{vendors_among, AreShopsOf, HasTotals, accounts_of, report_of, IsMarketOf, Finds}
+use Rattle.book_audit.specs.Audit.{IsLearned, AreLearned, has_book, Audited}
+use Rattle.book_audit.proofs.StrangeLaws.{AreShopsAt}
+use Rattle.book_audit.proofs.MarketLaws.{shops_among, desks, vendors, one_kept, kept_one, own_are, are_own, sold_for, least_is, shops_at}
+use Rattle.book_audit.proofs.AuditLaws.{only_one, each_has, broker_book, vendor_book, left_is, over_is, rows_are}
+
+same_sums : (a b : Sums) → a.paid_in ≡ b.paid_in → a.paid_out ≡ b.paid_out → a.accounts ≡ b.accounts → a.fees ≡ b.fees → a.outstanding ≡ b.outstanding → a.lapsed ≡ b.lapsed → a.vendors ≡ b.vendors → a ≡ b
+same_sums a b e f g h i j k =
+    ap (λ (x : ℕ). record a { paid_in = x }) e
+    ∙ ap (λ (x : ℕ). record a { paid_in = b.paid_in; paid_out = x }) f
+    ∙ ap (λ (x : ℕ). record a { paid_in = b.paid_in; paid_out = b.paid_out; accounts = x }) g
+    ∙ ap (λ (x : ℕ). record a { paid_in = b.paid_in; paid_out = b.paid_out; accounts = b.accounts; fees = x }) h
+    ∙ ap (λ (x : ℕ). record a { paid_in = b.paid_in; paid_out = b.paid_out; accounts = b.accounts; fees = b.fees; outstanding = x }) i
+    ∙ ap (λ (x : ℕ). record a { paid_in = b.paid_in; paid_out = b.paid_out; accounts = b.accounts; fees = b.fees; outstanding = b.outstanding; lapsed = x }) j
+    ∙ ap (λ (x : List VendorSums). record a { paid_in = b.paid_in; paid_out = b.paid_out; accounts = b.accounts; fees = b.fees; outstanding = b.outstanding; lapsed = b.lapsed; vendors = x }) k
+
+passes_all : {X : Type 0} (test : X → Bool) (xs : List X) → AllByRecursion (λ x. test x ≡ true) (filter test xs)
+passes_all test [] = tt
+passes_all test (x ∷ xs) = go (test x) refl (passes_all test xs)
+  where
+    go : (b : Bool) → test x ≡ b → AllByRecursion (λ y. test y ≡ true) (filter test xs) → AllByRecursion (λ y. test y ≡ true) (cond b (x ∷ filter test xs) (filter test xs))
+    go true e rest = (e, rest)
+    go false e rest = rest
+
+not_true : (b : Bool) → not b ≡ true → b ≡ false
+not_true true e = absurd cc
+not_true false e = refl
+
+kept_where : (P : History → Type 0) (hs : List History) → AllByRecursion (λ h. is_broker h ≡ false → P h) hs → AllByRecursion (λ h. (is_broker h ≡ false) × P h) (shops_among hs)
+kept_where P [] all = tt
+kept_where P (h ∷ hs) all = go (is_broker h) refl (kept_where P hs all.1)
+  where
+    go : (b : Bool) → is_broker h ≡ b → AllByRecursion (λ x. (is_broker x ≡ false) × P x) (shops_among hs) → AllByRecursion (λ x. (is_broker x ≡ false) × P x) (cond (not b) (h ∷ shops_among hs) (shops_among hs))
+    go true e rest = rest
+    go false e rest = ((e, all.0 e), rest)
+
+accounts_are : (limits : Limits) (s : BookSums) (b : History) → IsLearned limits s b → accounts_of (till_of s) ≡ all_balances b
+accounts_are limits s b is =
+    let m = is.sums.money in
+    omega (arith, accounts_hold limits b is.lawful, m.paid_in', m.paid_out', m.credited', m.drawn')
+
+module _ (limits : Limits) (le : limits.series ≤ 2 ^ 32) (books : List BookSums) (hs : List History) (all : AreLearned limits books hs) where
+  vs : List History
+  vs = shops_among hs
+
+  -- the broker's history, where there is one broker
+  record Base (broker : BookSums) : Type 0 where
+    b : History
+    learned : IsLearned limits broker b
+    ss_are : filter is_desk books ≡ broker ∷ []
+    hs_are : filter is_broker hs ≡ b ∷ []
+    desk : is_broker b ≡ true
+    own : HaveOwnNames (shops_among hs)
+
+  base : (broker : BookSums) → IsMarketOf broker books → Base broker
+  base broker m =
+      let one = one_kept limits (filter is_desk books) (filter is_broker hs) broker (desks limits books hs all) m.one in
+      let same : one.1.kept_of ≡ broker = head_is one.1.kept_of broker (sym one.1.ss_are ∙ one.0) in
+      record {
+        b = one.1.history;
+        learned = subst (λ (s : BookSums). IsLearned limits s one.1.history) same one.1.learned;
+        ss_are = one.0;
+        hs_are = one.1.hs_are;
+        desk = (subst (AllByRecursion (λ (h : History). is_broker h ≡ true)) one.1.hs_are (passes_all is_broker hs)).0;
+        own = own_are limits books hs all m.own;
+      }
+    where
+      head_is : (x y : BookSums) → x ∷ [] ≡ y ∷ [] → x ≡ y
+      head_is x y e = cc
+
+  vendor_books : (ss : List BookSums) (gs : List History) → AreLearned limits ss gs → AllByRecursion (λ h. (is_broker h ≡ false) × Unit {0}) gs → AllByRecursion (IsBook limits VENDOR_KIND) gs
+  vendor_books [] [] every none = tt
+  vendor_books (s ∷ ss) (g ∷ gs) every none = (vendor_book limits s g every.0 none.0.0, vendor_books ss gs every.1 none.1)
+  vendor_books [] (g ∷ gs) every none = absurd every
+  vendor_books (s ∷ ss) [] every none = absurd every
+
+  anything : (gs : List History) → AllByRecursion (λ h. is_broker h ≡ false → Unit {0}) gs
+  anything [] = tt
+  anything (g ∷ gs) = ((λ e. tt), anything gs)
+
+  module _ (broker : BookSums) (o : Base broker) where
+    market_is : AreOfMarket o.b (shops_among hs) hs
+    market_is = record { one_broker = o.hs_are; vendors_are = refl }
+
+    module _ (there : HasAll (has_vendor books) (sales_of broker)) where
+      known : AllByRecursion (λ (s : Sale). IsTrue (has_book (shops_among hs) s.vendor)) (sales o.b)
+      known = subst (AllByRecursion (λ (s : Sale). IsTrue (has_book (shops_among hs) s.vendor))) o.learned.sums.market'.sales' (sold_for limits books hs all (sales_of broker) there)
+
+      all_books : AreBooks limits o.b (shops_among hs)
+      all_books = record {
+        broker = broker_book limits broker o.b o.learned o.desk;
+        vendors = vendor_books (vendors_among books) (shops_among hs) (vendors limits books hs all) (kept_where (λ h. Unit {0}) hs (anything hs));
+        names = o.own;
+        sold_for = known;
+      }
+
+      module _ (shops : List Shop) (of : AreShopsOf broker (vendors_among books) shops) where
+        at : AreShopsAt o.b (shops_among hs) shops
+        at = shops_at limits broker o.b o.learned.sums (vendors_among books) (shops_among hs) shops (vendors limits books hs all) of
+
+        first_is : first_over 0 shops (sales_of broker) books ≡ first_stranger o.b (shops_among hs) hs
+        first_is = over_is limits broker o.b (shops_among hs) shops o.learned.sums at o.own known 0 books hs all (each_has hs) (only_one is_broker hs o.b o.hs_are)
+
+        rows_is : map (row_of shops (sales_of broker)) (vendors_among books) ≡ map (vendor_sums o.b) (shops_among hs)
+        rows_is = rows_are limits broker o.b (shops_among hs) shops o.learned.sums at o.own known (vendors_among books) (shops_among hs) (vendors limits books hs all)
+            (kept_where (λ h. has_book (shops_among hs) (site_name h) ≡ true) hs (each_has hs))
+
+        desk_left : ((left_in shops (sales_of broker) broker).outstanding ≡ outstanding (own_out o.b) o.b) × ((left_in shops (sales_of broker) broker).lapsed ≡ lapsed (own_out o.b) o.b)
+        desk_left =
+            let left = left_is limits broker o.b (shops_among hs) shops o.learned.sums at o.own known broker o.b o.learned (λ e. absurd (both (is_broker o.b) o.desk e)) in
+            let handed : handed_of o.b o.b ≡ own_out o.b = ap (λ (d : Bool). cond d (own_out o.b) (handed_out o.b o.b)) o.desk in
+            (left.0 ∙ ap (λ (l : List Scrip). outstanding l o.b) handed, left.1 ∙ ap (λ (l : List Scrip). lapsed l o.b) handed)
+          where
+            both : (x : Bool) → x ≡ true → x ≡ false → ⊥
+            both true e f = absurd cc
+            both false e f = absurd cc
+
+        sums_is : (t : Totals) (rows : List VendorSums) → HasTotals shops (sales_of broker) books t
+            → (report_of broker t rows).sums ≡ record (sums_of o.b (shops_among hs)) { vendors = rows }
+        sums_is t rows has =
+            let m = o.learned.sums.money in
+            let desk = has.desk broker o.ss_are in
+            same_sums (report_of broker t rows).sums (record (sums_of o.b (shops_among hs)) { vendors = rows }) (sym m.paid_in') (sym m.paid_out') (accounts_are limits broker o.b o.learned) (sym m.fees')
+            (ap (λ (l : Left). l.outstanding) desk ∙ desk_left.0) (ap (λ (l : Left). l.lapsed) desk ∙ desk_left.1) refl
+
+  named_is : (ss : List BookSums) (gs : List History) (n : ℕ) (name : List ℕ) → AreLearned limits ss gs → IfSome (slice_get ss n) (λ s. name ≡ name_of s) → IfSome (slice_get gs n) (λ h. name ≡ site_name h)
+  named_is [] [] n name every named = tt
+  named_is (s ∷ ss) (g ∷ gs) zero name every named = named ∙ sym every.0.sums.name'
+  named_is (s ∷ ss) (g ∷ gs) (suc n) name every named = named_is ss gs n name every.1 named
+  named_is [] (g ∷ gs) n name every named = absurd every
+  named_is (s ∷ ss) [] n name every named = absurd every
+
+  pub audited : (r : Result Report AuditFault) → Finds books r → Audited limits hs r
+  audited (Ok r) (broker, f) =
+      let o = base broker f.market in
+      let none = sym (first_is broker o f.all_there f.shops f.of_shops) ∙ f.has.none in
+      let lawful = all_books broker o f.all_there in
+      record {
+        broker = o.b;
+        vendors = shops_among hs;
+        all_books = lawful;
+        market = market_is broker o;
+        none = none;
+        balanced = no_stranger_balanced limits o.b (shops_among hs) hs le lawful (market_is broker o) none;
+        name = ap (λ (x : Report). x.broker) f.report.is ∙ sym o.learned.sums.name';
+        sums = ap (λ (x : Report). x.sums) f.report.is ∙ sums_is broker o f.all_there f.shops f.of_shops f.totals r.sums.vendors f.has;
+        rows = subst (λ (l : List VendorSums). AreInOrder l r.sums.vendors) (f.has.rows ∙ rows_is broker o f.all_there f.shops f.of_shops) f.report.rows;
+      }
+  audited (Err faults.BadBooks) none = λ b ws market.
+      let one = kept_one limits (filter is_desk books) (filter is_broker hs) b (desks limits books hs all) market.market.one_broker in
+      none one.0 (record { one = one.1; own = are_own limits books hs all (subst HaveOwnNames (sym market.market.vendors_are) market.own) })
+  audited (Err (faults.MissingBook name)) (broker, f) =
+      let o = base broker f.market in
+      record {
+        broker = o.b;
+        vendors = shops_among hs;
+        market = record { market = market_is broker o; own = o.own };
+        least = least_is limits books hs o.b (sales_of broker) name all o.learned.sums.market'.sales' f.least;
+      }
+  audited (Err (faults.Stranger book name id)) (broker, f) =
+      let o = base broker f.market in
+      record {
+        broker = o.b;
+        vendors = shops_among hs;
+        all_books = all_books broker o f.all_there;
+        market = market_is broker o;
+        first = sym (first_is broker o f.all_there f.shops f.of_shops) ∙ f.stranger.first;
+        named = named_is books hs book name all f.stranger.named;
+      }
+  audited (Err faults.NoMemory) f = tt
+  audited (Err (faults.NotJournal book)) f = absurd f
+  audited (Err (faults.BadRecord book place)) f = absurd f
+  audited (Err (faults.Unlawful book place)) f = absurd f
+  audited (Err (faults.Disk book)) f = absurd f

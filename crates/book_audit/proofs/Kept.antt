@@ -1,0 +1,98 @@
+-- What functions answer, by what those that they call answered.
+use Rattle.std.proofs.Common.{◌≡◌, ℕ, ◌+◌, ◌<◌, Bool, true, false, List, [], ◌∷◌, ◌++◌, length, take, drop, get_or, sum_by, Option, Some, Result, Ok, Err, IfOk, refl, sym, ap, ap₂, ◌∙◌, subst}
+use Rattle.std.specs.Prelude.{IfSome}
+use Rattle.std.proofs.lemmas.Option.{slice_get-get_or}
+use Rattle.std.specs.Borrow.{Bor}
+use denote.Param.Members.{Mut}
+use Rattle.std.specs.Fn.{Called, ComparesAs}
+use Rattle.std.specs.Cmp.{IsStrictWeakOrder}
+use Rattle.std.specs.Cmp.Lexicographic.{slice_cmp, nat_list_cmp_total}
+use Rattle.std.specs.Ordering.{nat_cmp, is_lt}
+use Rattle.std.specs.declared.cmp.Ordering.{Ordering}
+use Rattle.std.specs.List.Sorted.{IsSortedBy}
+use Rattle.std.proofs.lemmas.Fn.{always_returns_same}
+use Rattle.std.proofs.lemmas.List.MinMax.{ranks_by}
+use Rattle.balanced_books.specs.declared.sums.VendorSums.{VendorSums}
+use Rattle.balanced_books.specs.declared.part.Part.{Part}
+use Rattle.book_sums.specs.declared.rows.Acceptance.{Acceptance}
+use Rattle.book_sums.specs.declared.book_sums.BookSums.{BookSums}
+use Rattle.book_sums.specs.declared.rows.Sold.{Sold}
+use Rattle.book_sums.specs.Learned.{name_of, time_of, accepted_of, sales_of}
+use Rattle.book_audit.specs.declared.shop.Shop.{Shop}
+use Rattle.book_audit.specs.declared.spent.Left.{Left}
+use Rattle.book_audit.specs.declared.totals.Totals.{Totals}
+use Rattle.book_audit.specs.declared.fault.AuditFault.{AuditFault}
+use Rattle.book_audit.specs.declared.fault.AuditFault.TheVariants as faults
+use Rattle.book_audit.specs.declared.check.CheckFault.{CheckFault}
+use Rattle.book_audit.specs.declared.check.CheckFault.TheVariants as checks
+use Rattle.book_audit.specs.Known.{has_id, was_accepted, out_at, gone_at}
+use Rattle.book_audit.specs.Shops.{IsShopOf}
+use Rattle.book_audit.specs.Checks.{is_desk, left_at, ChecksBook, fault_at, first_over}
+use Rattle.book_audit.specs.Markets.{has_vendor, HasAll, by_name}
+use Rattle.book_audit.specs.Findings.{vendors_among, AreShopsOf, FindsTotals, IsMarketOf, Finds}
+use Rattle.book_audit.proofs.Ties.{sums_alike}
+use Rattle.book_audit.proofs.TotalLaws.{vendors_same, vendors_next, shops_more, search_ends}
+
+pub if_ok : {A E : Type 0} (P Q : A → Type 0) (r : Result A E) → ((x : A) → P x → Q x) → IfOk r P → IfOk r Q
+if_ok P Q (Ok x) so said = so x said
+if_ok P Q (Err e) so said = said
+
+pub left_from : (s : BookSums) (handed : List Part) (rows : List Acceptance) (ids : List ℕ) (t : ℕ) (l : Left) → rows ≡ accepted_of s → t ≡ time_of s → ((id : ℕ) → has_id ids id ≡ was_accepted rows id)
+    → (l.outstanding ≡ sum_by (out_at (has_id ids) t) handed) × (l.lapsed ≡ sum_by (gone_at (has_id ids) t) handed) → l ≡ left_at handed s
+left_from s handed rows ids t l rows_are now spent is =
+    ap₂ (λ (a b : ℕ). left a b)
+    (is.0 ∙ sums_alike (out_at (has_id ids) t) (out_at (was_accepted (accepted_of s)) (time_of s)) (λ p. rw now (ap (λ (b : Bool). out_at (λ id. b) (time_of s) p) (same p.id))) handed)
+    (is.1 ∙ sums_alike (gone_at (has_id ids) t) (gone_at (was_accepted (accepted_of s)) (time_of s)) (λ p. rw now (ap (λ (b : Bool). gone_at (λ id. b) (time_of s) p) (same p.id))) handed)
+  where
+    left : ℕ → ℕ → Left
+    left a b = record { outstanding = a; lapsed = b }
+
+    same : (id : ℕ) → has_id ids id ≡ was_accepted (accepted_of s) id
+    same id = spent id ∙ ap (λ (r : List Acceptance). was_accepted r id) rows_are
+
+pub shops_same : (b : BookSums) (books : List BookSums) (i : ℕ) (v : BookSums) (shops : List Shop) → i < length books → v ≡ get_or books i v → is_desk v ≡ true
+    → AreShopsOf b (vendors_among (take i books)) shops → AreShopsOf b (vendors_among (take (i + 1) books)) shops
+shops_same b books i v shops lt is desk of = subst (λ (vs : List BookSums). AreShopsOf b vs shops) (sym (vendors_same books i v lt is desk)) of
+
+pub shops_next : (b : BookSums) (books : List BookSums) (i : ℕ) (v : BookSums) (shop : Shop) (old new : List Shop) → i < length books → v ≡ get_or books i v → is_desk v ≡ false
+    → AreShopsOf b (vendors_among (take i books)) old → IsShopOf b v shop → new ≡ old ++ shop ∷ [] → AreShopsOf b (vendors_among (take (i + 1) books)) new
+shops_next b books i v shop old new lt is vendor of one is_new =
+    subst (λ (vs : List BookSums). AreShopsOf b vs new) (sym (vendors_next books i v lt is vendor))
+    (subst (AreShopsOf b (vendors_among (take i books) ++ v ∷ [])) (sym is_new) (shops_more b (vendors_among (take i books)) old v shop of one))
+
+-- ---- faults
+
+-- the fault of the book at a place, where none before it has a stranger
+pub fault_found : (shops : List Shop) (sales : List Sold) (books : List BookSums) (i : ℕ) (s : BookSums) (fault : CheckFault) → i < length books → s ≡ get_or books i s
+    → ChecksBook shops sales s (Err fault) → first_over i shops sales (drop i books) ≡ first_over 0 shops sales books → FindsTotals shops sales books (Err (fault_at i s fault))
+fault_found shops sales books i s (checks.Stranger id) lt is found so_far = record {
+  first = search_ends shops sales books i s id (first_over 0 shops sales books) lt is found so_far;
+  named = subst (λ (o : Option BookSums). IfSome o (λ x. name_of s ≡ name_of x)) (sym (slice_get-get_or books i s lt ∙ ap (λ (x : BookSums). Some x) (sym is))) refl;
+}
+fault_found shops sales books i s checks.NoMemory lt is found so_far = tt
+
+-- what is found of all books where their sums are not
+pub finds_fault : (broker : BookSums) (books : List BookSums) (shops : List Shop) (fault : AuditFault) → IsMarketOf broker books → HasAll (has_vendor books) (sales_of broker) → AreShopsOf broker (vendors_among books) shops
+    → FindsTotals shops (sales_of broker) books (Err fault) → Finds books (Err fault)
+finds_fault broker books shops (faults.Stranger book name id) market there of found = (broker, record { market = market; all_there = there; shops = shops; of_shops = of; stranger = found })
+finds_fault broker books shops faults.NoMemory market there of found = tt
+finds_fault broker books shops (faults.NotJournal book) market there of found = absurd found
+finds_fault broker books shops (faults.BadRecord book place) market there of found = absurd found
+finds_fault broker books shops (faults.Unlawful book place) market there of found = absurd found
+finds_fault broker books shops (faults.Disk book) market there of found = absurd found
+finds_fault broker books shops faults.BadBooks market there of found = absurd found
+finds_fault broker books shops (faults.MissingBook name) market there of found = absurd found
+
+-- what is found beside shops and sales that are the same
+pub found_same : (books : List BookSums) (r : Result Totals AuditFault) (shops shops2 : List Shop) (sales sales2 : List Sold) → shops ≡ shops2 → sales ≡ sales2 → FindsTotals shops sales books r → FindsTotals shops2 sales2 books r
+found_same books r shops shops2 sales sales2 e f found = subst (λ (x : List Shop). FindsTotals x sales2 books r) e (subst (λ (x : List Sold). FindsTotals shops x books r) f found)
+
+-- ---- the order of a report
+
+-- what a sort ensures where each call compares the names
+pub sorted_by_name : {F : Type 0} {g : Mut F (Bor VendorSums × (Bor VendorSums × Unit {0})) Ordering} {f : F} (xs : List VendorSums)
+    → ((lt : VendorSums → VendorSums → Bool) → IsStrictWeakOrder lt → ComparesAs g lt f → IsSortedBy lt xs)
+    → ((a : Bor VendorSums × (Bor VendorSums × Unit {0})) (r : Ordering) (f' : F) → Called g f a r f' → (r ≡ slice_cmp nat_cmp a.0.now.name a.1.0.now.name) × (f' ≡ f)) → IsSortedBy by_name xs
+sorted_by_name {g = g} {f = f} xs up h =
+    up by_name (ranks_by nat_list_cmp_total (λ (v : VendorSums). v.name))
+    (always_returns_same g (λ a r. is_lt r ≡ is_lt (slice_cmp nat_cmp a.0.now.name a.1.0.now.name)) f (λ a r f' k. (ap is_lt (h a r f' k).0, (h a r f' k).1)))

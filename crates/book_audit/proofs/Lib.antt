@@ -1,0 +1,10 @@
+pub mod Ties
+pub mod ShopLaws
+pub mod StrangeLaws
+pub mod MarketLaws
+pub mod AuditLaws
+pub mod Loops
+pub mod Audited
+pub mod TotalLaws
+pub mod NameLaws
+pub mod Kept

@@ -1,0 +1,10 @@
+use Rattle.std.proofs.Common.{◌≡◌, drop}
+use Rattle.book_sums.specs.Learned.{accepted_of, sales_of}
+use Rattle.book_audit.specs.Known.{knows}
+use Rattle.book_audit.specs.Strange.{not_in, not_minted, first_in}
+use Rattle.book_audit.proofs.strangers.first_stranger.Given as goal
+
+abbrev pub invariant-loop-row : goal.invariant-loop-row
+invariant-loop-row l =
+    first_in (not_in (knows l.handed)) (not_minted l.shops) (drop l.row-index (accepted_of l.book)) l.sales
+    ≡ first_in (not_in (knows l.handed)) (not_minted l.shops) (accepted_of l.book) (sales_of l.book)

@@ -1,0 +1,12 @@
+use Rattle.std.proofs.Common.{◌≡◌, [], ◌∷◌, map, filter, take, drop}
+use Rattle.book_sums.specs.declared.book_sums.BookSums.{BookSums}
+use Rattle.book_audit.specs.Checks.{is_desk, left_in, row_of, first_over}
+use Rattle.book_audit.specs.Findings.{vendors_among}
+use Rattle.book_audit.proofs.totals.totals_of.Given as goal
+
+abbrev pub invariant-loop-n : goal.invariant-loop-n
+invariant-loop-n l = record {
+  first : first_over l.n l.shops l.sales (drop l.n l.books) ≡ first_over 0 l.shops l.sales l.books;
+  rows : l.totals.vendors.items ≡ map (row_of l.shops l.sales) (vendors_among (take l.n l.books));
+  desk : (b : BookSums) → filter is_desk (take l.n l.books) ≡ b ∷ [] → l.totals.desk ≡ left_in l.shops l.sales b;
+}

@@ -1,0 +1,105 @@
+-- What an audit finds, by what was kept of the books.
+use Rattle.std.specs.Prelude.{◌≡◌, ℕ, ◌+◌, ◌-◌, true, not, List, [], ◌∷◌, map, filter, Some, None, IfSome, slice_get, Result, Ok, Err}
+use Rattle.balanced_books.specs.declared.sums.Report.{Report}
+use Rattle.balanced_books.specs.declared.sums.VendorSums.{VendorSums}
+use Rattle.book_sums.specs.declared.rows.Sold.{Sold}
+use Rattle.book_sums.specs.declared.till.Till.{Till}
+use Rattle.book_sums.specs.declared.book_sums.BookSums.{BookSums}
+use Rattle.book_sums.specs.Learned.{name_of, till_of, sales_of}
+use Rattle.book_audit.specs.declared.shop.Shop.{Shop}
+use Rattle.book_audit.specs.declared.totals.Totals.{Totals}
+use Rattle.book_audit.specs.declared.fault.AuditFault.{AuditFault}
+use Rattle.book_audit.specs.declared.fault.AuditFault.TheVariants as faults
+use Rattle.book_audit.specs.Shops.{IsShopOf}
+use Rattle.book_audit.specs.Checks.{is_desk, left_in, row_of, first_over}
+use Rattle.book_audit.specs.Markets.{only, has_vendor, own_names, IsLeast, HasAll, AreInOrder}
+
+-- the vendors' books
+abbrev pub vendors_among : List BookSums → List BookSums
+vendors_among books = filter (λ s. not (is_desk s)) books
+
+-- the shops of some vendors at a broker, in their order
+abbrev pub AreShopsOf : BookSums → List BookSums → List Shop → Type 0
+AreShopsOf b [] [] = Unit {0}
+AreShopsOf b (v ∷ vs) (s ∷ ss) = IsShopOf b v s × AreShopsOf b vs ss
+AreShopsOf b _ _ = ⊥
+
+-- ---- all books
+
+-- the sums of all books, none of which has a stranger
+pub record HasTotals (shops : List Shop) (sales : List Sold) (books : List BookSums) (t : Totals) : Type 0 where
+  pub none : first_over 0 shops sales books ≡ None
+  pub rows : t.vendors.items ≡ map (row_of shops sales) (vendors_among books)
+  pub desk : (b : BookSums) → filter is_desk books ≡ b ∷ [] → t.desk ≡ left_in shops sales b
+
+-- the first stranger, with the name of its book
+pub record IsFirstStranger (shops : List Shop) (sales : List Sold) (books : List BookSums) (book : ℕ) (name : List ℕ) (id : ℕ) : Type 0 where
+  pub first : first_over 0 shops sales books ≡ Some (book, id)
+  pub named : IfSome (slice_get books book) (λ s. name ≡ name_of s)
+
+abbrev pub FindsTotals : List Shop → List Sold → List BookSums → Result Totals AuditFault → Type 0
+FindsTotals shops sales books (Ok t) = HasTotals shops sales books t
+FindsTotals shops sales books (Err (faults.Stranger book name id)) = IsFirstStranger shops sales books book name id
+FindsTotals shops sales books (Err faults.NoMemory) = Unit {0}
+FindsTotals shops sales books (Err _) = ⊥
+
+-- ---- the report
+
+-- what stands in accounts: what came into them, less what went out
+abbrev pub accounts_of : Till → ℕ
+accounts_of t = (t.paid_in + t.credited) - (t.paid_out + t.drawn)
+
+-- the books of one broker and of vendors with names of their own, among them those of all that the broker sold of
+pub record IsMarketOf (broker : BookSums) (books : List BookSums) : Type 0 where
+  pub one : only (filter is_desk books) ≡ Some broker
+  pub own : own_names books ≡ true
+
+-- the report of these sums of all books, with those of the vendors in this order
+abbrev pub report_of : BookSums → Totals → List VendorSums → Report
+report_of broker t rows = record {
+  broker = name_of broker;
+  sums = record {
+    paid_in = (till_of broker).paid_in;
+    paid_out = (till_of broker).paid_out;
+    accounts = accounts_of (till_of broker);
+    fees = (till_of broker).fees;
+    outstanding = t.desk.outstanding;
+    lapsed = t.desk.lapsed;
+    vendors = rows;
+  };
+}
+
+-- it has the vendors in the order of their names
+pub record IsReportOf (broker : BookSums) (t : Totals) (r : Report) : Type 0 where
+  pub is : r ≡ report_of broker t r.sums.vendors
+  pub rows : AreInOrder t.vendors.items r.sums.vendors
+
+-- what is found beside a broker's book
+pub record FindsReport (broker : BookSums) (books : List BookSums) (r : Report) : Type 0 where
+  pub market : IsMarketOf broker books
+  pub all_there : HasAll (has_vendor books) (sales_of broker)
+  pub shops : List Shop
+  pub of_shops : AreShopsOf broker (vendors_among books) shops
+  pub totals : Totals
+  pub has : HasTotals shops (sales_of broker) books totals
+  pub report : IsReportOf broker totals r
+
+pub record FindsMissing (broker : BookSums) (books : List BookSums) (name : List ℕ) : Type 0 where
+  pub market : IsMarketOf broker books
+  pub least : IsLeast (has_vendor books) (sales_of broker) name
+
+pub record FindsStranger (broker : BookSums) (books : List BookSums) (book : ℕ) (name : List ℕ) (id : ℕ) : Type 0 where
+  pub market : IsMarketOf broker books
+  pub all_there : HasAll (has_vendor books) (sales_of broker)
+  pub shops : List Shop
+  pub of_shops : AreShopsOf broker (vendors_among books) shops
+  pub stranger : IsFirstStranger shops (sales_of broker) books book name id
+
+-- what an audit of the books finds
+abbrev pub Finds : List BookSums → Result Report AuditFault → Type 0
+Finds books (Ok r) = (broker : BookSums) × FindsReport broker books r
+Finds books (Err faults.BadBooks) = (broker : BookSums) → IsMarketOf broker books → ⊥
+Finds books (Err (faults.MissingBook name)) = (broker : BookSums) × FindsMissing broker books name
+Finds books (Err (faults.Stranger book name id)) = (broker : BookSums) × FindsStranger broker books book name id
+Finds books (Err faults.NoMemory) = Unit {0}
+Finds books (Err _) = ⊥

@@ -1,0 +1,116 @@
+//! The check of one book.
+
+ghost use Rattle.std.specs.Prelude.{◌≡◌, IfOk};
+ghost use Rattle.book_audit.specs.Checks.{is_desk, sold_from, handed_from, left_at, ChecksBook, fault_at};
+
+use crate::fault::AuditFault;
+use crate::known::Known;
+use crate::shop::Shop;
+use crate::spent::{Left, Spent};
+use crate::strangers::{first_stranger, shop_of};
+use balanced_books::Part;
+use book_sums::{BookSums, Sold};
+use ledger_model::BROKER_KIND;
+use mc_base::NoMemory;
+use scrip_form::Id;
+use std::alloc::Global;
+
+/// Why a book does not pass.
+#[derive(Clone, Copy, Drop)]
+pub(crate) enum CheckFault {
+    /// Its first stranger is the piece of this identity.
+    Stranger(Id),
+    /// Memory was refused.
+    NoMemory,
+}
+
+impl CheckFault {
+    /// The fault of an audit, where it is of the book at a place.
+    pub(crate) fn of_book(self, place: usize, book: &BookSums) -> AuditFault
+        ensures { result ≡ fault_at place book.now self }
+    {
+        match self {
+            CheckFault::Stranger(id) => AuditFault::Stranger {
+                book: place,
+                name: *book.name(),
+                id,
+            },
+            CheckFault::NoMemory => AuditFault::NoMemory,
+        }
+    }
+}
+
+/// Whether a book is a broker's.
+pub(crate) fn is_desk(book: &BookSums) -> bool
+    ensures { result ≡ is_desk book.now }
+{
+    book.kind() == BROKER_KIND
+}
+
+/// The pieces of a vendor's book that a broker sold, where these are its sales; none of a broker's book.
+fn sold_from(
+    alloc: Global,
+    shops: &[Shop],
+    sales: &[Sold],
+    book: &BookSums,
+) -> Result<Vec<Part>, NoMemory>
+    ensures { IfOk result (λ parts. parts.items ≡ sold_from shops.now sales.now book.now) }
+{
+    if is_desk(book) {
+        return Ok(Vec::new(alloc));
+    }
+    match shop_of(shops, book.name()) {
+        Some(shop) => shop.sold(alloc, sales),
+        None => Ok(Vec::new(alloc)),
+    }
+}
+
+/// The pieces that were handed out of a book.
+fn handed_from(
+    alloc: Global,
+    shops: &[Shop],
+    sales: &[Sold],
+    book: &BookSums,
+) -> Result<Vec<Part>, NoMemory>
+    ensures { IfOk result (λ parts. parts.items ≡ handed_from shops.now sales.now book.now) }
+{
+    let mut parts = sold_from(alloc, shops, sales, book)?;
+    parts.extend_from_slice(book.own_out())?;
+    Ok(parts)
+}
+
+/// Checks a book, beside the shops and the sales of its broker: its first stranger, or what is left of the pieces that
+/// were handed out of it. It takes memory for the pieces of this book alone.
+pub(crate) fn check_book(
+    alloc: Global,
+    shops: &[Shop],
+    sales: &[Sold],
+    book: &BookSums,
+) -> Result<Left, CheckFault>
+    ensures { ChecksBook shops.now sales.now book.now result }
+{
+    let handed = match handed_from(alloc, shops, sales, book) {
+        Ok(handed) => handed,
+        Err(NoMemory) => return Err(CheckFault::NoMemory),
+    };
+    let known = match Known::of_parts(alloc, &handed) {
+        Ok(known) => known,
+        Err(NoMemory) => return Err(CheckFault::NoMemory),
+    };
+    match first_stranger(&known, shops, book) {
+        Some(id) => return Err(CheckFault::Stranger(id)),
+        None => (),
+    }
+    match left_of(alloc, &handed, book) {
+        Ok(left) => Ok(left),
+        Err(NoMemory) => Err(CheckFault::NoMemory),
+    }
+}
+
+/// What is left of the pieces that were handed out of a book.
+fn left_of(alloc: Global, handed: &[Part], book: &BookSums) -> Result<Left, NoMemory>
+    ensures { IfOk result (λ left. left ≡ left_at handed.now book.now) }
+{
+    let spent = Spent::of(alloc, book.accepted())?;
+    spent.left(handed, book.time())
+}
