@@ -1,0 +1,12 @@
+pub mod IndexLaws
+pub mod HoldingLaws
+pub mod ChoosingLaws
+pub mod StateLaws
+pub mod KeptLaws
+pub mod PartLaws
+pub mod PlaceLaws
+pub mod EntryLaws
+pub mod SettledLaws
+pub mod PayLaws
+pub mod LearnLaws
+pub mod BookLaws

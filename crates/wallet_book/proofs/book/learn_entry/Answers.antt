@@ -1,0 +1,13 @@
+use Rattle.wallet_book.proofs.book.learn_entry.Goals as goal
+
+pub returns-in-Got : goal.returns-in-Got
+returns-in-Got c = λ h book is number. rw c.in-Got.is (c.learn_got.ensures h c.in-Got.moment book is)
+
+pub returns-in-Pend : goal.returns-in-Pend
+returns-in-Pend c = λ h book is number. rw c.in-Pend.is (c.learn_pend.ensures h c.in-Pend.moment book is number)
+
+pub returns-in-Done : goal.returns-in-Done
+returns-in-Done c = λ h book is number. rw c.in-Done.is (c.learn_done.ensures h c.in-Done.moment c.in-Done.price book is)
+
+pub returns-in-Refused : goal.returns-in-Refused
+returns-in-Refused c = λ h book is number. rw c.in-Refused.is (c.learn_refused.ensures h c.in-Refused.moment book is)

@@ -1,0 +1,22 @@
+use Rattle.std.proofs.Common.{◌≡◌, ℕ, List, Some, sym, arith, bytes_eq}
+use Rattle.std.specs.Prelude.{slice_get}
+use Rattle.wallet_book.specs.declared.kept.Kept.{Kept}
+use Rattle.wallet_book.proofs.HoldingLaws.{read_at}
+use Rattle.wallet_book.proofs.KeptLaws.{find_here, find_next}
+use Rattle.wallet_book.proofs.finding.first_of_peer.Goals as goal
+
+pub returns-then-is_of_peer : goal.returns-then-is_of_peer
+returns-then-is_of_peer c =
+    let xs : List Kept = c.args.kept.now in
+    let i : ℕ = c.loop-k.k-index in
+    let x : Kept = c.k-item.result in
+    let here : slice_get xs i ≡ Some x = read_at xs i x c.k-item.is (omega arith) in
+    sym (find_here (λ k. bytes_eq k.peer c.args.peer.now) xs i x c.loop-k.invariant here (sym c.if-is_of_peer.ensures))
+
+pub loop-k-preserved : goal.loop-k-preserved
+loop-k-preserved c =
+    let xs : List Kept = c.args.kept.now in
+    let i : ℕ = c.loop-k.k-index in
+    let x : Kept = c.k-item.result in
+    let here : slice_get xs i ≡ Some x = read_at xs i x c.k-item.is (omega arith) in
+    find_next (λ k. bytes_eq k.peer c.args.peer.now) xs i x c.loop-k.invariant here (sym c.if-is_of_peer.ensures)
