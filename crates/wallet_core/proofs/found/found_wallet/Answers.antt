@@ -1,0 +1,17 @@
+use Rattle.std.proofs.Common.{List, ℕ, [], ◌∷◌, None, ap, sym, subst, ◌∙◌}
+use Rattle.mc_records.specs.declared.limits.Limits.{Limits}
+use Rattle.mc_records.specs.Entry.{Site}
+use Rattle.wallet_core.specs.Wallet.{WalletStands}
+use Rattle.wallet_core.proofs.found.found_wallet.Goals as goal
+
+pub returns-in-Ok-clause-exact : goal.returns-in-Ok-clause-exact
+returns-in-Ok-clause-exact g c x told =
+    let made = c.new-book.ensures in
+    let found = c.in-Ok.ensures in
+    let P : List ℕ → Type 0 = λ name. WalletStands g.D.Disk.disk c.new.result (Site c.args.now 2 name None ∷ []) in
+    record {
+      free = (found.exact x told).1;
+      wallet = subst P c.bytes.ensures.value (c.new.ensures.stands (Site c.args.now 2 c.bytes.result.now None ∷ []) (found.exact x told).0 made.stands (found.limit ∙ ap (λ (l : Limits). l.journal) (sym made.limits)));
+      time' = c.new.ensures.time ∙ made.time;
+      limits' = c.new.ensures.limits ∙ made.limits;
+    }

@@ -1,0 +1,3 @@
+pub mod Wallet
+pub mod First
+pub mod Opening
