@@ -7,9 +7,8 @@ ghost use Rattle.balanced_books.specs.Sums.{vendor_sums};
 
 use crate::handed::with_own;
 use crate::left::{slow_lapsed, slow_outstanding, sum};
-use balanced_books::Part;
 use crate::sold::with_sold;
-use balanced_books::VendorSums;
+use balanced_books::{Part, VendorSums};
 use mc_base::NoMemory;
 use mc_records::Record;
 use scrip_form::Name;
