@@ -18,6 +18,7 @@ use crate::reply::{Page, Reply, ReplyRoom, refusal_head};
 use crate::signing::{customer_of, signed_refusal, taken_reply};
 use crate::trade::Trade;
 use crate::verdict::BenchFault;
+use kept_replies::KeptNumber;
 use mc_base::Moment;
 use mc_records::{Refusal, Request};
 use millicent_http::HeadRefusal;
@@ -25,7 +26,7 @@ use millicent_http::HeadRefusal;
 impl<T: Trade> Bench<T> {
     /// What is said to a request at a reading of the clock, to which the house time is raised: the number
     /// of the entry whose first reply it gets, or the refusal. Want of memory is refusal 90.
-    pub fn answer(&mut self, reading: Moment, q: &Presented<'_>) -> Result<u64, Refusal>
+    pub fn answer(&mut self, reading: Moment, q: &Presented<'_>) -> Result<KeptNumber, Refusal>
         ensures limits { limits_of self.new ≡ limits_of self.old }
         ensures used { AreUsed (windows_of self.old) → AreUsed (windows_of self.new) }
         ensures kept { IfOk result (KeepsReply self.new) }
@@ -51,7 +52,7 @@ impl<T: Trade> Bench<T> {
     pub fn reply<'a>(
         &'a self,
         q: &Presented<'_>,
-        said: &Result<u64, Refusal>,
+        said: &Result<KeptNumber, Refusal>,
         room: &'a mut ReplyRoom,
     ) -> Reply<'a>
         requires kept { IfOk said.now (KeepsReply self.now) }
@@ -59,11 +60,10 @@ impl<T: Trade> Bench<T> {
         ensures { (h : History) → IsHouse T.trade self.now h
             → result ≡ said_reply (state_of h self.now) q.now said.now }
     {
-        let number = match said {
-            Ok(number) => *number,
-            Err(refusal) => return self.refusal_reply(q, refusal, &mut room.page),
-        };
-        self.first_reply(number, room)
+        match said {
+            Ok(number) => self.first_reply(number, room),
+            Err(refusal) => self.refusal_reply(q, refusal, &mut room.page),
+        }
     }
 
     /// The reply to a head that is refused, at a reading of the clock, to which the house time is raised.
@@ -94,9 +94,13 @@ impl<T: Trade> Bench<T> {
     }
 
     /// The first reply to the entry of a number, whose reply is kept.
-    pub(crate) fn first_reply<'a>(&'a self, number: u64, room: &'a mut ReplyRoom) -> Reply<'a>
-        requires kept { KeepsReply self.now number }
-        ensures { (h : History) → IsHouse T.trade self.now h → result ≡ ledger.reply_of h number }
+    pub(crate) fn first_reply<'a>(
+        &'a self,
+        number: &KeptNumber,
+        room: &'a mut ReplyRoom,
+    ) -> Reply<'a>
+        requires kept { KeepsReply self.now number.now }
+        ensures { (h : History) → IsHouse T.trade self.now h → result ≡ ledger.reply_of h number.now }
     {
         let Some((q, entry)) = self.state.kept(number) else {
             unreachable!();

@@ -34,7 +34,7 @@ use crate::trade::Trade;
 use crate::verdict::{
     Authorization, Authorized, BenchFault, DrawAuthorization, EnterFault, NotAuthorized, Verdict,
 };
-use kept_replies::Deed;
+use kept_replies::{Deed, KeptNumber};
 use mc_base::{Moment, NoMemory};
 use mc_records::{Limits, PieceList, Record, RecordDeed, Refusal, Request, payloads_are_short};
 use std::alloc::Global;
@@ -129,7 +129,7 @@ impl<T: Trade> Bench<T> {
         match evaluate(&self.state, self.state.limits(), &self.trade, &q) {
             Ok(_authorization) => Verdict::Take,
             Err(NotAuthorized::Refused(refusal)) => Verdict::Refused(refusal),
-            Err(NotAuthorized::Again(number)) => Verdict::Again(number),
+            Err(NotAuthorized::Again(number)) => Verdict::Again(number.number()),
         }
     }
 
@@ -184,7 +184,10 @@ impl<T: Trade> Bench<T> {
             → HasContents T.trade self.old h
             → KeepsContents T.trade self.new h (model.answer h (house_time self.old) (limits_of self.old) (asked_of q.now)) result }
     {
-        self.respond(&Presented::of(*q), &mut Tally::none())
+        match self.respond(&Presented::of(*q), &mut Tally::none()) {
+            Ok(number) => Ok(number.number()),
+            Err(fault) => Err(fault),
+        }
     }
 
     /// Accepts a request, as [`Bench::accept`] does, and counts in a tally what is told to it.
@@ -192,7 +195,7 @@ impl<T: Trade> Bench<T> {
         &mut self,
         q: &Presented<'_>,
         tally: &mut Tally,
-    ) -> Result<u64, BenchFault>
+    ) -> Result<KeptNumber, BenchFault>
         ensures within { IsWithin self.old.state.count tally.old
             → IsWithin self.new.state.count tally.new }
         ensures counted { (h : History) → Represents T.trade self.old h
@@ -361,7 +364,7 @@ impl<T: Trade> Bench<T> {
         &mut self,
         q: &Presented<'_>,
         authorization: &Authorized<'_, '_>,
-    ) -> Result<u64, NoMemory>
+    ) -> Result<KeptNumber, NoMemory>
         requires new { IsOfNew self.old.state q.now authorization.now }
         requires held { OfDeed (OfGoods (T.trade self.old.trade).holds) authorization.now }
         requires ready { MayCommit self.old.state q.now.target authorization.now }
@@ -425,7 +428,7 @@ impl<T: Trade> Bench<T> {
         q: &Presented<'_>,
         authorization: &Authorized<'_, '_>,
         r: &Record<'_>,
-    ) -> u64
+    ) -> KeptNumber
         requires is { entry r.now ≡ authorized_entry (house_time self.old) q.now.target authorization.now }
         requires new { IsOfNew self.old.state q.now authorization.now }
         requires held { OfDeed (OfGoods (T.trade self.old.trade).holds) authorization.now }
@@ -452,8 +455,7 @@ impl<T: Trade> Bench<T> {
         let number = self.state.count();
         // What the house answers may follow, so an `Err` comes only where it represents no history.
         let _learned = self.trade.learn(number, r);
-        self.state.commit(q.request(), authorization);
-        number
+        self.state.commit(q.request(), authorization)
     }
 }
 
@@ -502,7 +504,7 @@ fn draw_record<'a>(time: Moment, target: &'a [u8], d: &DrawAuthorization) -> Rec
 }
 
 /// What comes of a request that makes no entry.
-fn stopped_with(stopped: NotAuthorized) -> Result<u64, BenchFault>
+fn stopped_with(stopped: NotAuthorized) -> Result<KeptNumber, BenchFault>
     ensures { result ≡ stopped_with stopped }
 {
     match stopped {

@@ -252,8 +252,7 @@ impl<D: Disk, T: Trade> House<D, T> {
             → Ran (D.disk self.journal.disk) (D.disk (outcome_disk result))
             (Leaves (model.Take (authorized_entry (house_time self.bench) q.now.target authorization.entry)) result h (D.disk self.journal.disk).aside) }
     {
-        let House { journal, bench } = self;
-        let mut bench = bench;
+        let House { journal, mut bench } = self;
         // The check lets a record go only where the types of its parts are named.
         let _pieces: Option<PieceList<'_>> = None;
         let record = entry_of(bench.state.time(), q.request(), &authorization);
@@ -296,8 +295,7 @@ impl<D: Disk, T: Trade> House<D, T> {
             → Ran (D.disk self.journal.disk) (D.disk (outcome_disk result))
             (Leaves (model.Take (entry r.now)) result h (D.disk self.journal.disk).aside) }
     {
-        let House { journal, bench } = self;
-        let mut bench = bench;
+        let House { journal, mut bench } = self;
         bench.raise(r.moment());
         let bytes = match bench.make_room_for(r) {
             Ok(bytes) => bytes,

@@ -22,7 +22,7 @@ use crate::money::{certificate_by, certified, certified_if, drawn, redeem, secre
 use crate::presented::without_scrip;
 use crate::verdict::{Authorization, Authorized, DrawAuthorization};
 use change_issue::Issuer;
-use kept_replies::{Kept, KeptEntry};
+use kept_replies::{Kept, KeptEntry, KeptNumber};
 use mc_base::{Moment, NoMemory, Total};
 use mc_records::{EMPTY_JOURNAL, FRAME, Limits, PieceList, Record, Refusal, Request, SiteTerms};
 use scrip_form::{Id, Name, Piece, Terms};
@@ -217,7 +217,7 @@ impl HouseState {
     }
 
     /// The number of the entry of the same request, within the keeping time.
-    pub(crate) fn repeated(&self, q: &Request<'_>) -> Option<u64>
+    pub(crate) fn repeated(&self, q: &Request<'_>) -> Option<KeptNumber>
         ensures { result ≡ option_map
             (λ e. e.number) (found self.now.kept self.now.time (asked_of q.now)) }
     {
@@ -225,11 +225,11 @@ impl HouseState {
     }
 
     /// The request and what is kept of the entry of this number.
-    pub(crate) fn kept(&self, number: u64) -> Option<(Request<'_>, KeptEntry)>
-        ensures reply { option_map reply_of result ≡ with_number self.now.kept.replies number }
-        ensures none { IsNone result ↔ IsFalse (has_number self.now.kept.replies number) }
+    pub(crate) fn kept(&self, number: &KeptNumber) -> Option<(Request<'_>, KeptEntry)>
+        ensures reply { option_map reply_of result ≡ with_number self.now.kept.replies number.now }
+        ensures none { IsNone result ↔ IsFalse (has_number self.now.kept.replies number.now) }
     {
-        self.kept.entry(number)
+        self.kept.entry_of(number)
     }
 
     /// The least number of an entry whose reply is kept.
@@ -428,13 +428,20 @@ impl HouseState {
         self.own_terms().series_at(moment)
     }
 
-    /// Enters a request that is accepted with a piece, for which there is room. It takes no memory.
-    pub(crate) fn enter(&mut self, q: &Request<'_>, paid: &Piece, a: &Authorization<'_, '_>)
+    /// Enters a request that is accepted with a piece, for which there is room, and answers the number of its
+    /// entry. It takes no memory.
+    pub(crate) fn enter(
+        &mut self,
+        q: &Request<'_>,
+        paid: &Piece,
+        a: &Authorization<'_, '_>,
+    ) -> KeptNumber
         requires room { HasRoom self.old (asked_of q.now) (pieces_size self.old.name paid.now a.now) paid.now.id }
         requires fresh { found self.old.kept self.old.time (asked_of q.now) ≡ None }
         requires change { HasChange self.old a.now.price paid.now.value a.now.change }
         requires fits { size_with self.old a.now.payload ≤ Limits.MOST_JOURNAL }
-        ensures { IsEntered self.old self.new (asked_of q.now) paid.now a.now }
+        ensures entered { IsEntered self.old self.new (asked_of q.now) paid.now a.now }
+        ensures number { result ≡ self.old.count }
     {
         let _series = self.series_now();
         let size = self.size_with(a.payload);
@@ -456,19 +463,21 @@ impl HouseState {
             secret: a.secret,
             deed: a.deed,
         };
-        self.kept.keep(q, entry);
+        let number = self.kept.keep(q, entry);
         self.spent.mark(paid.id());
         self.count += 1;
         self.size = size;
+        number
     }
 
     /// Enters a draw by a request, which has no scrip text, for which there is room: its piece is handed out
-    /// in the series of the house time. It takes no memory.
-    pub(crate) fn enter_draw(&mut self, q: &Request<'_>, d: &DrawAuthorization)
+    /// in the series of the house time. It answers the number of the entry, and takes no memory.
+    pub(crate) fn enter_draw(&mut self, q: &Request<'_>, d: &DrawAuthorization) -> KeptNumber
         requires room { HasRoomToDraw self.old (asked_of q.now) }
         requires fresh { found self.old.kept self.old.time (asked_of q.now) ≡ None }
         requires ready { IsDrawReady self.old q.now.target.now d.now }
-        ensures { IsDrawn self.old self.new (asked_of q.now) d.now }
+        ensures drawn { IsDrawn self.old self.new (asked_of q.now) d.now }
+        ensures number { result ≡ self.old.count }
     {
         let _series = self.series_now();
         let size = self.size_with(d.payload);
@@ -483,17 +492,20 @@ impl HouseState {
             secret: d.key,
             deed,
         };
-        self.kept.keep(q, entry);
+        let number = self.kept.keep(q, entry);
         self.count += 1;
         self.size = size;
+        number
     }
 
-    /// Enters what was authorized of a request, for which there is room. It takes no memory.
-    pub(crate) fn commit(&mut self, q: &Request<'_>, authorized: &Authorized<'_, '_>)
+    /// Enters what was authorized of a request, for which there is room, and answers the number of its entry.
+    /// It takes no memory.
+    pub(crate) fn commit(&mut self, q: &Request<'_>, authorized: &Authorized<'_, '_>) -> KeptNumber
         requires new { IsOfNew self.old (asked_of q.now) authorized.now }
         requires ready { MayCommit self.old q.now.target.now authorized.now }
         requires room { HasRoomToCommit self.old (asked_of q.now) authorized.now }
-        ensures { IsCommitted self.old self.new (asked_of q.now) authorized.now }
+        ensures committed { IsCommitted self.old self.new (asked_of q.now) authorized.now }
+        ensures number { result ≡ self.old.count }
     {
         match authorized {
             Authorized::Scrip(a) => self.enter(q, &a.scrip.piece(), a),

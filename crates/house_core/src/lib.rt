@@ -41,7 +41,7 @@ pub use outcome::{Outcome, Response};
 pub use presented::Presented;
 pub use replaying::ReplayEnd;
 pub use reply::{Reply, ReplyRoom};
-pub use sending::{send_again, send_disk_fault, send_refusal, send_settled};
+pub use sending::{send_again, send_disk_fault, send_kept, send_refusal, send_settled};
 pub use settled::{Settled, drop_settled};
 pub use tally::Tally;
 pub use trade::Trade;

@@ -1,5 +1,6 @@
 use crate::house::House;
 use crate::settled::Settled;
+use kept_replies::KeptNumber;
 use mc_records::Refusal;
 use scrip_journal::Halted;
 
@@ -8,7 +9,7 @@ pub enum Response {
     /// The request is new: what says that its entry is on the disk.
     New(Settled),
     /// It comes again: the number of the entry whose first reply it gets.
-    Again(u64),
+    Again(KeptNumber),
 }
 
 /// What comes of a call of a house that may write an entry. Each but the last hands the house back.

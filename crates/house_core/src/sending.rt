@@ -17,8 +17,9 @@ ghost use Rattle.house_core.specs.Session.{refused_reply};
 use crate::house::House;
 use crate::presented::Presented;
 use crate::reply::{Reply, ReplyRoom, refusal_head};
-use crate::settled::{Settled, drop_settled};
+use crate::settled::Settled;
 use crate::trade::Trade;
+use kept_replies::KeptNumber;
 use mc_base::Moment;
 use mc_outside::{Link, LinkFault, Outside};
 use mc_records::Refusal;
@@ -108,9 +109,12 @@ pub fn send_settled<O: Outside, T: Trade>(
         → (n : ℕ) × (n < length (ledger.reply_of h s.number))
         × Failed (after_send (take n (ledger.reply_of h s.number)) (O.link house.old.journal.disk)) (O.link house.new.journal.disk)) }
 {
-    let number = s.number();
-    drop_settled(s);
-    send_again(house, number, room)
+    let Settled {
+        receipt: _,
+        number,
+        fresh: _,
+    } = s;
+    send_kept(house, &number, room)
 }
 
 /// Sends the first reply to the entry of a number, which is kept, on the link that stands. At an `Err` a
@@ -135,6 +139,32 @@ pub fn send_again<O: Outside, T: Trade>(
     ensures fault { OnErr result ((h : History) → HouseRepresents O.disk T.trade house.old h
         → (n : ℕ) × (n < length (ledger.reply_of h number))
         × Failed (after_send (take n (ledger.reply_of h number)) (O.link house.old.journal.disk)) (O.link house.new.journal.disk)) }
+{
+    send_kept(house, &KeptNumber::of(number), room)
+}
+
+/// Sends the first reply to the entry of a number, as [`send_again`] does. It is not searched for where it
+/// lies where it was found.
+pub fn send_kept<O: Outside, T: Trade>(
+    house: &mut House<O, T>,
+    number: &KeptNumber,
+    room: &mut ReplyRoom,
+) -> Result<(), LinkFault>
+    requires link { IsTrue (O.link house.old.journal.disk).stands }
+    requires kept { KeepsReply house.old.bench number.now }
+    ensures moved { O.link_moved house.old.journal.disk house.new.journal.disk }
+    ensures standing { (O.link house.new.journal.disk).stands ≡ (O.link house.old.journal.disk).stands }
+    ensures rests { HouseRests house.old house.new }
+    ensures stands { (h : History) → HouseRepresents O.disk T.trade house.old h
+        → HouseRepresents O.disk T.trade house.new h }
+    ensures ran { (h : History) → HouseRepresents O.disk T.trade house.old h
+        → Ran (O.disk house.old.journal.disk) (O.disk house.new.journal.disk) (SendsOn h (O.disk house.old.journal.disk).aside (O.disk house.new.journal.disk).aside) }
+    ensures sent { OnOk result ((h : History)
+        → HouseRepresents O.disk T.trade house.old h
+        → O.link house.new.journal.disk ≡ after_send (ledger.reply_of h number.now) (O.link house.old.journal.disk)) }
+    ensures fault { OnErr result ((h : History) → HouseRepresents O.disk T.trade house.old h
+        → (n : ℕ) × (n < length (ledger.reply_of h number.now))
+        × Failed (after_send (take n (ledger.reply_of h number.now)) (O.link house.old.journal.disk)) (O.link house.new.journal.disk)) }
 {
     let reply = house.bench.first_reply(number, room);
     reply.send(&mut house.journal)

@@ -2,6 +2,7 @@
 
 ghost use Rattle.std.specs.Prelude.{◌≡◌};
 
+use kept_replies::KeptNumber;
 use scrip_journal::Receipt;
 use spent_windows::Fresh;
 
@@ -12,7 +13,7 @@ use spent_windows::Fresh;
 pub struct Settled {
     pub(crate) receipt: Receipt,
     /// The number under which the house keeps the entry's reply.
-    pub(crate) number: u64,
+    pub(crate) number: KeptNumber,
     pub(crate) fresh: Option<Fresh>,
 }
 
@@ -21,7 +22,7 @@ impl Settled {
     pub fn number(&self) -> u64
         ensures { result ≡ self.now.number }
     {
-        self.number
+        self.number.number()
     }
 }
 

@@ -2,7 +2,7 @@ ghost use Rattle.std.specs.Prelude.{◌≡◌};
 ghost use Rattle.house_core.specs.HouseState.{change_worth, pieces_size};
 ghost use Rattle.house_core.specs.Verdicts.{change_of, fresh_of, payload_of, price_of};
 
-use kept_replies::Deed;
+use kept_replies::{Deed, KeptNumber};
 use mc_base::Amount;
 use mc_records::Refusal;
 use scrip_form::{Id, Name, ScripRef};
@@ -42,7 +42,7 @@ pub enum EnterFault {
 #[derive(Drop)]
 pub(crate) enum NotAuthorized {
     Refused(Refusal),
-    Again(u64),
+    Again(KeptNumber),
 }
 
 /// What a request brings whose piece may be spent by it: the signature, where it has one, and the proof

@@ -15,7 +15,7 @@ ghost use Rattle.house_serving.specs.Links.{KeptCounts, PartCauses, RepliesTo, A
 
 use crate::turn::{Turn, turn_of};
 use house_core::{
-    House, Outcome, Presented, ReplyRoom, Response, Trade, send_again, send_disk_fault,
+    House, Outcome, Presented, ReplyRoom, Response, Trade, send_disk_fault, send_kept,
     send_refusal, send_settled,
 };
 use mc_base::Moment;
@@ -112,7 +112,7 @@ fn reply_to<O: Outside, T: Trade>(
                     Ok((house, turn_of(sent, after)))
                 }
                 Response::Again(number) => {
-                    let sent = send_again(&mut house, number, room);
+                    let sent = send_kept(&mut house, &number, room);
                     Ok((house, turn_of(sent, after)))
                 }
             }

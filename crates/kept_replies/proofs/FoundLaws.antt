@@ -3,7 +3,6 @@ use Rattle.std.proofs.Common.{◌≡◌, ℕ, zero, suc, ◌+◌, ◌<◌, ◌�
 use Rattle.std.specs.Bool.{then_some}
 use Rattle.std.specs.Borrow.{Bor}
 use Rattle.std.specs.Map.{lookup}
-use Rattle.std.specs.Option.{option_copied}
 use Rattle.std.specs.List.Sorted.{IsPartitionPoint}
 use Rattle.std.proofs.lemmas.List.Elements.{All-head, All-tail, All-weaker, All-from_recursion}
 use Rattle.std.proofs.lemmas.Bool.{both_ways, false_from_ne_true, and_parts, and_cases, ltb-true, ltb-false, eqb-true, eqb-false, eq-eqb, ne_eqb}
@@ -70,14 +69,14 @@ past_point n at rs rising point past =
     MatchOption-at_none (with_number rs n ≡ None) (λ r. with_number rs n ≡ then_some (eqb (number r) n) r) (slice_get_past rs at past) (at_point n at rs rising point)
 
 pub read_point : (n at : ℕ) (rs : List KeptReply) → AreRising rs → IsPartitionPoint (λ r. ltb (number r) n ≡ true) (λ r. ltb (number r) n ≡ false) rs at
-    → (r : Bor KeptReply) → at < length rs → r.now ≡ get_or rs at r.now → option_copied (then_some (eqb (number r.now) n) r) ≡ with_number rs n
+    → (r : Bor KeptReply) → at < length rs → r.now ≡ get_or rs at r.now → option_map (λ (p : ℕ × Bor KeptReply). p.1.now) (then_some (eqb (number r.now) n) (at, r)) ≡ with_number rs n
 read_point n at rs rising point r within read =
-    copied (eqb (number r.now) n)
+    seen (eqb (number r.now) n)
     ∙ sym (MatchOption-at_some (with_number rs n ≡ None) (λ x. with_number rs n ≡ then_some (eqb (number x) n) x) r.now (slice_get_read rs (length rs) at r.now refl within read) (at_point n at rs rising point))
   where
-    copied : (b : Bool) → option_copied (then_some b r) ≡ then_some b r.now
-    copied true = refl
-    copied false = refl
+    seen : (b : Bool) → option_map (λ (p : ℕ × Bor KeptReply). p.1.now) (then_some b (at, r)) ≡ then_some b r.now
+    seen true = refl
+    seen false = refl
 
 -- ---- by its mark
 

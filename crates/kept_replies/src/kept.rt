@@ -4,11 +4,12 @@ ghost use Rattle.mc_records.specs.Requests.{asked_of};
 ghost use Rattle.kept_replies.specs.Requests.{text_size, is_same_request};
 ghost use Rattle.kept_replies.specs.Index.{first_led};
 ghost use Rattle.kept_replies.specs.Store.{AreInOrder, has_mark, is_repeat};
+ghost use Rattle.std.specs.Bool.{then_some};
 ghost use Rattle.kept_replies.specs.Kept.{entry_size, AreRising, has_request, has_number, is_in_time, found, NoneInTime, with_number, first_number, inserted, reply_of};
 
-use crate::KeptEntry;
 use crate::index::{Index, tag_of};
 use crate::reply::Reply;
+use crate::{KeptEntry, KeptNumber};
 use mc_base::{Moment, NoMemory};
 use mc_records::Request;
 use std::alloc::Global;
@@ -18,8 +19,8 @@ use std::mem;
 
 /// The first replies that a house keeps, for its keeping time, so that a request which comes again
 /// gets its reply again. A request is compared only with the replies to requests of its tag, which
-/// are found by hashing, and a number is found by halving, so that neither takes long where many are
-/// kept. Contracts see the keeping time in seconds, the replies in the order of their numbers, which
+/// are found by hashing; a number is found by halving, unless it is known where its reply lies, so that
+/// neither takes long where many are kept. Contracts see the keeping time in seconds, the replies in the order of their numbers, which
 /// rise, and the room that was made for one more: a request and an entry may be kept where their texts
 /// have fewer bytes together than the room.
 #[derive(Drop)]
@@ -82,9 +83,10 @@ impl Kept {
         Ok(())
     }
 
-    /// The number of the entry of this request. None exactly where no kept entry has the request, or
-    /// `now` is at least the entry's moment plus the keeping time.
-    pub fn find(&self, now: Moment, q: &Request<'_>) -> Option<u64>
+    /// The number of the entry of this request, by which [`Kept::entry_of`] has the reply without another
+    /// search. None exactly where no kept entry has the request, or `now` is at least the entry's moment
+    /// plus the keeping time.
+    pub fn find(&self, now: Moment, q: &Request<'_>) -> Option<KeptNumber>
         ensures found { result ≡ option_map (λ e. e.number) (found self.now now (asked_of q.now)) }
         ensures none { IsNone result ↔ NoneInTime self.now now (asked_of q.now) }
         ensures rising { AreRising self.now.replies }
@@ -93,14 +95,16 @@ impl Kept {
         self.first_repeat(newest, self.index.older(), now, q)
     }
 
-    /// Keeps an entry for repeats of this request, for which there is room with it; neither the request nor the
-    /// number is kept yet. It takes no memory, and there may be no room for another request then.
-    pub fn keep(&mut self, q: &Request<'_>, e: KeptEntry)
+    /// Keeps an entry for repeats of this request, for which there is room with it, and answers its number;
+    /// neither the request nor the number is kept yet. It takes no memory, and there may be no room for
+    /// another request then.
+    pub fn keep(&mut self, q: &Request<'_>, e: KeptEntry) -> KeptNumber
         requires room { text_size (asked_of q.now) + entry_size e < self.old.room }
         requires new_request { IsFalse (has_request self.old.replies (asked_of q.now)) }
         requires new_number { IsFalse (has_number self.old.replies e.number) }
         ensures keep { self.new.keep ≡ self.old.keep }
         ensures replies { self.new.replies ≡ inserted (record { asked = asked_of q.now; entry = e }) self.old.replies }
+        ensures number { result ≡ e.number }
         ensures rising { AreRising self.new.replies }
     {
         let number = e.number;
@@ -110,7 +114,7 @@ impl Kept {
         let at = self.replies.partition_point(|r| r.number() < number);
         self.in_order = goes_last(self.in_order, &self.replies, at, e.moment);
         match self.replies.insert(at, Reply::of(buffer, q, &e)) {
-            Ok(()) => (),
+            Ok(()) => KeptNumber { number, at },
             Err(_) => unreachable!(),
         }
     }
@@ -149,20 +153,44 @@ impl Kept {
         ensures none { IsNone result ↔ IsFalse (has_number self.now.replies number) }
         ensures rising { AreRising self.now.replies }
     {
+        self.entry_of(&KeptNumber::of(number))
+    }
+
+    /// The same of a number that was found or kept: where its reply still lies there, it is not searched
+    /// for.
+    pub fn entry_of(&self, number: &KeptNumber) -> Option<(Request<'_>, KeptEntry)>
+        ensures reply { option_map reply_of result ≡ with_number self.now.replies number.now }
+        ensures none { IsNone result ↔ IsFalse (has_number self.now.replies number.now) }
+        ensures rising { AreRising self.now.replies }
+    {
         match self.reply(number) {
             Some(reply) => Some((reply.request(), reply.entry())),
             None => None,
         }
     }
 
-    /// The reply of this number.
-    fn reply(&self, number: u64) -> Option<&Reply>
-        ensures reply { option_copied result ≡ with_number self.now.replies number }
+    /// The reply of a number: at its place, or else by a search.
+    fn reply(&self, known: &KeptNumber) -> Option<&Reply>
+        ensures reply { option_copied result ≡ with_number self.now.replies known.now }
+        ensures rising { AreRising self.now.replies }
+    {
+        match self.replies.get(known.at) {
+            Some(reply) if reply.number() == known.number => Some(reply),
+            _ => {
+                let (_, reply) = self.search(known.number)?;
+                Some(reply)
+            }
+        }
+    }
+
+    /// The place of the reply of this number, and the reply.
+    fn search(&self, number: u64) -> Option<(usize, &Reply)>
+        ensures reply { option_map (λ p. p.1.now) result ≡ with_number self.now.replies number }
         ensures rising { AreRising self.now.replies }
     {
         let at = self.replies.partition_point(|r| r.number() < number);
         let reply = self.replies.get(at)?;
-        (reply.number() == number).then_some(reply)
+        (reply.number() == number).then_some((at, reply))
     }
 
     /// The first mark that leads to a repeat of this request: the newest of its tag, or
@@ -173,30 +201,38 @@ impl Kept {
         older: &[u64],
         now: Moment,
         q: &Request<'_>,
-    ) -> Option<u64>
+    ) -> Option<KeptNumber>
         ensures { result ≡ first_led (is_repeat self.now now (asked_of q.now)) newest older.now }
     {
-        match newest {
-            Some(number) if self.is_repeat(number, now, q) => newest,
-            _ => self.first_older(older, now, q),
+        let Some(mark) = newest else {
+            return self.first_older(older, now, q);
+        };
+        match self.repeat(mark, now, q) {
+            Some(number) => Some(number),
+            None => self.first_older(older, now, q),
         }
     }
 
     /// The first of these marks that leads to a repeat of this request.
-    fn first_older(&self, older: &[u64], now: Moment, q: &Request<'_>) -> Option<u64>
+    fn first_older(&self, older: &[u64], now: Moment, q: &Request<'_>) -> Option<KeptNumber>
         ensures { result ≡ find (is_repeat self.now now (asked_of q.now)) older.now }
     {
-        older.iter().find(|n| self.is_repeat(**n, now, q)).copied()
+        for mark in older {
+            match self.repeat(*mark, now, q) {
+                Some(number) => return Some(number),
+                None => (),
+            }
+        }
+        None
     }
 
-    /// Whether the reply of this number is to this request, and in time.
-    fn is_repeat(&self, number: u64, now: Moment, q: &Request<'_>) -> bool
-        ensures { result ≡ is_repeat self.now now (asked_of q.now) number }
+    /// The number of this mark, where its reply is to this request, and in time.
+    fn repeat(&self, mark: u64, now: Moment, q: &Request<'_>) -> Option<KeptNumber>
+        ensures { result ≡ then_some (is_repeat self.now now (asked_of q.now) mark) mark }
     {
-        match self.reply(number) {
-            Some(reply) => reply.is_of(q) && reply.is_in_time(self.keep, now),
-            None => false,
-        }
+        let (at, reply) = self.search(mark)?;
+        let repeats = reply.is_of(q) && reply.is_in_time(self.keep, now);
+        repeats.then_some(KeptNumber { number: mark, at })
     }
 }
 

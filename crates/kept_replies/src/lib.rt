@@ -6,6 +6,7 @@
 mod deed;
 mod index;
 mod kept;
+mod number;
 mod parts;
 mod reply;
 mod sold;
@@ -13,3 +14,4 @@ mod span;
 
 pub use deed::{Deed, KeptEntry};
 pub use kept::Kept;
+pub use number::KeptNumber;

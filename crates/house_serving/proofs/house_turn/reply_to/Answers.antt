@@ -30,19 +30,19 @@ pub returns-in-Again-clause-replied : goal.returns-in-Again-clause-replied
 returns-in-Again-clause-replied g c h st =
     let a = c.args.house.journal.disk in
     let y = c.in-Done.house in
-    let z = c.send_again-sent.new.house in
+    let z = c.send_kept-sent.new.house in
     let same = g.met.O.Outside.disk_keeps _ _ c.in-Done.ensures.back.moved' in
     let on : SentOn g.O.Link.link g.O.Disk.disk y z = record {
       tells = g.met.O.Outside.sent_aside;
       is_link = g.met.O.Link.is_link y.journal.disk;
       standing = subst (λ (v : LinkView). IsTrue v.stands) (sym same) c.requires.stands;
-      keeps = g.met.O.Outside.link_keeps _ _ c.send_again-sent.ensures.moved;
-      goes = g.met.O.Link.link_goes _ _ c.send_again-sent.ensures.moved;
-      rests = c.send_again-sent.ensures.rests;
+      keeps = g.met.O.Outside.link_keeps _ _ c.send_kept-sent.ensures.moved;
+      goes = g.met.O.Link.link_goes _ _ c.send_kept-sent.ensures.moved;
+      rests = c.send_kept-sent.ensures.rests;
     } in
     subst (λ (t : Turn). RepliesTo g.O.Link.link g.O.Disk.disk g.T.Trade.trade (limits_of c.args.house.bench) c.args.q.now c.args.after a (state_of h c.args.house.bench) (Ok (z, t))) (sym c.turn_of-in-Again.ensures.turn)
-    (replied_again g.O.Link.link g.O.Disk.disk g.T.Trade.trade (limits_of c.args.house.bench) c.args.q.now c.args.after a y z (state_of h c.args.house.bench) c.in-Again.number c.send_again-sent.result on
-    c.in-Done.ensures.back.keeps.time (rw c.in-Again.is at (c.in-Done.ensures.exact h st)) c.send_again-sent.ensures.sent c.send_again-sent.ensures.fault)
+    (replied_again g.O.Link.link g.O.Disk.disk g.T.Trade.trade (limits_of c.args.house.bench) c.args.q.now c.args.after a y z (state_of h c.args.house.bench) c.in-Again.number c.send_kept-sent.result on
+    c.in-Done.ensures.back.keeps.time (rw c.in-Again.is at (c.in-Done.ensures.exact h st)) c.send_kept-sent.ensures.sent c.send_kept-sent.ensures.fault)
 
 pub returns-in-Refused-clause-replied : goal.returns-in-Refused-clause-replied
 returns-in-Refused-clause-replied g c h st =

@@ -21,8 +21,8 @@ returns-clause-exact g c limits h st brings series most takes =
     let may : MayLearn b.limits kind c.count-number.result h (entry c.args.r.now) = rw (is, c.count-number.ensures) (may_learn st.state kind limits c.args.q.now a series most takes) in
     let half : ByTrade g.T.Trade.passes kind h (entry c.args.r.now) = rw is (trade_half g.T.Trade.passes kind h b.time c.args.q.now.target a) in
     let learned = on_is_ok c.learn-learned.result _ ((c.learn-learned.ensures.exact b.limits h st.learned may).1 half) c.learn-learned.ensures.learned b.limits h st.learned may in
-    let entered = subst (λ (p : Asked). IsCommitted b c.commit.new.self p a) c.request.ensures c.commit.ensures in (
-      c.count-number.ensures ∙ sym st.state.counted,
+    let entered = subst (λ (p : Asked). IsCommitted b c.commit.new.self p a) c.request.ensures c.commit.ensures.committed in (
+      c.commit.ensures.number ∙ sym st.state.counted,
       record {
         state = stands_committed st.state c.args.q.now a c.requires.new c.requires.ready brings limits series most takes entered;
         learned = subst (λ (e : Entry). (g.T.Trade.trade c.learn-learned.new.self).represents (h ++ e ∷ [])) is learned;
@@ -36,7 +36,7 @@ returns-clause-contents g c h st has in_force =
     let q = c.args.q.now in
     let a = c.args.authorization.now in
     let after : Bench g.row.T.Denot = record { state = c.commit.new.self; trade = c.learn-learned.new.self; tally = c.args.self.now.tally } in
-    let more = replies_committed b c.commit.new.self q a (subst (λ (p : Asked). IsCommitted b c.commit.new.self p a) c.request.ensures c.commit.ensures) in
+    let more = replies_committed b c.commit.new.self q a (subst (λ (p : Asked). IsCommitted b c.commit.new.self p a) c.request.ensures c.commit.ensures.committed) in
     contents_taken g.T.Trade.trade c.args.self.now after h (authorized_entry b.time q.target a) (kept_of b q a) has (λ target. puts_no_goods b.time q.target target a)
     more c.learn-learned.ensures.held (kept_held b q (g.T.Trade.trade c.args.self.now.trade).holds a c.requires.held) (kept_in_force b q h a in_force)
 
@@ -44,4 +44,4 @@ pub returns-clause-used : goal.returns-clause-used
 returns-clause-used g c used =
     let b = c.args.self.now.state in
     let a = c.args.authorization.now in
-    used_committed b c.commit.new.self c.args.q.now a (subst (λ (p : Asked). IsCommitted b c.commit.new.self p a) c.request.ensures c.commit.ensures) used
+    used_committed b c.commit.new.self c.args.q.now a (subst (λ (p : Asked). IsCommitted b c.commit.new.self p a) c.request.ensures c.commit.ensures.committed) used

@@ -17,5 +17,5 @@ returns-in-Err-Refused-clause-exact g c h st =
 
 pub returns-in-Err-Again-clause-exact : goal.returns-in-Err-Again-clause-exact
 returns-in-Err-Again-clause-exact g c h st =
-    ap judged ((rw c.in-Err-Again.field-0-is at (c.in-Err-Again.ensures.exact h st.state st.learned st.of_kind))
-    ∙ ap₂ (λ (l : Limits) (q : Asked). answer h (house_time c.args.self.now) l q) c.limits.ensures.limits c.of-q.ensures)
+    rw c.number.ensures (ap judged ((rw c.in-Err-Again.field-0-is at (c.in-Err-Again.ensures.exact h st.state st.learned st.of_kind))
+    ∙ ap₂ (λ (l : Limits) (q : Asked). answer h (house_time c.args.self.now) l q) c.limits.ensures.limits c.of-q.ensures))

@@ -1,14 +1,9 @@
-use Rattle.std.proofs.Common.{◌≡◌, true, false, eqb, is_some, ap, sym, ◌∙◌}
-use Rattle.kept_replies.specs.Kept.{has_number}
-use Rattle.kept_replies.proofs.SearchLaws.{is_some-find}
+use Rattle.std.proofs.Common.{ap, ◌∙◌}
+use Rattle.kept_replies.specs.Kept.{with_number}
 use Rattle.kept_replies.proofs.kept.Kept.entry.Goals as goal
 
-pub returns-in-Some-clause-none : goal.returns-in-Some-clause-none
-returns-in-Some-clause-none c =
-    let there : true ≡ has_number c.args.self.now.replies c.args.number = ap is_some c.in-Some.ensures.reply ∙ is_some-find (λ r. eqb r.entry.number c.args.number) c.args.self.now.replies in
-    (λ e. absurd cc, λ e. there ∙ e)
+pub returns-clause-reply : goal.returns-clause-reply
+returns-clause-reply c = c.entry_of.ensures.reply ∙ ap (with_number c.args.self.now.replies) c.of.ensures
 
-pub returns-in-None-clause-none : goal.returns-in-None-clause-none
-returns-in-None-clause-none c =
-    let not_there : false ≡ has_number c.args.self.now.replies c.args.number = ap is_some c.in-None.ensures.reply ∙ is_some-find (λ r. eqb r.entry.number c.args.number) c.args.self.now.replies in
-    (λ e. sym not_there, λ e. not_there ∙ e)
+pub returns-clause-none : goal.returns-clause-none
+returns-clause-none c = rw c.of.ensures at c.entry_of.ensures.none

@@ -1,28 +1,16 @@
-use Rattle.std.proofs.Common.{◌≡◌, ◌<◌, ◌≤◌, true, false, ltb, sym, arith, rules, of_calls}
-use Rattle.std.specs.List.Sorted.{IsPartitionPoint}
-use Rattle.std.proofs.lemmas.List.Sorted.{IsPartitionPoint-from_clause, IsPartitionedBy-ltb}
-use Rattle.kept_replies.proofs.ReplyLaws.{number, IsNonDecreasingBy-rising}
-use Rattle.kept_replies.proofs.FoundLaws.{past_point, read_point}
+use Rattle.std.proofs.Common.{◌≡◌, ◌<◌, Some, get_or, sym, ap, subst, ◌∙◌, arith, rules}
+use Rattle.kept_replies.specs.Kept.{KeptReply, with_number}
+use Rattle.kept_replies.proofs.ReplyLaws.{number}
+use Rattle.kept_replies.proofs.FoundLaws.{by_own_number}
 use Rattle.kept_replies.proofs.kept.Kept.reply.Goals as goal
-use Rattle.kept_replies.proofs.kept.Kept.reply.Goals.{After-get}
 
--- the place that was searched for
-point : (c : After-get) → IsPartitionPoint (λ r. ltb (number r) c.args.number ≡ true) (λ r. ltb (number r) c.args.number ≡ false) c.self.inside.replies.items c.partition_point-at.result
-point c =
+pub returns-in-Some-clause-reply : goal.returns-in-Some-clause-reply
+returns-in-Some-clause-reply c =
     let rs = c.self.inside.replies.items in
-    let n = c.args.number in
-    IsPartitionPoint-from_clause (λ r. ltb (number r) n) rs c.partition_point-at.result c.partition_point-at.ensures.partitioned (IsPartitionedBy-ltb number rs n (IsNonDecreasingBy-rising rs c.self.invariant.rising)) (λ a r f k. search (rules, of_calls))
-
-pub returns-in_err-reply-clause-reply : goal.returns-in_err-reply-clause-reply
-returns-in_err-reply-clause-reply c =
-    let rs = c.self.inside.replies.items in
-    let past : c.self.inside.replies.len ≤ c.partition_point-at.result = search rules in
-    rw (c.from_residual.ensures, ← c.self.view_is)
-    (sym (past_point c.args.number c.partition_point-at.result rs c.self.invariant.rising (point (goal.at.returns-in_err-reply-clause-reply c).After-get) (omega (arith, past, c.self.inside.replies.ok))))
-
-pub returns-clause-reply : goal.returns-clause-reply
-returns-clause-reply c =
-    let rs = c.self.inside.replies.items in
-    let lt : c.partition_point-at.result < c.self.inside.replies.len = search rules in
-    rw (c.then_some.ensures, c.number.ensures, ← c.self.view_is)
-    (read_point c.args.number c.partition_point-at.result rs c.self.invariant.rising (point (goal.at.returns-clause-reply c).After-get) c.in_ok-reply.reply (omega (arith, lt, c.self.inside.replies.ok)) c.in_ok-reply.ensures.lookup)
+    let r = c.in-Some.reply.now in
+    let at = c.known.inside.at in
+    let lt : at < c.self.inside.replies.len = search rules in
+    let read : r ≡ get_or rs at r = c.in-Some.ensures.lookup in
+    let its : number r ≡ c.args.known.now = sym c.number.ensures ∙ c.if-number-known.true ∙ c.known.view_is in
+    let there = by_own_number rs c.self.invariant.rising at r (omega (arith, lt, c.self.inside.replies.ok)) in
+    rw (← c.self.view_is) (sym (subst (λ (x : KeptReply). with_number rs (number x) ≡ Some x) (sym read) there) ∙ ap (with_number rs) its)
