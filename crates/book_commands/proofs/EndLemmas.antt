@@ -10,13 +10,13 @@ use Rattle.scrip_journal.specs.Layout.{Encodes}
 use Rattle.house_core.specs.Tasks.{Task}
 use Rattle.house_serving.specs.Links.{TakesNoLink}
 use Rattle.operator_command.specs.Operations.{OperationView, full}
-use Rattle.book_commands.specs.declared.status.Status.{Status}
-use Rattle.book_commands.specs.declared.status.Status.TheVariants as ends
-use Rattle.book_commands.specs.Statuses.{number_of}
+use Rattle.command_status.specs.declared.status.Status.{Status}
+use Rattle.command_status.specs.declared.status.Status.TheVariants as ends
+use Rattle.command_status.specs.Statuses.{number_of}
 use Rattle.book_commands.specs.Serving.{HasSite, NotOpened, ServesLinksOf, ServesBook, BookCauses, ServeCauses}
 use Rattle.book_commands.specs.Init.{FoundCauses}
 use Rattle.book_commands.specs.Operator.{DidBy, OperatesBook, OperateCauses}
-use Rattle.book_commands.specs.Inputs.{TakesInput, LosesInput}
+use Rattle.command_input.specs.Inputs.{TakesInput, LosesInput}
 use Rattle.book_commands.proofs.OpenLaws.{begins_with_header, not_spoiled, not_unlawful, not_of_other}
 
 -- what did not come of a book that stands
@@ -35,6 +35,7 @@ unopened_grew link disk kind bytes a b (ends.Served n) not = absurd not
 unopened_grew link disk kind bytes a b (ends.Founded name) not = absurd not
 unopened_grew link disk kind bytes a b (ends.Did line) not = absurd not
 unopened_grew link disk kind bytes a b ends.BadWords not = absurd not
+unopened_grew link disk kind bytes a b (ends.Stranger name id) not = absurd not
 unopened_grew link disk kind bytes a b ends.NotJournal not = same_count (link a) (link b) not.1.link'
 unopened_grew link disk kind bytes a b (ends.BadEntry place) not = same_count (link a) (link b) not.1.link'
 unopened_grew link disk kind bytes a b (ends.UnlawfulEntry place) not = same_count (link a) (link b) not.1.link'
@@ -50,6 +51,7 @@ links_grew link disk links bytes a b (ends.Served n) calm causes served = causes
 links_grew link disk links bytes a b (ends.Founded name) calm causes served = absurd served
 links_grew link disk links bytes a b (ends.Did line) calm causes served = absurd served
 links_grew link disk links bytes a b ends.BadWords calm causes served = absurd served
+links_grew link disk links bytes a b (ends.Stranger name id) calm causes served = absurd served
 links_grew link disk links bytes a b ends.NotJournal calm causes served = absurd served
 links_grew link disk links bytes a b (ends.BadEntry place) calm causes served = absurd served
 links_grew link disk links bytes a b (ends.UnlawfulEntry place) calm causes served = absurd served
@@ -93,6 +95,7 @@ only_memory link disk kind Lost h bytes a b (ends.Served n) st lawful of_kind ca
 only_memory link disk kind Lost h bytes a b (ends.Founded name) st lawful of_kind calm causes not = absurd not
 only_memory link disk kind Lost h bytes a b (ends.Did line) st lawful of_kind calm causes not = absurd not
 only_memory link disk kind Lost h bytes a b ends.BadWords st lawful of_kind calm causes not = absurd not
+only_memory link disk kind Lost h bytes a b (ends.Stranger name id) st lawful of_kind calm causes not = absurd not
 only_memory link disk kind Lost h bytes a b ends.NotJournal st lawful of_kind calm causes not = absurd (not.0 (begins_with_header h bytes st))
 only_memory link disk kind Lost h bytes a b (ends.BadEntry place) st lawful of_kind calm causes not = absurd (not_spoiled kind h bytes place st not.0)
 only_memory link disk kind Lost h bytes a b (ends.UnlawfulEntry place) st lawful of_kind calm causes not = absurd (not_unlawful kind h bytes place st lawful not.0)
@@ -111,6 +114,7 @@ init_well link disk a b (ends.Served n) calm causes = absurd causes
 init_well link disk a b (ends.Did line) calm causes = absurd causes
 init_well link disk a b ends.LinkFault calm causes = absurd causes
 init_well link disk a b ends.BadWords calm causes = absurd causes
+init_well link disk a b (ends.Stranger name id) calm causes = absurd causes
 init_well link disk a b ends.NotJournal calm causes = absurd causes
 init_well link disk a b (ends.BadEntry place) calm causes = absurd causes
 init_well link disk a b (ends.UnlawfulEntry place) calm causes = absurd causes
@@ -125,6 +129,7 @@ links_well link disk links bytes a b ends.NoMemory calm causes served = inr refl
 links_well link disk links bytes a b ends.DiskFault calm causes served = absurd (calm.disk' causes)
 links_well link disk links bytes a b ends.LinkFault calm causes served = absurd (calm.link' causes.1)
 links_well link disk links bytes a b ends.BadWords calm causes served = absurd served
+links_well link disk links bytes a b (ends.Stranger name id) calm causes served = absurd served
 links_well link disk links bytes a b ends.NotJournal calm causes served = absurd served
 links_well link disk links bytes a b (ends.BadEntry place) calm causes served = absurd served
 links_well link disk links bytes a b (ends.UnlawfulEntry place) calm causes served = absurd served
@@ -146,6 +151,7 @@ did_well link disk operation input h task a b (ends.Refused f) calm causes did =
 did_well link disk operation input h task a b ends.DiskFault calm causes did = absurd (calm.disk' causes)
 did_well link disk operation input h task a b ends.LinkFault calm causes did = absurd did
 did_well link disk operation input h task a b ends.BadWords calm causes did = absurd did
+did_well link disk operation input h task a b (ends.Stranger name id) calm causes did = absurd did
 did_well link disk operation input h task a b ends.NotJournal calm causes did = absurd did
 did_well link disk operation input h task a b (ends.BadEntry place) calm causes did = absurd did
 did_well link disk operation input h task a b (ends.UnlawfulEntry place) calm causes did = absurd did

@@ -21,7 +21,7 @@ use Rattle.house_serving.proofs.AsideLemmas.{TellsAside, no_more_still, aside_st
 use Rattle.operator_command.specs.Operations.{full}
 use Rattle.mc_words.specs.Words.{Founder}
 use Rattle.book_commands.specs.Founding.{site_of}
-use Rattle.book_commands.specs.Endings.{fault_status}
+use Rattle.command_status.specs.Faults.{fault_status}
 use Rattle.book_commands.specs.Init.{FoundPair, FoundsBy, FoundCauses}
 use Rattle.book_commands.specs.Serving.{EncodesLawful}
 use Rattle.book_commands.proofs.ServedLemmas.{stands_lawful}

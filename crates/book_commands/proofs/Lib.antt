@@ -2,6 +2,5 @@ pub mod LawfulRuns
 pub mod ServedLemmas
 pub mod InitLemmas
 pub mod OpenLaws
-pub mod InputLemmas
 pub mod OperatorLemmas
 pub mod EndLemmas

@@ -24,9 +24,9 @@ use Rattle.house_core.proofs.HouseDisk.{house_keeps}
 use Rattle.house_core.specs.Trade.{TradeView}
 use Rattle.house_core.specs.Tasks.{Task, Add, Stays, Refuse, Does, LeavesBy, Performs}
 use Rattle.house_serving.proofs.AsideLemmas.{TellsAside, SentNoMore, no_more_then, no_more_still, no_more_heard, no_more_finished, no_more_taken, aside_still}
-use Rattle.book_commands.specs.declared.status.Status.{Status}
-use Rattle.book_commands.specs.declared.status.Status.TheVariants as ends
-use Rattle.book_commands.specs.Inputs.{IsInput, LostInput, TakesInput, LosesInput}
+use Rattle.command_status.specs.declared.status.Status.{Status}
+use Rattle.command_status.specs.declared.status.Status.TheVariants as ends
+use Rattle.command_input.specs.Inputs.{IsInput, LostInput, TakesInput, LosesInput}
 use Rattle.operator_command.specs.Operations.{full, OperationView}
 use Rattle.book_commands.specs.Endings.{outcome_status}
 use Rattle.book_commands.specs.Serving.{EncodesLawful}
@@ -259,6 +259,7 @@ causes_opened link disk operation a x (ends.Served n) b same links causes = (cau
 causes_opened link disk operation a x (ends.Founded name) b same links causes = causes ∙ same
 causes_opened link disk operation a x (ends.Did line) b same links causes = causes ∙ same
 causes_opened link disk operation a x ends.BadWords b same links causes = causes ∙ same
+causes_opened link disk operation a x (ends.Stranger name id) b same links causes = causes ∙ same
 causes_opened link disk operation a x ends.NotJournal b same links causes = causes ∙ same
 causes_opened link disk operation a x (ends.BadEntry place) b same links causes = causes ∙ same
 causes_opened link disk operation a x (ends.UnlawfulEntry place) b same links causes = causes ∙ same

@@ -27,7 +27,8 @@ use Rattle.house_serving.specs.InDoubt.{InDoubtLinks}
 use Rattle.house_serving.specs.Orders.{InOrder, MovedBy, RefinesBy, InDoubt}
 use Rattle.house_serving.specs.Links.{ServesLinks, HaveCauses, served_outside}
 use Rattle.operator_command.specs.Operations.{full}
-use Rattle.book_commands.specs.Endings.{served_status, fault_status}
+use Rattle.command_status.specs.Faults.{fault_status}
+use Rattle.book_commands.specs.Endings.{served_status}
 use Rattle.book_commands.specs.Serving.{EncodesLawful, ServePair, ServedFrom, Unserved, NotOpened, ServesLinksOf, ServeCauses}
 use Rattle.book_commands.proofs.LawfulRuns.{IsSound, all_sound, links_sound, doubt_sound}
 use Rattle.house_core.specs.Trade.{TradeView}

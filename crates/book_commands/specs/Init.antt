@@ -8,8 +8,8 @@ use Rattle.mc_records.specs.declared.refusal.Refusal.TheVariants as refusals
 use Rattle.scrip_journal.specs.Founds.{IsFree, IsTaken, FoundImage}
 use Rattle.millicent_http.specs.declared.clock.Clock.TheVariants.{OfLinks}
 use Rattle.millicent_http.specs.Courses.{AreRead, with_readings}
-use Rattle.book_commands.specs.declared.status.Status.{Status}
-use Rattle.book_commands.specs.declared.status.Status.TheVariants as ends
+use Rattle.command_status.specs.declared.status.Status.{Status}
+use Rattle.command_status.specs.declared.status.Status.TheVariants as ends
 use Rattle.mc_words.specs.Words.{Founder}
 use Rattle.book_commands.specs.Founding.{site_of}
 use Rattle.book_commands.specs.Serving.{EncodesLawful}

@@ -10,9 +10,9 @@ use Rattle.house_core.specs.declared.house.House.{House}
 use Rattle.house_core.specs.Trade.{TradeView}
 use Rattle.house_opening.specs.Opening.{OpenedFor}
 use Rattle.house_core.specs.Tasks.{Task, Add, Stays, after, IsDoable, IsRefused}
-use Rattle.book_commands.specs.declared.status.Status.{Status}
-use Rattle.book_commands.specs.declared.status.Status.TheVariants as ends
-use Rattle.book_commands.specs.Inputs.{TakesInput, LosesInput}
+use Rattle.command_status.specs.declared.status.Status.{Status}
+use Rattle.command_status.specs.declared.status.Status.TheVariants as ends
+use Rattle.command_input.specs.Inputs.{TakesInput, LosesInput}
 use Rattle.operator_command.specs.Operations.{OperationView, full}
 use Rattle.book_commands.specs.Serving.{EncodesLawful, EncodesEither, NotOpened, BookCauses}
 

@@ -19,8 +19,8 @@ use Rattle.house_core.specs.Session.{State, Step}
 use Rattle.house_serving.specs.Orders.{InOrder, IsEither, InDoubt}
 use Rattle.house_serving.specs.InDoubt.{InDoubtLinks}
 use Rattle.house_serving.specs.Links.{TakesNoLink}
-use Rattle.book_commands.specs.declared.status.Status.{Status}
-use Rattle.book_commands.specs.declared.status.Status.TheVariants as ends
+use Rattle.command_status.specs.declared.status.Status.{Status}
+use Rattle.command_status.specs.declared.status.Status.TheVariants as ends
 use Rattle.operator_command.specs.Operations.{full}
 
 -- the bytes of the book encoded the history of this state, at its time

@@ -7,11 +7,10 @@ ghost use Rattle.house_core.specs.declared.offer.SiteKind.TheVariants.{Vendor};
 ghost use Rattle.book_commands.specs.Founding.{site_of};
 ghost use Rattle.book_commands.specs.Init.{FoundsBook, InitCauses};
 ghost use Rattle.operator_command.specs.Operations.{full};
-ghost use Rattle.book_commands.specs.Statuses.{number_of};
+ghost use Rattle.command_status.specs.Statuses.{number_of};
 
 use crate::founder::site;
-use crate::serving::not_opened;
-use crate::status::Status;
+use command_status::{Status, not_opened};
 use house_core::Trade;
 use house_opening::found_house;
 use mc_outside::{Link, Outside};

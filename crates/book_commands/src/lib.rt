@@ -1,17 +1,14 @@
 //! What a command does with the book of a site, whatever the trade: it founds the book, opens it and serves its
-//! links, or opens it and has its operator's command done; and how a command ends.
+//! links, or opens it and has its operator's command done.
 #![tactic(auto)]
 
 mod founder;
 mod init;
-mod input;
 mod law;
 mod operator;
 mod serving;
-mod status;
 
 pub use init::found_book;
 pub use law::lawful_books_are_opened;
 pub use operator::operate_book;
 pub use serving::serve_book;
-pub use status::Status;

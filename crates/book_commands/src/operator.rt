@@ -4,11 +4,10 @@ ghost use Rattle.std.specs.Prelude.{◌≡◌, [], List as Items, ℕ, Some};
 ghost use Rattle.house_core.specs.House.{outcome_disk};
 ghost use Rattle.book_commands.specs.Operator.{OperatesBook, OperatesOpened, OperateCauses, Opened};
 ghost use Rattle.book_commands.specs.Endings.{outcome_status};
-ghost use Rattle.book_commands.specs.Statuses.{number_of};
+ghost use Rattle.command_status.specs.Statuses.{number_of};
 
-use crate::input::{InputFault, input_of};
-use crate::serving::not_opened;
-use crate::status::Status;
+use command_input::{InputFault, input_of};
+use command_status::{Status, not_opened};
 use house_core::{House, Outcome, Trade};
 use house_opening::open_house;
 use mc_base::List;

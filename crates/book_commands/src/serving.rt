@@ -1,19 +1,17 @@
 //! Serving the site of a book.
 
 ghost use Rattle.std.specs.Prelude.{◌≡◌, [], List, ℕ, Some};
-ghost use Rattle.scrip_journal.specs.Founds.{fault_disk};
 ghost use Rattle.house_serving.specs.Links.{served_outside};
-ghost use Rattle.book_commands.specs.Endings.{served_status, fault_status};
+ghost use Rattle.book_commands.specs.Endings.{served_status};
 ghost use Rattle.book_commands.specs.Serving.{ServesBook, ServeCauses};
-ghost use Rattle.book_commands.specs.Statuses.{number_of};
+ghost use Rattle.command_status.specs.Statuses.{number_of};
 
-use crate::status::Status;
+use command_status::{Status, not_opened};
 use house_core::Trade;
 use house_opening::open_house;
 use house_serving::{ServeOut, serve_links};
 use mc_outside::Outside;
-use mc_records::{Limits, Refusal};
-use scrip_journal::HouseFault;
+use mc_records::Limits;
 use std::alloc::Global;
 
 /// Opens the book on the outside's disk as that of a site of the trade's kind, and serves so many links. The
@@ -42,22 +40,5 @@ fn ended<O: Outside, T: Trade>(served: ServeOut<O, T>) -> (O, Status)
         ServeOut::Link(house) => (house.close(), Status::LinkFault),
         ServeOut::NoMemory(house) => (house.close(), Status::NoMemory),
         ServeOut::Halted(halted) => (halted.close(), Status::DiskFault),
-    }
-}
-
-/// The disk of a book that is not opened or founded, and why.
-pub(crate) fn not_opened<D>(fault: HouseFault<D>) -> (D, Status)
-    ensures disk { result.0 ≡ fault_disk fault }
-    ensures status { result.1 ≡ fault_status fault }
-    ensures words { number_of result.1 ≡ 2 → ⊥ }
-{
-    match fault {
-        HouseFault::NotJournal(disk) => (disk, Status::NotJournal),
-        HouseFault::BadRecord(disk, place) => (disk, Status::BadEntry(place)),
-        HouseFault::Unlawful(disk, place) => (disk, Status::UnlawfulEntry(place)),
-        HouseFault::WrongKind(disk) => (disk, Status::Refused(Refusal::WrongKind)),
-        HouseFault::NotEmpty(disk, size) => (disk, Status::Refused(Refusal::NotEmpty(size))),
-        HouseFault::Disk(disk) => (disk, Status::DiskFault),
-        HouseFault::NoMemory(disk) => (disk, Status::NoMemory),
     }
 }

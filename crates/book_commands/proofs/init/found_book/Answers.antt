@@ -11,7 +11,7 @@ use Rattle.scrip_journal.specs.Founds.{FoundNoOutput, CountsBy, fault_disk}
 use Rattle.ledger_model.specs.Houses.{IsHouseKind}
 use Rattle.house_core.specs.Views.{kind_number}
 use Rattle.book_commands.specs.Founding.{site_of}
-use Rattle.book_commands.specs.declared.status.Status.{Status}
+use Rattle.command_status.specs.declared.status.Status.{Status}
 use Rattle.operator_command.specs.Operations.{full}
 use Rattle.book_commands.specs.Init.{FoundAt, FoundsBy}
 use Rattle.book_commands.proofs.InitLemmas.{first_has_room, found_pairs, fault_causes, founded_for, not_founded}

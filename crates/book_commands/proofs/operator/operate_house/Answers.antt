@@ -1,7 +1,7 @@
 use Rattle.std.proofs.Common.{◌≡◌, ℕ, List, inl, inr, refl, ap, ◌∙◌, sym, subst}
 use Rattle.mc_outside.specs.LinkView.{LinkView}
-use Rattle.book_commands.specs.declared.status.Status.TheVariants as ends
-use Rattle.book_commands.specs.Inputs.{TakesInput, LosesInput}
+use Rattle.command_status.specs.declared.status.Status.TheVariants as ends
+use Rattle.command_input.specs.Inputs.{TakesInput, LosesInput}
 use Rattle.house_serving.proofs.AsideLemmas.{no_more_still}
 use Rattle.book_commands.proofs.OperatorLemmas.{operated, operated_causes, ready_by, by_links, unread, unread_at_once, not_taken_quiet, lost_rose}
 use Rattle.book_commands.proofs.operator.operate_house.Goals as goal

@@ -2,7 +2,7 @@
 
 ghost use Rattle.std.specs.Prelude.{◌≡◌, ◌^◌, ◌<◌, ◌+◌, ℕ, List, length, take, Some, IsTrue, IfSome, IfOk, IfErr, OnErr};
 ghost use Rattle.mc_outside.specs.LinkView.{after_recv, Failed};
-ghost use Rattle.book_commands.specs.Inputs.{IsInput, TakesInput, InputFailed, Receives};
+ghost use Rattle.command_input.specs.Inputs.{IsInput, TakesInput, InputFailed, Receives};
 
 use mc_base::NoMemory;
 use mc_outside::{Link, LinkFault};
@@ -10,14 +10,14 @@ use std::alloc::Global;
 
 /// Why an input was not read.
 #[derive(Clone, Copy, Drop)]
-pub(crate) enum InputFault {
+pub enum InputFault {
     NoMemory,
     /// A call of the link failed.
     Link,
 }
 
 /// The input of a command that takes at most so many bytes of the next link; nothing where it takes no link.
-pub(crate) fn input_of<K: Link>(
+pub fn input_of<K: Link>(
     alloc: Global,
     k: &mut K,
     most: Option<usize>,

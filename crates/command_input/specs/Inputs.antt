@@ -2,8 +2,8 @@
 use Rattle.std.specs.Prelude.{◌≡◌, ◌⊎◌, ℕ, ◌+◌, ◌<◌, ◌≤◌, List, [], length, Option, Some, None}
 use Rattle.mc_outside.specs.LinkView.{LinkView, next_taken, none_left, after_recv, after_eof, Failed}
 use Rattle.millicent_http.specs.Courses.{NoLink}
-use Rattle.book_commands.specs.declared.input.InputFault.{InputFault}
-use Rattle.book_commands.specs.declared.input.InputFault.TheVariants as faults
+use Rattle.command_input.specs.declared.input.InputFault.{InputFault}
+use Rattle.command_input.specs.declared.input.InputFault.TheVariants as faults
 
 -- The input is what was received on the next link up to its end, or, where more than so many bytes come, one
 -- byte more than these. Where no link comes it is empty.

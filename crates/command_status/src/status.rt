@@ -1,22 +1,25 @@
+//! The statuses that the program ends with.
+
 ghost use Rattle.std.specs.Prelude.{◌≡◌, ◌+◌, ◌≤◌, ◌++◌, length, take, codes, decimal};
-ghost use Rattle.book_commands.specs.declared.status.Status.TheVariants.{Refused};
-ghost use Rattle.book_commands.specs.Statuses.{number_of, line_of, IsMade};
+ghost use Rattle.scrip_form.specs.Scrip.{id_digits};
+ghost use Rattle.command_status.specs.declared.status.Status.TheVariants.{Refused, Stranger};
+ghost use Rattle.command_status.specs.Statuses.{number_of, line_of, IsMade};
 
 use mc_base::List;
 use mc_fields::{put, put_number};
 use mc_records::{Refusal, put_refusal_text};
-use scrip_form::Name;
+use scrip_form::{Id, Name};
 
-/// How the program ends.
+/// How the program ends. What is said with each is in `docs/FORMATS.md`.
 #[derive(Drop)]
 pub enum Status {
-    /// The one link of a shop was served, or none came.
+    /// It is done, and no line tells of it.
     Done,
     /// So many links were served.
     Served(u32),
     /// A site of this name was founded.
     Founded(Name),
-    /// What the operator of a book has said was done. This is said of it.
+    /// What was asked for was done. This is said of it.
     Did(List<u8>),
     BadWords,
     NotJournal,
@@ -28,6 +31,8 @@ pub enum Status {
     NoMemory,
     LinkFault,
     Refused(Refusal),
+    /// The book of the site of this name has accepted or sold a piece with this identity that nobody handed out.
+    Stranger { name: Name, id: Id },
 }
 
 impl Status {
@@ -43,6 +48,7 @@ impl Status {
             Status::NoMemory => 5,
             Status::LinkFault => 6,
             Status::Refused(_) => 7,
+            Status::Stranger { .. } => 8,
         }
     }
 
@@ -74,6 +80,7 @@ impl Status {
             Status::NoMemory => put(out, 0, b"no memory\n"),
             Status::LinkFault => put(out, 0, b"link fault\n"),
             Status::Refused(refusal) => put_refused(out, refusal),
+            Status::Stranger { name, id } => put_stranger(out, name, *id),
         }
     }
 }
@@ -105,4 +112,24 @@ fn put_refused(out: &mut [u8; 256], refusal: &Refusal) -> usize
     let at = put(out, 0, b"refused ");
     let at = put_refusal_text(out, at, refusal);
     put(out, at, b"\n")
+}
+
+fn put_stranger(out: &mut [u8; 256], name: &Name, id: Id) -> usize
+    ensures within { result ≤ 256 }
+    ensures line { take result out.new ≡ line_of (Stranger name.now id) }
+{
+    let at = put(out, 0, b"stranger ");
+    let at = put(out, at, name.bytes());
+    let at = put(out, at, b" ");
+    let at = put(out, at, &digits_of_id(id));
+    put(out, at, b"\n")
+}
+
+/// The 16 lower-case hex digits of an identity, as lines tell it.
+pub fn digits_of_id(id: Id) -> [u8; 16]
+    ensures { result ≡ id_digits id }
+{
+    let mut digits = [0; 16];
+    hex::encode_to_slice(id.number().to_be_bytes(), &mut digits).unwrap();
+    digits
 }

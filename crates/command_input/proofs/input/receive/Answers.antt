@@ -3,8 +3,8 @@ use Rattle.std.proofs.lemmas.List.{length-take-le}
 use Rattle.std.specs.Prelude.{IsTrue}
 use Rattle.mc_outside.specs.LinkView.{LinkView}
 use Rattle.mc_outside.proofs.Sessions.{heard_none}
-use Rattle.book_commands.proofs.InputLemmas.{size_with, heard_then, lost}
-use Rattle.book_commands.proofs.input.receive.Goals as goal
+use Rattle.command_input.proofs.InputLemmas.{size_with, heard_then, lost}
+use Rattle.command_input.proofs.input.receive.Goals as goal
 
 pub loop-len-init : goal.loop-len-init
 loop-len-init g c = record {

@@ -1,8 +1,9 @@
 -- The statuses that the program ends with, and the line that is said with each.
 use Rattle.std.specs.Prelude.{ℕ, List, [], ◌++◌, codes, decimal}
+use Rattle.scrip_form.specs.Scrip.{id_digits}
 use Rattle.mc_records.specs.Refusals.{refusal_text}
-use Rattle.book_commands.specs.declared.status.Status.{Status}
-use Rattle.book_commands.specs.declared.status.Status.TheVariants.{Done, Served, Founded, Did, BadWords, NotJournal, BadEntry, UnlawfulEntry, DiskFault, NoMemory, LinkFault, Refused}
+use Rattle.command_status.specs.declared.status.Status.{Status}
+use Rattle.command_status.specs.declared.status.Status.TheVariants.{Done, Served, Founded, Did, BadWords, NotJournal, BadEntry, UnlawfulEntry, DiskFault, NoMemory, LinkFault, Refused, Stranger}
 
 abbrev pub number_of : Status → ℕ
 number_of Done = 0
@@ -17,6 +18,7 @@ number_of DiskFault = 4
 number_of NoMemory = 5
 number_of LinkFault = 6
 number_of (Refused refusal) = 7
+number_of (Stranger name id) = 8
 
 abbrev pub line_of : Status → List ℕ
 line_of Done = []
@@ -31,6 +33,7 @@ line_of DiskFault = codes "disk fault\n"
 line_of NoMemory = codes "no memory\n"
 line_of LinkFault = codes "link fault\n"
 line_of (Refused refusal) = codes "refused " ++ refusal_text refusal ++ codes "\n"
+line_of (Stranger name id) = codes "stranger " ++ name ++ codes " " ++ id_digits id ++ codes "\n"
 
 -- the line of a status is made of it, where it brings none
 abbrev pub IsMade : Status → Type 0

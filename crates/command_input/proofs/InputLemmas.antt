@@ -5,7 +5,7 @@ use Rattle.std.proofs.Math.Seq.{take-append-add}
 use borrow.Rule.Slice.PartMut.{put_mid}
 use Rattle.mc_outside.specs.LinkView.{LinkView, after_recv, next_taken, Failed}
 use Rattle.mc_outside.proofs.Sessions.{heard_more}
-use Rattle.book_commands.specs.Inputs.{IsInput, Receives}
+use Rattle.command_input.specs.Inputs.{IsInput, Receives}
 
 -- the first bytes of a buffer into whose rest more were put
 pub front_with : (a m : ℕ) (buf more : List ℕ) → a ≤ length buf → m ≤ length more → take (a + m) (put_mid a (length buf - a) buf more) ≡ take a buf ++ take m more

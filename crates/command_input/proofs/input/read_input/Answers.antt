@@ -1,6 +1,6 @@
 use Rattle.std.proofs.Common.{◌≡◌, ◌+◌, length, take, ◌∙◌, arith}
-use Rattle.book_commands.proofs.InputLemmas.{cut_to, input_cut, within_size}
-use Rattle.book_commands.proofs.input.read_input.Goals as goal
+use Rattle.command_input.proofs.InputLemmas.{cut_to, input_cut, within_size}
+use Rattle.command_input.proofs.input.read_input.Goals as goal
 
 pub returns-in-Ok-receive-clause-read : goal.returns-in-Ok-receive-clause-read
 returns-in-Ok-receive-clause-read g c =
