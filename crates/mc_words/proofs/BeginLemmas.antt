@@ -13,6 +13,7 @@ use Rattle.mc_words.specs.Table.{form_of}
 use Rattle.mc_words.specs.Wrong.{AreTaken, EndInOption, GoOnAs, HaveValues, LackValue, MayBecome, MayBegin, MaySpellFounder, MaySpellTerms, is_option}
 use Rattle.mc_words.proofs.WrongLemmas.{and_iff}
 use Rattle.mc_words.proofs.FitLemmas.{shop_fits, vendor_founder_fits, broker_founder_fits, server_fits, playing_fits, pricing_fits, listing_fits, licensing_fits, minting_fits, opening_fits, payment_fits, inquiry_fits, taking_fits, stocking_fits}
+use Rattle.mc_words.proofs.WalletFits.{wallet_founder_fits, wallet_book_fits, drawing_fits, buying_fits, getting_fits, retrying_fits, reporting_fits}
 
 -- ---- words behind the name of a command
 
@@ -194,6 +195,30 @@ some_broker_stock = some_of names.BrokerStock _ (stocking_fits [] (None, tt, ref
 pub some_broker_serve : HasSome names.BrokerServe
 some_broker_serve = some_of names.BrokerServe _ (server_fits [] (None, tt, refl) (None, tt, refl) (None, tt, refl))
 
+pub some_wallet_init : HasSome names.WalletInit
+some_wallet_init = some_of names.WalletInit _ (wallet_founder_fits [] (None, tt, refl) (None, tt, refl))
+
+pub some_wallet_take : HasSome names.WalletTake
+some_wallet_take = some_of names.WalletTake _ (wallet_book_fits [] (None, tt, refl))
+
+pub some_wallet_draw : HasSome names.WalletDraw
+some_wallet_draw = some_of names.WalletDraw _ (drawing_fits [] (None, tt, refl) (None, tt, refl) (None, tt, refl) (None, tt, refl) (None, tt, refl) (None, tt, refl) (None, tt, refl))
+
+pub some_wallet_buy : HasSome names.WalletBuy
+some_wallet_buy = some_of names.WalletBuy _ (buying_fits [] (None, tt, refl) (None, tt, refl) (None, tt, refl) (None, tt, refl) (None, tt, refl) (None, tt, refl))
+
+pub some_wallet_get : HasSome names.WalletGet
+some_wallet_get = some_of names.WalletGet _ (getting_fits [] (None, tt, refl) (None, tt, refl) (None, tt, refl) (None, tt, refl) (None, tt, refl))
+
+pub some_wallet_retry : HasSome names.WalletRetry
+some_wallet_retry = some_of names.WalletRetry _ (retrying_fits [] (None, tt, refl) (None, tt, refl) (None, tt, refl))
+
+pub some_wallet_list : HasSome names.WalletList
+some_wallet_list = some_of names.WalletList _ (wallet_book_fits [] (None, tt, refl))
+
+pub some_audit_report : HasSome names.AuditReport
+some_audit_report = some_of names.AuditReport _ (reporting_fits [] tt)
+
 -- the words go on as those of a command that has values where they may begin so
 pub goes_as : {E : Type 0} (name other : CommandName) (words : List Text) (r : Result Bool E) → other ≡ name → HasSome name → IfOk r (λ b. IsTrue b ↔ MayBegin name (HaveValues name) words)
     → IfOk r (λ b. IsTrue b ↔ GoOnAs other words)
@@ -202,7 +227,7 @@ goes_as name other words (Ok b) is some may =
     subst (λ (n : CommandName). IsTrue b ↔ GoOnAs n words) (sym is) (λ t. record { rows = some.0; values = some.1; begin = may.0 t }, λ goes. may.1 goes.begin)
 
 -- a command that has values stands among those that are carried out
-pub carried_out : (name : CommandName) (rows : List Row) → HaveValues name rows → (k : ℕ) × (k < 16) × (get_or CARRIED_OUT k name ≡ name)
+pub carried_out : (name : CommandName) (rows : List Row) → HaveValues name rows → (k : ℕ) × (k < 24) × (get_or CARRIED_OUT k name ≡ name)
 carried_out names.VendorInit rows values = (0, omega arith, refl)
 carried_out names.VendorGoods rows values = (1, omega arith, refl)
 carried_out names.VendorPrice rows values = (2, omega arith, refl)
@@ -219,4 +244,12 @@ carried_out names.BrokerBalance rows values = (12, omega arith, refl)
 carried_out names.BrokerLicence rows values = (13, omega arith, refl)
 carried_out names.BrokerStock rows values = (14, omega arith, refl)
 carried_out names.BrokerServe rows values = (15, omega arith, refl)
+carried_out names.WalletInit rows values = (16, omega arith, refl)
+carried_out names.WalletTake rows values = (17, omega arith, refl)
+carried_out names.WalletDraw rows values = (18, omega arith, refl)
+carried_out names.WalletBuy rows values = (19, omega arith, refl)
+carried_out names.WalletGet rows values = (20, omega arith, refl)
+carried_out names.WalletRetry rows values = (21, omega arith, refl)
+carried_out names.WalletList rows values = (22, omega arith, refl)
+carried_out names.AuditReport rows values = (23, omega arith, refl)
 carried_out _ rows values = absurd values

@@ -27,52 +27,55 @@ use Rattle.mc_words.proofs.WrongLemmas.{filled, option_in, spelled_in}
 
 -- ---- samples
 
-a_place : IsPathOrAddress (codes "a")
+pub a_place : IsPathOrAddress (codes "a")
 a_place = record { some = omega arith; short = omega arith }
 
-a_name : IsName (codes "a")
+pub a_name : IsName (codes "a")
 unfolding is_text
 a_name = (name_decides (codes "a")).0 refl
 
-a_target : IsTarget (codes "/")
+pub a_target : IsTarget (codes "/")
 unfolding is_text
 a_target = (target_decides (codes "/")).0 refl
 
-abbrev a_secret : Text
+abbrev pub a_secret : Text
 a_secret = 0 ∷ 0 ∷ 0 ∷ 0 ∷ 0 ∷ 0 ∷ 0 ∷ 0 ∷ 0 ∷ 0 ∷ 0 ∷ 0 ∷ 0 ∷ 0 ∷ 0 ∷ 0 ∷ []
 
-is_secret : IsCert a_secret
+pub is_secret : IsCert a_secret
 is_secret = let b : 0 < 256 = omega arith in (refl, (b, (b, (b, (b, (b, (b, (b, (b, (b, (b, (b, (b, (b, (b, (b, (b, tt)))))))))))))))))
 
 are_secrets : IsSecretList (a_secret ∷ [])
 are_secrets = record { some = omega arith; few = omega arith; secrets' = (is_secret, tt) }
 
-within_one : (most : ℕ) → 1 ≤ most → IsWithin 1 most 1
+pub within_one : (most : ℕ) → 1 ≤ most → IsWithin 1 most 1
 within_one most le = record { least' = omega arith; most' = le }
 
 -- the number is not 0
-is_number : (most n : ℕ) → IsWithin 1 most n → IsNumber most n
+pub is_number : (most n : ℕ) → IsWithin 1 most n → IsNumber most n
 is_number most n is = record { some = omega (arith, is.least'); within = is.most' }
 
-is_within : (most n : ℕ) → IsNumber most n → IsWithin 1 most n
+pub is_within : (most n : ℕ) → IsNumber most n → IsWithin 1 most n
 is_within most n is = record { least' = omega (arith, is.some); most' = is.within }
 
 -- ---- rows
 
-abbrev words_of : Option Text → List Text
+abbrev pub words_of : Option Text → List Text
 words_of None = []
 words_of (Some word) = word ∷ []
 
 -- what is found of an argument
-abbrev row : Text → Option Text → Row
-row id word = record { id = id; values = words_of word; count = None; source = None; reading = AsWritten }
+abbrev pub row_of : Text → List Text → Row
+row_of id words = record { id = id; values = words; count = None; source = None; reading = AsWritten }
+
+abbrev pub row : Text → Option Text → Row
+row id word = row_of id (words_of word)
 
 -- the word of a row is found
 word_at : (o : Option Text) → slice_get (words_of o) 0 ≡ o
 word_at None = refl
 word_at (Some word) = refl
 
-kept_word : (o : Option Text) → IfSome o (λ w. slice_get (words_of o) 0 ≡ Some w)
+pub kept_word : (o : Option Text) → IfSome o (λ w. slice_get (words_of o) 0 ≡ Some w)
 kept_word None = tt
 kept_word (Some word) = refl
 

@@ -4,5 +4,7 @@ pub mod WordLaws
 pub mod Rows
 pub mod WrongLemmas
 pub mod FitLemmas
+pub mod WalletFits
 pub mod BeginLemmas
 pub mod SecretWords
+pub mod UsageLemmas

@@ -11,8 +11,10 @@ use Rattle.mc_words.specs.declared.operation.Operation.{Operation}
 use Rattle.mc_words.specs.declared.operation.Operation.TheVariants.{Goods, Price, Licence, Mint}
 use Rattle.mc_words.specs.declared.broker_operation.BrokerOperation.{BrokerOperation}
 use Rattle.mc_words.specs.declared.broker_operation.BrokerOperation.TheVariants as brokers
+use Rattle.mc_words.specs.declared.wallet_operation.WalletOperation.{WalletOperation}
+use Rattle.mc_words.specs.declared.wallet_operation.WalletOperation.TheVariants as wallets
 use Rattle.mc_words.specs.declared.command.Command.{Command}
-use Rattle.mc_words.specs.declared.command.Command.TheVariants.{Once, Init, Serve, Play, Operate, BrokerInit, BrokerServe, BrokerOperate}
+use Rattle.mc_words.specs.declared.command.Command.TheVariants.{Once, Init, Serve, Play, Operate, BrokerInit, BrokerServe, BrokerOperate, WalletInit, WalletOperate, Report}
 use Rattle.mc_words.specs.declared.table.CommandName.{CommandName}
 use Rattle.mc_words.specs.declared.table.CommandName.TheVariants as names
 use Rattle.mc_words.specs.declared.licence.TheConstants.{MOST_ISSUER}
@@ -21,8 +23,8 @@ use Rattle.mc_words.specs.declared.serve.TheConstants.{MOST_LINKS}
 use Rattle.mc_words.specs.declared.goods.TheConstants.{MOST_KIND}
 use Rattle.mc_words.specs.Table.{AreOf, form_of}
 use Rattle.mc_words.specs.Ranges.{AreTerms, IsWithin}
-use Rattle.mc_words.specs.Words.{FindsTerms, Shop, FindsShop, Founder, FindsFounder, FindsVendorFounder, FindsBrokerFounder, own_terms, Server, FindsServer, Playing, FindsPlaying, Listing, FindsListing, listed_pricing, Pricing, FindsPricing, Licensing, FindsLicensing, licensed_terms, Minting, FindsMinting, Opening, FindsOpening, Payment, FindsPayment, Inquiry, FindsInquiry, Taking, FindsTaking, Stocking, FindsStocking}
-use Rattle.mc_words.specs.Commands.{AreOnceWords, AreInitWords, AreServeWords, ArePlayWords, AreGoodsWords, ArePriceWords, AreLicenceWords, AreMintWords, AreOperationWords, AreBrokerInitWords, AreBrokerServeWords, AreBrokerOperationWords, AreWords, AreNoWords}
+use Rattle.mc_words.specs.Words.{FindsTerms, Shop, FindsShop, Founder, FindsFounder, FindsVendorFounder, FindsBrokerFounder, own_terms, Server, FindsServer, Playing, FindsPlaying, Listing, FindsListing, listed_pricing, Pricing, FindsPricing, Licensing, FindsLicensing, licensed_terms, Minting, FindsMinting, Opening, FindsOpening, Payment, FindsPayment, Inquiry, FindsInquiry, Taking, FindsTaking, Stocking, FindsStocking, WalletFounder, FindsWalletFounder, WalletBook, FindsWalletBook, Drawing, FindsDrawing, Buying, FindsBuying, Getting, FindsGetting, Retrying, FindsRetrying, Reporting, FindsReporting}
+use Rattle.mc_words.specs.Commands.{AreOnceWords, AreInitWords, AreServeWords, ArePlayWords, AreGoodsWords, ArePriceWords, AreLicenceWords, AreMintWords, AreOperationWords, AreBrokerInitWords, AreBrokerServeWords, AreBrokerOperationWords, AreWalletInitWords, AreWalletOperationWords, AreReportWords, AreWords, AreNoWords}
 use Rattle.mc_words.proofs.TableLemmas.{one_value, read_once}
 use Rattle.mc_words.proofs.SecretLemmas.{same_secret, same_secrets}
 
@@ -147,6 +149,60 @@ one_stocking rows a b fa fb =
     let vendor = one_value fa.vendor fb.vendor in
     λ i. record { book = book i; vendor = vendor i }
 
+one_wallet_founder : (rows : List Row) (a b : WalletFounder) → FindsWalletFounder rows a → FindsWalletFounder rows b → a ≡ b
+one_wallet_founder rows a b fa fb =
+    let book = one_value fa.book fb.book in
+    let name = one_value fa.name fb.name in
+    λ i. record { book = book i; name = name i }
+
+one_wallet_book : (rows : List Row) (a b : WalletBook) → FindsWalletBook rows a → FindsWalletBook rows b → a ≡ b
+one_wallet_book rows a b fa fb =
+    let book = one_value fa.book fb.book in
+    λ i. record { book = book i }
+
+one_drawing : (rows : List Row) (a b : Drawing) → FindsDrawing rows a → FindsDrawing rows b → a ≡ b
+one_drawing rows a b fa fb =
+    let book = one_value fa.book fb.book in
+    let broker = one_value fa.broker fb.broker in
+    let account = one_value fa.account fb.account in
+    let key = same_secret a.key b.key fa.drawing'.key fb.drawing'.key (one_value fa.key fb.key) in
+    let order = same_number MOST a.order b.order (omega arith) fa.drawing'.order fb.drawing'.order fa.order fb.order in
+    let amount = same_number MOST a.amount b.amount (omega arith) fa.drawing'.amount fb.drawing'.amount fa.amount fb.amount in
+    let connect = one_value fa.connect fb.connect in
+    λ i. record { book = book i; broker = broker i; account = account i; key = key i; order = order i; amount = amount i; connect = connect i }
+
+one_buying : (rows : List Row) (a b : Buying) → FindsBuying rows a → FindsBuying rows b → a ≡ b
+one_buying rows a b fa fb =
+    let book = one_value fa.book fb.book in
+    let broker = one_value fa.broker fb.broker in
+    let vendor = one_value fa.vendor fb.vendor in
+    let amount = same_number MOST a.amount b.amount (omega arith) fa.buying'.amount fb.buying'.amount fa.amount fb.amount in
+    let limit = same_number MOST a.limit b.limit (omega arith) fa.buying'.limit fb.buying'.limit fa.limit fb.limit in
+    let connect = one_value fa.connect fb.connect in
+    λ i. record { book = book i; broker = broker i; vendor = vendor i; amount = amount i; limit = limit i; connect = connect i }
+
+one_getting : (rows : List Row) (a b : Getting) → FindsGetting rows a → FindsGetting rows b → a ≡ b
+one_getting rows a b fa fb =
+    let book = one_value fa.book fb.book in
+    let vendor = one_value fa.vendor fb.vendor in
+    let target = one_value fa.target fb.target in
+    let limit = same_number MOST a.limit b.limit (omega arith) fa.getting'.limit fb.getting'.limit fa.limit fb.limit in
+    let connect = one_value fa.connect fb.connect in
+    λ i. record { book = book i; vendor = vendor i; target = target i; limit = limit i; connect = connect i }
+
+one_retrying : (rows : List Row) (a b : Retrying) → FindsRetrying rows a → FindsRetrying rows b → a ≡ b
+one_retrying rows a b fa fb =
+    let book = one_value fa.book fb.book in
+    let peer = one_value fa.peer fb.peer in
+    let connect = one_value fa.connect fb.connect in
+    λ i. record { book = book i; peer = peer i; connect = connect i }
+
+one_reporting : (rows : List Row) (a b : Reporting) → FindsReporting rows a → FindsReporting rows b → a ≡ b
+one_reporting rows a b fa fb =
+    let books = one_value fa.books fb.books in
+    let json = sym fa.json ∙ fb.json in
+    λ i. record { books = books i; json = json i }
+
 -- ---- commands
 
 -- what is told of one list of rows is told of the words of a command
@@ -178,6 +234,14 @@ letters_of (BrokerOperate (brokers.Withdraw payment)) = 65536 * 98 + 256 * 119 +
 letters_of (BrokerOperate (brokers.Balance inquiry)) = 65536 * 98 + 256 * 98 + 97
 letters_of (BrokerOperate (brokers.Licence taking)) = 65536 * 98 + 256 * 108 + 105
 letters_of (BrokerOperate (brokers.Stock stocking)) = 65536 * 98 + 256 * 115 + 116
+letters_of (WalletInit founder) = 65536 * 119 + 256 * 105 + 110
+letters_of (WalletOperate (wallets.Take wallet)) = 65536 * 119 + 256 * 116 + 97
+letters_of (WalletOperate (wallets.Draw drawing)) = 65536 * 119 + 256 * 100 + 114
+letters_of (WalletOperate (wallets.Buy buying)) = 65536 * 119 + 256 * 98 + 117
+letters_of (WalletOperate (wallets.Get getting)) = 65536 * 119 + 256 * 103 + 101
+letters_of (WalletOperate (wallets.Retry retrying)) = 65536 * 119 + 256 * 114 + 101
+letters_of (WalletOperate (wallets.List wallet)) = 65536 * 119 + 256 * 108 + 105
+letters_of (Report reporting) = 65536 * 97 + 256 * 114 + 101
 
 have_letters : (words : List Text) (c : Command) → AreWords words c → letters words ≡ letters_of c
 unfolding form_of
@@ -197,6 +261,14 @@ have_letters words (BrokerOperate (brokers.Withdraw payment)) are = ap letters a
 have_letters words (BrokerOperate (brokers.Balance inquiry)) are = ap letters are.read.words'
 have_letters words (BrokerOperate (brokers.Licence taking)) are = ap letters are.read.words'
 have_letters words (BrokerOperate (brokers.Stock stocking)) are = ap letters are.read.words'
+have_letters words (WalletInit founder) are = ap letters are.read.words'
+have_letters words (WalletOperate (wallets.Take wallet)) are = ap letters are.read.words'
+have_letters words (WalletOperate (wallets.Draw drawing)) are = ap letters are.read.words'
+have_letters words (WalletOperate (wallets.Buy buying)) are = ap letters are.read.words'
+have_letters words (WalletOperate (wallets.Get getting)) are = ap letters are.read.words'
+have_letters words (WalletOperate (wallets.Retry retrying)) are = ap letters are.read.words'
+have_letters words (WalletOperate (wallets.List wallet)) are = ap letters are.read.words'
+have_letters words (Report reporting) are = ap letters are.read.words'
 
 one_operation : (words : List Text) (a b : Operation) → AreOperationWords words a → AreOperationWords words b → a ≡ b
 one_operation words (Goods a) (Goods b) fa fb = ap Goods (one_of names.VendorGoods words FindsListing one_listing a b fa fb)
@@ -214,6 +286,15 @@ one_broker_operation words (brokers.Licence a) (brokers.Licence b) fa fb = ap br
 one_broker_operation words (brokers.Stock a) (brokers.Stock b) fa fb = ap brokers.Stock (one_of names.BrokerStock words FindsStocking one_stocking a b fa fb)
 one_broker_operation words a b fa fb = absurd (omega (arith, have_letters words (BrokerOperate a) fa, have_letters words (BrokerOperate b) fb))
 
+one_wallet_operation : (words : List Text) (a b : WalletOperation) → AreWalletOperationWords words a → AreWalletOperationWords words b → a ≡ b
+one_wallet_operation words (wallets.Take a) (wallets.Take b) fa fb = ap wallets.Take (one_of names.WalletTake words FindsWalletBook one_wallet_book a b fa fb)
+one_wallet_operation words (wallets.Draw a) (wallets.Draw b) fa fb = ap wallets.Draw (one_of names.WalletDraw words FindsDrawing one_drawing a b fa fb)
+one_wallet_operation words (wallets.Buy a) (wallets.Buy b) fa fb = ap wallets.Buy (one_of names.WalletBuy words FindsBuying one_buying a b fa fb)
+one_wallet_operation words (wallets.Get a) (wallets.Get b) fa fb = ap wallets.Get (one_of names.WalletGet words FindsGetting one_getting a b fa fb)
+one_wallet_operation words (wallets.Retry a) (wallets.Retry b) fa fb = ap wallets.Retry (one_of names.WalletRetry words FindsRetrying one_retrying a b fa fb)
+one_wallet_operation words (wallets.List a) (wallets.List b) fa fb = ap wallets.List (one_of names.WalletList words FindsWalletBook one_wallet_book a b fa fb)
+one_wallet_operation words a b fa fb = absurd (omega (arith, have_letters words (WalletOperate a) fa, have_letters words (WalletOperate b) fb))
+
 -- what a command is, as a number, whatever its values are
 abbrev kind : Command → ℕ
 kind (Once shop) = 0
@@ -224,6 +305,9 @@ kind (Operate operation) = 4
 kind (BrokerInit founder) = 5
 kind (BrokerServe server) = 6
 kind (BrokerOperate operation) = 7
+kind (WalletInit founder) = 8
+kind (WalletOperate operation) = 9
+kind (Report reporting) = 10
 
 -- the kind of the command that has these letters
 abbrev kind_at : ℕ → ℕ
@@ -240,6 +324,14 @@ kind_at n =
     if nat_eq n (65536 * 98 + 256 * 98 + 97) then 7 else
     if nat_eq n (65536 * 98 + 256 * 108 + 105) then 7 else
     if nat_eq n (65536 * 98 + 256 * 115 + 116) then 7 else
+    if nat_eq n (65536 * 119 + 256 * 105 + 110) then 8 else
+    if nat_eq n (65536 * 119 + 256 * 116 + 97) then 9 else
+    if nat_eq n (65536 * 119 + 256 * 100 + 114) then 9 else
+    if nat_eq n (65536 * 119 + 256 * 98 + 117) then 9 else
+    if nat_eq n (65536 * 119 + 256 * 103 + 101) then 9 else
+    if nat_eq n (65536 * 119 + 256 * 114 + 101) then 9 else
+    if nat_eq n (65536 * 119 + 256 * 108 + 105) then 9 else
+    if nat_eq n (65536 * 97 + 256 * 114 + 101) then 10 else
     4
 
 has_kind : (words : List Text) (c : Command) → AreWords words c → kind_at (letters words) ≡ kind c
@@ -259,6 +351,14 @@ has_kind words (BrokerOperate (brokers.Withdraw payment)) are = ap kind_at (have
 has_kind words (BrokerOperate (brokers.Balance inquiry)) are = ap kind_at (have_letters words (BrokerOperate (brokers.Balance inquiry)) are)
 has_kind words (BrokerOperate (brokers.Licence taking)) are = ap kind_at (have_letters words (BrokerOperate (brokers.Licence taking)) are)
 has_kind words (BrokerOperate (brokers.Stock stocking)) are = ap kind_at (have_letters words (BrokerOperate (brokers.Stock stocking)) are)
+has_kind words (WalletInit founder) are = ap kind_at (have_letters words (WalletInit founder) are)
+has_kind words (WalletOperate (wallets.Take wallet)) are = ap kind_at (have_letters words (WalletOperate (wallets.Take wallet)) are)
+has_kind words (WalletOperate (wallets.Draw drawing)) are = ap kind_at (have_letters words (WalletOperate (wallets.Draw drawing)) are)
+has_kind words (WalletOperate (wallets.Buy buying)) are = ap kind_at (have_letters words (WalletOperate (wallets.Buy buying)) are)
+has_kind words (WalletOperate (wallets.Get getting)) are = ap kind_at (have_letters words (WalletOperate (wallets.Get getting)) are)
+has_kind words (WalletOperate (wallets.Retry retrying)) are = ap kind_at (have_letters words (WalletOperate (wallets.Retry retrying)) are)
+has_kind words (WalletOperate (wallets.List wallet)) are = ap kind_at (have_letters words (WalletOperate (wallets.List wallet)) are)
+has_kind words (Report reporting) are = ap kind_at (have_letters words (Report reporting) are)
 
 same_kind : (words : List Text) (a b : Command) → AreWords words a → AreWords words b → kind a ≡ kind b
 same_kind words a b fa fb = sym (has_kind words a fa) ∙ has_kind words b fb
@@ -272,6 +372,9 @@ one_command words (Operate a) (Operate b) fa fb = ap Operate (one_operation word
 one_command words (BrokerInit a) (BrokerInit b) fa fb = ap BrokerInit (one_of names.BrokerInit words FindsBrokerFounder one_broker_founder a b fa fb)
 one_command words (BrokerServe a) (BrokerServe b) fa fb = ap BrokerServe (one_of names.BrokerServe words FindsServer one_server a b fa fb)
 one_command words (BrokerOperate a) (BrokerOperate b) fa fb = ap BrokerOperate (one_broker_operation words a b fa fb)
+one_command words (WalletInit a) (WalletInit b) fa fb = ap WalletInit (one_of names.WalletInit words FindsWalletFounder one_wallet_founder a b fa fb)
+one_command words (WalletOperate a) (WalletOperate b) fa fb = ap WalletOperate (one_wallet_operation words a b fa fb)
+one_command words (Report a) (Report b) fa fb = ap Report (one_of names.AuditReport words FindsReporting one_reporting a b fa fb)
 one_command words a b fa fb = absurd (omega (arith, same_kind words a b fa fb))
 
 -- ---- words that are of none
@@ -294,14 +397,32 @@ no_broker_operation words account deposit withdraw balance licence stock (broker
 no_broker_operation words account deposit withdraw balance licence stock (brokers.Licence x) are = licence x are
 no_broker_operation words account deposit withdraw balance licence stock (brokers.Stock x) are = stock x are
 
+pub no_wallet_operation : (words : List Text)
+    → ((x : WalletBook) → AreOf names.WalletTake words (λ rows. FindsWalletBook rows x) → ⊥)
+    → ((x : Drawing) → AreOf names.WalletDraw words (λ rows. FindsDrawing rows x) → ⊥)
+    → ((x : Buying) → AreOf names.WalletBuy words (λ rows. FindsBuying rows x) → ⊥)
+    → ((x : Getting) → AreOf names.WalletGet words (λ rows. FindsGetting rows x) → ⊥)
+    → ((x : Retrying) → AreOf names.WalletRetry words (λ rows. FindsRetrying rows x) → ⊥)
+    → ((x : WalletBook) → AreOf names.WalletList words (λ rows. FindsWalletBook rows x) → ⊥) → (operation : WalletOperation) → AreWalletOperationWords words operation → ⊥
+no_wallet_operation words take draw buy get retry list (wallets.Take x) are = take x are
+no_wallet_operation words take draw buy get retry list (wallets.Draw x) are = draw x are
+no_wallet_operation words take draw buy get retry list (wallets.Buy x) are = buy x are
+no_wallet_operation words take draw buy get retry list (wallets.Get x) are = get x are
+no_wallet_operation words take draw buy get retry list (wallets.Retry x) are = retry x are
+no_wallet_operation words take draw buy get retry list (wallets.List x) are = list x are
+
 pub no_command : (words : List Text) → ((x : Shop) → AreOnceWords words x → ⊥) → ((x : Founder) → AreInitWords words x → ⊥)
     → ((x : Server) → AreServeWords words x → ⊥) → ((x : Playing) → ArePlayWords words x → ⊥) → ((x : Operation) → AreOperationWords words x → ⊥)
-    → ((x : Founder) → AreBrokerInitWords words x → ⊥) → ((x : Server) → AreBrokerServeWords words x → ⊥) → ((x : BrokerOperation) → AreBrokerOperationWords words x → ⊥) → AreNoWords words
-no_command words once init serve play operate broker_init broker_serve broker_operate (Once x) are = once x are
-no_command words once init serve play operate broker_init broker_serve broker_operate (Init x) are = init x are
-no_command words once init serve play operate broker_init broker_serve broker_operate (Serve x) are = serve x are
-no_command words once init serve play operate broker_init broker_serve broker_operate (Play x) are = play x are
-no_command words once init serve play operate broker_init broker_serve broker_operate (Operate x) are = operate x are
-no_command words once init serve play operate broker_init broker_serve broker_operate (BrokerInit x) are = broker_init x are
-no_command words once init serve play operate broker_init broker_serve broker_operate (BrokerServe x) are = broker_serve x are
-no_command words once init serve play operate broker_init broker_serve broker_operate (BrokerOperate x) are = broker_operate x are
+    → ((x : Founder) → AreBrokerInitWords words x → ⊥) → ((x : Server) → AreBrokerServeWords words x → ⊥) → ((x : BrokerOperation) → AreBrokerOperationWords words x → ⊥)
+    → ((x : WalletFounder) → AreWalletInitWords words x → ⊥) → ((x : WalletOperation) → AreWalletOperationWords words x → ⊥) → ((x : Reporting) → AreReportWords words x → ⊥) → AreNoWords words
+no_command words once init serve play operate broker_init broker_serve broker_operate wallet_init wallet_operate report (Once x) are = once x are
+no_command words once init serve play operate broker_init broker_serve broker_operate wallet_init wallet_operate report (Init x) are = init x are
+no_command words once init serve play operate broker_init broker_serve broker_operate wallet_init wallet_operate report (Serve x) are = serve x are
+no_command words once init serve play operate broker_init broker_serve broker_operate wallet_init wallet_operate report (Play x) are = play x are
+no_command words once init serve play operate broker_init broker_serve broker_operate wallet_init wallet_operate report (Operate x) are = operate x are
+no_command words once init serve play operate broker_init broker_serve broker_operate wallet_init wallet_operate report (BrokerInit x) are = broker_init x are
+no_command words once init serve play operate broker_init broker_serve broker_operate wallet_init wallet_operate report (BrokerServe x) are = broker_serve x are
+no_command words once init serve play operate broker_init broker_serve broker_operate wallet_init wallet_operate report (BrokerOperate x) are = broker_operate x are
+no_command words once init serve play operate broker_init broker_serve broker_operate wallet_init wallet_operate report (WalletInit x) are = wallet_init x are
+no_command words once init serve play operate broker_init broker_serve broker_operate wallet_init wallet_operate report (WalletOperate x) are = wallet_operate x are
+no_command words once init serve play operate broker_init broker_serve broker_operate wallet_init wallet_operate report (Report x) are = report x are

@@ -1,14 +1,16 @@
 -- The commands that are carried out, and the words of each.
-use Rattle.std.specs.Prelude.{ℕ, List}
+use Rattle.std.specs.Prelude.{ℕ, List, Option, Some, None}
 use Rattle.mc_words.specs.declared.operation.Operation.{Operation}
 use Rattle.mc_words.specs.declared.operation.Operation.TheVariants.{Goods, Price, Licence, Mint}
 use Rattle.mc_words.specs.declared.broker_operation.BrokerOperation.{BrokerOperation}
 use Rattle.mc_words.specs.declared.broker_operation.BrokerOperation.TheVariants as brokers
+use Rattle.mc_words.specs.declared.wallet_operation.WalletOperation.{WalletOperation}
+use Rattle.mc_words.specs.declared.wallet_operation.WalletOperation.TheVariants as wallets
 use Rattle.mc_words.specs.declared.command.Command.{Command}
-use Rattle.mc_words.specs.declared.command.Command.TheVariants.{Once, Init, Serve, Play, Operate, BrokerInit, BrokerServe, BrokerOperate}
+use Rattle.mc_words.specs.declared.command.Command.TheVariants.{Once, Init, Serve, Play, Operate, BrokerInit, BrokerServe, BrokerOperate, WalletInit, WalletOperate, Report}
 use Rattle.mc_words.specs.declared.table.CommandName.TheVariants as names
 use Rattle.mc_words.specs.Table.{AreOf}
-use Rattle.mc_words.specs.Words.{Shop, FindsShop, Founder, FindsVendorFounder, FindsBrokerFounder, Server, FindsServer, Playing, FindsPlaying, Listing, FindsListing, Pricing, FindsPricing, Licensing, FindsLicensing, Minting, FindsMinting, FindsOpening, FindsPayment, FindsInquiry, FindsTaking, FindsStocking}
+use Rattle.mc_words.specs.Words.{Shop, FindsShop, Founder, FindsVendorFounder, FindsBrokerFounder, Server, FindsServer, Playing, FindsPlaying, Listing, FindsListing, Pricing, FindsPricing, Licensing, FindsLicensing, Minting, FindsMinting, FindsOpening, FindsPayment, FindsInquiry, FindsTaking, FindsStocking, FindsWalletFounder, FindsWalletBook, FindsDrawing, FindsBuying, FindsGetting, FindsRetrying, FindsReporting, WalletFounder, Reporting}
 
 -- the words are `vendor once`, and spell this shop
 abbrev pub AreOnceWords : List (List ℕ) → Shop → Type 0
@@ -79,6 +81,41 @@ broker_book_of (brokers.Balance inquiry) = inquiry.book
 broker_book_of (brokers.Licence taking) = taking.book
 broker_book_of (brokers.Stock stocking) = stocking.book
 
+-- likewise of a wallet
+abbrev pub AreWalletInitWords : List (List ℕ) → WalletFounder → Type 0
+AreWalletInitWords words founder = AreOf names.WalletInit words (λ rows. FindsWalletFounder rows founder)
+
+-- the words have this done with the book of a wallet
+abbrev pub AreWalletOperationWords : List (List ℕ) → WalletOperation → Type 0
+AreWalletOperationWords words (wallets.Take wallet) = AreOf names.WalletTake words (λ rows. FindsWalletBook rows wallet)
+AreWalletOperationWords words (wallets.Draw drawing) = AreOf names.WalletDraw words (λ rows. FindsDrawing rows drawing)
+AreWalletOperationWords words (wallets.Buy buying) = AreOf names.WalletBuy words (λ rows. FindsBuying rows buying)
+AreWalletOperationWords words (wallets.Get getting) = AreOf names.WalletGet words (λ rows. FindsGetting rows getting)
+AreWalletOperationWords words (wallets.Retry retrying) = AreOf names.WalletRetry words (λ rows. FindsRetrying rows retrying)
+AreWalletOperationWords words (wallets.List wallet) = AreOf names.WalletList words (λ rows. FindsWalletBook rows wallet)
+
+-- the book that it is for
+abbrev pub wallet_book_of : WalletOperation → List ℕ
+wallet_book_of (wallets.Take wallet) = wallet.book
+wallet_book_of (wallets.Draw drawing) = drawing.book
+wallet_book_of (wallets.Buy buying) = buying.book
+wallet_book_of (wallets.Get getting) = getting.book
+wallet_book_of (wallets.Retry retrying) = retrying.book
+wallet_book_of (wallets.List wallet) = wallet.book
+
+-- where its link goes, where it has one
+abbrev pub connect_of : WalletOperation → Option (List ℕ)
+connect_of (wallets.Take wallet) = None
+connect_of (wallets.Draw drawing) = Some drawing.connect
+connect_of (wallets.Buy buying) = Some buying.connect
+connect_of (wallets.Get getting) = Some getting.connect
+connect_of (wallets.Retry retrying) = Some retrying.connect
+connect_of (wallets.List wallet) = None
+
+-- the words have a report made of books
+abbrev pub AreReportWords : List (List ℕ) → Reporting → Type 0
+AreReportWords words reporting = AreOf names.AuditReport words (λ rows. FindsReporting rows reporting)
+
 -- the words are of this command
 abbrev pub AreWords : List (List ℕ) → Command → Type 0
 AreWords words (Once shop) = AreOnceWords words shop
@@ -89,6 +126,9 @@ AreWords words (Operate operation) = AreOperationWords words operation
 AreWords words (BrokerInit founder) = AreBrokerInitWords words founder
 AreWords words (BrokerServe server) = AreBrokerServeWords words server
 AreWords words (BrokerOperate operation) = AreBrokerOperationWords words operation
+AreWords words (WalletInit founder) = AreWalletInitWords words founder
+AreWords words (WalletOperate operation) = AreWalletOperationWords words operation
+AreWords words (Report reporting) = AreReportWords words reporting
 
 -- the words are of no command
 abbrev pub AreNoWords : List (List ℕ) → Type 0

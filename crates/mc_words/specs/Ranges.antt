@@ -1,5 +1,5 @@
 -- The ranges of the values that words spell.
-use Rattle.std.specs.Prelude.{ℕ, ◌<◌, ◌≤◌, List, length, map}
+use Rattle.std.specs.Prelude.{ℕ, ◌<◌, ◌≤◌, ◌&&◌, nat_lt, nat_le, Bool, List, length, map}
 use Rattle.std.specs.List.{AllByRecursion, join_with_byte}
 use Rattle.hex.specs.Hex.{encode_lower}
 use Rattle.mc_records.specs.declared.ranges.TheConstants.{LEAST_KEEP, MOST_KEEP}
@@ -8,10 +8,14 @@ use Rattle.mc_words.specs.declared.goods.TheConstants.{MOST_KIND}
 use Rattle.mc_words.specs.declared.value.TheConstants.{MOST_PLACE}
 use Rattle.scrip_form.specs.Issuing.{Issuing, HasPeriod}
 
--- a word that names a book or a place to listen at has 1 to 255 bytes
+-- a word that names a book, a place to listen at or a place to connect to has 1 to 255 bytes
 pub record IsPathOrAddress (word : List ℕ) : Type 0 where
   pub some : 0 < length word
   pub short : length word ≤ MOST_PLACE
+
+-- the test of it
+abbrev pub is_path_or_address : List ℕ → Bool
+is_path_or_address word = nat_lt 0 (length word) && nat_le (length word) MOST_PLACE
 
 -- a number from the least to the most
 pub record IsWithin (least most n : ℕ) : Type 0 where

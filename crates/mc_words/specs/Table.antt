@@ -41,6 +41,10 @@ house_options = value (codes "keep") ∷ flag (codes "clear") ∷ []
 abbrev pub serve_rules : List Rule
 serve_rules = book ∷ positional (codes "LISTEN") ∷ positional (codes "LINKS") ∷ []
 
+-- BOOK alone
+abbrev pub book_rules : List Rule
+book_rules = book ∷ []
+
 -- BOOK ACCOUNT AMOUNT REFERENCE
 abbrev pub payment_rules : List Rule
 payment_rules = book ∷ positional (codes "ACCOUNT") ∷ positional (codes "AMOUNT") ∷ positional (codes "REFERENCE") ∷ []
@@ -69,12 +73,12 @@ form_of names.BrokerUpgrade = broker (codes "upgrade") (book ∷ positional (cod
 form_of names.BrokerChain = broker (codes "chain") (book ∷ [])
 form_of names.BrokerSettle = broker (codes "settle") (book ∷ [])
 form_of names.WalletInit = wallet (codes "init") (book ∷ positional (codes "NAME") ∷ [])
-form_of names.WalletTake = wallet (codes "take") (book ∷ [])
+form_of names.WalletTake = wallet (codes "take") book_rules
 form_of names.WalletDraw = wallet (codes "draw") (book ∷ positional (codes "BROKER") ∷ positional (codes "ACCOUNT") ∷ positional (codes "KEY") ∷ positional (codes "ORDER") ∷ positional (codes "AMOUNT") ∷ positional (codes "CONNECT") ∷ [])
 form_of names.WalletBuy = wallet (codes "buy") (book ∷ positional (codes "BROKER") ∷ positional (codes "VENDOR") ∷ positional (codes "AMOUNT") ∷ positional (codes "LIMIT") ∷ positional (codes "CONNECT") ∷ [])
 form_of names.WalletGet = wallet (codes "get") (book ∷ positional (codes "VENDOR") ∷ positional (codes "TARGET") ∷ positional (codes "LIMIT") ∷ positional (codes "CONNECT") ∷ [])
 form_of names.WalletRetry = wallet (codes "retry") (book ∷ positional (codes "PEER") ∷ positional (codes "CONNECT") ∷ [])
-form_of names.WalletList = wallet (codes "list") (book ∷ [])
+form_of names.WalletList = wallet (codes "list") book_rules
 form_of names.WalletLines = wallet (codes "lines") (book ∷ positional (codes "VENDOR") ∷ [])
 form_of names.WalletChain = wallet (codes "chain") (book ∷ [])
 form_of names.WalletProxy = wallet (codes "proxy") (book ∷ positional (codes "VENDOR") ∷ positional (codes "LIMIT") ∷ positional (codes "BUDGET") ∷ positional (codes "LISTEN") ∷ positional (codes "CONNECT") ∷ positional (codes "LINKS") ∷ [])

@@ -23,6 +23,10 @@ pub record IsUsageOf (name : CommandName) (words : List Text) (line : Text) : Ty
   pub words' : words ≡ (form_of name).role ∷ (form_of name).name ∷ behind
   pub line' : line ≡ usage_line (form_of name)
 
+-- the commands that are carried out
+abbrev pub commands : Text
+commands = codes "usage: millicent vendor init|goods|price|licence|mint|serve|once|play .. or broker init|account|deposit|withdraw|balance|licence|stock|serve .. or wallet init|take|draw|buy|get|retry|list .. or audit report .."
+
 -- what is told of words: the line of the command that they begin with, or the commands
 abbrev pub IsUsage : List Text → Text → Type 0
-IsUsage words line = ((name : CommandName) × IsUsageOf name words line) ⊎ (line ≡ codes "usage: millicent vendor init|goods|price|licence|mint|serve|once|play .. or broker init|account|deposit|withdraw|balance|licence|stock|serve ..")
+IsUsage words line = ((name : CommandName) × IsUsageOf name words line) ⊎ (line ≡ commands)

@@ -1,4 +1,6 @@
 -- What contracts see of the values of each command.
+use Rattle.std.specs.Prelude.{[], unwrap_or, codes}
+use Rattle.command_words.specs.Arguments.{has_flag, values_of}
 use Rattle.mc_words.specs.Words as words
 use Rattle.mc_words.specs.declared.once.Shop.TheInside as shop
 use Rattle.mc_words.specs.declared.init.Founder.TheInside as founder
@@ -12,6 +14,13 @@ use Rattle.mc_words.specs.declared.payment.Payment.TheInside as payment
 use Rattle.mc_words.specs.declared.balance.Inquiry.TheInside as inquiry
 use Rattle.mc_words.specs.declared.taking.Taking.TheInside as taking
 use Rattle.mc_words.specs.declared.stock.Stocking.TheInside as stocking
+use Rattle.mc_words.specs.declared.wallet_init.WalletFounder.TheInside as wallet_founder
+use Rattle.mc_words.specs.declared.wallet_book.WalletBook.TheInside as wallet_book
+use Rattle.mc_words.specs.declared.drawing.Drawing.TheInside as drawing
+use Rattle.mc_words.specs.declared.buying.Buying.TheInside as buying
+use Rattle.mc_words.specs.declared.getting.Getting.TheInside as getting
+use Rattle.mc_words.specs.declared.retrying.Retrying.TheInside as retrying
+use Rattle.mc_words.specs.declared.reporting.Reporting.TheInside as reporting
 
 abbrev pub shop_view : shop.Inside → words.Shop
 shop_view s = record { name = s.name; target = s.target; price = s.price; secret = s.secret; contents = s.contents.now }
@@ -65,3 +74,24 @@ taking_view t = record { book = t.book.now }
 
 abbrev pub stocking_view : stocking.Inside → words.Stocking
 stocking_view s = record { book = s.book.now; vendor = s.vendor }
+
+abbrev pub wallet_founder_view : wallet_founder.Inside → words.WalletFounder
+wallet_founder_view w = record { book = w.book.now; name = w.name }
+
+abbrev pub wallet_book_view : wallet_book.Inside → words.WalletBook
+wallet_book_view w = record { book = w.book.now }
+
+abbrev pub drawing_view : drawing.Inside → words.Drawing
+drawing_view d = record { book = d.book.now; broker = d.broker; account = d.account; key = d.key; order = d.order; amount = d.amount; connect = d.connect.now }
+
+abbrev pub buying_view : buying.Inside → words.Buying
+buying_view b = record { book = b.book.now; broker = b.broker; vendor = b.vendor; amount = b.amount; limit = b.limit; connect = b.connect.now }
+
+abbrev pub getting_view : getting.Inside → words.Getting
+getting_view g = record { book = g.book.now; vendor = g.vendor; target = g.target; limit = g.limit; connect = g.connect.now }
+
+abbrev pub retrying_view : retrying.Inside → words.Retrying
+retrying_view r = record { book = r.book.now; peer = r.peer; connect = r.connect.now }
+
+abbrev pub reporting_view : reporting.Inside → words.Reporting
+reporting_view r = record { books = unwrap_or (values_of r.found (codes "BOOK")) []; json = has_flag r.found (codes "json") }

@@ -1,5 +1,6 @@
 -- The values of each command, their ranges, and what `clap` finds of them in its words.
-use Rattle.std.specs.Prelude.{◌≡◌, ℕ, ◌≤◌, Bool, List, length, Option, Some, IfSome, option_map, codes, decimal}
+use Rattle.std.specs.Prelude.{◌≡◌, ℕ, ◌<◌, ◌≤◌, Bool, List, length, Option, Some, IfSome, option_map, codes, decimal}
+use Rattle.std.specs.List.{AllByRecursion}
 use Rattle.hex.specs.Hex.{encode_lower}
 use Rattle.clap.specs.Walk.{Row}
 use Rattle.mc_base.specs.declared.amount.TheConstants.Amount.{MOST}
@@ -8,7 +9,7 @@ use Rattle.mc_records.specs.declared.ranges.TheConstants.{MOST_CONTENTS, MOST_PI
 use Rattle.scrip_form.specs.Texts.{IsName, IsTarget}
 use Rattle.scrip_form.specs.Scrip.{IsCert}
 use Rattle.scrip_form.specs.Issuing.{Issuing}
-use Rattle.command_words.specs.Arguments.{has_flag, value_of}
+use Rattle.command_words.specs.Arguments.{has_flag, value_of, values_of}
 use Rattle.mc_words.specs.declared.licence.TheConstants.{MOST_ISSUER}
 use Rattle.mc_words.specs.declared.play.TheConstants.{MOST_HEADS}
 use Rattle.mc_words.specs.declared.serve.TheConstants.{MOST_LINKS}
@@ -304,3 +305,154 @@ pub record FindsStocking (rows : List Row) (stocking : Stocking) : Type 0 where
   pub book : value_of rows (codes "BOOK") ≡ Some stocking.book
   pub vendor : value_of rows (codes "VENDOR") ≡ Some stocking.vendor
   pub stocking' : IsStocking stocking
+
+-- ---- `wallet init BOOK NAME`
+
+-- what a wallet is founded with: its book, and its name
+pub record WalletFounder : Type 0 where
+  pub book : List ℕ
+  pub name : List ℕ
+
+pub record IsWalletFounder (founder : WalletFounder) : Type 0 where
+  pub book : IsPathOrAddress founder.book
+  pub name : IsName founder.name
+
+pub record FindsWalletFounder (rows : List Row) (founder : WalletFounder) : Type 0 where
+  pub book : value_of rows (codes "BOOK") ≡ Some founder.book
+  pub name : value_of rows (codes "NAME") ≡ Some founder.name
+  pub founder' : IsWalletFounder founder
+
+-- ---- `wallet take BOOK`, and `wallet list` likewise
+
+-- the book of the wallet that takes pieces, or whose holdings are told
+pub record WalletBook : Type 0 where
+  pub book : List ℕ
+
+pub record IsWalletBook (wallet : WalletBook) : Type 0 where
+  pub book : IsPathOrAddress wallet.book
+
+pub record FindsWalletBook (rows : List Row) (wallet : WalletBook) : Type 0 where
+  pub book : value_of rows (codes "BOOK") ≡ Some wallet.book
+  pub wallet' : IsWalletBook wallet
+
+-- ---- `wallet draw BOOK BROKER ACCOUNT KEY ORDER AMOUNT CONNECT`
+
+-- what is drawn: the book of the wallet, the name of the broker, the name of the account and its key of sixteen bytes,
+-- the number of the order, the amount, and where the link goes
+pub record Drawing : Type 0 where
+  pub book : List ℕ
+  pub broker : List ℕ
+  pub account : List ℕ
+  pub key : List ℕ
+  pub order : ℕ
+  pub amount : ℕ
+  pub connect : List ℕ
+
+pub record IsDrawing (drawing : Drawing) : Type 0 where
+  pub book : IsPathOrAddress drawing.book
+  pub broker : IsName drawing.broker
+  pub account : IsName drawing.account
+  pub key : IsCert drawing.key
+  pub order : IsNumber MOST drawing.order
+  pub amount : IsNumber MOST drawing.amount
+  pub connect : IsPathOrAddress drawing.connect
+
+pub record FindsDrawing (rows : List Row) (drawing : Drawing) : Type 0 where
+  pub book : value_of rows (codes "BOOK") ≡ Some drawing.book
+  pub broker : value_of rows (codes "BROKER") ≡ Some drawing.broker
+  pub account : value_of rows (codes "ACCOUNT") ≡ Some drawing.account
+  pub key : value_of rows (codes "KEY") ≡ Some (encode_lower drawing.key)
+  pub order : value_of rows (codes "ORDER") ≡ Some (decimal drawing.order)
+  pub amount : value_of rows (codes "AMOUNT") ≡ Some (decimal drawing.amount)
+  pub connect : value_of rows (codes "CONNECT") ≡ Some drawing.connect
+  pub drawing' : IsDrawing drawing
+
+-- ---- `wallet buy BOOK BROKER VENDOR AMOUNT LIMIT CONNECT`
+
+-- what scrip is bought: the book of the wallet, the name of the broker, the name of the vendor whose scrip it is, its
+-- value, what it may cost at most, and where the link goes
+pub record Buying : Type 0 where
+  pub book : List ℕ
+  pub broker : List ℕ
+  pub vendor : List ℕ
+  pub amount : ℕ
+  pub limit : ℕ
+  pub connect : List ℕ
+
+pub record IsBuying (buying : Buying) : Type 0 where
+  pub book : IsPathOrAddress buying.book
+  pub broker : IsName buying.broker
+  pub vendor : IsName buying.vendor
+  pub amount : IsNumber MOST buying.amount
+  pub limit : IsNumber MOST buying.limit
+  pub connect : IsPathOrAddress buying.connect
+
+pub record FindsBuying (rows : List Row) (buying : Buying) : Type 0 where
+  pub book : value_of rows (codes "BOOK") ≡ Some buying.book
+  pub broker : value_of rows (codes "BROKER") ≡ Some buying.broker
+  pub vendor : value_of rows (codes "VENDOR") ≡ Some buying.vendor
+  pub amount : value_of rows (codes "AMOUNT") ≡ Some (decimal buying.amount)
+  pub limit : value_of rows (codes "LIMIT") ≡ Some (decimal buying.limit)
+  pub connect : value_of rows (codes "CONNECT") ≡ Some buying.connect
+  pub buying' : IsBuying buying
+
+-- ---- `wallet get BOOK VENDOR TARGET LIMIT CONNECT`
+
+-- what contents are paid for: the book of the wallet, the name of the vendor, the target of the contents, what they may
+-- cost at most, and where the link goes
+pub record Getting : Type 0 where
+  pub book : List ℕ
+  pub vendor : List ℕ
+  pub target : List ℕ
+  pub limit : ℕ
+  pub connect : List ℕ
+
+pub record IsGetting (getting : Getting) : Type 0 where
+  pub book : IsPathOrAddress getting.book
+  pub vendor : IsName getting.vendor
+  pub target : IsTarget getting.target
+  pub limit : IsNumber MOST getting.limit
+  pub connect : IsPathOrAddress getting.connect
+
+pub record FindsGetting (rows : List Row) (getting : Getting) : Type 0 where
+  pub book : value_of rows (codes "BOOK") ≡ Some getting.book
+  pub vendor : value_of rows (codes "VENDOR") ≡ Some getting.vendor
+  pub target : value_of rows (codes "TARGET") ≡ Some getting.target
+  pub limit : value_of rows (codes "LIMIT") ≡ Some (decimal getting.limit)
+  pub connect : value_of rows (codes "CONNECT") ≡ Some getting.connect
+  pub getting' : IsGetting getting
+
+-- ---- `wallet retry BOOK PEER CONNECT`
+
+-- whose oldest kept request is sent again: the book of the wallet, the name of the peer, and where the link goes
+pub record Retrying : Type 0 where
+  pub book : List ℕ
+  pub peer : List ℕ
+  pub connect : List ℕ
+
+pub record IsRetrying (retrying : Retrying) : Type 0 where
+  pub book : IsPathOrAddress retrying.book
+  pub peer : IsName retrying.peer
+  pub connect : IsPathOrAddress retrying.connect
+
+pub record FindsRetrying (rows : List Row) (retrying : Retrying) : Type 0 where
+  pub book : value_of rows (codes "BOOK") ≡ Some retrying.book
+  pub peer : value_of rows (codes "PEER") ≡ Some retrying.peer
+  pub connect : value_of rows (codes "CONNECT") ≡ Some retrying.connect
+  pub retrying' : IsRetrying retrying
+
+-- ---- `audit report BOOK.. [--json]`
+
+-- of what a report is made: the books, in the order of their words, and whether it is JSON
+pub record Reporting : Type 0 where
+  pub books : List (List ℕ)
+  pub json : Bool
+
+pub record IsReporting (reporting : Reporting) : Type 0 where
+  pub some : 0 < length reporting.books
+  pub books : AllByRecursion IsPathOrAddress reporting.books
+
+pub record FindsReporting (rows : List Row) (reporting : Reporting) : Type 0 where
+  pub books : values_of rows (codes "BOOK") ≡ Some reporting.books
+  pub json : has_flag rows (codes "json") ≡ reporting.json
+  pub reporting' : IsReporting reporting

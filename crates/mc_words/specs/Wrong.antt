@@ -5,8 +5,8 @@ use Rattle.std.specs.Option.{option_map_or}
 use Rattle.std.specs.Str.{bytes_eq}
 use Rattle.clap.specs.Walk.{Row, Rule, Text}
 use Rattle.clap.specs.declared.builder.action.ArgAction.{ArgAction}
-use Rattle.clap.specs.declared.builder.action.ArgAction.TheVariants.{Set}
-use Rattle.command_words.specs.Arguments.{found, optional, value_of}
+use Rattle.clap.specs.declared.builder.action.ArgAction.TheVariants.{Append, Set}
+use Rattle.command_words.specs.Arguments.{found, optional, value_of, values_of}
 use Rattle.mc_words.specs.declared.table.CommandName.{CommandName}
 use Rattle.mc_words.specs.declared.table.CommandName.TheVariants as names
 use Rattle.mc_words.specs.declared.wrong.WrongWord.{WrongWord}
@@ -15,7 +15,7 @@ use Rattle.scrip_form.specs.declared.terms.TheConstants.Terms.{LEAST_PERIOD, MOS
 use Rattle.scrip_form.specs.Texts.{IsName}
 use Rattle.mc_words.specs.Ranges.{IsKeepingTime, IsPathOrAddress, IsSecretList, IsWithin, joined}
 use Rattle.mc_words.specs.Table.{form_of}
-use Rattle.mc_words.specs.Words.{Shop, FindsShop, Founder, FindsVendorFounder, FindsBrokerFounder, Server, FindsServer, Playing, FindsPlaying, Listing, FindsListing, Pricing, FindsPricing, Licensing, FindsLicensing, Minting, FindsMinting, Opening, FindsOpening, Payment, FindsPayment, Inquiry, FindsInquiry, Taking, FindsTaking, Stocking, FindsStocking}
+use Rattle.mc_words.specs.Words.{Shop, FindsShop, Founder, FindsVendorFounder, FindsBrokerFounder, Server, FindsServer, Playing, FindsPlaying, Listing, FindsListing, Pricing, FindsPricing, Licensing, FindsLicensing, Minting, FindsMinting, Opening, FindsOpening, Payment, FindsPayment, Inquiry, FindsInquiry, Taking, FindsTaking, Stocking, FindsStocking, WalletFounder, FindsWalletFounder, WalletBook, FindsWalletBook, Drawing, FindsDrawing, Buying, FindsBuying, Getting, FindsGetting, Retrying, FindsRetrying, Reporting, FindsReporting}
 
 -- the word of an argument spells a value in its range, or is not there
 abbrev pub MaySpell : {X : Type 0} → Option Text → (X → Type 0) → (X → Text) → Type 0
@@ -34,11 +34,16 @@ pub record MaySpellFounder (rows : List Row) : Type 0 where
   pub terms : MaySpellTerms rows
   pub keep : MaySpell (value_of rows (codes "keep")) IsKeepingTime decimal
 
+-- what was found of an argument is found in the whole: its word, or of several words the first ones
+abbrev pub IsKept : Option ArgAction → Text → List Row → List Row → Type 0
+IsKept (Some Append) id rows whole = IfSome (values_of rows id) (λ some. (more : List Text) × (values_of whole id ≡ Some (some ++ more)))
+IsKept _ id rows whole = IfSome (value_of rows id) (λ word. value_of whole id ≡ Some word)
+
 -- What was found of these arguments is also found where none lacks: these rows have values of a command.
 pub record MayBecome (rules : List Rule) (Finds : List Row → Type 0) (rows : List Row) : Type 0 where
   pub whole : List Row
   pub finds : Finds whole
-  pub kept : AllByRecursion (λ (rule : Rule). IfSome (value_of rows rule.id) (λ word. value_of whole rule.id ≡ Some word)) rules
+  pub kept : AllByRecursion (λ (rule : Rule). IsKept rule.action rule.id rows whole) rules
 
 -- Where no argument is required `clap` takes the words, and what it finds in them may become values of a command.
 pub record AreTaken (rules : List Rule) (Finds : List Row → Type 0) (words : List Text) : Type 0 where
@@ -93,6 +98,14 @@ HaveValues names.BrokerWithdraw rows = (values : Payment) × FindsPayment rows v
 HaveValues names.BrokerBalance rows = (values : Inquiry) × FindsInquiry rows values
 HaveValues names.BrokerLicence rows = (values : Taking) × FindsTaking rows values
 HaveValues names.BrokerStock rows = (values : Stocking) × FindsStocking rows values
+HaveValues names.WalletInit rows = (values : WalletFounder) × FindsWalletFounder rows values
+HaveValues names.WalletTake rows = (values : WalletBook) × FindsWalletBook rows values
+HaveValues names.WalletDraw rows = (values : Drawing) × FindsDrawing rows values
+HaveValues names.WalletBuy rows = (values : Buying) × FindsBuying rows values
+HaveValues names.WalletGet rows = (values : Getting) × FindsGetting rows values
+HaveValues names.WalletRetry rows = (values : Retrying) × FindsRetrying rows values
+HaveValues names.WalletList rows = (values : WalletBook) × FindsWalletBook rows values
+HaveValues names.AuditReport rows = (values : Reporting) × FindsReporting rows values
 HaveValues _ rows = ⊥
 
 -- This command is carried out, and its words may begin with these.

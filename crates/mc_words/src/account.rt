@@ -72,10 +72,10 @@ impl<'a> Spelled<'a> for Opening<'a> {
         CommandName::BrokerAccount
     }
 
-    fn read(found: &Found<'a>) -> Option<Opening<'a>> {
-        let book = place_in(found, "BOOK")?;
-        let account = name_in(found, "ACCOUNT")?;
-        let key = secret_in(found, "KEY")?;
+    fn read(found: Found<'a>) -> Option<Opening<'a>> {
+        let book = place_in(&found, "BOOK")?;
+        let account = name_in(&found, "ACCOUNT")?;
+        let key = secret_in(&found, "KEY")?;
         Some(Opening { book, account, key })
     }
 

@@ -62,9 +62,9 @@ impl<'a> Spelled<'a> for Inquiry<'a> {
         CommandName::BrokerBalance
     }
 
-    fn read(found: &Found<'a>) -> Option<Inquiry<'a>> {
-        let book = place_in(found, "BOOK")?;
-        let account = name_in(found, "ACCOUNT")?;
+    fn read(found: Found<'a>) -> Option<Inquiry<'a>> {
+        let book = place_in(&found, "BOOK")?;
+        let account = name_in(&found, "ACCOUNT")?;
         Some(Inquiry { book, account })
     }
 

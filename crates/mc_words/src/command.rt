@@ -6,8 +6,11 @@ use crate::init::{BrokerFounder, VendorFounder};
 use crate::once::Shop;
 use crate::operation::{Operation, operation_of};
 use crate::play::Playing;
+use crate::reporting::Reporting;
 use crate::serve::{BrokerServer, Server, VendorServer};
 use crate::spelled::values_of;
+use crate::wallet_init::WalletFounder;
+use crate::wallet_operation::{WalletOperation, wallet_operation_of};
 use std::alloc::{AllocError, Global};
 
 /// What the words say to do.
@@ -29,6 +32,12 @@ pub enum Command<'a> {
     BrokerServe(Server<'a>),
     /// Has something done to the book of a broker, as its operator.
     BrokerOperate(BrokerOperation<'a>),
+    /// Founds a wallet in a book.
+    WalletInit(WalletFounder<'a>),
+    /// Has something done with the book of a wallet, as its customer.
+    WalletOperate(WalletOperation<'a>),
+    /// Reports of books, as their auditor.
+    Report(Reporting<'a>),
 }
 
 /// The command that the words, those after the program's name, are of; None exactly where they are of
@@ -62,6 +71,15 @@ pub fn command_of<'a>(alloc: Global, words: &'a [String]) -> Result<Option<Comma
     }
     if let Some(operation) = broker_operation_of(alloc, words)? {
         return Ok(Some(Command::BrokerOperate(operation)));
+    }
+    if let Some(founder) = values_of::<WalletFounder>(alloc, words)? {
+        return Ok(Some(Command::WalletInit(founder)));
+    }
+    if let Some(operation) = wallet_operation_of(alloc, words)? {
+        return Ok(Some(Command::WalletOperate(operation)));
+    }
+    if let Some(reporting) = values_of::<Reporting>(alloc, words)? {
+        return Ok(Some(Command::Report(reporting)));
     }
     Ok(None)
 }

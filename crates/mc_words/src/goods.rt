@@ -65,9 +65,9 @@ impl<'a> Spelled<'a> for Listing<'a> {
         CommandName::VendorGoods
     }
 
-    fn read(found: &Found<'a>) -> Option<Listing<'a>> {
+    fn read(found: Found<'a>) -> Option<Listing<'a>> {
+        let kind = option_within(&found, "kind", 0, MOST_KIND)?;
         let pricing = Pricing::read(found)?;
-        let kind = option_within(found, "kind", 0, MOST_KIND)?;
         Some(Listing {
             pricing,
             kind: match kind {

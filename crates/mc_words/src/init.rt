@@ -165,9 +165,9 @@ impl<'a> Spelled<'a> for VendorFounder<'a> {
         CommandName::VendorInit
     }
 
-    fn read(found: &Found<'a>) -> Option<VendorFounder<'a>> {
+    fn read(found: Found<'a>) -> Option<VendorFounder<'a>> {
         let fee = Amount::new(0)?;
-        let founder = founder_in(found, fee)?;
+        let founder = founder_in(&found, fee)?;
         Some(VendorFounder { founder })
     }
 
@@ -211,9 +211,9 @@ impl<'a> Spelled<'a> for BrokerFounder<'a> {
         CommandName::BrokerInit
     }
 
-    fn read(found: &Found<'a>) -> Option<BrokerFounder<'a>> {
-        let fee = amount_or_zero_in(found, "FEE")?;
-        let founder = founder_in(found, fee)?;
+    fn read(found: Found<'a>) -> Option<BrokerFounder<'a>> {
+        let fee = amount_or_zero_in(&found, "FEE")?;
+        let founder = founder_in(&found, fee)?;
         Some(BrokerFounder { founder })
     }
 

@@ -66,10 +66,10 @@ impl<'a> Spelled<'a> for Licensing<'a> {
         CommandName::VendorLicence
     }
 
-    fn read(found: &Found<'a>) -> Option<Licensing<'a>> {
-        let book = place_in(found, "BOOK")?;
-        let issuer = number_in(found, "ISSUER", MOST_ISSUER)?;
-        let terms = terms_in(found, issuer as u8)?;
+    fn read(found: Found<'a>) -> Option<Licensing<'a>> {
+        let book = place_in(&found, "BOOK")?;
+        let issuer = number_in(&found, "ISSUER", MOST_ISSUER)?;
+        let terms = terms_in(&found, issuer as u8)?;
         Some(Licensing { book, terms })
     }
 

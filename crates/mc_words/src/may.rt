@@ -1,24 +1,37 @@
 //! Whether an argument has a word that spells a value, or none yet.
 
-ghost use Rattle.std.specs.Prelude.{◌≡◌, ◌≤◌, length, decimal, IsTrue, ◌↔◌};
+ghost use Rattle.std.specs.Prelude.{◌≡◌, ◌≤◌, length, decimal, IfSome, IsTrue, ◌↔◌};
+ghost use Rattle.std.specs.List.{AllByRecursion};
 ghost use Rattle.hex.specs.Hex.{encode_lower};
 ghost use Rattle.scrip_form.specs.Texts.{IsName, IsTarget};
 ghost use Rattle.scrip_form.specs.Scrip.{IsCert};
-ghost use Rattle.command_words.specs.Arguments.{value_of};
+ghost use Rattle.command_words.specs.Arguments.{value_of, values_of};
 ghost use Rattle.mc_records.specs.declared.ranges.TheConstants.{MOST_CONTENTS};
 ghost use Rattle.mc_words.specs.Ranges.{IsPathOrAddress, IsSecretList, IsWithin, joined};
 ghost use Rattle.mc_words.specs.Wrong.{MaySpell};
 
 use crate::value::{
-    MOST_NUMBER, contents_in, name_in, option_within, place_in, secret_in, secrets_in, target_in,
+    MOST_NUMBER, are_places, contents_in, name_in, option_within, place_in, secret_in, secrets_in,
+    target_in,
 };
 use command_words::Found;
 
-/// Whether the word names a book or a place to listen at, or is not there.
+/// Whether the word names a book, or a place to listen at or to connect to, or is not there.
 pub(crate) fn may_place(found: &Found<'_>, name: &str) -> bool
     ensures { IsTrue result ↔ MaySpell (value_of found.now name.now) IsPathOrAddress (λ p. p) }
 {
     found.value_of(name).is_none() || place_in(found, name).is_some()
+}
+
+/// Whether each of several words names a book, where there are words.
+pub(crate) fn may_places(found: &Found<'_>, name: &str) -> bool
+    ensures { IsTrue result
+        ↔ IfSome (values_of found.now name.now) (AllByRecursion IsPathOrAddress) }
+{
+    match found.values_of(name) {
+        Some(words) => are_places(words),
+        None => true,
+    }
 }
 
 /// Whether the word is a name, likewise.

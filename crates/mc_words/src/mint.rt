@@ -83,11 +83,11 @@ impl<'a> Spelled<'a> for Minting<'a> {
         CommandName::VendorMint
     }
 
-    fn read(found: &Found<'a>) -> Option<Minting<'a>> {
-        let book = place_in(found, "BOOK")?;
-        let count = number_in(found, "COUNT", u64::from(MOST_PIECES))?;
-        let value = amount_in(found, "VALUE")?;
-        let reference = name_in(found, "REFERENCE")?;
+    fn read(found: Found<'a>) -> Option<Minting<'a>> {
+        let book = place_in(&found, "BOOK")?;
+        let count = number_in(&found, "COUNT", u64::from(MOST_PIECES))?;
+        let value = amount_in(&found, "VALUE")?;
+        let reference = name_in(&found, "REFERENCE")?;
         Some(Minting {
             book,
             count: count as u16,

@@ -90,12 +90,12 @@ impl<'a> Spelled<'a> for Shop<'a> {
         CommandName::VendorOnce
     }
 
-    fn read(found: &Found<'a>) -> Option<Shop<'a>> {
-        let name = name_in(found, "NAME")?;
-        let target = target_in(found, "TARGET")?;
-        let price = amount_in(found, "PRICE")?;
-        let secret = secret_in(found, "SECRET")?;
-        let contents = contents_in(found, "CONTENTS")?;
+    fn read(found: Found<'a>) -> Option<Shop<'a>> {
+        let name = name_in(&found, "NAME")?;
+        let target = target_in(&found, "TARGET")?;
+        let price = amount_in(&found, "PRICE")?;
+        let secret = secret_in(&found, "SECRET")?;
+        let contents = contents_in(&found, "CONTENTS")?;
         Some(Shop {
             name,
             target,

@@ -126,8 +126,8 @@ impl<'a> Spelled<'a> for Deposit<'a> {
         CommandName::BrokerDeposit
     }
 
-    fn read(found: &Found<'a>) -> Option<Deposit<'a>> {
-        Some(Deposit(payment_in(found)?))
+    fn read(found: Found<'a>) -> Option<Deposit<'a>> {
+        Some(Deposit(payment_in(&found)?))
     }
 
     #[tactic(auto, unfolding(crate::specs::Table::form_of))]
@@ -160,8 +160,8 @@ impl<'a> Spelled<'a> for Withdrawal<'a> {
         CommandName::BrokerWithdraw
     }
 
-    fn read(found: &Found<'a>) -> Option<Withdrawal<'a>> {
-        Some(Withdrawal(payment_in(found)?))
+    fn read(found: Found<'a>) -> Option<Withdrawal<'a>> {
+        Some(Withdrawal(payment_in(&found)?))
     }
 
     #[tactic(auto, unfolding(crate::specs::Table::form_of))]

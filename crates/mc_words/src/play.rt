@@ -51,8 +51,8 @@ impl<'a> Spelled<'a> for Playing {
         CommandName::VendorPlay
     }
 
-    fn read(found: &Found<'a>) -> Option<Playing> {
-        let count = number_in(found, "COUNT", MOST_HEADS)?;
+    fn read(found: Found<'a>) -> Option<Playing> {
+        let count = number_in(&found, "COUNT", MOST_HEADS)?;
         Some(Playing {
             count: count as u32,
         })

@@ -72,10 +72,10 @@ impl<'a> Spelled<'a> for Pricing<'a> {
         CommandName::VendorPrice
     }
 
-    fn read(found: &Found<'a>) -> Option<Pricing<'a>> {
-        let book = place_in(found, "BOOK")?;
-        let target = target_in(found, "TARGET")?;
-        let price = amount_in(found, "PRICE")?;
+    fn read(found: Found<'a>) -> Option<Pricing<'a>> {
+        let book = place_in(&found, "BOOK")?;
+        let target = target_in(&found, "TARGET")?;
+        let price = amount_in(&found, "PRICE")?;
         Some(Pricing {
             book,
             target,

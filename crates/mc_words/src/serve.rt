@@ -110,8 +110,8 @@ impl<'a> Spelled<'a> for VendorServer<'a> {
         CommandName::VendorServe
     }
 
-    fn read(found: &Found<'a>) -> Option<VendorServer<'a>> {
-        Some(VendorServer(server_in(found)?))
+    fn read(found: Found<'a>) -> Option<VendorServer<'a>> {
+        Some(VendorServer(server_in(&found)?))
     }
 
     #[tactic(auto, unfolding(crate::specs::Table::form_of))]
@@ -144,8 +144,8 @@ impl<'a> Spelled<'a> for BrokerServer<'a> {
         CommandName::BrokerServe
     }
 
-    fn read(found: &Found<'a>) -> Option<BrokerServer<'a>> {
-        Some(BrokerServer(server_in(found)?))
+    fn read(found: Found<'a>) -> Option<BrokerServer<'a>> {
+        Some(BrokerServer(server_in(&found)?))
     }
 
     #[tactic(auto, unfolding(crate::specs::Table::form_of))]

@@ -23,9 +23,9 @@ pub(crate) trait Spelled<'a> {
         ensures { result ≡ named };
 
     /// The values that were found; None exactly where none were.
-    fn read(found: &Found<'a>) -> Option<Self>
-        ensures some { IfSome result (λ values. finds found.now values) }
-        ensures none { IsNone result → (values : Self) → finds found.now values → ⊥ };
+    fn read(found: Found<'a>) -> Option<Self>
+        ensures some { IfSome result (λ values. finds found.entry values) }
+        ensures none { IsNone result → (values : Self) → finds found.entry values → ⊥ };
 
     /// Whether what was found may still become values, where words of arguments lack.
     fn fits(found: &Found<'a>) -> bool
@@ -46,7 +46,7 @@ pub(crate) fn values_of<'a, T: Spelled<'a>>(
         → AreOf T.named (map string_bytes words.entry.now) (λ rows. T.finds rows values) → ⊥) }
 {
     match read_command(alloc, T::command(), words) {
-        Ok(Some(found)) => Ok(T::read(&found)),
+        Ok(Some(found)) => Ok(T::read(found)),
         Ok(None) => Ok(None),
         Err(error) => Err(error),
     }

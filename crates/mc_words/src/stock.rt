@@ -62,9 +62,9 @@ impl<'a> Spelled<'a> for Stocking<'a> {
         CommandName::BrokerStock
     }
 
-    fn read(found: &Found<'a>) -> Option<Stocking<'a>> {
-        let book = place_in(found, "BOOK")?;
-        let vendor = name_in(found, "VENDOR")?;
+    fn read(found: Found<'a>) -> Option<Stocking<'a>> {
+        let book = place_in(&found, "BOOK")?;
+        let vendor = name_in(&found, "VENDOR")?;
         Some(Stocking { book, vendor })
     }
 

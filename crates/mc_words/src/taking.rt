@@ -51,8 +51,8 @@ impl<'a> Spelled<'a> for Taking<'a> {
         CommandName::BrokerLicence
     }
 
-    fn read(found: &Found<'a>) -> Option<Taking<'a>> {
-        let book = place_in(found, "BOOK")?;
+    fn read(found: Found<'a>) -> Option<Taking<'a>> {
+        let book = place_in(&found, "BOOK")?;
         Some(Taking { book })
     }
 

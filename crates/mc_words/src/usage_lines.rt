@@ -7,7 +7,7 @@ ghost use Rattle.mc_words.specs.Usage.{IsUsage, usage_line};
 use crate::table::{CommandName, parts_of};
 
 /// The commands that are carried out.
-pub(crate) static CARRIED_OUT: [CommandName; 16] = [
+pub(crate) static CARRIED_OUT: [CommandName; 24] = [
     CommandName::VendorInit,
     CommandName::VendorGoods,
     CommandName::VendorPrice,
@@ -24,11 +24,19 @@ pub(crate) static CARRIED_OUT: [CommandName; 16] = [
     CommandName::BrokerLicence,
     CommandName::BrokerStock,
     CommandName::BrokerServe,
+    CommandName::WalletInit,
+    CommandName::WalletTake,
+    CommandName::WalletDraw,
+    CommandName::WalletBuy,
+    CommandName::WalletGet,
+    CommandName::WalletRetry,
+    CommandName::WalletList,
+    CommandName::AuditReport,
 ];
 
 /// The commands that are carried out, in one line.
 const COMMANDS: &str =
-    "usage: millicent vendor init|goods|price|licence|mint|serve|once|play .. or broker init|account|deposit|withdraw|balance|licence|stock|serve ..";
+    "usage: millicent vendor init|goods|price|licence|mint|serve|once|play .. or broker init|account|deposit|withdraw|balance|licence|stock|serve .. or wallet init|take|draw|buy|get|retry|list .. or audit report ..";
 
 /// One line for standard error that tells which words the program has: those of the command that the words
 /// begin with, where it is carried out, or else the commands. It takes no memory.
@@ -83,6 +91,20 @@ fn line_of(name: CommandName) -> Option<&'static str>
         CommandName::BrokerLicence => Some("usage: millicent broker licence BOOK"),
         CommandName::BrokerStock => Some("usage: millicent broker stock BOOK VENDOR"),
         CommandName::BrokerServe => Some("usage: millicent broker serve BOOK LISTEN LINKS"),
+        CommandName::WalletInit => Some("usage: millicent wallet init BOOK NAME"),
+        CommandName::WalletTake => Some("usage: millicent wallet take BOOK"),
+        CommandName::WalletDraw => {
+            Some("usage: millicent wallet draw BOOK BROKER ACCOUNT KEY ORDER AMOUNT CONNECT")
+        }
+        CommandName::WalletBuy => {
+            Some("usage: millicent wallet buy BOOK BROKER VENDOR AMOUNT LIMIT CONNECT")
+        }
+        CommandName::WalletGet => {
+            Some("usage: millicent wallet get BOOK VENDOR TARGET LIMIT CONNECT")
+        }
+        CommandName::WalletRetry => Some("usage: millicent wallet retry BOOK PEER CONNECT"),
+        CommandName::WalletList => Some("usage: millicent wallet list BOOK"),
+        CommandName::AuditReport => Some("usage: millicent audit report BOOK.. [--json]"),
         _ => None,
     }
 }

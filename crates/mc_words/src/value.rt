@@ -1,10 +1,11 @@
 ghost use Rattle.std.specs.Prelude.{◌≡◌, ◌≤◌, ℕ, List, Option, Some, length, IfSome, IsNone, option_map, decimal};
+ghost use Rattle.std.specs.List.{list_all};
 ghost use Rattle.hex.specs.Hex.{encode_lower};
 ghost use Rattle.mc_fields.specs.Texts.{IsNumber};
 ghost use Rattle.scrip_form.specs.Texts.{IsName, IsTarget};
 ghost use Rattle.scrip_form.specs.Scrip.{IsCert};
 ghost use Rattle.command_words.specs.Arguments.{value_of};
-ghost use Rattle.mc_words.specs.Ranges.{IsPathOrAddress, IsSecretList, IsWithin, joined};
+ghost use Rattle.mc_words.specs.Ranges.{IsPathOrAddress, IsSecretList, IsWithin, is_path_or_address, joined};
 
 use crate::secrets::{secret_of, secrets_of};
 use command_words::Found;
@@ -16,21 +17,35 @@ use scrip_form::{Name, Secrets, Target};
 /// The greatest number that a word may spell.
 pub const MOST_NUMBER: u64 = 1 << 60;
 
-/// The most bytes of a word that names a book or a place to listen at.
+/// The most bytes of a word that names a book, or a place to listen at or to connect to.
 const MOST_PLACE: usize = 255;
 
-/// The word of a book or of a place to listen at; None exactly where there is none.
+/// The word of a book, or of a place to listen at or to connect to; None exactly where there is none.
 pub(crate) fn place_in<'a>(found: &Found<'a>, name: &str) -> Option<&'a [u8]>
     ensures some { IfSome result
         (λ p. IsPathOrAddress p.now × (value_of found.now name.now ≡ Some p.now)) }
     ensures none { IsNone result → (p : List ℕ) → IsPathOrAddress p
         → value_of found.now name.now ≡ Some p → ⊥ }
 {
-    let word = found.value_of(name)?.as_bytes();
-    if word.is_empty() || word.len() > MOST_PLACE {
+    let word = found.value_of(name)?;
+    if !is_place(word) {
         return None;
     }
-    Some(word)
+    Some(word.as_bytes())
+}
+
+/// Whether the word may name a book or a place.
+fn is_place(word: &str) -> bool
+    ensures { result ≡ is_path_or_address word.now }
+{
+    0 < word.len() && word.len() <= MOST_PLACE
+}
+
+/// Whether each of the words may.
+pub(crate) fn are_places(words: &[&str]) -> bool
+    ensures { result ≡ list_all (λ word. is_path_or_address word.now) words.now }
+{
+    words.iter().all(|word| is_place(word))
 }
 
 /// The name that a word spells, likewise.

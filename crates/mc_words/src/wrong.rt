@@ -10,6 +10,9 @@ ghost use Rattle.mc_words.specs.Wrong.{AreTaken, EndInOption, GoOn, GoOnAs, IsFi
 
 use crate::account::Opening;
 use crate::balance::Inquiry;
+use crate::buying::Buying;
+use crate::drawing::Drawing;
+use crate::getting::Getting;
 use crate::goods::Listing;
 use crate::init::{BrokerFounder, VendorFounder};
 use crate::licence::Licensing;
@@ -18,12 +21,16 @@ use crate::once::Shop;
 use crate::payment::{Deposit, Withdrawal};
 use crate::play::Playing;
 use crate::price::Pricing;
+use crate::reporting::Reporting;
+use crate::retrying::Retrying;
 use crate::serve::{BrokerServer, VendorServer};
 use crate::spelled::Spelled;
 use crate::stock::Stocking;
 use crate::table::{CommandName, parts_of, read_beginning_of};
 use crate::taking::Taking;
 use crate::usage_lines::CARRIED_OUT;
+use crate::wallet_book::{Filling, Telling};
+use crate::wallet_init::WalletFounder;
 use command_words::Argument;
 use std::alloc::{AllocError, Global};
 
@@ -133,6 +140,14 @@ fn go_on_as(alloc: Global, name: CommandName, words: &[String]) -> Result<bool, 
         CommandName::BrokerLicence => may_begin::<Taking>(alloc, words),
         CommandName::BrokerStock => may_begin::<Stocking>(alloc, words),
         CommandName::BrokerServe => may_begin::<BrokerServer>(alloc, words),
+        CommandName::WalletInit => may_begin::<WalletFounder>(alloc, words),
+        CommandName::WalletTake => may_begin::<Filling>(alloc, words),
+        CommandName::WalletDraw => may_begin::<Drawing>(alloc, words),
+        CommandName::WalletBuy => may_begin::<Buying>(alloc, words),
+        CommandName::WalletGet => may_begin::<Getting>(alloc, words),
+        CommandName::WalletRetry => may_begin::<Retrying>(alloc, words),
+        CommandName::WalletList => may_begin::<Telling>(alloc, words),
+        CommandName::AuditReport => may_begin::<Reporting>(alloc, words),
         _ => Ok(false),
     }
 }

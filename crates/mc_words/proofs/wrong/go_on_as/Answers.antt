@@ -1,5 +1,5 @@
 use Rattle.mc_words.specs.declared.table.CommandName.TheVariants as names
-use Rattle.mc_words.proofs.BeginLemmas.{goes_as, some_vendor_init, some_vendor_goods, some_vendor_price, some_vendor_licence, some_vendor_mint, some_vendor_serve, some_vendor_once, some_vendor_play, some_broker_init, some_broker_account, some_broker_deposit, some_broker_withdraw, some_broker_balance, some_broker_licence, some_broker_stock, some_broker_serve}
+use Rattle.mc_words.proofs.BeginLemmas.{goes_as, some_vendor_init, some_vendor_goods, some_vendor_price, some_vendor_licence, some_vendor_mint, some_vendor_serve, some_vendor_once, some_vendor_play, some_broker_init, some_broker_account, some_broker_deposit, some_broker_withdraw, some_broker_balance, some_broker_licence, some_broker_stock, some_broker_serve, some_wallet_init, some_wallet_take, some_wallet_draw, some_wallet_buy, some_wallet_get, some_wallet_retry, some_wallet_list, some_audit_report}
 use Rattle.mc_words.proofs.wrong.go_on_as.Goals as goal
 
 pub returns-in-VendorInit : goal.returns-in-VendorInit
@@ -49,3 +49,27 @@ returns-in-BrokerStock c = goes_as names.BrokerStock _ _ _ c.in-BrokerStock.is s
 
 pub returns-in-BrokerServe : goal.returns-in-BrokerServe
 returns-in-BrokerServe c = goes_as names.BrokerServe _ _ _ c.in-BrokerServe.is some_broker_serve c.may_begin-in-BrokerServe.ensures
+
+pub returns-in-WalletInit : goal.returns-in-WalletInit
+returns-in-WalletInit c = goes_as names.WalletInit _ _ _ c.in-WalletInit.is some_wallet_init c.may_begin-in-WalletInit.ensures
+
+pub returns-in-WalletTake : goal.returns-in-WalletTake
+returns-in-WalletTake c = goes_as names.WalletTake _ _ _ c.in-WalletTake.is some_wallet_take c.may_begin-in-WalletTake.ensures
+
+pub returns-in-WalletDraw : goal.returns-in-WalletDraw
+returns-in-WalletDraw c = goes_as names.WalletDraw _ _ _ c.in-WalletDraw.is some_wallet_draw c.may_begin-in-WalletDraw.ensures
+
+pub returns-in-WalletBuy : goal.returns-in-WalletBuy
+returns-in-WalletBuy c = goes_as names.WalletBuy _ _ _ c.in-WalletBuy.is some_wallet_buy c.may_begin-in-WalletBuy.ensures
+
+pub returns-in-WalletGet : goal.returns-in-WalletGet
+returns-in-WalletGet c = goes_as names.WalletGet _ _ _ c.in-WalletGet.is some_wallet_get c.may_begin-in-WalletGet.ensures
+
+pub returns-in-WalletRetry : goal.returns-in-WalletRetry
+returns-in-WalletRetry c = goes_as names.WalletRetry _ _ _ c.in-WalletRetry.is some_wallet_retry c.may_begin-in-WalletRetry.ensures
+
+pub returns-in-WalletList : goal.returns-in-WalletList
+returns-in-WalletList c = goes_as names.WalletList _ _ _ c.in-WalletList.is some_wallet_list c.may_begin-in-WalletList.ensures
+
+pub returns-in-AuditReport : goal.returns-in-AuditReport
+returns-in-AuditReport c = goes_as names.AuditReport _ _ _ c.in-AuditReport.is some_audit_report c.may_begin-in-AuditReport.ensures
