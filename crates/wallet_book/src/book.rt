@@ -10,7 +10,9 @@ ghost use Rattle.wallet_model.specs.Asks.{chosen};
 ghost use Rattle.wallet_model.specs.Requests.{oldest_kept, kept_get};
 ghost use Rattle.wallet_model.specs.Follows.{IsWalletBook};
 ghost use Rattle.wallet_model.specs.Holdings as model;
-ghost use Rattle.wallet_book.specs.Holdings.{holding_of, texts_of};
+ghost use Rattle.wallet_model.specs.Holdings.{texts_came};
+ghost use Rattle.wallet_model.specs.Newness.{is_new};
+ghost use Rattle.wallet_book.specs.Holdings.{holding_of, texts_of, AreSpelled};
 ghost use Rattle.wallet_book.specs.Kept.{request_of, kept_of, kept_in, Retries};
 ghost use Rattle.wallet_book.specs.Parts.{PartsRepresent, LearnsEntry};
 ghost use Rattle.wallet_book.specs.Choosing.{Chooses};
@@ -23,7 +25,7 @@ use crate::kept::Kept;
 use crate::parts::Parts;
 use mc_base::{Amount, Moment, NoMemory};
 use mc_records::{EMPTY_JOURNAL, FRAME, Limits, Record, Refusal};
-use scrip_form::{Name, Target};
+use scrip_form::{Name, ScripRef, Target};
 use std::alloc::Global;
 use std::marker::Model;
 
@@ -116,10 +118,23 @@ impl WalletBook {
     /// The pieces, whatever their states, in the order in which they came.
     pub fn holdings(&self) -> &[Holding]
         ensures list { result.now ≡ self.now.holdings }
+        ensures spelled { AreSpelled result.now }
         ensures exact { (h : History) → WalletRepresents self.now h
             → map holding_of result.now ≡ model.holdings h }
     {
         self.parts.holdings.as_slice()
+    }
+
+    /// Whether a piece is new: none of its vendor with its identity came, whatever became of it.
+    pub fn is_new(&self, scrip: &ScripRef<'_>) -> bool
+        ensures found { result ≡ is_new (texts_of self.now.holdings) scrip.now.text }
+        ensures exact { (h : History) → WalletRepresents self.now h
+            → result ≡ is_new (texts_came h) scrip.now.text }
+    {
+        match self.parts.holdings.find(scrip) {
+            Some(_) => false,
+            None => true,
+        }
     }
 
     /// The place among the holdings of the piece to pay with: of the held pieces of a vendor that are not expired

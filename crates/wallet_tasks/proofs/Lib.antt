@@ -1,0 +1,5 @@
+pub mod TargetLaws
+pub mod LineLaws
+pub mod SettledLaws
+pub mod AskLaws
+pub mod TakenLaws

@@ -1,0 +1,4 @@
+pub mod Requests
+pub mod Asks
+pub mod Taking
+pub mod Settled
