@@ -1,1 +1,5 @@
 pub mod FirstLaws
+pub mod GetLaws
+pub mod EnterLaws
+pub mod OutcomeLaws
+pub mod CallLaws

@@ -1,3 +1,9 @@
 pub mod Wallet
 pub mod First
 pub mod Opening
+pub mod Gets
+pub mod Fitting
+pub mod Checking
+pub mod Answers
+pub mod Outcomes
+pub mod Rests

@@ -51,7 +51,7 @@ pub fn found_wallet<D: Disk>(
     };
     let book = WalletBook::new(alloc, &site, limits);
     match found_book(alloc, disk, limits, &site) {
-        Ok(journal) => Ok(Wallet::new(journal, book)),
+        Ok(journal) => Ok(Wallet::new(alloc, journal, book)),
         Err(fault) => Err(fault),
     }
 }

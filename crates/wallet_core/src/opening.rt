@@ -74,7 +74,7 @@ pub fn open_wallet<D: Disk>(
     ensures fault { CountedBy result (D.disk disk).faults (D.disk (wallet_disk result)).faults }
 {
     match open_book(alloc, disk, limits, WalletOpener { limits }) {
-        Ok((journal, book)) => Ok(Wallet::new(journal, book)),
+        Ok((journal, book)) => Ok(Wallet::new(alloc, journal, book)),
         Err(fault) => Err(fault),
     }
 }

@@ -5,38 +5,46 @@ ghost use Rattle.scrip_journal.specs.States.{IsJournal};
 ghost use Rattle.ledger_model.specs.Histories.{History};
 ghost use Rattle.ledger_model.specs.Houses.{site_name};
 ghost use Rattle.wallet_model.specs.Asks.{chosen};
-ghost use Rattle.wallet_model.specs.Requests.{oldest_kept};
+ghost use Rattle.wallet_model.specs.Requests.{oldest_kept, kept_get};
 ghost use Rattle.wallet_model.specs.Holdings as model;
-ghost use Rattle.wallet_book.specs.Holdings.{holding_of};
+ghost use Rattle.wallet_book.specs.Holdings.{holding_of, AreSpelled};
 ghost use Rattle.wallet_book.specs.Kept.{kept_in, Retries};
 ghost use Rattle.wallet_book.specs.Choosing.{Chooses};
 ghost use Rattle.wallet_book.specs.Book.{WalletRepresents};
 ghost use Rattle.wallet_core.specs.Wallet.{WalletStands};
+ghost use Rattle.wallet_core.specs.Gets.{FindsGet};
 
 use mc_base::{Amount, Moment};
 use mc_outside::Disk;
 use mc_records::{Limits, Refusal};
-use scrip_form::Name;
+use scrip_form::{Name, Target};
 use scrip_journal::Journal;
+use std::alloc::Global;
 use wallet_book::{Holding, WalletBook};
 
 /// A wallet over a journal that it owns and never lends. It is handed back by each call that writes an entry,
 /// unless the disk fails in that call.
 pub struct Wallet<D> {
+    /// Where its memory comes from.
+    pub(crate) alloc: Global,
     pub(crate) journal: Journal<D>,
     pub(crate) book: WalletBook,
 }
 
 impl<D: Disk> Wallet<D> {
     /// The wallet of a journal and of what was learned of its entries.
-    pub(crate) fn new(journal: Journal<D>, book: WalletBook) -> Wallet<D>
+    pub(crate) fn new(alloc: Global, journal: Journal<D>, book: WalletBook) -> Wallet<D>
         ensures stands { (h : History) → IsJournal D.disk journal h → WalletRepresents book h
             → journal.limit ≡ book.limits.journal → WalletStands D.disk result h }
         ensures disk { result.journal.disk ≡ journal.disk }
         ensures time { result.book.time ≡ book.time }
         ensures limits { result.book.limits ≡ book.limits }
     {
-        Wallet { journal, book }
+        Wallet {
+            alloc,
+            journal,
+            book,
+        }
     }
 
     /// Its name.
@@ -62,8 +70,10 @@ impl<D: Disk> Wallet<D> {
 
     /// Its pieces, whatever their states, in the order in which they came.
     pub fn holdings(&self) -> &[Holding]
-        ensures { (h : History) → WalletStands D.disk self.now h
+        ensures list { (h : History) → WalletStands D.disk self.now h
             → map holding_of result.now ≡ model.holdings h }
+        // The text of each is that of its piece and its certificate.
+        ensures spelled { AreSpelled result.now }
     {
         self.book.holdings()
     }
@@ -94,6 +104,17 @@ impl<D: Disk> Wallet<D> {
         self.book.retry_next(peer)
     }
 
+    /// The number of the oldest kept request for the goods of a target of a vendor, and the place among the holdings
+    /// of the piece that it pays with; None exactly where there is no such request.
+    pub fn find_get(&self, vendor: &Name, target: &Target) -> Option<(u64, usize)>
+        ensures { (h : History) → WalletStands D.disk self.now h
+            → FindsGet h (kept_get h vendor.now target.now) result }
+    {
+        let kept = self.book.find_get(vendor, target)?;
+        let place = kept.place?;
+        Some((kept.number, place))
+    }
+
     /// Raises its time to a reading of the clock where that is later, and answers it. The disk is not touched.
     /// It takes no memory.
     pub fn raise(&mut self, reading: Moment) -> Moment
@@ -110,7 +131,11 @@ impl<D: Disk> Wallet<D> {
     pub fn close(self) -> D
         ensures { result ≡ self.journal.disk }
     {
-        let Wallet { journal, book: _ } = self;
+        let Wallet {
+            alloc: _,
+            journal,
+            book: _,
+        } = self;
         journal.close()
     }
 }

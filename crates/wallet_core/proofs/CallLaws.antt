@@ -1,0 +1,97 @@
+-- What there is to do, by the tasks of a wallet.
+use Rattle.std.proofs.Common.{◌≡◌, ℕ, zero, suc, ◌<◌, List, [], ◌∷◌, ◌++◌, map, Bool, true, false, cond, Option, Some, None, Ok, Err, refl, sym, ap, subst, arith}
+use Rattle.std.proofs.lemmas.Bool.{false≢true}
+use Rattle.std.specs.Prelude.{Result, ◌==◌, ◌↔◌, ◌≤◌, IsTrue, IsSome, option_map}
+use Rattle.std.specs.Result.{result_ok}
+use Rattle.scrip_form.specs.Scrip.{Scrip}
+use Rattle.scrip_form.specs.Reading.{scrip_of}
+use Rattle.ledger_model.specs.Pieces.{piece_of}
+use Rattle.mc_records.specs.declared.refusal.Refusal.{Refusal}
+use Rattle.mc_records.specs.Entry.{Held, Entry, Got, Fits, IsMoment, IsLong, moment_of}
+use Rattle.ledger_model.specs.Histories.{History}
+use Rattle.wallet_model.specs.Requests.{Pending, pending_in, is_kept}
+use Rattle.wallet_model.specs.Follows.{IsWalletBook}
+use Rattle.wallet_model.specs.Holdings.{texts_came}
+use Rattle.wallet_model.specs.Laws.{HasItsPiece}
+use Rattle.wallet_model.specs.Settling.{check_of, settlement}
+use Rattle.wallet_model.proofs.FitLaws.{settlement_fits, requests_have}
+use Rattle.reply_reader.specs.Replies.{Received}
+use Rattle.wallet_book.specs.Kept.{kept_in}
+use Rattle.wallet_tasks.specs.declared.request.WalletRequest.{WalletRequest}
+use Rattle.wallet_tasks.specs.Requests.{pending_view, pend_of}
+use Rattle.wallet_tasks.specs.Asks as asks
+use Rattle.wallet_tasks.specs.Settled.{settlement_with}
+
+-- ---- a settlement by the texts of the pieces that came
+
+-- pieces of these texts
+bare : List (List ℕ) → List Held
+bare [] = []
+bare (t ∷ ts) = record { text = t; secret = [] } ∷ bare ts
+
+bare_texts : (ts : List (List ℕ)) → map (λ (p : Held). p.text) (bare ts ++ []) ≡ ts
+unfolding bare
+bare_texts [] = refl
+bare_texts (t ∷ ts) = ap (λ (xs : List (List ℕ)). t ∷ xs) (bare_texts ts)
+
+as_settled : (h : History) (t n : ℕ) (p : Pending) (r : Received) → settlement_with (texts_came h) t n p r ≡ settlement h t n p r
+unfolding settlement settlement_with
+as_settled h t n p r = refl
+
+-- it is in the ranges of its entry, whatever came before
+pub settled_fits : (texts : List (List ℕ)) (t n : ℕ) (p : Pending) (r : Received) → IsMoment t → IsLong n → HasItsPiece p.ask p.scrip → check_of p r ≡ None → Fits (settlement_with texts t n p r)
+settled_fits texts t n p r moment number has passes =
+    let h : History = Got 0 (bare texts) ∷ [] in
+    let came : texts_came h ≡ texts = bare_texts texts in
+    subst (λ (ts : List (List ℕ)). Fits (settlement_with ts t n p r)) came
+    (subst Fits (sym (as_settled h t n p r)) (settlement_fits h t n p r moment number has passes))
+
+-- it is made at its time
+pub settled_now : (texts : List (List ℕ)) (t n : ℕ) (p : Pending) (r : Received) → moment_of (settlement_with texts t n p r) ≡ t
+unfolding settlement_with
+settled_now texts t n p r = go (r.status == 200) _ _ refl refl
+  where
+    go : (b : Bool) (x y : Entry) → moment_of x ≡ t → moment_of y ≡ t → moment_of (cond b x y) ≡ t
+    go true x y a b = a
+    go false x y a b = b
+
+-- ---- what is asked
+
+pub answered : (t : ℕ) (todo : Result Entry Refusal) (p : WalletRequest) → asks.Answers t todo (Ok p) → todo ≡ Ok (pend_of t (pending_view p))
+answered t (Ok e) p is = ap (λ (x : Entry). Ok x) is
+answered t (Err f) p is = absurd is
+
+pub not_answered : (t : ℕ) (todo : Result Entry Refusal) (f : Refusal) → asks.Answers t todo (Err f) → todo ≡ Err f
+not_answered t (Ok e) f is = absurd is
+not_answered t (Err g) f is = ap (λ (x : Refusal). Err x) (sym is)
+
+-- ---- the piece of a request
+
+pub is_read : (text : List ℕ) (x : Scrip × List ℕ) → scrip_of text ≡ Ok x → IsSome (piece_of text)
+is_read text x is = subst (λ (r : Result (Scrip × List ℕ) ℕ). IsSome (option_map (λ y. y.0) (result_ok r))) (sym is) refl
+
+pub not_read : (text : List ℕ) (place : ℕ) → scrip_of text ≡ Err place → IsSome (piece_of text) → ⊥
+not_read text place is some = false≢true (subst (λ (r : Result (Scrip × List ℕ) ℕ). IsSome (option_map (λ y. y.0) (result_ok r))) is some)
+
+pub draws_have : (ask : ℕ) (scrip : Option (List ℕ)) → 2 ≤ ask → HasItsPiece ask scrip
+draws_have zero scrip le = absurd (omega arith)
+draws_have (suc zero) scrip le = absurd (omega arith)
+draws_have (suc (suc ask)) scrip le = tt
+
+pub has_text : (ask : ℕ) (text : List ℕ) (b : Bool) → ask < 2 → IsTrue b ↔ IsSome (piece_of text) → IsTrue b ↔ HasItsPiece ask (Some text)
+has_text zero text b lt is = is
+has_text (suc zero) text b lt is = is
+has_text (suc (suc ask)) text b lt is = absurd (omega arith)
+
+pub has_none : (ask : ℕ) → ask < 2 → HasItsPiece ask None → ⊥
+has_none zero lt has = has
+has_none (suc zero) lt has = has
+has_none (suc (suc ask)) lt has = absurd (omega arith)
+
+-- of a kept one
+pub kept_has : (h : History) (n : ℕ) (p : Pending) → IsWalletBook h → kept_in h n ≡ Some p → HasItsPiece p.ask p.scrip
+kept_has h n p book kept = requests_have h n p book (go (is_kept h n) kept)
+  where
+    go : (b : Bool) → cond b (pending_in h n) None ≡ Some p → pending_in h n ≡ Some p
+    go true is = is
+    go false is = absurd cc

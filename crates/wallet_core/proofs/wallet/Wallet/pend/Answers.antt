@@ -1,0 +1,20 @@
+use Rattle.wallet_model.specs.Asks.{pend_entry}
+use Rattle.wallet_tasks.specs.Asks.{asking_of}
+use Rattle.wallet_tasks.specs.Requests.{pending_view, pend_of}
+use Rattle.wallet_core.specs.Answers.{TellsNumber}
+use Rattle.wallet_core.proofs.CallLaws.{answered, not_answered}
+use Rattle.wallet_core.proofs.OutcomeLaws.{performs_as, refuses}
+use Rattle.wallet_core.proofs.wallet.Wallet.pend.Goals as goal
+
+pub returns-in-Ok-clause-exact : goal.returns-in-Ok-clause-exact
+returns-in-Ok-clause-exact g c = λ h st.
+    let t = c.args.self.book.time in
+    let todo = pend_entry h t (asking_of c.args.ask.now) in
+    performs_as g.D.Disk.disk c.args.self h (pend_of t (pending_view c.in-Ok.request)) todo (TellsNumber h) (TellsNumber h) c.keep.result
+    (answered t todo c.in-Ok.request (c.in-Ok.ensures.exact h st.book)) (λ a told. told) (c.keep.ensures.exact h st)
+
+pub returns-in-Err-clause-exact : goal.returns-in-Err-clause-exact
+returns-in-Err-clause-exact g c = λ h st.
+    let t = c.args.self.book.time in
+    let todo = pend_entry h t (asking_of c.args.ask.now) in
+    refuses g.D.Disk.disk c.args.self h (TellsNumber h) (g.met.D.Disk.is_disk c.args.self.journal.disk) st todo c.in-Err.refusal (not_answered t todo c.in-Err.refusal (c.in-Err.ensures.exact h st.book))

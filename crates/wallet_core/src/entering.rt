@@ -1,0 +1,97 @@
+//! Adding an entry to a wallet's book.
+
+ghost use Rattle.std.specs.Prelude.{◌≡◌, ◌+◌, nat_le, Ok};
+ghost use Rattle.mc_records.specs.Entry.{Fits, moment_of};
+ghost use Rattle.mc_records.specs.Views.{entry};
+ghost use Rattle.ledger_model.specs.Histories.{History};
+ghost use Rattle.ledger_model.specs.Answer.{fitted};
+ghost use Rattle.wallet_model.specs.Follows.{WalletFollows};
+ghost use Rattle.wallet_book.specs.Book.{WalletRepresents};
+ghost use Rattle.wallet_core.specs.Wallet.{WalletStands};
+ghost use Rattle.wallet_core.specs.Outcomes.{HandsBack, Performs};
+ghost use Rattle.wallet_core.specs.Fitting.{IsFitted};
+
+use crate::outcome::WalletOut;
+use crate::wallet::Wallet;
+use mc_base::NoMemory;
+use mc_outside::Disk;
+use mc_records::{FRAME, Record, Refusal};
+use scrip_journal::StageFault;
+use wallet_book::WalletBook;
+
+impl<D: Disk> Wallet<D> {
+    /// Adds an entry of the wallet's time that may follow its book, and answers what is to be told then: the entry is
+    /// on the disk behind an open gate, and then it is learned. All memory is taken before anything is written. It
+    /// is refused only where the journal has no room for it, with 33 `JournalFull`.
+    pub(crate) fn enter<A: Copy>(self, r: &Record<'_>, answer: A) -> WalletOut<D, A>
+        requires fits { Fits (entry r.now) }
+        requires now { moment_of (entry r.now) ≡ self.book.time }
+        requires may { (h : History) → WalletStands D.disk self h → WalletFollows h (entry r.now) }
+        ensures back { HandsBack D.disk D.disk_moved self result }
+        ensures exact { (h : History) → WalletStands D.disk self h
+            → Performs D.disk self h (Ok (entry r.now)) (λ e a. a ≡ answer) result }
+    {
+        let mut wallet = self;
+        match room_for(&wallet.book, r) {
+            Ok(()) => (),
+            Err(full) => return WalletOut::Refused(wallet, full),
+        }
+        match wallet.book.reserve(r) {
+            Ok(()) => (),
+            Err(NoMemory) => return WalletOut::NoMemory(wallet),
+        }
+        let Wallet {
+            alloc,
+            journal,
+            mut book,
+        } = wallet;
+        match journal.append(r) {
+            Ok((journal, _)) => {
+                // It may follow, so it is learned wherever the wallet stands for a history.
+                let _learned = book.learn(r);
+                WalletOut::Done(
+                    Wallet {
+                        alloc,
+                        journal,
+                        book,
+                    },
+                    answer,
+                )
+            }
+            // It fits, so this comes only where the wallet stands for no history.
+            Err(StageFault::Full(journal)) => {
+                let full = Refusal::JournalFull(book.size(), r.payload_len());
+                WalletOut::Refused(
+                    Wallet {
+                        alloc,
+                        journal,
+                        book,
+                    },
+                    full,
+                )
+            }
+            Err(StageFault::Disk(halted)) => WalletOut::Halted(halted),
+        }
+    }
+}
+
+/// Refused with 33 `JournalFull` where a book's journal would pass its limit with one entry more.
+fn room_for(book: &WalletBook, r: &Record<'_>) -> Result<(), Refusal>
+    requires { Fits (entry r.now) }
+    ensures { (h : History) → WalletRepresents book.now h
+        → IsFitted (fitted h book.now.limits (entry r.now)) (entry r.now) result }
+{
+    let (size, payload) = (book.size(), r.payload_len());
+    if is_within(size, payload, book.limits().journal) {
+        Ok(())
+    } else {
+        Err(Refusal::JournalFull(size, payload))
+    }
+}
+
+/// Whether a journal of so many bytes stays within a limit with a payload of so many more.
+fn is_within(size: u64, payload: u64, limit: u64) -> bool
+    ensures { result ≡ nat_le (size + payload + FRAME) limit }
+{
+    u128::from(size) + u128::from(payload) + u128::from(FRAME) <= u128::from(limit)
+}
