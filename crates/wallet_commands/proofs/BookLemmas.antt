@@ -1,0 +1,83 @@
+-- The book of a wallet, as it is opened and while links work.
+use Rattle.std.proofs.Common.{◌≡◌, ◌∙◌, inl, ◌⊎◌, ℕ, List, [], refl, sym, ap, subst, Some, Err}
+use Rattle.std.specs.Prelude.{IsSome}
+use Rattle.mc_outside.specs.DiskView.{DiskView, LinkKeeps, Ran}
+use Rattle.mc_outside.specs.LinkView.{LinkView}
+use Rattle.mc_outside.proofs.Runs.{ran_then, ran_weaker}
+use Rattle.mc_records.specs.declared.limits.TheConstants.Limits.{FULL}
+use Rattle.ledger_model.specs.Histories.{History}
+use Rattle.scrip_journal.specs.Layout.{Encodes}
+use Rattle.scrip_journal.specs.States.{AtRest, IsJournal}
+use Rattle.scrip_journal.specs.Rests.{RestsAs, journal_leaves}
+use Rattle.scrip_journal.proofs.Unique.{one_history}
+use Rattle.scrip_journal.specs.declared.fault.HouseFault.{HouseFault}
+use Rattle.scrip_journal.specs.declared.fault.HouseFault.TheVariants as faults
+use Rattle.scrip_journal.specs.Founds.{fault_disk}
+use Rattle.command_status.specs.Faults.{fault_status}
+use Rattle.wallet_book.specs.Book.{BookView, WalletRepresents}
+use Rattle.wallet_core.specs.declared.wallet.Wallet.{Wallet}
+use Rattle.wallet_core.specs.Wallet.{WalletStands}
+use Rattle.wallet_core.specs.Rests.{WalletRests}
+use Rattle.wallet_core.specs.Opening.{OpensWallet}
+use Rattle.wallet_commands.specs.Books.{EncodesWallet, Untouched, NotOpened, OldPair}
+use Rattle.wallet_commands.proofs.SentLemmas.{TellsAside, SentMore, quiet_link}
+
+-- a wallet that stands for a history has it on its disk
+pub on_disk : {O : Type 0} (disk : O → DiskView) (x : Wallet O) (h : History) → WalletStands disk x h → EncodesWallet (disk x.journal.disk) h
+on_disk disk x h st = record {
+  bytes = st.journal.bytes;
+  told = st.journal.told;
+  stands = st.journal.stands;
+  lawful = st.book.lawful;
+  lasts = λ image l. journal_leaves disk x.journal h st.journal image l;
+}
+
+-- what a journal has it had before links worked
+journal_had : {O : Type 0} (disk : O → DiskView) (j k : AtRest O) (h : History) → LinkKeeps (disk j.disk) (disk k.disk) → RestsAs j k → IsJournal disk k h → IsJournal disk j h
+journal_had disk j k h keeps rests is = record {
+  bytes = is.bytes;
+  told = sym keeps.contents ∙ is.told;
+  stands = is.stands;
+  size_is = sym rests.size ∙ is.size_is;
+  entries_is = sym rests.entries ∙ is.entries_is;
+  synced = λ c l. is.synced c ((keeps.leaves c).1 l);
+}
+
+-- and what a wallet stands for it stood for before
+pub stood : {O : Type 0} (disk : O → DiskView) (x y : Wallet O) (h : History) → LinkKeeps (disk x.journal.disk) (disk y.journal.disk) → WalletRests x y → WalletStands disk y h → WalletStands disk x h
+stood disk x y h keeps rests st = record {
+  journal = journal_had disk x.journal y.journal h keeps rests.journal st.journal;
+  book = subst (λ (b : BookView). WalletRepresents b h) rests.book st.book;
+  limit = sym rests.journal.limit ∙ st.limit ∙ ap (λ (b : BookView). b.limits.journal) rests.book;
+}
+
+-- a wallet stands for one history
+pub one_book : {O : Type 0} (disk : O → DiskView) (x : Wallet O) (h g : History) → WalletStands disk x h → WalletStands disk x g → h ≡ g
+one_book disk x h g st other =
+    let same : Some st.journal.bytes ≡ Some other.journal.bytes = sym st.journal.told ∙ other.journal.told in
+    let bytes : st.journal.bytes ≡ other.journal.bytes = cc in
+    one_history h g st.journal.bytes st.journal.stands (subst (Encodes g) (sym bytes) other.journal.stands)
+
+-- a book was not opened, by what is answered
+pub not_opened : {O : Type 0} (link : O → LinkView) (disk : O → DiskView) (bytes : List ℕ) (a : O) (fault : HouseFault O) → OpensWallet {D = O} disk FULL bytes (Err fault) → Untouched link disk a (fault_disk fault)
+    → NotOpened link disk bytes a (fault_status fault) (fault_disk fault)
+not_opened link disk bytes a (faults.NotJournal d) opens same = (opens, same)
+not_opened link disk bytes a (faults.BadRecord d place) opens same = (opens, same)
+not_opened link disk bytes a (faults.Unlawful d place) opens same = (opens, same)
+not_opened link disk bytes a (faults.WrongKind d) opens same = (refl, opens, same)
+not_opened link disk bytes a (faults.NotEmpty d size) opens same = absurd opens
+not_opened link disk bytes a (faults.Disk d) opens same = same
+not_opened link disk bytes a (faults.NoMemory d) opens same = same
+
+-- ---- crash pairs up to the wallet that did nothing yet
+
+pub tells_on : {O : Type 0} (link : O → LinkView) (a b : O) → link b ≡ link a → IsSome (link a).sessions → IsSome (link b).sessions
+tells_on link a b same told = subst (λ (v : LinkView). IsSome v.sessions) (sym same) told
+
+-- the book was read, and then links worked that sent nothing
+pub old_pairs : {O : Type 0} (link : O → LinkView) (disk : O → DiskView) (h : History) (a b c : O) → TellsAside link disk → Untouched link disk a b → LinkKeeps (disk b) (disk c) → SentMore [] (link b) (link c)
+    → Ran (disk a) (disk c) (OldPair (IsSome (link a).sessions) (disk a) h)
+old_pairs link disk h a b c all same keeps none =
+    ran_then (disk a) (disk b) (disk c) (OldPair (IsSome (link a).sessions) (disk a) h)
+    (ran_weaker (disk a) (disk b) _ _ same.read.ran (λ i s p. (inl p.0, λ t. p.1)))
+    (quiet_link link disk (IsSome (link a).sessions) (λ i. (disk a).leaves i ⊎ Encodes h i) (disk a).aside b c all keeps (tells_on link a b same.link') none (λ t. same.read.aside) (λ i l. inl (same.read.leaves i l)))

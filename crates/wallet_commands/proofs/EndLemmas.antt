@@ -1,0 +1,266 @@
+-- How a wallet's command ends whose book encodes the lawful history of a wallet, where no call failed.
+use Rattle.std.proofs.Common.{◌≡◌, ◌≤◌, ◌⊎◌, ◌∙◌, inl, inr, ℕ, Bool, true, false, List, [], ◌∷◌, ◌++◌, length, max, refl, sym, ap, subst, arith, append-nil, append_assoc, Option, Some, None, Result, Ok, Err}
+use Rattle.std.specs.Prelude.{◌==◌, option_map, unwrap_or}
+use Rattle.std.proofs.lemmas.Bool.{eqb-true}
+use Rattle.mc_outside.specs.Bytes.{BeginsWith, Rose}
+use Rattle.mc_outside.specs.DiskView.{DiskView}
+use Rattle.mc_outside.specs.LinkView.{LinkView}
+use Rattle.scrip_form.specs.Scrip.{Scrip}
+use Rattle.mc_records.specs.declared.limits.TheConstants.Limits.{FULL}
+use Rattle.mc_records.specs.declared.refusal.Refusal.{Refusal}
+use Rattle.mc_records.specs.declared.refusal.Refusal.TheVariants as refusals
+use Rattle.mc_records.specs.Entry.{Entry, Site}
+use Rattle.mc_records.specs.Following.{AllFollowBy}
+use Rattle.ledger_model.specs.Histories.{History, time}
+use Rattle.ledger_model.specs.Lines as lines
+use Rattle.ledger_model.specs.Answer.{fitted}
+use Rattle.scrip_journal.specs.Layout.{header, gated, Encodes}
+use Rattle.scrip_journal.specs.Causes.{Only, SpoilsAt, IsUnlawfulAt, IsOfOther, IsOfOtherKind}
+use Rattle.scrip_journal.proofs.Unique.{one_history, not_both}
+use Rattle.scrip_journal.proofs.Beginnings.{begins_history}
+use Rattle.reply_reader.specs.Replies.{Received}
+use Rattle.command_input.specs.Inputs.{LostInput}
+use Rattle.command_status.specs.declared.status.Status.{Status}
+use Rattle.command_status.specs.declared.status.Status.TheVariants as ends
+use Rattle.command_status.specs.Statuses.{number_of}
+use Rattle.wallet_model.specs.Requests.{Pending, oldest_kept}
+use Rattle.wallet_model.specs.Holdings.{holdings}
+use Rattle.wallet_model.specs.Follows.{wallet_allows, WalletFollows, IsWalletBook}
+use Rattle.wallet_model.specs.Asks.{Asking, pend_entry}
+use Rattle.wallet_model.specs.Settling.{settlement}
+use Rattle.wallet_tasks.specs.Settled.{bought}
+use Rattle.wallet_tasks.specs.Taking.{take_entry}
+use Rattle.wallet_commands.specs.Lines.{got_line, holding_lines}
+use Rattle.wallet_commands.specs.Books.{HasWallet, EncodesWallet, NotOpened}
+use Rattle.wallet_commands.specs.Causes.{WalletCauses}
+use Rattle.wallet_commands.specs.Founding.{InitCauses}
+use Rattle.wallet_commands.specs.Taking.{TookBy, TakesBook}
+use Rattle.wallet_commands.specs.Listing.{ListsBook}
+use Rattle.wallet_commands.specs.Payments.{Learned, Settles, Stays, Breaks}
+use Rattle.wallet_commands.specs.Paying.{ended_by, SettlesBy, EndsBy, UsesLink, PaysBy, PaysBook, RetriesBy, RetriesBook}
+
+-- what did not come
+pub record Calm {O : Type 0} (link : O → LinkView) (disk : O → DiskView) (a b : O) : Type 0 where
+  pub disk' : Rose (disk a).faults (disk b).faults → ⊥
+  pub link' : Rose (link a).faults (link b).faults → ⊥
+
+-- ---- the count of the links' faults did not fall
+
+stayed : (m n : ℕ) → n ≡ m → m ≤ n
+stayed m n same = omega (arith, same)
+
+pub grew_by : {O : Type 0} (link : O → LinkView) (disk : O → DiskView) (a b : O) (status : Status) → Calm link disk a b → WalletCauses link disk a status b → (link a).faults ≤ (link b).faults
+grew_by link disk a b ends.DiskFault calm causes = absurd (calm.disk' causes.disk')
+grew_by link disk a b ends.LinkFault calm causes = absurd (calm.link' causes.link')
+grew_by link disk a b ends.Done calm causes = stayed (link a).faults (link b).faults causes.link'
+grew_by link disk a b (ends.Did line) calm causes = stayed (link a).faults (link b).faults causes.link'
+grew_by link disk a b ends.NoMemory calm causes = stayed (link a).faults (link b).faults causes.link'
+grew_by link disk a b ends.NotJournal calm causes = stayed (link a).faults (link b).faults causes.link'
+grew_by link disk a b (ends.BadEntry place) calm causes = stayed (link a).faults (link b).faults causes.link'
+grew_by link disk a b (ends.UnlawfulEntry place) calm causes = stayed (link a).faults (link b).faults causes.link'
+grew_by link disk a b (ends.Refused f) calm causes = stayed (link a).faults (link b).faults causes.link'
+grew_by link disk a b (ends.Served n) calm causes = absurd causes
+grew_by link disk a b (ends.Founded name) calm causes = absurd causes
+grew_by link disk a b ends.BadWords calm causes = absurd causes
+grew_by link disk a b (ends.Stranger name id) calm causes = absurd causes
+
+pub init_grew : {O : Type 0} (link : O → LinkView) (disk : O → DiskView) (a b : O) (status : Status) → Calm link disk a b → InitCauses link disk a status b → (link a).faults ≤ (link b).faults
+init_grew link disk a b ends.DiskFault calm causes = absurd (calm.disk' causes.disk')
+init_grew link disk a b (ends.Founded name) calm causes = stayed (link a).faults (link b).faults causes.link'
+init_grew link disk a b ends.NoMemory calm causes = stayed (link a).faults (link b).faults causes.link'
+init_grew link disk a b (ends.Refused f) calm causes = stayed (link a).faults (link b).faults causes.1.link'
+init_grew link disk a b ends.LinkFault calm causes = absurd causes
+init_grew link disk a b ends.Done calm causes = absurd causes
+init_grew link disk a b (ends.Did line) calm causes = absurd causes
+init_grew link disk a b ends.NotJournal calm causes = absurd causes
+init_grew link disk a b (ends.BadEntry place) calm causes = absurd causes
+init_grew link disk a b (ends.UnlawfulEntry place) calm causes = absurd causes
+init_grew link disk a b (ends.Served n) calm causes = absurd causes
+init_grew link disk a b ends.BadWords calm causes = absurd causes
+init_grew link disk a b (ends.Stranger name id) calm causes = absurd causes
+
+-- ---- a lawful book is opened
+
+begins_with_header : (h : History) (bytes : List ℕ) → Encodes h bytes → BeginsWith header bytes
+begins_with_header h bytes st = (gated [] h ++ st.gate ∷ st.rest, st.shape ∙ append_assoc header (gated [] h) (st.gate ∷ st.rest))
+
+not_spoiled : (h : History) (bytes : List ℕ) (place : ℕ) → Encodes h bytes → SpoilsAt WalletFollows (Only 2) bytes place → ⊥
+not_spoiled h bytes place st spoils = not_both spoils.before h bytes place spoils.spoiled st
+
+follow_here : (before xs : History) (e : Entry) (ys : History) → AllFollowBy WalletFollows before (xs ++ e ∷ ys) → WalletFollows (before ++ xs) e
+follow_here before [] e ys all = subst (λ (h : History). WalletFollows h e) (sym (append-nil before)) all.0
+follow_here before (x ∷ xs) e ys all = subst (λ (h : History). WalletFollows h e) (append_assoc before (x ∷ []) xs) (follow_here (before ++ x ∷ []) xs e ys all.1)
+
+all_of : (h : History) → IsWalletBook h → AllFollowBy WalletFollows [] h
+all_of [] lawful = absurd lawful
+all_of (e ∷ es) lawful = lawful
+
+not_unlawful : (h : History) (bytes : List ℕ) (place : ℕ) → Encodes h bytes → IsWalletBook h → IsUnlawfulAt WalletFollows (Only 2) bytes place → ⊥
+not_unlawful h bytes place st lawful (other, inl empty) = subst (λ (g : History). IsWalletBook g) (one_history h [] bytes st empty.0) lawful
+not_unlawful h bytes place st lawful (other, inr breaks) =
+    let more = begins_history h (breaks.before ++ breaks.next ∷ []) bytes st breaks.begins in
+    let is : h ≡ breaks.before ++ breaks.next ∷ more.0 = more.1 ∙ append_assoc breaks.before (breaks.next ∷ []) more.0 in
+    breaks.breaks (follow_here [] breaks.before breaks.next more.0 (subst (λ (g : History). AllFollowBy WalletFollows [] g) is (all_of h lawful)))
+
+first_is_wallet : (e : Entry) → wallet_allows [] e ≡ true → IsOfOtherKind (Only 2) e → ⊥
+first_is_wallet (Site m kind name house) allowed other = other (eqb-true kind 2 allowed)
+first_is_wallet e allowed other = other
+
+not_of_other : (h : History) (bytes : List ℕ) → Encodes h bytes → IsWalletBook h → IsOfOther (Only 2) bytes → ⊥
+not_of_other h bytes st lawful other =
+    let more = begins_history h (other.first ∷ []) bytes st other.begins in
+    let all : AllFollowBy WalletFollows [] (other.first ∷ more.0) = subst (λ (g : History). AllFollowBy WalletFollows [] g) more.1 (all_of h lawful) in
+    first_is_wallet other.first all.0.allowed other.other
+
+-- it was opened, unless memory was refused
+only_memory : {O : Type 0} (link : O → LinkView) (disk : O → DiskView) (h : History) (bytes : List ℕ) (a b : O) (status : Status) → Encodes h bytes → IsWalletBook h → Calm link disk a b → WalletCauses link disk a status b
+    → NotOpened link disk bytes a status b → number_of status ≡ 5
+only_memory link disk h bytes a b ends.NoMemory st lawful calm causes not = refl
+only_memory link disk h bytes a b ends.DiskFault st lawful calm causes not = absurd (calm.disk' causes.disk')
+only_memory link disk h bytes a b ends.NotJournal st lawful calm causes not = absurd (not.0 (begins_with_header h bytes st))
+only_memory link disk h bytes a b (ends.BadEntry place) st lawful calm causes not = absurd (not_spoiled h bytes place st not.0)
+only_memory link disk h bytes a b (ends.UnlawfulEntry place) st lawful calm causes not = absurd (not_unlawful h bytes place st lawful not.0)
+only_memory link disk h bytes a b (ends.Refused f) st lawful calm causes not = absurd (not_of_other h bytes st lawful not.1)
+only_memory link disk h bytes a b ends.LinkFault st lawful calm causes not = absurd not
+only_memory link disk h bytes a b ends.Done st lawful calm causes not = absurd not
+only_memory link disk h bytes a b (ends.Did line) st lawful calm causes not = absurd not
+only_memory link disk h bytes a b (ends.Served n) st lawful calm causes not = absurd not
+only_memory link disk h bytes a b (ends.Founded name) st lawful calm causes not = absurd not
+only_memory link disk h bytes a b ends.BadWords st lawful calm causes not = absurd not
+only_memory link disk h bytes a b (ends.Stranger name id) st lawful calm causes not = absurd not
+
+-- ---- how it ends
+
+-- it is done, memory was refused, or a refusal is told
+abbrev pub Well : Status → Type 0
+Well status = (number_of status ≡ 0) ⊎ ((number_of status ≡ 5) ⊎ (number_of status ≡ 7))
+
+pub init_well : {O : Type 0} (link : O → LinkView) (disk : O → DiskView) (a b : O) (status : Status) → Calm link disk a b → InitCauses link disk a status b → Well status
+init_well link disk a b (ends.Founded name) calm causes = inl refl
+init_well link disk a b ends.NoMemory calm causes = inr (inl refl)
+init_well link disk a b (ends.Refused f) calm causes = inr (inr refl)
+init_well link disk a b ends.DiskFault calm causes = absurd (calm.disk' causes.disk')
+init_well link disk a b ends.LinkFault calm causes = absurd causes
+init_well link disk a b ends.Done calm causes = absurd causes
+init_well link disk a b (ends.Did line) calm causes = absurd causes
+init_well link disk a b ends.NotJournal calm causes = absurd causes
+init_well link disk a b (ends.BadEntry place) calm causes = absurd causes
+init_well link disk a b (ends.UnlawfulEntry place) calm causes = absurd causes
+init_well link disk a b (ends.Served n) calm causes = absurd causes
+init_well link disk a b ends.BadWords calm causes = absurd causes
+init_well link disk a b (ends.Stranger name id) calm causes = absurd causes
+
+-- the status is none of a book that can't be read
+abbrev Readable : Status → Type 0
+Readable status = number_of status ≡ 3 → ⊥
+
+well_by : {O : Type 0} (link : O → LinkView) (disk : O → DiskView) (a b : O) (status : Status) → Calm link disk a b → WalletCauses link disk a status b → Readable status → Well status
+well_by link disk a b ends.NoMemory calm causes three = inr (inl refl)
+well_by link disk a b ends.DiskFault calm causes three = absurd (calm.disk' causes.disk')
+well_by link disk a b ends.LinkFault calm causes three = absurd (calm.link' causes.link')
+well_by link disk a b ends.Done calm causes three = inl refl
+well_by link disk a b (ends.Did line) calm causes three = inl refl
+well_by link disk a b (ends.Refused f) calm causes three = inr (inr refl)
+well_by link disk a b ends.NotJournal calm causes three = absurd (three refl)
+well_by link disk a b (ends.BadEntry place) calm causes three = absurd (three refl)
+well_by link disk a b (ends.UnlawfulEntry place) calm causes three = absurd (three refl)
+well_by link disk a b (ends.Served n) calm causes three = absurd causes
+well_by link disk a b (ends.Founded name) calm causes three = absurd causes
+well_by link disk a b ends.BadWords calm causes three = absurd causes
+well_by link disk a b (ends.Stranger name id) calm causes three = absurd causes
+
+told_as : (status other : Status) → status ≡ other → Readable other → Readable status
+told_as status other same readable is = readable (sym (ap number_of same) ∙ is)
+
+-- ---- taking and listing
+
+took_readable : (d : DiskView) (h : History) (todo : Result Entry Refusal) (status : Status) → TookBy d h todo status → Readable status
+took_readable d h (Ok e) ends.NotJournal took is = took
+took_readable d h (Ok e) (ends.BadEntry place) took is = took
+took_readable d h (Ok e) (ends.UnlawfulEntry place) took is = took
+took_readable d h (Err f) ends.NotJournal took is = took
+took_readable d h (Err f) (ends.BadEntry place) took is = took
+took_readable d h (Err f) (ends.UnlawfulEntry place) took is = took
+took_readable d h todo status took is = absurd (cc is)
+
+unread_readable : {O : Type 0} (link : O → LinkView) (a b : O) (status : Status) → ((status ≡ ends.LinkFault) × LostInput (link a) (link b)) ⊎ ((status ≡ ends.NoMemory) × (link b ≡ link a)) → Readable status
+unread_readable link a b status (inl lost) = told_as status ends.LinkFault lost.0 (λ is. cc is)
+unread_readable link a b status (inr wants) = told_as status ends.NoMemory wants.0 (λ is. cc is)
+
+pub took_well : {O : Type 0} (link : O → LinkView) (disk : O → DiskView) (a b : O) (status : Status) (has : HasWallet (disk a)) → Calm link disk a b → WalletCauses link disk a status b → TakesBook link disk has.bytes a status b → Well status
+took_well link disk a b status has calm causes (inl not) = inr (inl (only_memory link disk has.history has.bytes a b status has.stands has.lawful calm causes not))
+took_well link disk a b status has calm causes (inr (inl unread)) = well_by link disk a b status calm causes (unread_readable link a b status unread.lost)
+took_well link disk a b status has calm causes (inr (inr took)) = well_by link disk a b status calm causes (took_readable (disk b) took.history (take_entry took.history (max (time took.history) took.moment) took.input) status took.took)
+
+pub listed_well : {O : Type 0} (link : O → LinkView) (disk : O → DiskView) (a b : O) (status : Status) (has : HasWallet (disk a)) → Calm link disk a b → WalletCauses link disk a status b → ListsBook link disk has.bytes a status b
+    → (number_of status ≡ 0) ⊎ (number_of status ≡ 5)
+listed_well link disk a b status has calm causes (inl not) = inr (only_memory link disk has.history has.bytes a b status has.stands has.lawful calm causes not)
+listed_well link disk a b status has calm causes (inr listed) = by_said listed.said
+  where
+    by_said : (status ≡ ends.Did (holding_lines (holdings listed.history))) ⊎ (status ≡ ends.NoMemory) → (number_of status ≡ 0) ⊎ (number_of status ≡ 5)
+    by_said (inl did) = inl (ap number_of did)
+    by_said (inr wants) = inr (ap number_of wants)
+
+-- ---- paying and trying again
+
+got_readable : (o : Option Scrip) → Readable (unwrap_or (option_map (λ x. ends.Did (got_line x)) o) ends.Done)
+got_readable None is = cc is
+got_readable (Some x) is = cc is
+
+ended_readable : (p : Pending) (r : Received) → Readable (ended_by p r)
+ended_readable p r is = by_test (r.status == 200) refl
+  where
+    by_test : (b : Bool) → (r.status == 200) ≡ b → ⊥
+    by_test true test = got_readable (bought p.ask r.contents) (rw test at is)
+    by_test false test = cc (rw test at is)
+
+settled_readable : (h : History) (t n : ℕ) (p : Pending) (r : Received) (before : LinkView) (status : Status) (d : DiskView) (after : LinkView) → SettlesBy h t n p r before status d after → Readable status
+settled_readable h t n p r before ends.NotJournal d after settles is = by_end settles.1
+  where
+    by_end : ((ends.NotJournal ≡ ended_by p r) × EncodesWallet d (h ++ settlement h t n p r ∷ [])) ⊎ ((f : Refusal) × (ends.NotJournal ≡ ends.Refused f) × (fitted h FULL (settlement h t n p r) ≡ Err (lines.Refuse f)) × EncodesWallet d h) → ⊥
+    by_end (inl done) = told_as ends.NotJournal (ended_by p r) done.0 (ended_readable p r) refl
+    by_end (inr full) = told_as ends.NotJournal (ends.Refused full.0) full.1 (λ e. cc e) refl
+settled_readable h t n p r before (ends.BadEntry place) d after settles is = by_end settles.1
+  where
+    by_end : ((ends.BadEntry place ≡ ended_by p r) × EncodesWallet d (h ++ settlement h t n p r ∷ [])) ⊎ ((f : Refusal) × (ends.BadEntry place ≡ ends.Refused f) × (fitted h FULL (settlement h t n p r) ≡ Err (lines.Refuse f)) × EncodesWallet d h) → ⊥
+    by_end (inl done) = told_as (ends.BadEntry place) (ended_by p r) done.0 (ended_readable p r) refl
+    by_end (inr full) = told_as (ends.BadEntry place) (ends.Refused full.0) full.1 (λ e. cc e) refl
+settled_readable h t n p r before (ends.UnlawfulEntry place) d after settles is = by_end settles.1
+  where
+    by_end : ((ends.UnlawfulEntry place ≡ ended_by p r) × EncodesWallet d (h ++ settlement h t n p r ∷ [])) ⊎ ((f : Refusal) × (ends.UnlawfulEntry place ≡ ends.Refused f) × (fitted h FULL (settlement h t n p r) ≡ Err (lines.Refuse f)) × EncodesWallet d h) → ⊥
+    by_end (inl done) = told_as (ends.UnlawfulEntry place) (ended_by p r) done.0 (ended_readable p r) refl
+    by_end (inr full) = told_as (ends.UnlawfulEntry place) (ends.Refused full.0) full.1 (λ e. cc e) refl
+settled_readable h t n p r before status d after settles is = absurd (cc is)
+
+ends_readable : (h : History) (t n : ℕ) (p : Pending) (learned : Learned) (before : LinkView) (status : Status) (d : DiskView) (after : LinkView) → EndsBy h t n p learned before status d after → Readable status
+ends_readable h t n p (Stays f) before status d after by = told_as status (ends.Refused f) by.0 (λ is. cc is)
+ends_readable h t n p Breaks before status d after by = told_as status ends.LinkFault by.0 (λ is. cc is)
+ends_readable h t n p (Settles r) before status d after by = settled_readable h t n p r before status d after by
+
+used_readable : {O : Type 0} (link : O → LinkView) (disk : O → DiskView) (h : History) (t n : ℕ) (p : Pending) (a b : O) (status : Status) → UsesLink link disk h t n p a status b → Readable status
+used_readable link disk h t n p a b status used = ends_readable h t n p used.learned used.middle status (disk b) (link b) used.ends'
+
+paid_readable : {O : Type 0} (link : O → LinkView) (disk : O → DiskView) (h : History) (t : ℕ) (todo : Result Entry Refusal) (a b : O) (clocked : LinkView) (status : Status) → PaysBy link disk h t todo a clocked status b → Readable status
+paid_readable link disk h t (Err f) a b clocked status (inl is, not) = told_as status (ends.Refused f) is (λ e. cc e)
+paid_readable link disk h t (Err f) a b clocked status (inr is, not) = told_as status ends.NoMemory is (λ e. cc e)
+paid_readable link disk h t (Ok e) a b clocked status (inl (inl is, not)) = told_as status ends.NoMemory is (λ x. cc x)
+paid_readable link disk h t (Ok e) a b clocked status (inl (inr full, not)) = told_as status (ends.Refused full.0) full.1 (λ x. cc x)
+paid_readable link disk h t (Ok e) a b clocked status (inr (inl doubt)) = told_as status ends.DiskFault doubt.0 (λ x. cc x)
+paid_readable link disk h t (Ok e) a b clocked status (inr (inr asked)) = used_readable link disk (h ++ e ∷ []) t (length h) asked.p asked.entered b status asked.since
+
+pub paid_well : {O : Type 0} (link : O → LinkView) (disk : O → DiskView) (asking : Asking) (a b : O) (status : Status) (has : HasWallet (disk a)) → Calm link disk a b → WalletCauses link disk a status b → PaysBook link disk asking has.bytes a status b → Well status
+paid_well link disk asking a b status has calm causes (inl not) = inr (inl (only_memory link disk has.history has.bytes a b status has.stands has.lawful calm causes not))
+paid_well link disk asking a b status has calm causes (inr (inl wanted)) = inr (inl (ap number_of wanted.memory))
+paid_well link disk asking a b status has calm causes (inr (inr at)) =
+    well_by link disk a b status calm causes
+    (paid_readable link disk at.history (max (time at.history) at.moment) (pend_entry at.history (max (time at.history) at.moment) asking) a b at.clocked status at.does)
+
+tried_readable : {O : Type 0} (link : O → LinkView) (disk : O → DiskView) (h : History) (t : ℕ) (o : Option (ℕ × Pending)) (a b : O) (clocked : LinkView) (status : Status) → RetriesBy link disk h t o a clocked status b → Readable status
+tried_readable link disk h t None a b clocked status by = told_as status (ends.Refused refusals.Nothing) by.0 (λ e. cc e)
+tried_readable link disk h t (Some k) a b clocked status by = used_readable link disk h t k.0 k.1 by.kept b status by.since
+
+pub tried_well : {O : Type 0} (link : O → LinkView) (disk : O → DiskView) (peer : List ℕ) (a b : O) (status : Status) (has : HasWallet (disk a)) → Calm link disk a b → WalletCauses link disk a status b → RetriesBook link disk peer has.bytes a status b → Well status
+tried_well link disk peer a b status has calm causes (inl not) = inr (inl (only_memory link disk has.history has.bytes a b status has.stands has.lawful calm causes not))
+tried_well link disk peer a b status has calm causes (inr (inl wanted)) = inr (inl (ap number_of wanted.memory))
+tried_well link disk peer a b status has calm causes (inr (inr at)) =
+    well_by link disk a b status calm causes (tried_readable link disk at.history (max (time at.history) at.moment) (oldest_kept at.history peer) a b at.clocked status at.does)

@@ -1,0 +1,51 @@
+-- How founding the book of a wallet ends.
+use Rattle.std.proofs.Common.{◌≡◌, ◌∙◌, inl, inr, ⊎_elim, ℕ, ◌+◌, ◌<◌, ◌≤◌, ◌^◌, List, [], Err, refl, ap, arith}
+use Rattle.std.specs.Prelude.{IsSome}
+use Rattle.mc_outside.specs.DiskView.{DiskView, LinkKeeps, Ran}
+use Rattle.mc_outside.specs.LinkView.{LinkView}
+use Rattle.mc_outside.proofs.Runs.{ran_then, ran_weaker}
+use Rattle.scrip_form.specs.Texts.{IsName}
+use Rattle.mc_records.specs.declared.limits.TheConstants.Limits.{FULL}
+use Rattle.mc_records.specs.Entry.{Entry, Fits}
+use Rattle.mc_records.specs.Sizes.{empty_size, entry_size}
+use Rattle.mc_records.proofs.SizeLaws.{tail_is_short}
+use Rattle.mc_records.proofs.PayloadSizes.{payload_is_short}
+use Rattle.scrip_journal.specs.declared.fault.HouseFault.{HouseFault}
+use Rattle.scrip_journal.specs.declared.fault.HouseFault.TheVariants as faults
+use Rattle.scrip_journal.specs.Founds.{fault_disk, FoundNoOutput, FoundImage, ReadsOnly}
+use Rattle.millicent_http.specs.Courses.{with_readings}
+use Rattle.command_status.specs.Faults.{fault_status}
+use Rattle.wallet_core.specs.declared.wallet.Wallet.{Wallet}
+use Rattle.wallet_core.specs.Opening.{FoundsWalletBy}
+use Rattle.wallet_commands.specs.Founding.{site_of, FoundsBy}
+use Rattle.wallet_commands.proofs.SentLemmas.{TellsAside, none_still, aside_same, quiet_link}
+
+site_fits : (name : List ℕ) (moment : ℕ) → IsName name → moment < 2 ^ 35 → Fits (site_of name moment)
+site_fits name moment is last = record { moment = last; name = is; house = tt }
+
+-- the first entry has room
+pub first_has_room : (name : List ℕ) (moment : ℕ) → IsName name → moment < 2 ^ 35 → empty_size + entry_size [] (site_of name moment) ≤ 2 ^ 40
+first_has_room name moment is last = omega (arith, payload_is_short (site_of name moment) (site_fits name moment is last), tail_is_short [] (site_of name moment))
+
+-- the clock was read, and then the book was founded
+pub found_pairs : {O : Type 0} (link : O → LinkView) (disk : O → DiskView) (a m b : O) (e : Entry) → TellsAside link disk → LinkKeeps (disk a) (disk m) → link m ≡ with_readings (link m).readings (link a)
+    → Ran (disk m) (disk b) (FoundNoOutput (disk m) e) → Ran (disk a) (disk b) (λ image sent. FoundImage (disk a) e image × (IsSome (link a).sessions → sent ≡ (disk a).aside))
+found_pairs link disk a m b e all keeps rest ran =
+    let quiet = none_still (link a) (link m) (ap (λ (v : LinkView). v.sessions) rest) in
+    ran_then (disk a) (disk m) (disk b) _
+    (quiet_link link disk (IsSome (link a).sessions) (FoundImage (disk a) e) (disk a).aside a m all keeps (λ t. t) quiet (λ t. refl) (λ c l. inl (inr l)))
+    (ran_weaker (disk m) (disk b) _ _ ran (λ c s p. (
+      ⊎_elim (λ short. inl (⊎_elim (λ few. inl few) (λ l. inr ((keeps.leaves c).0 l)) short)) (λ encoded. inr encoded) p.0,
+      λ told. p.1 ∙ aside_same link disk a m all told quiet,
+    )))
+
+-- nothing was founded
+pub not_founded : {O : Type 0} (disk : O → DiskView) (name : List ℕ) (moment : ℕ) (bytes : List ℕ) (a m : O) (fault : HouseFault O) → LinkKeeps (disk a) (disk m) → FoundsWalletBy {D = O} disk FULL (site_of name moment) bytes (Err fault)
+    → ReadsOnly {D = O} {A = Wallet O} disk m (Err fault) → FoundsBy (disk a) name bytes moment (fault_status fault) (disk (fault_disk fault))
+not_founded disk name moment bytes a m (faults.NotEmpty d size) keeps by read = (size, refl, by, read.contents ∙ keeps.contents)
+not_founded disk name moment bytes a m (faults.NoMemory d) keeps by read = read.contents ∙ keeps.contents
+not_founded disk name moment bytes a m (faults.Disk d) keeps by read = tt
+not_founded disk name moment bytes a m (faults.NotJournal d) keeps by read = absurd by
+not_founded disk name moment bytes a m (faults.BadRecord d place) keeps by read = absurd by
+not_founded disk name moment bytes a m (faults.Unlawful d place) keeps by read = absurd by
+not_founded disk name moment bytes a m (faults.WrongKind d) keeps by read = absurd by

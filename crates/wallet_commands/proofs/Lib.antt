@@ -1,0 +1,11 @@
+pub mod SentLemmas
+pub mod KeptLemmas
+pub mod CauseLemmas
+pub mod BookLemmas
+pub mod SettleLemmas
+pub mod UseLemmas
+pub mod PayLemmas
+pub mod TakeLemmas
+pub mod EndLemmas
+pub mod FoundLemmas
+pub mod LineLemmas

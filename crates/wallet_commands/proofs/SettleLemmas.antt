@@ -1,0 +1,141 @@
+-- How a reply settles a kept request, or leaves it kept.
+use Rattle.std.proofs.Common.{◌≡◌, ◌⊎◌, ◌∙◌, inl, inr, ⊎_elim, ℕ, true, false, List, [], ◌∷◌, ◌++◌, refl, sym, ap, subst, Option, Some, None, Ok, Err}
+use Rattle.std.specs.Prelude.{◌==◌, IsSome}
+use Rattle.std.proofs.lemmas.Bool.{eqb-true, eq-eqb}
+use Rattle.mc_outside.specs.DiskView.{DiskView, IsDisk, LinkKeeps, Ran}
+use Rattle.mc_outside.specs.LinkView.{LinkView}
+use Rattle.mc_outside.proofs.Runs.{ran_none, ran_then, ran_weaker, ran_now}
+use Rattle.mc_records.specs.declared.limits.Limits.{Limits}
+use Rattle.mc_records.specs.declared.limits.TheConstants.Limits.{FULL}
+use Rattle.mc_records.specs.declared.refusal.Refusal.{Refusal}
+use Rattle.mc_records.specs.declared.refusal.Refusal.TheVariants as refusals
+use Rattle.mc_records.specs.Entry.{Entry}
+use Rattle.ledger_model.specs.Histories.{History}
+use Rattle.ledger_model.specs.Lines as lines
+use Rattle.ledger_model.specs.Answer.{fitted}
+use Rattle.scrip_journal.specs.Layout.{Encodes}
+use Rattle.scrip_journal.specs.Rests.{journal_leaves}
+use Rattle.reply_reader.specs.Replies.{Received}
+use Rattle.command_status.specs.declared.status.Status.TheVariants as ends
+use Rattle.wallet_model.specs.Requests.{Pending}
+use Rattle.wallet_model.specs.Settling.{check_of, settlement, refusal_number}
+use Rattle.wallet_model.proofs.BookLaws.{book_grows}
+use Rattle.wallet_model.proofs.KeptLaws.{by_cases}
+use Rattle.wallet_tasks.specs.declared.settling.Settlement.{Settlement}
+use Rattle.wallet_tasks.specs.declared.settling.Settlement.TheVariants as settled
+use Rattle.wallet_tasks.specs.Settled.{bought, IsSettledAs}
+use Rattle.wallet_core.specs.declared.wallet.Wallet.{Wallet}
+use Rattle.wallet_core.specs.declared.outcome.WalletOut.{WalletOut}
+use Rattle.wallet_core.specs.declared.outcome.WalletOut.TheVariants as outs
+use Rattle.wallet_core.specs.Wallet.{WalletStands}
+use Rattle.wallet_core.specs.Checking.{CheckedView, Checks}
+use Rattle.wallet_core.specs.Outcomes.{outcome_disk, CountsFaults, Adds, LeavesBy}
+use Rattle.wallet_commands.specs.Causes.{WalletCauses}
+use Rattle.wallet_commands.specs.Saying.{contents_said, IsSaid, IsSaidInPart}
+use Rattle.wallet_commands.specs.Paying.{ended_by, SettlesBy, EndsBy, settled_by}
+use Rattle.wallet_commands.specs.Replies.{settlement_status, settled_status, learned_by, SettledPair, EndsReply}
+use Rattle.wallet_commands.proofs.SentLemmas.{TellsAside, SentMore, none_still, quiet_link, aside_same}
+use Rattle.wallet_commands.proofs.BookLemmas.{on_disk}
+
+-- ---- the check
+
+-- a reply that the check lets pass
+pub passed : (o : Option Refusal) (n : ℕ) (p : Pending) (r : Received) (c : CheckedView) → Checks o n p r (Ok c) → (o ≡ None) × (c ≡ record { number = n; request = p; reply = r })
+passed None n p r c checks = (refl, checks)
+passed (Some f) n p r c checks = absurd checks
+
+refused_ends : {O : Type 0} (link : O → LinkView) (disk : O → DiskView) (h : History) (t n : ℕ) (p : Pending) (r : Received) (o : Option Refusal) (f : Refusal) (x : Wallet O) → Checks o n p r (Err f) → WalletStands disk x h
+    → EndsBy h t n p (learned_by r o) (link x.journal.disk) (ends.Refused f) (disk x.journal.disk) (link x.journal.disk)
+refused_ends link disk h t n p r None f x checks st = absurd checks
+refused_ends link disk h t n p r (Some g) f x checks st = (ap (λ (e : Refusal). ends.Refused e) checks, on_disk disk x h st, refl)
+
+-- the check refused the reply
+pub refused_reply : {O : Type 0} (link : O → LinkView) (disk : O → DiskView) (h : History) (t n : ℕ) (p : Pending) (r : Received) (f : Refusal) (x : Wallet O) → IsDisk (disk x.journal.disk) → Checks (check_of p r) n p r (Err f) → WalletStands disk x h
+    → EndsReply link disk h t n p r x.journal.disk (ends.Refused f) x.journal.disk
+refused_reply link disk h t n p r f x is_disk checks st = record {
+  ends' = refused_ends link disk h t n p r (check_of p r) f x checks st;
+  pairs = ran_none (disk x.journal.disk) _ is_disk (λ c l. (inl (journal_leaves disk x.journal h st.journal c l), λ t. refl));
+}
+
+-- ---- saying failed
+
+pub said_less : {O : Type 0} (link : O → LinkView) (disk : O → DiskView) (h : History) (t n : ℕ) (p : Pending) (r : Received) (x y : Wallet O) → TellsAside link disk → check_of p r ≡ None → WalletStands disk x h → WalletStands disk y h
+    → LinkKeeps (disk x.journal.disk) (disk y.journal.disk) → IsSaidInPart (contents_said p r) (link x.journal.disk) (link y.journal.disk) → EndsReply link disk h t n p r x.journal.disk ends.LinkFault y.journal.disk
+said_less link disk h t n p r x y all none st now keeps said = record {
+  ends' = subst (λ (o : Option Refusal). EndsBy h t n p (learned_by r o) (link x.journal.disk) ends.LinkFault (disk y.journal.disk) (link y.journal.disk)) (sym none) (on_disk disk y h now, said);
+  pairs = quiet_link link disk (IsSome (link x.journal.disk).sessions) _ (disk x.journal.disk).aside x.journal.disk y.journal.disk all keeps (λ t. t) (none_still (link x.journal.disk) (link y.journal.disk) (ap (λ (v : LinkView). v.sessions) said.same)) (λ t. refl)
+      (λ c l. inl (journal_leaves disk x.journal h st.journal c l));
+}
+
+-- ---- the settlement
+
+other_status : (m n : ℕ) → (m ≡ n → ⊥) → (m == n) ≡ false
+other_status m n ne = ⊎_elim (λ e. absurd (ne (eqb-true m n e))) (λ e. e) (by_cases (m == n))
+
+-- what is told of a settlement is what its reply says
+settled_as : (p : Pending) (r : Received) (s : Settlement) → IsSettledAs p r s → settlement_status s ≡ ended_by p r
+settled_as p r (settled.Paid price) is =
+    let test : (r.status == 200) ≡ true = eq-eqb r.status 200 is.0 in
+    let none : bought p.ask r.contents ≡ None = ap (λ (ask : ℕ). bought ask r.contents) is.1 in
+    rw (test, none) refl
+settled_as p r (settled.Got piece) is =
+    let test : (r.status == 200) ≡ true = eq-eqb r.status 200 is.0 in
+    let some : bought p.ask r.contents ≡ Some piece = is.1 in
+    rw (test, some) refl
+settled_as p r (settled.Refused number) is =
+    let test : (r.status == 200) ≡ false = other_status r.status 200 is.0 in
+    let told : number ≡ refusal_number r.refusal = is.1 in
+    ap (λ (k : ℕ). ends.Refused (refusals.SiteRefused k)) told ∙ (rw test refl)
+
+module _ {O : Type 0} (link : O → LinkView) (disk : O → DiskView) (h : History) (n : ℕ) (p : Pending) (r : Received) where
+  -- how the disk is left, and the links, by the outcome
+  settles : (before : LinkView) (y : Wallet O) (out : WalletOut O Settlement) → y.book.limits ≡ FULL → WalletStands disk y h → ((o : O) → IsDisk (disk o)) → IsSaid (contents_said p r) before (link (outcome_disk out))
+      → Adds disk y h (Ok (settlement h y.book.time n p r)) (λ e s. IsSettledAs p r s) out → Ran (disk y.journal.disk) (disk (outcome_disk out)) (LeavesBy (Ok (settlement h y.book.time n p r)) out h (disk y.journal.disk).aside)
+      → SettlesBy h y.book.time n p r before (settled_status out) (disk (outcome_disk out)) (link (outcome_disk out))
+  settles before y (outs.Done x (settled.Paid price)) limits st is_disk said adds ran = (said, inl (settled_as p r (settled.Paid price) adds.1, on_disk disk x _ adds.0.stands))
+  settles before y (outs.Done x (settled.Got piece)) limits st is_disk said adds ran = (said, inl (settled_as p r (settled.Got piece) adds.1, on_disk disk x _ adds.0.stands))
+  settles before y (outs.Done x (settled.Refused number)) limits st is_disk said adds ran = (said, inl (settled_as p r (settled.Refused number) adds.1, on_disk disk x _ adds.0.stands))
+  settles before y (outs.Refused x f) limits st is_disk said adds ran =
+      (said, inr (f, refl, subst (λ (l : Limits). fitted h l (settlement h y.book.time n p r) ≡ Err (lines.Refuse f)) limits adds.0, on_disk disk x h adds.1.stands))
+  settles before y (outs.NoMemory x) limits st is_disk said adds ran = (on_disk disk x h adds.stands, said)
+  settles before y (outs.Halted d) limits st is_disk said adds ran = (
+    record { leaves = λ image l. (ran_now (disk y.journal.disk) (disk d) _ (is_disk d) ran image l).0; lawful = book_grows h (settlement h y.book.time n p r) st.book.lawful adds.follows },
+    said,
+  )
+
+  settle_pair : (tells : Type 0) (e : Entry) (out : WalletOut O Settlement) (aside now : List ℕ) (c s : List ℕ) → (tells → aside ≡ now) → LeavesBy (Ok e) out h aside c s → SettledPair tells now h (e ∷ []) c s
+  settle_pair tells e (outs.Done x a) aside now c s same leaves = (leaves.0, λ t. leaves.1 ∙ same t)
+  settle_pair tells e (outs.Refused x f) aside now c s same leaves = (inl leaves.0, λ t. leaves.1 ∙ same t)
+  settle_pair tells e (outs.NoMemory x) aside now c s same leaves = (inl leaves.0, λ t. leaves.1 ∙ same t)
+  settle_pair tells e (outs.Halted d) aside now c s same leaves = (leaves.0, λ t. leaves.1 ∙ same t)
+
+  -- the reply was said as it is to be, and then the settlement was written, or was not
+  pub settled_reply : (x y : Wallet O) (out : WalletOut O Settlement) → TellsAside link disk → ((o : O) → IsDisk (disk o)) → check_of p r ≡ None → y.book.limits ≡ FULL → WalletStands disk x h → WalletStands disk y h
+      → LinkKeeps (disk x.journal.disk) (disk y.journal.disk) → IsSaid (contents_said p r) (link x.journal.disk) (link y.journal.disk) → link (outcome_disk out) ≡ link y.journal.disk
+      → Adds disk y h (Ok (settlement h y.book.time n p r)) (λ e s. IsSettledAs p r s) out → Ran (disk y.journal.disk) (disk (outcome_disk out)) (LeavesBy (Ok (settlement h y.book.time n p r)) out h (disk y.journal.disk).aside)
+      → EndsReply link disk h y.book.time n p r x.journal.disk (settled_status out) (outcome_disk out)
+  settled_reply x y out all is_disk none limits st now keeps said same adds ran =
+      let a : O = x.journal.disk in
+      let m : O = y.journal.disk in
+      let b : O = outcome_disk out in
+      let e : Entry = settlement h y.book.time n p r in
+      let quiet : SentMore [] (link a) (link m) = none_still (link a) (link m) (ap (λ (v : LinkView). v.sessions) said) in
+      record {
+        ends' = subst (λ (o : Option Refusal). EndsBy h y.book.time n p (learned_by r o) (link a) (settled_status out) (disk b) (link b)) (sym none)
+            (settles (link a) y out limits now is_disk (same ∙ said) adds ran);
+        pairs = subst (λ (o : Option Refusal). Ran (disk a) (disk b) (SettledPair (IsSome (link a).sessions) (disk a).aside h (settled_by h y.book.time n p (learned_by r o)))) (sym none)
+            (ran_then (disk a) (disk m) (disk b) (SettledPair (IsSome (link a).sessions) (disk a).aside h (e ∷ []))
+            (quiet_link link disk (IsSome (link a).sessions) (λ c. Encodes h c ⊎ Encodes (h ++ e ∷ []) c) (disk a).aside a m all keeps (λ t. t) quiet (λ t. refl) (λ c l. inl (journal_leaves disk x.journal h st.journal c l)))
+            (ran_weaker (disk m) (disk b) _ _ ran (λ c s l. settle_pair (IsSome (link a).sessions) e out (disk m).aside (disk a).aside c s (λ t. aside_same link disk a m all t quiet) l)));
+      }
+
+-- ---- causes
+
+pub settled_causes : {O : Type 0} (link : O → LinkView) (disk : O → DiskView) (y : O) (out : WalletOut O Settlement) → CountsFaults out (disk y).faults (disk (outcome_disk out)).faults → link (outcome_disk out) ≡ link y
+    → WalletCauses link disk y (settled_status out) (outcome_disk out)
+settled_causes link disk y (outs.Done x (settled.Paid price)) counts same = record { disk' = counts; link' = ap (λ (v : LinkView). v.faults) same }
+settled_causes link disk y (outs.Done x (settled.Got piece)) counts same = record { disk' = counts; link' = ap (λ (v : LinkView). v.faults) same }
+settled_causes link disk y (outs.Done x (settled.Refused number)) counts same = record { disk' = counts; link' = ap (λ (v : LinkView). v.faults) same }
+settled_causes link disk y (outs.Refused x f) counts same = record { disk' = counts; link' = ap (λ (v : LinkView). v.faults) same }
+settled_causes link disk y (outs.NoMemory x) counts same = record { disk' = counts; link' = ap (λ (v : LinkView). v.faults) same }
+settled_causes link disk y (outs.Halted d) counts same = record { disk' = counts; link' = ap (λ (v : LinkView). v.faults) same }

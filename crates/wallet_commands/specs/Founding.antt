@@ -1,0 +1,48 @@
+-- Founding the book of a wallet, up to the line that is said.
+use Rattle.std.specs.Prelude.{◌≡◌, ℕ, List, [], ◌∷◌, Some, None, IsSome}
+use Rattle.mc_outside.specs.DiskView.{DiskView, Ran}
+use Rattle.mc_outside.specs.LinkView.{LinkView}
+use Rattle.mc_records.specs.Entry.{Entry, Site}
+use Rattle.mc_records.specs.declared.refusal.Refusal.TheVariants as refusals
+use Rattle.scrip_journal.specs.Founds.{IsFree, IsTaken, FoundImage}
+use Rattle.millicent_http.specs.declared.clock.Clock.TheVariants.{OfLinks}
+use Rattle.millicent_http.specs.Courses.{AreRead, with_readings}
+use Rattle.command_status.specs.declared.status.Status.{Status}
+use Rattle.command_status.specs.declared.status.Status.TheVariants as ends
+use Rattle.wallet_commands.specs.Books.{EncodesWallet}
+use Rattle.wallet_commands.specs.Causes.{NoneFailed, DiskFailed}
+
+-- the entry that founds a wallet of this name
+abbrev pub site_of : List ℕ → ℕ → Entry
+site_of name moment = Site moment 2 name None
+
+-- The clock was read once. Each crash pair has an image that encodes no entries or the Site entry of that moment, has at
+-- most nine bytes, or is what a crash before could have left; and where what is sent is told, nothing was sent.
+pub record FoundAt {O : Type 0} (link : O → LinkView) (disk : O → DiskView) (name : List ℕ) (a b : O) (moment : ℕ) : Type 0 where
+  pub read : AreRead OfLinks (moment ∷ []) (link a).readings (link b).readings
+  pub rest : link b ≡ with_readings (link b).readings (link a)
+  pub pairs : Ran (disk a) (disk b) (λ image sent. FoundImage (disk a) (site_of name moment) image × (IsSome (link a).sessions → sent ≡ (disk a).aside))
+
+-- what the disk is then, by how the command ended, where it had these bytes
+abbrev pub FoundsBy : DiskView → List ℕ → List ℕ → ℕ → Status → DiskView → Type 0
+FoundsBy before name bytes moment (ends.Founded said) after = (said ≡ name) × IsFree bytes × EncodesWallet after (site_of name moment ∷ [])
+FoundsBy before name bytes moment (ends.Refused f) after = (size : ℕ) × (f ≡ refusals.NotEmpty size) × IsTaken bytes size × (after.contents ≡ before.contents)
+FoundsBy before name bytes moment ends.NoMemory after = after.contents ≡ before.contents
+FoundsBy before name bytes moment ends.DiskFault after = Unit {0}
+FoundsBy before name bytes moment _ after = ⊥
+
+-- how founding a wallet of this name ended, on an outside whose disk had these bytes
+abbrev pub FoundsBook : {O : Type 0} → (O → LinkView) → (O → DiskView) → List ℕ → List ℕ → O → Status → O → Type 0
+FoundsBook link disk name bytes a status b = (moment : ℕ) × FoundAt link disk name a b moment × FoundsBy (disk a) name bytes moment status (disk b)
+
+-- why it ended so; it ends in no other way than these
+abbrev pub InitCauses : {O : Type 0} → (O → LinkView) → (O → DiskView) → O → Status → O → Type 0
+InitCauses link disk a (ends.Founded name) b = NoneFailed link disk a b
+InitCauses link disk a (ends.Refused f) b = ((size : ℕ) × (f ≡ refusals.NotEmpty size)) × NoneFailed link disk a b
+InitCauses link disk a ends.NoMemory b = NoneFailed link disk a b
+InitCauses link disk a ends.DiskFault b = DiskFailed link disk a b
+InitCauses link disk a _ b = ⊥
+
+-- What the command does. Of a book it is said where the disk tells its bytes, and of causes on every outside.
+abbrev pub Inits : {O : Type 0} → (O → LinkView) → (O → DiskView) → List ℕ → O → Status → O → Type 0
+Inits link disk name a status b = InitCauses link disk a status b × ((bytes : List ℕ) → (disk a).contents ≡ Some bytes → FoundsBook link disk name bytes a status b)

@@ -1,0 +1,10 @@
+pub mod Lines
+pub mod Books
+pub mod Causes
+pub mod Founding
+pub mod Payments
+pub mod Saying
+pub mod Paying
+pub mod Replies
+pub mod Taking
+pub mod Listing

@@ -1,0 +1,161 @@
+-- Getting, buying, drawing and trying again, up to the line that is said.
+use Rattle.std.specs.Prelude.{◌≡◌, ◌⊎◌, ℕ, ◌==◌, if◌then◌else◌, max, List, [], ◌∷◌, ◌++◌, length, Option, Some, None, IsSome, Result, Ok, Err, option_map, unwrap_or}
+use Rattle.mc_outside.specs.Bytes.{BeginsWith}
+use Rattle.mc_outside.specs.DiskView.{DiskView, Ran}
+use Rattle.mc_outside.specs.LinkView.{LinkView}
+use Rattle.mc_records.specs.declared.limits.TheConstants.Limits.{FULL}
+use Rattle.mc_records.specs.declared.refusal.Refusal.{Refusal}
+use Rattle.mc_records.specs.declared.refusal.Refusal.TheVariants as refusals
+use Rattle.mc_records.specs.Entry.{Entry}
+use Rattle.ledger_model.specs.Histories.{History, time}
+use Rattle.ledger_model.specs.Lines as lines
+use Rattle.ledger_model.specs.Answer.{fitted}
+use Rattle.scrip_journal.specs.Layout.{Encodes}
+use Rattle.millicent_http.specs.declared.clock.Clock.TheVariants.{OfLinks}
+use Rattle.millicent_http.specs.Courses.{AreRead, with_readings}
+use Rattle.reply_reader.specs.Replies.{Received}
+use Rattle.command_status.specs.declared.status.Status.{Status}
+use Rattle.command_status.specs.declared.status.Status.TheVariants as ends
+use Rattle.wallet_model.specs.Requests.{Pending, pending_of, oldest_kept}
+use Rattle.wallet_model.specs.Asks.{Asking, pend_entry, request_bytes}
+use Rattle.wallet_model.specs.Settling.{settlement, refusal_number}
+use Rattle.wallet_tasks.specs.Settled.{bought}
+use Rattle.wallet_commands.specs.Lines.{got_line}
+use Rattle.wallet_commands.specs.Books.{EncodesWallet, EncodesEither, Untouched, NotOpened, OldPair, EntryPair}
+use Rattle.wallet_commands.specs.Causes.{WalletCauses}
+use Rattle.wallet_commands.specs.Saying.{contents_said, IsSaid, IsSaidInPart}
+use Rattle.wallet_commands.specs.Payments.{Learned, Settles, Stays, Breaks, Learns}
+
+-- ---- the settlement
+
+-- How the command of a request ends that a reply settled: a get says no line, a buy and a draw the piece, and of a signed
+-- refusal its number is told.
+abbrev pub ended_by : Pending → Received → Status
+ended_by p r =
+    if r.status == 200 then unwrap_or (option_map (λ x. ends.Did (got_line x)) (bought p.ask r.contents)) ends.Done
+    else ends.Refused (refusals.SiteRefused (refusal_number r.refusal))
+
+-- The reply settles the request of a number, at a time: what was to be said first was said, and then the settlement was
+-- written; or one of the two failed, and 33 JournalFull or want of memory leaves the book as it was.
+abbrev pub SettlesBy : History → ℕ → ℕ → Pending → Received → LinkView → Status → DiskView → LinkView → Type 0
+SettlesBy h t n p r before ends.LinkFault d after = EncodesWallet d h × IsSaidInPart (contents_said p r) before after
+SettlesBy h t n p r before ends.NoMemory d after = EncodesWallet d h × IsSaid (contents_said p r) before after
+SettlesBy h t n p r before ends.DiskFault d after = EncodesEither d h (settlement h t n p r) × IsSaid (contents_said p r) before after
+SettlesBy h t n p r before status d after =
+    IsSaid (contents_said p r) before after
+    × (((status ≡ ended_by p r) × EncodesWallet d (h ++ settlement h t n p r ∷ []))
+    ⊎ ((f : Refusal) × (status ≡ ends.Refused f) × (fitted h FULL (settlement h t n p r) ≡ Err (lines.Refuse f)) × EncodesWallet d h))
+
+-- ---- one link for a kept request
+
+-- by what was learned on the link
+abbrev pub EndsBy : History → ℕ → ℕ → Pending → Learned → LinkView → Status → DiskView → LinkView → Type 0
+EndsBy h t n p (Stays f) before status d after = (status ≡ ends.Refused f) × EncodesWallet d h × (after ≡ before)
+EndsBy h t n p Breaks before status d after = (status ≡ ends.LinkFault) × EncodesWallet d h × (after ≡ before)
+EndsBy h t n p (Settles r) before status d after = SettlesBy h t n p r before status d after
+
+-- the entries that may be added by what was learned
+abbrev pub settled_by : History → ℕ → ℕ → Pending → Learned → List Entry
+settled_by h t n p (Settles r) = settlement h t n p r ∷ []
+settled_by h t n p _ = []
+
+-- A crash pair while a link is used for a request that is kept in a history: the image encodes that, with the settlement
+-- or without it. Where what is sent is told, a first part of the request was sent.
+abbrev pub UsePair : Type 0 → List ℕ → Pending → History → List Entry → List ℕ → List ℕ → Type 0
+UsePair tells aside p h settled image sent = (Encodes h image ⊎ Encodes (h ++ settled) image) × (tells → BeginsWith aside sent × BeginsWith sent (aside ++ request_bytes p))
+
+-- From a history in which the request of a number is kept, on one link, at a time.
+pub record UsesLink {O : Type 0} (link : O → LinkView) (disk : O → DiskView) (h : History) (t n : ℕ) (p : Pending) (a : O) (status : Status) (b : O) : Type 0 where
+  pub learned : Learned
+  pub middle : LinkView
+  pub learns : Learns p learned (link a) middle
+  pub ends' : EndsBy h t n p learned middle status (disk b) (link b)
+  pub pairs : Ran (disk a) (disk b) (UsePair (IsSome (link a).sessions) (disk a).aside p h (settled_by h t n p learned))
+
+-- ---- get, buy, draw
+
+-- Nothing was added, and no link was taken; the links are these.
+pub record NotAsked {O : Type 0} (link : O → LinkView) (disk : O → DiskView) (h : History) (a : O) (clocked : LinkView) (b : O) : Type 0 where
+  pub left : EncodesWallet (disk b) h
+  pub link' : link b ≡ clocked
+  pub pairs : Ran (disk a) (disk b) (OldPair (IsSome (link a).sessions) (disk a) h)
+
+-- The Pend entry is in doubt, and no link was taken.
+pub record InDoubt {O : Type 0} (link : O → LinkView) (disk : O → DiskView) (h : History) (e : Entry) (a : O) (clocked : LinkView) (b : O) : Type 0 where
+  pub left : EncodesEither (disk b) h e
+  pub link' : link b ≡ clocked
+  pub pairs : Ran (disk a) (disk b) (EntryPair (IsSome (link a).sessions) (disk a) h e)
+
+-- The Pend entry was added, and up to that moment no link was taken; then a link was used for its request.
+pub record Asked {O : Type 0} (link : O → LinkView) (disk : O → DiskView) (h : History) (t : ℕ) (e : Entry) (a : O) (clocked : LinkView) (status : Status) (b : O) : Type 0 where
+  pub p : Pending
+  pub request : pending_of e ≡ Some p
+  pub entered : O
+  pub stands : EncodesWallet (disk entered) (h ++ e ∷ [])
+  pub link' : link entered ≡ clocked
+  pub until : Ran (disk a) (disk entered) (EntryPair (IsSome (link a).sessions) (disk a) h e)
+  pub since : UsesLink link disk (h ++ e ∷ []) t (length h) p entered status b
+
+-- what becomes of a Pend entry, or of the refusal in its place
+abbrev pub PaysBy : {O : Type 0} → (O → LinkView) → (O → DiskView) → History → ℕ → Result Entry Refusal → O → LinkView → Status → O → Type 0
+PaysBy link disk h t (Err f) a clocked status b = ((status ≡ ends.Refused f) ⊎ (status ≡ ends.NoMemory)) × NotAsked link disk h a clocked b
+PaysBy link disk h t (Ok e) a clocked status b =
+    (((status ≡ ends.NoMemory) ⊎ ((f : Refusal) × (status ≡ ends.Refused f) × (fitted h FULL e ≡ Err (lines.Refuse f)))) × NotAsked link disk h a clocked b)
+    ⊎ (((status ≡ ends.DiskFault) × InDoubt link disk h e a clocked b)
+    ⊎ Asked link disk h t e a clocked status b)
+
+-- ---- what both have in common
+
+-- The book encoded a history, and memory was refused before the clock was read.
+pub record Wanted {O : Type 0} (link : O → LinkView) (disk : O → DiskView) (bytes : List ℕ) (a : O) (status : Status) (b : O) : Type 0 where
+  pub history : History
+  pub stands : Encodes history bytes
+  pub memory : status ≡ ends.NoMemory
+  pub left : EncodesWallet (disk b) history
+  pub untouched : Untouched link disk a b
+
+-- The book encoded a history, and the clock was read once; then this became of it at the time.
+pub record Clocked {O : Type 0} (link : O → LinkView) (Does : History → ℕ → LinkView → Type 0) (bytes : List ℕ) (a : O) : Type 0 where
+  pub history : History
+  pub stands : Encodes history bytes
+  pub moment : ℕ
+  pub clocked : LinkView
+  pub read : AreRead OfLinks (moment ∷ []) (link a).readings clocked.readings
+  pub rest : clocked ≡ with_readings clocked.readings (link a)
+  pub does : Does history (max (time history) moment) clocked
+
+-- how a get, a buy or a draw ended, on an outside whose disk had these bytes
+abbrev pub PaysBook : {O : Type 0} → (O → LinkView) → (O → DiskView) → Asking → List ℕ → O → Status → O → Type 0
+PaysBook link disk asking bytes a status b =
+    NotOpened link disk bytes a status b
+    ⊎ (Wanted link disk bytes a status b
+    ⊎ Clocked link (λ h t clocked. PaysBy link disk h t (pend_entry h t asking) a clocked status b) bytes a)
+
+-- What the command does. Of a book it is said where the disk tells its bytes, and of causes on every outside.
+abbrev pub Pays : {O : Type 0} → (O → LinkView) → (O → DiskView) → Asking → O → Status → O → Type 0
+Pays link disk asking a status b = WalletCauses link disk a status b × ((bytes : List ℕ) → (disk a).contents ≡ Some bytes → PaysBook link disk asking bytes a status b)
+
+-- ---- trying again
+
+-- A link was used for a request that was kept.
+pub record Tried {O : Type 0} (link : O → LinkView) (disk : O → DiskView) (h : History) (t n : ℕ) (p : Pending) (a : O) (clocked : LinkView) (status : Status) (b : O) : Type 0 where
+  pub kept : O
+  pub stands : EncodesWallet (disk kept) h
+  pub link' : link kept ≡ clocked
+  pub until : Ran (disk a) (disk kept) (OldPair (IsSome (link a).sessions) (disk a) h)
+  pub since : UsesLink link disk h t n p kept status b
+
+-- the oldest kept request of the peer; 67 Nothing where there is none
+abbrev pub RetriesBy : {O : Type 0} → (O → LinkView) → (O → DiskView) → History → ℕ → Option (ℕ × Pending) → O → LinkView → Status → O → Type 0
+RetriesBy link disk h t None a clocked status b = (status ≡ ends.Refused refusals.Nothing) × NotAsked link disk h a clocked b
+RetriesBy link disk h t (Some x) a clocked status b = Tried link disk h t x.0 x.1 a clocked status b
+
+-- how trying again ended, on an outside whose disk had these bytes
+abbrev pub RetriesBook : {O : Type 0} → (O → LinkView) → (O → DiskView) → List ℕ → List ℕ → O → Status → O → Type 0
+RetriesBook link disk peer bytes a status b =
+    NotOpened link disk bytes a status b
+    ⊎ (Wanted link disk bytes a status b
+    ⊎ Clocked link (λ h t clocked. RetriesBy link disk h t (oldest_kept h peer) a clocked status b) bytes a)
+
+abbrev pub Retries : {O : Type 0} → (O → LinkView) → (O → DiskView) → List ℕ → O → Status → O → Type 0
+Retries link disk peer a status b = WalletCauses link disk a status b × ((bytes : List ℕ) → (disk a).contents ≡ Some bytes → RetriesBook link disk peer bytes a status b)

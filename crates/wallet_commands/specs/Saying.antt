@@ -1,0 +1,20 @@
+-- What is said of a reply before it settles its request.
+use Rattle.std.specs.Prelude.{◌≡◌, ℕ, ◌==◌, ◌&&◌, if◌then◌else◌, List, [], ◌++◌, option_map}
+use Rattle.mc_outside.specs.Bytes.{Rose, Told, AddsPart}
+use Rattle.mc_outside.specs.LinkView.{LinkView}
+use Rattle.reply_reader.specs.Replies.{Received}
+use Rattle.wallet_model.specs.Requests.{Pending}
+
+-- the contents that a get brings; of other requests nothing is said then
+abbrev pub contents_said : Pending → Received → List ℕ
+contents_said p r = if (p.ask == 0) && (r.status == 200) then r.contents else []
+
+-- bytes were said
+abbrev pub IsSaid : List ℕ → LinkView → LinkView → Type 0
+IsSaid bytes before after = after ≡ record before { said = option_map (λ s. s ++ bytes) before.said }
+
+-- saying them failed; a first part of them may have been said
+pub record IsSaidInPart (bytes : List ℕ) (before after : LinkView) : Type 0 where
+  pub same : after ≡ record before { faults = after.faults; said = after.said }
+  pub rose : Rose before.faults after.faults
+  pub part : Told (AddsPart bytes) before.said after.said
