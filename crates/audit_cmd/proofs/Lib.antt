@@ -1,1 +1,6 @@
 pub mod ReadLaws
+pub mod Zips
+pub mod KeptLaws
+pub mod Loops
+pub mod WalletLaws
+pub mod LawfulLaws

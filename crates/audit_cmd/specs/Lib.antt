@@ -1,1 +1,4 @@
 pub mod Reading
+pub mod Books
+pub mod Places
+pub mod Loops

@@ -1,12 +1,12 @@
 -- What reading a book answers.
-use Rattle.std.specs.Prelude.{◌≡◌, ℕ, List, Result, Ok, Err}
+use Rattle.std.specs.Prelude.{◌≡◌, ◌⊎◌, ℕ, List, Option, Some, None, Result, Ok, Err}
 use Rattle.mc_outside.specs.Bytes.{BeginsWith}
 use Rattle.mc_records.specs.declared.limits.TheConstants.Limits.{FULL}
 use Rattle.ledger_model.specs.Histories.{History, time}
 use Rattle.ledger_model.specs.Houses.{IsHouseKind}
 use Rattle.ledger_model.specs.Lawful.{MayFollow}
 use Rattle.scrip_journal.specs.Layout.{header, Encodes}
-use Rattle.scrip_journal.specs.Causes.{SpoilsAt, IsUnlawfulAt, IsOfOther}
+use Rattle.scrip_journal.specs.Causes.{Only, SpoilsAt, IsUnlawfulAt, IsOfOther}
 use Rattle.scrip_journal.specs.Founds.{fault_disk}
 use Rattle.scrip_journal.specs.declared.fault.HouseFault.{HouseFault}
 use Rattle.scrip_journal.specs.declared.fault.HouseFault.TheVariants.{NotJournal, BadRecord, Unlawful, WrongKind, NotEmpty, Disk, NoMemory}
@@ -15,6 +15,7 @@ use Rattle.house_core.specs.Bench.{Represents, house_time, limits_of}
 use Rattle.house_core.specs.Trade.{TradeView}
 use Rattle.vendor_core.specs.Shelf.{shelf_view}
 use Rattle.broker_core.specs.Desk.{desk_view}
+use Rattle.wallet_model.specs.Follows.{WalletFollows, IsWalletBook}
 use Rattle.book_sums.specs.declared.book_sums.BookSums.{BookSums}
 use Rattle.book_sums.specs.Learned.{SumsRepresent}
 use Rattle.book_audit.specs.Audit.{IsLearned}
@@ -55,11 +56,27 @@ auditor = record {
   holds = HasRead;
 }
 
+-- ---- why a book is not read
+
+-- Behind lawful entries of a house, or of a wallet, the bytes can't stand, from this place on.
+abbrev pub IsSpoiledFrom : List ℕ → ℕ → Type 0
+IsSpoiledFrom bytes place = SpoilsAt (MayFollow FULL) IsHouseKind bytes place ⊎ SpoilsAt WalletFollows (Only 2) bytes place
+
+-- The first entry that is not lawful after those before it, as that of a house or of a wallet, is behind the gate at
+-- this place; in a book without entries that is its only gate.
+abbrev pub IsUnlawfulFrom : List ℕ → ℕ → Type 0
+IsUnlawfulFrom bytes place = IsUnlawfulAt (MayFollow FULL) IsHouseKind bytes place ⊎ IsUnlawfulAt WalletFollows (Only 2) bytes place
+
 -- ---- what is answered
 
 abbrev pub read_disk : {D A : Type 0} → Result (D × A) (HouseFault D) → D
 read_disk (Ok x) = x.0
 read_disk (Err f) = fault_disk f
+
+-- the disk of a wallet's book that was read, or of one that was not
+abbrev pub wallets_disk : {D : Type 0} → Result D (HouseFault D) → D
+wallets_disk (Ok d) = d
+wallets_disk (Err f) = fault_disk f
 
 -- the bytes encode a lawful history, of which all was kept
 pub record ReadsAs (bytes : List ℕ) (s : BookSums) : Type 0 where
@@ -67,13 +84,45 @@ pub record ReadsAs (bytes : List ℕ) (s : BookSums) : Type 0 where
   pub of_bytes : Encodes history bytes
   pub learned : IsLearned FULL s history
 
--- what is answered by the bytes of the disk
-abbrev pub ReadsBook : {D : Type 0} → List ℕ → Result (D × BookSums) (HouseFault D) → Type 0
-ReadsBook bytes (Ok x) = ReadsAs bytes x.1
+-- the bytes encode the history of a wallet, which is lawful
+pub record IsWalletsHistory (bytes : List ℕ) (h : History) : Type 0 where
+  pub of_bytes : Encodes h bytes
+  pub lawful : IsWalletBook h
+
+-- what is answered of a house's book by the bytes of the disk
+abbrev pub ReadsHouse : {D : Type 0} → List ℕ → Result (D × BookSums) (HouseFault D) → Type 0
+ReadsHouse bytes (Ok x) = ReadsAs bytes x.1
+ReadsHouse bytes (Err (NotJournal d)) = BeginsWith header bytes → ⊥
+ReadsHouse bytes (Err (BadRecord d place)) = SpoilsAt (MayFollow FULL) IsHouseKind bytes place
+ReadsHouse bytes (Err (Unlawful d place)) = IsUnlawfulAt (MayFollow FULL) IsHouseKind bytes place
+ReadsHouse bytes (Err (WrongKind d)) = IsOfOther IsHouseKind bytes
+ReadsHouse bytes (Err (NotEmpty d count)) = ⊥
+ReadsHouse bytes (Err (Disk d)) = Unit {0}
+ReadsHouse bytes (Err (NoMemory d)) = Unit {0}
+
+-- what is answered of a wallet's
+abbrev pub ReadsWallet : {D : Type 0} → List ℕ → Result D (HouseFault D) → Type 0
+ReadsWallet bytes (Ok d) = (h : History) × IsWalletsHistory bytes h
+ReadsWallet bytes (Err (NotJournal d)) = BeginsWith header bytes → ⊥
+ReadsWallet bytes (Err (BadRecord d place)) = SpoilsAt WalletFollows (Only 2) bytes place
+ReadsWallet bytes (Err (Unlawful d place)) = IsUnlawfulAt WalletFollows (Only 2) bytes place
+ReadsWallet bytes (Err (WrongKind d)) = IsOfOther (Only 2) bytes
+ReadsWallet bytes (Err (NotEmpty d count)) = ⊥
+ReadsWallet bytes (Err (Disk d)) = Unit {0}
+ReadsWallet bytes (Err (NoMemory d)) = Unit {0}
+
+-- what was kept is of the lawful book that the bytes encode: nothing of a wallet's
+abbrev pub IsKeptOf : List ℕ → Option BookSums → Type 0
+IsKeptOf bytes (Some s) = ReadsAs bytes s
+IsKeptOf bytes None = (h : History) × IsWalletsHistory bytes h
+
+-- what is answered of a book of either kind
+abbrev pub ReadsBook : {D : Type 0} → List ℕ → Result (D × Option BookSums) (HouseFault D) → Type 0
+ReadsBook bytes (Ok x) = IsKeptOf bytes x.1
 ReadsBook bytes (Err (NotJournal d)) = BeginsWith header bytes → ⊥
-ReadsBook bytes (Err (BadRecord d place)) = SpoilsAt (MayFollow FULL) IsHouseKind bytes place
-ReadsBook bytes (Err (Unlawful d place)) = IsUnlawfulAt (MayFollow FULL) IsHouseKind bytes place
-ReadsBook bytes (Err (WrongKind d)) = IsOfOther IsHouseKind bytes
+ReadsBook bytes (Err (BadRecord d place)) = IsSpoiledFrom bytes place
+ReadsBook bytes (Err (Unlawful d place)) = IsUnlawfulFrom bytes place
+ReadsBook bytes (Err (WrongKind d)) = ⊥
 ReadsBook bytes (Err (NotEmpty d count)) = ⊥
 ReadsBook bytes (Err (Disk d)) = Unit {0}
 ReadsBook bytes (Err (NoMemory d)) = Unit {0}

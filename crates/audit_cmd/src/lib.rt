@@ -1,7 +1,9 @@
-//! Books are read to be audited, each by one pass over its disk.
+//! Books are read to be audited, each by one pass over its disk, and audited.
 #![tactic(auto)]
 
+mod auditing;
+mod books;
 mod reader;
 mod reading;
 
-pub use reading::read_book;
+pub use auditing::audit;

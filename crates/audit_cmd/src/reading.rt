@@ -3,7 +3,7 @@
 ghost use Rattle.std.specs.Prelude.{◌≡◌, List, ℕ, Some};
 ghost use Rattle.mc_outside.specs.DiskView.{OnlyRead};
 ghost use Rattle.book_opening.specs.Opening.{CountedBy};
-ghost use Rattle.audit_cmd.specs.Reading.{kept_by, read_disk, ReadsBook};
+ghost use Rattle.audit_cmd.specs.Reading.{kept_by, read_disk, wallets_disk, ReadsHouse, ReadsWallet, ReadsBook};
 
 use crate::reader::Reader;
 use book_opening::{LearnFault, Opener, open_book};
@@ -16,6 +16,7 @@ use mc_records::{Limits, Record};
 use scrip_journal::HouseFault;
 use std::alloc::Global;
 use vendor_core::Shelf;
+use wallet_core::open_wallet;
 
 /// What reads a book, of the kind that its first entry tells.
 #[derive(Drop)]
@@ -85,14 +86,56 @@ impl Opener for Auditor {
 /// stand, from the place told on. `Unlawful` tells the place of the gate of the first entry that may not follow those
 /// before it, and 8 where there is no entry at all. `WrongKind` comes where the book is a wallet's. `Disk` comes only where
 /// the disk failed. Nothing is written, and the disk comes back.
-pub fn read_book<D: Disk>(alloc: Global, disk: D) -> Result<(D, BookSums), HouseFault<D>>
+fn read_house<D: Disk>(alloc: Global, disk: D) -> Result<(D, BookSums), HouseFault<D>>
     ensures moved { D.disk_moved disk (read_disk result) }
     ensures read { OnlyRead (D.disk disk) (D.disk (read_disk result)) }
-    ensures exact { (x : List ℕ) → (D.disk disk).contents ≡ Some x → ReadsBook x result }
+    ensures exact { (x : List ℕ) → (D.disk disk).contents ≡ Some x → ReadsHouse x result }
     ensures fault { CountedBy result (D.disk disk).faults (D.disk (read_disk result)).faults }
 {
     match open_book(alloc, disk, Limits::FULL, Auditor) {
         Ok((journal, reader)) => Ok((journal.close(), reader.into_sums())),
         Err(fault) => Err(fault),
+    }
+}
+
+/// Reads the book that the disk has, as that of a wallet. The faults are as those of a house's book, and `WrongKind` comes
+/// where it is one.
+fn read_wallet<D: Disk>(alloc: Global, disk: D) -> Result<D, HouseFault<D>>
+    ensures moved { D.disk_moved disk (wallets_disk result) }
+    ensures read { OnlyRead (D.disk disk) (D.disk (wallets_disk result)) }
+    ensures exact { (x : List ℕ) → (D.disk disk).contents ≡ Some x → ReadsWallet x result }
+    ensures fault { CountedBy result (D.disk disk).faults (D.disk (wallets_disk result)).faults }
+{
+    match open_wallet(alloc, disk, Limits::FULL) {
+        Ok(wallet) => Ok(wallet.close()),
+        Err(fault) => Err(fault),
+    }
+}
+
+/// Reads the book that the disk has, of a house or of a wallet, and keeps of a house's what an audit needs, and nothing of
+/// a wallet's. Nothing is written, and the disk comes back.
+///
+/// `NotJournal` comes where the disk does not begin with the header of a journal, and `BadRecord` where its bytes can't
+/// stand, from the place told on. `Unlawful` tells the place of the gate of the first entry that may not follow those
+/// before it, by the laws of its kind of site, and 8 where there is no entry at all. `Disk` comes only where the disk
+/// failed. No other fault comes but `NoMemory`.
+pub(crate) fn read_book<D: Disk>(
+    alloc: Global,
+    disk: D,
+) -> Result<(D, Option<BookSums>), HouseFault<D>>
+    ensures moved { D.disk_moved disk (read_disk result) }
+    ensures read { OnlyRead (D.disk disk) (D.disk (read_disk result)) }
+    ensures exact { (x : List ℕ) → (D.disk disk).contents ≡ Some x → ReadsBook x result }
+    ensures fault { CountedBy result (D.disk disk).faults (D.disk (read_disk result)).faults }
+{
+    match read_house(alloc, disk) {
+        Ok((disk, sums)) => Ok((disk, Some(sums))),
+        Err(fault) => match fault {
+            HouseFault::WrongKind(disk) => match read_wallet(alloc, disk) {
+                Ok(disk) => Ok((disk, None)),
+                Err(fault) => Err(fault),
+            },
+            fault => Err(fault),
+        },
     }
 }

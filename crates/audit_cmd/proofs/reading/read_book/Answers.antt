@@ -1,15 +1,12 @@
-use Rattle.std.proofs.Common.{sym, subst}
-use Rattle.mc_records.specs.declared.limits.TheConstants.Limits.{FULL}
-use Rattle.book_sums.specs.declared.book_sums.BookSums.{BookSums}
-use Rattle.book_audit.specs.Audit.{IsLearned}
-use Rattle.audit_cmd.proofs.ReadLaws.{kept_learned}
+use Rattle.std.proofs.Common.{◌≡◌, Err, subst, ◌∙◌}
+use Rattle.scrip_journal.specs.Founds.{fault_disk}
+use Rattle.scrip_journal.specs.declared.fault.HouseFault.{HouseFault}
+use Rattle.audit_cmd.specs.Reading.{ReadsHouse}
+use Rattle.audit_cmd.proofs.WalletLaws.{wallet_fault}
 use Rattle.audit_cmd.proofs.reading.read_book.Goals as goal
 
-pub returns-in-Ok-clause-exact : goal.returns-in-Ok-clause-exact
-returns-in-Ok-clause-exact g c x told =
-    let opened = c.in-Ok.ensures.exact x told in
-    record {
-      history = opened.history;
-      of_bytes = opened.of_bytes;
-      learned = subst (λ (s : BookSums). IsLearned FULL s opened.history) (sym c.into_sums.ensures) (kept_learned c.in-Ok.reader opened.history opened.learned opened.of_bytes.fits);
-    }
+pub returns-in-Err-read_wallet-clause-exact : goal.returns-in-Err-read_wallet-clause-exact
+returns-in-Err-read_wallet-clause-exact g c x told =
+    let same = subst (λ (f : HouseFault g.row.D.Denot). (g.D.Disk.disk (fault_disk f)).contents ≡ (g.D.Disk.disk c.args.disk).contents) c.in-WrongKind.is c.in-Err.ensures.read.contents in
+    let other = subst (λ (f : HouseFault g.row.D.Denot). ReadsHouse {D = g.row.D.Denot} x (Err f)) c.in-WrongKind.is (c.in-Err.ensures.exact x told) in
+    wallet_fault {D = g.row.D.Denot} x c.in-Err-read_wallet.fault other (c.in-Err-read_wallet.ensures.exact x (same ∙ told))

@@ -1,0 +1,5 @@
+use Rattle.audit_cmd.specs.Loops.{HaveRead}
+use Rattle.audit_cmd.proofs.books.read_books.Given as goal
+
+abbrev pub invariant-loop-place : goal.invariant-loop-place
+invariant-loop-place g l = HaveRead g.D.Disk.disk g.D.Disk.disk_moved l.place l.initial.books.items l.books.items l.kept

@@ -1,0 +1,15 @@
+use Rattle.std.proofs.Common.{sym, subst}
+use Rattle.mc_records.specs.declared.limits.TheConstants.Limits.{FULL}
+use Rattle.book_sums.specs.declared.book_sums.BookSums.{BookSums}
+use Rattle.book_audit.specs.Audit.{IsLearned}
+use Rattle.audit_cmd.proofs.ReadLaws.{kept_learned}
+use Rattle.audit_cmd.proofs.reading.read_house.Goals as goal
+
+pub returns-in-Ok-clause-exact : goal.returns-in-Ok-clause-exact
+returns-in-Ok-clause-exact g c x told =
+    let opened = c.in-Ok.ensures.exact x told in
+    record {
+      history = opened.history;
+      of_bytes = opened.of_bytes;
+      learned = subst (λ (s : BookSums). IsLearned FULL s opened.history) (sym c.into_sums.ensures) (kept_learned c.in-Ok.reader opened.history opened.learned opened.of_bytes.fits);
+    }

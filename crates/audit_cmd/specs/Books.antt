@@ -1,0 +1,93 @@
+-- What an audit of books on disks answers, by their bytes.
+use Rattle.std.specs.Prelude.{◌≡◌, ◌⊎◌, ℕ, IsTrue, List, map, take, slice_get, slice_set, Some, Result, Err}
+use Rattle.std.specs.List.{AllZip, AllByRecursion, list_any}
+use Rattle.mc_outside.specs.Bytes.{BeginsWith, Rose}
+use Rattle.mc_outside.specs.DiskView.{DiskView}
+use Rattle.mc_records.specs.declared.limits.TheConstants.Limits.{FULL}
+use Rattle.ledger_model.specs.Histories.{History}
+use Rattle.ledger_model.specs.Lawful.{IsLawful}
+use Rattle.scrip_journal.specs.Layout.{header, Encodes}
+use Rattle.balanced_books.specs.declared.sums.Report.{Report}
+use Rattle.wallet_model.specs.Follows.{is_wallet}
+use Rattle.book_audit.specs.Audit.{Audited}
+use Rattle.book_audit.specs.declared.fault.AuditFault.{AuditFault}
+use Rattle.book_audit.specs.declared.fault.AuditFault.TheVariants as faults
+use Rattle.audit_cmd.specs.Reading.{IsSpoiledFrom, IsUnlawfulFrom, IsWalletsHistory}
+
+-- ---- the bytes of disks
+
+-- the disks tell these bytes, in their order
+abbrev pub AreTold : {D : Type 0} → (D → DiskView) → List D → List (List ℕ) → Type 0
+AreTold view disks books = AllZip (λ d bytes. (view d).contents ≡ Some bytes) disks books
+
+-- the counts of their faults
+abbrev pub counts : {D : Type 0} → (D → DiskView) → List D → List ℕ
+counts view disks = map (λ d. (view d).faults) disks
+
+-- ---- lawful books
+
+-- the bytes encode the history of a house, which is lawful
+pub record IsHousesHistory (bytes : List ℕ) (h : History) : Type 0 where
+  pub of_bytes : Encodes h bytes
+  pub lawful : IsLawful FULL h
+
+-- a lawful history, of a house or of a wallet
+abbrev pub IsHistoryOf : List ℕ → History → Type 0
+IsHistoryOf bytes h = IsHousesHistory bytes h ⊎ IsWalletsHistory bytes h
+
+abbrev pub IsLawfulBook : List ℕ → Type 0
+IsLawfulBook bytes = (h : History) × IsHistoryOf bytes h
+
+-- ---- what is answered
+
+-- All books before this one are lawful, and this one is not read as a lawful one, for this cause.
+pub record IsFirst (books : List (List ℕ)) (book : ℕ) (Cause : List ℕ → Type 0) : Type 0 where
+  pub bytes : List ℕ
+  pub there : slice_get books book ≡ Some bytes
+  pub before : AllByRecursion IsLawfulBook (take book books)
+  pub cause : Cause bytes
+
+-- The books stand for lawful histories of houses, of which this is found.
+pub record AreAudited (books : List (List ℕ)) (found : Result Report AuditFault) : Type 0 where
+  pub histories : List History
+  pub stand : AllZip IsHousesHistory books histories
+  pub audited : Audited FULL histories found
+
+-- The books stand for lawful histories, among them that of a wallet.
+pub record HaveWallet (books : List (List ℕ)) : Type 0 where
+  pub histories : List History
+  pub stand : AllZip IsHistoryOf books histories
+  pub wallet : IsTrue (list_any is_wallet histories)
+
+-- What is found by the bytes of the books. The first that is not read as a lawful one decides; where there is none,
+-- the books are those of one broker and of vendors with names of their own, or not.
+abbrev pub FindsOf : List (List ℕ) → Result Report AuditFault → Type 0
+FindsOf books (Err (faults.NotJournal book)) = IsFirst books book (λ bytes. BeginsWith header bytes → ⊥)
+FindsOf books (Err (faults.BadRecord book place)) = IsFirst books book (λ bytes. IsSpoiledFrom bytes place)
+FindsOf books (Err (faults.Unlawful book place)) = IsFirst books book (λ bytes. IsUnlawfulFrom bytes place)
+FindsOf books (Err (faults.Disk book)) = IsFirst books book (λ bytes. Unit {0})
+FindsOf books (Err faults.BadBooks) = HaveWallet books ⊎ AreAudited books (Err faults.BadBooks)
+FindsOf books (Err faults.NoMemory) = Unit {0}
+FindsOf books found = AreAudited books found
+
+-- what is found where all books are lawful: none is told to be otherwise
+abbrev pub IsOfLawful : Result Report AuditFault → Type 0
+IsOfLawful (Err (faults.NotJournal book)) = ⊥
+IsOfLawful (Err (faults.BadRecord book place)) = ⊥
+IsOfLawful (Err (faults.Unlawful book place)) = ⊥
+IsOfLawful _ = Unit {0}
+
+-- ---- the counts of faults
+
+-- that of the disk at this place rose, and the others stayed
+pub record RoseAt (book : ℕ) (before after : List ℕ) : Type 0 where
+  pub old : ℕ
+  pub new : ℕ
+  pub there : slice_get before book ≡ Some old
+  pub rose : Rose old new
+  pub others : after ≡ slice_set before book new
+
+-- a disk is told to have failed where its count rose, and all stayed else
+abbrev pub CountsBy : {A : Type 0} → Result A AuditFault → List ℕ → List ℕ → Type 0
+CountsBy (Err (faults.Disk book)) before after = RoseAt book before after
+CountsBy _ before after = after ≡ before

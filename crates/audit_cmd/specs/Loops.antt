@@ -1,0 +1,61 @@
+-- Reading books one after another.
+use Rattle.std.specs.Prelude.{◌≡◌, ℕ, Bool, true, false, List, ◌++◌, length, Result, Ok, Err}
+use Rattle.std.specs.List.{AllZip}
+use Rattle.mc_outside.specs.Bytes.{BeginsWith}
+use Rattle.mc_outside.specs.DiskView.{DiskView, OnlyRead}
+use Rattle.mc_records.specs.declared.limits.TheConstants.Limits.{FULL}
+use Rattle.ledger_model.specs.Histories.{History}
+use Rattle.scrip_journal.specs.Layout.{header}
+use Rattle.book_sums.specs.declared.book_sums.BookSums.{BookSums}
+use Rattle.book_audit.specs.Audit.{AreLearned}
+use Rattle.book_audit.specs.declared.fault.AuditFault.{AuditFault}
+use Rattle.book_audit.specs.declared.fault.AuditFault.TheVariants as faults
+use Rattle.audit_cmd.specs.declared.books.Kept.{Kept}
+use Rattle.audit_cmd.specs.Reading.{IsSpoiledFrom, IsUnlawfulFrom}
+use Rattle.audit_cmd.specs.Books.{AreTold, IsHousesHistory, HaveWallet, IsFirst}
+
+-- ---- what is kept
+
+-- of houses all was learned
+pub record AreKept (books : List (List ℕ)) (houses : List BookSums) : Type 0 where
+  pub histories : List History
+  pub stand : AllZip IsHousesHistory books histories
+  pub learned : AreLearned FULL houses histories
+
+-- what is kept of books that were read as lawful ones; where there is a wallet, that there is
+abbrev pub KeptOf : List (List ℕ) → Bool → List BookSums → Type 0
+KeptOf books true houses = HaveWallet books
+KeptOf books false houses = AreKept books houses
+
+-- what is answered of all books by their bytes
+abbrev pub ReadsAll : List (List ℕ) → Result Kept AuditFault → Type 0
+ReadsAll books (Ok kept) = KeptOf books kept.wallet kept.houses.items
+ReadsAll books (Err (faults.NotJournal book)) = IsFirst books book (λ bytes. BeginsWith header bytes → ⊥)
+ReadsAll books (Err (faults.BadRecord book place)) = IsFirst books book (λ bytes. IsSpoiledFrom bytes place)
+ReadsAll books (Err (faults.Unlawful book place)) = IsFirst books book (λ bytes. IsUnlawfulFrom bytes place)
+ReadsAll books (Err (faults.Disk book)) = IsFirst books book (λ bytes. Unit {0})
+ReadsAll books (Err faults.NoMemory) = Unit {0}
+ReadsAll books (Err _) = ⊥
+
+-- ---- the steps
+
+-- a disk was only read, and did not fail
+pub record IsCalm {D : Type 0} (view : D → DiskView) (moved : D → D → Type 0) (old new : D) : Type 0 where
+  pub read : OnlyRead (view old) (view new)
+  pub moves : moved old new
+  pub same : (view new).faults ≡ (view old).faults
+
+-- so many disks were read and did not fail, and the others are as they were
+pub record AreReadTo {D : Type 0} (view : D → DiskView) (moved : D → D → Type 0) (place : ℕ) (olds news : List D) : Type 0 where
+  pub before : List D
+  pub done : List D
+  pub rest : List D
+  pub olds_are : olds ≡ before ++ rest
+  pub news_are : news ≡ done ++ rest
+  pub long : length before ≡ place
+  pub each : AllZip (IsCalm view moved) before done
+
+-- and what is kept is of their bytes
+pub record HaveRead {D : Type 0} (view : D → DiskView) (moved : D → D → Type 0) (place : ℕ) (olds news : List D) (kept : Kept) : Type 0 where
+  pub to : AreReadTo view moved place olds news
+  pub told : (books : List (List ℕ)) → AreTold view to.before books → KeptOf books kept.wallet kept.houses.items

@@ -1,0 +1,118 @@
+//! Reading books one after another.
+
+ghost use Rattle.std.specs.Prelude.{◌≡◌, ◌<◌, ◌++◌, ◌∷◌, [], List, ℕ, Some, OnOk, length};
+ghost use Rattle.std.specs.List.{AllZip};
+ghost use Rattle.mc_outside.specs.DiskView.{OnlyRead};
+ghost use Rattle.audit_cmd.specs.Books.{AreTold, counts, CountsBy};
+ghost use Rattle.audit_cmd.specs.Places.{FindsBook, CountsBook, ReadsAt};
+ghost use Rattle.audit_cmd.specs.Reading.{IsKeptOf};
+ghost use Rattle.audit_cmd.specs.Loops.{KeptOf, ReadsAll};
+
+use crate::reading::read_book;
+use book_audit::AuditFault;
+use book_sums::BookSums;
+use mc_base::NoMemory;
+use mc_outside::Disk;
+use scrip_journal::{FIRST_GATE, HouseFault};
+use std::alloc::Global;
+
+/// What was kept of the books that were read.
+#[derive(Drop)]
+pub(crate) struct Kept {
+    /// What an audit needs of each house's, in their order.
+    pub(crate) houses: Vec<BookSums>,
+    /// Whether a wallet's is among them.
+    pub(crate) wallet: bool,
+}
+
+impl Kept {
+    /// Keeps what was read of one more book: nothing where it is a wallet's, but that it is there.
+    fn keep(&mut self, book: Option<BookSums>) -> Result<(), NoMemory>
+        ensures { OnOk result ((contents : List (List ℕ)) (bytes : List ℕ)
+            → KeptOf contents self.old.wallet self.old.houses.items → IsKeptOf bytes book
+            → KeptOf (contents ++ bytes ∷ []) self.new.wallet self.new.houses.items) }
+    {
+        match book {
+            Some(sums) => self.houses.push(sums)?,
+            None => self.wallet = true,
+        }
+        Ok(())
+    }
+}
+
+/// Reads the books one after another. The first that is not read as a lawful one ends it.
+pub(crate) fn read_books<D: Disk>(alloc: Global, books: &mut Vec<D>) -> Result<Kept, AuditFault>
+    ensures read { AllZip (λ a b. OnlyRead (D.disk a) (D.disk b)) books.old.items books.new.items }
+    ensures moved { AllZip D.disk_moved books.old.items books.new.items }
+    ensures exact { (contents : List (List ℕ)) → AreTold D.disk books.old.items contents
+        → ReadsAll contents result }
+    ensures fault { CountsBy result (counts D.disk books.old.items)
+        (counts D.disk books.new.items) }
+{
+    let mut kept = Kept {
+        houses: Vec::new(alloc),
+        wallet: false,
+    };
+    for place in 0..books.len() {
+        match read_at(alloc, books, place) {
+            Ok(book) => match kept.keep(book) {
+                Ok(()) => (),
+                Err(NoMemory) => return Err(AuditFault::NoMemory),
+            },
+            Err(fault) => return Err(fault),
+        }
+    }
+    Ok(kept)
+}
+
+/// Reads the book at a place of the list, whose disk stays there.
+fn read_at<D: Disk>(
+    alloc: Global,
+    books: &mut Vec<D>,
+    place: usize,
+) -> Result<Option<BookSums>, AuditFault>
+    requires there { place < length books.old.items }
+    ensures { ReadsAt D.disk D.disk_moved place books.old.items books.new.items result }
+{
+    let disk = books.remove(place);
+    let (disk, found) = find_at(alloc, disk, place);
+    match books.insert(place, disk) {
+        Ok(()) => found,
+        // There was room for it before.
+        Err(_) => unreachable!(),
+    }
+}
+
+/// What is found of the book of a disk, which stands at this place of the list.
+fn find_at<D: Disk>(
+    alloc: Global,
+    disk: D,
+    book: usize,
+) -> (D, Result<Option<BookSums>, AuditFault>)
+    ensures moved { D.disk_moved disk result.0 }
+    ensures read { OnlyRead (D.disk disk) (D.disk result.0) }
+    ensures exact { (bytes : List ℕ) → (D.disk disk).contents ≡ Some bytes
+        → FindsBook book bytes result.1 }
+    ensures fault { CountsBook book result.1 (D.disk disk).faults (D.disk result.0).faults }
+{
+    match read_book(alloc, disk) {
+        Ok((disk, kept)) => (disk, Ok(kept)),
+        Err(HouseFault::NotJournal(disk)) => (disk, Err(AuditFault::NotJournal { book })),
+        Err(HouseFault::BadRecord(disk, place)) => {
+            (disk, Err(AuditFault::BadRecord { book, place }))
+        }
+        Err(HouseFault::Unlawful(disk, place)) => {
+            (disk, Err(AuditFault::Unlawful { book, place }))
+        }
+        // A site is a vendor, a broker or a wallet, and a book that is read is not told to have bytes.
+        Err(HouseFault::WrongKind(disk) | HouseFault::NotEmpty(disk, _)) => (
+            disk,
+            Err(AuditFault::Unlawful {
+                book,
+                place: FIRST_GATE,
+            }),
+        ),
+        Err(HouseFault::Disk(disk)) => (disk, Err(AuditFault::Disk { book })),
+        Err(HouseFault::NoMemory(disk)) => (disk, Err(AuditFault::NoMemory)),
+    }
+}
