@@ -1,3 +1,4 @@
 pub mod Places
 pub mod Saying
+pub mod Wallets
 pub mod Programs

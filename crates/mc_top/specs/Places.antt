@@ -1,8 +1,9 @@
 -- The places that words name.
 use Rattle.std.specs.Prelude.{◌≡◌, ◌⊎◌, ℕ, true, false, List, [], Some, None}
 use Rattle.mc_words.specs.declared.command.Command.{Command}
-use Rattle.mc_words.specs.declared.command.Command.TheVariants.{Once, Init, Serve, Play, Operate, BrokerInit, BrokerServe, BrokerOperate}
-use Rattle.mc_words.specs.Commands.{AreWords, AreNoWords, book_of, broker_book_of}
+use Rattle.mc_words.specs.declared.command.Command.TheVariants.{Once, Init, Serve, Play, Operate, BrokerInit, BrokerServe, BrokerOperate, WalletInit, WalletOperate, Report}
+use Rattle.mc_words.specs.declared.wallet_operation.WalletOperation.{WalletOperation}
+use Rattle.mc_words.specs.Commands.{AreWords, AreNoWords, book_of, broker_book_of, connect_of, wallet_book_of}
 use Rattle.mc_words.specs.Words.{Server}
 use Rattle.mc_top.specs.declared.named.Places.{Places}
 
@@ -22,8 +23,17 @@ served_places server = record { site = Some server.book; founds = false; books =
 abbrev pub operated_places : List ℕ → Places
 operated_places book = record { site = Some book; founds = false; books = []; listen = None; connect = None }
 
--- `vendor init` and `broker init` name the book that they found, `vendor serve` and `broker serve` the book and where
--- the links come, and an operation of an operator the book that it is for
+-- the book of a wallet, and where the link goes
+abbrev pub wallet_places : WalletOperation → Places
+wallet_places operation = record { site = Some (wallet_book_of operation); founds = false; books = []; listen = None; connect = connect_of operation }
+
+-- the books of which a report is made
+abbrev pub audited_places : List (List ℕ) → Places
+audited_places books = record { site = None; founds = false; books = books; listen = None; connect = None }
+
+-- `vendor init`, `broker init` and `wallet init` name the book that they found, `vendor serve` and `broker serve` the book
+-- and where the links come, an operation of an operator the book that it is for, one of a wallet its book and, where it pays,
+-- where the link goes, and `audit report` the books of which the report is made
 abbrev pub places_of : Command → Places
 places_of (Once shop) = no_places
 places_of (Init founder) = founded_places founder.book
@@ -33,6 +43,9 @@ places_of (Operate operation) = operated_places (book_of operation)
 places_of (BrokerInit founder) = founded_places founder.book
 places_of (BrokerServe server) = served_places server
 places_of (BrokerOperate operation) = operated_places (broker_book_of operation)
+places_of (WalletInit founder) = founded_places founder.book
+places_of (WalletOperate operation) = wallet_places operation
+places_of (Report reporting) = audited_places reporting.books
 
 -- the places of the command that the words are of, or none where they are of none
 abbrev pub ArePlaces : List (List ℕ) → Places → Type 0

@@ -1,5 +1,5 @@
 -- What the program does by its words.
-use Rattle.std.specs.Prelude.{◌≡◌, ◌⊎◌, ◌≤◌, ℕ, zero, suc, List, Bool, true, false, Some}
+use Rattle.std.specs.Prelude.{◌≡◌, ◌⊎◌, ◌≤◌, ℕ, zero, suc, List, length, Bool, true, false, Some}
 use Rattle.mc_outside.specs.DiskView.{DiskView, LinkKeeps}
 use Rattle.mc_outside.specs.LinkView.{LinkView}
 use Rattle.house_core.specs.declared.offer.SiteKind.{SiteKind}
@@ -8,19 +8,26 @@ use Rattle.house_core.specs.Views.{kind_number}
 use Rattle.millicent_http.specs.Courses.{NoLink}
 use Rattle.mc_words.specs.declared.command.Command.{Command}
 use Rattle.mc_words.specs.declared.command.Command.TheVariants as commands
-use Rattle.book_commands.specs.declared.status.Status.{Status}
-use Rattle.book_commands.specs.declared.status.Status.TheVariants as ends
+use Rattle.command_status.specs.declared.status.Status.{Status}
+use Rattle.command_status.specs.declared.status.Status.TheVariants as ends
 use Rattle.mc_words.specs.Words.{Shop, Founder}
 use Rattle.vendor_commands.specs.Course.{IsDone}
 use Rattle.vendor_commands.specs.Play.{ArePlayLines}
 use Rattle.mc_top.specs.Saying.{Says}
-use Rattle.book_commands.specs.Statuses.{number_of, line_of}
+use Rattle.command_status.specs.Statuses.{number_of, line_of}
 use Rattle.book_commands.specs.Serving.{HasSite, ServesBook, ServeCauses}
 use Rattle.book_commands.specs.Init.{FoundsBook, InitCauses}
 use Rattle.book_commands.specs.Operator.{OperatesBook, OperateCauses}
 use Rattle.operator_command.specs.Operations.{OperationView}
 use Rattle.vendor_commands.specs.Operations.{operation_view}
 use Rattle.broker_commands.specs.Operations as brokers
+use Rattle.wallet_commands.specs.Founding.{Inits}
+use Rattle.wallet_commands.specs.Books.{HasWallet}
+use Rattle.std.specs.List.{AllByRecursion}
+use Rattle.audit_cmd.specs.Books.{AreTold, IsLawfulBook}
+use Rattle.audit_commands.specs.Reports.{ReportsBooks, ReportCauses, AreCalm, EndsReport}
+use Rattle.mc_words.specs.Commands.{AreWords}
+use Rattle.mc_top.specs.Wallets.{WorksOn}
 
 -- how a shop served its one link, or why it took none
 abbrev pub ServesOnce : Shop → LinkView → Status → LinkView → Type 0
@@ -52,16 +59,65 @@ Operates link disk kind operation a status b =
     OperateCauses link disk operation a status b
     × ((bytes : List ℕ) → (disk a).contents ≡ Some bytes → OperatesBook link disk (kind_number kind) operation bytes a status b)
 
--- what a command does, up to the line that is said
-abbrev pub Obeys : {O : Type 0} → (O → LinkView) → (O → DiskView) → Command → O → Status → O → Type 0
-Obeys link disk (commands.Once shop) a status b = ServesOnce shop (link a) status (link b) × LinkKeeps (disk a) (disk b) × ((link a).faults ≤ (link b).faults)
-Obeys link disk (commands.Init founder) a status b = Founds link disk Vendor founder a status b
-Obeys link disk (commands.Serve server) a status b = Serves link disk Vendor server.links a status b
-Obeys link disk (commands.Play playing) a status b = (b ≡ a) × TellsPlay playing.count status
-Obeys link disk (commands.Operate operation) a status b = Operates link disk Vendor (operation_view operation) a status b
-Obeys link disk (commands.BrokerInit founder) a status b = Founds link disk Broker founder a status b
-Obeys link disk (commands.BrokerServe server) a status b = Serves link disk Broker server.links a status b
-Obeys link disk (commands.BrokerOperate operation) a status b = Operates link disk Broker (brokers.operation_view operation) a status b
+-- what a command does to the outside, up to the line that is said
+abbrev pub Works : {O : Type 0} → (O → LinkView) → (O → DiskView) → Command → O → Status → O → Type 0
+Works link disk (commands.Once shop) a status b = ServesOnce shop (link a) status (link b) × LinkKeeps (disk a) (disk b) × ((link a).faults ≤ (link b).faults)
+Works link disk (commands.Init founder) a status b = Founds link disk Vendor founder a status b
+Works link disk (commands.Serve server) a status b = Serves link disk Vendor server.links a status b
+Works link disk (commands.Play playing) a status b = (b ≡ a) × TellsPlay playing.count status
+Works link disk (commands.Operate operation) a status b = Operates link disk Vendor (operation_view operation) a status b
+Works link disk (commands.BrokerInit founder) a status b = Founds link disk Broker founder a status b
+Works link disk (commands.BrokerServe server) a status b = Serves link disk Broker server.links a status b
+Works link disk (commands.BrokerOperate operation) a status b = Operates link disk Broker (brokers.operation_view operation) a status b
+Works link disk (commands.WalletInit founder) a status b = Inits link disk founder.name a status b
+Works link disk (commands.WalletOperate operation) a status b = WorksOn link disk operation a status b
+Works link disk (commands.Report reporting) a status b = b ≡ a
+
+-- how many books a command has audited
+abbrev pub count_of : Command → ℕ
+count_of (commands.Report reporting) = length reporting.books
+count_of (commands.Once shop) = 0
+count_of (commands.Init founder) = 0
+count_of (commands.Serve server) = 0
+count_of (commands.Play playing) = 0
+count_of (commands.Operate operation) = 0
+count_of (commands.BrokerInit founder) = 0
+count_of (commands.BrokerServe server) = 0
+count_of (commands.BrokerOperate operation) = 0
+count_of (commands.WalletInit founder) = 0
+count_of (commands.WalletOperate operation) = 0
+
+-- the disks tell the bytes of lawful books, of sites or of wallets
+pub record HaveBooks {D : Type 0} (book : D → DiskView) (xs : List D) : Type 0 where
+  pub contents : List (List ℕ)
+  pub told : AreTold book xs contents
+  pub lawful : AllByRecursion IsLawfulBook contents
+
+-- Books are audited and reported, up to the line that is said. What is said of books holds where their disks tell their bytes;
+-- the causes of faults hold of every disk. Where the books are lawful and no disk failed, nothing but a stranger, a refusal or
+-- want of memory keeps them from being reported.
+pub record Audits {D : Type 0} (book : D → DiskView) (json : Bool) (xs : List D) (status : Status) (ys : List D) : Type 0 where
+  pub causes : ReportCauses book xs status ys
+  pub reports : (contents : List (List ℕ)) → AreTold book xs contents → ReportsBooks json contents status
+  pub well : HaveBooks book xs → AreCalm book xs ys → EndsReport (number_of status)
+
+-- what a command does with the books: a report has them audited, and no other command touches any
+abbrev pub Reads : {D : Type 0} → (D → DiskView) → Command → List D → Status → List D → Type 0
+Reads book (commands.Report reporting) xs status ys = Audits book reporting.json xs status ys
+Reads book (commands.Once shop) xs status ys = ys ≡ xs
+Reads book (commands.Init founder) xs status ys = ys ≡ xs
+Reads book (commands.Serve server) xs status ys = ys ≡ xs
+Reads book (commands.Play playing) xs status ys = ys ≡ xs
+Reads book (commands.Operate operation) xs status ys = ys ≡ xs
+Reads book (commands.BrokerInit founder) xs status ys = ys ≡ xs
+Reads book (commands.BrokerServe server) xs status ys = ys ≡ xs
+Reads book (commands.BrokerOperate operation) xs status ys = ys ≡ xs
+Reads book (commands.WalletInit founder) xs status ys = ys ≡ xs
+Reads book (commands.WalletOperate operation) xs status ys = ys ≡ xs
+
+-- what a command does to the outside and with the books
+abbrev pub Obeys : {O D : Type 0} → (O → LinkView) → (O → DiskView) → (D → DiskView) → Command → O → List D → Status → O → List D → Type 0
+Obeys link disk book command a xs status b ys = Works link disk command a status b × Reads book command xs status ys
 
 -- the number that is answered where the line was said; where it was not, a number other than 0 stays, and 6 takes the
 -- place of 0, so that nothing is told to be done whose line is lost
@@ -82,24 +138,34 @@ abbrev pub Unread : {O : Type 0} → (O → LinkView) → (O → DiskView) → O
 Unread link disk a number c = Ends link disk ends.NoMemory a c number
 
 -- what the program does by a command
-abbrev pub RunsAs : {O : Type 0} → (O → LinkView) → (O → DiskView) → Command → O → ℕ → O → Type 0
-RunsAs {O} link disk command a number c = Unread link disk a number c ⊎ ((b : O) × (status : Status) × Obeys link disk command a status b × Ends link disk status b c number)
+abbrev pub RunsAs : {O D : Type 0} → (O → LinkView) → (O → DiskView) → (D → DiskView) → Command → O → List D → ℕ → O → List D → Type 0
+RunsAs {O} link disk book command a xs number c ys =
+    (Unread link disk a number c × (ys ≡ xs))
+    ⊎ ((b : O) × (status : Status) × Obeys link disk book command a xs status b ys × Ends link disk status b c number)
 
--- what it does by words of no command, or by books that no command names
-abbrev pub Refuses : {O : Type 0} → (O → LinkView) → (O → DiskView) → O → ℕ → O → Type 0
-Refuses link disk a number c = Ends link disk ends.BadWords a c number
+-- what it does by words of no command, or with another number of books than the words name: it says so, or that memory
+-- was refused to read the words
+abbrev pub Refuses : {O D : Type 0} → (O → LinkView) → (O → DiskView) → O → List D → ℕ → O → List D → Type 0
+Refuses link disk a xs number c ys = (Ends link disk ends.BadWords a c number ⊎ Unread link disk a number c) × (ys ≡ xs)
 
--- The book that a command opens is there, and of a site of its kind. `vendor once` and `vendor play` have none, and
--- `vendor init` and `broker init` found one on any disk.
-abbrev pub HasBook : DiskView → Command → Type 0
-HasBook d (commands.Once shop) = Unit {0}
-HasBook d (commands.Init founder) = Unit {0}
-HasBook d (commands.Serve server) = HasSite (kind_number Vendor) d
-HasBook d (commands.Play playing) = Unit {0}
-HasBook d (commands.Operate operation) = HasSite (kind_number Vendor) d
-HasBook d (commands.BrokerInit founder) = Unit {0}
-HasBook d (commands.BrokerServe server) = HasSite (kind_number Broker) d
-HasBook d (commands.BrokerOperate operation) = HasSite (kind_number Broker) d
+-- the words are of a command that has another number of books audited
+abbrev pub HaveOtherBooks : List (List ℕ) → ℕ → Type 0
+HaveOtherBooks words count = (command : Command) × AreWords words command × (count ≡ count_of command → ⊥)
+
+-- The book that a command opens is there, and of a site of its kind or of a wallet, and so are the books that it has audited.
+-- `vendor once` and `vendor play` have none, and a command that founds one does so on any disk.
+abbrev pub HasBook : {D : Type 0} → DiskView → (D → DiskView) → List D → Command → Type 0
+HasBook d book xs (commands.Once shop) = Unit {0}
+HasBook d book xs (commands.Init founder) = Unit {0}
+HasBook d book xs (commands.Serve server) = HasSite (kind_number Vendor) d
+HasBook d book xs (commands.Play playing) = Unit {0}
+HasBook d book xs (commands.Operate operation) = HasSite (kind_number Vendor) d
+HasBook d book xs (commands.BrokerInit founder) = Unit {0}
+HasBook d book xs (commands.BrokerServe server) = HasSite (kind_number Broker) d
+HasBook d book xs (commands.BrokerOperate operation) = HasSite (kind_number Broker) d
+HasBook d book xs (commands.WalletInit founder) = Unit {0}
+HasBook d book xs (commands.WalletOperate operation) = HasWallet d
+HasBook d book xs (commands.Report reporting) = HaveBooks book xs
 
 -- it is done, or memory was refused
 abbrev pub IsDoneOrShort : ℕ → Type 0
@@ -119,3 +185,6 @@ EndsWell (commands.Operate operation) number = IsDoneOrRefused number
 EndsWell (commands.BrokerInit founder) number = IsDoneOrRefused number
 EndsWell (commands.BrokerServe server) number = IsDoneOrShort number
 EndsWell (commands.BrokerOperate operation) number = IsDoneOrRefused number
+EndsWell (commands.WalletInit founder) number = IsDoneOrRefused number
+EndsWell (commands.WalletOperate operation) number = IsDoneOrRefused number
+EndsWell (commands.Report reporting) number = EndsReport number

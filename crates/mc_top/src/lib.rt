@@ -4,6 +4,7 @@
 mod named;
 mod naming;
 mod program;
+mod wallet;
 mod whole_link;
 
 pub use named::Places;

@@ -4,11 +4,11 @@ use mc_base::List;
 /// bytes of its word.
 #[derive(Debug, Drop)]
 pub struct Places {
-    /// The book of the house that the command works on.
+    /// The book of the house or the wallet that the command works on.
     pub site: Option<List<u8>>,
     /// Whether the command founds that book, so that a file that is missing is made.
     pub founds: bool,
-    /// The books of other houses.
+    /// The books that the command only reads.
     pub books: List<List<u8>>,
     /// Where the links come.
     pub listen: Option<List<u8>>,

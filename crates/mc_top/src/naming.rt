@@ -1,9 +1,9 @@
 ghost use Rattle.std.specs.Prelude.{◌≡◌, map, string_bytes, IfOk};
-ghost use Rattle.mc_top.specs.Places.{ArePlaces, founded_places, operated_places, served_places};
+ghost use Rattle.mc_top.specs.Places.{ArePlaces, audited_places, founded_places, operated_places, served_places, wallet_places};
 
 use crate::named::Places;
 use mc_base::{List, NoMemory};
-use mc_words::{Command, Server, command_of};
+use mc_words::{Command, Server, WalletOperation, command_of};
 use std::alloc::Global;
 
 /// Tells what the words, those after the program's name, name: None, or no books, where they are of no
@@ -17,6 +17,9 @@ pub fn places(alloc: Global, words: &[String]) -> Result<Places, NoMemory>
         Some(Command::Serve(server)) | Some(Command::BrokerServe(server)) => served(alloc, &server),
         Some(Command::Operate(operation)) => operated(alloc, operation.book()),
         Some(Command::BrokerOperate(operation)) => operated(alloc, operation.book()),
+        Some(Command::WalletInit(founder)) => founded(alloc, founder.book()),
+        Some(Command::WalletOperate(operation)) => connected(alloc, &operation),
+        Some(Command::Report(reporting)) => audited(alloc, reporting.books()),
         Some(Command::Once(_)) | Some(Command::Play(_)) | None => Ok(Places {
             site: None,
             founds: false,
@@ -61,6 +64,40 @@ fn operated(alloc: Global, book: &[u8]) -> Result<Places, NoMemory>
         site: Some(list_of(alloc, book)?),
         founds: false,
         books: List::of(Vec::new(alloc)),
+        listen: None,
+        connect: None,
+    })
+}
+
+/// The places of an operation for the book of a wallet.
+fn connected(alloc: Global, operation: &WalletOperation<'_>) -> Result<Places, NoMemory>
+    ensures { IfOk result (λ places. places ≡ wallet_places operation.now) }
+{
+    let connect = match operation.connect() {
+        Some(place) => Some(list_of(alloc, place)?),
+        None => None,
+    };
+    Ok(Places {
+        site: Some(list_of(alloc, operation.book())?),
+        founds: false,
+        books: List::of(Vec::new(alloc)),
+        listen: None,
+        connect,
+    })
+}
+
+/// The places of a report of these books.
+fn audited(alloc: Global, books: &[&str]) -> Result<Places, NoMemory>
+    ensures { IfOk result (λ places. places ≡ audited_places (map (λ book. book.now) books.now)) }
+{
+    let mut lists = Vec::new(alloc);
+    for book in books {
+        lists.push(list_of(alloc, book.as_bytes())?)?;
+    }
+    Ok(Places {
+        site: None,
+        founds: false,
+        books: List::of(lists),
         listen: None,
         connect: None,
     })

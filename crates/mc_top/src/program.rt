@@ -1,23 +1,32 @@
-ghost use Rattle.std.specs.Prelude.{◌≡◌, ◌⊎◌, ◌↔◌, ◌<◌, map, length, string_bytes, codes};
+ghost use Rattle.std.specs.Prelude.{◌≡◌, ◌⊎◌, ◌↔◌, ◌≤◌, map, length, string_bytes, codes};
 ghost use Rattle.mc_outside.specs.Bytes.{Rose};
-ghost use Rattle.mc_outside.specs.DiskView.{LinkKeeps};
+ghost use Rattle.mc_outside.specs.DiskView.{LinkKeeps, OnlyRead};
 ghost use Rattle.mc_words.specs.declared.command.Command.{Command as Commanded};
 ghost use Rattle.mc_words.specs.Commands.{AreWords, AreNoWords};
+ghost use Rattle.command_status.specs.Statuses.{number_of};
+ghost use Rattle.std.specs.List.{AllZip};
+ghost use Rattle.audit_commands.specs.Reports.{AreCalm};
 ghost use Rattle.mc_top.specs.Saying.{IsSaid, Says};
 ghost use Rattle.mc_top.specs.Programs as programs;
-ghost use Rattle.mc_top.specs.Programs.{Obeys, Ends, Refuses, Unread, RunsAs, HasBook, EndsWell};
-ghost use Rattle.book_commands.specs.Statuses.{number_of};
+ghost use Rattle.house_core.specs.declared.offer.SiteKind.TheVariants.{Vendor, Broker};
+ghost use Rattle.vendor_commands.specs.Operations.{operation_view};
+ghost use Rattle.broker_commands.specs.Operations as brokers;
+ghost use Rattle.mc_top.specs.Programs.{ServesOnce, TellsPlay, Operates, Audits, Obeys, Ends, Refuses, RunsAs, HasBook, EndsWell, HaveOtherBooks, count_of};
 
-use book_commands::{Status, found_book, operate_book, serve_book};
+use crate::wallet::work;
+use audit_commands::report_books;
+use book_commands::{found_book, operate_book, serve_book};
 use broker_commands::DeskOperation;
 use broker_core::Desk;
+use command_status::Status;
 use house_serving::BenchEnd;
 use mc_base::NoMemory;
 use mc_outside::{Disk, Link, Outside};
-use mc_words::{Command, command_of};
+use mc_words::{BrokerOperation, Command, Operation, Playing, Reporting, Shop, command_of};
 use std::alloc::Global;
 use vendor_commands::{VendorOperation, answer_play, serve_once};
 use vendor_core::Shelf;
+use wallet_commands::init;
 
 /// How the program ended: its status, and the outside and the books that it was given.
 #[derive(Drop)]
@@ -28,7 +37,7 @@ pub struct Ran<O, D> {
 }
 
 /// The program: does what the words, those after its name, say, over the outside `out`. `books` are the
-/// books of other houses that the words name; no command of today names any.
+/// books that an audit is of, each on a disk of its own, in the order of the words.
 ///
 /// `vendor once NAME TARGET PRICE SECRET CONTENTS` serves one link by a house in memory, and touches no
 /// disk. `vendor play COUNT` plays so many heads that it makes itself by such a house, and says what it counted.
@@ -39,91 +48,183 @@ pub struct Ran<O, D> {
 /// `broker init` founds a broker, with its FEE behind CUSTOMER, and `broker serve` serves its links. `broker account`,
 /// `broker deposit`, `broker withdraw`, `broker licence` and `broker stock` enter into its book what its operator says;
 /// a licence and the pieces of stock come on one link. `broker balance` enters nothing.
+/// `wallet init` founds a wallet in the book. `wallet take` takes pieces whose lines come on one link. `wallet get`,
+/// `wallet buy` and `wallet draw` enter what is asked, ask it on one link, and enter how the reply settled it; `wallet retry`
+/// asks again what was entered. `wallet list` says the pieces and their states. `audit report BOOK.. [--json]` says the sums
+/// of the books of a broker and of vendors, in which no stranger stands.
 ///
-/// 0: it is done. 2: the words are of no command, or there are books; nothing was touched but what is said.
-/// Of words of no command that is so up to want of memory, since `clap` reads the words.
+/// 0: it is done. 2: the words are of no command, or name another number of books; nothing was touched but what is said.
+/// That is so up to want of memory, since `clap` reads the words.
 /// 3: the book that is opened is no journal, or has bytes that can't stand, or an entry that may not follow.
 /// 4: the disk failed. 5: memory was refused before anything was done, or to read the words; memory that is refused later, to
 /// accept a request, is a reply with refusal 90 (`503`), and the link goes on. 6: `next_link` failed, or
 /// receiving an operator's input, or saying the line of what is done. 7: a refusal is told: that the book to
 /// be founded has bytes already (50), that the book that is opened is of a site of another kind (52), or what an
 /// operator's call refuses. A line says how it ended; where it can't be said, 0
-/// becomes 6, and any other status stays. The outside and the books are handed back.
+/// becomes 6, and any other status stays. 8: a stranger stands in the books. The outside and the books are handed back.
 pub fn run<O: Outside, D: Disk>(alloc: Global, words: &[String], out: O, books: Vec<D>) -> Ran<O, D>
-    ensures books { result.books ≡ books }
+    ensures books { AllZip (λ a b. OnlyRead (D.disk a) (D.disk b)) books.items result.books.items }
     ensures words { result.status ≡ 2 → AreNoWords (map string_bytes words.now)
-        ⊎ (0 < length books.items) }
-    ensures no_words { AreNoWords (map string_bytes words.now) → length books.items ≡ 0
-        → Refuses O.link O.disk out result.status result.out
-        ⊎ Unread O.link O.disk out result.status result.out }
-    ensures other_books { 0 < length books.items
-        → Refuses O.link O.disk out result.status result.out }
+        ⊎ HaveOtherBooks (map string_bytes words.now) (length books.items) }
+    ensures no_words { AreNoWords (map string_bytes words.now)
+        → Refuses O.link O.disk out books.items result.status result.out result.books.items }
+    ensures other_books { HaveOtherBooks (map string_bytes words.now) (length books.items)
+        → Refuses O.link O.disk out books.items result.status result.out result.books.items }
     ensures bad_words { result.status ≡ 2
         → IsSaid (codes "bad words\n") (O.link out) (O.link result.out)
-        × LinkKeeps (O.disk out) (O.disk result.out) }
+        × LinkKeeps (O.disk out) (O.disk result.out) × (result.books ≡ books) }
     ensures obeyed { (command : Commanded) → AreWords (map string_bytes words.now) command
-        → length books.items ≡ 0 → RunsAs O.link O.disk command out result.status result.out }
+        → length books.items ≡ count_of command
+        → RunsAs O.link O.disk D.disk command out books.items
+        result.status result.out result.books.items }
     ensures complete { (command : Commanded) → AreWords (map string_bytes words.now) command
-        → length books.items ≡ 0 → HasBook (O.disk out) command
+        → length books.items ≡ count_of command
+        → HasBook (O.disk out) D.disk books.items command
         → (Rose (O.disk out).faults (O.disk result.out).faults → ⊥)
         → (Rose (O.link out).faults (O.link result.out).faults → ⊥)
+        → AreCalm D.disk books.items result.books.items
         → EndsWell command result.status }
 {
-    if !books.is_empty() {
-        let (out, status) = end(out, Status::BadWords);
-        return Ran { status, out, books };
-    }
     let command = match command_of(alloc, words) {
         Ok(Some(command)) => command,
-        Ok(None) => {
-            let (out, status) = end(out, Status::BadWords);
-            return Ran { status, out, books };
-        }
-        Err(_) => {
-            let (out, status) = end(out, Status::NoMemory);
-            return Ran { status, out, books };
-        }
+        Ok(None) => return ended(out, books, Status::BadWords),
+        Err(_) => return ended(out, books, Status::NoMemory),
     };
-    let (out, status) = obey(alloc, &command, out);
+    if books.len() != book_count(&command) {
+        return ended(out, books, Status::BadWords);
+    }
+    let (out, books, status) = obey(alloc, &command, out, books);
+    ended(out, books, status)
+}
+
+/// How the program ends with a status, whose line is said.
+fn ended<O: Outside, D: Disk>(out: O, books: Vec<D>, status: Status) -> Ran<O, D>
+    ensures ends { Ends O.link O.disk status out result.out result.status }
+    ensures number { (result.status ≡ 2) ↔ (number_of status ≡ 2) }
+    ensures books { result.books ≡ books }
+    ensures read { AllZip (λ a b. OnlyRead (D.disk a) (D.disk b)) books.items result.books.items }
+{
     let (out, status) = end(out, status);
     Ran { status, out, books }
 }
 
+/// How many books of sites a command has audited.
+fn book_count(command: &Command<'_>) -> usize
+    ensures { result ≡ count_of command.now }
+{
+    match command {
+        Command::Report(reporting) => reporting.books().len(),
+        _ => 0,
+    }
+}
+
 /// Does what a command says, and tells how it ended.
-fn obey<O: Outside>(alloc: Global, command: &Command<'_>, mut out: O) -> (O, Status)
-    ensures obeyed { Obeys O.link O.disk command.now out result.1 result.0 }
-    ensures words { number_of result.1 ≡ 2 → ⊥ }
+fn obey<O: Outside, D: Disk>(
+    alloc: Global,
+    command: &Command<'_>,
+    mut out: O,
+    books: Vec<D>,
+) -> (O, Vec<D>, Status)
+    ensures obeyed { Obeys O.link O.disk D.disk command.now out books.items
+        result.2 result.0 result.1.items }
+    ensures read { AllZip (λ a b. OnlyRead (D.disk a) (D.disk b)) books.items result.1.items }
+    ensures words { number_of result.2 ≡ 2 → ⊥ }
 {
     match command {
         Command::Once(shop) => {
-            let status = match serve_once(alloc, shop, &mut out) {
-                Ok(()) => Status::Done,
-                Err(BenchEnd::NoMemory) => Status::NoMemory,
-                Err(BenchEnd::Link) => Status::LinkFault,
-            };
-            (out, status)
+            let status = serve_shop(alloc, shop, &mut out);
+            beside((out, status), books)
         }
-        Command::Init(founder) => { found_book(alloc, founder.founder(), Shelf::new(alloc), out) }
-        Command::Serve(server) => serve_book(alloc, server.links(), Shelf::new(alloc), out),
-        Command::Play(playing) => {
-            let status = match answer_play(alloc, playing.count()) {
-                Ok(lines) => Status::Did(lines),
-                Err(NoMemory) => Status::NoMemory,
-            };
-            (out, status)
+        Command::Play(playing) => beside((out, play(alloc, playing)), books),
+        Command::Init(founder) => {
+            let done = found_book(alloc, founder.founder(), Shelf::new(alloc), out);
+            beside(done, books)
         }
-        Command::Operate(operation) => {
-            let command = VendorOperation::of(operation);
-            operate_book(alloc, &command, Shelf::new(alloc), out)
+        Command::Serve(server) => {
+            let done = serve_book(alloc, server.links(), Shelf::new(alloc), out);
+            beside(done, books)
         }
+        Command::Operate(operation) => beside(operate_shelf(alloc, operation, out), books),
         Command::BrokerInit(founder) => {
-            found_book(alloc, founder.founder(), Desk::new(alloc), out)
+            let done = found_book(alloc, founder.founder(), Desk::new(alloc), out);
+            beside(done, books)
         }
-        Command::BrokerServe(server) => serve_book(alloc, server.links(), Desk::new(alloc), out),
-        Command::BrokerOperate(operation) => {
-            let command = DeskOperation::of(operation);
-            operate_book(alloc, &command, Desk::new(alloc), out)
+        Command::BrokerServe(server) => {
+            let done = serve_book(alloc, server.links(), Desk::new(alloc), out);
+            beside(done, books)
         }
+        Command::BrokerOperate(operation) => beside(operate_desk(alloc, operation, out), books),
+        Command::WalletInit(founder) => beside(init(alloc, founder.name(), out), books),
+        Command::WalletOperate(operation) => beside(work(alloc, operation, out), books),
+        Command::Report(reporting) => {
+            let (books, status) = report(alloc, reporting, books);
+            (out, books, status)
+        }
+    }
+}
+
+/// What was done to the outside, beside books that were left alone.
+fn beside<O, D: Disk>(done: (O, Status), books: Vec<D>) -> (O, Vec<D>, Status)
+    ensures out { result.0 ≡ done.0 }
+    ensures books { result.1 ≡ books }
+    ensures read { AllZip (λ a b. OnlyRead (D.disk a) (D.disk b)) books.items result.1.items }
+    ensures status { result.2 ≡ done.1 }
+{
+    let (out, status) = done;
+    (out, books, status)
+}
+
+/// Has something done to the book of a vendor, and tells how it ended.
+fn operate_shelf<O: Outside>(alloc: Global, operation: &Operation<'_>, out: O) -> (O, Status)
+    ensures operated { Operates O.link O.disk Vendor (operation_view operation.now)
+        out result.1 result.0 }
+    ensures words { number_of result.1 ≡ 2 → ⊥ }
+{
+    let command = VendorOperation::of(operation);
+    operate_book(alloc, &command, Shelf::new(alloc), out)
+}
+
+/// Has something done to the book of a broker, and tells how it ended.
+fn operate_desk<O: Outside>(alloc: Global, operation: &BrokerOperation<'_>, out: O) -> (O, Status)
+    ensures operated { Operates O.link O.disk Broker (brokers.operation_view operation.now)
+        out result.1 result.0 }
+    ensures words { number_of result.1 ≡ 2 → ⊥ }
+{
+    let command = DeskOperation::of(operation);
+    operate_book(alloc, &command, Desk::new(alloc), out)
+}
+
+/// Audits books, and tells how it ended.
+fn report<D: Disk>(alloc: Global, reporting: &Reporting<'_>, books: Vec<D>) -> (Vec<D>, Status)
+    ensures audited { Audits D.disk reporting.now.json books.items result.1 result.0.items }
+    ensures read { AllZip (λ a b. OnlyRead (D.disk a) (D.disk b)) books.items result.0.items }
+    ensures words { number_of result.1 ≡ 2 → ⊥ }
+{
+    report_books(alloc, books, reporting.is_json())
+}
+
+/// Serves the one link of a shop that keeps no book, and tells how it ended.
+fn serve_shop<O: Outside>(alloc: Global, shop: &Shop<'_>, out: &mut O) -> Status
+    ensures served { ServesOnce shop.now (O.link out.old) result (O.link out.new) }
+    ensures keeps { LinkKeeps (O.disk out.old) (O.disk out.new) }
+    ensures count { (O.link out.old).faults ≤ (O.link out.new).faults }
+    ensures words { number_of result ≡ 2 → ⊥ }
+{
+    match serve_once(alloc, shop, out) {
+        Ok(()) => Status::Done,
+        Err(BenchEnd::NoMemory) => Status::NoMemory,
+        Err(BenchEnd::Link) => Status::LinkFault,
+    }
+}
+
+/// Plays so many heads, and tells what was counted.
+fn play(alloc: Global, playing: &Playing) -> Status
+    ensures played { TellsPlay playing.now.count result }
+    ensures words { number_of result ≡ 2 → ⊥ }
+{
+    match answer_play(alloc, playing.count()) {
+        Ok(lines) => Status::Did(lines),
+        Err(NoMemory) => Status::NoMemory,
     }
 }
 

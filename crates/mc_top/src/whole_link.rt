@@ -3,7 +3,7 @@ ghost use Rattle.mc_words.specs.Words.{Shop as Sold};
 ghost use Rattle.mc_words.specs.Commands.{AreOnceWords, AreNoOnceWords};
 ghost use Rattle.vendor_commands.specs.Session.{IsSession};
 
-use book_commands::Status;
+use command_status::Status;
 use mc_words::shop_of;
 use std::alloc::Global;
 use vendor_commands::reply_to_all;
