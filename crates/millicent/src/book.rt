@@ -56,6 +56,18 @@ impl Book<File> {
         })
     }
 
+    /// As `open`, to read alone: nothing can be written to the book, and no file is made.
+    pub fn open_to_read<R: Files<File = File>>(rt: &R, path: &str) -> io::Result<Book<File>>
+        ensures { IfOk result (λ book. book.faults ≡ 0) }
+    {
+        let file = file_to_read(rt, path)?;
+        Ok(Book {
+            file: Some(file),
+            faults: 0,
+            made: false,
+        })
+    }
+
     /// Takes the file away that was made for the book, where it has no bytes.
     pub fn forget_if_empty<R: Files<File = File>>(&self, rt: &R, path: &str) {
         if let Ok(0) = self.length()
@@ -120,6 +132,17 @@ fn file_at<R: Files<File = File>>(rt: &R, path: &str, create: bool) -> io::Resul
         usable(rt, path, &file)?;
     }
     Ok((file, false))
+}
+
+/// The file at this path, locked, to read alone. What is no regular file is not opened, since that may wait.
+fn file_to_read<R: Files<File = File>>(rt: &R, path: &str) -> io::Result<File> {
+    if !fs::metadata(rt, path)?.is_file() {
+        return Err(ErrorKind::Unsupported.into());
+    }
+    let file = File::open(rt, path)?;
+    file.try_lock()?;
+    usable(rt, path, &file)?;
+    Ok(file)
 }
 
 /// A file that was not there.
@@ -311,8 +334,19 @@ mod tests {
         assert_eq!(rt; second.faults, 5);
         assert_eq!(rt; refused(&rt, path, true), "locked by another process");
         assert_eq!(rt; refused(&rt, path, false), "locked by another process");
+        assert!(rt; Book::open_to_read(&rt, path).is_err());
         assert_eq!(rt; first.size(), Ok(0));
+        assert_eq!(rt; first.write_at(0, b"abc"), Ok(()));
         drop(first);
+        let mut audited = Book::open_to_read(&rt, path)?;
+        assert!(rt; Book::open_to_read(&rt, path).is_err());
+        assert_eq!(rt; audited.sync(), Ok(()));
+        assert_eq!(rt; audited.read(0, &mut buf), Ok(3));
+        assert_eq!(rt; audited.cut(0), Err(DiskFault));
+        assert_eq!(rt; audited.write_at(0, b"xyz"), Err(DiskFault));
+        assert_eq!(rt; audited.size(), Ok(3));
+        assert!(rt; Book::open_to_read(&rt, ".").is_err());
+        drop(audited);
         let again = Book::open(&rt, path, true)?;
         again.forget_if_empty(&rt, path);
         assert!(rt; fs::exists(&rt, path)?);

@@ -11,7 +11,7 @@ mod streams;
 
 use book::{Book, cause_of};
 use mc_base::{List, NoMemory};
-use mc_door::listen;
+use mc_door::{call, listen};
 use mc_top::{Places, places, run};
 use mc_words::{WrongWord, usage, wrong_word};
 use site::Site;
@@ -93,8 +93,8 @@ fn words(alloc: Global, rt: &HostRuntime) -> Result<Vec<String>, NoWords> {
 }
 
 /// Opens what the words name, does what they say, and answers the status. A book that is missing is made
-/// only where the command founds it. Where no place to listen at is named, standard input and output are
-/// the one link.
+/// only where the command founds it. Where a place to connect to is named the one link goes there; where there is none,
+/// nor a place to listen at, standard input and output are the one link.
 fn start(rt: &HostRuntime, words: &[String], places: &Places) -> u8 {
     let Ok(others) = open_all(rt, places.books.slice()) else {
         return end(rt, b"no memory\n", 5);
@@ -103,6 +103,11 @@ fn start(rt: &HostRuntime, words: &[String], places: &Places) -> u8 {
         Some(path) => book_at(rt, path.slice(), places.founds),
         None => Book::none(),
     };
+    if let Some(address) = &places.connect {
+        let source = call(rt, text(address.slice()));
+        let out = Site::new(book, source, rt.stdout(), rt);
+        return run(rt.alloc(), words, out, others).status;
+    }
     match &places.listen {
         Some(address) => {
             let Ok(source) = listen(rt, rt.alloc(), text(address.slice()), rt) else {
@@ -146,19 +151,25 @@ fn leave(rt: &HostRuntime, path: &str, book: &Book<File>) {
     }
 }
 
-/// The books at these paths, none of which is made.
+/// The books at these paths, to read alone.
 fn open_all(rt: &HostRuntime, paths: &[List<u8>]) -> Result<Vec<Book<File>>, AllocError> {
     let mut books = Vec::new(rt.alloc());
     for path in paths {
-        books.push(book_at(rt, path.slice(), false))?;
+        let path = text(path.slice());
+        books.push(or_none(rt, path, Book::open_to_read(rt, path)))?;
     }
     Ok(books)
 }
 
-/// The book at this path. Where it can't be opened standard error says why, and it is a book of none.
+/// The book at this path, which is made where the command founds it.
 fn book_at(rt: &HostRuntime, path: &[u8], create: bool) -> Book<File> {
     let path = text(path);
-    match Book::open(rt, path, create) {
+    or_none(rt, path, Book::open(rt, path, create))
+}
+
+/// The book that was opened at this path. Where it could not be, standard error says why, and it is a book of none.
+fn or_none(rt: &HostRuntime, path: &str, opened: io::Result<Book<File>>) -> Book<File> {
+    match opened {
         Ok(book) => book,
         Err(error) => {
             let cause = cause_of(error.kind());

@@ -1,0 +1,132 @@
+use crate::source::Source;
+use std::io;
+use std::io::{ErrorKind, Read, Write};
+use std::net::{Net, OpenStream, ToSocketAddrs};
+use std::time::Duration;
+
+#[cfg(test)]
+mod tests;
+
+/// How many seconds a connection may take to be made at one address.
+const CONNECTING: u64 = 10;
+
+/// How many seconds the link may move no byte.
+const PATIENCE: u64 = 30;
+
+/// The one link over a connection that is made to an address as the link is asked for; no more come. Where no
+/// connection can be made there, none comes at all: the host is not known, refuses, or is not reached within ten
+/// seconds at any of its addresses. Each other fault of the system is an error, as are 30 seconds in which the peer
+/// sends nothing or takes nothing, while it is waited for.
+#[derive(Drop)]
+pub struct Caller<'a, R: Net> {
+    rt: &'a R,
+    address: &'a str,
+    stream: Option<R::Stream>,
+    called: bool,
+}
+
+/// A caller of this address, an IP address or a host's name and a port.
+pub fn call<'a, R: Net>(rt: &'a R, address: &'a str) -> Caller<'a, R> {
+    Caller {
+        rt,
+        address,
+        stream: None,
+        called: false,
+    }
+}
+
+impl<'a, R: Net> Source for Caller<'a, R> {
+    fn next(&mut self) -> io::Result<bool> {
+        self.stream = None;
+        if self.called {
+            return Ok(false);
+        }
+        self.stream = connection(self.rt, self.address)?;
+        self.called = true;
+        Ok(self.stream.is_some())
+    }
+
+    fn recv(&mut self, buf: &mut [u8]) -> io::Result<usize> {
+        let Some(stream) = &mut self.stream else {
+            return Err(ErrorKind::NotConnected.into());
+        };
+        for _ in 0..u32::MAX {
+            match stream.read(buf) {
+                Err(e) if e.kind() == ErrorKind::Interrupted => {}
+                answer => return answer,
+            }
+        }
+        Err(ErrorKind::TimedOut.into())
+    }
+
+    fn send(&mut self, bytes: &[u8]) -> io::Result<usize> {
+        let Some(stream) = &mut self.stream else {
+            return Err(ErrorKind::NotConnected.into());
+        };
+        for _ in 0..u32::MAX {
+            match stream.write(bytes) {
+                Err(e) if e.kind() == ErrorKind::Interrupted => {}
+                answer => return answer,
+            }
+        }
+        Err(ErrorKind::TimedOut.into())
+    }
+
+    fn end(&mut self) {
+        self.stream = None;
+    }
+
+    fn finish(&mut self) {
+        self.end();
+    }
+}
+
+/// A connection to the first of the address's hosts that takes one; None where none does.
+fn connection<R: Net>(rt: &R, address: &str) -> io::Result<Option<R::Stream>> {
+    let hosts = match address.to_socket_addrs(rt) {
+        Ok(hosts) => hosts,
+        Err(e) if is_unknown(&e) => return Ok(None),
+        Err(e) => return Err(e),
+    };
+    let mut fault = None;
+    for host in hosts {
+        match rt.connect_timeout(host, Duration::from_secs(CONNECTING)) {
+            Ok(stream) => return Ok(Some(patient(stream)?)),
+            Err(e) if is_out_of_reach(e.kind()) => {}
+            Err(e) => fault = Some(e),
+        }
+    }
+    match fault {
+        Some(e) => Err(e),
+        None => Ok(None),
+    }
+}
+
+/// Whether an address names no host, which is no error of the system.
+fn is_unknown(e: &io::Error) -> bool {
+    e.raw_os_error().is_none() && e.kind() != ErrorKind::OutOfMemory
+}
+
+/// Whether a host refused a connection, or was not reached.
+fn is_out_of_reach(kind: ErrorKind) -> bool {
+    match kind {
+        ErrorKind::ConnectionRefused
+        | ErrorKind::ConnectionReset
+        | ErrorKind::ConnectionAborted
+        | ErrorKind::HostUnreachable
+        | ErrorKind::NetworkUnreachable
+        | ErrorKind::NetworkDown
+        | ErrorKind::AddrNotAvailable
+        | ErrorKind::TimedOut => true,
+        _ => false,
+    }
+}
+
+/// The connection with a limit to each wait for its peer. What is sent on it goes at once, where the system lets it.
+fn patient<S: OpenStream + Drop>(stream: S) -> io::Result<S> {
+    let limit = Some(Duration::from_secs(PATIENCE));
+    stream.set_read_timeout(limit)?;
+    stream.set_write_timeout(limit)?;
+    let _ = stream.set_nodelay(true);
+    Ok(stream)
+}
