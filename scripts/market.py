@@ -2,8 +2,10 @@
 """A market of real programs: a bank with the licence of one vendor and stock of another, and customers that draw, buy, pay for
 pages and put change back, while the programs are killed at random moments and started again. A customer asks the same again
 until there is a reply. In the end the second program sums up the three books: nothing was lost and nothing was made, and what
-is outstanding is what customers hold. The argument is the number of kills."""
+is outstanding is what customers hold. The auditor finds the same, and the books balanced; and once a vendor has taken a piece that
+was made behind the bank's back, a stranger. The argument is the number of kills."""
 import random
+import subprocess
 import sys
 import tempfile
 import threading
@@ -13,29 +15,10 @@ from types import SimpleNamespace
 
 import millicent
 from bank import NAME, Bank
-from serving import Link, Site, secret, words_of
+from pages import PAGE, PRICE, Vendor
+from serving import PROGRAM, Link
 
-CUSTOMERS, FIRST, KEEP = 4, 10**7, 86_400
-PAGE, PRICE, MINTS, COUNT = b"/page", 20, 4, 256
-
-
-class Vendor(Site):
-    """A vendor of one page."""
-    role = "vendor"
-
-    def __init__(self, folder, name):
-        super().__init__(folder, name)
-        self.name, self.own = name, millicent.Terms(0, 4096, 8192, (secret(),), (secret(),))
-        self.command("init", name, *words_of(self.own), "--keep", str(KEEP), "--clear")
-        self.command("goods", PAGE.decode(), str(PRICE), contents=b"A page of %s.\n" % name.encode())
-
-    def licence(self):
-        """The licence of a broker."""
-        terms = millicent.Terms(1, 4096, 8192, (secret(),), (secret(),))
-        return self.command("licence", "1", *words_of(terms)).encode()
-
-    def mint(self, value, reference):
-        return self.command("mint", str(COUNT), str(value), reference).encode()
+CUSTOMERS, FIRST, KEEP, MINTS, COUNT = 4, 10**7, 86_400, 4, 256
 
 
 class Customer:
@@ -128,13 +111,13 @@ class Customer:
 
 class Market:
     def __init__(self, folder):
-        self.bank, self.news, self.shop = Bank(folder, KEEP), Vendor(folder, "news.example"), Vendor(folder, "shop.example")
+        self.bank, self.news, self.shop = Bank(folder, KEEP), Vendor(folder, "news.example", KEEP), Vendor(folder, "shop.example", KEEP)
         self.vendors, self.violations = (self.news, self.shop), 0
         self.sites = (self.bank, *self.vendors)
         self.bank.found()
         self.bank.command("licence", contents=self.news.licence())
         for number in range(MINTS):
-            said = self.bank.command("stock", self.shop.name, contents=self.shop.mint(50, "m%d" % number))
+            said = self.bank.command("stock", self.shop.name, contents=self.shop.mint(COUNT, 50, "m%d" % number))
             assert said == "stock shop.example %d\n" % COUNT, "the program said %r" % said
         for number in range(CUSTOMERS):
             self.bank.open("c%d" % number, FIRST)
@@ -200,6 +183,30 @@ class Market:
         if pages != sum(takings for takings, *_ in of_vendors):
             self.wrong("pages for %d were read" % pages)
 
+    def audit(self):
+        """What the auditor says of the three books."""
+        words = [PROGRAM, "audit", "report", *(site.book for site in self.sites)]
+        ran = subprocess.run(words, stdout=subprocess.PIPE)
+        return ran.returncode, ran.stdout.decode()
+
+    def look_for_strangers(self):
+        """Has the books audited, and again with a forged piece that a vendor took."""
+        status, said = self.audit()
+        paid_in = millicent.broker_sums(millicent.Book(self.bank.entries()))[0]
+        if status or not said.endswith("\nbalanced\n") or "\npaid-in %d\n" % paid_in not in said:
+            self.wrong("the audit ended with status %d and said %r" % (status, said))
+        print(said, end="")
+        piece = self.news.forged(PRICE)
+        self.news.start()
+        reply = self.customers[0].pay(self.news, piece, PAGE, "forged pages")
+        self.news.kill()
+        if reply.status != b"200":
+            self.wrong("the forged piece was answered %r" % reply.whole)
+        status, said = self.audit()
+        if (status, said) != (8, "stranger news.example %016x\n" % millicent.read_scrip(piece.text).id):
+            self.wrong("the audit of a forged piece ended with status %d and said %r" % (status, said))
+        print(said, end="")
+
     def compare(self, site, left):
         held = sum(millicent.read_scrip(piece.text).value for customer in self.customers for piece in customer.held[site])
         if held != left:
@@ -213,6 +220,7 @@ def main():
         try:
             market.run(kills)
             market.sum_up()
+            market.look_for_strangers()
         finally:
             for site in market.sites:
                 site.end()

@@ -11,8 +11,9 @@ from forms import Terms, id_of, read_scrip, reply_signature, request_signature  
 from journal import HEADER, Replay  # noqa: E402
 from market import Book, broker_sums, first_stranger, vendor_sums  # noqa: E402, F401
 from payloads import (  # noqa: E402, F401
-    ACCEPT, ACCOUNT, BROKER, DEPOSIT, DRAW, GOODS, MINT, SITE, STOCK, TERMS, VENDOR, entry_of)
+    ACCEPT, ACCOUNT, BROKER, DEPOSIT, DONE, DRAW, GOODS, MINT, PEND, SITE, STOCK, TERMS, VENDOR, entry_of)
 from stage import Stage  # noqa: E402
+from wallet import WalletBook  # noqa: E402, F401
 
 
 def scrip(terms, vendor, value, ident):

@@ -3,15 +3,14 @@ from types import SimpleNamespace
 
 import vendor
 from desk import MOST_BALANCE
-from forms import MOST_VALUE, Fault, is_name, issuer_of, read_piece_line, read_scrip
-from house import Ends, kept, opened, received
+from forms import MOST_VALUE, is_name, issuer_of, read_scrip
+from house import Ends, kept, opened, read_pieces, received
 from ledger import FULL
 from payloads import ACCOUNT, BROKER, DEPOSIT, LICENCE, STOCK, WITHDRAW, entry_of
 from refusals import refused
 from words import BadWords, number, place, secret, terms, text, want
 
 MOST_INPUT = 131_072
-MOST_PIECES = 256
 
 
 def parse_init(words, keep=b"600", clear=False):
@@ -150,23 +149,9 @@ def stock(order, stage):
 
 
 def read_stock(vendor_name, lines):
-    """The texts and the secrets of 1 to 256 piece lines, each of the vendor, first-hand and of issuer 0."""
-    read, at = [], 0
-    while at < len(lines):
-        number_of_line, end = len(read) + 1, lines.find(b"\n", at) + 1
-        try:
-            piece, held = read_piece_line(lines[at:end])
-            is_right = piece.vendor == vendor_name and piece.cust == piece.id and not piece.props
-            is_right = is_right and not issuer_of(piece.id) and number_of_line <= MOST_PIECES
-        except Fault:
-            is_right = False
-        if number_of_line > MOST_PIECES or not is_right:
-            raise Ends.refused(refused(53, number_of_line))
-        read.append((piece.text, held))
-        at = end
-    if not read:
-        raise Ends.refused(refused(53, 0))
-    return read
+    """Pieces of the vendor, first-hand and of issuer 0."""
+    return read_pieces(lines, lambda piece: (
+        piece.vendor == vendor_name and piece.cust == piece.id and not piece.props and not issuer_of(piece.id)))
 
 
 def add_stock(house, vendor_name, lines):

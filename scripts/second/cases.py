@@ -1,25 +1,23 @@
 """The verbs of cases: each reads its arguments and prints what comes out."""
-import re
-
 import forms_verbs
 import ledger_verbs
 import market
 import replies
 import stage_verbs
-import wallet
+import wallet_verbs
 from bytes_text import CaseError, bytes_of, words_of
 from setting import Setting
 
 VERBS = {**stage_verbs.VERBS, **forms_verbs.VERBS, **ledger_verbs.VERBS,
-         **market.VERBS, **replies.VERBS, **wallet.VERBS}
-NAME = re.compile("[a-z0-9_]+")
+         **market.VERBS, **replies.VERBS, **wallet_verbs.VERBS}
 
 
 class Runner:
     """Does the lines of files of cases, one after another."""
 
-    def __init__(self, out):
-        self.out, self.names, self.setting = out, {}, Setting({})
+    def __init__(self, out, names=None):
+        self.out, self.names = out, {} if names is None else names
+        self.setting = Setting(self.names)
 
     def print(self, text):
         self.out.write(text.encode("latin-1") + b"\n")
@@ -33,9 +31,9 @@ class Runner:
             return
         words = words_of(rest)
         if verb == "let":
-            if len(words) != 2 or not NAME.fullmatch(words[0]):
+            if len(words) != 2:
                 raise CaseError("let wants a name and bytes")
-            self.names[words[0]] = bytes_of(words[1], self.names)
+            self.setting.name(words[0], bytes_of(words[1], self.names))
             return
         if verb not in VERBS:
             raise CaseError("no such verb: %s" % verb)

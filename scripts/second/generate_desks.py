@@ -126,7 +126,7 @@ class Desk:
         """Runs words, whose `LINE` are spelled, and answers the stage."""
         lines = ["link " + link for link in links] + ["clock %d" % self.time, "run " + words]
         stage = Stage(self.book, [[spelled(link)] for link in links], [self.time])
-        run([spelled(word) if word[0] in '"$' else word.encode() for word in words.split(" ")], stage, 0)
+        run([spelled(word) if word[0] in '"$' else word.encode() for word in words.split(" ")], stage, ())
         self.book = bytes(stage.contents)
         self.lines += lines
         return stage
@@ -197,7 +197,7 @@ class Desk:
         words = self.numbers.of(("broker deposit b ann 300 last", "broker withdraw b ann 1 last", "broker account b cid " + key_word("cid")))
         call, choice = self.numbers.below(7), self.numbers.of((0, 1, 2, 128))
         stage = Stage(self.book, (), [self.time], [call])
-        run([spelled(word) if word[0] == '"' else word.encode() for word in words.split(" ")], stage, 0)
+        run([spelled(word) if word[0] == '"' else word.encode() for word in words.split(" ")], stage, ())
         self.book = stage.crashed(choice)
         self.lines += ["clock %d" % self.time, "fail disk %d" % call, "run " + words, "crash %d" % choice]
         self.run(words)

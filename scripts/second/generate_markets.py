@@ -115,14 +115,15 @@ def shop():
 
 
 def market(out, name, bank, vendors, order=None):
-    """A case of the books, which asks for their sums, and for the first stranger in this order of them."""
+    """A case of the books, which asks for their sums, and for the first stranger in this order of them, and has them audited."""
     books = [bank, *vendors]
     spelled = {book: "$book_%d_%d" % (out.count, n) for n, book in enumerate(books)}
     for book in books:
         out.let(spelled[book][1:], book.spelled())
     asked = [books[n] for n in order or range(len(books))]
     out.case(name, *(" ".join([verb, *(spelled[book] for book in some)])
-                     for verb, some in (("sums", books), ("stranger", asked))))
+                     for verb, some in (("sums", books), ("stranger", asked))),
+             *("beside " + spelled[book] for book in asked), "run audit report" + " b" * len(books) + " --json" * (out.count % 2))
     read = {house: Book(house.history.entries) for house in books}
     b, *vs = (read[house] for house in books)
     paid_in, *others = broker_sums(b)

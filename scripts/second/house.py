@@ -1,10 +1,10 @@
 """A house over a book, or in memory: how it opens, is founded, serves links and enters what an operator orders."""
 from types import SimpleNamespace
 
-from forms import Terms
+from forms import Fault, Terms, read_piece_line
 from heads import HeadReader
 from journal import BadEntry, Halted, NotJournal, Replay, found
-from ledger import FULL, History, answer, is_refusal, journal_full, may_follow, refusal_of, reply_of
+from ledger import FULL, History, answer, follow, is_refusal, journal_full, refusal_of, reply_of
 from payloads import GOODS, SITE, TERMS, VENDOR, entry_of
 from refusals import refused
 from stage import DiskFault, LinkFault
@@ -111,28 +111,40 @@ class House:
             self.stage.send(reply[PAGE:])
 
 
-def opened(stage, limits, site=VENDOR):
-    """The house of a book of this kind of site."""
-    history = History()
+def read_through(stage, sites, follow):
+    """Reads the book of one of these kinds of site, each entry of which `follow` takes where it may follow; the journal."""
+    replay, gate, count = started(stage), 8, 0
     try:
-        replay = Replay(stage)
-        gate = 8
         while read := replay.next():
             gate, entry = read
-            if not history.entries and entry.kind == SITE and entry.site != site:
+            if not count and entry.kind == SITE and entry.site not in sites:
                 raise Ends.refused(refused(52))
-            if not may_follow(history, entry, limits.series):
+            if not follow(entry):
                 raise unlawful(gate)
-            history.push(entry)
-    except NotJournal:
-        raise Ends(3, b"not a journal")
+            count += 1
     except BadEntry as bad:
         raise Ends(3, b"bad entry at %d" % bad.place)
     except DiskFault:
         raise Ends.disk_fault()
-    if not history.entries:
+    if not count:
         raise unlawful(gate)
-    return House(history, stage, limits, replay.finish())
+    return replay.finish()
+
+
+def started(stage):
+    try:
+        return Replay(stage)
+    except NotJournal:
+        raise Ends(3, b"not a journal")
+    except DiskFault:
+        raise Ends.disk_fault()
+
+
+def opened(stage, limits, site=VENDOR):
+    """The house of a book of this kind of site."""
+    history = History()
+    journal = read_through(stage, (site,), lambda entry: follow(history, entry, limits.series))
+    return House(history, stage, limits, journal)
 
 
 def unlawful(gate):
@@ -158,6 +170,24 @@ def received(stage, most):
         raise Ends.link_fault()
     stage.end_link()
     return data
+
+
+def read_pieces(lines, is_right, most=256):
+    """The texts and the secrets of 1 to 256 piece lines, whose pieces pass a test."""
+    read, at = [], 0
+    while at < len(lines):
+        end = lines.find(b"\n", at) + 1
+        try:
+            piece, held = read_piece_line(lines[at:end])
+        except Fault:
+            piece = None
+        if len(read) == most or piece is None or not is_right(piece):
+            raise Ends.refused(refused(53, len(read) + 1))
+        read.append((piece.text, held))
+        at = end
+    if not read:
+        raise Ends.refused(refused(53, 0))
+    return read
 
 
 def free_journal(stage):

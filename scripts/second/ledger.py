@@ -291,6 +291,14 @@ def may_follow(history, entry, series):
     return history.is_broker and broker_may_enter(history, entry)
 
 
+def follow(history, entry, series):
+    """Adds an entry to a history, where it may follow; whether it may."""
+    may = may_follow(history, entry, series)
+    if may:
+        history.push(entry)
+    return may
+
+
 def vendor_may_enter(history, entry, series):
     if entry.kind == TERMS:
         return entry.terms.issuer not in history.terms

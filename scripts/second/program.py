@@ -1,11 +1,14 @@
 """The program: what its words ask for, and what it does."""
+import audit
 import broker
 import vendor
+import wallet_commands
 from house import Ends
 from stage import LinkFault
 from words import BadWords, is_text, told_apart, want
 
-ROLES = {b"vendor": vendor.COMMANDS, b"broker": broker.COMMANDS}
+ROLES = {b"vendor": vendor.COMMANDS, b"broker": broker.COMMANDS, b"wallet": wallet_commands.COMMANDS,
+         b"audit": audit.COMMANDS}
 
 
 def parsed(words):
@@ -15,16 +18,16 @@ def parsed(words):
     for word in words:
         want(is_text(word))
     others, options = told_apart(words[2:], valued, flags)
-    want(len(others) == count)
+    want(others if count is None else len(others) == count)
     return words[:2], parse(others, **{name[2:].decode(): value for name, value in options.items()}), act
 
 
 def run(words, stage, books):
-    """Does what the words ask for and says its line; answers the status."""
+    """Does what the words ask for and says its line; answers the status. `books` are stages that have the books beside."""
     try:
-        want(books == 0)
         _, order, act = parsed(words)
-        status, line = 0, act(order, stage)
+        want(len(books) == len(getattr(order, "books", ())))
+        status, line = 0, act(order, stage, *books)
     except BadWords:
         status, line = 2, b"bad words\n"
     except Ends as end:
@@ -38,9 +41,11 @@ def run(words, stage, books):
 
 
 def places(words):
-    """Whether the words found a book, the book, and the address where links come; None for each not named."""
+    """Whether the words found a book, the book, the address where links come, the books beside, and the address of the peer;
+    None for each not named."""
     try:
         (_, command), order, _ = parsed(words)
     except BadWords:
-        return False, None, None
-    return command == b"init", getattr(order, "book", None), getattr(order, "listen", None)
+        return False, None, None, [], None
+    return (command == b"init", *(getattr(order, name, None) for name in ("book", "listen")), getattr(order, "books", []),
+            getattr(order, "connect", None))

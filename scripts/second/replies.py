@@ -92,16 +92,23 @@ def next_reply(held):
 
 
 def take(link):
-    """The line of the reply on the link that stands."""
+    """The reply on the link that stands, or Bad; None where the link ends before it does."""
     held = b""
+    while isinstance(found := next_reply(held), Short):
+        more = link.recv(MOST_REPLY - len(held))
+        if not more:
+            return None
+        held += more
+    return found
+
+
+def taken_line(link):
     try:
-        while isinstance(found := next_reply(held), Short):
-            more = link.recv(MOST_REPLY - len(held))
-            if not more:
-                return "reply none"
-            held += more
+        found = take(link)
     except LinkFault:
         return "reply fault"
+    if found is None:
+        return "reply none"
     return "reply bad" if isinstance(found, Bad) else "reply " + found.line()
 
 
@@ -123,7 +130,7 @@ def do_replies(setting, words):
         except LinkFault:
             lines.append("fault")
             continue
-        lines.append(take(stage))
+        lines.append(taken_line(stage))
         stage.end_link()
     return lines + setting.ended(stage)
 

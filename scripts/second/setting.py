@@ -1,9 +1,12 @@
 """What a case has set so far, and how the arguments of its lines are read."""
+import re
+
 from bytes_text import CaseError, bytes_of, shown
 from ledger import FULL
 from stage import Stage
 
 U32, U64 = 2**32 - 1, 2**64 - 1
+NAME = re.compile("[a-z0-9_]+")
 
 
 class Setting:
@@ -12,21 +15,31 @@ class Setting:
     def __init__(self, names):
         self.names = names
         self.book, self.links, self.clock = b"", [], []
-        self.failing, self.books = {"disk": [], "link": []}, 0
+        self.failing, self.beside = {"disk": [], "link": []}, []
         self.last, self.hand = None, None
         self.limits, self.terms, self.issuer, self.kept = FULL, None, None, None
+
+    def name(self, name, data):
+        """Gives bytes a name, in place of an older one."""
+        if not NAME.fullmatch(name):
+            raise CaseError("no name: %s" % name)
+        self.names[name] = data
 
     def stage(self):
         """A stage as the lines before it say; links, failing calls and books are then forgotten."""
         self.last = Stage(self.book, self.links, self.clock, self.failing["disk"], self.failing["link"])
-        self.links, self.failing, self.books = [], {"disk": [], "link": []}, 0
+        self.links, self.failing, self.beside = [], {"disk": [], "link": []}, []
         return self.last
+
+    def stages_beside(self):
+        """A stage for each book beside."""
+        return [Stage(contents, failing_disk=calls) for contents, calls in self.beside]
 
     def ended(self, stage):
         """The lines of a stage, whose disk is the next book."""
-        lines, change, calls = stage.lines()
         self.book = bytes(stage.contents)
-        printed = ["%s %s" % (verb, shown(data)) for verb, data in lines]
+        said, change, calls = stage.lines()
+        printed = ["%s %s" % (verb, shown(data)) for verb, data in said]
         return printed + [changed("book", change), "calls %d %d" % calls]
 
     def first_link(self):

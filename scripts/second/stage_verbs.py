@@ -35,8 +35,30 @@ def set_fail(setting, words):
     setting.failing[words[0]] = [number(setting, word, U32) for word in words[1:]]
 
 
-def set_books(setting, words):
-    setting.books, = setting.arguments(words, number)
+def set_beside(setting, words):
+    if not words:
+        raise CaseError("beside wants a book")
+    setting.beside.append((data(setting, words[0]), [number(setting, word, U32) for word in words[1:]]))
+
+
+def set_saved(setting, words):
+    """Gives a name to what the last stage left: its book, what was said, or what was sent on a link."""
+    if len(words) < 2:
+        raise CaseError("save wants a name")
+    setting.name(words[0], left_by(setting, *words[1:]))
+
+
+def left_by(setting, what, *of):
+    if what == "book" and not of:
+        return setting.book
+    if setting.last is None:
+        raise CaseError("there is no stage")
+    if what == "said" and not of:
+        return setting.last.said
+    link, = setting.arguments(of, number)
+    if what != "sent" or link >= len(setting.last.sent):
+        raise CaseError("there is no such thing to save")
+    return setting.last.sent[link]
 
 
 def set_limits(setting, words):
@@ -48,10 +70,14 @@ def set_limits(setting, words):
 
 
 def do_run(setting, words):
-    books = setting.books
-    stage = setting.stage()
-    status = run([word_bytes(setting, word) for word in words], stage, books)
-    return ["run %d" % status] + setting.ended(stage)
+    beside, stage = setting.stages_beside(), setting.stage()
+    status = run([word_bytes(setting, word) for word in words], stage, beside)
+    return ["run %d" % status] + setting.ended(stage) + [line for book in beside for line in beside_lines(book)]
+
+
+def beside_lines(book):
+    _, change, calls = book.lines()
+    return [changed("beside", change), "calls %d %d" % calls]
 
 
 def do_serve(setting, words, site=VENDOR):
@@ -280,8 +306,8 @@ def do_once(setting, words):
 
 
 def do_places(setting, words):
-    founds, book, listen = places([word_bytes(setting, word) for word in words])
-    return ["places %s %s %s -" % ("founds" if founds else "opens", shown(book), shown(listen))]
+    founds, book, listen, books, connect = places([word_bytes(setting, word) for word in words])
+    return [" ".join(["places", "founds" if founds else "opens", *map(shown, (book, listen, *books, connect))])]
 
 
 def history_of(setting):
@@ -359,7 +385,8 @@ def end_by_hand(setting, words):
 
 
 VERBS = {
-    "book": set_book, "link": set_link, "clock": set_clock, "fail": set_fail, "books": set_books, "limits": set_limits,
+    "book": set_book, "link": set_link, "clock": set_clock, "fail": set_fail, "beside": set_beside, "save": set_saved,
+    "limits": set_limits,
     "run": do_run, "serve": do_serve, "desk": do_desk, "found": do_found, "goods": do_goods, "price": do_price,
     "licence": do_licence, "mint": do_mint, "coming": do_coming, "account": do_account,
     "deposit": paying("deposit", DEPOSIT), "withdraw": paying("withdraw", WITHDRAW), "licensed": do_licensed,

@@ -2,14 +2,11 @@
 import re
 from dataclasses import dataclass
 
-from bytes_text import CaseError, shown
+from bytes_text import shown
 from desk import read_errand
-from forms import MOMENTS, MOST_VALUE, Fault, is_scrip, read_scrip, reply_signature, request_signature, whole_number
+from forms import MOST_VALUE, Fault, is_scrip, read_scrip, reply_signature, request_signature, whole_number
 from payloads import DONE, GOT, PEND, REFUSED, SITE
 from refusals import refused
-from replies import Reply, next_reply
-from setting import data, number, of_length
-from stage_verbs import history_of
 
 WALLET = 2
 GET, BUY, DRAW = range(3)
@@ -43,6 +40,15 @@ class Request:
     def line(self):
         texts = [str(self.ask), *map(shown, (self.peer, self.target, self.scrip, self.secret))]
         return " ".join(texts)
+
+
+def buy_target(vendor, amount):
+    return b"/buy/%s/%d" % (vendor, amount)
+
+
+def drawing(broker, account, key, order, amount):
+    """The request of a draw."""
+    return Request(DRAW, broker, b"/draw/%s/%d/%d" % (account, order, amount), None, key)
 
 
 def name_of(text):
@@ -118,6 +124,13 @@ class WalletBook:
         is_there = any(text == scrip for text, _ in self.pieces)
         return is_there and self.state(scrip) == "held" and read_scrip(scrip).vendor == peer
 
+    def follow(self, entry):
+        """Learns an entry, where it may follow; whether it may."""
+        may = self.may_follow(entry)
+        if may:
+            self.push(entry)
+        return may
+
     def may_follow(self, entry):
         """Whether an entry may follow."""
         if entry.moment < self.time:
@@ -158,6 +171,15 @@ class WalletBook:
         if covering:
             return min(covering, key=lambda offer: offer[0].value)
         return refused(62, max((offer[0].value for offer in offers), default=0))
+
+    def paying(self, ask, peer, target, time, limit):
+        """The request of a get or of a buy, with the piece that is chosen; else the refusal."""
+        chosen = self.choose(peer, time, limit)
+        return Request(ask, peer, target, *chosen[1:]) if isinstance(chosen, tuple) else chosen
+
+    def oldest_kept(self, peer):
+        """The number of the oldest kept request of a peer."""
+        return next((n for n, request in self.kept() if request.peer == peer), None)
 
     # What a reply does.
 
@@ -236,87 +258,3 @@ def check(request, reply):
         return refused(65)
     sign = reply_signature(request.paid, request.target, reply_line(reply), reply.contents, request.secret)
     return None if reply.sign == sign.hex().encode() else refused(66)
-
-
-# The verbs.
-
-
-def first_against(entries):
-    """The number of the first entry that may not follow those before it; None of a lawful book."""
-    book = WalletBook()
-    for number_of_entry, entry in enumerate(entries):
-        if not book.may_follow(entry):
-            return number_of_entry
-        book.push(entry)
-    return None if entries else 0
-
-
-def do_wallet(setting, words):
-    setting.arguments(words)
-    entries = history_of(setting)
-    book, against = WalletBook(entries), first_against(entries)
-    lines = ["wallet lawful" if against is None else "wallet unlawful %d" % against]
-    lines += ["holding %s %s %s" % (state, shown(text), shown(secret)) for state, text, secret in book.holdings()]
-    return lines + ["kept %d %s" % (n, request.line()) for n, request in book.kept()]
-
-
-def moment(setting, word):
-    return min(number(setting, word), MOMENTS - 1)
-
-
-def do_choose(setting, words):
-    time, vendor, limit = setting.arguments(words, moment, data, number)
-    chosen = WalletBook(history_of(setting)).choose(vendor, time, limit)
-    if isinstance(chosen, tuple):
-        return ["choose %d %s" % (chosen[0].value, shown(chosen[1]))]
-    return ["choose refused " + chosen.text()]
-
-
-ASKED = {"get": (data, data, number), "buy": (data, data, number, number), "draw": (data, data, of_length(16), number, number)}
-
-
-def do_pend(setting, words):
-    if len(words) < 2 or words[1] not in ASKED:
-        raise CaseError("no such errand")
-    time, kind = moment(setting, words[0]), words[1]
-    values = setting.arguments(words[2:], *ASKED[kind])
-    book = WalletBook(history_of(setting))
-    if kind == "draw":
-        broker, account, key, order, amount = values
-        asked = Request(DRAW, broker, b"/draw/%s/%d/%d" % (account, order, amount), None, key)
-    else:
-        peer, limit = values[0], values[-1]
-        chosen = book.choose(peer, time, limit)
-        if not isinstance(chosen, tuple):
-            return ["pend refused " + chosen.text()]
-        target = values[1] if kind == "get" else b"/buy/%s/%d" % (values[1], values[2])
-        asked = Request(GET if kind == "get" else BUY, peer, target, *chosen[1:])
-    return ["pend %d %s" % (time, asked.line())]
-
-
-def do_request(setting, words):
-    of, = setting.arguments(words, number)
-    asked = WalletBook(history_of(setting)).requests.get(of)
-    return ["request " + (shown(asked.sent()) if asked else "none")]
-
-
-def do_settle(setting, words):
-    _, of, received = setting.arguments(words, moment, number, data)
-    book = WalletBook(history_of(setting))
-    if not book.is_kept(of):
-        return ["settle none"]
-    reply = next_reply(received)
-    if not isinstance(reply, Reply):
-        return ["settle no reply"]
-    wrong = check(book.requests[of], reply)
-    if wrong:
-        return ["settle wrong " + wrong.text()]
-    settled = book.settlement(book.requests[of], reply)
-    if isinstance(settled, int):
-        return ["settle refused %d" % settled]
-    price, change, got = settled
-    brought = " ".join(map(shown, got)) if got else "-"
-    return ["settle done %d %s %s" % (price, shown(change), brought)]
-
-
-VERBS = {"wallet": do_wallet, "choose": do_choose, "pend": do_pend, "request": do_request, "settle": do_settle}

@@ -210,7 +210,7 @@ fn find(state: &mut State, args: &[&[u8]], out: &mut Lines) -> Result<(), Fault>
     let asked = Asked::of(state, target, scrip, sign)?;
     let now = Moment::clamped(number(moment)?);
     match kept(state)?.find(now, &asked.request()) {
-        Some(number) => out.counted("find", number),
+        Some(number) => out.counted("find", number.number()),
         None => out.line("find none"),
     }
     Ok(())

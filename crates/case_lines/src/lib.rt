@@ -24,6 +24,6 @@ pub use digest_verbs::terms;
 pub use fault::Fault;
 pub use names::Names;
 pub use show::Lines;
-pub use state::{Setting, State, show_book};
+pub use state::{Beside, Setting, State, show_beside, show_book, stage_of};
 pub use verbs::act;
 pub use words::{number, small, tokens};

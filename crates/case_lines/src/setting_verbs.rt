@@ -2,9 +2,10 @@
 
 use crate::fault::Fault;
 use crate::show::Lines;
-use crate::state::State;
+use crate::state::{Beside, State};
 use crate::words::{number, numbers, small};
 use mc_records::Limits;
+use std::alloc::Global;
 
 /// The verbs of this module; None where the verb is none of them.
 pub(crate) fn set(
@@ -19,7 +20,8 @@ pub(crate) fn set(
         b"link" => link(state, args),
         b"clock" => clock(state, args),
         b"fail" => fail(state, args),
-        b"books" => books(state, args),
+        b"beside" => beside(state, args),
+        b"save" => save(state, args),
         b"limits" => limits(state, args, out),
         _ => return None,
     })
@@ -59,10 +61,7 @@ fn fail(state: &mut State, args: &[&[u8]]) -> Result<(), Fault> {
     let Some((what, calls)) = args.split_first() else {
         return Err(Fault::Arguments);
     };
-    let mut all = Vec::new(state.alloc);
-    for call in calls {
-        all.push(small(call)?)?;
-    }
+    let all = calls_of(state.alloc, calls)?;
     match *what {
         b"disk" => state.setting.failing_disk = all,
         b"link" => state.setting.failing_link = all,
@@ -71,12 +70,58 @@ fn fail(state: &mut State, args: &[&[u8]]) -> Result<(), Fault> {
     Ok(())
 }
 
-fn books(state: &mut State, args: &[&[u8]]) -> Result<(), Fault> {
-    let [count] = *args else {
+/// The numbers of calls that fail.
+fn calls_of(alloc: Global, calls: &[&[u8]]) -> Result<Vec<u32>, Fault> {
+    let mut all = Vec::new(alloc);
+    for call in calls {
+        all.push(small(call)?)?;
+    }
+    Ok(all)
+}
+
+fn beside(state: &mut State, args: &[&[u8]]) -> Result<(), Fault> {
+    let Some((book, calls)) = args.split_first() else {
         return Err(Fault::Arguments);
     };
-    state.setting.books = small(count)?;
+    let contents = state.names.bytes(book)?;
+    let failing = calls_of(state.alloc, calls)?;
+    state.setting.beside.push(Beside { contents, failing })?;
     Ok(())
+}
+
+/// Gives a name to what the last stage left.
+fn save(state: &mut State, args: &[&[u8]]) -> Result<(), Fault> {
+    let Some((name, what)) = args.split_first() else {
+        return Err(Fault::Arguments);
+    };
+    let bytes = left(state, what)?;
+    state.names.put(name, bytes)
+}
+
+/// The bytes of the disk, what was said, or what was sent on a link.
+fn left(state: &State, what: &[&[u8]]) -> Result<Vec<u8>, Fault> {
+    let Some((kind, of)) = what.split_first() else {
+        return Err(Fault::Arguments);
+    };
+    if *kind == b"book".as_slice() && of.is_empty() {
+        return Ok(Vec::from_slice(state.alloc, &state.setting.book)?);
+    }
+    let Some(stage) = &state.stage else {
+        return Err(Fault::Missing);
+    };
+    match *kind {
+        b"said" if of.is_empty() => Ok(Vec::from_slice(state.alloc, stage.said())?),
+        b"sent" => {
+            let [link] = *of else {
+                return Err(Fault::Arguments);
+            };
+            match stage.sent(small(link)? as usize) {
+                Some(sent) => Ok(Vec::from_slice(state.alloc, sent)?),
+                None => Err(Fault::Missing),
+            }
+        }
+        _ => Err(Fault::Arguments),
+    }
 }
 
 fn limits(state: &mut State, args: &[&[u8]], out: &mut Lines) -> Result<(), Fault> {

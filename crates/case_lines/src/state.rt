@@ -20,7 +20,32 @@ pub struct Setting {
     pub readings: Vec<u64>,
     pub failing_disk: Vec<u32>,
     pub failing_link: Vec<u32>,
-    pub books: u32,
+    pub beside: Vec<Beside>,
+}
+
+/// A book beside, of another house.
+#[derive(Drop)]
+pub struct Beside {
+    pub contents: Vec<u8>,
+    /// The calls of its disk that fail.
+    pub failing: Vec<u32>,
+}
+
+impl Beside {
+    /// A stage that has this book.
+    pub fn make_stage(&self, alloc: Global) -> Result<Stage, Fault> {
+        let contents = Vec::from_slice(alloc, &self.contents)?;
+        stage_of(alloc, contents, Vec::from_slice(alloc, &self.failing)?)
+    }
+}
+
+/// A stage that has a book of these bytes, and fails at these calls of its disk.
+pub fn stage_of(alloc: Global, contents: Vec<u8>, failing: Vec<u32>) -> Result<Stage, Fault> {
+    let failing = Failing {
+        disk: List::of(failing),
+        link: List::of(Vec::new(alloc)),
+    };
+    Ok(Stage::new(alloc, contents, Vec::new(alloc), Vec::new(alloc), failing)?)
 }
 
 impl Setting {
@@ -31,7 +56,7 @@ impl Setting {
             readings: Vec::new(alloc),
             failing_disk: Vec::new(alloc),
             failing_link: Vec::new(alloc),
-            books: 0,
+            beside: Vec::new(alloc),
         }
     }
 }
@@ -108,7 +133,7 @@ impl State {
         let contents = Vec::from_slice(self.alloc, stage.contents());
         self.stage = Some(stage);
         self.is_called = false;
-        self.setting.books = 0;
+        self.setting.beside = Vec::new(self.alloc);
         self.setting.book = contents?;
         Ok(())
     }
@@ -126,11 +151,24 @@ fn show_lines(stage: &Stage, before: &[u8], out: &mut Lines) {
         }
     }
     show_book("book", before, stage.contents(), out);
+    show_calls(stage, out)
+}
+
+/// Prints how many calls of a stage were made.
+fn show_calls(stage: &Stage, out: &mut Lines) {
     let (disk, link) = stage.calls();
     out.start("calls");
     out.number(disk);
     out.number(link);
     out.end()
+}
+
+/// Prints the lines of books beside, by the stages that have them now.
+pub fn show_beside(beside: &[Beside], stages: &[Stage], out: &mut Lines) {
+    for (book, stage) in beside.iter().zip(stages.iter()) {
+        show_book("beside", &book.contents, stage.contents(), out);
+        show_calls(stage, out);
+    }
 }
 
 /// Prints the bytes of a disk: how many of the bytes before stand in front, and what follows.

@@ -5,13 +5,13 @@ ghost use Rattle.mc_records.specs.Limits.{AreInRange};
 
 use crate::program_verbs::unopened;
 use broker_core::Desk;
-use case_lines::{Asked, Fault, Lines, State, number};
+use case_lines::{Asked, Fault, Lines, State, number, stage_of};
 use house_core::{Trade, Verdict};
 use house_opening::open_house;
 use ledger_model::History;
-use mc_base::{List, Moment};
+use mc_base::Moment;
 use mc_records::{Limits, MOST_REFUSAL_BYTES, Refusal, Request, put_refusal_text};
-use mc_stage::{Failing, Stage};
+use mc_stage::Stage;
 use scrip_journal::{OpenFault, Replay, open_journal};
 use slow_ledger::{ModelAnswer, slow_answer, slow_lawful};
 use std::alloc::Global;
@@ -68,19 +68,8 @@ fn lawful(state: &mut State, out: &mut Lines) -> Result<(), Fault> {
 
 /// A stage that has the book, and no more.
 fn stage_of_book(state: &State) -> Result<Stage, Fault> {
-    stage_of(
-        state.alloc,
-        Vec::from_slice(state.alloc, &state.setting.book)?,
-    )
-}
-
-/// A stage that has a book of these bytes, and no more.
-fn stage_of(alloc: Global, contents: Vec<u8>) -> Result<Stage, Fault> {
-    let failing = Failing {
-        disk: List::of(Vec::new(alloc)),
-        link: List::of(Vec::new(alloc)),
-    };
-    Ok(Stage::new(alloc, contents, Vec::new(alloc), Vec::new(alloc), failing)?)
+    let contents = Vec::from_slice(state.alloc, &state.setting.book)?;
+    stage_of(state.alloc, contents, Vec::new(state.alloc))
 }
 
 /// The entries of the book.
@@ -90,7 +79,7 @@ pub(crate) fn history(state: &State) -> Result<History, Fault> {
 
 /// The entries of a book of these bytes.
 pub(crate) fn history_of(alloc: Global, book: Vec<u8>) -> Result<History, Fault> {
-    history_on(alloc, stage_of(alloc, book)?)
+    history_on(alloc, stage_of(alloc, book, Vec::new(alloc))?)
 }
 
 /// The entries of the book that a stage has.

@@ -3,7 +3,7 @@
 ghost use Rattle.std.specs.Prelude.{[]};
 
 use broker_core::Desk;
-use case_lines::{Fault, Lines, State, number, show_book, small};
+use case_lines::{Fault, Lines, State, number, show_beside, show_book, small};
 use house_core::Trade;
 use house_opening::open_house;
 use house_serving::{ServeOut, serve_links};
@@ -11,7 +11,7 @@ use mc_base::List;
 use mc_stage::Stage;
 use mc_top::{once, places, run};
 use scrip_journal::HouseFault;
-use std::alloc::Global;
+use std::mem;
 use vendor_core::Shelf;
 
 /// The verbs of this module; None where the verb is none of them.
@@ -34,19 +34,17 @@ pub(crate) fn act(
 
 fn run_words(state: &mut State, args: &[&[u8]], out: &mut Lines) -> Result<(), Fault> {
     let words = state.names.words(args)?;
+    let beside = mem::replace(&mut state.setting.beside, Vec::new(state.alloc));
     let mut books = Vec::new(state.alloc);
-    for _ in 0..state.setting.books {
-        books.push(empty_stage(state.alloc)?)?;
+    for book in &beside {
+        books.push(book.make_stage(state.alloc)?)?;
     }
     let stage = state.make_stage()?;
     let ran = run(state.alloc, &words, stage, books);
     out.counted("run", u64::from(ran.status));
-    state.show_stage(ran.out, out)
-}
-
-/// A stage that has nothing.
-fn empty_stage(alloc: Global) -> Result<Stage, Fault> {
-    State::new(alloc).make_stage()
+    state.show_stage(ran.out, out)?;
+    show_beside(&beside, &ran.books, out);
+    Ok(())
 }
 
 /// How serving a book ended.

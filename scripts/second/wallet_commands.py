@@ -1,0 +1,167 @@
+"""The commands of a wallet."""
+from types import SimpleNamespace
+
+from broker import MOST_INPUT
+from forms import MOST_VALUE, id_text, is_name, is_target, read_scrip
+from house import Ends, founded, read_pieces, read_through, received
+from journal import Halted
+from payloads import DONE, GOT, PEND, REFUSED, SITE, entry_of
+from refusals import Refusal, refused
+from replies import Bad, take as take_reply
+from stage import LinkFault
+from wallet import BUY, GET, WALLET, WalletBook, buy_target, check, drawing, name_of, piece_line
+from words import number, place, secret, text
+
+
+def parse_init(words):
+    return SimpleNamespace(book=place(words[0]), name=text(is_name, words[1]))
+
+
+def parse_book(words):
+    return SimpleNamespace(book=place(words[0]))
+
+
+def parse_draw(words):
+    return SimpleNamespace(
+        book=place(words[0]), peer=text(is_name, words[1]), account=text(is_name, words[2]), key=secret(words[3]),
+        order=number(words[4], 1, MOST_VALUE), amount=number(words[5], 1, MOST_VALUE), connect=place(words[6]))
+
+
+def parse_buy(words):
+    vendor, amount = text(is_name, words[2]), number(words[3], 1, MOST_VALUE)
+    return SimpleNamespace(
+        book=place(words[0]), peer=text(is_name, words[1]), ask=BUY, target=buy_target(vendor, amount),
+        limit=number(words[4], 1, MOST_VALUE), connect=place(words[5]))
+
+
+def parse_get(words):
+    return SimpleNamespace(
+        book=place(words[0]), peer=text(is_name, words[1]), ask=GET, target=text(is_target, words[2]),
+        limit=number(words[3], 1, MOST_VALUE), connect=place(words[4]))
+
+
+def parse_retry(words):
+    return SimpleNamespace(book=place(words[0]), peer=text(is_name, words[1]), connect=place(words[2]))
+
+
+class Wallet:
+    """A wallet over its journal, with its time."""
+
+    def __init__(self, stage):
+        self.stage, self.book = stage, WalletBook()
+        self.journal = read_through(stage, (WALLET,), self.book.follow)
+        self.time = self.book.time
+
+    def raise_time(self):
+        """Reads the clock once."""
+        self.time = max(self.time, self.stage.now())
+
+    def enter(self, kind, **values):
+        entry = entry_of(kind, self.time, **values)
+        try:
+            self.journal.add(entry.payload)
+        except Halted:
+            raise Ends.disk_fault()
+        assert self.book.follow(entry), "a wallet entered what may not follow"
+
+    def pend(self, request):
+        """Enters a request that is now kept; its number."""
+        number_of_entry = self.book.count
+        self.enter(PEND, ask=request.ask, peer=request.peer, target=request.target, scrip=request.scrip, secret=request.secret)
+        return number_of_entry
+
+    def send(self, number_of_entry):
+        """Sends a kept request on the one link, and settles it by the reply; answers the line."""
+        request = self.book.requests[number_of_entry]
+        try:
+            if not self.stage.next_link():
+                raise Ends.refused(refused(63))
+            self.stage.send(request.sent())
+            reply = take_reply(self.stage)
+            wrong = refused(64) if reply is None else refused(65) if isinstance(reply, Bad) else check(request, reply)
+            if wrong:
+                raise Ends.refused(wrong)
+            if reply.status == 200 and request.ask == GET and reply.contents:
+                self.stage.say(reply.contents)
+        except LinkFault:
+            raise Ends.link_fault()
+        return self.settle(number_of_entry, request, reply)
+
+    def settle(self, number_of_entry, request, reply):
+        settled = self.book.settlement(request, reply)
+        if isinstance(settled, int):
+            self.enter(REFUSED, number=number_of_entry, refusal=settled)
+            raise Ends.refused(refused(68, settled))
+        price, change, got = settled
+        self.enter(DONE, number=number_of_entry, price=price, change=change, got=got)
+        if request.ask == GET:
+            return b""
+        piece = read_scrip(piece_line(reply.contents)[0])
+        return b"got %s %d\n" % (piece.vendor, piece.value)
+
+
+def opened_now(stage):
+    """The wallet of a book, at the reading of the clock."""
+    wallet = Wallet(stage)
+    wallet.raise_time()
+    return wallet
+
+
+def init(order, stage):
+    founded(stage, entry_of(SITE, stage.now(), site=WALLET, name=order.name, house=None))
+    return b"founded %s\n" % order.name
+
+
+def take(order, stage):
+    wallet = Wallet(stage)
+    lines = received(stage, MOST_INPUT + 1)
+    wallet.raise_time()
+    pieces = read_pieces(lines[:MOST_INPUT], lambda piece: True)
+    names = [name_of(text_of) for text_of, _ in pieces]
+    for name in names:
+        if name in wallet.book.names or names.count(name) > 1:
+            raise Ends.refused(refused(61, name[1]))
+    wallet.enter(GOT, pieces=pieces)
+    return b"taken %d\n" % len(pieces)
+
+
+def draw(order, stage):
+    wallet = opened_now(stage)
+    return wallet.send(wallet.pend(drawing(order.peer, order.account, order.key, order.order, order.amount)))
+
+
+def pay(order, stage):
+    """Gets or buys."""
+    wallet = opened_now(stage)
+    request = wallet.book.paying(order.ask, order.peer, order.target, wallet.time, order.limit)
+    if isinstance(request, Refusal):
+        raise Ends.refused(request)
+    return wallet.send(wallet.pend(request))
+
+
+def retry(order, stage):
+    wallet = opened_now(stage)
+    oldest = wallet.book.oldest_kept(order.peer)
+    if oldest is None:
+        raise Ends.refused(refused(67))
+    return wallet.send(oldest)
+
+
+def holdings(order, stage):
+    return b"".join(holding_line(state, read_scrip(text_of)) for state, text_of, _ in opened_now(stage).book.holdings())
+
+
+def holding_line(state, piece):
+    return b"%s %s %d %s %d\n" % (state.encode(), piece.vendor, piece.value, id_text(piece.id).encode(), piece.expires)
+
+
+# As those of a vendor.
+COMMANDS = {
+    b"init": (2, (), (), parse_init, init),
+    b"take": (1, (), (), parse_book, take),
+    b"draw": (7, (), (), parse_draw, draw),
+    b"buy": (6, (), (), parse_buy, pay),
+    b"get": (5, (), (), parse_get, pay),
+    b"retry": (3, (), (), parse_retry, retry),
+    b"list": (1, (), (), parse_book, holdings),
+}

@@ -1,0 +1,325 @@
+#!/usr/bin/env python3
+"""A real wallet, a bank and a vendor over loopback, while each of them is killed at random moments, and the wallet reaches the
+sites through links that lose requests and replies, cut them, repeat them and give old replies. In the end the wallet tries all
+again over links that lose nothing, and the second program compares the books: every payment that the wallet has as done is one
+entry of its site with the same price and change, no two are one, the sites took nothing else of the wallet's, every held piece
+is good, and the auditor finds the books balanced. The argument is the number of the wallet's commands (300); it ends after two
+minutes at most, whatever it is."""
+import os
+import random
+import socket
+import subprocess
+import sys
+import tempfile
+import threading
+import time
+from collections import Counter
+
+import millicent
+from bank import Bank
+from pages import PAGE, PRICE, Vendor
+from serving import PROGRAM, Link, free_port
+
+KEEP, FIRST, SECONDS = 86_400, 10**6, 120
+ACCOUNT, MINTED = "ann", 50
+
+
+class Lossy:
+    """Links to a site that lose, cut, repeat and mix up what they carry."""
+
+    def __init__(self, site, counts):
+        self.site, self.counts = site, counts
+        self.is_whole, self.replies = False, []
+        self.listener = socket.create_server(("127.0.0.1", 0))
+        self.address = "127.0.0.1:%d" % self.listener.getsockname()[1]
+        threading.Thread(target=self.carry_all, daemon=True).start()
+
+    def carry_all(self):
+        while True:
+            try:
+                client, _ = self.listener.accept()
+            except OSError:
+                return
+            with client:
+                try:
+                    client.settimeout(10)
+                    self.carry(client)
+                except OSError:
+                    self.counts["links that broke"] += 1
+
+    def carry(self, client):
+        asked = received(client, b"\r\n\r\n")
+        if not asked:
+            self.counts["links without a request"] += 1
+            return
+        how = 0 if self.is_whole else random.random()
+        if how > 0.92:
+            self.counts["requests that were lost"] += 1
+            return
+        if how > 0.85:
+            self.counts["requests that were cut"] += 1
+            self.ask(asked[:random.randrange(len(asked))])
+            return
+        if how > 0.75:
+            self.counts["requests that came twice"] += 1
+            self.ask(asked)
+        reply = self.ask(asked)
+        client.sendall(self.changed(reply, how))
+        if reply:
+            self.replies.append(reply)
+
+    def ask(self, data):
+        """What the site replies; nothing where it does not serve."""
+        try:
+            with socket.create_connection(self.site.address, 10) as link:
+                link.sendall(data)
+                link.shutdown(socket.SHUT_WR)
+                return received(link)
+        except OSError:
+            self.counts["sites that did not reply"] += 1
+            return b""
+
+    def changed(self, reply, how):
+        if not reply or how < 0.4:
+            return reply
+        if how < 0.5:
+            self.counts["replies that were lost"] += 1
+            return b""
+        if how < 0.6:
+            self.counts["replies that were cut"] += 1
+            return reply[:random.randrange(len(reply))]
+        if how < 0.65:
+            self.counts["replies that were changed"] += 1
+            at = random.randrange(len(reply))
+            return reply[:at] + bytes((reply[at] ^ 1,)) + reply[at + 1:]
+        if how < 0.7 and self.replies:
+            self.counts["old replies"] += 1
+            return random.choice(self.replies)
+        return reply
+
+
+def received(link, end=None):
+    """What comes up to an end, or to the link's end."""
+    data = b""
+    while end is None or end not in data:
+        more = link.recv(65_536)
+        if not more:
+            break
+        data += more
+    return data
+
+
+class Wallet:
+    """A wallet whose commands are killed now and then."""
+
+    def __init__(self, folder, counts, wrong):
+        self.book, self.counts, self.wrong = os.path.join(folder, "wallet.book"), counts, wrong
+        self.is_killed, self.usual = False, 0.01
+        self.sure("init", "w")
+
+    def sure(self, command, *words, contents=b""):
+        """A command that is not killed, and ends with 0; what it says."""
+        status, said = self.run(command, *words, contents=contents)
+        assert status == 0, "wallet %s: status %d, %r" % (command, status, said)
+        return said
+
+    def run(self, command, *words, contents=b"", within=None):
+        """A command's status and what it says; -9 where it was killed within so many seconds."""
+        begun = time.monotonic()
+        wallet = subprocess.Popen([PROGRAM, "wallet", command, self.book, *words], stdin=subprocess.PIPE, stdout=subprocess.PIPE)
+        if within is not None:
+            time.sleep(within)
+            wallet.kill()
+        said, _ = wallet.communicate(contents, timeout=60)
+        if wallet.returncode == 0:
+            self.usual += (time.monotonic() - begun - self.usual) / 8
+        return wallet.returncode, said
+
+    def try_out(self, command, *words):
+        """A payment, which may be killed, and may end in each way that leaves the request kept or settled."""
+        within = random.uniform(0, 1.2 * self.usual) if self.is_killed and random.random() < 0.2 else None
+        status, said = self.run(command, *words, within=within)
+        number = said.split(b" ")[1].decode() if status == 7 else ""
+        self.counts["%s: %s" % (command, {-9: "killed", 0: "done"}.get(status, ("status %d %s" % (status, number)).strip()))] += 1
+        known = status in (-9, 0, 6) or status == 7 and number in ("62", "63", "64", "65", "66", "67", "68")
+        if not known:
+            self.wrong("wallet %s ended with status %d and said %r" % (command, status, said))
+        return status, said
+
+    def entries(self):
+        with open(self.book, "rb") as f:
+            return millicent.entries_of(f.read())
+
+
+class Village:
+    """A bank, a vendor with his licence at the bank and pieces in its stock, and a wallet."""
+
+    def __init__(self, folder):
+        self.counts, self.violations, self.order = Counter(), 0, 0
+        self.bank, self.news = Bank(folder, KEEP), Vendor(folder, "news.example", KEEP)
+        self.shop = Vendor(folder, "shop.example", KEEP)
+        self.sites = {"bank": self.bank, "news.example": self.news, "shop.example": self.shop}
+        self.bank.found()
+        self.bank.open(ACCOUNT, FIRST)
+        self.bank.command("licence", contents=self.news.licence())
+        self.bank.command("stock", "shop.example", contents=self.shop.mint(256, MINTED, "m1"))
+        self.links = {name: Lossy(site, self.counts) for name, site in self.sites.items()}
+        self.wallet = Wallet(folder, self.counts, self.wrong)
+        self.nobody = "127.0.0.1:%d" % free_port()
+
+    def wrong(self, what):
+        self.violations += 1
+        print("VIOLATION:", what, flush=True)
+
+    def connect(self, name):
+        return self.nobody if self.wallet.is_killed and random.random() < 0.02 else self.links[name].address
+
+    # What the customer does.
+
+    def step(self):
+        deed, name = random.random(), random.choice(("news.example", "shop.example"))
+        if deed < 0.2:
+            self.order += random.choice((1, 1, 1, 2))
+            self.wallet.try_out("draw", "bank", ACCOUNT, self.bank.keys[ACCOUNT].hex(), str(self.order), str(random.choice((60, 300, 1000))),
+                                self.connect("bank"))
+        elif deed < 0.45:
+            value = random.choice((50, 100, 20)) if name == "news.example" else MINTED
+            self.wallet.try_out("buy", "bank", name, str(value), str(value + 1), self.connect("bank"))
+        elif deed < 0.65:
+            status, said = self.wallet.try_out("get", name, PAGE.decode(), str(PRICE), self.connect(name))
+            if status == 0 and said != b"A page of %s.\n" % name.encode():
+                self.wrong("a page was said as %r" % said)
+        elif deed < 0.7:
+            self.wallet.try_out("get", "bank", "/credit/" + ACCOUNT, "1", self.connect("bank"))
+        else:
+            peer = random.choice(list(self.sites))
+            self.wallet.try_out("retry", peer, self.connect(peer))
+
+    def run(self, steps):
+        """The customer's commands, while sites are killed and started again."""
+        ended, until = threading.Event(), time.monotonic() + SECONDS
+        for site in self.sites.values():
+            site.start()
+        killer = threading.Thread(target=self.kill_sites, args=(ended,))
+        killer.start()
+        self.wallet.is_killed = True
+        while self.counts["commands"] < steps and time.monotonic() < until:
+            self.step()
+            self.counts["commands"] += 1
+        ended.set()
+        killer.join()
+        self.wallet.is_killed = False
+
+    def kill_sites(self, ended):
+        """Kills a site at some moment of every third command or so, and starts it again."""
+        while not ended.is_set():
+            for_commands = self.counts["commands"] + random.randint(1, 5)
+            while self.counts["commands"] < for_commands and not ended.wait(0.002):
+                pass
+            if ended.wait(random.uniform(0, self.wallet.usual)):
+                return
+            site = random.choice(list(self.sites.values()))
+            site.kill()
+            time.sleep(random.choice((0, random.uniform(0, self.wallet.usual))))
+            site.start()
+            self.counts["kills of sites"] += 1
+
+    # What it comes to.
+
+    def settle(self):
+        """Tries each kept request again over links that lose nothing."""
+        for name, link in self.links.items():
+            link.is_whole = True
+            for _ in range(1000):
+                status, said = self.wallet.try_out("retry", name, link.address)
+                if (status, said) == (7, b"refused 67 Nothing\n"):
+                    break
+            else:
+                self.wrong("a request to %s stays kept" % name)
+
+    def compare(self):
+        """The wallet's payments and draws beside the entries of the sites."""
+        entries = self.wallet.entries()
+        pends = {number: entry for number, entry in enumerate(entries) if entry.kind == millicent.PEND}
+        done = [(pends[entry.number], entry) for entry in entries if entry.kind == millicent.DONE]
+        taken = {name: self.taken(site) for name, site in self.sites.items()}
+        for asked, settled in done:
+            key = asked.scrip, asked.target
+            there = taken[asked.peer.decode()].pop(key, None)
+            if there is None:
+                self.wrong("%r is done, and the site has no such entry, or another one has it" % (key,))
+            elif there != (settled.price, None if settled.change is None else millicent.read_scrip(settled.change).id):
+                self.wrong("%r is done with %r, and the site has %r" % (key, settled, there))
+        for name, left in taken.items():
+            for key in left:
+                self.wrong("%s has %r, which the wallet has not as done" % (name, key))
+        self.counts["payments and draws that are done"] = len(done)
+
+    def taken(self, site):
+        """The price and the change of each request that a site took, by its scrip and its target; none is there twice."""
+        taken = {}
+        for entry in site.entries():
+            if entry.kind == millicent.ACCEPT:
+                key, value = (entry.scrip, entry.target), (entry.price, entry.change)
+            elif entry.kind == millicent.DRAW:
+                key, value = (None, entry.target), (millicent.read_errand(entry.target)[3], None)
+            else:
+                continue
+            if key in taken:
+                self.wrong("%s took %r twice" % (site.book, key))
+            taken[key] = value
+        return taken
+
+    def pay_out(self):
+        """Pays with each piece that the wallet holds, by itself: all are good."""
+        holdings = millicent.WalletBook(self.wallet.entries()).holdings()
+        lines = self.wallet.sure("list").decode().splitlines()
+        if [line.split(" ")[0] for line in lines] != [state for state, _, _ in holdings]:
+            self.wrong("the wallet's list is %r" % lines)
+        for state, text, secret in holdings:
+            self.counts["pieces that are %s" % state] += 1
+            if state == "held":
+                self.pay(text, secret)
+            elif state != "used":
+                self.wrong("the piece %r is %s" % (text, state))
+
+    def pay(self, text, secret):
+        """Pays with a piece: it is taken, or it is worth less than the page, as the site says and signs."""
+        piece = millicent.read_scrip(text)
+        target = b"/credit/" + ACCOUNT.encode() if piece.vendor == b"bank" else PAGE
+        asked = millicent.request(text, target, millicent.request_signature(text, target, secret), piece.vendor)
+        with Link(self.sites[piece.vendor.decode()].address) as link:
+            reply = millicent.Reply(link.ask(asked))
+        is_signed = millicent.reply_sign(text, target, reply, secret).hex().encode() == reply.field(b"Sign")
+        is_little = piece.value < PRICE and reply.field(b"Refusal") == b"31 TooLittle %d" % PRICE
+        if not is_signed or reply.status != b"200" and not is_little:
+            self.wrong("the held piece %r was answered %r" % (text, reply.whole))
+
+    def audit(self):
+        words = [PROGRAM, "audit", "report", *(site.book for site in self.sites.values())]
+        ran = subprocess.run(words, stdout=subprocess.PIPE)
+        if ran.returncode or not ran.stdout.endswith(b"\nbalanced\n"):
+            self.wrong("the audit ended with status %d and said %r" % (ran.returncode, ran.stdout))
+        print(ran.stdout.decode(), end="")
+
+
+def main():
+    steps = int(sys.argv[1]) if len(sys.argv) > 1 else 300
+    with tempfile.TemporaryDirectory(prefix="millicent-") as folder:
+        village = Village(folder)
+        try:
+            village.run(steps)
+            village.settle()
+            village.compare()
+            village.pay_out()
+        finally:
+            for site in village.sites.values():
+                site.end()
+        village.audit()
+    for what, count in sorted(village.counts.items() | {("violations", village.violations)}):
+        print("%8d  %s" % (count, what))
+    return village.violations > 0
+
+
+if __name__ == "__main__":
+    raise SystemExit(main())
