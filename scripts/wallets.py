@@ -3,8 +3,8 @@
 sites through links that lose requests and replies, cut them, repeat them and give old replies. In the end the wallet tries all
 again over links that lose nothing, and the second program compares the books: every payment that the wallet has as done is one
 entry of its site with the same price and change, no two are one, the sites took nothing else of the wallet's, every held piece
-is good, and the auditor finds the books balanced. The argument is the number of the wallet's commands (300); it ends after two
-minutes at most, whatever it is."""
+is good, and the auditor finds the books balanced. The arguments are the number of the wallet's commands (300), and after how many
+seconds it stops at most, whatever that is (120)."""
 import os
 import random
 import socket
@@ -20,7 +20,7 @@ from bank import Bank
 from pages import PAGE, PRICE, Vendor
 from serving import PROGRAM, Link, free_port
 
-KEEP, FIRST, SECONDS = 86_400, 10**6, 120
+KEEP, FIRST = 86_400, 10**6
 ACCOUNT, MINTED = "ann", 50
 
 
@@ -195,9 +195,9 @@ class Village:
             peer = random.choice(list(self.sites))
             self.wallet.try_out("retry", peer, self.connect(peer))
 
-    def run(self, steps):
-        """The customer's commands, while sites are killed and started again."""
-        ended, until = threading.Event(), time.monotonic() + SECONDS
+    def run(self, steps, seconds):
+        """The customer's commands, for so many seconds at most, while sites are killed and started again."""
+        ended, until = threading.Event(), time.monotonic() + seconds
         for site in self.sites.values():
             site.start()
         killer = threading.Thread(target=self.kill_sites, args=(ended,))
@@ -304,11 +304,11 @@ class Village:
 
 
 def main():
-    steps = int(sys.argv[1]) if len(sys.argv) > 1 else 300
+    steps, seconds = map(int, sys.argv[1:] + ["300", "120"][len(sys.argv) - 1 :])
     with tempfile.TemporaryDirectory(prefix="millicent-") as folder:
         village = Village(folder)
         try:
-            village.run(steps)
+            village.run(steps, seconds)
             village.settle()
             village.compare()
             village.pay_out()

@@ -13,11 +13,11 @@ ghost use Rattle.book_opening.specs.Opener.{Learns};
 ghost use Rattle.house_core.specs.Bench.{limits_of};
 ghost use Rattle.audit_cmd.specs.Reading.{Reads};
 
-use book_opening::LearnFault;
 use book_sums::BookSums;
-use house_core::{Bench, ReplayEnd, Trade};
+use house_core::{Bench, Trade};
 use mc_base::NoMemory;
 use mc_records::{Limits, Record};
+use scrip_journal::LearnFault;
 use std::alloc::Global;
 
 /// What reads the entries of one book: a bench with a trade of its kind tells which may follow, and sums keep of them what
@@ -56,8 +56,7 @@ impl<T: Trade> Reader<T> {
     {
         match self.bench.replay(r) {
             Ok(()) => (),
-            Err(ReplayEnd::Unlawful) => return Err(LearnFault::Unlawful),
-            Err(ReplayEnd::NoMemory) => return Err(LearnFault::NoMemory),
+            Err(fault) => return Err(fault),
         }
         match self.sums.learn(r) {
             Ok(()) => Ok(()),

@@ -6,14 +6,14 @@ ghost use Rattle.book_opening.specs.Opening.{CountedBy};
 ghost use Rattle.audit_cmd.specs.Reading.{kept_by, read_disk, wallets_disk, ReadsHouse, ReadsWallet, ReadsBook};
 
 use crate::reader::Reader;
-use book_opening::{LearnFault, Opener, open_book};
+use book_opening::{Opener, open_book};
 use book_sums::BookSums;
 use broker_core::Desk;
 use ledger_model::{BROKER_KIND, VENDOR_KIND};
 use mc_base::NoMemory;
 use mc_outside::Disk;
 use mc_records::{Limits, Record};
-use scrip_journal::HouseFault;
+use scrip_journal::{HouseFault, LearnFault};
 use std::alloc::Global;
 use vendor_core::Shelf;
 use wallet_core::open_wallet;

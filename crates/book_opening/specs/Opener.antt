@@ -2,8 +2,8 @@
 use Rattle.std.specs.Prelude.{ℕ, List, [], ◌∷◌, ◌++◌, Result, Ok, Err}
 use Rattle.mc_records.specs.Entry.{Entry}
 use Rattle.scrip_journal.specs.Causes.{FoundsSite}
-use Rattle.book_opening.specs.declared.opener.LearnFault.{LearnFault}
-use Rattle.book_opening.specs.declared.opener.LearnFault.TheVariants as faults
+use Rattle.scrip_journal.specs.declared.fault.LearnFault.{LearnFault}
+use Rattle.scrip_journal.specs.declared.fault.LearnFault.TheVariants as faults
 
 -- What an opener means, whose learners are of this type.
 pub record OpenerView (L : Type 0) : Type 1 where

@@ -5,5 +5,5 @@
 mod opener;
 mod opening;
 
-pub use opener::{LearnFault, Opener};
+pub use opener::Opener;
 pub use opening::open_book;

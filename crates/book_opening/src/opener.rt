@@ -9,16 +9,8 @@ ghost use Rattle.scrip_journal.specs.Causes.{FoundsSite};
 ghost use Rattle.book_opening.specs.Opener.{OpenerView, Learns, IsSite};
 
 use mc_records::Record;
+use scrip_journal::LearnFault;
 use std::alloc::Global;
-
-/// Why an entry was not learned.
-#[derive(Clone, Copy, Debug, PartialEq, Eq)]
-pub enum LearnFault {
-    /// It may not follow the entries before it.
-    Unlawful,
-    /// Memory was refused.
-    NoMemory,
-}
 
 /// Who opens a book: it says which entries may follow which, books of which kinds of site are opened, and
 /// what learns their entries.

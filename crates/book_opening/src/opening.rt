@@ -10,11 +10,11 @@ ghost use Rattle.scrip_journal.specs.declared.cursor.TheConstants.{FIRST_GATE};
 ghost use Rattle.scrip_journal.specs.declared.ending.Ending.TheVariants.{Closed};
 ghost use Rattle.book_opening.specs.Opening.{opened_disk, CountedBy, OpensBook, ReadOn, LearnedSome, LearnedAll, HaltsBy, HaltCounts, BeginsBy, LearnsNext, GoesFurther, fault_with};
 
-use crate::opener::{LearnFault, Opener};
+use crate::opener::Opener;
 use mc_outside::Disk;
 use mc_records::{Limits, Record};
 use scrip_journal::{
-    FIRST_GATE, HouseFault, Journal, OpenFault, Replay, ReplayFault, open_journal,
+    FIRST_GATE, HouseFault, Journal, LearnFault, OpenFault, Replay, ReplayFault, open_journal,
 };
 use std::alloc::Global;
 

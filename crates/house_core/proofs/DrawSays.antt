@@ -82,10 +82,11 @@ reply_drawn {b = b} {h = h} st q d ordered own =
     record {
       brings = contents_are st q.target d ordered own longer ∙ ap (λ (x : Contents). Some x) (sym new);
       within = omega (arith, st.counted, length-append h (e ∷ []));
+      own = tt;
       reply = ap (reply_of longer) (sym st.counted) ∙ own_reply h [] e
           ∙ ap (λ (o : Option Order). said (order_key h o) (order_amount o)) (order_is h q.target d ordered)
           ∙ ap₂ said ordered.key ordered.amount
-          ∙ ap (kept_reply r) (sym new);
+          ∙ ap (kept_reply longer r) (sym new);
     }
 
 -- ---- repeats

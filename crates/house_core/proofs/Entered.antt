@@ -11,7 +11,7 @@ use Rattle.scrip_form.specs.Identities.{series_of}
 use Rattle.scrip_form.specs.Issuing.{Issuing}
 use Rattle.scrip_form.specs.Scrip.{Scrip}
 use Rattle.mc_records.specs.declared.limits.Limits.{Limits}
-use Rattle.mc_records.specs.Entry.{House, Entry, Site, Accept, Mint, Draw, moment_of, payload}
+use Rattle.mc_records.specs.Entry.{House, Entry, Accept, Mint, Draw, moment_of, payload}
 use Rattle.mc_records.specs.Requests.{Asked}
 use Rattle.mc_records.proofs.SizeLaws.{length-tail, tail_size-more}
 use Rattle.kept_replies.specs.declared.deed.KeptEntry.{KeptEntry}
@@ -19,12 +19,12 @@ use Rattle.kept_replies.specs.Requests.{is_same_request}
 use Rattle.kept_replies.specs.Kept.{KeptReply, KeptView, is_in_time, found}
 use Rattle.spent_windows.specs.Windows.{WindowView, is_marked}
 use Rattle.ledger_model.specs.Histories.{History, time}
-use Rattle.ledger_model.specs.Houses.{site_name, site_kind, house, keeping, terms_of, all_terms, terms_by, version}
+use Rattle.ledger_model.specs.Houses.{keeping, terms_of, all_terms, version}
 use Rattle.ledger_model.specs.Pieces.{accepted_piece, accepted, handed_piece, own_out, minted_pieces, minted, in_series, own_count}
 use Rattle.ledger_model.specs.Sums.{price_paid, values}
 use Rattle.ledger_model.specs.Stages.{is_repeat}
 use Rattle.ledger_model.specs.Answer.{answer, Take}
-use Rattle.ledger_model.specs.Lawful.{IsLawful, MayFollow, IsAllowed, request_of, draw_request}
+use Rattle.ledger_model.specs.Lawful.{MayFollow, IsAllowed, request_of, draw_request}
 use Rattle.ledger_model.proofs.AcceptLaws.{accepted_snoc}
 use Rattle.ledger_model.proofs.SerialLaws.{own_out_snoc, minted_snoc, count-append}
 use Rattle.ledger_model.proofs.VersionLaws.{version-more}
@@ -32,22 +32,8 @@ use Rattle.ledger_model.proofs.FollowLaws.{may_follow, longer_lawful, size_snoc}
 use Rattle.house_core.specs.HouseState.{HouseStateView, ended_by, series_now, at_series, Growth, IsGrown, IsMarkedToo, IsKeptToo, count_handed, worth_handed, worth_redeemed}
 use Rattle.house_core.specs.Representation.{StateRepresents, IsReply, has_ended, of_series}
 use Rattle.house_core.proofs.EndLaws.{ended_kept}
+use Rattle.house_core.proofs.FirstEntry.{same_house, own_terms_stay}
 use Rattle.house_core.proofs.Replied.{reply_kept}
-
--- ---- what the first entry founds
-
-pub record SameHouse (h k : History) : Type 0 where
-  pub name : site_name k ≡ site_name h
-  pub house : house k ≡ house h
-  pub kind : site_kind k ≡ site_kind h
-
-pub same_house : (limits : Limits) (h : History) (e : Entry) → IsLawful limits h → SameHouse h (h ++ e ∷ [])
-same_house limits [] e lawful = absurd lawful
-same_house limits (Site m k name house ∷ xs) e lawful = record { name = refl; house = refl; kind = refl }
-same_house limits (x ∷ xs) e lawful = record { name = refl; house = refl; kind = refl }
-
-pub kind_stays : (limits : Limits) (h : History) (e : Entry) → IsLawful limits h → site_kind (h ++ e ∷ []) ≡ site_kind h
-kind_stays limits h e lawful = (same_house limits h e lawful).kind
 
 -- ---- the time
 
@@ -238,8 +224,7 @@ stands_more {old = old} {new = new} {h = h} st e g says may is =
       clear = ap (λ (o : Option House). unwrap_or (option_map (λ x. x.clear) o) false) same.house ∙ st.clear ∙ sym is.clear;
       keep = ap (λ (o : Option House). unwrap_or (option_map (λ x. x.keep) o) 0) same.house ∙ st.keep ∙ sym (keep_stays old.kept new.kept g.kept is.kept);
       terms = terms ∙ ap₂ (λ (xs ys : List Issuing). xs ++ ys) st.terms says.terms ∙ sym is.terms;
-      own_terms = ap (λ (ts : List Issuing). terms_by ts 0) terms ∙ find-append (λ t. t.issuer == 0) (all_terms h) (all_terms (e ∷ []))
-          ∙ ap (λ (o : Option Issuing). option_or o (terms_by (all_terms (e ∷ [])) 0)) st.own_terms ∙ ap some (sym is.issuer);
+      own_terms = own_terms_stay h e old.own.terms st.own_terms ∙ ap some (sym is.issuer);
       in_time = omega (arith, time_snoc h e, st.in_time, is.time, says.moment);
       spent = λ id live.
           let before : has_ended h old.time id ≡ false =
@@ -252,7 +237,7 @@ stands_more {old = old} {new = new} {h = h} st e g says may is =
           ∙ ap₂ (λ (o : Option ℕ) (b : Bool). option_or o (cond b (Some (length h)) None)) (st.again t q (omega (arith, later, is.time))) (says.repeats (keeping h) t q)
           ∙ ap₂ (λ (keep n : ℕ). option_or (number_found old.kept t q) (cond (is_repeat_of keep t q g.kept) (Some n) None)) st.keep st.counted
           ∙ found_more old.kept new.kept g.kept old.count t q says.number is.kept;
-      replies = replies_more old.kept new.kept g.kept (IsReply (h ++ e ∷ [])) says.reply is.kept (All-weaker (IsReply h) (IsReply (h ++ e ∷ [])) (λ r. reply_kept h e r) old.kept.replies st.replies);
+      replies = replies_more old.kept new.kept g.kept (IsReply (h ++ e ∷ [])) says.reply is.kept (All-weaker (IsReply h) (IsReply (h ++ e ∷ [])) (λ r. reply_kept st e r) old.kept.replies st.replies);
       issued = λ s. own_count_snoc h e s
           ∙ ap₂ (λ (m n : ℕ). m + n) (ap₂ (λ (m n : ℕ). m + n) (st.issued s) (ap (λ (o : Option Scrip). in_series (option_to_list o) s) says.handed ∙ count_more series s g.handed says.series)) (says.minted s)
           ∙ sym (is.issued s);

@@ -6,10 +6,9 @@ use Rattle.std.proofs.lemmas.List.Elements.{All-head, All-tail, All-push, All-we
 use Rattle.mc_base.specs.declared.amount.TheConstants.Amount.{MOST}
 use Rattle.scrip_form.specs.Identities.{series_of}
 use Rattle.scrip_form.specs.Issuing.{Issuing, epoch}
-use Rattle.scrip_form.specs.Scrip.{Scrip, IsPiece, scrip_body}
+use Rattle.scrip_form.specs.Scrip.{Scrip, IsPiece}
 use Rattle.mc_records.specs.declared.limits.Limits.{Limits}
 use Rattle.mc_records.specs.Requests.{Asked}
-use Rattle.ledger_model.specs.Houses.{certificate_in}
 use Rattle.kept_replies.specs.Requests.{is_same_request}
 use Rattle.kept_replies.specs.Kept.{KeptReply, KeptView, is_in_time, has_request, has_number, inserted, change_size}
 use Rattle.kept_replies.proofs.InsertLaws.{inserted_last}
@@ -17,7 +16,7 @@ use Rattle.change_issue.specs.Registers.{Register, count_in, issued_in, redeemed
 use Rattle.change_issue.specs.IssuedPieces.{issued_piece}
 use Rattle.house_core.specs.declared.verdict.Authorization.{Authorization}
 use Rattle.spent_windows.specs.Windows.{WindowView, is_marked, end_of, later_than}
-use Rattle.house_core.specs.HouseState.{HouseStateView, end_by, IsSound, Growth, IsGrown, IsMarkedToo, IsKeptToo, IsEntered, version_of, size_with, series_now, change_made, certified_change, at_series, count_handed, worth_handed, worth_redeemed, change_count, change_worth, accept_growth}
+use Rattle.house_core.specs.HouseState.{HouseStateView, end_by, IsSound, Growth, IsGrown, IsMarkedToo, IsKeptToo, IsEntered, size_with, series_now, change_made, at_series, count_handed, worth_handed, worth_redeemed, change_count, change_worth, accept_growth}
 use Rattle.house_core.proofs.EndLaws.{end_kept, EndInTime, ends_dropped}
 
 -- ---- a later time
@@ -100,27 +99,12 @@ at_most series n s = go (eqb series s)
 zero_at : (series s : ℕ) → at_series series 0 s ≡ 0
 zero_at series s = omega (arith, at_most series 0 s)
 
--- what is kept of the change
-pub change_is : (old : HouseStateView) (paid : Scrip) (price : ℕ) (change : Option ℕ) (piece : Option Scrip) (made : Option (Scrip × List ℕ))
-    → piece ≡ option_map (λ id. issued_piece old.own.terms old.time old.name (paid.value - price) id (Some paid.cust) paid.props) change
-    → made ≡ option_map (λ p. (p, certificate_in (version_of old (series_of p.id)) old.own.terms (scrip_body p) p.id)) piece
-    → made ≡ option_map (certified_change old paid price) change
-change_is old paid price change piece made is_piece is_made = is_made ∙ ap certify is_piece ∙ go change
-  where
-    certify : Option Scrip → Option (Scrip × List ℕ)
-    certify o = option_map (λ p. (p, certificate_in (version_of old (series_of p.id)) old.own.terms (scrip_body p) p.id)) o
-
-    go : (o : Option ℕ) → certify (option_map (λ id. issued_piece old.own.terms old.time old.name (paid.value - price) id (Some paid.cust) paid.props) o) ≡ option_map (certified_change old paid price) o
-    go None = refl
-    go (Some id) = refl
-
 -- the change has the name of the house and the properties of the piece
-pub change_fits : (terms : Issuing) (time worth : ℕ) (name : List ℕ) (cust : ℕ) (props : List ℕ) (certify : Scrip → List ℕ) (change : Option ℕ) (piece : Option Scrip) (made : Option (Scrip × List ℕ))
-    → piece ≡ option_map (λ id. issued_piece terms time name worth id (Some cust) props) change → made ≡ option_map (λ p. (p, certify p)) piece
-    → change_size made ≡ cond (is_some change) (length name + length props) 0
-change_fits terms time worth name cust props certify change piece made is_piece is_made = ap change_size (is_made ∙ ap (option_map (λ p. (p, certify p))) is_piece) ∙ go change
+pub change_fits : (terms : Issuing) (time worth : ℕ) (name : List ℕ) (cust : ℕ) (props : List ℕ) (change : Option ℕ) (piece : Option Scrip)
+    → piece ≡ option_map (λ id. issued_piece terms time name worth id (Some cust) props) change → change_size piece ≡ cond (is_some change) (length name + length props) 0
+change_fits terms time worth name cust props change piece is = ap change_size is ∙ go change
   where
-    go : (o : Option ℕ) → change_size (option_map (λ p. (p, certify p)) (option_map (λ id. issued_piece terms time name worth id (Some cust) props) o)) ≡ cond (is_some o) (length name + length props) 0
+    go : (o : Option ℕ) → change_size (option_map (λ id. issued_piece terms time name worth id (Some cust) props) o) ≡ cond (is_some o) (length name + length props) 0
     go None = refl
     go (Some id) = refl
 
@@ -137,21 +121,19 @@ change_valued : (old : HouseStateView) (paid : Scrip) (price : ℕ) (change : Op
 change_valued old paid price None s = zero_at (series_now old) s
 change_valued old paid price (Some id) s = refl
 
-pub entered : (old : HouseStateView) (spent : List WindowView) (kept : KeptView) (own : Register) (takings size : ℕ) (q : Asked) (paid : Scrip) (a : Authorization) (piece : Option Scrip) (made : Option (Scrip × List ℕ)) → IsSound old → epoch old.own.terms old.time < 2 ^ 24
+pub entered : (old : HouseStateView) (spent : List WindowView) (kept : KeptView) (own : Register) (takings size : ℕ) (q : Asked) (paid : Scrip) (a : Authorization) (piece : Option Scrip) → IsSound old → epoch old.own.terms old.time < 2 ^ 24
     → ((k : ℕ) → is_marked spent k ≡ (is_marked old.spent k || (paid.id == k))) → ((k : ℕ) → end_of spent k ≡ end_of old.spent k)
     → kept.keep ≡ old.kept.keep
-    → kept.replies ≡ inserted (record { asked = q; entry = record { number = old.count; moment = old.time; price = a.price; change = made; secret = a.secret; deed = a.deed } }) old.kept.replies
+    → kept.replies ≡ inserted (record { asked = q; entry = record { number = old.count; moment = old.time; price = a.price; change = piece; secret = a.secret; deed = a.deed } }) old.kept.replies
     → piece ≡ option_map (λ id. issued_piece old.own.terms old.time old.name (paid.value - a.price) id (Some paid.cust) paid.props) a.change
-    → made ≡ option_map (λ p. (p, certificate_in (version_of old (series_of p.id)) old.own.terms (scrip_body p) p.id)) piece
     → own.terms ≡ old.own.terms → own.most ≡ old.own.most
     → ((s : ℕ) → count_in own s ≡ count_in old.own s + at_series (series_now old) (change_count a.change) s)
     → ((s : ℕ) → issued_in own s ≡ issued_in old.own s + at_series (series_now old) (change_worth a.price paid.value a.change) s)
     → ((s : ℕ) → redeemed_in own s ≡ redeemed_in old.own s + at_series (series_of paid.id) paid.value s)
     → takings ≡ old.takings + min a.price paid.value → size ≡ size_with old a.payload
     → IsEntered old (record old { spent = spent; kept = kept; own = own; takings = takings; count = old.count + 1; size = size }) q paid a
-entered old spent kept own takings size q paid a piece made sound short marks same_ends keep replies is_piece is_made terms most count worth redeemed took grown =
-    let change = change_is old paid a.price a.change piece made is_piece is_made in
-    let reply : Option (Scrip × List ℕ) → KeptReply = λ c. record { asked = q; entry = record { number = old.count; moment = old.time; price = a.price; change = c; secret = a.secret; deed = a.deed } } in
+entered old spent kept own takings size q paid a piece sound short marks same_ends keep replies is_piece terms most count worth redeemed took grown =
+    let reply : Option Scrip → KeptReply = λ c. record { asked = q; entry = record { number = old.count; moment = old.time; price = a.price; change = c; secret = a.secret; deed = a.deed } } in
     record {
       name = refl;
       clear = refl;
@@ -162,7 +144,7 @@ entered old spent kept own takings size q paid a piece made sound short marks sa
       spent = record { marked = marks; ends = same_ends };
       kept = record {
         keep = keep;
-        replies = replies ∙ inserted_last (reply made) old.kept.replies sound.numbers ∙ ap (λ (c : Option (Scrip × List ℕ)). old.kept.replies ++ reply c ∷ []) change;
+        replies = replies ∙ inserted_last (reply piece) old.kept.replies sound.numbers ∙ ap (λ (c : Option Scrip). old.kept.replies ++ reply c ∷ []) is_piece;
       };
       issuer = terms;
       most = most;

@@ -8,6 +8,8 @@ pub mod EndLaws
 pub mod WindowCounts
 pub mod Entering
 pub mod Drawn
+pub mod FirstEntry
+pub mod SpellLaws
 pub mod Replied
 pub mod Entered
 pub mod AcceptSays

@@ -1,6 +1,6 @@
 -- Kept replies, after one more entry.
-use Rattle.std.proofs.Common.{◌≡◌, ℕ, ◌-◌, ◌<◌, ◌≤◌, ◌^◌, not, List, [], ◌∷◌, ◌++◌, length, take, Option, Some, None, Ok, refl, sym, ap, ap₂, ◌∙◌, arith, eqb, bytes_eq, length-append}
-use Rattle.std.specs.Prelude.{option_map, option_and_then, unwrap_or, IfSome}
+use Rattle.std.proofs.Common.{◌≡◌, ℕ, ◌-◌, ◌<◌, ◌≤◌, ◌^◌, not, List, [], ◌∷◌, ◌++◌, length, take, Option, Some, None, Ok, refl, sym, ap, ap₂, subst, ◌∙◌, arith, eqb, bytes_eq, length-append}
+use Rattle.std.specs.Prelude.{codes, option_map, option_and_then, unwrap_or, IfSome}
 use Rattle.std.proofs.lemmas.List.{take-append-le, take_all}
 use Rattle.scrip_form.specs.Identities.{issuer_of, epoch_of, series_of}
 use Rattle.scrip_form.specs.Issuing.{Issuing, epoch, series_end}
@@ -20,10 +20,11 @@ use Rattle.ledger_model.proofs.TableLaws.{line_ok, given_ok, ok_is}
 use Rattle.ledger_model.proofs.ReplyLaws.{own_reply, reply_stays}
 use Rattle.house_core.specs.declared.verdict.Authorization.{Authorization}
 use Rattle.house_core.specs.Views.{entry_deed}
-use Rattle.house_core.specs.HouseState.{HouseStateView, HasChange, version_of, series_now, kept_entry, change_made, certified_change}
+use Rattle.house_core.specs.HouseState.{HouseStateView, HasChange, version_of, series_now, kept_entry, change_made, own_scrip}
 use Rattle.house_core.specs.Trade.{BringsFor}
 use Rattle.house_core.specs.Representation.{StateRepresents, IsReply, brought_then, kept_reply, scrip_request}
 use Rattle.house_core.specs.Verdicts.{accept_entry, IsReady}
+use Rattle.house_core.proofs.FirstEntry.{same_house, own_text_stays}
 use Rattle.house_core.proofs.Tabled.{genuine_stands, terms_are_of}
 use Rattle.house_core.proofs.KeptLaws.{contents_stay, get_stays, get_next}
 
@@ -43,15 +44,23 @@ brought_new h e n is =
 
 -- ---- a reply that was kept
 
+-- a reply is spelled as it was
+spelled_stays : {b : HouseStateView} {h : History} → StateRepresents b h → (e : Entry) (r : KeptReply) (contents : Contents) → kept_reply h r contents ≡ kept_reply (h ++ e ∷ []) r contents
+spelled_stays {b = b} {h = h} st e r contents =
+    let said : (Scrip → List ℕ) → List ℕ = λ spell. taken_reply (Some r.entry.secret) (unwrap_or r.asked.scrip (codes "-")) r.asked.target contents
+    (taken_values r.entry.moment contents r.entry.price (option_map spell r.entry.change)) in
+    ap said (sym (own_text_stays h e b.own.terms st.own_terms))
+
 -- later entries leave a reply as it is
-pub reply_kept : (h : History) (e : Entry) (r : KeptReply) → IsReply h r → IsReply (h ++ e ∷ []) r
-reply_kept h e r is =
+pub reply_kept : {b : HouseStateView} {h : History} → StateRepresents b h → (e : Entry) (r : KeptReply) → IsReply h r → IsReply (h ++ e ∷ []) r
+reply_kept {b = b} {h = h} st e r is =
     let n = r.entry.number in
     let then' : brought_then (h ++ e ∷ []) n ≡ brought_then h n = brought_stays h (e ∷ []) n is.within in
     record {
       brings = contents_stay h (e ∷ []) r.entry.deed (brought_then h n) is.brings ∙ ap (λ (x : Contents). Some x) (sym then');
       within = omega (arith, is.within, length-append h (e ∷ []));
-      reply = reply_stays h (e ∷ []) n is.within ∙ is.reply ∙ ap (kept_reply r) (sym then');
+      own = subst (λ (name : List ℕ). IfSome r.entry.change (λ p. p.vendor ≡ name)) (sym (same_house b.limits h e st.lawful).name) is.own;
+      reply = reply_stays h (e ∷ []) n is.within ∙ is.reply ∙ spelled_stays st e r (brought_then h n) ∙ ap (kept_reply (h ++ e ∷ []) r) (sym then');
     }
 
 -- ---- a new reply
@@ -113,17 +122,20 @@ handed_is {b = b} {h = h} st target a piece most has short = go a.change has sho
         ∙ ap (λ (p : Scrip). Some p) (change_is st paid a.price id short (omega (arith, most, has.1)) has.2)
 
 -- the text of a piece of the house's own
-pub own_text_is : {b : HouseStateView} {h : History} → StateRepresents b h → (p : Scrip) → p.vendor ≡ b.name
-    → own_text h p ≡ scrip_text p (certificate_in (version_of b (series_of p.id)) b.own.terms (scrip_body p) p.id)
+pub own_text_is : {b : HouseStateView} {h : History} → StateRepresents b h → (p : Scrip) → p.vendor ≡ b.name → own_text h p ≡ own_scrip b p
 own_text_is {b = b} {h = h} st p own =
     let text : (ℕ → ℕ) → Option Issuing → List ℕ = λ v o. scrip_text p (unwrap_or (option_map (λ t. certificate_in (v (series_of p.id)) t (scrip_body p) p.id) o) []) in
     let versions : version h p.vendor ≡ version_of b = ap (version h) (own ∙ sym st.name) ∙ st.version in
     ap₂ text versions st.own_terms
 
-change_texts : {b : HouseStateView} {h : History} → StateRepresents b h → (paid : Scrip) (price : ℕ) (change : Option ℕ)
-    → option_map (own_text h) (option_map (change_made b paid price) change) ≡ option_map (λ x. scrip_text x.0 x.1) (option_map (certified_change b paid price) change)
-change_texts st paid price None = refl
-change_texts {b = b} st paid price (Some id) = ap some (own_text_is st (change_made b paid price id) refl)
+-- that of change that may be there
+pub change_text_is : {b : HouseStateView} {h : History} → StateRepresents b h → (o : Option Scrip) → IfSome o (λ p. p.vendor ≡ site_name h) → option_map (own_text h) o ≡ option_map (own_scrip b) o
+change_text_is st None own = refl
+change_text_is st (Some p) own = ap some (own_text_is st p (own ∙ st.name))
+
+change_is_own : (b : HouseStateView) (paid : Scrip) (price : ℕ) (name : List ℕ) (change : Option ℕ) → b.name ≡ name → IfSome (option_map (change_made b paid price) change) (λ p. p.vendor ≡ name)
+change_is_own b paid price name None is = tt
+change_is_own b paid price name (Some id) is = is
 
 -- the reply to a new entry
 pub reply_new : {b : HouseStateView} {h : History} → StateRepresents b h → (q : Asked) (a : Authorization) → piece_of a.scrip.now.text ≡ Some a.scrip.now.piece → IsReady b q.target a → b.own.most ≤ 2 ^ 32
@@ -135,14 +147,16 @@ reply_new {b = b} {h = h} st q a piece ready most short brings =
     let contents = brought h q.target (entry_deed a.deed) in
     let r : KeptReply = record { asked = scrip_request a.scrip.now.text q.target q.sign; entry = kept_entry b a.scrip.now.piece a } in
     let secret : secret_for h a.scrip.now.text ≡ Some a.secret = secret_is h a.scrip.now a.secret piece (genuine_stands st a.scrip.now ∙ ready.secret) in
-    let changes = ap (option_map (own_text h)) (handed_is st q.target a piece most ready.change short) ∙ change_texts st a.scrip.now.piece a.price a.change in
+    let changes = ap (option_map (own_text h)) (handed_is st q.target a piece most ready.change short) in
     let new : brought_then longer b.count ≡ contents = brought_new h e b.count (sym st.counted) in
     let said : Option (List ℕ) → Option (List ℕ) → List ℕ = λ s o. taken_reply s a.scrip.now.text q.target contents (taken_values b.time contents a.price o) in
     record {
       brings = contents_stay h (e ∷ []) a.deed contents brings ∙ ap (λ (x : Contents). Some x) (sym new);
       within = omega (arith, st.counted, length-append h (e ∷ []));
+      own = change_is_own b a.scrip.now.piece a.price (site_name longer) a.change (sym st.name ∙ sym (same_house b.limits h e st.lawful).name);
       reply = ap (reply_of longer) (sym st.counted) ∙ own_reply h [] e
           ∙ ap (λ (s : Option (List ℕ)). said s (option_map (own_text h) (change_piece h e))) secret
           ∙ ap (said (Some a.secret)) changes
-          ∙ ap (kept_reply r) (sym new);
+          ∙ spelled_stays st e r contents
+          ∙ ap (kept_reply longer r) (sym new);
     }

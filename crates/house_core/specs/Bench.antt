@@ -16,8 +16,8 @@ use Rattle.house_core.specs.declared.verdict.NotAuthorized.{NotAuthorized}
 use Rattle.house_core.specs.declared.verdict.NotAuthorized.TheVariants as stops
 use Rattle.house_core.specs.declared.verdict.EnterFault.{EnterFault}
 use Rattle.house_core.specs.declared.verdict.EnterFault.TheVariants as enters
-use Rattle.house_core.specs.declared.replaying.ReplayEnd.{ReplayEnd}
-use Rattle.house_core.specs.declared.replaying.ReplayEnd.TheVariants as ends
+use Rattle.scrip_journal.specs.declared.fault.LearnFault.{LearnFault}
+use Rattle.scrip_journal.specs.declared.fault.LearnFault.TheVariants as ends
 use Rattle.house_core.specs.declared.verdict.BenchFault.{BenchFault}
 use Rattle.house_core.specs.declared.verdict.BenchFault.TheVariants as faults
 use Rattle.house_core.specs.Representation.{StateRepresents}
@@ -134,14 +134,14 @@ Enters trade b limits h e (Err enters.NoMemory) = Represents trade b h
 
 -- Of an entry that accepts nothing and fits: it may follow, and is entered under the next number; or it
 -- may not follow, or there is no memory for it, and the house stays as it was.
-abbrev pub Follows : {T : Type 0} → (T → TradeView) → Bench T → Limits → History → Entry → Result ℕ ReplayEnd → Type 0
+abbrev pub Follows : {T : Type 0} → (T → TradeView) → Bench T → Limits → History → Entry → Result ℕ LearnFault → Type 0
 Follows trade b limits h e (Ok n) = MayFollow limits h e × (n ≡ length h) × Represents trade b (h ++ e ∷ [])
 Follows trade b limits h e (Err ends.Unlawful) = (MayFollow limits h e → ⊥) × Represents trade b h
 Follows trade b limits h e (Err ends.NoMemory) = Represents trade b h
 
 -- Of the next entry of a history: it may follow, and the house represents the history with it, at its
 -- moment; or it may not follow; or there is no memory for it.
-abbrev pub Replays : {T : Type 0} → (T → TradeView) → Bench T → Limits → History → Entry → Result (Unit {0}) ReplayEnd → Type 0
+abbrev pub Replays : {T : Type 0} → (T → TradeView) → Bench T → Limits → History → Entry → Result (Unit {0}) LearnFault → Type 0
 Replays trade b limits h e (Ok u) = MayFollow limits h e × Represents trade b (h ++ e ∷ []) × (house_time b ≡ moment_of e)
 Replays trade b limits h e (Err ends.Unlawful) = MayFollow limits h e → ⊥
 Replays trade b limits h e (Err ends.NoMemory) = Unit {0}

@@ -3,7 +3,7 @@ use Rattle.std.specs.Prelude.{◌≡◌, ℕ, ◌+◌, ◌-◌, ◌*◌, ◌<◌
 use Rattle.mc_base.specs.declared.amount.TheConstants.Amount.{MOST}
 use Rattle.scrip_form.specs.Identities.{issuer_of, epoch_of, series_of}
 use Rattle.scrip_form.specs.Issuing.{Issuing, epoch, series_at, series_end}
-use Rattle.scrip_form.specs.Scrip.{Scrip, scrip_body}
+use Rattle.scrip_form.specs.Scrip.{Scrip, scrip_body, scrip_text}
 use Rattle.mc_records.specs.declared.limits.TheConstants.Limits.{MOST_JOURNAL}
 use Rattle.mc_records.specs.declared.limits.Limits.{Limits}
 use Rattle.mc_records.specs.Limits.{AreInRange}
@@ -57,6 +57,10 @@ series_now b = series_at b.own.terms b.time
 abbrev pub version_of : HouseStateView → ℕ → ℕ
 version_of b = version [] b.name
 
+-- the scrip text of a piece of the house's own
+abbrev pub own_scrip : HouseStateView → Scrip → List ℕ
+own_scrip b p = scrip_text p (certificate_in (version_of b (series_of p.id)) b.own.terms (scrip_body p) p.id)
+
 -- how many bytes the tail of the next entry has: as many as that of the first
 abbrev pub tail_of : HouseStateView → ℕ
 tail_of b = tail_size []
@@ -95,12 +99,9 @@ pub record HasRoom (b : HouseStateView) (q : Asked) (pieces id : ℕ) : Type 0 w
 abbrev pub HasChange : HouseStateView → ℕ → ℕ → Option ℕ → Type 0
 HasChange b price value change = MatchOption change (value ≤ price) (λ id. (price < value) × (count_in b.own (series_now b) < b.own.most) × (id ≡ next_in b.own (series_now b)))
 
--- the change of a piece at a price, under an identity, with its certificate
+-- the change of a piece at a price, under an identity
 abbrev pub change_made : HouseStateView → Scrip → ℕ → ℕ → Scrip
 change_made b paid price id = issued_piece b.own.terms b.time b.name (paid.value - price) id (Some paid.cust) paid.props
-
-abbrev pub certified_change : HouseStateView → Scrip → ℕ → ℕ → Scrip × List ℕ
-certified_change b paid price id = (change_made b paid price id, certificate_in (version_of b (series_of id)) b.own.terms (scrip_body (change_made b paid price id)) id)
 
 -- what is kept of the entry of an authorization
 abbrev pub kept_entry : HouseStateView → Scrip → Authorization → KeptEntry
@@ -108,7 +109,7 @@ kept_entry b paid a = record {
   number = b.count;
   moment = b.time;
   price = a.price;
-  change = option_map (certified_change b paid a.price) a.change;
+  change = option_map (change_made b paid a.price) a.change;
   secret = a.secret;
   deed = a.deed;
 }

@@ -1,7 +1,7 @@
 -- Which entries a trade may learn: the lawfulness of an entry in two halves, of which the house tells
 -- one and the trade the other.
-use Rattle.std.specs.Prelude.{◌≡◌, ℕ, ◌+◌, ◌<◌, ◌≤◌, ◌⊎◌, IsTrue, IsFalse, IsNone, IsSome, [], ◌∷◌, ◌++◌, length, Some}
-use Rattle.mc_records.specs.declared.ranges.TheConstants.{MOST_CONTENTS, MOST_IN_ACCOUNT}
+use Rattle.std.specs.Prelude.{◌≡◌, ℕ, ◌+◌, ◌≤◌, ◌⊎◌, IsTrue, IsFalse, IsNone, IsSome, [], ◌∷◌, ◌++◌, length, Some}
+use Rattle.mc_records.specs.declared.ranges.TheConstants.{MOST_IN_ACCOUNT}
 use Rattle.mc_records.specs.declared.limits.Limits.{Limits}
 use Rattle.mc_records.specs.Entry.{Entry, Site, AddTerms, Goods, Accept, Mint, Account, Deposit, Withdraw, Draw, Licence, Stock, Fits, moment_of}
 use Rattle.ledger_model.specs.declared.numbers.TheConstants.{VENDOR_KIND, BROKER_KIND, MOST_IN_FORCE}

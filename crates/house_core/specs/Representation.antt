@@ -1,7 +1,7 @@
 -- What a house keeps says what its history says, part by part.
-use Rattle.std.specs.Prelude.{◌≡◌, ℕ, ◌≤◌, ◌==◌, Bool, false, List, codes, filter, length, Option, Some, option_map, unwrap_or, position, slice_get, ◌<◌, take, All}
+use Rattle.std.specs.Prelude.{◌≡◌, ℕ, ◌≤◌, ◌==◌, Bool, false, List, codes, filter, length, Option, Some, option_map, unwrap_or, position, slice_get, ◌<◌, take, All, IfSome}
 use Rattle.scrip_form.specs.Identities.{series_of}
-use Rattle.scrip_form.specs.Scrip.{Scrip, scrip_text}
+use Rattle.scrip_form.specs.Scrip.{Scrip}
 use Rattle.mc_records.specs.Limits.{AreInRange}
 use Rattle.mc_records.specs.Requests.{Asked}
 use Rattle.mc_records.specs.Sizes.{tail_size, size}
@@ -12,7 +12,7 @@ use Rattle.ledger_model.specs.Houses.{site_name, keeping, is_clear, all_terms, t
 use Rattle.ledger_model.specs.Pieces.{accepted, is_spent, own_out, own_count}
 use Rattle.ledger_model.specs.Sums.{values, takings}
 use Rattle.ledger_model.specs.Stages.{is_repeat}
-use Rattle.ledger_model.specs.Replies.{Contents, no_contents, contents_after, taken_values, taken_reply, reply_of}
+use Rattle.ledger_model.specs.Replies.{Contents, no_contents, contents_after, own_text, taken_values, taken_reply, reply_of}
 use Rattle.ledger_model.specs.Lawful.{IsLawful}
 use Rattle.house_core.specs.HouseState.{HouseStateView, ended_by, version_of, tail_of}
 use Rattle.spent_windows.specs.Windows.{is_marked}
@@ -31,18 +31,20 @@ scrip_request text target sign = record { target = target; scrip = Some text; si
 abbrev pub brought_then : History → ℕ → Contents
 brought_then h n = unwrap_or (option_map (contents_after (take n h)) (slice_get h n)) no_contents
 
--- the reply that is made of what is kept, and of what it brings: the text that stands for the scrip of a draw is `-`
-abbrev pub kept_reply : KeptReply → Contents → List ℕ
-kept_reply r contents =
+-- The reply that is made of what is kept, and of what it brings: the change is spelled by the house's own terms, and
+-- the text that stands for the scrip of a draw is `-`.
+abbrev pub kept_reply : History → KeptReply → Contents → List ℕ
+kept_reply h r contents =
     taken_reply (Some r.entry.secret) (unwrap_or r.asked.scrip (codes "-")) r.asked.target contents
-    (taken_values r.entry.moment contents r.entry.price (option_map (λ c. scrip_text c.0 c.1) r.entry.change))
+    (taken_values r.entry.moment contents r.entry.price (option_map (own_text h) r.entry.change))
 
 -- The first reply to the entry is made of what is kept of it, and of what the entry brought, which is
--- what the kept deed brings.
+-- what the kept deed brings. The change is scrip of the house.
 pub record IsReply (h : History) (r : KeptReply) : Type 0 where
   pub brings : brought_by h r.entry.deed ≡ Some (brought_then h r.entry.number)
   pub within : r.entry.number < length h
-  pub reply : reply_of h r.entry.number ≡ kept_reply r (brought_then h r.entry.number)
+  pub own : IfSome r.entry.change (λ p. p.vendor ≡ site_name h)
+  pub reply : reply_of h r.entry.number ≡ kept_reply h r (brought_then h r.entry.number)
 
 -- the pieces of a series
 abbrev pub of_series : ℕ → List Scrip → List Scrip

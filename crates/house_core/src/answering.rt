@@ -106,7 +106,14 @@ impl<T: Trade> Bench<T> {
             unreachable!();
         };
         let body = self.trade.body(&entry.deed, &mut room.contents);
-        taken_reply(&q, &entry, &body, &mut room.change, &mut room.page)
+        taken_reply(
+            &self.state,
+            &q,
+            &entry,
+            &body,
+            &mut room.change,
+            &mut room.page,
+        )
     }
 
     /// The reply to a request that is refused at the house time.

@@ -27,7 +27,6 @@ use crate::house_state::HouseState;
 use crate::offer::Unlawful;
 use crate::presented::Presented;
 use crate::ranges::{authorization_fits, draw_fits};
-use crate::replaying::ReplayEnd;
 use crate::stages::fitted;
 use crate::tally::Tally;
 use crate::trade::Trade;
@@ -37,6 +36,7 @@ use crate::verdict::{
 use kept_replies::{Deed, KeptNumber};
 use mc_base::{Moment, NoMemory};
 use mc_records::{Limits, PieceList, Record, RecordDeed, Refusal, Request, payloads_are_short};
+use scrip_journal::LearnFault;
 use std::alloc::Global;
 
 /// A house without a journal: its state and the trade that it carries.
@@ -289,14 +289,14 @@ impl<T: Trade> Bench<T> {
         }
         match self.room_for(r) {
             Ok(()) => Ok(bytes),
-            Err(ReplayEnd::Unlawful) => Err(EnterFault::Unlawful),
-            Err(ReplayEnd::NoMemory) => Err(EnterFault::NoMemory),
+            Err(LearnFault::Unlawful) => Err(EnterFault::Unlawful),
+            Err(LearnFault::NoMemory) => Err(EnterFault::NoMemory),
         }
     }
 
     /// Makes room in the trade and in the state to enter an entry that accepts nothing. `Unlawful` comes only
     /// where the entry may not follow. The house stays as it is, after an `Err` too.
-    pub(crate) fn room_for(&mut self, r: &Record<'_>) -> Result<(), ReplayEnd>
+    pub(crate) fn room_for(&mut self, r: &Record<'_>) -> Result<(), LearnFault>
         requires fits { Fits (entry r.now) }
         requires command { IsCommand (entry r.now) }
         ensures same { IsRoomed T.trade self.old self.new }
@@ -309,15 +309,15 @@ impl<T: Trade> Bench<T> {
             (λ f. Follows T.trade self.new (limits_of self.old) h (entry r.now) (Err f)) }
     {
         if !self.state.goes_on(r) {
-            return Err(ReplayEnd::Unlawful);
+            return Err(LearnFault::Unlawful);
         }
         match self.trade.reserve(r) {
             Ok(()) => (),
-            Err(NoMemory) => return Err(ReplayEnd::NoMemory),
+            Err(NoMemory) => return Err(LearnFault::NoMemory),
         }
         match self.state.reserve_for(r) {
             Ok(()) => Ok(()),
-            Err(NoMemory) => Err(ReplayEnd::NoMemory),
+            Err(NoMemory) => Err(LearnFault::NoMemory),
         }
     }
 

@@ -1,4 +1,4 @@
-ghost use Rattle.std.specs.Prelude.{◌≡◌, ◌+◌, ◌-◌, ◌≤◌, ◌<◌, ℕ, false, length, Some, None, option_map, filter, max, All, IfSome, IsNone, ◌↔◌, ◌^◌, [], IsTrue, IsFalse, IfOk, MatchResult, OnOk, OnErr};
+ghost use Rattle.std.specs.Prelude.{◌≡◌, ◌+◌, ◌-◌, ◌≤◌, ◌<◌, ℕ, false, length, take, Some, None, option_map, filter, max, All, IfSome, IsNone, ◌↔◌, ◌^◌, [], IsTrue, IsFalse, IfOk, MatchResult, OnOk, OnErr};
 ghost use Rattle.scrip_form.specs.Identities.{series_of};
 ghost use Rattle.scrip_form.specs.Issuing.{epoch, series_at};
 ghost use Rattle.scrip_form.specs.Scrip.{scrip_body};
@@ -14,18 +14,20 @@ ghost use Rattle.mc_records.specs.Requests.{asked_of};
 ghost use Rattle.kept_replies.specs.Kept.{found, has_number, is_in_time, reply_of, with_number};
 ghost use Rattle.spent_windows.specs.Windows.{is_marked, window_of, AreInOrder};
 ghost use Rattle.house_core.specs.LiveWindows.{AreUsed, AreUsedBut};
-ghost use Rattle.house_core.specs.HouseState.{IsSound, HasRoom, HasRoomToEnter, HasRoomToDraw, HasChange, pieces_size, HasRoomFor, GoesOn, IsEntered, IsDrawn, IsApplied, IsAsBefore, version_of, size_with, series_now, end_by, ended_by};
+ghost use Rattle.house_core.specs.HouseState.{IsSound, HasRoom, HasRoomToEnter, HasRoomToDraw, HasChange, pieces_size, HasRoomFor, GoesOn, IsEntered, IsDrawn, IsApplied, IsAsBefore, version_of, own_scrip, size_with, series_now, end_by, ended_by};
 ghost use Rattle.house_core.specs.Verdicts.{IsReady, IsDrawReady, IsOfNew, MayCommit, HasRoomToCommit, AreUsedFor, IsCommitted};
 ghost use Rattle.spent_windows.specs.Looks.{Tells};
 
-use crate::money::{certificate_by, certified, certified_if, drawn, redeem, secret_by};
+use crate::money::{certificate_by, certified, drawn, redeem, secret_by};
 use crate::presented::without_scrip;
 use crate::verdict::{Authorization, Authorized, DrawAuthorization};
 use change_issue::Issuer;
 use kept_replies::{Kept, KeptEntry, KeptNumber};
 use mc_base::{Moment, NoMemory, Total};
+use mc_fields::put;
 use mc_records::{EMPTY_JOURNAL, FRAME, Limits, PieceList, Record, Refusal, Request, SiteTerms};
-use scrip_form::{Id, Name, Piece, Terms};
+use scrip_certs::hex_of;
+use scrip_form::{Id, Name, Piece, Terms, write_scrip};
 use spent_windows::{Look, Steps, Windows};
 use std::alloc::Global;
 use std::marker::Model;
@@ -191,6 +193,17 @@ impl HouseState {
     {
         let (_, cert) = certified(self.own_terms(), *piece);
         cert
+    }
+
+    /// Writes the scrip text of a piece of the house's own to the front, and answers its length, at most 293.
+    pub(crate) fn write_own(&self, piece: &Piece, out: &mut [u8; 512]) -> usize
+        ensures short { result ≤ 293 }
+        ensures text { take result out.new ≡ own_scrip self.now piece.now }
+    {
+        let len = write_scrip(piece, &[0; 16], out);
+        let body = len - 32;
+        let cert = self.certificate_of(self.own_terms(), &out[..body], piece.id());
+        put(out, body, &hex_of(&cert))
     }
 
     /// The secret of a customer, by the terms of the issuer of his identity.
@@ -445,7 +458,7 @@ impl HouseState {
     {
         let _series = self.series_now();
         let size = self.size_with(a.payload);
-        let piece = redeem(
+        let change = redeem(
             &mut self.own,
             &mut self.takings,
             self.time,
@@ -454,7 +467,6 @@ impl HouseState {
             a.price,
             a.change,
         );
-        let change = certified_if(self.own.terms(), piece);
         let entry = KeptEntry {
             number: self.count,
             moment: self.time,

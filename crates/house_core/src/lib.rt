@@ -39,7 +39,6 @@ pub use law::{contents_stay, entries_follow_in_parts, goods_in_force_are_kept};
 pub use offer::{Body, DrawAsk, Offer, SiteKind, Unlawful};
 pub use outcome::{Outcome, Response};
 pub use presented::Presented;
-pub use replaying::ReplayEnd;
 pub use reply::{Reply, ReplyRoom};
 pub use sending::{send_again, send_disk_fault, send_kept, send_refusal, send_settled};
 pub use settled::{Settled, drop_settled};

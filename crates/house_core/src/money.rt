@@ -45,17 +45,6 @@ pub(crate) fn certified(terms: &Terms, piece: Piece) -> (Piece, [u8; 16])
     (piece, cert)
 }
 
-/// A piece that may be there, likewise.
-pub(crate) fn certified_if(terms: &Terms, piece: Option<Piece>) -> Option<(Piece, [u8; 16])>
-    ensures { (site : List ℕ) → result ≡ option_map
-        (λ p. (p, certificate_in (version [] site (series_of p.id)) terms.now (scrip_body p) p.id)) piece }
-{
-    match piece {
-        Some(piece) => Some(certified(terms, piece)),
-        None => None,
-    }
-}
-
 /// The coin of a piece in two: what is paid at this price, and the rest.
 fn parted(coin: Coin, price: u64) -> (Coin, Coin)
     ensures paid { result.0 ≡ min price coin }

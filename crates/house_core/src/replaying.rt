@@ -25,20 +25,12 @@ use mc_base::NoMemory;
 use mc_records::{Limits, Record, RecordDeed, Request};
 use scrip_certs::hex_of;
 use scrip_form::Id;
-
-/// Why an entry of a history was not learned.
-#[derive(Drop)]
-pub enum ReplayEnd {
-    /// It may not follow the entries before it.
-    Unlawful,
-    /// Memory was refused.
-    NoMemory,
-}
+use scrip_journal::LearnFault;
 
 impl<T: Trade> Bench<T> {
     /// Enters an entry that accepts nothing, of the house time and with a payload of so many bytes, and
     /// answers its number. After an `Err` the house is as it was.
-    pub(crate) fn follow(&mut self, r: &Record<'_>, bytes: u64) -> Result<u64, ReplayEnd>
+    pub(crate) fn follow(&mut self, r: &Record<'_>, bytes: u64) -> Result<u64, LearnFault>
         requires fits { Fits (entry r.now) }
         requires command { IsCommand (entry r.now) }
         requires time { moment_of (entry r.now) ≡ house_time self.old }
@@ -59,7 +51,7 @@ impl<T: Trade> Bench<T> {
         }
         match self.apply_entry(r, bytes) {
             Ok(number) => Ok(number),
-            Err(Unlawful) => Err(ReplayEnd::Unlawful),
+            Err(Unlawful) => Err(LearnFault::Unlawful),
         }
     }
 
@@ -67,7 +59,7 @@ impl<T: Trade> Bench<T> {
     /// entry's moment. `Err` has `Unlawful` exactly where the entry may not follow those before it. The
     /// house's own limit of the journal is not asked: a book above it is lawful. After an `Err` nothing is
     /// said of the house.
-    pub fn replay(&mut self, r: &Record<'_>) -> Result<(), ReplayEnd>
+    pub fn replay(&mut self, r: &Record<'_>) -> Result<(), LearnFault>
         requires fits { Fits (entry r.now) }
         ensures limits { limits_of self.new ≡ limits_of self.old }
         ensures exact { (h : History) → Represents T.trade self.old h → house_time self.old ≡ time h
@@ -79,11 +71,11 @@ impl<T: Trade> Bench<T> {
     {
         let moment = r.moment();
         if moment.seconds() < self.state.time().seconds() {
-            return Err(ReplayEnd::Unlawful);
+            return Err(LearnFault::Unlawful);
         }
         self.raise(moment);
         match r {
-            Record::Site { .. } => Err(ReplayEnd::Unlawful),
+            Record::Site { .. } => Err(LearnFault::Unlawful),
             Record::Draw {
                 target,
                 sign,
@@ -104,7 +96,7 @@ impl<T: Trade> Bench<T> {
     }
 
     /// Learns the next entry of a history, which accepts nothing and is of the house time.
-    fn replay_command(&mut self, r: &Record<'_>) -> Result<(), ReplayEnd>
+    fn replay_command(&mut self, r: &Record<'_>) -> Result<(), LearnFault>
         requires fits { Fits (entry r.now) }
         requires command { IsCommand (entry r.now) }
         requires time { moment_of (entry r.now) ≡ house_time self.old }
@@ -119,7 +111,7 @@ impl<T: Trade> Bench<T> {
         let bytes = r.payload_len();
         match fitted(&self.state, Limits::MOST_JOURNAL, bytes) {
             Ok(()) => (),
-            Err(_) => return Err(ReplayEnd::Unlawful),
+            Err(_) => return Err(LearnFault::Unlawful),
         }
         match self.follow(r, bytes) {
             Ok(_) => Ok(()),
@@ -137,7 +129,7 @@ impl<T: Trade> Bench<T> {
         price: u64,
         change: Option<Id>,
         deed: &RecordDeed,
-    ) -> Result<(), ReplayEnd>
+    ) -> Result<(), LearnFault>
         ensures limits { limits_of self.new ≡ limits_of self.old }
         ensures exact { (h : History) → Represents T.trade self.old h
             → Replays T.trade self.new (limits_of self.old) h (Accept (house_time self.old) scrip.now target.now sign.now price change (deed_of deed.now)) result }
@@ -151,19 +143,19 @@ impl<T: Trade> Bench<T> {
         let limits = unbounded_of(self.state.limits());
         let authorization = match evaluate(&self.state, limits, &self.trade, &q) {
             Ok(authorization) => authorization,
-            Err(_) => return Err(ReplayEnd::Unlawful),
+            Err(_) => return Err(LearnFault::Unlawful),
         };
         if !is_said(&authorization, sign, price, &change, deed) {
-            return Err(ReplayEnd::Unlawful);
+            return Err(LearnFault::Unlawful);
         }
         match self.commit(&q, &authorization) {
             Ok(_) => Ok(()),
-            Err(NoMemory) => Err(ReplayEnd::NoMemory),
+            Err(NoMemory) => Err(LearnFault::NoMemory),
         }
     }
 
     /// Learns the next entry of a history, which is a draw at the house time, likewise.
-    fn replay_draw(&mut self, target: &[u8], sign: &[u8; 16], drawn: Id) -> Result<(), ReplayEnd>
+    fn replay_draw(&mut self, target: &[u8], sign: &[u8; 16], drawn: Id) -> Result<(), LearnFault>
         ensures limits { limits_of self.new ≡ limits_of self.old }
         ensures exact { (h : History) → Represents T.trade self.old h
             → Replays T.trade self.new (limits_of self.old) h (Draw (house_time self.old) target.now sign.now drawn) result }
@@ -177,14 +169,14 @@ impl<T: Trade> Bench<T> {
         let limits = unbounded_of(self.state.limits());
         let authorization = match evaluate(&self.state, limits, &self.trade, &q) {
             Ok(authorization) => authorization,
-            Err(_) => return Err(ReplayEnd::Unlawful),
+            Err(_) => return Err(LearnFault::Unlawful),
         };
         if !is_drawn(&authorization, sign, drawn) {
-            return Err(ReplayEnd::Unlawful);
+            return Err(LearnFault::Unlawful);
         }
         match self.commit(&q, &authorization) {
             Ok(_) => Ok(()),
-            Err(NoMemory) => Err(ReplayEnd::NoMemory),
+            Err(NoMemory) => Err(LearnFault::NoMemory),
         }
     }
 }

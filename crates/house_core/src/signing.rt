@@ -1,13 +1,13 @@
 //! Replies that are signed under a secret: that of a customer, or the key of an account.
 
 ghost use Rattle.std.specs.Prelude.{◌≡◌, ◌≤◌, [], codes, length, option_map, option_and_then, unwrap_or, Some, IfSome};
-ghost use Rattle.scrip_form.specs.Scrip.{scrip_text};
 ghost use Rattle.scrip_certs.specs.Digests.{reply_signature};
 ghost use Rattle.mc_records.specs.Requests.{seen};
 ghost use Rattle.mc_records.specs.Replies.{reply_head, reply_text};
 ghost use Rattle.ledger_model.specs.Histories.{History};
 ghost use Rattle.ledger_model.specs.Replies as ledger;
 ghost use Rattle.millicent_http.specs.ReplyHeads.{IsReplyHead, reply_of};
+ghost use Rattle.house_core.specs.HouseState.{own_scrip};
 ghost use Rattle.house_core.specs.Views.{contents_of};
 ghost use Rattle.house_core.specs.Replying.{AreContents, IsOfSite};
 ghost use Rattle.house_core.specs.Representation.{StateRepresents};
@@ -22,11 +22,11 @@ use mc_base::Moment;
 use mc_records::{Refusal, Request};
 use millicent_http::{ReplyHead, write_reply_text};
 use scrip_certs::sign_reply;
-use scrip_form::write_scrip;
 
-/// The first reply to a request, from what is kept of its entry and what the entry brought. `text` is for
-/// that of the change.
+/// The first reply to a request, from what is kept of its entry and what the entry brought. The text of the
+/// change is made for it, in `text`.
 pub(crate) fn taken_reply<'a>(
+    state: &HouseState,
     q: &Request<'_>,
     entry: &KeptEntry,
     body: &Body<'a>,
@@ -35,12 +35,11 @@ pub(crate) fn taken_reply<'a>(
 ) -> Reply<'a>
     requires { AreContents body.now }
     ensures { result ≡ ledger.taken_reply (Some entry.now.secret) (unwrap_or (seen q.now.scrip) (codes "-")) q.now.target.now (contents_of body.now)
-        (ledger.taken_values entry.now.moment (contents_of body.now) entry.now.price (option_map (λ c. scrip_text c.0 c.1) entry.now.change)) }
+        (ledger.taken_values entry.now.moment (contents_of body.now) entry.now.price (option_map (own_scrip state.now) entry.now.change)) }
 {
-    match entry.change {
-        Some(change) => {
-            let (piece, cert) = change;
-            let len = write_scrip(&piece, &cert, text);
+    match &entry.change {
+        Some(piece) => {
+            let len = state.write_own(piece, text);
             give(q, entry, body, Some(&text[..len]), page)
         }
         None => give(q, entry, body, None, page),

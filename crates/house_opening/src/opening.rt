@@ -7,12 +7,12 @@ ghost use Rattle.book_opening.specs.Opening.{CountedBy};
 ghost use Rattle.house_core.specs.Bench.{limits_of};
 ghost use Rattle.house_opening.specs.Opening.{house_disk, OpensHouse};
 
-use book_opening::{LearnFault, Opener, open_book};
-use house_core::{Bench, House, ReplayEnd, Trade};
+use book_opening::{Opener, open_book};
+use house_core::{Bench, House, Trade};
 use mc_base::NoMemory;
 use mc_outside::Disk;
 use mc_records::{Limits, Record};
-use scrip_journal::HouseFault;
+use scrip_journal::{HouseFault, LearnFault};
 use std::alloc::Global;
 
 /// Who opens a book as a house with these limits and this trade.
@@ -46,11 +46,7 @@ impl<T: Trade> Opener for HouseOpener<T> {
     }
 
     fn learn(bench: &mut Bench<T>, r: &Record<'_>) -> Result<(), LearnFault> {
-        match bench.replay(r) {
-            Ok(()) => Ok(()),
-            Err(ReplayEnd::Unlawful) => Err(LearnFault::Unlawful),
-            Err(ReplayEnd::NoMemory) => Err(LearnFault::NoMemory),
-        }
+        bench.replay(r)
     }
 
     ghost site_first = { λ o. site_first o.limits };

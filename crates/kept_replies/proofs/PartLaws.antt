@@ -63,16 +63,16 @@ piece_within_too a b p stays within = record {
   piece = subst IsPiece (sym (piece_stays a b p stays within)) within.piece;
 }
 
-pub change_stays : (a b : List ℕ) (c : Option (PieceParts × List ℕ)) → StaysIn a b → ChangeIsWithin a c → change_in b c ≡ change_in a c
+pub change_stays : (a b : List ℕ) (c : Option PieceParts) → StaysIn a b → ChangeIsWithin a c → change_in b c ≡ change_in a c
 change_stays a b None stays within = refl
-change_stays a b (Some c) stays within = ap some (piece_stays a b c.0 stays within)
+change_stays a b (Some p) stays within = ap some (piece_stays a b p stays within)
   where
-    some : Scrip → Option (Scrip × List ℕ)
-    some p = Some (p, c.1)
+    some : Scrip → Option Scrip
+    some q = Some q
 
-pub change_within_too : (a b : List ℕ) (c : Option (PieceParts × List ℕ)) → StaysIn a b → ChangeIsWithin a c → ChangeIsWithin b c
+pub change_within_too : (a b : List ℕ) (c : Option PieceParts) → StaysIn a b → ChangeIsWithin a c → ChangeIsWithin b c
 change_within_too a b None stays within = tt
-change_within_too a b (Some c) stays within = piece_within_too a b c.0 stays within
+change_within_too a b (Some p) stays within = piece_within_too a b p stays within
 
 -- ---- deeds
 

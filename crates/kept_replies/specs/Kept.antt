@@ -19,9 +19,9 @@ pub record KeptReply : Type 0 where
 abbrev pub piece_size : Scrip → ℕ
 piece_size p = length p.vendor + length p.props
 
-abbrev pub change_size : Option (Scrip × List ℕ) → ℕ
+abbrev pub change_size : Option Scrip → ℕ
 change_size None = 0
-change_size (Some c) = piece_size c.0
+change_size (Some p) = piece_size p
 
 abbrev pub sold_size : Scrip → List ℕ → List ℕ → ℕ
 sold_size piece cert secret = length (scrip_text piece cert) + length secret

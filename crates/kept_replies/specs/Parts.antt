@@ -43,11 +43,11 @@ pub record PieceIsWithin (bytes : List ℕ) (p : PieceParts) : Type 0 where
   pub props : IsWithin (length bytes) p.props
   pub piece : IsPiece (piece_in bytes p)
 
-abbrev pub change_in : List ℕ → Option (PieceParts × List ℕ) → Option (Scrip × List ℕ)
-change_in bytes change = option_map (λ c. (piece_in bytes c.0, c.1)) change
+abbrev pub change_in : List ℕ → Option PieceParts → Option Scrip
+change_in bytes change = option_map (piece_in bytes) change
 
-abbrev pub ChangeIsWithin : List ℕ → Option (PieceParts × List ℕ) → Type 0
-ChangeIsWithin bytes change = IfSome change (λ c. PieceIsWithin bytes c.0)
+abbrev pub ChangeIsWithin : List ℕ → Option PieceParts → Type 0
+ChangeIsWithin bytes change = IfSome change (PieceIsWithin bytes)
 
 -- ---- deeds
 

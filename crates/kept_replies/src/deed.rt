@@ -55,14 +55,14 @@ impl Deed {
     }
 }
 
-/// What is kept of an entry for its reply: the entry's number and moment, the price, the change with
-/// its certificate, the customer secret that signs, and the deed.
+/// What is kept of an entry for its reply: the entry's number and moment, the price, the change, which is
+/// certified when a reply is made, the customer secret that signs, and the deed.
 #[derive(Clone, Copy, Drop)]
 pub struct KeptEntry {
     pub number: u64,
     pub moment: Moment,
     pub price: u64,
-    pub change: Option<(Piece, [u8; 16])>,
+    pub change: Option<Piece>,
     pub secret: [u8; 16],
     pub deed: Deed,
 }
@@ -74,7 +74,7 @@ impl KeptEntry {
         ensures { result ≡ entry_size self.now }
     {
         let change = match &self.change {
-            Some((piece, _)) => size_of_piece(piece),
+            Some(piece) => size_of_piece(piece),
             None => 0,
         };
         change + self.deed.size()

@@ -49,7 +49,7 @@ pub(crate) struct EntryParts {
     pub(crate) number: u64,
     pub(crate) moment: Moment,
     price: u64,
-    change: Option<(PieceParts, [u8; 16])>,
+    change: Option<PieceParts>,
     secret: [u8; 16],
     deed: DeedParts,
 }
@@ -97,10 +97,7 @@ fn piece_of(bytes: &[u8], parts: &PieceParts) -> Piece
 }
 
 /// Puts the texts of change that may be there.
-fn put_change(
-    buffer: &mut Vec<u8>,
-    change: &Option<(Piece, [u8; 16])>,
-) -> Option<(PieceParts, [u8; 16])>
+fn put_change(buffer: &mut Vec<u8>, change: &Option<Piece>) -> Option<PieceParts>
     requires room { vec_len buffer.old + change_size change.now ≤ vec_capacity buffer.old }
     requires short { vec_len buffer.old + change_size change.now < 2 ^ 32 }
     ensures len { vec_len buffer.new ≡ vec_len buffer.old + change_size change.now }
@@ -109,27 +106,19 @@ fn put_change(
     ensures change { change_in buffer.new.items result ≡ change.now }
     ensures within { ChangeIsWithin buffer.new.items result }
 {
-    match *change {
-        Some(change) => {
-            let (piece, cert) = change;
-            let parts = put_piece(buffer, &piece);
-            Some((parts, cert))
-        }
+    match change {
+        Some(piece) => Some(put_piece(buffer, piece)),
         None => None,
     }
 }
 
 /// The change of these parts.
-fn change_of(bytes: &[u8], parts: &Option<(PieceParts, [u8; 16])>) -> Option<(Piece, [u8; 16])>
+fn change_of(bytes: &[u8], parts: &Option<PieceParts>) -> Option<Piece>
     requires { ChangeIsWithin bytes.now parts.now }
     ensures { result ≡ change_in bytes.now parts.now }
 {
-    match *parts {
-        Some(parts) => {
-            let (parts, cert) = parts;
-            let piece = piece_of(bytes, &parts);
-            Some((piece, cert))
-        }
+    match parts {
+        Some(parts) => Some(piece_of(bytes, parts)),
         None => None,
     }
 }

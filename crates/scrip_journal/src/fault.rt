@@ -25,3 +25,12 @@ pub enum HouseFault<D> {
     /// Memory was refused.
     NoMemory(D),
 }
+
+/// Why an entry of a book was not learned.
+#[derive(Clone, Copy)]
+pub enum LearnFault {
+    /// It may not follow the entries before it.
+    Unlawful,
+    /// Memory was refused.
+    NoMemory,
+}

@@ -21,7 +21,7 @@ mod staged;
 pub use book::found_book;
 pub use cursor::FIRST_GATE;
 pub use ending::ReplayFault;
-pub use fault::{HouseFault, OpenFault};
+pub use fault::{HouseFault, LearnFault, OpenFault};
 pub use found::found_journal;
 pub use journal::{Halted, Journal, Receipt, StageFault};
 pub use law::{a_disk_stands_for_one_history, a_spoiled_disk_has_one_place};

@@ -7,10 +7,10 @@ ghost use Rattle.book_opening.specs.Opening.{CountedBy};
 ghost use Rattle.wallet_core.specs.Opening.{wallet_disk, OpensWallet};
 
 use crate::wallet::Wallet;
-use book_opening::{LearnFault, Opener, open_book};
+use book_opening::{Opener, open_book};
 use mc_outside::Disk;
 use mc_records::{Limits, Record};
-use scrip_journal::HouseFault;
+use scrip_journal::{HouseFault, LearnFault};
 use std::alloc::Global;
 use wallet_book::WalletBook;
 

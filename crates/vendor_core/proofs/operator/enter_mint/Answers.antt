@@ -1,7 +1,7 @@
 use Rattle.std.proofs.Common.{◌≡◌, ℕ, List}
 use Rattle.mc_records.specs.Entry.{Mint}
 use Rattle.house_core.specs.Bench.{house_time, limits_of}
-use Rattle.house_core.proofs.Entered.{same_house}
+use Rattle.house_core.proofs.FirstEntry.{same_house}
 use Rattle.house_core.specs.declared.outcome.Outcome.TheVariants as outcomes
 use Rattle.vendor_core.specs.Shelf.{shelf_view}
 use Rattle.vendor_core.proofs.OperatorLemmas.{mint_may_follow, mint_enters}

@@ -1,8 +1,11 @@
-use Rattle.std.proofs.Common.{subst, arith}
+use Rattle.std.proofs.Common.{Err, subst, arith}
 use Rattle.mc_records.specs.declared.limits.Limits.{Limits}
 use Rattle.mc_records.specs.Views.{entry}
 use Rattle.ledger_model.specs.Lawful.{MayFollow}
+use Rattle.mc_records.specs.declared.limits.TheConstants.Limits.{FULL}
+use Rattle.house_core.specs.Bench.{Replays}
 use Rattle.house_core.proofs.Entered.{time_snoc}
+use Rattle.house_opening.proofs.Learned.{fault_told}
 use Rattle.audit_cmd.proofs.reader.Reader.learn.Goals as goal
 
 pub returns-in-Ok-learn-clause-exact : goal.returns-in-Ok-learn-clause-exact
@@ -16,3 +19,9 @@ returns-in-Ok-learn-clause-exact g c h full reads room =
         sums' = c.in-Ok-learn.ensures h reads.sums';
       },
     )
+
+pub returns-in-Err-clause-exact : goal.returns-in-Err-clause-exact
+returns-in-Err-clause-exact g c h full reads room =
+    let e = entry c.args.r.now in
+    let replays = c.in-Err.ensures.exact h reads.house reads.time' room in
+    fault_told {A = Unit {0}} g.T.Trade.trade c.replay.new.self FULL (λ u k. Unit {0}) h e c.in-Err.fault (subst (λ (l : Limits). Replays g.T.Trade.trade c.replay.new.self l h e (Err c.in-Err.fault)) full replays)

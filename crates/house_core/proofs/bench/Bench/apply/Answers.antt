@@ -8,7 +8,7 @@ use Rattle.house_core.specs.Verdicts.{authorized_entry, IsCommitted}
 use Rattle.house_core.proofs.Accepting.{on_is_ok}
 use Rattle.house_core.proofs.Committing.{may_learn, trade_half, puts_no_goods, kept_of, replies_committed, kept_held, kept_in_force, used_committed, stands_committed}
 use Rattle.house_core.proofs.Contents.{contents_taken}
-use Rattle.house_core.proofs.Entered.{kind_stays}
+use Rattle.house_core.proofs.FirstEntry.{kind_stays}
 use Rattle.house_core.proofs.bench.Bench.apply.Goals as goal
 
 pub returns-clause-exact : goal.returns-clause-exact

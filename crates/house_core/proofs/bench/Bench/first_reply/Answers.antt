@@ -17,4 +17,4 @@ returns g c h house =
     let is = of_found (IsReply h) (λ x. eqb x.entry.number c.args.number.now) replies r st.state.replies found in
     let held = of_found (λ x. OfGoods (g.T.Trade.trade c.args.self.now.trade).holds x.entry.deed) (λ x. eqb x.entry.number c.args.number.now) replies r house.contents.held found in
     c.taken_reply.ensures
-    ∙ first_reply_is h c.args.number.now r (contents_of c.body-body.result) is.0 (eqb-true _ _ is.1) (c.body-body.ensures.brought h st.learned st.of_kind held.0)
+    ∙ first_reply_is st.state c.args.number.now r (contents_of c.body-body.result) is.0 (eqb-true _ _ is.1) (c.body-body.ensures.brought h st.learned st.of_kind held.0)

@@ -1,0 +1,33 @@
+-- What an opener learns of an entry that a house replays.
+use Rattle.std.proofs.Common.{◌≡◌, [], ◌∷◌, ◌++◌, Result, Ok, Err, subst, arith}
+use Rattle.std.specs.Prelude.{IfOk}
+use Rattle.mc_records.specs.declared.limits.Limits.{Limits}
+use Rattle.mc_records.specs.Entry.{Entry}
+use Rattle.ledger_model.specs.Histories.{History}
+use Rattle.ledger_model.specs.Lawful.{MayFollow}
+use Rattle.scrip_journal.specs.declared.fault.LearnFault.{LearnFault}
+use Rattle.scrip_journal.specs.declared.fault.LearnFault.TheVariants as faults
+use Rattle.book_opening.specs.Opener.{Learns}
+use Rattle.house_core.specs.declared.bench.Bench.{Bench}
+use Rattle.house_core.specs.Bench.{HasContents, Replays}
+use Rattle.house_core.specs.Trade.{TradeView}
+use Rattle.house_core.proofs.Entered.{time_snoc}
+use Rattle.house_opening.specs.Opening.{StandsAt}
+
+-- why it was not learned
+pub fault_told : {T A : Type 0} (trade : T → TradeView) (b : Bench T) (limits : Limits) (holds : A → History → Type 0) (h : History) (e : Entry) (fault : LearnFault)
+    → Replays trade b limits h e (Err fault) → Learns (MayFollow limits) holds h e (Err fault)
+fault_told trade b limits holds h e faults.Unlawful replays = replays
+fault_told trade b limits holds h e faults.NoMemory replays = tt
+
+pub learned : {T : Type 0} (trade : T → TradeView) (b : Bench T) (own limits : Limits) (h : History) (e : Entry) (result : Result (Unit {0}) LearnFault) → own ≡ limits
+    → Replays trade b own h e result → IfOk result (λ u. HasContents trade b (h ++ e ∷ [])) → Learns (MayFollow limits) (λ u. StandsAt trade b) h e result
+learned trade b own limits h e (Ok u) same replays contents = (
+  subst (λ (l : Limits). MayFollow l h e) same replays.0,
+  record {
+    house = record { represents = replays.1; contents = contents };
+    time' = omega (arith, replays.2, time_snoc h e, replays.0.in_order);
+  },
+)
+learned trade b own limits h e (Err fault) same replays contents =
+    fault_told {A = Unit {0}} trade b limits (λ u. StandsAt trade b) h e fault (subst (λ (l : Limits). Replays trade b l h e (Err fault)) same replays)
