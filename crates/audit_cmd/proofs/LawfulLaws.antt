@@ -16,8 +16,8 @@ use Rattle.scrip_journal.proofs.Unique.{one_history, not_both}
 use Rattle.house_opening.specs.First.{site_first}
 use Rattle.wallet_model.specs.Follows.{WalletFollows, wallet_allows}
 use Rattle.balanced_books.specs.declared.sums.Report.{Report}
-use Rattle.book_audit.specs.declared.fault.AuditFault.{AuditFault}
-use Rattle.book_audit.specs.declared.fault.AuditFault.TheVariants as faults
+use Rattle.audit_cmd.specs.declared.fault.AuditFault.{AuditFault}
+use Rattle.audit_cmd.specs.declared.fault.AuditFault.TheVariants as faults
 use Rattle.audit_cmd.specs.Reading.{IsSpoiledFrom, IsUnlawfulFrom}
 use Rattle.audit_cmd.specs.Books.{IsHistoryOf, IsLawfulBook, IsFirst, FindsOf, IsOfLawful}
 use Rattle.audit_cmd.specs.Loops.{ReadsAll}

@@ -4,3 +4,4 @@ pub mod KeptLaws
 pub mod Loops
 pub mod WalletLaws
 pub mod LawfulLaws
+pub mod FoundLaws

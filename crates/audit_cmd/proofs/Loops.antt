@@ -7,8 +7,8 @@ use Rattle.mc_outside.specs.Bytes.{BeginsWith, Rose}
 use Rattle.mc_outside.specs.DiskView.{DiskView, OnlyRead}
 use Rattle.scrip_journal.specs.Layout.{header}
 use Rattle.book_sums.specs.declared.book_sums.BookSums.{BookSums}
-use Rattle.book_audit.specs.declared.fault.AuditFault.{AuditFault}
-use Rattle.book_audit.specs.declared.fault.AuditFault.TheVariants as faults
+use Rattle.audit_cmd.specs.declared.fault.AuditFault.{AuditFault}
+use Rattle.audit_cmd.specs.declared.fault.AuditFault.TheVariants as faults
 use Rattle.audit_cmd.specs.declared.books.Kept.{Kept}
 use Rattle.audit_cmd.specs.Reading.{IsSpoiledFrom, IsUnlawfulFrom, IsKeptOf}
 use Rattle.audit_cmd.specs.Books.{AreTold, counts, IsLawfulBook, IsFirst, RoseAt, CountsBy}
@@ -134,8 +134,9 @@ module _ {D : Type 0} (view : D → DiskView) where
 -- what was kept goes on
 module _ {D : Type 0} (view : D → DiskView) (moved : D → D → Type 0) (still : (d : D) → OnlyRead (view d) (view d)) (stays : (d : D) → moved d d) where
   pub goes_on : (place : ℕ) (olds news afters : List D) (kept kept' : Kept) (read : Option BookSums) (has : HaveRead view moved place olds news kept) (at : ReadsAt view moved place news afters (Ok read))
-      → ((xs : List (List ℕ)) (x : List ℕ) → KeptOf xs kept.wallet kept.houses.items → IsKeptOf x read → KeptOf (xs ++ x ∷ []) kept'.wallet kept'.houses.items) → HaveRead view moved (place + 1) olds afters kept'
-  goes_on place olds news afters kept kept' read has at more =
+      → ((xs : List (List ℕ)) (x : List ℕ) → KeptOf xs kept.wallet kept.houses.items → IsKeptOf x read → KeptOf (xs ++ x ∷ []) kept'.wallet kept'.houses.items) → length kept'.houses.items ≤ length kept.houses.items + 1
+      → HaveRead view moved (place + 1) olds afters kept'
+  goes_on place olds news afters kept kept' read has at more one =
       let next = next_at view moved still stays place olds news afters (Ok read) has.to at in
       record {
         to = record {
@@ -148,6 +149,7 @@ module _ {D : Type 0} (view : D → DiskView) (moved : D → D → Type 0) (stil
           each = zip_more (IsCalm view moved) has.to.before has.to.done at.old at.new has.to.each (record { read = at.read; moves = at.moves; same = at.count });
         };
         told = told_more view has.to.before at.old kept.wallet kept'.wallet kept.houses.items kept'.houses.items read has.told more at.told;
+        few = omega (arith, has.few, one);
       }
 
 -- why the first book that is not read as a lawful one is not

@@ -1,5 +1,5 @@
 -- What an audit of books on disks answers, by their bytes.
-use Rattle.std.specs.Prelude.{◌≡◌, ◌⊎◌, ℕ, IsTrue, List, map, take, slice_get, slice_set, Some, Result, Err}
+use Rattle.std.specs.Prelude.{◌≡◌, ◌⊎◌, ℕ, IsTrue, List, map, take, slice_get, slice_set, Option, Some, None, Result, Ok, Err}
 use Rattle.std.specs.List.{AllZip, AllByRecursion, list_any}
 use Rattle.mc_outside.specs.Bytes.{BeginsWith, Rose}
 use Rattle.mc_outside.specs.DiskView.{DiskView}
@@ -10,8 +10,10 @@ use Rattle.scrip_journal.specs.Layout.{header, Encodes}
 use Rattle.balanced_books.specs.declared.sums.Report.{Report}
 use Rattle.wallet_model.specs.Follows.{is_wallet}
 use Rattle.book_audit.specs.Audit.{Audited}
-use Rattle.book_audit.specs.declared.fault.AuditFault.{AuditFault}
-use Rattle.book_audit.specs.declared.fault.AuditFault.TheVariants as faults
+use Rattle.book_audit.specs.declared.fault.BooksFault.{BooksFault}
+use Rattle.book_audit.specs.declared.fault.BooksFault.TheVariants as founds
+use Rattle.audit_cmd.specs.declared.fault.AuditFault.{AuditFault}
+use Rattle.audit_cmd.specs.declared.fault.AuditFault.TheVariants as faults
 use Rattle.audit_cmd.specs.Reading.{IsSpoiledFrom, IsUnlawfulFrom, IsWalletsHistory}
 
 -- ---- the bytes of disks
@@ -48,7 +50,7 @@ pub record IsFirst (books : List (List ℕ)) (book : ℕ) (Cause : List ℕ → 
   pub cause : Cause bytes
 
 -- The books stand for lawful histories of houses, of which this is found.
-pub record AreAudited (books : List (List ℕ)) (found : Result Report AuditFault) : Type 0 where
+pub record AreAudited (books : List (List ℕ)) (found : Result Report BooksFault) : Type 0 where
   pub histories : List History
   pub stand : AllZip IsHousesHistory books histories
   pub audited : Audited FULL histories found
@@ -66,9 +68,18 @@ FindsOf books (Err (faults.NotJournal book)) = IsFirst books book (λ bytes. Beg
 FindsOf books (Err (faults.BadRecord book place)) = IsFirst books book (λ bytes. IsSpoiledFrom bytes place)
 FindsOf books (Err (faults.Unlawful book place)) = IsFirst books book (λ bytes. IsUnlawfulFrom bytes place)
 FindsOf books (Err (faults.Disk book)) = IsFirst books book (λ bytes. Unit {0})
-FindsOf books (Err faults.BadBooks) = HaveWallet books ⊎ AreAudited books (Err faults.BadBooks)
+FindsOf books (Err faults.BadBooks) = HaveWallet books ⊎ AreAudited books (Err founds.BadBooks)
+FindsOf books (Err (faults.MissingBook name)) = AreAudited books (Err (founds.MissingBook name))
+FindsOf books (Err (faults.Stranger book name id)) = AreAudited books (Err (founds.Stranger book name id))
 FindsOf books (Err faults.NoMemory) = Unit {0}
-FindsOf books found = AreAudited books found
+FindsOf books (Ok r) = AreAudited books (Ok r)
+
+-- why lawful books, none of which is a wallet's, are not reported
+abbrev pub fault_of : BooksFault → AuditFault
+fault_of founds.BadBooks = faults.BadBooks
+fault_of (founds.MissingBook name) = faults.MissingBook name
+fault_of (founds.Stranger book name id) = faults.Stranger book name id
+fault_of founds.NoMemory = faults.NoMemory
 
 -- what is found where all books are lawful: none is told to be otherwise
 abbrev pub IsOfLawful : Result Report AuditFault → Type 0
@@ -76,6 +87,15 @@ IsOfLawful (Err (faults.NotJournal book)) = ⊥
 IsOfLawful (Err (faults.BadRecord book place)) = ⊥
 IsOfLawful (Err (faults.Unlawful book place)) = ⊥
 IsOfLawful _ = Unit {0}
+
+-- the place of the book that is told, where one is
+abbrev pub told_book : {A : Type 0} → Result A AuditFault → Option ℕ
+told_book (Err (faults.NotJournal book)) = Some book
+told_book (Err (faults.BadRecord book place)) = Some book
+told_book (Err (faults.Unlawful book place)) = Some book
+told_book (Err (faults.Disk book)) = Some book
+told_book (Err (faults.Stranger book name id)) = Some book
+told_book _ = None
 
 -- ---- the counts of faults
 

@@ -1,5 +1,5 @@
 -- Reading books one after another.
-use Rattle.std.specs.Prelude.{◌≡◌, ℕ, Bool, true, false, List, ◌++◌, length, Result, Ok, Err}
+use Rattle.std.specs.Prelude.{◌≡◌, ℕ, ◌≤◌, Bool, true, false, List, ◌++◌, length, Result, Ok, Err}
 use Rattle.std.specs.List.{AllZip}
 use Rattle.mc_outside.specs.Bytes.{BeginsWith}
 use Rattle.mc_outside.specs.DiskView.{DiskView, OnlyRead}
@@ -8,8 +8,8 @@ use Rattle.ledger_model.specs.Histories.{History}
 use Rattle.scrip_journal.specs.Layout.{header}
 use Rattle.book_sums.specs.declared.book_sums.BookSums.{BookSums}
 use Rattle.book_audit.specs.Audit.{AreLearned}
-use Rattle.book_audit.specs.declared.fault.AuditFault.{AuditFault}
-use Rattle.book_audit.specs.declared.fault.AuditFault.TheVariants as faults
+use Rattle.audit_cmd.specs.declared.fault.AuditFault.{AuditFault}
+use Rattle.audit_cmd.specs.declared.fault.AuditFault.TheVariants as faults
 use Rattle.audit_cmd.specs.declared.books.Kept.{Kept}
 use Rattle.audit_cmd.specs.Reading.{IsSpoiledFrom, IsUnlawfulFrom}
 use Rattle.audit_cmd.specs.Books.{AreTold, IsHousesHistory, HaveWallet, IsFirst}
@@ -59,3 +59,4 @@ pub record AreReadTo {D : Type 0} (view : D → DiskView) (moved : D → D → T
 pub record HaveRead {D : Type 0} (view : D → DiskView) (moved : D → D → Type 0) (place : ℕ) (olds news : List D) (kept : Kept) : Type 0 where
   pub to : AreReadTo view moved place olds news
   pub told : (books : List (List ℕ)) → AreTold view to.before books → KeptOf books kept.wallet kept.houses.items
+  pub few : length kept.houses.items ≤ place

@@ -1,11 +1,12 @@
 -- What reading the book at a place of a list answers.
-use Rattle.std.specs.Prelude.{◌≡◌, ℕ, List, Option, Some, slice_get, slice_set, Result, Ok, Err}
+use Rattle.std.specs.Prelude.{◌≡◌, ℕ, List, Option, Some, IfSome, slice_get, slice_set, Result, Ok, Err}
 use Rattle.mc_outside.specs.Bytes.{BeginsWith, Rose}
 use Rattle.mc_outside.specs.DiskView.{DiskView, OnlyRead}
 use Rattle.scrip_journal.specs.Layout.{header}
 use Rattle.book_sums.specs.declared.book_sums.BookSums.{BookSums}
-use Rattle.book_audit.specs.declared.fault.AuditFault.{AuditFault}
-use Rattle.book_audit.specs.declared.fault.AuditFault.TheVariants as faults
+use Rattle.audit_cmd.specs.declared.fault.AuditFault.{AuditFault}
+use Rattle.audit_cmd.specs.declared.fault.AuditFault.TheVariants as faults
+use Rattle.audit_cmd.specs.Books.{told_book}
 use Rattle.audit_cmd.specs.Reading.{IsSpoiledFrom, IsUnlawfulFrom, IsKeptOf}
 
 -- what is found of the book at a place by its bytes
@@ -33,3 +34,4 @@ pub record ReadsAt {D : Type 0} (view : D → DiskView) (moved : D → D → Typ
   pub moves : moved old new
   pub told : (bytes : List ℕ) → (view old).contents ≡ Some bytes → FindsBook place bytes found
   pub count : CountsBook place found (view old).faults (view new).faults
+  pub at : IfSome (told_book found) (λ book. book ≡ place)

@@ -1,14 +1,15 @@
 //! The audit of books on disks.
 
-ghost use Rattle.std.specs.Prelude.{List, ℕ};
+ghost use Rattle.std.specs.Prelude.{◌<◌, List, ℕ, IfSome, length};
 ghost use Rattle.std.specs.List.{AllZip, AllByRecursion};
 ghost use Rattle.mc_outside.specs.DiskView.{OnlyRead};
-ghost use Rattle.audit_cmd.specs.Books.{AreTold, counts, IsLawfulBook, FindsOf, IsOfLawful, CountsBy};
+ghost use Rattle.audit_cmd.specs.Books.{AreTold, counts, IsLawfulBook, FindsOf, IsOfLawful, told_book, CountsBy};
 ghost use Rattle.audit_cmd.specs.Loops.{KeptOf};
 
 use crate::books::{Kept, read_books};
+use crate::fault::{AuditFault, of_books};
 use balanced_books::Report;
-use book_audit::{AuditFault, audit_books};
+use book_audit::audit_books;
 use mc_outside::Disk;
 use std::alloc::Global;
 
@@ -30,6 +31,7 @@ pub fn audit<D: Disk>(alloc: Global, mut books: Vec<D>) -> (Vec<D>, Result<Repor
     ensures lawful { (contents : List (List ℕ)) → AreTold D.disk books.items contents
         → AllByRecursion IsLawfulBook contents → IsOfLawful result.1 }
     ensures fault { CountsBy result.1 (counts D.disk books.items) (counts D.disk result.0.items) }
+    ensures place { IfSome (told_book result.1) (λ book. book < length books.items) }
 {
     match read_books(alloc, &mut books) {
         Ok(kept) => (books, find(alloc, &kept)),
@@ -42,16 +44,13 @@ fn find(alloc: Global, kept: &Kept) -> Result<Report, AuditFault>
     ensures found { (contents : List (List ℕ))
         → KeptOf contents kept.now.wallet kept.now.houses.items → FindsOf contents result }
     ensures calm { (before : List ℕ) → CountsBy result before before }
+    ensures place { IfSome (told_book result) (λ book. book < length kept.now.houses.items) }
 {
     if kept.wallet {
         return Err(AuditFault::BadBooks);
     }
     match audit_books(alloc, &kept.houses) {
         Ok(report) => Ok(report),
-        Err(fault) => match fault {
-            // No disk is read here.
-            AuditFault::Disk { .. } => Err(AuditFault::NoMemory),
-            fault => Err(fault),
-        },
+        Err(fault) => Err(of_books(fault)),
     }
 }

@@ -1,15 +1,15 @@
 //! Reading books one after another.
 
-ghost use Rattle.std.specs.Prelude.{◌≡◌, ◌<◌, ◌++◌, ◌∷◌, [], List, ℕ, Some, OnOk, length};
+ghost use Rattle.std.specs.Prelude.{◌≡◌, ◌<◌, ◌≤◌, ◌+◌, ◌++◌, ◌∷◌, [], List, ℕ, Some, IfSome, IfOk, OnOk, length};
 ghost use Rattle.std.specs.List.{AllZip};
 ghost use Rattle.mc_outside.specs.DiskView.{OnlyRead};
-ghost use Rattle.audit_cmd.specs.Books.{AreTold, counts, CountsBy};
+ghost use Rattle.audit_cmd.specs.Books.{AreTold, counts, told_book, CountsBy};
 ghost use Rattle.audit_cmd.specs.Places.{FindsBook, CountsBook, ReadsAt};
 ghost use Rattle.audit_cmd.specs.Reading.{IsKeptOf};
 ghost use Rattle.audit_cmd.specs.Loops.{KeptOf, ReadsAll};
 
+use crate::fault::AuditFault;
 use crate::reading::read_book;
-use book_audit::AuditFault;
 use book_sums::BookSums;
 use mc_base::NoMemory;
 use mc_outside::Disk;
@@ -28,7 +28,8 @@ pub(crate) struct Kept {
 impl Kept {
     /// Keeps what was read of one more book: nothing where it is a wallet's, but that it is there.
     fn keep(&mut self, book: Option<BookSums>) -> Result<(), NoMemory>
-        ensures { OnOk result ((contents : List (List ℕ)) (bytes : List ℕ)
+        ensures few { OnOk result (length self.new.houses.items ≤ length self.old.houses.items + 1) }
+        ensures kept { OnOk result ((contents : List (List ℕ)) (bytes : List ℕ)
             → KeptOf contents self.old.wallet self.old.houses.items → IsKeptOf bytes book
             → KeptOf (contents ++ bytes ∷ []) self.new.wallet self.new.houses.items) }
     {
@@ -48,6 +49,8 @@ pub(crate) fn read_books<D: Disk>(alloc: Global, books: &mut Vec<D>) -> Result<K
         → ReadsAll contents result }
     ensures fault { CountsBy result (counts D.disk books.old.items)
         (counts D.disk books.new.items) }
+    ensures place { IfSome (told_book result) (λ book. book < length books.old.items) }
+    ensures few { IfOk result (λ kept. length kept.houses.items ≤ length books.old.items) }
 {
     let mut kept = Kept {
         houses: Vec::new(alloc),
@@ -94,6 +97,7 @@ fn find_at<D: Disk>(
     ensures exact { (bytes : List ℕ) → (D.disk disk).contents ≡ Some bytes
         → FindsBook book bytes result.1 }
     ensures fault { CountsBook book result.1 (D.disk disk).faults (D.disk result.0).faults }
+    ensures place { IfSome (told_book result.1) (λ told. told ≡ book) }
 {
     match read_book(alloc, disk) {
         Ok((disk, kept)) => (disk, Ok(kept)),
@@ -104,14 +108,17 @@ fn find_at<D: Disk>(
         Err(HouseFault::Unlawful(disk, place)) => {
             (disk, Err(AuditFault::Unlawful { book, place }))
         }
-        // A site is a vendor, a broker or a wallet, and a book that is read is not told to have bytes.
-        Err(HouseFault::WrongKind(disk) | HouseFault::NotEmpty(disk, _)) => (
+        // A site is a vendor, a broker or a wallet. A disk that does not tell its bytes may have shown a wallet's book
+        // first, and then a house's.
+        Err(HouseFault::WrongKind(disk)) => (
             disk,
             Err(AuditFault::Unlawful {
                 book,
                 place: FIRST_GATE,
             }),
         ),
+        // A book that is read is not told to have bytes.
+        Err(HouseFault::NotEmpty(..)) => unreachable!(),
         Err(HouseFault::Disk(disk)) => (disk, Err(AuditFault::Disk { book })),
         Err(HouseFault::NoMemory(disk)) => (disk, Err(AuditFault::NoMemory)),
     }

@@ -3,7 +3,9 @@
 
 mod auditing;
 mod books;
+mod fault;
 mod reader;
 mod reading;
 
 pub use auditing::audit;
+pub use fault::AuditFault;

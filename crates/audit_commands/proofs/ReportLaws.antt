@@ -2,8 +2,8 @@
 use Rattle.std.proofs.Common.{◌≡◌, inl, inr, ℕ, Bool, List, Ok, Err, Result, refl, sym, ap, ◌∙◌, subst}
 use Rattle.mc_outside.specs.DiskView.{DiskView}
 use Rattle.balanced_books.specs.declared.sums.Report.{Report}
-use Rattle.book_audit.specs.declared.fault.AuditFault.{AuditFault}
-use Rattle.book_audit.specs.declared.fault.AuditFault.TheVariants as faults
+use Rattle.audit_cmd.specs.declared.fault.AuditFault.{AuditFault}
+use Rattle.audit_cmd.specs.declared.fault.AuditFault.TheVariants as faults
 use Rattle.audit_cmd.specs.Books.{AreTold, counts, AreAudited, FindsOf, IsOfLawful, CountsBy}
 use Rattle.command_status.specs.declared.status.Status.{Status}
 use Rattle.command_status.specs.Statuses.{number_of}

@@ -8,8 +8,9 @@ use Rattle.scrip_journal.specs.Layout.{header}
 use Rattle.balanced_books.specs.declared.sums.Report.{Report}
 use Rattle.audit_report.specs.Text.{report_text}
 use Rattle.audit_report.specs.Json.{report_json}
-use Rattle.book_audit.specs.declared.fault.AuditFault.{AuditFault}
-use Rattle.book_audit.specs.declared.fault.AuditFault.TheVariants as faults
+use Rattle.book_audit.specs.declared.fault.BooksFault.TheVariants as founds
+use Rattle.audit_cmd.specs.declared.fault.AuditFault.{AuditFault}
+use Rattle.audit_cmd.specs.declared.fault.AuditFault.TheVariants as faults
 use Rattle.audit_cmd.specs.Reading.{IsSpoiledFrom, IsUnlawfulFrom}
 use Rattle.audit_cmd.specs.Books.{AreTold, counts, IsFirst, AreAudited, HaveWallet, RoseAt}
 use Rattle.command_status.specs.declared.status.Status.{Status}
@@ -42,13 +43,17 @@ abbrev pub TellsFound : Bool → Result Report AuditFault → Status → Type 0
 TellsFound json (Ok r) status = IsReportStatus (report_lines json r) status
 TellsFound json (Err fault) status = status ≡ audit_status fault
 
+-- the status tells something that an audit may find
+abbrev pub TellsAudit : Bool → Status → Type 0
+TellsAudit json status = (found : Result Report AuditFault) × TellsFound json found status
+
 -- ---- what is told of the bytes of books
 
 -- Why lawful books are refused: a wallet's is among them, or they are not of one broker and of vendors with names of their
 -- own; or the broker sold of a vendor whose book is not there.
 abbrev pub RefusesBooks : List (List ℕ) → Refusal → Type 0
-RefusesBooks books refusals.BadBooks = HaveWallet books ⊎ AreAudited books (Err faults.BadBooks)
-RefusesBooks books (refusals.MissingBook name) = AreAudited books (Err (faults.MissingBook name))
+RefusesBooks books refusals.BadBooks = HaveWallet books ⊎ AreAudited books (Err founds.BadBooks)
+RefusesBooks books (refusals.MissingBook name) = AreAudited books (Err (founds.MissingBook name))
 RefusesBooks books _ = ⊥
 
 -- How the report of books ends, by their bytes: the books balance and their report is said, or the first that is not read
@@ -59,7 +64,7 @@ ReportsBooks json books ends.NotJournal = (book : ℕ) × IsFirst books book (λ
 ReportsBooks json books (ends.BadEntry place) = (book : ℕ) × IsFirst books book (λ bytes. IsSpoiledFrom bytes place)
 ReportsBooks json books (ends.UnlawfulEntry place) = (book : ℕ) × IsFirst books book (λ bytes. IsUnlawfulFrom bytes place)
 ReportsBooks json books (ends.Refused refusal) = RefusesBooks books refusal
-ReportsBooks json books (ends.Stranger name id) = (book : ℕ) × AreAudited books (Err (faults.Stranger book name id))
+ReportsBooks json books (ends.Stranger name id) = (book : ℕ) × AreAudited books (Err (founds.Stranger book name id))
 ReportsBooks json books ends.DiskFault = Unit {0}
 ReportsBooks json books ends.NoMemory = Unit {0}
 ReportsBooks json books _ = ⊥

@@ -5,12 +5,11 @@ ghost use Rattle.std.specs.List.{AllZip, AllByRecursion};
 ghost use Rattle.mc_outside.specs.DiskView.{OnlyRead};
 ghost use Rattle.audit_cmd.specs.Books.{AreTold, IsLawfulBook};
 ghost use Rattle.command_status.specs.Statuses.{number_of};
-ghost use Rattle.audit_commands.specs.Reports.{report_lines, audit_status, IsReportStatus, TellsFound, ReportsBooks, ReportCauses, AreCalm, EndsReport};
+ghost use Rattle.audit_commands.specs.Reports.{report_lines, audit_status, IsReportStatus, TellsFound, TellsAudit, ReportsBooks, ReportCauses, AreCalm, EndsReport};
 
-use audit_cmd::audit;
+use audit_cmd::{AuditFault, audit};
 use audit_report::{report_json, report_text};
 use balanced_books::Report;
-use book_audit::AuditFault;
 use command_status::Status;
 use mc_base::{List, NoMemory};
 use mc_outside::Disk;
@@ -22,6 +21,8 @@ use std::alloc::Global;
 /// back, in their order, and are only read.
 pub fn report_books<D: Disk>(alloc: Global, books: Vec<D>, as_json: bool) -> (Vec<D>, Status)
     ensures read { AllZip (λ a b. OnlyRead (D.disk a) (D.disk b)) books.items result.0.items }
+    ensures moved { AllZip D.disk_moved books.items result.0.items }
+    ensures told { TellsAudit as_json result.1 }
     ensures words { number_of result.1 ≡ 2 → ⊥ }
     ensures causes { ReportCauses D.disk books.items result.1 result.0.items }
     ensures reported { (contents : Items (Items ℕ)) → AreTold D.disk books.items contents

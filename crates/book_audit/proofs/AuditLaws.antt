@@ -23,18 +23,20 @@ use Rattle.balanced_books.proofs.Strange.{sells_nothing}
 use Rattle.balanced_books.proofs.Left.{same_vendor}
 use Rattle.book_sums.specs.declared.rows.Acceptance.{Acceptance}
 use Rattle.book_sums.specs.declared.rows.Sold.{Sold}
+use Rattle.book_sums.specs.declared.rows.Stocked.{Stocked}
 use Rattle.book_sums.specs.declared.book_sums.BookSums.{BookSums}
 use Rattle.book_sums.specs.Rows.{sale_by}
-use Rattle.book_sums.specs.Learned.{SumsRepresent, name_of, kind_of, time_of, accepted_of, sales_of}
+use Rattle.book_sums.specs.Learned.{SumsRepresent, name_of, kind_of, time_of, accepted_of, stock_rows_of, sales_of}
 use Rattle.book_audit.specs.declared.shop.Shop.{Shop}
 use Rattle.book_audit.specs.Known.{has_part, was_accepted}
-use Rattle.book_audit.specs.Shops.{parts_sold}
+use Rattle.book_audit.specs.Filed.{HaveStocked, HaveSold}
+use Rattle.book_audit.specs.Shops.{stocked_row}
 use Rattle.book_audit.specs.Strange.{shop_in, not_in, not_minted, first_in}
 use Rattle.book_audit.specs.Checks.{is_desk, handed_from, left_at, left_in, stranger_in, row_of, first_over}
 use Rattle.book_audit.specs.Audit.{IsLearned, AreLearned, has_book}
 use Rattle.book_audit.proofs.Ties.{is_same, parts_are, accepted_is, out_is, gone_is}
-use Rattle.book_audit.proofs.ShopLaws.{sold_are}
-use Rattle.book_audit.proofs.StrangeLaws.{AreShopsAt, has_shop, sale_tells, first_is}
+use Rattle.book_audit.proofs.ShopLaws.{stocked_is, sold_are}
+use Rattle.book_audit.proofs.StrangeLaws.{AreShopsAt, HaveStock, has_shop, with_stock, sale_tells, first_is}
 use Rattle.book_audit.proofs.MarketLaws.{shops_among}
 
 -- ---- lists
@@ -129,30 +131,31 @@ module _ (limits : Limits) (s : BookSums) (h : History) (is : IsLearned limits s
 -- ---- books beside the broker's
 
 module _ (limits : Limits) (broker : BookSums) (b : History) (vs : List History) (shops : List Shop) (is_b : SumsRepresent broker b)
-    (at : AreShopsAt b vs shops) (own : HaveOwnNames vs) (known : AllByRecursion (λ (s : Sale). IsTrue (has_book vs s.vendor)) (sales b)) where
-  rows : List Sold
-  rows = sales_of broker
+    (at : AreShopsAt b vs shops) (stocked : HaveStocked shops (stock_rows_of broker)) (have : HaveSold shops (sales_of broker)) (own : HaveOwnNames vs) (known : AllByRecursion (λ (s : Sale). IsTrue (has_book vs s.vendor)) (sales b)) where
+  stock : HaveStock b shops
+  stock name shop found id = stocked name shop found id ∙ ap (λ (rows : List Stocked). stocked_row rows shop.name id) is_b.market'.stock' ∙ stocked_is shop.name id b
 
   -- what was handed out of a book
   abbrev handed_parts : History → List Part
   handed_parts h = map part_of (handed_of b h)
 
-  vendor_handed : (s : BookSums) (h : History) → IsLearned limits s h → has_book vs (site_name h) ≡ true → unwrap_or (option_map (λ shop. parts_sold shop (sales_of broker)) (shop_in shops (name_of s))) [] ≡ map part_of (sold b (site_name h))
+  vendor_handed : (s : BookSums) (h : History) → IsLearned limits s h → has_book vs (site_name h) ≡ true → unwrap_or (option_map (λ shop. shop.sold.items) (shop_in shops (name_of s))) [] ≡ map part_of (sold b (site_name h))
   vendor_handed s h is any =
       let r = has_shop b vs shops (site_name h) at own any in
       let name : site_name h ≡ site_name r.vendor = (bytes_eq-Decides (site_name h) r.shop.name).0 r.named ∙ r.stands.name' in
-      ap (λ (n : List ℕ). unwrap_or (option_map (λ shop. parts_sold shop (sales_of broker)) (shop_in shops n)) []) (sym is.sums.name')
-      ∙ ap (λ (o : Option Shop). unwrap_or (option_map (λ shop. parts_sold shop (sales_of broker)) o) []) r.found
-      ∙ sold_are b r.vendor r.shop (sales_of broker) r.stands
+      ap (λ (n : List ℕ). unwrap_or (option_map (λ shop. shop.sold.items) (shop_in shops n)) []) (sym is.sums.name')
+      ∙ ap (λ (o : Option Shop). unwrap_or (option_map (λ shop. shop.sold.items) o) []) r.found
+      ∙ have (site_name h) r.shop r.found
+      ∙ sold_are b r.vendor r.shop (sales_of broker) (with_stock b vs shops (site_name h) r stock)
       ∙ ap₂ (λ (n : List ℕ) (ss : List Sale). map part_of (filter_map (sold_piece b) (filter (λ x. bytes_eq x.vendor n) ss))) (sym name) is_b.market'.sales'
 
-  handed_is : (s : BookSums) (h : History) → IsLearned limits s h → (is_broker h ≡ false → has_book vs (site_name h) ≡ true) → handed_from shops (sales_of broker) s ≡ handed_parts h
+  handed_is : (s : BookSums) (h : History) → IsLearned limits s h → (is_broker h ≡ false → has_book vs (site_name h) ≡ true) → handed_from shops s ≡ handed_parts h
   handed_is s h is any =
-      ap₂ (λ (d : Bool) (own_ones : List Part). cond d [] (unwrap_or (option_map (λ shop. parts_sold shop (sales_of broker)) (shop_in shops (name_of s))) []) ++ own_ones)
+      ap₂ (λ (d : Bool) (own_ones : List Part). cond d [] (unwrap_or (option_map (λ shop. shop.sold.items) (shop_in shops (name_of s))) []) ++ own_ones)
       (ap (λ (o : Option ℕ). unwrap_or (option_map (λ kind. eqb kind BROKER_KIND) o) false) (sym is.sums.kind')) is.sums.pieces'.own_out'
       ∙ go (is_broker h) refl
     where
-      go : (d : Bool) → is_broker h ≡ d → cond d [] (unwrap_or (option_map (λ shop. parts_sold shop (sales_of broker)) (shop_in shops (name_of s))) []) ++ map part_of (own_out h) ≡ map part_of (cond d (own_out h) (handed_out b h))
+      go : (d : Bool) → is_broker h ≡ d → cond d [] (unwrap_or (option_map (λ shop. shop.sold.items) (shop_in shops (name_of s))) []) ++ map part_of (own_out h) ≡ map part_of (cond d (own_out h) (handed_out b h))
       go true e = refl
       go false e = ap (λ (l : List Part). l ++ map part_of (own_out h)) (vendor_handed s h is (any e)) ∙ sym (map-append part_of (sold b (site_name h)) (own_out h))
 
@@ -162,7 +165,7 @@ module _ (limits : Limits) (broker : BookSums) (b : History) (vs : List History)
 
   told : (ss : List Sold) → AllByRecursion (λ (s : Sale). IsTrue (has_book vs s.vendor)) (map sale_by ss) → TellsAll b ss
   told [] all = tt
-  told (s ∷ ss) all = (sale_tells b vs shops s at own all.0, told ss all.1)
+  told (s ∷ ss) all = (sale_tells b vs shops s at stock own all.0, told ss all.1)
 
   broker_tells : TellsAll b (sales_of broker)
   broker_tells = told (sales_of broker) (subst (AllByRecursion (λ (s : Sale). IsTrue (has_book vs s.vendor))) (sym is_b.market'.sales') known)
@@ -173,9 +176,9 @@ module _ (limits : Limits) (broker : BookSums) (b : History) (vs : List History)
 
   -- the first stranger of a book
   pub stranger_is : (s : BookSums) (h : History) → IsLearned limits s h → (is_broker h ≡ false → has_book vs (site_name h) ≡ true) → (is_broker h ≡ true → h ≡ b)
-      → stranger_in shops (sales_of broker) s ≡ first_of (strangers b vs h)
+      → stranger_in shops s ≡ first_of (strangers b vs h)
   stranger_is s h is any one =
-      first_alike (has_part (handed_from shops (sales_of broker) s)) (λ id value. list_any (is_same id value) (handed_of b h)) (not_minted shops)
+      first_alike (has_part (handed_from shops s)) (λ id value. list_any (is_same id value) (handed_of b h)) (not_minted shops)
       (λ id value. ap (λ (l : List Part). has_part l id value) (handed_is s h is any) ∙ parts_are id value (handed_of b h)) (accepted_of s) (sales_of s)
       ∙ ap (λ (l : List Acceptance). first_in (not_in (λ id value. list_any (is_same id value) (handed_of b h))) (not_minted shops) l (sales_of s)) is.sums.pieces'.accepted'
       ∙ first_is b vs h (λ id value. list_any (is_same id value) (handed_of b h)) (not_minted shops) (λ p. refl) h (sales_of s) is.sums.market'.sales' (tells (is_broker h) refl)
@@ -191,7 +194,7 @@ module _ (limits : Limits) (broker : BookSums) (b : History) (vs : List History)
 
   -- what is left of a book's pieces
   pub left_is : (s : BookSums) (h : History) → IsLearned limits s h → (is_broker h ≡ false → has_book vs (site_name h) ≡ true)
-      → ((left_in shops (sales_of broker) s).outstanding ≡ outstanding (handed_of b h) h) × ((left_in shops (sales_of broker) s).lapsed ≡ lapsed (handed_of b h) h)
+      → ((left_in shops s).outstanding ≡ outstanding (handed_of b h) h) × ((left_in shops s).lapsed ≡ lapsed (handed_of b h) h)
   left_is s h is any = (
     ap (λ (l : List Part). (left_at l s).outstanding) (handed_is s h is any) ∙ out_is h (was_accepted (accepted_of s)) (time_of s) spent is.sums.time' (handed_of b h),
     ap (λ (l : List Part). (left_at l s).lapsed) (handed_is s h is any) ∙ gone_is h (was_accepted (accepted_of s)) (time_of s) spent is.sums.time' (handed_of b h),
@@ -207,7 +210,7 @@ module _ (limits : Limits) (broker : BookSums) (b : History) (vs : List History)
   first_or n (id ∷ ids) later = refl
 
   pub over_is : (n : ℕ) (ss : List BookSums) (hs : List History) → AreLearned limits ss hs → AllByRecursion (λ h. is_broker h ≡ false → has_book vs (site_name h) ≡ true) hs → AllByRecursion (λ h. is_broker h ≡ true → h ≡ b) hs
-      → first_over n shops (sales_of broker) ss ≡ first_from n b vs hs
+      → first_over n shops ss ≡ first_from n b vs hs
   over_is n [] [] all any one = refl
   over_is n (s ∷ ss) (h ∷ hs) all any one =
       ap₂ (λ (o : Option ℕ) (later : Option (ℕ × ℕ)). option_or (option_map (λ id. (n, id)) o) later) (stranger_is s h all.0 any.0 one.0) (over_is (n + 1) ss hs all.1 any.1 one.1)
@@ -216,15 +219,15 @@ module _ (limits : Limits) (broker : BookSums) (b : History) (vs : List History)
   over_is n (s ∷ ss) [] all any one = absurd all
 
   pub rows_are : (ss : List BookSums) (hs : List History) → AreLearned limits ss hs → AllByRecursion (λ h. (is_broker h ≡ false) × (has_book vs (site_name h) ≡ true)) hs
-      → map (row_of shops (sales_of broker)) ss ≡ map (vendor_sums b) hs
+      → map (row_of shops) ss ≡ map (vendor_sums b) hs
   rows_are [] [] all any = refl
   rows_are (s ∷ ss) (h ∷ hs) all any = ap₂ (λ (r : VendorSums) (rs : List VendorSums). r ∷ rs) (row_is all.0 any.0) (rows_are ss hs all.1 any.1)
     where
-      row_is : IsLearned limits s h → (is_broker h ≡ false) × (has_book vs (site_name h) ≡ true) → row_of shops (sales_of broker) s ≡ vendor_sums b h
+      row_is : IsLearned limits s h → (is_broker h ≡ false) × (has_book vs (site_name h) ≡ true) → row_of shops s ≡ vendor_sums b h
       row_is is at' =
           let left = left_is s h is (λ e. at'.1) in
           let handed : handed_of b h ≡ handed_out b h = ap (λ (d : Bool). cond d (own_out h) (handed_out b h)) at'.0 in
-          same_vendor (row_of shops (sales_of broker) s) (vendor_sums b h) (sym is.sums.name') (sym is.sums.money.takings')
+          same_vendor (row_of shops s) (vendor_sums b h) (sym is.sums.name') (sym is.sums.money.takings')
           (left.0 ∙ ap (λ (l : List Scrip). outstanding l h) handed) (left.1 ∙ ap (λ (l : List Scrip). lapsed l h) handed)
   rows_are [] (h ∷ hs) all any = absurd all
   rows_are (s ∷ ss) [] all any = absurd all

@@ -1,6 +1,5 @@
 -- What an audit finds by what was kept of the books, it answers of their histories.
-use Rattle.std.proofs.Common.{◌≡◌, ℕ, zero, suc, ◌≤◌, ◌^◌, Bool, true, false, cond, not, List, [], ◌∷◌, map, filter, Result, Ok, Err, refl, sym, ap, ◌∙◌, subst, slice_get, arith, IsTrue}
-use Rattle.std.specs.Prelude.{IfSome}
+use Rattle.std.proofs.Common.{◌≡◌, ℕ, zero, suc, ◌≤◌, ◌^◌, Bool, true, false, cond, not, List, [], ◌∷◌, map, filter, Some, Result, Ok, Err, refl, sym, ap, ◌∙◌, subst, slice_get, arith, IsTrue}
 use Rattle.std.specs.List.{AllByRecursion}
 use Rattle.scrip_form.specs.Scrip.{Scrip}
 use Rattle.mc_records.specs.declared.limits.Limits.{Limits}
@@ -20,14 +19,15 @@ use Rattle.balanced_books.specs.Strangers.{handed_of, AreOfMarket, first_strange
 use Rattle.balanced_books.specs.Sums.{vendor_sums, sums_of}
 use Rattle.balanced_books.proofs.Strange.{no_stranger_balanced}
 use Rattle.book_sums.specs.declared.book_sums.BookSums.{BookSums}
-use Rattle.book_sums.specs.Learned.{name_of, till_of, sales_of}
+use Rattle.book_sums.specs.Learned.{name_of, till_of, stock_rows_of, sales_of}
 use Rattle.book_audit.specs.declared.shop.Shop.{Shop}
 use Rattle.book_audit.specs.declared.totals.Totals.{Totals}
 use Rattle.book_audit.specs.declared.spent.Left.{Left}
-use Rattle.book_audit.specs.declared.fault.AuditFault.{AuditFault}
-use Rattle.book_audit.specs.declared.fault.AuditFault.TheVariants as faults
+use Rattle.book_audit.specs.declared.fault.BooksFault.{BooksFault}
+use Rattle.book_audit.specs.declared.fault.BooksFault.TheVariants as faults
 use Rattle.book_audit.specs.Checks.{is_desk, left_in, row_of, first_over}
 use Rattle.book_audit.specs.Markets.{has_vendor, HasAll, AreInOrder}
+use Rattle.book_audit.specs.Filed.{HaveStocked, HaveSold}
 use Rattle.book_audit.specs.Findings.{vendors_among, AreShopsOf, HasTotals, accounts_of, report_of, IsMarketOf, Finds}
 use Rattle.book_audit.specs.Audit.{IsLearned, AreLearned, has_book, Audited}
 use Rattle.book_audit.proofs.StrangeLaws.{AreShopsAt}
@@ -124,20 +124,20 @@ module _ (limits : Limits) (le : limits.series ≤ 2 ^ 32) (books : List BookSum
         sold_for = known;
       }
 
-      module _ (shops : List Shop) (of : AreShopsOf broker (vendors_among books) shops) where
+      module _ (shops : List Shop) (of : AreShopsOf broker (vendors_among books) shops) (stocked : HaveStocked shops (stock_rows_of broker)) (sold : HaveSold shops (sales_of broker)) where
         at : AreShopsAt o.b (shops_among hs) shops
         at = shops_at limits broker o.b o.learned.sums (vendors_among books) (shops_among hs) shops (vendors limits books hs all) of
 
-        first_is : first_over 0 shops (sales_of broker) books ≡ first_stranger o.b (shops_among hs) hs
-        first_is = over_is limits broker o.b (shops_among hs) shops o.learned.sums at o.own known 0 books hs all (each_has hs) (only_one is_broker hs o.b o.hs_are)
+        first_is : first_over 0 shops books ≡ first_stranger o.b (shops_among hs) hs
+        first_is = over_is limits broker o.b (shops_among hs) shops o.learned.sums at stocked sold o.own known 0 books hs all (each_has hs) (only_one is_broker hs o.b o.hs_are)
 
-        rows_is : map (row_of shops (sales_of broker)) (vendors_among books) ≡ map (vendor_sums o.b) (shops_among hs)
-        rows_is = rows_are limits broker o.b (shops_among hs) shops o.learned.sums at o.own known (vendors_among books) (shops_among hs) (vendors limits books hs all)
+        rows_is : map (row_of shops) (vendors_among books) ≡ map (vendor_sums o.b) (shops_among hs)
+        rows_is = rows_are limits broker o.b (shops_among hs) shops o.learned.sums at stocked sold o.own known (vendors_among books) (shops_among hs) (vendors limits books hs all)
             (kept_where (λ h. has_book (shops_among hs) (site_name h) ≡ true) hs (each_has hs))
 
-        desk_left : ((left_in shops (sales_of broker) broker).outstanding ≡ outstanding (own_out o.b) o.b) × ((left_in shops (sales_of broker) broker).lapsed ≡ lapsed (own_out o.b) o.b)
+        desk_left : ((left_in shops broker).outstanding ≡ outstanding (own_out o.b) o.b) × ((left_in shops broker).lapsed ≡ lapsed (own_out o.b) o.b)
         desk_left =
-            let left = left_is limits broker o.b (shops_among hs) shops o.learned.sums at o.own known broker o.b o.learned (λ e. absurd (both (is_broker o.b) o.desk e)) in
+            let left = left_is limits broker o.b (shops_among hs) shops o.learned.sums at stocked sold o.own known broker o.b o.learned (λ e. absurd (both (is_broker o.b) o.desk e)) in
             let handed : handed_of o.b o.b ≡ own_out o.b = ap (λ (d : Bool). cond d (own_out o.b) (handed_out o.b o.b)) o.desk in
             (left.0 ∙ ap (λ (l : List Scrip). outstanding l o.b) handed, left.1 ∙ ap (λ (l : List Scrip). lapsed l o.b) handed)
           where
@@ -145,7 +145,7 @@ module _ (limits : Limits) (le : limits.series ≤ 2 ^ 32) (books : List BookSum
             both true e f = absurd cc
             both false e f = absurd cc
 
-        sums_is : (t : Totals) (rows : List VendorSums) → HasTotals shops (sales_of broker) books t
+        sums_is : (t : Totals) (rows : List VendorSums) → HasTotals shops books t
             → (report_of broker t rows).sums ≡ record (sums_of o.b (shops_among hs)) { vendors = rows }
         sums_is t rows has =
             let m = o.learned.sums.money in
@@ -153,17 +153,25 @@ module _ (limits : Limits) (le : limits.series ≤ 2 ^ 32) (books : List BookSum
             same_sums (report_of broker t rows).sums (record (sums_of o.b (shops_among hs)) { vendors = rows }) (sym m.paid_in') (sym m.paid_out') (accounts_are limits broker o.b o.learned) (sym m.fees')
             (ap (λ (l : Left). l.outstanding) desk ∙ desk_left.0) (ap (λ (l : Left). l.lapsed) desk ∙ desk_left.1) refl
 
-  named_is : (ss : List BookSums) (gs : List History) (n : ℕ) (name : List ℕ) → AreLearned limits ss gs → IfSome (slice_get ss n) (λ s. name ≡ name_of s) → IfSome (slice_get gs n) (λ h. name ≡ site_name h)
-  named_is [] [] n name every named = tt
-  named_is (s ∷ ss) (g ∷ gs) zero name every named = named ∙ sym every.0.sums.name'
-  named_is (s ∷ ss) (g ∷ gs) (suc n) name every named = named_is ss gs n name every.1 named
-  named_is [] (g ∷ gs) n name every named = absurd every
-  named_is (s ∷ ss) [] n name every named = absurd every
+  -- the history of the book at a place, with its name
+  record HasNamed (gs : List History) (n : ℕ) (name : List ℕ) : Type 0 where
+    of : History
+    there : slice_get gs n ≡ Some of
+    named : name ≡ site_name of
 
-  pub audited : (r : Result Report AuditFault) → Finds books r → Audited limits hs r
+  named_is : (ss : List BookSums) (gs : List History) (n : ℕ) (s : BookSums) → AreLearned limits ss gs → slice_get ss n ≡ Some s → HasNamed gs n (name_of s)
+  named_is [] [] n s every e = absurd cc
+  named_is (x ∷ ss) (g ∷ gs) zero s every e =
+      let same : x ≡ s = cc in
+      record { of = g; there = refl; named = ap name_of (sym same) ∙ sym every.0.sums.name' }
+  named_is (x ∷ ss) (g ∷ gs) (suc n) s every e = let h = named_is ss gs n s every.1 e in record { of = h.of; there = h.there; named = h.named }
+  named_is [] (g ∷ gs) n s every e = absurd every
+  named_is (x ∷ ss) [] n s every e = absurd every
+
+  pub audited : (r : Result Report BooksFault) → Finds books r → Audited limits hs r
   audited (Ok r) (broker, f) =
       let o = base broker f.market in
-      let none = sym (first_is broker o f.all_there f.shops f.of_shops) ∙ f.has.none in
+      let none = sym (first_is broker o f.all_there f.shops f.of_shops f.stocked f.sold) ∙ f.has.none in
       let lawful = all_books broker o f.all_there in
       record {
         broker = o.b;
@@ -173,8 +181,8 @@ module _ (limits : Limits) (le : limits.series ≤ 2 ^ 32) (books : List BookSum
         none = none;
         balanced = no_stranger_balanced limits o.b (shops_among hs) hs le lawful (market_is broker o) none;
         name = ap (λ (x : Report). x.broker) f.report.is ∙ sym o.learned.sums.name';
-        sums = ap (λ (x : Report). x.sums) f.report.is ∙ sums_is broker o f.all_there f.shops f.of_shops f.totals r.sums.vendors f.has;
-        rows = subst (λ (l : List VendorSums). AreInOrder l r.sums.vendors) (f.has.rows ∙ rows_is broker o f.all_there f.shops f.of_shops) f.report.rows;
+        sums = ap (λ (x : Report). x.sums) f.report.is ∙ sums_is broker o f.all_there f.shops f.of_shops f.stocked f.sold f.totals r.sums.vendors f.has;
+        rows = subst (λ (l : List VendorSums). AreInOrder l r.sums.vendors) (f.has.rows ∙ rows_is broker o f.all_there f.shops f.of_shops f.stocked f.sold) f.report.rows;
       }
   audited (Err faults.BadBooks) none = λ b ws market.
       let one = kept_one limits (filter is_desk books) (filter is_broker hs) b (desks limits books hs all) market.market.one_broker in
@@ -194,11 +202,9 @@ module _ (limits : Limits) (le : limits.series ≤ 2 ^ 32) (books : List BookSum
         vendors = shops_among hs;
         all_books = all_books broker o f.all_there;
         market = market_is broker o;
-        first = sym (first_is broker o f.all_there f.shops f.of_shops) ∙ f.stranger.first;
-        named = named_is books hs book name all f.stranger.named;
+        first = sym (first_is broker o f.all_there f.shops f.of_shops f.stocked f.sold) ∙ f.stranger.first;
+        of = (named_is books hs book f.stranger.of all f.stranger.there).of;
+        there = (named_is books hs book f.stranger.of all f.stranger.there).there;
+        named = f.stranger.named ∙ (named_is books hs book f.stranger.of all f.stranger.there).named;
       }
   audited (Err faults.NoMemory) f = tt
-  audited (Err (faults.NotJournal book)) f = absurd f
-  audited (Err (faults.BadRecord book place)) f = absurd f
-  audited (Err (faults.Unlawful book place)) f = absurd f
-  audited (Err (faults.Disk book)) f = absurd f

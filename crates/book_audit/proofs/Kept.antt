@@ -1,6 +1,5 @@
 -- What functions answer, by what those that they call answered.
 use Rattle.std.proofs.Common.{◌≡◌, ℕ, ◌+◌, ◌<◌, Bool, true, false, List, [], ◌∷◌, ◌++◌, length, take, drop, get_or, sum_by, Option, Some, Result, Ok, Err, IfOk, refl, sym, ap, ap₂, ◌∙◌, subst}
-use Rattle.std.specs.Prelude.{IfSome}
 use Rattle.std.proofs.lemmas.Option.{slice_get-get_or}
 use Rattle.std.specs.Borrow.{Bor}
 use denote.Param.Members.{Mut}
@@ -12,24 +11,26 @@ use Rattle.std.specs.declared.cmp.Ordering.{Ordering}
 use Rattle.std.specs.List.Sorted.{IsSortedBy}
 use Rattle.std.proofs.lemmas.Fn.{always_returns_same}
 use Rattle.std.proofs.lemmas.List.MinMax.{ranks_by}
+use Rattle.balanced_books.specs.declared.sums.Report.{Report}
 use Rattle.balanced_books.specs.declared.sums.VendorSums.{VendorSums}
 use Rattle.balanced_books.specs.declared.part.Part.{Part}
 use Rattle.book_sums.specs.declared.rows.Acceptance.{Acceptance}
 use Rattle.book_sums.specs.declared.book_sums.BookSums.{BookSums}
-use Rattle.book_sums.specs.declared.rows.Sold.{Sold}
-use Rattle.book_sums.specs.Learned.{name_of, time_of, accepted_of, sales_of}
+use Rattle.book_sums.specs.Learned.{name_of, time_of, accepted_of, stock_rows_of, sales_of}
 use Rattle.book_audit.specs.declared.shop.Shop.{Shop}
 use Rattle.book_audit.specs.declared.spent.Left.{Left}
 use Rattle.book_audit.specs.declared.totals.Totals.{Totals}
-use Rattle.book_audit.specs.declared.fault.AuditFault.{AuditFault}
-use Rattle.book_audit.specs.declared.fault.AuditFault.TheVariants as faults
+use Rattle.book_audit.specs.declared.fault.BooksFault.{BooksFault}
+use Rattle.book_audit.specs.declared.fault.BooksFault.TheVariants as faults
 use Rattle.book_audit.specs.declared.check.CheckFault.{CheckFault}
 use Rattle.book_audit.specs.declared.check.CheckFault.TheVariants as checks
 use Rattle.book_audit.specs.Known.{has_id, was_accepted, out_at, gone_at}
 use Rattle.book_audit.specs.Shops.{IsShopOf}
 use Rattle.book_audit.specs.Checks.{is_desk, left_at, ChecksBook, fault_at, first_over}
 use Rattle.book_audit.specs.Markets.{has_vendor, HasAll, by_name}
+use Rattle.book_audit.specs.Filed.{HaveStocked, HaveSold}
 use Rattle.book_audit.specs.Findings.{vendors_among, AreShopsOf, FindsTotals, IsMarketOf, Finds}
+use Rattle.book_audit.specs.Audit.{NamesBook}
 use Rattle.book_audit.proofs.Ties.{sums_alike}
 use Rattle.book_audit.proofs.TotalLaws.{vendors_same, vendors_next, shops_more, search_ends}
 
@@ -63,29 +64,31 @@ shops_next b books i v shop old new lt is vendor of one is_new =
 -- ---- faults
 
 -- the fault of the book at a place, where none before it has a stranger
-pub fault_found : (shops : List Shop) (sales : List Sold) (books : List BookSums) (i : ℕ) (s : BookSums) (fault : CheckFault) → i < length books → s ≡ get_or books i s
-    → ChecksBook shops sales s (Err fault) → first_over i shops sales (drop i books) ≡ first_over 0 shops sales books → FindsTotals shops sales books (Err (fault_at i s fault))
-fault_found shops sales books i s (checks.Stranger id) lt is found so_far = record {
-  first = search_ends shops sales books i s id (first_over 0 shops sales books) lt is found so_far;
-  named = subst (λ (o : Option BookSums). IfSome o (λ x. name_of s ≡ name_of x)) (sym (slice_get-get_or books i s lt ∙ ap (λ (x : BookSums). Some x) (sym is))) refl;
+pub fault_found : (shops : List Shop) (books : List BookSums) (i : ℕ) (s : BookSums) (fault : CheckFault) → i < length books → s ≡ get_or books i s
+    → ChecksBook shops s (Err fault) → first_over i shops (drop i books) ≡ first_over 0 shops books → FindsTotals shops books (Err (fault_at i s fault))
+fault_found shops books i s (checks.Stranger id) lt is found so_far = record {
+  first = search_ends shops books i s id (first_over 0 shops books) lt is found so_far;
+  of = s;
+  there = slice_get-get_or books i s lt ∙ ap (λ (x : BookSums). Some x) (sym is);
+  named = refl;
 }
-fault_found shops sales books i s checks.NoMemory lt is found so_far = tt
+fault_found shops books i s checks.NoMemory lt is found so_far = tt
 
 -- what is found of all books where their sums are not
-pub finds_fault : (broker : BookSums) (books : List BookSums) (shops : List Shop) (fault : AuditFault) → IsMarketOf broker books → HasAll (has_vendor books) (sales_of broker) → AreShopsOf broker (vendors_among books) shops
-    → FindsTotals shops (sales_of broker) books (Err fault) → Finds books (Err fault)
-finds_fault broker books shops (faults.Stranger book name id) market there of found = (broker, record { market = market; all_there = there; shops = shops; of_shops = of; stranger = found })
-finds_fault broker books shops faults.NoMemory market there of found = tt
-finds_fault broker books shops (faults.NotJournal book) market there of found = absurd found
-finds_fault broker books shops (faults.BadRecord book place) market there of found = absurd found
-finds_fault broker books shops (faults.Unlawful book place) market there of found = absurd found
-finds_fault broker books shops (faults.Disk book) market there of found = absurd found
-finds_fault broker books shops faults.BadBooks market there of found = absurd found
-finds_fault broker books shops (faults.MissingBook name) market there of found = absurd found
+pub finds_fault : (broker : BookSums) (books : List BookSums) (shops : List Shop) (fault : BooksFault) → IsMarketOf broker books → HasAll (has_vendor books) (sales_of broker) → AreShopsOf broker (vendors_among books) shops
+    → HaveStocked shops (stock_rows_of broker) → HaveSold shops (sales_of broker) → FindsTotals shops books (Err fault) → Finds books (Err fault)
+finds_fault broker books shops (faults.Stranger book name id) market there of stocked sold found = (broker, record { market = market; all_there = there; shops = shops; of_shops = of; stocked = stocked; sold = sold; stranger = found })
+finds_fault broker books shops faults.NoMemory market there of stocked sold found = tt
+finds_fault broker books shops faults.BadBooks market there of stocked sold found = absurd found
+finds_fault broker books shops (faults.MissingBook name) market there of stocked sold found = absurd found
 
--- what is found beside shops and sales that are the same
-pub found_same : (books : List BookSums) (r : Result Totals AuditFault) (shops shops2 : List Shop) (sales sales2 : List Sold) → shops ≡ shops2 → sales ≡ sales2 → FindsTotals shops sales books r → FindsTotals shops2 sales2 books r
-found_same books r shops shops2 sales sales2 e f found = subst (λ (x : List Shop). FindsTotals x sales2 books r) e (subst (λ (x : List Sold). FindsTotals shops x books r) f found)
+-- a stranger is told with the name of its book
+pub names_book : (books : List BookSums) (r : Result Report BooksFault) → Finds books r → NamesBook books r
+names_book books (Ok r) found = tt
+names_book books (Err faults.BadBooks) found = tt
+names_book books (Err (faults.MissingBook name)) found = tt
+names_book books (Err (faults.Stranger book name id)) (broker, found) = (found.stranger.of, found.stranger.there, found.stranger.named)
+names_book books (Err faults.NoMemory) found = tt
 
 -- ---- the order of a report
 

@@ -4,6 +4,7 @@ pub mod StrangeLaws
 pub mod MarketLaws
 pub mod AuditLaws
 pub mod Loops
+pub mod FiledLaws
 pub mod Audited
 pub mod TotalLaws
 pub mod NameLaws

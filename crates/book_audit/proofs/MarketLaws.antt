@@ -17,7 +17,7 @@ use Rattle.book_audit.specs.Checks.{is_desk}
 use Rattle.book_audit.specs.Markets.{only, has_vendor, own_names, comes_before, IsLeast, HasAll}
 use Rattle.book_audit.specs.Findings.{vendors_among, AreShopsOf}
 use Rattle.book_audit.specs.Audit.{IsLearned, AreLearned, has_book, IsLeastMissing}
-use Rattle.book_audit.proofs.ShopLaws.{shop_at}
+use Rattle.book_audit.proofs.ShopLaws.{shop_on}
 use Rattle.book_audit.proofs.StrangeLaws.{AreShopsAt}
 
 desk_is : (limits : Limits) (s : BookSums) (h : History) → IsLearned limits s h → is_desk s ≡ is_broker h
@@ -151,7 +151,7 @@ module _ (limits : Limits) where
 
   pub shops_at : (broker : BookSums) (b : History) → SumsRepresent broker b → (ss : List BookSums) (hs : List History) (shops : List Shop) → AreLearned limits ss hs → AreShopsOf broker ss shops → AreShopsAt b hs shops
   shops_at broker b is [] [] [] all of = tt
-  shops_at broker b is (s ∷ ss) (h ∷ hs) (x ∷ xs) all of = (shop_at broker s b h x is all.0.sums of.0, shops_at broker b is ss hs xs all.1 of.1)
+  shops_at broker b is (s ∷ ss) (h ∷ hs) (x ∷ xs) all of = (shop_on broker s b h x is all.0.sums of.0, shops_at broker b is ss hs xs all.1 of.1)
   shops_at broker b is [] [] (x ∷ xs) all of = absurd of
   shops_at broker b is (s ∷ ss) (h ∷ hs) [] all of = absurd of
   shops_at broker b is [] (h ∷ hs) xs all of = absurd all

@@ -3,7 +3,6 @@ use Rattle.std.proofs.Common.{◌≡◌, ℕ, Bool, true, false, cond, eqb, ◌&
 use Rattle.std.specs.Prelude.{option_and_then}
 use Rattle.std.specs.Option.{option_or}
 use Rattle.std.specs.List.{list_any, cons_option}
-use Rattle.std.specs.Map.{lookup}
 use Rattle.std.proofs.lemmas.List.Folds.{find-append}
 use Rattle.std.proofs.lemmas.List.Elements.{filter_map-append}
 use Rattle.std.proofs.lemmas.Slice.Eq.{bytes_eq-Decides}
@@ -22,7 +21,7 @@ use Rattle.book_sums.specs.declared.book_sums.BookSums.{BookSums}
 use Rattle.book_sums.specs.Rows.{licence_of, stocked_of, stocked_held, sale_by}
 use Rattle.book_sums.specs.Learned.{SumsRepresent}
 use Rattle.book_audit.specs.Known.{knows, is_in_run}
-use Rattle.book_audit.specs.Shops.{licensed, is_stocked, stocked_row, licensed_part, part_sold, parts_sold, IsShopOf}
+use Rattle.book_audit.specs.Shops.{licensed, is_stocked, stocked_row, licensed_part, in_stock, part_sold, parts_sold, IsShopOf}
 use Rattle.book_audit.specs.declared.shop.Shop.{Shop}
 use Rattle.book_audit.proofs.Ties.{turned, is_same, minted_are}
 
@@ -59,7 +58,7 @@ found_append id xs ys =
     ∙ ap (option_map part_of) (find-append (λ p. eqb p.id id) (held_pieces xs) (held_pieces ys))
     ∙ or_map (find (λ p. eqb p.id id) (held_pieces xs)) (find (λ p. eqb p.id id) (held_pieces ys))
 
-row_append : (name : List ℕ) (id : ℕ) (xs ys : List Stocked) → stocked_row (xs ++ ys) name id ≡ option_or (stocked_row xs name id) (stocked_row ys name id)
+pub row_append : (name : List ℕ) (id : ℕ) (xs ys : List Stocked) → stocked_row (xs ++ ys) name id ≡ option_or (stocked_row xs name id) (stocked_row ys name id)
 row_append name id xs ys =
     ap (option_map (λ (r : Stocked). r.part)) (find-append (is_stocked name id) xs ys) ∙ or_part (find (is_stocked name id) xs) (find (is_stocked name id) ys)
 
@@ -86,7 +85,7 @@ held_row name vendor id helds = go (bytes_eq vendor name) refl helds
     go true e (x ∷ hs) = one true e (piece_of x.text) (filter_map (stocked_held vendor) hs) (held_pieces hs) (go true e hs)
     go false e (x ∷ hs) = one false e (piece_of x.text) (filter_map (stocked_held vendor) hs) (held_pieces hs) (go false e hs)
 
-stocked_is : (name : List ℕ) (id : ℕ) (h : History) → stocked_row (flat_map stocked_of h) name id ≡ option_map part_of (find (λ p. eqb p.id id) (stock_pieces h name))
+pub stocked_is : (name : List ℕ) (id : ℕ) (h : History) → stocked_row (flat_map stocked_of h) name id ≡ option_map part_of (find (λ p. eqb p.id id) (stock_pieces h name))
 stocked_is name id [] = refl
 stocked_is name id (Stock m vendor pieces ∷ es) =
     row_append name id (filter_map (stocked_held vendor) pieces) (flat_map stocked_of es)
@@ -96,18 +95,21 @@ stocked_is name id (e ∷ es) = stocked_is name id es
 
 -- ---- a shop
 
--- a shop has what the histories of the broker and of the vendor say
-pub record IsShopAt (b v : History) (s : Shop) : Type 0 where
+-- a shop has the licence that the history of the broker says, and what that of the vendor says
+pub record IsShopOn (b v : History) (s : Shop) : Type 0 where
   pub name' : s.name ≡ site_name v
   pub licence' : s.licence ≡ licence_in b (site_name v)
-  pub stock' : (id : ℕ) → lookup (λ k. eqb id k) s.stock.entries ≡ option_map part_of (find (λ p. eqb p.id id) (stock_pieces b (site_name v)))
   pub minted' : (id value : ℕ) → knows s.minted id value ≡ list_any (is_same id value) (minted v)
 
-pub shop_at : (broker vendor : BookSums) (b v : History) (s : Shop) → SumsRepresent broker b → SumsRepresent vendor v → IsShopOf broker vendor s → IsShopAt b v s
-shop_at broker vendor b v s is_b is_v of = record {
+-- and the stock
+pub record IsShopAt (b v : History) (s : Shop) : Type 0 where
+  pub on : IsShopOn b v s
+  pub stock' : (id : ℕ) → in_stock s id ≡ option_map part_of (find (λ p. eqb p.id id) (stock_pieces b (site_name v)))
+
+pub shop_on : (broker vendor : BookSums) (b v : History) (s : Shop) → SumsRepresent broker b → SumsRepresent vendor v → IsShopOf broker vendor s → IsShopOn b v s
+shop_on broker vendor b v s is_b is_v of = record {
   name' = of.name' ∙ sym is_v.name';
   licence' = of.licence' ∙ ap₂ (λ rows (name : List ℕ). licensed rows name) is_b.market'.licences' (sym is_v.name') ∙ licensed_is (site_name v) b;
-  stock' = λ id. of.stock' id ∙ ap₂ (λ rows (name : List ℕ). stocked_row rows name id) is_b.market'.stock' (sym is_v.name') ∙ stocked_is (site_name v) id b;
   minted' = λ id value. of.minted' id value ∙ ap (λ rows. list_any (λ r. is_in_run id value r) rows) is_v.pieces'.minted' ∙ minted_are id value [] v;
 }
 
@@ -123,13 +125,13 @@ piece_is b v shop s is same = go s.stock
     licence None = refl
     licence (Some terms) = refl
 
-    go : (t : Bool) → cond t (lookup (λ k. eqb s.id k) shop.stock.entries) (option_map (licensed_part s) shop.licence)
+    go : (t : Bool) → cond t (in_stock shop s.id) (option_map (licensed_part s) shop.licence)
         ≡ option_map part_of (cond t (find (λ p. eqb p.id s.id) (stock_pieces b s.vendor)) (option_map (λ terms. licensed_piece terms s.vendor s.value s.id) (licence_in b s.vendor)))
     go true = is.stock' s.id ∙ ap (λ (name : List ℕ). option_map part_of (find (λ p. eqb p.id s.id) (stock_pieces b name))) (sym same)
-    go false = ap (option_map (licensed_part s)) (is.licence' ∙ ap (licence_in b) (sym same)) ∙ licence (licence_in b s.vendor)
+    go false = ap (option_map (licensed_part s)) (is.on.licence' ∙ ap (licence_in b) (sym same)) ∙ licence (licence_in b s.vendor)
 
 pub part_is : (b v : History) (shop : Shop) (s : Sold) → IsShopAt b v shop → bytes_eq s.vendor shop.name ≡ true → part_sold shop s ≡ option_map part_of (sold_piece b (sale_by s))
-part_is b v shop s is same = piece_is b v shop s is (name_is s shop.name same ∙ is.name')
+part_is b v shop s is same = piece_is b v shop s is (name_is s shop.name same ∙ is.on.name')
 
 mapped_cons : (o : Option Scrip) (ps : List Scrip) → cons_option (option_map part_of o) (map part_of ps) ≡ map part_of (cons_option o ps)
 mapped_cons None ps = refl
@@ -140,7 +142,7 @@ pub sold_are : (b v : History) (shop : Shop) (rows : List Sold) → IsShopAt b v
 sold_are b v shop [] is = refl
 sold_are b v shop (s ∷ rows) is =
     go (bytes_eq s.vendor shop.name) refl (sold_are b v shop rows is)
-    ∙ ap (λ (name : List ℕ). map part_of (filter_map (sold_piece b) (cond (bytes_eq s.vendor name) (sale_by s ∷ filter (is_of_vendor (site_name v)) (map sale_by rows)) (filter (is_of_vendor (site_name v)) (map sale_by rows))))) is.name'
+    ∙ ap (λ (name : List ℕ). map part_of (filter_map (sold_piece b) (cond (bytes_eq s.vendor name) (sale_by s ∷ filter (is_of_vendor (site_name v)) (map sale_by rows)) (filter (is_of_vendor (site_name v)) (map sale_by rows))))) is.on.name'
   where
     rest : List Sale
     rest = filter (is_of_vendor (site_name v)) (map sale_by rows)

@@ -1,5 +1,5 @@
 -- The first stranger of a book, by what was kept of it and by its history.
-use Rattle.std.proofs.Common.{◌≡◌, ℕ, Bool, true, false, cond, ◌&&◌, ◌||◌, List, [], ◌∷◌, ◌++◌, map, filter_map, flat_map, bytes_eq, Option, Some, None, option_map, refl, sym, ap, ap₂, ◌∙◌}
+use Rattle.std.proofs.Common.{◌≡◌, ℕ, Bool, true, false, cond, ◌&&◌, ◌||◌, List, [], ◌∷◌, ◌++◌, map, filter_map, flat_map, find, eqb, bytes_eq, Option, Some, None, option_map, refl, sym, ap, ap₂, ◌∙◌}
 use Rattle.std.specs.Prelude.{option_and_then, is_some}
 use Rattle.std.specs.Option.{option_or}
 use Rattle.std.specs.List.{list_any, cons_option, AllByRecursion}
@@ -8,7 +8,7 @@ use Rattle.mc_records.specs.Entry.{Accept}
 use Rattle.ledger_model.specs.Histories.{History}
 use Rattle.ledger_model.specs.Houses.{site_name}
 use Rattle.ledger_model.specs.Pieces.{piece_of, minted}
-use Rattle.ledger_model.specs.Stock.{Sale, sale_of, sales, sold_piece}
+use Rattle.ledger_model.specs.Stock.{Sale, sale_of, sales, sold_piece, stock_pieces}
 use Rattle.ledger_model.proofs.AccountLaws as names
 use Rattle.balanced_books.specs.Meets.{is_among}
 use Rattle.balanced_books.specs.Books.{HaveOwnNames}
@@ -20,9 +20,10 @@ use Rattle.book_sums.specs.declared.rows.Sold.{Sold}
 use Rattle.book_sums.specs.Rows.{acceptance_of, sale_by}
 use Rattle.book_audit.specs.declared.shop.Shop.{Shop}
 use Rattle.book_audit.specs.Known.{knows}
-use Rattle.book_audit.specs.Shops.{part_sold}
+use Rattle.book_audit.specs.Shops.{in_stock, part_sold}
+use Rattle.book_audit.specs.Filed.{EachFound}
 use Rattle.book_audit.specs.Strange.{not_in, shop_in, not_minted, next_sale, later_sales, strange_of, first_in}
-use Rattle.book_audit.proofs.ShopLaws.{IsShopAt, part_is}
+use Rattle.book_audit.proofs.ShopLaws.{IsShopOn, IsShopAt, part_is}
 
 first_append : (xs ys : List ℕ) → first_of (xs ++ ys) ≡ option_or (first_of xs) (first_of ys)
 first_append [] ys = refl
@@ -42,7 +43,7 @@ tells has test same (Some p) = go (has p.id p.value) (same p)
 -- the shops are those of the vendors at a broker, in their order
 abbrev pub AreShopsAt : History → List History → List Shop → Type 0
 AreShopsAt b [] [] = Unit {0}
-AreShopsAt b (v ∷ vs) (s ∷ ss) = IsShopAt b v s × AreShopsAt b vs ss
+AreShopsAt b (v ∷ vs) (s ∷ ss) = IsShopOn b v s × AreShopsAt b vs ss
 AreShopsAt b _ _ = ⊥
 
 -- the one vendor of a name, with his shop
@@ -50,7 +51,7 @@ pub record HasShop (b : History) (vs : List History) (shops : List Shop) (name :
   pub vendor : History
   pub shop : Shop
   pub found : shop_in shops name ≡ Some shop
-  pub stands : IsShopAt b vendor shop
+  pub stands : IsShopOn b vendor shop
   pub named : bytes_eq name shop.name ≡ true
   pub only : (p : Scrip) → is_minted vs name p ≡ is_among (minted vendor) p
 
@@ -88,11 +89,21 @@ has_shop b (v ∷ vs) (s ∷ ss) name at own any = go (bytes_eq name (site_name 
 has_shop b [] (s ∷ ss) name at own any = absurd at
 has_shop b (v ∷ vs) [] name at own any = absurd at
 
+-- the stock of each shop is what the broker's history says
+abbrev pub HaveStock : History → List Shop → Type 0
+HaveStock b shops = EachFound (λ shop. (id : ℕ) → in_stock shop id ≡ option_map part_of (find (λ p. eqb p.id id) (stock_pieces b shop.name))) shops
+
+pub with_stock : (b : History) (vs : List History) (shops : List Shop) (name : List ℕ) (r : HasShop b vs shops name) → HaveStock b shops → IsShopAt b r.vendor r.shop
+with_stock b vs shops name r stocked = record {
+  on = r.stands;
+  stock' = λ id. stocked name r.shop r.found id ∙ ap (λ (n : List ℕ). option_map part_of (find (λ p. eqb p.id id) (stock_pieces b n))) r.stands.name';
+}
+
 -- ---- a sale
 
-pub sale_tells : (b : History) (vs : List History) (shops : List Shop) (s : Sold) → AreShopsAt b vs shops → HaveOwnNames vs → list_any (λ v. bytes_eq s.vendor (site_name v)) vs ≡ true
+pub sale_tells : (b : History) (vs : List History) (shops : List Shop) (s : Sold) → AreShopsAt b vs shops → HaveStock b shops → HaveOwnNames vs → list_any (λ v. bytes_eq s.vendor (site_name v)) vs ≡ true
     → not_minted shops s ≡ first_of (sold_stranger vs b (Some (sale_by s)))
-sale_tells b vs shops s at own any = go s.stock
+sale_tells b vs shops s at stocked own any = go s.stock
   where
     r : HasShop b vs shops s.vendor
     r = has_shop b vs shops s.vendor at own any
@@ -102,7 +113,7 @@ sale_tells b vs shops s at own any = go s.stock
     go false = refl
     go true =
         ap (option_and_then (λ (shop : Shop). not_in (knows shop.minted) (part_sold shop s))) r.found
-        ∙ ap (not_in (knows r.shop.minted)) (part_is b r.vendor r.shop s r.stands r.named)
+        ∙ ap (not_in (knows r.shop.minted)) (part_is b r.vendor r.shop s (with_stock b vs shops s.vendor r stocked) r.named)
         ∙ tells (knows r.shop.minted) (is_minted vs s.vendor) (λ p. r.stands.minted' p.id p.value ∙ sym (r.only p)) (sold_piece b (sale_by s))
 
 -- ---- the entries of a book

@@ -4,7 +4,6 @@ use Rattle.std.specs.Option.{option_or}
 use Rattle.std.proofs.lemmas.List.{map-append, drop_more}
 use Rattle.std.proofs.lemmas.List.Elements.{filter-append}
 use Rattle.balanced_books.specs.declared.sums.VendorSums.{VendorSums}
-use Rattle.book_sums.specs.declared.rows.Sold.{Sold}
 use Rattle.book_sums.specs.declared.book_sums.BookSums.{BookSums}
 use Rattle.book_audit.specs.declared.shop.Shop.{Shop}
 use Rattle.book_audit.specs.declared.spent.Left.{Left}
@@ -40,43 +39,43 @@ shops_more b (w ∷ ws) [] v s of one = absurd of
 -- ---- sums
 
 -- without a stranger the search goes on
-pub search_on : (shops : List Shop) (sales : List Sold) (books : List BookSums) (i : ℕ) (s : BookSums) (whole : Option (ℕ × ℕ)) → i < length books → s ≡ get_or books i s → stranger_in shops sales s ≡ None
-    → first_over i shops sales (drop i books) ≡ whole → first_over (i + 1) shops sales (drop (i + 1) books) ≡ whole
-search_on shops sales books i s whole lt is none so_far =
-    sym (ap (first_over i shops sales) (next_drop books i s lt is)
-    ∙ ap (λ (o : Option ℕ). option_or (option_map (λ id. (i, id)) o) (first_over (i + 1) shops sales (drop (i + 1) books))) none) ∙ so_far
+pub search_on : (shops : List Shop) (books : List BookSums) (i : ℕ) (s : BookSums) (whole : Option (ℕ × ℕ)) → i < length books → s ≡ get_or books i s → stranger_in shops s ≡ None
+    → first_over i shops (drop i books) ≡ whole → first_over (i + 1) shops (drop (i + 1) books) ≡ whole
+search_on shops books i s whole lt is none so_far =
+    sym (ap (first_over i shops) (next_drop books i s lt is)
+    ∙ ap (λ (o : Option ℕ). option_or (option_map (λ id. (i, id)) o) (first_over (i + 1) shops (drop (i + 1) books))) none) ∙ so_far
 
 -- with one it ends
-pub search_ends : (shops : List Shop) (sales : List Sold) (books : List BookSums) (i : ℕ) (s : BookSums) (id : ℕ) (whole : Option (ℕ × ℕ)) → i < length books → s ≡ get_or books i s → stranger_in shops sales s ≡ Some id
-    → first_over i shops sales (drop i books) ≡ whole → whole ≡ Some (i, id)
-search_ends shops sales books i s id whole lt is some so_far =
-    sym so_far ∙ ap (first_over i shops sales) (next_drop books i s lt is)
-    ∙ ap (λ (o : Option ℕ). option_or (option_map (λ x. (i, x)) o) (first_over (i + 1) shops sales (drop (i + 1) books))) some
+pub search_ends : (shops : List Shop) (books : List BookSums) (i : ℕ) (s : BookSums) (id : ℕ) (whole : Option (ℕ × ℕ)) → i < length books → s ≡ get_or books i s → stranger_in shops s ≡ Some id
+    → first_over i shops (drop i books) ≡ whole → whole ≡ Some (i, id)
+search_ends shops books i s id whole lt is some so_far =
+    sym so_far ∙ ap (first_over i shops) (next_drop books i s lt is)
+    ∙ ap (λ (o : Option ℕ). option_or (option_map (λ x. (i, x)) o) (first_over (i + 1) shops (drop (i + 1) books))) some
 
-pub rows_more : (shops : List Shop) (sales : List Sold) (books : List BookSums) (i : ℕ) (s : BookSums) (left : Left) (old new : List VendorSums) → i < length books → s ≡ get_or books i s → left ≡ left_in shops sales s
-    → old ≡ map (row_of shops sales) (vendors_among (take i books)) → new ≡ cond (is_desk s) old (old ++ row_with s left ∷ [])
-    → new ≡ map (row_of shops sales) (vendors_among (take (i + 1) books))
-rows_more shops sales books i s left old new lt is left_is so_far upd = go (is_desk s) refl upd
+pub rows_more : (shops : List Shop) (books : List BookSums) (i : ℕ) (s : BookSums) (left : Left) (old new : List VendorSums) → i < length books → s ≡ get_or books i s → left ≡ left_in shops s
+    → old ≡ map (row_of shops) (vendors_among (take i books)) → new ≡ cond (is_desk s) old (old ++ row_with s left ∷ [])
+    → new ≡ map (row_of shops) (vendors_among (take (i + 1) books))
+rows_more shops books i s left old new lt is left_is so_far upd = go (is_desk s) refl upd
   where
-    go : (d : Bool) → is_desk s ≡ d → new ≡ cond d old (old ++ row_with s left ∷ []) → new ≡ map (row_of shops sales) (vendors_among (take (i + 1) books))
-    go true e u = u ∙ so_far ∙ sym (ap (map (row_of shops sales)) (vendors_same books i s lt is e))
+    go : (d : Bool) → is_desk s ≡ d → new ≡ cond d old (old ++ row_with s left ∷ []) → new ≡ map (row_of shops) (vendors_among (take (i + 1) books))
+    go true e u = u ∙ so_far ∙ sym (ap (map (row_of shops)) (vendors_same books i s lt is e))
     go false e u =
         u ∙ ap₂ (λ (l : List VendorSums) (x : Left). l ++ row_with s x ∷ []) so_far left_is
-        ∙ sym (ap (map (row_of shops sales)) (vendors_next books i s lt is e) ∙ map-append (row_of shops sales) (vendors_among (take i books)) (s ∷ []))
+        ∙ sym (ap (map (row_of shops)) (vendors_next books i s lt is e) ∙ map-append (row_of shops) (vendors_among (take i books)) (s ∷ []))
 
 last_is : (xs : List BookSums) (s b : BookSums) → xs ++ s ∷ [] ≡ b ∷ [] → s ≡ b
 last_is [] s b e = cc
 last_is (x ∷ []) s b e = absurd cc
 last_is (x ∷ y ∷ xs) s b e = absurd cc
 
-pub desk_more : (shops : List Shop) (sales : List Sold) (books : List BookSums) (i : ℕ) (s : BookSums) (left old new : Left) → i < length books → s ≡ get_or books i s → left ≡ left_in shops sales s
-    → ((b : BookSums) → filter is_desk (take i books) ≡ b ∷ [] → old ≡ left_in shops sales b) → new ≡ cond (is_desk s) left old
-    → (b : BookSums) → filter is_desk (take (i + 1) books) ≡ b ∷ [] → new ≡ left_in shops sales b
-desk_more shops sales books i s left old new lt is left_is so_far upd b one = go (is_desk s) refl upd (sym more ∙ one)
+pub desk_more : (shops : List Shop) (books : List BookSums) (i : ℕ) (s : BookSums) (left old new : Left) → i < length books → s ≡ get_or books i s → left ≡ left_in shops s
+    → ((b : BookSums) → filter is_desk (take i books) ≡ b ∷ [] → old ≡ left_in shops b) → new ≡ cond (is_desk s) left old
+    → (b : BookSums) → filter is_desk (take (i + 1) books) ≡ b ∷ [] → new ≡ left_in shops b
+desk_more shops books i s left old new lt is left_is so_far upd b one = go (is_desk s) refl upd (sym more ∙ one)
   where
     more : filter is_desk (take (i + 1) books) ≡ filter is_desk (take i books) ++ cond (is_desk s) (s ∷ []) []
     more = ap (filter is_desk) (one_more books i s lt is) ∙ filter-append is_desk (take i books) (s ∷ [])
 
-    go : (d : Bool) → is_desk s ≡ d → new ≡ cond d left old → filter is_desk (take i books) ++ cond (is_desk s) (s ∷ []) [] ≡ b ∷ [] → new ≡ left_in shops sales b
-    go true e u f = u ∙ left_is ∙ ap (left_in shops sales) (last_is (filter is_desk (take i books)) s b (sym (ap (λ (d : Bool). filter is_desk (take i books) ++ cond d (s ∷ []) []) e) ∙ f))
+    go : (d : Bool) → is_desk s ≡ d → new ≡ cond d left old → filter is_desk (take i books) ++ cond (is_desk s) (s ∷ []) [] ≡ b ∷ [] → new ≡ left_in shops b
+    go true e u f = u ∙ left_is ∙ ap (left_in shops) (last_is (filter is_desk (take i books)) s b (sym (ap (λ (d : Bool). filter is_desk (take i books) ++ cond d (s ∷ []) []) e) ∙ f))
     go false e u f = u ∙ so_far b (sym (ap (λ (d : Bool). filter is_desk (take i books) ++ cond d (s ∷ []) []) e ∙ append-nil (filter is_desk (take i books))) ∙ f)

@@ -1,5 +1,5 @@
 -- What an audit of books answers, by their histories.
-use Rattle.std.specs.Prelude.{◌≡◌, ℕ, Bool, true, false, List, [], ◌∷◌, map, bytes_eq, None, Some, IfSome, slice_get, Result, Ok, Err}
+use Rattle.std.specs.Prelude.{◌≡◌, ℕ, Bool, true, false, List, [], ◌∷◌, map, bytes_eq, None, Some, slice_get, Result, Ok, Err}
 use Rattle.std.specs.List.{list_any, AllByRecursion}
 use Rattle.mc_records.specs.declared.limits.Limits.{Limits}
 use Rattle.mc_records.specs.Entry.{Fits}
@@ -12,9 +12,9 @@ use Rattle.balanced_books.specs.Books.{HaveOwnNames, AreBooks, IsBalanced}
 use Rattle.balanced_books.specs.Strangers.{AreOfMarket, first_stranger}
 use Rattle.balanced_books.specs.Sums.{vendor_sums, sums_of}
 use Rattle.book_sums.specs.declared.book_sums.BookSums.{BookSums}
-use Rattle.book_sums.specs.Learned.{SumsRepresent}
-use Rattle.book_audit.specs.declared.fault.AuditFault.{AuditFault}
-use Rattle.book_audit.specs.declared.fault.AuditFault.TheVariants as faults
+use Rattle.book_sums.specs.Learned.{SumsRepresent, name_of}
+use Rattle.book_audit.specs.declared.fault.BooksFault.{BooksFault}
+use Rattle.book_audit.specs.declared.fault.BooksFault.TheVariants as faults
 use Rattle.book_audit.specs.Markets.{comes_before, AreInOrder}
 
 -- ---- what was learned
@@ -74,13 +74,19 @@ pub record IsStranger (limits : Limits) (books : List History) (book : ℕ) (nam
   pub all_books : AreBooks limits broker vendors
   pub market : AreOfMarket broker vendors books
   pub first : first_stranger broker vendors books ≡ Some (book, id)
-  pub named : IfSome (slice_get books book) (λ h. name ≡ site_name h)
+  pub of : History
+  pub there : slice_get books book ≡ Some of
+  pub named : name ≡ site_name of
+
+-- A stranger is told with the name that was learned of its book, be the books lawful or not.
+abbrev pub NamesBook : List BookSums → Result Report BooksFault → Type 0
+NamesBook books (Err (faults.Stranger book name id)) = (s : BookSums) × (slice_get books book ≡ Some s) × (name ≡ name_of s)
+NamesBook books _ = Unit {0}
 
 -- what is answered of lawful books
-abbrev pub Audited : Limits → List History → Result Report AuditFault → Type 0
+abbrev pub Audited : Limits → List History → Result Report BooksFault → Type 0
 Audited limits books (Ok r) = IsReported limits books r
 Audited limits books (Err faults.BadBooks) = (b : History) (vs : List History) → AreMarket b vs books → ⊥
 Audited limits books (Err (faults.MissingBook name)) = IsMissing books name
 Audited limits books (Err (faults.Stranger book name id)) = IsStranger limits books book name id
 Audited limits books (Err faults.NoMemory) = Unit {0}
-Audited limits books (Err _) = ⊥

@@ -1,16 +1,16 @@
 -- What an audit finds, by what was kept of the books.
-use Rattle.std.specs.Prelude.{◌≡◌, ℕ, ◌+◌, ◌-◌, true, not, List, [], ◌∷◌, map, filter, Some, None, IfSome, slice_get, Result, Ok, Err}
+use Rattle.std.specs.Prelude.{◌≡◌, ℕ, ◌+◌, ◌-◌, true, not, List, [], ◌∷◌, map, filter, Some, None, slice_get, Result, Ok, Err}
 use Rattle.balanced_books.specs.declared.sums.Report.{Report}
 use Rattle.balanced_books.specs.declared.sums.VendorSums.{VendorSums}
-use Rattle.book_sums.specs.declared.rows.Sold.{Sold}
 use Rattle.book_sums.specs.declared.till.Till.{Till}
 use Rattle.book_sums.specs.declared.book_sums.BookSums.{BookSums}
-use Rattle.book_sums.specs.Learned.{name_of, till_of, sales_of}
+use Rattle.book_sums.specs.Learned.{name_of, till_of, stock_rows_of, sales_of}
 use Rattle.book_audit.specs.declared.shop.Shop.{Shop}
 use Rattle.book_audit.specs.declared.totals.Totals.{Totals}
-use Rattle.book_audit.specs.declared.fault.AuditFault.{AuditFault}
-use Rattle.book_audit.specs.declared.fault.AuditFault.TheVariants as faults
+use Rattle.book_audit.specs.declared.fault.BooksFault.{BooksFault}
+use Rattle.book_audit.specs.declared.fault.BooksFault.TheVariants as faults
 use Rattle.book_audit.specs.Shops.{IsShopOf}
+use Rattle.book_audit.specs.Filed.{HaveStocked, HaveSold}
 use Rattle.book_audit.specs.Checks.{is_desk, left_in, row_of, first_over}
 use Rattle.book_audit.specs.Markets.{only, has_vendor, own_names, IsLeast, HasAll, AreInOrder}
 
@@ -27,21 +27,23 @@ AreShopsOf b _ _ = ⊥
 -- ---- all books
 
 -- the sums of all books, none of which has a stranger
-pub record HasTotals (shops : List Shop) (sales : List Sold) (books : List BookSums) (t : Totals) : Type 0 where
-  pub none : first_over 0 shops sales books ≡ None
-  pub rows : t.vendors.items ≡ map (row_of shops sales) (vendors_among books)
-  pub desk : (b : BookSums) → filter is_desk books ≡ b ∷ [] → t.desk ≡ left_in shops sales b
+pub record HasTotals (shops : List Shop) (books : List BookSums) (t : Totals) : Type 0 where
+  pub none : first_over 0 shops books ≡ None
+  pub rows : t.vendors.items ≡ map (row_of shops) (vendors_among books)
+  pub desk : (b : BookSums) → filter is_desk books ≡ b ∷ [] → t.desk ≡ left_in shops b
 
 -- the first stranger, with the name of its book
-pub record IsFirstStranger (shops : List Shop) (sales : List Sold) (books : List BookSums) (book : ℕ) (name : List ℕ) (id : ℕ) : Type 0 where
-  pub first : first_over 0 shops sales books ≡ Some (book, id)
-  pub named : IfSome (slice_get books book) (λ s. name ≡ name_of s)
+pub record IsFirstStranger (shops : List Shop) (books : List BookSums) (book : ℕ) (name : List ℕ) (id : ℕ) : Type 0 where
+  pub first : first_over 0 shops books ≡ Some (book, id)
+  pub of : BookSums
+  pub there : slice_get books book ≡ Some of
+  pub named : name ≡ name_of of
 
-abbrev pub FindsTotals : List Shop → List Sold → List BookSums → Result Totals AuditFault → Type 0
-FindsTotals shops sales books (Ok t) = HasTotals shops sales books t
-FindsTotals shops sales books (Err (faults.Stranger book name id)) = IsFirstStranger shops sales books book name id
-FindsTotals shops sales books (Err faults.NoMemory) = Unit {0}
-FindsTotals shops sales books (Err _) = ⊥
+abbrev pub FindsTotals : List Shop → List BookSums → Result Totals BooksFault → Type 0
+FindsTotals shops books (Ok t) = HasTotals shops books t
+FindsTotals shops books (Err (faults.Stranger book name id)) = IsFirstStranger shops books book name id
+FindsTotals shops books (Err faults.NoMemory) = Unit {0}
+FindsTotals shops books (Err _) = ⊥
 
 -- ---- the report
 
@@ -80,8 +82,10 @@ pub record FindsReport (broker : BookSums) (books : List BookSums) (r : Report) 
   pub all_there : HasAll (has_vendor books) (sales_of broker)
   pub shops : List Shop
   pub of_shops : AreShopsOf broker (vendors_among books) shops
+  pub stocked : HaveStocked shops (stock_rows_of broker)
+  pub sold : HaveSold shops (sales_of broker)
   pub totals : Totals
-  pub has : HasTotals shops (sales_of broker) books totals
+  pub has : HasTotals shops books totals
   pub report : IsReportOf broker totals r
 
 pub record FindsMissing (broker : BookSums) (books : List BookSums) (name : List ℕ) : Type 0 where
@@ -93,13 +97,14 @@ pub record FindsStranger (broker : BookSums) (books : List BookSums) (book : ℕ
   pub all_there : HasAll (has_vendor books) (sales_of broker)
   pub shops : List Shop
   pub of_shops : AreShopsOf broker (vendors_among books) shops
-  pub stranger : IsFirstStranger shops (sales_of broker) books book name id
+  pub stocked : HaveStocked shops (stock_rows_of broker)
+  pub sold : HaveSold shops (sales_of broker)
+  pub stranger : IsFirstStranger shops books book name id
 
 -- what an audit of the books finds
-abbrev pub Finds : List BookSums → Result Report AuditFault → Type 0
+abbrev pub Finds : List BookSums → Result Report BooksFault → Type 0
 Finds books (Ok r) = (broker : BookSums) × FindsReport broker books r
 Finds books (Err faults.BadBooks) = (broker : BookSums) → IsMarketOf broker books → ⊥
 Finds books (Err (faults.MissingBook name)) = (broker : BookSums) × FindsMissing broker books name
 Finds books (Err (faults.Stranger book name id)) = (broker : BookSums) × FindsStranger broker books book name id
 Finds books (Err faults.NoMemory) = Unit {0}
-Finds books (Err _) = ⊥

@@ -1,6 +1,7 @@
 pub mod Known
 pub mod Shops
 pub mod Strange
+pub mod Filed
 pub mod Checks
 pub mod Markets
 pub mod Findings

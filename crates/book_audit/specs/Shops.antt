@@ -9,7 +9,7 @@ use Rattle.book_sums.specs.declared.rows.Licence.{Licence}
 use Rattle.book_sums.specs.declared.rows.Stocked.{Stocked}
 use Rattle.book_sums.specs.declared.rows.Sold.{Sold}
 use Rattle.book_sums.specs.declared.book_sums.BookSums.{BookSums}
-use Rattle.book_sums.specs.Learned.{name_of, runs_of, licences_of, stock_rows_of}
+use Rattle.book_sums.specs.Learned.{name_of, runs_of, licences_of}
 use Rattle.book_audit.specs.Known.{knows, is_in_run}
 use Rattle.book_audit.specs.declared.shop.Shop.{Shop}
 
@@ -28,17 +28,24 @@ stocked_row rows name id = option_map (λ r. r.part) (find (is_stocked name id) 
 abbrev pub licensed_part : Sold → Issuing → Part
 licensed_part s terms = record { id = s.id; value = s.value; expires = series_end terms (epoch_of s.id) }
 
+-- the piece of an identity in the stock of a shop
+abbrev pub in_stock : Shop → ℕ → Option Part
+in_stock shop id = lookup (λ k. id == k) shop.stock.entries
+
 -- the piece of a sale of the vendor's
 abbrev pub part_sold : Shop → Sold → Option Part
-part_sold shop s = if s.stock then lookup (λ k. s.id == k) shop.stock.entries else option_map (licensed_part s) shop.licence
+part_sold shop s = if s.stock then in_stock shop s.id else option_map (licensed_part s) shop.licence
 
 -- the pieces of the vendor's that were sold
 abbrev pub parts_sold : Shop → List Sold → List Part
 parts_sold shop sales = filter_map (part_sold shop) (filter (λ s. bytes_eq s.vendor shop.name) sales)
 
--- a shop has what was kept of a broker's book for a vendor, and what was kept of the vendor's mints
+-- nothing of a shop changed but its stock and what was sold
+abbrev pub IsAsBefore : Shop → Shop → Type 0
+IsAsBefore old new = new ≡ record old { stock = new.stock; sold = new.sold }
+
+-- a shop has the licence that was kept of a broker's book for a vendor, and what was kept of the vendor's mints
 pub record IsShopOf (b v : BookSums) (s : Shop) : Type 0 where
   pub name' : s.name ≡ name_of v
   pub licence' : s.licence ≡ licensed (licences_of b) (name_of v)
-  pub stock' : (id : ℕ) → lookup (λ k. id == k) s.stock.entries ≡ stocked_row (stock_rows_of b) (name_of v) id
   pub minted' : (id value : ℕ) → knows s.minted id value ≡ list_any (is_in_run id value) (runs_of v)

@@ -3,13 +3,14 @@
 ghost use Rattle.std.specs.Prelude.{◌≡◌, ◌≤◌, ◌^◌, List as Items, IfOk};
 ghost use Rattle.mc_records.specs.declared.limits.Limits.{Limits as Bounds};
 ghost use Rattle.ledger_model.specs.Histories.{History};
-ghost use Rattle.book_audit.specs.Audit.{AreLearned, Audited};
+ghost use Rattle.book_audit.specs.Audit.{AreLearned, Audited, NamesBook};
 ghost use Rattle.book_audit.specs.Findings.{Finds, IsReportOf};
 ghost use Rattle.book_audit.specs.Markets.{AreInOrder};
 
-use crate::fault::AuditFault;
+use crate::fault::BooksFault;
 use crate::market::{least_lacking, only_broker, vendor_names};
-use crate::totals::{Totals, accounts_of, shops_of, totals_of};
+use crate::shops::Shops;
+use crate::totals::{Totals, accounts_of, totals_of};
 use balanced_books::{Report, Sums, VendorSums};
 use book_sums::BookSums;
 use mc_base::{List, NoMemory};
@@ -18,43 +19,43 @@ use std::alloc::Global;
 /// Audits books of which all was learned, in the order in which they were read: the report, with the sums of the vendors
 /// in the order of their names, or why there is none. `BadBooks` comes exactly where there is not one broker's book or two
 /// vendors share a name, and then `MissingBook` exactly where the broker sold of a vendor whose book is not there, with the
-/// least such name, and then `Stranger` exactly where one stands, with the first. `NotJournal`, `BadRecord`, `Unlawful` and
-/// `Disk` do not come. It takes memory for the pieces of one book at a time, beside what each vendor minted and what the
-/// broker has in stock of it.
-pub fn audit_books(alloc: Global, books: &[BookSums]) -> Result<Report, AuditFault>
-    ensures { (limits : Bounds) (hs : Items History) → limits.series ≤ 2 ^ 32
+/// least such name, and then `Stranger` exactly where one stands, with the first. It takes memory for the pieces of one book at a time, beside what each vendor minted, and what the
+/// broker had in stock of it and sold of it.
+pub fn audit_books(alloc: Global, books: &[BookSums]) -> Result<Report, BooksFault>
+    ensures audited { (limits : Bounds) (hs : Items History) → limits.series ≤ 2 ^ 32
         → AreLearned limits books.now hs → Audited limits hs result }
+    ensures named { NamesBook books.now result }
 {
     find(alloc, books)
 }
 
 /// What is found of some books, by what was kept of them.
-fn find(alloc: Global, books: &[BookSums]) -> Result<Report, AuditFault>
+fn find(alloc: Global, books: &[BookSums]) -> Result<Report, BooksFault>
     ensures { Finds books.now result }
 {
     let Some(broker) = only_broker(books) else {
-        return Err(AuditFault::BadBooks);
+        return Err(BooksFault::BadBooks);
     };
     let names = match vendor_names(alloc, books) {
         Ok(Some(names)) => names,
-        Ok(None) => return Err(AuditFault::BadBooks),
-        Err(NoMemory) => return Err(AuditFault::NoMemory),
+        Ok(None) => return Err(BooksFault::BadBooks),
+        Err(NoMemory) => return Err(BooksFault::NoMemory),
     };
     match least_lacking(&names, broker.sales()) {
-        Some(name) => return Err(AuditFault::MissingBook { name }),
+        Some(name) => return Err(BooksFault::MissingBook { name }),
         None => (),
     }
-    let shops = match shops_of(alloc, broker, books) {
+    let shops = match Shops::new(alloc, broker, books, names) {
         Ok(shops) => shops,
-        Err(NoMemory) => return Err(AuditFault::NoMemory),
+        Err(NoMemory) => return Err(BooksFault::NoMemory),
     };
-    let totals = match totals_of(alloc, &shops, broker.sales(), books) {
+    let totals = match totals_of(alloc, &shops, books) {
         Ok(totals) => totals,
         Err(fault) => return Err(fault),
     };
     match report(broker, totals) {
         Ok(report) => Ok(report),
-        Err(NoMemory) => Err(AuditFault::NoMemory),
+        Err(NoMemory) => Err(BooksFault::NoMemory),
     }
 }
 

@@ -3,13 +3,13 @@
 ghost use Rattle.std.specs.Prelude.{◌≡◌, IfOk};
 ghost use Rattle.book_audit.specs.Checks.{is_desk, sold_from, handed_from, left_at, ChecksBook, fault_at};
 
-use crate::fault::AuditFault;
+use crate::fault::BooksFault;
 use crate::known::Known;
-use crate::shop::Shop;
+use crate::shops::Shops;
 use crate::spent::{Left, Spent};
-use crate::strangers::{first_stranger, shop_of};
+use crate::strangers::first_stranger;
 use balanced_books::Part;
-use book_sums::{BookSums, Sold};
+use book_sums::BookSums;
 use ledger_model::BROKER_KIND;
 use mc_base::NoMemory;
 use scrip_form::Id;
@@ -26,16 +26,16 @@ pub(crate) enum CheckFault {
 
 impl CheckFault {
     /// The fault of an audit, where it is of the book at a place.
-    pub(crate) fn of_book(self, place: usize, book: &BookSums) -> AuditFault
+    pub(crate) fn of_book(self, place: usize, book: &BookSums) -> BooksFault
         ensures { result ≡ fault_at place book.now self }
     {
         match self {
-            CheckFault::Stranger(id) => AuditFault::Stranger {
+            CheckFault::Stranger(id) => BooksFault::Stranger {
                 book: place,
                 name: *book.name(),
                 id,
             },
-            CheckFault::NoMemory => AuditFault::NoMemory,
+            CheckFault::NoMemory => BooksFault::NoMemory,
         }
     }
 }
@@ -47,49 +47,34 @@ pub(crate) fn is_desk(book: &BookSums) -> bool
     book.kind() == BROKER_KIND
 }
 
-/// The pieces of a vendor's book that a broker sold, where these are its sales; none of a broker's book.
-fn sold_from(
-    alloc: Global,
-    shops: &[Shop],
-    sales: &[Sold],
-    book: &BookSums,
-) -> Result<Vec<Part>, NoMemory>
-    ensures { IfOk result (λ parts. parts.items ≡ sold_from shops.now sales.now book.now) }
+/// The pieces of a vendor's book that its broker sold; none of a broker's book.
+fn sold_from<'a>(shops: &'a Shops, book: &BookSums) -> &'a [Part]
+    ensures { result.now ≡ sold_from shops.now.list.items book.now }
 {
     if is_desk(book) {
-        return Ok(Vec::new(alloc));
+        return &[];
     }
-    match shop_of(shops, book.name()) {
-        Some(shop) => shop.sold(alloc, sales),
-        None => Ok(Vec::new(alloc)),
+    match shops.find(book.name()) {
+        Some(shop) => &shop.sold,
+        None => &[],
     }
 }
 
 /// The pieces that were handed out of a book.
-fn handed_from(
-    alloc: Global,
-    shops: &[Shop],
-    sales: &[Sold],
-    book: &BookSums,
-) -> Result<Vec<Part>, NoMemory>
-    ensures { IfOk result (λ parts. parts.items ≡ handed_from shops.now sales.now book.now) }
+fn handed_from(alloc: Global, shops: &Shops, book: &BookSums) -> Result<Vec<Part>, NoMemory>
+    ensures { IfOk result (λ parts. parts.items ≡ handed_from shops.now.list.items book.now) }
 {
-    let mut parts = sold_from(alloc, shops, sales, book)?;
+    let mut parts = Vec::from_slice(alloc, sold_from(shops, book))?;
     parts.extend_from_slice(book.own_out())?;
     Ok(parts)
 }
 
-/// Checks a book, beside the shops and the sales of its broker: its first stranger, or what is left of the pieces that
+/// Checks a book, beside the shops of its broker: its first stranger, or what is left of the pieces that
 /// were handed out of it. It takes memory for the pieces of this book alone.
-pub(crate) fn check_book(
-    alloc: Global,
-    shops: &[Shop],
-    sales: &[Sold],
-    book: &BookSums,
-) -> Result<Left, CheckFault>
-    ensures { ChecksBook shops.now sales.now book.now result }
+pub(crate) fn check_book(alloc: Global, shops: &Shops, book: &BookSums) -> Result<Left, CheckFault>
+    ensures { ChecksBook shops.now.list.items book.now result }
 {
-    let handed = match handed_from(alloc, shops, sales, book) {
+    let handed = match handed_from(alloc, shops, book) {
         Ok(handed) => handed,
         Err(NoMemory) => return Err(CheckFault::NoMemory),
     };

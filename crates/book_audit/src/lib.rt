@@ -7,9 +7,10 @@ mod fault;
 mod known;
 mod market;
 mod shop;
+mod shops;
 mod spent;
 mod strangers;
 mod totals;
 
 pub use audit::audit_books;
-pub use fault::AuditFault;
+pub use fault::BooksFault;

@@ -1,8 +1,11 @@
 //! Which books stand together: those of one broker and of vendors with names of their own.
 
-ghost use Rattle.std.specs.Prelude.{◌≡◌, List, ℕ, true, false, filter, option_map, is_some, IfOk, MatchOption, if◌then◌else◌};
+ghost use Rattle.std.specs.Prelude.{◌≡◌, map, List, ℕ, true, false, filter, option_map, is_some, IfOk, MatchOption, if◌then◌else◌};
 ghost use Rattle.name_places.specs.NamePlaces.{place_of};
+ghost use Rattle.book_sums.specs.Learned.{name_of};
 ghost use Rattle.book_audit.specs.Checks.{is_desk};
+ghost use Rattle.book_audit.specs.Filed.{place_in};
+ghost use Rattle.book_audit.specs.Findings.{vendors_among};
 ghost use Rattle.book_audit.specs.Markets.{only, has_vendor, own_names, IsLeast, HasAll, comes_before};
 
 use crate::check::is_desk;
@@ -29,7 +32,7 @@ pub(crate) fn only_broker(books: &[BookSums]) -> Option<&BookSums>
     found
 }
 
-/// The names of the vendors; None exactly where two share one.
+/// The names of the vendors, each with the place of its book among theirs; None exactly where two share one.
 pub(crate) fn vendor_names(
     alloc: Global,
     books: &[BookSums],
@@ -37,16 +40,20 @@ pub(crate) fn vendor_names(
     ensures own { IfOk result (λ names. is_some names ≡ own_names books.now) }
     ensures names { IfOk result (λ o. MatchOption o (Unit {0})
         (λ names. (name : List ℕ) → is_some (place_of names name) ≡ has_vendor books.now name)) }
+    ensures places { IfOk result (λ o. MatchOption o (Unit {0}) (λ names. (name : List ℕ)
+        → place_of names name ≡ place_in (map name_of (vendors_among books.now)) name)) }
 {
     let mut names = NamePlaces::new(alloc);
-    for (n, book) in books.iter().enumerate() {
+    let mut count = 0;
+    for book in books {
         if !is_desk(book) {
             let name = book.name().bytes();
             if names.get(name).is_some() {
                 return Ok(None);
             }
             names.reserve(name)?;
-            names.put(n);
+            names.put(count);
+            count += 1;
         }
     }
     Ok(Some(names))

@@ -1,23 +1,20 @@
 //! What a broker has of a vendor to sell.
 
-ghost use Rattle.std.specs.Prelude.{◌≡◌, ◌==◌, ◌&&◌, ℕ, List, map, filter, filter_map, find, bytes_eq, option_map, IfOk};
-ghost use Rattle.std.specs.Map.{lookup};
-ghost use Rattle.std.specs.List.{list_any};
+ghost use Rattle.std.specs.Prelude.{◌≡◌, ◌++◌, [], ◌==◌, ℕ, if◌then◌else◌, Some, None, option_map, option_to_list, IfOk, OnOk};
+ghost use Rattle.std.specs.Option.{option_or};
 ghost use Rattle.scrip_form.specs.Issuing.{series_end};
 ghost use Rattle.scrip_form.specs.Identities.{epoch_of};
-ghost use Rattle.book_sums.specs.Learned.{licences_of, stock_rows_of, runs_of, sales_of, name_of};
-ghost use Rattle.book_audit.specs.Known.{knows, is_in_run};
-ghost use Rattle.book_audit.specs.Shops.{IsShopOf, stocked_row, licensed, part_sold, parts_sold};
+ghost use Rattle.book_audit.specs.Shops.{IsShopOf, in_stock, licensed, part_sold};
 
 use crate::known::Known;
 use balanced_books::Part;
-use book_sums::{BookSums, Licence, Sold, Stocked};
+use book_sums::{BookSums, Licence, Sold};
 use mc_base::NoMemory;
 use scrip_form::{Id, Name, Terms};
 use std::alloc::Global;
 use std::collections::HashMap;
 
-/// What a broker has of a vendor to sell, and what the vendor minted.
+/// What a broker has of a vendor to sell and what it sold of it, and what the vendor minted.
 #[derive(Drop)]
 pub(crate) struct Shop {
     /// The vendor's name.
@@ -28,19 +25,24 @@ pub(crate) struct Shop {
     pub(crate) stock: HashMap<u64, Part>,
     /// What the vendor minted.
     pub(crate) minted: Known,
+    /// The vendor's pieces that the broker sold, in order.
+    pub(crate) sold: Vec<Part>,
 }
 
 impl Shop {
-    /// The shop of a vendor at a broker.
+    /// The shop of a vendor at a broker, with nothing in stock and nothing sold yet.
     pub(crate) fn new(alloc: Global, broker: &BookSums, vendor: &BookSums) -> Result<Shop, NoMemory>
-        ensures { IfOk result (IsShopOf broker.now vendor.now) }
+        ensures shop { IfOk result (IsShopOf broker.now vendor.now) }
+        ensures stock { IfOk result (λ shop. (id : ℕ) → in_stock shop id ≡ None) }
+        ensures sold { IfOk result (λ shop. shop.sold.items ≡ []) }
     {
         let name = *vendor.name();
         Ok(Shop {
             name,
             licence: licence_for(broker.licences(), &name),
-            stock: stock_of(alloc, broker.stock(), &name)?,
+            stock: HashMap::new(alloc),
             minted: Known::of_runs(alloc, vendor.minted())?,
+            sold: Vec::new(alloc),
         })
     }
 
@@ -61,20 +63,30 @@ impl Shop {
         }
     }
 
-    /// The pieces of the vendor's that were sold.
-    pub(crate) fn sold(&self, alloc: Global, sales: &[Sold]) -> Result<Vec<Part>, NoMemory>
-        ensures { IfOk result (λ parts. parts.items ≡ parts_sold self.now sales.now) }
+    /// Puts a piece of the vendor's into stock, unless one of its identity is there.
+    pub(crate) fn put(&mut self, part: Part) -> Result<(), NoMemory>
+        ensures same { OnOk result (self.new ≡ record self.old { stock = self.new.stock }) }
+        ensures stock { OnOk result ((id : ℕ) → in_stock self.new id
+            ≡ option_or (in_stock self.old id) (if id == part.id then Some part else None)) }
     {
-        let mut parts = Vec::new(alloc);
-        for sale in sales {
-            if sale.vendor.bytes() == self.name.bytes() {
-                match self.piece(sale) {
-                    Some(part) => parts.push(part)?,
-                    None => (),
-                }
-            }
+        let id = part.id.number();
+        if !self.stock.contains_key(&id) {
+            self.stock.insert(id, part)?;
         }
-        Ok(parts)
+        Ok(())
+    }
+
+    /// Keeps the piece of a sale of the vendor's behind those that were sold before.
+    pub(crate) fn sell(&mut self, sale: &Sold) -> Result<(), NoMemory>
+        ensures same { OnOk result (self.new ≡ record self.old { sold = self.new.sold }) }
+        ensures sold { OnOk result (self.new.sold.items
+            ≡ self.old.sold.items ++ option_to_list (part_sold self.old sale.now)) }
+    {
+        match self.piece(sale) {
+            Some(part) => self.sold.push(part)?,
+            None => (),
+        }
+        Ok(())
     }
 }
 
@@ -96,21 +108,4 @@ fn licence_for(licences: &[Licence], name: &Name) -> Option<Terms>
         }
     }
     None
-}
-
-/// The pieces of a vendor's in stock, by their identities: of one identity the first.
-fn stock_of(alloc: Global, stock: &[Stocked], name: &Name) -> Result<HashMap<u64, Part>, NoMemory>
-    ensures { IfOk result (λ m. (id : ℕ)
-        → lookup (λ k. id == k) m.entries ≡ stocked_row stock.now name.now id) }
-{
-    let mut parts = HashMap::new(alloc);
-    for row in stock {
-        if row.vendor.bytes() == name.bytes() {
-            let id = row.part.id.number();
-            if !parts.contains_key(&id) {
-                parts.insert(id, row.part)?;
-            }
-        }
-    }
-    Ok(parts)
 }

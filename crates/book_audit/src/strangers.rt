@@ -3,13 +3,13 @@
 ghost use Rattle.std.specs.Prelude.{◌≡◌, option_map};
 ghost use Rattle.book_sums.specs.Learned.{accepted_of, sales_of};
 ghost use Rattle.book_audit.specs.Known.{knows};
-ghost use Rattle.book_audit.specs.Strange.{not_in, shop_in, not_minted, next_sale, later_sales, strange_of, first_in};
+ghost use Rattle.book_audit.specs.Strange.{not_in, not_minted, next_sale, later_sales, strange_of, first_in};
 
 use crate::known::Known;
-use crate::shop::Shop;
+use crate::shops::Shops;
 use balanced_books::Part;
 use book_sums::{Acceptance, BookSums, Sold};
-use scrip_form::{Id, Name};
+use scrip_form::Id;
 
 /// The identity of a piece, where there is one, that is not among those that are known.
 fn unknown(known: &Known, piece: Option<Part>) -> Option<Id>
@@ -25,34 +25,22 @@ fn unknown(known: &Known, piece: Option<Part>) -> Option<Id>
     }
 }
 
-/// The shop of a vendor.
-pub(crate) fn shop_of<'a>(shops: &'a [Shop], name: &Name) -> Option<&'a Shop>
-    ensures { option_map (λ s. s.now) result ≡ shop_in shops.now name.now }
-{
-    for shop in shops {
-        if shop.name.bytes() == name.bytes() {
-            return Some(shop);
-        }
-    }
-    None
-}
-
 /// The identity of a sale out of stock whose piece its vendor did not mint.
-fn sold_unminted(shops: &[Shop], sale: &Sold) -> Option<Id>
-    ensures { result ≡ not_minted shops.now sale.now }
+fn sold_unminted(shops: &Shops, sale: &Sold) -> Option<Id>
+    ensures { result ≡ not_minted shops.now.list.items sale.now }
 {
     if !sale.stock {
         return None;
     }
-    match shop_of(shops, &sale.vendor) {
+    match shops.find(&sale.vendor) {
         Some(shop) => unknown(&shop.minted, shop.piece(sale)),
         None => None,
     }
 }
 
 /// The first stranger of an accepted piece with its sale: the piece comes before what was sold for it.
-fn stranger_of(handed: &Known, shops: &[Shop], row: &Acceptance, sale: Option<&Sold>) -> Option<Id>
-    ensures { result ≡ strange_of (not_in (knows handed.now)) (not_minted shops.now) row.now (option_map (λ s. s.now) sale.entry) }
+fn stranger_of(handed: &Known, shops: &Shops, row: &Acceptance, sale: Option<&Sold>) -> Option<Id>
+    ensures { result ≡ strange_of (not_in (knows handed.now)) (not_minted shops.now.list.items) row.now (option_map (λ s. s.now) sale.entry) }
 {
     match unknown(handed, row.piece) {
         Some(id) => return Some(id),
@@ -80,8 +68,8 @@ fn split_sale<'a>(sales: &'a [Sold], sells: bool) -> (Option<&'a Sold>, &'a [Sol
 
 /// The first stranger of a book of which these pieces were handed out: of its accepted pieces, each before what was
 /// sold for it.
-pub(crate) fn first_stranger(handed: &Known, shops: &[Shop], book: &BookSums) -> Option<Id>
-    ensures { result ≡ first_in (not_in (knows handed.now)) (not_minted shops.now) (accepted_of book.now) (sales_of book.now) }
+pub(crate) fn first_stranger(handed: &Known, shops: &Shops, book: &BookSums) -> Option<Id>
+    ensures { result ≡ first_in (not_in (knows handed.now)) (not_minted shops.now.list.items) (accepted_of book.now) (sales_of book.now) }
 {
     let mut sales = book.sales();
     for row in book.accepted() {

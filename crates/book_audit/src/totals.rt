@@ -2,14 +2,14 @@
 
 ghost use Rattle.std.specs.Prelude.{◌≡◌, ◌++◌, ◌∷◌, [], if◌then◌else◌, IfOk, OnOk};
 ghost use Rattle.book_audit.specs.Checks.{is_desk, row_with};
-ghost use Rattle.book_audit.specs.Findings.{vendors_among, AreShopsOf, FindsTotals, accounts_of};
+ghost use Rattle.book_audit.specs.Findings.{FindsTotals, accounts_of};
 
 use crate::check::{check_book, is_desk};
-use crate::fault::AuditFault;
-use crate::shop::Shop;
+use crate::fault::BooksFault;
+use crate::shops::Shops;
 use crate::spent::Left;
 use balanced_books::VendorSums;
-use book_sums::{BookSums, Sold, Till};
+use book_sums::{BookSums, Till};
 use mc_base::NoMemory;
 use std::alloc::Global;
 
@@ -20,32 +20,13 @@ pub(crate) struct Totals {
     pub(crate) vendors: Vec<VendorSums>,
 }
 
-/// The shops of all vendors at a broker, in the order of their books.
-pub(crate) fn shops_of(
-    alloc: Global,
-    broker: &BookSums,
-    books: &[BookSums],
-) -> Result<Vec<Shop>, NoMemory>
-    ensures { IfOk result (λ shops. AreShopsOf broker.now (vendors_among books.now) shops.items) }
-{
-    let mut shops = Vec::new(alloc);
-    for book in books {
-        if !is_desk(book) {
-            shops.push(Shop::new(alloc, broker, book)?)?;
-        }
-    }
-    Ok(shops)
-}
-
-/// The sums of all books beside the shops and the sales of their broker, or the first stranger by book and then by
-/// entry.
+/// The sums of all books beside the shops of their broker, or the first stranger by book and then by entry.
 pub(crate) fn totals_of(
     alloc: Global,
-    shops: &[Shop],
-    sales: &[Sold],
+    shops: &Shops,
     books: &[BookSums],
-) -> Result<Totals, AuditFault>
-    ensures { FindsTotals shops.now sales.now books.now result }
+) -> Result<Totals, BooksFault>
+    ensures { FindsTotals shops.now.list.items books.now result }
 {
     let mut totals = Totals {
         desk: Left {
@@ -56,10 +37,10 @@ pub(crate) fn totals_of(
     };
     for n in 0..books.len() {
         let book = &books[n];
-        match check_book(alloc, shops, sales, book) {
+        match check_book(alloc, shops, book) {
             Ok(left) => match add(&mut totals, book, left) {
                 Ok(()) => (),
-                Err(NoMemory) => return Err(AuditFault::NoMemory),
+                Err(NoMemory) => return Err(BooksFault::NoMemory),
             },
             Err(fault) => return Err(fault.of_book(n, book)),
         }

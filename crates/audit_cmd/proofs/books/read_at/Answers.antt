@@ -14,4 +14,5 @@ returns g c = record {
   moves = c.find_at-disk.ensures.moved;
   told = c.find_at-disk.ensures.exact;
   count = c.find_at-disk.ensures.fault;
+  at = c.find_at-disk.ensures.place;
 }

@@ -1,4 +1,4 @@
-use Rattle.std.proofs.Common.{[], refl, Ok, Err, arith}
+use Rattle.std.proofs.Common.{[], length, refl, ap, Ok, Err, arith}
 use Rattle.mc_outside.proofs.Runs.{read_none}
 use Rattle.audit_cmd.proofs.KeptLaws.{none_kept}
 use Rattle.audit_cmd.proofs.Loops.{goes_on, halted_read, halted_moved, counts_stay, halts, halt_counts, whole_read, whole_moved, whole_counts, whole_told}
@@ -8,10 +8,11 @@ pub loop-place-init : goal.loop-place-init
 loop-place-init g c = record {
   to = record { before = []; done = []; rest = c.args.books.now.items; olds_are = refl; news_are = refl; long = refl; each = tt };
   told = λ books told. none_kept g.D.Disk.disk books c.new.result.items c.new.ensures.items told;
+  few = omega (arith, ap length c.new.ensures.items);
 }
 
 pub loop-place-preserved : goal.loop-place-preserved
-loop-place-preserved g c = goes_on g.D.Disk.disk g.D.Disk.disk_moved (λ d. read_none (g.D.Disk.disk d) (g.met.D.Disk.is_disk d)) g.met.D.Disk.disk_stays c.loop-place.place c.args.books.now.items c.loop-place.books.items c.read_at.new.books.items c.loop-place.kept c.keep.new.self c.in-Ok.book c.loop-place.invariant c.in-Ok.ensures c.in-Ok-keep.ensures
+loop-place-preserved g c = goes_on g.D.Disk.disk g.D.Disk.disk_moved (λ d. read_none (g.D.Disk.disk d) (g.met.D.Disk.is_disk d)) g.met.D.Disk.disk_stays c.loop-place.place c.args.books.now.items c.loop-place.books.items c.read_at.new.books.items c.loop-place.kept c.keep.new.self c.in-Ok.book c.loop-place.invariant c.in-Ok.ensures c.in-Ok-keep.ensures.kept c.in-Ok-keep.ensures.few
 
 pub returns-in-Err-keep-clause-read : goal.returns-in-Err-keep-clause-read
 returns-in-Err-keep-clause-read g c = halted_read g.D.Disk.disk g.D.Disk.disk_moved (λ d. read_none (g.D.Disk.disk d) (g.met.D.Disk.is_disk d)) g.met.D.Disk.disk_stays c.loop-place.place c.args.books.now.items c.loop-place.books.items c.read_at.new.books.items (Ok c.in-Ok.book) c.loop-place.invariant.to c.in-Ok.ensures

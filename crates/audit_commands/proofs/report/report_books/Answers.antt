@@ -1,6 +1,9 @@
 use Rattle.audit_commands.proofs.ReportLaws.{found_words, found_causes, found_reports, found_ends}
 use Rattle.audit_commands.proofs.report.report_books.Goals as goal
 
+pub returns-clause-told : goal.returns-clause-told
+returns-clause-told g c = (c.audit-books.result.1, c.status_of-status.ensures)
+
 pub returns-clause-words : goal.returns-clause-words
 returns-clause-words g c = found_words c.args.as_json c.audit-books.result.1 c.status_of-status.result c.status_of-status.ensures
 

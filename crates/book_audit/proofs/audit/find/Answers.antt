@@ -1,11 +1,11 @@
-use Rattle.std.proofs.Common.{◌≡◌, ℕ, List, true, Option, Ok, Err, sym, ap, ◌∙◌, subst}
+use Rattle.std.proofs.Common.{◌≡◌, ℕ, List, true, Option, sym, ap, ◌∙◌, subst}
 use Rattle.std.specs.Prelude.{is_some, MatchOption}
 use Rattle.name_places.specs.NamePlaces.{NamePlacesView, place_of}
 use Rattle.book_sums.specs.declared.rows.Sold.{Sold}
 use Rattle.book_sums.specs.Learned.{sales_of}
 use Rattle.book_audit.specs.Markets.{has_vendor, own_names, IsLeast, HasAll}
 use Rattle.book_audit.proofs.NameLaws.{least_by, all_by_same}
-use Rattle.book_audit.proofs.Kept.{finds_fault, found_same}
+use Rattle.book_audit.proofs.Kept.{finds_fault}
 use Rattle.book_audit.proofs.audit.find.Goals as goal
 
 pub returns-in-Some-least_lacking : goal.returns-in-Some-least_lacking
@@ -32,8 +32,7 @@ returns-in-Err-totals_of c =
     subst (λ (o : Option NamePlacesView). MatchOption o (Unit {0}) (λ ns. (name : List ℕ) → is_some (place_of ns name) ≡ has_vendor books name)) c.in-Ok-Some.field-0-is c.in-Ok-Some.ensures.names in
     let there : HasAll (has_vendor books) (sales_of b) =
     subst (HasAll (has_vendor books)) c.sales.ensures (all_by_same (λ name. is_some (place_of c.in-Ok-Some.names name)) (has_vendor books) known c.sales.result.now c.in-None.ensures) in
-    finds_fault b books c.in-Ok.shops.items c.in-Err-totals_of.fault (record { one = sym c.in-Some.ensures; own = own }) there c.in-Ok.ensures
-    (found_same books (Err c.in-Err-totals_of.fault) c.deref.result.now c.in-Ok.shops.items c.sales-2.result.now (sales_of b) c.deref.ensures.value c.sales-2.ensures c.in-Err-totals_of.ensures)
+    finds_fault b books c.in-Ok.shops.list.items c.in-Err-totals_of.fault (record { one = sym c.in-Some.ensures; own = own }) there c.in-Ok.ensures.shops c.in-Ok.ensures.stocked c.in-Ok.ensures.sold c.in-Err-totals_of.ensures
 
 pub returns-in-Ok-report : goal.returns-in-Ok-report
 returns-in-Ok-report c =
@@ -48,10 +47,12 @@ returns-in-Ok-report c =
       record {
         market = record { one = sym c.in-Some.ensures; own = own };
         all_there = there;
-        shops = c.in-Ok.shops.items;
-        of_shops = c.in-Ok.ensures;
+        shops = c.in-Ok.shops.list.items;
+        of_shops = c.in-Ok.ensures.shops;
+        stocked = c.in-Ok.ensures.stocked;
+        sold = c.in-Ok.ensures.sold;
         totals = c.in-Ok-totals_of.totals;
-        has = found_same books (Ok c.in-Ok-totals_of.totals) c.deref.result.now c.in-Ok.shops.items c.sales-2.result.now (sales_of b) c.deref.ensures.value c.sales-2.ensures c.in-Ok-totals_of.ensures;
+        has = c.in-Ok-totals_of.ensures;
         report = c.in-Ok-report.ensures;
       },
     )

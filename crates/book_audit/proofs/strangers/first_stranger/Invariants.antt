@@ -6,5 +6,5 @@ use Rattle.book_audit.proofs.strangers.first_stranger.Given as goal
 
 abbrev pub invariant-loop-row : goal.invariant-loop-row
 invariant-loop-row l =
-    first_in (not_in (knows l.handed)) (not_minted l.shops) (drop l.row-index (accepted_of l.book)) l.sales
-    ≡ first_in (not_in (knows l.handed)) (not_minted l.shops) (accepted_of l.book) (sales_of l.book)
+    first_in (not_in (knows l.handed)) (not_minted l.shops.list.items) (drop l.row-index (accepted_of l.book)) l.sales
+    ≡ first_in (not_in (knows l.handed)) (not_minted l.shops.list.items) (accepted_of l.book) (sales_of l.book)

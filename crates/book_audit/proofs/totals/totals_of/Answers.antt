@@ -1,5 +1,5 @@
 use Rattle.std.proofs.Common.{sym, subst, Err}
-use Rattle.book_audit.specs.declared.fault.AuditFault.{AuditFault}
+use Rattle.book_audit.specs.declared.fault.BooksFault.{BooksFault}
 use Rattle.book_audit.specs.Findings.{FindsTotals}
 use Rattle.book_audit.proofs.TotalLaws.{search_on, rows_more, desk_more}
 use Rattle.book_audit.proofs.Kept.{fault_found}
@@ -7,18 +7,17 @@ use Rattle.book_audit.proofs.totals.totals_of.Goals as goal
 
 pub loop-n-preserved : goal.loop-n-preserved
 loop-n-preserved c =
-    let shops = c.args.shops.now in
-    let sales = c.args.sales.now in
+    let shops = c.args.shops.now.list.items in
     let books = c.args.books.now in
     let n = c.loop-n.n in
     let s = c.index-books-n.result in
     record {
-      first = search_on shops sales books n s _ c.loop-n-test.true c.index-books-n.is c.in-Ok.ensures.0 c.loop-n.invariant.first;
-      rows = rows_more shops sales books n s c.in-Ok.left c.loop-n.totals.vendors.items c.add.new.totals.vendors.items c.loop-n-test.true c.index-books-n.is c.in-Ok.ensures.1 c.loop-n.invariant.rows c.in-Ok-add.ensures.vendors;
-      desk = desk_more shops sales books n s c.in-Ok.left c.loop-n.totals.desk c.add.new.totals.desk c.loop-n-test.true c.index-books-n.is c.in-Ok.ensures.1 c.loop-n.invariant.desk c.in-Ok-add.ensures.desk;
+      first = search_on shops books n s _ c.loop-n-test.true c.index-books-n.is c.in-Ok.ensures.0 c.loop-n.invariant.first;
+      rows = rows_more shops books n s c.in-Ok.left c.loop-n.totals.vendors.items c.add.new.totals.vendors.items c.loop-n-test.true c.index-books-n.is c.in-Ok.ensures.1 c.loop-n.invariant.rows c.in-Ok-add.ensures.vendors;
+      desk = desk_more shops books n s c.in-Ok.left c.loop-n.totals.desk c.add.new.totals.desk c.loop-n-test.true c.index-books-n.is c.in-Ok.ensures.1 c.loop-n.invariant.desk c.in-Ok-add.ensures.desk;
     }
 
 pub returns-in-Err : goal.returns-in-Err
 returns-in-Err c =
-    subst (λ (f : AuditFault). FindsTotals c.args.shops.now c.args.sales.now c.args.books.now (Err f)) (sym c.of_book.ensures)
-    (fault_found c.args.shops.now c.args.sales.now c.args.books.now c.loop-n.n c.index-books-n.result c.in-Err.fault c.loop-n-test.true c.index-books-n.is c.in-Err.ensures c.loop-n.invariant.first)
+    subst (λ (f : BooksFault). FindsTotals c.args.shops.now.list.items c.args.books.now (Err f)) (sym c.of_book.ensures)
+    (fault_found c.args.shops.now.list.items c.args.books.now c.loop-n.n c.index-books-n.result c.in-Err.fault c.loop-n-test.true c.index-books-n.is c.in-Err.ensures c.loop-n.invariant.first)

@@ -6,7 +6,7 @@ use Rattle.book_audit.proofs.totals.totals_of.Given as goal
 
 abbrev pub invariant-loop-n : goal.invariant-loop-n
 invariant-loop-n l = record {
-  first : first_over l.n l.shops l.sales (drop l.n l.books) ≡ first_over 0 l.shops l.sales l.books;
-  rows : l.totals.vendors.items ≡ map (row_of l.shops l.sales) (vendors_among (take l.n l.books));
-  desk : (b : BookSums) → filter is_desk (take l.n l.books) ≡ b ∷ [] → l.totals.desk ≡ left_in l.shops l.sales b;
+  first : first_over l.n l.shops.list.items (drop l.n l.books) ≡ first_over 0 l.shops.list.items l.books;
+  rows : l.totals.vendors.items ≡ map (row_of l.shops.list.items) (vendors_among (take l.n l.books));
+  desk : (b : BookSums) → filter is_desk (take l.n l.books) ≡ b ∷ [] → l.totals.desk ≡ left_in l.shops.list.items b;
 }

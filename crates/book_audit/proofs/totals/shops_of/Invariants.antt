@@ -1,6 +1,0 @@
-use Rattle.std.proofs.Common.{take}
-use Rattle.book_audit.specs.Findings.{vendors_among, AreShopsOf}
-use Rattle.book_audit.proofs.totals.shops_of.Given as goal
-
-abbrev pub invariant-loop-book : goal.invariant-loop-book
-invariant-loop-book l = AreShopsOf l.broker (vendors_among (take l.book-index l.books)) l.shops.items
