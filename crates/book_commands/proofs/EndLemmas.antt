@@ -1,12 +1,12 @@
 -- How a command ends whose book encodes a lawful history, where no call failed.
-use Rattle.std.proofs.Common.{◌≡◌, ◌≤◌, ◌⊎◌, inl, inr, ℕ, List, refl, ap, subst, arith, Option, Some, None}
-use Rattle.mc_outside.specs.Bytes.{Rose}
+use Rattle.std.proofs.Common.{◌≡◌, ◌≤◌, ◌⊎◌, inl, inr, ℕ, List, refl, ap, subst, arith, Some}
 use Rattle.mc_outside.specs.DiskView.{DiskView}
 use Rattle.mc_outside.specs.LinkView.{LinkView}
 use Rattle.ledger_model.specs.Histories.{History}
 use Rattle.ledger_model.specs.Houses.{site_kind}
-use Rattle.ledger_model.specs.Lawful.{IsLawful}
+use Rattle.ledger_model.specs.Lawful.{IsLawful, MayFollow}
 use Rattle.scrip_journal.specs.Layout.{Encodes}
+use Rattle.scrip_journal.specs.Causes.{Only}
 use Rattle.house_core.specs.Tasks.{Task}
 use Rattle.house_serving.specs.Links.{TakesNoLink}
 use Rattle.operator_command.specs.Operations.{OperationView, full}
@@ -16,13 +16,11 @@ use Rattle.command_status.specs.Statuses.{number_of}
 use Rattle.book_commands.specs.Serving.{HasSite, NotOpened, ServesLinksOf, ServesBook, BookCauses, ServeCauses}
 use Rattle.book_commands.specs.Init.{FoundCauses}
 use Rattle.book_commands.specs.Operator.{DidBy, OperatesBook, OperateCauses}
-use Rattle.command_input.specs.Inputs.{TakesInput, LosesInput}
-use Rattle.book_commands.proofs.OpenLaws.{begins_with_header, not_spoiled, not_unlawful, not_of_other}
-
--- what did not come of a book that stands
-pub record Calm {O : Type 0} (link : O → LinkView) (disk : O → DiskView) (a b : O) : Type 0 where
-  pub disk' : Rose (disk a).faults (disk b).faults → ⊥
-  pub link' : Rose (link a).faults (link b).faults → ⊥
+use Rattle.command_input.specs.Inputs.{LosesInput}
+use Rattle.command_input.proofs.InputLemmas.{taken_counts}
+pub use Rattle.command_status.proofs.OpenLaws.{Calm}
+use Rattle.command_status.proofs.OpenLaws.{begins_with_header, not_spoiled}
+use Rattle.book_commands.proofs.OpenLaws.{not_unlawful, not_of_other}
 
 -- ---- the count of the links' faults did not fall
 
@@ -65,18 +63,12 @@ pub served_grew : {O : Type 0} (link : O → LinkView) (disk : O → DiskView) (
 served_grew link disk kind links bytes a b status calm causes (inl not) = unopened_grew link disk kind bytes a b status not
 served_grew link disk kind links bytes a b status calm causes (inr served) = links_grew link disk links bytes a b status calm causes served
 
-input_kept : (most : Option ℕ) (v : LinkView) (input : List ℕ) (w : LinkView) → TakesInput most v input w → w.faults ≡ v.faults
-input_kept (Some most) v input w (inl is) = ap (λ (u : LinkView). u.faults) is.1
-input_kept (Some most) v input w (inr (inl is)) = ap (λ (u : LinkView). u.faults) is.1
-input_kept (Some most) v input w (inr (inr is)) = ap (λ (u : LinkView). u.faults) is.1
-input_kept None v input w is = ap (λ (u : LinkView). u.faults) is.1
-
 pub operated_grew : {O : Type 0} (link : O → LinkView) (disk : O → DiskView) (kind : ℕ) (operation : OperationView) (bytes : List ℕ) (a b : O) (status : Status)
     → Calm link disk a b → OperateCauses link disk operation a status b → OperatesBook link disk kind operation bytes a status b
     → (link a).faults ≤ (link b).faults
 operated_grew link disk kind operation bytes a b status calm causes (inl not) = unopened_grew link disk kind bytes a b status not
 operated_grew link disk kind operation bytes a b status calm causes (inr (inr kept)) =
-    let taken : kept.taken.faults ≡ (link a).faults = input_kept operation.input (link a) kept.input kept.taken kept.takes in
+    let taken : kept.taken.faults ≡ (link a).faults = taken_counts operation.input (link a) kept.taken kept.input kept.takes in
     let is : (link b).faults ≡ kept.taken.faults = ap (λ (u : LinkView). u.faults) kept.rest in
     omega (arith, taken, is)
 operated_grew link disk kind operation bytes a b status calm causes (inr (inl unread)) = go unread.lost
@@ -97,7 +89,7 @@ only_memory link disk kind Lost h bytes a b (ends.Did line) st lawful of_kind ca
 only_memory link disk kind Lost h bytes a b ends.BadWords st lawful of_kind calm causes not = absurd not
 only_memory link disk kind Lost h bytes a b (ends.Stranger name id) st lawful of_kind calm causes not = absurd not
 only_memory link disk kind Lost h bytes a b ends.NotJournal st lawful of_kind calm causes not = absurd (not.0 (begins_with_header h bytes st))
-only_memory link disk kind Lost h bytes a b (ends.BadEntry place) st lawful of_kind calm causes not = absurd (not_spoiled kind h bytes place st not.0)
+only_memory link disk kind Lost h bytes a b (ends.BadEntry place) st lawful of_kind calm causes not = absurd (not_spoiled (MayFollow full) (Only kind) h bytes place st not.0)
 only_memory link disk kind Lost h bytes a b (ends.UnlawfulEntry place) st lawful of_kind calm causes not = absurd (not_unlawful kind h bytes place st lawful not.0)
 only_memory link disk kind Lost h bytes a b ends.DiskFault st lawful of_kind calm causes not = absurd (calm.disk' causes)
 only_memory link disk kind Lost h bytes a b ends.NoMemory st lawful of_kind calm causes not = refl

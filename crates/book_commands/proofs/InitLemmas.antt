@@ -1,10 +1,9 @@
 -- How founding a site in a book ends.
-use Rattle.std.proofs.Common.{◌≡◌, inl, inr, ⊎_elim, ℕ, ◌+◌, ◌≤◌, ◌^◌, List, [], ◌∷◌, ◌++◌, length, refl, ap, ◌∙◌, subst, arith, length-append, Err}
+use Rattle.std.proofs.Common.{◌≡◌, inl, inr, ⊎_elim, ℕ, ◌+◌, ◌≤◌, ◌^◌, List, [], ◌∷◌, refl, ap, ◌∙◌, subst, arith, Err}
 use Rattle.std.specs.Prelude.{IsSome}
-use Rattle.mc_outside.specs.Bytes.{BeginsWith}
 use Rattle.mc_outside.specs.DiskView.{DiskView, LinkKeeps, Ran}
 use Rattle.mc_outside.specs.LinkView.{LinkView}
-use Rattle.mc_outside.proofs.Runs.{ran_then, ran_weaker, ran_link}
+use Rattle.mc_outside.proofs.Runs.{ran_then, ran_weaker}
 use Rattle.mc_records.specs.Entry.{Entry, Fits}
 use Rattle.mc_records.specs.Sizes.{empty_size, entry_size}
 use Rattle.mc_records.proofs.SizeLaws.{tail_is_short}
@@ -17,7 +16,7 @@ use Rattle.millicent_http.specs.Courses.{with_readings}
 use Rattle.house_core.specs.declared.house.House.{House}
 use Rattle.scrip_journal.specs.Founds.{fault_disk, FoundNoOutput, CountsBy, ReadsOnly}
 use Rattle.house_opening.specs.Found.{FoundedFor, FoundsHouseBy}
-use Rattle.house_serving.proofs.AsideLemmas.{TellsAside, no_more_still, aside_still}
+use Rattle.command_input.proofs.AsideLemmas.{TellsAside, no_more_still, aside_still, quiet_link}
 use Rattle.operator_command.specs.Operations.{full}
 use Rattle.mc_words.specs.Words.{Founder}
 use Rattle.book_commands.specs.Founding.{site_of}
@@ -31,25 +30,13 @@ use Rattle.house_core.specs.Trade.{TradeView}
 pub first_has_room : (e : Entry) → Fits e → empty_size + entry_size [] e ≤ 2 ^ 40
 first_has_room e fits = omega (arith, payload_is_short e fits, tail_is_short [] e)
 
--- nothing before and nothing after
-pub none_between : (x y : List ℕ) → BeginsWith x y → BeginsWith y x → y ≡ x
-none_between x y p q =
-    let longer : length y ≡ length x + length p.0 = ap length p.1 ∙ length-append x p.0 in
-    let shorter : length x ≡ length y + length q.0 = ap length q.1 ∙ length-append y q.0 in
-    p.1 ∙ nothing_more x p.0 (omega (arith, longer, shorter))
-  where
-    nothing_more : (x r : List ℕ) → length r ≡ 0 → x ++ r ≡ x
-    nothing_more [] [] is = refl
-    nothing_more [] (n ∷ r) is = absurd (cc is)
-    nothing_more (n ∷ x) r is = ap (λ (l : List ℕ). n ∷ l) (nothing_more x r is)
-
 -- the clock was read, and then the book was founded
 pub found_pairs : {O : Type 0} (link : O → LinkView) (disk : O → DiskView) (a m b : O) (e : Entry) → TellsAside link (λ o. (disk o).aside) → LinkKeeps (disk a) (disk m) → link m ≡ with_readings (link m).readings (link a)
     → Ran (disk m) (disk b) (FoundNoOutput (disk m) e) → Ran (disk a) (disk b) (FoundPair (IsSome (link a).sessions) (disk a) e)
 found_pairs link disk a m b e tells keeps rest ran =
     let same : IsSome (link a).sessions → (disk m).aside ≡ (disk a).aside = λ told'. aside_still link (λ o. (disk o).aside) a m tells told' (no_more_still (link a) (link m) (ap (λ (v : LinkView). v.sessions) rest)) in
     ran_then (disk a) (disk m) (disk b) (FoundPair (IsSome (link a).sessions) (disk a) e)
-    (ran_link (disk a) (disk m) (FoundPair (IsSome (link a).sessions) (disk a) e) keeps (λ i x l from upto. (inl (inr l), λ told'. none_between (disk a).aside x from (subst (λ (z : List ℕ). BeginsWith x z) (same told') upto))))
+    (quiet_link link disk (IsSome (link a).sessions) _ (disk a).aside a m tells keeps (λ t. t) (no_more_still (link a) (link m) (ap (λ (v : LinkView). v.sessions) rest)) (λ t. refl) (λ i l. inl (inr l)))
     (ran_weaker (disk m) (disk b) _ _ ran (λ i x quiet. (
       ⊎_elim (λ short. inl (⊎_elim (λ few. inl few) (λ l. inr ((keeps.leaves i).0 l)) short)) (λ encoded. inr encoded) quiet.0,
       λ told'. quiet.1 ∙ same told',

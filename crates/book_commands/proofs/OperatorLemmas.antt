@@ -1,10 +1,10 @@
 -- What becomes of a book by an operation of its operator.
-use Rattle.std.proofs.Common.{◌≡◌, ◌⊎◌, inl, inr, ⊎_elim, ℕ, ◌≤◌, List, [], ◌∷◌, ◌++◌, max, refl, sym, ap, ◌∙◌, subst, Err, Option, Some, None}
+use Rattle.std.proofs.Common.{◌≡◌, ◌⊎◌, inl, inr, ⊎_elim, ℕ, ◌≤◌, List, [], ◌∷◌, ◌++◌, max, refl, sym, ap, ◌∙◌, subst, Err}
 use Rattle.std.specs.Prelude.{IsSome}
-use Rattle.mc_outside.specs.Bytes.{BeginsWith, Rose}
+use Rattle.mc_outside.specs.Bytes.{Rose}
 use Rattle.mc_outside.specs.DiskView.{DiskView, IsDisk, LinkKeeps, OnlyRead, Ran}
-use Rattle.mc_outside.specs.LinkView.{LinkView, after_recv, next_taken}
-use Rattle.mc_outside.proofs.Runs.{ran_then, ran_weaker, ran_link, ran_now}
+use Rattle.mc_outside.specs.LinkView.{LinkView}
+use Rattle.mc_outside.proofs.Runs.{ran_then, ran_weaker, ran_now}
 use Rattle.mc_records.specs.declared.limits.Limits.{Limits}
 use Rattle.ledger_model.specs.Histories.{History, time}
 use Rattle.ledger_model.specs.Lawful.{IsLawful, MayFollow}
@@ -23,15 +23,14 @@ use Rattle.house_core.specs.House.{HouseRepresents, HouseRests, house_rests_none
 use Rattle.house_core.proofs.HouseDisk.{house_keeps}
 use Rattle.house_core.specs.Trade.{TradeView}
 use Rattle.house_core.specs.Tasks.{Task, Add, Stays, Refuse, Does, LeavesBy, Performs}
-use Rattle.house_serving.proofs.AsideLemmas.{TellsAside, SentNoMore, no_more_then, no_more_still, no_more_heard, no_more_finished, no_more_taken, aside_still}
+use Rattle.command_input.proofs.AsideLemmas.{TellsAside, SentNoMore, no_more_then, no_more_still, taken_quiet, aside_still, quiet_link}
 use Rattle.command_status.specs.declared.status.Status.{Status}
 use Rattle.command_status.specs.declared.status.Status.TheVariants as ends
-use Rattle.command_input.specs.Inputs.{IsInput, LostInput, TakesInput, LosesInput}
+use Rattle.command_input.specs.Inputs.{TakesInput, LosesInput}
 use Rattle.operator_command.specs.Operations.{full, OperationView}
 use Rattle.book_commands.specs.Endings.{outcome_status}
 use Rattle.book_commands.specs.Serving.{EncodesLawful}
 use Rattle.book_commands.specs.Operator.{DidBy, OperatePair, OperateCauses, Operated, Opened, Unread}
-use Rattle.book_commands.proofs.InitLemmas.{none_between}
 use Rattle.book_commands.proofs.ServedLemmas.{stands_lawful}
 
 lawful_in : {O T : Type 0} (disk : O → DiskView) (trade : T → TradeView) (x : House O T) (h : History) → limits_of x.bench ≡ full → HouseRepresents disk trade x h → EncodesLawful (disk x.journal.disk) h
@@ -67,8 +66,7 @@ worked_pairs : {O T : Type 0} (link : O → LinkView) (disk : O → DiskView) (t
     → Ran (disk x.journal.disk) (disk y.journal.disk) (BeforePair (Tells link x.journal.disk) (disk x.journal.disk)) × (Tells link x.journal.disk → (disk y.journal.disk).aside ≡ (disk x.journal.disk).aside)
 worked_pairs link disk trade x y tells worked =
     let same : Tells link x.journal.disk → (disk y.journal.disk).aside ≡ (disk x.journal.disk).aside = λ told'. aside_still link (λ o. (disk o).aside) x.journal.disk y.journal.disk tells told' worked.quiet in (
-      ran_link (disk x.journal.disk) (disk y.journal.disk) (BeforePair (Tells link x.journal.disk) (disk x.journal.disk)) worked.keeps
-          (λ i s l from upto. (l, λ told'. none_between (disk x.journal.disk).aside s from (subst (λ (z : List ℕ). BeginsWith s z) (same told') upto))),
+      quiet_link link disk (Tells link x.journal.disk) (disk x.journal.disk).leaves (disk x.journal.disk).aside x.journal.disk y.journal.disk tells worked.keeps (λ t. t) worked.quiet (λ t. refl) (λ i l. l),
       same,
     )
 
@@ -108,29 +106,6 @@ by_clock link disk trade x y keeps rest stands limits = record {
 }
 
 -- ---- without the input
-
--- what receiving an input leaves of what was sent
-lost_quiet : (u v : LinkView) → LostInput u v → SentNoMore u v
-lost_quiet u v (inl none) = no_more_still u v (ap (λ (x : LinkView). x.sessions) none.same)
-lost_quiet u v (inr (got, failed)) =
-    no_more_then u (next_taken u) v (no_more_taken u (next_taken u) refl) (no_more_heard (next_taken u) v got (ap (λ (x : LinkView). x.sessions) failed.same))
-
-input_quiet : (most : ℕ) (u v : LinkView) (input : List ℕ) → IsInput most u input v → SentNoMore u v
-input_quiet most u v input (inl none) = no_more_still u v (ap (λ (x : LinkView). x.sessions) none.1)
-input_quiet most u v input (inr (inl whole)) =
-    no_more_then u (next_taken u) v (no_more_taken u (next_taken u) refl)
-    (no_more_then (next_taken u) (after_recv input (next_taken u)) v (no_more_heard (next_taken u) (after_recv input (next_taken u)) input refl)
-    (no_more_finished (after_recv input (next_taken u)) v (ap (λ (x : LinkView). x.sessions) whole.1)))
-input_quiet most u v input (inr (inr long)) =
-    no_more_then u (next_taken u) v (no_more_taken u (next_taken u) refl) (no_more_heard (next_taken u) v input (ap (λ (x : LinkView). x.sessions) long.1))
-
-pub taken_quiet : (most : Option ℕ) (u v : LinkView) (input : List ℕ) → TakesInput most u input v → SentNoMore u v
-taken_quiet (Some most) u v input is = input_quiet most u v input is
-taken_quiet None u v input is = no_more_still u v (ap (λ (x : LinkView). x.sessions) is.1)
-
-pub not_taken_quiet : (most : Option ℕ) (u v : LinkView) → LosesInput most u v → SentNoMore u v
-not_taken_quiet (Some most) u v lost = lost_quiet u v lost
-not_taken_quiet None u v lost = absurd lost
 
 -- links worked on the outside of a house
 pub by_links : {O T : Type 0} (link : O → LinkView) (disk : O → DiskView) (trade : T → TradeView) (x y : House O T) → SentNoMore (link x.journal.disk) (link y.journal.disk) → LinkKeeps (disk x.journal.disk) (disk y.journal.disk) → HouseRests x y → Worked link disk trade x y
@@ -245,12 +220,6 @@ operated_causes link disk operation a y (outcomes.Done x n) line same counts = c
 operated_causes link disk operation a y (outcomes.Refused x f) line same counts = counts ∙ same
 operated_causes link disk operation a y (outcomes.NoMemory x) line same counts = counts ∙ same
 operated_causes link disk operation a y (outcomes.Halted d) line same counts = subst (λ (n : ℕ). Rose n (disk d).faults) same counts
-
--- an input that was lost, lost it by a link
-pub lost_rose : (most : Option ℕ) (u v : LinkView) → LosesInput most u v → Rose u.faults v.faults
-lost_rose (Some most) u v (inl none) = none.rose
-lost_rose (Some most) u v (inr (got, failed)) = failed.rose
-lost_rose None u v lost = absurd lost
 
 -- the causes from the outside on that was opened
 pub causes_opened : {O : Type 0} (link : O → LinkView) (disk : O → DiskView) (operation : OperationView) (a x : O) (status : Status) (b : O) → (disk x).faults ≡ (disk a).faults → link x ≡ link a → OperateCauses link disk operation x status b → OperateCauses link disk operation a status b

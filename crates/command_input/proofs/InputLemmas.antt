@@ -1,11 +1,12 @@
 -- Bytes that are received into a buffer, one part after another.
-use Rattle.std.proofs.Common.{◌≡◌, inl, inr, ℕ, ◌+◌, ◌-◌, ◌≤◌, List, ◌++◌, length, take, drop, sym, ap, ◌∙◌, subst, arith, length-append, length-drop}
+use Rattle.std.proofs.Common.{◌≡◌, inl, inr, ℕ, ◌+◌, ◌-◌, ◌≤◌, List, ◌++◌, length, take, drop, sym, ap, ◌∙◌, subst, arith, length-append, length-drop, Option, Some, None}
 use Rattle.std.proofs.lemmas.List.{take-append-le, take-take, length-take-le}
 use Rattle.std.proofs.Math.Seq.{take-append-add}
 use borrow.Rule.Slice.PartMut.{put_mid}
+use Rattle.mc_outside.specs.Bytes.{Rose}
 use Rattle.mc_outside.specs.LinkView.{LinkView, after_recv, next_taken, Failed}
 use Rattle.mc_outside.proofs.Sessions.{heard_more}
-use Rattle.command_input.specs.Inputs.{IsInput, Receives}
+use Rattle.command_input.specs.Inputs.{IsInput, TakesInput, LostInput, LosesInput, Receives}
 
 -- the first bytes of a buffer into whose rest more were put
 pub front_with : (a m : ℕ) (buf more : List ℕ) → a ≤ length buf → m ≤ length more → take (a + m) (put_mid a (length buf - a) buf more) ≡ take a buf ++ take m more
@@ -51,3 +52,24 @@ input_cut most n size u v w buf got is_size len taken is received =
     let few : n ≤ length buf = subst (λ (z : ℕ). n ≤ z) (sym len) (within_size size v n (take n buf) w received) in
     subst (λ (l : List ℕ). IsInput most u l w) (sym is)
     (input_is most n u w (take n buf) (length-take-le n buf few) (subst (λ (x : LinkView). Receives (most + 1) x n (take n buf) w) taken (subst (λ (z : ℕ). Receives z v n (take n buf) w) is_size received)))
+
+-- ---- the count of the links' faults
+
+-- it stays where the input is read
+pub input_counts : (most : ℕ) (u v : LinkView) (input : List ℕ) → IsInput most u input v → v.faults ≡ u.faults
+input_counts most u v input (inl none) = ap (λ (x : LinkView). x.faults) none.1
+input_counts most u v input (inr (inl whole)) = ap (λ (x : LinkView). x.faults) whole.1
+input_counts most u v input (inr (inr long)) = ap (λ (x : LinkView). x.faults) long.1
+
+pub taken_counts : (most : Option ℕ) (u v : LinkView) (input : List ℕ) → TakesInput most u input v → v.faults ≡ u.faults
+taken_counts (Some most) u v input is = input_counts most u v input is
+taken_counts None u v input is = ap (λ (x : LinkView). x.faults) is.1
+
+-- and rises where it is lost
+pub lost_rose : (u v : LinkView) → LostInput u v → Rose u.faults v.faults
+lost_rose u v (inl none) = none.rose
+lost_rose u v (inr (got, failed)) = failed.rose
+
+pub loses_rose : (most : Option ℕ) (u v : LinkView) → LosesInput most u v → Rose u.faults v.faults
+loses_rose (Some most) u v lost = lost_rose u v lost
+loses_rose None u v lost = absurd lost

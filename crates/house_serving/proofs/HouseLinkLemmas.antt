@@ -30,7 +30,7 @@ use Rattle.house_serving.specs.InDoubt.{RequestInDoubt, InDoubtTurn, InDoubtLink
 use Rattle.house_serving.specs.Links.{TurnsHouse, EndsTurns, ServesLink, ServesLinks}
 use Rattle.house_serving.proofs.ServingLemmas.{IsServing, serving_starts, serving_goes_on, serving_ended}
 use Rattle.house_serving.proofs.LinksLemmas.{had_link}
-use Rattle.house_serving.proofs.AsideLemmas.{TellsAside, SentNoMore, no_more_still, no_more_taken, aside_still}
+use Rattle.command_input.proofs.AsideLemmas.{TellsAside, SentNoMore, no_more_still, no_more_taken, aside_still}
 use Rattle.house_serving.proofs.OrderLemmas.{begins_then, went_nowhere, went_on, went_quiet, halted_later}
 use Rattle.house_serving.proofs.HouseTurnLemmas.{ReadOn}
 use Rattle.house_core.specs.Trade.{TradeView}

@@ -47,7 +47,7 @@ use Rattle.house_serving.specs.Turns.{Sent, AnsweredItem, Turned, turn_after}
 use Rattle.house_serving.specs.Orders.{RefinesBy, HaltedBy}
 use Rattle.house_serving.specs.InDoubt.{Sends, RequestInDoubt}
 use Rattle.house_serving.specs.Links.{RepliesTo, AnswersRequest, RefusesHead, TurnsHouse}
-use Rattle.house_serving.proofs.AsideLemmas.{TellsAside, SentNoMore, no_more_still, no_more_then, no_more_heard, no_more_finished}
+use Rattle.command_input.proofs.AsideLemmas.{TellsAside, SentNoMore, no_more_still, no_more_then, no_more_heard, no_more_finished}
 use Rattle.house_serving.proofs.TurnLemmas.{leads_so, item_turned}
 use Rattle.house_serving.proofs.ItemLemmas.{item_answered, sent_so}
 use Rattle.house_serving.proofs.OrderLemmas.{went_on, went_quiet, went_sent, went_written, went_from, halted_told, halted_later, halted_from}

@@ -7,7 +7,6 @@ pub mod ItemLemmas
 pub mod TurnsLemmas
 pub mod LinksLemmas
 pub mod ReplyingLemmas
-pub mod AsideLemmas
 pub mod OrderLemmas
 pub mod CauseLemmas
 pub mod HouseTurnLemmas

@@ -19,7 +19,7 @@ use Rattle.house_core.specs.Bench.{IsHouse, house_time, limits_of}
 use Rattle.house_core.specs.House.{HouseRepresents, HouseRests}
 use Rattle.house_core.specs.Session.{State}
 use Rattle.house_serving.specs.Orders.{InOrder, MovedBy, RefinesBy, IsEither, InDoubt, HaltedBy}
-use Rattle.house_serving.proofs.AsideLemmas.{TellsAside, SentNoMore, aside_still, aside_sent}
+use Rattle.command_input.proofs.AsideLemmas.{TellsAside, SentNoMore, aside_still, aside_sent}
 use Rattle.house_core.specs.Trade.{TradeView}
 
 -- ---- bytes

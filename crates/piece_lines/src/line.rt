@@ -27,9 +27,11 @@ fn scrip(bytes: &[u8]) -> Result<(ScripRef<'_>, &[u8]), Stuck>
     }
 }
 
-/// The space, the digits of a secret and the LF behind a text.
+/// Reads the space, the 32 digits of a secret and the LF that stand behind the text of a piece line, from the front
+/// of some bytes. Answers the secret and the bytes behind it; `Err` tells how many were left where they break. It
+/// takes no memory.
 #[tactic(auto, unfolding(crate::specs::PieceLines::secret_at))]
-fn secret(bytes: &[u8]) -> Result<([u8; 16], &[u8]), Stuck>
+pub fn read_secret(bytes: &[u8]) -> Result<([u8; 16], &[u8]), Stuck>
     ensures { Gives (λ x. (x.0, x.1.now)) result (secret_at bytes.now) }
 {
     let rest = read_literal(b" ", bytes)?;
@@ -49,7 +51,7 @@ pub(crate) fn line<'a>(
 {
     let (scrip, rest) = scrip(bytes)?;
     let text = scrip.text();
-    let (secret, rest) = secret(rest)?;
+    let (secret, rest) = read_secret(rest)?;
     if !rule.passes(&scrip.piece()) {
         return Err(Stuck { left: bytes.len() });
     }

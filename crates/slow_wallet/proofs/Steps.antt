@@ -15,8 +15,9 @@ use Rattle.wallet_model.proofs.BookLaws.{all_joined}
 use Rattle.wallet_model.proofs.PieceLaws.{pieces_more, state_more}
 use Rattle.wallet_model.proofs.CameLaws.{pieces_both, map_both, new_both}
 use Rattle.slow_ledger.proofs.SlowLaws.{Next, next, of_next}
-use Rattle.slow_wallet.specs.declared.states.State.{State}
-use Rattle.slow_wallet.specs.Slow.{state_view, brought_at, moved_at}
+use Rattle.wallet_book.specs.declared.holding.State.{State}
+use Rattle.wallet_book.specs.Holdings.{state_of}
+use Rattle.slow_wallet.specs.Slow.{brought_at, moved_at}
 
 pub brought_next : (h : History) (n : ℕ) (x : Next h n) → brought_at h n ≡ brings (take n h) x.entry
 brought_next h n x = ap (λ (o : Option Entry). unwrap_or (option_map (brings (take n h)) o) []) x.stands
@@ -34,14 +35,14 @@ state_next h n text lt =
     ap (λ (k : History). state_in k text) x.front ∙ state_more (take n h) x.entry text
     ∙ ap (λ (o : Option PieceState). unwrap_or o (state_in (take n h) text)) (sym (ap (option_and_then (moves (take n h) text)) x.stands))
 
-pub state_or : (o : Option State) (s : State) → state_view (unwrap_or o s) ≡ unwrap_or (option_map state_view o) (state_view s)
+pub state_or : (o : Option State) (s : State) → state_of (unwrap_or o s) ≡ unwrap_or (option_map state_of o) (state_of s)
 state_or None s = refl
 state_or (Some t) s = refl
 
-pub state_step : (h : History) (n : ℕ) (text : List ℕ) (m : Option State) (s r : State) → n < length h → option_map state_view m ≡ moved_at h n text → state_view s ≡ state_in (take n h) text → r ≡ unwrap_or m s
-    → state_view r ≡ state_in (take (n + 1) h) text
+pub state_step : (h : History) (n : ℕ) (text : List ℕ) (m : Option State) (s r : State) → n < length h → option_map state_of m ≡ moved_at h n text → state_of s ≡ state_in (take n h) text → r ≡ unwrap_or m s
+    → state_of r ≡ state_in (take (n + 1) h) text
 state_step h n text m s r lt moved before is =
-    ap state_view is ∙ state_or m s ∙ ap (λ (o : Option PieceState). unwrap_or o (state_view s)) moved
+    ap state_of is ∙ state_or m s ∙ ap (λ (o : Option PieceState). unwrap_or o (state_of s)) moved
     ∙ ap (unwrap_or (moved_at h n text)) before ∙ sym (state_next h n text lt)
 
 -- ---- pieces that are alike

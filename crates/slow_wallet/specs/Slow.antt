@@ -1,37 +1,24 @@
 -- What the slow evaluators speak of beside the definitions.
 use Rattle.std.specs.Prelude.{ℕ, Bool, List, [], Option, option_map, option_and_then, unwrap_or, take, slice_get, bytes_eq, if◌then◌else◌, option_to_list}
 use Rattle.mc_records.specs.Entry.{Held}
-use Rattle.mc_records.specs.Requests.{seen}
 use Rattle.ledger_model.specs.Histories.{History}
 use Rattle.wallet_model.specs.Requests as model
 use Rattle.wallet_model.specs.Holdings as pieces
-use Rattle.wallet_model.specs.Holdings.{brings, PieceState, held, pending, disputed, used, dead, moves}
+use Rattle.wallet_model.specs.Holdings.{brings, PieceState, moves}
 use Rattle.wallet_model.specs.Newness.{are_one_piece}
-use Rattle.slow_wallet.specs.declared.requests.Pending.{Pending}
-use Rattle.slow_wallet.specs.declared.states.State.{State}
-use Rattle.slow_wallet.specs.declared.states.State.TheVariants as states
+use Rattle.wallet_book.specs.Holdings.{state_of}
+use Rattle.wallet_tasks.specs.Requests.{request_view}
 use Rattle.slow_wallet.specs.declared.holdings.Holding.{Holding}
 use Rattle.slow_wallet.specs.declared.kept.Numbered.{Numbered}
 use Rattle.slow_wallet.specs.declared.came.Likeness.{Likeness}
 use Rattle.slow_wallet.specs.declared.came.Likeness.TheVariants as likes
 
--- a request, without where its texts lie in memory
-abbrev pub pending_view : Pending → model.Pending
-pending_view p = record { ask = p.ask; peer = p.peer.now; target = p.target.now; scrip = seen p.scrip; secret = p.secret }
-
-abbrev pub state_view : State → PieceState
-state_view states.Held = held
-state_view states.Pending = pending
-state_view states.Disputed = disputed
-state_view states.Used = used
-state_view states.Dead = dead
-
--- a holding, and a request with its number, likewise
+-- a holding, and a request with its number, without where their texts lie in memory
 abbrev pub holding_view : Holding → pieces.Holding
-holding_view x = record { text = x.text.now; secret = x.secret; state = state_view x.state }
+holding_view x = record { text = x.text.now; secret = x.secret; state = state_of x.state }
 
 abbrev pub kept_view : Numbered → ℕ × model.Pending
-kept_view x = (x.number, pending_view x.request)
+kept_view x = (x.number, request_view x.request)
 
 -- whether two texts are alike: the same text, or of pieces of one vendor with one identity
 abbrev pub are_alike : Likeness → List ℕ → List ℕ → Bool

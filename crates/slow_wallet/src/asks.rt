@@ -1,6 +1,6 @@
 //! What a wallet asks for, and the entry of it.
 
-ghost use Rattle.std.specs.Prelude.{◌≡◌, ◌++◌, IfOk, codes, decimal};
+ghost use Rattle.std.specs.Prelude.{◌≡◌, IfOk};
 ghost use Rattle.std.specs.Result.{result_map_both};
 ghost use Rattle.mc_fields.specs.Puts.{Appends};
 ghost use Rattle.mc_records.specs.Errands as errands;

@@ -5,7 +5,6 @@ ghost use Rattle.std.specs.List.{list_any};
 ghost use Rattle.mc_records.specs.PieceViews.{pieces_of};
 ghost use Rattle.mc_records.specs.Requests.{seen};
 ghost use Rattle.mc_records.specs.Views.{held_of};
-ghost use Rattle.wallet_model.specs.Newness as newness;
 ghost use Rattle.wallet_model.specs.Holdings as model;
 ghost use Rattle.wallet_model.specs.Holdings.{pieces_came};
 ghost use Rattle.slow_wallet.specs.Slow.{are_alike, brought_at};
@@ -13,8 +12,8 @@ ghost use Rattle.slow_wallet.specs.Slow.{are_alike, brought_at};
 use crate::requests::slow_pending;
 use crate::states::{is_held, slow_state};
 use mc_records::{PieceList, Record};
-use scrip_form::read_scrip;
 use slow_ledger::Prefix;
+use wallet_tasks::are_one_piece;
 
 /// By what texts are compared.
 #[derive(Clone, Copy, Drop)]
@@ -23,19 +22,6 @@ pub(crate) enum Likeness {
     Text,
     /// By the vendor and the identity of their pieces.
     Piece,
-}
-
-/// Whether two texts are of pieces of one vendor with one identity.
-pub(crate) fn are_one_piece(a: &[u8], b: &[u8]) -> bool
-    ensures { result ≡ newness.are_one_piece a.now b.now }
-{
-    let Ok(a) = read_scrip(a) else {
-        return false;
-    };
-    let Ok(b) = read_scrip(b) else {
-        return false;
-    };
-    a.piece().vendor().bytes() == b.piece().vendor().bytes() && a.piece().id() == b.piece().id()
 }
 
 /// Whether two texts are alike.

@@ -1,6 +1,6 @@
 //! The piece that is chosen for a vendor and a limit.
 
-ghost use Rattle.std.specs.Prelude.{◌≡◌, ◌<◌, ◌++◌, [], List, length, slice_get, option_map, option_and_then, option_to_list, filter_map};
+ghost use Rattle.std.specs.Prelude.{◌≡◌, ◌<◌, ◌++◌, List, length, slice_get, option_map, option_and_then, option_to_list, filter_map};
 ghost use Rattle.std.specs.Result.{result_map_both};
 ghost use Rattle.wallet_model.specs.Asks.{chosen};
 ghost use Rattle.slow_wallet.specs.Slow.{brought_at};
@@ -9,11 +9,11 @@ ghost use Rattle.slow_wallet.specs.Choices.{Fitting, fitting_of, fit_at, offer_v
 
 use crate::came::{brought, count_brought};
 use crate::holdings::Holding;
-use crate::replies::piece_of;
 use crate::states::{is_held, slow_state};
 use mc_base::Moment;
 use mc_records::Refusal;
 use slow_ledger::Prefix;
+use wallet_tasks::piece_of;
 
 /// A piece that can be spent now, and its value.
 #[derive(Clone, Copy, Drop)]

@@ -6,8 +6,9 @@ ghost use Rattle.wallet_model.specs.Holdings.{pieces_came, holdings};
 ghost use Rattle.slow_wallet.specs.Slow.{holding_view};
 
 use crate::came::{brought, count_brought};
-use crate::states::{State, slow_state};
+use crate::states::slow_state;
 use slow_ledger::Prefix;
+use wallet_book::State;
 
 /// A piece of a wallet: its scrip text, the secret of its customer, and how it stands with it.
 #[derive(Clone, Copy, Drop)]

@@ -1,17 +1,18 @@
 //! The kept requests of a wallet's book by their places.
 
 ghost use Rattle.std.specs.Prelude.{◌≡◌, ◌<◌, length, slice_get, option_map};
-ghost use Rattle.wallet_model.specs.Requests.{kept_requests, oldest_kept};
+ghost use Rattle.wallet_model.specs.Requests.{kept_requests};
 ghost use Rattle.slow_wallet.specs.Slow.{kept_view, kept_at};
 
-use crate::requests::{Pending, slow_is_kept, slow_pending};
+use crate::requests::{slow_is_kept, slow_pending};
 use slow_ledger::Prefix;
+use wallet_tasks::RequestRef;
 
 /// A request with the number of its entry.
 #[derive(Clone, Copy, Drop)]
 pub struct Numbered<'a> {
     pub number: u64,
-    pub request: Pending<'a>,
+    pub request: RequestRef<'a>,
 }
 
 /// How many kept requests the entry of a number is: one or none.

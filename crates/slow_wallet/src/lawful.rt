@@ -1,7 +1,6 @@
 //! Which books of wallets are lawful.
 
 ghost use Rattle.std.specs.Prelude.{◌≡◌, ◌<◌, ◌↔◌, ◌&&◌, length, take, slice_get, IsTrue, IsNone, IfSome};
-ghost use Rattle.mc_records.specs.Errands.{errand_of};
 ghost use Rattle.mc_records.specs.Requests.{seen};
 ghost use Rattle.wallet_model.specs.Holdings.{has_held};
 ghost use Rattle.wallet_model.specs.Follows as model;
@@ -11,9 +10,10 @@ use crate::came::slow_has_held;
 use crate::newness::{slow_are_new, slow_settled_new};
 use crate::requests::slow_is_kept;
 use ledger_model::History;
-use mc_records::{Errand, Record, read_errand};
+use mc_records::Record;
 use scrip_form::read_scrip;
 use slow_ledger::{Prefix, moment_at, slow_time};
+use wallet_book::{asks_to_buy, asks_to_draw};
 
 /// Whether the site is a wallet.
 fn slow_is_wallet(h: &Prefix<'_>) -> bool
@@ -37,24 +37,6 @@ fn is_of_vendor(vendor: &[u8], text: &[u8]) -> bool
     }
 }
 
-fn is_buy(target: &[u8]) -> bool
-    ensures { result ≡ model.is_buy (errand_of target.now) }
-{
-    match read_errand(target) {
-        Some(Errand::Buy { .. }) => true,
-        _ => false,
-    }
-}
-
-fn is_draw(target: &[u8]) -> bool
-    ensures { result ≡ model.is_draw (errand_of target.now) }
-{
-    match read_errand(target) {
-        Some(Errand::Draw { .. }) => true,
-        _ => false,
-    }
-}
-
 /// Whether a request pays with a held piece of its peer.
 fn pays_peer(h: &Prefix<'_>, peer: &[u8], scrip: &[u8]) -> bool
     ensures { result ≡ (has_held h.now scrip.now && model.is_of_vendor peer.now scrip.now) }
@@ -69,10 +51,10 @@ fn asks_rightly(h: &Prefix<'_>, ask: u8, peer: &[u8], target: &[u8], scrip: Opti
     match scrip {
         Some(scrip) => match ask {
             0 => pays_peer(h, peer, scrip),
-            1 => pays_peer(h, peer, scrip) && is_buy(target),
+            1 => pays_peer(h, peer, scrip) && asks_to_buy(target),
             _ => false,
         },
-        None => ask >= 2 && is_draw(target),
+        None => ask >= 2 && asks_to_draw(target),
     }
 }
 

@@ -1,5 +1,6 @@
 //! A wallet's book by slow programs: what the definitions of `wallet_model` say of a history, each found by
-//! going over its entries. Cases ask them; no wallet stands on them.
+//! going over its entries. Cases ask them; no wallet stands on them. What asks no history, as whether the values of a
+//! reply fit a request, is `wallet_tasks`' own.
 #![tactic(auto)]
 
 mod asks;
@@ -21,7 +22,9 @@ pub use holdings::{Holding, slow_holding};
 pub use kept::{Numbered, slow_kept};
 pub use lawful::slow_wallet_book;
 pub use replies::slow_check;
-pub use requests::{Pending, slow_is_kept, slow_pending};
+pub use requests::{slow_is_kept, slow_pending};
 pub use sending::slow_request_bytes;
 pub use settle::slow_settlement;
-pub use states::{State, slow_state};
+pub use states::slow_state;
+pub use wallet_book::State;
+pub use wallet_tasks::RequestRef as Pending;

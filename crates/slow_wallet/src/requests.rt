@@ -5,26 +5,15 @@ ghost use Rattle.std.specs.List.{list_any};
 ghost use Rattle.mc_records.specs.Requests.{seen};
 ghost use Rattle.wallet_model.specs.Requests as model;
 ghost use Rattle.wallet_model.specs.Requests.{settles};
-ghost use Rattle.slow_wallet.specs.Slow.{pending_view};
+ghost use Rattle.wallet_tasks.specs.Requests.{request_view};
 
 use mc_records::Record;
 use slow_ledger::Prefix;
-
-/// What a Pend entry asks: 0 a get, 1 a buy, 2 a draw; of which peer, and under which target; with which
-/// scrip text, which a draw has not; and signed under which secret of the piece's customer, or key of the
-/// account.
-#[derive(Clone, Copy, Drop)]
-pub struct Pending<'a> {
-    pub ask: u8,
-    pub peer: &'a [u8],
-    pub target: &'a [u8],
-    pub scrip: Option<&'a [u8]>,
-    pub secret: [u8; 16],
-}
+use wallet_tasks::RequestRef;
 
 /// The request of the entry of a number; None exactly where there is none.
-pub fn slow_pending<'a>(h: &'a Prefix<'_>, number: u64) -> Option<Pending<'a>>
-    ensures { option_map pending_view result ≡ model.pending_in h.now number }
+pub fn slow_pending<'a>(h: &'a Prefix<'_>, number: u64) -> Option<RequestRef<'a>>
+    ensures { option_map request_view result ≡ model.pending_in h.now number }
 {
     let n = number as usize;
     if n >= h.len() {
@@ -38,7 +27,7 @@ pub fn slow_pending<'a>(h: &'a Prefix<'_>, number: u64) -> Option<Pending<'a>>
             scrip,
             secret,
             ..
-        } => Some(Pending {
+        } => Some(RequestRef {
             ask,
             peer,
             target,

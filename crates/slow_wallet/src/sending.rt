@@ -7,14 +7,13 @@ ghost use Rattle.mc_records.specs.Requests.{seen};
 ghost use Rattle.scrip_certs.specs.Digests.{request_text};
 ghost use Rattle.hex.specs.Hex.{encode_lower};
 ghost use Rattle.wallet_model.specs.Asks as model;
-ghost use Rattle.slow_wallet.specs.Slow.{pending_view};
+ghost use Rattle.wallet_tasks.specs.Requests.{request_view};
 
-use crate::replies::or_dash;
-use crate::requests::Pending;
 use mc_base::NoMemory;
 use mc_fields::append_both;
 use scrip_certs::{hex_of, sign_request};
 use std::alloc::{AllocError, Global};
+use wallet_tasks::{RequestRef, or_dash};
 
 fn write_field(out: &mut Vec<u8>, name: &[u8], value: &[u8]) -> Result<(), AllocError>
     ensures { Appends out.old.items out.new.items (texts.field name.now value.now) result }
@@ -40,16 +39,16 @@ fn write_start(out: &mut Vec<u8>, target: &[u8]) -> Result<(), AllocError>
 }
 
 /// The signature of a request as it stands in its field.
-fn sign_text(p: &Pending<'_>) -> [u8; 32]
-    ensures { result ≡ encode_lower (model.signature_of (pending_view p.now)) }
+fn sign_text(p: &RequestRef<'_>) -> [u8; 32]
+    ensures { result ≡ encode_lower (model.signature_of (request_view p.now)) }
 {
     hex_of(&sign_request(or_dash(p.scrip), p.target, &p.secret))
 }
 
 /// The bytes of a request, by the definitions. Want of memory is free.
 #[tactic(auto, unfolding(wallet_model::specs::Asks::request_bytes))]
-pub fn slow_request_bytes(alloc: Global, p: &Pending<'_>) -> Result<Vec<u8>, NoMemory>
-    ensures { IfOk result (λ v. v.items ≡ model.request_bytes (pending_view p.now)) }
+pub fn slow_request_bytes(alloc: Global, p: &RequestRef<'_>) -> Result<Vec<u8>, NoMemory>
+    ensures { IfOk result (λ v. v.items ≡ model.request_bytes (request_view p.now)) }
 {
     let mut out = Vec::new(alloc);
     write_start(&mut out, p.target)?;

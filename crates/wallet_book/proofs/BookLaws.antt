@@ -65,7 +65,7 @@ same_name [] e book = absurd book
 same_name (Site m k name house ∷ xs) e book = refl
 same_name (x ∷ xs) e book = refl
 
-time_more : (h : History) (e : Entry) → time (h ++ e ∷ []) ≡ max (time h) (moment_of e)
+pub time_more : (h : History) (e : Entry) → time (h ++ e ∷ []) ≡ max (time h) (moment_of e)
 time_more [] e = omega arith
 time_more (x ∷ xs) e = omega (arith, time_more xs e)
 

@@ -2,6 +2,7 @@
 use Rattle.std.specs.Prelude.{◌≡◌, ℕ, nat_lt, nat_le, if◌then◌else◌, Bool, List, map, filter, filter_map, Option, Some, None, Result, Ok, Err}
 use Rattle.std.specs.List.{enumerate_from, reduce}
 use Rattle.mc_records.specs.declared.refusal.Refusal.{Refusal}
+use Rattle.mc_records.specs.declared.refusal.Refusal.TheVariants.{NoFunds}
 use Rattle.wallet_model.specs.Asks.{Offered, offered_at, is_fit, lesser, greatest_value}
 use Rattle.wallet_book.specs.declared.holding.Holding.{Holding}
 use Rattle.wallet_book.specs.Holdings.{holding_of}
@@ -14,6 +15,11 @@ fit_among xs t vendor = filter (is_fit t vendor) (filter_map offered_at (enumera
 abbrev pub Chooses : Result Offered Refusal → Result ℕ Refusal → Type 0
 Chooses (Ok o) result = result ≡ Ok o.place
 Chooses (Err f) result = result ≡ Err f
+
+-- 62 NoFunds, with whatever value
+abbrev pub IsNoFunds : Refusal → Type 0
+IsNoFunds (NoFunds greatest) = Unit {0}
+IsNoFunds _ = ⊥
 
 -- the place and the value of an offered piece
 abbrev pub IsOffer : Option Offered → Option (ℕ × ℕ) → Type 0

@@ -1,6 +1,7 @@
 //! What a wallet keeps in place of its book.
 
-ghost use Rattle.std.specs.Prelude.{◌≡◌, ◌==◌, ◌+◌, ◌-◌, ◌^◌, ◌<◌, ◌≤◌, ◌&&◌, ◌∷◌, [], ℕ, length, max, nat_le, true, vec_len, vec_capacity, map, find, option_map, OnOk, MatchOption};
+ghost use Rattle.std.specs.Prelude.{◌≡◌, ◌==◌, ◌+◌, ◌-◌, ◌^◌, ◌<◌, ◌≤◌, ◌&&◌, ◌∷◌, [], ℕ, length, max, nat_le, true, vec_len, vec_capacity, map, find, option_map, OnOk, IfErr, MatchOption};
+ghost use Rattle.mc_records.specs.declared.refusal.Refusal.TheVariants.{Nothing};
 ghost use Rattle.mc_records.specs.Entry.{Fits, moment_of, payload};
 ghost use Rattle.mc_records.specs.Sizes.{size, entry_size};
 ghost use Rattle.mc_records.specs.Views.{entry};
@@ -15,7 +16,7 @@ ghost use Rattle.wallet_model.specs.Newness.{is_new};
 ghost use Rattle.wallet_book.specs.Holdings.{holding_of, texts_of, AreSpelled};
 ghost use Rattle.wallet_book.specs.Kept.{request_of, kept_of, kept_in, Retries};
 ghost use Rattle.wallet_book.specs.Parts.{PartsRepresent, LearnsEntry};
-ghost use Rattle.wallet_book.specs.Choosing.{Chooses};
+ghost use Rattle.wallet_book.specs.Choosing.{Chooses, IsNoFunds};
 ghost use Rattle.wallet_book.specs.Book.{WalletRepresents, FoundsWallet, brought_count, asked_count, HasRoom, Learns};
 
 use crate::choosing::choose;
@@ -141,8 +142,9 @@ impl WalletBook {
     /// and cover the limit the one of least value, and of two of the same value the first. `Err` is 62 `NoFunds`
     /// with the greatest value of the held pieces of the vendor that are not expired, 0 where there are none.
     pub fn choose(&self, vendor: &Name, limit: Amount) -> Result<usize, Refusal>
-        ensures { (h : History) → WalletRepresents self.now h
+        ensures exact { (h : History) → WalletRepresents self.now h
             → Chooses (chosen h self.now.time vendor.now limit) result }
+        ensures refused { IfErr result IsNoFunds }
     {
         choose(self.parts.holdings.as_slice(), self.time, vendor, limit)
     }
@@ -170,7 +172,9 @@ impl WalletBook {
 
     /// The number of the oldest kept request of a peer. `Err` is 67 `Nothing`, exactly where there is none.
     pub fn retry_next(&self, peer: &Name) -> Result<u64, Refusal>
-        ensures { (h : History) → WalletRepresents self.now h → Retries (oldest_kept h peer.now) result }
+        ensures exact { (h : History) → WalletRepresents self.now h
+            → Retries (oldest_kept h peer.now) result }
+        ensures refused { IfErr result (λ f. f ≡ Nothing) }
     {
         match first_of_peer(&self.parts.kept, peer.bytes()) {
             Some(kept) => Ok(kept.number),

@@ -1,10 +1,10 @@
 //! Choosing the piece to pay with.
 
-ghost use Rattle.std.specs.Prelude.{◌≡◌, ◌∷◌, ◌++◌, [], ℕ, max};
+ghost use Rattle.std.specs.Prelude.{◌≡◌, ◌∷◌, ◌++◌, [], ℕ, max, IfErr};
 ghost use Rattle.wallet_model.specs.Asks as model;
 ghost use Rattle.wallet_model.specs.Asks.{Offered, chosen_by};
 ghost use Rattle.wallet_book.specs.Holdings.{AreSpelled, holding_of};
-ghost use Rattle.wallet_book.specs.Choosing.{fit_among, Chooses, least_with};
+ghost use Rattle.wallet_book.specs.Choosing.{fit_among, Chooses, IsNoFunds, least_with};
 
 use crate::holding::{Holding, State};
 use mc_base::{Amount, Moment};
@@ -21,7 +21,8 @@ pub(crate) fn choose(
     limit: Amount,
 ) -> Result<usize, Refusal>
     requires { AreSpelled holdings.now }
-    ensures { Chooses (chosen_by (fit_among holdings.now time vendor.now) limit) result }
+    ensures exact { Chooses (chosen_by (fit_among holdings.now time vendor.now) limit) result }
+    ensures refused { IfErr result IsNoFunds }
 {
     let mut least = None;
     let mut greatest = 0;

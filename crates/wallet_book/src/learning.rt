@@ -158,15 +158,16 @@ impl Parts {
     {
         // What the pieces know of themselves.
         let _pieces = self.holdings.as_slice();
-        match self.settle(number, refused(refusal)) {
+        match self.settle(number, refused_state(refusal)) {
             Some(_) => true,
             None => false,
         }
     }
 }
 
-/// What a signed refusal of this number leaves a piece as.
-fn refused(refusal: u16) -> State
+/// What a signed refusal of this number leaves the piece as that the request paid with: 27 `Spent` disputed, 26 `Expired`
+/// dead, and any other held.
+pub fn refused_state(refusal: u16) -> State
     ensures { state_of result ≡ refused_state refusal }
 {
     match refusal {

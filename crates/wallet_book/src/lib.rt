@@ -16,3 +16,5 @@ mod piece_index;
 pub use book::WalletBook;
 pub use holding::{Holding, State};
 pub use kept::Kept;
+pub use learning::refused_state;
+pub use paying::{asks_to_buy, asks_to_draw};

@@ -72,15 +72,15 @@ fn is_text_of(holding: &Holding, text: &[u8]) -> bool
     &out[..len] == text
 }
 
-/// Whether a target asks to buy scrip.
-pub(crate) fn asks_to_buy(target: &[u8]) -> bool
+/// Whether a target asks to buy scrip. It takes no memory.
+pub fn asks_to_buy(target: &[u8]) -> bool
     ensures { result ≡ is_buy (errand_of target.now) }
 {
     matches!(read_errand(target), Some(Errand::Buy { .. }))
 }
 
-/// Whether a target asks to draw scrip.
-pub(crate) fn asks_to_draw(target: &[u8]) -> bool
+/// Whether a target asks to draw scrip. It takes no memory.
+pub fn asks_to_draw(target: &[u8]) -> bool
     ensures { result ≡ is_draw (errand_of target.now) }
 {
     matches!(read_errand(target), Some(Errand::Draw { .. }))

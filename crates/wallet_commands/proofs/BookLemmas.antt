@@ -1,5 +1,5 @@
 -- The book of a wallet, as it is opened and while links work.
-use Rattle.std.proofs.Common.{◌≡◌, ◌∙◌, inl, ◌⊎◌, ℕ, List, [], refl, sym, ap, subst, Some, Err}
+use Rattle.std.proofs.Common.{◌≡◌, ◌∙◌, inl, ◌⊎◌, ℕ, List, refl, sym, ap, subst, Some, Err}
 use Rattle.std.specs.Prelude.{IsSome}
 use Rattle.mc_outside.specs.DiskView.{DiskView, LinkKeeps, Ran}
 use Rattle.mc_outside.specs.LinkView.{LinkView}
@@ -20,7 +20,7 @@ use Rattle.wallet_core.specs.Wallet.{WalletStands}
 use Rattle.wallet_core.specs.Rests.{WalletRests}
 use Rattle.wallet_core.specs.Opening.{OpensWallet}
 use Rattle.wallet_commands.specs.Books.{EncodesWallet, Untouched, NotOpened, OldPair}
-use Rattle.wallet_commands.proofs.SentLemmas.{TellsAside, SentMore, quiet_link}
+use Rattle.command_input.proofs.AsideLemmas.{TellsAside, SentNoMore, quiet_link}
 
 -- a wallet that stands for a history has it on its disk
 pub on_disk : {O : Type 0} (disk : O → DiskView) (x : Wallet O) (h : History) → WalletStands disk x h → EncodesWallet (disk x.journal.disk) h
@@ -75,7 +75,7 @@ pub tells_on : {O : Type 0} (link : O → LinkView) (a b : O) → link b ≡ lin
 tells_on link a b same told = subst (λ (v : LinkView). IsSome v.sessions) (sym same) told
 
 -- the book was read, and then links worked that sent nothing
-pub old_pairs : {O : Type 0} (link : O → LinkView) (disk : O → DiskView) (h : History) (a b c : O) → TellsAside link disk → Untouched link disk a b → LinkKeeps (disk b) (disk c) → SentMore [] (link b) (link c)
+pub old_pairs : {O : Type 0} (link : O → LinkView) (disk : O → DiskView) (h : History) (a b c : O) → TellsAside link (λ o. (disk o).aside) → Untouched link disk a b → LinkKeeps (disk b) (disk c) → SentNoMore (link b) (link c)
     → Ran (disk a) (disk c) (OldPair (IsSome (link a).sessions) (disk a) h)
 old_pairs link disk h a b c all same keeps none =
     ran_then (disk a) (disk b) (disk c) (OldPair (IsSome (link a).sessions) (disk a) h)

@@ -1,8 +1,10 @@
 -- Causes of one stretch after another.
-use Rattle.std.proofs.Common.{◌≡◌, ◌∙◌, ℕ, refl, ap, subst, Err}
+use Rattle.std.proofs.Common.{◌≡◌, ◌∙◌, inr, ℕ, List, refl, sym, ap, subst, Err}
 use Rattle.mc_outside.specs.Bytes.{Rose}
 use Rattle.mc_outside.specs.DiskView.{DiskView, LinkKeeps}
-use Rattle.mc_outside.specs.LinkView.{LinkView}
+use Rattle.mc_outside.specs.LinkView.{LinkView, next_taken, after_send}
+use Rattle.mc_records.specs.declared.refusal.Refusal.{Refusal}
+use Rattle.mc_records.specs.declared.refusal.Refusal.TheVariants as refusals
 use Rattle.scrip_journal.specs.declared.fault.HouseFault.{HouseFault}
 use Rattle.scrip_journal.specs.declared.fault.HouseFault.TheVariants as faults
 use Rattle.scrip_journal.specs.Founds.{fault_disk, CountsBy}
@@ -10,7 +12,9 @@ use Rattle.book_opening.specs.Opening.{CountedBy}
 use Rattle.command_status.specs.declared.status.Status.{Status}
 use Rattle.command_status.specs.declared.status.Status.TheVariants as ends
 use Rattle.command_status.specs.Faults.{fault_status}
-use Rattle.wallet_commands.specs.Causes.{NoneFailed, DiskFailed, LinkFailed, WalletCauses}
+use Rattle.reply_reader.specs.Replies.{Received}
+use Rattle.wallet_core.specs.Answers.{IsFull, MayCheck, MayPend, MayTake}
+use Rattle.wallet_commands.specs.Causes.{NoneFailed, DiskFailed, LinkFailed, SettleRefused, CheckRefused, ReplyRefused, ReadRefused, LinkRefused, OnlyClocked, InputTaken, RefusedBy, CausesBy, WalletCauses}
 use Rattle.wallet_commands.specs.Founding.{InitCauses}
 
 -- calls of the links alone, by the counts of faults
@@ -31,20 +35,74 @@ pub link_then : {O : Type 0} (link : O → LinkView) (disk : O → DiskView) (a 
 link_then link disk a m b first second = record { disk' = second.disk' ∙ first.disk'; link' = subst (λ (n : ℕ). Rose n (link b).faults) first.link' second.link' }
 
 -- the causes from an outside on, up to which no call failed
-pub causes_from : {O : Type 0} (link : O → LinkView) (disk : O → DiskView) (a m b : O) (status : Status) → NoneFailed link disk a m → WalletCauses link disk m status b → WalletCauses link disk a status b
-causes_from link disk a m b ends.DiskFault first second = disk_then link disk a m b first second
-causes_from link disk a m b ends.LinkFault first second = link_then link disk a m b first second
-causes_from link disk a m b ends.Done first second = none_then link disk a m b first second
-causes_from link disk a m b (ends.Did line) first second = none_then link disk a m b first second
-causes_from link disk a m b ends.NoMemory first second = none_then link disk a m b first second
-causes_from link disk a m b ends.NotJournal first second = none_then link disk a m b first second
-causes_from link disk a m b (ends.BadEntry place) first second = none_then link disk a m b first second
-causes_from link disk a m b (ends.UnlawfulEntry place) first second = none_then link disk a m b first second
-causes_from link disk a m b (ends.Refused f) first second = none_then link disk a m b first second
-causes_from link disk a m b (ends.Served n) first second = absurd second
-causes_from link disk a m b (ends.Founded name) first second = absurd second
-causes_from link disk a m b ends.BadWords first second = absurd second
-causes_from link disk a m b (ends.Stranger name id) first second = absurd second
+pub causes_from : {O : Type 0} (R S : Refusal → LinkView → LinkView → Type 0) (link : O → LinkView) (disk : O → DiskView) (a m b : O) (status : Status) → NoneFailed link disk a m → ((f : Refusal) → R f (link m) (link b) → S f (link a) (link b))
+    → CausesBy R link disk m status b → CausesBy S link disk a status b
+causes_from R S link disk a m b ends.DiskFault first so second = disk_then link disk a m b first second
+causes_from R S link disk a m b ends.LinkFault first so second = link_then link disk a m b first second
+causes_from R S link disk a m b ends.Done first so second = none_then link disk a m b first second
+causes_from R S link disk a m b (ends.Did line) first so second = none_then link disk a m b first second
+causes_from R S link disk a m b ends.NoMemory first so second = none_then link disk a m b first second
+causes_from R S link disk a m b ends.NotJournal first so second = none_then link disk a m b first second
+causes_from R S link disk a m b (ends.BadEntry place) first so second = none_then link disk a m b first second
+causes_from R S link disk a m b (ends.UnlawfulEntry place) first so second = none_then link disk a m b first second
+causes_from R S link disk a m b (ends.Refused f) first so second = (none_then link disk a m b first second.0, so f second.1)
+causes_from R S link disk a m b (ends.Served n) first so second = absurd second
+causes_from R S link disk a m b (ends.Founded name) first so second = absurd second
+causes_from R S link disk a m b ends.BadWords first so second = absurd second
+causes_from R S link disk a m b (ends.Stranger name id) first so second = absurd second
+
+-- from the outside on that was opened
+pub causes_opened : {O : Type 0} (link : O → LinkView) (disk : O → DiskView) (a m b : O) (status : Status) → NoneFailed link disk a m → link m ≡ link a → WalletCauses link disk m status b → WalletCauses link disk a status b
+causes_opened link disk a m b status first same second =
+    causes_from RefusedBy RefusedBy link disk a m b status first (λ f why. subst (λ (v : LinkView). RefusedBy f v (link b)) same why) second
+
+-- ---- refusals
+
+pub full_check : (r : Received) (f : Refusal) → IsFull f → SettleRefused r f
+full_check r (refusals.JournalFull size payload) is = tt
+full_check r f is = absurd is
+
+-- what a settlement is refused by is no check of its reply
+pub settle_check : (r : Received) (f : Refusal) (v w : LinkView) → SettleRefused r f → CheckRefused r f v w
+settle_check r refusals.BadReply v w is = absurd is
+settle_check r refusals.Unproved v w is = absurd is
+settle_check r f v w is = is
+
+pub checked_so : (r : Received) (f : Refusal) (v : LinkView) → MayCheck f → CheckRefused r f v v
+checked_so r refusals.BadReply v is = refl
+checked_so r refusals.Unproved v is = refl
+checked_so r f v is = absurd is
+
+pub read_so : (f : Refusal) (v w : LinkView) → ReplyRefused f v w → ReadRefused f v w
+read_so refusals.NoReply v w by = absurd by.3
+read_so refusals.BadReply v w by = inr by
+read_so f v w by = by
+
+pub sent_so : (f : Refusal) (request : List ℕ) (v w : LinkView) → ReadRefused f (after_send request (next_taken v)) w → LinkRefused f v w
+sent_so refusals.NoLink request v w why = absurd why.3
+sent_so refusals.Nothing request v w why = absurd why.3
+sent_so f request v w why = (request, why)
+
+-- once the clock was read
+pub clocked_so : (f : Refusal) (v c w : LinkView) → OnlyClocked v c → LinkRefused f c w → RefusedBy f v w
+clocked_so refusals.WrongKind v c w clocked why = absurd why.1.3
+clocked_so (refusals.BadInput line) v c w clocked why = absurd why.1.3
+clocked_so (refusals.TwiceHeld id) v c w clocked why = absurd why.1.3
+clocked_so (refusals.NoFunds greatest) v c w clocked why = absurd why.1.3
+clocked_so refusals.Nothing v c w clocked why = subst (λ (u : LinkView). OnlyClocked v u) (sym why) clocked
+clocked_so (refusals.JournalFull size payload) v c w clocked why = tt
+clocked_so f v c w clocked why = (c, clocked, why)
+
+pub pended_so : (f : Refusal) (v w : LinkView) → OnlyClocked v w → MayPend f → RefusedBy f v w
+pended_so (refusals.NoFunds greatest) v w clocked may = clocked
+pended_so (refusals.JournalFull size payload) v w clocked may = tt
+pended_so f v w clocked may = absurd may
+
+pub taken_so : (f : Refusal) (v w : LinkView) → InputTaken v w → MayTake f → RefusedBy f v w
+taken_so (refusals.BadInput line) v w taken may = taken
+taken_so (refusals.TwiceHeld id) v w taken may = taken
+taken_so (refusals.JournalFull size payload) v w taken may = tt
+taken_so f v w taken may = absurd may
 
 -- why a book was not opened
 pub opening_causes : {O : Type 0} (A : Type 0) (link : O → LinkView) (disk : O → DiskView) (a : O) (fault : HouseFault O) → CountedBy {D = O} {A = A} (Err fault) (disk a).faults (disk (fault_disk fault)).faults
@@ -52,7 +110,7 @@ pub opening_causes : {O : Type 0} (A : Type 0) (link : O → LinkView) (disk : O
 opening_causes A link disk a (faults.NotJournal d) counts same = record { disk' = counts; link' = ap (λ (v : LinkView). v.faults) same }
 opening_causes A link disk a (faults.BadRecord d place) counts same = record { disk' = counts; link' = ap (λ (v : LinkView). v.faults) same }
 opening_causes A link disk a (faults.Unlawful d place) counts same = record { disk' = counts; link' = ap (λ (v : LinkView). v.faults) same }
-opening_causes A link disk a (faults.WrongKind d) counts same = record { disk' = counts; link' = ap (λ (v : LinkView). v.faults) same }
+opening_causes A link disk a (faults.WrongKind d) counts same = (record { disk' = counts; link' = ap (λ (v : LinkView). v.faults) same }, same)
 opening_causes A link disk a (faults.NotEmpty d size) counts same = absurd counts
 opening_causes A link disk a (faults.Disk d) counts same = record { disk' = counts; link' = ap (λ (v : LinkView). v.faults) same }
 opening_causes A link disk a (faults.NoMemory d) counts same = record { disk' = counts; link' = ap (λ (v : LinkView). v.faults) same }

@@ -1,8 +1,7 @@
 -- How a wallet's command ends whose book encodes the lawful history of a wallet, where no call failed.
-use Rattle.std.proofs.Common.{◌≡◌, ◌≤◌, ◌⊎◌, ◌∙◌, inl, inr, ℕ, Bool, true, false, List, [], ◌∷◌, ◌++◌, length, max, refl, sym, ap, subst, arith, append-nil, append_assoc, Option, Some, None, Result, Ok, Err}
+use Rattle.std.proofs.Common.{◌≡◌, ◌≤◌, ◌⊎◌, ◌∙◌, inl, inr, ℕ, Bool, true, false, List, [], ◌∷◌, ◌++◌, length, max, refl, sym, ap, subst, arith, Option, Some, None, Result, Ok, Err}
 use Rattle.std.specs.Prelude.{◌==◌, option_map, unwrap_or}
 use Rattle.std.proofs.lemmas.Bool.{eqb-true}
-use Rattle.mc_outside.specs.Bytes.{BeginsWith, Rose}
 use Rattle.mc_outside.specs.DiskView.{DiskView}
 use Rattle.mc_outside.specs.LinkView.{LinkView}
 use Rattle.scrip_form.specs.Scrip.{Scrip}
@@ -14,15 +13,16 @@ use Rattle.mc_records.specs.Following.{AllFollowBy}
 use Rattle.ledger_model.specs.Histories.{History, time}
 use Rattle.ledger_model.specs.Lines as lines
 use Rattle.ledger_model.specs.Answer.{fitted}
-use Rattle.scrip_journal.specs.Layout.{header, gated, Encodes}
-use Rattle.scrip_journal.specs.Causes.{Only, SpoilsAt, IsUnlawfulAt, IsOfOther, IsOfOtherKind}
-use Rattle.scrip_journal.proofs.Unique.{one_history, not_both}
+use Rattle.scrip_journal.specs.Layout.{Encodes}
+use Rattle.scrip_journal.specs.Causes.{Only, IsOfOther, IsOfOtherKind}
 use Rattle.scrip_journal.proofs.Beginnings.{begins_history}
 use Rattle.reply_reader.specs.Replies.{Received}
 use Rattle.command_input.specs.Inputs.{LostInput}
 use Rattle.command_status.specs.declared.status.Status.{Status}
 use Rattle.command_status.specs.declared.status.Status.TheVariants as ends
 use Rattle.command_status.specs.Statuses.{number_of}
+pub use Rattle.command_status.proofs.OpenLaws.{Calm}
+use Rattle.command_status.proofs.OpenLaws.{begins_with_header, not_spoiled, not_unlawful}
 use Rattle.wallet_model.specs.Requests.{Pending, oldest_kept}
 use Rattle.wallet_model.specs.Holdings.{holdings}
 use Rattle.wallet_model.specs.Follows.{wallet_allows, WalletFollows, IsWalletBook}
@@ -39,11 +39,6 @@ use Rattle.wallet_commands.specs.Listing.{ListsBook}
 use Rattle.wallet_commands.specs.Payments.{Learned, Settles, Stays, Breaks}
 use Rattle.wallet_commands.specs.Paying.{ended_by, SettlesBy, EndsBy, UsesLink, PaysBy, PaysBook, RetriesBy, RetriesBook}
 
--- what did not come
-pub record Calm {O : Type 0} (link : O → LinkView) (disk : O → DiskView) (a b : O) : Type 0 where
-  pub disk' : Rose (disk a).faults (disk b).faults → ⊥
-  pub link' : Rose (link a).faults (link b).faults → ⊥
-
 -- ---- the count of the links' faults did not fall
 
 stayed : (m n : ℕ) → n ≡ m → m ≤ n
@@ -58,7 +53,7 @@ grew_by link disk a b ends.NoMemory calm causes = stayed (link a).faults (link b
 grew_by link disk a b ends.NotJournal calm causes = stayed (link a).faults (link b).faults causes.link'
 grew_by link disk a b (ends.BadEntry place) calm causes = stayed (link a).faults (link b).faults causes.link'
 grew_by link disk a b (ends.UnlawfulEntry place) calm causes = stayed (link a).faults (link b).faults causes.link'
-grew_by link disk a b (ends.Refused f) calm causes = stayed (link a).faults (link b).faults causes.link'
+grew_by link disk a b (ends.Refused f) calm causes = stayed (link a).faults (link b).faults causes.0.link'
 grew_by link disk a b (ends.Served n) calm causes = absurd causes
 grew_by link disk a b (ends.Founded name) calm causes = absurd causes
 grew_by link disk a b ends.BadWords calm causes = absurd causes
@@ -81,26 +76,9 @@ init_grew link disk a b (ends.Stranger name id) calm causes = absurd causes
 
 -- ---- a lawful book is opened
 
-begins_with_header : (h : History) (bytes : List ℕ) → Encodes h bytes → BeginsWith header bytes
-begins_with_header h bytes st = (gated [] h ++ st.gate ∷ st.rest, st.shape ∙ append_assoc header (gated [] h) (st.gate ∷ st.rest))
-
-not_spoiled : (h : History) (bytes : List ℕ) (place : ℕ) → Encodes h bytes → SpoilsAt WalletFollows (Only 2) bytes place → ⊥
-not_spoiled h bytes place st spoils = not_both spoils.before h bytes place spoils.spoiled st
-
-follow_here : (before xs : History) (e : Entry) (ys : History) → AllFollowBy WalletFollows before (xs ++ e ∷ ys) → WalletFollows (before ++ xs) e
-follow_here before [] e ys all = subst (λ (h : History). WalletFollows h e) (sym (append-nil before)) all.0
-follow_here before (x ∷ xs) e ys all = subst (λ (h : History). WalletFollows h e) (append_assoc before (x ∷ []) xs) (follow_here (before ++ x ∷ []) xs e ys all.1)
-
 all_of : (h : History) → IsWalletBook h → AllFollowBy WalletFollows [] h
 all_of [] lawful = absurd lawful
 all_of (e ∷ es) lawful = lawful
-
-not_unlawful : (h : History) (bytes : List ℕ) (place : ℕ) → Encodes h bytes → IsWalletBook h → IsUnlawfulAt WalletFollows (Only 2) bytes place → ⊥
-not_unlawful h bytes place st lawful (other, inl empty) = subst (λ (g : History). IsWalletBook g) (one_history h [] bytes st empty.0) lawful
-not_unlawful h bytes place st lawful (other, inr breaks) =
-    let more = begins_history h (breaks.before ++ breaks.next ∷ []) bytes st breaks.begins in
-    let is : h ≡ breaks.before ++ breaks.next ∷ more.0 = more.1 ∙ append_assoc breaks.before (breaks.next ∷ []) more.0 in
-    breaks.breaks (follow_here [] breaks.before breaks.next more.0 (subst (λ (g : History). AllFollowBy WalletFollows [] g) is (all_of h lawful)))
 
 first_is_wallet : (e : Entry) → wallet_allows [] e ≡ true → IsOfOtherKind (Only 2) e → ⊥
 first_is_wallet (Site m kind name house) allowed other = other (eqb-true kind 2 allowed)
@@ -118,8 +96,8 @@ only_memory : {O : Type 0} (link : O → LinkView) (disk : O → DiskView) (h : 
 only_memory link disk h bytes a b ends.NoMemory st lawful calm causes not = refl
 only_memory link disk h bytes a b ends.DiskFault st lawful calm causes not = absurd (calm.disk' causes.disk')
 only_memory link disk h bytes a b ends.NotJournal st lawful calm causes not = absurd (not.0 (begins_with_header h bytes st))
-only_memory link disk h bytes a b (ends.BadEntry place) st lawful calm causes not = absurd (not_spoiled h bytes place st not.0)
-only_memory link disk h bytes a b (ends.UnlawfulEntry place) st lawful calm causes not = absurd (not_unlawful h bytes place st lawful not.0)
+only_memory link disk h bytes a b (ends.BadEntry place) st lawful calm causes not = absurd (not_spoiled WalletFollows (Only 2) h bytes place st not.0)
+only_memory link disk h bytes a b (ends.UnlawfulEntry place) st lawful calm causes not = absurd (not_unlawful WalletFollows (Only 2) h bytes place st (λ empty. subst IsWalletBook empty lawful) (all_of h lawful) not.0)
 only_memory link disk h bytes a b (ends.Refused f) st lawful calm causes not = absurd (not_of_other h bytes st lawful not.1)
 only_memory link disk h bytes a b ends.LinkFault st lawful calm causes not = absurd not
 only_memory link disk h bytes a b ends.Done st lawful calm causes not = absurd not

@@ -18,7 +18,7 @@ use Rattle.command_status.specs.Faults.{fault_status}
 use Rattle.wallet_core.specs.declared.wallet.Wallet.{Wallet}
 use Rattle.wallet_core.specs.Opening.{FoundsWalletBy}
 use Rattle.wallet_commands.specs.Founding.{site_of, FoundsBy}
-use Rattle.wallet_commands.proofs.SentLemmas.{TellsAside, none_still, aside_same, quiet_link}
+use Rattle.command_input.proofs.AsideLemmas.{TellsAside, no_more_still, aside_still, quiet_link}
 
 site_fits : (name : List ℕ) (moment : ℕ) → IsName name → moment < 2 ^ 35 → Fits (site_of name moment)
 site_fits name moment is last = record { moment = last; name = is; house = tt }
@@ -28,15 +28,15 @@ pub first_has_room : (name : List ℕ) (moment : ℕ) → IsName name → moment
 first_has_room name moment is last = omega (arith, payload_is_short (site_of name moment) (site_fits name moment is last), tail_is_short [] (site_of name moment))
 
 -- the clock was read, and then the book was founded
-pub found_pairs : {O : Type 0} (link : O → LinkView) (disk : O → DiskView) (a m b : O) (e : Entry) → TellsAside link disk → LinkKeeps (disk a) (disk m) → link m ≡ with_readings (link m).readings (link a)
+pub found_pairs : {O : Type 0} (link : O → LinkView) (disk : O → DiskView) (a m b : O) (e : Entry) → TellsAside link (λ o. (disk o).aside) → LinkKeeps (disk a) (disk m) → link m ≡ with_readings (link m).readings (link a)
     → Ran (disk m) (disk b) (FoundNoOutput (disk m) e) → Ran (disk a) (disk b) (λ image sent. FoundImage (disk a) e image × (IsSome (link a).sessions → sent ≡ (disk a).aside))
 found_pairs link disk a m b e all keeps rest ran =
-    let quiet = none_still (link a) (link m) (ap (λ (v : LinkView). v.sessions) rest) in
+    let quiet = no_more_still (link a) (link m) (ap (λ (v : LinkView). v.sessions) rest) in
     ran_then (disk a) (disk m) (disk b) _
     (quiet_link link disk (IsSome (link a).sessions) (FoundImage (disk a) e) (disk a).aside a m all keeps (λ t. t) quiet (λ t. refl) (λ c l. inl (inr l)))
     (ran_weaker (disk m) (disk b) _ _ ran (λ c s p. (
       ⊎_elim (λ short. inl (⊎_elim (λ few. inl few) (λ l. inr ((keeps.leaves c).0 l)) short)) (λ encoded. inr encoded) p.0,
-      λ told. p.1 ∙ aside_same link disk a m all told quiet,
+      λ told. p.1 ∙ aside_still link (λ o. (disk o).aside) a m all told quiet,
     )))
 
 -- nothing was founded

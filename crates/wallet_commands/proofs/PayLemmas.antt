@@ -31,7 +31,7 @@ use Rattle.wallet_core.specs.Answers.{TellsNumber}
 use Rattle.wallet_core.specs.Outcomes.{outcome_disk, Adds, LeavesBy}
 use Rattle.wallet_commands.specs.Books.{EncodesEither, IsKnown, Opened, OldPair, EntryPair}
 use Rattle.wallet_commands.specs.Paying.{UsesLink, NotAsked, PaysBy, Clocked, RetriesBy}
-use Rattle.wallet_commands.proofs.SentLemmas.{TellsAside, none_still, aside_same}
+use Rattle.command_input.proofs.AsideLemmas.{TellsAside, no_more_still, aside_still}
 use Rattle.wallet_commands.proofs.BookLemmas.{on_disk, one_book, tells_on, old_pairs}
 use Rattle.wallet_commands.proofs.KeptLemmas.{entered_is_kept, oldest_is_kept}
 
@@ -104,7 +104,7 @@ pub record AtClock {O : Type 0} (link : O → LinkView) (disk : O → DiskView) 
   pub rest : link y.journal.disk ≡ with_readings (link y.journal.disk).readings (link x.journal.disk)
   pub read : AreRead OfLinks (moment ∷ []) (link x.journal.disk).readings (link y.journal.disk).readings
 
-module _ {O : Type 0} (link : O → LinkView) (disk : O → DiskView) (bytes : List ℕ) (a : O) (x y : Wallet O) (moment : ℕ) (all : TellsAside link disk) (at : AtClock link disk bytes a x y moment) where
+module _ {O : Type 0} (link : O → LinkView) (disk : O → DiskView) (bytes : List ℕ) (a : O) (x y : Wallet O) (moment : ℕ) (all : TellsAside link (λ o. (disk o).aside)) (at : AtClock link disk bytes a x y moment) where
   pub clocked_by : (Does : History → ℕ → LinkView → Type 0) → Does at.opened.opened.history y.book.time (link y.journal.disk) → Clocked link Does bytes a
   clocked_by Does does = record {
     history = at.opened.opened.history;
@@ -117,11 +117,11 @@ module _ {O : Type 0} (link : O → LinkView) (disk : O → DiskView) (bytes : L
   }
 
   pub old : Ran (disk a) (disk y.journal.disk) (OldPair (IsSome (link a).sessions) (disk a) at.opened.opened.history)
-  old = old_pairs link disk at.opened.opened.history a x.journal.disk y.journal.disk all at.opened.untouched at.keeps (none_still (link x.journal.disk) (link y.journal.disk) (ap (λ (v : LinkView). v.sessions) at.rest))
+  old = old_pairs link disk at.opened.opened.history a x.journal.disk y.journal.disk all at.opened.untouched at.keeps (no_more_still (link x.journal.disk) (link y.journal.disk) (ap (λ (v : LinkView). v.sessions) at.rest))
 
   aside_at : IsSome (link a).sessions → (disk y.journal.disk).aside ≡ (disk a).aside
   aside_at told =
-      aside_same link disk x.journal.disk y.journal.disk all (tells_on link a x.journal.disk at.opened.untouched.link' told) (none_still (link x.journal.disk) (link y.journal.disk) (ap (λ (v : LinkView). v.sessions) at.rest))
+      aside_still link (λ o. (disk o).aside) x.journal.disk y.journal.disk all (tells_on link a x.journal.disk at.opened.untouched.link' told) (no_more_still (link x.journal.disk) (link y.journal.disk) (ap (λ (v : LinkView). v.sessions) at.rest))
       ∙ at.opened.untouched.read.aside
 
   -- nothing was entered

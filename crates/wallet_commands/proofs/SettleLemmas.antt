@@ -30,12 +30,14 @@ use Rattle.wallet_core.specs.declared.outcome.WalletOut.TheVariants as outs
 use Rattle.wallet_core.specs.Wallet.{WalletStands}
 use Rattle.wallet_core.specs.Checking.{CheckedView, Checks}
 use Rattle.wallet_core.specs.Outcomes.{outcome_disk, CountsFaults, Adds, LeavesBy}
-use Rattle.wallet_commands.specs.Causes.{WalletCauses}
+use Rattle.wallet_core.specs.Answers.{TellsOnly, IsFull}
+use Rattle.wallet_commands.specs.Causes.{SettleRefused, CausesBy}
 use Rattle.wallet_commands.specs.Saying.{contents_said, IsSaid, IsSaidInPart}
 use Rattle.wallet_commands.specs.Paying.{ended_by, SettlesBy, EndsBy, settled_by}
 use Rattle.wallet_commands.specs.Replies.{settlement_status, settled_status, learned_by, SettledPair, EndsReply}
-use Rattle.wallet_commands.proofs.SentLemmas.{TellsAside, SentMore, none_still, quiet_link, aside_same}
+use Rattle.command_input.proofs.AsideLemmas.{TellsAside, SentNoMore, no_more_still, aside_still, quiet_link}
 use Rattle.wallet_commands.proofs.BookLemmas.{on_disk}
+use Rattle.wallet_commands.proofs.CauseLemmas.{full_check}
 
 -- ---- the check
 
@@ -59,11 +61,11 @@ refused_reply link disk h t n p r f x is_disk checks st = record {
 
 -- ---- saying failed
 
-pub said_less : {O : Type 0} (link : O → LinkView) (disk : O → DiskView) (h : History) (t n : ℕ) (p : Pending) (r : Received) (x y : Wallet O) → TellsAside link disk → check_of p r ≡ None → WalletStands disk x h → WalletStands disk y h
+pub said_less : {O : Type 0} (link : O → LinkView) (disk : O → DiskView) (h : History) (t n : ℕ) (p : Pending) (r : Received) (x y : Wallet O) → TellsAside link (λ o. (disk o).aside) → check_of p r ≡ None → WalletStands disk x h → WalletStands disk y h
     → LinkKeeps (disk x.journal.disk) (disk y.journal.disk) → IsSaidInPart (contents_said p r) (link x.journal.disk) (link y.journal.disk) → EndsReply link disk h t n p r x.journal.disk ends.LinkFault y.journal.disk
 said_less link disk h t n p r x y all none st now keeps said = record {
   ends' = subst (λ (o : Option Refusal). EndsBy h t n p (learned_by r o) (link x.journal.disk) ends.LinkFault (disk y.journal.disk) (link y.journal.disk)) (sym none) (on_disk disk y h now, said);
-  pairs = quiet_link link disk (IsSome (link x.journal.disk).sessions) _ (disk x.journal.disk).aside x.journal.disk y.journal.disk all keeps (λ t. t) (none_still (link x.journal.disk) (link y.journal.disk) (ap (λ (v : LinkView). v.sessions) said.same)) (λ t. refl)
+  pairs = quiet_link link disk (IsSome (link x.journal.disk).sessions) _ (disk x.journal.disk).aside x.journal.disk y.journal.disk all keeps (λ t. t) (no_more_still (link x.journal.disk) (link y.journal.disk) (ap (λ (v : LinkView). v.sessions) said.same)) (λ t. refl)
       (λ c l. inl (journal_leaves disk x.journal h st.journal c l));
 }
 
@@ -110,7 +112,7 @@ module _ {O : Type 0} (link : O → LinkView) (disk : O → DiskView) (h : Histo
   settle_pair tells e (outs.Halted d) aside now c s same leaves = (leaves.0, λ t. leaves.1 ∙ same t)
 
   -- the reply was said as it is to be, and then the settlement was written, or was not
-  pub settled_reply : (x y : Wallet O) (out : WalletOut O Settlement) → TellsAside link disk → ((o : O) → IsDisk (disk o)) → check_of p r ≡ None → y.book.limits ≡ FULL → WalletStands disk x h → WalletStands disk y h
+  pub settled_reply : (x y : Wallet O) (out : WalletOut O Settlement) → TellsAside link (λ o. (disk o).aside) → ((o : O) → IsDisk (disk o)) → check_of p r ≡ None → y.book.limits ≡ FULL → WalletStands disk x h → WalletStands disk y h
       → LinkKeeps (disk x.journal.disk) (disk y.journal.disk) → IsSaid (contents_said p r) (link x.journal.disk) (link y.journal.disk) → link (outcome_disk out) ≡ link y.journal.disk
       → Adds disk y h (Ok (settlement h y.book.time n p r)) (λ e s. IsSettledAs p r s) out → Ran (disk y.journal.disk) (disk (outcome_disk out)) (LeavesBy (Ok (settlement h y.book.time n p r)) out h (disk y.journal.disk).aside)
       → EndsReply link disk h y.book.time n p r x.journal.disk (settled_status out) (outcome_disk out)
@@ -119,23 +121,23 @@ module _ {O : Type 0} (link : O → LinkView) (disk : O → DiskView) (h : Histo
       let m : O = y.journal.disk in
       let b : O = outcome_disk out in
       let e : Entry = settlement h y.book.time n p r in
-      let quiet : SentMore [] (link a) (link m) = none_still (link a) (link m) (ap (λ (v : LinkView). v.sessions) said) in
+      let quiet : SentNoMore (link a) (link m) = no_more_still (link a) (link m) (ap (λ (v : LinkView). v.sessions) said) in
       record {
         ends' = subst (λ (o : Option Refusal). EndsBy h y.book.time n p (learned_by r o) (link a) (settled_status out) (disk b) (link b)) (sym none)
             (settles (link a) y out limits now is_disk (same ∙ said) adds ran);
         pairs = subst (λ (o : Option Refusal). Ran (disk a) (disk b) (SettledPair (IsSome (link a).sessions) (disk a).aside h (settled_by h y.book.time n p (learned_by r o)))) (sym none)
             (ran_then (disk a) (disk m) (disk b) (SettledPair (IsSome (link a).sessions) (disk a).aside h (e ∷ []))
             (quiet_link link disk (IsSome (link a).sessions) (λ c. Encodes h c ⊎ Encodes (h ++ e ∷ []) c) (disk a).aside a m all keeps (λ t. t) quiet (λ t. refl) (λ c l. inl (journal_leaves disk x.journal h st.journal c l)))
-            (ran_weaker (disk m) (disk b) _ _ ran (λ c s l. settle_pair (IsSome (link a).sessions) e out (disk m).aside (disk a).aside c s (λ t. aside_same link disk a m all t quiet) l)));
+            (ran_weaker (disk m) (disk b) _ _ ran (λ c s l. settle_pair (IsSome (link a).sessions) e out (disk m).aside (disk a).aside c s (λ t. aside_still link (λ o. (disk o).aside) a m all t quiet) l)));
       }
 
 -- ---- causes
 
-pub settled_causes : {O : Type 0} (link : O → LinkView) (disk : O → DiskView) (y : O) (out : WalletOut O Settlement) → CountsFaults out (disk y).faults (disk (outcome_disk out)).faults → link (outcome_disk out) ≡ link y
-    → WalletCauses link disk y (settled_status out) (outcome_disk out)
-settled_causes link disk y (outs.Done x (settled.Paid price)) counts same = record { disk' = counts; link' = ap (λ (v : LinkView). v.faults) same }
-settled_causes link disk y (outs.Done x (settled.Got piece)) counts same = record { disk' = counts; link' = ap (λ (v : LinkView). v.faults) same }
-settled_causes link disk y (outs.Done x (settled.Refused number)) counts same = record { disk' = counts; link' = ap (λ (v : LinkView). v.faults) same }
-settled_causes link disk y (outs.Refused x f) counts same = record { disk' = counts; link' = ap (λ (v : LinkView). v.faults) same }
-settled_causes link disk y (outs.NoMemory x) counts same = record { disk' = counts; link' = ap (λ (v : LinkView). v.faults) same }
-settled_causes link disk y (outs.Halted d) counts same = record { disk' = counts; link' = ap (λ (v : LinkView). v.faults) same }
+pub settled_causes : {O : Type 0} (link : O → LinkView) (disk : O → DiskView) (y : O) (p : Pending) (r : Received) (out : WalletOut O Settlement) → CountsFaults out (disk y).faults (disk (outcome_disk out)).faults → link (outcome_disk out) ≡ link y
+    → TellsOnly IsFull (λ s. IsSettledAs p r s) out → CausesBy (λ f v w. SettleRefused r f) link disk y (settled_status out) (outcome_disk out)
+settled_causes link disk y p r (outs.Done x (settled.Paid price)) counts same told = record { disk' = counts; link' = ap (λ (v : LinkView). v.faults) same }
+settled_causes link disk y p r (outs.Done x (settled.Got piece)) counts same told = record { disk' = counts; link' = ap (λ (v : LinkView). v.faults) same }
+settled_causes link disk y p r (outs.Done x (settled.Refused number)) counts same told = (record { disk' = counts; link' = ap (λ (v : LinkView). v.faults) same }, told)
+settled_causes link disk y p r (outs.Refused x f) counts same told = (record { disk' = counts; link' = ap (λ (v : LinkView). v.faults) same }, full_check r f told)
+settled_causes link disk y p r (outs.NoMemory x) counts same told = record { disk' = counts; link' = ap (λ (v : LinkView). v.faults) same }
+settled_causes link disk y p r (outs.Halted d) counts same told = record { disk' = counts; link' = ap (λ (v : LinkView). v.faults) same }

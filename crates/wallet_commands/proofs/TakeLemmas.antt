@@ -1,9 +1,8 @@
 -- How pieces are taken.
-use Rattle.std.proofs.Common.{◌≡◌, ◌⊎◌, ◌∙◌, inl, inr, ℕ, List, [], ◌∷◌, ◌++◌, length, max, refl, sym, ap, subst, Result, Ok, Err}
+use Rattle.std.proofs.Common.{◌≡◌, ◌⊎◌, ◌∙◌, inr, ℕ, List, [], ◌∷◌, ◌++◌, length, max, sym, ap, subst, Result, Ok, Err}
 use Rattle.std.specs.Prelude.{IsSome}
-use Rattle.mc_outside.specs.Bytes.{Rose}
 use Rattle.mc_outside.specs.DiskView.{DiskView, IsDisk, LinkKeeps, Ran}
-use Rattle.mc_outside.specs.LinkView.{LinkView, next_taken, after_recv}
+use Rattle.mc_outside.specs.LinkView.{LinkView}
 use Rattle.mc_outside.proofs.Runs.{ran_then, ran_weaker}
 use Rattle.mc_records.specs.declared.limits.Limits.{Limits}
 use Rattle.mc_records.specs.declared.limits.TheConstants.Limits.{FULL}
@@ -23,41 +22,16 @@ use Rattle.wallet_core.specs.declared.wallet.Wallet.{Wallet}
 use Rattle.wallet_core.specs.declared.outcome.WalletOut.{WalletOut}
 use Rattle.wallet_core.specs.declared.outcome.WalletOut.TheVariants as outs
 use Rattle.wallet_core.specs.Wallet.{WalletStands}
-use Rattle.wallet_core.specs.Answers.{TellsCount}
+use Rattle.wallet_core.specs.Answers.{TellsCount, TellsOnly, Any, MayTake}
 use Rattle.wallet_core.specs.Outcomes.{outcome_disk, CountsFaults, Adds, LeavesBy}
 use Rattle.wallet_commands.specs.declared.taking.TheConstants.{MOST_LINES}
 use Rattle.wallet_commands.specs.Lines.{taken_line}
-use Rattle.wallet_commands.specs.Causes.{WalletCauses}
+use Rattle.wallet_commands.specs.Causes.{CausesBy}
 use Rattle.wallet_commands.specs.Books.{Opened, OldPair}
 use Rattle.wallet_commands.specs.Taking.{taken_status, TookBy, TookPair, Unread, Took}
-use Rattle.wallet_commands.proofs.SentLemmas.{TellsAside, SentMore, more_then, none_still, none_heard, none_ended, none_on_next, aside_same}
+use Rattle.command_input.proofs.AsideLemmas.{TellsAside, SentNoMore, no_more_then, no_more_still, aside_still, input_quiet}
 use Rattle.wallet_commands.proofs.BookLemmas.{on_disk, tells_on, old_pairs}
 use Rattle.wallet_commands.proofs.PayLemmas.{entry_pairs, doubted}
-
--- ---- the input
-
--- reading an input sends nothing
-pub input_quiet : (most : ℕ) (u v : LinkView) (input : List ℕ) → IsInput most u input v → SentMore [] u v
-input_quiet most u v input (inl none) = none_still u v (ap (λ (x : LinkView). x.sessions) none.1)
-input_quiet most u v input (inr (inl whole)) =
-    more_then [] u (next_taken u) v (none_on_next u)
-    (more_then [] (next_taken u) (after_recv input (next_taken u)) v (none_heard (next_taken u) (after_recv input (next_taken u)) input refl) (none_ended (after_recv input (next_taken u)) v (ap (λ (x : LinkView). x.sessions) whole.1)))
-input_quiet most u v input (inr (inr long)) =
-    more_then [] u (next_taken u) v (none_on_next u) (none_heard (next_taken u) v input (ap (λ (x : LinkView). x.sessions) long.1))
-
--- and losing it neither
-pub lost_quiet : (u v : LinkView) → LostInput u v → SentMore [] u v
-lost_quiet u v (inl none) = none_still u v (ap (λ (x : LinkView). x.sessions) none.same)
-lost_quiet u v (inr (got, failed)) = more_then [] u (next_taken u) v (none_on_next u) (none_heard (next_taken u) v got (ap (λ (x : LinkView). x.sessions) failed.same))
-
-pub lost_rose : (u v : LinkView) → LostInput u v → Rose u.faults v.faults
-lost_rose u v (inl none) = none.rose
-lost_rose u v (inr (got, failed)) = failed.rose
-
-pub input_counts : (most : ℕ) (u v : LinkView) (input : List ℕ) → IsInput most u input v → v.faults ≡ u.faults
-input_counts most u v input (inl none) = ap (λ (x : LinkView). x.faults) none.1
-input_counts most u v input (inr (inl whole)) = ap (λ (x : LinkView). x.faults) whole.1
-input_counts most u v input (inr (inr long)) = ap (λ (x : LinkView). x.faults) long.1
 
 -- ---- what is taken
 
@@ -89,9 +63,9 @@ took_pairs {O = O} disk tells before h y (Err g) out old same ran =
     by_out (outs.NoMemory w) c s l = (inr l.0, λ told. l.1 ∙ same told)
     by_out (outs.Halted d) c s l = (inr l.0, λ told. l.1 ∙ same told)
 
-module _ {O : Type 0} (link : O → LinkView) (disk : O → DiskView) (bytes : List ℕ) (a : O) (x : Wallet O) (all : TellsAside link disk) (at : Opened link disk bytes a x) where
+module _ {O : Type 0} (link : O → LinkView) (disk : O → DiskView) (bytes : List ℕ) (a : O) (x : Wallet O) (all : TellsAside link (λ o. (disk o).aside)) (at : Opened link disk bytes a x) where
   -- the input was not read
-  pub unread : (m : Wallet O) (status : Status) → WalletStands disk m at.opened.history → LinkKeeps (disk x.journal.disk) (disk m.journal.disk) → SentMore [] (link x.journal.disk) (link m.journal.disk)
+  pub unread : (m : Wallet O) (status : Status) → WalletStands disk m at.opened.history → LinkKeeps (disk x.journal.disk) (disk m.journal.disk) → SentNoMore (link x.journal.disk) (link m.journal.disk)
       → ((status ≡ ends.LinkFault) × LostInput (link x.journal.disk) (link m.journal.disk)) ⊎ ((status ≡ ends.NoMemory) × (link m.journal.disk ≡ link x.journal.disk)) → Unread link disk bytes a status m.journal.disk
   unread m status st keeps quiet lost = record {
     history = at.opened.history;
@@ -110,10 +84,10 @@ module _ {O : Type 0} (link : O → LinkView) (disk : O → DiskView) (bytes : L
   took m y input moment out is_disk limits early takes keeps st raised rest read same adds ran =
       let h : History = at.opened.history in
       let t : y.book.time ≡ max (time h) moment = raised ∙ ap (λ (n : ℕ). max n moment) (early ∙ at.opened.time') in
-      let quiet : SentMore [] (link x.journal.disk) (link y.journal.disk) =
-      more_then [] (link x.journal.disk) (link m.journal.disk) (link y.journal.disk) (input_quiet MOST_LINES (link x.journal.disk) (link m.journal.disk) input takes) (none_still (link m.journal.disk) (link y.journal.disk) (ap (λ (v : LinkView). v.sessions) rest)) in
+      let quiet : SentNoMore (link x.journal.disk) (link y.journal.disk) =
+      no_more_then (link x.journal.disk) (link m.journal.disk) (link y.journal.disk) (input_quiet MOST_LINES (link x.journal.disk) (link m.journal.disk) input takes) (no_more_still (link m.journal.disk) (link y.journal.disk) (ap (λ (v : LinkView). v.sessions) rest)) in
       let before : IsSome (link a).sessions → (disk y.journal.disk).aside ≡ (disk a).aside =
-      λ told. aside_same link disk x.journal.disk y.journal.disk all (tells_on link a x.journal.disk at.untouched.link' told) quiet ∙ at.untouched.read.aside in
+      λ told. aside_still link (λ o. (disk o).aside) x.journal.disk y.journal.disk all (tells_on link a x.journal.disk at.untouched.link' told) quiet ∙ at.untouched.read.aside in
       record {
         history = h;
         stands = at.opened.of_bytes;
@@ -131,8 +105,8 @@ module _ {O : Type 0} (link : O → LinkView) (disk : O → DiskView) (bytes : L
 -- ---- causes
 
 pub taken_causes : {O : Type 0} (link : O → LinkView) (disk : O → DiskView) (y : O) (out : WalletOut O ℕ) → CountsFaults out (disk y).faults (disk (outcome_disk out)).faults → link (outcome_disk out) ≡ link y
-    → WalletCauses link disk y (taken_status out) (outcome_disk out)
-taken_causes link disk y (outs.Done x count) counts same = record { disk' = counts; link' = ap (λ (v : LinkView). v.faults) same }
-taken_causes link disk y (outs.Refused x f) counts same = record { disk' = counts; link' = ap (λ (v : LinkView). v.faults) same }
-taken_causes link disk y (outs.NoMemory x) counts same = record { disk' = counts; link' = ap (λ (v : LinkView). v.faults) same }
-taken_causes link disk y (outs.Halted d) counts same = record { disk' = counts; link' = ap (λ (v : LinkView). v.faults) same }
+    → TellsOnly MayTake Any out → CausesBy (λ f v w. MayTake f × (w ≡ v)) link disk y (taken_status out) (outcome_disk out)
+taken_causes link disk y (outs.Done x count) counts same told = record { disk' = counts; link' = ap (λ (v : LinkView). v.faults) same }
+taken_causes link disk y (outs.Refused x f) counts same told = (record { disk' = counts; link' = ap (λ (v : LinkView). v.faults) same }, (told, same))
+taken_causes link disk y (outs.NoMemory x) counts same told = record { disk' = counts; link' = ap (λ (v : LinkView). v.faults) same }
+taken_causes link disk y (outs.Halted d) counts same told = record { disk' = counts; link' = ap (λ (v : LinkView). v.faults) same }

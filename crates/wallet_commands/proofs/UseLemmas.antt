@@ -27,20 +27,21 @@ use Rattle.wallet_core.specs.Checking.{IsWritten}
 use Rattle.wallet_commands.specs.Payments.{Stays, Breaks, SentPart, Learns, Read}
 use Rattle.wallet_commands.specs.Paying.{EndsBy, UsePair, UsesLink, settled_by}
 use Rattle.wallet_commands.specs.Replies.{learned_by, learned_of, SettledPair, EndsReply, ReadsReply}
-use Rattle.wallet_commands.proofs.SentLemmas.{TellsAside, SentMore, more_then, none_still, none_heard, none_ended, more_on_next, still_tells, aside_more, aside_same, begins_itself, begins_take, quiet_link, begun_link}
+use Rattle.command_input.proofs.AsideLemmas.{TellsAside, SentNoMore, no_more_then, no_more_still, no_more_heard, no_more_finished, aside_still, still_told, quiet_link}
+use Rattle.wallet_commands.proofs.SentLemmas.{SentMore, more_none, more_on_next, still_tells, aside_more, begins_itself, begins_take, begun_link}
 use Rattle.wallet_commands.proofs.BookLemmas.{on_disk}
 
 -- ---- reading the reply
 
-answer_quiet : (got : List ℕ) (answer : Result Received ReplyFault) (u v : LinkView) → EndsAs got answer u v → SentMore [] u v
-answer_quiet got (Ok r) u v at = none_still u v (ap (λ (w : LinkView). w.sessions) at.1)
-answer_quiet got (Err replies.BadReply) u v at = none_still u v (ap (λ (w : LinkView). w.sessions) at.1)
-answer_quiet got (Err replies.NoReply) u v at = none_ended u v (ap (λ (w : LinkView). w.sessions) at.1)
-answer_quiet got (Err replies.Fault) u v at = none_still u v (ap (λ (w : LinkView). w.sessions) at.1.same)
+answer_quiet : (got : List ℕ) (answer : Result Received ReplyFault) (u v : LinkView) → EndsAs got answer u v → SentNoMore u v
+answer_quiet got (Ok r) u v at = no_more_still u v (ap (λ (w : LinkView). w.sessions) at.1)
+answer_quiet got (Err replies.BadReply) u v at = no_more_still u v (ap (λ (w : LinkView). w.sessions) at.1)
+answer_quiet got (Err replies.NoReply) u v at = no_more_finished u v (ap (λ (w : LinkView). w.sessions) at.1)
+answer_quiet got (Err replies.Fault) u v at = no_more_still u v (ap (λ (w : LinkView). w.sessions) at.1.same)
 
 -- reading sends nothing
-pub took_quiet : (u v : LinkView) (answer : Result Received ReplyFault) → TookReply u answer v → SentMore [] u v
-took_quiet u v answer took = more_then [] u (after_recv took.got u) v (none_heard u (after_recv took.got u) took.got refl) (answer_quiet took.got answer (after_recv took.got u) v took.ends)
+pub took_quiet : (u v : LinkView) (answer : Result Received ReplyFault) → TookReply u answer v → SentNoMore u v
+took_quiet u v answer took = no_more_then u (after_recv took.got u) v (no_more_heard u (after_recv took.got u) took.got refl) (answer_quiet took.got answer (after_recv took.got u) v took.ends)
 
 answer_counts : (got : List ℕ) (answer : Result Received ReplyFault) (u v : LinkView) → EndsAs got answer u v → (answer ≡ Err replies.Fault → ⊥) → v.faults ≡ u.faults
 answer_counts got (Ok r) u v at other = ap (λ (w : LinkView). w.faults) at.1
@@ -55,14 +56,14 @@ took_counts u v answer took other = answer_counts took.got answer (after_recv to
 pub took_rose : (u v : LinkView) → TookReply u (Err replies.Fault) v → Rose u.faults v.faults
 took_rose u v took = took.ends.1.rose
 
-module _ {O : Type 0} (link : O → LinkView) (disk : O → DiskView) (h : History) (n : ℕ) (p : Pending) (all : TellsAside link disk) where
+module _ {O : Type 0} (link : O → LinkView) (disk : O → DiskView) (h : History) (n : ℕ) (p : Pending) (all : TellsAside link (λ o. (disk o).aside)) where
   -- a reply was read, and then this became of it
   pub read_reply : (t : ℕ) (r : Received) (x y : Wallet O) (status : Status) (b : O) → WalletStands disk x h → LinkKeeps (disk x.journal.disk) (disk y.journal.disk) → TookReply (link x.journal.disk) (Ok r) (link y.journal.disk)
       → EndsReply link disk h t n p r y.journal.disk status b → ReadsReply link disk h t n p x.journal.disk status b
   read_reply t r x y status b st keeps took ends' =
       let a : O = x.journal.disk in
       let m : O = y.journal.disk in
-      let quiet : SentMore [] (link a) (link m) = took_quiet (link a) (link m) (Ok r) took in
+      let quiet : SentNoMore (link a) (link m) = took_quiet (link a) (link m) (Ok r) took in
       let settled : List Entry = settled_by h t n p (learned_by r (check_of p r)) in
       record {
         answer = Ok r;
@@ -71,7 +72,7 @@ module _ {O : Type 0} (link : O → LinkView) (disk : O → DiskView) (h : Histo
         ends' = ends'.ends';
         pairs = ran_then (disk a) (disk m) (disk b) (SettledPair (IsSome (link a).sessions) (disk a).aside h settled)
             (quiet_link link disk (IsSome (link a).sessions) (λ c. Encodes h c ⊎ Encodes (h ++ settled) c) (disk a).aside a m all keeps (λ t'. t') quiet (λ t'. refl) (λ c l. inl (journal_leaves disk x.journal h st.journal c l)))
-            (ran_weaker (disk m) (disk b) _ _ ends'.pairs (λ c s q. (q.0, λ told. q.1 (still_tells [] (link a) (link m) quiet told) ∙ aside_same link disk a m all told quiet)));
+            (ran_weaker (disk m) (disk b) _ _ ends'.pairs (λ c s q. (q.0, λ told. q.1 (still_told (link a) (link m) quiet told) ∙ aside_still link (λ o. (disk o).aside) a m all told quiet)));
       }
 
   -- no reply was read, and the request stays kept
@@ -99,7 +100,7 @@ learns_of p (Err replies.NoReply) u v read = inr (inl (refl, read))
 learns_of p (Err replies.BadReply) u v read = inr (inr (inl (refl, read)))
 learns_of p (Err replies.Fault) u v read = inr (inr read)
 
-module _ {O : Type 0} (link : O → LinkView) (disk : O → DiskView) (h : History) (t n : ℕ) (p : Pending) (all : TellsAside link disk) where
+module _ {O : Type 0} (link : O → LinkView) (disk : O → DiskView) (h : History) (t n : ℕ) (p : Pending) (all : TellsAside link (λ o. (disk o).aside)) where
   -- the request was sent whole, and then a reply was read, or none
   pub used_link : (x y : Wallet O) (status : Status) (b : O) → WalletStands disk x h → LinkKeeps (disk x.journal.disk) (disk y.journal.disk) → link y.journal.disk ≡ after_send (request_bytes p) (next_taken (link x.journal.disk))
       → ReadsReply link disk h t n p y.journal.disk status b → UsesLink link disk h t n p x.journal.disk status b
@@ -130,7 +131,7 @@ module _ {O : Type 0} (link : O → LinkView) (disk : O → DiskView) (h : Histo
     middle = link y.journal.disk;
     learns = inl (refl, none);
     ends' = (refl, on_disk disk y h now, refl);
-    pairs = begun_link link disk (IsSome (link x.journal.disk).sessions) _ [] (request_bytes p) x.journal.disk y.journal.disk all keeps (λ t'. t') (none_still (link x.journal.disk) (link y.journal.disk) (ap (λ (v : LinkView). v.sessions) none)) (request_bytes p, refl)
+    pairs = begun_link link disk (IsSome (link x.journal.disk).sessions) _ [] (request_bytes p) x.journal.disk y.journal.disk all keeps (λ t'. t') (more_none (link x.journal.disk) (link y.journal.disk) (no_more_still (link x.journal.disk) (link y.journal.disk) (ap (λ (v : LinkView). v.sessions) none))) (request_bytes p, refl)
         (λ c l. inl (journal_leaves disk x.journal h st.journal c l));
   }
 
@@ -142,7 +143,7 @@ module _ {O : Type 0} (link : O → LinkView) (disk : O → DiskView) (h : Histo
     middle = link y.journal.disk;
     learns = inl none;
     ends' = (refl, on_disk disk y h now, refl);
-    pairs = begun_link link disk (IsSome (link x.journal.disk).sessions) _ [] (request_bytes p) x.journal.disk y.journal.disk all keeps (λ t'. t') (none_still (link x.journal.disk) (link y.journal.disk) (ap (λ (v : LinkView). v.sessions) none.same)) (request_bytes p, refl)
+    pairs = begun_link link disk (IsSome (link x.journal.disk).sessions) _ [] (request_bytes p) x.journal.disk y.journal.disk all keeps (λ t'. t') (more_none (link x.journal.disk) (link y.journal.disk) (no_more_still (link x.journal.disk) (link y.journal.disk) (ap (λ (v : LinkView). v.sessions) none.same))) (request_bytes p, refl)
         (λ c l. inl (journal_leaves disk x.journal h st.journal c l));
   }
   broke x y st now keeps (inr part) = record {

@@ -9,7 +9,7 @@ ghost use Rattle.wallet_model.specs.Requests.{Pending};
 ghost use Rattle.wallet_book.specs.Kept.{kept_in};
 ghost use Rattle.wallet_core.specs.Wallet.{WalletStands};
 ghost use Rattle.wallet_core.specs.Outcomes.{outcome_disk};
-ghost use Rattle.wallet_commands.specs.Causes.{WalletCauses};
+ghost use Rattle.wallet_commands.specs.Causes.{CausesBy, CheckRefused, ReadRefused, LinkRefused};
 ghost use Rattle.wallet_commands.specs.Paying.{UsesLink};
 ghost use Rattle.wallet_commands.specs.Replies.{ReadsReply, EndsReply, settled_status, settlement_status};
 
@@ -38,7 +38,7 @@ pub(crate) fn use_link<O: Outside>(
     requires room { vec_len line + LINE_ROOM ≤ vec_capacity line }
     requires limits { wallet.book.limits ≡ FULL }
     ensures words { number_of result.1 ≡ 2 → ⊥ }
-    ensures causes { WalletCauses O.link O.disk wallet.journal.disk result.1 result.0 }
+    ensures causes { CausesBy LinkRefused O.link O.disk wallet.journal.disk result.1 result.0 }
     ensures used { (h : History) (p : Pending) → WalletStands O.disk wallet h
         → kept_in h number ≡ Some p
         → UsesLink O.link O.disk h wallet.book.time number p wallet.journal.disk result.1 result.0 }
@@ -70,7 +70,7 @@ fn settle_by_reply<O: Outside>(
     requires room { vec_len line + LINE_ROOM ≤ vec_capacity line }
     requires limits { wallet.book.limits ≡ FULL }
     ensures words { number_of result.1 ≡ 2 → ⊥ }
-    ensures causes { WalletCauses O.link O.disk wallet.journal.disk result.1 result.0 }
+    ensures causes { CausesBy ReadRefused O.link O.disk wallet.journal.disk result.1 result.0 }
     ensures read { (h : History) (p : Pending) → WalletStands O.disk wallet h
         → kept_in h number ≡ Some p
         → ReadsReply O.link O.disk h wallet.book.time number p wallet.journal.disk result.1 result.0 }
@@ -97,7 +97,7 @@ fn settle<O: Outside>(
     requires room { vec_len line + LINE_ROOM ≤ vec_capacity line }
     requires limits { wallet.book.limits ≡ FULL }
     ensures words { number_of result.1 ≡ 2 → ⊥ }
-    ensures causes { WalletCauses O.link O.disk wallet.journal.disk result.1 result.0 }
+    ensures causes { CausesBy (CheckRefused (received_of reply.now)) O.link O.disk wallet.journal.disk result.1 result.0 }
     ensures ended { (h : History) (p : Pending) → WalletStands O.disk wallet h
         → kept_in h number ≡ Some p
         → EndsReply O.link O.disk h wallet.book.time number p (received_of reply.now) wallet.journal.disk result.1 result.0 }

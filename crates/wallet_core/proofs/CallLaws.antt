@@ -1,19 +1,20 @@
 -- What there is to do, by the tasks of a wallet.
 use Rattle.std.proofs.Common.{◌≡◌, ℕ, zero, suc, ◌<◌, List, [], ◌∷◌, ◌++◌, map, Bool, true, false, cond, Option, Some, None, Ok, Err, refl, sym, ap, subst, arith}
 use Rattle.std.proofs.lemmas.Bool.{false≢true}
-use Rattle.std.specs.Prelude.{Result, ◌==◌, ◌↔◌, ◌≤◌, IsTrue, IsSome, option_map}
+use Rattle.std.specs.Prelude.{Result, ◌==◌, ◌&&◌, not, ◌↔◌, ◌≤◌, IsTrue, IsSome, option_map}
 use Rattle.std.specs.Result.{result_ok}
 use Rattle.scrip_form.specs.Scrip.{Scrip}
 use Rattle.scrip_form.specs.Reading.{scrip_of}
 use Rattle.ledger_model.specs.Pieces.{piece_of}
 use Rattle.mc_records.specs.declared.refusal.Refusal.{Refusal}
+use Rattle.mc_records.specs.declared.refusal.Refusal.TheVariants.{BadReply, Unproved}
 use Rattle.mc_records.specs.Entry.{Held, Entry, Got, Fits, IsMoment, IsLong, moment_of}
 use Rattle.ledger_model.specs.Histories.{History}
 use Rattle.wallet_model.specs.Requests.{Pending, pending_in, is_kept}
 use Rattle.wallet_model.specs.Follows.{IsWalletBook}
 use Rattle.wallet_model.specs.Holdings.{texts_came}
 use Rattle.wallet_model.specs.Laws.{HasItsPiece}
-use Rattle.wallet_model.specs.Settling.{check_of, settlement}
+use Rattle.wallet_model.specs.Settling.{fits_request, is_proved, check_of, settlement}
 use Rattle.wallet_model.proofs.FitLaws.{settlement_fits, requests_have}
 use Rattle.reply_reader.specs.Replies.{Received}
 use Rattle.wallet_book.specs.Kept.{kept_in}
@@ -21,6 +22,8 @@ use Rattle.wallet_tasks.specs.declared.request.WalletRequest.{WalletRequest}
 use Rattle.wallet_tasks.specs.Requests.{pending_view, pend_of}
 use Rattle.wallet_tasks.specs.Asks as asks
 use Rattle.wallet_tasks.specs.Settled.{settlement_with}
+use Rattle.wallet_tasks.proofs.SettledLaws.{by_texts}
+use Rattle.wallet_core.specs.Answers.{MayCheck}
 
 -- ---- a settlement by the texts of the pieces that came
 
@@ -34,17 +37,13 @@ unfolding bare
 bare_texts [] = refl
 bare_texts (t ∷ ts) = ap (λ (xs : List (List ℕ)). t ∷ xs) (bare_texts ts)
 
-as_settled : (h : History) (t n : ℕ) (p : Pending) (r : Received) → settlement_with (texts_came h) t n p r ≡ settlement h t n p r
-unfolding settlement settlement_with
-as_settled h t n p r = refl
-
 -- it is in the ranges of its entry, whatever came before
 pub settled_fits : (texts : List (List ℕ)) (t n : ℕ) (p : Pending) (r : Received) → IsMoment t → IsLong n → HasItsPiece p.ask p.scrip → check_of p r ≡ None → Fits (settlement_with texts t n p r)
 settled_fits texts t n p r moment number has passes =
     let h : History = Got 0 (bare texts) ∷ [] in
     let came : texts_came h ≡ texts = bare_texts texts in
     subst (λ (ts : List (List ℕ)). Fits (settlement_with ts t n p r)) came
-    (subst Fits (sym (as_settled h t n p r)) (settlement_fits h t n p r moment number has passes))
+    (subst Fits (sym (by_texts h t n p r)) (settlement_fits h t n p r moment number has passes))
 
 -- it is made at its time
 pub settled_now : (texts : List (List ℕ)) (t n : ℕ) (p : Pending) (r : Received) → moment_of (settlement_with texts t n p r) ≡ t
@@ -64,6 +63,17 @@ answered t (Err f) p is = absurd is
 pub not_answered : (t : ℕ) (todo : Result Entry Refusal) (f : Refusal) → asks.Answers t todo (Err f) → todo ≡ Err f
 not_answered t (Ok e) f is = absurd is
 not_answered t (Err g) f is = ap (λ (x : Refusal). Err x) (sym is)
+
+-- ---- whether a reply settles a request
+
+pub checks_so : (p : Pending) (r : Received) (f : Refusal) → check_of p r ≡ Some f → MayCheck f
+unfolding check_of
+checks_so p r f is = go (r.status == 200 && not (fits_request p r)) (not (is_proved p r)) is
+  where
+    go : (a b : Bool) → cond a (Some BadReply) (cond b (Some Unproved) None) ≡ Some f → MayCheck f
+    go true b e = let same : BadReply ≡ f = cc in subst MayCheck same tt
+    go false true e = let same : Unproved ≡ f = cc in subst MayCheck same tt
+    go false false e = absurd cc
 
 -- ---- the piece of a request
 

@@ -3,13 +3,17 @@ use Rattle.std.proofs.Common.{◌≡◌, Ok, Err, refl, sym, subst}
 use Rattle.std.specs.Prelude.{Result}
 use Rattle.mc_outside.specs.DiskView.{DiskView, IsDisk}
 use Rattle.mc_records.specs.declared.refusal.Refusal.{Refusal}
+use Rattle.mc_records.specs.declared.refusal.Refusal.TheVariants.{BadInput, TwiceHeld, NoFunds, JournalFull}
 use Rattle.mc_records.specs.Entry.{Entry}
 use Rattle.ledger_model.specs.Histories.{History}
+use Rattle.wallet_book.specs.Choosing.{IsNoFunds}
+use Rattle.wallet_tasks.specs.Taking.{IsTakeRefusal}
 use Rattle.wallet_core.specs.declared.wallet.Wallet.{Wallet}
 use Rattle.wallet_core.specs.declared.outcome.WalletOut.{WalletOut}
 use Rattle.wallet_core.specs.declared.outcome.WalletOut.TheVariants.{Done, Refused, NoMemory, Halted}
 use Rattle.wallet_core.specs.Wallet.{WalletStands}
 use Rattle.wallet_core.specs.Outcomes.{IsAsItWas, Adds, Performs}
+use Rattle.wallet_core.specs.Answers.{TellsOnly, IsFull, MayTake, MayPend}
 use Rattle.wallet_core.proofs.EnterLaws.{ran_nothing}
 
 pub as_it_stood : {D : Type 0} (view : D → DiskView) (x : Wallet D) (h : History) → WalletStands view x h → IsAsItWas view x x h
@@ -27,6 +31,30 @@ pub performs_as : {D A : Type 0} (view : D → DiskView) (old : Wallet D) (h : H
     → todo ≡ Ok e → ((a : A) → T e a → U e a) → Performs view old h (Ok e) T r → Performs view old h todo U r
 performs_as view old h e todo T U r is so performs =
     subst (λ (t : Result Entry Refusal). Performs view old h t U r) (sym is) (record { adds = tells_as view old h e T U r so performs.adds; ran = performs.ran })
+
+-- what is answered is told by less
+pub tells_more : {D A : Type 0} (R S : Refusal → Type 0) (T U : A → Type 0) (out : WalletOut D A) → ((f : Refusal) → R f → S f) → ((a : A) → T a → U a) → TellsOnly R T out → TellsOnly S U out
+tells_more R S T U (Done x a) so to told = to a told
+tells_more R S T U (Refused x f) so to told = so f told
+tells_more R S T U (NoMemory x) so to told = tt
+tells_more R S T U (Halted d) so to told = tt
+
+pub full_take : (f : Refusal) → IsFull f → MayTake f
+full_take (JournalFull size payload) is = tt
+full_take f is = absurd is
+
+pub full_pend : (f : Refusal) → IsFull f → MayPend f
+full_pend (JournalFull size payload) is = tt
+full_pend f is = absurd is
+
+pub take_may : (f : Refusal) → IsTakeRefusal f → MayTake f
+take_may (BadInput line) is = tt
+take_may (TwiceHeld id) is = tt
+take_may f is = absurd is
+
+pub funds_may : (f : Refusal) → IsNoFunds f → MayPend f
+funds_may (NoFunds greatest) is = tt
+funds_may f is = absurd is
 
 module _ {D A : Type 0} (view : D → DiskView) (x : Wallet D) (h : History) (T : Entry → A → Type 0) (disk : IsDisk (view x.journal.disk)) (st : WalletStands view x h) where
   -- nothing is done, since it is refused

@@ -1,6 +1,6 @@
 //! What a wallet takes, asks and settles.
 
-ghost use Rattle.std.specs.Prelude.{◌≡◌, ◌<◌, ℕ, Ok, Some};
+ghost use Rattle.std.specs.Prelude.{◌≡◌, ◌<◌, Ok, Some, IfOk, IfErr};
 ghost use Rattle.mc_records.specs.Entry.{Entry};
 ghost use Rattle.ledger_model.specs.Histories.{History};
 ghost use Rattle.wallet_model.specs.Asks.{pend_entry};
@@ -15,7 +15,7 @@ ghost use Rattle.wallet_tasks.specs.Settled.{IsSettledAs};
 ghost use Rattle.wallet_tasks.specs.Taking.{take_entry};
 ghost use Rattle.wallet_core.specs.Wallet.{WalletStands};
 ghost use Rattle.wallet_core.specs.Outcomes.{HandsBack, Performs};
-ghost use Rattle.wallet_core.specs.Answers.{TellsNumber, TellsCount};
+ghost use Rattle.wallet_core.specs.Answers.{TellsNumber, TellsCount, TellsOnly, Any, IsFull, MayTake, MayPend, MayCheck};
 ghost use Rattle.wallet_core.specs.Checking.{Checks, IsWritten};
 
 use crate::checked::{Checked, has_its_piece};
@@ -40,6 +40,7 @@ impl<D: Disk> Wallet<D> {
         ensures back { HandsBack D.disk D.disk_moved self result }
         ensures exact { (h : History) → WalletStands D.disk self h
             → Performs D.disk self h (take_entry h self.book.time lines.now) TellsCount result }
+        ensures refused { TellsOnly MayTake Any result }
     {
         match take_pieces(self.alloc, &self.book, lines) {
             Ok(elements) => {
@@ -65,6 +66,7 @@ impl<D: Disk> Wallet<D> {
         ensures back { HandsBack D.disk D.disk_moved self result }
         ensures exact { (h : History) → WalletStands D.disk self h
             → Performs D.disk self h (pend_entry h self.book.time (asking_of ask.now)) (TellsNumber h) result }
+        ensures refused { TellsOnly MayPend Any result }
     {
         match request_for(&self.book, ask) {
             Ok(request) => self.keep(&request),
@@ -82,6 +84,7 @@ impl<D: Disk> Wallet<D> {
         ensures exact { (h : History) → WalletStands D.disk self h
             → (e : Entry) × (pend_with_entry h self.book.time place (asking_of ask.now) ≡ Some e)
             × Performs D.disk self h (Ok e) (TellsNumber h) result }
+        ensures refused { TellsOnly IsFull Any result }
     {
         let request = request_with(&self.book, place, ask);
         self.keep(&request)
@@ -95,6 +98,7 @@ impl<D: Disk> Wallet<D> {
         ensures back { HandsBack D.disk D.disk_moved self result }
         ensures exact { (h : History) → WalletStands D.disk self h
             → Performs D.disk self h (Ok (pend_of self.book.time (pending_view request.now))) (TellsNumber h) result }
+        ensures refused { TellsOnly IsFull Any result }
     {
         let number = self.book.count();
         let record = pend_record(self.book.time(), request);
@@ -117,8 +121,10 @@ impl<D: Disk> Wallet<D> {
     /// the request may get, or 66 `Unproved` where it is not signed under the request's secret. Of a request that is
     /// not kept nothing is said. It takes no memory.
     pub fn check_reply<'r>(&self, number: u64, r: &ReplyRef<'r>) -> Result<Checked<'r>, Refusal>
-        ensures { (h : History) (p : Pending) → WalletStands D.disk self.now h → kept_in h number ≡ Some p
+        ensures exact { (h : History) (p : Pending) → WalletStands D.disk self.now h → kept_in h number ≡ Some p
             → Checks (check_of p (received_of r.now)) number p (received_of r.now) result }
+        ensures reply { IfOk result (λ c. c.reply ≡ received_of r.now) }
+        ensures refused { IfErr result MayCheck }
     {
         let request = match kept_request(&self.book, number) {
             Some(request) => request,
@@ -146,6 +152,7 @@ impl<D: Disk> Wallet<D> {
         ensures back { HandsBack D.disk D.disk_moved self result }
         ensures exact { (h : History) → WalletStands D.disk self h
             → Performs D.disk self h (Ok (settlement h self.book.time c.entry.number c.entry.request c.entry.reply)) (λ e s. IsSettledAs c.entry.request c.entry.reply s) result }
+        ensures told { TellsOnly IsFull (λ s. IsSettledAs c.entry.request c.entry.reply s) result }
     {
         let Checked {
             number,

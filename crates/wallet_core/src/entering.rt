@@ -1,6 +1,6 @@
 //! Adding an entry to a wallet's book.
 
-ghost use Rattle.std.specs.Prelude.{◌≡◌, ◌+◌, nat_le, Ok};
+ghost use Rattle.std.specs.Prelude.{◌≡◌, ◌+◌, nat_le, Ok, IfErr};
 ghost use Rattle.mc_records.specs.Entry.{Fits, moment_of};
 ghost use Rattle.mc_records.specs.Views.{entry};
 ghost use Rattle.ledger_model.specs.Histories.{History};
@@ -10,6 +10,7 @@ ghost use Rattle.wallet_book.specs.Book.{WalletRepresents};
 ghost use Rattle.wallet_core.specs.Wallet.{WalletStands};
 ghost use Rattle.wallet_core.specs.Outcomes.{HandsBack, Performs};
 ghost use Rattle.wallet_core.specs.Fitting.{IsFitted};
+ghost use Rattle.wallet_core.specs.Answers.{TellsOnly, IsFull};
 
 use crate::outcome::WalletOut;
 use crate::wallet::Wallet;
@@ -30,6 +31,7 @@ impl<D: Disk> Wallet<D> {
         ensures back { HandsBack D.disk D.disk_moved self result }
         ensures exact { (h : History) → WalletStands D.disk self h
             → Performs D.disk self h (Ok (entry r.now)) (λ e a. a ≡ answer) result }
+        ensures told { TellsOnly IsFull (λ a. a ≡ answer) result }
     {
         let mut wallet = self;
         match room_for(&wallet.book, r) {
@@ -78,8 +80,9 @@ impl<D: Disk> Wallet<D> {
 /// Refused with 33 `JournalFull` where a book's journal would pass its limit with one entry more.
 fn room_for(book: &WalletBook, r: &Record<'_>) -> Result<(), Refusal>
     requires { Fits (entry r.now) }
-    ensures { (h : History) → WalletRepresents book.now h
+    ensures fitted { (h : History) → WalletRepresents book.now h
         → IsFitted (fitted h book.now.limits (entry r.now)) (entry r.now) result }
+    ensures refused { IfErr result IsFull }
 {
     let (size, payload) = (book.size(), r.payload_len());
     if is_within(size, payload, book.limits().journal) {

@@ -1,6 +1,7 @@
 //! A wallet over a journal.
 
-ghost use Rattle.std.specs.Prelude.{◌≡◌, ℕ, max, map, option_map};
+ghost use Rattle.std.specs.Prelude.{◌≡◌, ℕ, max, map, option_map, IfErr};
+ghost use Rattle.mc_records.specs.declared.refusal.Refusal.TheVariants.{Nothing};
 ghost use Rattle.scrip_journal.specs.States.{IsJournal};
 ghost use Rattle.ledger_model.specs.Histories.{History};
 ghost use Rattle.ledger_model.specs.Houses.{site_name};
@@ -99,7 +100,8 @@ impl<D: Disk> Wallet<D> {
 
     /// The number of the oldest kept request of a peer. `Err` is 67 `Nothing`, exactly where there is none.
     pub fn retry_next(&self, peer: &Name) -> Result<u64, Refusal>
-        ensures { (h : History) → WalletStands D.disk self.now h → Retries (oldest_kept h peer.now) result }
+        ensures exact { (h : History) → WalletStands D.disk self.now h → Retries (oldest_kept h peer.now) result }
+        ensures refused { IfErr result (λ f. f ≡ Nothing) }
     {
         self.book.retry_next(peer)
     }

@@ -76,7 +76,7 @@ chosen h t vendor limit = chosen_by (fit_for h t vendor) limit
 -- ---- what is asked
 
 -- Goods of a vendor; scrip of a vendor for scrip of a broker; scrip of a broker out of an account, signed under the
--- account's key, under an order. A limit is the most that may be paid.
+-- account's key, under an order. A limit is the least that the piece that pays is worth.
 pub data Asking : Type 0 where
   get : (vendor target : List ℕ) (limit : ℕ) → Asking
   buy : (broker vendor : List ℕ) (amount limit : ℕ) → Asking

@@ -26,7 +26,7 @@ use Rattle.wallet_tasks.specs.Settled.{settlement_with}
 
 -- ---- the entry
 
-by_texts : (h : History) (t n : ℕ) (p : Pending) (r : Received) → settlement_with (texts_came h) t n p r ≡ settlement h t n p r
+pub by_texts : (h : History) (t n : ℕ) (p : Pending) (r : Received) → settlement_with (texts_came h) t n p r ≡ settlement h t n p r
 unfolding settlement settlement_with
 by_texts h t n p r = refl
 

@@ -52,6 +52,16 @@ Takes todo t (Ok bytes) = AreTaken todo t bytes
 Takes todo t (Err (faults.Refused f)) = todo ≡ Err f
 Takes todo t (Err faults.NoMemory) = Unit {0}
 
+-- 53 BadInput or 61 TwiceHeld, with whatever is kept
+abbrev pub IsTakeRefusal : Refusal → Type 0
+IsTakeRefusal (BadInput line) = Unit {0}
+IsTakeRefusal (TwiceHeld id) = Unit {0}
+IsTakeRefusal _ = ⊥
+
+abbrev pub IsTakeFault : TakeFault → Type 0
+IsTakeFault (faults.Refused f) = IsTakeRefusal f
+IsTakeFault faults.NoMemory = Unit {0}
+
 -- what is answered of pieces that were read, where the texts of those that came are these
 abbrev pub TakesOf : List (List ℕ) → List Held → List ℕ → Result (List ℕ) TakeFault → Type 0
 TakesOf texts pieces elements (Ok bytes) = (bytes ≡ elements) × (find (is_twice texts pieces) pieces ≡ None)

@@ -1,6 +1,6 @@
 //! The request of what is asked.
 
-ghost use Rattle.std.specs.Prelude.{◌≡◌, ◌≤◌, ◌<◌, ℕ, Some, IfOk, slice_get, take};
+ghost use Rattle.std.specs.Prelude.{◌≡◌, ◌≤◌, ◌<◌, Some, IfOk, IfErr};
 ghost use Rattle.mc_base.specs.declared.amount.TheConstants.Amount.{MOST};
 ghost use Rattle.mc_records.specs.Errands as errands;
 ghost use Rattle.mc_records.specs.Errands.{IsErrand, errand_text};
@@ -8,6 +8,7 @@ ghost use Rattle.ledger_model.specs.Histories.{History};
 ghost use Rattle.wallet_model.specs.Asks.{chosen, paid_with, pend_entry};
 ghost use Rattle.wallet_model.specs.Follows.{WalletFollows};
 ghost use Rattle.wallet_book.specs.Book.{WalletRepresents};
+ghost use Rattle.wallet_book.specs.Choosing.{IsNoFunds};
 ghost use Rattle.wallet_book.specs.Holdings.{IsSpelled, text_of};
 ghost use Rattle.wallet_tasks.specs.Asks.{asking_of, HasAmounts, Answers, pend_with_entry, PaysAt};
 ghost use Rattle.wallet_tasks.specs.Requests.{pending_view, pend_of};
@@ -30,6 +31,7 @@ pub fn request_for(book: &WalletBook, ask: &Ask) -> Result<WalletRequest, Refusa
     ensures follows { (h : History) → WalletRepresents book.now h
         → IfOk result (λ p. WalletFollows h (pend_of book.now.time (pending_view p))) }
     ensures ask { IfOk result (λ p. p.ask < 3) }
+    ensures refused { IfErr result IsNoFunds }
 {
     match ask {
         Ask::Get {
@@ -99,6 +101,7 @@ fn paying(
     ensures exact { (h : History) → WalletRepresents book.now h
         → Answers book.now.time (paid_with book.now.time ask peer.now target.now (chosen h book.now.time peer.now limit)) result }
     ensures ask { IfOk result (λ p. p.ask ≡ ask) }
+    ensures refused { IfErr result IsNoFunds }
 {
     let place = match book.choose(peer, limit) {
         Ok(place) => place,

@@ -1,7 +1,6 @@
 //! Whether a reply settles a request.
 
-ghost use Rattle.std.specs.Prelude.{◌≡◌, ◌≤◌, ◌==◌, ◌&&◌, ◌++◌, ℕ, List, not, false, bytes_eq, option_map, option_and_then, unwrap_or};
-ghost use Rattle.mc_base.specs.declared.amount.TheConstants.Amount.{MOST};
+ghost use Rattle.std.specs.Prelude.{◌≡◌, ◌==◌, ◌&&◌, ◌++◌, ℕ, List, not, false, bytes_eq, option_map, option_and_then, unwrap_or};
 ghost use Rattle.md5.specs.Md5.{Holds};
 ghost use Rattle.scrip_certs.specs.Digests as digests;
 ghost use Rattle.scrip_certs.specs.Digests.{line, request_text};
@@ -13,12 +12,12 @@ ghost use Rattle.ledger_model.specs.Pieces as pieces;
 ghost use Rattle.wallet_model.specs.Received.{line_read};
 ghost use Rattle.wallet_model.specs.Settling as model;
 ghost use Rattle.reply_reader.specs.Seen.{received_of};
-ghost use Rattle.wallet_tasks.specs.Requests.{pending_view};
+ghost use Rattle.wallet_tasks.specs.Requests.{pending_view, request_view};
 
 use crate::contents::{one_line, piece_of};
 use crate::prices::{is_dash, is_paid_by, price_of};
-use crate::request::{WalletRequest, scrip_bytes};
-use crate::sending::{or_dash, scrip_or_dash};
+use crate::request::{RequestRef, WalletRequest, lent};
+use crate::sending::or_dash;
 use itoa::Buffer;
 use mc_records::{Errand, Refusal, read_errand};
 use md5::{Digest, Md5};
@@ -32,10 +31,11 @@ use scrip_form::Piece;
 pub fn check_reply(p: &WalletRequest, r: &ReplyRef<'_>) -> Option<Refusal>
     ensures { result ≡ model.check_of (pending_view p.now) (received_of r.now) }
 {
-    if r.status == 200 && !fits_request(p, r) {
+    let p = lent(p);
+    if r.status == 200 && !fits_request(&p, r) {
         return Some(Refusal::BadReply);
     }
-    if !is_proved(p, r) {
+    if !is_proved(&p, r) {
         return Some(Refusal::Unproved);
     }
     None
@@ -43,33 +43,36 @@ pub fn check_reply(p: &WalletRequest, r: &ReplyRef<'_>) -> Option<Refusal>
 
 // ---- the values of a 200
 
-/// Whether the values of a 200 are those that a request may get.
-fn fits_request(p: &WalletRequest, r: &ReplyRef<'_>) -> bool
-    ensures { result ≡ model.fits_request (pending_view p.now) (received_of r.now) }
+/// Whether the values of a 200 are those that a request may get: a price that its piece pays, with the change that is
+/// left, and the piece that it asks for. It takes no memory.
+pub fn fits_request(p: &RequestRef<'_>, r: &ReplyRef<'_>) -> bool
+    ensures { result ≡ model.fits_request (request_view p.now) (received_of r.now) }
 {
     match price_of(r) {
-        Some(price) => is_paid_by(piece_of_scrip(p), price, r.change) && brings_asked(p, price, r),
+        Some(price) => {
+            is_paid_by(piece_of_scrip(p.scrip), price, r.change) && brings_asked(p, price, r)
+        }
         None => false,
     }
 }
 
-/// The piece that a request pays with, where there is one.
-fn piece_of_scrip(p: &WalletRequest) -> Option<Piece>
-    ensures { result ≡ option_and_then pieces.piece_of p.now.scrip }
+/// The piece of a scrip text, where there is one.
+fn piece_of_scrip(scrip: Option<&[u8]>) -> Option<Piece>
+    ensures { result ≡ option_and_then pieces.piece_of (seen scrip.entry) }
 {
-    match scrip_bytes(p) {
+    match scrip {
         Some(text) => piece_of(text),
         None => None,
     }
 }
 
 /// Whether a 200 brings what was asked.
-fn brings_asked(p: &WalletRequest, price: u64, r: &ReplyRef<'_>) -> bool
-    ensures { result ≡ model.brings_asked (pending_view p.now) p.now.ask price (received_of r.now) }
+fn brings_asked(p: &RequestRef<'_>, price: u64, r: &ReplyRef<'_>) -> bool
+    ensures { result ≡ model.brings_asked (request_view p.now) p.now.ask price (received_of r.now) }
 {
     match p.ask {
         0 => true,
-        1 => brings_bought(p.target.bytes(), r.contents),
+        1 => brings_bought(p.target, r.contents),
         _ => brings_drawn(p, price, r),
     }
 }
@@ -83,13 +86,13 @@ fn brings_bought(target: &[u8], contents: &[u8]) -> bool
     }
 }
 
-fn brings_drawn(p: &WalletRequest, price: u64, r: &ReplyRef<'_>) -> bool
+fn brings_drawn(p: &RequestRef<'_>, price: u64, r: &ReplyRef<'_>) -> bool
     ensures { result
-        ≡ model.brings_drawn p.now.peer (errand_of p.now.target) price r.now.change.now r.now.contents.now }
+        ≡ model.brings_drawn p.now.peer.now (errand_of p.now.target.now) price r.now.change.now r.now.contents.now }
 {
-    match read_errand(p.target.bytes()) {
+    match read_errand(p.target) {
         Some(Errand::Draw { amount, .. }) => is_dash(r.change)
-            && (price == amount && is_piece_of(p.peer.bytes(), amount, r.contents)),
+            && (price == amount && is_piece_of(p.peer, amount, r.contents)),
         _ => false,
     }
 }
@@ -123,8 +126,8 @@ fn is_of(vendor: &[u8], value: u64, piece: Option<Piece>) -> bool
 // ---- the signature
 
 /// Whether a reply is signed under the request's secret.
-fn is_proved(p: &WalletRequest, r: &ReplyRef<'_>) -> bool
-    ensures { result ≡ model.is_proved (pending_view p.now) (received_of r.now) }
+fn is_proved(p: &RequestRef<'_>, r: &ReplyRef<'_>) -> bool
+    ensures { result ≡ model.is_proved (request_view p.now) (received_of r.now) }
 {
     r.sign == hex_of(&signature(p, r)).as_slice()
 }
@@ -132,12 +135,12 @@ fn is_proved(p: &WalletRequest, r: &ReplyRef<'_>) -> bool
 /// The signature of a reply under the request's secret. Its reply text is hashed part by part, so that it needs
 /// no room.
 #[tactic(auto, unfolding(scrip_certs::specs::Digests::reply_signature))]
-fn signature(p: &WalletRequest, r: &ReplyRef<'_>) -> [u8; 16]
-    ensures { result ≡ digests.reply_signature (texts.or_dash p.now.scrip) p.now.target (line_read (received_of r.now))
+fn signature(p: &RequestRef<'_>, r: &ReplyRef<'_>) -> [u8; 16]
+    ensures { result ≡ digests.reply_signature (texts.or_dash (seen p.now.scrip)) p.now.target.now (line_read (received_of r.now))
         r.now.contents.now p.now.secret }
 {
     let mut hasher = Md5::new();
-    add_request(&mut hasher, scrip_or_dash(p), p.target.bytes());
+    add_request(&mut hasher, or_dash(p.scrip), p.target);
     add_head(&mut hasher, r);
     hasher.update(r.contents);
     hasher.update(b"\n");

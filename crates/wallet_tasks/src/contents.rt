@@ -1,14 +1,12 @@
 //! Pieces as texts: contents that are one piece line, and pieces of one vendor with one identity.
 
 ghost use Rattle.std.specs.Prelude.{◌≡◌, Some, option_map};
-ghost use Rattle.mc_fields.specs.Gives.{Gives};
 ghost use Rattle.mc_records.specs.Views.{held_of};
 ghost use Rattle.ledger_model.specs.Pieces as pieces;
-ghost use Rattle.piece_lines.specs.PieceLines.{secret_at};
 ghost use Rattle.wallet_model.specs.Newness as newness;
 ghost use Rattle.wallet_model.specs.Settling as model;
 
-use mc_fields::{Stuck, read_hex, read_literal};
+use piece_lines::read_secret;
 use scrip_form::{Piece, ScripRef, read_scrip};
 
 /// How many bytes of a piece line stand behind its scrip text: a space, the 32 digits of a secret and an LF.
@@ -26,7 +24,7 @@ pub(crate) fn one_line(contents: &[u8]) -> Option<(&[u8], [u8; 16])>
         Ok(_) => (),
         Err(_) => return None,
     }
-    match secret(rest) {
+    match read_secret(rest) {
         Ok(read) => {
             let secret = read.0;
             Some((text, secret))
@@ -35,19 +33,8 @@ pub(crate) fn one_line(contents: &[u8]) -> Option<(&[u8], [u8; 16])>
     }
 }
 
-/// The space, the digits of a secret and the LF behind a text.
-#[tactic(auto, unfolding(piece_lines::specs::PieceLines::secret_at))]
-fn secret(bytes: &[u8]) -> Result<([u8; 16], &[u8]), Stuck>
-    ensures { Gives (λ x. (x.0, x.1.now)) result (secret_at bytes.now) }
-{
-    let rest = read_literal(b" ", bytes)?;
-    let (secret, rest) = read_hex::<16>(rest)?;
-    let rest = read_literal(b"\n", rest)?;
-    Ok((secret, rest))
-}
-
-/// The piece of a scrip text, where it is one.
-pub(crate) fn piece_of(text: &[u8]) -> Option<Piece>
+/// The piece of a scrip text, where it is one. It takes no memory.
+pub fn piece_of(text: &[u8]) -> Option<Piece>
     ensures { result ≡ pieces.piece_of text.now }
 {
     match read_scrip(text) {
@@ -56,8 +43,8 @@ pub(crate) fn piece_of(text: &[u8]) -> Option<Piece>
     }
 }
 
-/// Whether two texts are of pieces of one vendor with one identity.
-pub(crate) fn are_one_piece(a: &[u8], b: &[u8]) -> bool
+/// Whether two texts are of pieces of one vendor with one identity. It takes no memory.
+pub fn are_one_piece(a: &[u8], b: &[u8]) -> bool
     ensures { result ≡ newness.are_one_piece a.now b.now }
 {
     let Ok(a) = read_scrip(a) else {

@@ -37,7 +37,8 @@ fn is_zero(bytes: &[u8]) -> bool
     bytes == zero
 }
 
-pub(crate) fn is_dash(bytes: &[u8]) -> bool
+/// Whether bytes are `-`, as the change of a reply is where there is none.
+pub fn is_dash(bytes: &[u8]) -> bool
     ensures { result ≡ bytes_eq bytes.now (codes "-") }
 {
     let dash: &[u8] = b"-";

@@ -1,6 +1,6 @@
 //! Requests of a wallet, whole.
 
-ghost use Rattle.std.specs.Prelude.{◌≡◌, ◌<◌, ℕ, IfSome, option_map, option_and_then, slice_get};
+ghost use Rattle.std.specs.Prelude.{◌≡◌, ◌<◌, IfSome, option_map, option_and_then, slice_get};
 ghost use Rattle.scrip_form.specs.Scrip.{IsScripText};
 ghost use Rattle.mc_records.specs.Entry.{Fits};
 ghost use Rattle.mc_records.specs.Requests.{seen};
@@ -10,7 +10,7 @@ ghost use Rattle.wallet_book.specs.Book.{WalletRepresents};
 ghost use Rattle.wallet_book.specs.Holdings as held;
 ghost use Rattle.wallet_book.specs.Holdings.{texts_of};
 ghost use Rattle.wallet_book.specs.Kept.{request_of, kept_in};
-ghost use Rattle.wallet_tasks.specs.Requests.{pending_view, pend_of};
+ghost use Rattle.wallet_tasks.specs.Requests.{pending_view, request_view, pend_of};
 
 use mc_base::Moment;
 use mc_records::{PieceList, Record};
@@ -25,6 +25,18 @@ pub struct WalletRequest {
     pub peer: Name,
     pub target: Target,
     pub scrip: Option<ScripText>,
+    pub secret: [u8; 16],
+}
+
+/// A request of a wallet whose texts lie elsewhere: 0 where it is a get, 1 a buy, 2 a draw; of which peer, and under
+/// which target; with the scrip text of the piece that it pays with, which a draw has not; and the secret that signs it,
+/// of the piece's customer, or the key of the account.
+#[derive(Clone, Copy, Drop)]
+pub struct RequestRef<'a> {
+    pub ask: u8,
+    pub peer: &'a [u8],
+    pub target: &'a [u8],
+    pub scrip: Option<&'a [u8]>,
     pub secret: [u8; 16],
 }
 
@@ -88,6 +100,19 @@ pub fn pend_record<'a>(moment: Moment, p: &'a WalletRequest) -> Record<'a>
     let _seconds = moment.seconds();
     Record::Pend {
         moment,
+        ask: p.ask,
+        peer: p.peer.bytes(),
+        target: p.target.bytes(),
+        scrip: scrip_bytes(p),
+        secret: p.secret,
+    }
+}
+
+/// A request as one whose texts lie elsewhere.
+pub(crate) fn lent(p: &WalletRequest) -> RequestRef<'_>
+    ensures { request_view result ≡ pending_view p.now }
+{
+    RequestRef {
         ask: p.ask,
         peer: p.peer.bytes(),
         target: p.target.bytes(),

@@ -75,8 +75,8 @@ pub(crate) fn scrip_or_dash(p: &WalletRequest) -> &[u8]
     or_dash(scrip_bytes(p))
 }
 
-/// A text, or `-`.
-pub(crate) fn or_dash<'a>(text: Option<&'a [u8]>) -> &'a [u8]
+/// A text, or `-` where there is none, as it stands in what is signed.
+pub fn or_dash<'a>(text: Option<&'a [u8]>) -> &'a [u8]
     ensures { result.now ≡ texts.or_dash (seen text.entry) }
 {
     match text {

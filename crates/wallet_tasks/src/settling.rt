@@ -118,7 +118,7 @@ pub fn settled_as(p: &WalletRequest, r: &ReplyRef<'_>) -> Settlement
 // ---- the parts of an entry
 
 /// The price of a reply, 0 where it is none.
-fn paid_price(r: &ReplyRef<'_>) -> u64
+pub fn paid_price(r: &ReplyRef<'_>) -> u64
     ensures { result ≡ unwrap_or (model.price_of (received_of r.now)) 0 }
 {
     match price_of(r) {
@@ -127,8 +127,8 @@ fn paid_price(r: &ReplyRef<'_>) -> u64
     }
 }
 
-/// The number of a refusal, which its text begins with.
-fn refusal_number(refusal: Option<&[u8]>) -> u16
+/// The number of a refusal, which its text begins with; 0 where it begins with none.
+pub fn refusal_number(refusal: Option<&[u8]>) -> u16
     ensures { result ≡ model.refusal_number (seen refusal.entry) }
 {
     match refusal {
@@ -222,8 +222,8 @@ fn is_new_beside(book: &WalletBook, change: Option<&[u8]>, text: &[u8]) -> bool
     is_new(book, text)
 }
 
-/// Whether a piece is the change, where there is some.
-fn is_change(change: Option<&[u8]>, text: &[u8]) -> bool
+/// Whether a piece is the change, where there is some, by vendor and identity.
+pub fn is_change(change: Option<&[u8]>, text: &[u8]) -> bool
     ensures { result ≡ list_any (λ t. newness.are_one_piece t text.now) (option_to_list (seen change.entry)) }
 {
     match change {

@@ -1,6 +1,6 @@
 //! The entry of pieces that a wallet takes.
 
-ghost use Rattle.std.specs.Prelude.{◌≡◌, ℕ, List as Items, IfOk, nat_lt, find, count_by, option_map};
+ghost use Rattle.std.specs.Prelude.{◌≡◌, ℕ, List as Items, IfOk, IfErr, nat_lt, find, count_by, option_map};
 ghost use Rattle.mc_records.specs.Entry.{Held, Got, ArePieces};
 ghost use Rattle.mc_records.specs.Pieces.{pieces_bytes};
 ghost use Rattle.mc_records.specs.PieceViews.{pieces_of};
@@ -10,7 +10,7 @@ ghost use Rattle.wallet_book.specs.Book.{WalletRepresents};
 ghost use Rattle.wallet_book.specs.Holdings.{texts_of};
 ghost use Rattle.wallet_tasks.specs.Requests.{CanEnter};
 ghost use Rattle.wallet_tasks.specs.Taking as model;
-ghost use Rattle.wallet_tasks.specs.Taking.{take_entry, id_of, Takes, TakesOf, AreElements};
+ghost use Rattle.wallet_tasks.specs.Taking.{take_entry, id_of, Takes, TakesOf, AreElements, IsTakeFault};
 
 use crate::contents::is_one;
 use mc_base::List;
@@ -39,6 +39,7 @@ pub fn take_pieces(alloc: Global, book: &WalletBook, input: &[u8]) -> Result<Lis
     ensures exact { (h : History) → WalletRepresents book.now h
         → Takes (take_entry h book.now.time input.now) book.now.time result }
     ensures elements { IfOk result AreElements }
+    ensures refused { IfErr result IsTakeFault }
     ensures may { (h : History) → WalletRepresents book.now h → IfOk result (λ bytes. (pieces : Items Held)
         → ArePieces pieces → bytes ≡ pieces_bytes pieces → CanEnter h (Got book.now.time pieces)) }
 {
@@ -58,8 +59,9 @@ pub fn take_pieces(alloc: Global, book: &WalletBook, input: &[u8]) -> Result<Lis
 /// the first that does.
 fn unless_twice(book: &WalletBook, elements: Vec<u8>) -> Result<List<u8>, TakeFault>
     requires { AreElements elements.items }
-    ensures { (pieces : Items Held) → ArePieces pieces → elements.items ≡ pieces_bytes pieces
+    ensures taken { (pieces : Items Held) → ArePieces pieces → elements.items ≡ pieces_bytes pieces
         → TakesOf (texts_of book.now.holdings) pieces elements.items result }
+    ensures refused { IfErr result IsTakeFault }
 {
     match first_twice(book, &taken_list(&elements)) {
         Some(id) => Err(TakeFault::Refused(Refusal::TwiceHeld(id))),

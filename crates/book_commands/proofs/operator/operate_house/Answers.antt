@@ -2,8 +2,9 @@ use Rattle.std.proofs.Common.{◌≡◌, ℕ, List, inl, inr, refl, ap, ◌∙�
 use Rattle.mc_outside.specs.LinkView.{LinkView}
 use Rattle.command_status.specs.declared.status.Status.TheVariants as ends
 use Rattle.command_input.specs.Inputs.{TakesInput, LosesInput}
-use Rattle.house_serving.proofs.AsideLemmas.{no_more_still}
-use Rattle.book_commands.proofs.OperatorLemmas.{operated, operated_causes, ready_by, by_links, unread, unread_at_once, not_taken_quiet, lost_rose}
+use Rattle.command_input.proofs.InputLemmas.{loses_rose}
+use Rattle.command_input.proofs.AsideLemmas.{no_more_still, not_taken_quiet}
+use Rattle.book_commands.proofs.OperatorLemmas.{operated, operated_causes, ready_by, by_links, unread, unread_at_once}
 use Rattle.book_commands.proofs.operator.operate_house.Goals as goal
 
 pub returns-in_default-clause-operated : goal.returns-in_default-clause-operated
@@ -23,7 +24,7 @@ returns-in-Err-Link-clause-causes g c =
     let m = c.input_of.new.k in
     let operation = g.C.OperatorCommand.operation c.args.command.now in
     let lost : LosesInput operation.input (g.O.Link.link c.args.house.journal.disk) (g.O.Link.link m.journal.disk) = rw (c.in-Err-Link.field-0-is, c.input.ensures.input) at c.in-Err-Link.ensures.fault in
-    rw c.close-in-Err-Link.ensures ((g.met.O.Outside.link_keeps _ _ c.input_of.ensures.moved.0).faults, lost_rose operation.input _ _ lost, lost)
+    rw c.close-in-Err-Link.ensures ((g.met.O.Outside.link_keeps _ _ c.input_of.ensures.moved.0).faults, loses_rose operation.input _ _ lost, lost)
 
 pub returns-in-Err-Link-clause-operated : goal.returns-in-Err-Link-clause-operated
 returns-in-Err-Link-clause-operated g c a x at =

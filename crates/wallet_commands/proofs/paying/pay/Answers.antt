@@ -2,7 +2,7 @@ use Rattle.std.proofs.Common.{◌∙◌, inl, inr, refl, sym}
 use Rattle.scrip_journal.specs.Founds.{fault_disk}
 use Rattle.wallet_core.specs.declared.wallet.Wallet.{Wallet}
 use Rattle.wallet_commands.specs.Books.{Untouched, Opened}
-use Rattle.wallet_commands.proofs.CauseLemmas.{causes_from, none_on_disk, opening_causes}
+use Rattle.wallet_commands.proofs.CauseLemmas.{causes_opened, none_on_disk, opening_causes}
 use Rattle.wallet_commands.proofs.BookLemmas.{on_disk, not_opened}
 use Rattle.wallet_commands.proofs.paying.pay.Goals as goal
 
@@ -18,8 +18,8 @@ returns-in-Err-clause-paid g c x told =
 
 pub returns-in-Ok-reply_room-clause-causes : goal.returns-in-Ok-reply_room-clause-causes
 returns-in-Ok-reply_room-clause-causes g c =
-    causes_from g.O.Link.link g.O.Disk.disk c.args.out c.in-Ok.wallet.journal.disk c.pay_by_clock.result.0 c.pay_by_clock.result.1
-    (none_on_disk g.O.Link.link g.O.Disk.disk c.args.out c.in-Ok.wallet.journal.disk c.in-Ok.ensures.fault (g.met.O.Outside.disk_keeps _ _ c.in-Ok.ensures.moved)) c.pay_by_clock.ensures.causes
+    causes_opened g.O.Link.link g.O.Disk.disk c.args.out c.in-Ok.wallet.journal.disk c.pay_by_clock.result.0 c.pay_by_clock.result.1
+    (none_on_disk g.O.Link.link g.O.Disk.disk c.args.out c.in-Ok.wallet.journal.disk c.in-Ok.ensures.fault (g.met.O.Outside.disk_keeps _ _ c.in-Ok.ensures.moved)) (g.met.O.Outside.disk_keeps _ _ c.in-Ok.ensures.moved) c.pay_by_clock.ensures.causes
 
 pub returns-in-Ok-reply_room-clause-paid : goal.returns-in-Ok-reply_room-clause-paid
 returns-in-Ok-reply_room-clause-paid g c x told =

@@ -1,11 +1,12 @@
-use Rattle.std.proofs.Common.{◌∙◌, refl, ap}
+use Rattle.std.proofs.Common.{◌∙◌, refl, sym, ap, subst}
 use Rattle.mc_outside.specs.LinkView.{LinkView}
 use Rattle.wallet_model.specs.Asks.{pend_entry}
 use Rattle.wallet_tasks.specs.Asks.{asking_of}
 use Rattle.wallet_core.specs.Answers.{TellsNumber}
 use Rattle.command_status.specs.declared.status.Status.TheVariants as ends
+use Rattle.wallet_commands.specs.Causes.{OnlyClocked, LinkRefused, RefusedBy}
 use Rattle.wallet_commands.specs.Paying.{PaysBy}
-use Rattle.wallet_commands.proofs.CauseLemmas.{causes_from, none_linked, none_then, none_on_disk, disk_then}
+use Rattle.wallet_commands.proofs.CauseLemmas.{causes_from, none_linked, none_then, none_on_disk, disk_then, clocked_so, pended_so}
 use Rattle.wallet_commands.proofs.PayLemmas.{AtClock, clocked_by, known_on, pend_keeps, pay_refused, pay_wants, pay_doubted, pay_asked}
 use Rattle.wallet_commands.proofs.paying.pay_by_clock.Goals as goal
 
@@ -25,7 +26,9 @@ returns-in-Done-clause-causes g c =
     let z = c.in-Done.wallet.journal.disk in
     let first = none_linked g.O.Link.link g.O.Disk.disk w y (g.met.O.Outside.link_keeps _ _ c.raise_by_clock-reading.ensures.moved) (ap (λ (v : LinkView). v.faults) c.raise_by_clock-reading.ensures.rest) in
     let second = none_on_disk g.O.Link.link g.O.Disk.disk y z c.in-Done.ensures.back.counts (g.met.O.Outside.disk_keeps _ _ c.in-Done.ensures.back.moved') in
-    causes_from g.O.Link.link g.O.Disk.disk w z c.use_link.result.0 c.use_link.result.1 (none_then g.O.Link.link g.O.Disk.disk w y z first second) c.use_link.ensures.causes
+    let clocked : OnlyClocked (g.O.Link.link w) (g.O.Link.link z) = subst (λ (v : LinkView). OnlyClocked (g.O.Link.link w) v) (sym (g.met.O.Outside.disk_keeps _ _ c.in-Done.ensures.back.moved')) c.raise_by_clock-reading.ensures.rest in
+    causes_from LinkRefused RefusedBy g.O.Link.link g.O.Disk.disk w z c.use_link.result.0 c.use_link.result.1 (none_then g.O.Link.link g.O.Disk.disk w y z first second)
+    (λ f why. clocked_so f (g.O.Link.link w) (g.O.Link.link z) (g.O.Link.link c.use_link.result.0) clocked why) c.use_link.ensures.causes
 
 pub returns-in-Done-clause-paid : goal.returns-in-Done-clause-paid
 returns-in-Done-clause-paid g c a x at =
@@ -48,7 +51,8 @@ returns-in-Refused-clause-causes g c =
     let z = c.in-Refused.wallet.journal.disk in
     let first = none_linked g.O.Link.link g.O.Disk.disk w y (g.met.O.Outside.link_keeps _ _ c.raise_by_clock-reading.ensures.moved) (ap (λ (v : LinkView). v.faults) c.raise_by_clock-reading.ensures.rest) in
     let second = none_on_disk g.O.Link.link g.O.Disk.disk y z c.in-Refused.ensures.back.counts (g.met.O.Outside.disk_keeps _ _ c.in-Refused.ensures.back.moved') in
-    rw c.close.ensures (none_then g.O.Link.link g.O.Disk.disk w y z first second)
+    let clocked : OnlyClocked (g.O.Link.link w) (g.O.Link.link z) = subst (λ (v : LinkView). OnlyClocked (g.O.Link.link w) v) (sym (g.met.O.Outside.disk_keeps _ _ c.in-Refused.ensures.back.moved')) c.raise_by_clock-reading.ensures.rest in
+    rw c.close.ensures (none_then g.O.Link.link g.O.Disk.disk w y z first second, pended_so c.in-Refused.refusal (g.O.Link.link w) (g.O.Link.link z) clocked c.in-Refused.ensures.refused)
 
 pub returns-in-Refused-clause-paid : goal.returns-in-Refused-clause-paid
 returns-in-Refused-clause-paid g c a x at =

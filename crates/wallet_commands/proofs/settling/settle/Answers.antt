@@ -1,5 +1,6 @@
-use Rattle.std.proofs.Common.{◌≡◌, ◌∙◌, ℕ, List, sym, ap, subst, Some, option_map, Ok}
+use Rattle.std.proofs.Common.{◌≡◌, ◌∙◌, ℕ, List, refl, sym, ap, subst, Some, option_map, Ok}
 use Rattle.mc_outside.specs.LinkView.{LinkView}
+use Rattle.mc_records.specs.declared.refusal.Refusal.{Refusal}
 use Rattle.reply_reader.specs.Seen.{received_of}
 use Rattle.reply_reader.specs.Replies.{Received}
 use Rattle.wallet_model.specs.Requests.{Pending}
@@ -11,16 +12,21 @@ use Rattle.wallet_core.specs.Wallet.{WalletStands}
 use Rattle.wallet_core.specs.Rests.{wallet_keeps}
 use Rattle.wallet_core.specs.Checking.{CheckedView}
 use Rattle.wallet_core.specs.Outcomes.{outcome_disk, Performs}
+use Rattle.wallet_commands.specs.Causes.{SettleRefused, CheckRefused, CausesBy}
 use Rattle.wallet_commands.specs.Saying.{contents_said, IsSaid, IsSaidInPart}
 use Rattle.wallet_commands.specs.Replies.{settled_status, EndsReply}
-use Rattle.wallet_commands.proofs.CauseLemmas.{causes_from, none_linked}
+use Rattle.wallet_commands.proofs.CauseLemmas.{causes_from, none_linked, settle_check, checked_so}
 use Rattle.wallet_commands.proofs.BookLemmas.{stood}
 use Rattle.wallet_commands.proofs.SettleLemmas.{passed, refused_reply, said_less, settled_reply, settled_causes}
 use Rattle.wallet_commands.proofs.settling.settle.Goals as goal
 
+pub returns-in-Err-clause-causes : goal.returns-in-Err-clause-causes
+returns-in-Err-clause-causes g c =
+    rw c.close.ensures (record { disk' = refl; link' = refl }, checked_so (received_of c.args.reply.now) c.in-Err.refusal (g.O.Link.link c.args.wallet.journal.disk) c.in-Err.ensures.refused)
+
 pub returns-in-Err-clause-ended : goal.returns-in-Err-clause-ended
 returns-in-Err-clause-ended g c h p st kept =
-    rw c.close.ensures (refused_reply g.O.Link.link g.O.Disk.disk h c.args.wallet.book.time c.args.number p (received_of c.args.reply.now) c.in-Err.refusal c.args.wallet (g.met.O.Disk.is_disk c.args.wallet.journal.disk) (c.in-Err.ensures h p st kept) st)
+    rw c.close.ensures (refused_reply g.O.Link.link g.O.Disk.disk h c.args.wallet.book.time c.args.number p (received_of c.args.reply.now) c.in-Err.refusal c.args.wallet (g.met.O.Disk.is_disk c.args.wallet.journal.disk) (c.in-Err.ensures.exact h p st kept) st)
 
 pub settle_reply-requires : goal.settle_reply-requires
 settle_reply-requires g c = record {
@@ -29,7 +35,7 @@ settle_reply-requires g c = record {
       let y = c.say_all.new.k in
       let back = stood g.O.Disk.disk w y h (g.met.O.Outside.link_keeps _ _ c.say_all.ensures.moved.0) c.say_all.ensures.moved.1 st in
       let k = c.requires.kept h back in
-      let same = (passed (check_of k.0 (received_of c.args.reply.now)) c.args.number k.0 (received_of c.args.reply.now) c.in-Ok.checked (c.in-Ok.ensures h k.0 back k.1)).1 in
+      let same = (passed (check_of k.0 (received_of c.args.reply.now)) c.args.number k.0 (received_of c.args.reply.now) c.in-Ok.checked (c.in-Ok.ensures.exact h k.0 back k.1)).1 in
       subst (λ (v : CheckedView). kept_in h v.number ≡ Some v.request) (sym same) k.1;
 }
 
@@ -37,10 +43,16 @@ pub returns-in-Ok-say_all-clause-causes : goal.returns-in-Ok-say_all-clause-caus
 returns-in-Ok-say_all-clause-causes g c =
     let w = c.args.wallet in
     let y = c.say_all.new.k in
-    rw (c.settled.ensures.out, c.settled.ensures.status)
-    (causes_from g.O.Link.link g.O.Disk.disk w.journal.disk y.journal.disk _ _
+    let p : Pending = c.in-Ok.checked.request in
+    let r : Received = c.in-Ok.checked.reply in
+    let out = c.settle_reply.result in
+    let causes : CausesBy (CheckRefused r) g.O.Link.link g.O.Disk.disk w.journal.disk (settled_status out) (outcome_disk out) =
+    causes_from (λ (f : Refusal) (u v : LinkView). SettleRefused r f) (CheckRefused r) g.O.Link.link g.O.Disk.disk w.journal.disk y.journal.disk (outcome_disk out) (settled_status out)
     (none_linked g.O.Link.link g.O.Disk.disk w.journal.disk y.journal.disk (g.met.O.Outside.link_keeps _ _ c.say_all.ensures.moved.0) (ap (λ (v : LinkView). v.faults) c.in-Ok-say_all.ensures.said))
-    (settled_causes g.O.Link.link g.O.Disk.disk y.journal.disk c.settle_reply.result c.settle_reply.ensures.back.counts (g.met.O.Outside.disk_keeps _ _ c.settle_reply.ensures.back.moved')))
+    (λ f why. settle_check r f (g.O.Link.link w.journal.disk) (g.O.Link.link (outcome_disk out)) why)
+    (settled_causes g.O.Link.link g.O.Disk.disk y.journal.disk p r out c.settle_reply.ensures.back.counts (g.met.O.Outside.disk_keeps _ _ c.settle_reply.ensures.back.moved') c.settle_reply.ensures.told) in
+    rw (c.settled.ensures.out, c.settled.ensures.status)
+    (subst (λ (q : Received). CausesBy (CheckRefused q) g.O.Link.link g.O.Disk.disk w.journal.disk (settled_status out) (outcome_disk out)) c.in-Ok.ensures.reply causes)
 
 pub returns-in-Ok-say_all-clause-ended : goal.returns-in-Ok-say_all-clause-ended
 returns-in-Ok-say_all-clause-ended g c h p st kept =
@@ -50,7 +62,7 @@ returns-in-Ok-say_all-clause-ended g c h p st kept =
     let out = c.settle_reply.result in
     let keeps = g.met.O.Outside.link_keeps _ _ c.say_all.ensures.moved.0 in
     let rests = c.say_all.ensures.moved.1 in
-    let checked = passed (check_of p r) c.args.number p r c.in-Ok.checked (c.in-Ok.ensures h p st kept) in
+    let checked = passed (check_of p r) c.args.number p r c.in-Ok.checked (c.in-Ok.ensures.exact h p st kept) in
     let now : WalletStands g.O.Disk.disk y h = wallet_keeps g.O.Disk.disk w y h st keeps rests in
     let done = subst (λ (v : CheckedView). Performs g.O.Disk.disk y h (Ok (settlement h y.book.time v.number v.request v.reply)) (λ e s. IsSettledAs v.request v.reply s) out) checked.1 (c.settle_reply.ensures.exact h now) in
     let kind : c.kept_kind.result ≡ Some p.ask = sym (c.kept_kind.ensures h st) ∙ ap (option_map (λ (q : Pending). q.ask)) kept in
@@ -72,7 +84,7 @@ returns-in-Err-say_all-clause-ended g c h p st kept =
     let y = c.say_all.new.k in
     let r : Received = received_of c.args.reply.now in
     let keeps = g.met.O.Outside.link_keeps _ _ c.say_all.ensures.moved.0 in
-    let checked = passed (check_of p r) c.args.number p r c.in-Ok.checked (c.in-Ok.ensures h p st kept) in
+    let checked = passed (check_of p r) c.args.number p r c.in-Ok.checked (c.in-Ok.ensures.exact h p st kept) in
     let kind : c.kept_kind.result ≡ Some p.ask = sym (c.kept_kind.ensures h st) ∙ ap (option_map (λ (q : Pending). q.ask)) kept in
     let said : IsSaidInPart (contents_said p r) (g.O.Link.link w.journal.disk) (g.O.Link.link y.journal.disk) =
     subst (λ (l : List ℕ). IsSaidInPart l (g.O.Link.link w.journal.disk) (g.O.Link.link y.journal.disk)) (c.said_first-contents.ensures p kind) c.in-Err-say_all.ensures.failed in

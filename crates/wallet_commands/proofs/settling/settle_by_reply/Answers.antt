@@ -1,4 +1,4 @@
-use Rattle.std.proofs.Common.{◌≡◌, ◌∙◌, refl, ap, subst, Ok, Err}
+use Rattle.std.proofs.Common.{◌≡◌, ◌∙◌, inl, refl, ap, subst, Ok, Err}
 use Rattle.std.specs.Prelude.{Result}
 use Rattle.mc_records.specs.declared.refusal.Refusal.TheVariants as refusals
 use Rattle.reply_reader.specs.declared.reply.ReplyRef.{ReplyRef}
@@ -9,8 +9,9 @@ use Rattle.reply_reader.specs.Takes.{TookReply}
 use Rattle.command_status.specs.declared.status.Status.TheVariants as ends
 use Rattle.wallet_book.specs.Book.{BookView}
 use Rattle.wallet_core.specs.Rests.{wallet_keeps}
+use Rattle.wallet_commands.specs.Causes.{CheckRefused, ReadRefused}
 use Rattle.wallet_commands.specs.Replies.{EndsReply}
-use Rattle.wallet_commands.proofs.CauseLemmas.{causes_from, none_linked}
+use Rattle.wallet_commands.proofs.CauseLemmas.{causes_from, none_linked, read_so}
 use Rattle.wallet_commands.proofs.BookLemmas.{stood, on_disk}
 use Rattle.wallet_commands.proofs.UseLemmas.{took_counts, took_rose, read_reply, no_reply}
 use Rattle.wallet_commands.proofs.settling.settle_by_reply.Goals as goal
@@ -26,9 +27,9 @@ returns-in-Ok-clause-causes g c =
     let a = c.args.wallet.journal.disk in
     let m = c.take.new.k.journal.disk in
     let took : TookReply (g.O.Link.link a) (Ok (received_of c.in-Ok.reply)) (g.O.Link.link m) = subst (λ (r : Result ReplyRef ReplyFault). TookReply (g.O.Link.link a) (taken_of r) (g.O.Link.link m)) c.in-Ok.is c.take.follows.holds-at-none in
-    causes_from g.O.Link.link g.O.Disk.disk a m _ _
+    causes_from (CheckRefused (received_of c.in-Ok.reply)) ReadRefused g.O.Link.link g.O.Disk.disk a m c.settle.result.0 c.settle.result.1
     (none_linked g.O.Link.link g.O.Disk.disk a m (g.met.O.Outside.link_keeps _ _ c.take.ensures.moved.0) (took_counts (g.O.Link.link a) (g.O.Link.link m) (Ok (received_of c.in-Ok.reply)) took (λ e. cc e)))
-    c.settle.ensures.causes
+    (λ f why. read_so f (g.O.Link.link a) (g.O.Link.link c.settle.result.0) (received_of c.in-Ok.reply, g.O.Link.link m, took, why)) c.settle.ensures.causes
 
 pub returns-in-Ok-clause-read : goal.returns-in-Ok-clause-read
 returns-in-Ok-clause-read g c h p st kept =
@@ -47,7 +48,7 @@ returns-in-Err-NoReply-clause-causes g c =
     let m = c.take.new.k.journal.disk in
     let is : c.take.result ≡ Err replies.NoReply = c.in-Err-NoReply.is ∙ ap (λ (f : ReplyFault). Err f) c.in-Err-NoReply.field-0-is in
     let took : TookReply (g.O.Link.link a) (Err replies.NoReply) (g.O.Link.link m) = subst (λ (r : Result ReplyRef ReplyFault). TookReply (g.O.Link.link a) (taken_of r) (g.O.Link.link m)) is c.take.follows.holds-at-none in
-    rw c.close.ensures (none_linked g.O.Link.link g.O.Disk.disk a m (g.met.O.Outside.link_keeps _ _ c.take.ensures.moved.0) (took_counts (g.O.Link.link a) (g.O.Link.link m) (Err replies.NoReply) took (λ e. cc e)))
+    rw c.close.ensures (none_linked g.O.Link.link g.O.Disk.disk a m (g.met.O.Outside.link_keeps _ _ c.take.ensures.moved.0) (took_counts (g.O.Link.link a) (g.O.Link.link m) (Err replies.NoReply) took (λ e. cc e)), took)
 
 pub returns-in-Err-NoReply-clause-read : goal.returns-in-Err-NoReply-clause-read
 returns-in-Err-NoReply-clause-read g c h p st kept =
@@ -65,7 +66,7 @@ returns-in-Err-BadReply-clause-causes g c =
     let m = c.take.new.k.journal.disk in
     let is : c.take.result ≡ Err replies.BadReply = c.in-Err-BadReply.is ∙ ap (λ (f : ReplyFault). Err f) c.in-Err-BadReply.field-0-is in
     let took : TookReply (g.O.Link.link a) (Err replies.BadReply) (g.O.Link.link m) = subst (λ (r : Result ReplyRef ReplyFault). TookReply (g.O.Link.link a) (taken_of r) (g.O.Link.link m)) is c.take.follows.holds-at-none in
-    rw c.close-in-Err-BadReply.ensures (none_linked g.O.Link.link g.O.Disk.disk a m (g.met.O.Outside.link_keeps _ _ c.take.ensures.moved.0) (took_counts (g.O.Link.link a) (g.O.Link.link m) (Err replies.BadReply) took (λ e. cc e)))
+    rw c.close-in-Err-BadReply.ensures (none_linked g.O.Link.link g.O.Disk.disk a m (g.met.O.Outside.link_keeps _ _ c.take.ensures.moved.0) (took_counts (g.O.Link.link a) (g.O.Link.link m) (Err replies.BadReply) took (λ e. cc e)), inl took)
 
 pub returns-in-Err-BadReply-clause-read : goal.returns-in-Err-BadReply-clause-read
 returns-in-Err-BadReply-clause-read g c h p st kept =

@@ -5,9 +5,10 @@ use Rattle.wallet_model.specs.Asks.{request_bytes}
 use Rattle.wallet_book.specs.Book.{BookView}
 use Rattle.wallet_book.specs.Kept.{kept_in}
 use Rattle.wallet_core.specs.Rests.{wallet_keeps}
+use Rattle.wallet_commands.specs.Causes.{ReadRefused, LinkRefused}
 use Rattle.wallet_commands.specs.Payments.{SentPart}
 use Rattle.wallet_commands.specs.Replies.{ReadsReply}
-use Rattle.wallet_commands.proofs.CauseLemmas.{causes_from, none_linked}
+use Rattle.wallet_commands.proofs.CauseLemmas.{causes_from, none_linked, sent_so}
 use Rattle.wallet_commands.proofs.BookLemmas.{stood}
 use Rattle.wallet_commands.proofs.UseLemmas.{used_link, came_none, broke, written_bytes}
 use Rattle.wallet_commands.proofs.settling.use_link.Goals as goal
@@ -22,8 +23,19 @@ pub returns-in-Ok-clause-causes : goal.returns-in-Ok-clause-causes
 returns-in-Ok-clause-causes g c =
     let w = c.args.wallet.journal.disk in
     let y = c.send_request.new.k.journal.disk in
-    causes_from g.O.Link.link g.O.Disk.disk w y c.settle_by_reply.result.0 c.settle_by_reply.result.1
-    (none_linked g.O.Link.link g.O.Disk.disk w y (g.met.O.Outside.link_keeps _ _ c.send_request.ensures.moved.0) (ap (λ (v : LinkView). v.faults) c.in-Ok.ensures.sent)) c.settle_by_reply.ensures.causes
+    let b = c.settle_by_reply.result.0 in
+    let request : List ℕ = take c.in-Some.len c.request_bytes.new.out in
+    let sent : g.O.Link.link y ≡ after_send request (next_taken (g.O.Link.link w)) = c.in-Ok.ensures.sent in
+    causes_from ReadRefused LinkRefused g.O.Link.link g.O.Disk.disk w y b c.settle_by_reply.result.1
+    (none_linked g.O.Link.link g.O.Disk.disk w y (g.met.O.Outside.link_keeps _ _ c.send_request.ensures.moved.0) (ap (λ (v : LinkView). v.faults) sent))
+    (λ f why. sent_so f request (g.O.Link.link w) (g.O.Link.link b) (subst (λ (v : LinkView). ReadRefused f v (g.O.Link.link b)) sent why)) c.settle_by_reply.ensures.causes
+
+pub returns-in-Err-NoLink-clause-causes : goal.returns-in-Err-NoLink-clause-causes
+returns-in-Err-NoLink-clause-causes g c =
+    let w = c.args.wallet.journal.disk in
+    let y = c.send_request.new.k.journal.disk in
+    let none : g.O.Link.link y ≡ none_left (g.O.Link.link w) = rw c.in-Err-NoLink.field-0-is at c.in-Err-NoLink.ensures.fault in
+    rw c.close-in-Err-NoLink.ensures (none_linked g.O.Link.link g.O.Disk.disk w y (g.met.O.Outside.link_keeps _ _ c.send_request.ensures.moved.0) (ap (λ (v : LinkView). v.faults) none), none)
 
 pub returns-in-Ok-clause-used : goal.returns-in-Ok-clause-used
 returns-in-Ok-clause-used g c h p st kept =

@@ -3,14 +3,14 @@ use Rattle.mc_outside.specs.LinkView.{LinkView}
 use Rattle.scrip_journal.specs.Founds.{fault_disk}
 use Rattle.wallet_core.specs.declared.wallet.Wallet.{Wallet}
 use Rattle.wallet_commands.specs.Books.{Untouched, Opened}
-use Rattle.wallet_commands.proofs.CauseLemmas.{causes_from, opening_causes}
+use Rattle.wallet_commands.proofs.CauseLemmas.{causes_opened, opening_causes}
 use Rattle.wallet_commands.proofs.BookLemmas.{not_opened}
 use Rattle.wallet_commands.proofs.taking.take.Goals as goal
 
 pub returns-in-Ok-clause-causes : goal.returns-in-Ok-clause-causes
 returns-in-Ok-clause-causes g c =
-    causes_from g.O.Link.link g.O.Disk.disk c.args.out c.in-Ok.wallet.journal.disk c.take_input.result.0 c.take_input.result.1
-    (record { disk' = c.in-Ok.ensures.fault; link' = ap (λ (v : LinkView). v.faults) (g.met.O.Outside.disk_keeps _ _ c.in-Ok.ensures.moved) }) c.take_input.ensures.causes
+    causes_opened g.O.Link.link g.O.Disk.disk c.args.out c.in-Ok.wallet.journal.disk c.take_input.result.0 c.take_input.result.1
+    (record { disk' = c.in-Ok.ensures.fault; link' = ap (λ (v : LinkView). v.faults) (g.met.O.Outside.disk_keeps _ _ c.in-Ok.ensures.moved) }) (g.met.O.Outside.disk_keeps _ _ c.in-Ok.ensures.moved) c.take_input.ensures.causes
 
 pub returns-in-Ok-clause-took : goal.returns-in-Ok-clause-took
 returns-in-Ok-clause-took g c x told =

@@ -1,22 +1,28 @@
 use Rattle.std.proofs.Common.{◌≡◌, ◌∙◌, inl, inr, ℕ, List, refl, sym, ap, subst}
 use Rattle.mc_outside.specs.LinkView.{LinkView}
+use Rattle.mc_records.specs.declared.refusal.Refusal.{Refusal}
 use Rattle.ledger_model.specs.Histories.{History}
 use Rattle.command_input.specs.Inputs.{IsInput, LostInput}
 use Rattle.command_status.specs.declared.status.Status.TheVariants as ends
 use Rattle.wallet_book.specs.Book.{BookView}
 use Rattle.wallet_core.specs.Rests.{wallet_keeps}
 use Rattle.wallet_core.specs.Wallet.{WalletStands}
+use Rattle.wallet_core.specs.Answers.{MayTake}
+use Rattle.wallet_core.specs.Outcomes.{outcome_disk}
+use Rattle.wallet_commands.specs.Causes.{OnlyClocked, RefusedBy}
+use Rattle.wallet_commands.specs.Taking.{taken_status}
 use Rattle.wallet_commands.specs.declared.taking.TheConstants.{MOST_LINES}
-use Rattle.wallet_commands.proofs.SentLemmas.{none_still}
-use Rattle.wallet_commands.proofs.CauseLemmas.{causes_from, none_linked, none_then}
-use Rattle.wallet_commands.proofs.TakeLemmas.{lost_quiet, lost_rose, input_counts, unread, took, taken_causes}
+use Rattle.command_input.proofs.InputLemmas.{lost_rose, input_counts}
+use Rattle.command_input.proofs.AsideLemmas.{no_more_still, lost_quiet}
+use Rattle.wallet_commands.proofs.CauseLemmas.{causes_from, none_linked, none_then, taken_so}
+use Rattle.wallet_commands.proofs.TakeLemmas.{unread, took, taken_causes}
 use Rattle.wallet_commands.proofs.taking.take_input.Goals as goal
 
 pub returns-in_default-clause-took : goal.returns-in_default-clause-took
 returns-in_default-clause-took g c a x at =
     let w = c.args.wallet in
     rw c.close.ensures (inl (unread g.O.Link.link g.O.Disk.disk x a w g.met.O.Outside.sent_aside at w ends.NoMemory at.opened.wallet (g.met.O.Outside.link_keeps _ _ (g.met.O.Link.link_stays w.journal.disk))
-    (none_still (g.O.Link.link w.journal.disk) (g.O.Link.link w.journal.disk) refl) (inr (refl, refl))))
+    (no_more_still (g.O.Link.link w.journal.disk) (g.O.Link.link w.journal.disk) refl) (inr (refl, refl))))
 
 pub returns-in-Err-NoMemory-clause-took : goal.returns-in-Err-NoMemory-clause-took
 returns-in-Err-NoMemory-clause-took g c a x at =
@@ -25,7 +31,7 @@ returns-in-Err-NoMemory-clause-took g c a x at =
     let keeps = g.met.O.Outside.link_keeps _ _ c.input_of.ensures.moved.0 in
     let same : g.O.Link.link m.journal.disk ≡ g.O.Link.link w.journal.disk = rw c.in-Err-NoMemory.field-0-is at c.in-Err-NoMemory.ensures.fault in
     rw c.close-in-Err-NoMemory.ensures (inl (unread g.O.Link.link g.O.Disk.disk x a w g.met.O.Outside.sent_aside at m ends.NoMemory (wallet_keeps g.O.Disk.disk w m at.opened.history at.opened.wallet keeps c.input_of.ensures.moved.1) keeps
-    (none_still (g.O.Link.link w.journal.disk) (g.O.Link.link m.journal.disk) (ap (λ (v : LinkView). v.sessions) same)) (inr (refl, same))))
+    (no_more_still (g.O.Link.link w.journal.disk) (g.O.Link.link m.journal.disk) (ap (λ (v : LinkView). v.sessions) same)) (inr (refl, same))))
 
 pub returns-in-Err-Link-clause-causes : goal.returns-in-Err-Link-clause-causes
 returns-in-Err-Link-clause-causes g c =
@@ -52,9 +58,12 @@ returns-clause-causes g c =
     let input : IsInput MOST_LINES (g.O.Link.link w.journal.disk) c.in-Ok-input_of.input.items (g.O.Link.link m.journal.disk) = c.in-Ok-input_of.ensures.read in
     let first = none_linked g.O.Link.link g.O.Disk.disk w.journal.disk m.journal.disk (g.met.O.Outside.link_keeps _ _ c.input_of.ensures.moved.0) (input_counts MOST_LINES (g.O.Link.link w.journal.disk) (g.O.Link.link m.journal.disk) c.in-Ok-input_of.input.items input) in
     let second = none_linked g.O.Link.link g.O.Disk.disk m.journal.disk y.journal.disk (g.met.O.Outside.link_keeps _ _ c.raise_by_clock-reading.ensures.moved) (ap (λ (v : LinkView). v.faults) c.raise_by_clock-reading.ensures.rest) in
+    let b = outcome_disk c.take.result in
     rw (c.taken.ensures.out, c.taken.ensures.status)
-    (causes_from g.O.Link.link g.O.Disk.disk w.journal.disk y.journal.disk _ _ (none_then g.O.Link.link g.O.Disk.disk w.journal.disk m.journal.disk y.journal.disk first second)
-    (taken_causes g.O.Link.link g.O.Disk.disk y.journal.disk c.take.result c.take.ensures.back.counts (g.met.O.Outside.disk_keeps _ _ c.take.ensures.back.moved')))
+    (causes_from (λ (f : Refusal) (u v : LinkView). MayTake f × (v ≡ u)) RefusedBy g.O.Link.link g.O.Disk.disk w.journal.disk y.journal.disk b (taken_status c.take.result) (none_then g.O.Link.link g.O.Disk.disk w.journal.disk m.journal.disk y.journal.disk first second)
+    (λ f why. taken_so f (g.O.Link.link w.journal.disk) (g.O.Link.link b)
+    (c.in-Ok-input_of.input.items, g.O.Link.link m.journal.disk, input, subst (λ (v : LinkView). OnlyClocked (g.O.Link.link m.journal.disk) v) (sym why.1) c.raise_by_clock-reading.ensures.rest) why.0)
+    (taken_causes g.O.Link.link g.O.Disk.disk y.journal.disk c.take.result c.take.ensures.back.counts (g.met.O.Outside.disk_keeps _ _ c.take.ensures.back.moved') c.take.ensures.refused))
 
 pub returns-clause-took : goal.returns-clause-took
 returns-clause-took g c a x at =

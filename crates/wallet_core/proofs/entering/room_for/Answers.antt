@@ -9,14 +9,14 @@ use Rattle.ledger_model.specs.Lines.{Refuse}
 use Rattle.wallet_core.proofs.EnterLaws.{fits, is_full}
 use Rattle.wallet_core.proofs.entering.room_for.Goals as goal
 
-pub returns-then-is_within : goal.returns-then-is_within
-returns-then-is_within c = λ h is.
+pub returns-then-is_within-clause-fitted : goal.returns-then-is_within-clause-fitted
+returns-then-is_within-clause-fitted c = λ h is.
     let b = c.args.book.now in
     let le : c.size-size.result + c.payload_len-payload.result + FRAME ≤ c.limits.result.journal = leb-true _ _ (sym c.if-is_within.ensures) in
     fits b h (entry c.args.r.now) c.payload_len-payload.result is c.payload_len-payload.ensures (omega (arith, le, c.size-size.ensures, ap (λ (l : Limits). l.journal) c.limits.ensures))
 
-pub returns-else-is_within : goal.returns-else-is_within
-returns-else-is_within c = λ h is.
+pub returns-else-is_within-clause-fitted : goal.returns-else-is_within-clause-fitted
+returns-else-is_within-clause-fitted c = λ h is.
     let b = c.args.book.now in
     let n = c.payload_len-payload.result in
     let over : c.limits.result.journal < c.size-size.result + c.payload_len-payload.result + FRAME = leb-false _ _ (sym c.if-is_within.ensures) in

@@ -7,16 +7,16 @@ use Rattle.wallet_tasks.proofs.asking.paying.Goals as goal
 
 pub returns-in-Err-clause-exact : goal.returns-in-Err-clause-exact
 returns-in-Err-clause-exact c = λ h is.
-    pays_none h c.args.book.now.time c.args.ask c.args.limit c.args.peer.now c.args.target.now c.in-Err.refusal (c.in-Err.ensures h is)
+    pays_none h c.args.book.now.time c.args.ask c.args.limit c.args.peer.now c.args.target.now c.in-Err.refusal (c.in-Err.ensures.exact h is)
 
 pub returns-in-Some-clause-exact : goal.returns-in-Some-clause-exact
 returns-in-Some-clause-exact c = λ h is.
     let b = c.args.book.now in
     let here : slice_get b.holdings c.in-Ok.place ≡ Some c.in-Some.holding.now = ap (λ (xs : List Holding). slice_get xs c.in-Ok.place) (sym c.holdings.ensures.list) ∙ slice_get_read c.holdings.result.now (length c.holdings.result.now) c.in-Ok.place c.in-Some.holding.now refl (omega (arith, c.in-Some.ensures.lookup.3.0)) c.in-Some.ensures.lookup.1 in
-    pays_chosen b h c.args.ask c.args.limit c.in-Ok.place c.args.peer.now c.args.target.now c.in-Some.holding.now c.with_piece.result is (c.in-Ok.ensures h is) here c.with_piece.ensures.request
+    pays_chosen b h c.args.ask c.args.limit c.in-Ok.place c.args.peer.now c.args.target.now c.in-Some.holding.now c.with_piece.result is (c.in-Ok.ensures.exact h is) here c.with_piece.ensures.request
 
 pub returns-in-None-clause-exact : goal.returns-in-None-clause-exact
 returns-in-None-clause-exact c = λ h is.
     let b = c.args.book.now in
     let none : slice_get b.holdings c.in-Ok.place ≡ None = ap (λ (xs : List Holding). slice_get xs c.in-Ok.place) (sym c.holdings.ensures.list) ∙ slice_get_past c.holdings.result.now c.in-Ok.place (omega (arith, c.in-None.ensures.lookup.3)) in
-    absurd (chosen_is_there b h c.args.limit c.in-Ok.place c.args.peer.now is (c.in-Ok.ensures h is) none)
+    absurd (chosen_is_there b h c.args.limit c.in-Ok.place c.args.peer.now is (c.in-Ok.ensures.exact h is) none)

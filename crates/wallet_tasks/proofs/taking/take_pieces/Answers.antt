@@ -22,14 +22,14 @@ returns-in-Ok-clause-exact c = λ h is.
     let t = c.in-Ok.ensures.tells in
     let are = are_pieces_read (passes Any) c.args.input.now t.pieces t.read in
     let spelled : c.read_piece_lines.new.out.items ≡ pieces_bytes t.pieces = t.appended ∙ ap (λ (old : List ℕ). old ++ pieces_bytes t.pieces) c.new-elements.ensures.items in
-    taken_exact c.args.book.now h (input_lines (passes Any) c.args.input.now) t.pieces c.read_piece_lines.new.out.items c.unless_twice.result is t.read are spelled (c.unless_twice.ensures t.pieces are spelled)
+    taken_exact c.args.book.now h (input_lines (passes Any) c.args.input.now) t.pieces c.read_piece_lines.new.out.items c.unless_twice.result is t.read are spelled (c.unless_twice.ensures.taken t.pieces are spelled)
 
 pub returns-in-Ok-clause-elements : goal.returns-in-Ok-clause-elements
 returns-in-Ok-clause-elements c =
     let t = c.in-Ok.ensures.tells in
     let are = are_pieces_read (passes Any) c.args.input.now t.pieces t.read in
     let spelled : c.read_piece_lines.new.out.items ≡ pieces_bytes t.pieces = t.appended ∙ ap (λ (old : List ℕ). old ++ pieces_bytes t.pieces) c.new-elements.ensures.items in
-    taken_elements (texts_of c.args.book.now.holdings) t.pieces c.read_piece_lines.new.out.items c.unless_twice.result are spelled (c.unless_twice.ensures t.pieces are spelled)
+    taken_elements (texts_of c.args.book.now.holdings) t.pieces c.read_piece_lines.new.out.items c.unless_twice.result are spelled (c.unless_twice.ensures.taken t.pieces are spelled)
 
 pub returns-in-Ok-clause-may : goal.returns-in-Ok-clause-may
 returns-in-Ok-clause-may c = λ h is.
@@ -37,7 +37,7 @@ returns-in-Ok-clause-may c = λ h is.
     let are = are_pieces_read (passes Any) c.args.input.now t.pieces t.read in
     let spelled : c.read_piece_lines.new.out.items ≡ pieces_bytes t.pieces = t.appended ∙ ap (λ (old : List ℕ). old ++ pieces_bytes t.pieces) c.new-elements.ensures.items in
     let moment : IsMoment c.args.book.now.time = subst IsMoment c.time.ensures c.seconds-seconds.ensures.last in
-    taken_may c.args.book.now h t.pieces c.read_piece_lines.new.out.items c.unless_twice.result is moment c.unless_twice.ensures are spelled
+    taken_may c.args.book.now h t.pieces c.read_piece_lines.new.out.items c.unless_twice.result is moment c.unless_twice.ensures.taken are spelled
 
 pub returns-in-Err-Line-clause-exact : goal.returns-in-Err-Line-clause-exact
 returns-in-Err-Line-clause-exact c = λ h is.

@@ -8,5 +8,5 @@ returns-in-None c = λ h m book is.
 
 pub returns-in-Some : goal.returns-in-Some
 returns-in-Some c = λ h m book is.
-    refused_as h c.args.self.now.holdings.list c.settle.new.self.holdings.list c.args.self.now.kept.items c.settle.new.self.kept.items c.args.number m c.args.refusal c.in-Some.field-0 c.refused.result
-    book is c.as_slice-pieces.ensures.spelled (sym c.in-Some.ensures.found) c.refused.ensures c.in-Some.ensures.pieces c.in-Some.ensures.kept
+    refused_as h c.args.self.now.holdings.list c.settle.new.self.holdings.list c.args.self.now.kept.items c.settle.new.self.kept.items c.args.number m c.args.refusal c.in-Some.field-0 c.refused_state.result
+    book is c.as_slice-pieces.ensures.spelled (sym c.in-Some.ensures.found) c.refused_state.ensures c.in-Some.ensures.pieces c.in-Some.ensures.kept

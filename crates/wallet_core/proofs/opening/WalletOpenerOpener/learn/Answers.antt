@@ -1,6 +1,6 @@
 use Rattle.std.proofs.Common.{refl, arith}
 use Rattle.mc_records.specs.Views.{entry}
-use Rattle.wallet_core.proofs.FirstLaws.{time_more}
+use Rattle.wallet_book.proofs.BookLaws.{time_more}
 use Rattle.wallet_core.proofs.opening.WalletOpenerOpener.learn.Goals as goal
 
 pub returns-then-learn-clause-exact : goal.returns-then-learn-clause-exact

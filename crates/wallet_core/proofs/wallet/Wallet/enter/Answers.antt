@@ -6,6 +6,7 @@ use Rattle.mc_records.specs.Sizes.{size, entry_size}
 use Rattle.mc_records.specs.Views.{entry}
 use Rattle.scrip_journal.specs.Exits.{EitherNoOutput}
 use Rattle.wallet_core.proofs.EnterLaws.{has_room, learned, not_full, ran_nothing}
+use Rattle.wallet_core.proofs.OutcomeLaws.{as_it_stood}
 use Rattle.wallet_core.proofs.wallet.Wallet.enter.Goals as goal
 
 pub returns-in-Ok-append-clause-exact : goal.returns-in-Ok-append-clause-exact
@@ -19,7 +20,7 @@ returns-in-Ok-append-clause-exact g c = λ h st.
     record {
       adds = (
         record {
-          fits = c.in-Ok.ensures h st.book;
+          fits = c.in-Ok.ensures.fitted h st.book;
           stands = record {
             journal = journal;
             book = both.1;
@@ -35,7 +36,7 @@ returns-in-Ok-append-clause-exact g c = λ h st.
 pub returns-in-Err-Full-clause-exact : goal.returns-in-Err-Full-clause-exact
 returns-in-Err-Full-clause-exact g c = λ h st.
     let full : c.args.self.journal.limit < size h + entry_size h (entry c.args.r.now) = rw c.in-Err-Full.field-0-is at (c.in-Err-Full.ensures.full h st.journal.size_is) in
-    absurd (not_full c.args.self.book h (entry c.args.r.now) (c.in-Ok.ensures h st.book) (omega (arith, full, st.limit)))
+    absurd (not_full c.args.self.book h (entry c.args.r.now) (c.in-Ok.ensures.fitted h st.book) (omega (arith, full, st.limit)))
 
 pub returns-in-Err-Disk-clause-exact : goal.returns-in-Err-Disk-clause-exact
 returns-in-Err-Disk-clause-exact g c = λ h st.
@@ -43,7 +44,7 @@ returns-in-Err-Disk-clause-exact g c = λ h st.
     let ran : Ran (g.D.Disk.disk c.args.self.journal.disk) (g.D.Disk.disk c.in-Err-Disk.halted) (EitherNoOutput h (entry c.args.r.now) (g.D.Disk.disk c.args.self.journal.disk).aside) = rw c.in-Err-Disk.field-0-is at (c.in-Err-Disk.ensures.ran h st.journal) in
     record {
       adds = record {
-        fits = c.in-Ok.ensures h st.book;
+        fits = c.in-Ok.ensures.fitted h st.book;
         follows = c.requires.may h st;
         rose = subst (λ (d : g.row.D.Denot). Rose (g.D.Disk.disk c.args.self.journal.disk).faults (g.D.Disk.disk d).faults) (sym c.in-Err-Disk.halted-is) rose;
       };
@@ -61,3 +62,9 @@ returns-in-Err-reserve-clause-exact g c = λ h st.
       };
       ran = ran_nothing g.D.Disk.disk c.args.self.journal h (g.met.D.Disk.is_disk c.args.self.journal.disk) st.journal;
     }
+
+pub returns-in-Err-clause-exact : goal.returns-in-Err-clause-exact
+returns-in-Err-clause-exact g c = λ h st. record {
+  adds = (c.in-Err.ensures.fitted h st.book, as_it_stood g.D.Disk.disk c.args.self h st);
+  ran = ran_nothing g.D.Disk.disk c.args.self.journal h (g.met.D.Disk.is_disk c.args.self.journal.disk) st.journal;
+}

@@ -2,8 +2,8 @@ use Rattle.std.proofs.Common.{◌≡◌, ◌∙◌, ℕ, Ok, sym, ap}
 use Rattle.mc_records.specs.Entry.{Entry}
 use Rattle.mc_records.specs.Views.{entry}
 use Rattle.wallet_tasks.specs.Requests.{pending_view, pend_of}
-use Rattle.wallet_core.specs.Answers.{TellsNumber}
-use Rattle.wallet_core.proofs.OutcomeLaws.{performs_as}
+use Rattle.wallet_core.specs.Answers.{TellsNumber, Any, IsFull}
+use Rattle.wallet_core.proofs.OutcomeLaws.{performs_as, tells_more}
 use Rattle.wallet_core.proofs.wallet.Wallet.keep.Goals as goal
 
 pub returns-clause-exact : goal.returns-clause-exact
@@ -13,3 +13,6 @@ returns-clause-exact g c = λ h st.
     let is : r ≡ pend_of c.args.self.book.time asked = c.pend_record-record.ensures.entry ∙ ap (λ (t : ℕ). pend_of t asked) c.time.ensures in
     performs_as g.D.Disk.disk c.args.self h r (Ok (pend_of c.args.self.book.time asked)) (λ (e : Entry) (a : ℕ). a ≡ c.count-number.result) (TellsNumber h) c.enter.result
     (ap (λ (e : Entry). Ok e) (sym is)) (λ a told. told ∙ c.count-number.ensures ∙ sym st.book.counted) (c.enter.ensures.exact h st)
+
+pub returns-clause-refused : goal.returns-clause-refused
+returns-clause-refused g c = tells_more IsFull IsFull (λ (a : ℕ). a ≡ c.count-number.result) Any c.enter.result (λ f is. is) (λ a told. tt) c.enter.ensures.told

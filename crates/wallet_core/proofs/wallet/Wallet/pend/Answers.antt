@@ -1,9 +1,9 @@
 use Rattle.wallet_model.specs.Asks.{pend_entry}
 use Rattle.wallet_tasks.specs.Asks.{asking_of}
 use Rattle.wallet_tasks.specs.Requests.{pending_view, pend_of}
-use Rattle.wallet_core.specs.Answers.{TellsNumber}
+use Rattle.wallet_core.specs.Answers.{TellsNumber, Any, IsFull, MayPend}
 use Rattle.wallet_core.proofs.CallLaws.{answered, not_answered}
-use Rattle.wallet_core.proofs.OutcomeLaws.{performs_as, refuses}
+use Rattle.wallet_core.proofs.OutcomeLaws.{performs_as, refuses, tells_more, full_pend, funds_may}
 use Rattle.wallet_core.proofs.wallet.Wallet.pend.Goals as goal
 
 pub returns-in-Ok-clause-exact : goal.returns-in-Ok-clause-exact
@@ -18,3 +18,9 @@ returns-in-Err-clause-exact g c = λ h st.
     let t = c.args.self.book.time in
     let todo = pend_entry h t (asking_of c.args.ask.now) in
     refuses g.D.Disk.disk c.args.self h (TellsNumber h) (g.met.D.Disk.is_disk c.args.self.journal.disk) st todo c.in-Err.refusal (not_answered t todo c.in-Err.refusal (c.in-Err.ensures.exact h st.book))
+
+pub returns-in-Ok-clause-refused : goal.returns-in-Ok-clause-refused
+returns-in-Ok-clause-refused g c = tells_more IsFull MayPend Any Any c.keep.result full_pend (λ a told. tt) c.keep.ensures.refused
+
+pub returns-in-Err-clause-refused : goal.returns-in-Err-clause-refused
+returns-in-Err-clause-refused g c = funds_may c.in-Err.refusal c.in-Err.ensures.refused

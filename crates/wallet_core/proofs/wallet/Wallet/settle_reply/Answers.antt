@@ -10,8 +10,9 @@ use Rattle.wallet_tasks.specs.Requests.{pending_view}
 use Rattle.wallet_tasks.specs.Settled.{IsSettledAs}
 use Rattle.wallet_core.specs.Checking.{CheckedView}
 use Rattle.wallet_core.specs.Outcomes.{Performs}
+use Rattle.wallet_core.specs.Answers.{TellsOnly, IsFull}
 use Rattle.wallet_core.proofs.CallLaws.{settled_fits, settled_now}
-use Rattle.wallet_core.proofs.OutcomeLaws.{performs_as}
+use Rattle.wallet_core.proofs.OutcomeLaws.{performs_as, tells_more}
 use Rattle.wallet_core.proofs.wallet.Wallet.settle_reply.Goals as goal
 
 pub enter-requires-clause-fits : goal.enter-requires-clause-fits
@@ -41,3 +42,10 @@ returns-clause-exact g c = λ h st.
     subst (λ (v : CheckedView). Performs g.D.Disk.disk c.args.self h (Ok (settlement h t v.number v.request v.reply)) (λ (e : Entry) (s : Settlement). IsSettledAs v.request v.reply s) c.enter.result) c.c.view_is
     (performs_as g.D.Disk.disk c.args.self h (entry c.settlement_record-record.result) (Ok (settlement h t n p r)) (λ (e : Entry) (s : Settlement). s ≡ c.settled_as-settled.result) (λ (e : Entry) (s : Settlement). IsSettledAs p r s) c.enter.result
     (ap (λ (e : Entry). Ok e) (sym (c.settlement_record-record.ensures.exact h st.book))) (λ s told. subst (λ (x : Settlement). IsSettledAs p r x) (sym told) c.settled_as-settled.ensures) (c.enter.ensures.exact h st))
+
+pub returns-clause-told : goal.returns-clause-told
+returns-clause-told g c =
+    let p = pending_view c.c.inside.request in
+    let r = received_of c.c.inside.reply in
+    subst (λ (v : CheckedView). TellsOnly IsFull (λ (s : Settlement). IsSettledAs v.request v.reply s) c.enter.result) c.c.view_is
+    (tells_more IsFull IsFull (λ (s : Settlement). s ≡ c.settled_as-settled.result) (λ (s : Settlement). IsSettledAs p r s) c.enter.result (λ f is. is) (λ s told. subst (λ (x : Settlement). IsSettledAs p r x) (sym told) c.settled_as-settled.ensures) c.enter.ensures.told)

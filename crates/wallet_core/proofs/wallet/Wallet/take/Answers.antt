@@ -2,8 +2,8 @@ use Rattle.std.proofs.Common.{◌≡◌, ◌∙◌, ℕ, List, Ok, Err, sym, ap�
 use Rattle.mc_records.specs.Entry.{Entry, Held, Got}
 use Rattle.mc_records.specs.PieceViews.{pieces_of}
 use Rattle.wallet_tasks.specs.Taking.{take_entry}
-use Rattle.wallet_core.specs.Answers.{TellsCount}
-use Rattle.wallet_core.proofs.OutcomeLaws.{performs_as, refuses, wants_memory}
+use Rattle.wallet_core.specs.Answers.{TellsCount, Any, IsFull, MayTake}
+use Rattle.wallet_core.proofs.OutcomeLaws.{performs_as, refuses, wants_memory, tells_more, full_take, take_may}
 use Rattle.wallet_core.proofs.wallet.Wallet.take.Goals as goal
 
 pub returns-in-Ok-clause-exact : goal.returns-in-Ok-clause-exact
@@ -25,3 +25,9 @@ returns-in-Err-Refused-clause-exact g c = λ h st.
 pub returns-in-Err-NoMemory-clause-exact : goal.returns-in-Err-NoMemory-clause-exact
 returns-in-Err-NoMemory-clause-exact g c = λ h st.
     wants_memory g.D.Disk.disk c.args.self h TellsCount (g.met.D.Disk.is_disk c.args.self.journal.disk) st (take_entry h c.args.self.book.time c.args.lines.now)
+
+pub returns-in-Ok-clause-refused : goal.returns-in-Ok-clause-refused
+returns-in-Ok-clause-refused g c = tells_more IsFull MayTake (λ (a : ℕ). a ≡ c.count.result) Any c.enter.result full_take (λ a told. tt) c.enter.ensures.told
+
+pub returns-in-Err-Refused-clause-refused : goal.returns-in-Err-Refused-clause-refused
+returns-in-Err-Refused-clause-refused g c = take_may c.in-Err-Refused.refusal (rw c.in-Err-Refused.field-0-is at c.in-Err-Refused.ensures.refused)
