@@ -1,6 +1,6 @@
 #!/usr/bin/env python3
 """Writes the man page `docs/millicent.1` from the tables of the program: the words of each command that is carried out and what it is
-for (`crates/mc_words`), the statuses with their lines (`status.rt`), the refusals (`crates/mc_records`), and the forms of the words
+for (`crates/command_table`), the statuses with their lines (`status.rt`), the refusals (`crates/mc_records`), and the forms of the words
 (`docs/FORMATS.md`). With `--check` nothing is written: the status is 1 where the page is not what they say. A table that is not
 found, or a row that can't be read, is an error."""
 import re
@@ -71,7 +71,7 @@ def documented(text, variant, where):
 
 def commands():
     """Of each command that is carried out: its words, and what it is for."""
-    table, usage = source("crates/mc_words/src/table.rt"), source("crates/mc_words/src/usage_lines.rt")
+    table, usage = source("crates/command_table/src/table.rt"), source("crates/command_table/src/usage_lines.rt")
     docs = dict(documented(part(table, "pub enum CommandName {", "\n}", "table.rt"), r"(\w+),", "table.rt"))
     lines = dict(re.findall(r'CommandName::(\w+) => (?:\{\s*)?Some\(\s*"usage: (millicent [^"]*)"', usage))
     count, names = re.search(r"CARRIED_OUT: \[CommandName; (\d+)\] = \[(.*?)\];", usage, re.S).groups()

@@ -18,7 +18,7 @@ use Rattle.scrip_journal.specs.Founds.{fault_disk, FoundNoOutput, CountsBy, Read
 use Rattle.house_opening.specs.Found.{FoundedFor, FoundsHouseBy}
 use Rattle.command_input.proofs.AsideLemmas.{TellsAside, no_more_still, aside_still, quiet_link}
 use Rattle.operator_command.specs.Operations.{full}
-use Rattle.mc_words.specs.Words.{Founder}
+use Rattle.site_words.specs.Words.{Founder}
 use Rattle.book_commands.specs.Founding.{site_of}
 use Rattle.command_status.specs.Faults.{fault_status}
 use Rattle.book_commands.specs.Init.{FoundPair, FoundsBy, FoundCauses}

@@ -10,7 +10,7 @@ use Rattle.millicent_http.specs.declared.clock.Clock.TheVariants.{OfLinks}
 use Rattle.millicent_http.specs.Courses.{AreRead, with_readings}
 use Rattle.command_status.specs.declared.status.Status.{Status}
 use Rattle.command_status.specs.declared.status.Status.TheVariants as ends
-use Rattle.mc_words.specs.Words.{Founder}
+use Rattle.site_words.specs.Words.{Founder}
 use Rattle.book_commands.specs.Founding.{site_of}
 use Rattle.book_commands.specs.Serving.{EncodesLawful}
 

@@ -9,7 +9,7 @@ ghost use Rattle.book_commands.specs.Founding.{site_of};
 use house_core::SiteKind;
 use mc_base::Moment;
 use mc_records::{PieceList, Record, SiteTerms};
-use mc_words::Founder;
+use site_words::Founder;
 
 /// The first entry of the book that is founded, as a house of this kind.
 pub(crate) fn site<'a>(founder: &'a Founder<'_>, kind: SiteKind, moment: Moment) -> Record<'a>

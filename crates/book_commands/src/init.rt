@@ -15,7 +15,7 @@ use house_core::Trade;
 use house_opening::found_house;
 use mc_outside::{Link, Outside};
 use mc_records::{Limits, PieceList};
-use mc_words::Founder;
+use site_words::Founder;
 use std::alloc::Global;
 
 /// Founds a site of the trade's kind in the book on the outside's disk, at the reading of the clock. The trade

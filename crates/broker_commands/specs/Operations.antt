@@ -9,9 +9,9 @@ use Rattle.broker_core.specs.Tasks.{account_task, deposit_task, withdraw_task, l
 use Rattle.licence_lines.specs.Licences.{IsTold}
 use Rattle.broker_commands.specs.declared.lines.TheConstants.{READY}
 use Rattle.broker_commands.specs.declared.operation.TheConstants.{MOST_LINES}
-use Rattle.mc_words.specs.declared.broker_operation.BrokerOperation.{BrokerOperation}
-use Rattle.mc_words.specs.declared.broker_operation.BrokerOperation.TheVariants as operations
-use Rattle.mc_words.specs.Words.{Opening, Payment, Inquiry, Taking, Stocking}
+use Rattle.site_words.specs.declared.broker_operation.BrokerOperation.{BrokerOperation}
+use Rattle.site_words.specs.declared.broker_operation.BrokerOperation.TheVariants as operations
+use Rattle.site_words.specs.Words.{Opening, Payment, Inquiry, Taking, Stocking}
 use Rattle.operator_command.specs.Operations.{OperationView}
 
 -- ---- the lines

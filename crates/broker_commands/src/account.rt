@@ -10,8 +10,8 @@ ghost use Rattle.broker_commands.specs.Operations.{account_line, account_operati
 use broker_core::{Desk, open_account};
 use house_core::{House, Outcome};
 use mc_outside::Disk;
-use mc_words::Opening;
 use operator_command::without_answer;
+use site_words::Opening;
 
 /// Opens an account.
 pub(crate) fn open<D: Disk>(opening: &Opening<'_>, house: House<D, Desk>) -> Outcome<D, Desk, ()>

@@ -12,7 +12,7 @@ use broker_core::Desk;
 use house_core::{House, Outcome};
 use mc_outside::Disk;
 use mc_records::Refusal;
-use mc_words::Inquiry;
+use site_words::Inquiry;
 
 /// Tells the balance of an account, and enters nothing.
 pub(crate) fn tell_balance<D: Disk>(

@@ -19,9 +19,9 @@ use broker_core::Desk;
 use house_core::{House, Outcome};
 use mc_base::NoMemory;
 use mc_outside::Disk;
-use mc_words::BrokerOperation;
 use operator_command::OperatorCommand;
 use scrip_form::Name;
+use site_words::BrokerOperation;
 use std::alloc::Global;
 use std::marker::Model;
 
@@ -35,7 +35,7 @@ pub struct DeskOperation<'a> {
 }
 
 impl<'a> Model for DeskOperation<'a> {
-    ghost use Rattle.mc_words.specs.declared.broker_operation.BrokerOperation.{BrokerOperation as Said};
+    ghost use Rattle.site_words.specs.declared.broker_operation.BrokerOperation.{BrokerOperation as Said};
 
     ghost Value = { Said };
 

@@ -12,8 +12,8 @@ use crate::lines::{end_by, lay_bare};
 use broker_core::{Desk, deposit, withdraw};
 use house_core::{House, Outcome};
 use mc_outside::Disk;
-use mc_words::Payment;
 use operator_command::without_answer;
+use site_words::Payment;
 
 /// Pays into an account, and ends its line by the balance.
 pub(crate) fn pay_in<D: Disk>(

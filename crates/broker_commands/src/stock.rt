@@ -12,8 +12,8 @@ use crate::lines::{end_by, lay_bare};
 use broker_core::{Desk, add_stock};
 use house_core::{House, Outcome};
 use mc_outside::Disk;
-use mc_words::Stocking;
 use operator_command::without_answer;
+use site_words::Stocking;
 
 /// Takes the pieces whose lines are the input as stock, and ends its line by their count.
 pub(crate) fn take_stock<D: Disk>(

@@ -11,7 +11,7 @@ use Rattle.hex.specs.Hex.{encode_lower, encode_with, lower_digits}
 use Rattle.scrip_form.specs.Issuing.{Issuing}
 use Rattle.scrip_form.specs.Scrip.{IsCert}
 use Rattle.scrip_form.specs.Texts.{IsName, is_letter_or_digit, is_name_byte, is_visible}
-use Rattle.mc_words.specs.Ranges.{joined}
+use Rattle.command_table.specs.Ranges.{joined}
 use Rattle.licence_lines.specs.Licences.{licence_line, LicenceFits, BeginsNoLicence, GoesOn, BreaksAt}
 use Rattle.licence_lines.specs.Fields.{cut, Fields, then_cut, six_words, fields_of, fields_text, licence_fields, SpellTerms}
 use Rattle.licence_lines.proofs.CutLaws.{IsFree, cut_sound, cut_again}

@@ -3,7 +3,7 @@ use Rattle.std.proofs.Common.{◌≡◌, ℕ, inl, inr, List, [], ◌∷◌, len
 use Rattle.std.proofs.lemmas.Option.{same_Some}
 use Rattle.std.proofs.lemmas.Fmt.{decimal_injective}
 use Rattle.scrip_form.specs.Issuing.{Issuing}
-use Rattle.mc_words.proofs.SecretLemmas.{same_secrets}
+use Rattle.command_table.proofs.SecretLemmas.{same_secrets}
 use Rattle.licence_lines.specs.Licences.{licence_line, LicenceFits, IsLicenceLine, BreaksAt, IsTold}
 use Rattle.licence_lines.specs.Fields.{cut, Fields, fields_of, fields_text, licence_fields}
 use Rattle.licence_lines.proofs.FieldLaws.{licence_words, fields_again, licence_cut}

@@ -1,7 +1,7 @@
 -- A line cut at its spaces.
 use Rattle.std.specs.Prelude.{◌≡◌, ℕ, ◌==◌, if◌then◌else◌, bytes_eq, List, [], ◌∷◌, ◌++◌, codes, decimal, Option, Some, None, option_map}
 use Rattle.scrip_form.specs.Issuing.{Issuing}
-use Rattle.mc_words.specs.Ranges.{joined}
+use Rattle.command_table.specs.Ranges.{joined}
 
 -- what stands before the first such byte, and what behind it
 unfoldable pub cut : ℕ → List ℕ → Option (List ℕ × List ℕ)

@@ -3,7 +3,7 @@ use Rattle.std.specs.Prelude.{◌≡◌, ◌⊎◌, ℕ, ◌<◌, List, [], ◌�
 use Rattle.mc_fields.specs.Texts.{IsNumber}
 use Rattle.scrip_form.specs.Issuing.{Issuing}
 use Rattle.scrip_form.specs.Texts.{IsName}
-use Rattle.mc_words.specs.Ranges.{AreTerms, joined}
+use Rattle.command_table.specs.Ranges.{AreTerms, joined}
 
 -- The line of a licence: the vendor, the issuer, the period and the life of its series, its secrets of scrip
 -- and of customers, as words are spelled.

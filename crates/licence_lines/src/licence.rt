@@ -1,13 +1,13 @@
 ghost use Rattle.std.specs.Prelude.{◌≡◌, ◌≤◌, ℕ, List, IfSome, IsNone};
 ghost use Rattle.scrip_form.specs.Issuing.{Issuing};
 ghost use Rattle.mc_fields.specs.Texts.{IsNumber};
-ghost use Rattle.mc_words.specs.Ranges.{AreTerms};
+ghost use Rattle.command_table.specs.Ranges.{AreTerms};
 ghost use Rattle.licence_lines.specs.Fields.{SpellTerms, fields_text, licence_fields};
 ghost use Rattle.licence_lines.specs.Views.{fields};
 ghost use Rattle.licence_lines.specs.Licences.{IsTold, LicenceFits};
 
 use crate::fields::{Words, cut, words_of};
-use mc_words::{number_from, secrets_of};
+use command_table::{number_from, secrets_of};
 use scrip_form::{Name, Terms};
 
 /// The greatest number of an issuer.

@@ -10,9 +10,9 @@ use Rattle.mc_words.specs.declared.command.Command.{Command}
 use Rattle.mc_words.specs.declared.command.Command.TheVariants as commands
 use Rattle.command_status.specs.declared.status.Status.{Status}
 use Rattle.command_status.specs.declared.status.Status.TheVariants as ends
-use Rattle.mc_words.specs.Words.{Shop}
-use Rattle.mc_words.specs.declared.wallet_operation.WalletOperation.{WalletOperation}
-use Rattle.mc_words.specs.declared.wallet_operation.WalletOperation.TheVariants as wallets
+use Rattle.site_words.specs.Words.{Shop}
+use Rattle.wallet_words.specs.declared.wallet_operation.WalletOperation.{WalletOperation}
+use Rattle.wallet_words.specs.declared.wallet_operation.WalletOperation.TheVariants as wallets
 use Rattle.mc_top.specs.Saying.{Says}
 use Rattle.command_status.specs.Statuses.{number_of, line_of}
 use Rattle.vendor_commands.specs.Operations.{operation_view}

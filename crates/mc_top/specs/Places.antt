@@ -2,9 +2,11 @@
 use Rattle.std.specs.Prelude.{◌≡◌, ◌⊎◌, ℕ, true, false, List, [], Some, None}
 use Rattle.mc_words.specs.declared.command.Command.{Command}
 use Rattle.mc_words.specs.declared.command.Command.TheVariants.{Once, Init, Serve, Play, Operate, BrokerInit, BrokerServe, BrokerOperate, WalletInit, WalletOperate, Report}
-use Rattle.mc_words.specs.declared.wallet_operation.WalletOperation.{WalletOperation}
-use Rattle.mc_words.specs.Commands.{AreWords, AreNoWords, book_of, broker_book_of, connect_of, wallet_book_of}
-use Rattle.mc_words.specs.Words.{Server}
+use Rattle.wallet_words.specs.declared.wallet_operation.WalletOperation.{WalletOperation}
+use Rattle.mc_words.specs.Commands.{AreWords, AreNoWords}
+use Rattle.site_words.specs.Commands.{book_of, broker_book_of}
+use Rattle.wallet_words.specs.Commands.{connect_of, wallet_book_of}
+use Rattle.site_words.specs.Words.{Server}
 use Rattle.mc_top.specs.declared.named.Places.{Places}
 
 -- words that name none

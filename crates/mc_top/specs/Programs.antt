@@ -10,7 +10,7 @@ use Rattle.mc_words.specs.declared.command.Command.{Command}
 use Rattle.mc_words.specs.declared.command.Command.TheVariants as commands
 use Rattle.command_status.specs.declared.status.Status.{Status}
 use Rattle.command_status.specs.declared.status.Status.TheVariants as ends
-use Rattle.mc_words.specs.Words.{Shop, Founder}
+use Rattle.site_words.specs.Words.{Shop, Founder}
 use Rattle.vendor_commands.specs.Course.{IsDone}
 use Rattle.vendor_commands.specs.Play.{ArePlayLines}
 use Rattle.mc_top.specs.Saying.{Says}

@@ -3,8 +3,10 @@ ghost use Rattle.mc_top.specs.Places.{ArePlaces, audited_places, founded_places,
 
 use crate::named::Places;
 use mc_base::{List, NoMemory};
-use mc_words::{Command, Server, WalletOperation, command_of};
+use mc_words::{Command, command_of};
+use site_words::Server;
 use std::alloc::Global;
+use wallet_words::WalletOperation;
 
 /// Tells what the words, those after the program's name, name: None, or no books, where they are of no
 /// command, or their command names none such.

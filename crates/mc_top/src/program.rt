@@ -22,11 +22,13 @@ use command_status::Status;
 use house_serving::BenchEnd;
 use mc_base::NoMemory;
 use mc_outside::{Disk, Link, Outside};
-use mc_words::{BrokerOperation, Command, Operation, Playing, Reporting, Shop, command_of};
+use mc_words::{Command, command_of};
+use site_words::{BrokerOperation, Operation, Playing, Shop};
 use std::alloc::Global;
 use vendor_commands::{VendorOperation, answer_play, serve_once};
 use vendor_core::Shelf;
 use wallet_commands::init;
+use wallet_words::Reporting;
 
 /// How the program ended: its status, and the outside and the books that it was given.
 #[derive(Drop)]

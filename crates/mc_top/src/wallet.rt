@@ -7,10 +7,10 @@ ghost use Rattle.mc_top.specs.Wallets.{WorksOn, bought, drawn, got};
 
 use command_status::Status;
 use mc_outside::Outside;
-use mc_words::{Buying, Drawing, Getting, WalletOperation};
 use std::alloc::Global;
 use wallet_commands::{list, pay, retry, take};
 use wallet_tasks::Ask;
+use wallet_words::{Buying, Drawing, Getting, WalletOperation};
 
 /// Has something done with the book of a wallet, and tells how it ended.
 pub(crate) fn work<O: Outside>(

@@ -1,10 +1,10 @@
 ghost use Rattle.std.specs.Prelude.{◌≡◌, ◌≢◌, ◌⊎◌, [], map, string_bytes};
-ghost use Rattle.mc_words.specs.Words.{Shop as Sold};
-ghost use Rattle.mc_words.specs.Commands.{AreOnceWords, AreNoOnceWords};
+ghost use Rattle.site_words.specs.Words.{Shop as Sold};
+ghost use Rattle.site_words.specs.Commands.{AreOnceWords, AreNoOnceWords};
 ghost use Rattle.vendor_commands.specs.Session.{IsSession};
 
 use command_status::Status;
-use mc_words::shop_of;
+use site_words::shop_of;
 use std::alloc::Global;
 use vendor_commands::reply_to_all;
 

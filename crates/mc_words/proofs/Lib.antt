@@ -1,10 +1,2 @@
-pub mod TableLemmas
-pub mod SecretLemmas
+pub mod CarriedLemmas
 pub mod WordLaws
-pub mod Rows
-pub mod WrongLemmas
-pub mod FitLemmas
-pub mod WalletFits
-pub mod BeginLemmas
-pub mod SecretWords
-pub mod UsageLemmas

@@ -1,7 +1,2 @@
-pub mod Table
-pub mod Ranges
-pub mod Words
-pub mod Views
 pub mod Commands
-pub mod Usage
 pub mod Wrong

@@ -1,17 +1,13 @@
 ghost use Rattle.std.specs.Prelude.{map, string_bytes, IfOk, IfSome, IsNone};
 ghost use Rattle.mc_words.specs.Commands.{AreWords, AreNoWords};
 
-use crate::broker_operation::{BrokerOperation, broker_operation_of};
-use crate::init::{BrokerFounder, VendorFounder};
-use crate::once::Shop;
-use crate::operation::{Operation, operation_of};
-use crate::play::Playing;
-use crate::reporting::Reporting;
-use crate::serve::{BrokerServer, Server, VendorServer};
-use crate::spelled::values_of;
-use crate::wallet_init::WalletFounder;
-use crate::wallet_operation::{WalletOperation, wallet_operation_of};
+use command_table::values_of;
+use site_words::{
+    BrokerFounder, BrokerOperation, BrokerServer, Operation, Playing, Server, Shop, VendorFounder,
+    VendorServer, broker_operation_of, operation_of,
+};
 use std::alloc::{AllocError, Global};
+use wallet_words::{Reporting, WalletFounder, WalletOperation, wallet_operation_of};
 
 /// What the words say to do.
 #[derive(Drop)]

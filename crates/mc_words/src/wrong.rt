@@ -1,38 +1,17 @@
 //! Which word of bad words is wrong.
 
-ghost use Rattle.std.specs.Prelude.{◌≡◌, ◌<◌, ◌++◌, ◌∷◌, ◌↔◌, List, [], true, false, codes, length, map, string_bytes, IfOk, IfSome, IsNone, IsTrue};
-ghost use Rattle.std.specs.List.{list_any};
-ghost use Rattle.std.specs.Str.{bytes_eq};
-ghost use Rattle.clap.specs.Walk.{Text};
-ghost use Rattle.command_words.specs.Arguments.{rule_of_argument, rules_of};
-ghost use Rattle.mc_words.specs.Table.{form_of};
-ghost use Rattle.mc_words.specs.Wrong.{AreTaken, EndInOption, GoOn, GoOnAs, IsFirstWrong, IsShown, IsToldOf, LackValue, MayBegin, ReadSecrets, is_option};
+ghost use Rattle.std.specs.Prelude.{◌<◌, ◌↔◌, length, map, string_bytes, IfOk, IsTrue};
+ghost use Rattle.mc_words.specs.Wrong.{GoOn, GoOnAs, IsFirstWrong, IsShown, IsToldOf};
 
-use crate::account::Opening;
-use crate::balance::Inquiry;
-use crate::buying::Buying;
-use crate::drawing::Drawing;
-use crate::getting::Getting;
-use crate::goods::Listing;
-use crate::init::{BrokerFounder, VendorFounder};
-use crate::licence::Licensing;
-use crate::mint::Minting;
-use crate::once::Shop;
-use crate::payment::{Deposit, Withdrawal};
-use crate::play::Playing;
-use crate::price::Pricing;
-use crate::reporting::Reporting;
-use crate::retrying::Retrying;
-use crate::serve::{BrokerServer, VendorServer};
-use crate::spelled::Spelled;
-use crate::stock::Stocking;
-use crate::table::{CommandName, parts_of, read_beginning_of};
-use crate::taking::Taking;
-use crate::usage_lines::CARRIED_OUT;
-use crate::wallet_book::{Filling, Telling};
-use crate::wallet_init::WalletFounder;
-use command_words::Argument;
+use command_table::{CARRIED_OUT, CommandName, may_begin, reads_secrets};
+use site_words::{
+    BrokerFounder, BrokerServer, Deposit, Inquiry, Licensing, Listing, Minting, Opening, Playing,
+    Pricing, Shop, Stocking, Taking, VendorFounder, VendorServer, Withdrawal,
+};
 use std::alloc::{AllocError, Global};
+use wallet_words::{
+    Buying, Drawing, Filling, Getting, Reporting, Retrying, Telling, WalletFounder,
+};
 
 /// What is told of a wrong word.
 #[derive(Clone, Copy)]
@@ -43,16 +22,6 @@ pub enum WrongWord<'a> {
     /// stand there.
     Place(usize),
 }
-
-/// The commands that read secrets.
-static WITH_SECRETS: [CommandName; 6] = [
-    CommandName::VendorInit,
-    CommandName::VendorLicence,
-    CommandName::VendorOnce,
-    CommandName::BrokerInit,
-    CommandName::BrokerAccount,
-    CommandName::WalletDraw,
-];
 
 /// The first word that no command could have there, given the words before; None where each could be there, so
 /// that words lack. An Err is want of memory alone.
@@ -73,26 +42,10 @@ fn shown<'a>(words: &'a [String], place: usize) -> WrongWord<'a>
     requires { place < length words.now }
     ensures { IsShown (map string_bytes words.entry.now) place result }
 {
-    if place >= 2 && read_secrets(words) {
+    if place >= 2 && reads_secrets(words) {
         return WrongWord::Place(place + 1);
     }
     WrongWord::Word(words[place].as_str())
-}
-
-/// Whether the words begin as those of a command that reads secrets.
-fn read_secrets(words: &[String]) -> bool
-    ensures { IsTrue result ↔ ReadSecrets (map string_bytes words.now) }
-{
-    let Some((role, command, _)) = parts_of(words) else {
-        return false;
-    };
-    for name in &WITH_SECRETS {
-        let form = name.form();
-        if role == form.role && command == form.name {
-            return true;
-        }
-    }
-    false
 }
 
 /// The place of the first word that is wrong, counted from 0.
@@ -149,124 +102,5 @@ fn go_on_as(alloc: Global, name: CommandName, words: &[String]) -> Result<bool, 
         CommandName::WalletList => may_begin::<Telling>(alloc, words),
         CommandName::AuditReport => may_begin::<Reporting>(alloc, words),
         _ => Ok(false),
-    }
-}
-
-/// Whether the words of the command of these values may begin with these.
-fn may_begin<'a, T: Spelled<'a>>(alloc: Global, words: &'a [String]) -> Result<bool, AllocError>
-    ensures { IfOk result (λ r. IsTrue r ↔ MayBegin T.named
-        (λ rows. (values : T) × T.finds rows values) (map string_bytes words.entry.now)) }
-{
-    let form = T::command().form();
-    let Some((role, command, behind)) = parts_of(words) else {
-        return Ok(is_role(words, form.role));
-    };
-    if role != form.role || command != form.name {
-        return Ok(false);
-    }
-    if are_taken::<T>(alloc, behind)? {
-        return Ok(true);
-    }
-    lack_value::<T>(alloc, behind)
-}
-
-/// Whether the one word is the role, where there is one.
-fn is_role(words: &[String], role: &str) -> bool
-    requires { length words.now < 2 }
-    ensures none { length words.now ≡ 0 → IsTrue result }
-    ensures one { (word : Text) → map string_bytes words.now ≡ word ∷ []
-        → (IsTrue result ↔ (word ≡ role.now)) }
-{
-    match words.split_first() {
-        Some((word, _)) => word.as_str() == role,
-        None => true,
-    }
-}
-
-/// Whether the words behind the name may become those of the values, by the words that lack.
-fn are_taken<'a, T: Spelled<'a>>(alloc: Global, words: &'a [String]) -> Result<bool, AllocError>
-    ensures { IfOk result (λ r. IsTrue r ↔ AreTaken (form_of T.named).rules
-        (λ rows. (values : T) × T.finds rows values) (map string_bytes words.entry.now)) }
-{
-    let Some(found) = read_beginning_of(alloc, T::command(), words)? else {
-        return Ok(false);
-    };
-    Ok(T::fits(&found))
-}
-
-/// Whether they may where the last one is an option, by its value and the words that lack.
-fn lack_value<'a, T: Spelled<'a>>(alloc: Global, words: &'a [String]) -> Result<bool, AllocError>
-    ensures { IfOk result (λ r. IsTrue r ↔ LackValue (form_of T.named).rules
-        (λ rows. (values : T) × T.finds rows values) (map string_bytes words.entry.now)) }
-{
-    let Some((front, name)) = last_option(T::command().form().arguments, words) else {
-        return Ok(false);
-    };
-    let Some(found) = read_beginning_of(alloc, T::command(), front)? else {
-        return Ok(false);
-    };
-    Ok(T::fits(&found) & found.value_of(name).is_none())
-}
-
-/// The words before the last one and its name, where that is an option with a value.
-fn last_option<'a>(
-    arguments: &'static [Argument],
-    words: &'a [String],
-) -> Option<(&'a [String], &'static str)>
-    ensures some { IfSome result (λ p. EndInOption (rules_of arguments.now)
-        (map string_bytes words.entry.now) (map string_bytes p.0.now) p.1.now) }
-    ensures none { IsNone result → (front : List Text) (name : Text)
-        → EndInOption (rules_of arguments.now) (map string_bytes words.entry.now) front name → ⊥ }
-{
-    let (last, front) = words.split_last()?;
-    if has_hyphens(front) {
-        return None;
-    }
-    let name = behind_hyphens(last.as_bytes())?;
-    let option = option_named(arguments, name)?;
-    Some((front, option))
-}
-
-/// What is behind `--` in a word.
-fn behind_hyphens(word: &[u8]) -> Option<&[u8]>
-    ensures some { IfSome result (λ name. word.now ≡ codes "--" ++ name.now) }
-    ensures none { IsNone result → (name : Text) → word.now ≡ codes "--" ++ name → ⊥ }
-{
-    match word {
-        [b'-', b'-', name @ ..] => Some(name),
-        _ => None,
-    }
-}
-
-/// Whether one of the words is `--`.
-fn has_hyphens(words: &[String]) -> bool
-    ensures { result ≡ list_any (λ word. bytes_eq (string_bytes word) (codes "--")) words.now }
-{
-    words.iter().any(|word| word.as_str() == "--")
-}
-
-/// The name of the option with a value that has this name.
-fn option_named(arguments: &'static [Argument], name: &[u8]) -> Option<&'static str>
-    ensures some { IfSome result (λ option. (option.now ≡ name.now)
-        × (list_any (is_option name.now) (rules_of arguments.now) ≡ true)) }
-    ensures none { IsNone result → list_any (is_option name.now) (rules_of arguments.now) ≡ false }
-{
-    for argument in arguments {
-        if let Some(option) = name_of(argument, name) {
-            return Some(option);
-        }
-    }
-    None
-}
-
-/// The name of the argument, where it is an option with a value that has this name.
-fn name_of(argument: &Argument, name: &[u8]) -> Option<&'static str>
-    ensures some { IfSome result (λ option. (option.now ≡ name.now)
-        × (is_option name.now (rule_of_argument argument.now) ≡ true)) }
-    ensures none { IsNone result → is_option name.now (rule_of_argument argument.now) ≡ false }
-{
-    match argument {
-        Argument::Value(option) if option.as_bytes() == name => Some(option),
-        _ => None,
     }
 }

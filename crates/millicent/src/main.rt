@@ -10,10 +10,11 @@ mod site;
 mod streams;
 
 use book::{Book, cause_of};
+use command_table::usage;
 use mc_base::{List, NoMemory};
 use mc_door::{call, listen};
 use mc_top::{Places, places, run};
-use mc_words::{WrongWord, usage, wrong_word};
+use mc_words::{WrongWord, wrong_word};
 use site::Site;
 use std::alloc::{AllocError, Global};
 use std::fs::File;

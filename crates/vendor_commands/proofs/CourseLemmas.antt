@@ -11,7 +11,7 @@ use Rattle.ledger_model.specs.Histories.{History}
 use Rattle.house_serving.specs.declared.serving.BenchEnd.TheVariants as ends
 use Rattle.house_core.specs.Session.{State, Step}
 use Rattle.house_serving.specs.Served.{Served}
-use Rattle.mc_words.specs.Words.{Shop}
+use Rattle.site_words.specs.Words.{Shop}
 use Rattle.operator_command.specs.Operations.{full}
 use Rattle.vendor_commands.specs.Opening.{opened}
 use Rattle.vendor_commands.specs.Course.{EndsOnce}

@@ -3,7 +3,7 @@ use Rattle.std.proofs.Common.{◌≡◌, ℕ, suc, ◌+◌, ◌<◌, List, [], �
 use Rattle.std.proofs.lemmas.List.{length-take-le}
 use Rattle.std.proofs.Math.Seq.{take-suc}
 use Rattle.hex.specs.Hex.{encode_lower}
-use Rattle.mc_words.specs.Ranges.{joined}
+use Rattle.command_table.specs.Ranges.{joined}
 
 -- a comma behind some secrets, nothing where there are none
 abbrev pub comma : List (List ℕ) → List ℕ

@@ -11,7 +11,7 @@ use Rattle.ledger_model.specs.Histories.{History}
 use Rattle.ledger_model.specs.Answer.{fitted}
 use Rattle.house_core.specs.declared.bench.Bench.{Bench}
 use Rattle.vendor_core.specs.declared.shelf.Shelf.{Shelf}
-use Rattle.mc_words.specs.Words.{Shop, IsShop}
+use Rattle.site_words.specs.Words.{Shop, IsShop}
 use Rattle.vendor_commands.specs.Opening.{terms_of, founding, licence, shop_goods, IsOpen, MayEnter}
 use Rattle.operator_command.specs.Operations.{full}
 

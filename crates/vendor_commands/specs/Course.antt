@@ -7,7 +7,7 @@ use Rattle.millicent_http.specs.Courses.{ServedAll, NoLink}
 use Rattle.house_core.specs.Session.{Step, State}
 use Rattle.house_serving.specs.declared.serving.BenchEnd.{BenchEnd}
 use Rattle.house_serving.specs.declared.serving.BenchEnd.TheVariants as ends
-use Rattle.mc_words.specs.Words.{Shop}
+use Rattle.site_words.specs.Words.{Shop}
 use Rattle.vendor_commands.specs.Opening.{opened}
 use Rattle.operator_command.specs.Operations.{full}
 

@@ -13,7 +13,7 @@ use Rattle.vendor_core.specs.declared.shelf.Shelf.{Shelf}
 use Rattle.vendor_core.specs.Shelf.{shelf_view}
 use Rattle.scrip_form.specs.Issuing.{Issuing}
 use Rattle.operator_command.specs.Operations.{full}
-use Rattle.mc_words.specs.Words.{Shop}
+use Rattle.site_words.specs.Words.{Shop}
 use Rattle.vendor_commands.specs.declared.shop.TheConstants.{KEEP, LIFE, PERIOD}
 
 -- the terms of an issuer of the shop, which are those of issuer 0 and of issuer 1 alike

@@ -5,10 +5,10 @@ use Rattle.mc_records.specs.declared.refusal.Refusal.TheVariants.{ContentsFull}
 use Rattle.ledger_model.specs.Houses.{site_name}
 use Rattle.house_core.specs.Tasks.{Refuse, after}
 use Rattle.vendor_core.specs.Tasks.{goods_task, price_task, terms_task, IsMintTask, IsMintAt, mint_lines}
-use Rattle.mc_words.specs.declared.operation.Operation.{Operation}
-use Rattle.mc_words.specs.declared.operation.Operation.TheVariants as operations
+use Rattle.site_words.specs.declared.operation.Operation.{Operation}
+use Rattle.site_words.specs.declared.operation.Operation.TheVariants as operations
 use Rattle.licence_lines.specs.Licences.{licence_line}
-use Rattle.mc_words.specs.Words.{Listing, Pricing, Licensing, Minting, licensed_terms}
+use Rattle.site_words.specs.Words.{Listing, Pricing, Licensing, Minting, licensed_terms}
 use Rattle.operator_command.specs.Operations.{full, OperationView}
 
 -- ---- the lines

@@ -3,7 +3,7 @@ use Rattle.std.specs.Prelude.{◌≡◌, ℕ, List}
 use Rattle.millicent_http.specs.Steps.{Did, sent_of}
 use Rattle.millicent_http.specs.Steps as runs
 use Rattle.house_core.specs.Session.{Step, State}
-use Rattle.mc_words.specs.Words.{Shop}
+use Rattle.site_words.specs.Words.{Shop}
 use Rattle.vendor_commands.specs.Opening.{opened}
 use Rattle.operator_command.specs.Operations.{full}
 

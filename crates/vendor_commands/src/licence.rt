@@ -10,8 +10,8 @@ ghost use Rattle.vendor_commands.specs.Operations.{licence_operation, begins_lic
 
 use house_core::{House, Outcome};
 use mc_outside::Disk;
-use mc_words::Licensing;
 use operator_command::without_answer;
+use site_words::Licensing;
 use vendor_core::{Shelf, add_terms};
 
 /// Takes scrip of an issuer from now on.

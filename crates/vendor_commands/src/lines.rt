@@ -1,7 +1,7 @@
 //! The lines that are said of what a vendor's operator has done, and of a play.
 
 ghost use Rattle.std.specs.Prelude.{◌≡◌, ◌++◌, OnOk, IfOk, codes, decimal};
-ghost use Rattle.mc_words.specs.Ranges.{joined};
+ghost use Rattle.command_table.specs.Ranges.{joined};
 ghost use Rattle.licence_lines.specs.Licences.{licence_line};
 ghost use Rattle.vendor_commands.specs.Operations.{goods_line};
 ghost use Rattle.vendor_commands.specs.Play.{play_line, play_lines};

@@ -10,8 +10,8 @@ ghost use Rattle.vendor_commands.specs.Operations.{mint_operation};
 
 use house_core::{House, Outcome};
 use mc_outside::Disk;
-use mc_words::Minting;
 use operator_command::without_answer;
+use site_words::Minting;
 use vendor_core::{Shelf, mint};
 
 /// Mints pieces of the vendor's own scrip, and appends their lines to an empty line.

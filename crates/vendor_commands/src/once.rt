@@ -8,8 +8,8 @@ use crate::shop::open_shop;
 use house_serving::{BenchEnd, reply_to_link, serve_bench_by};
 use mc_base::{Moment, NoMemory};
 use mc_outside::Link;
-use mc_words::Shop;
 use millicent_http::Clock;
+use site_words::Shop;
 use std::alloc::Global;
 
 /// Opens the shop, takes one link, where one comes, and serves it. The clock stands at 0.

@@ -18,9 +18,9 @@ use house_core::{House, Outcome};
 use mc_base::NoMemory;
 use mc_outside::Disk;
 use mc_records::MOST_CONTENTS;
-use mc_words::Operation;
 use operator_command::OperatorCommand;
 use scrip_form::Name;
+use site_words::Operation;
 use std::alloc::Global;
 use std::marker::Model;
 use vendor_core::Shelf;
@@ -32,7 +32,7 @@ pub struct VendorOperation<'a> {
 }
 
 impl<'a> Model for VendorOperation<'a> {
-    ghost use Rattle.mc_words.specs.declared.operation.Operation.{Operation as Said};
+    ghost use Rattle.site_words.specs.declared.operation.Operation.{Operation as Said};
 
     ghost Value = { Said };
 

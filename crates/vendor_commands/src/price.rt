@@ -10,8 +10,8 @@ ghost use Rattle.vendor_commands.specs.Operations.{price_operation, begins_price
 
 use house_core::{House, Outcome};
 use mc_outside::Disk;
-use mc_words::Pricing;
 use operator_command::without_answer;
+use site_words::Pricing;
 use vendor_core::{Shelf, set_price};
 
 /// Sells goods at another price.

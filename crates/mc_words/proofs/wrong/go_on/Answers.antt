@@ -1,9 +1,9 @@
 use Rattle.std.proofs.Common.{map, string_bytes, get_or, sym, subst, arith, below_more}
 use Rattle.std.proofs.lemmas.List.{get_or_default}
-use Rattle.mc_words.specs.declared.table.CommandName.{CommandName}
-use Rattle.mc_words.specs.declared.usage_lines.TheConstants.{CARRIED_OUT}
+use Rattle.command_table.specs.declared.table.CommandName.{CommandName}
+use Rattle.command_table.specs.declared.usage_lines.TheConstants.{CARRIED_OUT}
 use Rattle.mc_words.specs.Wrong.{GoOnAs}
-use Rattle.mc_words.proofs.BeginLemmas.{carried_out}
+use Rattle.mc_words.proofs.CarriedLemmas.{carried_out}
 use Rattle.mc_words.proofs.wrong.go_on.Goals as goal
 
 pub loop-name-preserved : goal.loop-name-preserved

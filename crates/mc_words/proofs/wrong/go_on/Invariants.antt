@@ -1,6 +1,6 @@
 use Rattle.std.proofs.Common.{ℕ, ◌<◌, get_or, map, string_bytes}
-use Rattle.mc_words.specs.declared.table.CommandName.{CommandName}
-use Rattle.mc_words.specs.declared.usage_lines.TheConstants.{CARRIED_OUT}
+use Rattle.command_table.specs.declared.table.CommandName.{CommandName}
+use Rattle.command_table.specs.declared.usage_lines.TheConstants.{CARRIED_OUT}
 use Rattle.mc_words.specs.Wrong.{GoOnAs}
 use Rattle.mc_words.proofs.wrong.go_on.Given as goal
 

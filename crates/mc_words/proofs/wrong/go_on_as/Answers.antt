@@ -1,5 +1,5 @@
-use Rattle.mc_words.specs.declared.table.CommandName.TheVariants as names
-use Rattle.mc_words.proofs.BeginLemmas.{goes_as, some_vendor_init, some_vendor_goods, some_vendor_price, some_vendor_licence, some_vendor_mint, some_vendor_serve, some_vendor_once, some_vendor_play, some_broker_init, some_broker_account, some_broker_deposit, some_broker_withdraw, some_broker_balance, some_broker_licence, some_broker_stock, some_broker_serve, some_wallet_init, some_wallet_take, some_wallet_draw, some_wallet_buy, some_wallet_get, some_wallet_retry, some_wallet_list, some_audit_report}
+use Rattle.command_table.specs.declared.table.CommandName.TheVariants as names
+use Rattle.mc_words.proofs.CarriedLemmas.{goes_as, some_vendor_init, some_vendor_goods, some_vendor_price, some_vendor_licence, some_vendor_mint, some_vendor_serve, some_vendor_once, some_vendor_play, some_broker_init, some_broker_account, some_broker_deposit, some_broker_withdraw, some_broker_balance, some_broker_licence, some_broker_stock, some_broker_serve, some_wallet_init, some_wallet_take, some_wallet_draw, some_wallet_buy, some_wallet_get, some_wallet_retry, some_wallet_list, some_audit_report}
 use Rattle.mc_words.proofs.wrong.go_on_as.Goals as goal
 
 pub returns-in-VendorInit : goal.returns-in-VendorInit

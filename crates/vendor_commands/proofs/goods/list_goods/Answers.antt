@@ -5,7 +5,7 @@ use Rattle.mc_records.specs.declared.ranges.TheConstants.{MOST_CONTENTS}
 use Rattle.mc_records.specs.declared.refusal.Refusal.TheVariants.{ContentsFull}
 use Rattle.vendor_core.specs.Shelf.{shelf_view}
 use Rattle.vendor_core.specs.Tasks.{goods_task}
-use Rattle.mc_words.specs.Words.{Pricing}
+use Rattle.site_words.specs.Words.{Pricing}
 use Rattle.vendor_commands.specs.Operations.{goods_operation}
 use Rattle.operator_command.proofs.CommandLemmas.{back_as, performs_as, performs_refused}
 use Rattle.vendor_commands.proofs.goods.list_goods.Goals as goal

@@ -1,5 +1,5 @@
 use Rattle.std.proofs.Common.{◌≡◌, ◌++◌, codes, take}
-use Rattle.mc_words.specs.Ranges.{joined}
+use Rattle.command_table.specs.Ranges.{joined}
 use Rattle.vendor_commands.proofs.lines.append_secrets.Given as goal
 
 abbrev pub invariant-loop-i : goal.invariant-loop-i

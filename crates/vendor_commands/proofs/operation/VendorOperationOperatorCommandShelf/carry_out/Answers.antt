@@ -1,5 +1,5 @@
 use Rattle.std.proofs.Common.{◌≡◌, ◌∙◌, sym}
-use Rattle.mc_words.specs.declared.operation.Operation.TheVariants as operations
+use Rattle.site_words.specs.declared.operation.Operation.TheVariants as operations
 use Rattle.vendor_commands.proofs.operation.VendorOperationOperatorCommandShelf.carry_out.Goals as goal
 
 pub returns-in-Goods-clause-exact : goal.returns-in-Goods-clause-exact

@@ -1,0 +1,9 @@
+pub mod TableLemmas
+pub mod SecretLemmas
+pub mod SecretWords
+pub mod UsageLemmas
+pub mod Rows
+pub mod SpellLemmas
+pub mod BeginLemmas
+pub mod Samples
+pub mod OneLemmas

@@ -1,9 +1,0 @@
-use Rattle.std.proofs.Common.{◌≡◌, ◌∙◌, true, ap, not, is_some}
-use Rattle.mc_words.specs.Ranges.{IsPathOrAddress}
-use Rattle.mc_words.proofs.WrongLemmas.{borrowed, is_there}
-use Rattle.mc_words.proofs.may.may_place.Goals as goal
-
-pub returns-else-is_none : goal.returns-else-is_none
-returns-else-is_none c =
-    let some : is_some c.value_of.result ≡ true = c.is_none.ensures ∙ ap not c.if-is_none.false in
-    rw c.is_some.ensures (borrowed _ IsPathOrAddress c.place_in.result c.place_in.ensures.some c.place_in.ensures.none (is_there c.value_of.result _ some c.value_of.ensures))

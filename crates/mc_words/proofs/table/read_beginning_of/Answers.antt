@@ -1,8 +1,0 @@
-use Rattle.std.proofs.Common.{◌∙◌, List, ap, map}
-use Rattle.clap.specs.Walk.{Rule}
-use Rattle.command_words.specs.Arguments.{is_exact, optional}
-use Rattle.mc_words.proofs.WrongLemmas.{optional_exact}
-use Rattle.mc_words.proofs.table.read_beginning_of.Goals as goal
-
-pub read_beginning-requires : goal.read_beginning-requires
-read_beginning-requires c = ap (λ (rules : List Rule). is_exact (map optional rules)) c.form.ensures.rules ∙ optional_exact c.args.name

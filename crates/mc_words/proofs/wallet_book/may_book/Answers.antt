@@ -1,7 +1,0 @@
-use Rattle.mc_words.proofs.WalletFits.{wallet_book_fits, wallet_book_spells}
-use Rattle.mc_words.proofs.wallet_book.may_book.Goals as goal
-
-pub returns : goal.returns
-returns c =
-    let each = c.may_place.ensures in
-    (λ t. let p = each.0 t in wallet_book_fits c.args.found.now p, λ may. let s = wallet_book_spells c.args.found.now may in each.1 s)

@@ -1,8 +1,0 @@
-use Rattle.std.proofs.Common.{◌≡◌, ℕ, ◌<◌, get_or}
-use Rattle.mc_words.specs.declared.table.CommandName.{CommandName}
-use Rattle.mc_words.specs.declared.wrong.TheConstants.{WITH_SECRETS}
-use Rattle.mc_words.specs.Table.{form_of}
-use Rattle.mc_words.proofs.wrong.read_secrets.Given as goal
-
-abbrev pub invariant-loop-name : goal.invariant-loop-name
-invariant-loop-name l = (k : ℕ) → k < l.name-index → (d : CommandName) → l.role ≡ (form_of (get_or WITH_SECRETS k d)).role → l.command ≡ (form_of (get_or WITH_SECRETS k d)).name → ⊥

@@ -1,0 +1,4 @@
+pub mod Ranges
+pub mod Words
+pub mod Views
+pub mod Commands
