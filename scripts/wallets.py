@@ -230,7 +230,8 @@ class Village:
         """Tries each kept request again over links that lose nothing."""
         for name, link in self.links.items():
             link.is_whole = True
-            for _ in range(1000):
+            # At most as many are kept as there were commands.
+            for _ in range(self.counts["commands"] + 1):
                 status, said = self.wallet.try_out("retry", name, link.address)
                 if (status, said) == (7, b"refused 67 Nothing\n"):
                     break
