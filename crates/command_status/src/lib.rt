@@ -5,4 +5,4 @@ mod fault;
 mod status;
 
 pub use fault::not_opened;
-pub use status::{Status, digits_of_id};
+pub use status::Status;

@@ -1,14 +1,13 @@
 //! The statuses that the program ends with.
 
 ghost use Rattle.std.specs.Prelude.{◌≡◌, ◌+◌, ◌≤◌, ◌++◌, length, take, codes, decimal};
-ghost use Rattle.scrip_form.specs.Scrip.{id_digits};
 ghost use Rattle.command_status.specs.declared.status.Status.TheVariants.{Refused, Stranger};
 ghost use Rattle.command_status.specs.Statuses.{number_of, line_of, IsMade};
 
 use mc_base::List;
 use mc_fields::{put, put_number};
 use mc_records::{Refusal, put_refusal_text};
-use scrip_form::{Id, Name};
+use scrip_form::{Id, Name, digits_of_id};
 
 /// How the program ends. What is said with each is in `docs/FORMATS.md`.
 #[derive(Drop)]
@@ -123,13 +122,4 @@ fn put_stranger(out: &mut [u8; 256], name: &Name, id: Id) -> usize
     let at = put(out, at, b" ");
     let at = put(out, at, &digits_of_id(id));
     put(out, at, b"\n")
-}
-
-/// The 16 lower-case hex digits of an identity, as lines tell it.
-pub fn digits_of_id(id: Id) -> [u8; 16]
-    ensures { result ≡ id_digits id }
-{
-    let mut digits = [0; 16];
-    hex::encode_to_slice(id.number().to_be_bytes(), &mut digits).unwrap();
-    digits
 }

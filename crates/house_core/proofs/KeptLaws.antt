@@ -39,7 +39,7 @@ is_goods : (target : List ℕ) (e : Entry) → is_goods_of target e ≡ true →
 is_goods target (Goods m at price kind contents) is = tt
 is_goods target _ is = absurd (false≢true is)
 
-replaces_shorter : (h more : History) (n m : ℕ) → m < length h → Replaces (h ++ more) n m → Replaces h n m
+pub replaces_shorter : (h more : History) (n m : ℕ) → m < length h → Replaces (h ++ more) n m → Replaces h n m
 replaces_shorter h more n m within r =
     let later : n < m = r.later in
     record {

@@ -82,13 +82,13 @@ new_pieces known ps (q ∷ qs) same distinct new =
     let more : Same (q.id ∷ known) (ps ++ q ∷ []) = λ id. ap (λ (b : Bool). eqb q.id id || b) (same id) ∙ sym (any_snoc ps q id) in
     subst AreDistinct (append_assoc ps (q ∷ []) qs) (new_pieces (q.id ∷ known) (ps ++ q ∷ []) qs more (snoc_distinct ps q distinct free) parts.1)
 
-abbrev IsStock : List ℕ → Scrip → Type 0
+abbrev pub IsStock : List ℕ → Scrip → Type 0
 IsStock vendor p = IsTrue (may_be_stock vendor p)
 
-abbrev passes : List ℕ → Held → Bool
+abbrev pub passes : List ℕ → Held → Bool
 passes vendor held = unwrap_or (option_map (may_be_stock vendor) (held_piece held)) false
 
-all_stock : (vendor : List ℕ) (helds : List Held) → list_all (passes vendor) helds ≡ true → AllByRecursion (IsStock vendor) (held_pieces helds)
+pub all_stock : (vendor : List ℕ) (helds : List Held) → list_all (passes vendor) helds ≡ true → AllByRecursion (IsStock vendor) (held_pieces helds)
 all_stock vendor [] e = tt
 all_stock vendor (x ∷ xs) e =
     let parts = and_parts (passes vendor x) (list_all (passes vendor) xs) e in

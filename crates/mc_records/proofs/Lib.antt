@@ -8,3 +8,4 @@ pub mod ReadLaws
 pub mod PayloadSizes
 pub mod SizeLaws
 pub mod ErrandLaws
+pub mod TargetLaws

@@ -19,7 +19,7 @@ pub use clock::Clock;
 pub use item::{After, HeadOut, HeadRefusal, ItemRef};
 pub use law::{a_refusal_has_a_status, a_request_asks_a_target, one_reading};
 pub use reader::{HeadReader, MAX_HEAD, MAX_ITEMS};
-pub use reply::ReplyHead;
+pub use reply::{ReplyHead, or_dash, put_field};
 pub use reply_head::write_reply_head;
 pub use reply_text::write_reply_text;
 pub use scan::{find_end, skip_line_ends};

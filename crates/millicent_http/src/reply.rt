@@ -26,8 +26,8 @@ pub struct ReplyHead<'a> {
     pub sign: Option<[u8; 16]>,
 }
 
-/// Writes a field line at a place of the buffer, and answers the place behind it.
-pub(crate) fn put_field(out: &mut [u8], at: usize, name: &[u8], value: &[u8]) -> usize
+/// Writes a field line, `NAME: VALUE` and its line end, at a place of the buffer, and answers the place behind it.
+pub fn put_field(out: &mut [u8], at: usize, name: &[u8], value: &[u8]) -> usize
     requires { at + length name.now + length value.now + 4 ≤ length out.old }
     ensures end { result ≡ at + length name.now + length value.now + 4 }
     ensures put { take result out.new ≡ take at out.old ++ field name.now value.now }
@@ -38,8 +38,8 @@ pub(crate) fn put_field(out: &mut [u8], at: usize, name: &[u8], value: &[u8]) ->
     put(out, at, b"\r\n")
 }
 
-/// The value, or a dash where there is none.
-pub(crate) fn or_dash<'a>(value: Option<&'a [u8]>) -> &'a [u8]
+/// The value, or a dash where there is none, as it stands in fields and in what is signed.
+pub fn or_dash<'a>(value: Option<&'a [u8]>) -> &'a [u8]
     ensures { result.now ≡ or_dash (seen value.entry) }
 {
     value.unwrap_or(b"-")

@@ -23,7 +23,7 @@ pub response_reads : (digits reason : List ℕ) (xs : List (List ℕ × List ℕ
 response_reads digits reason xs h = (h, sym (printed_response digits reason xs) ∙ sym (append-nil (print_response (response_tree digits reason xs))))
 
 -- so many of some bytes that are at least as many as those at the front
-take_over : (k : ℕ) (front more : List ℕ) → length front ≤ k → take k (front ++ more) ≡ front ++ take (k - length front) more
+pub take_over : (k : ℕ) (front more : List ℕ) → length front ≤ k → take k (front ++ more) ≡ front ++ take (k - length front) more
 take_over k [] more h = let e : k - 0 ≡ k = omega arith in rw e refl
 take_over zero (c ∷ front) more h = absurd (omega (arith, h))
 take_over (suc k) (c ∷ front) more h =
@@ -31,7 +31,7 @@ take_over (suc k) (c ∷ front) more h =
     ap (λ (z : List ℕ). c ∷ z) (take_over k front more (omega (arith, h)) ∙ ap (λ (n : ℕ). front ++ take n more) (sym e))
 
 -- the front up to its end, with no line ends before it
-whole_front : (front behind : List ℕ) → line_ends (front ++ behind) ≡ 0 → slice_range (front ++ behind) (line_ends (front ++ behind)) (length front) ≡ front
+pub whole_front : (front behind : List ℕ) → line_ends (front ++ behind) ≡ 0 → slice_range (front ++ behind) (line_ends (front ++ behind)) (length front) ≡ front
 whole_front front behind starts =
     range_whole (front ++ behind) (line_ends (front ++ behind)) (length front)
     ∙ ap (λ (i : ℕ). drop i (take (length front) (front ++ behind))) starts

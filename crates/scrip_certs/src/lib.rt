@@ -15,4 +15,4 @@ mod signatures;
 
 pub use certificates::{certificate, customer_secret};
 pub use hex_text::{hex_of, of_hex};
-pub use signatures::{sign_reply, sign_request};
+pub use signatures::{add_request, sign_reply, sign_request};

@@ -39,8 +39,8 @@ pub fn sign_reply(
     hasher.finalize()
 }
 
-/// Adds the scrip text and the request text, each with its line feed.
-fn add_request(hasher: &mut Md5, scrip: &[u8], target: &[u8])
+/// Adds the scrip text and the request text, each with its line feed: what every signature begins with.
+pub fn add_request(hasher: &mut Md5, scrip: &[u8], target: &[u8])
     ensures { (m : List ℕ) → Holds hasher.old m
         → Holds hasher.new (m ++ (line scrip.now ++ line (request_text target.now))) }
 {

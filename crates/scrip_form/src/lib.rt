@@ -31,6 +31,7 @@ pub use read::{FormFault, read_scrip};
 pub use scrip_ref::ScripRef;
 pub use scrip_text::ScripText;
 pub use secrets::Secrets;
+pub use small_text::with_zeros;
 pub use target::{Target, TargetRule};
 pub use terms::Terms;
-pub use write::write_scrip;
+pub use write::{digits_of_id, write_scrip};

@@ -45,8 +45,8 @@ impl<const N: usize> SmallText<N> {
     }
 }
 
-/// The bytes, with zeros behind them.
-fn with_zeros<const N: usize>(bytes: &[u8]) -> [u8; N]
+/// The bytes, with zeros behind them up to the length of the array.
+pub fn with_zeros<const N: usize>(bytes: &[u8]) -> [u8; N]
     requires { length bytes.now ≤ N }
     ensures { result ≡ padded 0 N bytes.now }
 {

@@ -38,7 +38,8 @@ fn put_field(out: &mut [u8; 512], at: usize, field: &[u8]) -> usize
     put(out, at, b"|")
 }
 
-fn digits_of_id(id: Id) -> [u8; 16]
+/// The 16 lower-case hex digits of an identity, as a scrip text and lines tell it.
+pub fn digits_of_id(id: Id) -> [u8; 16]
     ensures { result ≡ id_digits id }
 {
     let mut digits = [0; 16];

@@ -1,6 +1,5 @@
 pub mod SlowLaws
 pub mod CountLaws
-pub mod ErrandTargets
 pub mod Found
 pub mod NewLaws
 pub mod TableSteps

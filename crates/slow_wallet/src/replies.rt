@@ -15,11 +15,12 @@ use itoa::Buffer;
 use mc_base::NoMemory;
 use mc_fields::append_both;
 use mc_records::{PieceList, Refusal};
+use millicent_http::or_dash;
 use piece_lines::{PieceLinesFault, PieceRule, read_piece_lines};
 use reply_reader::ReplyRef;
 use scrip_certs::{hex_of, sign_reply};
 use std::alloc::Global;
-use wallet_tasks::{RequestRef, fits_request, or_dash};
+use wallet_tasks::{RequestRef, fits_request};
 
 // ---- the piece in the contents
 

@@ -11,9 +11,10 @@ ghost use Rattle.wallet_tasks.specs.Requests.{request_view};
 
 use mc_base::NoMemory;
 use mc_fields::append_both;
+use millicent_http::or_dash;
 use scrip_certs::{hex_of, sign_request};
 use std::alloc::{AllocError, Global};
-use wallet_tasks::{RequestRef, or_dash};
+use wallet_tasks::RequestRef;
 
 fn write_field(out: &mut Vec<u8>, name: &[u8], value: &[u8]) -> Result<(), AllocError>
     ensures { Appends out.old.items out.new.items (texts.field name.now value.now) result }

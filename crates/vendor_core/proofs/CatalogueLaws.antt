@@ -18,6 +18,7 @@ use Rattle.vendor_core.specs.declared.edition.Article.{Article}
 use Rattle.vendor_core.specs.declared.catalogue.Replaced.{Replaced}
 use Rattle.vendor_core.specs.Editions.{edition_of, sold_at, goods_entry, sold_by_entry, sold_by, IsEditionOf, IsSoldAt, IsReplacement, replaced_by, may_be_brought, IsFirstNeeded, IsListed, ShowsGoods}
 use Rattle.vendor_core.proofs.GoodsLaws.{BringsNoGoods, bytes_same, bytes_eq_turned, goods_snoc}
+use Rattle.house_core.proofs.KeptLaws.{replaces_shorter}
 
 -- ---- options
 
@@ -53,16 +54,6 @@ replaces_longer h more n m r =
       target = r.target;
       replaced = ap (option_map (is_goods_of r.target)) (get_stays h more n (omega arith)) ∙ r.replaced;
       replacing = ap (option_map (is_goods_of r.target)) (get_stays h more m within) ∙ r.replacing;
-    }
-
-replaces_shorter : (h more : History) (n m : ℕ) → m < length h → Replaces (h ++ more) n m → Replaces h n m
-replaces_shorter h more n m within r =
-    let later : n < m = r.later in
-    record {
-      later = later;
-      target = r.target;
-      replaced = ap (option_map (is_goods_of r.target)) (sym (get_stays h more n (omega arith))) ∙ r.replaced;
-      replacing = ap (option_map (is_goods_of r.target)) (sym (get_stays h more m within)) ∙ r.replacing;
     }
 
 -- what replaces goods in a history with one more entry stood before, or is that entry

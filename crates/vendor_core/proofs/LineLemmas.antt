@@ -13,10 +13,11 @@ use Rattle.mc_records.specs.Entry.{House, Entry, Site, Mint, Fits, SiteFits}
 use Rattle.ledger_model.specs.declared.numbers.TheConstants.{VENDOR_KIND}
 use Rattle.ledger_model.specs.Histories.{History}
 use Rattle.ledger_model.specs.Houses.{site_name, site_kind, own_series, terms_of, all_terms, terms_by, terms_in, version}
-use Rattle.ledger_model.specs.Lawful.{MayFollow, AllFollow, IsLawful}
+use Rattle.ledger_model.specs.Lawful.{AllFollow, IsLawful}
 use Rattle.ledger_model.specs.Pieces.{first_hand, run_from, minted_pieces, own_count}
 use Rattle.vendor_core.specs.Tasks.{mint_lines}
 use Rattle.vendor_core.specs.Lines.{own_line, piece_lines}
+use Rattle.ledger_model.proofs.LawfulLaws.{follows_at}
 
 -- the end of the series of an epoch below 2^24 is one that a piece may have
 pub ends_in_range : (t : Issuing) (epoch : ℕ) → HasPeriod t.period t.life → epoch < 2 ^ 24 → (0 < series_end t epoch) × (series_end t epoch ≤ 2 ^ 49)
@@ -92,15 +93,6 @@ front (Site sm k name house ∷ es) (suc n) m reference count value first fits k
           ∙ sym (ap (λ (o : Option House). terms_in (Site sm k name o ∷ es) 0) f.1 ∙ own_first sm k name f.0 es f.2),
     )
 front (_ ∷ es) n m reference count value first fits kind is = absurd cc
-
--- where all follow, the entry of each number may follow those before it
-follows_at : (limits : Limits) (before es : History) (n : ℕ) (e : Entry) → AllFollow limits before es → slice_get es n ≡ Some e → MayFollow limits (before ++ take n es) e
-follows_at limits before [] n e all is = absurd cc
-follows_at limits before (x ∷ xs) zero e all is =
-    let same : x ≡ e = cc in
-    subst (λ (h : History). MayFollow limits h e) (sym (append-nil before)) (subst (λ (y : Entry). MayFollow limits before y) same all.0)
-follows_at limits before (x ∷ xs) (suc n) e all is =
-    subst (λ (h : History). MayFollow limits h e) (append_assoc before (x ∷ []) (take n xs)) (follows_at limits (before ++ x ∷ []) xs n e all.1 is)
 
 all_follow : (limits : Limits) (h : History) → IsLawful limits h → AllFollow limits [] h
 all_follow limits [] lawful = tt

@@ -11,29 +11,14 @@ use Rattle.ledger_model.specs.Stock.{held_piece, held_pieces, ids_of, may_be_sto
 use Rattle.ledger_model.specs.Laws.{AreDistinct}
 use Rattle.ledger_model.proofs.ListLaws.{all_append}
 use Rattle.ledger_model.proofs.AcceptLaws.{snoc_distinct}
+use Rattle.ledger_model.proofs.StockLaws.{IsStock, all_stock}
 
 -- ---- what may be stock
-
-abbrev IsStock : List ℕ → Scrip → Type 0
-IsStock vendor p = IsTrue (may_be_stock vendor p)
-
-abbrev passes : List ℕ → Held → Bool
-passes vendor held = unwrap_or (option_map (may_be_stock vendor) (held_piece held)) false
-
-all_fit : (vendor : List ℕ) (helds : List Held) → list_all (passes vendor) helds ≡ true → AllByRecursion (IsStock vendor) (held_pieces helds)
-all_fit vendor [] e = tt
-all_fit vendor (x ∷ xs) e =
-    let parts = and_parts (passes vendor x) (list_all (passes vendor) xs) e in
-    go (held_piece x) parts.0 (all_fit vendor xs parts.1)
-  where
-    go : (o : Option Scrip) → unwrap_or (option_map (may_be_stock vendor) o) false ≡ true → AllByRecursion (IsStock vendor) (held_pieces xs) → AllByRecursion (IsStock vendor) (cons_option o (held_pieces xs))
-    go None p rest = rest
-    go (Some q) p rest = (p, rest)
 
 pub fits_more : (vendor : List ℕ) (old more : List Held) → list_all (λ held. unwrap_or (option_map (may_be_stock vendor) (held_piece held)) false) more ≡ true
     → AllByRecursion (λ p. IsTrue (may_be_stock vendor p)) (held_pieces old) → AllByRecursion (λ p. IsTrue (may_be_stock vendor p)) (held_pieces (old ++ more))
 fits_more vendor old more may fits =
-    subst (AllByRecursion (IsStock vendor)) (sym (filter_map-append held_piece old more)) (all_append (IsStock vendor) (held_pieces old) (held_pieces more) fits (all_fit vendor more may))
+    subst (AllByRecursion (IsStock vendor)) (sym (filter_map-append held_piece old more)) (all_append (IsStock vendor) (held_pieces old) (held_pieces more) fits (all_stock vendor more may))
 
 -- ---- identities that stand once
 

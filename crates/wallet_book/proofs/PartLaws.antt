@@ -1,12 +1,12 @@
 -- What is kept of pieces and requests, with one entry more.
 use Rattle.std.proofs.Common.{◌≡◌, ℕ, suc, ◌+◌, ◌≤◌, Bool, true, false, ◌&&◌, ◌||◌, cond, not, List, [], ◌∷◌, ◌++◌, length, map, Option, Some, None, refl, sym, ap, ◌∙◌, append_assoc, append-nil, arith, unwrap_or}
 use Rattle.std.proofs.lemmas.List.Folds.{list_any-append}
-use Rattle.std.specs.List.{list_any, AllByRecursion}
+use Rattle.std.specs.List.{AllByRecursion}
 use Rattle.mc_records.specs.Entry.{Held, Entry}
 use Rattle.ledger_model.specs.Histories.{History}
 use Rattle.ledger_model.specs.Pieces.{piece_of}
 use Rattle.wallet_model.specs.Holdings as model
-use Rattle.wallet_model.specs.Holdings.{PieceState, held, pending, used, holdings, holding, pieces_came, texts_came, moves, state_in, is_held, has_held, brings, change_held, secret_at, refused_state}
+use Rattle.wallet_model.specs.Holdings.{PieceState, held, holdings, holding, pieces_came, texts_came, state_in}
 use Rattle.wallet_model.specs.Newness.{are_one_piece, is_new, are_new}
 use Rattle.wallet_model.specs.Follows.{wallet_allows, IsWalletBook}
 use Rattle.wallet_model.proofs.CameLaws.{new_both, map_both}
@@ -16,6 +16,7 @@ use Rattle.wallet_book.specs.Holdings.{text_of, texts_of, holding_of}
 use Rattle.wallet_book.specs.Parts.{fresh_of, held_texts, HasText, Brings, Bringing}
 use Rattle.wallet_book.proofs.HoldingLaws.{read_back}
 use Rattle.wallet_book.proofs.StateLaws.{new_is_held}
+use Rattle.wallet_model.proofs.CameLaws.{knows, new_alike}
 
 -- ---- texts
 
@@ -32,16 +33,6 @@ pub came_texts : (h : History) (xs : List Holding) → holdings h ≡ map holdin
 came_texts h xs is = sym (texts_same h (pieces_came h)) ∙ ap (λ (ys : List model.Holding). map (λ x. x.text) ys) is ∙ seen_texts xs
 
 -- ---- new pieces
-
-abbrev knows : List (List ℕ) → List ℕ → Bool
-knows texts text = list_any (λ t. are_one_piece t text) texts
-
-new_alike : (a b ts : List (List ℕ)) → ((t : List ℕ) → knows a t ≡ knows b t) → are_new a ts ≡ are_new b ts
-new_alike a b [] alike = refl
-new_alike a b (t ∷ ts) alike =
-    let first : is_new a t ≡ is_new b t = ap not (alike t) in
-    let rest : are_new (t ∷ a) ts ≡ are_new (t ∷ b) ts = new_alike (t ∷ a) (t ∷ b) ts (λ s. ap (λ (c : Bool). are_one_piece t s || c) (alike s)) in
-    rw (first, rest) refl
 
 or_swap : (a b : Bool) → (a || b) ≡ (b || a)
 or_swap true true = refl

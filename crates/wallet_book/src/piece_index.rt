@@ -1,11 +1,10 @@
 //! Where a piece stands in a list of pieces, by its vendor and identity.
 
 ghost use Rattle.std.specs.Prelude.{◌≡◌, ◌+◌, ◌≤◌, ◌<◌, ◌==◌, ◌&&◌, bytes_eq, ℕ, List, length, None, Some, OnOk, if◌then◌else◌};
-ghost use Rattle.scrip_form.specs.Padded.{padded};
 ghost use Rattle.wallet_book.specs.PieceIndex.{place_of, key_of};
 
 use mc_base::NoMemory;
-use scrip_form::{Id, Name};
+use scrip_form::{Id, Name, with_zeros};
 use std::alloc::Global;
 use std::collections::HashMap;
 use std::marker::Model;
@@ -75,14 +74,4 @@ fn key(vendor: &Name, id: Id) -> Key
 {
     let bytes = vendor.bytes();
     (id.number(), bytes.len(), with_zeros(bytes))
-}
-
-/// The bytes, with zeros behind them.
-fn with_zeros<const N: usize>(bytes: &[u8]) -> [u8; N]
-    requires { length bytes.now ≤ N }
-    ensures { result ≡ padded 0 N bytes.now }
-{
-    let mut array = [0; N];
-    array[..bytes.len()].copy_from_slice(bytes);
-    array
 }

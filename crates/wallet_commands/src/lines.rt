@@ -4,10 +4,9 @@ ghost use Rattle.std.specs.Prelude.{◌≡◌, ◌++◌, ◌+◌, ◌≤◌, [],
 ghost use Rattle.wallet_book.specs.Holdings.{state_of};
 ghost use Rattle.wallet_commands.specs.Lines.{got_line, taken_line, state_word, piece_line};
 
-use command_status::digits_of_id;
 use itoa::Buffer;
 use mc_base::NoMemory;
-use scrip_form::Piece;
+use scrip_form::{Piece, digits_of_id};
 use std::alloc::Global;
 use wallet_book::{Holding, State};
 

@@ -1,11 +1,12 @@
 -- Wallets' books, one entry after the other.
-use Rattle.std.proofs.Common.{◌≡◌, ℕ, zero, suc, ◌<◌, ◌≤◌, [], ◌∷◌, ◌++◌, take, Option, Some, None, refl, sym, ap, subst, ◌∙◌, append_assoc, append-nil, arith, slice_get, inl, inr}
+use Rattle.std.proofs.Common.{◌≡◌, ℕ, zero, suc, ◌<◌, ◌≤◌, [], ◌∷◌, ◌++◌, take, Option, Some, None, refl, sym, subst, ◌∙◌, append_assoc, append-nil, arith, slice_get, inl, inr}
 use Rattle.std.specs.Prelude.{MatchOption}
 use Rattle.std.proofs.lemmas.Bool.{cases_lt}
 use Rattle.mc_records.specs.Entry.{Entry}
 use Rattle.mc_records.specs.Following.{AllFollowBy}
 use Rattle.ledger_model.specs.Histories.{History}
 use Rattle.wallet_model.specs.Follows.{WalletFollows, IsWalletBook, IsFirstAgainst}
+use Rattle.ledger_model.proofs.LawfulLaws.{get_take, take_take}
 
 -- what holds after some entries, and goes over each that may follow, holds after all that follow
 pub walked : (P : History → Type 0) → ((h : History) (e : Entry) → P h → WalletFollows h e → P (h ++ e ∷ []))
@@ -61,18 +62,6 @@ not_empty x xs e = cc
 pub unlawful : (h : History) (n : ℕ) → IsFirstAgainst h n → IsWalletBook h → ⊥
 unlawful [] n first book = book
 unlawful (x ∷ xs) n first book = broken (x ∷ xs) (x ∷ xs) n first.breaks refl refl (not_empty x xs) book
-
-get_take : (h : History) (n m : ℕ) → n < m → slice_get (take m h) n ≡ slice_get h n
-get_take h n zero lt = absurd (omega (arith, lt))
-get_take [] n (suc m) lt = refl
-get_take (x ∷ xs) zero (suc m) lt = refl
-get_take (x ∷ xs) (suc n) (suc m) lt = get_take xs n m (omega (arith, lt))
-
-take_take : (h : History) (n m : ℕ) → n < m → take n (take m h) ≡ take n h
-take_take h n zero lt = absurd (omega (arith, lt))
-take_take [] n (suc m) lt = refl
-take_take (x ∷ xs) zero (suc m) lt = refl
-take_take (x ∷ xs) (suc n) (suc m) lt = ap (λ (es : History). x ∷ es) (take_take xs n m (omega (arith, lt)))
 
 none_before : (x : Entry) (xs : History) (n m : ℕ) → IsFirstAgainst (x ∷ xs) n → IsFirstAgainst (x ∷ xs) m → n < m → ⊥
 none_before x xs n m first other lt =

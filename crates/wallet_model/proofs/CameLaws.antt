@@ -67,10 +67,10 @@ change_stands before more m n price change got =
 
 -- ---- no piece comes twice
 
-abbrev knows : List (List ℕ) → List ℕ → Bool
+abbrev pub knows : List (List ℕ) → List ℕ → Bool
 knows texts text = list_any (λ t. are_one_piece t text) texts
 
-new_alike : (a b ts : List (List ℕ)) → ((t : List ℕ) → knows a t ≡ knows b t) → are_new a ts ≡ are_new b ts
+pub new_alike : (a b ts : List (List ℕ)) → ((t : List ℕ) → knows a t ≡ knows b t) → are_new a ts ≡ are_new b ts
 new_alike a b [] alike = refl
 new_alike a b (t ∷ ts) alike =
     let first : is_new a t ≡ is_new b t = ap not (alike t) in

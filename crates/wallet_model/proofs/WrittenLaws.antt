@@ -151,7 +151,7 @@ fit_all t vendor n (x ∷ all) =
 same_ok : {A : Type 0} (x y : A) (r : Result A Refusal) → r ≡ Ok x → r ≡ Ok y → x ≡ y
 same_ok x y r a b = cc
 
-filtered_all : {A : Type 0} (P : A → Type 0) (f : A → Bool) (xs : List A) → AllByRecursion P xs → AllByRecursion P (filter f xs)
+pub filtered_all : {A : Type 0} (P : A → Type 0) (f : A → Bool) (xs : List A) → AllByRecursion P xs → AllByRecursion P (filter f xs)
 filtered_all P f [] all = tt
 filtered_all P f (x ∷ xs) all = go (f x) (filtered_all P f xs all.1)
   where
@@ -167,7 +167,7 @@ least_of P o (x ∷ xs) p all = least_of P (lesser o x) xs (go (nat_lt x.piece.v
     go true = all.0
     go false = p
 
-chosen_one : (P : Offered → Type 0) (fit os : List Offered) (o : Offered) → AllByRecursion P os → chosen_of fit (reduce lesser os) ≡ Ok o → P o
+pub chosen_one : (P : Offered → Type 0) (fit os : List Offered) (o : Offered) → AllByRecursion P os → chosen_of fit (reduce lesser os) ≡ Ok o → P o
 chosen_one P fit [] o all is = absurd cc
 chosen_one P fit (x ∷ xs) o all is = subst P (same_ok (fold lesser x xs) o (Ok (fold lesser x xs)) refl is) (least_of P x xs all.0 all.1)
 

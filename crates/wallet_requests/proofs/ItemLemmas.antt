@@ -1,14 +1,15 @@
 -- A request that is printed line by line is read as one item, whatever follows.
-use Rattle.std.proofs.Common.{◌≡◌, ℕ, zero, suc, ◌-◌, ◌≤◌, true, List, [], ◌∷◌, ◌++◌, inl, length, take, drop, refl, sym, ◌∙◌, ap, subst, arith, append_assoc, append-nil, map}
+use Rattle.std.proofs.Common.{◌≡◌, ℕ, ◌-◌, ◌≤◌, true, List, [], ◌∷◌, ◌++◌, inl, length, take, refl, sym, ◌∙◌, ap, subst, append_assoc, append-nil, map}
 use Rattle.std.specs.Prelude.{slice_range}
 use Rattle.std.specs.List.{list_all}
-use Rattle.std.proofs.lemmas.List.{take_at, drop_at}
+use Rattle.std.proofs.lemmas.List.{drop_at}
 use Rattle.httparse.specs.Grammar.{IsRequestHead, ReadsRequest, print_request, print_section, crlf}
 use Rattle.millicent_http.specs.HeadEnds.{line_ends, IsFirstEnd}
 use Rattle.millicent_http.specs.Items.{judged_head, IsHead, ReadsItem, max_head, IsWhole}
 use Rattle.reply_reader.proofs.HeadLines.{print_lines, is_line, clean_field, field_line}
-use Rattle.reply_reader.proofs.QuietLemmas.{first_end_of_lines, range_whole, starts_line}
+use Rattle.reply_reader.proofs.QuietLemmas.{first_end_of_lines, starts_line}
 use Rattle.reply_reader.proofs.FieldLineLemmas.{section_lines}
+use Rattle.reply_reader.proofs.PrintedLemmas.{take_over, whole_front}
 use Rattle.wallet_requests.proofs.RequestLines.{start_line, request_tree, request_lines}
 
 printed_request : (target : List ℕ) (xs : List (List ℕ × List ℕ)) → print_request (request_tree target xs) ≡ request_lines target xs
@@ -19,21 +20,6 @@ printed_request target xs =
 
 request_reads : (target : List ℕ) (xs : List (List ℕ × List ℕ)) → IsRequestHead (request_tree target xs) → ReadsRequest (request_lines target xs) (request_tree target xs) []
 request_reads target xs h = (h, sym (printed_request target xs) ∙ sym (append-nil (print_request (request_tree target xs))))
-
--- so many of some bytes that are at least as many as those at the front
-take_over : (k : ℕ) (front more : List ℕ) → length front ≤ k → take k (front ++ more) ≡ front ++ take (k - length front) more
-take_over k [] more h = let e : k - 0 ≡ k = omega arith in rw e refl
-take_over zero (c ∷ front) more h = absurd (omega (arith, h))
-take_over (suc k) (c ∷ front) more h =
-    let e : suc k - suc (length front) ≡ k - length front = omega arith in
-    ap (λ (z : List ℕ). c ∷ z) (take_over k front more (omega (arith, h)) ∙ ap (λ (n : ℕ). front ++ take n more) (sym e))
-
--- the front up to its end, with no line ends before it
-whole_front : (front behind : List ℕ) → line_ends (front ++ behind) ≡ 0 → slice_range (front ++ behind) (line_ends (front ++ behind)) (length front) ≡ front
-whole_front front behind starts =
-    range_whole (front ++ behind) (line_ends (front ++ behind)) (length front)
-    ∙ ap (λ (i : ℕ). drop i (take (length front) (front ++ behind))) starts
-    ∙ take_at front behind (length front) refl
 
 starts_request : (target : List ℕ) (xs : List (List ℕ × List ℕ)) (behind : List ℕ) → is_line (start_line target) ≡ true → line_ends (request_lines target xs ++ behind) ≡ 0
 starts_request target xs behind first =

@@ -1,13 +1,13 @@
 -- The request of what is asked, and the piece that it pays with.
-use Rattle.std.proofs.Common.{◌≡◌, ℕ, zero, suc, ◌+◌, ◌<◌, Bool, true, false, cond, ◌&&◌, List, [], ◌∷◌, ◌++◌, length, map, Option, Some, None, Result, Ok, Err, option_map, unwrap_or, bytes_eq, refl, sym, ap, subst, ◌∙◌, append_assoc, arith, filter}
+use Rattle.std.proofs.Common.{◌≡◌, ℕ, zero, suc, ◌+◌, ◌<◌, true, false, ◌&&◌, List, [], ◌∷◌, ◌++◌, length, map, Option, Some, None, Result, Ok, Err, option_map, unwrap_or, bytes_eq, refl, sym, ap, subst, ◌∙◌, append_assoc, arith, filter}
 use Rattle.std.proofs.lemmas.List.{length-append}
 use Rattle.std.proofs.lemmas.Slice.Eq.{bytes_eq-Decides}
-use Rattle.std.specs.Prelude.{nat_lt, nat_le, filter_map, fold, slice_get, IfOk}
-use Rattle.std.specs.List.{AllByRecursion, enumerate_from, reduce, cons_option}
+use Rattle.std.specs.Prelude.{nat_le, filter_map, slice_get, IfOk}
+use Rattle.std.specs.List.{AllByRecursion, enumerate_from, cons_option}
 use Rattle.scrip_form.specs.Scrip.{Scrip}
 use Rattle.mc_records.specs.declared.refusal.Refusal.{Refusal}
 use Rattle.mc_records.specs.Errands as errands
-use Rattle.mc_records.specs.Errands.{IsErrand, errand_of, errand_text}
+use Rattle.mc_records.specs.Errands.{IsErrand, errand_text}
 use Rattle.mc_records.proofs.ErrandLaws.{errand_read}
 use Rattle.mc_records.specs.Entry.{Entry, Pend}
 use Rattle.ledger_model.specs.Histories.{History}
@@ -15,9 +15,9 @@ use Rattle.ledger_model.specs.Pieces.{piece_of}
 use Rattle.wallet_model.specs.Holdings as model
 use Rattle.wallet_model.specs.Holdings.{holdings, is_held, has_held}
 use Rattle.wallet_model.specs.Follows.{is_of_vendor, asks_rightly, WalletFollows}
-use Rattle.wallet_model.specs.Asks.{Offered, offered_at, is_fit, fit_for, lesser, chosen_of, chosen, Asking, paid_with, pend_entry}
+use Rattle.wallet_model.specs.Asks.{Offered, offered_at, is_fit, fit_for, chosen, Asking, paid_with, pend_entry}
 use Rattle.wallet_model.specs.Laws.{CanAsk}
-use Rattle.wallet_model.proofs.WrittenLaws.{book_is_wallet, pend_follows}
+use Rattle.wallet_model.proofs.WrittenLaws.{book_is_wallet, chosen_one, filtered_all, pend_follows}
 use Rattle.wallet_book.specs.declared.holding.Holding.{Holding}
 use Rattle.wallet_book.specs.declared.holding.State.{State}
 use Rattle.wallet_book.specs.declared.holding.State.TheVariants.{Held}
@@ -52,33 +52,10 @@ all_stand before (x ∷ xs) n is =
     let rest = subst (λ (all : List model.Holding). AllByRecursion (Stands all) (filter_map offered_at (enumerate_from (n + 1) xs))) (append_assoc before (x ∷ []) xs) more in
     stand_first (before ++ x ∷ xs) n x (piece_of x.text) (filter_map offered_at (enumerate_from (n + 1) xs)) (ap (slice_get (before ++ x ∷ xs)) is ∙ middle before xs x) rest
 
-filtered : (P : Offered → Type 0) (f : Offered → Bool) (xs : List Offered) → AllByRecursion P xs → AllByRecursion P (filter f xs)
-filtered P f [] all = tt
-filtered P f (x ∷ xs) all = go (f x) (filtered P f xs all.1)
-  where
-    go : (b : Bool) → AllByRecursion P (filter f xs) → AllByRecursion P (cond b (x ∷ filter f xs) (filter f xs))
-    go true rest = (all.0, rest)
-    go false rest = rest
-
-least_of : (P : Offered → Type 0) (o : Offered) (os : List Offered) → P o → AllByRecursion P os → P (fold lesser o os)
-least_of P o [] p all = p
-least_of P o (x ∷ xs) p all = least_of P (lesser o x) xs (go (nat_lt x.piece.value o.piece.value)) all.1
-  where
-    go : (b : Bool) → P (cond b x o)
-    go true = all.0
-    go false = p
-
-same_ok : {A : Type 0} (x y : A) (r : Result A Refusal) → r ≡ Ok x → r ≡ Ok y → x ≡ y
-same_ok x y r a b = cc
-
-one_of : (P : Offered → Type 0) (fit os : List Offered) (o : Offered) → AllByRecursion P os → chosen_of fit (reduce lesser os) ≡ Ok o → P o
-one_of P fit [] o all is = absurd cc
-one_of P fit (x ∷ xs) o all is = subst P (same_ok (fold lesser x xs) o (Ok (fold lesser x xs)) refl is) (least_of P x xs all.0 all.1)
-
 chosen_stands : (h : History) (t : ℕ) (vendor : List ℕ) (limit : ℕ) (o : Offered) → chosen h t vendor limit ≡ Ok o → slice_get (holdings h) o.place ≡ Some o.holding
 chosen_stands h t vendor limit o is =
-    (one_of (Stands (holdings h)) (fit_for h t vendor) (filter (λ x. nat_le limit x.piece.value) (fit_for h t vendor)) o
-    (filtered (Stands (holdings h)) (λ x. nat_le limit x.piece.value) (fit_for h t vendor) (filtered (Stands (holdings h)) (is_fit t vendor) (filter_map offered_at (enumerate_from 0 (holdings h))) (all_stand [] (holdings h) 0 refl))) is).here
+    (chosen_one (Stands (holdings h)) (fit_for h t vendor) (filter (λ x. nat_le limit x.piece.value) (fit_for h t vendor)) o
+    (filtered_all (Stands (holdings h)) (λ x. nat_le limit x.piece.value) (fit_for h t vendor) (filtered_all (Stands (holdings h)) (is_fit t vendor) (filter_map offered_at (enumerate_from 0 (holdings h))) (all_stand [] (holdings h) 0 refl))) is).here
 
 -- ---- the answer
 

@@ -1,4 +1,3 @@
-pub mod TargetLaws
 pub mod LineLaws
 pub mod SettledLaws
 pub mod AskLaws

@@ -17,7 +17,7 @@ use crate::ask::Ask;
 use crate::request::{WalletRequest, text_of};
 use mc_base::Amount;
 use mc_fields::{put, put_number};
-use mc_records::Refusal;
+use mc_records::{Refusal, errands_are_texts};
 use scrip_form::{Name, Target};
 use wallet_book::{Holding, WalletBook};
 
@@ -139,6 +139,7 @@ fn buy_target(vendor: &Name, amount: Amount) -> Target
     let at = put(&mut out, at, vendor.bytes());
     let at = put(&mut out, at, b"/");
     let at = put_number(&mut out, at, amount.get());
+    errands_are_texts();
     match Target::new(&out[..at]) {
         Some(target) => target,
         // What was written is a target.
@@ -160,6 +161,7 @@ fn draw_target(account: &Name, order: u64, amount: Amount) -> Target
     let at = put_number(&mut out, at, order);
     let at = put(&mut out, at, b"/");
     let at = put_number(&mut out, at, amount.get());
+    errands_are_texts();
     match Target::new(&out[..at]) {
         Some(target) => target,
         // What was written is a target.

@@ -3,7 +3,6 @@
 ghost use Rattle.std.specs.Prelude.{◌≡◌, ◌==◌, ◌&&◌, ◌++◌, ℕ, List, not, false, bytes_eq, option_map, option_and_then, unwrap_or};
 ghost use Rattle.md5.specs.Md5.{Holds};
 ghost use Rattle.scrip_certs.specs.Digests as digests;
-ghost use Rattle.scrip_certs.specs.Digests.{line, request_text};
 ghost use Rattle.mc_records.specs.Errands.{errand_of};
 ghost use Rattle.mc_records.specs.Replies as texts;
 ghost use Rattle.mc_records.specs.Requests.{seen};
@@ -17,12 +16,12 @@ ghost use Rattle.wallet_tasks.specs.Requests.{pending_view, request_view};
 use crate::contents::{one_line, piece_of};
 use crate::prices::{is_dash, is_paid_by, price_of};
 use crate::request::{RequestRef, WalletRequest, lent};
-use crate::sending::or_dash;
 use itoa::Buffer;
 use mc_records::{Errand, Refusal, read_errand};
 use md5::{Digest, Md5};
+use millicent_http::or_dash;
 use reply_reader::ReplyRef;
-use scrip_certs::hex_of;
+use scrip_certs::{add_request, hex_of};
 use scrip_form::Piece;
 
 /// Whether a reply settles a request: None where it does, else 65 `BadReply` where its values are not those that
@@ -146,17 +145,6 @@ fn signature(p: &RequestRef<'_>, r: &ReplyRef<'_>) -> [u8; 16]
     hasher.update(b"\n");
     hasher.update(&p.secret);
     hasher.finalize()
-}
-
-/// Adds the scrip text and the request text, each with its line feed.
-fn add_request(hasher: &mut Md5, scrip: &[u8], target: &[u8])
-    ensures { (m : List ℕ) → Holds hasher.old m
-        → Holds hasher.new (m ++ (line scrip.now ++ line (request_text target.now))) }
-{
-    hasher.update(scrip);
-    hasher.update(b"\nGET ");
-    hasher.update(target);
-    hasher.update(b"\n");
 }
 
 /// Adds the reply text up to and with its line feed.

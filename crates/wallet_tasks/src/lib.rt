@@ -19,7 +19,7 @@ pub use checking::{check_reply, fits_request};
 pub use contents::{are_one_piece, piece_of};
 pub use prices::is_dash;
 pub use request::{RequestRef, WalletRequest, kept_request, pend_record};
-pub use sending::{or_dash, put_request};
+pub use sending::put_request;
 pub use settling::{
     Settlement, is_change, paid_price, refusal_number, settled_as, settlement_record,
 };

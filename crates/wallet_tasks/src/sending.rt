@@ -4,12 +4,12 @@ ghost use Rattle.std.specs.Prelude.{◌≡◌, ◌+◌, ◌≤◌, ◌++◌, len
 ghost use Rattle.hex.specs.Hex.{encode_lower};
 ghost use Rattle.scrip_certs.specs.Digests.{request_text};
 ghost use Rattle.mc_records.specs.Replies as texts;
-ghost use Rattle.mc_records.specs.Requests.{seen};
 ghost use Rattle.wallet_model.specs.Asks as model;
 ghost use Rattle.wallet_tasks.specs.Requests.{pending_view};
 
 use crate::request::{WalletRequest, scrip_bytes};
 use mc_fields::put;
+use millicent_http::{or_dash, put_field};
 use scrip_certs::{hex_of, sign_request};
 
 /// Writes the bytes of a request to the front of `out`, and answers how many there are. It takes no memory.
@@ -37,18 +37,6 @@ fn put_start(out: &mut [u8; 2048], target: &[u8]) -> usize
     put(out, at, b" HTTP/1.1\r\n")
 }
 
-/// Writes a field.
-fn put_field(out: &mut [u8; 2048], at: usize, name: &[u8], value: &[u8]) -> usize
-    requires { at + length name.now + length value.now + 4 ≤ 2048 }
-    ensures end { result ≡ at + length name.now + length value.now + 4 }
-    ensures written { take result out.new ≡ take at out.old ++ texts.field name.now value.now }
-{
-    let at = put(out, at, name);
-    let at = put(out, at, b": ");
-    let at = put(out, at, value);
-    put(out, at, b"\r\n")
-}
-
 /// Writes the field of the scrip text, where there is one.
 fn put_scrip(out: &mut [u8; 2048], at: usize, p: &WalletRequest) -> usize
     requires { at ≤ 1024 }
@@ -73,14 +61,4 @@ pub(crate) fn scrip_or_dash(p: &WalletRequest) -> &[u8]
     ensures { result.now ≡ texts.or_dash p.now.scrip }
 {
     or_dash(scrip_bytes(p))
-}
-
-/// A text, or `-` where there is none, as it stands in what is signed.
-pub fn or_dash<'a>(text: Option<&'a [u8]>) -> &'a [u8]
-    ensures { result.now ≡ texts.or_dash (seen text.entry) }
-{
-    match text {
-        Some(text) => text,
-        None => b"-",
-    }
 }

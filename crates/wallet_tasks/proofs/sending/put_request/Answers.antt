@@ -10,7 +10,7 @@ pub returns-clause-bytes : goal.returns-clause-bytes
 unfolding request_bytes
 returns-clause-bytes c =
     after _ _ _ _ c.put.ensures.put
-    (after _ _ _ _ c.put_field-at-3.ensures.written
-    (after _ _ _ _ (rw c.sign_text.ensures at c.put_field-at-2.ensures.written)
+    (after _ _ _ _ c.put_field-at-3.ensures.put
+    (after _ _ _ _ (rw c.sign_text.ensures at c.put_field-at-2.ensures.put)
     (after _ _ _ _ c.put_scrip-at.ensures.written
-    (after _ _ _ _ (rw c.bytes-2.ensures.value at c.put_field-at.ensures.written) (rw c.bytes.ensures.value at c.put_start-at.ensures.written)))))
+    (after _ _ _ _ (rw c.bytes-2.ensures.value at c.put_field-at.ensures.put) (rw c.bytes.ensures.value at c.put_start-at.ensures.written)))))

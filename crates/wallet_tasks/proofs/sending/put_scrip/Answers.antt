@@ -15,4 +15,4 @@ returns-in-Some-clause-end c =
     omega (arith, short, c.put_field.ensures.end)
 
 pub returns-in-Some-clause-written : goal.returns-in-Some-clause-written
-returns-in-Some-clause-written c = rw (sym c.in-Some.ensures.seen) c.put_field.ensures.written
+returns-in-Some-clause-written c = rw (sym c.in-Some.ensures.seen) c.put_field.ensures.put
