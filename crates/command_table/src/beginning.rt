@@ -9,27 +9,32 @@ ghost use Rattle.command_table.specs.Table.{form_of};
 ghost use Rattle.command_table.specs.Beginning.{AreTaken, EndInOption, LackValue, MayBegin, is_option};
 
 use crate::spelled::Spelled;
-use crate::table::{parts_of, read_beginning_of};
+use crate::table::{CommandName, parts_of, read_beginning_of};
 use command_words::Argument;
 use std::alloc::{AllocError, Global};
 
-/// Whether the words of the command of these values may begin with these: role and name alike, where they are there,
+/// Whether the words of this command may begin with these: role and name alike, where they are there,
 /// and behind them words that values may still have, or an option whose value lacks. An Err is want of memory alone.
-pub fn may_begin<'a, T: Spelled<'a>>(alloc: Global, words: &'a [String]) -> Result<bool, AllocError>
-    ensures { IfOk result (λ r. IsTrue r ↔ MayBegin T.named
+pub fn may_begin<'a, T: Spelled<'a>>(
+    alloc: Global,
+    name: CommandName,
+    words: &'a [String],
+) -> Result<bool, AllocError>
+    requires { (form_of name).rules ≡ T.rules }
+    ensures { IfOk result (λ r. IsTrue r ↔ MayBegin name
         (λ rows. (values : T) × T.finds rows values) (map string_bytes words.entry.now)) }
 {
-    let form = T::command().form();
+    let form = name.form();
     let Some((role, command, behind)) = parts_of(words) else {
         return Ok(is_role(words, form.role));
     };
     if role != form.role || command != form.name {
         return Ok(false);
     }
-    if are_taken::<T>(alloc, behind)? {
+    if are_taken::<T>(alloc, name, behind)? {
         return Ok(true);
     }
-    lack_value::<T>(alloc, behind)
+    lack_value::<T>(alloc, name, behind)
 }
 
 /// Whether the one word is the role, where there is one.
@@ -46,28 +51,38 @@ fn is_role(words: &[String], role: &str) -> bool
 }
 
 /// Whether the words behind the name may become those of the values, by the words that lack.
-fn are_taken<'a, T: Spelled<'a>>(alloc: Global, words: &'a [String]) -> Result<bool, AllocError>
-    ensures { IfOk result (λ r. IsTrue r ↔ AreTaken (form_of T.named).rules
+fn are_taken<'a, T: Spelled<'a>>(
+    alloc: Global,
+    name: CommandName,
+    words: &'a [String],
+) -> Result<bool, AllocError>
+    requires { (form_of name).rules ≡ T.rules }
+    ensures { IfOk result (λ r. IsTrue r ↔ AreTaken (form_of name).rules
         (λ rows. (values : T) × T.finds rows values) (map string_bytes words.entry.now)) }
 {
-    let Some(found) = read_beginning_of(alloc, T::command(), words)? else {
+    let Some(found) = read_beginning_of(alloc, name, words)? else {
         return Ok(false);
     };
     Ok(T::fits(&found))
 }
 
 /// Whether they may where the last one is an option, by its value and the words that lack.
-fn lack_value<'a, T: Spelled<'a>>(alloc: Global, words: &'a [String]) -> Result<bool, AllocError>
-    ensures { IfOk result (λ r. IsTrue r ↔ LackValue (form_of T.named).rules
+fn lack_value<'a, T: Spelled<'a>>(
+    alloc: Global,
+    name: CommandName,
+    words: &'a [String],
+) -> Result<bool, AllocError>
+    requires { (form_of name).rules ≡ T.rules }
+    ensures { IfOk result (λ r. IsTrue r ↔ LackValue (form_of name).rules
         (λ rows. (values : T) × T.finds rows values) (map string_bytes words.entry.now)) }
 {
-    let Some((front, name)) = last_option(T::command().form().arguments, words) else {
+    let Some((front, option)) = last_option(name.form().arguments, words) else {
         return Ok(false);
     };
-    let Some(found) = read_beginning_of(alloc, T::command(), front)? else {
+    let Some(found) = read_beginning_of(alloc, name, front)? else {
         return Ok(false);
     };
-    Ok(T::fits(&found) & found.value_of(name).is_none())
+    Ok(T::fits(&found) & found.value_of(option).is_none())
 }
 
 /// The words before the last one and its name, where that is an option with a value.

@@ -1,8 +1,8 @@
 //! What is told of words that are of no command.
 
-ghost use Rattle.std.specs.Prelude.{◌≡◌, map, string_bytes, IfSome};
+ghost use Rattle.std.specs.Prelude.{◌≡◌, false, map, string_bytes, IfSome, IsNone};
 ghost use Rattle.command_table.specs.Table.{form_of};
-ghost use Rattle.command_table.specs.Usage.{IsUsage, usage_line};
+ghost use Rattle.command_table.specs.Usage.{is_carried_out, told_of, usage_line};
 
 use crate::table::{CommandName, parts_of};
 
@@ -41,7 +41,7 @@ const COMMANDS: &str =
 /// One line for standard error that tells which words the program has: those of the command that the words
 /// begin with, where it is carried out, or else the commands. It takes no memory.
 pub fn usage(words: &[String]) -> &'static str
-    ensures { IsUsage (map string_bytes words.now) result.now }
+    ensures { result.now ≡ told_of (map string_bytes words.now) }
 {
     let Some((role, command, _)) = parts_of(words) else {
         return COMMANDS;
@@ -55,10 +55,11 @@ pub fn usage(words: &[String]) -> &'static str
     COMMANDS
 }
 
-/// The line of a command that is carried out.
-#[tactic(auto, unfolding(crate::specs::Table::form_of))]
+/// The line of a command; None only for one that is not carried out.
+#[tactic(auto, unfolding(crate::specs::Table::form_of, crate::specs::Usage::is_carried_out))]
 fn line_of(name: CommandName) -> Option<&'static str>
-    ensures { IfSome result (λ line. line.now ≡ usage_line (form_of name)) }
+    ensures line { IfSome result (λ line. line.now ≡ usage_line (form_of name)) }
+    ensures none { IsNone result → is_carried_out name ≡ false }
 {
     match name {
         CommandName::VendorInit => Some(
@@ -105,6 +106,16 @@ fn line_of(name: CommandName) -> Option<&'static str>
         CommandName::WalletRetry => Some("usage: millicent wallet retry BOOK PEER CONNECT"),
         CommandName::WalletList => Some("usage: millicent wallet list BOOK"),
         CommandName::AuditReport => Some("usage: millicent audit report BOOK.. [--json]"),
-        _ => None,
+        CommandName::VendorUpgrade
+        | CommandName::VendorChain
+        | CommandName::VendorStatement
+        | CommandName::BrokerUpgrade
+        | CommandName::BrokerChain
+        | CommandName::BrokerSettle
+        | CommandName::WalletLines
+        | CommandName::WalletChain
+        | CommandName::WalletProxy
+        | CommandName::AuditChain
+        | CommandName::AuditTree => None,
     }
 }

@@ -91,11 +91,12 @@ pub some_audit_report : HasSome names.AuditReport
 some_audit_report = some_of names.AuditReport _ (reporting_fits [] tt)
 
 -- the words go on as those of a command that has values where they may begin so
-pub goes_as : {E : Type 0} (name other : CommandName) (words : List Text) (r : Result Bool E) → other ≡ name → HasSome name → IfOk r (λ b. IsTrue b ↔ MayBegin name (HaveValues name) words)
+pub goes_as : {E : Type 0} (name other : CommandName) (words : List Text) (r : Result Bool E) → other ≡ name → HasSome name → IfOk r (λ b. IsTrue b ↔ MayBegin other (HaveValues name) words)
     → IfOk r (λ b. IsTrue b ↔ GoOnAs other words)
 goes_as name other words (Err error) is some may = tt
 goes_as name other words (Ok b) is some may =
-    subst (λ (n : CommandName). IsTrue b ↔ GoOnAs n words) (sym is) (λ t. record { rows = some.0; values = some.1; begin = may.0 t }, λ goes. may.1 goes.begin)
+    subst (λ (n : CommandName). (IsTrue b ↔ MayBegin n (HaveValues name) words) → IsTrue b ↔ GoOnAs n words) (sym is)
+    (λ begins. (λ t. record { rows = some.0; values = some.1; begin = begins.0 t }, λ goes. begins.1 goes.begin)) may
 
 -- a command that has values stands among those that are carried out
 pub carried_out : (name : CommandName) (rows : List Row) → HaveValues name rows → (k : ℕ) × (k < 24) × (get_or CARRIED_OUT k name ≡ name)

@@ -1,10 +1,10 @@
 ghost use Rattle.std.specs.Prelude.{map, string_bytes, IfOk, IfSome, IsNone};
 ghost use Rattle.mc_words.specs.Commands.{AreWords, AreNoWords};
 
-use command_table::values_of;
+use command_table::{CommandName, values_of};
 use site_words::{
-    BrokerFounder, BrokerOperation, BrokerServer, Operation, Playing, Server, Shop, VendorFounder,
-    VendorServer, broker_operation_of, operation_of,
+    BrokerFounder, BrokerOperation, Operation, Playing, Server, Shop, VendorFounder,
+    broker_operation_of, operation_of,
 };
 use std::alloc::{AllocError, Global};
 use wallet_words::{Reporting, WalletFounder, WalletOperation, wallet_operation_of};
@@ -44,37 +44,37 @@ pub fn command_of<'a>(alloc: Global, words: &'a [String]) -> Result<Option<Comma
     ensures none { IfOk result
         (λ r. IsNone r → AreNoWords (map string_bytes words.entry.now)) }
 {
-    if let Some(shop) = values_of::<Shop>(alloc, words)? {
+    if let Some(shop) = values_of::<Shop>(alloc, CommandName::VendorOnce, words)? {
         return Ok(Some(Command::Once(shop)));
     }
-    if let Some(founder) = values_of::<VendorFounder>(alloc, words)? {
+    if let Some(founder) = values_of::<VendorFounder>(alloc, CommandName::VendorInit, words)? {
         return Ok(Some(Command::Init(founder)));
     }
-    if let Some(server) = values_of::<VendorServer>(alloc, words)? {
-        return Ok(Some(Command::Serve(server.0)));
+    if let Some(server) = values_of::<Server>(alloc, CommandName::VendorServe, words)? {
+        return Ok(Some(Command::Serve(server)));
     }
-    if let Some(playing) = values_of::<Playing>(alloc, words)? {
+    if let Some(playing) = values_of::<Playing>(alloc, CommandName::VendorPlay, words)? {
         return Ok(Some(Command::Play(playing)));
     }
     if let Some(operation) = operation_of(alloc, words)? {
         return Ok(Some(Command::Operate(operation)));
     }
-    if let Some(founder) = values_of::<BrokerFounder>(alloc, words)? {
+    if let Some(founder) = values_of::<BrokerFounder>(alloc, CommandName::BrokerInit, words)? {
         return Ok(Some(Command::BrokerInit(founder)));
     }
-    if let Some(server) = values_of::<BrokerServer>(alloc, words)? {
-        return Ok(Some(Command::BrokerServe(server.0)));
+    if let Some(server) = values_of::<Server>(alloc, CommandName::BrokerServe, words)? {
+        return Ok(Some(Command::BrokerServe(server)));
     }
     if let Some(operation) = broker_operation_of(alloc, words)? {
         return Ok(Some(Command::BrokerOperate(operation)));
     }
-    if let Some(founder) = values_of::<WalletFounder>(alloc, words)? {
+    if let Some(founder) = values_of::<WalletFounder>(alloc, CommandName::WalletInit, words)? {
         return Ok(Some(Command::WalletInit(founder)));
     }
     if let Some(operation) = wallet_operation_of(alloc, words)? {
         return Ok(Some(Command::WalletOperate(operation)));
     }
-    if let Some(reporting) = values_of::<Reporting>(alloc, words)? {
+    if let Some(reporting) = values_of::<Reporting>(alloc, CommandName::AuditReport, words)? {
         return Ok(Some(Command::Report(reporting)));
     }
     Ok(None)

@@ -3,11 +3,10 @@ ghost use Rattle.scrip_form.specs.Scrip.{IsCert};
 ghost use Rattle.scrip_form.specs.Texts.{IsName};
 ghost use Rattle.command_table.specs.Ranges.{IsPathOrAddress};
 ghost use Rattle.site_words.specs.Words.{FindsOpening};
+ghost use Rattle.command_table.specs.Table.{form_of};
 ghost use Rattle.command_table.specs.declared.table.CommandName.TheVariants.{BrokerAccount};
 
-use command_table::{
-    CommandName, Spelled, may_name, may_place, may_secret, name_in, place_in, secret_in,
-};
+use command_table::{Spelled, may_name, may_place, may_secret, name_in, place_in, secret_in};
 use command_words::Found;
 use scrip_form::Name;
 use std::marker::Model;
@@ -61,15 +60,9 @@ impl<'a> Opening<'a> {
 
 /// `broker account BOOK ACCOUNT KEY`.
 impl<'a> Spelled<'a> for Opening<'a> {
-    ghost named = { BrokerAccount };
+    ghost rules = { (form_of BrokerAccount).rules };
 
     ghost finds = { FindsOpening };
-
-    fn command() -> CommandName
-        ensures { result ≡ BrokerAccount }
-    {
-        CommandName::BrokerAccount
-    }
 
     fn read(found: Found<'a>) -> Option<Opening<'a>> {
         let book = place_in(&found, "BOOK")?;

@@ -4,10 +4,10 @@ ghost use Rattle.site_words.specs.declared.broker_operation.BrokerOperation.{Bro
 
 use crate::account::Opening;
 use crate::balance::Inquiry;
-use crate::payment::{Deposit, Payment, Withdrawal};
+use crate::payment::Payment;
 use crate::stock::Stocking;
 use crate::taking::Taking;
-use command_table::values_of;
+use command_table::{CommandName, values_of};
 use std::alloc::{AllocError, Global};
 
 /// What a broker's operator has done to its book.
@@ -54,22 +54,22 @@ pub fn broker_operation_of<'a>(
     ensures none { IfOk result (λ r. IsNone r → (operation : Said)
         → AreBrokerOperationWords (map string_bytes words.entry.now) operation → ⊥) }
 {
-    if let Some(opening) = values_of::<Opening>(alloc, words)? {
+    if let Some(opening) = values_of::<Opening>(alloc, CommandName::BrokerAccount, words)? {
         return Ok(Some(BrokerOperation::Account(opening)));
     }
-    if let Some(deposit) = values_of::<Deposit>(alloc, words)? {
-        return Ok(Some(BrokerOperation::Deposit(deposit.0)));
+    if let Some(deposit) = values_of::<Payment>(alloc, CommandName::BrokerDeposit, words)? {
+        return Ok(Some(BrokerOperation::Deposit(deposit)));
     }
-    if let Some(withdrawal) = values_of::<Withdrawal>(alloc, words)? {
-        return Ok(Some(BrokerOperation::Withdraw(withdrawal.0)));
+    if let Some(withdrawal) = values_of::<Payment>(alloc, CommandName::BrokerWithdraw, words)? {
+        return Ok(Some(BrokerOperation::Withdraw(withdrawal)));
     }
-    if let Some(inquiry) = values_of::<Inquiry>(alloc, words)? {
+    if let Some(inquiry) = values_of::<Inquiry>(alloc, CommandName::BrokerBalance, words)? {
         return Ok(Some(BrokerOperation::Balance(inquiry)));
     }
-    if let Some(taking) = values_of::<Taking>(alloc, words)? {
+    if let Some(taking) = values_of::<Taking>(alloc, CommandName::BrokerLicence, words)? {
         return Ok(Some(BrokerOperation::Licence(taking)));
     }
-    if let Some(stocking) = values_of::<Stocking>(alloc, words)? {
+    if let Some(stocking) = values_of::<Stocking>(alloc, CommandName::BrokerStock, words)? {
         return Ok(Some(BrokerOperation::Stock(stocking)));
     }
     Ok(None)

@@ -1,9 +1,10 @@
 ghost use Rattle.std.specs.Prelude.{◌≡◌, ◌<◌, unwrap_or};
 ghost use Rattle.site_words.specs.Words.{FindsListing, listed_pricing};
+ghost use Rattle.command_table.specs.Table.{form_of};
 ghost use Rattle.command_table.specs.declared.table.CommandName.TheVariants.{VendorGoods};
 
 use crate::price::Pricing;
-use command_table::{CommandName, Spelled, may_number, option_within};
+use command_table::{Spelled, may_number, option_within};
 use command_words::Found;
 use std::marker::Model;
 
@@ -52,15 +53,9 @@ impl<'a> Listing<'a> {
 
 /// `vendor goods BOOK TARGET PRICE [--kind KIND]`.
 impl<'a> Spelled<'a> for Listing<'a> {
-    ghost named = { VendorGoods };
+    ghost rules = { (form_of VendorGoods).rules };
 
     ghost finds = { FindsListing };
-
-    fn command() -> CommandName
-        ensures { result ≡ VendorGoods }
-    {
-        CommandName::VendorGoods
-    }
 
     fn read(found: Found<'a>) -> Option<Listing<'a>> {
         let kind = option_within(&found, "kind", 0, MOST_KIND)?;

@@ -4,11 +4,12 @@ ghost use Rattle.command_table.specs.Ranges.{AreTerms};
 ghost use Rattle.site_words.specs.Ranges.{IsKeepingTime};
 ghost use Rattle.site_words.specs.Words.{Founder as Founding, FindsBrokerFounder, FindsFounder, FindsVendorFounder, own_terms};
 ghost use Rattle.site_words.specs.Words.{MaySpellFounder};
+ghost use Rattle.command_table.specs.Table.{form_of};
 ghost use Rattle.command_table.specs.declared.table.CommandName.TheVariants.{BrokerInit, VendorInit};
 
 use command_table::{
-    CommandName, Spelled, amount_or_zero_in, may_name, may_number, may_place, may_terms, name_in,
-    option_within, place_in, terms_in,
+    Spelled, amount_or_zero_in, may_name, may_number, may_place, may_terms, name_in, option_within,
+    place_in, terms_in,
 };
 use command_words::Found;
 use mc_base::Amount;
@@ -155,15 +156,9 @@ impl<'a> VendorFounder<'a> {
 
 /// `vendor init BOOK NAME PERIOD LIFE SCRIP CUSTOMER [--keep SECONDS] [--clear]`.
 impl<'a> Spelled<'a> for VendorFounder<'a> {
-    ghost named = { VendorInit };
+    ghost rules = { (form_of VendorInit).rules };
 
     ghost finds = { FindsVendorFounder };
-
-    fn command() -> CommandName
-        ensures { result ≡ VendorInit }
-    {
-        CommandName::VendorInit
-    }
 
     fn read(found: Found<'a>) -> Option<VendorFounder<'a>> {
         let fee = Amount::new(0)?;
@@ -201,15 +196,9 @@ impl<'a> BrokerFounder<'a> {
 
 /// `broker init BOOK NAME PERIOD LIFE SCRIP CUSTOMER FEE [--keep SECONDS] [--clear]`.
 impl<'a> Spelled<'a> for BrokerFounder<'a> {
-    ghost named = { BrokerInit };
+    ghost rules = { (form_of BrokerInit).rules };
 
     ghost finds = { FindsBrokerFounder };
-
-    fn command() -> CommandName
-        ensures { result ≡ BrokerInit }
-    {
-        CommandName::BrokerInit
-    }
 
     fn read(found: Found<'a>) -> Option<BrokerFounder<'a>> {
         let fee = amount_or_zero_in(&found, "FEE")?;

@@ -1,11 +1,10 @@
 ghost use Rattle.std.specs.Prelude.{◌≡◌, ◌<◌};
 ghost use Rattle.command_table.specs.Ranges.{AreTerms, IsPathOrAddress};
 ghost use Rattle.site_words.specs.Words.{FindsLicensing, licensed_terms};
+ghost use Rattle.command_table.specs.Table.{form_of};
 ghost use Rattle.command_table.specs.declared.table.CommandName.TheVariants.{VendorLicence};
 
-use command_table::{
-    CommandName, Spelled, may_number, may_place, may_terms, number_in, place_in, terms_in,
-};
+use command_table::{Spelled, may_number, may_place, may_terms, number_in, place_in, terms_in};
 use command_words::Found;
 use scrip_form::Terms;
 use std::marker::Model;
@@ -54,15 +53,9 @@ impl<'a> Licensing<'a> {
 
 /// `vendor licence BOOK ISSUER PERIOD LIFE SCRIP CUSTOMER`.
 impl<'a> Spelled<'a> for Licensing<'a> {
-    ghost named = { VendorLicence };
+    ghost rules = { (form_of VendorLicence).rules };
 
     ghost finds = { FindsLicensing };
-
-    fn command() -> CommandName
-        ensures { result ≡ VendorLicence }
-    {
-        CommandName::VendorLicence
-    }
 
     fn read(found: Found<'a>) -> Option<Licensing<'a>> {
         let book = place_in(&found, "BOOK")?;

@@ -3,10 +3,11 @@ ghost use Rattle.mc_fields.specs.Texts.{IsNumber};
 ghost use Rattle.scrip_form.specs.Texts.{IsName};
 ghost use Rattle.command_table.specs.Ranges.{IsPathOrAddress};
 ghost use Rattle.site_words.specs.Words.{FindsMinting};
+ghost use Rattle.command_table.specs.Table.{form_of};
 ghost use Rattle.command_table.specs.declared.table.CommandName.TheVariants.{VendorMint};
 
 use command_table::{
-    CommandName, Spelled, amount_in, may_name, may_number, may_place, name_in, number_in, place_in,
+    Spelled, amount_in, may_name, may_number, may_place, name_in, number_in, place_in,
 };
 use command_words::Found;
 use mc_base::Amount;
@@ -72,15 +73,9 @@ impl<'a> Minting<'a> {
 
 /// `vendor mint BOOK COUNT VALUE REFERENCE`.
 impl<'a> Spelled<'a> for Minting<'a> {
-    ghost named = { VendorMint };
+    ghost rules = { (form_of VendorMint).rules };
 
     ghost finds = { FindsMinting };
-
-    fn command() -> CommandName
-        ensures { result ≡ VendorMint }
-    {
-        CommandName::VendorMint
-    }
 
     fn read(found: Found<'a>) -> Option<Minting<'a>> {
         let book = place_in(&found, "BOOK")?;

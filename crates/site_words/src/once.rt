@@ -1,6 +1,7 @@
 ghost use Rattle.std.specs.Prelude.{◌≡◌, map, string_bytes, IfOk, IfSome, IsNone};
 ghost use Rattle.site_words.specs.Words.{IsShop, FindsShop};
 ghost use Rattle.site_words.specs.Commands.{AreOnceWords, AreNoOnceWords};
+ghost use Rattle.command_table.specs.Table.{form_of};
 ghost use Rattle.command_table.specs.declared.table.CommandName.TheVariants.{VendorOnce};
 
 use command_table::{
@@ -80,15 +81,9 @@ impl<'a> Shop<'a> {
 
 /// `vendor once NAME TARGET PRICE SECRET CONTENTS`.
 impl<'a> Spelled<'a> for Shop<'a> {
-    ghost named = { VendorOnce };
+    ghost rules = { (form_of VendorOnce).rules };
 
     ghost finds = { FindsShop };
-
-    fn command() -> CommandName
-        ensures { result ≡ VendorOnce }
-    {
-        CommandName::VendorOnce
-    }
 
     fn read(found: Found<'a>) -> Option<Shop<'a>> {
         let name = name_in(&found, "NAME")?;
@@ -123,5 +118,5 @@ pub fn shop_of<'a>(alloc: Global, words: &'a [String]) -> Result<Option<Shop<'a>
     ensures none { IfOk result
         (λ r. IsNone r → AreNoOnceWords (map string_bytes words.entry.now)) }
 {
-    values_of(alloc, words)
+    values_of(alloc, CommandName::VendorOnce, words)
 }

@@ -6,7 +6,7 @@ use crate::goods::Listing;
 use crate::licence::Licensing;
 use crate::mint::Minting;
 use crate::price::Pricing;
-use command_table::values_of;
+use command_table::{CommandName, values_of};
 use std::alloc::{AllocError, Global};
 
 /// What a vendor's operator has done to its book.
@@ -46,16 +46,16 @@ pub fn operation_of<'a>(
     ensures none { IfOk result (λ r. IsNone r → (operation : Said)
         → AreOperationWords (map string_bytes words.entry.now) operation → ⊥) }
 {
-    if let Some(listing) = values_of::<Listing>(alloc, words)? {
+    if let Some(listing) = values_of::<Listing>(alloc, CommandName::VendorGoods, words)? {
         return Ok(Some(Operation::Goods(listing)));
     }
-    if let Some(pricing) = values_of::<Pricing>(alloc, words)? {
+    if let Some(pricing) = values_of::<Pricing>(alloc, CommandName::VendorPrice, words)? {
         return Ok(Some(Operation::Price(pricing)));
     }
-    if let Some(licensing) = values_of::<Licensing>(alloc, words)? {
+    if let Some(licensing) = values_of::<Licensing>(alloc, CommandName::VendorLicence, words)? {
         return Ok(Some(Operation::Licence(licensing)));
     }
-    if let Some(minting) = values_of::<Minting>(alloc, words)? {
+    if let Some(minting) = values_of::<Minting>(alloc, CommandName::VendorMint, words)? {
         return Ok(Some(Operation::Mint(minting)));
     }
     Ok(None)

@@ -1,16 +1,12 @@
-ghost use Rattle.std.specs.Prelude.{◌≡◌, IfSome, IsNone, IsTrue, ◌↔◌};
+ghost use Rattle.std.specs.Prelude.{◌≡◌};
 ghost use Rattle.mc_base.specs.declared.amount.TheConstants.Amount.{MOST};
 ghost use Rattle.mc_fields.specs.Texts.{IsNumber};
 ghost use Rattle.scrip_form.specs.Texts.{IsName};
 ghost use Rattle.command_table.specs.Ranges.{IsPathOrAddress};
 ghost use Rattle.command_table.specs.Table.{payment_rules};
-ghost use Rattle.site_words.specs.Words.{Payment as Paid, FindsPayment};
-ghost use Rattle.command_table.specs.Beginning.{MayBecome};
-ghost use Rattle.command_table.specs.declared.table.CommandName.TheVariants.{BrokerDeposit, BrokerWithdraw};
+ghost use Rattle.site_words.specs.Words.{FindsPayment};
 
-use command_table::{
-    CommandName, Spelled, amount_in, may_name, may_number, may_place, name_in, place_in,
-};
+use command_table::{Spelled, amount_in, may_name, may_number, may_place, name_in, place_in};
 use command_words::Found;
 use mc_base::Amount;
 use scrip_form::Name;
@@ -72,99 +68,30 @@ impl<'a> Payment<'a> {
     }
 }
 
-/// The payment that was found; None exactly where there is none.
-fn payment_in<'a>(found: &Found<'a>) -> Option<Payment<'a>>
-    ensures some { IfSome result (FindsPayment found.now) }
-    ensures none { IsNone result → (payment : Paid) → FindsPayment found.now payment → ⊥ }
-{
-    let book = place_in(found, "BOOK")?;
-    let account = name_in(found, "ACCOUNT")?;
-    let amount = amount_in(found, "AMOUNT")?;
-    let reference = name_in(found, "REFERENCE")?;
-    Some(Payment {
-        book,
-        account,
-        amount,
-        reference,
-    })
-}
-
-/// Whether what was found may still become a payment.
-fn may_payment(found: &Found<'_>) -> bool
-    ensures { IsTrue result
-        ↔ MayBecome payment_rules (λ rows. (payment : Paid) × FindsPayment rows payment) found.now }
-{
-    let book = may_place(found, "BOOK");
-    let account = may_name(found, "ACCOUNT");
-    let amount = may_number(found, "AMOUNT", 1, Amount::MOST);
-    let reference = may_name(found, "REFERENCE");
-    book & account & amount & reference
-}
-
-/// A payment into an account. Contracts see it as the payment.
-#[derive(Drop)]
-pub struct Deposit<'a>(pub Payment<'a>);
-
-impl<'a> Model for Deposit<'a> {
-    ghost use Rattle.site_words.specs.Words.{Payment as Paid};
-
-    ghost Value = { Paid };
-
-    ghost view = { λ d. d.0 };
-}
-
-/// `broker deposit BOOK ACCOUNT AMOUNT REFERENCE`.
-impl<'a> Spelled<'a> for Deposit<'a> {
-    ghost named = { BrokerDeposit };
+/// `broker deposit BOOK ACCOUNT AMOUNT REFERENCE`, and `broker withdraw` likewise.
+impl<'a> Spelled<'a> for Payment<'a> {
+    ghost rules = { payment_rules };
 
     ghost finds = { FindsPayment };
 
-    fn command() -> CommandName
-        ensures { result ≡ BrokerDeposit }
-    {
-        CommandName::BrokerDeposit
+    fn read(found: Found<'a>) -> Option<Payment<'a>> {
+        let book = place_in(&found, "BOOK")?;
+        let account = name_in(&found, "ACCOUNT")?;
+        let amount = amount_in(&found, "AMOUNT")?;
+        let reference = name_in(&found, "REFERENCE")?;
+        Some(Payment {
+            book,
+            account,
+            amount,
+            reference,
+        })
     }
 
-    fn read(found: Found<'a>) -> Option<Deposit<'a>> {
-        Some(Deposit(payment_in(&found)?))
-    }
-
-    #[tactic(auto, unfolding(command_table::specs::Table::form_of))]
     fn fits(found: &Found<'a>) -> bool {
-        may_payment(found)
-    }
-}
-
-/// A payment out of an account. Contracts see it as the payment.
-#[derive(Drop)]
-pub struct Withdrawal<'a>(pub Payment<'a>);
-
-impl<'a> Model for Withdrawal<'a> {
-    ghost use Rattle.site_words.specs.Words.{Payment as Paid};
-
-    ghost Value = { Paid };
-
-    ghost view = { λ w. w.0 };
-}
-
-/// `broker withdraw BOOK ACCOUNT AMOUNT REFERENCE`.
-impl<'a> Spelled<'a> for Withdrawal<'a> {
-    ghost named = { BrokerWithdraw };
-
-    ghost finds = { FindsPayment };
-
-    fn command() -> CommandName
-        ensures { result ≡ BrokerWithdraw }
-    {
-        CommandName::BrokerWithdraw
-    }
-
-    fn read(found: Found<'a>) -> Option<Withdrawal<'a>> {
-        Some(Withdrawal(payment_in(&found)?))
-    }
-
-    #[tactic(auto, unfolding(command_table::specs::Table::form_of))]
-    fn fits(found: &Found<'a>) -> bool {
-        may_payment(found)
+        let book = may_place(found, "BOOK");
+        let account = may_name(found, "ACCOUNT");
+        let amount = may_number(found, "AMOUNT", 1, Amount::MOST);
+        let reference = may_name(found, "REFERENCE");
+        book & account & amount & reference
     }
 }

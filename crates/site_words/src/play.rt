@@ -1,9 +1,10 @@
 ghost use Rattle.std.specs.Prelude.{◌≡◌};
 ghost use Rattle.mc_fields.specs.Texts.{IsNumber};
 ghost use Rattle.site_words.specs.Words.{FindsPlaying};
+ghost use Rattle.command_table.specs.Table.{form_of};
 ghost use Rattle.command_table.specs.declared.table.CommandName.TheVariants.{VendorPlay};
 
-use command_table::{CommandName, Spelled, may_number, number_in};
+use command_table::{Spelled, may_number, number_in};
 use command_words::Found;
 use std::marker::Model;
 
@@ -38,15 +39,9 @@ impl Playing {
 
 /// `vendor play COUNT`.
 impl<'a> Spelled<'a> for Playing {
-    ghost named = { VendorPlay };
+    ghost rules = { (form_of VendorPlay).rules };
 
     ghost finds = { FindsPlaying };
-
-    fn command() -> CommandName
-        ensures { result ≡ VendorPlay }
-    {
-        CommandName::VendorPlay
-    }
 
     fn read(found: Found<'a>) -> Option<Playing> {
         let count = number_in(&found, "COUNT", MOST_HEADS)?;

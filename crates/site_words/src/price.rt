@@ -2,11 +2,10 @@ ghost use Rattle.std.specs.Prelude.{◌≡◌, ◌<◌};
 ghost use Rattle.scrip_form.specs.Texts.{IsTarget};
 ghost use Rattle.command_table.specs.Ranges.{IsPathOrAddress};
 ghost use Rattle.site_words.specs.Words.{FindsPricing};
+ghost use Rattle.command_table.specs.Table.{form_of};
 ghost use Rattle.command_table.specs.declared.table.CommandName.TheVariants.{VendorPrice};
 
-use command_table::{
-    CommandName, Spelled, amount_in, may_number, may_place, may_target, place_in, target_in,
-};
+use command_table::{Spelled, amount_in, may_number, may_place, may_target, place_in, target_in};
 use command_words::Found;
 use mc_base::Amount;
 use scrip_form::Target;
@@ -61,15 +60,9 @@ impl<'a> Pricing<'a> {
 
 /// `vendor price BOOK TARGET PRICE`.
 impl<'a> Spelled<'a> for Pricing<'a> {
-    ghost named = { VendorPrice };
+    ghost rules = { (form_of VendorPrice).rules };
 
     ghost finds = { FindsPricing };
-
-    fn command() -> CommandName
-        ensures { result ≡ VendorPrice }
-    {
-        CommandName::VendorPrice
-    }
 
     fn read(found: Found<'a>) -> Option<Pricing<'a>> {
         let book = place_in(&found, "BOOK")?;

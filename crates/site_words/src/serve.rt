@@ -1,11 +1,9 @@
-ghost use Rattle.std.specs.Prelude.{◌≡◌, IfSome, IsNone, IsTrue, ◌↔◌};
+ghost use Rattle.std.specs.Prelude.{◌≡◌};
 ghost use Rattle.mc_fields.specs.Texts.{IsNumber};
 ghost use Rattle.command_table.specs.Table.{serve_rules};
-ghost use Rattle.site_words.specs.Words.{Server as Serving, FindsServer};
-ghost use Rattle.command_table.specs.Beginning.{MayBecome};
-ghost use Rattle.command_table.specs.declared.table.CommandName.TheVariants.{BrokerServe, VendorServe};
+ghost use Rattle.site_words.specs.Words.{FindsServer};
 
-use command_table::{CommandName, Spelled, may_number, may_place, number_in, place_in};
+use command_table::{Spelled, may_number, may_place, number_in, place_in};
 use command_words::Found;
 use std::marker::Model;
 
@@ -57,96 +55,27 @@ impl<'a> Server<'a> {
     }
 }
 
-/// The server that was found; None exactly where there is none.
-fn server_in<'a>(found: &Found<'a>) -> Option<Server<'a>>
-    ensures some { IfSome result (FindsServer found.now) }
-    ensures none { IsNone result → (server : Serving) → FindsServer found.now server → ⊥ }
-{
-    let book = place_in(found, "BOOK")?;
-    let listen = place_in(found, "LISTEN")?;
-    let links = number_in(found, "LINKS", MOST_LINKS)?;
-    Some(Server {
-        book,
-        listen,
-        links: links as u32,
-    })
-}
-
-/// Whether what was found may still become a server.
-fn may_server(found: &Found<'_>) -> bool
-    ensures { IsTrue result
-        ↔ MayBecome serve_rules (λ rows. (server : Serving) × FindsServer rows server) found.now }
-{
-    let book = may_place(found, "BOOK");
-    let listen = may_place(found, "LISTEN");
-    let links = may_number(found, "LINKS", 1, MOST_LINKS);
-    book & listen & links
-}
-
-/// What a vendor is served by. Contracts see it as the server.
-#[derive(Drop)]
-pub struct VendorServer<'a>(pub Server<'a>);
-
-impl<'a> Model for VendorServer<'a> {
-    ghost use Rattle.site_words.specs.Words.{Server as Serving};
-
-    ghost Value = { Serving };
-
-    ghost view = { λ s. s.0 };
-}
-
-/// `vendor serve BOOK LISTEN LINKS`.
-impl<'a> Spelled<'a> for VendorServer<'a> {
-    ghost named = { VendorServe };
+/// `vendor serve BOOK LISTEN LINKS`, and `broker serve` likewise.
+impl<'a> Spelled<'a> for Server<'a> {
+    ghost rules = { serve_rules };
 
     ghost finds = { FindsServer };
 
-    fn command() -> CommandName
-        ensures { result ≡ VendorServe }
-    {
-        CommandName::VendorServe
+    fn read(found: Found<'a>) -> Option<Server<'a>> {
+        let book = place_in(&found, "BOOK")?;
+        let listen = place_in(&found, "LISTEN")?;
+        let links = number_in(&found, "LINKS", MOST_LINKS)?;
+        Some(Server {
+            book,
+            listen,
+            links: links as u32,
+        })
     }
 
-    fn read(found: Found<'a>) -> Option<VendorServer<'a>> {
-        Some(VendorServer(server_in(&found)?))
-    }
-
-    #[tactic(auto, unfolding(command_table::specs::Table::form_of))]
     fn fits(found: &Found<'a>) -> bool {
-        may_server(found)
-    }
-}
-
-/// What a broker is served by. Contracts see it as the server.
-#[derive(Drop)]
-pub struct BrokerServer<'a>(pub Server<'a>);
-
-impl<'a> Model for BrokerServer<'a> {
-    ghost use Rattle.site_words.specs.Words.{Server as Serving};
-
-    ghost Value = { Serving };
-
-    ghost view = { λ s. s.0 };
-}
-
-/// `broker serve BOOK LISTEN LINKS`.
-impl<'a> Spelled<'a> for BrokerServer<'a> {
-    ghost named = { BrokerServe };
-
-    ghost finds = { FindsServer };
-
-    fn command() -> CommandName
-        ensures { result ≡ BrokerServe }
-    {
-        CommandName::BrokerServe
-    }
-
-    fn read(found: Found<'a>) -> Option<BrokerServer<'a>> {
-        Some(BrokerServer(server_in(&found)?))
-    }
-
-    #[tactic(auto, unfolding(command_table::specs::Table::form_of))]
-    fn fits(found: &Found<'a>) -> bool {
-        may_server(found)
+        let book = may_place(found, "BOOK");
+        let listen = may_place(found, "LISTEN");
+        let links = may_number(found, "LINKS", 1, MOST_LINKS);
+        book & listen & links
     }
 }

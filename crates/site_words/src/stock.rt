@@ -2,9 +2,10 @@ ghost use Rattle.std.specs.Prelude.{◌≡◌};
 ghost use Rattle.scrip_form.specs.Texts.{IsName};
 ghost use Rattle.command_table.specs.Ranges.{IsPathOrAddress};
 ghost use Rattle.site_words.specs.Words.{FindsStocking};
+ghost use Rattle.command_table.specs.Table.{form_of};
 ghost use Rattle.command_table.specs.declared.table.CommandName.TheVariants.{BrokerStock};
 
-use command_table::{CommandName, Spelled, may_name, may_place, name_in, place_in};
+use command_table::{Spelled, may_name, may_place, name_in, place_in};
 use command_words::Found;
 use scrip_form::Name;
 use std::marker::Model;
@@ -49,15 +50,9 @@ impl<'a> Stocking<'a> {
 
 /// `broker stock BOOK VENDOR`.
 impl<'a> Spelled<'a> for Stocking<'a> {
-    ghost named = { BrokerStock };
+    ghost rules = { (form_of BrokerStock).rules };
 
     ghost finds = { FindsStocking };
-
-    fn command() -> CommandName
-        ensures { result ≡ BrokerStock }
-    {
-        CommandName::BrokerStock
-    }
 
     fn read(found: Found<'a>) -> Option<Stocking<'a>> {
         let book = place_in(&found, "BOOK")?;

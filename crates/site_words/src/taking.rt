@@ -1,9 +1,10 @@
 ghost use Rattle.std.specs.Prelude.{◌≡◌};
 ghost use Rattle.command_table.specs.Ranges.{IsPathOrAddress};
 ghost use Rattle.site_words.specs.Words.{FindsTaking};
+ghost use Rattle.command_table.specs.Table.{form_of};
 ghost use Rattle.command_table.specs.declared.table.CommandName.TheVariants.{BrokerLicence};
 
-use command_table::{CommandName, Spelled, may_place, place_in};
+use command_table::{Spelled, may_place, place_in};
 use command_words::Found;
 use std::marker::Model;
 
@@ -38,15 +39,9 @@ impl<'a> Taking<'a> {
 
 /// `broker licence BOOK`.
 impl<'a> Spelled<'a> for Taking<'a> {
-    ghost named = { BrokerLicence };
+    ghost rules = { (form_of BrokerLicence).rules };
 
     ghost finds = { FindsTaking };
-
-    fn command() -> CommandName
-        ensures { result ≡ BrokerLicence }
-    {
-        CommandName::BrokerLicence
-    }
 
     fn read(found: Found<'a>) -> Option<Taking<'a>> {
         let book = place_in(&found, "BOOK")?;

@@ -2,10 +2,11 @@ ghost use Rattle.std.specs.Prelude.{◌≡◌};
 ghost use Rattle.mc_fields.specs.Texts.{IsNumber};
 ghost use Rattle.scrip_form.specs.Texts.{IsName};
 ghost use Rattle.wallet_words.specs.Words.{FindsBuying, buy_calling};
+ghost use Rattle.command_table.specs.Table.{form_of};
 ghost use Rattle.command_table.specs.declared.table.CommandName.TheVariants.{WalletBuy};
 
 use crate::calling::{Calling, calling_in, may_calling};
-use command_table::{CommandName, Spelled, amount_in, may_name, may_number, name_in};
+use command_table::{Spelled, amount_in, may_name, may_number, name_in};
 use command_words::Found;
 use mc_base::Amount;
 use scrip_form::Name;
@@ -76,15 +77,9 @@ impl<'a> Buying<'a> {
 
 /// `wallet buy BOOK BROKER VENDOR AMOUNT LIMIT CONNECT`.
 impl<'a> Spelled<'a> for Buying<'a> {
-    ghost named = { WalletBuy };
+    ghost rules = { (form_of WalletBuy).rules };
 
     ghost finds = { FindsBuying };
-
-    fn command() -> CommandName
-        ensures { result ≡ WalletBuy }
-    {
-        CommandName::WalletBuy
-    }
 
     fn read(found: Found<'a>) -> Option<Buying<'a>> {
         let calling = calling_in(&found, "BROKER")?;

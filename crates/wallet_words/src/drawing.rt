@@ -3,12 +3,12 @@ ghost use Rattle.mc_fields.specs.Texts.{IsNumber};
 ghost use Rattle.scrip_form.specs.Scrip.{IsCert};
 ghost use Rattle.scrip_form.specs.Texts.{IsName};
 ghost use Rattle.wallet_words.specs.Words.{FindsDrawing, draw_calling};
+ghost use Rattle.command_table.specs.Table.{form_of};
 ghost use Rattle.command_table.specs.declared.table.CommandName.TheVariants.{WalletDraw};
 
 use crate::calling::{Calling, calling_in, may_calling};
 use command_table::{
-    CommandName, Spelled, amount_in, may_name, may_number, may_secret, name_in, number_in,
-    secret_in,
+    Spelled, amount_in, may_name, may_number, may_secret, name_in, number_in, secret_in,
 };
 use command_words::Found;
 use mc_base::Amount;
@@ -89,15 +89,9 @@ impl<'a> Drawing<'a> {
 
 /// `wallet draw BOOK BROKER ACCOUNT KEY ORDER AMOUNT CONNECT`.
 impl<'a> Spelled<'a> for Drawing<'a> {
-    ghost named = { WalletDraw };
+    ghost rules = { (form_of WalletDraw).rules };
 
     ghost finds = { FindsDrawing };
-
-    fn command() -> CommandName
-        ensures { result ≡ WalletDraw }
-    {
-        CommandName::WalletDraw
-    }
 
     fn read(found: Found<'a>) -> Option<Drawing<'a>> {
         let calling = calling_in(&found, "BROKER")?;

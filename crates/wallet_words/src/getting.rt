@@ -2,10 +2,11 @@ ghost use Rattle.std.specs.Prelude.{◌≡◌};
 ghost use Rattle.mc_fields.specs.Texts.{IsNumber};
 ghost use Rattle.scrip_form.specs.Texts.{IsName, IsTarget};
 ghost use Rattle.wallet_words.specs.Words.{FindsGetting, get_calling};
+ghost use Rattle.command_table.specs.Table.{form_of};
 ghost use Rattle.command_table.specs.declared.table.CommandName.TheVariants.{WalletGet};
 
 use crate::calling::{Calling, calling_in, may_calling};
-use command_table::{CommandName, Spelled, amount_in, may_number, may_target, target_in};
+use command_table::{Spelled, amount_in, may_number, may_target, target_in};
 use command_words::Found;
 use mc_base::Amount;
 use scrip_form::{Name, Target};
@@ -67,15 +68,9 @@ impl<'a> Getting<'a> {
 
 /// `wallet get BOOK VENDOR TARGET LIMIT CONNECT`.
 impl<'a> Spelled<'a> for Getting<'a> {
-    ghost named = { WalletGet };
+    ghost rules = { (form_of WalletGet).rules };
 
     ghost finds = { FindsGetting };
-
-    fn command() -> CommandName
-        ensures { result ≡ WalletGet }
-    {
-        CommandName::WalletGet
-    }
 
     fn read(found: Found<'a>) -> Option<Getting<'a>> {
         let calling = calling_in(&found, "VENDOR")?;

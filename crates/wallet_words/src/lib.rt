@@ -19,6 +19,6 @@ pub use drawing::Drawing;
 pub use getting::Getting;
 pub use reporting::Reporting;
 pub use retrying::Retrying;
-pub use wallet_book::{Filling, Telling, WalletBook};
+pub use wallet_book::WalletBook;
 pub use wallet_init::WalletFounder;
 pub use wallet_operation::{WalletOperation, wallet_operation_of};

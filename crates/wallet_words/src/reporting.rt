@@ -2,9 +2,10 @@ ghost use Rattle.std.specs.Prelude.{◌≡◌, ◌<◌, ◌&&◌, length, map, n
 ghost use Rattle.std.specs.List.{AllByRecursion, list_all};
 ghost use Rattle.command_table.specs.Ranges.{IsPathOrAddress, is_path_or_address};
 ghost use Rattle.wallet_words.specs.Words.{FindsReporting};
+ghost use Rattle.command_table.specs.Table.{form_of};
 ghost use Rattle.command_table.specs.declared.table.CommandName.TheVariants.{AuditReport};
 
-use command_table::{CommandName, Spelled, are_places, may_places};
+use command_table::{Spelled, are_places, may_places};
 use command_words::Found;
 use std::marker::Model;
 
@@ -56,15 +57,9 @@ fn are_books(words: &[&str]) -> bool
 
 /// `audit report BOOK.. [--json]`.
 impl<'a> Spelled<'a> for Reporting<'a> {
-    ghost named = { AuditReport };
+    ghost rules = { (form_of AuditReport).rules };
 
     ghost finds = { FindsReporting };
-
-    fn command() -> CommandName
-        ensures { result ≡ AuditReport }
-    {
-        CommandName::AuditReport
-    }
 
     fn read(found: Found<'a>) -> Option<Reporting<'a>> {
         let books = found.values_of("BOOK")?;

@@ -1,10 +1,11 @@
 ghost use Rattle.std.specs.Prelude.{◌≡◌, codes};
 ghost use Rattle.scrip_form.specs.Texts.{IsName};
 ghost use Rattle.wallet_words.specs.Words.{FindsCalling};
+ghost use Rattle.command_table.specs.Table.{form_of};
 ghost use Rattle.command_table.specs.declared.table.CommandName.TheVariants.{WalletRetry};
 
 use crate::calling::{Calling, calling_in, may_calling};
-use command_table::{CommandName, Spelled};
+use command_table::Spelled;
 use command_words::Found;
 use scrip_form::Name;
 use std::marker::Model;
@@ -42,15 +43,9 @@ impl<'a> Retrying<'a> {
 
 /// `wallet retry BOOK PEER CONNECT`.
 impl<'a> Spelled<'a> for Retrying<'a> {
-    ghost named = { WalletRetry };
+    ghost rules = { (form_of WalletRetry).rules };
 
     ghost finds = { FindsCalling (codes "PEER") };
-
-    fn command() -> CommandName
-        ensures { result ≡ WalletRetry }
-    {
-        CommandName::WalletRetry
-    }
 
     fn read(found: Found<'a>) -> Option<Retrying<'a>> {
         let calling = calling_in(&found, "PEER")?;

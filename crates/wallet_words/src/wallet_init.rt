@@ -2,9 +2,10 @@ ghost use Rattle.std.specs.Prelude.{◌≡◌};
 ghost use Rattle.scrip_form.specs.Texts.{IsName};
 ghost use Rattle.command_table.specs.Ranges.{IsPathOrAddress};
 ghost use Rattle.wallet_words.specs.Words.{FindsWalletFounder};
+ghost use Rattle.command_table.specs.Table.{form_of};
 ghost use Rattle.command_table.specs.declared.table.CommandName.TheVariants.{WalletInit};
 
-use command_table::{CommandName, Spelled, may_name, may_place, name_in, place_in};
+use command_table::{Spelled, may_name, may_place, name_in, place_in};
 use command_words::Found;
 use scrip_form::Name;
 use std::marker::Model;
@@ -49,15 +50,9 @@ impl<'a> WalletFounder<'a> {
 
 /// `wallet init BOOK NAME`.
 impl<'a> Spelled<'a> for WalletFounder<'a> {
-    ghost named = { WalletInit };
+    ghost rules = { (form_of WalletInit).rules };
 
     ghost finds = { FindsWalletFounder };
-
-    fn command() -> CommandName
-        ensures { result ≡ WalletInit }
-    {
-        CommandName::WalletInit
-    }
 
     fn read(found: Found<'a>) -> Option<WalletFounder<'a>> {
         let book = place_in(&found, "BOOK")?;

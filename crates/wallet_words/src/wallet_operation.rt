@@ -6,8 +6,8 @@ use crate::buying::Buying;
 use crate::drawing::Drawing;
 use crate::getting::Getting;
 use crate::retrying::Retrying;
-use crate::wallet_book::{Filling, Telling, WalletBook};
-use command_table::values_of;
+use crate::wallet_book::WalletBook;
+use command_table::{CommandName, values_of};
 use std::alloc::{AllocError, Global};
 
 /// What a customer has done with the book of a wallet.
@@ -65,23 +65,23 @@ pub fn wallet_operation_of<'a>(
     ensures none { IfOk result (λ r. IsNone r → (operation : Said)
         → AreWalletOperationWords (map string_bytes words.entry.now) operation → ⊥) }
 {
-    if let Some(filling) = values_of::<Filling>(alloc, words)? {
-        return Ok(Some(WalletOperation::Take(filling.0)));
+    if let Some(filling) = values_of::<WalletBook>(alloc, CommandName::WalletTake, words)? {
+        return Ok(Some(WalletOperation::Take(filling)));
     }
-    if let Some(drawing) = values_of::<Drawing>(alloc, words)? {
+    if let Some(drawing) = values_of::<Drawing>(alloc, CommandName::WalletDraw, words)? {
         return Ok(Some(WalletOperation::Draw(drawing)));
     }
-    if let Some(buying) = values_of::<Buying>(alloc, words)? {
+    if let Some(buying) = values_of::<Buying>(alloc, CommandName::WalletBuy, words)? {
         return Ok(Some(WalletOperation::Buy(buying)));
     }
-    if let Some(getting) = values_of::<Getting>(alloc, words)? {
+    if let Some(getting) = values_of::<Getting>(alloc, CommandName::WalletGet, words)? {
         return Ok(Some(WalletOperation::Get(getting)));
     }
-    if let Some(retrying) = values_of::<Retrying>(alloc, words)? {
+    if let Some(retrying) = values_of::<Retrying>(alloc, CommandName::WalletRetry, words)? {
         return Ok(Some(WalletOperation::Retry(retrying)));
     }
-    if let Some(telling) = values_of::<Telling>(alloc, words)? {
-        return Ok(Some(WalletOperation::List(telling.0)));
+    if let Some(telling) = values_of::<WalletBook>(alloc, CommandName::WalletList, words)? {
+        return Ok(Some(WalletOperation::List(telling)));
     }
     Ok(None)
 }

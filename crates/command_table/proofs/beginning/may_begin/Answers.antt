@@ -1,7 +1,5 @@
-use Rattle.std.proofs.Common.{◌≡◌, ◌∙◌, ap, inl, inr, rules}
+use Rattle.std.proofs.Common.{◌≡◌, ◌∙◌, inl, inr, rules}
 use Rattle.std.proofs.lemmas.Result.{IfOk-weaker}
-use Rattle.command_table.specs.Table.{form_of}
-use Rattle.command_table.specs.declared.table.CommandName.{CommandName}
 use Rattle.command_table.proofs.BeginLemmas.{name_begins}
 use Rattle.command_table.proofs.beginning.may_begin.Goals as goal
 
@@ -9,7 +7,5 @@ pub returns : goal.returns
 returns g c =
     let role : c.in-Some.role.now ≡ c.form-form.result.role.now = search rules in
     let command : c.in-Some.command.now ≡ c.form-form.result.name.now = search rules in
-    let is_role = role ∙ c.form-form.ensures.role ∙ ap (λ (n : CommandName). (form_of n).role) c.command.ensures in
-    let is_name = command ∙ c.form-form.ensures.name ∙ ap (λ (n : CommandName). (form_of n).name) c.command.ensures in
-    IfOk-weaker c.lack_value.result _ _ (λ r is. name_begins _ _ _ _ _ _ r c.in-Some.ensures.some is_role is_name
+    IfOk-weaker c.lack_value.result _ _ (λ r is. name_begins _ _ _ _ _ _ r c.in-Some.ensures.some (role ∙ c.form-form.ensures.role) (command ∙ c.form-form.ensures.name)
     (λ t. inr (is.0 t), λ may. elim may [ inl taken ↦ absurd (cc (c.if-branch.false, c.in_ok-are_taken.ensures.1 taken)) | inr lack ↦ is.1 lack ])) c.lack_value.ensures

@@ -1,6 +1,6 @@
 use Rattle.site_words.proofs.FitLemmas.{payment_fits, payment_spells}
 use Rattle.command_table.proofs.SpellLemmas.{and_iff}
-use Rattle.site_words.proofs.payment.may_payment.Goals as goal
+use Rattle.site_words.proofs.payment.PaymentSpelled.fits.Goals as goal
 
 pub returns : goal.returns
 returns c =

@@ -1,5 +1,5 @@
 use Rattle.wallet_words.proofs.FitLemmas.{wallet_book_fits, wallet_book_spells}
-use Rattle.wallet_words.proofs.wallet_book.may_book.Goals as goal
+use Rattle.wallet_words.proofs.wallet_book.WalletBookSpelled.fits.Goals as goal
 
 pub returns : goal.returns
 returns c =

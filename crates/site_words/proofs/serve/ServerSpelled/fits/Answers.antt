@@ -1,6 +1,6 @@
 use Rattle.site_words.proofs.FitLemmas.{server_fits, server_spells}
 use Rattle.command_table.proofs.SpellLemmas.{and_iff}
-use Rattle.site_words.proofs.serve.may_server.Goals as goal
+use Rattle.site_words.proofs.serve.ServerSpelled.fits.Goals as goal
 
 pub returns : goal.returns
 returns c =
