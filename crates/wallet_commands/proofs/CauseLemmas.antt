@@ -1,5 +1,5 @@
 -- Causes of one stretch after another.
-use Rattle.std.proofs.Common.{◌≡◌, ◌∙◌, inr, ℕ, List, refl, sym, ap, subst, Err}
+use Rattle.std.proofs.Common.{◌≡◌, ◌∙◌, inl, inr, ℕ, List, refl, sym, ap, subst, Err}
 use Rattle.mc_outside.specs.Bytes.{Rose}
 use Rattle.mc_outside.specs.DiskView.{DiskView, LinkKeeps}
 use Rattle.mc_outside.specs.LinkView.{LinkView, next_taken, after_send}
@@ -90,18 +90,18 @@ clocked_so (refusals.BadInput line) v c w clocked why = absurd why.1.3
 clocked_so (refusals.TwiceHeld id) v c w clocked why = absurd why.1.3
 clocked_so (refusals.NoFunds greatest) v c w clocked why = absurd why.1.3
 clocked_so refusals.Nothing v c w clocked why = subst (λ (u : LinkView). OnlyClocked v u) (sym why) clocked
-clocked_so (refusals.JournalFull size payload) v c w clocked why = tt
+clocked_so (refusals.JournalFull size payload) v c w clocked why = inr (inr (c, clocked, why))
 clocked_so f v c w clocked why = (c, clocked, why)
 
 pub pended_so : (f : Refusal) (v w : LinkView) → OnlyClocked v w → MayPend f → RefusedBy f v w
 pended_so (refusals.NoFunds greatest) v w clocked may = clocked
-pended_so (refusals.JournalFull size payload) v w clocked may = tt
+pended_so (refusals.JournalFull size payload) v w clocked may = inr (inl clocked)
 pended_so f v w clocked may = absurd may
 
 pub taken_so : (f : Refusal) (v w : LinkView) → InputTaken v w → MayTake f → RefusedBy f v w
 taken_so (refusals.BadInput line) v w taken may = taken
 taken_so (refusals.TwiceHeld id) v w taken may = taken
-taken_so (refusals.JournalFull size payload) v w taken may = tt
+taken_so (refusals.JournalFull size payload) v w taken may = inl taken
 taken_so f v w taken may = absurd may
 
 -- why a book was not opened
