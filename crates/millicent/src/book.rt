@@ -259,9 +259,13 @@ impl<F: OpenFile + FileExt> Disk for Book<F> {
 #[cfg(test)]
 mod tests {
     use super::*;
+    use std::alloc::Alloc;
+    use std::process::Abort;
     use std::test::Fail;
 
     const PATH: &str = "a.book";
+
+    const LOCKED: &str = "locked.book";
 
     /// Why there is no book at this path; nothing where there is one.
     fn refused<R: Files<File = File>>(rt: &R, path: &str, create: bool) -> &'static str {
@@ -271,12 +275,11 @@ mod tests {
         }
     }
 
-    #[test]
-    fn a_book_over_a_file(rt: HostRuntime) -> Result<(), Fail> {
-        let _ = fs::remove_file(&rt, PATH);
-        assert_eq!(rt; refused(&rt, PATH, false), "no such file");
-        assert!(rt; !fs::exists(&rt, PATH)?);
-        let mut book = Book::open(&rt, PATH, true)?;
+    /// A book whose file is new keeps what is written, and is never made longer by a cut.
+    fn keeps_bytes<R: Files<File = File> + Alloc + Abort>(
+        rt: &R,
+        book: &mut Book<File>,
+    ) -> Result<(), Fail> {
         assert_eq!(rt; book.write_at(3, b"abc"), Ok(()));
         assert_eq!(rt; book.size(), Ok(6));
         let mut buf = [7; 5];
@@ -287,17 +290,34 @@ mod tests {
         assert_eq!(rt; book.size(), Ok(6));
         assert_eq!(rt; book.cut(5), Ok(()));
         assert_eq!(rt; book.sync(), Ok(()));
-        assert_eq!(rt; fs::read(&rt, PATH)?.as_slice(), b"\0\0\0ab".as_slice());
-        assert_eq!(rt; fs::metadata(&rt, PATH)?.mode() & 0o777, 0o600);
+        assert_eq!(rt; fs::read(rt, PATH)?.as_slice(), b"\0\0\0ab".as_slice());
+        assert_eq!(rt; fs::metadata(rt, PATH)?.mode() & 0o777, 0o600);
         assert_eq!(rt; book.faults, 0);
         assert!(rt; !book.is_open_to_others());
-        book.forget_if_empty(&rt, PATH);
-        assert!(rt; fs::exists(&rt, PATH)?);
-        assert_eq!(rt; book.cut(0), Ok(()));
-        book.forget_if_empty(&rt, PATH);
-        assert!(rt; !fs::exists(&rt, PATH)?);
-        drop(book);
         Ok(())
+    }
+
+    /// Its file is taken away where it has no bytes, and only there.
+    fn is_forgotten_if_empty<R: Files<File = File> + Abort>(
+        rt: &R,
+        book: &mut Book<File>,
+    ) -> Result<(), Fail> {
+        book.forget_if_empty(rt, PATH);
+        assert!(rt; fs::exists(rt, PATH)?);
+        assert_eq!(rt; book.cut(0), Ok(()));
+        book.forget_if_empty(rt, PATH);
+        assert!(rt; !fs::exists(rt, PATH)?);
+        Ok(())
+    }
+
+    #[test]
+    fn a_book_over_a_file(rt: HostRuntime) -> Result<(), Fail> {
+        let _ = fs::remove_file(&rt, PATH);
+        assert_eq!(rt; refused(&rt, PATH, false), "no such file");
+        assert!(rt; !fs::exists(&rt, PATH)?);
+        let mut book = Book::open(&rt, PATH, true)?;
+        keeps_bytes(&rt, &mut book)?;
+        is_forgotten_if_empty(&rt, &mut book)
     }
 
     #[test]
@@ -321,36 +341,55 @@ mod tests {
     }
 
     #[test]
-    fn a_locked_book_is_refused(rt: HostRuntime) -> Result<(), Fail> {
-        let path = "locked.book";
-        let mut first = Book::open(&rt, path, true)?;
-        let mut second = Book::<File>::none();
+    fn no_book_fails_each_call(rt: HostRuntime) -> Result<(), Fail> {
+        let mut book = Book::<File>::none();
         let mut buf = [0; 4];
-        assert_eq!(rt; second.size(), Err(DiskFault));
-        assert_eq!(rt; second.read(0, &mut buf), Err(DiskFault));
-        assert_eq!(rt; second.write_at(0, b"abc"), Err(DiskFault));
-        assert_eq!(rt; second.cut(0), Err(DiskFault));
-        assert_eq!(rt; second.sync(), Err(DiskFault));
-        assert_eq!(rt; second.faults, 5);
-        assert_eq!(rt; refused(&rt, path, true), "locked by another process");
-        assert_eq!(rt; refused(&rt, path, false), "locked by another process");
-        assert!(rt; Book::open_to_read(&rt, path).is_err());
-        assert_eq!(rt; first.size(), Ok(0));
-        assert_eq!(rt; first.write_at(0, b"abc"), Ok(()));
+        assert_eq!(rt; book.size(), Err(DiskFault));
+        assert_eq!(rt; book.read(0, &mut buf), Err(DiskFault));
+        assert_eq!(rt; book.write_at(0, b"abc"), Err(DiskFault));
+        assert_eq!(rt; book.cut(0), Err(DiskFault));
+        assert_eq!(rt; book.sync(), Err(DiskFault));
+        assert_eq!(rt; book.faults, 5);
+        Ok(())
+    }
+
+    /// What is open to read alone is read, and not changed.
+    fn is_read_alone(rt: &impl Abort, book: &mut Book<File>) {
+        let mut buf = [0; 4];
+        assert_eq!(rt; book.sync(), Ok(()));
+        assert_eq!(rt; book.read(0, &mut buf), Ok(3));
+        assert_eq!(rt; book.cut(0), Err(DiskFault));
+        assert_eq!(rt; book.write_at(0, b"xyz"), Err(DiskFault));
+        assert_eq!(rt; book.size(), Ok(3));
+    }
+
+    /// Writes a new book, which no other process can open meanwhile.
+    fn lock<R: Files<File = File> + Abort>(rt: &R, book: &mut Book<File>) {
+        assert_eq!(rt; refused(rt, LOCKED, true), "locked by another process");
+        assert_eq!(rt; refused(rt, LOCKED, false), "locked by another process");
+        assert!(rt; Book::open_to_read(rt, LOCKED).is_err());
+        assert_eq!(rt; book.size(), Ok(0));
+        assert_eq!(rt; book.write_at(0, b"abc"), Ok(()));
+    }
+
+    #[test]
+    fn a_locked_book_is_refused(rt: HostRuntime) -> Result<(), Fail> {
+        let mut first = Book::open(&rt, LOCKED, true)?;
+        lock(&rt, &mut first);
         drop(first);
-        let mut audited = Book::open_to_read(&rt, path)?;
-        assert!(rt; Book::open_to_read(&rt, path).is_err());
-        assert_eq!(rt; audited.sync(), Ok(()));
-        assert_eq!(rt; audited.read(0, &mut buf), Ok(3));
-        assert_eq!(rt; audited.cut(0), Err(DiskFault));
-        assert_eq!(rt; audited.write_at(0, b"xyz"), Err(DiskFault));
-        assert_eq!(rt; audited.size(), Ok(3));
-        assert!(rt; Book::open_to_read(&rt, ".").is_err());
+        let mut audited = Book::open_to_read(&rt, LOCKED)?;
+        assert!(rt; Book::open_to_read(&rt, LOCKED).is_err());
+        is_read_alone(&rt, &mut audited);
         drop(audited);
-        let again = Book::open(&rt, path, true)?;
-        again.forget_if_empty(&rt, path);
-        assert!(rt; fs::exists(&rt, path)?);
-        fs::remove_file(&rt, path)?;
+        Book::open(&rt, LOCKED, true)?.forget_if_empty(&rt, LOCKED);
+        assert!(rt; fs::exists(&rt, LOCKED)?);
+        fs::remove_file(&rt, LOCKED)?;
+        Ok(())
+    }
+
+    #[test]
+    fn no_book_where_no_file_can_be(rt: HostRuntime) -> Result<(), Fail> {
+        assert!(rt; Book::open_to_read(&rt, ".").is_err());
         assert_eq!(rt; refused(&rt, ".", true), "no regular file");
         assert_eq!(rt; refused(&rt, "", true), "no such file");
         assert_eq!(rt; refused(&rt, "none/a.book", true), "no such file");

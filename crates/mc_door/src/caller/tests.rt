@@ -1,18 +1,16 @@
 use super::*;
-use std::net::{Shutdown, TcpListener};
+use std::net::{Shutdown, TcpListener, TcpStream};
+use std::process::Abort;
 use std::test::Fail;
 
-#[test]
-fn one_link_over_a_connection_that_is_made(rt: HostRuntime) -> Result<(), Fail> {
-    let socket = TcpListener::bind(&rt, "127.0.0.1:0")?;
-    let port = socket.local_addr()?.port();
-    let address = format!(in rt.alloc(); "localhost:{port}")?;
-    let mut links = call(&rt, &address);
-    assert!(rt; links.send(b"early").is_err());
-    assert!(rt; links.next()?);
-    let (mut peer, _) = socket.accept()?;
-    assert_eq!(rt; links.send(b"asked")?, 5);
+/// What a caller and its peer tell each other until both are at the end. No other link comes.
+fn talk(
+    rt: &impl Abort,
+    links: &mut Caller<'_, HostRuntime>,
+    peer: &mut TcpStream,
+) -> Result<(), Fail> {
     let mut buf = [0; 8];
+    assert_eq!(rt; links.send(b"asked")?, 5);
     assert_eq!(rt; peer.read(&mut buf)?, 5);
     assert_eq!(rt; &buf[..5], b"asked".as_slice());
     peer.write_all(b"answer")?;
@@ -28,6 +26,23 @@ fn one_link_over_a_connection_that_is_made(rt: HostRuntime) -> Result<(), Fail> 
 }
 
 #[test]
+fn one_link_over_a_connection_that_is_made(rt: HostRuntime) -> Result<(), Fail> {
+    let socket = TcpListener::bind(&rt, "127.0.0.1:0")?;
+    let port = socket.local_addr()?.port();
+    let address = format!(in rt.alloc(); "localhost:{port}")?;
+    let mut links = call(&rt, &address);
+    assert!(rt; links.send(b"early").is_err());
+    assert!(rt; links.next()?);
+    let (mut peer, _) = socket.accept()?;
+    talk(&rt, &mut links, &mut peer)
+}
+
+/// Whether no link comes, however often one is asked for.
+fn has_no_link(links: &mut Caller<'_, HostRuntime>) -> io::Result<bool> {
+    Ok(!links.next()? && !links.next()?)
+}
+
+#[test]
 fn no_link_where_no_connection_is_made(rt: HostRuntime) -> Result<(), Fail> {
     let socket = TcpListener::bind(&rt, "127.0.0.1:0")?;
     let port = socket.local_addr()?.port();
@@ -40,9 +55,7 @@ fn no_link_where_no_connection_is_made(rt: HostRuntime) -> Result<(), Fail> {
         "127.0.0.1:65536",
         "",
     ] {
-        let mut links = call(&rt, address);
-        assert!(rt; !links.next()?);
-        assert!(rt; !links.next()?);
+        assert!(rt; has_no_link(&mut call(&rt, address))?);
     }
     Ok(())
 }

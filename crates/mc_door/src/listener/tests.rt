@@ -47,13 +47,22 @@ fn heard<C: Clock>(links: &mut Listener<C>) -> io::Result<usize> {
     links.recv(&mut [0; 64])
 }
 
+/// Takes the next link, and receives: how many bytes.
+fn taken<C: Clock>(links: &mut Listener<C>) -> io::Result<usize> {
+    if links.next()? { heard(links) } else { Ok(0) }
+}
+
 /// Takes the next link, receives, and replies five bytes: how many were received.
 fn answer<C: Clock>(links: &mut Listener<C>) -> io::Result<usize> {
-    let _more = links.next()?;
-    let n = heard(links)?;
+    let n = taken(links)?;
     let _sent = links.send(b"reply")?;
     links.end();
     Ok(n)
+}
+
+/// Answers the next link: how many bytes were received, and how many the peer reads.
+fn answered<C: Clock>(links: &mut Listener<C>, peer: &mut TcpStream) -> io::Result<(usize, usize)> {
+    Ok((answer(links)?, read(peer)?))
 }
 
 #[test]
@@ -62,11 +71,9 @@ fn the_first_whole_head_is_the_first_served(rt: HostRuntime) -> Result<(), Fail>
     let _silent = peer_of(&rt, &links, b"")?;
     let mut slow = peer_of(&rt, &links, &HEAD[..20])?;
     let mut peer = peer_of(&rt, &links, HEAD)?;
-    assert_eq!(rt; answer(&mut links)?, HEAD.len());
-    assert_eq!(rt; read(&mut peer)?, 5);
+    assert_eq!(rt; answered(&mut links, &mut peer)?, (HEAD.len(), 5));
     slow.write_all(&HEAD[20..])?;
-    assert_eq!(rt; answer(&mut links)?, HEAD.len());
-    assert_eq!(rt; read(&mut slow)?, 5);
+    assert_eq!(rt; answered(&mut links, &mut slow)?, (HEAD.len(), 5));
     Ok(())
 }
 
@@ -74,8 +81,7 @@ fn the_first_whole_head_is_the_first_served(rt: HostRuntime) -> Result<(), Fail>
 fn an_idle_link_gives_way_by_a_fault(rt: HostRuntime) -> Result<(), Fail> {
     let mut links = listen(&rt, rt.alloc(), "127.0.0.1:0", &rt)?;
     let mut idle = peer_of(&rt, &links, HEAD)?;
-    assert!(rt; links.next()?);
-    assert_eq!(rt; heard(&mut links)?, HEAD.len());
+    assert_eq!(rt; taken(&mut links)?, HEAD.len());
     let _other = peer_of(&rt, &links, HEAD)?;
     assert!(rt; heard(&mut links).is_err());
     assert_eq!(rt; answer(&mut links)?, HEAD.len());
@@ -88,8 +94,7 @@ fn the_last_reply_arrives(rt: HostRuntime) -> Result<(), Fail> {
     let mut links = listen(&rt, rt.alloc(), "127.0.0.1:0", &rt)?;
     let mut peer = peer_of(&rt, &links, HEAD)?;
     peer.shutdown(Shutdown::Write)?;
-    assert!(rt; links.next()?);
-    assert_eq!(rt; heard(&mut links)?, HEAD.len());
+    assert_eq!(rt; taken(&mut links)?, HEAD.len());
     assert_eq!(rt; heard(&mut links)?, 0);
     assert_eq!(rt; links.send(b"last")?, 4);
     links.finish();
@@ -144,8 +149,7 @@ fn a_reply_that_is_not_taken_holds_up_nobody(rt: HostRuntime) -> Result<(), Fail
     let _other = peer_of(&rt, &links, HEAD)?;
     let page = Vec::from_elem(rt.alloc(), 7u8, 65_536)?;
     let sent = send_much(&mut links, &page);
-    assert!(rt; links.next()?);
-    assert_eq!(rt; heard(&mut links)?, HEAD.len());
+    assert_eq!(rt; taken(&mut links)?, HEAD.len());
     assert_eq!(rt; read_much(&mut links, &mut idle, sent)?, sent);
     Ok(())
 }
@@ -163,8 +167,7 @@ fn a_connection_has_its_time(rt: HostRuntime) -> Result<(), Fail> {
     }
     assert_eq!(rt; read(&mut silent)?, 0);
     let _peer = peer_of(&rt, &links, HEAD)?;
-    assert!(rt; links.next()?);
-    assert_eq!(rt; heard(&mut links)?, HEAD.len());
+    assert_eq!(rt; taken(&mut links)?, HEAD.len());
     assert!(rt; heard(&mut links).is_err());
     Ok(())
 }
