@@ -74,8 +74,8 @@ def measured(command):
 
 def gate():
     """The gate from nothing: a toolchain that keeps what earlier runs proved has a flag for it."""
-    words = subprocess.run(["rt", "help"], capture_output=True, text=True).stdout
-    return ["rt", "ci", "--anew"] if "--anew" in words else ["rt", "ci"]
+    said = subprocess.run(["rt", "help"], stdout=subprocess.PIPE, stderr=subprocess.STDOUT, text=True).stdout
+    return ["rt", "ci", "--anew"] if "--anew" in said else ["rt", "ci"]
 
 
 def rows(seen):

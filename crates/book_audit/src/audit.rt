@@ -19,8 +19,8 @@ use std::alloc::Global;
 /// Audits books of which all was learned, in the order in which they were read: the report, with the sums of the vendors
 /// in the order of their names, or why there is none. `BadBooks` comes exactly where there is not one broker's book or two
 /// vendors share a name, and then `MissingBook` exactly where the broker sold of a vendor whose book is not there, with the
-/// least such name, and then `Stranger` exactly where one stands, with the first. It takes memory for the pieces of one book at a time, beside what each vendor minted, and what the
-/// broker had in stock of it and sold of it.
+/// least such name, and then `Stranger` exactly where one stands, with the first. It takes memory for the pieces of one
+/// book at a time, beside what each vendor minted, and what the broker had in stock of it and sold of it.
 pub fn audit_books(alloc: Global, books: &[BookSums]) -> Result<Report, BooksFault>
     ensures audited { (limits : Bounds) (hs : Items History) → limits.series ≤ 2 ^ 32
         → AreLearned limits books.now hs → Audited limits hs result }
