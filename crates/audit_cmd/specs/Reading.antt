@@ -12,7 +12,7 @@ use Rattle.scrip_journal.specs.declared.fault.HouseFault.{HouseFault}
 use Rattle.scrip_journal.specs.declared.fault.HouseFault.TheVariants.{NotJournal, BadRecord, Unlawful, WrongKind, NotEmpty, Disk, NoMemory}
 use Rattle.book_opening.specs.Opener.{OpenerView}
 use Rattle.house_core.specs.Bench.{Represents, house_time, limits_of}
-use Rattle.house_core.specs.Trade.{TradeView}
+use Rattle.house_state.specs.Trade.{TradeView}
 use Rattle.vendor_core.specs.Shelf.{shelf_view}
 use Rattle.broker_core.specs.Desk.{desk_view}
 use Rattle.wallet_model.specs.Follows.{WalletFollows, IsWalletBook}

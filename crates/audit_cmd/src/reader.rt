@@ -14,7 +14,8 @@ ghost use Rattle.house_core.specs.Bench.{limits_of};
 ghost use Rattle.audit_cmd.specs.Reading.{Reads};
 
 use book_sums::BookSums;
-use house_core::{Bench, Trade};
+use house_core::Bench;
+use house_state::Trade;
 use mc_base::NoMemory;
 use mc_records::{Limits, Record};
 use scrip_journal::LearnFault;

@@ -24,7 +24,7 @@ use Rattle.command_status.specs.Faults.{fault_status}
 use Rattle.book_commands.specs.Init.{FoundPair, FoundsBy, FoundCauses}
 use Rattle.book_commands.specs.Serving.{EncodesLawful}
 use Rattle.book_commands.proofs.ServedLemmas.{stands_lawful}
-use Rattle.house_core.specs.Trade.{TradeView}
+use Rattle.house_state.specs.Trade.{TradeView}
 
 -- any entry that fits has room as the first
 pub first_has_room : (e : Entry) → Fits e → empty_size + entry_size [] e ≤ 2 ^ 40

@@ -21,7 +21,7 @@ use Rattle.house_core.specs.declared.outcome.Outcome.TheVariants as outcomes
 use Rattle.house_core.specs.Bench.{house_time, limits_of}
 use Rattle.house_core.specs.House.{HouseRepresents, HouseRests, house_rests_none, KeepsTime, OfHouse, CountsFaults, outcome_disk}
 use Rattle.house_core.proofs.HouseDisk.{house_keeps}
-use Rattle.house_core.specs.Trade.{TradeView}
+use Rattle.house_state.specs.Trade.{TradeView}
 use Rattle.house_core.specs.Tasks.{Task, Add, Stays, Refuse, Does, LeavesBy, Performs}
 use Rattle.command_input.proofs.AsideLemmas.{TellsAside, SentNoMore, no_more_then, no_more_still, taken_quiet, aside_still, quiet_link}
 use Rattle.command_status.specs.declared.status.Status.{Status}

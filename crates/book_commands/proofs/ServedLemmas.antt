@@ -31,7 +31,7 @@ use Rattle.command_status.specs.Faults.{fault_status}
 use Rattle.book_commands.specs.Endings.{served_status}
 use Rattle.book_commands.specs.Serving.{EncodesLawful, ServePair, ServedFrom, Unserved, NotOpened, ServesLinksOf, ServeCauses}
 use Rattle.book_commands.proofs.LawfulRuns.{IsSound, all_sound, links_sound, doubt_sound}
-use Rattle.house_core.specs.Trade.{TradeView}
+use Rattle.house_state.specs.Trade.{TradeView}
 
 -- ---- counts
 

@@ -2,11 +2,11 @@ ghost use Rattle.std.specs.Prelude.{◌≡◌};
 ghost use Rattle.mc_records.specs.Entry.{Fits};
 ghost use Rattle.mc_records.specs.Views.{entry};
 ghost use Rattle.ledger_model.specs.Houses.{IsHouseKind};
-ghost use Rattle.house_core.specs.Views.{kind_number};
-ghost use Rattle.house_core.specs.declared.offer.SiteKind.TheVariants.{Vendor};
+ghost use Rattle.house_state.specs.Views.{kind_number};
+ghost use Rattle.house_state.specs.declared.offer.SiteKind.TheVariants.{Vendor};
 ghost use Rattle.book_commands.specs.Founding.{site_of};
 
-use house_core::SiteKind;
+use house_state::SiteKind;
 use mc_base::Moment;
 use mc_records::{PieceList, Record, SiteTerms};
 use site_words::Founder;

@@ -2,8 +2,8 @@
 
 ghost use Rattle.std.specs.Prelude.{◌≡◌, [], List, ℕ, Some};
 ghost use Rattle.ledger_model.specs.Lawful.{MayFollow};
-ghost use Rattle.house_core.specs.Views.{kind_number};
-ghost use Rattle.house_core.specs.declared.offer.SiteKind.TheVariants.{Vendor};
+ghost use Rattle.house_state.specs.Views.{kind_number};
+ghost use Rattle.house_state.specs.declared.offer.SiteKind.TheVariants.{Vendor};
 ghost use Rattle.book_commands.specs.Founding.{site_of};
 ghost use Rattle.book_commands.specs.Init.{FoundsBook, InitCauses};
 ghost use Rattle.operator_command.specs.Operations.{full};
@@ -11,8 +11,8 @@ ghost use Rattle.command_status.specs.Statuses.{number_of};
 
 use crate::founder::site;
 use command_status::{Status, not_opened};
-use house_core::Trade;
 use house_opening::found_house;
+use house_state::Trade;
 use mc_outside::{Link, Outside};
 use mc_records::{Limits, PieceList};
 use site_words::Founder;

@@ -8,8 +8,9 @@ ghost use Rattle.command_status.specs.Statuses.{number_of};
 
 use command_input::{InputFault, input_of};
 use command_status::{Status, not_opened};
-use house_core::{House, Outcome, Trade};
+use house_core::{House, Outcome};
 use house_opening::open_house;
+use house_state::Trade;
 use mc_base::List;
 use mc_outside::Outside;
 use mc_records::Limits;

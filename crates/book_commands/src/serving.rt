@@ -7,9 +7,9 @@ ghost use Rattle.book_commands.specs.Serving.{ServesBook, ServeCauses};
 ghost use Rattle.command_status.specs.Statuses.{number_of};
 
 use command_status::{Status, not_opened};
-use house_core::Trade;
 use house_opening::open_house;
 use house_serving::{ServeOut, serve_links};
+use house_state::Trade;
 use mc_outside::Outside;
 use mc_records::Limits;
 use std::alloc::Global;

@@ -29,7 +29,7 @@ use Rattle.vendor_stalls.specs.declared.target.Purchase.{Purchase}
 use Rattle.vendor_stalls.specs.Stalls.{StallView, has_id, empty_stall}
 use Rattle.vendor_stalls.specs.Shown.{Shows}
 use Rattle.vendor_stalls.specs.Vendors.{found_stall, asked_to_buy, StallsAllow, StallsAnswer}
-use Rattle.house_core.specs.Learning.{ByHouse, ByTrade, MayLearn}
+use Rattle.house_state.specs.Learning.{ByHouse, ByTrade, MayLearn}
 use Rattle.broker_core.specs.Desk.{IsOfBroker, DeskAllows, HasNothingOf, account_credited, credit_offer, fee_by}
 
 -- ---- a broker

@@ -17,13 +17,13 @@ use Rattle.ledger_model.specs.Lawful.{MayFollow, IsAllowed}
 use Rattle.ledger_model.specs.Stock.{licence_in}
 use Rattle.account_ledger.specs.Ledger.{AccountsAllow}
 use Rattle.account_ledger.specs.Tasks.{task_of}
-use Rattle.house_core.specs.CommandEntries.{IsCommand}
+use Rattle.house_state.specs.CommandEntries.{IsCommand}
 use Rattle.house_core.specs.declared.outcome.Outcome.{Outcome}
 use Rattle.house_core.specs.declared.outcome.Outcome.TheVariants as outcomes
 use Rattle.house_core.specs.declared.house.House.{House}
 use Rattle.house_core.specs.House.{HouseRepresents, IfDone, outcome_disk}
 use Rattle.house_core.specs.Tasks.{Task, Add, Stays, Refuse, Does, LeavesBy, Performs}
-use Rattle.house_core.specs.Trade.{TradeView}
+use Rattle.house_state.specs.Trade.{TradeView}
 use Rattle.broker_core.specs.Tasks.{as_task, licensed, IfAdded, IsCommandAt}
 
 -- ---- the entry of a task

@@ -17,8 +17,8 @@ use Rattle.ledger_model.specs.Lines.{Stop, Refuse, ◌>>=◌, as_line, given}
 use Rattle.ledger_model.specs.Stock.{sale_at, sold_held, licensed_held, licence_in, licensed_count, knows_vendor, for_sale, licensed_piece}
 use Rattle.ledger_model.specs.Stages.{supplied}
 use Rattle.ledger_model.specs.Replies.{Contents, sale_brought, contents_if}
-use Rattle.house_core.specs.Trade.{piece_brought, BringsFor}
-use Rattle.house_core.specs.Views.{entry_deed}
+use Rattle.house_state.specs.Trade.{piece_brought, BringsFor}
+use Rattle.house_state.specs.Views.{entry_deed}
 use Rattle.stock_rack.specs.declared.piece.StockPiece.{StockPiece}
 use Rattle.stock_rack.specs.Racks.{is_open}
 use Rattle.vendor_stalls.specs.Stalls.{StallView, terms_of, sold_count, stocked_at, is_known}

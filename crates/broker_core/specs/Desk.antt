@@ -13,7 +13,7 @@ use Rattle.kept_replies.specs.declared.deed.Deed.{Deed}
 use Rattle.kept_replies.specs.declared.deed.Deed.TheVariants as kept
 use Rattle.account_ledger.specs.Ledger.{Represents, HasRoom, AccountsAllow}
 use Rattle.vendor_stalls.specs.Vendors.{StallsRepresent, StallsHaveRoom, StallsAllow}
-use Rattle.house_core.specs.Trade.{TradeView}
+use Rattle.house_state.specs.Trade.{TradeView}
 use Rattle.broker_core.specs.declared.desk.Desk.{Desk}
 
 -- accounts, stalls and fee are what a history says

@@ -13,7 +13,7 @@ use Rattle.issuer_terms.specs.Terms.{are_same_terms}
 use Rattle.piece_lines.specs.Rules.{is_stock_of}
 use Rattle.piece_lines.specs.PieceLines.{input_lines}
 use Rattle.account_ledger.specs.Tasks as accounts
-use Rattle.house_core.specs.CommandEntries.{IsCommand}
+use Rattle.house_state.specs.CommandEntries.{IsCommand}
 use Rattle.house_core.specs.Tasks.{Task, Add, Stays, Refuse}
 
 -- ---- accounts

@@ -10,16 +10,16 @@ ghost use Rattle.mc_records.specs.Views.{entry};
 ghost use Rattle.account_ledger.specs.Ledger.{Represents, HasRoom, AccountsAnswer};
 ghost use Rattle.vendor_stalls.specs.Shown.{Shows};
 ghost use Rattle.vendor_stalls.specs.Vendors.{found_stall, StallsRepresent, StallsHaveRoom, StallsAnswer};
-ghost use Rattle.house_core.specs.Learning.{CommandFits};
-ghost use Rattle.house_core.specs.Replying.{IsOfSite};
-ghost use Rattle.house_core.specs.Trade.{BringsFor};
-ghost use Rattle.house_core.specs.Views.{entry_deed, offer_of};
+ghost use Rattle.house_state.specs.Learning.{CommandFits};
+ghost use Rattle.house_state.specs.Replying.{IsOfSite};
+ghost use Rattle.house_state.specs.Trade.{BringsFor};
+ghost use Rattle.house_state.specs.Views.{entry_deed, offer_of};
 ghost use Rattle.broker_core.specs.Sales.{IsSale};
 ghost use Rattle.broker_core.specs.Desk.{DeskRepresents, DeskAllows, HasNothingOf, IsCredit, IsOfBroker, account_credited, credit_offer, fee_by};
 
 use crate::sale::sold_from;
 use account_ledger::{AccountLedger, accounts_follow, order_of};
-use house_core::{Body, DrawAsk, Offer, SiteKind, Trade, Unlawful, body_of_deed};
+use house_state::{Body, DrawAsk, Offer, SiteKind, Trade, Unlawful, body_of_deed};
 use kept_replies::Deed;
 use mc_base::{Amount, Moment, NoMemory};
 use mc_records::{

@@ -10,9 +10,9 @@ ghost use Rattle.ledger_model.specs.Lines.{as_line};
 ghost use Rattle.ledger_model.specs.Stages.{supplied};
 ghost use Rattle.vendor_stalls.specs.Listed.{piece_in_stock};
 ghost use Rattle.vendor_stalls.specs.Shown.{Shows};
-ghost use Rattle.house_core.specs.Replying.{IsOfSite};
-ghost use Rattle.house_core.specs.Trade.{BringsFor};
-ghost use Rattle.house_core.specs.Views.{entry_deed};
+ghost use Rattle.house_state.specs.Replying.{IsOfSite};
+ghost use Rattle.house_state.specs.Trade.{BringsFor};
+ghost use Rattle.house_state.specs.Views.{entry_deed};
 ghost use Rattle.broker_core.specs.Sales.{IsSale, IsLicensed, sale_of_next, licensed_deed, stock_deed};
 
 use kept_replies::Deed;

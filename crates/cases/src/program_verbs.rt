@@ -4,9 +4,9 @@ ghost use Rattle.std.specs.Prelude.{[]};
 
 use broker_core::Desk;
 use case_lines::{Fault, Lines, State, number, show_beside, show_book, small};
-use house_core::Trade;
 use house_opening::open_house;
 use house_serving::{ServeOut, serve_links};
+use house_state::Trade;
 use mc_base::List;
 use mc_stage::Stage;
 use mc_top::{once, places, run};

@@ -21,12 +21,12 @@ use Rattle.ledger_model.specs.Answer.{answer, Take}
 use Rattle.ledger_model.proofs.TableLaws.{accept_answer}
 use Rattle.ledger_model.proofs.AcceptLaws.{offer_below}
 use Rattle.ledger_model.proofs.FollowLaws.{same_request}
-use Rattle.house_core.specs.declared.verdict.Authorization.{Authorization}
-use Rattle.house_core.specs.Views.{entry_deed}
-use Rattle.house_core.specs.Trade.{BringsFor}
-use Rattle.house_core.specs.HouseState.{HouseStateView, HasChange, series_now, kept_entry, change_made, accept_growth}
-use Rattle.house_core.specs.Representation.{StateRepresents, scrip_request}
-use Rattle.house_core.specs.Verdicts.{accept_entry, IsReady}
+use Rattle.house_state.specs.declared.verdict.Authorization.{Authorization}
+use Rattle.house_state.specs.Views.{entry_deed}
+use Rattle.house_state.specs.Trade.{BringsFor}
+use Rattle.house_state.specs.HouseState.{HouseStateView, HasChange, series_now, kept_entry, change_made, accept_growth}
+use Rattle.house_state.specs.Representation.{StateRepresents, scrip_request}
+use Rattle.house_state.specs.Verdicts.{accept_entry, IsReady}
 use Rattle.house_core.proofs.Entered.{Says}
 use Rattle.house_core.proofs.Replied.{handed_is, reply_new}
 

@@ -1,9 +1,6 @@
 -- What comes of a request, from the answer to it.
-use Rattle.std.proofs.Common.{◌≡◌, ◌≤◌, ◌^◌, ℕ, Bool, true, false, cond, List, [], ◌∷◌, ◌++◌, length, Option, Some, None, Ok, Err, refl, sym, ap, ap₂, subst, ◌∙◌, arith, find}
-use Rattle.std.specs.Prelude.{◌&&◌, ◌||◌, ◌==◌, option_map, IsTrue, IfOk, IfErr, IsOk, OnOk, Result}
-use Rattle.std.specs.List.{list_any}
-use Rattle.std.proofs.lemmas.Bool.{eq-eqb}
-use Rattle.std.proofs.lemmas.List.Folds.{list_any-append}
+use Rattle.std.proofs.Common.{◌≡◌, ◌≤◌, ◌^◌, ℕ, false, List, [], ◌∷◌, ◌++◌, length, Option, Some, None, Ok, Err, refl, sym, ap, ap₂, subst, ◌∙◌, arith}
+use Rattle.std.specs.Prelude.{option_map, IfOk, IfErr, IsOk, OnOk, Result}
 use Rattle.scrip_form.specs.Identities.{numbered}
 use Rattle.change_issue.specs.Registers.{count_in}
 use Rattle.scrip_form.specs.Issuing.{Issuing, series_at}
@@ -12,8 +9,7 @@ use Rattle.mc_records.specs.declared.refusal.Refusal.{Refusal}
 use Rattle.mc_records.specs.Entry.{Entry, Mint, payload}
 use Rattle.mc_records.specs.Requests.{Asked}
 use Rattle.kept_replies.specs.declared.deed.KeptEntry.{KeptEntry}
-use Rattle.kept_replies.specs.Requests.{is_same_request}
-use Rattle.kept_replies.specs.Kept.{KeptReply, KeptView, found, has_number, is_in_time}
+use Rattle.kept_replies.specs.Kept.{found}
 use Rattle.ledger_model.specs.Histories.{History}
 use Rattle.ledger_model.specs.Answer as answers
 use Rattle.ledger_model.specs.Answer.{Answer, answer, answered}
@@ -21,18 +17,18 @@ use Rattle.ledger_model.specs.Houses.{version}
 use Rattle.ledger_model.specs.Stages.{read_by}
 use Rattle.ledger_model.proofs.TableLaws.{read_ok}
 use Rattle.house_core.specs.declared.bench.Bench.{Bench}
-use Rattle.house_core.specs.declared.verdict.Authorization.{Authorization}
-use Rattle.house_core.specs.declared.verdict.NotAuthorized.{NotAuthorized}
-use Rattle.house_core.specs.declared.verdict.NotAuthorized.TheVariants as stops
-use Rattle.house_core.specs.declared.verdict.BenchFault.TheVariants as faults
-use Rattle.house_core.specs.Trade.{BringsFor, TradeView}
-use Rattle.house_core.specs.HouseState.{HouseStateView, HasChange, GoesOn, IsEntered, IsAsBefore, series_now}
-use Rattle.house_core.specs.Representation.{StateRepresents, has_ended}
-use Rattle.house_core.specs.Verdicts.{accept_entry, stop_of, IsReady, RepeatsKept, StopIsOfSite}
+use Rattle.house_state.specs.declared.verdict.Authorization.{Authorization}
+use Rattle.house_state.specs.declared.verdict.NotAuthorized.{NotAuthorized}
+use Rattle.house_state.specs.declared.verdict.NotAuthorized.TheVariants as stops
+use Rattle.house_core.specs.declared.fault.BenchFault.TheVariants as faults
+use Rattle.house_state.specs.Trade.{BringsFor, TradeView}
+use Rattle.house_state.specs.HouseState.{HouseStateView, HasChange, GoesOn, IsEntered, IsAsBefore, series_now}
+use Rattle.house_state.specs.Representation.{StateRepresents, has_ended}
+use Rattle.house_state.specs.Verdicts.{accept_entry, stop_of, IsReady, RepeatsKept, StopIsOfSite}
 use Rattle.house_core.specs.Bench.{Represents, IsRoomed, Accepts, KeepsReply, FaultIsOfSite, house_time, limits_of, stopped_with}
 use Rattle.house_core.proofs.Entered.{takes_follow, stands_more}
 use Rattle.house_core.proofs.AcceptSays.{says_accept}
-use Rattle.house_core.proofs.Tabled.{scrip_asked}
+use Rattle.house_state.proofs.Tabled.{scrip_asked}
 
 -- ---- a request that makes no entry
 
@@ -46,35 +42,6 @@ makes_none trade b h q (stops.Refused f) st e = subst (λ (a : Answer). Accepts 
 makes_none trade b h q (stops.Again n) st e = subst (λ (a : Answer). Accepts trade b h a (Ok n)) e (refl, st)
 
 -- ---- replies that are kept
-
-or_last : (a b : Bool) → b ≡ true → (a || b) ≡ true
-or_last true b is = refl
-or_last false b is = is
-
--- the number of a reply that was found is kept
-pub found_number : (kept : KeptView) (t : ℕ) (q : Asked) (n : ℕ) → Some n ≡ option_map (λ (e : KeptEntry). e.number) (found kept t q) → IsTrue (has_number kept.replies n)
-found_number kept t q n e = among kept.replies e
-  where
-    number : Option KeptReply → Option ℕ
-    number o = option_map (λ (x : KeptEntry). x.number) (option_map (λ (r : KeptReply). r.entry) o)
-
-    asks : KeptReply → Bool
-    asks r = is_same_request r.asked q && is_in_time kept.keep t r
-
-    among : (rs : List KeptReply) → Some n ≡ number (find asks rs) → list_any (λ r. r.entry.number == n) rs ≡ true
-    among [] f = absurd cc
-    among (r ∷ rs) f = go (asks r) (among rs) f
-      where
-        go : (b : Bool) → (Some n ≡ number (find asks rs) → list_any (λ x. x.entry.number == n) rs ≡ true) → Some n ≡ number (cond b (Some r) (find asks rs))
-            → ((r.entry.number == n) || list_any (λ x. x.entry.number == n) rs) ≡ true
-        go true more g = let is : r.entry.number ≡ n = cc in rw (eq-eqb r.entry.number n is) refl
-        go false more g = or_last (r.entry.number == n) (list_any (λ x. x.entry.number == n) rs) (more g)
-
--- the number of the last reply is kept
-pub last_number : (rs : List KeptReply) (r : KeptReply) (n : ℕ) → r.entry.number ≡ n → IsTrue (has_number (rs ++ r ∷ []) n)
-last_number rs r n is =
-    let one : list_any (λ (x : KeptReply). x.entry.number == n) (r ∷ []) ≡ true = rw (eq-eqb r.entry.number n is) refl in
-    list_any-append (λ (x : KeptReply). x.entry.number == n) rs (r ∷ []) ∙ or_last (has_number rs n) _ one
 
 pub stopped_kept : {T : Type 0} (b : Bench T) (s : NotAuthorized) → RepeatsKept b.state s → IfOk (stopped_with s) (KeepsReply b)
 stopped_kept b (stops.Refused f) is = tt

@@ -1,32 +1,24 @@
 -- What the ledger says of an entry that accepts nothing, and the house's half of what makes it lawful.
-use Rattle.std.proofs.Common.{◌≡◌, ℕ, zero, suc, ◌+◌, ◌≤◌, ◌^◌, Bool, true, false, cond, [], length, refl, sym, ap, ap₂, subst, ◌∙◌, arith, eqb}
+use Rattle.std.proofs.Common.{◌≡◌, ℕ, zero, suc, ◌+◌, ◌≤◌, ◌^◌, Bool, true, false, cond, [], length, refl, sym, ap, ap₂, ◌∙◌, arith, eqb}
 use Rattle.std.specs.Prelude.{◌==◌, count_by, ◌↔◌}
 use Rattle.scrip_form.specs.Identities.{series_of, numbered}
 use Rattle.scrip_form.specs.Issuing.{series_at}
 use Rattle.scrip_form.specs.Scrip.{Scrip}
 use Rattle.mc_records.specs.Entry.{Entry, Site, AddTerms, Goods, Accept, Mint, Draw, Fits, moment_of, payload}
-use Rattle.change_issue.specs.Registers.{Register, count_in, next_in}
+use Rattle.change_issue.specs.Registers.{count_in, next_in}
 use Rattle.ledger_model.specs.Histories.{History}
 use Rattle.ledger_model.specs.Houses.{own_series}
 use Rattle.ledger_model.specs.Pieces.{first_hand, run_from, minted_pieces, own_count, next_identity}
 use Rattle.ledger_model.specs.Quiet.{AcceptsNothing}
 use Rattle.ledger_model.proofs.QuietLaws.{quiet}
 use Rattle.ledger_model.proofs.SerialLaws.{count-cons}
-use Rattle.house_core.specs.Learning.{ByHouse, CommandFits}
-use Rattle.house_core.specs.CommandEntries.{IsCommand}
-use Rattle.house_core.specs.HouseState.{HouseStateView, GoesOn, at_series, minted_count, command_growth}
-use Rattle.house_core.specs.Representation.{StateRepresents}
-use Rattle.house_core.proofs.Tabled.{series_stands}
-use Rattle.house_core.proofs.Entering.{at_most}
+use Rattle.house_state.specs.Learning.{ByHouse, CommandFits}
+use Rattle.house_state.specs.CommandEntries.{IsCommand}
+use Rattle.house_state.specs.HouseState.{HouseStateView, GoesOn, at_series, minted_count, command_growth}
+use Rattle.house_state.specs.Representation.{StateRepresents}
+use Rattle.house_state.proofs.Tabled.{series_stands}
+use Rattle.house_state.proofs.Entering.{at_most}
 use Rattle.house_core.proofs.Entered.{Says}
-
--- ---- the program's test of minted pieces
-
-pub goes_on_own : (own : Register) (series first n : ℕ) → first ≡ next_in own series → count_in own series + n ≤ own.most → 1 ≤ n → own.most ≤ 2 ^ 32
-    → (first ≡ next_in own (series_of first)) × (count_in own (series_of first) + n ≤ own.most)
-goes_on_own own series first n is fits some most =
-    let same : series_of first ≡ series = omega (arith, is, fits, some, most) in
-    (is ∙ ap (next_in own) (sym same), subst (λ (s : ℕ). count_in own s + n ≤ own.most) (sym same) fits)
 
 -- ---- entries by a command
 

@@ -10,24 +10,24 @@ use Rattle.ledger_model.specs.Sums.{price_paid}
 use Rattle.ledger_model.specs.Lawful.{IsAllowed}
 use Rattle.ledger_model.specs.Answer as answers
 use Rattle.ledger_model.specs.Answer.{answer, without_scrip}
-use Rattle.house_core.specs.declared.verdict.DrawAuthorization.{DrawAuthorization}
-use Rattle.house_core.specs.declared.verdict.Authorized.{Authorized}
-use Rattle.house_core.specs.declared.verdict.Authorized.TheVariants as by
-use Rattle.house_core.specs.Learning.{ByHouse, ByTrade, MayLearn}
-use Rattle.house_core.specs.Trade.{OfGoods, NamesInForce}
+use Rattle.house_state.specs.declared.verdict.DrawAuthorization.{DrawAuthorization}
+use Rattle.house_state.specs.declared.verdict.Authorized.{Authorized}
+use Rattle.house_state.specs.declared.verdict.Authorized.TheVariants as by
+use Rattle.house_state.specs.Learning.{ByHouse, ByTrade, MayLearn}
+use Rattle.house_state.specs.Trade.{OfGoods, NamesInForce}
 use Rattle.house_core.specs.Tallies.{change_given}
-use Rattle.house_core.specs.HouseState.{HouseStateView, IsAsBefore, IsDrawn, series_now, kept_entry, kept_draw}
-use Rattle.house_core.specs.LiveWindows.{AreUsed}
-use Rattle.house_core.specs.Representation.{StateRepresents}
+use Rattle.house_state.specs.HouseState.{HouseStateView, IsAsBefore, IsDrawn, series_now, kept_entry, kept_draw}
+use Rattle.house_state.specs.LiveWindows.{AreUsed}
+use Rattle.house_state.specs.Representation.{StateRepresents}
 use Rattle.house_core.specs.House.{AskedFor}
-use Rattle.house_core.specs.Verdicts.{draw_entry, authorized_entry, payload_of, price_of, change_of, fresh_of, IsDrawReady, IsOrdered, MayCommit, IsOfNew, OfDeed, BringsAs, IsCommitted, AreUsedFor}
+use Rattle.house_state.specs.Verdicts.{draw_entry, authorized_entry, payload_of, price_of, change_of, fresh_of, IsDrawReady, IsOrdered, MayCommit, IsOfNew, OfDeed, BringsAs, IsCommitted, AreUsedFor}
 use Rattle.house_core.proofs.Accepting.{as_it_was, ready_as_before, stands_taken}
 use Rattle.house_core.proofs.Contents.{held_by}
 use Rattle.house_core.proofs.Entered.{takes_follow, stands_more}
 use Rattle.house_core.proofs.DrawSays.{says_draw}
 use Rattle.house_core.proofs.HouseDisk.{asked_for}
 use Rattle.house_core.proofs.TallyLaws.{change_is}
-use Rattle.house_core.proofs.WindowCounts.{used_marked}
+use Rattle.house_state.proofs.WindowCounts.{used_marked}
 
 -- ---- where room was made
 

@@ -10,14 +10,14 @@ use Rattle.kept_replies.specs.Kept.{KeptReply}
 use Rattle.ledger_model.specs.Histories.{History}
 use Rattle.ledger_model.specs.Goods.{is_goods_of}
 use Rattle.house_core.specs.declared.bench.Bench.{Bench}
-use Rattle.house_core.specs.Trade.{Replaces, OfGoods, NamesInForce, TradeView}
-use Rattle.house_core.specs.declared.verdict.NotAuthorized.{NotAuthorized}
-use Rattle.house_core.specs.declared.verdict.NotAuthorized.TheVariants as stops
-use Rattle.house_core.specs.declared.verdict.BenchFault.TheVariants as faults
-use Rattle.house_core.specs.Representation.{IsReply}
+use Rattle.house_state.specs.Trade.{Replaces, OfGoods, NamesInForce, TradeView}
+use Rattle.house_state.specs.declared.verdict.NotAuthorized.{NotAuthorized}
+use Rattle.house_state.specs.declared.verdict.NotAuthorized.TheVariants as stops
+use Rattle.house_core.specs.declared.fault.BenchFault.TheVariants as faults
+use Rattle.house_state.specs.Representation.{IsReply}
 use Rattle.mc_records.specs.Requests.{Asked}
 use Rattle.ledger_model.specs.Answer.{Answer, answer, answered}
-use Rattle.house_core.specs.Verdicts.{stop_of}
+use Rattle.house_state.specs.Verdicts.{stop_of}
 use Rattle.house_core.specs.Bench.{IsInForceFor, IsRoomed, HasContents, KeepsContents, house_time, limits_of, stopped_with}
 
 get_before : (h : History) (e : Entry) (n : ℕ) → n < length h → slice_get (h ++ e ∷ []) n ≡ slice_get h n

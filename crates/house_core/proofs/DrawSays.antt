@@ -20,11 +20,11 @@ use Rattle.ledger_model.specs.Answer.{without_scrip, answer, Take}
 use Rattle.ledger_model.specs.Replies.{Contents, held_contents, contents_if, own_held, contents_after, taken_values, taken_reply, reply_of}
 use Rattle.ledger_model.proofs.TableLaws.{draw_answer}
 use Rattle.ledger_model.proofs.ReplyLaws.{own_reply}
-use Rattle.house_core.specs.declared.verdict.DrawAuthorization.{DrawAuthorization}
-use Rattle.house_core.specs.HouseState.{HouseStateView, version_of, drawn_made, deed_drawn, kept_draw, draw_growth}
-use Rattle.house_core.specs.Trade.{brought_by, piece_brought}
-use Rattle.house_core.specs.Representation.{StateRepresents, IsReply, brought_then, kept_reply}
-use Rattle.house_core.specs.Verdicts.{draw_entry, IsDrawReady, IsOrdered}
+use Rattle.house_state.specs.declared.verdict.DrawAuthorization.{DrawAuthorization}
+use Rattle.house_state.specs.HouseState.{HouseStateView, version_of, drawn_made, deed_drawn, kept_draw, draw_growth}
+use Rattle.house_state.specs.Trade.{brought_by, piece_brought}
+use Rattle.house_state.specs.Representation.{StateRepresents, IsReply, brought_then, kept_reply}
+use Rattle.house_state.specs.Verdicts.{draw_entry, IsDrawReady, IsOrdered}
 use Rattle.house_core.proofs.Replied.{IsOwn, next_is_own, own_end_is, own_text_is, brought_new}
 use Rattle.house_core.proofs.Entered.{Says}
 use Rattle.house_core.proofs.AcceptSays.{swap_and}

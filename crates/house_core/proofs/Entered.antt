@@ -29,9 +29,9 @@ use Rattle.ledger_model.proofs.AcceptLaws.{accepted_snoc}
 use Rattle.ledger_model.proofs.SerialLaws.{own_out_snoc, minted_snoc, count-append}
 use Rattle.ledger_model.proofs.VersionLaws.{version-more}
 use Rattle.ledger_model.proofs.FollowLaws.{may_follow, longer_lawful, size_snoc}
-use Rattle.house_core.specs.HouseState.{HouseStateView, ended_by, series_now, at_series, Growth, IsGrown, IsMarkedToo, IsKeptToo, count_handed, worth_handed, worth_redeemed}
-use Rattle.house_core.specs.Representation.{StateRepresents, IsReply, has_ended, of_series}
-use Rattle.house_core.proofs.EndLaws.{ended_kept}
+use Rattle.house_state.specs.HouseState.{HouseStateView, ended_by, series_now, at_series, Growth, IsGrown, IsMarkedToo, IsKeptToo, count_handed, worth_handed, worth_redeemed}
+use Rattle.house_state.specs.Representation.{StateRepresents, IsReply, has_ended, of_series}
+use Rattle.house_state.proofs.EndLaws.{ended_kept}
 use Rattle.house_core.proofs.FirstEntry.{same_house, own_terms_stay}
 use Rattle.house_core.proofs.Replied.{reply_kept}
 

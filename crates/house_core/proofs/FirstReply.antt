@@ -5,9 +5,9 @@ use Rattle.std.proofs.lemmas.List.Elements.{All-head, All-tail}
 use Rattle.kept_replies.specs.Kept.{KeptReply}
 use Rattle.ledger_model.specs.Histories.{History}
 use Rattle.ledger_model.specs.Replies.{Contents, taken_values, taken_reply, reply_of}
-use Rattle.house_core.specs.HouseState.{HouseStateView, own_scrip}
-use Rattle.house_core.specs.Trade.{brought_by}
-use Rattle.house_core.specs.Representation.{StateRepresents, IsReply, brought_then, kept_reply}
+use Rattle.house_state.specs.HouseState.{HouseStateView, own_scrip}
+use Rattle.house_state.specs.Trade.{brought_by}
+use Rattle.house_state.specs.Representation.{StateRepresents, IsReply, brought_then, kept_reply}
 use Rattle.house_core.proofs.Replied.{change_text_is}
 
 -- what holds of each element, and the test, hold of the one that is found

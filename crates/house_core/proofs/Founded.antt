@@ -12,12 +12,12 @@ use Rattle.ledger_model.specs.Houses.{site_kind, terms_by}
 use Rattle.ledger_model.specs.Lawful.{MayFollow}
 use Rattle.ledger_model.specs.Histories.{History}
 use Rattle.spent_windows.specs.Windows.{WindowView, is_marked}
-use Rattle.house_core.specs.Learning.{ByTrade, MayLearn, CommandFits}
-use Rattle.house_core.specs.HouseState.{HouseStateView}
-use Rattle.house_core.specs.Founding.{IsStateOf, FoundsHouse}
+use Rattle.house_state.specs.Learning.{ByTrade, MayLearn, CommandFits}
+use Rattle.house_state.specs.HouseState.{HouseStateView}
+use Rattle.house_state.specs.Founding.{IsStateOf, FoundsHouse}
 use Rattle.std.proofs.lemmas.List.Elements.{All-nil}
-use Rattle.house_core.specs.Representation.{StateRepresents, IsReply}
-use Rattle.house_core.proofs.EndLaws.{none_marked}
+use Rattle.house_state.specs.Representation.{StateRepresents, IsReply}
+use Rattle.house_state.proofs.EndLaws.{none_marked}
 
 -- a house has its ranges; that of a vendor has no fee
 pub house_fits : (limits : Limits) (m kind : ℕ) (name : List ℕ) (h : House) → FoundsHouse (Site m kind name (Some h)) → MayFollow limits [] (Site m kind name (Some h)) → HouseFits MOST h

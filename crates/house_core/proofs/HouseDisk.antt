@@ -14,10 +14,10 @@ use Rattle.mc_records.specs.declared.limits.Limits.{Limits}
 use Rattle.ledger_model.specs.Histories.{History}
 use Rattle.house_core.specs.declared.bench.Bench.{Bench}
 use Rattle.house_core.specs.declared.house.House.{House}
-use Rattle.house_core.specs.declared.verdict.Authorization.{Authorization}
-use Rattle.house_core.specs.HouseState.{HouseStateView, size_with}
-use Rattle.house_core.specs.Representation.{StateRepresents, has_ended}
-use Rattle.house_core.specs.Verdicts.{accept_entry, WasAsked}
+use Rattle.house_state.specs.declared.verdict.Authorization.{Authorization}
+use Rattle.house_state.specs.HouseState.{HouseStateView, size_with}
+use Rattle.house_state.specs.Representation.{StateRepresents, has_ended}
+use Rattle.house_state.specs.Verdicts.{accept_entry, WasAsked}
 use Rattle.house_core.specs.Bench.{Represents, HasContents, IsRoomed, limits_of, IsHouse}
 use Rattle.house_core.specs.House.{HouseRepresents, IsAsItWas, HasEntered, AskedFor, Responds, Accepted, Leaves, HouseRests}
 use Rattle.house_core.specs.declared.outcome.Outcome.TheVariants.{Done, Refused, NoMemory, Halted}
@@ -34,7 +34,7 @@ use Rattle.ledger_model.specs.Answer as answers
 use Rattle.ledger_model.specs.Answer.{Answer}
 use Rattle.house_core.proofs.Accepting.{holds_roomed}
 use Rattle.house_core.proofs.Contents.{contents_roomed}
-use Rattle.house_core.specs.Trade.{TradeView}
+use Rattle.house_state.specs.Trade.{TradeView}
 
 -- nothing was written
 pub ran_nothing : {D : Type 0} (view : D → DiskView) (j : AtRest D) (d : D) (h : List Entry) → IsDisk (view j.disk) → IsJournal view j h → d ≡ j.disk → Ran (view j.disk) (view d) (EncodesNoOutput h (view j.disk).aside)

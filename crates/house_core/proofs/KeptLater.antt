@@ -13,12 +13,12 @@ use Rattle.scrip_form.specs.Issuing.{Issuing}
 use Rattle.spent_windows.specs.Windows.{WindowView, is_marked}
 use Rattle.ledger_model.specs.Histories.{History}
 use Rattle.ledger_model.specs.Houses.{all_terms}
-use Rattle.house_core.specs.HouseState.{HouseStateView, ended_by}
+use Rattle.house_state.specs.HouseState.{HouseStateView, ended_by}
 use Rattle.house_core.specs.declared.bench.Bench.{Bench}
-use Rattle.house_core.specs.Trade.{Replaces, LiesBehind, IsKeptFrom, OfGoods, TradeView}
-use Rattle.house_core.specs.Representation.{StateRepresents, IsReply}
+use Rattle.house_state.specs.Trade.{Replaces, LiesBehind, IsKeptFrom, OfGoods, TradeView}
+use Rattle.house_state.specs.Representation.{StateRepresents, IsReply}
 use Rattle.house_core.specs.Bench.{IsInForceFor, HasContents}
-use Rattle.house_core.proofs.EndLaws.{ended_later}
+use Rattle.house_state.proofs.EndLaws.{ended_later}
 
 -- ---- replies
 

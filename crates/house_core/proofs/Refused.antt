@@ -10,9 +10,9 @@ use Rattle.mc_records.specs.Replies.{Reply, reply_head}
 use Rattle.ledger_model.specs.Histories.{History}
 use Rattle.ledger_model.specs.Orders.{Order}
 use Rattle.ledger_model.specs.Answer.{draw_in, without_scrip, as_counted}
-use Rattle.house_core.specs.declared.offer.DrawAsk.{DrawAsk}
-use Rattle.house_core.specs.Trade.{draw_asked}
-use Rattle.house_core.proofs.Ordered.{none_asked, some_asked}
+use Rattle.house_state.specs.declared.offer.DrawAsk.{DrawAsk}
+use Rattle.house_state.specs.Trade.{draw_asked}
+use Rattle.house_state.proofs.Ordered.{none_asked, some_asked}
 use Rattle.ledger_model.specs.Replies.{asker_secret, signed_text, secret_of_refusal, price_told, signed, refused_values, refusal_of}
 
 -- where the reply is signed, the text that stands for the scrip is that of the request as its column sees it

@@ -9,14 +9,14 @@ use Rattle.ledger_model.specs.Lines.{Stop, Refuse, Repeat}
 use Rattle.ledger_model.specs.Answer as answers
 use Rattle.ledger_model.specs.Answer.{Answer, answered}
 use Rattle.house_core.specs.declared.bench.Bench.{Bench}
-use Rattle.house_core.specs.declared.verdict.Authorized.{Authorized}
-use Rattle.house_core.specs.declared.verdict.Authorized.TheVariants as by
+use Rattle.house_state.specs.declared.verdict.Authorized.{Authorized}
+use Rattle.house_state.specs.declared.verdict.Authorized.TheVariants as by
 use Rattle.scrip_journal.specs.declared.fault.LearnFault.{LearnFault}
 use Rattle.scrip_journal.specs.declared.fault.LearnFault.TheVariants as ends
 use Rattle.house_core.specs.Bench.{Follows, Replays}
-use Rattle.house_core.specs.Verdicts.{accept_entry, draw_entry, authorized_entry, IsOfNew, IsSaid, SaysDraw}
-use Rattle.house_core.specs.HouseState.{HouseStateView}
-use Rattle.house_core.specs.Trade.{TradeView}
+use Rattle.house_state.specs.Verdicts.{accept_entry, draw_entry, authorized_entry, IsOfNew, IsSaid, SaysDraw}
+use Rattle.house_state.specs.HouseState.{HouseStateView}
+use Rattle.house_state.specs.Trade.{TradeView}
 
 -- an entry that does not follow is not replayed
 pub follow_fails : {T : Type 0} (trade : T → TradeView) (b : Bench T) (limits : Limits) (h : History) (e : Entry) (end : LearnFault)

@@ -18,15 +18,15 @@ use Rattle.ledger_model.specs.Answer.{genuine}
 use Rattle.ledger_model.specs.Replies.{Contents, no_contents, brought, contents_after, own_text, secret_for, taken_values, taken_reply, reply_of}
 use Rattle.ledger_model.proofs.TableLaws.{line_ok, given_ok, ok_is}
 use Rattle.ledger_model.proofs.ReplyLaws.{own_reply, reply_stays}
-use Rattle.house_core.specs.declared.verdict.Authorization.{Authorization}
-use Rattle.house_core.specs.Views.{entry_deed}
-use Rattle.house_core.specs.HouseState.{HouseStateView, HasChange, version_of, series_now, kept_entry, change_made, own_scrip}
-use Rattle.house_core.specs.Trade.{BringsFor}
-use Rattle.house_core.specs.Representation.{StateRepresents, IsReply, brought_then, kept_reply, scrip_request}
-use Rattle.house_core.specs.Verdicts.{accept_entry, IsReady}
+use Rattle.house_state.specs.declared.verdict.Authorization.{Authorization}
+use Rattle.house_state.specs.Views.{entry_deed}
+use Rattle.house_state.specs.HouseState.{HouseStateView, HasChange, version_of, series_now, kept_entry, change_made, own_scrip}
+use Rattle.house_state.specs.Trade.{BringsFor}
+use Rattle.house_state.specs.Representation.{StateRepresents, IsReply, brought_then, kept_reply, scrip_request}
+use Rattle.house_state.specs.Verdicts.{accept_entry, IsReady}
 use Rattle.house_core.proofs.FirstEntry.{same_house, own_text_stays}
-use Rattle.house_core.proofs.Tabled.{genuine_stands, terms_are_of}
-use Rattle.house_core.proofs.KeptLaws.{contents_stay, get_stays, get_next}
+use Rattle.house_state.proofs.Tabled.{genuine_stands, terms_are_of}
+use Rattle.house_state.proofs.KeptLaws.{contents_stay, get_stays, get_next}
 
 -- ---- what an entry brought
 

@@ -9,11 +9,11 @@ use Rattle.ledger_model.specs.Answer as answers
 use Rattle.ledger_model.specs.Answer.{Answer, answer}
 use Rattle.house_core.specs.declared.bench.Bench.{Bench}
 use Rattle.house_core.specs.declared.tally.Tally.{Tally}
-use Rattle.house_core.specs.declared.verdict.BenchFault.{BenchFault}
-use Rattle.house_core.specs.declared.verdict.BenchFault.TheVariants as faults
+use Rattle.house_core.specs.declared.fault.BenchFault.{BenchFault}
+use Rattle.house_core.specs.declared.fault.BenchFault.TheVariants as faults
 use Rattle.house_core.specs.Session.{State, raised, Says}
 use Rattle.house_core.specs.Bench.{Represents, HasContents, Reaches, Refines, Accepts, KeepsContents, house_time, limits_of, state_of}
-use Rattle.house_core.specs.Trade.{TradeView}
+use Rattle.house_state.specs.Trade.{TradeView}
 
 -- want of memory is a refusal too
 abbrev pub said_of : Result ℕ BenchFault → Result ℕ Refusal

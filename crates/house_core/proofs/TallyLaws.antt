@@ -15,10 +15,10 @@ use Rattle.ledger_model.specs.Pieces.{piece_of}
 use Rattle.ledger_model.specs.Stages.{read_by}
 use Rattle.ledger_model.proofs.TableLaws.{read_ok}
 use Rattle.house_core.specs.declared.tally.Tally.{Tally}
-use Rattle.house_core.specs.declared.verdict.Authorization.{Authorization}
-use Rattle.house_core.specs.Views.{entry_deed}
-use Rattle.house_core.specs.HouseState.{change_worth}
-use Rattle.house_core.specs.Verdicts.{accept_entry}
+use Rattle.house_state.specs.declared.verdict.Authorization.{Authorization}
+use Rattle.house_state.specs.Views.{entry_deed}
+use Rattle.house_state.specs.HouseState.{change_worth}
+use Rattle.house_state.specs.Verdicts.{accept_entry}
 use Rattle.house_core.specs.Tallies.{Told, Taken, Repeated, RefusedBy, AreCounts, IsWithin, change_given, counted, is_taken, is_repeated, is_refusal, is_other, price_told, change_told, tallied, no_tally}
 
 counted_none : (n : ℕ) → n < 2 ^ 64 → n ≡ counted n 0

@@ -11,7 +11,7 @@ use Rattle.house_core.specs.declared.outcome.Outcome.{Outcome}
 use Rattle.house_core.specs.declared.outcome.Outcome.TheVariants as outcomes
 use Rattle.house_core.specs.House.{HouseRepresents, Entered, Leaves, outcome_disk}
 use Rattle.house_core.specs.Tasks.{Task, Add, Stays, Refuse, IsDoable, Performs, TellsLast}
-use Rattle.house_core.specs.Trade.{TradeView}
+use Rattle.house_state.specs.Trade.{TradeView}
 use Rattle.house_core.proofs.HouseDisk.{ran_nothing, as_it_stood}
 
 -- an outcome, with what is answered in place of a number

@@ -12,18 +12,18 @@ use Rattle.ledger_model.specs.Answer.{fitted, Answer, Refused, Again, Take}
 use Rattle.ledger_model.specs.Lawful.{MayFollow}
 use Rattle.house_core.specs.declared.bench.Bench.{Bench}
 use Rattle.house_core.specs.declared.tally.Tally.{Tally}
-use Rattle.house_core.specs.declared.verdict.NotAuthorized.{NotAuthorized}
-use Rattle.house_core.specs.declared.verdict.NotAuthorized.TheVariants as stops
-use Rattle.house_core.specs.declared.verdict.EnterFault.{EnterFault}
-use Rattle.house_core.specs.declared.verdict.EnterFault.TheVariants as enters
+use Rattle.house_state.specs.declared.verdict.NotAuthorized.{NotAuthorized}
+use Rattle.house_state.specs.declared.verdict.NotAuthorized.TheVariants as stops
+use Rattle.house_core.specs.declared.fault.EnterFault.{EnterFault}
+use Rattle.house_core.specs.declared.fault.EnterFault.TheVariants as enters
 use Rattle.scrip_journal.specs.declared.fault.LearnFault.{LearnFault}
 use Rattle.scrip_journal.specs.declared.fault.LearnFault.TheVariants as ends
-use Rattle.house_core.specs.declared.verdict.BenchFault.{BenchFault}
-use Rattle.house_core.specs.declared.verdict.BenchFault.TheVariants as faults
-use Rattle.house_core.specs.Representation.{StateRepresents}
-use Rattle.house_core.specs.HouseState.{IsAsBefore}
-use Rattle.house_core.specs.Trade.{OfGoods, Replaces, TradeView}
-use Rattle.house_core.specs.Replying.{IsOfSite}
+use Rattle.house_core.specs.declared.fault.BenchFault.{BenchFault}
+use Rattle.house_core.specs.declared.fault.BenchFault.TheVariants as faults
+use Rattle.house_state.specs.Representation.{StateRepresents}
+use Rattle.house_state.specs.HouseState.{IsAsBefore}
+use Rattle.house_state.specs.Trade.{OfGoods, Replaces, TradeView}
+use Rattle.house_state.specs.Replying.{IsOfSite}
 use Rattle.house_core.specs.Session.{State}
 use Rattle.house_core.specs.Tallies.{IsWithin}
 

@@ -27,8 +27,8 @@ use Rattle.house_core.specs.declared.outcome.Response.{Response}
 use Rattle.house_core.specs.declared.outcome.Response.TheVariants.{New, Again}
 use Rattle.house_core.specs.declared.outcome.Outcome.TheVariants.{Done, Refused, NoMemory, Halted}
 use Rattle.house_core.specs.Bench.{IsHouse, house_time, limits_of}
-use Rattle.house_core.specs.Representation.{has_ended}
-use Rattle.house_core.specs.Trade.{TradeView}
+use Rattle.house_state.specs.Representation.{has_ended}
+use Rattle.house_state.specs.Trade.{TradeView}
 
 -- The journal and the bench represent the history, and the journal has the house's limit.
 pub record HouseRepresents {D T : Type 0} (view : D → DiskView) (trade : T → TradeView) (x : House D T) (h : History) : Type 0 where

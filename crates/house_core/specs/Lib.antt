@@ -1,14 +1,3 @@
-pub mod Views
-pub mod Trade
-pub mod Learning
-pub mod HouseState
-pub mod Founding
-pub mod CommandEntries
-pub mod Representation
-pub mod LiveWindows
-pub mod Replying
-pub mod Presented
-pub mod Verdicts
 pub mod Session
 pub mod Tallies
 pub mod Bench

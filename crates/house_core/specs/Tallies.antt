@@ -13,8 +13,8 @@ use Rattle.ledger_model.specs.Answer.{Answer, answer}
 use Rattle.millicent_http.specs.Items.{Item, request, refused}
 use Rattle.millicent_http.specs.Steps.{Did}
 use Rattle.house_core.specs.declared.tally.Tally.{Tally}
-use Rattle.house_core.specs.declared.verdict.NotAuthorized.{NotAuthorized}
-use Rattle.house_core.specs.declared.verdict.NotAuthorized.TheVariants as stops
+use Rattle.house_state.specs.declared.verdict.NotAuthorized.{NotAuthorized}
+use Rattle.house_state.specs.declared.verdict.NotAuthorized.TheVariants as stops
 use Rattle.house_core.specs.Session.{State, raised, Step}
 
 -- ---- what is told

@@ -13,7 +13,7 @@ use Rattle.scrip_journal.specs.Exits.{EncodesNoOutput, EitherNoOutput}
 use Rattle.house_core.specs.declared.outcome.Outcome.{Outcome}
 use Rattle.house_core.specs.declared.outcome.Outcome.TheVariants as outcomes
 use Rattle.house_core.specs.House.{HouseRepresents, IsAsItWas, outcome_disk}
-use Rattle.house_core.specs.Trade.{TradeView}
+use Rattle.house_state.specs.Trade.{TradeView}
 
 -- ---- what there is to do
 

@@ -2,10 +2,10 @@ ghost use Rattle.std.specs.Prelude.{◌≡◌, ◌+◌, ◌≤◌, ◌==◌, ℕ
 ghost use Rattle.mc_records.specs.declared.limits.Limits.{Limits as Bounds};
 ghost use Rattle.mc_records.specs.Limits.{AreInRange};
 ghost use Rattle.mc_records.specs.Entry.{Fits, moment_of, payload};
-ghost use Rattle.house_core.specs.CommandEntries.{IsCommand};
+ghost use Rattle.house_state.specs.CommandEntries.{IsCommand};
 ghost use Rattle.ledger_model.specs.Houses.{site_kind};
 ghost use Rattle.ledger_model.specs.Lawful.{MayFollow};
-ghost use Rattle.house_core.specs.Founding.{FoundsHouse};
+ghost use Rattle.house_state.specs.Founding.{FoundsHouse};
 ghost use Rattle.scrip_form.specs.Texts.{IsTarget};
 ghost use Rattle.mc_records.specs.Requests.{asked_of};
 ghost use Rattle.mc_records.specs.Views.{deed_of, entry};
@@ -13,25 +13,19 @@ ghost use Rattle.ledger_model.specs.Histories.{History, time};
 ghost use Rattle.ledger_model.specs.Answer as model;
 ghost use Rattle.house_core.specs.Bench.{Represents, HasContents, IsRoomed, KeepsReply, Takes, Accepts, KeepsContents, FaultIsOfSite, Enters, Follows, stopped_with, house_time, limits_of, windows_of, tally_of, IsTallied};
 ghost use Rattle.house_core.specs.Tallies.{IsWithin, no_tally, tallied, told};
-ghost use Rattle.house_core.specs.HouseState.{size_with, HasRoomFor, GoesOn};
-ghost use Rattle.house_core.specs.Views.{entry_deed};
+ghost use Rattle.house_state.specs.HouseState.{size_with, HasRoomFor, GoesOn};
+ghost use Rattle.house_state.specs.Views.{entry_deed};
 ghost use Rattle.std.specs.Set.{distinct_count};
-ghost use Rattle.house_core.specs.LiveWindows.{AreUsed, live_windows};
-ghost use Rattle.house_core.specs.Trade.{OfGoods, NamesInForce};
-ghost use Rattle.house_core.specs.declared.verdict.Verdict.TheVariants as verdicts;
-ghost use Rattle.house_core.specs.Verdicts.{judged, judged_of, repeat_of, accept_entry, draw_entry, authorized_entry, AreUsedFor, BringsAs, HasRoomToCommit, IsOfNew, MayCommit, OfDeed};
+ghost use Rattle.house_state.specs.LiveWindows.{AreUsed, live_windows};
+ghost use Rattle.house_state.specs.Trade.{OfGoods, NamesInForce};
+ghost use Rattle.house_state.specs.declared.verdict.Verdict.TheVariants as verdicts;
+ghost use Rattle.house_state.specs.Verdicts.{judged, judged_of, repeat_of, accept_entry, draw_entry, authorized_entry, AreUsedFor, BringsAs, HasRoomToCommit, IsOfNew, MayCommit, OfDeed};
 
-use crate::evaluate::evaluate;
-use crate::founding::found_state;
-use crate::house_state::HouseState;
-use crate::offer::Unlawful;
-use crate::presented::Presented;
-use crate::ranges::{authorization_fits, draw_fits};
-use crate::stages::fitted;
+use crate::fault::{BenchFault, EnterFault};
 use crate::tally::Tally;
-use crate::trade::Trade;
-use crate::verdict::{
-    Authorization, Authorized, BenchFault, DrawAuthorization, EnterFault, NotAuthorized, Verdict,
+use house_state::{
+    Authorization, Authorized, DrawAuthorization, HouseState, NotAuthorized, Presented, Trade,
+    Unlawful, Verdict, authorization_fits, draw_fits, evaluate, fitted, found_state,
 };
 use kept_replies::{Deed, KeptNumber};
 use mc_base::{Moment, NoMemory};

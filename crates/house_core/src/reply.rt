@@ -3,7 +3,7 @@ ghost use Rattle.mc_outside.specs.LinkView.{after_send, Failed};
 ghost use Rattle.mc_records.specs.Replies.{reply_head};
 ghost use Rattle.ledger_model.specs.Replies.{refused_values};
 ghost use Rattle.millicent_http.specs.ReplyHeads.{IsReplyHead, reply_of};
-ghost use Rattle.house_core.specs.Replying.{IsOfSite};
+ghost use Rattle.house_state.specs.Replying.{IsOfSite};
 
 use mc_base::{Moment, NoMemory};
 use mc_fields::put;

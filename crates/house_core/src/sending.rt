@@ -11,14 +11,13 @@ ghost use Rattle.millicent_http.specs.declared.clock.Clock.TheVariants.{OfLinks}
 ghost use Rattle.millicent_http.specs.Courses.{AreRead, with_readings};
 ghost use Rattle.house_core.specs.Bench.{KeepsReply, house_time, limits_of};
 ghost use Rattle.house_core.specs.House.{HouseRepresents, HouseRests, SendsOn};
-ghost use Rattle.house_core.specs.Replying.{IsOfSite};
+ghost use Rattle.house_state.specs.Replying.{IsOfSite};
 ghost use Rattle.house_core.specs.Session.{refused_reply};
 
 use crate::house::House;
-use crate::presented::Presented;
 use crate::reply::{Reply, ReplyRoom, refusal_head};
 use crate::settled::Settled;
-use crate::trade::Trade;
+use house_state::{Presented, Trade};
 use kept_replies::KeptNumber;
 use mc_base::Moment;
 use mc_outside::{Link, LinkFault, Outside};

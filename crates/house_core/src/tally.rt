@@ -5,7 +5,7 @@ ghost use Rattle.mc_records.specs.Entry.{Entry};
 ghost use Rattle.ledger_model.specs.Sums.{price_paid};
 ghost use Rattle.house_core.specs.Tallies.{AreCounts, IsWithin, Taken, Repeated, RefusedBy, change_given, counted, no_tally, tallied, told_stop};
 
-use crate::verdict::NotAuthorized;
+use house_state::NotAuthorized;
 use mc_records::Refusal;
 
 /// How many items were answered in which way, and the sums that the accepted requests paid and were given

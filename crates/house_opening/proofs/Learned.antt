@@ -10,7 +10,7 @@ use Rattle.scrip_journal.specs.declared.fault.LearnFault.TheVariants as faults
 use Rattle.book_opening.specs.Opener.{Learns}
 use Rattle.house_core.specs.declared.bench.Bench.{Bench}
 use Rattle.house_core.specs.Bench.{HasContents, Replays}
-use Rattle.house_core.specs.Trade.{TradeView}
+use Rattle.house_state.specs.Trade.{TradeView}
 use Rattle.house_core.proofs.Entered.{time_snoc}
 use Rattle.house_opening.specs.Opening.{StandsAt}
 

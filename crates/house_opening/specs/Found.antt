@@ -9,7 +9,7 @@ use Rattle.scrip_journal.specs.declared.fault.HouseFault.TheVariants.{NotEmpty, 
 use Rattle.house_core.specs.declared.house.House.{House}
 use Rattle.house_core.specs.Bench.{house_time, limits_of}
 use Rattle.house_core.specs.House.{HouseRepresents}
-use Rattle.house_core.specs.Trade.{TradeView}
+use Rattle.house_state.specs.Trade.{TradeView}
 
 -- The house represents this entry alone, at its moment, on a disk that was free.
 pub record FoundedFor {D T : Type 0} (view : D → DiskView) (trade : T → TradeView) (limits : Limits) (e : Entry) (bytes : List ℕ) (x : House D T) : Type 0 where

@@ -18,7 +18,7 @@ use Rattle.house_core.specs.declared.bench.Bench.{Bench}
 use Rattle.house_core.specs.declared.house.House.{House}
 use Rattle.house_core.specs.Bench.{IsHouse, house_time, limits_of}
 use Rattle.house_core.specs.House.{HouseRepresents}
-use Rattle.house_core.specs.Trade.{TradeView}
+use Rattle.house_state.specs.Trade.{TradeView}
 use Rattle.house_opening.specs.declared.opening.HouseOpener.{HouseOpener}
 
 -- the disk that comes back, whatever is answered

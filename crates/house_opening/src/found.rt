@@ -8,11 +8,12 @@ ghost use Rattle.mc_records.specs.Views.{entry};
 ghost use Rattle.ledger_model.specs.Houses.{site_kind};
 ghost use Rattle.ledger_model.specs.Lawful.{MayFollow};
 ghost use Rattle.scrip_journal.specs.Founds.{FoundNoOutput, CountsBy, ReadsOnly};
-ghost use Rattle.house_core.specs.Founding.{FoundsHouse};
+ghost use Rattle.house_state.specs.Founding.{FoundsHouse};
 ghost use Rattle.house_opening.specs.Opening.{house_disk};
 ghost use Rattle.house_opening.specs.Found.{FoundsHouseBy};
 
-use house_core::{Bench, House, Trade};
+use house_core::{Bench, House};
+use house_state::Trade;
 use mc_base::NoMemory;
 use mc_outside::Disk;
 use mc_records::{Limits, Record};

@@ -8,7 +8,8 @@ ghost use Rattle.house_core.specs.Bench.{limits_of};
 ghost use Rattle.house_opening.specs.Opening.{house_disk, OpensHouse};
 
 use book_opening::{Opener, open_book};
-use house_core::{Bench, House, Trade};
+use house_core::{Bench, House};
+use house_state::Trade;
 use mc_base::NoMemory;
 use mc_outside::Disk;
 use mc_records::{Limits, Record};

@@ -12,7 +12,7 @@ use Rattle.house_core.specs.declared.tally.Tally.{Tally}
 use Rattle.house_core.specs.Session.{State, Step}
 use Rattle.house_core.specs.Tallies.{Repeated, ToldState, ToldStep, tallied, told_by}
 use Rattle.house_core.specs.Bench.{Refines, tally_of}
-use Rattle.house_core.specs.Trade.{TradeView}
+use Rattle.house_state.specs.Trade.{TradeView}
 use Rattle.house_core.proofs.TallyLaws.{tallied_none, tallied_more}
 use Rattle.house_serving.specs.declared.serving.BenchEnd.{BenchEnd}
 use Rattle.house_serving.specs.Served.{Served}

@@ -33,7 +33,7 @@ use Rattle.house_serving.proofs.LinksLemmas.{had_link}
 use Rattle.command_input.proofs.AsideLemmas.{TellsAside, SentNoMore, no_more_still, no_more_taken, aside_still}
 use Rattle.house_serving.proofs.OrderLemmas.{begins_then, went_nowhere, went_on, went_quiet, halted_later}
 use Rattle.house_serving.proofs.HouseTurnLemmas.{ReadOn}
-use Rattle.house_core.specs.Trade.{TradeView}
+use Rattle.house_state.specs.Trade.{TradeView}
 
 -- the state that a house is in after its steps
 went_at : {O T : Type 0} (link : O → LinkView) (disk : O → DiskView) (trade : T → TradeView) (a : O) (s : State) (xs : List (Did State)) (x : House O T) → RefinesBy link disk trade a s xs x

@@ -51,7 +51,7 @@ use Rattle.command_input.proofs.AsideLemmas.{TellsAside, SentNoMore, no_more_sti
 use Rattle.house_serving.proofs.TurnLemmas.{leads_so, item_turned}
 use Rattle.house_serving.proofs.ItemLemmas.{item_answered, sent_so}
 use Rattle.house_serving.proofs.OrderLemmas.{went_on, went_quiet, went_sent, went_written, went_from, halted_told, halted_later, halted_from}
-use Rattle.house_core.specs.Trade.{TradeView}
+use Rattle.house_state.specs.Trade.{TradeView}
 
 -- ---- sending
 

@@ -15,7 +15,7 @@ use Rattle.house_core.specs.Tallies.{ToldState, ToldStep}
 use Rattle.house_serving.specs.Turns.{Ended}
 use Rattle.house_serving.proofs.CountsLemmas.{counts_so, counts_then, counts_nowhere}
 use Rattle.house_serving.specs.Served.{Served}
-use Rattle.house_core.specs.Trade.{TradeView}
+use Rattle.house_state.specs.Trade.{TradeView}
 
 -- a link was ended by its last turn
 pub had_link : {S : Type 0} (Step : StepRelation S) (clock : Clock) (turn : Turn) (steps : List (Did S)) (s : S) (before served after : LinkView) → after ≡ record served { stands = false } → Ended Step clock turn steps s before served

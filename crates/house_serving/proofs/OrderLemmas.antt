@@ -20,7 +20,7 @@ use Rattle.house_core.specs.House.{HouseRepresents, HouseRests}
 use Rattle.house_core.specs.Session.{State}
 use Rattle.house_serving.specs.Orders.{InOrder, MovedBy, RefinesBy, IsEither, InDoubt, HaltedBy}
 use Rattle.command_input.proofs.AsideLemmas.{TellsAside, SentNoMore, aside_still, aside_sent}
-use Rattle.house_core.specs.Trade.{TradeView}
+use Rattle.house_state.specs.Trade.{TradeView}
 
 -- ---- bytes
 

@@ -5,7 +5,7 @@ use Rattle.millicent_http.proofs.StepLemmas.{by_steps_so, by_steps_then}
 use Rattle.house_core.specs.declared.bench.Bench.{Bench}
 use Rattle.house_core.specs.Bench.{Reaches, Refines, state_of}
 use Rattle.house_core.specs.Session.{State}
-use Rattle.house_core.specs.Trade.{TradeView}
+use Rattle.house_state.specs.Trade.{TradeView}
 
 -- where one relation leads, another does
 pub came_so : {T : Type 0} (trade : T → TradeView) (P Q : State → Type 0) (b : Bench T)

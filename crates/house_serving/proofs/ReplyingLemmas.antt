@@ -12,7 +12,7 @@ use Rattle.house_core.specs.declared.bench.Bench.{Bench}
 use Rattle.house_core.specs.Bench.{Refines}
 use Rattle.house_core.specs.Session.{State, Step}
 use Rattle.house_serving.proofs.RefinesLemmas.{went_so, stepped_so, stepped_then, stepped_nowhere}
-use Rattle.house_core.specs.Trade.{TradeView}
+use Rattle.house_state.specs.Trade.{TradeView}
 
 -- so far these steps wrote this, in reply to i items, none of which ends the link, and this is left of it
 pub record IsReplying (limits : Limits) (moment : ℕ) (link : List ℕ) (i : ℕ) (rest written : List ℕ) (steps : List (Did State)) (s : State) : Type 0 where

@@ -16,7 +16,7 @@ use Rattle.house_core.specs.Tallies.{Repeated, ToldState, ToldStep}
 use Rattle.house_serving.specs.Turns.{Answered, Turned, Ended}
 use Rattle.house_serving.proofs.CountsLemmas.{counts_then, counts_nowhere}
 use Rattle.house_serving.proofs.ServingLemmas.{IsServing, serving_starts, serving_stands, serving_goes_on, serving_ended, given_grows}
-use Rattle.house_core.specs.Trade.{TradeView}
+use Rattle.house_state.specs.Trade.{TradeView}
 
 -- from one house to another, so far these items were answered
 abbrev pub Serving : {T : Type 0} → (T → TradeView) → Limits → Clock → Bench T → LinkView → Bench T → Held → LinkView → Type 0

@@ -3,7 +3,7 @@ use Rattle.std.specs.Prelude.{◌≡◌, List, [], ◌∷◌}
 use Rattle.millicent_http.specs.Steps.{Did, state_after}
 use Rattle.ledger_model.specs.Histories.{History}
 use Rattle.house_core.specs.declared.bench.Bench.{Bench}
-use Rattle.house_core.specs.Trade.{TradeView}
+use Rattle.house_state.specs.Trade.{TradeView}
 use Rattle.house_core.specs.Tallies.{Told, ToldState, tallied, told_by}
 use Rattle.house_core.specs.Bench.{IsHouse, IsTallied, tally_of, state_of}
 

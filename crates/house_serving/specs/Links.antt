@@ -24,7 +24,7 @@ use Rattle.house_serving.specs.declared.links.ServeOut.TheVariants.{Done, Link, 
 use Rattle.house_serving.specs.Turns.{Sent, AnsweredItem, Turned, Ended}
 use Rattle.house_serving.specs.Orders.{RefinesBy, HaltedBy}
 use Rattle.house_serving.specs.InDoubt.{Sends, RequestInDoubt, InDoubtTurn, InDoubtLink, InDoubtLinks}
-use Rattle.house_core.specs.Trade.{TradeView}
+use Rattle.house_state.specs.Trade.{TradeView}
 
 -- the outside that comes back, whatever is answered
 abbrev pub served_outside : {O T : Type 0} → ServeOut O T → O

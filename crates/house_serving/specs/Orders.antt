@@ -11,7 +11,7 @@ use Rattle.house_core.specs.declared.house.House.{House}
 use Rattle.house_core.specs.Bench.{house_time}
 use Rattle.house_core.specs.House.{HouseRepresents}
 use Rattle.house_core.specs.Session.{State}
-use Rattle.house_core.specs.Trade.{TradeView}
+use Rattle.house_state.specs.Trade.{TradeView}
 
 -- A crash pair is in order: after some first of the steps the image encodes the history. Where what was
 -- sent is told, by then no more was sent than those steps sent. So of the reply of a step that gave an entry

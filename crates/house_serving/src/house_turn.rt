@@ -15,9 +15,9 @@ ghost use Rattle.house_serving.specs.Links.{KeptCounts, PartCauses, RepliesTo, A
 
 use crate::turn::{Turn, turn_of};
 use house_core::{
-    House, Outcome, Presented, ReplyRoom, Response, Trade, send_disk_fault, send_kept,
-    send_refusal, send_settled,
+    House, Outcome, ReplyRoom, Response, send_disk_fault, send_kept, send_refusal, send_settled,
 };
+use house_state::{Presented, Trade};
 use mc_base::Moment;
 use mc_outside::{Link, Outside};
 use mc_records::Refusal;

@@ -9,7 +9,8 @@ ghost use Rattle.house_serving.specs.Links.{ServesLinks, HaveCauses, PartCauses,
 
 use crate::house_turn::take_turn;
 use crate::turn::Turn;
-use house_core::{House, ReplyRoom, Trade};
+use house_core::{House, ReplyRoom};
+use house_state::Trade;
 use mc_outside::{Link, Outside};
 use millicent_http::HeadReader;
 use scrip_journal::Halted;

@@ -6,7 +6,7 @@ ghost use Rattle.millicent_http.specs.Held.{nothing_held};
 ghost use Rattle.millicent_http.specs.Steps.{BySteps};
 ghost use Rattle.millicent_http.specs.Courses.{HadLink};
 ghost use Rattle.house_core.specs.Bench.{IsHouse, Refines, limits_of, windows_of};
-ghost use Rattle.house_core.specs.LiveWindows.{AreUsed};
+ghost use Rattle.house_state.specs.LiveWindows.{AreUsed};
 ghost use Rattle.house_core.specs.Session.{Step};
 ghost use Rattle.house_core.specs.Tallies.{ToldStep};
 ghost use Rattle.house_serving.specs.Counting.{Counts};
@@ -14,7 +14,8 @@ ghost use Rattle.house_serving.specs.Turns.{Ended};
 ghost use Rattle.house_serving.specs.Served.{Served};
 
 use crate::turn::{Turn, serve_next};
-use house_core::{Bench, ReplyRoom, Trade};
+use house_core::{Bench, ReplyRoom};
+use house_state::Trade;
 use mc_outside::Link;
 use millicent_http::{Clock, HeadReader};
 

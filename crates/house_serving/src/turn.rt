@@ -6,13 +6,14 @@ ghost use Rattle.millicent_http.specs.HeadRefusals.{as_refusal};
 ghost use Rattle.millicent_http.specs.Items.{request, refused};
 ghost use Rattle.millicent_http.specs.Courses.{AreRead, with_readings};
 ghost use Rattle.house_core.specs.Bench.{limits_of, windows_of};
-ghost use Rattle.house_core.specs.LiveWindows.{AreUsed};
+ghost use Rattle.house_state.specs.LiveWindows.{AreUsed};
 ghost use Rattle.house_serving.specs.declared.turn.Turn.TheVariants.{GoOn};
 ghost use Rattle.house_core.specs.Tallies.{ToldStep};
 ghost use Rattle.house_serving.specs.Counting.{Counts, IsOne};
 ghost use Rattle.house_serving.specs.Turns.{Sent, AnsweredItem, Turned, turn_after};
 
-use house_core::{Bench, Presented, Reply, ReplyRoom, Trade};
+use house_core::{Bench, Reply, ReplyRoom};
+use house_state::{Presented, Trade};
 use mc_base::Moment;
 use mc_outside::{Link, LinkFault};
 use millicent_http::{After, Clock, HeadOut, HeadReader, HeadRefusal};

@@ -6,7 +6,8 @@ ghost use Rattle.millicent_http.specs.Steps.{BySteps, IsSession, sent_of};
 ghost use Rattle.house_core.specs.Bench.{Refines, limits_of};
 ghost use Rattle.house_core.specs.Session.{Step};
 
-use house_core::{Bench, Presented, ReplyRoom, Trade};
+use house_core::{Bench, ReplyRoom};
+use house_state::{Presented, Trade};
 use mc_base::{Moment, NoMemory};
 use millicent_http::{ItemRef, MAX_ITEMS, next_item};
 

@@ -4,8 +4,8 @@ use Rattle.std.proofs.Common.{◌≡◌, ◌∙◌, ◌≤◌, ◌⊎◌, inl, i
 use Rattle.mc_outside.specs.Bytes.{Rose}
 use Rattle.mc_outside.specs.DiskView.{DiskView}
 use Rattle.mc_outside.specs.LinkView.{LinkView}
-use Rattle.house_core.specs.declared.offer.SiteKind.TheVariants.{Vendor, Broker}
-use Rattle.house_core.specs.Views.{kind_number}
+use Rattle.house_state.specs.declared.offer.SiteKind.TheVariants.{Vendor, Broker}
+use Rattle.house_state.specs.Views.{kind_number}
 use Rattle.mc_words.specs.declared.command.Command.{Command}
 use Rattle.mc_words.specs.declared.command.Command.TheVariants as commands
 use Rattle.command_status.specs.declared.status.Status.{Status}

@@ -2,9 +2,9 @@
 use Rattle.std.specs.Prelude.{◌≡◌, ◌⊎◌, ◌≤◌, ℕ, zero, suc, List, length, Bool, true, false, Some}
 use Rattle.mc_outside.specs.DiskView.{DiskView, LinkKeeps}
 use Rattle.mc_outside.specs.LinkView.{LinkView}
-use Rattle.house_core.specs.declared.offer.SiteKind.{SiteKind}
-use Rattle.house_core.specs.declared.offer.SiteKind.TheVariants.{Vendor, Broker}
-use Rattle.house_core.specs.Views.{kind_number}
+use Rattle.house_state.specs.declared.offer.SiteKind.{SiteKind}
+use Rattle.house_state.specs.declared.offer.SiteKind.TheVariants.{Vendor, Broker}
+use Rattle.house_state.specs.Views.{kind_number}
 use Rattle.millicent_http.specs.Courses.{NoLink}
 use Rattle.mc_words.specs.declared.command.Command.{Command}
 use Rattle.mc_words.specs.declared.command.Command.TheVariants as commands

@@ -8,7 +8,7 @@ ghost use Rattle.std.specs.List.{AllZip};
 ghost use Rattle.audit_commands.specs.Reports.{AreCalm};
 ghost use Rattle.mc_top.specs.Saying.{IsSaid, Says};
 ghost use Rattle.mc_top.specs.Programs as programs;
-ghost use Rattle.house_core.specs.declared.offer.SiteKind.TheVariants.{Vendor, Broker};
+ghost use Rattle.house_state.specs.declared.offer.SiteKind.TheVariants.{Vendor, Broker};
 ghost use Rattle.vendor_commands.specs.Operations.{operation_view};
 ghost use Rattle.broker_commands.specs.Operations as brokers;
 ghost use Rattle.mc_top.specs.Programs.{ServesOnce, TellsPlay, Operates, Audits, Obeys, Ends, Refuses, RunsAs, HasBook, EndsWell, HaveOtherBooks, count_of};

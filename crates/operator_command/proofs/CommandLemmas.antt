@@ -11,7 +11,7 @@ use Rattle.house_core.specs.declared.house.House.{House}
 use Rattle.house_core.specs.declared.outcome.Outcome.{Outcome}
 use Rattle.house_core.specs.declared.outcome.Outcome.TheVariants as outcomes
 use Rattle.house_core.specs.House.{HouseRepresents, HandsBack, outcome_disk}
-use Rattle.house_core.specs.Trade.{TradeView}
+use Rattle.house_state.specs.Trade.{TradeView}
 use Rattle.house_core.specs.Tasks.{Task, Add, Stays, Refuse, after, IsDoable, Does, LeavesBy, Performs}
 use Rattle.operator_command.specs.Operations.{without_answer}
 

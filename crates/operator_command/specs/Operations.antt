@@ -8,7 +8,7 @@ use Rattle.house_core.specs.declared.outcome.Outcome.{Outcome}
 use Rattle.house_core.specs.declared.outcome.Outcome.TheVariants as outcomes
 use Rattle.house_core.specs.Bench.{house_time, limits_of}
 use Rattle.house_core.specs.Tasks.{Task, Performs}
-use Rattle.house_core.specs.Trade.{TradeView}
+use Rattle.house_state.specs.Trade.{TradeView}
 use Rattle.mc_outside.specs.DiskView.{DiskView}
 
 -- the greatest limits, under which the program runs

@@ -5,7 +5,8 @@ ghost use Rattle.house_core.specs.Bench.{limits_of};
 ghost use Rattle.house_core.specs.House.{HandsBack, HouseRepresents, KeepsTime};
 ghost use Rattle.operator_command.specs.Operations.{CarriesOut, OperationView, full, without_answer};
 
-use house_core::{House, Outcome, Trade};
+use house_core::{House, Outcome};
+use house_state::Trade;
 use mc_base::NoMemory;
 use mc_outside::Disk;
 use scrip_form::Name;

@@ -13,7 +13,7 @@ use Rattle.house_core.specs.declared.bench.Bench.{Bench}
 use Rattle.house_core.specs.declared.tally.Tally.{Tally}
 use Rattle.house_core.specs.Session.{State}
 use Rattle.house_core.specs.Tallies.{Repeated, ToldState, ToldStep, no_tally, tallied, told_by}
-use Rattle.house_core.specs.LiveWindows.{AreUsed, live_windows}
+use Rattle.house_state.specs.LiveWindows.{AreUsed, live_windows}
 use Rattle.house_core.specs.Bench.{Represents, house_time, limits_of, tally_of, windows_of}
 use Rattle.house_serving.specs.Served.{Served}
 use Rattle.house_serving.specs.Counting.{Counts, told_state}

@@ -6,7 +6,7 @@ use Rattle.ledger_model.specs.Answer.{fitted}
 use Rattle.ledger_model.specs.Lawful.{MayFollow}
 use Rattle.house_core.specs.declared.bench.Bench.{Bench}
 use Rattle.house_core.specs.Bench.{IsHouse, IsTallied, house_time, limits_of, tally_of, windows_of}
-use Rattle.house_core.specs.LiveWindows.{AreUsed}
+use Rattle.house_state.specs.LiveWindows.{AreUsed}
 use Rattle.house_core.specs.Tallies.{no_tally}
 use Rattle.house_core.specs.Session.{State}
 use Rattle.vendor_core.specs.declared.shelf.Shelf.{Shelf}

@@ -7,7 +7,7 @@ use Rattle.ledger_model.specs.Histories.{History}
 use Rattle.millicent_http.specs.Steps.{Did, state_after}
 use Rattle.millicent_http.specs.Runs.{IsRunOver}
 use Rattle.house_core.specs.Session.{State}
-use Rattle.house_core.specs.LiveWindows.{live_windows}
+use Rattle.house_state.specs.LiveWindows.{live_windows}
 use Rattle.house_core.specs.declared.tally.Tally.{Tally}
 use Rattle.house_core.specs.Tallies.{Repeated, ToldState, ToldStep, no_tally, tallied, told_by}
 use Rattle.play_heads.specs.PlayHeads.{issuer_terms, play_links}

@@ -1,7 +1,7 @@
 ghost use Rattle.std.specs.Prelude.{◌≡◌, ◌≤◌, ◌++◌, ◌∷◌, [], IfOk, OnOk};
 ghost use Rattle.mc_records.specs.Entry.{Fits, moment_of};
 ghost use Rattle.mc_records.specs.Views.{entry};
-ghost use Rattle.house_core.specs.CommandEntries.{IsCommand};
+ghost use Rattle.house_state.specs.CommandEntries.{IsCommand};
 ghost use Rattle.ledger_model.specs.Histories.{History};
 ghost use Rattle.vendor_commands.specs.Opening.{terms_of, founding, opening, IsOpen, MayEnter};
 

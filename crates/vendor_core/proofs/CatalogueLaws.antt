@@ -12,13 +12,13 @@ use Rattle.mc_records.specs.Entry.{Entry, Goods}
 use Rattle.ledger_model.specs.Histories.{History}
 use Rattle.ledger_model.specs.Goods.{is_goods_of, goods_in}
 use Rattle.ledger_model.proofs.ListLaws.{get_stays, get_end}
-use Rattle.house_core.specs.Trade.{Replaces, IsInForce, LiesBehind, IsKeptFrom}
+use Rattle.house_state.specs.Trade.{Replaces, IsInForce, LiesBehind, IsKeptFrom}
 use Rattle.name_places.specs.NamePlaces.{NamePlacesView, place_of}
 use Rattle.vendor_core.specs.declared.edition.Article.{Article}
 use Rattle.vendor_core.specs.declared.catalogue.Replaced.{Replaced}
 use Rattle.vendor_core.specs.Editions.{edition_of, sold_at, goods_entry, sold_by_entry, sold_by, IsEditionOf, IsSoldAt, IsReplacement, replaced_by, may_be_brought, IsFirstNeeded, IsListed, ShowsGoods}
 use Rattle.vendor_core.proofs.GoodsLaws.{BringsNoGoods, bytes_same, bytes_eq_turned, goods_snoc}
-use Rattle.house_core.proofs.KeptLaws.{replaces_shorter}
+use Rattle.house_state.proofs.KeptLaws.{replaces_shorter}
 
 -- ---- options
 

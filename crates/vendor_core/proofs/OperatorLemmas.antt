@@ -21,7 +21,7 @@ use Rattle.ledger_model.specs.Answer as answers
 use Rattle.house_core.specs.declared.outcome.Outcome.{Outcome}
 use Rattle.house_core.specs.House.{HasRun, Entered, Leaves, outcome_disk}
 use Rattle.house_core.specs.Tasks.{Add, Stays, Refuse, Performs}
-use Rattle.house_core.specs.Trade.{TradeView}
+use Rattle.house_state.specs.Trade.{TradeView}
 use Rattle.house_core.proofs.TaskLemmas.{IsDone, answered_as, enters}
 use Rattle.vendor_core.specs.Tasks.{goods_entered, goods_task, repriced, price_task, licensed, IsMintTask, TellsMint}
 use Rattle.vendor_core.specs.Lines.{piece_lines}

@@ -1,7 +1,7 @@
 -- What a shelf represents at one more entry, and what it answers.
 use Rattle.std.proofs.Common.{◌≡◌, ℕ, ◌+◌, ◌-◌, ◌<◌, ◌≤◌, Bool, true, false, cond, List, [], ◌∷◌, ◌++◌, length, map, filter_map, Option, Some, None, Ok, Err, option_map, unwrap_or, is_some, IsNone, refl, sym, ap, subst, ◌∙◌, slice_get, arith, append-nil}
 use Rattle.std.specs.Prelude.{◌||◌, bytes_eq, ◌==◌, option_and_then, IfSome}
-use Rattle.house_core.specs.Trade.{contents_in, IsInForce}
+use Rattle.house_state.specs.Trade.{contents_in, IsInForce}
 use Rattle.std.specs.List.{list_any}
 use Rattle.std.proofs.lemmas.Bool.{false≢true, lt-ltb, le-ltb}
 use Rattle.std.proofs.lemmas.List.{map-append}

@@ -7,7 +7,7 @@ use Rattle.mc_records.specs.Entry.{Entry, Goods}
 use Rattle.ledger_model.specs.Histories.{History}
 use Rattle.ledger_model.specs.Goods.{is_goods_of, goods_in, goods_price}
 use Rattle.ledger_model.specs.Replies.{Contents, goods_brought}
-use Rattle.house_core.specs.Trade.{Replaces, IsInForce}
+use Rattle.house_state.specs.Trade.{Replaces, IsInForce}
 use Rattle.name_places.specs.NamePlaces.{NamePlacesView, place_of}
 use Rattle.vendor_core.specs.declared.edition.Article.{Article}
 use Rattle.vendor_core.specs.declared.catalogue.Replaced.{Replaced}

@@ -7,8 +7,8 @@ use Rattle.ledger_model.specs.Houses.{all_terms}
 use Rattle.ledger_model.specs.Goods as goods
 use Rattle.ledger_model.specs.Goods.{goods_in, goods_kind, goods_contents}
 use Rattle.ledger_model.specs.Pieces.{has_reference}
-use Rattle.house_core.specs.declared.offer.Body.{Body}
-use Rattle.house_core.specs.Trade.{TradeView}
+use Rattle.house_state.specs.declared.offer.Body.{Body}
+use Rattle.house_state.specs.Trade.{TradeView}
 use Rattle.name_places.specs.NamePlaces.{NamePlacesView, place_of}
 use Rattle.vendor_core.specs.declared.minted.Minting.{Minting}
 use Rattle.vendor_core.specs.declared.catalogue.Catalogue.{Catalogue}

@@ -2,7 +2,7 @@ ghost use Rattle.std.specs.Prelude.{◌≡◌, ◌+◌, ◌<◌, ℕ, [], ◌∷
 ghost use Rattle.std.specs.Option.{option_copied};
 ghost use Rattle.std.specs.VecDeque.{deque_len, deque_capacity};
 ghost use Rattle.ledger_model.specs.Histories.{History};
-ghost use Rattle.house_core.specs.Trade.{IsKeptFrom};
+ghost use Rattle.house_state.specs.Trade.{IsKeptFrom};
 ghost use Rattle.name_places.specs.NamePlaces.{place_of};
 
 use crate::edition::{Article, Edition};

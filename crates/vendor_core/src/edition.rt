@@ -1,10 +1,10 @@
 ghost use Rattle.std.specs.Prelude.{◌≡◌, ℕ, List, IfOk, length};
 ghost use Rattle.mc_records.specs.Entry.{Goods};
-ghost use Rattle.house_core.specs.Views.{contents_of};
-ghost use Rattle.house_core.specs.Replying.{AreContents};
+ghost use Rattle.house_state.specs.Views.{contents_of};
+ghost use Rattle.house_state.specs.Replying.{AreContents};
 ghost use Rattle.vendor_core.specs.Editions.{goods_entry, sold_by, IsInRange};
 
-use house_core::Body;
+use house_state::Body;
 use mc_base::NoMemory;
 use std::alloc::Global;
 use std::marker::Model;

@@ -10,7 +10,8 @@ ghost use Rattle.vendor_core.specs.Lines.{own_line, piece_lines};
 ghost use Rattle.vendor_core.specs.Shelf.{shelf_view};
 
 use crate::shelf::Shelf;
-use house_core::{House, put_piece_line};
+use house_core::House;
+use house_state::put_piece_line;
 use mc_base::{Amount, NoMemory};
 use mc_outside::Disk;
 use scrip_form::{Id, Name, Piece, Props, Terms};

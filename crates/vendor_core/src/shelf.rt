@@ -5,12 +5,12 @@ ghost use Rattle.ledger_model.specs.declared.numbers.TheConstants.{MOST_IN_FORCE
 ghost use Rattle.ledger_model.specs.Histories.{History};
 ghost use Rattle.ledger_model.specs.Goods as goods;
 ghost use Rattle.ledger_model.specs.Pieces.{has_reference};
-ghost use Rattle.house_core.specs.Replying.{AreContents};
+ghost use Rattle.house_state.specs.Replying.{AreContents};
 
 use crate::catalogue::Catalogue;
 use crate::edition::Article;
 use crate::minted::Minting;
-use house_core::{Body, DrawAsk, Offer, SiteKind, Trade, Unlawful, body_of_deed};
+use house_state::{Body, DrawAsk, Offer, SiteKind, Trade, Unlawful, body_of_deed};
 use kept_replies::Deed;
 use ledger_model::MOST_IN_FORCE;
 use mc_base::{Amount, Moment, NoMemory};
@@ -138,7 +138,7 @@ impl Shelf {
 }
 
 impl Trade for Shelf {
-    ghost use Rattle.house_core.specs.Trade.{IsKeptFrom};
+    ghost use Rattle.house_state.specs.Trade.{IsKeptFrom};
     ghost use Rattle.vendor_core.specs.Shelf.{ShelfRepresents, HasGoods, shelf_view};
 
     ghost trade = { shelf_view };

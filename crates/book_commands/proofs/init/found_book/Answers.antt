@@ -9,7 +9,7 @@ use Rattle.house_core.specs.declared.house.House.{House}
 use Rattle.house_opening.specs.Found.{FoundsHouseBy}
 use Rattle.scrip_journal.specs.Founds.{FoundNoOutput, CountsBy, fault_disk}
 use Rattle.ledger_model.specs.Houses.{IsHouseKind}
-use Rattle.house_core.specs.Views.{kind_number}
+use Rattle.house_state.specs.Views.{kind_number}
 use Rattle.book_commands.specs.Founding.{site_of}
 use Rattle.command_status.specs.declared.status.Status.{Status}
 use Rattle.operator_command.specs.Operations.{full}

@@ -1,5 +1,5 @@
 use Rattle.std.proofs.Common.{sym, ◌∙◌}
-use Rattle.house_core.specs.Trade.{BringsFor}
+use Rattle.house_state.specs.Trade.{BringsFor}
 use Rattle.vendor_stalls.proofs.HeldLaws.{piece_fits}
 use Rattle.broker_core.proofs.SaleLaws.{by_licence, made_brings, none_open, one_open, stock_brings, on_ok}
 use Rattle.broker_core.proofs.sale.sold_from.Goals as goal

@@ -1,6 +1,6 @@
 use Rattle.std.proofs.Common.{◌-◌, ◌≡◌}
 use Rattle.house_core.specs.Bench.{limits_of, windows_of}
-use Rattle.house_core.specs.LiveWindows.{AreUsed}
+use Rattle.house_state.specs.LiveWindows.{AreUsed}
 use Rattle.house_serving.proofs.TurnsLemmas.{Serving}
 use Rattle.house_serving.proofs.serving.serve_turns.Given as goal
 

@@ -1,5 +1,5 @@
 use Rattle.std.proofs.Common.{Ok, Err}
-use Rattle.house_core.specs.declared.verdict.BenchFault.TheVariants as faults
+use Rattle.house_core.specs.declared.fault.BenchFault.TheVariants as faults
 use Rattle.house_core.proofs.Said.{says, counted_beside}
 use Rattle.house_core.proofs.bench.Bench.answer.Goals as goal
 

@@ -3,8 +3,8 @@ use Rattle.mc_records.specs.Entry.{Entry}
 use Rattle.mc_records.specs.Requests.{Asked}
 use Rattle.mc_records.specs.Views.{entry}
 use Rattle.house_core.specs.declared.bench.Bench.{Bench}
-use Rattle.house_core.specs.Learning.{ByTrade, MayLearn}
-use Rattle.house_core.specs.Verdicts.{authorized_entry, IsCommitted}
+use Rattle.house_state.specs.Learning.{ByTrade, MayLearn}
+use Rattle.house_state.specs.Verdicts.{authorized_entry, IsCommitted}
 use Rattle.house_core.proofs.Accepting.{on_is_ok}
 use Rattle.house_core.proofs.Committing.{may_learn, trade_half, puts_no_goods, kept_of, replies_committed, kept_held, kept_in_force, used_committed, stands_committed}
 use Rattle.house_core.proofs.Contents.{contents_taken}

@@ -3,12 +3,12 @@ use Rattle.mc_records.specs.Views.{entry}
 use Rattle.kept_replies.specs.Kept.{KeptView}
 use Rattle.ledger_model.specs.Lawful.{MayFollow}
 use Rattle.house_core.specs.declared.bench.Bench.{Bench}
-use Rattle.house_core.specs.Learning.{MayLearn}
+use Rattle.house_state.specs.Learning.{MayLearn}
 use Rattle.house_core.proofs.Contents.{contents_applied, contents_as_before}
 use Rattle.house_core.proofs.Entered.{stands_more}
 use Rattle.house_core.proofs.FirstEntry.{kind_stays}
 use Rattle.house_core.proofs.Applied.{command_fits, house_half, says_command}
-use Rattle.house_core.proofs.PartLaws.{halves}
+use Rattle.house_state.proofs.PartLaws.{halves}
 use Rattle.house_core.proofs.bench.Bench.apply_entry.Goals as goal
 
 pub returns-in-Err-clause-exact : goal.returns-in-Err-clause-exact

@@ -2,8 +2,8 @@ use Rattle.std.proofs.Common.{◌≡◌, Option, Some, None, sym, ap, ◌∙◌}
 use Rattle.mc_records.specs.Requests.{Asked}
 use Rattle.ledger_model.specs.Orders.{Order}
 use Rattle.ledger_model.specs.Replies.{asker_secret}
-use Rattle.house_core.specs.Trade.{draw_asked}
-use Rattle.house_core.proofs.Ordered.{none_asked}
+use Rattle.house_state.specs.Trade.{draw_asked}
+use Rattle.house_state.proofs.Ordered.{none_asked}
 use Rattle.house_core.proofs.Refused.{key_signs}
 use Rattle.house_core.proofs.bench.Bench.asker_secret.Goals as goal
 

@@ -2,7 +2,7 @@ use Rattle.std.proofs.Common.{◌≡◌, ◌∙◌, sym, ap}
 use Rattle.mc_records.specs.declared.limits.Limits.{Limits}
 use Rattle.mc_records.specs.Requests.{Asked}
 use Rattle.house_core.specs.Bench.{house_time, limits_of}
-use Rattle.house_core.specs.Verdicts.{authorized_entry}
+use Rattle.house_state.specs.Verdicts.{authorized_entry}
 use Rattle.house_core.proofs.Accepting.{holds_roomed}
 use Rattle.house_core.proofs.Committing.{may_as_before, new_as_before}
 use Rattle.house_core.proofs.Contents.{contents_roomed}

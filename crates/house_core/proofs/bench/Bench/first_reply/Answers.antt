@@ -2,9 +2,9 @@ use Rattle.std.proofs.Common.{◌≡◌, Some, sym, ◌∙◌, eqb}
 use Rattle.std.proofs.lemmas.Bool.{eqb-true}
 use Rattle.mc_records.specs.Requests.{asked_of}
 use Rattle.kept_replies.specs.Kept.{KeptReply, with_number}
-use Rattle.house_core.specs.Trade.{OfGoods}
-use Rattle.house_core.specs.Representation.{IsReply}
-use Rattle.house_core.specs.Views.{contents_of}
+use Rattle.house_state.specs.Trade.{OfGoods}
+use Rattle.house_state.specs.Representation.{IsReply}
+use Rattle.house_state.specs.Views.{contents_of}
 use Rattle.house_core.proofs.FirstReply.{of_found, first_reply_is}
 use Rattle.house_core.proofs.bench.Bench.first_reply.Goals as goal
 

@@ -3,7 +3,7 @@ use Rattle.mc_records.specs.declared.limits.Limits.{Limits}
 use Rattle.mc_records.specs.Requests.{Asked}
 use Rattle.ledger_model.specs.Answer.{answer}
 use Rattle.house_core.specs.Bench.{house_time}
-use Rattle.house_core.specs.Verdicts.{judged}
+use Rattle.house_state.specs.Verdicts.{judged}
 use Rattle.house_core.proofs.bench.Bench.judge.Goals as goal
 
 pub returns-in-Ok-clause-exact : goal.returns-in-Ok-clause-exact

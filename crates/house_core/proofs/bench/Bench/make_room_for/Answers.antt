@@ -3,8 +3,8 @@ use Rattle.mc_records.specs.declared.limits.Limits.{Limits}
 use Rattle.mc_records.specs.Views.{entry}
 use Rattle.ledger_model.specs.Stages.{fitted_by}
 use Rattle.house_core.specs.Bench.{limits_of}
-use Rattle.house_core.specs.HouseState.{tail_of}
-use Rattle.house_core.proofs.Tabled.{fitted_stands}
+use Rattle.house_state.specs.HouseState.{tail_of}
+use Rattle.house_state.proofs.Tabled.{fitted_stands}
 use Rattle.house_core.proofs.bench.Bench.make_room_for.Goals as goal
 
 pub returns-in-Err-clause-fault : goal.returns-in-Err-clause-fault

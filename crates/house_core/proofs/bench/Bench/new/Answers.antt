@@ -1,7 +1,7 @@
 use Rattle.house_core.proofs.Founded.{founds_fit, none_kept, none_spent, stands_founded, learns_site, founds_by_trade}
 use Rattle.house_core.specs.declared.bench.Bench.{Bench}
 use Rattle.house_core.proofs.Contents.{contents_of_none}
-use Rattle.house_core.proofs.WindowCounts.{none_used}
+use Rattle.house_state.proofs.WindowCounts.{none_used}
 use Rattle.std.proofs.Common.{◌≡◌, [], ◌∷◌, Some}
 use Rattle.mc_records.specs.Views.{entry}
 use Rattle.ledger_model.specs.Houses.{site_kind}

@@ -1,7 +1,7 @@
 use Rattle.std.proofs.Common.{◌≤◌, refl, sym, arith, subst}
 use Rattle.std.specs.Prelude.{max}
-use Rattle.house_core.specs.HouseState.{HouseStateView}
-use Rattle.house_core.specs.Representation.{StateRepresents}
+use Rattle.house_state.specs.HouseState.{HouseStateView}
+use Rattle.house_state.specs.Representation.{StateRepresents}
 use Rattle.house_core.proofs.KeptLater.{stands_later, contents_later}
 use Rattle.house_core.proofs.bench.Bench.raise.Goals as goal
 

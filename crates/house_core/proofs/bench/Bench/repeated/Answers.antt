@@ -1,5 +1,5 @@
 use Rattle.std.proofs.Common.{ap}
-use Rattle.house_core.specs.Verdicts.{again_in}
+use Rattle.house_state.specs.Verdicts.{again_in}
 use Rattle.house_core.proofs.bench.Bench.repeated.Goals as goal
 
 pub returns-in-Again-clause-exact : goal.returns-in-Again-clause-exact

@@ -6,8 +6,8 @@ use Rattle.mc_records.specs.Views.{deed_of}
 use Rattle.ledger_model.specs.Answer as answers
 use Rattle.ledger_model.specs.Answer.{answer}
 use Rattle.ledger_model.specs.Lawful.{unbounded, request_of}
-use Rattle.house_core.specs.Representation.{scrip_request}
-use Rattle.house_core.specs.Verdicts.{authorized_entry, stop_of}
+use Rattle.house_state.specs.Representation.{scrip_request}
+use Rattle.house_state.specs.Verdicts.{authorized_entry, stop_of}
 use Rattle.house_core.specs.Bench.{Represents, HasContents, house_time, limits_of}
 use Rattle.house_core.proofs.Replayed.{stops, said_entry, is_said}
 use Rattle.house_core.proofs.bench.Bench.replay_accept.Goals as goal

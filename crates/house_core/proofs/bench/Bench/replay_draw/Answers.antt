@@ -5,7 +5,7 @@ use Rattle.mc_records.specs.Requests.{Asked}
 use Rattle.ledger_model.specs.Answer as answers
 use Rattle.ledger_model.specs.Answer.{answer}
 use Rattle.ledger_model.specs.Lawful.{unbounded, draw_request}
-use Rattle.house_core.specs.Verdicts.{authorized_entry, stop_of}
+use Rattle.house_state.specs.Verdicts.{authorized_entry, stop_of}
 use Rattle.house_core.specs.Bench.{Represents, HasContents, house_time, limits_of}
 use Rattle.house_core.proofs.Replayed.{stops, drawn_entry, says_drawn}
 use Rattle.house_core.proofs.bench.Bench.replay_draw.Goals as goal

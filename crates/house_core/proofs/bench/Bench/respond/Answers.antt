@@ -1,7 +1,7 @@
 use Rattle.std.proofs.Common.{refl, sym, ap, subst, ◌∙◌, arith, Ok, Err}
 use Rattle.mc_records.specs.declared.limits.Limits.{Limits}
 use Rattle.ledger_model.specs.Answer.{Answer, answer}
-use Rattle.house_core.specs.declared.verdict.BenchFault.TheVariants as faults
+use Rattle.house_core.specs.declared.fault.BenchFault.TheVariants as faults
 use Rattle.house_core.specs.Bench.{Accepts, KeepsContents, house_time}
 use Rattle.house_core.proofs.Accepting.{stopped_kept, stopped_site, makes_none}
 use Rattle.house_core.proofs.Contents.{keeps_all}

@@ -1,7 +1,7 @@
 use Rattle.mc_records.specs.Views.{entry}
 use Rattle.house_core.proofs.Accepting.{stands_as_before}
 use Rattle.house_core.proofs.Applied.{house_half}
-use Rattle.house_core.proofs.PartLaws.{halves}
+use Rattle.house_state.proofs.PartLaws.{halves}
 use Rattle.house_core.proofs.bench.Bench.room_for.Goals as goal
 
 pub returns-then-not-goes_on-clause-end : goal.returns-then-not-goes_on-clause-end

@@ -1,5 +1,5 @@
 use Rattle.std.proofs.Common.{◌∙◌}
-use Rattle.house_core.proofs.WindowCounts.{windows_counted}
+use Rattle.house_state.proofs.WindowCounts.{windows_counted}
 use Rattle.house_core.proofs.bench.Bench.windows.Goals as goal
 
 pub returns : goal.returns

@@ -9,7 +9,7 @@ use Rattle.scrip_journal.specs.States.{AtRest}
 use Rattle.scrip_journal.specs.Exits.{EitherNoOutput}
 use Rattle.house_core.specs.declared.house.House.{House}
 use Rattle.house_core.specs.Bench.{house_time, limits_of}
-use Rattle.house_core.specs.Verdicts.{authorized_entry, payload_of}
+use Rattle.house_state.specs.Verdicts.{authorized_entry, payload_of}
 use Rattle.house_core.proofs.Accepting.{holds_roomed}
 use Rattle.house_core.proofs.Committing.{may_as_before, new_as_before, held_as, asked_for_it, payload_is}
 use Rattle.house_core.proofs.Contents.{contents_roomed}

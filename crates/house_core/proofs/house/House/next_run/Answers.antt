@@ -1,4 +1,4 @@
-use Rattle.house_core.proofs.Tabled.{run_stands}
+use Rattle.house_core.proofs.RunLaws.{run_stands}
 use Rattle.house_core.proofs.house.House.next_run.Goals as goal
 
 pub returns : goal.returns

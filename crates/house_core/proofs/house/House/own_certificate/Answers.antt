@@ -3,7 +3,7 @@ use Rattle.scrip_form.specs.Identities.{series_of}
 use Rattle.scrip_form.specs.Issuing.{Issuing}
 use Rattle.scrip_form.specs.Scrip.{scrip_body}
 use Rattle.ledger_model.specs.Houses.{certificate_in}
-use Rattle.house_core.proofs.Tabled.{own_terms_are}
+use Rattle.house_state.proofs.Tabled.{own_terms_are}
 use Rattle.house_core.proofs.house.House.own_certificate.Goals as goal
 
 pub returns : goal.returns

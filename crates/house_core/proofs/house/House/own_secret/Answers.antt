@@ -2,7 +2,7 @@ use Rattle.std.proofs.Common.{ℕ, ◌∙◌, ap₂, sym}
 use Rattle.scrip_form.specs.Identities.{series_of}
 use Rattle.scrip_form.specs.Issuing.{Issuing}
 use Rattle.ledger_model.specs.Houses.{secret_in}
-use Rattle.house_core.proofs.Tabled.{own_terms_are}
+use Rattle.house_state.proofs.Tabled.{own_terms_are}
 use Rattle.house_core.proofs.house.House.own_secret.Goals as goal
 
 pub returns : goal.returns

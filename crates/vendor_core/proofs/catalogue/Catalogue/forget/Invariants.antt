@@ -1,6 +1,6 @@
 use Rattle.std.proofs.Common.{◌≡◌, ℕ, ◌+◌, length}
 use Rattle.ledger_model.specs.Histories.{History}
-use Rattle.house_core.specs.Trade.{IsKeptFrom}
+use Rattle.house_state.specs.Trade.{IsKeptFrom}
 use Rattle.vendor_core.specs.Catalogue.{CatalogueRepresents, HasEdition}
 use Rattle.vendor_core.proofs.catalogue.Catalogue.forget.Given as goal
 

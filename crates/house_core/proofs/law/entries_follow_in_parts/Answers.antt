@@ -1,5 +1,0 @@
-use Rattle.house_core.proofs.PartLaws.{in_parts}
-use Rattle.house_core.proofs.law.entries_follow_in_parts.Goals as goal
-
-pub returns : goal.returns
-returns g c limits kind h e house of_kind = in_parts g.T.Trade.passes limits kind h e house of_kind

@@ -1,0 +1,10 @@
+pub mod PartLaws
+pub mod KeptLaws
+pub mod KeptNumbers
+pub mod Tabled
+pub mod Ordered
+pub mod EndLaws
+pub mod WindowCounts
+pub mod Entering
+pub mod Drawn
+pub mod SpellLaws
