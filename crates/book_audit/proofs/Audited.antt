@@ -52,10 +52,6 @@ passes_all test (x ∷ xs) = go (test x) refl (passes_all test xs)
     go true e rest = (e, rest)
     go false e rest = rest
 
-not_true : (b : Bool) → not b ≡ true → b ≡ false
-not_true true e = absurd cc
-not_true false e = refl
-
 kept_where : (P : History → Type 0) (hs : List History) → AllByRecursion (λ h. is_broker h ≡ false → P h) hs → AllByRecursion (λ h. (is_broker h ≡ false) × P h) (shops_among hs)
 kept_where P [] all = tt
 kept_where P (h ∷ hs) all = go (is_broker h) refl (kept_where P hs all.1)

@@ -7,11 +7,10 @@ use Rattle.std.proofs.Math.ListN.{set}
 use Rattle.std.proofs.lemmas.Bool.{ltb-false, lt-ltb, le-ltb, eq-eqb, cases_lt, false≢true, true≢false}
 use Rattle.std.proofs.lemmas.List.Folds.{find_at, position_or_len_push, list_any-append}
 use Rattle.std.proofs.lemmas.List.Quantifiers.{position-Some}
-use Rattle.std.proofs.lemmas.List.Sums.{sum_by-cons, sum_by-append}
 use Rattle.std.proofs.lemmas.Option.{slice_get_read, slice_get_past, slice_get-get_or}
 use Rattle.std.proofs.lemmas.Slice.Eq.{bytes_eq-Decides}
 use Rattle.name_places.specs.NamePlaces.{NamePlacesView, place_of}
-use Rattle.broker_accounts.specs.Accounts.{AccountView, is_named, account_of, balances, changed, new_account, AreNamedApart}
+use Rattle.broker_accounts.specs.Accounts.{AccountView, is_named, account_of, changed, new_account, AreNamedApart}
 use Rattle.broker_accounts.specs.Stored.{IsStored}
 
 -- ---- the place of a name
@@ -80,21 +79,6 @@ stored_set {xs = xs} {name = name} {i = i} {x = x} st at y same =
       found = λ q. st.found q ∙ sym (ap₂ (λ (m n : ℕ). cond (ltb m n) (Some m) None) (names_set q xs i x y lt at.there same) (length_set xs i y));
       free = λ room. omega (arith, st.free room, length_set xs i y);
     }
-
-sum_set : (xs : Accounts) (i : ℕ) (x y : AccountView) → i < length xs → x ≡ get_or xs i x → balances (set xs i y) + x.balance ≡ balances xs + y.balance
-sum_set [] i x y lt there = absurd (omega (arith, lt))
-sum_set (a ∷ rest) zero x y lt there =
-    let new = sum_by-cons (λ (z : AccountView). z.balance) y rest in
-    let old = sum_by-cons (λ (z : AccountView). z.balance) a rest in
-    let is : x.balance ≡ a.balance = ap (λ (z : AccountView). z.balance) there in
-    omega (arith, new, old, is)
-sum_set (a ∷ rest) (suc i) x y lt there =
-    let new = sum_by-cons (λ (z : AccountView). z.balance) a (set rest i y) in
-    let old = sum_by-cons (λ (z : AccountView). z.balance) a rest in
-    omega (arith, new, old, sum_set rest i x y (omega (arith, lt)) there)
-
-pub balances_set : {xs : Accounts} {name : List ℕ} {i : ℕ} {x : AccountView} → At xs name i x → (y : AccountView) → balances (set xs i y) + x.balance ≡ balances xs + y.balance
-balances_set {xs = xs} {name = name} {i = i} {x = x} at y = sum_set xs i x y (place_within (is_named name) xs i at.place) at.there
 
 -- ---- the account of a name changed is the one in its place
 
@@ -224,12 +208,6 @@ stored_push {xs = xs} {old = old} {new = new} {name = name} st used y same none 
         let eq : q ≡ name = (bytes_eq-Decides q name).0 is in
         ap (λ (o : Option ℕ). option_or o (Some (length xs))) (ap (λ (s : List ℕ). position (is_named s) xs) eq ∙ none)
     go false q is = or_none (position (is_named q) xs)
-
-pub balances_push : (xs : Accounts) (y : AccountView) → y.balance ≡ 0 → balances (xs ++ y ∷ []) ≡ balances xs
-balances_push xs y none =
-    let all = sum_by-append (λ (z : AccountView). z.balance) xs (y ∷ []) in
-    let one = sum_by-cons (λ (z : AccountView). z.balance) y [] in
-    omega (arith, all, one, none)
 
 -- ---- what the program finds
 

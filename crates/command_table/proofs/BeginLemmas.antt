@@ -1,5 +1,5 @@
 -- How the words of a command may begin.
-use Rattle.std.proofs.Common.{◌≡◌, ◌⊎◌, ◌<◌, ◌&&◌, Bool, Bor, not, is_some, drop, option_map, ap₂, true, false, List, [], ◌∷◌, ◌++◌, length, map, Option, Some, None, refl, sym, subst, ap, ◌∙◌, arith}
+use Rattle.std.proofs.Common.{◌≡◌, ◌⊎◌, ◌&&◌, Bool, Bor, not, is_some, drop, option_map, ap₂, true, false, List, [], ◌∷◌, ◌++◌, map, Option, Some, None, refl, sym, subst, ap, ◌∙◌}
 use Rattle.std.specs.Prelude.{IsTrue, ◌↔◌, codes}
 use Rattle.std.specs.List.{list_any}
 use Rattle.std.specs.Str.{bytes_eq}
@@ -22,9 +22,6 @@ taken_by rules Finds words rows b e fits = (
   λ t. record { rows = rows; found' = sym e; may = fits.0 t },
   λ taken. fits.1 (subst (MayBecome rules Finds) (taken_once rules Finds words rows e taken) taken.may),
 )
-
-pub not_taken : (rules : List Rule) (Finds : List Row → Type 0) (words : List Text) → None ≡ found (map optional rules) words → AreTaken rules Finds words → ⊥
-not_taken rules Finds words e taken = let both : None ≡ Some taken.rows = e ∙ taken.found' in cc
 
 -- ---- an option at the end
 
@@ -53,18 +50,6 @@ no_end_hyphens rules words front last e has other name end =
     let same = end_once rules words front other last name e end in
     let without : list_any (λ word. bytes_eq word (codes "--")) front ≡ false = subst (λ (f : List Text). list_any (λ word. bytes_eq word (codes "--")) f ≡ false) same.0 end.open' in
     let both : true ≡ false = sym has ∙ without in
-    cc
-
-pub no_end_word : (rules : List Rule) (words front : List Text) (last : Text) → words ≡ front ++ last ∷ [] → ((name : Text) → last ≡ codes "--" ++ name → ⊥)
-    → (other : List Text) (name : Text) → EndInOption rules words other name → ⊥
-no_end_word rules words front last e none other name end = none name (sym (end_once rules words front other last name e end).1)
-
-pub no_end_option : (rules : List Rule) (words front : List Text) (last name : Text) → words ≡ front ++ last ∷ [] → last ≡ codes "--" ++ name → list_any (is_option name) rules ≡ false
-    → (other : List Text) (option : Text) → EndInOption rules words other option → ⊥
-no_end_option rules words front last name e is none other option end =
-    let same = name_once name option ((end_once rules words front other last option e end).1 ∙ is) in
-    let named : list_any (is_option name) rules ≡ true = subst (λ (n : Text). list_any (is_option n) rules ≡ true) same end.option in
-    let both : true ≡ false = sym named ∙ none in
     cc
 
 pub none_iff : (r : Option (Bor Text)) (word : Option Text) (b : Bool) → option_map (λ (s : Bor Text). s.now) r ≡ word → is_some r ≡ not b → IsTrue b ↔ (word ≡ None)
@@ -99,27 +84,7 @@ lack_by given rules Finds words front name rows fits absent r same end taken is_
         let none : value_of rows name ≡ None = sym (ap₂ (λ (x : List Row) (n : Text). value_of x n) one is_name) ∙ once in
         each.1 (subst (MayBecome rules Finds) one may.may, none)
 
-pub lack_none : (given rules : List Rule) (Finds : List Row → Type 0) (words : List Text) → given ≡ rules → ((front : List Text) (name : Text) → EndInOption given words front name → ⊥) → LackValue rules Finds words → ⊥
-lack_none given rules Finds words same none lack = none lack.front lack.name (subst (λ (x : List Rule). EndInOption x words lack.front lack.name) (sym same) lack.end')
-
-pub lack_untaken : (given rules : List Rule) (Finds : List Row → Type 0) (words front : List Text) (name : Text) → EndInOption given words front name → None ≡ found (map optional rules) front → LackValue rules Finds words → ⊥
-lack_untaken given rules Finds words front name end none lack =
-    let one = end_once rules words front lack.front (codes "--" ++ name) lack.name end.words' lack.end' in
-    not_taken rules Finds front none (subst (AreTaken rules Finds) one.0 lack.taken)
-
 -- ---- the role and the name
-
--- one word or none
-pub role_begins : (name : CommandName) (Finds : List Row → Type 0) (words : List Text) (role : Text) (b : Bool) → length words < 2 → role ≡ (form_of name).role → (length words ≡ 0 → IsTrue b)
-    → ((word : Text) → words ≡ word ∷ [] → IsTrue b ↔ (word ≡ role)) → IsTrue b ↔ MayBegin name Finds words
-role_begins name Finds [] role b few is none one = (λ t. tt, λ begins. none refl)
-role_begins name Finds (word ∷ []) role b few is none one = (λ t. (one word refl).0 t ∙ is, λ begins. (one word refl).1 (begins ∙ sym is))
-role_begins name Finds (word ∷ other ∷ words) role b few is none one = absurd (omega (arith, few))
-
--- words of another role or of another name
-pub other_begins : (name : CommandName) (Finds : List Row → Type 0) (words behind : List Text) (role command : Text) → words ≡ role ∷ command ∷ behind
-    → (role ≡ (form_of name).role → command ≡ (form_of name).name → ⊥) → MayBegin name Finds words → ⊥
-other_begins name Finds words behind role command e other begins = let b = subst (MayBegin name Finds) e begins in other b.0 b.1
 
 pub name_begins : (name : CommandName) (Finds : List Row → Type 0) (words behind : List Text) (role command : Text) (b : Bool) → words ≡ role ∷ command ∷ behind → role ≡ (form_of name).role
     → command ≡ (form_of name).name → (IsTrue b ↔ (AreTaken (form_of name).rules Finds behind ⊎ LackValue (form_of name).rules Finds behind)) → IsTrue b ↔ MayBegin name Finds words

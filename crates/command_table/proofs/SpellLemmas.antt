@@ -1,5 +1,5 @@
 -- Which words may still become those of a value.
-use Rattle.std.proofs.Common.{◌≡◌, ◌∙◌, ℕ, ◌<◌, ◌&&◌, ◌||◌, Bool, Bor, zero, suc, get_or, true, false, not, List, [], ◌∷◌, length, map, Option, Some, None, is_some, option_map, refl, sym, subst, ap, arith}
+use Rattle.std.proofs.Common.{◌≡◌, ◌∙◌, ℕ, ◌<◌, ◌&&◌, ◌||◌, Bool, Bor, zero, suc, get_or, true, false, List, [], ◌∷◌, length, map, Option, Some, None, is_some, option_map, refl, sym, subst, ap, arith}
 use Rattle.std.specs.Prelude.{IsNone, IfSome, IsTrue, ◌↔◌, decimal, ◌<◌, ◌&&◌, nat_le, nat_lt}
 use Rattle.std.specs.List.{list_any, AllByRecursion, list_all}
 use Rattle.clap.specs.Walk.{Text}
@@ -9,17 +9,6 @@ use Rattle.std.proofs.lemmas.Bool.{le-leb, leb-true}
 use Rattle.command_table.specs.declared.value.TheConstants.{MOST_PLACE}
 
 -- ---- one word
-
--- a reader tells whether the word of an argument spells a value, or is not there
-pub may_spell : {X : Type 0} (word : Option Text) (Is : X → Type 0) (spelled : X → Text) (r : Option X) → IfSome r (λ x. Is x × (word ≡ Some (spelled x)))
-    → (IsNone r → (x : X) → Is x → word ≡ Some (spelled x) → ⊥) → IsTrue (not (is_some word) || is_some r) ↔ MaySpell word Is spelled
-may_spell None Is spelled r some none = (λ t. (None, tt, refl), λ may. refl)
-may_spell (Some word) Is spelled (Some x) some none = (λ t. (Some x, some.0, some.1), λ may. refl)
-may_spell {X} (Some word) Is spelled None some none = (λ t. absurd (cc t), λ may. absurd (no may.0 may.1 may.2))
-  where
-    no : (o : Option X) → IfSome o Is → Some word ≡ option_map spelled o → ⊥
-    no None is e = cc
-    no (Some x) is e = none refl x is e
 
 -- a value for the word of an argument: the one that it spells, or a sample
 pub filled : {X : Type 0} (word : Option Text) (Is : X → Type 0) (spelled : X → Text) (sample : X) → Is sample → MaySpell word Is spelled

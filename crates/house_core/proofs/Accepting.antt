@@ -1,12 +1,10 @@
 -- What comes of a request, from the answer to it.
-use Rattle.std.proofs.Common.{◌≡◌, ◌≤◌, ◌^◌, ℕ, false, List, [], ◌∷◌, ◌++◌, length, Option, Some, None, Ok, Err, refl, sym, ap, ap₂, subst, ◌∙◌, arith}
+use Rattle.std.proofs.Common.{◌≡◌, ◌≤◌, ◌^◌, ℕ, false, List, [], ◌∷◌, ◌++◌, length, Option, Some, None, Ok, Err, refl, sym, ap, subst, ◌∙◌, arith}
 use Rattle.std.specs.Prelude.{option_map, IfOk, IfErr, IsOk, OnOk, Result}
-use Rattle.scrip_form.specs.Identities.{numbered}
-use Rattle.change_issue.specs.Registers.{count_in}
-use Rattle.scrip_form.specs.Issuing.{Issuing, series_at}
+use Rattle.scrip_form.specs.Issuing.{Issuing}
 use Rattle.mc_records.specs.declared.limits.Limits.{Limits}
 use Rattle.mc_records.specs.declared.refusal.Refusal.{Refusal}
-use Rattle.mc_records.specs.Entry.{Entry, Mint, payload}
+use Rattle.mc_records.specs.Entry.{payload}
 use Rattle.mc_records.specs.Requests.{Asked}
 use Rattle.kept_replies.specs.declared.deed.KeptEntry.{KeptEntry}
 use Rattle.kept_replies.specs.Kept.{found}
@@ -22,7 +20,7 @@ use Rattle.house_state.specs.declared.verdict.NotAuthorized.{NotAuthorized}
 use Rattle.house_state.specs.declared.verdict.NotAuthorized.TheVariants as stops
 use Rattle.house_core.specs.declared.fault.BenchFault.TheVariants as faults
 use Rattle.house_state.specs.Trade.{BringsFor, TradeView}
-use Rattle.house_state.specs.HouseState.{HouseStateView, HasChange, GoesOn, IsEntered, IsAsBefore, series_now}
+use Rattle.house_state.specs.HouseState.{HouseStateView, HasChange, IsEntered, IsAsBefore, series_now}
 use Rattle.house_state.specs.Representation.{StateRepresents, has_ended}
 use Rattle.house_state.specs.Verdicts.{accept_entry, stop_of, IsReady, RepeatsKept, StopIsOfSite}
 use Rattle.house_core.specs.Bench.{Represents, IsRoomed, Accepts, KeepsReply, FaultIsOfSite, house_time, limits_of, stopped_with}
@@ -31,10 +29,6 @@ use Rattle.house_core.proofs.AcceptSays.{says_accept}
 use Rattle.house_state.proofs.Tabled.{scrip_asked}
 
 -- ---- a request that makes no entry
-
-pub refuses : {T : Type 0} (trade : T → TradeView) (b : Bench T) (h : History) (q : Asked) (f : Refusal) → Represents trade b h
-    → answers.Refused f ≡ answer h (house_time b) (limits_of b) q → Accepts trade b h (answer h (house_time b) (limits_of b) q) (Err (faults.Refused f))
-refuses trade b h q f st e = subst (λ (a : Answer). Accepts trade b h a (Err (faults.Refused f))) e (refl, st)
 
 pub makes_none : {T : Type 0} (trade : T → TradeView) (b : Bench T) (h : History) (q : Asked) (s : NotAuthorized) → Represents trade b h
     → answered (Err (stop_of s)) ≡ answer h (house_time b) (limits_of b) q → Accepts trade b h (answer h (house_time b) (limits_of b) q) (stopped_with s)
@@ -114,15 +108,6 @@ stands_taken {old = old} {mid = mid} {new = new} {h = h} st before q a read read
     let entered = subst (λ (p : Asked). IsEntered mid new p a.scrip.now.piece a) (scrip_asked q a.scrip.now read) is in
     let says = says_accept st' q a (read_ok q.scrip a.scrip.now (sym read)).1 (ready_as_before before q.target a ready) brings limits later entered.short in
     subst (λ (t : ℕ). StateRepresents new (h ++ accept_entry t q.target a ∷ [])) before.time (stands_more st' e _ says (takes_follow st' limits q e same most later) entered)
-
--- ---- an entry that accepts nothing
-
-pub goes_as_before : {old new : HouseStateView} → IsAsBefore old new → (e : Entry) → GoesOn old e → GoesOn new e
-goes_as_before {old = old} {new = new} is (Mint m reference count value first) goes =
-    let series : series_at new.own.terms m ≡ series_at old.own.terms m = ap (λ (t : Issuing). series_at t m) is.issuer in
-    let stand : count_in new.own (series_at new.own.terms m) ≡ count_in old.own (series_at old.own.terms m) = ap (count_in new.own) series ∙ is.issued (series_at old.own.terms m) in
-    (goes.0 ∙ sym (ap₂ numbered series stand), omega (arith, goes.1, stand, is.most))
-goes_as_before is e goes = tt
 
 -- ---- what is learned
 

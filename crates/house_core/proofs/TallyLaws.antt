@@ -1,5 +1,5 @@
 -- A tally that is counted on.
-use Rattle.std.proofs.Common.{◌≡◌, ℕ, ◌+◌, ◌^◌, ◌<◌, ◌≤◌, Bool, true, false, cond, List, [], ◌∷◌, ◌++◌, Some, None, Option, Result, Ok, refl, sym, ap, ◌∙◌, arith}
+use Rattle.std.proofs.Common.{◌≡◌, ℕ, ◌+◌, ◌^◌, ◌<◌, Bool, true, false, cond, List, [], ◌∷◌, ◌++◌, Some, None, Option, Result, Ok, refl, sym, ap, ◌∙◌, arith}
 use Rattle.std.specs.Prelude.{count_by, sum_by}
 use Rattle.std.proofs.lemmas.List.Sums.{sum_by-append}
 use Rattle.mc_records.specs.declared.refusal.Refusal.{Refusal}
@@ -19,7 +19,7 @@ use Rattle.house_state.specs.declared.verdict.Authorization.{Authorization}
 use Rattle.house_state.specs.Views.{entry_deed}
 use Rattle.house_state.specs.HouseState.{change_worth}
 use Rattle.house_state.specs.Verdicts.{accept_entry}
-use Rattle.house_core.specs.Tallies.{Told, Taken, Repeated, RefusedBy, AreCounts, IsWithin, change_given, counted, is_taken, is_repeated, is_refusal, is_other, price_told, change_told, tallied, no_tally}
+use Rattle.house_core.specs.Tallies.{Told, Taken, Repeated, RefusedBy, AreCounts, change_given, counted, is_taken, is_repeated, is_refusal, is_other, price_told, change_told, tallied}
 
 counted_none : (n : ℕ) → n < 2 ^ 64 → n ≡ counted n 0
 counted_none n lt = omega (arith, lt)
@@ -139,35 +139,6 @@ tallied_more t ws us =
     (counted_more (is_refusal 26) t.expired ws us) (counted_more (is_refusal 27) t.spent ws us) (counted_more (is_refusal 31) t.little ws us)
     (counted_more (is_other (26 ∷ 27 ∷ 31 ∷ 90 ∷ [])) t.other ws us) (counted_more (is_refusal 90) t.memory ws us)
     (summed_more price_told t.takings ws us) (summed_more change_told t.change ws us)
-
--- ---- within 64 bits
-
-counted_small : (n more : ℕ) → counted n more < 2 ^ 64
-counted_small n more = omega arith
-
-pub counts_small : (t : Tally) (all : List Told) → AreCounts (tallied t all)
-unfolding tallied
-counts_small t all = record {
-  taken = counted_small t.taken (count_by is_taken all);
-  again = counted_small t.again (count_by is_repeated all);
-  expired = counted_small t.expired (count_by (is_refusal 26) all);
-  spent = counted_small t.spent (count_by (is_refusal 27) all);
-  little = counted_small t.little (count_by (is_refusal 31) all);
-  other = counted_small t.other (count_by (is_other (26 ∷ 27 ∷ 31 ∷ 90 ∷ [])) all);
-  memory = counted_small t.memory (count_by (is_refusal 90) all);
-}
-
--- with more entries
-pub within_more : (m n : ℕ) (t : Tally) → m ≤ n → IsWithin m t → IsWithin n t
-within_more m n t le is = record { counts = is.counts; takings = omega (arith, le, is.takings); change = omega (arith, le, is.change) }
-
--- nothing was served
-pub within_none : (n : ℕ) → IsWithin n no_tally
-within_none n = record {
-  counts = record { taken = omega arith; again = omega arith; expired = omega arith; spent = omega arith; little = omega arith; other = omega arith; memory = omega arith };
-  takings = omega arith;
-  change = omega arith;
-}
 
 -- ---- what an authorization pays
 

@@ -78,10 +78,6 @@ given_grows Step clock es s h k now next a =
     let last : k.given ≡ 1000 → ⊥ = λ e. a.answered.sent.0 (a.took.after_is.1 (inr e)) in
     (omega (arith, a.took.given_is, last), omega (arith, a.took.given_is, last), omega (arith, a.took.given_is, last))
 
--- and the link stands as it did
-pub still_stands : {S : Type 0} (Step : StepRelation S) (clock : Clock) (es : List (Did S)) (s : S) (h k : Held) (now next : LinkView) → Answered Step clock turns.GoOn es s h now k next → IsTrue now.stands → IsTrue next.stands
-still_stands Step clock es s h k now next a standing = subst (λ (v : LinkView). IsTrue v.stands) (sym a.answered.sent.2) standing
-
 -- an item was answered, and the link goes on
 pub serving_goes_on : {S : Type 0} (Step : StepRelation S) (clock : Clock) (ds es : List (Did S)) (s : S) (before : LinkView) (h k : Held) (now next : LinkView) → IsServing Step clock ds s before h now
     → Answered Step clock turns.GoOn es (state_after s ds) h now k next → IsServing Step clock (ds ++ es) s before k next

@@ -1,12 +1,12 @@
 -- The ends of series, as terms and windows have them.
 use Rattle.std.proofs.Common.{◌≡◌, ℕ, ◌/◌, ◌%◌, ◌^◌, ◌<◌, ◌≤◌, Bool, true, false, cond, eqb, ltb, leb, List, [], ◌++◌, Option, Some, None, option_map, refl, sym, ap, ◌∙◌, arith}
-use Rattle.std.specs.Prelude.{◌&&◌, unwrap_or}
+use Rattle.std.specs.Prelude.{unwrap_or}
 use Rattle.std.specs.Option.{option_or}
-use Rattle.std.proofs.lemmas.Bool.{ltb-true, leb-false, lt-ltb, eqb-true}
+use Rattle.std.proofs.lemmas.Bool.{ltb-true, leb-false, eqb-true}
 use Rattle.std.proofs.lemmas.List.Folds.{find-append}
 use Rattle.scrip_form.specs.Identities.{issuer_of, epoch_of, series_of}
 use Rattle.scrip_form.specs.Issuing.{Issuing, series_end}
-use Rattle.spent_windows.specs.Windows.{WindowView, window_of, is_marked, end_of, lasts, later_than}
+use Rattle.spent_windows.specs.Windows.{WindowView, window_of, is_marked, end_of, later_than}
 use Rattle.ledger_model.specs.Houses.{terms_by}
 use Rattle.house_state.specs.HouseState.{end_by, ended_by}
 
@@ -103,20 +103,3 @@ ends_dropped terms u t ws new in_time later = record {
   ends = λ k e found. in_time.ends k e (later_is t (end_of ws k) e (sym (later k) ∙ found)).0;
   alive = λ k e found. (later_is t (end_of ws k) e (sym (later k) ∙ found)).1;
 }
-
--- what is marked of a series that goes on stays marked
-pub still_marked : (terms : List Issuing) (t : ℕ) (ws new : List WindowView) → ((k e : ℕ) → end_of ws k ≡ Some e → end_by terms k ≡ Some e)
-    → ((k : ℕ) → is_marked new k ≡ (is_marked ws k && lasts t (end_of ws k))) → (id : ℕ) → ended_by terms t id ≡ false → is_marked new id ≡ is_marked ws id
-still_marked terms t ws new ends left id live =
-    left id ∙ ap (λ (b : Bool). is_marked ws id && b) (still_lasts (end_of ws id) (end_by terms id) (ends id) live) ∙ and_true (is_marked ws id)
-  where
-    still_lasts : (o x : Option ℕ) → ((e : ℕ) → o ≡ Some e → x ≡ Some e) → unwrap_or (option_map (λ e. leb e t) x) false ≡ false → lasts t o ≡ true
-    still_lasts None x is live = refl
-    still_lasts (Some e) None is live = let none : None ≡ Some e = is e refl in absurd cc
-    still_lasts (Some e) (Some x) is live =
-        let same : x ≡ e = some_is x e (is e refl) in
-        lt-ltb t e (omega (arith, leb-false x t live, same))
-
-    and_true : (b : Bool) → (b && true) ≡ b
-    and_true true = refl
-    and_true false = refl

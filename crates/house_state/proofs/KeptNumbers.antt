@@ -1,9 +1,8 @@
 -- The numbers of replies that are kept.
-use Rattle.std.proofs.Common.{◌≡◌, ℕ, Bool, true, false, cond, List, [], ◌∷◌, ◌++◌, Option, Some, refl, ◌∙◌, find}
+use Rattle.std.proofs.Common.{◌≡◌, ℕ, Bool, true, false, cond, List, [], ◌∷◌, Option, Some, refl, find}
 use Rattle.std.specs.Prelude.{◌&&◌, ◌||◌, ◌==◌, option_map, IsTrue}
 use Rattle.std.specs.List.{list_any}
 use Rattle.std.proofs.lemmas.Bool.{eq-eqb}
-use Rattle.std.proofs.lemmas.List.Folds.{list_any-append}
 use Rattle.mc_records.specs.Requests.{Asked}
 use Rattle.kept_replies.specs.declared.deed.KeptEntry.{KeptEntry}
 use Rattle.kept_replies.specs.Requests.{is_same_request}
@@ -31,9 +30,3 @@ found_number kept t q n e = among kept.replies e
             → ((r.entry.number == n) || list_any (λ x. x.entry.number == n) rs) ≡ true
         go true more g = let is : r.entry.number ≡ n = cc in rw (eq-eqb r.entry.number n is) refl
         go false more g = or_last (r.entry.number == n) (list_any (λ x. x.entry.number == n) rs) (more g)
-
--- the number of the last reply is kept
-pub last_number : (rs : List KeptReply) (r : KeptReply) (n : ℕ) → r.entry.number ≡ n → IsTrue (has_number (rs ++ r ∷ []) n)
-last_number rs r n is =
-    let one : list_any (λ (x : KeptReply). x.entry.number == n) (r ∷ []) ≡ true = rw (eq-eqb r.entry.number n is) refl in
-    list_any-append (λ (x : KeptReply). x.entry.number == n) rs (r ∷ []) ∙ or_last (has_number rs n) _ one

@@ -5,8 +5,8 @@ use Rattle.std.specs.List.{AllByRecursion, insert}
 use Rattle.std.specs.List.Sorted.{IsPartitionPoint}
 use Rattle.std.proofs.lemmas.List.{take_all, drop_all}
 use Rattle.std.proofs.lemmas.List.Elements.{recursion_from_All, All-append, All-cons, All-filter, All-weaker, All-from_recursion}
-use Rattle.std.proofs.lemmas.List.Folds.{list_any_none, list_any_at}
-use Rattle.std.proofs.lemmas.Bool.{leb-true, ltb-true, lt-ltb, le-ltb, eqb-false, ne_eqb, or_parts, or_left, or_right, and_from, eq-eqb, cases_lt, both_ways, false_from_ne_true}
+use Rattle.std.proofs.lemmas.List.Folds.{list_any_at}
+use Rattle.std.proofs.lemmas.Bool.{leb-true, ltb-true, lt-ltb, le-ltb, eqb-false, or_parts, or_left, or_right, and_from, eq-eqb, cases_lt, both_ways, false_from_ne_true}
 use Rattle.mc_records.specs.Requests.{Asked}
 use Rattle.kept_replies.specs.Requests.{is_same_request}
 use Rattle.kept_replies.specs.Kept.{KeptReply, AreRising, IsBelowAll, has_request, has_number, inserted}
@@ -182,10 +182,3 @@ inserted_last new rs all =
     let by_recursion = recursion_from_All (λ r. number r < number new) rs all in
     ap (λ (t : List KeptReply). t ++ new ∷ filter (above (number new)) rs) (all_below (number new) rs by_recursion)
     ∙ ap (λ (t : List KeptReply). rs ++ new ∷ t) (none_above (number new) rs by_recursion)
-
--- and is not kept yet
-pub not_numbered : (n : ℕ) (rs : List KeptReply) → All (λ r. r.entry.number < n) rs → has_number rs n ≡ false
-not_numbered n rs all = list_any_none (λ r. eqb r.entry.number n) rs (λ k d lt. other (get_or rs k d) (all k d lt))
-  where
-    other : (r : KeptReply) → r.entry.number < n → eqb r.entry.number n ≡ false
-    other r lt = ne_eqb r.entry.number n (λ e. omega (arith, lt, e))

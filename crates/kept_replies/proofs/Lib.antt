@@ -1,5 +1,5 @@
 pub mod SearchLaws
-pub mod PartLaws
+pub mod TextLaws
 pub mod IndexLaws
 pub mod ReplyLaws
 pub mod InsertLaws

@@ -203,10 +203,6 @@ pub breaks_behind : (bytes : List ℕ) → 0 < length bytes → GoesOn bytes →
 breaks_behind [] some on = absurd (omega (arith, some))
 breaks_behind (b ∷ bytes) some on = inr (on, refl)
 
-pub breaks_empty : (bytes : List ℕ) → length bytes ≡ 0 → BreaksAt bytes 0
-breaks_empty [] none = refl
-breaks_empty (b ∷ bytes) none = absurd (omega (arith, none))
-
 -- nothing is cut where there is no such byte
 pub begins_none : (bytes : List ℕ) → None ≡ cut 10 bytes → BeginsNoLicence bytes
 begins_none bytes none vendor terms more fits is = nothing (none ∙ licence_cut bytes vendor terms more fits is)

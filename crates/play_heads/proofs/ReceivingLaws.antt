@@ -124,12 +124,6 @@ length-links_from count first (suc n) = ap suc (length-links_from count (first +
 
 -- ---- a play
 
--- nothing of the links' sessions and readings changed
-pub same_play : (count end : ℕ) (rest : List ℕ) (whole : Bool) (clock : ℕ) (v w : LinkView) → w.sessions ≡ v.sessions → w.readings ≡ v.readings
-    → IsPlaying count end rest whole clock v → IsPlaying count end rest whole clock w
-same_play count end rest whole clock v w same read p =
-    record { links = p.links; told = same ∙ p.told; come = p.come; others = p.others; needed = p.needed; reach = p.reach; reads = p.reads; readings = read ∙ p.readings; next = p.next }
-
 -- the last link changed
 pub changed_play : (count end : ℕ) (rest left : List ℕ) (whole : Bool) (clock : ℕ) (v w : LinkView) (f : Session → Session)
     → (rest ≡ [] → left ≡ []) → ((i : ℕ) (s : Session) → StillComes count i rest s → StillComes count i left (f s))

@@ -1,12 +1,12 @@
 -- Decimal numbers as the code reads them.
-use Rattle.std.proofs.Common.{◌≡◌, ℕ, ◌<◌, ◌^◌, true, false, List, [], ◌∷◌, refl, sym, ap, ◌∙◌, arith, Option, Some, None}
+use Rattle.std.proofs.Common.{◌≡◌, ℕ, ◌<◌, ◌^◌, true, List, [], ◌∷◌, refl, sym, ap, ◌∙◌, arith, Option, Some, None}
 use Rattle.std.specs.Prelude.{codes, decimal, eqb, IfSome, IsNone}
 use Rattle.std.specs.List.{starts_with}
 use Rattle.std.specs.Result.{is_ok}
 use Rattle.std.specs.Str.Parse.{digits_value}
 use Rattle.std.proofs.lemmas.Fmt.{decimal_is_IsNumeral}
 use Rattle.mc_fields.specs.Texts.{IsNumber}
-use Rattle.mc_fields.specs.Reading.{literal_at, field_of, number_machine, number_at}
+use Rattle.mc_fields.specs.Reading.{literal_at, field_of, number_machine}
 use Rattle.mc_fields.proofs.NumberField.{number_whole, no_number}
 use Rattle.reply_reader.specs.Decimals.{decimal_until}
 
@@ -40,8 +40,3 @@ unfolding literal_at
 refusal_zero [] h = absurd (cc h)
 refusal_zero (c ∷ []) h = grind arith
 refusal_zero (c ∷ d ∷ text) h = grind arith
-
--- any other number
-pub refusal_other : (text : List ℕ) → starts_with eqb text (codes "0") ≡ false → number_at 65535 32 text ≡ decimal_until 65535 32 text
-refusal_other [] h = refl
-refusal_other (c ∷ text) h = grind arith

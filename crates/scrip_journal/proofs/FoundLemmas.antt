@@ -1,6 +1,5 @@
 -- What founding a book leaves on the disk, step by step.
 use Rattle.std.proofs.Common.{◌≡◌, inl, inr, ⊎_elim, ℕ, ◌≤◌, max, Some, Result, Ok, Err, List, [], ◌∷◌, ◌++◌, length, drop, sym, ◌∙◌, ap, subst, arith}
-use Rattle.mc_outside.specs.Bytes.{BeginsWith}
 use Rattle.mc_outside.specs.DiskView.{DiskView, DiskGoes, IsSynced, OnlyRead, Ran}
 use Rattle.mc_outside.proofs.Runs.{ran_then, ran_weaker}
 use Rattle.mc_records.specs.Entry.{Entry}
@@ -45,11 +44,6 @@ found_quiet a b d e goes first then' =
 
 -- ---- which bytes encode no entries
 
--- those without the header do not
-pub no_header : (x : List ℕ) → (BeginsWith header x → ⊥) → Encodes [] x → ⊥
-unfolding header
-no_header x other st = other (st.gate ∷ st.rest, st.shape)
-
 head_same : {A : Type 0} (x y : A) (xs ys : List A) → x ∷ xs ≡ y ∷ ys → x ≡ y
 head_same x y xs ys e = cc
 
@@ -59,10 +53,6 @@ unfolding header
 no_more view r e x is told st =
     let same : body (e ∷ []) ++ is.rest ≡ body [] ++ st.gate ∷ st.rest = sym is.shape ∙ (bytes_told view r (e ∷ []) x is told ∙ st.shape) in
     st.closed (sym (head_same 1 st.gate _ _ (ap (λ (l : List ℕ). drop 8 l) same)))
-
--- a reading leaves the disk synced
-pub reading_synced : {D : Type 0} (view : D → DiskView) (r : Reading D) (h : List Entry) (x : List ℕ) → IsReading view r h → (view r.disk).contents ≡ Some x → IsSynced (view r.disk)
-reading_synced view r h x is told y told' c l = is.synced c l ∙ bytes_told view r h y is told'
 
 -- a small disk is free, and one that is not is taken, where it does not stand for no entries
 pub cleared : {D : Type 0} (view : D → DiskView) (x : List ℕ) (result : Result (AtRest D) (HouseFault D)) → (Encodes [] x → ⊥) → ClearsSmall view x result → FoundsBookBy view [] x result

@@ -8,7 +8,7 @@ use Rattle.mc_records.specs.Entry.{Entry, Goods, payload}
 use Rattle.mc_records.specs.Sizes.{tail, size_from}
 use Rattle.ledger_model.specs.Histories.{History}
 use Rattle.ledger_model.specs.Goods.{bytes_in, in_force}
-use Rattle.ledger_model.specs.Pieces.{handed_piece, minted_pieces, own_out_from, minted_from, run_from, first_hand, own_count}
+use Rattle.ledger_model.specs.Pieces.{handed_piece, minted_pieces, own_out_from, minted_from, run_from, first_hand}
 use Rattle.slow_ledger.specs.Slow.{is_of}
 use Rattle.slow_ledger.proofs.SlowLaws.{next, of_next}
 
@@ -20,9 +20,6 @@ count_append p xs ys = sum_by-append (λ x. cond (p x) 1 0) xs ys
 -- those that the entries of a list hand out or mint, after the entries before them
 abbrev pub own_from : ℕ → History → History → ℕ
 own_from series before h = count_by (is_of series) (own_out_from before h) + count_by (is_of series) (minted_from before h)
-
-pub own_from_start : (series : ℕ) (h : History) → own_from series [] h ≡ own_count h series
-own_from_start series h = sym (count_append (is_of series) (own_out_from [] h) (minted_from [] h))
 
 own_from_cons : (series : ℕ) (before : History) (e : Entry) (h : History)
     → own_from series before (e ∷ h) ≡ count_by (is_of series) (option_to_list (handed_piece before e)) + count_by (is_of series) (minted_pieces before e) + own_from series (before ++ e ∷ []) h

@@ -1,5 +1,5 @@
 -- The first stranger, by entry and by book.
-use Rattle.std.proofs.Common.{◌≡◌, ℕ, ◌+◌, ◌<◌, Bool, true, false, cond, eqb, not, ◌&&◌, List, [], ◌∷◌, ◌++◌, length, drop, map, find, filter, flat_map, bytes_eq, Option, Some, None, option_map, slice_get, IfSome, refl, sym, ap, ◌∙◌, subst}
+use Rattle.std.proofs.Common.{◌≡◌, ℕ, ◌+◌, Bool, true, false, cond, eqb, not, ◌&&◌, List, [], ◌∷◌, ◌++◌, map, find, filter, flat_map, bytes_eq, Option, Some, None, option_map, refl, sym, ap, ◌∙◌}
 use Rattle.std.specs.Option.{option_or}
 use Rattle.std.specs.List.{list_any}
 use Rattle.scrip_form.specs.Scrip.{Scrip}
@@ -9,11 +9,10 @@ use Rattle.ledger_model.specs.Houses.{site_name, is_broker}
 use Rattle.ledger_model.specs.Pieces.{minted}
 use Rattle.ledger_model.specs.Stock.{Sale, sold_piece}
 use Rattle.balanced_books.specs.Meets.{is_among}
-use Rattle.balanced_books.specs.Strangers.{is_minted, stranger, sold_stranger, strangers, entry_strangers, first_by, first_from, first_stranger, AreOfMarket, first_of}
+use Rattle.balanced_books.specs.Strangers.{is_minted, stranger, sold_stranger, entry_strangers, first_stranger, AreOfMarket, first_of}
 use Rattle.balanced_books.specs.declared.part.Part.{Part}
 use Rattle.balanced_books.specs.Parts.{part_of}
 use Rattle.slow_sums.specs.Strangers.{mints_for, vendors_of}
-use Rattle.slow_ledger.proofs.SlowLaws.{next, of_next}
 use Rattle.slow_sums.proofs.Lists.{any_map, any_filter}
 
 pub first_append : (xs ys : List ℕ) → first_of (xs ++ ys) ≡ option_or (first_of xs) (first_of ys)
@@ -80,19 +79,6 @@ found_first {A = A} test (x ∷ xs) a more e = go (test x) e (λ rest. found_fir
 
 pub the_broker : (books : List History) (b : History) → filter is_broker books ≡ b ∷ [] → find is_broker books ≡ Some b
 the_broker books b e = found_first is_broker books b [] e
-
-by_first : (book : ℕ) (ids : List ℕ) (later : Option (ℕ × ℕ)) → first_by book ids later ≡ option_or (option_map (λ id. (book, id)) (first_of ids)) later
-by_first book [] later = refl
-by_first book (id ∷ ids) later = refl
-
-pub books_more : (b : History) (vs books : List History) (k : ℕ) (r : Option ℕ) (whole : Option (ℕ × ℕ)) → k < length books → first_from k b vs (drop k books) ≡ whole
-    → IfSome (slice_get books k) (λ h. r ≡ first_of (strangers b vs h)) → option_or (option_map (λ id. (k, id)) r) (first_from (k + 1) b vs (drop (k + 1) books)) ≡ whole
-books_more b vs books k r whole lt so_far said =
-    let x = next books k lt in
-    let is : r ≡ first_of (strangers b vs x.entry) = of_next (λ h. r ≡ first_of (strangers b vs h)) books k x said in
-    let here : first_from k b vs (x.entry ∷ drop (k + 1) books) ≡ whole = subst (λ (t : List History). first_from k b vs t ≡ whole) x.rest so_far in
-    ap (λ (o : Option ℕ). option_or (option_map (λ id. (k, id)) o) (first_from (k + 1) b vs (drop (k + 1) books))) is
-    ∙ sym (by_first k (strangers b vs x.entry) (first_from (k + 1) b vs (drop (k + 1) books))) ∙ here
 
 -- what is said beside the first broker, is said beside the only one
 pub of_market : (b : History) (vs books : List History) (broker : History) (r : Option (ℕ × ℕ)) → AreOfMarket b vs books → Some broker ≡ find is_broker books

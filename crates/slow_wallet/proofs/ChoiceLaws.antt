@@ -1,10 +1,9 @@
 -- Choosing among the pieces that came, one more at a time.
-use Rattle.std.proofs.Common.{◌≡◌, ℕ, ◌+◌, ◌<◌, Bool, true, false, cond, List, [], ◌∷◌, ◌++◌, length, map, take, filter, Option, Some, None, option_map, slice_get, Result, Ok, Err, refl, sym, ap, subst, ◌∙◌, append-nil, append_assoc}
+use Rattle.std.proofs.Common.{◌≡◌, ℕ, ◌+◌, ◌<◌, Bool, true, false, cond, List, [], ◌∷◌, ◌++◌, length, map, take, filter, Option, Some, None, option_map, slice_get, Result, Ok, Err, refl, sym, ap, subst, ◌∙◌, append_assoc}
 use Rattle.std.specs.Prelude.{nat_lt, nat_le, max, option_to_list, option_and_then, filter_map, fold}
 use Rattle.std.specs.List.{enumerate_from, reduce, cons_option}
 use Rattle.std.specs.Result.{result_map_both}
-use Rattle.std.proofs.lemmas.List.Elements.{filter-append, filter_map-append}
-use Rattle.std.proofs.lemmas.List.Sums.{fold-append}
+use Rattle.std.proofs.lemmas.List.Elements.{filter_map-append}
 use Rattle.scrip_form.specs.Scrip.{Scrip}
 use Rattle.mc_records.specs.declared.refusal.Refusal.{Refusal}
 use Rattle.mc_records.specs.declared.refusal.Refusal.TheVariants.{NoFunds}
@@ -16,36 +15,9 @@ use Rattle.wallet_model.specs.Asks.{Offered, offered_at, is_fit, fit_for, lesser
 use Rattle.slow_wallet.specs.Slow.{brought_at}
 use Rattle.slow_wallet.specs.declared.choice.Choice.{Choice}
 use Rattle.slow_wallet.specs.declared.choice.Offer.{Offer}
-use Rattle.slow_wallet.specs.Choices.{Fitting, fitting_of, offer_view, if_fit, fit_at, fits, lesser_fit, better, cheapest, greatest, IsChoice}
+use Rattle.slow_wallet.specs.Choices.{Fitting, fitting_of, offer_view, if_fit, fit_at, fits, lesser_fit, cheapest, greatest, IsChoice}
 use Rattle.slow_ledger.proofs.SlowLaws.{next}
 use Rattle.slow_wallet.proofs.Steps.{came_next}
-
--- ---- one more
-
-cheapest_more : (limit : ℕ) (xs : List Fitting) (x : Fitting) → cheapest limit (xs ++ x ∷ []) ≡ cond (nat_le limit x.value) (Some (better (cheapest limit xs) x)) (cheapest limit xs)
-cheapest_more limit xs x = ap (reduce lesser_fit) (filter-append (λ y. nat_le limit y.value) xs (x ∷ [])) ∙ last (filter (λ y. nat_le limit y.value) xs) (nat_le limit x.value)
-  where
-    more : (ys : List Fitting) → reduce lesser_fit (ys ++ x ∷ []) ≡ Some (better (reduce lesser_fit ys) x)
-    more [] = refl
-    more (y ∷ ys) = ap Some (fold-append lesser_fit y ys (x ∷ []))
-
-    last : (ys : List Fitting) (b : Bool) → reduce lesser_fit (ys ++ cond b (x ∷ []) []) ≡ cond b (Some (better (reduce lesser_fit ys) x)) (reduce lesser_fit ys)
-    last ys true = more ys
-    last ys false = ap (reduce lesser_fit) (append-nil ys)
-
-greatest_more : (xs : List Fitting) (x : Fitting) → greatest (xs ++ x ∷ []) ≡ max (greatest xs) x.value
-greatest_more xs x = fold-append (λ m y. max m y.value) 0 xs (x ∷ [])
-
-pub none_more : (limit : ℕ) (xs : List Fitting) (c : Choice) → IsChoice limit xs c → IsChoice limit (xs ++ []) c
-none_more limit xs c is = record { best = is.best ∙ ap (cheapest limit) (sym (append-nil xs)); most = is.most ∙ ap greatest (sym (append-nil xs)) }
-
-pub one_more : (limit : ℕ) (xs : List Fitting) (x : Fitting) (c d : Choice) → IsChoice limit xs c
-    → option_map offer_view d.best ≡ cond (nat_le limit x.value) (Some (better (option_map offer_view c.best) x)) (option_map offer_view c.best)
-    → d.greatest ≡ max c.greatest x.value → IsChoice limit (xs ++ x ∷ []) d
-one_more limit xs x c d is best most = record {
-  best = best ∙ ap (λ (o : Option Fitting). cond (nat_le limit x.value) (Some (better o x)) o) is.best ∙ sym (cheapest_more limit xs x);
-  most = most ∙ ap (λ (m : ℕ). max m x.value) is.most ∙ sym (greatest_more xs x);
-}
 
 -- ---- all that came
 

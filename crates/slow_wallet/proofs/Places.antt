@@ -1,5 +1,5 @@
 -- The elements of a list by their places, where the list is made of parts.
-use Rattle.std.proofs.Common.{◌≡◌, ℕ, zero, suc, ◌+◌, ◌<◌, ◌≤◌, Bool, true, false, cond, ◌&&◌, List, [], ◌∷◌, ◌++◌, length, map, take, drop, filter, Option, Some, None, option_map, slice_get, refl, sym, ap, ◌∙◌, arith}
+use Rattle.std.proofs.Common.{◌≡◌, ℕ, zero, suc, ◌+◌, ◌<◌, ◌≤◌, Bool, true, false, cond, ◌&&◌, List, [], ◌∷◌, ◌++◌, length, take, drop, filter, Option, Some, None, option_map, slice_get, refl, sym, ap, ◌∙◌, arith}
 use Rattle.std.specs.Prelude.{not, option_to_list, option_and_then, filter_map, is_some}
 use Rattle.std.specs.List.{list_any, enumerate_from, cons_option}
 use Rattle.std.proofs.lemmas.List.{length-append, take-append-drop}
@@ -34,11 +34,6 @@ none_past : {A : Type 0} (xs : List A) (i : ℕ) → length xs ≤ i → None �
 none_past [] i le = refl
 none_past (x ∷ xs) zero le = absurd (omega (arith, le))
 none_past (x ∷ xs) (suc i) le = none_past xs i (omega (arith, le))
-
-pub get_mapped : {A B : Type 0} (f : A → B) (xs : List A) (i : ℕ) → slice_get (map f xs) i ≡ option_map f (slice_get xs i)
-get_mapped f [] i = refl
-get_mapped f (x ∷ xs) zero = refl
-get_mapped f (x ∷ xs) (suc i) = get_mapped f xs i
 
 -- ---- pieces
 

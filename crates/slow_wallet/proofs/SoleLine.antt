@@ -1,6 +1,5 @@
 -- Contents that are one piece line.
-use Rattle.std.proofs.Common.{◌≡◌, ℕ, ◌≤◌, List, [], ◌∷◌, ◌++◌, length, take, Some, None, Result, Ok, slice_get, refl, sym, ap, subst, ◌∙◌, arith, append_assoc}
-use Rattle.std.proofs.lemmas.List.{length-append}
+use Rattle.std.proofs.Common.{◌≡◌, ℕ, List, [], ◌∷◌, ◌++◌, length, take, Some, Result, Ok, slice_get, sym, ap, subst, ◌∙◌, arith, append_assoc}
 use Rattle.std.proofs.Math.Seq.{take-append_seam}
 use Rattle.mc_records.specs.Entry.{Held, ArePieces}
 use Rattle.mc_records.specs.Pieces.{pieces_bytes}
@@ -14,15 +13,6 @@ use Rattle.wallet_model.specs.Settling.{sole, one_line}
 
 abbrev input : List ℕ → Result (List Held) ℕ
 input contents = input_lines (passes rules.Any) contents
-
--- where not one piece was read, the contents are no piece line
-not_one : (pieces : List Held) → (1 ≡ length pieces → ⊥) → None ≡ sole (Ok pieces)
-not_one [] apart = refl
-not_one (p ∷ []) apart = absurd (apart refl)
-not_one (p ∷ q ∷ ps) apart = refl
-
-pub no_line : (contents elements : List ℕ) (count : ℕ) → AreAppended (input contents) [] elements count → (count ≡ 1 → ⊥) → None ≡ one_line contents
-no_line contents elements count a apart = not_one a.pieces (λ one. apart (a.counted ∙ sym one)) ∙ ap sole (sym a.read)
 
 -- what one piece that was read says
 pub record Sole (contents elements : List ℕ) : Type 0 where
@@ -48,10 +38,6 @@ sole_of contents elements count a one = go a.pieces a.read (sym one ∙ a.counte
       front = (told p read).spelled ∙ append_assoc p.text (secret_part p.secret) [];
     }
     go (p ∷ q ∷ ps) read len is = absurd (omega (arith, len))
-
-pub text_within : (contents elements text : List ℕ) (s : Sole contents elements) → text ≡ s.piece.text → length text ≤ length contents
-text_within contents elements text s is =
-    omega (arith, ap length is, ap length s.front, length-append s.piece.text (secret_part s.piece.secret ++ []))
 
 pub text_taken : (contents elements text : List ℕ) (s : Sole contents elements) → text ≡ s.piece.text → take (length text) contents ≡ s.piece.text
 text_taken contents elements text s is =

@@ -6,9 +6,6 @@ use Rattle.std.specs.Prelude.{◌==◌}
 use Rattle.scrip_form.specs.Padded.{padded, take-padded}
 use Rattle.wallet_book.specs.PieceIndex.{key_of, is_key}
 
-bytes_same : (v : List ℕ) → bytes_eq v v ≡ true
-bytes_same v = (bytes_eq-Decides v v).1 refl
-
 -- padded texts of one length are one text
 same_text : (v o : List ℕ) → length v ≡ length o → padded 0 63 v ≡ padded 0 63 o → v ≡ o
 same_text v o len same = sym (take-padded 0 63 v) ∙ ap (λ (n : ℕ). take n (padded 0 63 v)) len ∙ ap (take (length o)) same ∙ take-padded 0 63 o

@@ -100,10 +100,6 @@ refused_as h xs ys ks js n m refusal k s book is spelled at state pieces left =
     subst (λ (zs : List Holding). LearnsEntry zs js h (Refused m n refusal) true) (sym pieces)
     (subst (λ (ls : List Kept). LearnsEntry (in_state_at xs k.place s) ls h (Refused m n refusal) true) (sym left) (learns_refused h xs ks n m refusal k s book is spelled at state))
 
-all_both : (ps qs : List Held) → AllByRecursion HasText ps → AllByRecursion HasText qs → AllByRecursion HasText (ps ++ qs)
-all_both [] qs first second = second
-all_both (p ∷ ps) qs first second = (first.0, all_both ps qs first.1 second)
-
 -- the change came before
 pub done_less : (h : History) (xs zs mid ys : List Holding) (ks js : List Kept) (n m price : ℕ) (change : Option (List ℕ)) (got : Option Held) (k : Kept) → IsWalletBook h → PartsRepresent xs ks h → AreSpelled xs → find (λ j. n == j.number) ks ≡ Some k
     → AllByRecursion HasText (settled_pieces_of k.secret change got) → zs ≡ in_state_at xs k.place states.Used → Brings zs mid (option_to_list (option_map (λ text. record { text = text; secret = k.secret }) change)) false

@@ -1,5 +1,5 @@
 -- What is kept of pieces and requests, with one entry more.
-use Rattle.std.proofs.Common.{◌≡◌, ℕ, suc, ◌+◌, ◌≤◌, Bool, true, false, ◌&&◌, ◌||◌, cond, not, List, [], ◌∷◌, ◌++◌, length, map, Option, Some, None, refl, sym, ap, ◌∙◌, append_assoc, append-nil, arith, unwrap_or}
+use Rattle.std.proofs.Common.{◌≡◌, ℕ, suc, ◌+◌, ◌≤◌, Bool, true, false, ◌&&◌, ◌||◌, not, List, [], ◌∷◌, ◌++◌, length, map, Option, Some, None, refl, sym, ap, ◌∙◌, append_assoc, arith, unwrap_or}
 use Rattle.std.proofs.lemmas.List.Folds.{list_any-append}
 use Rattle.std.specs.List.{AllByRecursion}
 use Rattle.mc_records.specs.Entry.{Held, Entry}
@@ -64,9 +64,6 @@ brought_texts old new ps is =
     sym (seen_texts new) ∙ ap (λ (ys : List model.Holding). map (λ x. x.text) ys) is ∙ map_both (λ x. x.text) (map holding_of old) (map fresh_of ps)
     ∙ ap (λ (ts : List (List ℕ)). map (λ x. x.text) (map holding_of old) ++ ts) (fresh_texts ps) ∙ ap (λ (ts : List (List ℕ)). ts ++ held_texts ps) (seen_texts old)
 
-pub brings_none : (xs : List Holding) → Brings xs xs [] true
-brings_none xs = (refl, sym (append-nil (map holding_of xs)))
-
 two_new : (old mid : List Holding) (ps qs : List Held) → Brings old mid ps true → are_new (texts_of old) (held_texts (ps ++ qs)) ≡ are_new (texts_of mid) (held_texts qs)
 two_new old mid ps qs first =
     ap (are_new (texts_of old)) (map_both (λ p. p.text) ps qs)
@@ -91,16 +88,6 @@ pub brings_less : (old mid new : List Holding) (ps qs : List Held) → Brings ol
 brings_less old mid new ps qs first =
     ap (are_new (texts_of old)) (map_both (λ p. p.text) ps qs) ∙ new_both (texts_of old) (held_texts ps) (held_texts qs)
     ∙ and_false (are_new (texts_of old) (held_texts ps)) (are_new (held_texts ps ++ texts_of old) (held_texts qs)) first
-
-and_true : (b : Bool) → (b && true) ≡ b
-and_true true = refl
-and_true false = refl
-
--- one piece
-pub brings_one : (old new : List Holding) (p : Held) (x : Holding) (r : Bool) → r ≡ is_new (texts_of old) p.text → new ≡ cond r (old ++ x ∷ []) old → holding_of x ≡ fresh_of p → Brings old new (p ∷ []) r
-brings_one old new p x true is list it =
-    (and_true (is_new (texts_of old) p.text) ∙ sym is, ap (map holding_of) list ∙ map_both holding_of old (x ∷ []) ∙ ap (λ (y : model.Holding). map holding_of old ++ y ∷ []) it)
-brings_one old new p x false is list it = and_true (is_new (texts_of old) p.text) ∙ sym is
 
 -- ---- Got
 

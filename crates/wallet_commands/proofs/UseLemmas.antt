@@ -155,11 +155,6 @@ module _ {O : Type 0} (link : O → LinkView) (disk : O → DiskView) (h : Histo
         (λ c l. inl (journal_leaves disk x.journal h st.journal c l));
   }
 
--- a call of the links failed
-pub broke_rose : (bytes : List ℕ) (u v : LinkView) → NoLink u v ⊎ SentPart bytes u v → Rose u.faults v.faults
-broke_rose bytes u v (inl none) = none.rose
-broke_rose bytes u v (inr part) = part.fault.rose
-
 -- the bytes of a request that is kept
 pub written_bytes : (o : Option Pending) (p : Pending) (out : List ℕ) (n : ℕ) → o ≡ Some p → IsWritten o out (Some n) → take n out ≡ request_bytes p
 written_bytes None p out n is written = absurd (cc is)

@@ -5,7 +5,7 @@ use Rattle.std.specs.Prelude.{◌==◌, nat_lt, nat_le, option_to_list, filter_m
 use Rattle.std.specs.List.{AllByRecursion, list_any, enumerate_from, reduce, cons_option}
 use Rattle.scrip_form.specs.Scrip.{Scrip}
 use Rattle.mc_records.specs.declared.refusal.Refusal.{Refusal}
-use Rattle.mc_records.specs.Errands.{Errand, errand_of, errand_text, IsErrand}
+use Rattle.mc_records.specs.Errands.{errand_of, errand_text}
 use Rattle.mc_records.specs.Errands as errands
 use Rattle.mc_records.proofs.ErrandLaws.{errand_read}
 use Rattle.mc_records.specs.Entry.{Held, Entry, Site, Pend, Done, Refused, moment_of}
@@ -24,9 +24,6 @@ use Rattle.wallet_model.proofs.KeptLaws.{both_left, both_right}
 use Rattle.wallet_model.proofs.CameLaws.{or_right}
 
 -- ---- a lawful book is a wallet's
-
-site_is_wallet : (kind : ℕ) → (kind == 2) ≡ true → unwrap_or (option_map (λ k. k == 2) (Some kind)) false ≡ true
-site_is_wallet kind is = is
 
 pub book_is_wallet : (h : History) → IsWalletBook h → is_wallet h ≡ true
 book_is_wallet [] book = absurd book

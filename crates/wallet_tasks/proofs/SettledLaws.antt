@@ -1,11 +1,10 @@
 -- What a settlement is where the reply passes the check.
-use Rattle.std.proofs.Common.{◌≡◌, ℕ, zero, suc, Bool, true, false, cond, ◌&&◌, ◌||◌, not, List, [], ◌∷◌, ◌++◌, Option, Some, None, option_map, unwrap_or, bytes_eq, refl, sym, ap, subst, ◌∙◌}
+use Rattle.std.proofs.Common.{◌≡◌, ℕ, Bool, true, false, cond, ◌&&◌, ◌||◌, not, List, [], ◌∷◌, ◌++◌, Option, Some, None, unwrap_or, refl, sym, ap, subst, ◌∙◌}
 use Rattle.std.proofs.lemmas.List.Folds.{list_any-append}
-use Rattle.std.specs.Prelude.{◌==◌, option_and_then, codes}
+use Rattle.std.specs.Prelude.{◌==◌}
 use Rattle.std.specs.List.{list_any}
 use Rattle.scrip_form.specs.Scrip.{Scrip}
 use Rattle.mc_records.specs.declared.refusal.Refusal.TheVariants.{BadReply, Unproved}
-use Rattle.mc_records.specs.Errands.{Errand, buy, pay_in, draw, errand_of}
 use Rattle.mc_records.specs.Entry.{IsMoment, IsLong}
 use Rattle.ledger_model.specs.Histories.{History}
 use Rattle.ledger_model.specs.Pieces.{piece_of}
@@ -13,8 +12,7 @@ use Rattle.reply_reader.specs.Replies.{Received}
 use Rattle.wallet_model.specs.Requests.{Pending, pending_in, is_kept}
 use Rattle.wallet_model.specs.Holdings.{texts_came}
 use Rattle.wallet_model.specs.Newness.{is_same_piece, are_one_piece, is_new}
-use Rattle.wallet_model.specs.Settling.{price_of, is_paid_by, one_line, is_piece_of, brings_bought, brings_drawn, brings_asked, fits_at, fits_request, is_proved, check_of, contents_came, settlement}
-use Rattle.wallet_model.proofs.KeptLaws.{both_right}
+use Rattle.wallet_model.specs.Settling.{price_of, fits_at, fits_request, is_proved, check_of, settlement}
 use Rattle.wallet_model.proofs.WrittenLaws.{settlement_follows}
 use Rattle.wallet_model.proofs.FitLaws.{settlement_fits, requests_have}
 use Rattle.wallet_book.specs.Holdings.{texts_of}
@@ -69,39 +67,6 @@ some_price p r None fits = absurd cc
 pub paid_price : (p : Pending) (r : Received) → check_of p r ≡ None → r.status ≡ 200 → price_of r ≡ Some (unwrap_or (price_of r) 0)
 paid_price p r checked status = some_price p r (price_of r) (fits_200 p r checked status)
 
-piece_there : (vendor contents : List ℕ) (value : ℕ) → is_piece_of vendor value contents ≡ true → option_and_then (λ x. piece_of x.text) (one_line contents) ≡ None → ⊥
-piece_there vendor contents value is none = go (option_and_then (λ x. piece_of x.text) (one_line contents)) none is
-  where
-    go : (o : Option Scrip) → o ≡ None → unwrap_or (option_map (λ p. bytes_eq p.vendor vendor && p.value == value) o) false ≡ true → ⊥
-    go (Some p) e i = cc
-    go None e i = cc
-
-bought_there : (o : Option Errand) (contents : List ℕ) → brings_bought o contents ≡ true → option_and_then (λ x. piece_of x.text) (one_line contents) ≡ None → ⊥
-bought_there (Some (buy vendor amount)) contents is none = piece_there vendor contents amount is none
-bought_there (Some (pay_in account)) contents is none = cc
-bought_there (Some (draw account order amount)) contents is none = cc
-bought_there None contents is none = cc
-
-drawn_there : (peer : List ℕ) (o : Option Errand) (price : ℕ) (change contents : List ℕ) → brings_drawn peer o price change contents ≡ true → option_and_then (λ x. piece_of x.text) (one_line contents) ≡ None → ⊥
-drawn_there peer (Some (draw account order amount)) price change contents is none =
-    piece_there peer contents amount (both_right (price == amount) _ (both_right (bytes_eq change (codes "-")) _ is)) none
-drawn_there peer (Some (buy vendor amount)) price change contents is none = cc
-drawn_there peer (Some (pay_in account)) price change contents is none = cc
-drawn_there peer None price change contents is none = cc
-
-asked_there : (p : Pending) (ask price : ℕ) (r : Received) → (ask ≡ 0 → ⊥) → brings_asked p ask price r ≡ true → option_and_then (λ x. piece_of x.text) (one_line r.contents) ≡ None → ⊥
-asked_there p zero price r some is none = some refl
-asked_there p (suc zero) price r some is none = bought_there (errand_of p.target) r.contents is none
-asked_there p (suc (suc ask)) price r some is none = drawn_there p.peer (errand_of p.target) price r.change r.contents is none
-
--- a buy or a draw brings a piece
-pub piece_brought : (p : Pending) (r : Received) → check_of p r ≡ None → r.status ≡ 200 → (p.ask ≡ 0 → ⊥) → option_and_then (λ x. piece_of x.text) (one_line r.contents) ≡ None → ⊥
-piece_brought p r checked status some none = go (price_of r) (fits_200 p r checked status)
-  where
-    go : (o : Option ℕ) → fits_at p r o ≡ true → ⊥
-    go (Some price) fits = asked_there p p.ask price r some (both_right (is_paid_by (option_and_then piece_of p.scrip) price r.change) (brings_asked p p.ask price r) fits) none
-    go None fits = cc
-
 -- ---- new pieces
 
 same_as_none : (o : Option Scrip) → is_same_piece o None ≡ false
@@ -114,10 +79,6 @@ no_piece_is_new texts text none = ap not (go texts)
     go : (ts : List (List ℕ)) → list_any (λ t. are_one_piece t text) ts ≡ false
     go [] = refl
     go (t ∷ ts) = let first : are_one_piece t text ≡ false = ap (is_same_piece (piece_of t)) none ∙ same_as_none (piece_of t) in rw (first, go ts) refl
-
-pub contents_of_ask : (ask : ℕ) (contents : List ℕ) → (ask ≡ 0 → ⊥) → contents_came ask contents ≡ one_line contents
-contents_of_ask zero contents some = absurd (some refl)
-contents_of_ask (suc ask) contents some = refl
 
 front_known : (front texts : List (List ℕ)) (text : List ℕ) (b : Bool) → b ≡ list_any (λ t. are_one_piece t text) front → is_new (front ++ texts) text ≡ not (b || list_any (λ t. are_one_piece t text) texts)
 front_known front texts text b is = ap not (list_any-append (λ t. are_one_piece t text) front texts ∙ ap (λ (x : Bool). x || list_any (λ t. are_one_piece t text) texts) (sym is))

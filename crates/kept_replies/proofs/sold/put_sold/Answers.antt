@@ -1,6 +1,6 @@
 use Rattle.std.proofs.Common.{ap, ◌∙◌}
 use Rattle.scrip_form.specs.Reading.{scrip_of}
-use Rattle.kept_replies.proofs.PartLaws.{read_is}
+use Rattle.kept_replies.proofs.TextLaws.{read_is}
 use Rattle.kept_replies.proofs.sold.put_sold.Goals as goal
 
 pub returns-clause-sold : goal.returns-clause-sold
