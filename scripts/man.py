@@ -99,7 +99,7 @@ def statuses():
     text = paths[0].read_text()
     docs = documented(part(text, "pub enum Status {", "\n}", "status.rt"), r"(\w+)(?:\(.*\)| \{.*\})?,", "status.rt")
     numbers, lines = {}, {}
-    for names, number in re.findall(r"((?:Status::\w+[^=\n]*?)+) => (\d+),", part(text, "fn number(", "\n    }\n", "status.rt")):
+    for names, number in re.findall(r"((?:Status::\w+[^=]*?)+) => (\d+),", part(text, "fn number(", "\n    }\n", "status.rt")):
         numbers.update((name, int(number)) for name in re.findall(r"Status::(\w+)", names))
     for names, body in re.findall(r"((?:Status::\w+[^=\n]*?)+) => (.*),\n", part(text, "fn put_line(", "\n    }\n", "status.rt")):
         lines.update((name, line_of(text, name, body)) for name in re.findall(r"Status::(\w+)", names))

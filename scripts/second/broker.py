@@ -3,8 +3,8 @@ from types import SimpleNamespace
 
 import vendor
 from desk import MOST_BALANCE
-from forms import MOST_VALUE, is_name, issuer_of, read_scrip
-from house import Ends, kept, opened, read_pieces, received
+from forms import MOST_VALUE, is_name, read_scrip
+from house import Ends, chained, kept, opened, read_pieces, received
 from ledger import FULL
 from payloads import ACCOUNT, BROKER, DEPOSIT, LICENCE, STOCK, WITHDRAW, entry_of
 from refusals import refused
@@ -32,10 +32,6 @@ def parse_move(words):
 
 def parse_balance(words):
     return SimpleNamespace(book=place(words[0]), account=text(is_name, words[1]))
-
-
-def parse_licence(words):
-    return SimpleNamespace(book=place(words[0]))
 
 
 def parse_stock(words):
@@ -149,9 +145,9 @@ def stock(order, stage):
 
 
 def read_stock(vendor_name, lines):
-    """Pieces of the vendor, first-hand and of issuer 0."""
+    """Pieces of the vendor, first-hand."""
     return read_pieces(lines, lambda piece: (
-        piece.vendor == vendor_name and piece.cust == piece.id and not piece.props and not issuer_of(piece.id)))
+        piece.vendor == vendor_name and piece.cust == piece.id and not piece.props))
 
 
 def add_stock(house, vendor_name, lines):
@@ -165,6 +161,30 @@ def add_stock(house, vendor_name, lines):
     return b"stock %s %d\n" % (vendor_name, len(pieces))
 
 
+def parse_upgrade(words):
+    return SimpleNamespace(
+        book=place(words[0]), vendor=text(is_name, words[1]), start=number(words[2], 0, vendor.MOST_EPOCH))
+
+
+def upgrade(order, stage):
+    house = kept(stage, BROKER)
+    return upgrade_vendor(house, order.vendor, order.start)
+
+
+def upgrade_vendor(house, vendor_name, start):
+    """Lets the scrip that the house makes in a vendor's name go over: its own, or that of a licence."""
+    licence_of = house.history.desk.licences.get(vendor_name)
+    if vendor_name == house.history.site.name:
+        return vendor.upgrade_issuer(house, vendor_name, 0, start)
+    if licence_of is None:
+        raise Ends.refused(refused(71))
+    return vendor.upgrade_issuer(house, vendor_name, licence_of.issuer, start)
+
+
+def chain(order, stage):
+    return chained(kept(stage, BROKER))
+
+
 # As those of a vendor.
 COMMANDS = {
     b"init": (7, (b"--keep",), (b"--clear",), parse_init, init),
@@ -172,7 +192,9 @@ COMMANDS = {
     b"deposit": (4, (), (), parse_move, deposit),
     b"withdraw": (4, (), (), parse_move, withdraw),
     b"balance": (2, (), (), parse_balance, balance),
-    b"licence": (1, (), (), parse_licence, licence),
+    b"licence": (1, (), (), vendor.parse_book, licence),
     b"stock": (2, (), (), parse_stock, stock),
+    b"upgrade": (3, (), (), parse_upgrade, upgrade),
+    b"chain": (1, (), (), vendor.parse_book, chain),
     b"serve": (3, (), (), vendor.parse_serve, serve),
 }

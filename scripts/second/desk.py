@@ -1,5 +1,5 @@
 """What a broker has: accounts with their balances and orders, licences, stock, and what was sold of them."""
-from forms import MOST_VALUE, id_of, is_name, issuer_of, piece_line, read_scrip, series_of, whole_number
+from forms import MOST_VALUE, id_of, is_name, piece_line, read_scrip, series_of, whole_number
 from payloads import ACCEPT, ACCOUNT, DEPOSIT, DRAW, LICENCE, STOCK, WITHDRAW
 
 MOST_BALANCE = 2**60
@@ -75,10 +75,10 @@ class Desk:
         """The identities of a vendor that were ever put into stock."""
         return {piece.id for piece, _ in self.stock.get(vendor, ())}
 
-    def sold_line(self, vendor, value, stock, ident):
-        """The line of a piece that was sold: out of stock as it came, or under the licence."""
+    def sold_line(self, vendor, value, stock, ident, version):
+        """The line of a piece that was sold: out of stock as it came, or under the licence in a version."""
         if not stock:
-            return self.licences[vendor].piece_line(vendor, value, ident)
+            return self.licences[vendor].piece_line(vendor, value, ident, version)
         return next(piece_line(piece.text, secret) for piece, secret in self.stock[vendor] if piece.id == ident)
 
 
@@ -87,8 +87,8 @@ def add(sums, name, amount):
 
 
 def is_stock_for(vendor, known, pieces):
-    """Whether pieces may be put into stock: of the vendor, first-hand, of issuer 0, and new, also to one another."""
+    """Whether pieces may be put into stock: of the vendor, first-hand, and new, also to one another."""
     read = [read_scrip(text) for text, _ in pieces]
     ids = [piece.id for piece in read]
-    first_hand = all(p.vendor == vendor and p.cust == p.id and not p.props and not issuer_of(p.id) for p in read)
+    first_hand = all(p.vendor == vendor and p.cust == p.id and not p.props for p in read)
     return first_hand and len(set(ids)) == len(ids) and not known & set(ids)

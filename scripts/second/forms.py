@@ -1,7 +1,7 @@
 """Names, targets, numbers, scrip texts, digests, terms, identities and refusals."""
 import re
 from dataclasses import dataclass
-from hashlib import md5
+from hashlib import md5, sha256
 
 MOST_VALUE = 2**40
 MOST_EXPIRES = 2**49
@@ -98,6 +98,7 @@ def read_digits(data, at, count):
 class Scrip:
     """A piece with its certificate, and its text."""
     text: bytes
+    version: int
     vendor: bytes
     value: int
     id: int
@@ -116,7 +117,7 @@ BAR = ord("|")
 
 def read_scrip(data):
     """The scrip that the bytes are the text of."""
-    at = read_literal(data, 0, b"MS1|")
+    version, at = read_number(data, read_literal(data, 0, b"MS"), BAR, 2)
     vendor, at = read_name(data, at, BAR)
     value, at = read_number(data, at, BAR, MOST_VALUE)
     ident, at = read_digits(data, at, 8)
@@ -126,7 +127,7 @@ def read_scrip(data):
     cert, at = read_digits(data, at, 16)
     if at != len(data):
         raise Fault(at)
-    return Scrip(data, vendor, value, int.from_bytes(ident, "big"), int.from_bytes(cust, "big"), expires, props, cert)
+    return Scrip(data, version, vendor, value, int.from_bytes(ident, "big"), int.from_bytes(cust, "big"), expires, props, cert)
 
 
 def piece_line(text, secret):
@@ -189,19 +190,21 @@ class Terms:
         return self.issuer << 24 | self.epoch(moment)
 
     def certificate(self, body, ident):
-        return digest(body, selected(self.scrip, ident))
+        return digest(text_version(body), body, selected(self.scrip, ident))
 
-    def secret(self, cust):
-        return digest(cust.to_bytes(8, "big"), selected(self.customer, cust))
+    def secret(self, cust, version=1):
+        """The secret of a customer identity whose series is of this version."""
+        return digest(version, cust.to_bytes(8, "big"), selected(self.customer, cust))
 
-    def scrip_text(self, vendor, value, ident, cust, props):
-        """The text of a piece of a series of these terms."""
-        body = b"MS1|%s|%d|%016x|%016x|%d|%s|" % (vendor, value, ident, cust, self.end(epoch_of(ident)), props)
+    def scrip_text(self, vendor, value, ident, cust, props, version=1):
+        """The text of a piece of a series of these terms, in the version of that series."""
+        numbers = version, vendor, value, ident, cust, self.end(epoch_of(ident)), props
+        body = b"MS%d|%s|%d|%016x|%016x|%d|%s|" % numbers
         return body + self.certificate(body, ident).hex().encode()
 
-    def piece_line(self, vendor, value, ident):
+    def piece_line(self, vendor, value, ident, version=1):
         """The line of a piece of these terms at first hand."""
-        return piece_line(self.scrip_text(vendor, value, ident, ident, b""), self.secret(ident))
+        return piece_line(self.scrip_text(vendor, value, ident, ident, b"", version), self.secret(ident, version))
 
 
 def are_terms(terms):
@@ -214,14 +217,21 @@ def selected(secrets, ident):
     return secrets[epoch_of(ident) % len(secrets)]
 
 
-def digest(*parts):
-    return md5(b"".join(parts)).digest()
+def text_version(text):
+    """The version of a scrip text, or of its body; of `-`, which stands for an account, 1."""
+    return 2 if text.startswith(b"MS2|") else 1
+
+
+def digest(version, *parts):
+    """Sixteen bytes: MD5 in version 1, the first half of SHA-256 in version 2."""
+    hasher = sha256 if version == 2 else md5
+    return hasher(b"".join(parts)).digest()[:16]
 
 
 def request_signature(scrip, target, secret):
-    return digest(scrip, b"\nGET ", target, b"\n", secret)
+    return digest(text_version(scrip), scrip, b"\nGET ", target, b"\n", secret)
 
 
 def reply_signature(scrip, target, head, contents, secret):
     """Of a reply whose text is a head, up to its line end, and the contents."""
-    return digest(scrip, b"\nGET ", target, b"\n", head, contents, b"\n", secret)
+    return digest(text_version(scrip), scrip, b"\nGET ", target, b"\n", head, contents, b"\n", secret)

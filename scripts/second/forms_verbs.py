@@ -25,8 +25,17 @@ def do_scrip(setting, words):
         s = forms.read_scrip(text)
     except Fault as fault:
         return ["fault %d" % fault.place]
-    return ["scrip %s %d %s %s %d %s %s" % (
-        shown(s.vendor), s.value, id_text(s.id), id_text(s.cust), s.expires, shown(s.props), s.cert.hex())]
+    return ["scrip %d %s %d %s %s %d %s %s" % (
+        s.version, shown(s.vendor), s.value, id_text(s.id), id_text(s.cust), s.expires, shown(s.props), s.cert.hex())]
+
+
+def do_versioned(setting, words):
+    text, version = setting.arguments(words, data, up_to(255))
+    if version not in (1, 2):
+        return ["versioned no"]
+    if not forms.is_scrip(text):
+        raise CaseError("no scrip")
+    return ["versioned " + shown(b"MS%d" % version + text[3:])]
 
 
 def do_payload(setting, words):
@@ -132,7 +141,7 @@ def do_piece(setting, words):
 
 
 VERBS = {
-    "scrip": do_scrip, "payload": do_payload, "name": tested("name", forms.is_name),
+    "scrip": do_scrip, "versioned": do_versioned, "payload": do_payload, "name": tested("name", forms.is_name),
     "props": tested("props", forms.is_props), "target": tested("target", forms.is_target), "digest": do_digest,
     "whole_number": do_whole_number,
     "number": reading("number", lambda text, most: forms.read_number(text, 0, BAR, most), str, number),

@@ -191,7 +191,7 @@ def bytes_and_bounds():
     for name in ("p1", "q60"):
         out.case("scrip %s, each byte raised by one" % name, *("scrip " + spelled for spelled in raised(name)))
         out.case("scrip %s, cut at every place" % name, *("scrip " + spelled for spelled in cut(name)))
-    for name in ("terms", "page2", "minted", "evening", "sold_exact"):
+    for name in ("terms", "page2", "minted", "evening", "sold_exact", "upgrade", "switch", "note"):
         out.case("payload %s, each byte raised by one" % name, *("payload " + spelled for spelled in raised(name)))
         out.case("payload %s, cut at every place" % name, *("payload " + spelled for spelled in cut(name)))
     out.group("Numbers of a payload at every power of two.")

@@ -10,6 +10,7 @@ from stage import Stage
 from wallet import WalletBook
 
 KEY = "$fives"
+LINES = '$p1+" "+$fives+"\\n"+$exact+" "+$fours+"\\n"'
 
 
 def names(out):
@@ -64,7 +65,7 @@ def links(spelled):
 def payments():
     out = Cases("Each call of the disk fails in turn, for each of a wallet's commands, and then the disk crashes and what was begun\n"
                 "is tried again; and each call of the links.")
-    out.let("line_pieces", '$p1+" "+$fives+"\\n"+$exact+" "+$fours+"\\n"')
+    out.let("line_pieces", LINES)
     names(out)
     for name, book, brought, words, disk, link, again, then in ORDERS:
         before = ["book " + book] if book else []

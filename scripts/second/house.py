@@ -3,9 +3,9 @@ from types import SimpleNamespace
 
 from forms import Fault, Terms, read_piece_line
 from heads import HeadReader
-from journal import BadEntry, Halted, NotJournal, Replay, found
+from journal import BadChain, BadEntry, Halted, NotJournal, Replay, found
 from ledger import FULL, History, answer, follow, is_refusal, journal_full, refusal_of, reply_of
-from payloads import GOODS, SITE, TERMS, VENDOR, entry_of
+from payloads import GOODS, SITE, SWITCH, TERMS, VENDOR, entry_of
 from refusals import refused
 from stage import DiskFault, LinkFault
 
@@ -46,7 +46,7 @@ class House:
 
     def enter(self, entry):
         """Adds the entry of an operator's operation."""
-        full = journal_full(self.history.size, self.limits, entry)
+        full = journal_full(self.history, self.limits, entry)
         if full:
             raise Ends.refused(full)
         try:
@@ -54,6 +54,11 @@ class House:
         except Halted:
             raise Ends.disk_fault()
         self.history.push(entry)
+
+    def switch(self):
+        """Switches the chain on, where it is not."""
+        if not self.journal.chain.switched:
+            self.enter(entry_of(SWITCH, self.time, chain=self.journal.chain.digest))
 
     def serve(self, links):
         """Serves links one after another; answers how many."""
@@ -124,6 +129,8 @@ def read_through(stage, sites, follow):
             count += 1
     except BadEntry as bad:
         raise Ends(3, b"bad entry at %d" % bad.place)
+    except BadChain as bad:
+        raise Ends(3, b"bad chain at %d" % bad.place)
     except DiskFault:
         raise Ends.disk_fault()
     if not count:
@@ -156,6 +163,17 @@ def kept(stage, site=VENDOR):
     house = opened(stage, FULL, site)
     house.raise_time()
     return house
+
+
+def chain_line(name, journal):
+    """The line of a book: the name of its site, how many entries it has, and their chain."""
+    return b"chain %s %d %s\n" % (name, journal.entries, journal.chain.digest.hex().encode())
+
+
+def chained(house):
+    """Switches the chain of a house's book on, and answers its line."""
+    house.switch()
+    return chain_line(house.history.site.name, house.journal)
 
 
 def received(stage, most):
@@ -196,7 +214,7 @@ def free_journal(stage):
         replay = Replay(stage)
         if replay.next() is None:
             return replay.finish()
-    except (NotJournal, BadEntry):
+    except (NotJournal, BadEntry, BadChain):
         pass
     size = stage.size()
     if size > 9:

@@ -1,10 +1,12 @@
 """The journal of a book: it is founded, read, and entries are added in two steps each."""
+import hashlib
+
 from forms import Fault
-from payloads import read_entry
+from payloads import SWITCH, read_entry
 from stage import DiskFault
 
 HEADER = b"MCJRNL1\n"
-BUFFER = 131_072
+BUFFER = 131_104
 MOST_LENGTH = 131_066
 MOST_JOURNAL = 2**40
 
@@ -21,6 +23,35 @@ class BadEntry(Exception):
         self.place = place
 
 
+class BadChain(Exception):
+    """At a place stands another chain than that of the entries up to there."""
+
+    def __init__(self, place, stood, computed):
+        super().__init__(place)
+        self.place, self.stood, self.computed = place, stood, computed
+
+
+class Chain:
+    """The chain of some entries, and whether a Switch is among them: the next one then has its chain behind it."""
+
+    def __init__(self):
+        self.digest, self.switched = bytes(32), False
+
+    def after(self, payload):
+        return hashlib.sha256(self.digest + payload).digest()
+
+    def tail(self, payload):
+        return self.after(payload) if self.switched else b""
+
+    def push(self, payload):
+        self.digest, self.switched = self.after(payload), self.switched or payload[0] == SWITCH
+
+
+def may_switch(chain, entry):
+    """Whether a Switch may follow entries of this chain: it is the first, and tells their chain."""
+    return not chain.switched and entry.chain == chain.digest
+
+
 class Halted(Exception):
     """The disk failed while an entry was staged, or while its gate was opened."""
 
@@ -32,16 +63,17 @@ class Halted(Exception):
 class Journal:
     """A journal to which entries are added."""
 
-    def __init__(self, stage, size=len(HEADER) + 1):
-        self.stage, self.size = stage, size
+    def __init__(self, stage, size=len(HEADER) + 1, entries=0, chain=None):
+        self.stage, self.size, self.entries, self.chain = stage, size, entries, chain or Chain()
 
     def is_full(self, payload, limit):
-        return self.size + 5 + len(payload) > limit
+        return self.size + 5 + len(payload) + len(self.chain.tail(payload)) > limit
 
     def add(self, payload):
-        """Writes an entry behind the closed gate, and then opens that."""
+        """Writes an entry behind the closed gate, with its chain where it has one, and then opens that."""
+        tail = self.chain.tail(payload)
         try:
-            self.stage.write(self.size, len(payload).to_bytes(4, "big") + payload + b"\0")
+            self.stage.write(self.size, len(payload).to_bytes(4, "big") + payload + tail + b"\0")
             self.stage.sync()
         except DiskFault:
             raise Halted("staging")
@@ -50,7 +82,9 @@ class Journal:
             self.stage.sync()
         except DiskFault:
             raise Halted("opening")
-        self.size += 5 + len(payload)
+        self.size += 5 + len(payload) + len(tail)
+        self.entries += 1
+        self.chain.push(payload)
 
 
 def found(stage):
@@ -67,6 +101,7 @@ class Replay:
     def __init__(self, stage):
         # Of the bytes that are held the first `used` are read.
         self.stage, self.held, self.used, self.at = stage, b"", 0, 0
+        self.entries, self.chain = 0, Chain()
         stage.sync()
         if self.peek(len(HEADER)) != HEADER:
             raise NotJournal
@@ -99,7 +134,7 @@ class Replay:
         self.drop(1)
         place = self.at
         length = int.from_bytes(self.need(4), "big")
-        if length >= MOST_LENGTH or place + 4 + length + 1 > MOST_JOURNAL:
+        if length >= MOST_LENGTH or place + 4 + length + 32 * self.chain.switched + 1 > MOST_JOURNAL:
             raise BadEntry(place)
         self.drop(4)
         payload = self.need(length)
@@ -108,8 +143,15 @@ class Replay:
         except Fault as fault:
             raise BadEntry(place + 4 + fault.place)
         self.drop(length)
+        computed = self.chain.tail(payload)
+        stood = self.need(len(computed))
+        if stood != computed:
+            raise BadChain(self.at, stood, computed)
+        self.drop(len(computed))
+        self.entries += 1
+        self.chain.push(payload)
         return gate, entry
 
     def finish(self):
         """The journal, after its closed gate was read."""
-        return Journal(self.stage, self.at + 1)
+        return Journal(self.stage, self.at + 1, self.entries, self.chain)

@@ -6,8 +6,10 @@ from types import SimpleNamespace
 from desk import MOST_BALANCE, Desk, is_stock_for, read_errand
 from forms import (
     Fault, epoch_of, id_of, issuer_of, piece_line, read_scrip, reply_signature, request_signature, series_of)
+from journal import Chain, may_switch
 from payloads import (
-    ACCEPT, ACCOUNT, BROKER, DEPOSIT, DRAW, GOODS, LICENCE, MINT, SITE, STOCK, TERMS, VENDOR, WITHDRAW, entry_of)
+    ACCEPT, ACCOUNT, BROKER, DEPOSIT, DRAW, GOODS, LICENCE, MINT, NOTE, SITE, STOCK, SWITCH, TERMS, UPGRADE, VENDOR,
+    WITHDRAW, entry_of)
 from refusals import Refusal, refused
 
 MOST_CONTENTS = 2**26
@@ -42,10 +44,10 @@ class History:
     """The entries of a house, oldest first, with what its definitions look up in them."""
 
     def __init__(self, entries=()):
-        self.entries, self.time, self.size = [], 0, 9
+        self.entries, self.time, self.size, self.chain = [], 0, 9, Chain()
         self.terms, self.goods, self.in_force = {}, {}, 0
         self.spent, self.accepts, self.counts, self.references = set(), {}, {}, {}
-        self.goods_before = {}
+        self.goods_before, self.upgrades = {}, {}
         self.desk = Desk()
         for entry in entries:
             self.push(entry)
@@ -68,11 +70,17 @@ class History:
     def is_broker(self):
         return self.site is not None and self.site.site == BROKER
 
+    @property
+    def tail(self):
+        """The bytes of the tail of the next entry."""
+        return 32 * self.chain.switched
+
     def push(self, entry):
         number = len(self.entries)
         self.entries.append(entry)
         self.time = max(self.time, entry.moment)
-        self.size += len(entry.payload) + 5
+        self.size += len(entry.payload) + self.tail + 5
+        self.chain.push(entry.payload)
         if entry.kind == SITE and entry.house or entry.kind == TERMS:
             terms = entry.terms if entry.kind == TERMS else entry.house.terms
             self.terms.setdefault(terms.issuer, terms)
@@ -88,9 +96,30 @@ class History:
             self.accepts.setdefault((None, entry.target, entry.sign), []).append(number)
             if (read_errand(entry.target) or [None])[0] == "draw":
                 self.count_piece(entry.drawn)
+        elif entry.kind == UPGRADE:
+            self.upgrades.setdefault((entry.vendor, entry.issuer), entry.start)
         if entry.kind in (MINT, DEPOSIT, WITHDRAW):
             self.references.setdefault(entry.reference, entry)
         self.desk.push(entry)
+
+    def version(self, vendor, ident):
+        """The version of the series of an identity of a vendor's scrip."""
+        start = self.upgrades.get((vendor, issuer_of(ident)))
+        return 2 if start is not None and start <= epoch_of(ident) else 1
+
+    def own_version(self, ident):
+        return self.version(self.site.name, ident)
+
+    def own_text(self, value, ident, cust, props):
+        """The text of a piece of the house itself."""
+        return self.terms[0].scrip_text(self.site.name, value, ident, cust, props, self.own_version(ident))
+
+    def upgrade_terms(self, vendor, issuer):
+        """The terms of an issuer of a vendor's scrip, where the house makes or takes such scrip."""
+        if self.site is not None and vendor == self.site.name and (self.is_vendor or issuer == 0):
+            return self.terms.get(issuer)
+        licence = self.desk.licences.get(vendor) if self.is_broker else None
+        return licence if licence and licence.issuer == issuer else None
 
     def push_accept(self, number, entry):
         self.spent.add(read_scrip(entry.scrip).id)
@@ -178,11 +207,11 @@ def draw_answer(history, time, limits, request, account, order, amount):
     if history.room(time, limits) <= 0:
         return refused(32, history.own_series(time))
     entry = entry_of(DRAW, time, target=request.target, sign=right, drawn=history.next_identity(time))
-    return journal_full(history.size, limits, entry) or entry
+    return journal_full(history, limits, entry) or entry
 
 
 def genuine(history, piece):
-    """Refusals 22 to 25."""
+    """Refusals 22 to 25, and 34 between the last two."""
     if history.site is None or piece.vendor != history.site.name:
         return refused(22)
     if not {issuer_of(piece.id), issuer_of(piece.cust)} <= history.terms.keys():
@@ -191,6 +220,8 @@ def genuine(history, piece):
     end = terms.end(epoch_of(piece.id))
     if piece.expires != end:
         return refused(24, piece.expires, end)
+    if piece.version != history.own_version(piece.id):
+        return refused(34, history.own_version(piece.id))
     if piece.cert != terms.certificate(piece.body, piece.id):
         return refused(25)
     return None
@@ -257,13 +288,13 @@ def fitted(history, time, limits, request, piece, price, deed):
     entry = entry_of(
         ACCEPT, time, scrip=request.scrip, target=request.target, sign=signature_of(request.sign), price=price,
         change=history.next_identity(time) if piece.value > price else None, deed=deed)
-    return journal_full(history.size, limits, entry) or entry
+    return journal_full(history, limits, entry) or entry
 
 
-def journal_full(size, limits, entry):
-    """Refusal 33, where the entry would pass the limit of the journal."""
-    length = len(entry.payload)
-    return refused(33, size, length) if size + 5 + length > limits.journal else None
+def journal_full(history, limits, entry):
+    """Refusal 33, where the entry with its tail would pass the limit of the journal."""
+    size, length = history.size, len(entry.payload)
+    return refused(33, size, length) if size + 5 + length + history.tail > limits.journal else None
 
 
 def goods_at(history, target):
@@ -272,7 +303,7 @@ def goods_at(history, target):
 
 
 def secret_of(history, piece):
-    return history.terms[issuer_of(piece.cust)].secret(piece.cust)
+    return history.terms[issuer_of(piece.cust)].secret(piece.cust, history.own_version(piece.cust))
 
 
 def may_follow(history, entry, series):
@@ -286,6 +317,12 @@ def may_follow(history, entry, series):
         return isinstance(given, SimpleNamespace) and given.payload == entry.payload
     if entry.kind == SITE:
         return not history.entries and entry.site in (VENDOR, BROKER)
+    if entry.kind == UPGRADE:
+        return may_upgrade(history, entry)
+    if entry.kind == NOTE:
+        return history.site is not None
+    if entry.kind == SWITCH:
+        return history.site is not None and may_switch(history.chain, entry)
     if entry.kind in (TERMS, GOODS, MINT):
         return history.is_vendor and vendor_may_enter(history, entry, series)
     return history.is_broker and broker_may_enter(history, entry)
@@ -297,6 +334,13 @@ def follow(history, entry, series):
     if may:
         history.push(entry)
     return may
+
+
+def may_upgrade(history, entry):
+    """Whether an issuer's scrip may go over to version 2: once, and from a series that has not begun."""
+    terms = history.upgrade_terms(entry.vendor, entry.issuer)
+    is_new = (entry.vendor, entry.issuer) not in history.upgrades
+    return terms is not None and is_new and terms.epoch(entry.moment) < entry.start
 
 
 def vendor_may_enter(history, entry, series):
@@ -365,9 +409,8 @@ def signed(history, request, status, refusal, price, change, contents):
 def draw_reply(history, entry):
     """The first reply of a Draw entry: the line of the drawn piece."""
     _, _, amount = drawn_at(history, entry.target)
-    terms = history.terms[0]
-    text = terms.scrip_text(history.site.name, amount, entry.drawn, entry.drawn, b"")
-    contents = piece_line(text, terms.secret(entry.drawn))
+    text = history.own_text(amount, entry.drawn, entry.drawn, b"")
+    contents = piece_line(text, history.terms[0].secret(entry.drawn, history.own_version(entry.drawn)))
     sign = signed(history, Request(entry.target, None, None), 200, "-", str(amount), "-", contents)
     return reply_bytes(200, entry.moment, 1, "-", str(amount), "-", sign, contents)
 
@@ -378,7 +421,8 @@ def sold_by(history, entry, number):
         return 1, b"%d\n" % entry.deed[1]
     if entry.deed[0] == SALE:
         _, vendor, value = read_errand(entry.target)
-        return 1, history.desk.sold_line(vendor, value, *entry.deed[1:])
+        _, stock, ident = entry.deed
+        return 1, history.desk.sold_line(vendor, value, stock, ident, history.version(vendor, ident))
     goods = history.goods_before[number]
     return goods.goods, goods.contents
 
@@ -392,7 +436,7 @@ def reply_of(history, number):
     change = "-"
     if entry.change is not None:
         rest = piece.value - entry.price
-        change = history.terms[0].scrip_text(history.site.name, rest, entry.change, piece.cust, piece.props).decode()
+        change = history.own_text(rest, entry.change, piece.cust, piece.props).decode()
     price = str(entry.price)
     sign = signed(history, Request(entry.target, entry.scrip, None), 200, "-", price, change, contents)
     return reply_bytes(200, entry.moment, kind, "-", price, change, sign, contents)
@@ -415,7 +459,7 @@ def refusal_of(history, time, request, refusal):
     elif refusal.number == 31:
         price = str(refusal.kept[0])
     sign = "-"
-    if 26 <= refusal.number <= 45:
+    if 26 <= refusal.number <= 45 and refusal.number != 34:
         sign = signed(history, request, refusal.status, refusal.text(), price, "-", b"")
     return reply_bytes(refusal.status, time, None, refusal.text(), price, "-", sign, b"")
 

@@ -28,8 +28,8 @@ def do_certificate(setting, words):
 
 
 def do_secret(setting, words):
-    cust, = setting.arguments(words, number)
-    return ["secret " + setting.given("terms").secret(cust).hex()]
+    cust, *versions = setting.arguments(words, *(number, up_to(255))[:max(1, len(words))])
+    return ["secret " + setting.given("terms").secret(cust, *versions).hex()]
 
 
 def do_signed(setting, words):

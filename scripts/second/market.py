@@ -2,7 +2,7 @@
 from bytes_text import CaseError, shown
 from desk import read_errand
 from forms import epoch_of, id_text, read_scrip
-from journal import BadEntry, NotJournal, Replay
+from journal import BadChain, BadEntry, NotJournal, Replay
 from ledger import CREDIT, SALE
 from payloads import ACCEPT, ACCOUNT, DEPOSIT, DRAW, LICENCE, MINT, SITE, STOCK, WITHDRAW
 from setting import data
@@ -131,7 +131,7 @@ def book_of(setting, word):
         replay, entries = Replay(Stage(data(setting, word))), []
         while read := replay.next():
             entries.append(read[1])
-    except (NotJournal, BadEntry):
+    except (NotJournal, BadEntry, BadChain):
         raise CaseError("the book encodes no history")
     return Book(entries)
 

@@ -86,8 +86,21 @@ class Sixteen:
         return [shown(data)]
 
 
+class Chain:
+    """The chain of the entries before a Switch."""
+
+    def read(self, reader, before):
+        return reader.take(32)
+
+    def write(self, data):
+        return data
+
+    def show(self, data):
+        return [shown(data)]
+
+
 class Contents:
-    """A length of four bytes, and the contents of goods."""
+    """A length of four bytes, and the contents of goods or of a note."""
     length = Number(4, 0, 65_536)
 
     def read(self, reader, before):
@@ -215,7 +228,8 @@ class Pieces:
 
 AMOUNT = Number(8, 1, MOST_VALUE)
 MOMENT = Number(8, 0, MOMENTS - 1)
-SITE, TERMS, GOODS, ACCEPT, MINT, ACCOUNT, DEPOSIT, WITHDRAW, DRAW, LICENCE, STOCK, GOT, PEND, DONE, REFUSED = range(1, 16)
+SITE, TERMS, GOODS, ACCEPT, MINT, ACCOUNT, DEPOSIT, WITHDRAW, DRAW, LICENCE, STOCK, GOT, PEND, DONE, REFUSED, \
+    UPGRADE, SWITCH, NOTE = range(1, 19)
 VENDOR, BROKER = range(2)  # the kinds of sites that are houses
 FORMS = {
     1: (("site", Number(1, 0, 2)), ("name", NAME), ("house", House())),
@@ -234,13 +248,16 @@ FORMS = {
     13: (("ask", Number(1, 0, 2)), ("peer", NAME), ("target", TARGET), ("scrip", Maybe(SCRIP)), ("secret", Sixteen())),
     14: (("number", Number(8)), ("price", Number(8)), ("change", Maybe(SCRIP)), ("got", Maybe(SCRIP, Sixteen()))),
     15: (("number", Number(8)), ("refusal", Number(2))),
+    16: (("vendor", NAME), ("issuer", Number(1)), ("start", Number(4, 0, 2**24 - 1))),
+    17: (("chain", Chain()),),
+    18: (("tag", NAME), ("bytes", Contents())),
 }
 
 
 def read_entry(data):
     """The entry that the bytes spell, with its payload; a Fault tells the place where they do not."""
     reader = Reader(data)
-    kind = Number(1, 1, 15).read(reader, None)
+    kind = Number(1, 1, 18).read(reader, None)
     moment = MOMENT.read(reader, None)
     values = {}
     for name, field in FORMS[kind]:

@@ -18,7 +18,7 @@ def parsed(words):
     for word in words:
         want(is_text(word))
     others, options = told_apart(words[2:], valued, flags)
-    want(others if count is None else len(others) == count)
+    want(len(others) > 0 if count is None else len(others) == count)
     return words[:2], parse(others, **{name[2:].decode(): value for name, value in options.items()}), act
 
 

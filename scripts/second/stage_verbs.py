@@ -1,19 +1,19 @@
 """The verbs that say what a stage has, use one, call one by hand, or look at its book."""
 from types import SimpleNamespace
 
-from broker import add_licence, add_stock, move, open_account
+from broker import add_licence, add_stock, move, open_account, upgrade_vendor
 from bytes_text import CaseError, digest, shown
 from forms import MOMENTS, MOST_VALUE, Fault, is_name
 from heads import HeadReader
-from house import Ends, bench, opened
-from journal import BadEntry, Halted, NotJournal, Replay, found
+from house import Ends, House, bench, opened
+from journal import BadChain, BadEntry, Halted, NotJournal, Replay, found
 from ledger import History, Limits, Request, answer, first_unlawful, is_refusal
 from payloads import BROKER, DEPOSIT, VENDOR, WITHDRAW, read_entry
 from program import parsed, places, run
 from refusals import refused
 from setting import U32, changed, data, maybe_data, number, of_length, up_to, word_bytes
 from stage import DiskFault, LinkFault, Stage, change_of
-from vendor import add_terms, mint_pieces, put_goods, set_price
+from vendor import MOST_EPOCH, add_terms, mint_pieces, put_goods, set_price, upgrade_issuer
 from words import BadWords
 
 
@@ -129,6 +129,13 @@ def entered(journal, payloads, limit):
             return
         yield "receipt %d" % number_of_entry
     yield "size %d" % journal.size
+    if journal.chain.switched:
+        yield chain_line(journal.entries, journal.chain)
+
+
+def chain_line(entries, chain):
+    """How many entries a book has, and their chain."""
+    return "chain %d %s" % (entries, chain.digest.hex())
 
 
 def do_goods(setting, words):
@@ -167,6 +174,24 @@ def coming(house):
     if not house.history.room(house.time, house.limits):
         raise Ends.refused(refused(32, house.history.own_series(house.time)))
     return house.history.next_identity(house.time)
+
+
+def do_upgrade(setting, words):
+    time, issuer, start = setting.arguments(words, number, up_to(255), up_to(MOST_EPOCH))
+    return kept_by(setting, "upgrade", time, lambda house: upgrade_issuer(house, house.history.site.name, issuer, start))
+
+
+def do_upgraded(setting, words):
+    time, vendor, start = setting.arguments(words, number, name, up_to(MOST_EPOCH))
+    return kept_by(setting, "upgraded", time, lambda house: upgrade_vendor(house, vendor, start), BROKER)
+
+
+def switching(verb, site):
+    """The verb by which a house of this kind of site switches the chain on."""
+    def do(setting, words):
+        time, = setting.arguments(words, number)
+        return kept_by(setting, verb, time, House.switch, site)
+    return do
 
 
 def name(setting, word):
@@ -217,6 +242,8 @@ def kept_by(setting, verb, time, enter, site=VENDOR):
     except Ends as end:
         came = "halted" if end.status == 4 else end.line.decode().rstrip("\n")
     lines = ["lines " + shown(told)] if verb == "mint" else []
+    if verb in ("switch", "switched") and came != "halted":
+        lines = [chain_line(house.journal.entries, house.journal.chain)]
     return lines + [verb + " " + came] + setting.ended(stage)
 
 
@@ -236,6 +263,8 @@ def replayed(stage):
         yield "not a journal"
     except BadEntry as bad:
         yield "bad entry at %d" % bad.place
+    except BadChain as bad:
+        yield "bad chain at %d %s %s" % (bad.place, bad.stood.hex(), bad.computed.hex())
     except DiskFault:
         yield "disk fault"
 
@@ -317,7 +346,7 @@ def history_of(setting):
         while read := replay.next():
             entries.append(read[1])
         return entries
-    except (NotJournal, BadEntry):
+    except (NotJournal, BadEntry, BadChain):
         raise CaseError("the book stands for no history")
 
 
@@ -390,7 +419,8 @@ VERBS = {
     "run": do_run, "serve": do_serve, "desk": do_desk, "found": do_found, "goods": do_goods, "price": do_price,
     "licence": do_licence, "mint": do_mint, "coming": do_coming, "account": do_account,
     "deposit": paying("deposit", DEPOSIT), "withdraw": paying("withdraw", WITHDRAW), "licensed": do_licensed,
-    "stock": do_stock, "replay": do_replay, "heads": do_heads, "whole": do_whole, "crash": do_crash,
+    "stock": do_stock, "upgrade": do_upgrade, "upgraded": do_upgraded, "switch": switching("switch", VENDOR),
+    "switched": switching("switched", BROKER), "replay": do_replay, "heads": do_heads, "whole": do_whole, "crash": do_crash,
     "once": do_once, "places": do_places, "answer": do_answer, "lawful": do_lawful,
     "write": by_hand("write", done(Stage.write), number, data), "cut": by_hand("cut", done(Stage.cut), number),
     "sync": by_hand("sync", done(Stage.sync)), "size": by_hand("size", Stage.size),

@@ -3,14 +3,15 @@ from types import SimpleNamespace
 
 import play
 from forms import MOST_VALUE, digest_of, is_name, is_target
-from house import Ends, bench, founded, kept, opened, received
+from house import Ends, bench, chained, founded, kept, opened, received
 from ledger import FULL
-from payloads import GOODS, MINT, SITE, TERMS, VENDOR, entry_of
+from payloads import GOODS, MINT, SITE, TERMS, UPGRADE, VENDOR, entry_of
 from refusals import refused
 from words import number, place, spelled, terms, text, want
 
 MOST_CONTENTS = 65_536
 MOST_LINKS = 2**32 - 1
+MOST_EPOCH = 2**24 - 1
 
 
 def parse_once(words):
@@ -139,9 +140,41 @@ def mint_pieces(house, order):
         house.enter(entry)
     elif (entry.count, entry.value) != (order.count, order.value):
         raise Ends.refused(refused(56, order.reference))
-    own = history.terms[0]
-    return b"".join(own.piece_line(history.site.name, entry.value, ident)
+    own, version = history.terms[0], history.own_version(entry.first)
+    return b"".join(own.piece_line(history.site.name, entry.value, ident, version)
                     for ident in range(entry.first, entry.first + entry.count))
+
+
+def parse_upgrade(words):
+    return SimpleNamespace(
+        book=place(words[0]), issuer=number(words[1], 0, 255), start=number(words[2], 0, MOST_EPOCH))
+
+
+def upgrade(order, stage):
+    house = kept(stage)
+    return upgrade_issuer(house, house.history.site.name, order.issuer, order.start)
+
+
+def upgrade_issuer(house, vendor_name, issuer, start):
+    """Lets the scrip of an issuer go over to version 2 from an epoch on, and answers the line."""
+    terms, old = house.history.upgrade_terms(vendor_name, issuer), house.history.upgrades.get((vendor_name, issuer))
+    if terms is None:
+        raise Ends.refused(refused(71))
+    if old not in (None, start):
+        raise Ends.refused(refused(72, old))
+    if old is None:
+        if start <= terms.epoch(house.time):
+            raise Ends.refused(refused(73, terms.epoch(house.time)))
+        house.enter(entry_of(UPGRADE, house.time, vendor=vendor_name, issuer=issuer, start=start))
+    return b"upgrade %s %d %d\n" % (vendor_name, issuer, start)
+
+
+def parse_book(words):
+    return SimpleNamespace(book=place(words[0]))
+
+
+def chain(order, stage):
+    return chained(kept(stage))
 
 
 # Of each command, how many words it has, its options with a value and those without one, and what reads and does it.
@@ -154,4 +187,6 @@ COMMANDS = {
     b"price": (3, (), (), parse_price, price),
     b"licence": (6, (), (), parse_licence, licence),
     b"mint": (4, (), (), parse_mint, mint),
+    b"upgrade": (3, (), (), parse_upgrade, upgrade),
+    b"chain": (1, (), (), parse_book, chain),
 }

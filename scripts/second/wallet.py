@@ -5,7 +5,8 @@ from dataclasses import dataclass
 from bytes_text import shown
 from desk import read_errand
 from forms import MOST_VALUE, Fault, is_scrip, read_scrip, reply_signature, request_signature, whole_number
-from payloads import DONE, GOT, PEND, REFUSED, SITE
+from journal import Chain, may_switch
+from payloads import DONE, GOT, NOTE, PEND, REFUSED, SITE, SWITCH
 from refusals import refused
 
 WALLET = 2
@@ -66,7 +67,7 @@ class WalletBook:
     def __init__(self, entries=()):
         self.pieces, self.names, self.states = [], set(), {}
         self.requests, self.settled = {}, set()
-        self.time, self.count, self.is_wallet = 0, 0, False
+        self.time, self.count, self.is_wallet, self.name, self.chain = 0, 0, False, None, Chain()
         for entry in entries:
             self.push(entry)
 
@@ -81,8 +82,10 @@ class WalletBook:
             self.requests[self.count] = request
         elif entry.kind in (DONE, REFUSED):
             self.settle(entry)
-        self.is_wallet = self.is_wallet or self.count == 0 and entry.kind == SITE and entry.site == WALLET
+        if self.count == 0 and entry.kind == SITE and entry.site == WALLET:
+            self.is_wallet, self.name = True, entry.name
         self.time, self.count = max(self.time, entry.moment), self.count + 1
+        self.chain.push(entry.payload)
 
     def bring(self, text, secret):
         self.pieces.append((text, secret))
@@ -147,7 +150,9 @@ class WalletBook:
         if entry.kind == DONE:
             texts = [] if entry.change is None else [entry.change]
             return self.is_kept(entry.number) and self.are_new(texts + ([entry.got[0]] if entry.got else []))
-        return entry.kind == REFUSED and self.is_kept(entry.number)
+        if entry.kind == SWITCH:
+            return may_switch(self.chain, entry)
+        return entry.kind == NOTE or entry.kind == REFUSED and self.is_kept(entry.number)
 
     def asks_rightly(self, entry):
         errand = read_errand(entry.target)

@@ -12,15 +12,15 @@ use Rattle.ledger_model.specs.Lawful.{MayFollow}
 use Rattle.scrip_journal.specs.Layout.{header, gated, Encodes}
 use Rattle.scrip_journal.specs.Causes.{Only, FoundsSite, IsOfKind, IsOfOtherKind, IsOfOther, BeginsWithEntries, IsUnlawfulAt}
 use Rattle.scrip_journal.proofs.Beginnings.{begins_history}
-use Rattle.scrip_journal.proofs.Unique.{one_history, not_both}
-use Rattle.house_opening.specs.First.{site_first}
+use Rattle.scrip_journal.proofs.Unique.{one_history, not_both, chain_or_history}
 use Rattle.wallet_model.specs.Follows.{WalletFollows, wallet_allows}
 use Rattle.balanced_books.specs.declared.sums.Report.{Report}
 use Rattle.audit_cmd.specs.declared.fault.AuditFault.{AuditFault}
 use Rattle.audit_cmd.specs.declared.fault.AuditFault.TheVariants as faults
-use Rattle.audit_cmd.specs.Reading.{IsSpoiledFrom, IsUnlawfulFrom}
+use Rattle.audit_cmd.specs.Notes.{site_first}
+use Rattle.audit_cmd.specs.Reading.{IsSpoiledFrom, IsUnchainedFrom, IsUnlawfulFrom}
 use Rattle.audit_cmd.specs.Books.{IsHistoryOf, IsLawfulBook, IsFirst, FindsOf, IsOfLawful}
-use Rattle.audit_cmd.specs.Loops.{ReadsAll}
+use Rattle.audit_cmd.specs.Loops.{AuditsAll}
 use Rattle.audit_cmd.proofs.Zips.{at_place}
 
 -- it begins with the header
@@ -66,15 +66,19 @@ module _ (may : History → Entry → Type 0) (kinds : ℕ → Type 0) where
 
 house_first : (e : Entry) → MayFollow FULL [] e → IsOfOtherKind (Only 2) e
 house_first (Site m kind name house) may = λ is. omega (arith, may.allowed.1, is)
-house_first e may = absurd (site_first FULL e may)
+house_first e may = absurd (site_first e may)
 
 wallet_first : (e : Entry) → wallet_allows [] e ≡ true → IsOfOtherKind IsHouseKind e
 wallet_first (Site m kind name house) allowed = λ is. omega (arith, eqb-true kind 2 allowed, is)
 wallet_first e allowed = absurd (cc allowed)
 
 not_spoiled : (h : History) (bytes : List ℕ) (place : ℕ) → Encodes h bytes → IsSpoiledFrom bytes place → ⊥
-not_spoiled h bytes place st (inl spoils) = not_both spoils.before h bytes place spoils.spoiled st
-not_spoiled h bytes place st (inr spoils) = not_both spoils.before h bytes place spoils.spoiled st
+not_spoiled h bytes place st (inl spoils) = not_both spoils.before h bytes place spoils.reads st
+not_spoiled h bytes place st (inr spoils) = not_both spoils.before h bytes place spoils.reads st
+
+not_unchained : (h : History) (bytes : List ℕ) (place : ℕ) (stood computed : List ℕ) → Encodes h bytes → IsUnchainedFrom bytes place stood computed → ⊥
+not_unchained h bytes place stood computed st (inl breaks) = chain_or_history breaks.before h bytes place stood computed breaks.reads st
+not_unchained h bytes place stood computed st (inr breaks) = chain_or_history breaks.before h bytes place stood computed breaks.reads st
 
 not_unlawful : (h : History) (bytes : List ℕ) (place : ℕ) → IsHistoryOf bytes h → IsUnlawfulFrom bytes place → ⊥
 not_unlawful [] bytes place (inl house) breaks = house.lawful
@@ -94,9 +98,10 @@ first_lawful : (books : List (List ℕ)) (book : ℕ) (Cause : List ℕ → Type
 first_lawful books book Cause all first = at_place IsLawfulBook books book first.bytes all first.there
 
 -- what ends the reading is found
-halt_found : (books : List (List ℕ)) (fault : AuditFault) → ReadsAll books (Err fault) → FindsOf books (Err fault)
+halt_found : (books : List (List ℕ)) (fault : AuditFault) → AuditsAll books (Err fault) → FindsOf books (Err fault)
 halt_found books (faults.NotJournal book) read = read
 halt_found books (faults.BadRecord book place) read = read
+halt_found books (faults.BadChain book place stood computed) read = read
 halt_found books (faults.Unlawful book place) read = read
 halt_found books (faults.Disk book) read = read
 halt_found books faults.BadBooks read = absurd read
@@ -108,6 +113,7 @@ pub none_faulty : (books : List (List ℕ)) (found : Result Report AuditFault) �
 none_faulty books (Ok r) finds all = tt
 none_faulty books (Err (faults.NotJournal book)) finds all = let h = first_lawful books book (λ bytes. BeginsWith header bytes → ⊥) all finds in finds.cause (lawful_begins h.0 finds.bytes (encodes h.0 finds.bytes h.1))
 none_faulty books (Err (faults.BadRecord book place)) finds all = let h = first_lawful books book (λ bytes. IsSpoiledFrom bytes place) all finds in not_spoiled h.0 finds.bytes place (encodes h.0 finds.bytes h.1) finds.cause
+none_faulty books (Err (faults.BadChain book place stood computed)) finds all = let h = first_lawful books book (λ bytes. IsUnchainedFrom bytes place stood computed) all finds in not_unchained h.0 finds.bytes place stood computed (encodes h.0 finds.bytes h.1) finds.cause
 none_faulty books (Err (faults.Unlawful book place)) finds all = let h = first_lawful books book (λ bytes. IsUnlawfulFrom bytes place) all finds in not_unlawful h.0 finds.bytes place h.1 finds.cause
 none_faulty books (Err (faults.Disk book)) finds all = tt
 none_faulty books (Err faults.BadBooks) finds all = tt
@@ -115,5 +121,5 @@ none_faulty books (Err (faults.MissingBook name)) finds all = tt
 none_faulty books (Err (faults.Stranger book name id)) finds all = tt
 none_faulty books (Err faults.NoMemory) finds all = tt
 
-pub no_halt : (books : List (List ℕ)) (fault : AuditFault) → ReadsAll books (Err fault) → AllByRecursion IsLawfulBook books → IsOfLawful (Err fault)
+pub no_halt : (books : List (List ℕ)) (fault : AuditFault) → AuditsAll books (Err fault) → AllByRecursion IsLawfulBook books → IsOfLawful (Err fault)
 no_halt books fault read all = none_faulty books (Err fault) (halt_found books fault read) all

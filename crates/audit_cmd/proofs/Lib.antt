@@ -4,4 +4,5 @@ pub mod KeptLaws
 pub mod Loops
 pub mod WalletLaws
 pub mod LawfulLaws
+pub mod ChainLaws
 pub mod FoundLaws

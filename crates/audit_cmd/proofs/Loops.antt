@@ -1,31 +1,27 @@
 -- Reading one book after another.
-use Rattle.std.proofs.Common.{◌≡◌, ℕ, ◌+◌, ◌≤◌, Bool, List, [], ◌∷◌, ◌++◌, length, take, Some, Ok, Err, refl, sym, ap, ◌∙◌, subst, arith, append-nil, append_assoc, Option, Result}
+use Rattle.std.proofs.Common.{◌≡◌, ℕ, ◌+◌, ◌≤◌, List, [], ◌∷◌, ◌++◌, length, take, Some, Ok, Err, refl, sym, ap, ◌∙◌, subst, arith, append-nil, append_assoc, Result}
 use Rattle.std.proofs.lemmas.List.{length-append}
 use Rattle.std.specs.Prelude.{slice_get, slice_set, map}
 use Rattle.std.specs.List.{AllZip, AllByRecursion}
 use Rattle.mc_outside.specs.Bytes.{BeginsWith, Rose}
 use Rattle.mc_outside.specs.DiskView.{DiskView, OnlyRead}
 use Rattle.scrip_journal.specs.Layout.{header}
-use Rattle.book_sums.specs.declared.book_sums.BookSums.{BookSums}
 use Rattle.audit_cmd.specs.declared.fault.AuditFault.{AuditFault}
 use Rattle.audit_cmd.specs.declared.fault.AuditFault.TheVariants as faults
-use Rattle.audit_cmd.specs.declared.books.Kept.{Kept}
-use Rattle.audit_cmd.specs.Reading.{IsSpoiledFrom, IsUnlawfulFrom, IsKeptOf}
-use Rattle.audit_cmd.specs.Books.{AreTold, counts, IsLawfulBook, IsFirst, RoseAt, CountsBy}
-use Rattle.audit_cmd.specs.Places.{FindsBook, ReadsAt}
-use Rattle.audit_cmd.specs.Loops.{KeptOf, ReadsAll, IsCalm, AreReadTo, HaveRead}
+use Rattle.audit_cmd.specs.Books.{AreTold, counts, FirstOf, RoseAt, CountsBy}
+use Rattle.audit_cmd.specs.Places.{Causes, FindsBook, ReadsAt}
+use Rattle.audit_cmd.specs.Loops.{ReadsAll, IsCalm, AreReadTo, HaveRead}
 use Rattle.audit_cmd.proofs.Zips.{zip_append, zip_more, zip_weaker, zip_long, zip_parted, zip_same, zip_none, zip_maps, map_append, length_map, Comes, comes_at, get_at, set_at, take_at, none_left}
-use Rattle.audit_cmd.proofs.KeptLaws.{all_lawful}
 
 -- ---- the disks
 
-module _ {D : Type 0} (view : D → DiskView) (moved : D → D → Type 0) (still : (d : D) → OnlyRead (view d) (view d)) (stays : (d : D) → moved d d) where
+module _ {D X : Type 0} (view : D → DiskView) (moved : D → D → Type 0) (still : (d : D) → OnlyRead (view d) (view d)) (stays : (d : D) → moved d d) (causes : Causes) (keeps : List ℕ → X → Type 0) where
   calm : (d : D) → IsCalm view moved d d
   calm d = record { read = still d; moves = stays d; same = refl }
 
   -- ---- what comes next
 
-  module _ (place : ℕ) (olds news afters : List D) (result : Result (Option BookSums) AuditFault) (to : AreReadTo view moved place olds news) (at : ReadsAt view moved place news afters result) where
+  module _ (place : ℕ) (olds news afters : List D) (result : Result X AuditFault) (to : AreReadTo view moved place olds news) (at : ReadsAt view moved causes keeps place news afters result) where
     done_long : length to.done ≡ place
     done_long = zip_long (IsCalm view moved) to.before to.done to.each ∙ to.long
 
@@ -79,10 +75,10 @@ module _ {D : Type 0} (view : D → DiskView) (moved : D → D → Type 0) (stil
       others = counts_new ∙ sym (set_at (map count to.before) (map count next_at.behind) (count at.old) (count at.new)) ∙ ap (λ (k : ℕ). slice_set (map count to.before ++ count at.old ∷ map count next_at.behind) k (count at.new)) (place_is ∙ sym is) ∙ ap (λ (l : List ℕ). slice_set l book (count at.new)) (sym counts_old);
     }
 
-    -- what stands before the next book is lawful, and it has its own cause
-    pub first_here : (book : ℕ) (wallet : Bool) (ss : List BookSums) (Cause : List ℕ → Type 0) → ((xs : List (List ℕ)) → AreTold view to.before xs → KeptOf xs wallet ss)
-        → ((x : List ℕ) → (view at.old).contents ≡ Some x → (book ≡ place) × Cause x) → (xs : List (List ℕ)) → AreTold view olds xs → IsFirst xs book Cause
-    first_here book wallet ss Cause kept here xs told =
+    -- what stands before the next book is read, and it has its own cause
+    pub first_here : (IsRead : List ℕ → Type 0) (book : ℕ) (Cause : List ℕ → Type 0) → ((xs : List (List ℕ)) → AreTold view to.before xs → AllByRecursion IsRead xs)
+        → ((x : List ℕ) → (view at.old).contents ≡ Some x → (book ≡ place) × Cause x) → (xs : List (List ℕ)) → AreTold view olds xs → FirstOf IsRead xs book Cause
+    first_here IsRead book Cause before_read here xs told =
         let R : D → List ℕ → Type 0 = λ d x. (view d).contents ≡ Some x in
         let p = zip_parted R to.before next_at.behind at.old xs (subst (λ (l : List D). AllZip R l xs) old_parts told) in
         let found = here p.there p.here in
@@ -90,12 +86,13 @@ module _ {D : Type 0} (view : D → DiskView) (moved : D → D → Type 0) (stil
         record {
           bytes = p.there;
           there = ap (λ (l : List (List ℕ)). slice_get l book) p.is ∙ ap (λ (k : ℕ). slice_get (p.front ++ p.there ∷ p.back) k) (sym long) ∙ get_at p.front p.back p.there;
-          before = subst (λ (l : List (List ℕ)). AllByRecursion IsLawfulBook l) (sym (ap (take book) p.is ∙ ap (λ (k : ℕ). take k (p.front ++ p.there ∷ p.back)) (sym long) ∙ take_at p.front (p.there ∷ p.back))) (all_lawful p.front wallet ss (kept p.front p.fronts));
+          before = subst (λ (l : List (List ℕ)). AllByRecursion IsRead l) (sym (ap (take book) p.is ∙ ap (λ (k : ℕ). take k (p.front ++ p.there ∷ p.back)) (sym long) ∙ take_at p.front (p.there ∷ p.back))) (before_read p.front p.fronts);
           cause = found.1;
         }
 
-  -- ---- when all were read
+-- ---- when all were read
 
+module _ {D : Type 0} (view : D → DiskView) (moved : D → D → Type 0) where
   module _ (olds news : List D) (place : ℕ) (to : AreReadTo view moved place olds news) (all : length olds ≤ place) where
     rest_none : to.rest ≡ []
     rest_none = none_left to.rest (omega (arith, all, to.long, ap length to.olds_are, length-append to.before to.rest))
@@ -122,68 +119,69 @@ module _ {D : Type 0} (view : D → DiskView) (moved : D → D → Type 0) (stil
     whole_told xs told = subst (λ (l : List D). AreTold view l xs) olds_read told
 
 -- one book more
-module _ {D : Type 0} (view : D → DiskView) where
-  pub told_more : (before : List D) (d : D) (wallet wallet' : Bool) (ss ss' : List BookSums) (read : Option BookSums) → ((xs : List (List ℕ)) → AreTold view before xs → KeptOf xs wallet ss)
-      → ((xs : List (List ℕ)) (x : List ℕ) → KeptOf xs wallet ss → IsKeptOf x read → KeptOf (xs ++ x ∷ []) wallet' ss') → ((x : List ℕ) → (view d).contents ≡ Some x → IsKeptOf x read)
-      → (xs : List (List ℕ)) → AreTold view (before ++ d ∷ []) xs → KeptOf xs wallet' ss'
-  told_more before d wallet wallet' ss ss' read kept more here xs told =
+module _ {D X K : Type 0} (view : D → DiskView) (keeps : List ℕ → X → Type 0) (keeps_all : List (List ℕ) → K → Type 0) where
+  told_more : (before : List D) (d : D) (kept kept' : K) (read : X) → ((xs : List (List ℕ)) → AreTold view before xs → keeps_all xs kept)
+      → ((xs : List (List ℕ)) (x : List ℕ) → keeps_all xs kept → keeps x read → keeps_all (xs ++ x ∷ []) kept') → ((x : List ℕ) → (view d).contents ≡ Some x → keeps x read)
+      → (xs : List (List ℕ)) → AreTold view (before ++ d ∷ []) xs → keeps_all xs kept'
+  told_more before d kept kept' read all more here xs told =
       let R : D → List ℕ → Type 0 = λ d x. (view d).contents ≡ Some x in
       let p = zip_parted R before [] d xs told in
-      subst (λ (l : List (List ℕ)). KeptOf l wallet' ss') (sym (p.is ∙ ap (λ (l : List (List ℕ)). p.front ++ p.there ∷ l) (zip_none R p.back p.backs))) (more p.front p.there (kept p.front p.fronts) (here p.there p.here))
+      subst (λ (l : List (List ℕ)). keeps_all l kept') (sym (p.is ∙ ap (λ (l : List (List ℕ)). p.front ++ p.there ∷ l) (zip_none R p.back p.backs))) (more p.front p.there (all p.front p.fronts) (here p.there p.here))
 
 -- what was kept goes on
-module _ {D : Type 0} (view : D → DiskView) (moved : D → D → Type 0) (still : (d : D) → OnlyRead (view d) (view d)) (stays : (d : D) → moved d d) where
-  pub goes_on : (place : ℕ) (olds news afters : List D) (kept kept' : Kept) (read : Option BookSums) (has : HaveRead view moved place olds news kept) (at : ReadsAt view moved place news afters (Ok read))
-      → ((xs : List (List ℕ)) (x : List ℕ) → KeptOf xs kept.wallet kept.houses.items → IsKeptOf x read → KeptOf (xs ++ x ∷ []) kept'.wallet kept'.houses.items) → length kept'.houses.items ≤ length kept.houses.items + 1
-      → HaveRead view moved (place + 1) olds afters kept'
-  goes_on place olds news afters kept kept' read has at more one =
-      let next = next_at view moved still stays place olds news afters (Ok read) has.to at in
+module _ {D X K : Type 0} (view : D → DiskView) (moved : D → D → Type 0) (still : (d : D) → OnlyRead (view d) (view d)) (stays : (d : D) → moved d d) (causes : Causes) (keeps : List ℕ → X → Type 0) (keeps_all : List (List ℕ) → K → Type 0) where
+  pub goes_on : (place : ℕ) (olds news afters : List D) (kept kept' : K) (read : X) (has : HaveRead view moved keeps_all place olds news kept) (at : ReadsAt view moved causes keeps place news afters (Ok read))
+      → ((xs : List (List ℕ)) (x : List ℕ) → keeps_all xs kept → keeps x read → keeps_all (xs ++ x ∷ []) kept') → HaveRead view moved keeps_all (place + 1) olds afters kept'
+  goes_on place olds news afters kept kept' read has at more =
+      let next = next_at view moved still stays causes keeps place olds news afters (Ok read) has.to at in
       record {
         to = record {
           before = has.to.before ++ at.old ∷ [];
           done = has.to.done ++ at.new ∷ [];
           rest = next.behind;
-          olds_are = old_parts view moved still stays place olds news afters (Ok read) has.to at ∙ sym (append_assoc has.to.before (at.old ∷ []) next.behind);
-          news_are = new_parts view moved still stays place olds news afters (Ok read) has.to at ∙ sym (append_assoc has.to.done (at.new ∷ []) next.behind);
+          olds_are = old_parts view moved still stays causes keeps place olds news afters (Ok read) has.to at ∙ sym (append_assoc has.to.before (at.old ∷ []) next.behind);
+          news_are = new_parts view moved still stays causes keeps place olds news afters (Ok read) has.to at ∙ sym (append_assoc has.to.done (at.new ∷ []) next.behind);
           long = length-append has.to.before (at.old ∷ []) ∙ ap (λ (k : ℕ). k + 1) has.to.long;
           each = zip_more (IsCalm view moved) has.to.before has.to.done at.old at.new has.to.each (record { read = at.read; moves = at.moves; same = at.count });
         };
-        told = told_more view has.to.before at.old kept.wallet kept'.wallet kept.houses.items kept'.houses.items read has.told more at.told;
-        few = omega (arith, has.few, one);
+        told = told_more view keeps keeps_all has.to.before at.old kept kept' read has.told more at.told;
       }
 
--- why the first book that is not read as a lawful one is not
-module _ {D : Type 0} (view : D → DiskView) (moved : D → D → Type 0) (still : (d : D) → OnlyRead (view d) (view d)) (stays : (d : D) → moved d d) where
+-- why the first book that is not read is not
+module _ {D X K : Type 0} (view : D → DiskView) (moved : D → D → Type 0) (still : (d : D) → OnlyRead (view d) (view d)) (stays : (d : D) → moved d d) (causes : Causes) (keeps : List ℕ → X → Type 0) (keeps_all : List (List ℕ) → K → Type 0) where
   -- what no book is told of
-  none_found : (place : ℕ) (olds news afters : List D) (found : Result (Option BookSums) AuditFault) (to : AreReadTo view moved place olds news) (at : ReadsAt view moved place news afters found)
-      → ((x : List ℕ) → FindsBook place x found → ⊥) → (xs : List (List ℕ)) → AreTold view olds xs → ⊥
+  none_found : (place : ℕ) (olds news afters : List D) (found : Result X AuditFault) (to : AreReadTo view moved place olds news) (at : ReadsAt view moved causes keeps place news afters found)
+      → ((x : List ℕ) → FindsBook causes keeps place x found → ⊥) → (xs : List (List ℕ)) → AreTold view olds xs → ⊥
   none_found place olds news afters found to at never xs told =
       let R : D → List ℕ → Type 0 = λ d x. (view d).contents ≡ Some x in
-      let next = next_at view moved still stays place olds news afters found to at in
-      let p = zip_parted R to.before next.behind at.old xs (subst (λ (l : List D). AllZip R l xs) (old_parts view moved still stays place olds news afters found to at) told) in
+      let next = next_at view moved still stays causes keeps place olds news afters found to at in
+      let p = zip_parted R to.before next.behind at.old xs (subst (λ (l : List D). AllZip R l xs) (old_parts view moved still stays causes keeps place olds news afters found to at) told) in
       never p.there (at.told p.there p.here)
 
-  pub halts : (place : ℕ) (olds news afters : List D) (wallet : Bool) (ss : List BookSums) (fault : AuditFault) (to : AreReadTo view moved place olds news) → ReadsAt view moved place news afters (Err fault)
-      → ((xs : List (List ℕ)) → AreTold view to.before xs → KeptOf xs wallet ss) → (xs : List (List ℕ)) → AreTold view olds xs → ReadsAll xs (Err fault)
-  halts place olds news afters wallet ss (faults.NotJournal book) to at kept xs told =
-      first_here view moved still stays place olds news afters (Err (faults.NotJournal book)) to at book wallet ss (λ x. BeginsWith header x → ⊥) kept at.told xs told
-  halts place olds news afters wallet ss (faults.BadRecord book p) to at kept xs told =
-      first_here view moved still stays place olds news afters (Err (faults.BadRecord book p)) to at book wallet ss (λ x. IsSpoiledFrom x p) kept at.told xs told
-  halts place olds news afters wallet ss (faults.Unlawful book p) to at kept xs told =
-      first_here view moved still stays place olds news afters (Err (faults.Unlawful book p)) to at book wallet ss (λ x. IsUnlawfulFrom x p) kept at.told xs told
-  halts place olds news afters wallet ss (faults.Disk book) to at kept xs told =
-      first_here view moved still stays place olds news afters (Err (faults.Disk book)) to at book wallet ss (λ x. Unit {0}) kept (λ x is. (at.count.0, tt)) xs told
-  halts place olds news afters wallet ss faults.NoMemory to at kept xs told = tt
-  halts place olds news afters wallet ss faults.BadBooks to at kept xs told = none_found place olds news afters (Err faults.BadBooks) to at (λ x never. never) xs told
-  halts place olds news afters wallet ss (faults.MissingBook name) to at kept xs told = none_found place olds news afters (Err (faults.MissingBook name)) to at (λ x never. never) xs told
-  halts place olds news afters wallet ss (faults.Stranger book name id) to at kept xs told = none_found place olds news afters (Err (faults.Stranger book name id)) to at (λ x never. never) xs told
+  pub halts : (IsRead : List ℕ → Type 0) (place : ℕ) (olds news afters : List D) (fault : AuditFault) (to : AreReadTo view moved place olds news) → ReadsAt view moved causes keeps place news afters (Err fault)
+      → ((xs : List (List ℕ)) → AreTold view to.before xs → AllByRecursion IsRead xs) → (xs : List (List ℕ)) → AreTold view olds xs → ReadsAll causes IsRead keeps_all xs (Err fault)
+  halts IsRead place olds news afters (faults.NotJournal book) to at read xs told =
+      first_here view moved still stays causes keeps place olds news afters (Err (faults.NotJournal book)) to at IsRead book (λ x. BeginsWith header x → ⊥) read at.told xs told
+  halts IsRead place olds news afters (faults.BadRecord book p) to at read xs told =
+      first_here view moved still stays causes keeps place olds news afters (Err (faults.BadRecord book p)) to at IsRead book (λ x. causes.spoiled x p) read at.told xs told
+  halts IsRead place olds news afters (faults.BadChain book p stood computed) to at read xs told =
+      first_here view moved still stays causes keeps place olds news afters (Err (faults.BadChain book p stood computed)) to at IsRead book (λ x. causes.unchained x p stood computed) read at.told xs told
+  halts IsRead place olds news afters (faults.Unlawful book p) to at read xs told =
+      first_here view moved still stays causes keeps place olds news afters (Err (faults.Unlawful book p)) to at IsRead book (λ x. causes.unlawful x p) read at.told xs told
+  halts IsRead place olds news afters (faults.Disk book) to at read xs told =
+      first_here view moved still stays causes keeps place olds news afters (Err (faults.Disk book)) to at IsRead book (λ x. Unit {0}) read (λ x is. (at.count.0, tt)) xs told
+  halts IsRead place olds news afters faults.NoMemory to at read xs told = tt
+  halts IsRead place olds news afters faults.BadBooks to at read xs told = none_found place olds news afters (Err faults.BadBooks) to at (λ x never. never) xs told
+  halts IsRead place olds news afters (faults.MissingBook name) to at read xs told = none_found place olds news afters (Err (faults.MissingBook name)) to at (λ x never. never) xs told
+  halts IsRead place olds news afters (faults.Stranger book name id) to at read xs told = none_found place olds news afters (Err (faults.Stranger book name id)) to at (λ x never. never) xs told
 
-  pub halt_counts : (place : ℕ) (olds news afters : List D) (fault : AuditFault) (to : AreReadTo view moved place olds news) (at : ReadsAt view moved place news afters (Err fault)) → CountsBy {A = Kept} (Err fault) (counts view olds) (counts view afters)
-  halt_counts place olds news afters (faults.NotJournal book) to at = counts_stay view moved still stays place olds news afters (Err (faults.NotJournal book)) to at at.count
-  halt_counts place olds news afters (faults.BadRecord book p) to at = counts_stay view moved still stays place olds news afters (Err (faults.BadRecord book p)) to at at.count
-  halt_counts place olds news afters (faults.Unlawful book p) to at = counts_stay view moved still stays place olds news afters (Err (faults.Unlawful book p)) to at at.count
-  halt_counts place olds news afters (faults.Disk book) to at = count_rose view moved still stays place olds news afters (Err (faults.Disk book)) to at book at.count.0 at.count.1
-  halt_counts place olds news afters (faults.BadBooks) to at = counts_stay view moved still stays place olds news afters (Err (faults.BadBooks)) to at at.count
-  halt_counts place olds news afters (faults.MissingBook name) to at = counts_stay view moved still stays place olds news afters (Err (faults.MissingBook name)) to at at.count
-  halt_counts place olds news afters (faults.Stranger book name id) to at = counts_stay view moved still stays place olds news afters (Err (faults.Stranger book name id)) to at at.count
-  halt_counts place olds news afters (faults.NoMemory) to at = counts_stay view moved still stays place olds news afters (Err (faults.NoMemory)) to at at.count
+  pub halt_counts : (place : ℕ) (olds news afters : List D) (fault : AuditFault) (to : AreReadTo view moved place olds news) (at : ReadsAt view moved causes keeps place news afters (Err fault)) → CountsBy {A = K} (Err fault) (counts view olds) (counts view afters)
+  halt_counts place olds news afters (faults.NotJournal book) to at = counts_stay view moved still stays causes keeps place olds news afters (Err (faults.NotJournal book)) to at at.count
+  halt_counts place olds news afters (faults.BadRecord book p) to at = counts_stay view moved still stays causes keeps place olds news afters (Err (faults.BadRecord book p)) to at at.count
+  halt_counts place olds news afters (faults.BadChain book p stood computed) to at = counts_stay view moved still stays causes keeps place olds news afters (Err (faults.BadChain book p stood computed)) to at at.count
+  halt_counts place olds news afters (faults.Unlawful book p) to at = counts_stay view moved still stays causes keeps place olds news afters (Err (faults.Unlawful book p)) to at at.count
+  halt_counts place olds news afters (faults.Disk book) to at = count_rose view moved still stays causes keeps place olds news afters (Err (faults.Disk book)) to at book at.count.0 at.count.1
+  halt_counts place olds news afters faults.BadBooks to at = counts_stay view moved still stays causes keeps place olds news afters (Err faults.BadBooks) to at at.count
+  halt_counts place olds news afters (faults.MissingBook name) to at = counts_stay view moved still stays causes keeps place olds news afters (Err (faults.MissingBook name)) to at at.count
+  halt_counts place olds news afters (faults.Stranger book name id) to at = counts_stay view moved still stays causes keeps place olds news afters (Err (faults.Stranger book name id)) to at at.count
+  halt_counts place olds news afters faults.NoMemory to at = counts_stay view moved still stays causes keeps place olds news afters (Err faults.NoMemory) to at at.count

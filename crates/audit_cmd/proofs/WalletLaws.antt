@@ -5,7 +5,7 @@ use Rattle.ledger_model.specs.Houses.{IsHouseKind}
 use Rattle.scrip_journal.specs.Causes.{Only, IsOfOtherKind, IsOfOther}
 use Rattle.scrip_journal.proofs.Beginnings.{first_tells}
 use Rattle.scrip_journal.specs.declared.fault.HouseFault.{HouseFault}
-use Rattle.scrip_journal.specs.declared.fault.HouseFault.TheVariants.{NotJournal, BadRecord, Unlawful, WrongKind, NotEmpty, Disk, NoMemory}
+use Rattle.scrip_journal.specs.declared.fault.HouseFault.TheVariants.{NotJournal, BadRecord, BadChain, Unlawful, WrongKind, NotEmpty, Disk, NoMemory}
 use Rattle.audit_cmd.specs.Reading.{ReadsWallet, ReadsBook}
 
 -- a site is a house or a wallet
@@ -27,6 +27,7 @@ of_no_kind bytes a b = first_tells (Only 2) a.first [] bytes a.begins (first_is 
 pub wallet_fault : {D : Type 0} (bytes : List ℕ) (f : HouseFault D) → IsOfOther IsHouseKind bytes → ReadsWallet {D = D} bytes (Err f) → ReadsBook {D = D} bytes (Err f)
 wallet_fault bytes (NotJournal d) other read = read
 wallet_fault bytes (BadRecord d place) other read = inr read
+wallet_fault bytes (BadChain d place stood computed) other read = inr read
 wallet_fault bytes (Unlawful d place) other read = inr read
 wallet_fault bytes (WrongKind d) other read = of_no_kind bytes other read
 wallet_fault bytes (NotEmpty d count) other read = read

@@ -14,7 +14,7 @@ use Rattle.book_audit.specs.declared.fault.BooksFault.{BooksFault}
 use Rattle.book_audit.specs.declared.fault.BooksFault.TheVariants as founds
 use Rattle.audit_cmd.specs.declared.fault.AuditFault.{AuditFault}
 use Rattle.audit_cmd.specs.declared.fault.AuditFault.TheVariants as faults
-use Rattle.audit_cmd.specs.Reading.{IsSpoiledFrom, IsUnlawfulFrom, IsWalletsHistory}
+use Rattle.audit_cmd.specs.Reading.{IsSpoiledFrom, IsUnchainedFrom, IsUnlawfulFrom, IsWalletsHistory}
 
 -- ---- the bytes of disks
 
@@ -42,12 +42,16 @@ IsLawfulBook bytes = (h : History) × IsHistoryOf bytes h
 
 -- ---- what is answered
 
--- All books before this one are lawful, and this one is not read as a lawful one, for this cause.
-pub record IsFirst (books : List (List ℕ)) (book : ℕ) (Cause : List ℕ → Type 0) : Type 0 where
+-- All books before this one are read, and this one is not, for this cause.
+pub record FirstOf (IsRead : List ℕ → Type 0) (books : List (List ℕ)) (book : ℕ) (Cause : List ℕ → Type 0) : Type 0 where
   pub bytes : List ℕ
   pub there : slice_get books book ≡ Some bytes
-  pub before : AllByRecursion IsLawfulBook (take book books)
+  pub before : AllByRecursion IsRead (take book books)
   pub cause : Cause bytes
+
+-- All books before this one are lawful, and this one is not read as a lawful one, for this cause.
+abbrev pub IsFirst : List (List ℕ) → ℕ → (List ℕ → Type 0) → Type 0
+IsFirst books book Cause = FirstOf IsLawfulBook books book Cause
 
 -- The books stand for lawful histories of houses, of which this is found.
 pub record AreAudited (books : List (List ℕ)) (found : Result Report BooksFault) : Type 0 where
@@ -66,6 +70,7 @@ pub record HaveWallet (books : List (List ℕ)) : Type 0 where
 abbrev pub FindsOf : List (List ℕ) → Result Report AuditFault → Type 0
 FindsOf books (Err (faults.NotJournal book)) = IsFirst books book (λ bytes. BeginsWith header bytes → ⊥)
 FindsOf books (Err (faults.BadRecord book place)) = IsFirst books book (λ bytes. IsSpoiledFrom bytes place)
+FindsOf books (Err (faults.BadChain book place stood computed)) = IsFirst books book (λ bytes. IsUnchainedFrom bytes place stood computed)
 FindsOf books (Err (faults.Unlawful book place)) = IsFirst books book (λ bytes. IsUnlawfulFrom bytes place)
 FindsOf books (Err (faults.Disk book)) = IsFirst books book (λ bytes. Unit {0})
 FindsOf books (Err faults.BadBooks) = HaveWallet books ⊎ AreAudited books (Err founds.BadBooks)
@@ -85,6 +90,7 @@ fault_of founds.NoMemory = faults.NoMemory
 abbrev pub IsOfLawful : Result Report AuditFault → Type 0
 IsOfLawful (Err (faults.NotJournal book)) = ⊥
 IsOfLawful (Err (faults.BadRecord book place)) = ⊥
+IsOfLawful (Err (faults.BadChain book place stood computed)) = ⊥
 IsOfLawful (Err (faults.Unlawful book place)) = ⊥
 IsOfLawful _ = Unit {0}
 
@@ -92,6 +98,7 @@ IsOfLawful _ = Unit {0}
 abbrev pub told_book : {A : Type 0} → Result A AuditFault → Option ℕ
 told_book (Err (faults.NotJournal book)) = Some book
 told_book (Err (faults.BadRecord book place)) = Some book
+told_book (Err (faults.BadChain book place stood computed)) = Some book
 told_book (Err (faults.Unlawful book place)) = Some book
 told_book (Err (faults.Disk book)) = Some book
 told_book (Err (faults.Stranger book name id)) = Some book

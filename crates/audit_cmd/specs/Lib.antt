@@ -1,4 +1,6 @@
+pub mod Notes
 pub mod Reading
 pub mod Books
 pub mod Places
 pub mod Loops
+pub mod Chains

@@ -1,5 +1,5 @@
 -- Reading books one after another.
-use Rattle.std.specs.Prelude.{◌≡◌, ℕ, ◌≤◌, Bool, true, false, List, ◌++◌, length, Result, Ok, Err}
+use Rattle.std.specs.Prelude.{◌≡◌, ℕ, Bool, true, false, List, ◌++◌, length, Result, Ok, Err}
 use Rattle.std.specs.List.{AllZip}
 use Rattle.mc_outside.specs.Bytes.{BeginsWith}
 use Rattle.mc_outside.specs.DiskView.{DiskView, OnlyRead}
@@ -11,8 +11,9 @@ use Rattle.book_audit.specs.Audit.{AreLearned}
 use Rattle.audit_cmd.specs.declared.fault.AuditFault.{AuditFault}
 use Rattle.audit_cmd.specs.declared.fault.AuditFault.TheVariants as faults
 use Rattle.audit_cmd.specs.declared.books.Kept.{Kept}
-use Rattle.audit_cmd.specs.Reading.{IsSpoiledFrom, IsUnlawfulFrom}
-use Rattle.audit_cmd.specs.Books.{AreTold, IsHousesHistory, HaveWallet, IsFirst}
+use Rattle.audit_cmd.specs.Reading.{IsSpoiledFrom, IsUnchainedFrom, IsUnlawfulFrom}
+use Rattle.audit_cmd.specs.Books.{AreTold, IsHousesHistory, IsLawfulBook, HaveWallet, FirstOf}
+use Rattle.audit_cmd.specs.Places.{Causes}
 
 -- ---- what is kept
 
@@ -27,15 +28,27 @@ abbrev pub KeptOf : List (List ℕ) → Bool → List BookSums → Type 0
 KeptOf books true houses = HaveWallet books
 KeptOf books false houses = AreKept books houses
 
--- what is answered of all books by their bytes
-abbrev pub ReadsAll : List (List ℕ) → Result Kept AuditFault → Type 0
-ReadsAll books (Ok kept) = KeptOf books kept.wallet kept.houses.items
-ReadsAll books (Err (faults.NotJournal book)) = IsFirst books book (λ bytes. BeginsWith header bytes → ⊥)
-ReadsAll books (Err (faults.BadRecord book place)) = IsFirst books book (λ bytes. IsSpoiledFrom bytes place)
-ReadsAll books (Err (faults.Unlawful book place)) = IsFirst books book (λ bytes. IsUnlawfulFrom bytes place)
-ReadsAll books (Err (faults.Disk book)) = IsFirst books book (λ bytes. Unit {0})
-ReadsAll books (Err faults.NoMemory) = Unit {0}
-ReadsAll books (Err _) = ⊥
+-- Of books of which each that was read is such a one: what was kept of all, or what was found of the first that was not
+-- read.
+abbrev pub ReadsAll : {K : Type 0} → Causes → (List ℕ → Type 0) → (List (List ℕ) → K → Type 0) → List (List ℕ) → Result K AuditFault → Type 0
+ReadsAll causes IsRead keeps books (Ok kept) = keeps books kept
+ReadsAll causes IsRead keeps books (Err (faults.NotJournal book)) = FirstOf IsRead books book (λ bytes. BeginsWith header bytes → ⊥)
+ReadsAll causes IsRead keeps books (Err (faults.BadRecord book place)) = FirstOf IsRead books book (λ bytes. causes.spoiled bytes place)
+ReadsAll causes IsRead keeps books (Err (faults.BadChain book place stood computed)) = FirstOf IsRead books book (λ bytes. causes.unchained bytes place stood computed)
+ReadsAll causes IsRead keeps books (Err (faults.Unlawful book place)) = FirstOf IsRead books book (λ bytes. causes.unlawful bytes place)
+ReadsAll causes IsRead keeps books (Err (faults.Disk book)) = FirstOf IsRead books book (λ bytes. Unit {0})
+ReadsAll causes IsRead keeps books (Err faults.NoMemory) = Unit {0}
+ReadsAll causes IsRead keeps books (Err _) = ⊥
+
+-- of books that are audited
+abbrev pub audit_causes : Causes
+audit_causes = record { spoiled = IsSpoiledFrom; unchained = IsUnchainedFrom; unlawful = IsUnlawfulFrom }
+
+abbrev pub KeptAll : List (List ℕ) → Kept → Type 0
+KeptAll books kept = KeptOf books kept.wallet kept.houses.items
+
+abbrev pub AuditsAll : List (List ℕ) → Result Kept AuditFault → Type 0
+AuditsAll books found = ReadsAll audit_causes IsLawfulBook KeptAll books found
 
 -- ---- the steps
 
@@ -56,7 +69,6 @@ pub record AreReadTo {D : Type 0} (view : D → DiskView) (moved : D → D → T
   pub each : AllZip (IsCalm view moved) before done
 
 -- and what is kept is of their bytes
-pub record HaveRead {D : Type 0} (view : D → DiskView) (moved : D → D → Type 0) (place : ℕ) (olds news : List D) (kept : Kept) : Type 0 where
+pub record HaveRead {D K : Type 0} (view : D → DiskView) (moved : D → D → Type 0) (keeps : List (List ℕ) → K → Type 0) (place : ℕ) (olds news : List D) (kept : K) : Type 0 where
   pub to : AreReadTo view moved place olds news
-  pub told : (books : List (List ℕ)) → AreTold view to.before books → KeptOf books kept.wallet kept.houses.items
-  pub few : length kept.houses.items ≤ place
+  pub told : (books : List (List ℕ)) → AreTold view to.before books → keeps books kept

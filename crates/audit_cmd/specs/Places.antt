@@ -1,37 +1,45 @@
 -- What reading the book at a place of a list answers.
-use Rattle.std.specs.Prelude.{◌≡◌, ℕ, List, Option, Some, IfSome, slice_get, slice_set, Result, Ok, Err}
+use Rattle.std.specs.Prelude.{◌≡◌, ℕ, List, Some, IfSome, slice_get, slice_set, Result, Ok, Err}
 use Rattle.mc_outside.specs.Bytes.{BeginsWith, Rose}
 use Rattle.mc_outside.specs.DiskView.{DiskView, OnlyRead}
 use Rattle.scrip_journal.specs.Layout.{header}
-use Rattle.book_sums.specs.declared.book_sums.BookSums.{BookSums}
 use Rattle.audit_cmd.specs.declared.fault.AuditFault.{AuditFault}
 use Rattle.audit_cmd.specs.declared.fault.AuditFault.TheVariants as faults
 use Rattle.audit_cmd.specs.Books.{told_book}
-use Rattle.audit_cmd.specs.Reading.{IsSpoiledFrom, IsUnlawfulFrom, IsKeptOf}
 
--- what is found of the book at a place by its bytes
-abbrev pub FindsBook : ℕ → List ℕ → Result (Option BookSums) AuditFault → Type 0
-FindsBook place bytes (Ok kept) = IsKeptOf bytes kept
-FindsBook place bytes (Err (faults.NotJournal book)) = (book ≡ place) × (BeginsWith header bytes → ⊥)
-FindsBook place bytes (Err (faults.BadRecord book at)) = (book ≡ place) × IsSpoiledFrom bytes at
-FindsBook place bytes (Err (faults.Unlawful book at)) = (book ≡ place) × IsUnlawfulFrom bytes at
-FindsBook place bytes (Err (faults.Disk book)) = book ≡ place
-FindsBook place bytes (Err faults.NoMemory) = Unit {0}
-FindsBook place bytes (Err _) = ⊥
+-- why a book is not read, by its bytes and by what is told of them
+pub record Causes : Type 1 where
+  -- they can't stand from a place on
+  pub spoiled : List ℕ → ℕ → Type 0
+  -- the chain at a place stood so, and was computed otherwise
+  pub unchained : List ℕ → ℕ → List ℕ → List ℕ → Type 0
+  -- the entry behind the gate at a place may not stand there
+  pub unlawful : List ℕ → ℕ → Type 0
+
+-- what is found of the book at a place by its bytes, of which this is kept
+abbrev pub FindsBook : {X : Type 0} → Causes → (List ℕ → X → Type 0) → ℕ → List ℕ → Result X AuditFault → Type 0
+FindsBook causes keeps place bytes (Ok kept) = keeps bytes kept
+FindsBook causes keeps place bytes (Err (faults.NotJournal book)) = (book ≡ place) × (BeginsWith header bytes → ⊥)
+FindsBook causes keeps place bytes (Err (faults.BadRecord book at)) = (book ≡ place) × causes.spoiled bytes at
+FindsBook causes keeps place bytes (Err (faults.BadChain book at stood computed)) = (book ≡ place) × causes.unchained bytes at stood computed
+FindsBook causes keeps place bytes (Err (faults.Unlawful book at)) = (book ≡ place) × causes.unlawful bytes at
+FindsBook causes keeps place bytes (Err (faults.Disk book)) = book ≡ place
+FindsBook causes keeps place bytes (Err faults.NoMemory) = Unit {0}
+FindsBook causes keeps place bytes (Err _) = ⊥
 
 -- the disk is told to have failed where its count rose, and it stayed else
-abbrev pub CountsBook : ℕ → Result (Option BookSums) AuditFault → ℕ → ℕ → Type 0
+abbrev pub CountsBook : {X : Type 0} → ℕ → Result X AuditFault → ℕ → ℕ → Type 0
 CountsBook place (Err (faults.Disk book)) before after = (book ≡ place) × Rose before after
 CountsBook place _ before after = after ≡ before
 
 -- The disk at a place was read, which is there still, and this was found of its book.
-pub record ReadsAt {D : Type 0} (view : D → DiskView) (moved : D → D → Type 0) (place : ℕ) (before after : List D) (found : Result (Option BookSums) AuditFault) : Type 0 where
+pub record ReadsAt {D X : Type 0} (view : D → DiskView) (moved : D → D → Type 0) (causes : Causes) (keeps : List ℕ → X → Type 0) (place : ℕ) (before after : List D) (found : Result X AuditFault) : Type 0 where
   pub old : D
   pub new : D
   pub there : slice_get before place ≡ Some old
   pub put : after ≡ slice_set before place new
   pub read : OnlyRead (view old) (view new)
   pub moves : moved old new
-  pub told : (bytes : List ℕ) → (view old).contents ≡ Some bytes → FindsBook place bytes found
+  pub told : (bytes : List ℕ) → (view old).contents ≡ Some bytes → FindsBook causes keeps place bytes found
   pub count : CountsBook place found (view old).faults (view new).faults
   pub at : IfSome (told_book found) (λ book. book ≡ place)

@@ -1,15 +1,16 @@
 -- What reading a book answers.
 use Rattle.std.specs.Prelude.{◌≡◌, ◌⊎◌, ℕ, List, Option, Some, None, Result, Ok, Err}
 use Rattle.mc_outside.specs.Bytes.{BeginsWith}
+use Rattle.mc_records.specs.Chains.{TellsChain}
 use Rattle.mc_records.specs.declared.limits.TheConstants.Limits.{FULL}
 use Rattle.ledger_model.specs.Histories.{History, time}
 use Rattle.ledger_model.specs.Houses.{IsHouseKind}
 use Rattle.ledger_model.specs.Lawful.{MayFollow}
 use Rattle.scrip_journal.specs.Layout.{header, Encodes}
-use Rattle.scrip_journal.specs.Causes.{Only, SpoilsAt, IsUnlawfulAt, IsOfOther}
+use Rattle.scrip_journal.specs.Causes.{Only, SpoilsAt, UnchainsAt, IsUnlawfulAt, IsOfOther}
 use Rattle.scrip_journal.specs.Founds.{fault_disk}
 use Rattle.scrip_journal.specs.declared.fault.HouseFault.{HouseFault}
-use Rattle.scrip_journal.specs.declared.fault.HouseFault.TheVariants.{NotJournal, BadRecord, Unlawful, WrongKind, NotEmpty, Disk, NoMemory}
+use Rattle.scrip_journal.specs.declared.fault.HouseFault.TheVariants.{NotJournal, BadRecord, BadChain, Unlawful, WrongKind, NotEmpty, Disk, NoMemory}
 use Rattle.book_opening.specs.Opener.{OpenerView}
 use Rattle.house_core.specs.Bench.{Represents, house_time, limits_of}
 use Rattle.house_state.specs.Trade.{TradeView}
@@ -51,6 +52,7 @@ abbrev pub auditor : OpenerView BookReader
 auditor = record {
   ready = Unit {0};
   may = MayFollow FULL;
+  asks = TellsChain;
   kinds = IsHouseKind;
   belongs = IsFull;
   holds = HasRead;
@@ -61,6 +63,11 @@ auditor = record {
 -- Behind lawful entries of a house, or of a wallet, the bytes can't stand, from this place on.
 abbrev pub IsSpoiledFrom : List ℕ → ℕ → Type 0
 IsSpoiledFrom bytes place = SpoilsAt (MayFollow FULL) IsHouseKind bytes place ⊎ SpoilsAt WalletFollows (Only 2) bytes place
+
+-- Behind such entries comes one whose chain, at this place, is another than the one computed.
+abbrev pub IsUnchainedFrom : List ℕ → ℕ → List ℕ → List ℕ → Type 0
+IsUnchainedFrom bytes place stood computed =
+    UnchainsAt (MayFollow FULL) IsHouseKind bytes place stood computed ⊎ UnchainsAt WalletFollows (Only 2) bytes place stood computed
 
 -- The first entry that is not lawful after those before it, as that of a house or of a wallet, is behind the gate at
 -- this place; in a book without entries that is its only gate.
@@ -94,6 +101,7 @@ abbrev pub ReadsHouse : {D : Type 0} → List ℕ → Result (D × BookSums) (Ho
 ReadsHouse bytes (Ok x) = ReadsAs bytes x.1
 ReadsHouse bytes (Err (NotJournal d)) = BeginsWith header bytes → ⊥
 ReadsHouse bytes (Err (BadRecord d place)) = SpoilsAt (MayFollow FULL) IsHouseKind bytes place
+ReadsHouse bytes (Err (BadChain d place stood computed)) = UnchainsAt (MayFollow FULL) IsHouseKind bytes place stood computed
 ReadsHouse bytes (Err (Unlawful d place)) = IsUnlawfulAt (MayFollow FULL) IsHouseKind bytes place
 ReadsHouse bytes (Err (WrongKind d)) = IsOfOther IsHouseKind bytes
 ReadsHouse bytes (Err (NotEmpty d count)) = ⊥
@@ -105,6 +113,7 @@ abbrev pub ReadsWallet : {D : Type 0} → List ℕ → Result D (HouseFault D) �
 ReadsWallet bytes (Ok d) = (h : History) × IsWalletsHistory bytes h
 ReadsWallet bytes (Err (NotJournal d)) = BeginsWith header bytes → ⊥
 ReadsWallet bytes (Err (BadRecord d place)) = SpoilsAt WalletFollows (Only 2) bytes place
+ReadsWallet bytes (Err (BadChain d place stood computed)) = UnchainsAt WalletFollows (Only 2) bytes place stood computed
 ReadsWallet bytes (Err (Unlawful d place)) = IsUnlawfulAt WalletFollows (Only 2) bytes place
 ReadsWallet bytes (Err (WrongKind d)) = IsOfOther (Only 2) bytes
 ReadsWallet bytes (Err (NotEmpty d count)) = ⊥
@@ -121,6 +130,7 @@ abbrev pub ReadsBook : {D : Type 0} → List ℕ → Result (D × Option BookSum
 ReadsBook bytes (Ok x) = IsKeptOf bytes x.1
 ReadsBook bytes (Err (NotJournal d)) = BeginsWith header bytes → ⊥
 ReadsBook bytes (Err (BadRecord d place)) = IsSpoiledFrom bytes place
+ReadsBook bytes (Err (BadChain d place stood computed)) = IsUnchainedFrom bytes place stood computed
 ReadsBook bytes (Err (Unlawful d place)) = IsUnlawfulFrom bytes place
 ReadsBook bytes (Err (WrongKind d)) = ⊥
 ReadsBook bytes (Err (NotEmpty d count)) = ⊥

@@ -18,7 +18,7 @@ use std::alloc::Global;
 ///
 /// The books are read one after another, and the first that is not read as a lawful one ends the audit: `NotJournal`
 /// comes where its disk does not begin with the header of a journal, `BadRecord` where its bytes can't stand from the
-/// place told on, `Unlawful` with the place of the gate of its first entry that is not lawful after those before it, and
+/// place told on, `BadChain` where an entry's chain at the place told is another than the one computed, `Unlawful` with the place of the gate of its first entry that is not lawful after those before it, and
 /// 8 where it has none, and `Disk` only where its disk failed. Where all are lawful, `BadBooks` comes exactly where
 /// there is not one broker's, or a wallet's is among them, or two vendors share a name; then `MissingBook` exactly where
 /// the broker sold of a vendor whose book is not there, with the least such name; then `Stranger` exactly where one

@@ -6,7 +6,7 @@ ghost use Rattle.mc_outside.specs.DiskView.{OnlyRead};
 ghost use Rattle.audit_cmd.specs.Books.{AreTold, counts, told_book, CountsBy};
 ghost use Rattle.audit_cmd.specs.Places.{FindsBook, CountsBook, ReadsAt};
 ghost use Rattle.audit_cmd.specs.Reading.{IsKeptOf};
-ghost use Rattle.audit_cmd.specs.Loops.{KeptOf, ReadsAll};
+ghost use Rattle.audit_cmd.specs.Loops.{KeptOf, AuditsAll, audit_causes};
 
 use crate::fault::AuditFault;
 use crate::reading::read_book;
@@ -46,7 +46,7 @@ pub(crate) fn read_books<D: Disk>(alloc: Global, books: &mut Vec<D>) -> Result<K
     ensures read { AllZip (λ a b. OnlyRead (D.disk a) (D.disk b)) books.old.items books.new.items }
     ensures moved { AllZip D.disk_moved books.old.items books.new.items }
     ensures exact { (contents : List (List ℕ)) → AreTold D.disk books.old.items contents
-        → ReadsAll contents result }
+        → AuditsAll contents result }
     ensures fault { CountsBy result (counts D.disk books.old.items)
         (counts D.disk books.new.items) }
     ensures place { IfSome (told_book result) (λ book. book < length books.old.items) }
@@ -75,7 +75,7 @@ fn read_at<D: Disk>(
     place: usize,
 ) -> Result<Option<BookSums>, AuditFault>
     requires there { place < length books.old.items }
-    ensures { ReadsAt D.disk D.disk_moved place books.old.items books.new.items result }
+    ensures { ReadsAt D.disk D.disk_moved audit_causes IsKeptOf place books.old.items books.new.items result }
 {
     let disk = books.remove(place);
     let (disk, found) = find_at(alloc, disk, place);
@@ -95,7 +95,7 @@ fn find_at<D: Disk>(
     ensures moved { D.disk_moved disk result.0 }
     ensures read { OnlyRead (D.disk disk) (D.disk result.0) }
     ensures exact { (bytes : List ℕ) → (D.disk disk).contents ≡ Some bytes
-        → FindsBook book bytes result.1 }
+        → FindsBook audit_causes IsKeptOf book bytes result.1 }
     ensures fault { CountsBook book result.1 (D.disk disk).faults (D.disk result.0).faults }
     ensures place { IfSome (told_book result.1) (λ told. told ≡ book) }
 {
@@ -105,6 +105,15 @@ fn find_at<D: Disk>(
         Err(HouseFault::BadRecord(disk, place)) => {
             (disk, Err(AuditFault::BadRecord { book, place }))
         }
+        Err(HouseFault::BadChain(disk, place, stood, computed)) => (
+            disk,
+            Err(AuditFault::BadChain {
+                book,
+                place,
+                stood,
+                computed,
+            }),
+        ),
         Err(HouseFault::Unlawful(disk, place)) => {
             (disk, Err(AuditFault::Unlawful { book, place }))
         }

@@ -10,20 +10,43 @@ use scrip_form::{Id, Name};
 #[derive(Clone, Copy, Drop)]
 pub enum AuditFault {
     /// The book is no journal.
-    NotJournal { book: usize },
+    NotJournal {
+        book: usize,
+    },
     /// The bytes from this place on can't stand in a journal.
-    BadRecord { book: usize, place: u64 },
+    BadRecord {
+        book: usize,
+        place: u64,
+    },
+    /// The chain of an entry, which begins at this place, is another than the one computed.
+    BadChain {
+        book: usize,
+        place: u64,
+        stood: [u8; 32],
+        computed: [u8; 32],
+    },
     /// The entry behind the gate at this place isn't lawful after those before it; 8 where there is no entry.
-    Unlawful { book: usize, place: u64 },
+    Unlawful {
+        book: usize,
+        place: u64,
+    },
     /// The disk of the book failed.
-    Disk { book: usize },
+    Disk {
+        book: usize,
+    },
     /// There is not one broker's book, there is a wallet's, or two vendors share a name.
     BadBooks,
     /// The broker sold of this vendor, whose book is not there: of several the least name.
-    MissingBook { name: Name },
+    MissingBook {
+        name: Name,
+    },
     /// A piece of this identity was accepted and not handed out with its value, or was sold out of stock and not minted by
     /// its vendor: the first by book, then by entry. The name is that of the book's site.
-    Stranger { book: usize, name: Name, id: Id },
+    Stranger {
+        book: usize,
+        name: Name,
+        id: Id,
+    },
     /// Memory was refused.
     NoMemory,
 }

@@ -1,11 +1,15 @@
-//! Books are read to be audited, each by one pass over its disk, and audited.
+//! Books are read to be audited, each by one pass over its disk, and audited; or their chains are said.
 #![tactic(auto)]
 
 mod auditing;
+mod book_chains;
 mod books;
+mod chain_reading;
 mod fault;
 mod reader;
 mod reading;
 
 pub use auditing::audit;
+pub use book_chains::chains;
+pub use chain_reading::ChainLine;
 pub use fault::AuditFault;

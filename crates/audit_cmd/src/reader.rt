@@ -1,6 +1,7 @@
 //! What reads the entries of one book.
 
 ghost use Rattle.std.specs.Prelude.{◌≡◌, ◌+◌, ◌≤◌, [], ◌∷◌, IfOk};
+ghost use Rattle.mc_records.specs.Chains.{TellsChain};
 ghost use Rattle.mc_records.specs.Entry.{Fits};
 ghost use Rattle.mc_records.specs.Sizes.{size, entry_size};
 ghost use Rattle.mc_records.specs.Views.{entry};
@@ -10,6 +11,7 @@ ghost use Rattle.ledger_model.specs.Lawful.{MayFollow};
 ghost use Rattle.ledger_model.specs.declared.numbers.TheConstants.{BROKER_KIND};
 ghost use Rattle.scrip_journal.specs.Causes.{FoundsSite, Only};
 ghost use Rattle.book_opening.specs.Opener.{Learns};
+ghost use Rattle.house_state.specs.Learning.{Passes};
 ghost use Rattle.house_core.specs.Bench.{limits_of};
 ghost use Rattle.audit_cmd.specs.Reading.{Reads};
 
@@ -49,10 +51,11 @@ impl<T: Trade> Reader<T> {
 
     /// Learns the next entry. After an `Err` nothing is said of what reads.
     pub(crate) fn learn(&mut self, r: &Record<'_>) -> Result<(), LearnFault>
-        requires { Fits (entry r.now) }
+        requires fits { Fits (entry r.now) }
+        requires passed { (h : History) → Passes T.passes h (entry r.now) }
         ensures limits { limits_of self.new.bench ≡ limits_of self.old.bench }
         ensures exact { (h : History) → limits_of self.old.bench ≡ Limits.FULL
-            → Reads T.trade self.old h → size h + entry_size h (entry r.now) ≤ MOST_JOURNAL
+            → Reads T.trade self.old h → TellsChain h (entry r.now) → size h + entry_size h (entry r.now) ≤ MOST_JOURNAL
             → Learns (MayFollow Limits.FULL) (λ u. Reads T.trade self.new) h (entry r.now) result }
     {
         match self.bench.replay(r) {

@@ -43,8 +43,7 @@ pub(crate) struct Auditor;
 
 impl Opener for Auditor {
     ghost use Rattle.audit_cmd.specs.Reading.{auditor};
-    ghost use Rattle.house_opening.specs.First.{site_first};
-    ghost use Rattle.mc_records.specs.declared.limits.TheConstants.Limits.{FULL};
+    ghost use Rattle.audit_cmd.specs.Notes.{site_first, tells_chain};
 
     type Learner = BookReader;
 
@@ -70,6 +69,10 @@ impl Opener for Auditor {
         }
     }
 
+    fn is_told(r: &Record<'_>, before: &[u8; 32]) -> bool {
+        r.tells(before)
+    }
+
     fn learn(reader: &mut BookReader, r: &Record<'_>) -> Result<(), LearnFault> {
         match reader {
             BookReader::Vendor(reader) => reader.learn(r),
@@ -77,13 +80,16 @@ impl Opener for Auditor {
         }
     }
 
-    ghost site_first = { λ o. site_first FULL };
+    ghost site_first = { λ o. site_first };
+
+    ghost told_first = { λ o. tells_chain };
 }
 
 /// Reads the book that the disk has, as that of a vendor or a broker, and keeps of its entries what an audit needs.
 ///
-/// `NotJournal` comes where the disk does not begin with the header of a journal, and `BadRecord` where its bytes can't
-/// stand, from the place told on. `Unlawful` tells the place of the gate of the first entry that may not follow those
+/// `NotJournal` comes where the disk does not begin with the header of a journal, `BadRecord` where its bytes can't
+/// stand, from the place told on, and `BadChain` where an entry's chain at the place told is another than the one computed.
+/// `Unlawful` tells the place of the gate of the first entry that may not follow those
 /// before it, and 8 where there is no entry at all. `WrongKind` comes where the book is a wallet's. `Disk` comes only where
 /// the disk failed. Nothing is written, and the disk comes back.
 fn read_house<D: Disk>(alloc: Global, disk: D) -> Result<(D, BookSums), HouseFault<D>>
@@ -115,8 +121,9 @@ fn read_wallet<D: Disk>(alloc: Global, disk: D) -> Result<D, HouseFault<D>>
 /// Reads the book that the disk has, of a house or of a wallet, and keeps of a house's what an audit needs, and nothing of
 /// a wallet's. Nothing is written, and the disk comes back.
 ///
-/// `NotJournal` comes where the disk does not begin with the header of a journal, and `BadRecord` where its bytes can't
-/// stand, from the place told on. `Unlawful` tells the place of the gate of the first entry that may not follow those
+/// `NotJournal` comes where the disk does not begin with the header of a journal, `BadRecord` where its bytes can't
+/// stand, from the place told on, and `BadChain` where an entry's chain at the place told is another than the one computed.
+/// `Unlawful` tells the place of the gate of the first entry that may not follow those
 /// before it, by the laws of its kind of site, and 8 where there is no entry at all. `Disk` comes only where the disk
 /// failed. No other fault comes but `NoMemory`.
 pub(crate) fn read_book<D: Disk>(

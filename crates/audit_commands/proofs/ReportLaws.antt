@@ -33,6 +33,7 @@ said_ends lines status (inr is) = inr (inl (ap number_of is))
 pub fault_words : (fault : AuditFault) → number_of (audit_status fault) ≡ 2 → ⊥
 fault_words (faults.NotJournal book) two = absurd (cc two)
 fault_words (faults.BadRecord book place) two = absurd (cc two)
+fault_words (faults.BadChain book place stood computed) two = absurd (cc two)
 fault_words (faults.Unlawful book place) two = absurd (cc two)
 fault_words (faults.Disk book) two = absurd (cc two)
 fault_words faults.BadBooks two = absurd (cc two)
@@ -45,6 +46,7 @@ module _ {D : Type 0} (view : D → DiskView) (before after : List D) where
       → ReportCauses view before (audit_status fault) after
   fault_causes (faults.NotJournal book) finds is = is
   fault_causes (faults.BadRecord book place) finds is = is
+  fault_causes (faults.BadChain book place stood computed) finds is = is
   fault_causes (faults.Unlawful book place) finds is = is
   fault_causes (faults.Disk book) finds is = record { book = book; rose = is; first = finds }
   fault_causes faults.BadBooks finds is = is
@@ -55,6 +57,7 @@ module _ {D : Type 0} (view : D → DiskView) (before after : List D) where
   pub fault_ends : (fault : AuditFault) → IsOfLawful (Err fault) → AreCalm view before after → CountsBy {A = Report} (Err fault) (counts view before) (counts view after) → EndsReport (number_of (audit_status fault))
   fault_ends (faults.NotJournal book) lawful calm is = absurd lawful
   fault_ends (faults.BadRecord book place) lawful calm is = absurd lawful
+  fault_ends (faults.BadChain book place stood computed) lawful calm is = absurd lawful
   fault_ends (faults.Unlawful book place) lawful calm is = absurd lawful
   fault_ends (faults.Disk book) lawful calm is = absurd (calm book is)
   fault_ends faults.BadBooks lawful calm is = inr (inr (inl refl))
@@ -65,6 +68,7 @@ module _ {D : Type 0} (view : D → DiskView) (before after : List D) where
 pub fault_reports : (json : Bool) (books : List (List ℕ)) (fault : AuditFault) → FindsOf books (Err fault) → ReportsBooks json books (audit_status fault)
 fault_reports json books (faults.NotJournal book) finds = (book, finds)
 fault_reports json books (faults.BadRecord book place) finds = (book, finds)
+fault_reports json books (faults.BadChain book place stood computed) finds = (book, stood, computed, finds)
 fault_reports json books (faults.Unlawful book place) finds = (book, finds)
 fault_reports json books (faults.Disk book) finds = tt
 fault_reports json books faults.BadBooks finds = finds

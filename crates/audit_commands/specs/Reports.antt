@@ -11,7 +11,7 @@ use Rattle.audit_report.specs.Json.{report_json}
 use Rattle.book_audit.specs.declared.fault.BooksFault.TheVariants as founds
 use Rattle.audit_cmd.specs.declared.fault.AuditFault.{AuditFault}
 use Rattle.audit_cmd.specs.declared.fault.AuditFault.TheVariants as faults
-use Rattle.audit_cmd.specs.Reading.{IsSpoiledFrom, IsUnlawfulFrom}
+use Rattle.audit_cmd.specs.Reading.{IsSpoiledFrom, IsUnchainedFrom, IsUnlawfulFrom}
 use Rattle.audit_cmd.specs.Books.{AreTold, counts, IsFirst, AreAudited, HaveWallet, RoseAt}
 use Rattle.command_status.specs.declared.status.Status.{Status}
 use Rattle.command_status.specs.declared.status.Status.TheVariants as ends
@@ -31,6 +31,7 @@ IsReportStatus lines status = (status ≡ ends.Did lines) ⊎ (status ≡ ends.N
 abbrev pub audit_status : AuditFault → Status
 audit_status (faults.NotJournal book) = ends.NotJournal
 audit_status (faults.BadRecord book place) = ends.BadEntry place
+audit_status (faults.BadChain book place stood computed) = ends.BadChain place
 audit_status (faults.Unlawful book place) = ends.UnlawfulEntry place
 audit_status (faults.Disk book) = ends.DiskFault
 audit_status faults.BadBooks = ends.Refused refusals.BadBooks
@@ -62,6 +63,7 @@ abbrev pub ReportsBooks : Bool → List (List ℕ) → Status → Type 0
 ReportsBooks json books (ends.Did lines) = (r : Report) × (lines ≡ report_lines json r) × AreAudited books (Ok r)
 ReportsBooks json books ends.NotJournal = (book : ℕ) × IsFirst books book (λ bytes. BeginsWith header bytes → ⊥)
 ReportsBooks json books (ends.BadEntry place) = (book : ℕ) × IsFirst books book (λ bytes. IsSpoiledFrom bytes place)
+ReportsBooks json books (ends.BadChain place) = (book : ℕ) × (stood : List ℕ) × (computed : List ℕ) × IsFirst books book (λ bytes. IsUnchainedFrom bytes place stood computed)
 ReportsBooks json books (ends.UnlawfulEntry place) = (book : ℕ) × IsFirst books book (λ bytes. IsUnlawfulFrom bytes place)
 ReportsBooks json books (ends.Refused refusal) = RefusesBooks books refusal
 ReportsBooks json books (ends.Stranger name id) = (book : ℕ) × AreAudited books (Err (founds.Stranger book name id))

@@ -69,6 +69,7 @@ fn of_fault(fault: AuditFault) -> Status
     match fault {
         AuditFault::NotJournal { .. } => Status::NotJournal,
         AuditFault::BadRecord { place, .. } => Status::BadEntry(place),
+        AuditFault::BadChain { place, .. } => Status::BadChain(place),
         AuditFault::Unlawful { place, .. } => Status::UnlawfulEntry(place),
         AuditFault::Disk { .. } => Status::DiskFault,
         AuditFault::BadBooks => Status::Refused(Refusal::BadBooks),

@@ -10,16 +10,16 @@ use Rattle.mc_fields.specs.Texts.{is_text}
 use Rattle.mc_fields.proofs.TextTest.{text_decides}
 use Rattle.scrip_form.specs.Texts.{is_letter_or_digit, is_name_byte, is_slash, is_visible, IsName, IsTarget, is_name, is_target}
 use Rattle.scrip_form.specs.Issuing.{Issuing}
-use Rattle.scrip_form.specs.Scrip.{Scrip, scrip_body, IsScripText}
+use Rattle.scrip_form.specs.Scrip.{Scrip, scrip_body, text_version, IsScripText}
 use Rattle.scrip_form.specs.Reading.{scrip_of, scrip_at, id_at}
 use Rattle.scrip_form.proofs.Laws.{is_text_of}
-use Rattle.scrip_certs.specs.Digests.{certificate, customer_secret, request_signature}
+use Rattle.scrip_certs.specs.Digests.{digest, certificate, customer_secret, request_signature}
 use Rattle.mc_records.specs.declared.limits.Limits.{Limits}
 use Rattle.mc_records.specs.Errands.{errand_of}
 use Rattle.mc_records.specs.Entry.{goods_deed, sale, Held, Entry, Site, AddTerms, Goods, Accept, Mint, Account, Deposit, Draw, Licence, Stock, AreSecrets, AreTerms, Fits}
 use Rattle.mc_records.specs.Sizes.{tail, tail_size}
 use Rattle.ledger_model.specs.Histories.{History}
-use Rattle.ledger_model.specs.Houses.{certificate_in, secret_in}
+use Rattle.ledger_model.specs.Houses.{version_by}
 use Rattle.ledger_model.specs.Pieces.{own_out}
 use Rattle.ledger_model.specs.Accounts.{all_balances}
 use Rattle.ledger_model.specs.Sums.{paid_in, paid_out, fees, takings, handed_out, outstanding, lapsed}
@@ -87,19 +87,19 @@ vendors = news ∷ shop ∷ []
 -- ---- they are lawful
 
 row_bank : IsLawful full bank
-unfolding tail tail_size answer broker_offer sale_brought sale_price certificate_in secret_in errand_of digits scrip_of scrip_at id_at literal_at field_at field_of is_text digit_of digit_at hex_at scrip_body certificate customer_secret encode_with request_signature md5 block_words rounds compress hash_after digest_bytes
+unfolding tail tail_size answer broker_offer sale_brought sale_price version_by text_version digest errand_of digits scrip_of scrip_at id_at literal_at field_at field_of is_text digit_of digit_at hex_at scrip_body certificate customer_secret encode_with request_signature md5 block_words rounds compress hash_after digest_bytes
 row_bank = (record { in_order = omega arith; allowed = (refl, omega arith) }, (record { in_order = omega arith; allowed = (refl, refl) }, (record { in_order = omega arith; allowed = (refl, refl, refl, omega arith) }, (record { in_order = omega arith; allowed = (refl, refl) }, (record { in_order = omega arith; allowed = (refl, refl) }, (record { in_order = omega arith; allowed = refl }, (record { in_order = omega arith; allowed = refl }, (record { in_order = omega arith; allowed = refl }, (record { in_order = omega arith; allowed = refl }, tt)))))))))
 
 row_news : IsLawful full news
-unfolding tail tail_size answer broker_offer sale_brought sale_price certificate_in secret_in errand_of digits scrip_of scrip_at id_at literal_at field_at field_of is_text digit_of digit_at hex_at scrip_body certificate customer_secret encode_with request_signature md5 block_words rounds compress hash_after digest_bytes
+unfolding tail tail_size answer broker_offer sale_brought sale_price version_by text_version digest errand_of digits scrip_of scrip_at id_at literal_at field_at field_of is_text digit_of digit_at hex_at scrip_body certificate customer_secret encode_with request_signature md5 block_words rounds compress hash_after digest_bytes
 row_news = (record { in_order = omega arith; allowed = (refl, omega arith) }, (record { in_order = omega arith; allowed = (refl, refl) }, (record { in_order = omega arith; allowed = (refl, omega arith) }, (record { in_order = omega arith; allowed = refl }, tt))))
 
 row_forged : IsLawful full forged
-unfolding tail tail_size answer broker_offer sale_brought sale_price certificate_in secret_in errand_of digits scrip_of scrip_at id_at literal_at field_at field_of is_text digit_of digit_at hex_at scrip_body certificate customer_secret encode_with request_signature md5 block_words rounds compress hash_after digest_bytes
+unfolding tail tail_size answer broker_offer sale_brought sale_price version_by text_version digest errand_of digits scrip_of scrip_at id_at literal_at field_at field_of is_text digit_of digit_at hex_at scrip_body certificate customer_secret encode_with request_signature md5 block_words rounds compress hash_after digest_bytes
 row_forged = (record { in_order = omega arith; allowed = (refl, omega arith) }, (record { in_order = omega arith; allowed = (refl, refl) }, (record { in_order = omega arith; allowed = (refl, omega arith) }, (record { in_order = omega arith; allowed = refl }, (record { in_order = omega arith; allowed = refl }, tt)))))
 
 row_shop : IsLawful full shop
-unfolding tail tail_size answer broker_offer sale_brought sale_price certificate_in secret_in errand_of digits scrip_of scrip_at id_at literal_at field_at field_of is_text digit_of digit_at hex_at scrip_body certificate customer_secret encode_with request_signature md5 block_words rounds compress hash_after digest_bytes
+unfolding tail tail_size answer broker_offer sale_brought sale_price version_by text_version digest errand_of digits scrip_of scrip_at id_at literal_at field_at field_of is_text digit_of digit_at hex_at scrip_body certificate customer_secret encode_with request_signature md5 block_words rounds compress hash_after digest_bytes
 row_shop = (record { in_order = omega arith; allowed = (refl, omega arith) }, (record { in_order = omega arith; allowed = (refl, refl, refl, omega arith) }, (record { in_order = omega arith; allowed = (refl, omega arith) }, tt)))
 
 -- ---- the sums
@@ -159,7 +159,7 @@ kiosk =
     ∷ []
 
 row_kiosk : IsLawful full kiosk
-unfolding tail tail_size answer broker_offer sale_brought sale_price certificate_in secret_in errand_of digits scrip_of scrip_at id_at literal_at field_at field_of is_text digit_of digit_at hex_at scrip_body certificate customer_secret encode_with request_signature md5 block_words rounds compress hash_after digest_bytes
+unfolding tail tail_size answer broker_offer sale_brought sale_price version_by text_version digest errand_of digits scrip_of scrip_at id_at literal_at field_at field_of is_text digit_of digit_at hex_at scrip_body certificate customer_secret encode_with request_signature md5 block_words rounds compress hash_after digest_bytes
 row_kiosk = (record { in_order = omega arith; allowed = (refl, omega arith) }, (record { in_order = omega arith; allowed = (refl, refl) }, (record { in_order = omega arith; allowed = (refl, refl, refl, omega arith) }, (record { in_order = omega arith; allowed = (refl, refl) }, (record { in_order = omega arith; allowed = refl }, (record { in_order = omega arith; allowed = refl }, tt))))))
 
 row_brokers : (sum_by paid_in (bank ∷ kiosk ∷ []) ≡ 1100) × (broker_sum kiosk ≡ 50) × (relayed (bank ∷ kiosk ∷ []) vendors ≡ 50) × AreBalanced (bank ∷ kiosk ∷ []) vendors

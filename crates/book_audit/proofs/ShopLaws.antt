@@ -6,11 +6,12 @@ use Rattle.std.specs.List.{list_any, cons_option}
 use Rattle.std.proofs.lemmas.List.Folds.{find-append}
 use Rattle.std.proofs.lemmas.List.Elements.{filter_map-append}
 use Rattle.std.proofs.lemmas.Slice.Eq.{bytes_eq-Decides}
+use Rattle.scrip_form.specs.Identities.{series_of}
 use Rattle.scrip_form.specs.Issuing.{Issuing}
 use Rattle.scrip_form.specs.Scrip.{Scrip}
 use Rattle.mc_records.specs.Entry.{Held, Licence, Stock}
 use Rattle.ledger_model.specs.Histories.{History}
-use Rattle.ledger_model.specs.Houses.{site_name}
+use Rattle.ledger_model.specs.Houses.{site_name, version}
 use Rattle.ledger_model.specs.Pieces.{piece_of, minted}
 use Rattle.ledger_model.specs.Stock.{licence_terms, is_licence_of, licence_in, stock_of, held_piece, held_pieces, stock_pieces, Sale, is_of_vendor, licensed_piece, sold_piece}
 use Rattle.balanced_books.specs.declared.part.Part.{Part}
@@ -121,12 +122,15 @@ name_is s name same = (bytes_eq-Decides s.vendor name).0 same
 piece_is : (b v : History) (shop : Shop) (s : Sold) → IsShopAt b v shop → s.vendor ≡ site_name v → part_sold shop s ≡ option_map part_of (sold_piece b (sale_by s))
 piece_is b v shop s is same = go s.stock
   where
-    licence : (o : Option Issuing) → option_map (licensed_part s) o ≡ option_map part_of (option_map (λ terms. licensed_piece terms s.vendor s.value s.id) o)
+    in_version : ℕ
+    in_version = version b s.vendor (series_of s.id)
+
+    licence : (o : Option Issuing) → option_map (licensed_part s) o ≡ option_map part_of (option_map (λ terms. licensed_piece in_version terms s.vendor s.value s.id) o)
     licence None = refl
     licence (Some terms) = refl
 
     go : (t : Bool) → cond t (in_stock shop s.id) (option_map (licensed_part s) shop.licence)
-        ≡ option_map part_of (cond t (find (λ p. eqb p.id s.id) (stock_pieces b s.vendor)) (option_map (λ terms. licensed_piece terms s.vendor s.value s.id) (licence_in b s.vendor)))
+        ≡ option_map part_of (cond t (find (λ p. eqb p.id s.id) (stock_pieces b s.vendor)) (option_map (λ terms. licensed_piece in_version terms s.vendor s.value s.id) (licence_in b s.vendor)))
     go true = is.stock' s.id ∙ ap (λ (name : List ℕ). option_map part_of (find (λ p. eqb p.id s.id) (stock_pieces b name))) (sym same)
     go false = ap (option_map (licensed_part s)) (is.on.licence' ∙ ap (licence_in b) (sym same)) ∙ licence (licence_in b s.vendor)
 

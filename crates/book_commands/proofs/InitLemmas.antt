@@ -49,6 +49,7 @@ fault_causes A disk before (faults.NoMemory d) counts = counts
 fault_causes A disk before (faults.Disk d) counts = counts
 fault_causes A disk before (faults.NotJournal d) counts = absurd counts
 fault_causes A disk before (faults.BadRecord d place) counts = absurd counts
+fault_causes A disk before (faults.BadChain d place stood computed) counts = absurd counts
 fault_causes A disk before (faults.Unlawful d place) counts = absurd counts
 fault_causes A disk before (faults.WrongKind d) counts = absurd counts
 
@@ -66,5 +67,6 @@ not_founded disk trade kind founder moment bytes a m (faults.NoMemory d) keeps b
 not_founded disk trade kind founder moment bytes a m (faults.Disk d) keeps by read = tt
 not_founded disk trade kind founder moment bytes a m (faults.NotJournal d) keeps by read = absurd by
 not_founded disk trade kind founder moment bytes a m (faults.BadRecord d place) keeps by read = absurd by
+not_founded disk trade kind founder moment bytes a m (faults.BadChain d place stood computed) keeps by read = absurd by
 not_founded disk trade kind founder moment bytes a m (faults.Unlawful d place) keeps by read = absurd by
 not_founded disk trade kind founder moment bytes a m (faults.WrongKind d) keeps by read = absurd by

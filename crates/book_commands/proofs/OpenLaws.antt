@@ -2,7 +2,10 @@
 use Rattle.std.proofs.Common.{◌≡◌, ℕ, List, [], ◌∷◌, Some, subst}
 use Rattle.ledger_model.specs.Histories.{History}
 use Rattle.ledger_model.specs.Houses.{site_kind}
-use Rattle.ledger_model.specs.Lawful.{IsLawful, AllFollow, MayFollow}
+use Rattle.mc_records.specs.Following.{AllFollowBy}
+use Rattle.ledger_model.specs.Lawful.{IsLawful}
+use Rattle.house_state.specs.Learning.{Test, AllPass, MayEnter}
+use Rattle.house_state.proofs.PartLaws.{all_enter}
 use Rattle.scrip_journal.specs.Layout.{Encodes}
 use Rattle.scrip_journal.specs.Causes.{Only}
 use Rattle.scrip_journal.proofs.Unique.{stands_read}
@@ -11,14 +14,14 @@ use Rattle.house_opening.proofs.Beginnings.{kind_tells}
 use Rattle.command_status.proofs.OpenLaws as laws
 use Rattle.operator_command.specs.Operations.{full}
 
-all_of : (h : History) → IsLawful full h → AllFollow full [] h
-all_of [] lawful = absurd lawful
-all_of (e ∷ es) lawful = lawful
+all_of : (passes : Test) (h : History) → IsLawful full h → AllPass passes h → AllFollowBy (MayEnter passes full) [] h
+all_of passes [] lawful pass = absurd lawful
+all_of passes (e ∷ es) lawful pass = all_enter passes full [] (e ∷ es) lawful pass
 
 -- no entry of it breaks
-pub not_unlawful : (kind : ℕ) (h : History) (bytes : List ℕ) (place : ℕ) → Encodes h bytes → IsLawful full h → IsUnlawfulAt full kind bytes place → ⊥
-not_unlawful kind h bytes place st lawful unlawful =
-    laws.not_unlawful (MayFollow full) (Only kind) h bytes place st (λ empty. subst (λ (g : History). IsLawful full g) empty lawful) (all_of h lawful) unlawful
+pub not_unlawful : (passes : Test) (kind : ℕ) (h : History) (bytes : List ℕ) (place : ℕ) → Encodes h bytes → IsLawful full h → AllPass passes h → IsUnlawfulAt passes full kind bytes place → ⊥
+not_unlawful passes kind h bytes place st lawful pass unlawful =
+    laws.not_unlawful (MayEnter passes full) (Only kind) h bytes place st (λ empty. subst (λ (g : History). IsLawful full g) empty lawful) (all_of passes h lawful pass) unlawful
 
 -- it is of no other kind
 pub not_of_other : (kind : ℕ) (h : History) (bytes : List ℕ) → Encodes h bytes → site_kind h ≡ Some kind → IsOfOther kind bytes → ⊥

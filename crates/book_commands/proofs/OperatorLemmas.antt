@@ -231,6 +231,7 @@ causes_opened link disk operation a x ends.BadWords b same links causes = causes
 causes_opened link disk operation a x (ends.Stranger name id) b same links causes = causes ∙ same
 causes_opened link disk operation a x ends.NotJournal b same links causes = causes ∙ same
 causes_opened link disk operation a x (ends.BadEntry place) b same links causes = causes ∙ same
+causes_opened link disk operation a x (ends.BadChain place) b same links causes = causes ∙ same
 causes_opened link disk operation a x (ends.UnlawfulEntry place) b same links causes = causes ∙ same
 causes_opened link disk operation a x ends.DiskFault b same links causes = subst (λ (n : ℕ). Rose n (disk b).faults) same causes
 causes_opened link disk operation a x ends.NoMemory b same links causes = causes ∙ same

@@ -31,6 +31,7 @@ use Rattle.command_status.specs.Faults.{fault_status}
 use Rattle.book_commands.specs.Endings.{served_status}
 use Rattle.book_commands.specs.Serving.{EncodesLawful, ServePair, ServedFrom, Unserved, NotOpened, ServesLinksOf, ServeCauses}
 use Rattle.book_commands.proofs.LawfulRuns.{IsSound, all_sound, links_sound, doubt_sound}
+use Rattle.house_state.specs.Learning.{Test}
 use Rattle.house_state.specs.Trade.{TradeView}
 
 -- ---- counts
@@ -84,15 +85,16 @@ served_from link disk trade bytes a x y steps at read same went lawful = record 
 }
 
 -- why a book was not opened
-pub not_opened : {O T : Type 0} (link : O → LinkView) (disk : O → DiskView) (trade : T → TradeView) (kind : ℕ) (bytes : List ℕ) (a : O) (fault : HouseFault O)
-    → OpensHouse {D = O} {T = T} disk trade full kind bytes (Err fault) → link (fault_disk fault) ≡ link a → OnlyRead (disk a) (disk (fault_disk fault)) → NotOpened link disk kind bytes a (fault_status fault) (fault_disk fault)
-not_opened link disk trade kind bytes a (faults.NotJournal d) by same read = (by, record { link' = same; read = read })
-not_opened link disk trade kind bytes a (faults.BadRecord d place) by same read = (by, record { link' = same; read = read })
-not_opened link disk trade kind bytes a (faults.Unlawful d place) by same read = (by, record { link' = same; read = read })
-not_opened link disk trade kind bytes a (faults.WrongKind d) by same read = (refl, by, record { link' = same; read = read })
-not_opened link disk trade kind bytes a (faults.NotEmpty d size) by same read = absurd by
-not_opened link disk trade kind bytes a (faults.Disk d) by same read = record { link' = same; read = read }
-not_opened link disk trade kind bytes a (faults.NoMemory d) by same read = record { link' = same; read = read }
+pub not_opened : {O T : Type 0} (link : O → LinkView) (disk : O → DiskView) (trade : T → TradeView) (passes : Test) (kind : ℕ) (bytes : List ℕ) (a : O) (fault : HouseFault O)
+    → OpensHouse {D = O} {T = T} disk trade passes full kind bytes (Err fault) → link (fault_disk fault) ≡ link a → OnlyRead (disk a) (disk (fault_disk fault)) → NotOpened link disk passes kind bytes a (fault_status fault) (fault_disk fault)
+not_opened link disk trade passes kind bytes a (faults.NotJournal d) by same read = (by, record { link' = same; read = read })
+not_opened link disk trade passes kind bytes a (faults.BadRecord d place) by same read = (by, record { link' = same; read = read })
+not_opened link disk trade passes kind bytes a (faults.BadChain d place stood computed) by same read = ((stood, computed, by), record { link' = same; read = read })
+not_opened link disk trade passes kind bytes a (faults.Unlawful d place) by same read = (by, record { link' = same; read = read })
+not_opened link disk trade passes kind bytes a (faults.WrongKind d) by same read = (refl, by, record { link' = same; read = read })
+not_opened link disk trade passes kind bytes a (faults.NotEmpty d size) by same read = absurd by
+not_opened link disk trade passes kind bytes a (faults.Disk d) by same read = record { link' = same; read = read }
+not_opened link disk trade passes kind bytes a (faults.NoMemory d) by same read = record { link' = same; read = read }
 
 -- the book of the house that was opened is served
 pub serves_book : {O T : Type 0} (link : O → LinkView) (disk : O → DiskView) (trade : T → TradeView) (links : ℕ) (bytes : List ℕ) (a : O) (x : House O T) (out : ServeOut O T)

@@ -7,6 +7,7 @@ use Rattle.scrip_journal.specs.Layout.{Encodes}
 use Rattle.millicent_http.specs.declared.clock.Clock.TheVariants.{OfLinks}
 use Rattle.millicent_http.specs.Courses.{AreRead, with_readings}
 use Rattle.house_core.specs.declared.house.House.{House}
+use Rattle.house_state.specs.Learning.{Test}
 use Rattle.house_state.specs.Trade.{TradeView}
 use Rattle.house_opening.specs.Opening.{OpenedFor}
 use Rattle.house_core.specs.Tasks.{Task, Add, Stays, after, IsDoable, IsRefused}
@@ -71,8 +72,8 @@ abbrev pub OperatesOpened : {O : Type 0} → (O → LinkView) → (O → DiskVie
 OperatesOpened link disk operation bytes a status b = Unread link disk operation bytes a status b ⊎ Operated link disk operation bytes a status b
 
 -- how an operation to the book of a site of a kind ended, on an outside whose disk had these bytes
-abbrev pub OperatesBook : {O : Type 0} → (O → LinkView) → (O → DiskView) → ℕ → OperationView → List ℕ → O → Status → O → Type 0
-OperatesBook link disk kind operation bytes a status b = NotOpened link disk kind bytes a status b ⊎ OperatesOpened link disk operation bytes a status b
+abbrev pub OperatesBook : {O : Type 0} → (O → LinkView) → (O → DiskView) → Test → ℕ → OperationView → List ℕ → O → Status → O → Type 0
+OperatesBook link disk passes kind operation bytes a status b = NotOpened link disk passes kind bytes a status b ⊎ OperatesOpened link disk operation bytes a status b
 
 -- Each fault has its cause: where a link failed, the operation's input was lost.
 abbrev pub OperateCauses : {O : Type 0} → (O → LinkView) → (O → DiskView) → OperationView → O → Status → O → Type 0

@@ -14,7 +14,8 @@ use Rattle.scrip_journal.specs.Layout.{header, Encodes}
 use Rattle.millicent_http.specs.declared.clock.Clock.TheVariants.{OfLinks}
 use Rattle.millicent_http.specs.Steps.{Did, sent_of, state_after}
 use Rattle.millicent_http.specs.Courses.{ServedAll, ServedSome}
-use Rattle.house_opening.specs.Opening.{SpoilsAt, IsUnlawfulAt, IsOfOther}
+use Rattle.house_state.specs.Learning.{Test}
+use Rattle.house_opening.specs.Opening.{SpoilsAt, UnchainsAt, IsUnlawfulAt, IsOfOther}
 use Rattle.house_core.specs.Session.{State, Step}
 use Rattle.house_serving.specs.Orders.{InOrder, IsEither, InDoubt}
 use Rattle.house_serving.specs.InDoubt.{InDoubtLinks}
@@ -83,16 +84,21 @@ pub record Unserved {O : Type 0} (link : O → LinkView) (disk : O → DiskView)
   pub link' : link b ≡ link a
   pub read : OnlyRead (disk a) (disk b)
 
--- why a book was not opened as that of a site of a kind: by its bytes, or since the disk failed or memory was
--- refused; then it was only read, and no link was taken
-abbrev pub NotOpened : {O : Type 0} → (O → LinkView) → (O → DiskView) → ℕ → List ℕ → O → Status → O → Type 0
-NotOpened link disk kind bytes a ends.DiskFault b = Unserved link disk a b
-NotOpened link disk kind bytes a ends.NoMemory b = Unserved link disk a b
-NotOpened link disk kind bytes a ends.NotJournal b = (BeginsWith header bytes → ⊥) × Unserved link disk a b
-NotOpened link disk kind bytes a (ends.BadEntry place) b = SpoilsAt full kind bytes place × Unserved link disk a b
-NotOpened link disk kind bytes a (ends.UnlawfulEntry place) b = IsUnlawfulAt full kind bytes place × Unserved link disk a b
-NotOpened link disk kind bytes a (ends.Refused f) b = (f ≡ refusals.WrongKind) × IsOfOther kind bytes × Unserved link disk a b
-NotOpened link disk kind bytes a _ b = ⊥
+-- a chain in the book, at this place, is another than the one computed
+abbrev pub HasOtherChain : Test → ℕ → List ℕ → ℕ → Type 0
+HasOtherChain passes kind bytes place = (stood : List ℕ) × (computed : List ℕ) × UnchainsAt passes full kind bytes place stood computed
+
+-- why a book was not opened as that of a site of a kind, for a trade with this test of Notes: by its bytes, or since
+-- the disk failed or memory was refused; then it was only read, and no link was taken
+abbrev pub NotOpened : {O : Type 0} → (O → LinkView) → (O → DiskView) → Test → ℕ → List ℕ → O → Status → O → Type 0
+NotOpened link disk passes kind bytes a ends.DiskFault b = Unserved link disk a b
+NotOpened link disk passes kind bytes a ends.NoMemory b = Unserved link disk a b
+NotOpened link disk passes kind bytes a ends.NotJournal b = (BeginsWith header bytes → ⊥) × Unserved link disk a b
+NotOpened link disk passes kind bytes a (ends.BadEntry place) b = SpoilsAt passes full kind bytes place × Unserved link disk a b
+NotOpened link disk passes kind bytes a (ends.BadChain place) b = HasOtherChain passes kind bytes place × Unserved link disk a b
+NotOpened link disk passes kind bytes a (ends.UnlawfulEntry place) b = IsUnlawfulAt passes full kind bytes place × Unserved link disk a b
+NotOpened link disk passes kind bytes a (ends.Refused f) b = (f ≡ refusals.WrongKind) × IsOfOther kind bytes × Unserved link disk a b
+NotOpened link disk passes kind bytes a _ b = ⊥
 
 -- how the links of a book that was opened were served
 abbrev pub ServesLinksOf : {O : Type 0} → (O → LinkView) → (O → DiskView) → ℕ → List ℕ → O → Status → O → Type 0
@@ -106,8 +112,8 @@ ServesLinksOf link disk links bytes a ends.NoMemory b = Unserved link disk a b
 ServesLinksOf link disk links bytes a _ b = ⊥
 
 -- how serving so many links by the book of a site of a kind ended, on an outside whose disk had these bytes
-abbrev pub ServesBook : {O : Type 0} → (O → LinkView) → (O → DiskView) → ℕ → ℕ → List ℕ → O → Status → O → Type 0
-ServesBook link disk kind links bytes a status b = NotOpened link disk kind bytes a status b ⊎ ServesLinksOf link disk links bytes a status b
+abbrev pub ServesBook : {O : Type 0} → (O → LinkView) → (O → DiskView) → Test → ℕ → ℕ → List ℕ → O → Status → O → Type 0
+ServesBook link disk passes kind links bytes a status b = NotOpened link disk passes kind bytes a status b ⊎ ServesLinksOf link disk links bytes a status b
 
 -- Of a command over a book that stands: the count of the disk's faults rose where the disk failed, and else it
 -- is what it was. Where a link failed that the command needs, it is lost so. Where links were served the count

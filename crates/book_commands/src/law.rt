@@ -4,18 +4,24 @@ ghost use Rattle.ledger_model.specs.Histories.{History};
 ghost use Rattle.ledger_model.specs.Houses.{site_kind};
 ghost use Rattle.ledger_model.specs.Lawful.{IsLawful};
 ghost use Rattle.scrip_journal.specs.Layout.{header, Encodes};
-ghost use Rattle.house_opening.specs.Opening.{SpoilsAt, IsUnlawfulAt, IsOfOther};
+ghost use Rattle.house_state.specs.Learning.{AllPass};
+ghost use Rattle.house_opening.specs.Opening.{SpoilsAt, UnchainsAt, IsUnlawfulAt, IsOfOther};
 ghost use Rattle.operator_command.specs.Operations.{full};
 
+use house_state::Trade;
+
 /// Bytes that encode a lawful history of a site give no cause to refuse the book to one of its kind: they begin
-/// with the header, nothing in them can't stand, no entry breaks, and the site is of no other kind. So `vendor
-/// serve` ends on those of a vendor with neither status 3 nor 7.
-pub fn lawful_books_are_opened()
+/// with the header, nothing in them can't stand, each chain is the one computed, no entry breaks where each Note
+/// passes the trade's own test, and the site is of no other kind. So `vendor serve` ends on those of a vendor with
+/// neither status 3 nor 7.
+pub fn lawful_books_are_opened<T: Trade>()
     ensures header { (h : History) (bytes : List ℕ) → Encodes h bytes → BeginsWith header bytes }
     ensures whole { (kind : ℕ) (h : History) (bytes : List ℕ) (place : ℕ) → Encodes h bytes
-        → SpoilsAt full kind bytes place → ⊥ }
+        → SpoilsAt T.passes full kind bytes place → ⊥ }
+    ensures chained { (kind : ℕ) (h : History) (bytes : List ℕ) (place : ℕ) (stood computed : List ℕ)
+        → Encodes h bytes → UnchainsAt T.passes full kind bytes place stood computed → ⊥ }
     ensures lawful { (kind : ℕ) (h : History) (bytes : List ℕ) (place : ℕ) → Encodes h bytes
-        → IsLawful full h → IsUnlawfulAt full kind bytes place → ⊥ }
+        → IsLawful full h → AllPass T.passes h → IsUnlawfulAt T.passes full kind bytes place → ⊥ }
     ensures kind { (kind : ℕ) (h : History) (bytes : List ℕ) → Encodes h bytes
         → site_kind h ≡ Some kind → IsOfOther kind bytes → ⊥ }
 {}

@@ -29,7 +29,7 @@ pub fn operate_book<O: Outside, T: Trade, C: OperatorCommand<T>>(
     ensures words { number_of result.1 ≡ 2 → ⊥ }
     ensures causes { OperateCauses O.link O.disk (C.operation command.now) out result.1 result.0 }
     ensures operated { (x : Items ℕ) → (O.disk out).contents ≡ Some x
-        → OperatesBook O.link O.disk (T.trade trade).site (C.operation command.now) x
+        → OperatesBook O.link O.disk T.passes (T.trade trade).site (C.operation command.now) x
         out result.1 result.0 }
 {
     match open_house(alloc, out, Limits::FULL, trade) {

@@ -21,7 +21,7 @@ pub fn serve_book<O: Outside, T: Trade>(alloc: Global, links: u32, trade: T, out
     ensures words { number_of result.1 ≡ 2 → ⊥ }
     ensures causes { ServeCauses O.link O.disk out result.1 result.0 }
     ensures served { (x : List ℕ) → (O.disk out).contents ≡ Some x
-        → ServesBook O.link O.disk (T.trade trade).site links x out result.1 result.0 }
+        → ServesBook O.link O.disk T.passes (T.trade trade).site links x out result.1 result.0 }
 {
     match open_house(alloc, out, Limits::FULL, trade) {
         Ok(house) => ended(serve_links(house, links)),

@@ -6,11 +6,11 @@ use Rattle.mc_records.specs.Entry.{Entry, Fits, payload}
 use Rattle.mc_records.specs.Following.{AllFollowBy}
 use Rattle.mc_records.specs.Sizes.{size, entry_size}
 use Rattle.mc_records.specs.declared.limits.TheConstants.Limits.{MOST_JOURNAL}
-use Rattle.scrip_journal.specs.Layout.{Encodes, IsSpoiled}
+use Rattle.scrip_journal.specs.Layout.{Encodes, IsSpoiled, IsUnchained}
 use Rattle.scrip_journal.specs.States.{Reading, IsReading}
 use Rattle.scrip_journal.specs.Replays.{ReadsOn}
-use Rattle.scrip_journal.specs.declared.ending.ReplayFault.TheVariants.{BadRecord}
-use Rattle.scrip_journal.specs.Causes.{IsOfKind, IsOfOther, BeginsWithEntries, SpoilsAt, IsUnlawfulAt}
+use Rattle.scrip_journal.specs.declared.ending.ReplayFault.TheVariants.{BadRecord, BadChain}
+use Rattle.scrip_journal.specs.Causes.{IsOfKind, IsOfOther, BeginsWithEntries, SpoilsAt, UnchainsAt, IsUnlawfulAt}
 use Rattle.scrip_journal.proofs.Bodies.{size_more}
 use Rattle.scrip_journal.proofs.Reading.{bytes_told}
 use Rattle.scrip_journal.proofs.Beginnings.{first_tells, empty_tells, kind_tells}
@@ -66,6 +66,13 @@ read_on_then view moved a b c goes m n = record { disk_moved = goes; only_read =
 
 -- ---- behind entries that were learned
 
+-- where an entry's chain is another, told with equal numbers
+pub unchains_same : (may : List Entry → Entry → Type 0) (kinds : ℕ → Type 0) (x : List ℕ) {place at : ℕ} {stood stands computed comes : List ℕ} → place ≡ at → stood ≡ stands → computed ≡ comes → UnchainsAt may kinds x at stands comes → UnchainsAt may kinds x place stood computed
+unchains_same may kinds x {place = place} {at = at} {stood = stood} {stands = stands} {computed = computed} {comes = comes} same_place same_stood same_computed is =
+    subst (λ (p : ℕ). UnchainsAt may kinds x p stood computed) (sym same_place)
+    (subst (λ (c : List ℕ). UnchainsAt may kinds x at c computed) (sym same_stood)
+    (subst (λ (c : List ℕ). UnchainsAt may kinds x at stands c) (sym same_computed) is))
+
 module _ {D L : Type 0} (view : D → DiskView) (opener : OpenerView L) (x : List ℕ) (old new : Reading D) (learner : L)
     (told : (view old.disk).contents ≡ Some x) (h : List Entry) (reading : IsReading view old h) (l : HasLearned opener learner h) where
   pub none_left : ReadsOn view h reading.bytes old.gate (Ok None) new → LearnedAll view opener x new learner
@@ -76,7 +83,15 @@ module _ {D L : Type 0} (view : D → DiskView) (opener : OpenerView L) (x : Lis
     before = h;
     follow = l.follow;
     of_kind = of_kind opener.kinds h l.of_site;
-    spoiled = subst (λ (bytes : List ℕ). IsSpoiled h bytes place) (bytes_told view old h x reading told) reads.0;
+    reads = subst (λ (bytes : List ℕ). IsSpoiled h bytes place) (bytes_told view old h x reading told) reads.0;
+  }
+
+  pub unchains_here : (place : ℕ) (stood computed : List ℕ) → ReadsOn view h reading.bytes old.gate (Err (BadChain place stood computed)) new → UnchainsAt opener.may opener.kinds x place stood computed
+  unchains_here place stood computed reads = record {
+    before = h;
+    follow = l.follow;
+    of_kind = of_kind opener.kinds h l.of_site;
+    reads = subst (λ (bytes : List ℕ). IsUnchained h bytes place stood computed) (bytes_told view old h x reading told) reads.0;
   }
 
   pub learned_more : (m : L) (f : Entry) → IsReading view new (h ++ f ∷ []) → opener.may h f × opener.holds m (h ++ f ∷ []) → LearnedSome view opener new m
@@ -118,12 +133,21 @@ module _ {D L : Type 0} (view : D → DiskView) (opener : OpenerView L) (x : Lis
     before = [];
     follow = tt;
     of_kind = tt;
-    spoiled = subst (λ (bytes : List ℕ). IsSpoiled [] bytes place) (bytes_told view old [] x r told) reads.0;
+    reads = subst (λ (bytes : List ℕ). IsSpoiled [] bytes place) (bytes_told view old [] x r told) reads.0;
+  }
+
+  pub unchains_first : (r : IsReading view old []) (place : ℕ) (stood computed : List ℕ) → ReadsOn view [] r.bytes old.gate (Err (BadChain place stood computed)) new → UnchainsAt opener.may opener.kinds x place stood computed
+  unchains_first r place stood computed reads = record {
+    before = [];
+    follow = tt;
+    of_kind = tt;
+    reads = subst (λ (bytes : List ℕ). IsUnchained [] bytes place stood computed) (bytes_told view old [] x r told) reads.0;
   }
 
   pub first_learned : OnlyRead (view old.disk) (view new.disk) → (e : Entry) → IsReading view new (e ∷ []) → (result : Result L Halt) → BeginsBy opener e result → MatchResult result (LearnedSome view opener new) (HaltsBy opener x)
   first_learned read e is (Ok learner) begun = (e ∷ [], is, begun)
   first_learned read e is (Err (halts.BadRecord place)) begun = absurd begun
+  first_learned read e is (Err (halts.BadChain place stood computed)) begun = absurd begun
   first_learned read e is (Err (halts.Unlawful place)) begun =
       let begins = begins_so view new (e ∷ []) x is (read.contents ∙ told) in (
         first_tells opener.kinds e [] x begins begun.2,

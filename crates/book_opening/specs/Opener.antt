@@ -11,6 +11,8 @@ pub record OpenerView (L : Type 0) : Type 1 where
   pub ready : Type 0
   -- the entry may follow these
   pub may : List Entry → Entry → Type 0
+  -- what is found of an entry behind these before it is learned
+  pub asks : List Entry → Entry → Type 0
   -- books of a site of this kind are opened
   pub kinds : ℕ → Type 0
   -- what holds of its learners whatever they learned, as their limits

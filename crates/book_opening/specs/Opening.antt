@@ -8,11 +8,11 @@ use Rattle.mc_records.specs.declared.limits.TheConstants.Limits.{MOST_JOURNAL}
 use Rattle.scrip_journal.specs.Layout.{header, Encodes}
 use Rattle.scrip_journal.specs.States.{AtRest, Reading, IsJournal, IsReading}
 use Rattle.scrip_journal.specs.Founds.{fault_disk}
-use Rattle.scrip_journal.specs.Causes.{FoundsSite, IsOfOtherKind, SpoilsAt, IsUnlawfulAt, IsOfOther}
+use Rattle.scrip_journal.specs.Causes.{FoundsSite, IsOfOtherKind, SpoilsAt, UnchainsAt, IsUnlawfulAt, IsOfOther}
 use Rattle.scrip_journal.specs.declared.cursor.TheConstants.{FIRST_GATE}
 use Rattle.scrip_journal.specs.declared.ending.Ending.TheVariants.{Closed}
 use Rattle.scrip_journal.specs.declared.fault.HouseFault.{HouseFault}
-use Rattle.scrip_journal.specs.declared.fault.HouseFault.TheVariants.{NotJournal, BadRecord, Unlawful, WrongKind, NotEmpty, Disk, NoMemory}
+use Rattle.scrip_journal.specs.declared.fault.HouseFault.TheVariants.{NotJournal, BadRecord, BadChain, Unlawful, WrongKind, NotEmpty, Disk, NoMemory}
 use Rattle.book_opening.specs.declared.opening.Halt.{Halt}
 use Rattle.book_opening.specs.declared.opening.Halt.TheVariants as halts
 use Rattle.book_opening.specs.Opener.{OpenerView}
@@ -53,6 +53,7 @@ abbrev pub OpensBook : {D L : Type 0} → (D → DiskView) → OpenerView L → 
 OpensBook view opener bytes (Ok x) = OpenedAs view opener bytes x.0 x.1
 OpensBook view opener bytes (Err (NotJournal d)) = BeginsWith header bytes → ⊥
 OpensBook view opener bytes (Err (BadRecord d place)) = SpoilsAt opener.may opener.kinds bytes place
+OpensBook view opener bytes (Err (BadChain d place stood computed)) = UnchainsAt opener.may opener.kinds bytes place stood computed
 OpensBook view opener bytes (Err (Unlawful d place)) = IsUnlawfulAt opener.may opener.kinds bytes place
 OpensBook view opener bytes (Err (WrongKind d)) = IsOfOther opener.kinds bytes
 OpensBook view opener bytes (Err (NotEmpty d count)) = ⊥
@@ -78,6 +79,7 @@ LearnedAll view opener bytes r learner = (h : List Entry) × Encodes h bytes × 
 -- why a book was not learned, by its bytes
 abbrev pub HaltsBy : {L : Type 0} → OpenerView L → List ℕ → Halt → Type 0
 HaltsBy opener bytes (halts.BadRecord place) = SpoilsAt opener.may opener.kinds bytes place
+HaltsBy opener bytes (halts.BadChain place stood computed) = UnchainsAt opener.may opener.kinds bytes place stood computed
 HaltsBy opener bytes (halts.Unlawful place) = IsUnlawfulAt opener.may opener.kinds bytes place
 HaltsBy opener bytes halts.WrongKind = IsOfOther opener.kinds bytes
 HaltsBy opener bytes halts.Disk = Unit {0}
@@ -91,6 +93,7 @@ HaltCounts _ before after = after ≡ before
 -- the fault with the disk that comes back
 abbrev pub fault_with : {D : Type 0} → D → Halt → HouseFault D
 fault_with d (halts.BadRecord place) = BadRecord d place
+fault_with d (halts.BadChain place stood computed) = BadChain d place stood computed
 fault_with d (halts.Unlawful place) = Unlawful d place
 fault_with d halts.WrongKind = WrongKind d
 fault_with d halts.Disk = Disk d
@@ -100,6 +103,7 @@ fault_with d halts.NoMemory = NoMemory d
 abbrev pub BeginsBy : {L : Type 0} → OpenerView L → Entry → Result L Halt → Type 0
 BeginsBy opener e (Ok learner) = HasLearned opener learner (e ∷ [])
 BeginsBy opener e (Err (halts.BadRecord place)) = ⊥
+BeginsBy opener e (Err (halts.BadChain place stood computed)) = ⊥
 BeginsBy opener e (Err (halts.Unlawful place)) = (place ≡ FIRST_GATE) × (opener.may [] e → ⊥) × (IsOfOtherKind opener.kinds e → ⊥)
 BeginsBy opener e (Err halts.WrongKind) = IsOfOtherKind opener.kinds e
 BeginsBy opener e (Err halts.Disk) = ⊥

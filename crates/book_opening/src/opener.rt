@@ -1,6 +1,7 @@
 //! Who opens a book.
 
-ghost use Rattle.std.specs.Prelude.{◌+◌, ◌≤◌, ◌↔◌, [], List, IsTrue, IfOk, OnOk};
+ghost use Rattle.std.specs.Prelude.{◌≡◌, ◌+◌, ◌≤◌, ◌↔◌, [], List, IsTrue, IfOk, OnOk};
+ghost use Rattle.mc_records.specs.Chains.{chain};
 ghost use Rattle.mc_records.specs.Entry.{Entry, Fits};
 ghost use Rattle.mc_records.specs.Sizes.{size, entry_size};
 ghost use Rattle.mc_records.specs.Views.{entry};
@@ -34,17 +35,26 @@ pub trait Opener: Drop {
         ensures belongs { IfOk result (opener self).belongs }
         ensures exact { Learns (opener self).may (opener self).holds [] (entry first.now) result };
 
-    /// Learns the next entry of a book. `Unlawful` comes exactly where it may not follow those before it. After
-    /// an `Err` nothing is said of the learner. It takes memory.
+    /// Whether an entry may be learned, by the chain of the entries before it.
+    fn is_told(r: &Record<'_>, before: &[u8; 32]) -> bool
+        ensures { (o : Self) (h : List Entry) → before.now ≡ chain h
+            → IsTrue result ↔ (opener o).asks h (entry r.now) };
+
+    /// Learns the next entry of a book, of which `is_told` said that it may be learned. `Unlawful` comes exactly where
+    /// it may not follow those before it. After an `Err` nothing is said of the learner. It takes memory.
     fn learn(learner: &mut Self::Learner, r: &Record<'_>) -> Result<(), LearnFault>
         requires fits { Fits (entry r.now) }
         ensures belongs { (o : Self) → (opener o).belongs learner.old
             → OnOk result ((opener o).belongs learner.new) }
         ensures exact { (o : Self) (h : List Entry) → (opener o).belongs learner.old
             → (opener o).holds learner.old h
+            → (opener o).asks h (entry r.now)
             → size h + entry_size h (entry r.now) ≤ MOST_JOURNAL
             → Learns (opener o).may (λ u. (opener o).holds learner.new) h (entry r.now) result };
 
     /// Only a Site entry may come first.
     ghost site_first: { (o : Self) (e : Entry) → (opener o).may [] e → IsSite e };
+
+    /// Only an entry of which that is found may follow.
+    ghost told_first: { (o : Self) (h : List Entry) (e : Entry) → (opener o).may h e → (opener o).asks h e };
 }

@@ -23,6 +23,12 @@ use std::alloc::Global;
 pub(crate) enum Halt {
     /// The bytes from this place on can't stand in a journal.
     BadRecord(u64),
+    /// The bytes from this place on are another chain than the one computed.
+    BadChain {
+        place: u64,
+        stood: [u8; 32],
+        computed: [u8; 32],
+    },
     /// The entry behind the gate at this place isn't lawful after those before it.
     Unlawful(u64),
     /// The book is that of a site of another kind.
@@ -40,6 +46,11 @@ impl Halt {
     {
         match self {
             Halt::BadRecord(place) => HouseFault::BadRecord(disk, place),
+            Halt::BadChain {
+                place,
+                stood,
+                computed,
+            } => HouseFault::BadChain(disk, place, stood, computed),
             Halt::Unlawful(place) => HouseFault::Unlawful(disk, place),
             Halt::WrongKind => HouseFault::WrongKind(disk),
             Halt::Disk => HouseFault::Disk(disk),
@@ -52,7 +63,8 @@ impl Halt {
 /// the journal may grow to `limits.journal` bytes.
 ///
 /// `NotJournal` comes where the disk does not begin with the header of a journal, and `BadRecord` where
-/// its bytes can't stand, from the place told on. `Unlawful` tells the place of the gate of the first
+/// its bytes can't stand, from the place told on; `BadChain` where an entry's chain at the place told is another than
+/// the one computed. `Unlawful` tells the place of the gate of the first
 /// entry that may not follow those before it, and 8 where there is no entry at all. `WrongKind` comes
 /// where the book is of a site of a kind that the opener doesn't open. `Disk` comes only where the disk
 /// failed, and `NoMemory` where memory was refused, to the learner too. Nothing is written, and each fault
@@ -137,6 +149,19 @@ fn learn_first<D: Disk, O: Opener>(
         Ok(Some(_)) => {}
         Ok(None) => return Err(Halt::Unlawful(FIRST_GATE)),
         Err(ReplayFault::BadRecord { place }) => return Err(Halt::BadRecord(place)),
+        Err(
+            ReplayFault::BadChain {
+                place,
+                stood,
+                computed,
+            },
+        ) => {
+            return Err(Halt::BadChain {
+                place,
+                stood,
+                computed,
+            });
+        }
         Err(ReplayFault::Disk) => return Err(Halt::Disk),
     }
     match replay.record() {
@@ -208,15 +233,32 @@ fn learn_next<D: Disk, O: Opener>(
         → (O.opener o).belongs learner.old → LearnedSome D.disk (O.opener o) replay.old learner.old
         → LearnsNext D.disk (O.opener o) x replay.new learner.new result }
 {
+    let before = replay.chain();
     let gate = match replay.next_record() {
         Ok(Some(gate)) => gate,
         Ok(None) => return Ok(false),
         Err(ReplayFault::BadRecord { place }) => return Err(Halt::BadRecord(place)),
+        Err(
+            ReplayFault::BadChain {
+                place,
+                stood,
+                computed,
+            },
+        ) => {
+            return Err(Halt::BadChain {
+                place,
+                stood,
+                computed,
+            });
+        }
         Err(ReplayFault::Disk) => return Err(Halt::Disk),
     };
     let Some(record) = replay.record() else {
         unreachable!()
     };
+    if !O::is_told(&record, &before) {
+        return Err(Halt::Unlawful(gate));
+    }
     match O::learn(learner, &record) {
         Ok(()) => Ok(true),
         Err(LearnFault::Unlawful) => Err(Halt::Unlawful(gate)),

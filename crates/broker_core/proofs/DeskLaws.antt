@@ -14,7 +14,7 @@ use Rattle.mc_records.specs.declared.record.Record.{Record}
 use Rattle.mc_records.specs.declared.record.Record.TheVariants as records
 use Rattle.mc_records.specs.Errands.{Errand, buy, pay_in, draw, errand_of}
 use Rattle.mc_records.proofs.ErrandLaws.{errand_told}
-use Rattle.mc_records.specs.Entry.{Deed, Entry, Site, AddTerms, Goods, Accept, Mint, Account, Deposit, Withdraw, Draw, Licence, Stock, Got, Pend, Done, Refused}
+use Rattle.mc_records.specs.Entry.{Deed, Entry, Site, AddTerms, Goods, Accept, Mint, Account, Deposit, Withdraw, Draw, Licence, Stock, Got, Pend, Done, Refused, Upgrade, Switch, Note}
 use Rattle.ledger_model.specs.declared.numbers.TheConstants.{BROKER_KIND}
 use Rattle.ledger_model.specs.Histories.{History}
 use Rattle.ledger_model.specs.Houses.{site_kind, is_vendor, fee}
@@ -29,7 +29,7 @@ use Rattle.vendor_stalls.specs.declared.target.Purchase.{Purchase}
 use Rattle.vendor_stalls.specs.Stalls.{StallView, has_id, empty_stall}
 use Rattle.vendor_stalls.specs.Shown.{Shows}
 use Rattle.vendor_stalls.specs.Vendors.{found_stall, asked_to_buy, StallsAllow, StallsAnswer}
-use Rattle.house_state.specs.Learning.{ByHouse, ByTrade, MayLearn}
+use Rattle.house_state.specs.Learning.{Test, untested, ByHouse, ByTrade, MayLearn}
 use Rattle.broker_core.specs.Desk.{IsOfBroker, DeskAllows, HasNothingOf, account_credited, credit_offer, fee_by}
 
 -- ---- a broker
@@ -126,23 +126,26 @@ pub sold_by : ((limits : Limits) (h : History) (e : Entry) → MayFollow limits 
 sold_by law limits number h (Accept m scrip target sign price change deed) may = accepted_by (λ l g x. StallsAnswer l.series g x) law limits h m number scrip target sign price change deed may
 sold_by law limits number h e may = tt
 
--- the trade's half is what accounts and stalls allow
-pub by_trade : (passes : History → Entry → Type 0) (h : History) (e : Entry) → IsOfBroker e → DeskAllows h e ↔ ByTrade passes BROKER_KIND h e
-by_trade passes h (Site m kind name house) is = (λ a. tt, λ b. (tt, tt))
-by_trade passes h (Account m name key) is = (λ a. (refl, a.0), λ b. (b.1, tt))
-by_trade passes h (Deposit m name amount reference) is = (λ a. (refl, a.0.0, a.0.1, a.0.2), λ b. ((b.1, b.2, b.3), tt))
-by_trade passes h (Withdraw m name amount reference) is = (λ a. (refl, a.0.0, a.0.1, a.0.2), λ b. ((b.1, b.2, b.3), tt))
-by_trade passes h (Accept m scrip target sign price change deed) is = (λ a. tt, λ b. (tt, tt))
-by_trade passes h (Draw m target sign drawn) is = (λ a. tt, λ b. (tt, tt))
-by_trade passes h (Licence m vendor terms) is = (λ a. (refl, a.1), λ b. (tt, b.1))
-by_trade passes h (Stock m vendor pieces) is = (λ a. (refl, a.1), λ b. (tt, b.1))
-by_trade passes h e is = absurd is
+-- The trade's half is what accounts, stalls and moved issuers allow. Every note passes.
+pub by_trade : (h : History) (e : Entry) → IsOfBroker e → DeskAllows h e ↔ ByTrade untested BROKER_KIND h e
+by_trade h (Site m kind name house) is = (λ a. tt, λ b. ((tt, tt), tt))
+by_trade h (Account m name key) is = (λ a. (refl, a.0.0), λ b. ((b.1, tt), tt))
+by_trade h (Deposit m name amount reference) is = (λ a. (refl, a.0.0.0, a.0.0.1, a.0.0.2), λ b. (((b.1, b.2, b.3), tt), tt))
+by_trade h (Withdraw m name amount reference) is = (λ a. (refl, a.0.0.0, a.0.0.1, a.0.0.2), λ b. (((b.1, b.2, b.3), tt), tt))
+by_trade h (Accept m scrip target sign price change deed) is = (λ a. tt, λ b. ((tt, tt), tt))
+by_trade h (Draw m target sign drawn) is = (λ a. tt, λ b. ((tt, tt), tt))
+by_trade h (Licence m vendor terms) is = (λ a. (refl, a.0.1), λ b. ((tt, b.1), tt))
+by_trade h (Stock m vendor pieces) is = (λ a. (refl, a.0.1), λ b. ((tt, b.1), tt))
+by_trade h (Upgrade m vendor issuer from) is = (λ a other. (refl, a.1 other), λ b. ((tt, tt), λ other. (b other).1))
+by_trade h (Switch m chain) is = (λ a. tt, λ b. ((tt, tt), tt))
+by_trade h (Note m tag bytes) is = (λ a. tt, λ b. ((tt, tt), tt))
+by_trade h e is = absurd is
 
 no_other : (kind : ℕ) → kind ≡ 0 → kind ≡ 1 → ⊥
 no_other kind a b = absurd (omega (arith, a, b))
 
 -- entries of other kinds are none of a broker's
-pub not_by_trade : (passes : History → Entry → Type 0) (h : History) (e : Entry) → (IsOfBroker e → ⊥) → ByTrade passes BROKER_KIND h e → ⊥
+pub not_by_trade : (passes : Test) (h : History) (e : Entry) → (IsOfBroker e → ⊥) → ByTrade passes BROKER_KIND h e → ⊥
 not_by_trade passes h (AddTerms m terms) is b = no_other BROKER_KIND b.0 refl
 not_by_trade passes h (Goods m target price k contents) is b = no_other BROKER_KIND b.0 refl
 not_by_trade passes h (Mint m reference count value first) is b = no_other BROKER_KIND b.0 refl

@@ -1,4 +1,5 @@
 mod DeskLaws
+mod MoveLaws
 mod OperatorLemmas
 mod SaleLaws
 mod StockLemmas

@@ -1,5 +1,5 @@
 -- What is sold of a vendor, as the ledger answers it.
-use Rattle.std.proofs.Common.{◌≡◌, ℕ, Bool, true, false, cond, List, [], Option, Some, None, Result, Ok, Err, option_map, refl, sym, ap, ap₂, subst, ◌∙◌, find}
+use Rattle.std.proofs.Common.{◌≡◌, ℕ, Bool, true, false, cond, List, Option, Some, None, Result, Ok, Err, option_map, refl, sym, ap, ap₂, subst, ◌∙◌, find}
 use Rattle.std.specs.Prelude.{option_and_then, IfOk}
 use Rattle.scrip_form.specs.Identities.{series_of}
 use Rattle.scrip_form.specs.Issuing.{Issuing, series_at}
@@ -12,7 +12,8 @@ use Rattle.mc_records.specs.declared.refusal.Refusal.{Refusal}
 use Rattle.kept_replies.specs.declared.deed.Deed.{Deed}
 use Rattle.kept_replies.specs.declared.deed.Deed.TheVariants as kept
 use Rattle.ledger_model.specs.Histories.{History}
-use Rattle.ledger_model.specs.Houses.{version, certificate_in, secret_in}
+use Rattle.scrip_certs.specs.Digests.{certificate, customer_secret}
+use Rattle.ledger_model.specs.Houses.{version}
 use Rattle.ledger_model.specs.Lines.{Stop, Refuse, ◌>>=◌, as_line, given}
 use Rattle.ledger_model.specs.Stock.{sale_at, sold_held, licensed_held, licence_in, licensed_count, knows_vendor, for_sale, licensed_piece}
 use Rattle.ledger_model.specs.Stages.{supplied}
@@ -94,20 +95,23 @@ pub stock_brings : (h : History) (target vendor : List ℕ) (s : StallView) (t v
 stock_brings h target vendor s t value p shows asks first =
     brings_sale h target vendor value (piece_in_stock vendor value p) p.cert p.secret true asks (held_is h vendor s t value p shows (sym first))
 
-pub licence_brings : (h : History) (target vendor : List ℕ) (s : StallView) (value id : ℕ) (terms : Issuing) → Shows h vendor s → errand_of target ≡ Some (buy vendor value) → Some terms ≡ terms_of s
-    → BringsFor h target (licensed_deed terms (licensed_piece terms vendor value id))
-unfolding version certificate_in secret_in
-licence_brings h target vendor s value id terms shows asks stands =
-    let p = licensed_piece terms vendor value id in
-    brings_sale h target vendor value p (certificate_in (version [] vendor (series_of id)) terms (scrip_body p) id) (secret_in (version [] vendor (series_of id)) terms id) false asks
-    (ap (option_map (λ (x : Issuing). licensed_held (version h vendor (series_of id)) x (licensed_piece x vendor value id))) (sym (stands ∙ shows.terms)))
+licence_brings : (h : History) (target vendor : List ℕ) (s : StallView) (value id v : ℕ) (terms : Issuing) → Shows h vendor s → errand_of target ≡ Some (buy vendor value) → Some terms ≡ terms_of s
+    → v ≡ version h vendor (series_of id) → BringsFor h target (licensed_deed terms (licensed_piece v terms vendor value id))
+licence_brings h target vendor s value id v terms shows asks stands same =
+    let p = licensed_piece v terms vendor value id in
+    brings_sale h target vendor value p (certificate terms (scrip_body p) id) (customer_secret terms id v) false asks
+    (ap (option_map (λ (x : Issuing). licensed_held x (licensed_piece (version h vendor (series_of id)) x vendor value id))) (sym (stands ∙ shows.terms))
+    ∙ ap (λ (n : ℕ). held (licensed_held terms (licensed_piece n terms vendor value id))) (sym same))
+  where
+    held : Held → Option Held
+    held x = Some x
 
-pub made_brings : (h : History) (target vendor : List ℕ) (s : StallView) (value : ℕ) (terms : Issuing) (r : Result Deed Refusal) → Shows h vendor s → errand_of target ≡ Some (buy vendor value) → Some terms ≡ terms_of s
-    → IfOk r (IsLicensed terms vendor value) → IfOk r (BringsFor h target)
-made_brings h target vendor s value terms (Err f) shows asks stands made = made
-made_brings h target vendor s value terms (Ok (kept.Sale piece cert secret stock)) shows asks stands made =
-    subst (BringsFor h target) (sym made) (licence_brings h target vendor s value piece.id terms shows asks stands)
-made_brings h target vendor s value terms (Ok d) shows asks stands made = absurd made
+pub made_brings : (h : History) (target vendor : List ℕ) (s : StallView) (value series v : ℕ) (terms : Issuing) (r : Result Deed Refusal) → Shows h vendor s → errand_of target ≡ Some (buy vendor value) → Some terms ≡ terms_of s
+    → v ≡ version h vendor series → IfOk r (IsLicensed terms series v vendor value) → IfOk r (BringsFor h target)
+made_brings h target vendor s value series v terms (Err f) shows asks stands same made = made
+made_brings h target vendor s value series v terms (Ok (kept.Sale piece cert secret stock)) shows asks stands same made =
+    subst (BringsFor h target) (sym made.1) (licence_brings h target vendor s value piece.id v terms shows asks stands (same ∙ ap (version h vendor) (sym made.0)))
+made_brings h target vendor s value series v terms (Ok d) shows asks stands same made = absurd made
 
 pub on_ok : (P : Deed → Type 0) (r : Result Deed Refusal) {d : Deed} → r ≡ Ok d → P d → IfOk r P
 on_ok P r is holds = subst (λ (x : Result Deed Refusal). IfOk x P) (sym is) holds

@@ -1,12 +1,11 @@
 -- Which lines are taken as stock.
-use Rattle.std.proofs.Common.{◌≡◌, ℕ, ◌+◌, ◌≤◌, Bool, true, false, cond, eqb, ltb, ◌||◌, ◌&&◌, not, List, [], ◌∷◌, length, take, find, count_by, Option, Some, None, Ok, Err, Result, option_map, unwrap_or, IsSome, refl, sym, ap, subst, ◌∙◌, arith}
-use Rattle.std.specs.Prelude.{bytes_eq, IsSomeAnd}
+use Rattle.std.proofs.Common.{◌≡◌, ℕ, ◌+◌, ◌≤◌, Bool, true, false, cond, eqb, ltb, ◌||◌, not, List, [], ◌∷◌, take, find, count_by, Option, Some, None, Ok, Err, Result, option_map, unwrap_or, IsSome, refl, sym, ap, subst, ◌∙◌, arith}
+use Rattle.std.specs.Prelude.{IsSomeAnd}
 use Rattle.std.specs.List.{list_any, list_all, AllByRecursion}
 use Rattle.std.specs.Result.{result_ok}
 use Rattle.std.proofs.lemmas.Option.{same_Some}
-use Rattle.std.proofs.lemmas.Bool.{eqb-true, eq-eqb, false_from_ne_true, or_from, or_parts, and_from, and_parts, ltb-false}
+use Rattle.std.proofs.lemmas.Bool.{eqb-true, eq-eqb, false_from_ne_true, or_from, or_parts, and_from, ltb-false}
 use Rattle.scrip_form.specs.Scrip.{Scrip}
-use Rattle.scrip_form.specs.Identities.{issuer_of}
 use Rattle.mc_records.specs.declared.limits.Limits.{Limits}
 use Rattle.mc_records.specs.declared.refusal.Refusal.{Refusal}
 use Rattle.mc_records.specs.declared.refusal.Refusal.TheVariants.{StockTwice, BadInput}
@@ -119,19 +118,13 @@ new_of known (x ∷ xs) all =
 
 -- ---- what may be stock
 
-stock_by : (a b c d : Bool) → (a && (b && (c && d))) ≡ true → (a && ((c && d) && b)) ≡ true
-stock_by a b c d is =
-    let p = and_parts a (b && (c && d)) is in
-    let q = and_parts b (c && d) p.1 in
-    and_from a ((c && d) && b) p.0 (and_from (c && d) b q.1 q.0)
-
 abbrev may_stock : List ℕ → Held → Bool
 may_stock vendor p = unwrap_or (option_map (may_be_stock vendor) (held_piece p)) false
 
 one_may : (vendor : List ℕ) (p : Held) → LineFits (is_stock_of vendor) p → may_stock vendor p ≡ true
 one_may vendor p f =
     ap (λ (r : Result (Scrip × List ℕ) ℕ). unwrap_or (option_map (may_be_stock vendor) (option_map (λ x. x.0) (result_ok r))) false) (text_read (is_stock_of vendor) p f)
-    ∙ stock_by (bytes_eq f.piece.vendor vendor) (eqb (issuer_of f.piece.id) 0) (eqb f.piece.cust f.piece.id) (eqb (length f.piece.props) 0) f.passes
+    ∙ f.passes
 
 all_may : (vendor : List ℕ) (ps : List Held) → AllByRecursion (LineFits (is_stock_of vendor)) ps → list_all (may_stock vendor) ps ≡ true
 all_may vendor [] fit = refl

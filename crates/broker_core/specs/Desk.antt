@@ -1,7 +1,7 @@
 -- What a desk represents.
 use Rattle.std.specs.Prelude.{◌≡◌, ℕ, false, List, [], Option, Some, None, option_map, unwrap_or, Result}
 use Rattle.mc_records.specs.Errands.{Errand, pay_in}
-use Rattle.mc_records.specs.Entry.{Entry, Site, Accept, Account, Deposit, Withdraw, Draw, Licence, Stock}
+use Rattle.mc_records.specs.Entry.{Entry, Site, Accept, Account, Deposit, Withdraw, Draw, Licence, Stock, Upgrade, Switch, Note}
 use Rattle.ledger_model.specs.Histories.{History}
 use Rattle.ledger_model.specs.Houses.{fee}
 use Rattle.ledger_model.specs.Accounts.{account_in, balance}
@@ -15,20 +15,26 @@ use Rattle.account_ledger.specs.Ledger.{Represents, HasRoom, AccountsAllow}
 use Rattle.vendor_stalls.specs.Vendors.{StallsRepresent, StallsHaveRoom, StallsAllow}
 use Rattle.house_state.specs.Trade.{TradeView}
 use Rattle.broker_core.specs.declared.desk.Desk.{Desk}
+use Rattle.broker_core.specs.Moves.{MovesRepresent, MovesHaveRoom, MovesAllow}
 
--- accounts, stalls and fee are what a history says
+-- accounts, stalls, moved issuers and fee are what a history says
 pub record DeskRepresents (d : Desk) (h : History) : Type 0 where
   pub of_accounts : Represents d.accounts h
   pub of_stalls : StallsRepresent d.stalls h
+  pub of_moves : MovesRepresent d.moves h
   pub of_fee : fee h ≡ d.fee
 
 -- there is room for what an entry adds
 abbrev pub DeskHasRoom : Desk → Entry → Type 0
-DeskHasRoom d e = HasRoom d.accounts e × StallsHaveRoom d.stalls e
+DeskHasRoom d e = HasRoom d.accounts e × StallsHaveRoom d.stalls e × MovesHaveRoom d.moves e
 
 -- what has to hold of accounts and stalls for an entry of an operator to come next
+abbrev pub PartsAllow : History → Entry → Type 0
+PartsAllow h e = AccountsAllow h e × StallsAllow h e
+
+-- and of the issuers that were moved
 abbrev pub DeskAllows : History → Entry → Type 0
-DeskAllows h e = AccountsAllow h e × StallsAllow h e
+DeskAllows h e = PartsAllow h e × MovesAllow h e
 
 -- a broker has nothing of a vendor, and has not heard of him
 pub record HasNothingOf (h : History) (vendor : List ℕ) : Type 0 where
@@ -64,6 +70,9 @@ IsOfBroker (Accept m scrip target sign price change deed) = Unit {0}
 IsOfBroker (Draw m target sign drawn) = Unit {0}
 IsOfBroker (Licence m vendor terms) = Unit {0}
 IsOfBroker (Stock m vendor pieces) = Unit {0}
+IsOfBroker (Upgrade m vendor issuer from) = Unit {0}
+IsOfBroker (Switch m chain) = Unit {0}
+IsOfBroker (Note m tag bytes) = Unit {0}
 IsOfBroker _ = ⊥
 
 -- the fee after an entry: a Site entry of a house sets it

@@ -1,3 +1,4 @@
 pub mod Desk
+pub mod Moves
 pub mod Sales
 pub mod Tasks

@@ -15,6 +15,8 @@ use Rattle.piece_lines.specs.PieceLines.{input_lines}
 use Rattle.account_ledger.specs.Tasks as accounts
 use Rattle.house_state.specs.CommandEntries.{IsCommand}
 use Rattle.house_core.specs.Tasks.{Task, Add, Stays, Refuse}
+use Rattle.house_core.specs.Upgrading.{upgrade_task}
+use Rattle.broker_core.specs.Moves.{moved_issuer}
 
 -- ---- accounts
 
@@ -44,6 +46,11 @@ licensed t vendor terms (Some x) = if are_same_terms x terms then Stays else Ref
 abbrev pub licence_task : History → ℕ → List ℕ → Issuing → Task
 licence_task h t vendor terms = licensed t vendor terms (licence_in h vendor)
 
+-- What there is to do where an issuer is to be moved by the name of a vendor, from an epoch on. The order of refusals, 71,
+-- then after the test for the same 72 and 73, is that of every house.
+abbrev pub upgrade_licence_task : History → ℕ → List ℕ → ℕ → Task
+upgrade_licence_task h t vendor from = upgrade_task h t vendor (moved_issuer h vendor) from
+
 -- ---- stock
 
 -- whether an identity stands twice among some
@@ -55,8 +62,8 @@ abbrev pub first_twice : List ℕ → List ℕ → Option ℕ
 first_twice known ids = find (λ id. list_any (λ k. k == id) known || stands_twice ids id) ids
 
 -- Why an input is not taken as stock where these identities are known: 53 BadInput tells the line at which it breaks the
--- form of piece lines, or has a piece of another vendor, one that is not first-hand, or one of an issuer above 0; then
--- 57 StockTwice tells the first identity that is known or stands twice.
+-- form of piece lines, or has a piece of another vendor, or one that is not first-hand; then 57 StockTwice tells the first
+-- identity that is known or stands twice.
 abbrev pub stock_refusal : List ℕ → Result (List Held) ℕ → Option Refusal
 stock_refusal known (Ok pieces) = option_map StockTwice (first_twice known (ids_of pieces))
 stock_refusal known (Err line) = Some (BadInput line)

@@ -1,6 +1,7 @@
-ghost use Rattle.std.specs.Prelude.{◌≡◌, ◌<◌, ◌+◌, ◌++◌, ◌∷◌, ◌↔◌, ℕ, List, [], Some, IsTrue, IsFalse, IsNone, IfOk, IfErr};
+ghost use Rattle.std.specs.Prelude.{◌≡◌, ◌<◌, ◌+◌, ◌++◌, ◌∷◌, ◌↔◌, ◌==◌, ◌&&◌, nat_lt, ℕ, List, [], Some, option_map, IsTrue, IsFalse, IsNone, IfOk, IfErr};
+ghost use Rattle.scrip_form.specs.Issuing.{epoch};
 ghost use Rattle.ledger_model.specs.Histories.{History};
-ghost use Rattle.ledger_model.specs.Houses.{fee};
+ghost use Rattle.ledger_model.specs.Houses.{fee, upgrade_in};
 ghost use Rattle.ledger_model.specs.Stock.{licence_in, licensed_count, knows_vendor, for_sale};
 ghost use Rattle.ledger_model.specs.Lines.{as_line};
 ghost use Rattle.ledger_model.specs.Stages.{supplied, sale_by};
@@ -10,13 +11,15 @@ ghost use Rattle.mc_records.specs.Views.{entry};
 ghost use Rattle.account_ledger.specs.Ledger.{Represents, HasRoom, AccountsAnswer};
 ghost use Rattle.vendor_stalls.specs.Shown.{Shows};
 ghost use Rattle.vendor_stalls.specs.Vendors.{found_stall, StallsRepresent, StallsHaveRoom, StallsAnswer};
-ghost use Rattle.house_state.specs.Learning.{CommandFits};
+ghost use Rattle.house_state.specs.Learning.{CommandFits, MayRaise};
 ghost use Rattle.house_state.specs.Replying.{IsOfSite};
 ghost use Rattle.house_state.specs.Trade.{BringsFor};
 ghost use Rattle.house_state.specs.Views.{entry_deed, offer_of};
 ghost use Rattle.broker_core.specs.Sales.{IsSale};
-ghost use Rattle.broker_core.specs.Desk.{DeskRepresents, DeskAllows, HasNothingOf, IsCredit, IsOfBroker, account_credited, credit_offer, fee_by};
+ghost use Rattle.broker_core.specs.Moves.{MovesRepresent, MovesHaveRoom, MovesAllow};
+ghost use Rattle.broker_core.specs.Desk.{DeskRepresents, PartsAllow, DeskAllows, HasNothingOf, IsCredit, IsOfBroker, account_credited, credit_offer, fee_by};
 
+use crate::moves::Moves;
 use crate::sale::sold_from;
 use account_ledger::{AccountLedger, accounts_follow, order_of};
 use house_state::{Body, DrawAsk, Offer, SiteKind, Trade, Unlawful, body_of_deed};
@@ -25,15 +28,17 @@ use mc_base::{Amount, Moment, NoMemory};
 use mc_records::{
     Errand, Limits, MOST_IN_ACCOUNT, Record, Refusal, errands_are_texts, read_errand,
 };
-use scrip_form::Name;
+use scrip_form::{Name, Terms};
 use std::alloc::Global;
 use vendor_stalls::{Purchase, Stall, Stalls, bought, stalls_follow};
 
-/// The trade of a broker: the accounts of its customers, the scrip of vendors that it sells, and its fee.
+/// The trade of a broker: the accounts of its customers, the scrip of vendors that it sells, the issuers of vendors that
+/// were moved to the second version, and its fee.
 #[derive(Drop)]
 pub struct Desk {
     accounts: AccountLedger,
     stalls: Stalls,
+    moves: Moves,
     /// What it takes for a sale.
     fee: Amount,
 }
@@ -46,6 +51,7 @@ impl Desk {
         Desk {
             accounts: AccountLedger::new(alloc),
             stalls: Stalls::new(alloc),
+            moves: Moves::new(alloc),
             fee: Amount::new(0).unwrap(),
         }
     }
@@ -109,7 +115,7 @@ impl Desk {
         ensures sale { IfOk result IsSale }
     {
         match self.stall(asked.vendor.bytes()) {
-            Some(stall) => sold_from(stall, time, limits, asked),
+            Some(stall) => sold_from(stall, &self.moves, time, limits, asked),
             None => Err(Refusal::NoVendor),
         }
     }
@@ -147,7 +153,7 @@ impl Desk {
         requires stalls { StallsHaveRoom self.old.stalls (entry r.now) }
         requires fits { CommandFits (entry r.now) }
         ensures exact { (h : History) → DeskRepresents self.old h
-            → IsTrue result ↔ DeskAllows h (entry r.now) }
+            → IsTrue result ↔ PartsAllow h (entry r.now) }
         ensures accounts { (h : History) → DeskRepresents self.old h → AccountsAnswer h (entry r.now)
             → IsTrue result → Represents self.new.accounts (h ++ entry r.now ∷ []) }
         ensures stalls { (most : ℕ) (h : History) → DeskRepresents self.old h
@@ -155,6 +161,7 @@ impl Desk {
             → StallsRepresent self.new.stalls (h ++ entry r.now ∷ []) }
         ensures same { (h : History) → DeskRepresents self.old h → IsFalse result
             → DeskRepresents self.new h }
+        ensures moves { self.new.moves ≡ self.old.moves }
         ensures fee { self.new.fee ≡ self.old.fee }
     {
         match r {
@@ -172,14 +179,97 @@ impl Desk {
             }
         }
     }
+
+    /// The terms of a vendor's licence; None exactly where he has none.
+    pub(crate) fn licence(&self, vendor: &[u8]) -> Option<&Terms>
+        ensures { (h : History) → DeskRepresents self.now h
+            → option_map (λ t. t.now) result ≡ licence_in h vendor.now }
+    {
+        match self.stall(vendor) {
+            Some(stall) => stall.licence(),
+            None => None,
+        }
+    }
+
+    /// The epoch from which on an issuer of a vendor has the second version of scrip, where there is one.
+    pub(crate) fn upgraded(&self, vendor: &[u8], issuer: u8) -> Option<u32>
+        ensures { (h : History) → DeskRepresents self.now h
+            → result ≡ upgrade_in h vendor.now issuer }
+    {
+        self.moves.upgraded(vendor, issuer)
+    }
+
+    /// Whether the issuer that an entry moves may be moved, where it is not the broker's own.
+    fn may_move(&self, r: &Record<'_>) -> bool
+        ensures { (h : History) → DeskRepresents self.now h
+            → IsTrue result ↔ MovesAllow h (entry r.now) }
+    {
+        let Record::Upgrade {
+            moment,
+            vendor,
+            issuer,
+            from,
+        } = *r
+        else {
+            return true;
+        };
+        if issuer == 0 {
+            return true;
+        }
+        self.may_raise(moment, vendor, issuer, from)
+    }
+
+    /// Whether the issuer of a vendor's licence may be moved to the second version at a moment, from an epoch on.
+    fn may_raise(&self, moment: Moment, vendor: &[u8], issuer: u8, from: u32) -> bool
+        ensures { (h : History) → DeskRepresents self.now h
+            → IsTrue result ↔ MayRaise h moment vendor.now issuer from }
+    {
+        if self.upgraded(vendor, issuer).is_some() {
+            return false;
+        }
+        match self.licence(vendor) {
+            Some(terms) => comes(terms, moment, issuer, from),
+            None => false,
+        }
+    }
+
+    /// Learns the next entry, for which there is room: false exactly where one of its parts doesn't allow it.
+    fn learn_all(&mut self, r: &Record<'_>) -> bool
+        requires accounts { HasRoom self.old.accounts (entry r.now) }
+        requires stalls { StallsHaveRoom self.old.stalls (entry r.now) }
+        requires moves { MovesHaveRoom self.old.moves (entry r.now) }
+        requires fits { CommandFits (entry r.now) }
+        ensures exact { (h : History) → DeskRepresents self.old h
+            → IsTrue result ↔ DeskAllows h (entry r.now) }
+        ensures accounts { (h : History) → DeskRepresents self.old h → AccountsAnswer h (entry r.now)
+            → IsTrue result → Represents self.new.accounts (h ++ entry r.now ∷ []) }
+        ensures stalls { (most : ℕ) (h : History) → DeskRepresents self.old h
+            → StallsAnswer most h (entry r.now) → IsTrue result
+            → StallsRepresent self.new.stalls (h ++ entry r.now ∷ []) }
+        ensures moves { (h : History) → DeskRepresents self.old h → IsTrue result
+            → MovesRepresent self.new.moves (h ++ entry r.now ∷ []) }
+        ensures same { (h : History) → DeskRepresents self.old h → IsFalse result
+            → DeskRepresents self.new h }
+        ensures fee { self.new.fee ≡ self.old.fee }
+    {
+        if !self.may_move(r) {
+            return false;
+        }
+        if !self.learn_parts(r) {
+            return false;
+        }
+        self.moves.learn(r);
+        true
+    }
 }
 
 impl Trade for Desk {
+    ghost use Rattle.house_state.specs.Learning.{untested};
     ghost use Rattle.broker_core.specs.Desk.{desk_view};
 
     ghost trade = { desk_view };
 
-    ghost passes = { λ h e. Unit {0} };
+    ghost passes = { untested };
 
     fn kind(&self) -> SiteKind {
         SiteKind::Broker
@@ -236,13 +326,14 @@ impl Trade for Desk {
 
     fn reserve(&mut self, r: &Record<'_>) -> Result<(), NoMemory> {
         self.accounts.reserve(r)?;
-        self.stalls.reserve(r)
+        self.stalls.reserve(r)?;
+        self.moves.reserve(r)
     }
 
     fn learn(&mut self, _number: u64, r: &Record<'_>) -> Result<(), Unlawful> {
         accounts_follow();
         stalls_follow();
-        if !is_of_broker(r) || !self.learn_parts(r) {
+        if !is_of_broker(r) || !self.learn_all(r) {
             return Err(Unlawful);
         }
         self.fee = fee_after(self.fee, r);
@@ -268,6 +359,13 @@ fn credited(target: &[u8]) -> Option<Name>
     Some(account)
 }
 
+/// Whether terms are of an issuer, and an epoch is later than that of a moment under them.
+fn comes(terms: &Terms, moment: Moment, issuer: u8, from: u32) -> bool
+    ensures { result ≡ (terms.now.issuer == issuer && nat_lt (epoch terms.now moment) from) }
+{
+    terms.issuer() == issuer && terms.epoch_of(moment) < from
+}
+
 /// Whether an entry is of a kind that a broker learns.
 fn is_of_broker(r: &Record<'_>) -> bool
     ensures { IsTrue result ↔ IsOfBroker (entry r.now) }
@@ -280,7 +378,10 @@ fn is_of_broker(r: &Record<'_>) -> bool
         | Record::Accept { .. }
         | Record::Draw { .. }
         | Record::Licence { .. }
-        | Record::Stock { .. } => true,
+        | Record::Stock { .. }
+        | Record::Upgrade { .. }
+        | Record::Switch { .. }
+        | Record::Note { .. } => true,
         _ => false,
     }
 }

@@ -3,9 +3,10 @@
 #![tactic(auto)]
 
 mod desk;
+mod moves;
 mod operator;
 mod sale;
 mod stock;
 
 pub use desk::Desk;
-pub use operator::{add_licence, add_stock, deposit, open_account, withdraw};
+pub use operator::{add_licence, add_stock, deposit, open_account, upgrade_licence, withdraw};

@@ -1,6 +1,6 @@
 //! What the operator of a broker's site does with its book.
 
-ghost use Rattle.std.specs.Prelude.{◌≡◌, ◌<◌, ℕ, None, IfOk, IfSome, IsSome, option_map};
+ghost use Rattle.std.specs.Prelude.{◌≡◌, ◌<◌, ◌^◌, ℕ, None, IfOk, IfSome, IsSome};
 ghost use Rattle.mc_records.specs.Entry.{Licence, Fits};
 ghost use Rattle.mc_records.specs.Views.{entry};
 ghost use Rattle.account_ledger.specs.Tasks.{task_of};
@@ -11,8 +11,9 @@ ghost use Rattle.house_core.specs.Bench.{house_time, limits_of};
 ghost use Rattle.house_core.specs.House.{HouseRepresents, HandsBack, KeepsTime};
 ghost use Rattle.house_core.specs.Tasks.{Performs, TellsAdded};
 ghost use Rattle.broker_core.specs.Desk.{DeskRepresents, desk_view};
-ghost use Rattle.ledger_model.specs.Stock.{licence_in, stock_ids};
-ghost use Rattle.broker_core.specs.Tasks.{account_task, deposit_task, withdraw_task, licence_task, stock_task, stock_lines, stock_refusal, as_task, IfAdded, IsCommandAt, IsReadAs, TellsBalance, TellsCount};
+ghost use Rattle.ledger_model.specs.Stock.{licence_in, stock_ids, upgrade_terms};
+ghost use Rattle.broker_core.specs.Moves.{moved_issuer};
+ghost use Rattle.broker_core.specs.Tasks.{account_task, deposit_task, withdraw_task, licence_task, upgrade_licence_task, stock_task, stock_lines, stock_refusal, as_task, IfAdded, IsCommandAt, IsReadAs, TellsBalance, TellsCount};
 
 use crate::desk::Desk;
 use crate::stock::refusal_of;
@@ -142,7 +143,7 @@ fn licence_task<'a>(
     // What the moment and the terms know of themselves.
     let _moment = moment.seconds();
     terms_fit(*terms);
-    if let Some(standing) = licence_of(desk, vendor) {
+    if let Some(standing) = desk.licence(vendor.bytes()) {
         return if are_same(standing, terms) {
             Ok(None)
         } else {
@@ -156,22 +157,49 @@ fn licence_task<'a>(
     }))
 }
 
-/// The terms of a vendor's licence; None exactly where he has none.
-fn licence_of<'a>(desk: &'a Desk, vendor: &Name) -> Option<&'a Terms>
-    ensures { (h : History) → DeskRepresents desk.now h
-        → option_map (λ t. t.now) result ≡ licence_in h vendor.now }
+/// Moves an issuer to the second version of scrip, in the series from an epoch on, which is below 2^24: that of a vendor's
+/// licence, or, by the broker's own name, its own issuer 0. Answers the receipt of the Upgrade entry; None where it was
+/// moved from this epoch on before, and then nothing is written.
+///
+/// Refused with 71 NoTerms where the vendor has no licence, with 72 VersionSet where the issuer was moved from another
+/// epoch on, with 73 TooEarly where the epoch is not later than that of the house time, and with 33 JournalFull.
+pub fn upgrade_licence<D: Disk>(
+    house: House<D, Desk>,
+    vendor: &Name,
+    from: u32,
+) -> Outcome<D, Desk, Option<Receipt>>
+    requires from { from < 2 ^ 24 }
+    ensures back { HandsBack D.disk D.disk_moved (KeepsTime house) house.journal.disk result }
+    ensures exact { (h : History) → HouseRepresents D.disk desk_view house h
+        → Performs D.disk desk_view
+        (λ task. task ≡ upgrade_licence_task h (house_time house.bench) vendor.now from) TellsAdded
+        (limits_of house.bench) house.journal.disk h result }
 {
-    match desk.stall(vendor.bytes()) {
-        Some(stall) => stall.licence(),
-        None => None,
+    let (issuer, terms) = terms_to_move(&house, vendor);
+    let standing = house.trade().upgraded(vendor.bytes(), issuer);
+    house_core::upgrade(house, vendor, issuer, from, terms, standing)
+}
+
+/// The issuer that is moved by the name of a vendor, and the terms by which it may be.
+fn terms_to_move<D: Disk>(house: &House<D, Desk>, vendor: &Name) -> (u8, Option<Terms>)
+    ensures issuer { (h : History) → HouseRepresents D.disk desk_view house.now h
+        → result.0 ≡ moved_issuer h vendor.now }
+    ensures terms { (h : History) → HouseRepresents D.disk desk_view house.now h
+        → result.1 ≡ upgrade_terms h vendor.now (moved_issuer h vendor.now) }
+{
+    if vendor.bytes() == house.name().bytes() {
+        return (0, Some(house.own_terms()));
+    }
+    match house.trade().licence(vendor.bytes()) {
+        Some(terms) => (terms.issuer(), Some(*terms)),
+        None => (1, None),
     }
 }
 
 /// Puts pieces of a vendor into stock, whose lines these are. Answers how many they are.
 ///
-/// Refused with 53 BadInput and the first line that breaks the form, or whose piece is of another vendor, is not
-/// first-hand or has an issuer above 0; 0 where there are none, and 257 where more bytes follow behind 256 right
-/// lines. Then with 57 StockTwice and the first identity that stands in an earlier Stock entry of the vendor, or
+/// Refused with 53 BadInput and the first line that breaks the form, or whose piece is of another vendor or is not
+/// first-hand; 0 where there are none, and 257 where more bytes follow behind 256 right lines. Then with 57 StockTwice and the first identity that stands in an earlier Stock entry of the vendor, or
 /// twice in these lines. Then with 33 JournalFull.
 pub fn add_stock<D: Disk>(
     house: House<D, Desk>,

@@ -2,7 +2,7 @@
 
 ghost use Rattle.std.specs.Prelude.{◌≡◌, ◌<◌, ℕ, List, Some, Ok, false, IfOk, IfErr};
 ghost use Rattle.scrip_form.specs.Issuing.{HasPeriod, series_at};
-ghost use Rattle.scrip_form.specs.Scrip.{Scrip, IsPiece};
+ghost use Rattle.scrip_form.specs.Scrip.{IsPiece, IsVersion};
 ghost use Rattle.mc_records.specs.Errands.{buy, errand_of};
 ghost use Rattle.ledger_model.specs.Histories.{History};
 ghost use Rattle.ledger_model.specs.Stock.{licence_in, licensed_count, knows_vendor, for_sale, licensed_piece};
@@ -13,8 +13,10 @@ ghost use Rattle.vendor_stalls.specs.Shown.{Shows};
 ghost use Rattle.house_state.specs.Replying.{IsOfSite};
 ghost use Rattle.house_state.specs.Trade.{BringsFor};
 ghost use Rattle.house_state.specs.Views.{entry_deed};
+ghost use Rattle.broker_core.specs.Moves.{MovesRepresent};
 ghost use Rattle.broker_core.specs.Sales.{IsSale, IsLicensed, sale_of_next, licensed_deed, stock_deed};
 
+use crate::moves::Moves;
 use kept_replies::Deed;
 use mc_base::Moment;
 use mc_records::{Limits, Refusal};
@@ -26,6 +28,7 @@ use vendor_stalls::{Purchase, Stall, StockPiece};
 /// stock that is for sale.
 pub(crate) fn sold_from(
     stall: &Stall,
+    moves: &Moves,
     time: Moment,
     limits: Limits,
     asked: &Purchase,
@@ -36,15 +39,17 @@ pub(crate) fn sold_from(
         (licence_in h asked.now.vendor) (licensed_count h asked.now.vendor)
         (knows_vendor h asked.now.vendor) (for_sale h time asked.now.vendor asked.now.value) }
     ensures brings { (h : History) (target : List ℕ) → Shows h asked.now.vendor stall.now
-        → errand_of target ≡ Some (buy asked.now.vendor asked.now.value)
+        → MovesRepresent moves.now h → errand_of target ≡ Some (buy asked.now.vendor asked.now.value)
         → IfOk result (BringsFor h target) }
     ensures site { IfErr result IsOfSite }
     ensures sale { IfOk result IsSale }
 {
     match stall.licence() {
         Some(terms) => {
-            let count = stall.count(terms.series_at(time));
-            return sold_under(terms, count, time, limits, asked);
+            let series = terms.series_at(time);
+            let count = stall.count(series);
+            let version = moves.version(asked.vendor.bytes(), series);
+            return sold_under(terms, version, count, time, limits, asked);
         }
         None => (),
     }
@@ -57,19 +62,22 @@ pub(crate) fn sold_from(
     }
 }
 
-/// The next piece under a licence, of which this many were sold in the series of the moment.
+/// The next piece under a licence, of which this many were sold in the series of the moment, whose version this is.
 fn sold_under(
     terms: &Terms,
+    version: u8,
     count: u32,
     time: Moment,
     limits: Limits,
     asked: &Purchase,
 ) -> Result<Deed, Refusal>
     requires period { HasPeriod terms.now.period terms.now.life }
+    requires version { IsVersion version }
     requires some { 0 < asked.now.value }
     ensures deed { as_line entry_deed result
         ≡ sale_of_next limits.series (series_at terms.now time) count }
-    ensures made { IfOk result (IsLicensed terms.now asked.now.vendor asked.now.value) }
+    ensures made { IfOk result
+        (IsLicensed terms.now (series_at terms.now time) version asked.now.vendor asked.now.value) }
     ensures site { IfErr result IsOfSite }
 {
     let series = terms.series_at(time);
@@ -77,18 +85,19 @@ fn sold_under(
         return Err(Refusal::SeriesFull(u64::from(series)));
     }
     let id = Id::of_number(u64::from(series) * (1 << 32) + u64::from(count));
-    Ok(licensed_sale(terms, licensed_piece(terms, asked, id)))
+    Ok(licensed_sale(terms, licensed_piece(terms, version, asked, id)))
 }
 
-/// The piece of an identity that is made under a licence.
-fn licensed_piece(terms: &Terms, asked: &Purchase, id: Id) -> Piece
+/// The piece of an identity that is made under a licence in a version.
+fn licensed_piece(terms: &Terms, version: u8, asked: &Purchase, id: Id) -> Piece
     requires period { HasPeriod terms.now.period terms.now.life }
+    requires version { IsVersion version }
     requires some { 0 < asked.now.value }
-    ensures { result ≡ licensed_piece terms.now asked.now.vendor asked.now.value id }
+    ensures { result ≡ licensed_piece version terms.now asked.now.vendor asked.now.value id }
 {
     let (_, epoch, _) = id.parts();
     let no_props = Props::new(b"").unwrap();
-    Piece::new(
+    let piece = Piece::new(
         asked.vendor,
         asked.value,
         id,
@@ -96,10 +105,12 @@ fn licensed_piece(terms: &Terms, asked: &Purchase, id: Id) -> Piece
         terms.series_end(epoch),
         no_props,
     )
-    .unwrap()
+    .unwrap();
+    piece.versioned(version).unwrap()
 }
 
-/// The sale of a piece that is made under a licence, with its certificate and the secret of its customer.
+/// The sale of a piece that is made under a licence, with its certificate and the secret of its customer, whose identity
+/// is its own.
 fn licensed_sale(terms: &Terms, piece: Piece) -> Deed
     ensures { result ≡ licensed_deed terms.now piece }
 {
@@ -108,7 +119,7 @@ fn licensed_sale(terms: &Terms, piece: Piece) -> Deed
     Deed::Sale {
         piece,
         cert: certificate(terms, &text[..len - 32], piece.id()),
-        secret: customer_secret(terms, piece.cust()),
+        secret: customer_secret(terms, piece.cust(), piece.version()),
         stock: false,
     }
 }
@@ -120,9 +131,7 @@ fn sold_out_of_stock(piece: &StockPiece, asked: &Purchase) -> Result<Deed, Refus
     ensures site { IfErr result IsOfSite }
     ensures sale { IfOk result IsSale }
 {
-    let id = Id::of_number(piece.id);
-    let no_props = Props::new(b"").unwrap();
-    match Piece::new(asked.vendor, asked.value, id, id, piece.expires, no_props) {
+    match piece_in_stock(piece, asked) {
         Some(sold) => Ok(Deed::Sale {
             piece: sold,
             cert: piece.cert,
@@ -132,4 +141,15 @@ fn sold_out_of_stock(piece: &StockPiece, asked: &Purchase) -> Result<Deed, Refus
         // What is in stock is a piece.
         None => Err(Refusal::NoStock(asked.value.get())),
     }
+}
+
+/// The piece that stands so in stock, in the version of its text.
+fn piece_in_stock(piece: &StockPiece, asked: &Purchase) -> Option<Piece>
+    ensures { IsPiece (piece_in_stock asked.now.vendor asked.now.value piece.now)
+        → result ≡ Some (piece_in_stock asked.now.vendor asked.now.value piece.now) }
+{
+    let id = Id::of_number(piece.id);
+    let no_props = Props::new(b"").unwrap();
+    let sold = Piece::new(asked.vendor, asked.value, id, id, piece.expires, no_props)?;
+    sold.versioned(piece.version)
 }

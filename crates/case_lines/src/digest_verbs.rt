@@ -102,12 +102,31 @@ fn certified(state: &State, args: &[&[u8]], out: &mut Lines) -> Result<(), Fault
 }
 
 fn secret(state: &State, args: &[&[u8]], out: &mut Lines) -> Result<(), Fault> {
-    let [cust] = *args else {
+    let Some((cust, rest)) = args.split_first() else {
         return Err(Fault::Arguments);
     };
     let cust = Id::of_number(number(cust)?);
-    show_digest("secret", &customer_secret(&terms(state)?, cust), out);
+    let version = version(rest)?;
+    show_digest(
+        "secret",
+        &customer_secret(&terms(state)?, cust, version),
+        out,
+    );
     Ok(())
+}
+
+/// The version that a line names; 1 where it names none.
+fn version(args: &[&[u8]]) -> Result<u8, Fault> {
+    if args.is_empty() {
+        return Ok(1);
+    }
+    let [version] = *args else {
+        return Err(Fault::Arguments);
+    };
+    match u8::try_from(number(version)?) {
+        Ok(version) => Ok(version),
+        Err(_) => Err(Fault::Value),
+    }
 }
 
 fn signed(state: &State, args: &[&[u8]], out: &mut Lines) -> Result<(), Fault> {

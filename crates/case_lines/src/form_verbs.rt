@@ -18,6 +18,7 @@ pub(crate) fn read(
 ) -> Option<Result<(), Fault>> {
     Some(match verb {
         b"scrip" => scrip(state, args, out),
+        b"versioned" => versioned(state, args, out),
         b"name" | b"props" | b"target" | b"digest" => text(state, verb, args, out),
         b"whole_number" | b"number" => numeral(state, verb, args, out),
         b"literal" => literal(state, args, out),
@@ -46,6 +47,7 @@ fn scrip(state: &State, args: &[&[u8]], out: &mut Lines) -> Result<(), Fault> {
     };
     let piece = scrip.piece();
     out.start("scrip");
+    out.number(u64::from(piece.version()));
     out.bytes(piece.vendor().bytes());
     out.number(piece.value().get());
     out.identity(piece.id());
@@ -59,6 +61,28 @@ fn scrip(state: &State, args: &[&[u8]], out: &mut Lines) -> Result<(), Fault> {
     if room.get(..end) != Some(text.as_slice()) {
         return Err(Fault::Otherwise);
     }
+    Ok(())
+}
+
+/// The text of a piece in another version, with the certificate that it had.
+fn versioned(state: &State, args: &[&[u8]], out: &mut Lines) -> Result<(), Fault> {
+    let [text, version] = *args else {
+        return Err(Fault::Arguments);
+    };
+    let text = state.names.bytes(text)?;
+    let Ok(version) = u8::try_from(number(version)?) else {
+        return Err(Fault::Value);
+    };
+    let Ok(scrip) = read_scrip(&text) else {
+        return Err(Fault::Bytes);
+    };
+    let Some(piece) = scrip.piece().versioned(version) else {
+        out.line("versioned no");
+        return Ok(());
+    };
+    let mut room = [0; 512];
+    let end = write_scrip(&piece, &scrip.cert(), &mut room);
+    out.given("versioned", room.get(..end).unwrap_or(b""));
     Ok(())
 }
 

@@ -77,7 +77,18 @@ fn enter_all(mut journal: Journal<Stage>, payloads: &[Vec<u8>], out: &mut Lines)
         }
     }
     out.counted("size", journal.size());
+    if journal.is_switched() {
+        show_chain(journal.entries(), &journal.chain(), out);
+    }
     journal.close()
+}
+
+/// Prints how many entries a book has, and their chain.
+pub fn show_chain(entries: u64, chain: &[u8; 32], out: &mut Lines) {
+    out.start("chain");
+    out.number(entries);
+    out.digits(chain);
+    out.end()
 }
 
 /// What came of an entry.
@@ -134,9 +145,25 @@ fn read_one(alloc: Global, replay: &mut Replay<Stage>, out: &mut Lines) -> bool 
         }
         Ok(None) => out.line("closed"),
         Err(ReplayFault::BadRecord { place }) => out.counted("bad entry at", place),
+        Err(
+            ReplayFault::BadChain {
+                place,
+                stood,
+                computed,
+            },
+        ) => show_bad_chain(place, &stood, &computed, out),
         Err(ReplayFault::Disk) => out.line("disk fault"),
     }
     false
+}
+
+/// Prints the place of a chain, the one that stands there and the one that was computed.
+fn show_bad_chain(place: u64, stood: &[u8; 32], computed: &[u8; 32], out: &mut Lines) {
+    out.start("bad chain at");
+    out.number(place);
+    out.digits(stood);
+    out.digits(computed);
+    out.end()
 }
 
 /// Prints the length and the digest of the payload of the last entry, as it is written again.

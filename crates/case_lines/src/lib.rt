@@ -22,6 +22,7 @@ mod words;
 pub use asked::Asked;
 pub use digest_verbs::terms;
 pub use fault::Fault;
+pub use journal_verbs::show_chain;
 pub use names::Names;
 pub use show::Lines;
 pub use state::{Beside, Setting, State, show_beside, show_book, stage_of};

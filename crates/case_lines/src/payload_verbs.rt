@@ -122,6 +122,9 @@ fn show(record: &Record<'_>, out: &mut Lines) {
         | Record::Withdraw { .. }
         | Record::Licence { .. }
         | Record::Stock { .. } => show_of_broker(record, out),
+        Record::Upgrade { .. } | Record::Switch { .. } | Record::Note { .. } => {
+            show_of_operator(record, out)
+        }
         _ => show_of_wallet(record, out),
     }
 }
@@ -203,6 +206,11 @@ fn show_sixteen(key: &[u8; 16], out: &mut Lines) {
     out.bytes(key)
 }
 
+/// Prints the chain of a switch.
+fn show_thirty_two(chain: &[u8; 32], out: &mut Lines) {
+    out.bytes(chain)
+}
+
 fn show_key(key: &Option<[u8; 16]>, out: &mut Lines) {
     match key {
         Some(key) => show_sixteen(key, out),
@@ -267,6 +275,33 @@ fn show_of_broker(record: &Record<'_>, out: &mut Lines) {
             begin(11, moment, out);
             out.bytes(vendor);
             show_pieces(&pieces, out)
+        }
+        _ => {}
+    }
+}
+
+/// Prints an upgrade, a switch or a note.
+fn show_of_operator(record: &Record<'_>, out: &mut Lines) {
+    match *record {
+        Record::Upgrade {
+            moment,
+            vendor,
+            issuer,
+            from,
+        } => {
+            begin(16, moment, out);
+            out.bytes(vendor);
+            out.number(u64::from(issuer));
+            out.number(u64::from(from))
+        }
+        Record::Switch { moment, chain } => {
+            begin(17, moment, out);
+            show_thirty_two(&chain, out)
+        }
+        Record::Note { moment, tag, bytes } => {
+            begin(18, moment, out);
+            out.bytes(tag);
+            out.bytes(bytes)
         }
         _ => {}
     }

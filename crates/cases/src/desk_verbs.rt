@@ -1,7 +1,7 @@
 //! Lines by which a broker's operator enters something into the book, within the limits.
 
-use crate::operator_verbs::{amount, came_of, opened, show, show_closed};
-use broker_core::{Desk, add_licence, add_stock, deposit, open_account, withdraw};
+use crate::operator_verbs::{amount, came_of, epoch, opened, show, show_closed, switched};
+use broker_core::{Desk, add_licence, add_stock, deposit, open_account, upgrade_licence, withdraw};
 use case_lines::{Fault, Lines, State, terms};
 use scrip_form::Name;
 
@@ -18,6 +18,8 @@ pub(crate) fn enter(
         b"withdraw" => paid_out(state, args, out),
         b"licensed" => licensed(state, args, out),
         b"stock" => stocked(state, args, out),
+        b"upgraded" => upgraded(state, args, out),
+        b"switched" => switched(state, args, "switched", Desk::new(state.alloc), out),
         _ => return None,
     })
 }
@@ -113,5 +115,23 @@ fn stocked(state: &mut State, args: &[&[u8]], out: &mut Lines) -> Result<(), Fau
             show(state, "stock", done, out)
         }
         Err(stage) => show_closed(state, "stock", stage, out),
+    }
+}
+
+/// The scrip that the broker makes in the name of a vendor, or in its own, goes over to the second version from an
+/// epoch on.
+fn upgraded(state: &mut State, args: &[&[u8]], out: &mut Lines) -> Result<(), Fault> {
+    let [time, vendor, from] = *args else {
+        return Err(Fault::Arguments);
+    };
+    let vendor = name(state, vendor)?;
+    let from = epoch(from)?;
+    let desk = Desk::new(state.alloc);
+    match opened(state, time, desk)? {
+        Ok(house) => {
+            let done = came_of(upgrade_licence(house, &vendor, from));
+            show(state, "upgraded", done, out)
+        }
+        Err(stage) => show_closed(state, "upgraded", stage, out),
     }
 }

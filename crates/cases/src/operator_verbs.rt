@@ -5,7 +5,7 @@ ghost use Rattle.std.specs.Prelude.{◌<◌, ◌≤◌, [], IfOk, length};
 
 use crate::ledger_verbs::show_refusal;
 use crate::program_verbs::unopened;
-use case_lines::{Fault, Lines, State, number, terms};
+use case_lines::{Fault, Lines, State, number, show_chain, small, terms};
 use house_core::{House, Outcome};
 use house_opening::open_house;
 use house_state::Trade;
@@ -13,7 +13,7 @@ use mc_base::{Amount, Moment};
 use mc_records::Refusal;
 use mc_stage::Stage;
 use scrip_form::{Id, Name, Target};
-use vendor_core::{Shelf, add_terms, mint, set_goods, set_price};
+use vendor_core::{Shelf, add_terms, mint, set_goods, set_price, upgrade};
 
 /// The verbs of this module; None where the verb is none of them.
 pub(crate) fn enter(
@@ -28,6 +28,8 @@ pub(crate) fn enter(
         b"licence" => licence(state, args, out),
         b"mint" => minted(state, args, out),
         b"coming" => coming(state, args, out),
+        b"upgrade" => upgraded(state, args, out),
+        b"switch" => switched(state, args, "switch", Shelf::new(state.alloc), out),
         _ => return None,
     })
 }
@@ -191,6 +193,70 @@ fn minted(state: &mut State, args: &[&[u8]], out: &mut Lines) -> Result<(), Faul
             show(state, "mint", done, out)
         }
         Err(stage) => show_closed(state, "mint", stage, out),
+    }
+}
+
+/// The scrip of an issuer goes over to the second version from an epoch on.
+fn upgraded(state: &mut State, args: &[&[u8]], out: &mut Lines) -> Result<(), Fault> {
+    let [time, issuer, from] = *args else {
+        return Err(Fault::Arguments);
+    };
+    let Ok(issuer) = u8::try_from(number(issuer)?) else {
+        return Err(Fault::Value);
+    };
+    let from = epoch(from)?;
+    let shelf = Shelf::new(state.alloc);
+    match opened(state, time, shelf)? {
+        Ok(house) => show(state, "upgrade", came_of(upgrade(house, issuer, from)), out),
+        Err(stage) => show_closed(state, "upgrade", stage, out),
+    }
+}
+
+/// An epoch that a series may have.
+pub(crate) fn epoch(token: &[u8]) -> Result<u32, Fault>
+    ensures { IfOk result (λ e. e < 2 ^ 24) }
+{
+    match small(token)? {
+        epoch if epoch < 1 << 24 => Ok(epoch),
+        _ => Err(Fault::Value),
+    }
+}
+
+/// Switches the chain on, and prints how many entries the book then has, and their chain.
+pub(crate) fn switched<T: Trade>(
+    state: &mut State,
+    args: &[&[u8]],
+    verb: &str,
+    trade: T,
+    out: &mut Lines,
+) -> Result<(), Fault>
+    requires { (T.trade trade).represents [] }
+{
+    let [time] = *args else {
+        return Err(Fault::Arguments);
+    };
+    match opened(state, time, trade)? {
+        Ok(house) => {
+            let done = chained(house.switch(), out);
+            show(state, verb, done, out)
+        }
+        Err(stage) => show_closed(state, verb, stage, out),
+    }
+}
+
+/// What came of switching the chain on; where the house goes on, its chain is printed.
+fn chained<T: Trade, A: Drop>(outcome: Outcome<Stage, T, A>, out: &mut Lines) -> (Entered, Stage) {
+    match outcome {
+        Outcome::Done(house, _) => {
+            show_chain(house.entries(), &house.chain(), out);
+            (Entered::Done, house.close())
+        }
+        Outcome::Refused(house, refusal) => {
+            show_chain(house.entries(), &house.chain(), out);
+            (Entered::Refused(refusal), house.close())
+        }
+        Outcome::NoMemory(house) => (Entered::NoMemory, house.close()),
+        Outcome::Halted(halted) => (Entered::Halted, halted.close()),
     }
 }
 

@@ -57,6 +57,7 @@ pub(crate) enum End {
     Halted,
     NotJournal,
     BadRecord(u64),
+    BadChain(u64),
     Unlawful(u64),
     WrongKind,
     NotEmpty(u64),
@@ -72,6 +73,7 @@ impl End {
             End::Halted => out.line("serve halted"),
             End::NotJournal => out.line("serve not a journal"),
             End::BadRecord(place) => out.counted("serve bad entry at", place),
+            End::BadChain(place) => out.counted("serve bad chain at", place),
             End::Unlawful(place) => out.counted("serve unlawful entry at", place),
             End::WrongKind => out.line("serve refused 52 WrongKind"),
             End::NotEmpty(size) => out.counted("serve refused 50 NotEmpty", size),
@@ -120,6 +122,7 @@ pub(crate) fn unopened(fault: HouseFault<Stage>) -> (End, Stage) {
     match fault {
         HouseFault::NotJournal(stage) => (End::NotJournal, stage),
         HouseFault::BadRecord(stage, place) => (End::BadRecord(place), stage),
+        HouseFault::BadChain(stage, place, _, _) => (End::BadChain(place), stage),
         HouseFault::Unlawful(stage, place) => (End::Unlawful(place), stage),
         HouseFault::WrongKind(stage) => (End::WrongKind, stage),
         HouseFault::NotEmpty(stage, size) => (End::NotEmpty(size), stage),

@@ -6,8 +6,8 @@ use Rattle.mc_outside.specs.LinkView.{LinkView}
 use Rattle.mc_records.specs.Entry.{Entry}
 use Rattle.mc_records.specs.Following.{AllFollowBy}
 use Rattle.scrip_journal.specs.Layout.{header, gated, Encodes}
-use Rattle.scrip_journal.specs.Causes.{SpoilsAt, IsUnlawfulAt}
-use Rattle.scrip_journal.proofs.Unique.{one_history, not_both}
+use Rattle.scrip_journal.specs.Causes.{SpoilsAt, UnchainsAt, IsUnlawfulAt}
+use Rattle.scrip_journal.proofs.Unique.{one_history, not_both, chain_or_history}
 use Rattle.scrip_journal.proofs.Beginnings.{begins_history}
 
 -- no call of the disk or of the links failed
@@ -21,7 +21,11 @@ begins_with_header h bytes st = (gated [] h ++ st.gate ∷ st.rest, st.shape ∙
 
 -- no bytes of it can't stand
 pub not_spoiled : (may : List Entry → Entry → Type 0) (kinds : ℕ → Type 0) (h : List Entry) (bytes : List ℕ) (place : ℕ) → Encodes h bytes → SpoilsAt may kinds bytes place → ⊥
-not_spoiled may kinds h bytes place st spoils = not_both spoils.before h bytes place spoils.spoiled st
+not_spoiled may kinds h bytes place st spoils = not_both spoils.before h bytes place spoils.reads st
+
+-- each chain in it is the one computed
+pub not_unchained : (may : List Entry → Entry → Type 0) (kinds : ℕ → Type 0) (h : List Entry) (bytes : List ℕ) (place : ℕ) (stood computed : List ℕ) → Encodes h bytes → UnchainsAt may kinds bytes place stood computed → ⊥
+not_unchained may kinds h bytes place stood computed st unchains = chain_or_history unchains.before h bytes place stood computed unchains.reads st
 
 -- an entry may follow those before it
 pub follow_here : (may : List Entry → Entry → Type 0) (before xs : List Entry) (e : Entry) (ys : List Entry) → AllFollowBy may before (xs ++ e ∷ ys) → may (before ++ xs) e

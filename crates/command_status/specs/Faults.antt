@@ -8,6 +8,7 @@ use Rattle.command_status.specs.declared.status.Status.TheVariants as ends
 abbrev pub fault_status : {D : Type 0} → HouseFault D → Status
 fault_status (faults.NotJournal d) = ends.NotJournal
 fault_status (faults.BadRecord d place) = ends.BadEntry place
+fault_status (faults.BadChain d place stood computed) = ends.BadChain place
 fault_status (faults.Unlawful d place) = ends.UnlawfulEntry place
 fault_status (faults.WrongKind d) = ends.Refused refusals.WrongKind
 fault_status (faults.NotEmpty d size) = ends.Refused (refusals.NotEmpty size)

@@ -3,7 +3,7 @@ use Rattle.std.specs.Prelude.{ℕ, List, [], ◌++◌, codes, decimal}
 use Rattle.scrip_form.specs.Scrip.{id_digits}
 use Rattle.mc_records.specs.Refusals.{refusal_text}
 use Rattle.command_status.specs.declared.status.Status.{Status}
-use Rattle.command_status.specs.declared.status.Status.TheVariants.{Done, Served, Founded, Did, BadWords, NotJournal, BadEntry, UnlawfulEntry, DiskFault, NoMemory, LinkFault, Refused, Stranger}
+use Rattle.command_status.specs.declared.status.Status.TheVariants.{Done, Served, Founded, Did, BadWords, NotJournal, BadEntry, BadChain, UnlawfulEntry, DiskFault, NoMemory, LinkFault, Refused, Stranger}
 
 abbrev pub number_of : Status → ℕ
 number_of Done = 0
@@ -13,6 +13,7 @@ number_of (Did line) = 0
 number_of BadWords = 2
 number_of NotJournal = 3
 number_of (BadEntry place) = 3
+number_of (BadChain place) = 3
 number_of (UnlawfulEntry place) = 3
 number_of DiskFault = 4
 number_of NoMemory = 5
@@ -28,6 +29,7 @@ line_of (Did line) = line
 line_of BadWords = codes "bad words\n"
 line_of NotJournal = codes "not a journal\n"
 line_of (BadEntry place) = codes "bad entry at " ++ decimal place ++ codes "\n"
+line_of (BadChain place) = codes "bad chain at " ++ decimal place ++ codes "\n"
 line_of (UnlawfulEntry place) = codes "unlawful entry at " ++ decimal place ++ codes "\n"
 line_of DiskFault = codes "disk fault\n"
 line_of NoMemory = codes "no memory\n"

@@ -18,6 +18,7 @@ pub fn not_opened<D>(fault: HouseFault<D>) -> (D, Status)
     match fault {
         HouseFault::NotJournal(disk) => (disk, Status::NotJournal),
         HouseFault::BadRecord(disk, place) => (disk, Status::BadEntry(place)),
+        HouseFault::BadChain(disk, place, _, _) => (disk, Status::BadChain(place)),
         HouseFault::Unlawful(disk, place) => (disk, Status::UnlawfulEntry(place)),
         HouseFault::WrongKind(disk) => (disk, Status::Refused(Refusal::WrongKind)),
         HouseFault::NotEmpty(disk, size) => (disk, Status::Refused(Refusal::NotEmpty(size))),

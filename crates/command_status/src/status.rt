@@ -24,6 +24,8 @@ pub enum Status {
     NotJournal,
     /// The bytes of the book can't stand from this place on.
     BadEntry(u64),
+    /// The bytes from this place on are another chain than the one computed.
+    BadChain(u64),
     /// The entry behind the gate at this place may not follow those before it.
     UnlawfulEntry(u64),
     DiskFault,
@@ -42,7 +44,10 @@ impl Status {
         match self {
             Status::Done | Status::Served(_) | Status::Founded(_) | Status::Did(_) => 0,
             Status::BadWords => 2,
-            Status::NotJournal | Status::BadEntry(_) | Status::UnlawfulEntry(_) => 3,
+            Status::NotJournal
+            | Status::BadEntry(_)
+            | Status::BadChain(_)
+            | Status::UnlawfulEntry(_) => 3,
             Status::DiskFault => 4,
             Status::NoMemory => 5,
             Status::LinkFault => 6,
@@ -74,6 +79,7 @@ impl Status {
             Status::BadWords => put(out, 0, b"bad words\n"),
             Status::NotJournal => put(out, 0, b"not a journal\n"),
             Status::BadEntry(place) => put_numbered(out, b"bad entry at ", *place),
+            Status::BadChain(place) => put_numbered(out, b"bad chain at ", *place),
             Status::UnlawfulEntry(place) => put_numbered(out, b"unlawful entry at ", *place),
             Status::DiskFault => put(out, 0, b"disk fault\n"),
             Status::NoMemory => put(out, 0, b"no memory\n"),

@@ -123,6 +123,8 @@ says_accept {b = b} {h = h} st q a read ready brings limits takes short =
       reply = reply_new st q a taken.piece ready most short brings;
       takings = omega (arith, taken.price);
       terms = refl;
+      upgrades = refl;
       minted = λ s. refl;
+      switches = refl;
       payload = sym ready.payload;
     }

@@ -3,7 +3,7 @@ use Rattle.std.proofs.Common.{◌≡◌, ◌≤◌, ◌^◌, ℕ, false, List, [
 use Rattle.std.specs.Prelude.{option_map, IfOk, IfErr, IsOk, OnOk, Result}
 use Rattle.scrip_form.specs.Issuing.{Issuing}
 use Rattle.mc_records.specs.declared.limits.Limits.{Limits}
-use Rattle.mc_records.specs.declared.refusal.Refusal.{Refusal}
+use Rattle.mc_records.specs.Sizes.{tail_bytes}
 use Rattle.mc_records.specs.Entry.{payload}
 use Rattle.mc_records.specs.Requests.{Asked}
 use Rattle.kept_replies.specs.declared.deed.KeptEntry.{KeptEntry}
@@ -11,7 +11,6 @@ use Rattle.kept_replies.specs.Kept.{found}
 use Rattle.ledger_model.specs.Histories.{History}
 use Rattle.ledger_model.specs.Answer as answers
 use Rattle.ledger_model.specs.Answer.{Answer, answer, answered}
-use Rattle.ledger_model.specs.Houses.{version}
 use Rattle.ledger_model.specs.Stages.{read_by}
 use Rattle.ledger_model.proofs.TableLaws.{read_ok}
 use Rattle.house_core.specs.declared.bench.Bench.{Bench}
@@ -65,8 +64,8 @@ stands_as_before {old = old} {new = new} {h = h} st is = record {
   takings = st.takings ∙ sym is.takings;
   counted = st.counted ∙ sym is.counted;
   sized = st.sized ∙ sym is.sized;
-  tail = st.tail;
-  version = st.version ∙ ap (version []) (sym is.name);
+  switched = st.switched ∙ sym is.switched;
+  upgrades = st.upgrades ∙ sym is.upgrades;
   limits = rw is.limits st.limits;
   lawful = rw is.limits st.lawful;
 }
@@ -79,12 +78,12 @@ stands_as_before {old = old} {new = new} {h = h} st is = record {
 
 pub ready_as_before : {old new : HouseStateView} → IsAsBefore old new → (target : List ℕ) (a : Authorization) → IsReady old target a → IsReady new target a
 ready_as_before {old = old} {new = new} is target a ready = record {
-  secret = rw (is.name, is.terms) ready.secret;
+  secret = rw (is.name, is.terms, is.upgrades) ready.secret;
   live = rw is.time ready.live;
   fresh = record { its = ready.fresh.its; seen = λ k. ready.fresh.seen k ∙ sym (is.spent k) };
   change = by_change a.change ready.change;
   payload = subst (λ (t : ℕ). a.payload ≡ length (payload (accept_entry t target a))) (sym is.time) ready.payload;
-  fits = omega (arith, ready.fits, is.sized);
+  fits = omega (arith, ready.fits, is.sized, ap tail_bytes is.switched);
 }
   where
     series : series_now new ≡ series_now old
@@ -116,6 +115,7 @@ as_it_was b = record {
   name = refl;
   clear = refl;
   terms = refl;
+  upgrades = refl;
   time = refl;
   limits = refl;
   spent = λ id. refl;
@@ -129,6 +129,7 @@ as_it_was b = record {
   takings = refl;
   counted = refl;
   sized = refl;
+  switched = refl;
 }
 
 pub on_is_ok : {T E : Type 0} (r : Result T E) (P : Type 0) → IsOk r → OnOk r P → P

@@ -1,8 +1,9 @@
 -- What was authorized, by the column of the answer that it belongs to.
-use Rattle.std.proofs.Common.{◌≡◌, ◌≤◌, ◌^◌, ℕ, false, List, [], ◌∷◌, ◌++◌, length, refl, sym, subst, arith}
+use Rattle.std.proofs.Common.{◌≡◌, ◌≤◌, ◌^◌, ℕ, false, List, [], ◌∷◌, ◌++◌, length, refl, sym, ap, subst, arith}
 use Rattle.mc_records.specs.declared.limits.Limits.{Limits}
 use Rattle.mc_records.specs.Entry.{Entry, payload}
 use Rattle.mc_records.specs.Requests.{Asked}
+use Rattle.mc_records.specs.Sizes.{tail_bytes}
 use Rattle.kept_replies.specs.Kept.{KeptReply}
 use Rattle.ledger_model.specs.Histories.{History}
 use Rattle.ledger_model.specs.Goods.{is_goods_of}
@@ -39,7 +40,7 @@ draw_as_before {old = old} {new = new} is target d ready =
       below = rw (series, is.issued (series_now old), is.most) ready.below;
       next = rw (series, is.issued (series_now old)) ready.next;
       payload = subst (λ (t : ℕ). d.payload ≡ length (payload (draw_entry t target d))) (sym is.time) ready.payload;
-      fits = omega (arith, ready.fits, is.sized);
+      fits = omega (arith, ready.fits, is.sized, ap tail_bytes is.switched);
     }
 
 pub may_as_before : {old new : HouseStateView} → IsAsBefore old new → (target : List ℕ) (a : Authorized) → MayCommit old target a → MayCommit new target a

@@ -4,14 +4,16 @@ use Rattle.std.specs.Prelude.{◌&&◌, codes, option_map, unwrap_or, is_none, b
 use Rattle.hex.specs.Hex.{encode_lower}
 use Rattle.scrip_form.specs.Identities.{issuer_of, series_of}
 use Rattle.scrip_form.specs.Issuing.{Issuing, epoch}
-use Rattle.scrip_form.specs.Scrip.{Scrip, scrip_body}
+use Rattle.scrip_form.specs.Scrip.{Scrip}
 use Rattle.mc_records.specs.declared.limits.Limits.{Limits}
 use Rattle.mc_records.specs.Entry.{Entry, Draw}
 use Rattle.mc_records.specs.Requests.{Asked}
 use Rattle.kept_replies.specs.Requests.{is_same_text, is_same_request}
 use Rattle.kept_replies.specs.Kept.{KeptReply, is_in_time}
 use Rattle.ledger_model.specs.Histories.{History}
-use Rattle.ledger_model.specs.Houses.{is_broker, terms_in, certificate_in, secret_in, secret_of}
+use Rattle.ledger_model.specs.Houses.{is_broker, terms_in, version_by, secret_of}
+use Rattle.ledger_model.specs.declared.upgraded.Upgraded.{Upgraded}
+use Rattle.scrip_certs.specs.Digests.{customer_secret}
 use Rattle.ledger_model.specs.Orders.{Order, order_of, order_amount}
 use Rattle.ledger_model.specs.Accounts.{order_key}
 use Rattle.ledger_model.specs.Pieces.{first_hand, drawn_piece, handed_piece}
@@ -43,29 +45,28 @@ pub drawn_is : {b : HouseStateView} {h : History} → StateRepresents b h → (t
     → handed_piece h (draw_entry b.time target d) ≡ Some (drawn_made b d)
 drawn_is {b = b} {h = h} st target d ordered own =
     let ends = own_end_is st d.id own.of_epoch in
-    let same : first_hand h d.amount d.id ≡ drawn_made b d = λ i. record { vendor = st.name i; value = d.amount; id = d.id; cust = d.id; expires = ends i; props = [] } in
+    let same : first_hand h d.amount d.id ≡ drawn_made b d = λ i. record { version = version_by (st.upgrades i) (series_of d.id); vendor = st.name i; value = d.amount; id = d.id; cust = d.id; expires = ends i; props = [] } in
     ap (drawn_piece h d.id) (order_is h target d ordered)
     ∙ ap (λ (n : ℕ). Some (first_hand h n d.id)) ordered.amount
     ∙ ap (λ (p : Scrip). Some p) same
 
 -- the secret of a customer whose identity is the house's own
-own_secret_is : {b : HouseStateView} {h : History} → StateRepresents b h → (id : ℕ) → issuer_of id ≡ 0 → secret_of h id ≡ Some (secret_in (version_of b (series_of id)) b.own.terms id)
+own_secret_is : {b : HouseStateView} {h : History} → StateRepresents b h → (id : ℕ) → issuer_of id ≡ 0 → secret_of h id ≡ Some (customer_secret b.own.terms id (version_of b (series_of id)))
 own_secret_is {h = h} st id own =
-    ap₂ (λ (v : ℕ → ℕ) (o : Option Issuing). option_map (λ t. secret_in (v (series_of id)) t id) o) st.version (ap (terms_in h) own ∙ st.own_terms)
+    ap₂ (λ (us : List Upgraded) (o : Option Issuing). option_map (λ t. customer_secret t id (version_by us (series_of id))) o) st.upgrades (ap (terms_in h) own ∙ st.own_terms)
 
 -- ---- what it brings
 
 -- the line of the piece
 contents_are : {b : HouseStateView} {h : History} → StateRepresents b h → (target : List ℕ) (d : DrawAuthorization) → IsOrdered h target d → IsOwn b d.id
-    → (more : History) → brought_by more (deed_drawn (version_of b) b.own.terms (drawn_made b d)) ≡ Some (contents_after h (draw_entry b.time target d))
+    → (more : History) → brought_by more (deed_drawn b.own.terms (drawn_made b d)) ≡ Some (contents_after h (draw_entry b.time target d))
 unfolding piece_brought
 contents_are {b = b} {h = h} st target d ordered own more =
     let p = drawn_made b d in
-    let cert = certificate_in (version_of b (series_of d.id)) b.own.terms (scrip_body p) d.id in
     let line : List ℕ → Option (List ℕ) → Option Contents = λ text secret. Some (held_contents (record { text = text; secret = unwrap_or secret [] })) in
     sym (
     ap (λ (o : Option Scrip). Some (contents_if (option_map (own_held h) o))) (drawn_is st target d ordered own)
-    ∙ ap₂ line (own_text_is st p refl) (own_secret_is st d.id own.issuer)
+    ∙ ap₂ line (own_text_is st p) (own_secret_is st d.id own.issuer)
     )
 
 -- ---- the reply
@@ -138,6 +139,8 @@ says_draw {b = b} {h = h} st q d ready ordered limits takes short =
       reply = reply_drawn st q d ordered own;
       takings = refl;
       terms = refl;
+      upgrades = refl;
       minted = λ s. refl;
+      switches = refl;
       payload = sym ready.payload;
     }

@@ -13,13 +13,17 @@ use Rattle.scrip_form.specs.Scrip.{Scrip}
 use Rattle.mc_records.specs.declared.limits.Limits.{Limits}
 use Rattle.mc_records.specs.Entry.{House, Entry, Accept, Mint, Draw, moment_of, payload}
 use Rattle.mc_records.specs.Requests.{Asked}
-use Rattle.mc_records.proofs.SizeLaws.{length-tail, tail_size-more}
+use Rattle.mc_records.specs.Chains.{is_switch}
+use Rattle.mc_records.specs.Sizes.{tail_bytes}
+use Rattle.mc_records.proofs.ChainLaws.{has_switch-first}
+use Rattle.mc_records.proofs.SizeLaws.{length-tail, tail_size-by}
 use Rattle.kept_replies.specs.declared.deed.KeptEntry.{KeptEntry}
 use Rattle.kept_replies.specs.Requests.{is_same_request}
 use Rattle.kept_replies.specs.Kept.{KeptReply, KeptView, is_in_time, found}
 use Rattle.spent_windows.specs.Windows.{WindowView, is_marked}
 use Rattle.ledger_model.specs.Histories.{History, time}
-use Rattle.ledger_model.specs.Houses.{keeping, terms_of, all_terms, version}
+use Rattle.ledger_model.specs.Houses.{site_name, keeping, terms_of, all_terms, upgrade_of, upgrades_of}
+use Rattle.ledger_model.specs.declared.upgraded.Upgraded.{Upgraded}
 use Rattle.ledger_model.specs.Pieces.{accepted_piece, accepted, handed_piece, own_out, minted_pieces, minted, in_series, own_count}
 use Rattle.ledger_model.specs.Sums.{price_paid, values}
 use Rattle.ledger_model.specs.Stages.{is_repeat}
@@ -27,7 +31,6 @@ use Rattle.ledger_model.specs.Answer.{answer, Take}
 use Rattle.ledger_model.specs.Lawful.{MayFollow, IsAllowed, request_of, draw_request}
 use Rattle.ledger_model.proofs.AcceptLaws.{accepted_snoc}
 use Rattle.ledger_model.proofs.SerialLaws.{own_out_snoc, minted_snoc, count-append}
-use Rattle.ledger_model.proofs.VersionLaws.{version-more}
 use Rattle.ledger_model.proofs.FollowLaws.{may_follow, longer_lawful, size_snoc}
 use Rattle.house_state.specs.HouseState.{HouseStateView, ended_by, series_now, at_series, Growth, IsGrown, IsMarkedToo, IsKeptToo, count_handed, worth_handed, worth_redeemed}
 use Rattle.house_state.specs.Representation.{StateRepresents, IsReply, has_ended, of_series}
@@ -103,7 +106,9 @@ pub record Says (old : HouseStateView) (h : History) (e : Entry) (g : Growth) : 
   pub reply : IfSome g.kept (IsReply (h ++ e ∷ []))
   pub takings : price_paid e ≡ g.takings
   pub terms : all_terms (e ∷ []) ≡ g.terms
+  pub upgrades : upgrades_of (e ∷ []) old.name ≡ g.upgrades
   pub minted : (s : ℕ) → in_series (minted_pieces h e) s ≡ g.minted s
+  pub switches : is_switch e ≡ g.switches
   pub payload : length (payload e) ≡ g.bytes
 
 -- ---- sums and counts at one more piece
@@ -248,9 +253,10 @@ stands_more {old = old} {new = new} {h = h} st e g says may is =
           ∙ ap₂ (λ (m n : ℕ). m + n) (st.worth s) (worth_more series s g.handed says.series) ∙ sym (is.worth s);
       takings = omega (arith, sum_by-append price_paid h (e ∷ []), says.takings, st.takings, is.takings);
       counted = omega (arith, length-append h (e ∷ []), st.counted, is.counted);
-      sized = omega (arith, size_snoc h e, length-tail h e, st.sized, st.tail, says.payload, is.sized);
-      tail = tail_size-more h e ∙ st.tail;
-      version = ap₂ (λ (v : List ℕ → ℕ → ℕ) (n : List ℕ). v n) (version-more h e) same.name ∙ st.version ∙ ap (version []) (sym is.name);
+      sized = omega (arith, size_snoc h e, length-tail h e, tail_size-by h, ap tail_bytes st.switched, st.sized, says.payload, is.sized);
+      switched = has_switch-first h e ∙ ap₂ (λ (a b : Bool). a || b) says.switches st.switched ∙ sym is.switched;
+      upgrades = ap (upgrades_of (h ++ e ∷ [])) same.name ∙ filter_map-append (upgrade_of (site_name h)) h (e ∷ [])
+          ∙ ap₂ (λ (us vs : List Upgraded). us ++ vs) st.upgrades (ap (upgrades_of (e ∷ [])) st.name ∙ says.upgrades) ∙ sym is.upgrades;
       limits = rw is.limits st.limits;
       lawful = rw is.limits (longer_lawful old.limits h e st.lawful may);
     }

@@ -1,19 +1,18 @@
 -- What the first entry founds stays as it is, whatever entry follows.
-use Rattle.std.proofs.Common.{◌≡◌, ℕ, List, [], ◌∷◌, ◌++◌, Option, Some, refl, sym, ap, ap₂, ◌∙◌}
+use Rattle.std.proofs.Common.{◌≡◌, ℕ, List, [], ◌∷◌, ◌++◌, Option, Some, refl, sym, ap, ◌∙◌}
 use Rattle.std.specs.Prelude.{◌==◌, option_map, unwrap_or}
 use Rattle.std.specs.Option.{option_or}
 use Rattle.std.proofs.lemmas.List.Elements.{filter_map-append}
 use Rattle.std.proofs.lemmas.List.Folds.{find-append}
-use Rattle.scrip_form.specs.Identities.{series_of}
+use Rattle.scrip_certs.specs.Digests.{certificate}
 use Rattle.scrip_form.specs.Issuing.{Issuing}
 use Rattle.scrip_form.specs.Scrip.{Scrip, scrip_body, scrip_text}
 use Rattle.mc_records.specs.declared.limits.Limits.{Limits}
 use Rattle.mc_records.specs.Entry.{Entry, Site}
 use Rattle.ledger_model.specs.Histories.{History}
-use Rattle.ledger_model.specs.Houses.{site_name, site_kind, house, terms_of, all_terms, terms_in, terms_by, certificate_in}
+use Rattle.ledger_model.specs.Houses.{site_name, site_kind, house, terms_of, all_terms, terms_in, terms_by}
 use Rattle.ledger_model.specs.Lawful.{IsLawful}
 use Rattle.ledger_model.specs.Replies.{own_text}
-use Rattle.ledger_model.proofs.VersionLaws.{version-more}
 
 pub record SameHouse (h k : History) : Type 0 where
   pub name : site_name k ≡ site_name h
@@ -37,5 +36,5 @@ own_terms_stay h e own is =
 -- the scrip texts of its own pieces
 pub own_text_stays : (h : History) (e : Entry) (own : Issuing) → terms_in h 0 ≡ Some own → own_text (h ++ e ∷ []) ≡ own_text h
 own_text_stays h e own is =
-    let spell : (List ℕ → ℕ → ℕ) → Option Issuing → Scrip → List ℕ = λ v o p. scrip_text p (unwrap_or (option_map (λ t. certificate_in (v p.vendor (series_of p.id)) t (scrip_body p) p.id) o) []) in
-    ap₂ spell (version-more h e) (own_terms_stay h e own is ∙ sym is)
+    let spell : Option Issuing → Scrip → List ℕ = λ o p. scrip_text p (unwrap_or (option_map (λ t. certificate t (scrip_body p) p.id) o) []) in
+    ap spell (own_terms_stay h e own is ∙ sym is)

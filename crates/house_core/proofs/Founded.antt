@@ -1,13 +1,12 @@
 -- The state of a house that was just founded represents its one entry.
-use Rattle.std.proofs.Common.{◌≡◌, ℕ, zero, suc, ◌≤◌, List, [], ◌∷◌, Option, Some, None, refl, sym, ap, ap₂, ◌∙◌, arith}
+use Rattle.std.proofs.Common.{◌≡◌, ℕ, zero, suc, ◌≤◌, List, [], ◌∷◌, Option, Some, None, refl, sym, ap, ◌∙◌, arith}
 use Rattle.std.proofs.lemmas.Bool.{eq-eqb}
 use Rattle.mc_base.specs.declared.amount.TheConstants.Amount.{MOST}
 use Rattle.scrip_form.specs.Issuing.{Issuing}
 use Rattle.mc_records.specs.declared.limits.Limits.{Limits}
 use Rattle.mc_records.specs.Limits.{AreInRange}
 use Rattle.mc_records.specs.Entry.{House, HouseFits, Entry, Site}
-use Rattle.mc_records.proofs.SizeLaws.{length-tail, tail_size-more}
-use Rattle.ledger_model.proofs.VersionLaws.{version-more}
+use Rattle.mc_records.proofs.SizeLaws.{length-tail, tail_size-by}
 use Rattle.ledger_model.specs.Houses.{site_kind, terms_by}
 use Rattle.ledger_model.specs.Lawful.{MayFollow}
 use Rattle.ledger_model.specs.Histories.{History}
@@ -49,9 +48,9 @@ of_site b limits m kind name h is fits range may =
       worth = λ s. sym (is.worth s);
       takings = sym is.takings;
       counted = sym is.counted;
-      sized = omega (arith, is.sized, length-tail [] site);
-      tail = tail_size-more [] site;
-      version = ap₂ (λ (v : List ℕ → ℕ → ℕ) (n : List ℕ). v n) (version-more [] site) (sym is.name);
+      sized = omega (arith, is.sized, length-tail [] site, tail_size-by []);
+      switched = sym is.switched;
+      upgrades = sym is.upgrades;
       limits = rw is.limits range;
       lawful = rw is.limits (may, tt);
     }

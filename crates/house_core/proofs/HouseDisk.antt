@@ -4,14 +4,16 @@ use Rattle.std.specs.Prelude.{Result, MatchResult}
 use Rattle.std.specs.Result.{result_ok}
 use Rattle.mc_outside.specs.DiskView.{DiskView, IsDisk, LinkKeeps, Ran}
 use Rattle.mc_outside.proofs.Runs.{ran_none}
-use Rattle.mc_records.specs.Entry.{Entry, payload}
-use Rattle.mc_records.specs.Sizes.{size, entry_size}
-use Rattle.mc_records.proofs.SizeLaws.{length-tail}
+use Rattle.mc_records.specs.Chains.{TellsChain}
+use Rattle.mc_records.specs.Entry.{Entry, Switch, payload}
+use Rattle.mc_records.specs.Sizes.{size, entry_size, tail_bytes}
+use Rattle.mc_records.proofs.SizeLaws.{length-tail, tail_size-by}
 use Rattle.scrip_journal.specs.States.{AtRest, IsJournal}
 use Rattle.scrip_journal.specs.Rests.{journal_keeps, journal_leaves}
 use Rattle.scrip_journal.specs.Exits.{EncodesNoOutput}
 use Rattle.mc_records.specs.declared.limits.Limits.{Limits}
 use Rattle.ledger_model.specs.Histories.{History}
+use Rattle.ledger_model.specs.Lawful.{MayFollow}
 use Rattle.house_core.specs.declared.bench.Bench.{Bench}
 use Rattle.house_core.specs.declared.house.House.{House}
 use Rattle.house_state.specs.declared.verdict.Authorization.{Authorization}
@@ -184,7 +186,12 @@ ran_halted T u v (answers.Refused f) d h aside ran = ran
 -- an entry with this payload fits the journal
 pub not_full_of : (b : HouseStateView) (h : History) (limit bytes : ℕ) (e : Entry) → StateRepresents b h → bytes ≡ length (payload e) → size_with b bytes ≤ b.limits.journal → limit ≡ b.limits.journal
     → limit < size h + entry_size h e → ⊥
-not_full_of b h limit bytes e st long fits limits full = omega (arith, length-tail h e, st.sized, st.tail)
+not_full_of b h limit bytes e st long fits limits full = omega (arith, length-tail h e, tail_size-by h, ap tail_bytes st.switched, st.sized)
+
+-- a Switch that may follow tells the chain of the entries before it
+pub may_tell : (limits : Limits) (h : History) (e : Entry) → MayFollow limits h e → TellsChain h e
+may_tell limits h (Switch m c) may = may.allowed.2
+may_tell limits h e may = tt
 
 -- where the entry may follow it was applied
 pub applied : {E : Type 0} (r : Result ℕ E) (M A B C D : Type 0) (N : ℕ → Type 0) → M → MatchResult r (λ n. M × N n × A) (λ f. (M → ⊥) × B) → MatchResult r (λ n. C) (λ f. D) → A × C

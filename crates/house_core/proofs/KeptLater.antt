@@ -91,8 +91,8 @@ stands_later {b = b} {h = h} st t spent kept le marked keep replies = record {
   takings = st.takings;
   counted = st.counted;
   sized = st.sized;
-  tail = st.tail;
-  version = st.version;
+  switched = st.switched;
+  upgrades = st.upgrades;
   limits = st.limits;
   lawful = st.lawful;
 }

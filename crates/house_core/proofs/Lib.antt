@@ -18,3 +18,4 @@ pub mod Said
 pub mod HouseDisk
 pub mod Committing
 pub mod TaskLemmas
+pub mod UpgradeLemmas

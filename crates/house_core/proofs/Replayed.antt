@@ -19,10 +19,10 @@ use Rattle.house_state.specs.HouseState.{HouseStateView}
 use Rattle.house_state.specs.Trade.{TradeView}
 
 -- an entry that does not follow is not replayed
-pub follow_fails : {T : Type 0} (trade : T → TradeView) (b : Bench T) (limits : Limits) (h : History) (e : Entry) (end : LearnFault)
-    → Follows trade b limits h e (Err end) → Replays trade b limits h e (Err end)
-follow_fails trade b limits h e ends.Unlawful f = f.0
-follow_fails trade b limits h e ends.NoMemory f = tt
+pub follow_fails : {T : Type 0} (trade : T → TradeView) (passes : History → Entry → Type 0) (b : Bench T) (limits : Limits) (h : History) (e : Entry) (end : LearnFault)
+    → Follows trade passes b limits h e (Err end) → Replays trade passes b limits h e (Err end)
+follow_fails trade passes b limits h e ends.Unlawful f = f.0
+follow_fails trade passes b limits h e ends.NoMemory f = tt
 
 -- what stops takes no entry
 pub stops : (s : Stop) (a : Answer) (e : Entry) → answered (Err s) ≡ a → a ≡ answers.Take e → ⊥

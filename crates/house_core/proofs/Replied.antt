@@ -5,13 +5,14 @@ use Rattle.std.proofs.lemmas.List.{take-append-le, take_all}
 use Rattle.scrip_form.specs.Identities.{issuer_of, epoch_of, series_of}
 use Rattle.scrip_form.specs.Issuing.{Issuing, epoch, series_end}
 use Rattle.scrip_form.specs.Scrip.{Scrip, Certified, scrip_body, scrip_text}
-use Rattle.mc_records.specs.declared.refusal.Refusal.TheVariants.{WrongVendor, UnknownIssuer, ExpiryMismatch, BadCertificate}
+use Rattle.mc_records.specs.declared.refusal.Refusal.TheVariants.{WrongVendor, UnknownIssuer, ExpiryMismatch, WrongVersion, BadCertificate}
 use Rattle.mc_records.specs.Entry.{Entry, Accept}
 use Rattle.mc_records.specs.Requests.{Asked}
 use Rattle.kept_replies.specs.Kept.{KeptReply}
 use Rattle.change_issue.specs.Registers.{count_in, next_in}
 use Rattle.ledger_model.specs.Histories.{History}
-use Rattle.ledger_model.specs.Houses.{site_name, own_end, all_terms, terms_in, version, certificate_in, secret_in, secret_of}
+use Rattle.ledger_model.specs.Houses.{site_name, own_end, all_terms, terms_in, version_by, version, secret_of}
+use Rattle.scrip_certs.specs.Digests.{certificate, customer_secret}
 use Rattle.ledger_model.specs.Pieces.{piece_of, change_from, change_piece, handed_piece}
 use Rattle.ledger_model.specs.Lines.{given, refused_if}
 use Rattle.ledger_model.specs.Answer.{genuine}
@@ -20,7 +21,7 @@ use Rattle.ledger_model.proofs.TableLaws.{line_ok, given_ok, ok_is}
 use Rattle.ledger_model.proofs.ReplyLaws.{own_reply, reply_stays}
 use Rattle.house_state.specs.declared.verdict.Authorization.{Authorization}
 use Rattle.house_state.specs.Views.{entry_deed}
-use Rattle.house_state.specs.HouseState.{HouseStateView, HasChange, version_of, series_now, kept_entry, change_made, own_scrip}
+use Rattle.house_state.specs.HouseState.{HouseStateView, HasChange, series_now, kept_entry, change_made, own_scrip}
 use Rattle.house_state.specs.Trade.{BringsFor}
 use Rattle.house_state.specs.Representation.{StateRepresents, IsReply, brought_then, kept_reply, scrip_request}
 use Rattle.house_state.specs.Verdicts.{accept_entry, IsReady}
@@ -77,10 +78,11 @@ secret_is h c secret piece e =
     let customers = line_ok (given (terms_in h (issuer_of c.piece.cust)) UnknownIssuer) _ secret own.2 in
     let end = series_end own.0 (epoch_of c.piece.id) in
     let ends = line_ok (refused_if (not (eqb c.piece.expires end)) (ExpiryMismatch c.piece.expires end)) _ secret customers.2 in
-    let proved = line_ok (refused_if (not (bytes_eq c.cert (certificate_in (of_series c.piece.id) own.0 (scrip_body c.piece) c.piece.id))) BadCertificate) _ secret ends.2 in
-    let is : secret_in (of_series c.piece.cust) customers.0 c.piece.cust ≡ secret = ok_is (secret_in (of_series c.piece.cust) customers.0 c.piece.cust) secret proved.2 in
+    let versions = line_ok (refused_if (not (eqb c.piece.version (of_series c.piece.id))) (WrongVersion (of_series c.piece.id))) _ secret ends.2 in
+    let proved = line_ok (refused_if (not (bytes_eq c.cert (certificate own.0 (scrip_body c.piece) c.piece.id))) BadCertificate) _ secret versions.2 in
+    let is : customer_secret customers.0 c.piece.cust (of_series c.piece.cust) ≡ secret = ok_is (customer_secret customers.0 c.piece.cust (of_series c.piece.cust)) secret proved.2 in
     let terms : terms_in h (issuer_of c.piece.cust) ≡ Some customers.0 = given_ok (terms_in h (issuer_of c.piece.cust)) UnknownIssuer customers.0 customers.1 in
-    ap (λ (o : Option Scrip). option_and_then (λ p. secret_of h p.cust) o) piece ∙ ap (λ (o : Option Issuing). option_map (λ t. secret_in (of_series c.piece.cust) t c.piece.cust) o) terms ∙ ap (λ (s : List ℕ). Some s) is
+    ap (λ (o : Option Scrip). option_and_then (λ p. secret_of h p.cust) o) piece ∙ ap (λ (o : Option Issuing). option_map (λ t. customer_secret t c.piece.cust (of_series c.piece.cust)) o) terms ∙ ap (λ (s : List ℕ). Some s) is
 
 -- the next identity of the series of the house time
 pub record IsOwn (b : HouseStateView) (id : ℕ) : Type 0 where
@@ -103,7 +105,7 @@ change_is : {b : HouseStateView} {h : History} → StateRepresents b h → (paid
     → change_from h paid price id ≡ change_made b paid price id
 change_is st paid price id short below is =
     let ends = own_end_is st id (next_is_own st id short below is).of_epoch in
-    λ i. record { vendor = st.name i; value = paid.value - price; id = id; cust = paid.cust; expires = ends i; props = paid.props }
+    λ i. record { version = version_by (st.upgrades i) (series_of id); vendor = st.name i; value = paid.value - price; id = id; cust = paid.cust; expires = ends i; props = paid.props }
 
 -- what an authorization hands out is what the ledger says
 pub handed_is : {b : HouseStateView} {h : History} → StateRepresents b h → (target : List ℕ) (a : Authorization) → piece_of a.scrip.now.text ≡ Some a.scrip.now.piece → b.own.most ≤ 2 ^ 32 → HasChange b a.price a.scrip.now.piece.value a.change
@@ -122,16 +124,14 @@ handed_is {b = b} {h = h} st target a piece most has short = go a.change has sho
         ∙ ap (λ (p : Scrip). Some p) (change_is st paid a.price id short (omega (arith, most, has.1)) has.2)
 
 -- the text of a piece of the house's own
-pub own_text_is : {b : HouseStateView} {h : History} → StateRepresents b h → (p : Scrip) → p.vendor ≡ b.name → own_text h p ≡ own_scrip b p
-own_text_is {b = b} {h = h} st p own =
-    let text : (ℕ → ℕ) → Option Issuing → List ℕ = λ v o. scrip_text p (unwrap_or (option_map (λ t. certificate_in (v (series_of p.id)) t (scrip_body p) p.id) o) []) in
-    let versions : version h p.vendor ≡ version_of b = ap (version h) (own ∙ sym st.name) ∙ st.version in
-    ap₂ text versions st.own_terms
+pub own_text_is : {b : HouseStateView} {h : History} → StateRepresents b h → (p : Scrip) → own_text h p ≡ own_scrip b p
+own_text_is {b = b} {h = h} st p =
+    ap (λ (o : Option Issuing). scrip_text p (unwrap_or (option_map (λ t. certificate t (scrip_body p) p.id) o) [])) st.own_terms
 
 -- that of change that may be there
 pub change_text_is : {b : HouseStateView} {h : History} → StateRepresents b h → (o : Option Scrip) → IfSome o (λ p. p.vendor ≡ site_name h) → option_map (own_text h) o ≡ option_map (own_scrip b) o
 change_text_is st None own = refl
-change_text_is st (Some p) own = ap some (own_text_is st p (own ∙ st.name))
+change_text_is st (Some p) own = ap some (own_text_is st p)
 
 change_is_own : (b : HouseStateView) (paid : Scrip) (price : ℕ) (name : List ℕ) (change : Option ℕ) → b.name ≡ name → IfSome (option_map (change_made b paid price) change) (λ p. p.vendor ≡ name)
 change_is_own b paid price name None is = tt

@@ -9,7 +9,6 @@ use Rattle.ledger_model.specs.Histories.{History}
 use Rattle.ledger_model.specs.Houses.{site_kind}
 use Rattle.ledger_model.specs.Lines.{Refuse}
 use Rattle.ledger_model.specs.Answer.{fitted, Answer, Refused, Again, Take}
-use Rattle.ledger_model.specs.Lawful.{MayFollow}
 use Rattle.house_core.specs.declared.bench.Bench.{Bench}
 use Rattle.house_core.specs.declared.tally.Tally.{Tally}
 use Rattle.house_state.specs.declared.verdict.NotAuthorized.{NotAuthorized}
@@ -20,6 +19,7 @@ use Rattle.scrip_journal.specs.declared.fault.LearnFault.{LearnFault}
 use Rattle.scrip_journal.specs.declared.fault.LearnFault.TheVariants as ends
 use Rattle.house_core.specs.declared.fault.BenchFault.{BenchFault}
 use Rattle.house_core.specs.declared.fault.BenchFault.TheVariants as faults
+use Rattle.house_state.specs.Learning.{MayEnter}
 use Rattle.house_state.specs.Representation.{StateRepresents}
 use Rattle.house_state.specs.HouseState.{IsAsBefore}
 use Rattle.house_state.specs.Trade.{OfGoods, Replaces, TradeView}
@@ -124,24 +124,24 @@ abbrev pub stopped_with : NotAuthorized → Result ℕ BenchFault
 stopped_with (stops.Refused f) = Err (faults.Refused f)
 stopped_with (stops.Again n) = Ok n
 
--- Of an entry by a command: it may follow, and is entered under the next number; or it may not follow,
--- does not fit, or there is no memory for it, and the house stays as it was.
-abbrev pub Enters : {T : Type 0} → (T → TradeView) → Bench T → Limits → History → Entry → Result ℕ EnterFault → Type 0
-Enters trade b limits h e (Ok n) = MayFollow limits h e × (n ≡ length h) × Represents trade b (h ++ e ∷ [])
-Enters trade b limits h e (Err enters.Unlawful) = (MayFollow limits h e → ⊥) × Represents trade b h
-Enters trade b limits h e (Err (enters.Refused f)) = (fitted h limits e ≡ Err (Refuse f)) × Represents trade b h
-Enters trade b limits h e (Err enters.NoMemory) = Represents trade b h
+-- Of an entry by a command: it may follow and passes the trade's own test, and is entered under the next number; or it
+-- may not, does not fit, or there is no memory for it, and the house stays as it was.
+abbrev pub Enters : {T : Type 0} → (T → TradeView) → (History → Entry → Type 0) → Bench T → Limits → History → Entry → Result ℕ EnterFault → Type 0
+Enters trade passes b limits h e (Ok n) = MayEnter passes limits h e × (n ≡ length h) × Represents trade b (h ++ e ∷ [])
+Enters trade passes b limits h e (Err enters.Unlawful) = (MayEnter passes limits h e → ⊥) × Represents trade b h
+Enters trade passes b limits h e (Err (enters.Refused f)) = (fitted h limits e ≡ Err (Refuse f)) × Represents trade b h
+Enters trade passes b limits h e (Err enters.NoMemory) = Represents trade b h
 
--- Of an entry that accepts nothing and fits: it may follow, and is entered under the next number; or it
--- may not follow, or there is no memory for it, and the house stays as it was.
-abbrev pub Follows : {T : Type 0} → (T → TradeView) → Bench T → Limits → History → Entry → Result ℕ LearnFault → Type 0
-Follows trade b limits h e (Ok n) = MayFollow limits h e × (n ≡ length h) × Represents trade b (h ++ e ∷ [])
-Follows trade b limits h e (Err ends.Unlawful) = (MayFollow limits h e → ⊥) × Represents trade b h
-Follows trade b limits h e (Err ends.NoMemory) = Represents trade b h
+-- Of an entry that accepts nothing and fits: it may follow and passes that test, and is entered under the next
+-- number; or it may not, or there is no memory for it, and the house stays as it was.
+abbrev pub Follows : {T : Type 0} → (T → TradeView) → (History → Entry → Type 0) → Bench T → Limits → History → Entry → Result ℕ LearnFault → Type 0
+Follows trade passes b limits h e (Ok n) = MayEnter passes limits h e × (n ≡ length h) × Represents trade b (h ++ e ∷ [])
+Follows trade passes b limits h e (Err ends.Unlawful) = (MayEnter passes limits h e → ⊥) × Represents trade b h
+Follows trade passes b limits h e (Err ends.NoMemory) = Represents trade b h
 
 -- Of the next entry of a history: it may follow, and the house represents the history with it, at its
 -- moment; or it may not follow; or there is no memory for it.
-abbrev pub Replays : {T : Type 0} → (T → TradeView) → Bench T → Limits → History → Entry → Result (Unit {0}) LearnFault → Type 0
-Replays trade b limits h e (Ok u) = MayFollow limits h e × Represents trade b (h ++ e ∷ []) × (house_time b ≡ moment_of e)
-Replays trade b limits h e (Err ends.Unlawful) = MayFollow limits h e → ⊥
-Replays trade b limits h e (Err ends.NoMemory) = Unit {0}
+abbrev pub Replays : {T : Type 0} → (T → TradeView) → (History → Entry → Type 0) → Bench T → Limits → History → Entry → Result (Unit {0}) LearnFault → Type 0
+Replays trade passes b limits h e (Ok u) = MayEnter passes limits h e × Represents trade b (h ++ e ∷ []) × (house_time b ≡ moment_of e)
+Replays trade passes b limits h e (Err ends.Unlawful) = MayEnter passes limits h e → ⊥
+Replays trade passes b limits h e (Err ends.NoMemory) = Unit {0}

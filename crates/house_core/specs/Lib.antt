@@ -3,3 +3,4 @@ pub mod Tallies
 pub mod Bench
 pub mod House
 pub mod Tasks
+pub mod Upgrading

@@ -1,10 +1,11 @@
 -- What comes of a command of a site's operator: what there is to do, and what was done.
-use Rattle.std.specs.Prelude.{◌≡◌, ℕ, ◌+◌, List, [], ◌∷◌, ◌++◌, length, Option, None, Err, MatchOption}
+use Rattle.std.specs.Prelude.{◌≡◌, ℕ, ◌+◌, List, [], ◌∷◌, ◌++◌, length, Option, None, Err, MatchOption, if◌then◌else◌}
 use Rattle.mc_outside.specs.Bytes.{Rose}
 use Rattle.mc_outside.specs.DiskView.{DiskView, Ran}
 use Rattle.mc_records.specs.declared.limits.Limits.{Limits}
 use Rattle.mc_records.specs.declared.refusal.Refusal.{Refusal}
-use Rattle.mc_records.specs.Entry.{Entry}
+use Rattle.mc_records.specs.Entry.{Entry, Switch}
+use Rattle.mc_records.specs.Chains.{chain, has_switch}
 use Rattle.ledger_model.specs.Histories.{History}
 use Rattle.ledger_model.specs.Lawful.{MayFollow}
 use Rattle.ledger_model.specs.Lines as lines
@@ -38,6 +39,10 @@ abbrev pub IsRefused : Limits → Task → History → Refusal → Type 0
 IsRefused limits (Add e) h f = fitted h limits e ≡ Err (lines.Refuse f)
 IsRefused limits Stays h f = ⊥
 IsRefused limits (Refuse g) h f = f ≡ g
+
+-- to switch a book, at this moment: nothing, where it is switched
+abbrev pub switch_task : History → ℕ → Task
+switch_task h moment = if has_switch h then Stays else Add (Switch moment (chain h))
 
 -- ---- what was done
 

@@ -1,10 +1,12 @@
 ghost use Rattle.std.specs.Prelude.{◌≡◌, ◌+◌, ◌≤◌, ◌==◌, ℕ, Err, [], ◌∷◌, ◌++◌, MatchResult, OnOk, OnErr, length, max, None, Some, Ok, IfOk, IfErr, IfSome, is_ok};
 ghost use Rattle.mc_records.specs.declared.limits.Limits.{Limits as Bounds};
 ghost use Rattle.mc_records.specs.Limits.{AreInRange};
+ghost use Rattle.mc_records.specs.Chains.{TellsChain};
 ghost use Rattle.mc_records.specs.Entry.{Fits, moment_of, payload};
 ghost use Rattle.house_state.specs.CommandEntries.{IsCommand};
 ghost use Rattle.ledger_model.specs.Houses.{site_kind};
 ghost use Rattle.ledger_model.specs.Lawful.{MayFollow};
+ghost use Rattle.house_state.specs.Learning.{MayEnter};
 ghost use Rattle.house_state.specs.Founding.{FoundsHouse};
 ghost use Rattle.scrip_form.specs.Texts.{IsTarget};
 ghost use Rattle.mc_records.specs.Requests.{asked_of};
@@ -240,8 +242,10 @@ impl<T: Trade> Bench<T> {
         ensures tally { tally_of self.new ≡ tally_of self.old }
         ensures within { IsTallied self.old → IsTallied self.new }
         ensures used { AreUsed (windows_of self.old) → AreUsed (windows_of self.new) }
+        // Of a Switch, that it tells the chain of the entries before it.
         ensures exact { (h : History) → Represents T.trade self.old h
-            → Enters T.trade self.new (limits_of self.old) h (entry r.now) result }
+            → TellsChain h (entry r.now)
+            → Enters T.trade T.passes self.new (limits_of self.old) h (entry r.now) result }
         ensures contents { (h : History) → Represents T.trade self.old h
             → HasContents T.trade self.old h
             → MatchResult result (λ n. HasContents T.trade self.new (h ++ entry r.now ∷ []))
@@ -268,13 +272,14 @@ impl<T: Trade> Bench<T> {
         ensures fits { IfOk result
             (λ n. size_with self.new.state n ≤ self.new.state.limits.journal) }
         ensures room { IfOk result (λ n. size_with self.new.state n ≤ Limits.MOST_JOURNAL) }
-        ensures goes_on { OnOk result (GoesOn self.new.state (entry r.now)) }
+        ensures goes_on { OnOk result (GoesOn self.new.state (T.trade self.new.trade).site (entry r.now)) }
         ensures trade { OnOk result ((T.trade self.new.trade).has_room (entry r.now)) }
         ensures state { OnOk result (HasRoomFor self.new.state (entry r.now)) }
         ensures spent { windows_of self.new ≡ windows_of self.old }
         ensures fault { (h : History) → Represents T.trade self.old h
+            → TellsChain h (entry r.now)
             → IfErr result
-            (λ f. Enters T.trade self.new (limits_of self.old) h (entry r.now) (Err f)) }
+            (λ f. Enters T.trade T.passes self.new (limits_of self.old) h (entry r.now) (Err f)) }
     {
         let bytes = r.payload_len();
         match fitted(&self.state, self.state.limits().journal, bytes) {
@@ -294,15 +299,16 @@ impl<T: Trade> Bench<T> {
         requires fits { Fits (entry r.now) }
         requires command { IsCommand (entry r.now) }
         ensures same { IsRoomed T.trade self.old self.new }
-        ensures goes_on { OnOk result (GoesOn self.new.state (entry r.now)) }
+        ensures goes_on { OnOk result (GoesOn self.new.state (T.trade self.new.trade).site (entry r.now)) }
         ensures trade { OnOk result ((T.trade self.new.trade).has_room (entry r.now)) }
         ensures state { OnOk result (HasRoomFor self.new.state (entry r.now)) }
         ensures spent { windows_of self.new ≡ windows_of self.old }
         ensures end { (h : History) → Represents T.trade self.old h
+            → TellsChain h (entry r.now)
             → IfErr result
-            (λ f. Follows T.trade self.new (limits_of self.old) h (entry r.now) (Err f)) }
+            (λ f. Follows T.trade T.passes self.new (limits_of self.old) h (entry r.now) (Err f)) }
     {
-        if !self.state.goes_on(r) {
+        if !self.state.goes_on(self.trade.kind(), r) {
             return Err(LearnFault::Unlawful);
         }
         match self.trade.reserve(r) {
@@ -324,7 +330,7 @@ impl<T: Trade> Bench<T> {
         requires time { moment_of (entry r.now) ≤ house_time self.old }
         requires len { bytes ≡ length (payload (entry r.now)) }
         requires room { size_with self.old.state bytes ≤ Limits.MOST_JOURNAL }
-        requires goes_on { GoesOn self.old.state (entry r.now) }
+        requires goes_on { GoesOn self.old.state (T.trade self.old.trade).site (entry r.now) }
         requires trade { (T.trade self.old.trade).has_room (entry r.now) }
         requires state { HasRoomFor self.old.state (entry r.now) }
         ensures time { house_time self.new ≡ house_time self.old }
@@ -333,11 +339,11 @@ impl<T: Trade> Bench<T> {
         ensures tally { tally_of self.new ≡ tally_of self.old }
         ensures grows { self.old.state.count ≤ self.new.state.count }
         ensures exact { (h : History) → Represents T.trade self.old h
-            → time h ≤ moment_of (entry r.now)
+            → time h ≤ moment_of (entry r.now) → TellsChain h (entry r.now)
             → MatchResult result
-            (λ n. MayFollow (limits_of self.old) h (entry r.now) × (n ≡ length h)
+            (λ n. MayEnter T.passes (limits_of self.old) h (entry r.now) × (n ≡ length h)
             × Represents T.trade self.new (h ++ entry r.now ∷ []))
-            (λ f. (MayFollow (limits_of self.old) h (entry r.now) → ⊥)
+            (λ f. (MayEnter T.passes (limits_of self.old) h (entry r.now) → ⊥)
             × Represents T.trade self.new h) }
         ensures contents { (h : History) → Represents T.trade self.old h
             → HasContents T.trade self.old h
@@ -349,7 +355,7 @@ impl<T: Trade> Bench<T> {
             Ok(()) => (),
             Err(Unlawful) => return Err(Unlawful),
         }
-        self.state.apply_entry(r, bytes);
+        self.state.apply_entry(self.trade.kind(), r, bytes);
         Ok(number)
     }
 

@@ -1,20 +1,23 @@
 //! A house over a journal: what is accepted is on the disk before its reply can begin.
 
-ghost use Rattle.std.specs.Prelude.{◌≡◌, ◌<◌, ◌≤◌, ◌+◌, ◌∷◌, ◌++◌, [], ℕ, List, length, max, IfOk, IfErr, IfSome, MatchResult, OnOk, None, Some, Ok};
+ghost use Rattle.std.specs.Prelude.{◌≡◌, ◌<◌, ◌≤◌, ◌+◌, ◌*◌, ◌^◌, ◌∷◌, ◌++◌, [], ℕ, List, length, max, IfOk, IfErr, IfSome, MatchResult, OnOk, None, Some, Ok};
 ghost use Rattle.mc_outside.specs.Bytes.{Rose};
 ghost use Rattle.mc_outside.specs.DiskView.{Ran};
 ghost use Rattle.scrip_form.specs.Identities.{series_of};
 ghost use Rattle.scrip_form.specs.Issuing.{Issuing};
-ghost use Rattle.scrip_form.specs.Scrip.{scrip_body};
+ghost use Rattle.scrip_form.specs.Scrip.{scrip_body, IsVersion};
 ghost use Rattle.scrip_form.specs.Texts.{IsTarget};
+ghost use Rattle.mc_records.specs.Chains.{chain};
 ghost use Rattle.mc_records.specs.Entry.{Entry, Fits, moment_of};
 ghost use Rattle.mc_records.specs.Requests.{asked_of};
 ghost use Rattle.mc_records.specs.Sizes.{size, entry_size};
 ghost use Rattle.mc_records.specs.Views.{entry};
 ghost use Rattle.ledger_model.specs.Histories.{History};
 ghost use Rattle.ledger_model.specs.Answer as model;
-ghost use Rattle.ledger_model.specs.Houses.{site_name, terms_in, version, certificate_in, secret_in};
+ghost use Rattle.ledger_model.specs.Houses.{site_name, terms_in, upgrade_in, version};
+ghost use Rattle.scrip_certs.specs.Digests as digests;
 ghost use Rattle.ledger_model.specs.Lawful.{MayFollow};
+ghost use Rattle.house_state.specs.Learning.{Passes};
 ghost use Rattle.house_state.specs.CommandEntries.{IsCommand};
 ghost use Rattle.scrip_journal.specs.States.{IsJournal};
 ghost use Rattle.scrip_journal.specs.Exits.{EitherNoOutput, MatchStageFault};
@@ -99,19 +102,39 @@ impl<D: Disk, T: Trade> House<D, T> {
     pub fn own_certificate(&self, piece: &Piece) -> [u8; 16]
         ensures { (h : History) (terms : Issuing) → HouseRepresents D.disk T.trade self.now h
             → terms_in h 0 ≡ Some terms
-            → result ≡ certificate_in (version h (site_name h) (series_of piece.now.id)) terms (scrip_body piece.now) piece.now.id }
+            → result ≡ digests.certificate terms (scrip_body piece.now) piece.now.id }
     {
         self.bench.state.own_certificate(piece)
     }
 
-    /// The secret of a customer whose identity is of its own, by its own terms.
+    /// The secret of a customer whose identity is of its own, by its own terms, in the version of its series.
     pub fn own_secret(&self, cust: Id) -> [u8; 16]
         ensures { (h : History) (terms : Issuing) → HouseRepresents D.disk T.trade self.now h
             → terms_in h 0 ≡ Some terms
-            → result ≡ secret_in (version h (site_name h) (series_of cust)) terms cust }
+            → result ≡ digests.customer_secret terms cust (version h (site_name h) (series_of cust)) }
     {
         let state = &self.bench.state;
         state.secret_of(state.own_terms(), cust)
+    }
+
+    /// The version of the series of an issuer of its own and an epoch, which is below 2^24: 1 or 2.
+    pub fn version(&self, issuer: u8, epoch: u32) -> u8
+        ensures valid { IsVersion result }
+        ensures series { (h : History) → HouseRepresents D.disk T.trade self.now h → epoch < 2 ^ 24
+            → result ≡ version h (site_name h) (issuer * 2 ^ 24 + epoch) }
+    {
+        let epoch = epoch % (1 << 24);
+        self.bench
+            .state
+            .version(u32::from(issuer) * (1 << 24) + epoch)
+    }
+
+    /// The epoch from which on the series of an issuer of its name have the second version, where there is one.
+    pub fn upgraded(&self, issuer: u8) -> Option<u32>
+        ensures { (h : History) → HouseRepresents D.disk T.trade self.now h
+            → result ≡ upgrade_in h (site_name h) issuer }
+    {
+        self.bench.state.upgrade_of(issuer)
     }
 
     /// The identity of the first of so many next pieces of its own series of the house time; refused with 32
@@ -276,15 +299,17 @@ impl<D: Disk, T: Trade> House<D, T> {
         }
     }
 
-    /// Enters an entry by a command of the house's operator, which may follow the entries before it: it is on
-    /// the disk behind an open gate, and then it is entered. The house time is raised to its moment where
-    /// that is later. All memory is taken before anything is written. It is refused only where the journal
-    /// has no room for it.
+    /// Enters an entry by a command of the house's operator, which may follow the entries before it, and passes
+    /// the trade's own test: it is on the disk behind an open gate, and then it is entered. The house time is
+    /// raised to its moment where that is later. All memory is taken before anything is written. It is refused
+    /// only where the journal has no room for it.
     pub fn enter(self, r: &Record<'_>) -> Outcome<D, T, Receipt>
         requires fits { Fits (entry r.now) }
         requires command { IsCommand (entry r.now) }
         requires may { (h : History) → HouseRepresents D.disk T.trade self h
             → MayFollow (limits_of self.bench) h (entry r.now) }
+        requires passed { (h : History) → HouseRepresents D.disk T.trade self h
+            → Passes T.passes h (entry r.now) }
         ensures back { HandsBack D.disk D.disk_moved (RaisedTo (moment_of (entry r.now)) self) self.journal.disk result }
         ensures exact { (h : History) → HouseRepresents D.disk T.trade self h
             → Entered D.disk T.trade (limits_of self.bench) self.journal.disk h (entry r.now) result }
@@ -315,6 +340,20 @@ impl<D: Disk, T: Trade> House<D, T> {
             }
             Err(StageFault::Disk(halted)) => Outcome::Halted(halted),
         }
+    }
+
+    /// How many entries there are.
+    pub fn entries(&self) -> u64
+        ensures { (h : History) → HouseRepresents D.disk T.trade self.now h → result ≡ length h }
+    {
+        self.journal.entries()
+    }
+
+    /// The chain of its entries.
+    pub fn chain(&self) -> [u8; 32]
+        ensures { (h : History) → HouseRepresents D.disk T.trade self.now h → result ≡ chain h }
+    {
+        self.journal.chain()
     }
 
     /// The disk, as it is.

@@ -15,7 +15,9 @@ mod reply;
 mod sending;
 mod settled;
 mod signing;
+mod switching;
 mod tally;
+mod upgrading;
 
 pub use bench::Bench;
 pub use fault::{BenchFault, EnterFault};
@@ -25,3 +27,4 @@ pub use reply::{Reply, ReplyRoom};
 pub use sending::{send_again, send_disk_fault, send_kept, send_refusal, send_settled};
 pub use settled::{Settled, drop_settled};
 pub use tally::Tally;
+pub use upgrading::upgrade;

@@ -1,6 +1,7 @@
 //! How a house takes the entries of a history as they are read from a journal.
 
 ghost use Rattle.std.specs.Prelude.{◌≡◌, ◌+◌, ◌≤◌, ◌↔◌, [], ◌∷◌, ◌++◌, length, Some, None, option_map, IsTrue, IfOk, MatchResult};
+ghost use Rattle.mc_records.specs.Chains.{TellsChain};
 ghost use Rattle.mc_records.specs.Entry.{Fits, Accept, Draw, moment_of, payload};
 ghost use Rattle.mc_records.specs.Views.{deed_of, entry};
 ghost use Rattle.mc_records.specs.Requests.{asked_of};
@@ -34,7 +35,8 @@ impl<T: Trade> Bench<T> {
         ensures time { house_time self.new ≡ house_time self.old }
         ensures limits { limits_of self.new ≡ limits_of self.old }
         ensures exact { (h : History) → Represents T.trade self.old h
-            → Follows T.trade self.new (limits_of self.old) h (entry r.now) result }
+            → TellsChain h (entry r.now)
+            → Follows T.trade T.passes self.new (limits_of self.old) h (entry r.now) result }
         ensures contents { (h : History) → Represents T.trade self.old h
             → HasContents T.trade self.old h
             → MatchResult result (λ n. HasContents T.trade self.new (h ++ entry r.now ∷ []))
@@ -50,16 +52,17 @@ impl<T: Trade> Bench<T> {
         }
     }
 
-    /// Learns the next entry of a history, as it is read from a journal. The house time is raised to the
-    /// entry's moment. `Err` has `Unlawful` exactly where the entry may not follow those before it. The
-    /// house's own limit of the journal is not asked: a book above it is lawful. After an `Err` nothing is
-    /// said of the house.
+    /// Learns the next entry of a history, as it is read from a journal, which told that a Switch has the chain
+    /// of the entries before it. The house time is raised to the entry's moment. `Err` has `Unlawful` exactly
+    /// where the entry may not follow those before it, or fails the trade's own test. The house's own limit of
+    /// the journal is not asked: a book above it is lawful. After an `Err` nothing is said of the house.
     pub fn replay(&mut self, r: &Record<'_>) -> Result<(), LearnFault>
         requires fits { Fits (entry r.now) }
         ensures limits { limits_of self.new ≡ limits_of self.old }
         ensures exact { (h : History) → Represents T.trade self.old h → house_time self.old ≡ time h
+            → TellsChain h (entry r.now)
             → size h + entry_size h (entry r.now) ≤ Limits.MOST_JOURNAL
-            → Replays T.trade self.new (limits_of self.old) h (entry r.now) result }
+            → Replays T.trade T.passes self.new (limits_of self.old) h (entry r.now) result }
         ensures contents { (h : History) → Represents T.trade self.old h
             → HasContents T.trade self.old h
             → IfOk result (λ u. HasContents T.trade self.new (h ++ entry r.now ∷ [])) }
@@ -97,8 +100,9 @@ impl<T: Trade> Bench<T> {
         requires time { moment_of (entry r.now) ≡ house_time self.old }
         ensures limits { limits_of self.new ≡ limits_of self.old }
         ensures exact { (h : History) → Represents T.trade self.old h
+            → TellsChain h (entry r.now)
             → size h + entry_size h (entry r.now) ≤ Limits.MOST_JOURNAL
-            → Replays T.trade self.new (limits_of self.old) h (entry r.now) result }
+            → Replays T.trade T.passes self.new (limits_of self.old) h (entry r.now) result }
         ensures contents { (h : History) → Represents T.trade self.old h
             → HasContents T.trade self.old h
             → IfOk result (λ u. HasContents T.trade self.new (h ++ entry r.now ∷ [])) }
@@ -127,7 +131,7 @@ impl<T: Trade> Bench<T> {
     ) -> Result<(), LearnFault>
         ensures limits { limits_of self.new ≡ limits_of self.old }
         ensures exact { (h : History) → Represents T.trade self.old h
-            → Replays T.trade self.new (limits_of self.old) h (Accept (house_time self.old) scrip.now target.now sign.now price change (deed_of deed.now)) result }
+            → Replays T.trade T.passes self.new (limits_of self.old) h (Accept (house_time self.old) scrip.now target.now sign.now price change (deed_of deed.now)) result }
         ensures contents { (h : History) → Represents T.trade self.old h
             → HasContents T.trade self.old h
             → IfOk result
@@ -153,7 +157,7 @@ impl<T: Trade> Bench<T> {
     fn replay_draw(&mut self, target: &[u8], sign: &[u8; 16], drawn: Id) -> Result<(), LearnFault>
         ensures limits { limits_of self.new ≡ limits_of self.old }
         ensures exact { (h : History) → Represents T.trade self.old h
-            → Replays T.trade self.new (limits_of self.old) h (Draw (house_time self.old) target.now sign.now drawn) result }
+            → Replays T.trade T.passes self.new (limits_of self.old) h (Draw (house_time self.old) target.now sign.now drawn) result }
         ensures contents { (h : History) → Represents T.trade self.old h
             → HasContents T.trade self.old h
             → IfOk result

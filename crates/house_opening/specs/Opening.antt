@@ -4,20 +4,21 @@ use Rattle.mc_outside.specs.Bytes.{BeginsWith}
 use Rattle.mc_outside.specs.DiskView.{DiskView}
 use Rattle.mc_records.specs.declared.limits.Limits.{Limits}
 use Rattle.mc_records.specs.Limits.{AreInRange}
+use Rattle.mc_records.specs.Chains.{TellsChain}
 use Rattle.ledger_model.specs.Histories.{History, time}
-use Rattle.ledger_model.specs.Lawful.{MayFollow}
 use Rattle.scrip_journal.specs.Layout as layout
 use Rattle.scrip_journal.specs.Layout.{header}
 use Rattle.scrip_journal.specs.Founds.{fault_disk}
 use Rattle.scrip_journal.specs.Causes as causes
 use Rattle.scrip_journal.specs.Causes.{Only}
 use Rattle.scrip_journal.specs.declared.fault.HouseFault.{HouseFault}
-use Rattle.scrip_journal.specs.declared.fault.HouseFault.TheVariants.{NotJournal, BadRecord, Unlawful, WrongKind, NotEmpty, Disk, NoMemory}
+use Rattle.scrip_journal.specs.declared.fault.HouseFault.TheVariants.{NotJournal, BadRecord, BadChain, Unlawful, WrongKind, NotEmpty, Disk, NoMemory}
 use Rattle.book_opening.specs.Opener.{OpenerView}
 use Rattle.house_core.specs.declared.bench.Bench.{Bench}
 use Rattle.house_core.specs.declared.house.House.{House}
 use Rattle.house_core.specs.Bench.{IsHouse, house_time, limits_of}
 use Rattle.house_core.specs.House.{HouseRepresents}
+use Rattle.house_state.specs.Learning.{Test, MayEnter}
 use Rattle.house_state.specs.Trade.{TradeView}
 use Rattle.house_opening.specs.declared.opening.HouseOpener.{HouseOpener}
 
@@ -26,15 +27,19 @@ abbrev pub house_disk : {D T : Type 0} → Result (House D T) (HouseFault D) →
 house_disk (Ok x) = x.journal.disk
 house_disk (Err f) = fault_disk f
 
--- ---- why a book is not opened, with a trade of this kind of site
+-- ---- why a book is not opened, with a trade of this test of Notes and this kind of site
 
 -- behind entries that may follow one another its bytes can't stand, from this place on
-abbrev pub SpoilsAt : Limits → ℕ → List ℕ → ℕ → Type 0
-SpoilsAt limits kind bytes place = causes.SpoilsAt (MayFollow limits) (Only kind) bytes place
+abbrev pub SpoilsAt : Test → Limits → ℕ → List ℕ → ℕ → Type 0
+SpoilsAt passes limits kind bytes place = causes.SpoilsAt (MayEnter passes limits) (Only kind) bytes place
+
+-- behind such entries comes one whose chain, at this place, is another than the one computed
+abbrev pub UnchainsAt : Test → Limits → ℕ → List ℕ → ℕ → List ℕ → List ℕ → Type 0
+UnchainsAt passes limits kind bytes place stood computed = causes.UnchainsAt (MayEnter passes limits) (Only kind) bytes place stood computed
 
 -- the first entry that may not follow is behind the gate at this place
-abbrev pub IsUnlawfulAt : Limits → ℕ → List ℕ → ℕ → Type 0
-IsUnlawfulAt limits kind bytes place = causes.IsUnlawfulAt (MayFollow limits) (Only kind) bytes place
+abbrev pub IsUnlawfulAt : Test → Limits → ℕ → List ℕ → ℕ → Type 0
+IsUnlawfulAt passes limits kind bytes place = causes.IsUnlawfulAt (MayEnter passes limits) (Only kind) bytes place
 
 -- it is that of a site of another kind
 abbrev pub IsOfOther : ℕ → List ℕ → Type 0
@@ -51,15 +56,16 @@ pub record OpenedFor {D T : Type 0} (view : D → DiskView) (trade : T → Trade
   pub limits' : limits_of x.bench ≡ limits
 
 -- what is answered by the bytes of the disk, at a trade with this kind of site
-abbrev pub OpensHouse : {D T : Type 0} → (D → DiskView) → (T → TradeView) → Limits → ℕ → List ℕ → Result (House D T) (HouseFault D) → Type 0
-OpensHouse view trade limits kind bytes (Ok x) = OpenedFor view trade limits bytes x
-OpensHouse view trade limits kind bytes (Err (NotJournal d)) = BeginsWith header bytes → ⊥
-OpensHouse view trade limits kind bytes (Err (BadRecord d place)) = SpoilsAt limits kind bytes place
-OpensHouse view trade limits kind bytes (Err (Unlawful d place)) = IsUnlawfulAt limits kind bytes place
-OpensHouse view trade limits kind bytes (Err (WrongKind d)) = IsOfOther kind bytes
-OpensHouse view trade limits kind bytes (Err (NotEmpty d count)) = ⊥
-OpensHouse view trade limits kind bytes (Err (Disk d)) = Unit {0}
-OpensHouse view trade limits kind bytes (Err (NoMemory d)) = Unit {0}
+abbrev pub OpensHouse : {D T : Type 0} → (D → DiskView) → (T → TradeView) → Test → Limits → ℕ → List ℕ → Result (House D T) (HouseFault D) → Type 0
+OpensHouse view trade passes limits kind bytes (Ok x) = OpenedFor view trade limits bytes x
+OpensHouse view trade passes limits kind bytes (Err (NotJournal d)) = BeginsWith header bytes → ⊥
+OpensHouse view trade passes limits kind bytes (Err (BadRecord d place)) = SpoilsAt passes limits kind bytes place
+OpensHouse view trade passes limits kind bytes (Err (BadChain d place stood computed)) = UnchainsAt passes limits kind bytes place stood computed
+OpensHouse view trade passes limits kind bytes (Err (Unlawful d place)) = IsUnlawfulAt passes limits kind bytes place
+OpensHouse view trade passes limits kind bytes (Err (WrongKind d)) = IsOfOther kind bytes
+OpensHouse view trade passes limits kind bytes (Err (NotEmpty d count)) = ⊥
+OpensHouse view trade passes limits kind bytes (Err (Disk d)) = Unit {0}
+OpensHouse view trade passes limits kind bytes (Err (NoMemory d)) = Unit {0}
 
 -- ---- who opens it
 
@@ -69,10 +75,11 @@ pub record StandsAt {T : Type 0} (trade : T → TradeView) (b : Bench T) (h : Hi
   pub time' : house_time b ≡ time h
 
 -- A book is opened as a house by the ledger, where it is of the kind of site of the trade.
-abbrev pub opener_of : {T : Type 0} → (T → TradeView) → HouseOpener T → OpenerView (Bench T)
-opener_of trade o = record {
+abbrev pub opener_of : {T : Type 0} → (T → TradeView) → Test → HouseOpener T → OpenerView (Bench T)
+opener_of trade passes o = record {
   ready = AreInRange o.limits × (trade o.trade).represents [];
-  may = MayFollow o.limits;
+  may = MayEnter passes o.limits;
+  asks = TellsChain;
   kinds = Only (trade o.trade).site;
   belongs = λ b. limits_of b ≡ o.limits;
   holds = StandsAt trade;

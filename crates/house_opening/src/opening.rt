@@ -25,11 +25,11 @@ pub(crate) struct HouseOpener<T> {
 
 impl<T: Trade> Opener for HouseOpener<T> {
     ghost use Rattle.house_opening.specs.Opening.{opener_of};
-    ghost use Rattle.house_opening.specs.First.{site_first};
+    ghost use Rattle.house_opening.specs.First.{site_first, tells_chain};
 
     type Learner = Bench<T>;
 
-    ghost opener = { opener_of T.trade };
+    ghost opener = { opener_of T.trade T.passes };
 
     fn opens(&self, kind: u8) -> bool {
         kind == self.trade.kind().number()
@@ -46,18 +46,25 @@ impl<T: Trade> Opener for HouseOpener<T> {
         }
     }
 
+    fn is_told(r: &Record<'_>, before: &[u8; 32]) -> bool {
+        r.tells(before)
+    }
+
     fn learn(bench: &mut Bench<T>, r: &Record<'_>) -> Result<(), LearnFault> {
         bench.replay(r)
     }
 
-    ghost site_first = { λ o. site_first o.limits };
+    ghost site_first = { λ o. site_first T.passes o.limits };
+
+    ghost told_first = { λ o. tells_chain T.passes o.limits };
 }
 
 /// Opens the book that the disk has as a house with this trade, which has learned nothing yet. The house
 /// may grow to these limits; its time is that of the last entry.
 ///
 /// `NotJournal` comes where the disk does not begin with the header of a journal, and `BadRecord` where
-/// its bytes can't stand, from the place told on. `Unlawful` tells the place of the gate of the first
+/// its bytes can't stand, from the place told on; `BadChain` where an entry has another chain than the one computed.
+/// `Unlawful` tells the place of the gate of the first
 /// entry that may not follow those before it, and 8 where there is no entry at all. `WrongKind` comes
 /// where the book is of a site of another kind than the trade's. `Disk` comes only where the disk failed.
 /// Nothing is written, and each fault hands the disk back.
@@ -72,7 +79,7 @@ pub fn open_house<D: Disk, T: Trade>(
     ensures moved { D.disk_moved disk (house_disk result) }
     ensures read { OnlyRead (D.disk disk) (D.disk (house_disk result)) }
     ensures exact { (x : List ℕ) → (D.disk disk).contents ≡ Some x
-        → OpensHouse D.disk T.trade limits (T.trade trade).site x result }
+        → OpensHouse D.disk T.trade T.passes limits (T.trade trade).site x result }
     ensures limits { IfOk result (λ h. limits_of h.bench ≡ limits) }
     ensures fault { CountedBy result (D.disk disk).faults (D.disk (house_disk result)).faults }
 {

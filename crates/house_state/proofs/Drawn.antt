@@ -8,12 +8,12 @@ use Rattle.kept_replies.proofs.InsertLaws.{inserted_last}
 use Rattle.change_issue.specs.Registers.{Register, count_in, issued_in, redeemed_in, next_in}
 use Rattle.change_issue.specs.IssuedPieces.{issued_piece}
 use Rattle.house_state.specs.declared.verdict.DrawAuthorization.{DrawAuthorization}
-use Rattle.house_state.specs.HouseState.{HouseStateView, IsSound, IsDrawn, version_of, size_with, series_now, draw_growth, deed_drawn, at_series}
+use Rattle.house_state.specs.HouseState.{HouseStateView, IsSound, IsDrawn, in_version, size_with, series_now, draw_growth, deed_drawn, at_series}
 use Rattle.house_state.proofs.Entering.{sound_more}
 
 pub drawn : (old : HouseStateView) (kept : KeptView) (own : Register) (size : ℕ) (q : Asked) (d : DrawAuthorization) (deed : Deed) → IsSound old → epoch old.own.terms old.time < 2 ^ 24
     → d.id ≡ next_in old.own (series_now old)
-    → deed ≡ deed_drawn (version_of old) old.own.terms (issued_piece old.own.terms old.time old.name d.amount (next_in old.own (series_now old)) None [])
+    → deed ≡ deed_drawn old.own.terms (in_version old.upgrades (issued_piece old.own.terms old.time old.name d.amount (next_in old.own (series_now old)) None []))
     → kept.keep ≡ old.kept.keep
     → kept.replies ≡ inserted (record { asked = q; entry = record { number = old.count; moment = old.time; price = d.amount; change = None; secret = d.key; deed = deed } }) old.kept.replies
     → own.terms ≡ old.own.terms → own.most ≡ old.own.most
@@ -24,11 +24,12 @@ pub drawn : (old : HouseStateView) (kept : KeptView) (own : Register) (size : �
     → IsDrawn old (record old { kept = kept; own = own; count = old.count + 1; size = size }) q d
 drawn old kept own size q d deed sound short next made keep replies terms most count worth redeemed grown =
     let reply : Deed → KeptReply = λ x. record { asked = q; entry = record { number = old.count; moment = old.time; price = d.amount; change = None; secret = d.key; deed = x } } in
-    let piece : ℕ → Deed = λ id. deed_drawn (version_of old) old.own.terms (issued_piece old.own.terms old.time old.name d.amount id None []) in
+    let piece : ℕ → Deed = λ id. deed_drawn old.own.terms (in_version old.upgrades (issued_piece old.own.terms old.time old.name d.amount id None [])) in
     record {
       name = refl;
       clear = refl;
       terms = sym (append-nil old.terms);
+      upgrades = sym (append-nil old.upgrades);
       time = refl;
       limits = refl;
       short = short;
@@ -45,6 +46,7 @@ drawn old kept own size q d deed sound short next made keep replies terms most c
       takings = omega arith;
       counted = refl;
       sized = grown;
+      switched = refl;
     }
 
 -- the state stays sound

@@ -9,6 +9,7 @@ use Rattle.scrip_form.specs.Issuing.{Issuing, epoch}
 use Rattle.scrip_form.specs.Scrip.{Scrip, IsPiece}
 use Rattle.mc_records.specs.declared.limits.Limits.{Limits}
 use Rattle.mc_records.specs.Requests.{Asked}
+use Rattle.ledger_model.specs.declared.upgraded.Upgraded.{Upgraded}
 use Rattle.kept_replies.specs.Requests.{is_same_request}
 use Rattle.kept_replies.specs.Kept.{KeptReply, KeptView, is_in_time, has_request, has_number, inserted, change_size}
 use Rattle.kept_replies.proofs.InsertLaws.{inserted_last}
@@ -16,7 +17,7 @@ use Rattle.change_issue.specs.Registers.{Register, count_in, issued_in, redeemed
 use Rattle.change_issue.specs.IssuedPieces.{issued_piece}
 use Rattle.house_state.specs.declared.verdict.Authorization.{Authorization}
 use Rattle.spent_windows.specs.Windows.{WindowView, is_marked, end_of, later_than}
-use Rattle.house_state.specs.HouseState.{HouseStateView, end_by, IsSound, Growth, IsGrown, IsMarkedToo, IsKeptToo, IsEntered, size_with, series_now, change_made, at_series, count_handed, worth_handed, worth_redeemed, change_count, change_worth, accept_growth}
+use Rattle.house_state.specs.HouseState.{HouseStateView, end_by, IsSound, Growth, IsGrown, IsMarkedToo, IsKeptToo, IsEntered, size_with, in_version, series_now, change_made, at_series, count_handed, worth_handed, worth_redeemed, change_count, change_worth, accept_growth}
 use Rattle.house_state.proofs.EndLaws.{end_kept, EndInTime, ends_dropped}
 
 -- ---- a later time
@@ -43,11 +44,12 @@ sound_later b t spent kept sound dropped keep replies = record {
 
 -- ---- an entry that accepts nothing
 
--- more terms, more minted pieces and one entry more leave the state sound
-pub sound_grown : (b : HouseStateView) (terms : List Issuing) (room : ℕ) (own : Register) (size bytes : ℕ) → IsSound b → own.most ≡ b.own.most
-    → ((s : ℕ) → redeemed_in own s ≡ redeemed_in b.own s) → ((id end : ℕ) → end_by b.terms id ≡ Some end → end_by terms id ≡ Some end) → size ≡ size_with b bytes → size_with b bytes ≤ 2 ^ 40
-    → IsSound (record b { terms = terms; terms_room = room; own = own; count = b.count + 1; size = size })
-sound_grown b terms room own size bytes sound most redeemed ends grown fits = record {
+-- more terms, another issuer moved, more minted pieces and one entry more leave the state sound
+pub sound_grown : (b : HouseStateView) (terms : List Issuing) (room : ℕ) (upgrades : List Upgraded) (places : ℕ) (own : Register) (size bytes : ℕ) (switched : Bool) → IsSound b
+    → own.most ≡ b.own.most → ((s : ℕ) → redeemed_in own s ≡ redeemed_in b.own s) → ((id end : ℕ) → end_by b.terms id ≡ Some end → end_by terms id ≡ Some end)
+    → size ≡ size_with b bytes → size_with b bytes ≤ 2 ^ 40
+    → IsSound (record b { terms = terms; terms_room = room; upgrades = upgrades; upgrades_room = places; own = own; count = b.count + 1; size = size; switched = switched })
+sound_grown b terms room upgrades places own size bytes switched sound most redeemed ends grown fits = record {
   limits = sound.limits;
   most = most ∙ sound.most;
   counted = omega (arith, grown, sound.counted);
@@ -108,11 +110,11 @@ zero_at : (series s : ℕ) → at_series series 0 s ≡ 0
 zero_at series s = omega (arith, at_most series 0 s)
 
 -- the change has the name of the house and the properties of the piece
-pub change_fits : (terms : Issuing) (time worth : ℕ) (name : List ℕ) (cust : ℕ) (props : List ℕ) (change : Option ℕ) (piece : Option Scrip)
-    → piece ≡ option_map (λ id. issued_piece terms time name worth id (Some cust) props) change → change_size piece ≡ cond (is_some change) (length name + length props) 0
-change_fits terms time worth name cust props change piece is = ap change_size is ∙ go change
+pub change_fits : (upgrades : List Upgraded) (terms : Issuing) (time worth : ℕ) (name : List ℕ) (cust : ℕ) (props : List ℕ) (change : Option ℕ) (piece : Option Scrip)
+    → piece ≡ option_map (λ id. in_version upgrades (issued_piece terms time name worth id (Some cust) props)) change → change_size piece ≡ cond (is_some change) (length name + length props) 0
+change_fits upgrades terms time worth name cust props change piece is = ap change_size is ∙ go change
   where
-    go : (o : Option ℕ) → change_size (option_map (λ id. issued_piece terms time name worth id (Some cust) props) o) ≡ cond (is_some o) (length name + length props) 0
+    go : (o : Option ℕ) → change_size (option_map (λ id. in_version upgrades (issued_piece terms time name worth id (Some cust) props)) o) ≡ cond (is_some o) (length name + length props) 0
     go None = refl
     go (Some id) = refl
 
@@ -133,7 +135,7 @@ pub entered : (old : HouseStateView) (spent : List WindowView) (kept : KeptView)
     → ((k : ℕ) → is_marked spent k ≡ (is_marked old.spent k || (paid.id == k))) → ((k : ℕ) → end_of spent k ≡ end_of old.spent k)
     → kept.keep ≡ old.kept.keep
     → kept.replies ≡ inserted (record { asked = q; entry = record { number = old.count; moment = old.time; price = a.price; change = piece; secret = a.secret; deed = a.deed } }) old.kept.replies
-    → piece ≡ option_map (λ id. issued_piece old.own.terms old.time old.name (paid.value - a.price) id (Some paid.cust) paid.props) a.change
+    → piece ≡ option_map (change_made old paid a.price) a.change
     → own.terms ≡ old.own.terms → own.most ≡ old.own.most
     → ((s : ℕ) → count_in own s ≡ count_in old.own s + at_series (series_now old) (change_count a.change) s)
     → ((s : ℕ) → issued_in own s ≡ issued_in old.own s + at_series (series_now old) (change_worth a.price paid.value a.change) s)
@@ -146,6 +148,7 @@ entered old spent kept own takings size q paid a piece sound short marks same_en
       name = refl;
       clear = refl;
       terms = sym (append-nil old.terms);
+      upgrades = sym (append-nil old.upgrades);
       time = refl;
       limits = refl;
       short = if_change (change_made old paid a.price) a.change short;
@@ -162,6 +165,7 @@ entered old spent kept own takings size q paid a piece sound short marks same_en
       takings = took;
       counted = refl;
       sized = grown;
+      switched = refl;
     }
 
 -- ---- that the state stays sound

@@ -10,11 +10,13 @@ use Rattle.mc_records.specs.declared.limits.Limits.{Limits}
 use Rattle.mc_records.specs.declared.refusal.Refusal.TheVariants.{WrongVendor, UnknownIssuer, ExpiryMismatch, Expired, Spent, NeedSignature, BadSignature, NoAccount}
 use Rattle.mc_records.specs.Entry.{Entry, Accept, Draw}
 use Rattle.mc_records.specs.Requests.{Asked}
-use Rattle.mc_records.proofs.SizeLaws.{length-tail}
+use Rattle.mc_records.specs.Sizes.{tail_bytes}
+use Rattle.mc_records.proofs.SizeLaws.{length-tail, tail_size-by}
 use Rattle.kept_replies.specs.Kept.{found}
 use Rattle.change_issue.specs.Registers.{count_in}
 use Rattle.ledger_model.specs.Histories.{History}
-use Rattle.ledger_model.specs.Houses.{site_name, all_terms, terms_by, terms_in, version, own_series}
+use Rattle.ledger_model.specs.declared.upgraded.Upgraded.{Upgraded}
+use Rattle.ledger_model.specs.Houses.{site_name, all_terms, terms_by, terms_in, version_by, version, own_series}
 use Rattle.ledger_model.specs.Pieces.{is_spent}
 use Rattle.ledger_model.specs.Lines.{Stop, Refuse, Repeat, ◌>>=◌, given, refused_if, again_if}
 use Rattle.ledger_model.specs.Stages.{read_by, is_right, genuine_by, spendable_by, Offer, next_by, needed, drawable_by, payable_by, fitted_by}
@@ -29,14 +31,14 @@ use Rattle.house_state.specs.HouseState.{HouseStateView, end_by, version_of, tai
 use Rattle.spent_windows.specs.Windows.{is_marked}
 use Rattle.house_state.specs.Representation.{StateRepresents, has_ended, scrip_request}
 
--- ---- 22 to 25
+-- ---- 22 to 25 and 34
 
 abbrev pub genuine_in : HouseStateView → Certified → Result (List ℕ) Stop
 genuine_in b c = genuine_by b.name (version_of b) b.terms c
 
 pub genuine_stands : {b : HouseStateView} {h : History} → StateRepresents b h → (c : Certified) → genuine h c ≡ genuine_in b c
 genuine_stands {b = b} {h = h} st c =
-    ap₂ (λ (n : List ℕ) (ts : List Issuing). genuine_by n (version h (site_name h)) ts c) st.name st.terms ∙ ap (λ (v : ℕ → ℕ). genuine_by b.name v b.terms c) st.version
+    ap₂ (λ (n : List ℕ) (ts : List Issuing). genuine_by n (version h (site_name h)) ts c) st.name st.terms ∙ ap (λ (us : List Upgraded). genuine_by b.name (version_by us) b.terms c) st.upgrades
 
 not_false : (b : Bool) → not b ≡ false → b ≡ true
 not_false true e = refl
@@ -119,7 +121,7 @@ change_stands : {b : HouseStateView} {h : History} → StateRepresents b h → (
 change_stands {b = b} st limits same price value = ap (needed (nat_lt price value)) (next_stands st limits same)
 
 pub fitted_stands : {b : HouseStateView} {h : History} → StateRepresents b h → (limits : Limits) (e : Entry) → fitted h limits e ≡ fitted_by limits.journal b.size (tail_of b) e
-fitted_stands {b = b} {h = h} st limits e = ap₂ (λ (n t : ℕ). fitted_by limits.journal n t e) st.sized (length-tail h e ∙ st.tail)
+fitted_stands {b = b} {h = h} st limits e = ap₂ (λ (n t : ℕ). fitted_by limits.journal n t e) st.sized (length-tail h e ∙ tail_size-by h ∙ ap tail_bytes st.switched)
 
 -- ---- 30 to 33
 
@@ -140,6 +142,11 @@ fits st limits same q c sign o change r offered changed is =
     rw (← offered, change_stands st limits same o.price c.piece.value, ← changed, fitted_stands st limits (Accept _ c.text q.target sign o.price change o.deed)) is
 
 -- ---- from 22 on
+
+pub not_genuine : {b : HouseStateView} {h : History} → StateRepresents b h → (limits : Limits) (q : Asked) (c : Certified) (s : Stop) → Err s ≡ genuine_in b c → Err s ≡ after_repeat h b.time limits q c
+not_genuine {h = h} st limits q c s is =
+    let genuine_is : genuine h c ≡ Err s = genuine_stands st c ∙ sym is in
+    rw genuine_is refl
 
 pub not_spendable : {b : HouseStateView} {h : History} → StateRepresents b h → (limits : Limits) (q : Asked) (c : Certified) (secret : List ℕ) (s : Stop)
     → Ok secret ≡ genuine_in b c → Err s ≡ spendable_in b secret q c → Err s ≡ after_repeat h b.time limits q c

@@ -1,8 +1,8 @@
 -- The state of a house that was just founded.
-use Rattle.std.specs.Prelude.{◌≡◌, ℕ, ◌+◌, List, [], ◌∷◌, length, Some}
+use Rattle.std.specs.Prelude.{◌≡◌, ℕ, ◌+◌, false, List, [], ◌∷◌, length, Some}
 use Rattle.mc_records.specs.declared.limits.Limits.{Limits}
 use Rattle.mc_records.specs.Entry.{House, Entry, Site, Fits, payload}
-use Rattle.mc_records.specs.Sizes.{empty_size, framed_size, tail_size}
+use Rattle.mc_records.specs.Sizes.{empty_size, framed_size, tail_bytes}
 use Rattle.change_issue.specs.Registers.{count_in, issued_in, redeemed_in}
 use Rattle.house_state.specs.HouseState.{HouseStateView}
 
@@ -12,6 +12,7 @@ pub record IsFounded (b : HouseStateView) (m : ℕ) (site : List ℕ) (h : House
   pub name : b.name ≡ site
   pub clear : b.clear ≡ h.clear
   pub terms : b.terms ≡ h.terms ∷ []
+  pub upgrades : b.upgrades ≡ []
   pub time : b.time ≡ m
   pub spent : b.spent ≡ []
   pub keep : b.kept.keep ≡ h.keep
@@ -23,7 +24,8 @@ pub record IsFounded (b : HouseStateView) (m : ℕ) (site : List ℕ) (h : House
   pub redeemed : (s : ℕ) → redeemed_in b.own s ≡ 0
   pub takings : b.takings ≡ 0
   pub counted : b.count ≡ 1
-  pub sized : b.size ≡ empty_size + framed_size len (tail_size [])
+  pub sized : b.size ≡ empty_size + framed_size len (tail_bytes false)
+  pub switched : b.switched ≡ false
   pub limits : b.limits ≡ l
 
 -- the state is the one that an entry founds

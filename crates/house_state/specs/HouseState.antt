@@ -1,16 +1,20 @@
 -- What a house keeps in place of its history, without how it is stored.
-use Rattle.std.specs.Prelude.{◌≡◌, ℕ, ◌+◌, ◌-◌, ◌*◌, ◌<◌, ◌≤◌, ◌^◌, ◌==◌, ◌||◌, nat_le, Bool, false, min, List, [], ◌∷◌, ◌++◌, length, is_some, All, IsTrue, Option, Some, None, option_map, unwrap_or, MatchOption, IfSome, if◌then◌else◌}
+use Rattle.std.specs.Prelude.{◌≡◌, ℕ, ◌+◌, ◌-◌, ◌*◌, ◌<◌, ◌≤◌, ◌^◌, ◌==◌, ◌||◌, nat_le, Bool, false, min, List, [], ◌∷◌, ◌++◌, length, is_some, All, IsTrue, IsFalse, IsNone, Option, Some, None, option_map, unwrap_or, MatchOption, IfSome, if◌then◌else◌, bytes_eq}
 use Rattle.mc_base.specs.declared.amount.TheConstants.Amount.{MOST}
 use Rattle.scrip_form.specs.Identities.{issuer_of, epoch_of, series_of}
 use Rattle.scrip_form.specs.Issuing.{Issuing, epoch, series_at, series_end}
 use Rattle.scrip_form.specs.Scrip.{Scrip, scrip_body, scrip_text}
+use Rattle.scrip_certs.specs.Digests.{certificate, customer_secret}
 use Rattle.mc_records.specs.declared.limits.TheConstants.Limits.{MOST_JOURNAL}
 use Rattle.mc_records.specs.declared.limits.Limits.{Limits}
 use Rattle.mc_records.specs.Limits.{AreInRange}
-use Rattle.mc_records.specs.Entry.{Entry, AddTerms, Mint}
+use Rattle.mc_records.specs.Entry.{Entry, AddTerms, Mint, Upgrade, Switch}
+use Rattle.mc_records.specs.Chains.{is_switch}
 use Rattle.mc_records.specs.Requests.{Asked}
-use Rattle.mc_records.specs.Sizes.{tail_size, framed_size}
-use Rattle.ledger_model.specs.Houses.{version, certificate_in, secret_in, all_terms, terms_by}
+use Rattle.mc_records.specs.Sizes.{tail_bytes, framed_size}
+use Rattle.ledger_model.specs.Houses.{upgrades_of, version_by, upgrade_by, all_terms, terms_by}
+use Rattle.ledger_model.specs.declared.upgraded.Upgraded.{Upgraded}
+use Rattle.ledger_model.specs.declared.numbers.TheConstants.{VENDOR_KIND}
 use Rattle.kept_replies.specs.declared.deed.Deed.{Deed}
 use Rattle.kept_replies.specs.declared.deed.Deed.TheVariants as kept
 use Rattle.kept_replies.specs.declared.deed.KeptEntry.{KeptEntry}
@@ -25,13 +29,16 @@ use Rattle.spent_windows.specs.Windows as windows
 use Rattle.spent_windows.specs.Windows.{WindowView, is_marked, end_of}
 
 -- The name, whether requests need no signature, the terms of all issuers, and how many more there is room
--- for; the house time; the windows of the identities that were accepted, the first replies, what was handed out in the
--- house's own series, the takings; the number of entries and the bytes of their journal; the limits.
+-- for; its issuers that were moved to version 2, and for how many more there is room; the house time; the windows of
+-- the identities that were accepted, the first replies, what was handed out in the house's own series, the takings; the
+-- number of entries and the bytes of their journal, and whether a Switch is among them; the limits.
 pub record HouseStateView : Type 0 where
   pub name : List ℕ
   pub clear : Bool
   pub terms : List Issuing
   pub terms_room : ℕ
+  pub upgrades : List Upgraded
+  pub upgrades_room : ℕ
   pub time : ℕ
   pub spent : List WindowView
   pub kept : KeptView
@@ -39,6 +46,7 @@ pub record HouseStateView : Type 0 where
   pub takings : ℕ
   pub count : ℕ
   pub size : ℕ
+  pub switched : Bool
   pub limits : Limits
 
 -- the end of the series of an identity, by the terms of its issuer
@@ -53,17 +61,21 @@ ended_by terms t id = unwrap_or (option_map (λ end. nat_le end t) (end_by terms
 abbrev pub series_now : HouseStateView → ℕ
 series_now b = series_at b.own.terms b.time
 
--- the version of each of the house's series: the one from before any entry
+-- the version of each of the house's series
 abbrev pub version_of : HouseStateView → ℕ → ℕ
-version_of b = version [] b.name
+version_of b = version_by b.upgrades
+
+-- a piece in the version of its series, where these issuers were moved
+abbrev pub in_version : List Upgraded → Scrip → Scrip
+in_version upgrades p = record p { version = version_by upgrades (series_of p.id) }
 
 -- the scrip text of a piece of the house's own
 abbrev pub own_scrip : HouseStateView → Scrip → List ℕ
-own_scrip b p = scrip_text p (certificate_in (version_of b (series_of p.id)) b.own.terms (scrip_body p) p.id)
+own_scrip b p = scrip_text p (certificate b.own.terms (scrip_body p) p.id)
 
--- how many bytes the tail of the next entry has: as many as that of the first
+-- how many bytes the tail of the next entry has
 abbrev pub tail_of : HouseStateView → ℕ
-tail_of b = tail_size []
+tail_of b = tail_bytes b.switched
 
 -- how many bytes the journal has with one entry more, with a payload of so many bytes
 abbrev pub size_with : HouseStateView → ℕ → ℕ
@@ -101,7 +113,7 @@ HasChange b price value change = MatchOption change (value ≤ price) (λ id. (p
 
 -- the change of a piece at a price, under an identity
 abbrev pub change_made : HouseStateView → Scrip → ℕ → ℕ → Scrip
-change_made b paid price id = issued_piece b.own.terms b.time b.name (paid.value - price) id (Some paid.cust) paid.props
+change_made b paid price id = in_version b.upgrades (issued_piece b.own.terms b.time b.name (paid.value - price) id (Some paid.cust) paid.props)
 
 -- what is kept of the entry of an authorization
 abbrev pub kept_entry : HouseStateView → Scrip → Authorization → KeptEntry
@@ -127,15 +139,17 @@ HasRoomToEnter b q a = HasRoom b q (pieces_size b.name a.scrip.now.piece a) a.sc
 
 -- What an entry brings to the state: the piece that it accepts, the piece that it hands out in the series of the house
 -- time, the request with what is kept of the entry for its reply, and what goes to the takings; the terms that it
--- brings, how many pieces of each series it mints, and the bytes of its payload. A draw hands out a piece and accepts
--- none.
+-- brings, its Upgrade of an issuer, how many pieces of each series it mints, whether it is a Switch, and the bytes of
+-- its payload. A draw hands out a piece and accepts none.
 pub record Growth : Type 0 where
   pub paid : Option Scrip
   pub handed : Option Scrip
   pub kept : Option KeptReply
   pub takings : ℕ
   pub terms : List Issuing
+  pub upgrades : List Upgraded
   pub minted : ℕ → ℕ
+  pub switches : Bool
   pub bytes : ℕ
 
 -- a number at one series, 0 at the others
@@ -172,6 +186,7 @@ pub record IsGrown (old new : HouseStateView) (g : Growth) : Type 0 where
   pub name : new.name ≡ old.name
   pub clear : new.clear ≡ old.clear
   pub terms : new.terms ≡ old.terms ++ g.terms
+  pub upgrades : new.upgrades ≡ old.upgrades ++ g.upgrades
   pub time : new.time ≡ old.time
   pub limits : new.limits ≡ old.limits
   pub short : IfSome g.handed (λ p. epoch old.own.terms old.time < 2 ^ 24)
@@ -185,6 +200,7 @@ pub record IsGrown (old new : HouseStateView) (g : Growth) : Type 0 where
   pub takings : new.takings ≡ old.takings + g.takings
   pub counted : new.count ≡ old.count + 1
   pub sized : new.size ≡ size_with old g.bytes
+  pub switched : new.switched ≡ (g.switches || old.switched)
 
 -- how many pieces of change there are, and the worth of it
 abbrev pub change_count : Option ℕ → ℕ
@@ -203,7 +219,9 @@ accept_growth b q paid a = record {
   kept = Some (record { asked = q; entry = kept_entry b paid a });
   takings = min a.price paid.value;
   terms = [];
+  upgrades = [];
   minted = λ s. 0;
+  switches = false;
   bytes = a.payload;
 }
 
@@ -220,11 +238,12 @@ pub record HasRoomToDraw (b : HouseStateView) (q : Asked) : Type 0 where
 
 -- the piece that is drawn: first-hand, and worth the amount
 abbrev pub drawn_made : HouseStateView → DrawAuthorization → Scrip
-drawn_made b d = issued_piece b.own.terms b.time b.name d.amount d.id None []
+drawn_made b d = in_version b.upgrades (issued_piece b.own.terms b.time b.name d.amount d.id None [])
 
--- what is kept of a piece of a house's own that is drawn: the piece, its certificate and the secret of its customer
-abbrev pub deed_drawn : (ℕ → ℕ) → Issuing → Scrip → Deed
-deed_drawn version terms p = kept.Draw p (certificate_in (version (series_of p.id)) terms (scrip_body p) p.id) (secret_in (version (series_of p.cust)) terms p.cust)
+-- what is kept of a piece of a house's own that is drawn: the piece, its certificate and the secret of its customer,
+-- whose identity is the piece's own
+abbrev pub deed_drawn : Issuing → Scrip → Deed
+deed_drawn terms p = kept.Draw p (certificate terms (scrip_body p) p.id) (customer_secret terms p.cust p.version)
 
 -- what is kept of the entry of a draw: the amount is its price, and the key of the account signs
 abbrev pub kept_draw : HouseStateView → DrawAuthorization → KeptEntry
@@ -234,7 +253,7 @@ kept_draw b d = record {
   price = d.amount;
   change = None;
   secret = d.key;
-  deed = deed_drawn (version_of b) b.own.terms (drawn_made b d);
+  deed = deed_drawn b.own.terms (drawn_made b d);
 }
 
 -- what a draw by a request, which has no scrip text, brings
@@ -245,7 +264,9 @@ draw_growth b q d = record {
   kept = Some (record { asked = q; entry = kept_draw b d });
   takings = 0;
   terms = [];
+  upgrades = [];
   minted = λ s. 0;
+  switches = false;
   bytes = d.payload;
 }
 
@@ -260,6 +281,7 @@ pub record IsAsBefore (old new : HouseStateView) : Type 0 where
   pub name : new.name ≡ old.name
   pub clear : new.clear ≡ old.clear
   pub terms : new.terms ≡ old.terms
+  pub upgrades : new.upgrades ≡ old.upgrades
   pub time : new.time ≡ old.time
   pub limits : new.limits ≡ old.limits
   pub spent : (id : ℕ) → is_marked new.spent id ≡ is_marked old.spent id
@@ -273,6 +295,7 @@ pub record IsAsBefore (old new : HouseStateView) : Type 0 where
   pub takings : new.takings ≡ old.takings
   pub counted : new.count ≡ old.count
   pub sized : new.size ≡ old.size
+  pub switched : new.switched ≡ old.switched
 
 -- ---- an entry that accepts nothing
 
@@ -284,26 +307,38 @@ minted_count _ s = 0
 -- there is room to enter such an entry
 abbrev pub HasRoomFor : HouseStateView → Entry → Type 0
 HasRoomFor b (AddTerms m terms) = 0 < b.terms_room
+HasRoomFor b (Upgrade m vendor issuer from) = 0 < b.upgrades_room
 HasRoomFor b (Mint m reference count value first) = IsTrue (has_room b.own (series_of first))
 HasRoomFor b _ = Unit {0}
 
--- minted pieces go on with the serials of the series of their moment, and fit the limit of it
-abbrev pub GoesOn : HouseStateView → Entry → Type 0
-GoesOn b (Mint m reference count value first) = (first ≡ next_in b.own (series_at b.own.terms m)) × (count_in b.own (series_at b.own.terms m) + count ≤ b.own.most)
-GoesOn b _ = Unit {0}
+-- an issuer of the house that may be moved to version 2 at a moment, from an epoch on
+pub record MayMove (b : HouseStateView) (m : ℕ) (vendor : List ℕ) (issuer from : ℕ) : Type 0 where
+  pub own : IsTrue (bytes_eq vendor b.name)
+  pub new : IsNone (upgrade_by b.upgrades issuer)
+  pub coming : MatchOption (terms_by b.terms issuer) ⊥ (λ terms. epoch terms m < from)
+
+-- Minted pieces go on with the serials of the series of their moment, and fit the limit of it. An Upgrade at a vendor,
+-- and at a broker one of issuer 0, is of an own issuer that may be moved. A Switch is the first.
+abbrev pub GoesOn : HouseStateView → ℕ → Entry → Type 0
+GoesOn b kind (Mint m reference count value first) = (first ≡ next_in b.own (series_at b.own.terms m)) × (count_in b.own (series_at b.own.terms m) + count ≤ b.own.most)
+GoesOn b kind (Upgrade m vendor issuer from) = IsTrue (kind == VENDOR_KIND || issuer == 0) → MayMove b m vendor issuer from
+GoesOn b kind (Switch m c) = IsFalse b.switched
+GoesOn b kind _ = Unit {0}
 
 -- what an entry that accepts nothing brings, with a payload of so many bytes
-abbrev pub command_growth : Entry → ℕ → Growth
-command_growth e bytes = record {
+abbrev pub command_growth : List ℕ → Entry → ℕ → Growth
+command_growth name e bytes = record {
   paid = None;
   handed = None;
   kept = None;
   takings = 0;
   terms = all_terms (e ∷ []);
+  upgrades = upgrades_of (e ∷ []) name;
   minted = minted_count e;
+  switches = is_switch e;
   bytes = bytes;
 }
 
 -- the state before and after such an entry was entered
 abbrev pub IsApplied : HouseStateView → HouseStateView → Entry → ℕ → Type 0
-IsApplied old new e bytes = IsGrown old new (command_growth e bytes)
+IsApplied old new e bytes = IsGrown old new (command_growth old.name e bytes)

@@ -4,17 +4,18 @@ use Rattle.scrip_form.specs.Identities.{series_of}
 use Rattle.scrip_form.specs.Scrip.{Scrip}
 use Rattle.mc_records.specs.Limits.{AreInRange}
 use Rattle.mc_records.specs.Requests.{Asked}
-use Rattle.mc_records.specs.Sizes.{tail_size, size}
+use Rattle.mc_records.specs.Chains.{has_switch}
+use Rattle.mc_records.specs.Sizes.{size}
 use Rattle.kept_replies.specs.Kept.{KeptReply, found}
 use Rattle.change_issue.specs.Registers.{count_in, issued_in, redeemed_in}
 use Rattle.ledger_model.specs.Histories.{History, time}
-use Rattle.ledger_model.specs.Houses.{site_name, keeping, is_clear, all_terms, terms_in, version}
+use Rattle.ledger_model.specs.Houses.{site_name, keeping, is_clear, all_terms, terms_in, upgrades_of}
 use Rattle.ledger_model.specs.Pieces.{accepted, is_spent, own_out, own_count}
 use Rattle.ledger_model.specs.Sums.{values, takings}
 use Rattle.ledger_model.specs.Stages.{is_repeat}
 use Rattle.ledger_model.specs.Replies.{Contents, no_contents, contents_after, own_text, taken_values, taken_reply, reply_of}
 use Rattle.ledger_model.specs.Lawful.{IsLawful}
-use Rattle.house_state.specs.HouseState.{HouseStateView, ended_by, version_of, tail_of}
+use Rattle.house_state.specs.HouseState.{HouseStateView, ended_by}
 use Rattle.spent_windows.specs.Windows.{is_marked}
 use Rattle.house_state.specs.Trade.{brought_by}
 
@@ -74,11 +75,11 @@ pub record StateRepresents (b : HouseStateView) (h : History) : Type 0 where
   pub redeemed : (series : ℕ) → values (of_series series (accepted h)) ≡ redeemed_in b.own series
   pub worth : (series : ℕ) → values (of_series series (own_out h)) ≡ issued_in b.own series
   pub takings : takings h ≡ b.takings
-  -- the number of entries, the bytes of their journal, and those of the next entry's tail
+  -- the number of entries, the bytes of their journal, and whether the next entry has a tail
   pub counted : length h ≡ b.count
   pub sized : size h ≡ b.size
-  pub tail : tail_size h ≡ tail_of b
-  -- the version of each series of the site
-  pub version : version h (site_name h) ≡ version_of b
+  pub switched : has_switch h ≡ b.switched
+  -- the issuers of the site that were moved to version 2, by which a series has its version
+  pub upgrades : upgrades_of h (site_name h) ≡ b.upgrades
   pub limits : AreInRange b.limits
   pub lawful : IsLawful b.limits h

@@ -1,13 +1,15 @@
-ghost use Rattle.std.specs.Prelude.{◌≡◌, ◌+◌, ◌-◌, ◌≤◌, ◌<◌, ℕ, false, length, take, Some, None, option_map, filter, max, All, IfSome, IsNone, ◌↔◌, ◌^◌, [], IsTrue, IsFalse, IfOk, MatchResult, OnOk, OnErr};
+ghost use Rattle.std.specs.Prelude.{◌≡◌, ◌+◌, ◌||◌, ◌-◌, ◌≤◌, ◌<◌, ℕ, false, length, take, Some, None, option_map, filter, max, All, IfSome, IsNone, MatchOption, ◌↔◌, ◌^◌, [], IsTrue, IsFalse, IfOk, MatchResult, OnOk, OnErr};
 ghost use Rattle.scrip_form.specs.Identities.{series_of};
 ghost use Rattle.scrip_form.specs.Issuing.{epoch, series_at};
-ghost use Rattle.scrip_form.specs.Scrip.{scrip_body};
+ghost use Rattle.scrip_form.specs.Scrip.{scrip_body, IsVersion};
 ghost use Rattle.mc_records.specs.declared.refusal.Refusal.TheVariants.{SeriesFull};
 ghost use Rattle.mc_records.specs.Limits.{AreInRange};
 ghost use Rattle.change_issue.specs.Registers.{count_in, next_in};
 ghost use Rattle.mc_records.specs.Views.{house_of, entry};
 ghost use Rattle.mc_records.specs.Entry.{Fits};
-ghost use Rattle.ledger_model.specs.Houses.{certificate_in, secret_in};
+ghost use Rattle.scrip_certs.specs.Digests as digests;
+ghost use Rattle.ledger_model.specs.Houses.{terms_by, upgrade_by};
+ghost use Rattle.house_state.specs.Views.{kind_number};
 ghost use Rattle.house_state.specs.CommandEntries.{IsNoSite};
 ghost use Rattle.house_state.specs.Founding.{IsFounded};
 ghost use Rattle.mc_records.specs.Requests.{asked_of};
@@ -18,15 +20,21 @@ ghost use Rattle.house_state.specs.HouseState.{IsSound, HasRoom, HasRoomToEnter,
 ghost use Rattle.house_state.specs.Verdicts.{IsReady, IsDrawReady, IsOfNew, MayCommit, HasRoomToCommit, AreUsedFor, IsCommitted};
 ghost use Rattle.spent_windows.specs.Looks.{Tells};
 
-use crate::money::{certificate_by, certified, drawn, redeem, secret_by};
+use crate::money::{drawn, redeem};
+use crate::offer::SiteKind;
 use crate::presented::without_scrip;
+use crate::stages::terms_of;
 use crate::verdict::{Authorization, Authorized, DrawAuthorization};
+use crate::versions::version_in;
 use change_issue::Issuer;
 use kept_replies::{Kept, KeptEntry, KeptNumber};
+use ledger_model::Upgraded;
 use mc_base::{Moment, NoMemory, Total};
 use mc_fields::put;
-use mc_records::{EMPTY_JOURNAL, FRAME, Limits, PieceList, Record, Refusal, Request, SiteTerms};
-use scrip_certs::hex_of;
+use mc_records::{
+    EMPTY_JOURNAL, FRAME, Limits, PieceList, Record, Refusal, Request, SiteTerms, tail_len,
+};
+use scrip_certs::{certificate, customer_secret, hex_of};
 use scrip_form::{Id, Name, Piece, Terms, write_scrip};
 use spent_windows::{Look, Steps, Windows};
 use std::alloc::Global;
@@ -44,6 +52,8 @@ pub struct HouseState {
     clear: bool,
     /// The terms of all issuers whose scrip it takes.
     terms: Vec<Terms>,
+    /// Its issuers that were moved to the second version of scrip.
+    upgrades: Vec<Upgraded>,
     /// The house time, which never goes back.
     time: Moment,
     /// The identities that were accepted, each of which is spent.
@@ -57,6 +67,8 @@ pub struct HouseState {
     count: u64,
     /// How many bytes a journal of the entries has.
     size: u64,
+    /// Whether a Switch is among the entries.
+    switched: bool,
     limits: Limits,
 }
 
@@ -66,14 +78,20 @@ impl Model for HouseState {
 
     ghost Value = { HouseStateView };
 
-    ghost view = { λ b. record { name = b.name; clear = b.clear; terms = b.terms.items; terms_room = vec_capacity b.terms - vec_len b.terms; time = b.time; spent = b.spent; kept = b.kept; own = b.own; takings = b.takings; count = b.count; size = b.size; limits = b.limits } };
+    ghost view = { λ b. record { name = b.name; clear = b.clear; terms = b.terms.items; terms_room = vec_capacity b.terms - vec_len b.terms; upgrades = b.upgrades.items; upgrades_room = vec_capacity b.upgrades - vec_len b.upgrades; time = b.time; spent = b.spent; kept = b.kept; own = b.own; takings = b.takings; count = b.count; size = b.size; switched = b.switched; limits = b.limits } };
 
-    ghost invariant = { λ b. IsSound (record { name = b.name; clear = b.clear; terms = b.terms.items; terms_room = vec_capacity b.terms - vec_len b.terms; time = b.time; spent = b.spent; kept = b.kept; own = b.own; takings = b.takings; count = b.count; size = b.size; limits = b.limits }) };
+    ghost invariant = { λ b. IsSound (record { name = b.name; clear = b.clear; terms = b.terms.items; terms_room = vec_capacity b.terms - vec_len b.terms; upgrades = b.upgrades.items; upgrades_room = vec_capacity b.upgrades - vec_len b.upgrades; time = b.time; spent = b.spent; kept = b.kept; own = b.own; takings = b.takings; count = b.count; size = b.size; switched = b.switched; limits = b.limits }) };
+}
+
+/// Whether a Switch stands after an entry.
+fn stands_with(switches: bool, switched: bool) -> bool
+    ensures { result ≡ (switches || switched) }
+{
+    switches || switched
 }
 
 impl HouseState {
     /// The state of a house that is founded so, by an entry of so many bytes of payload.
-    #[tactic(auto, unfolding(mc_records::specs::Sizes::tail_size))]
     pub(crate) fn found(
         alloc: Global,
         moment: Moment,
@@ -93,6 +111,7 @@ impl HouseState {
             name,
             clear: house.clear,
             terms,
+            upgrades: Vec::new(alloc),
             time: moment,
             spent: Windows::new(alloc),
             kept: Kept::new(alloc, house.keep),
@@ -100,6 +119,7 @@ impl HouseState {
             takings: Total::zero(),
             count: 1,
             size: EMPTY_JOURNAL + payload + FRAME,
+            switched: false,
             limits,
         })
     }
@@ -177,28 +197,43 @@ impl HouseState {
         self.size
     }
 
+    /// Whether a Switch is among the entries.
+    pub fn is_switched(&self) -> bool
+        ensures { result ≡ self.now.switched }
+    {
+        self.switched
+    }
+
     /// How many bytes the journal has with one entry more, with a payload of so many bytes.
-    #[tactic(auto, unfolding(mc_records::specs::Sizes::tail_size))]
     pub(crate) fn size_with(&self, payload: u64) -> u64
         requires { payload ≤ Limits.MOST_JOURNAL }
         ensures { result ≡ size_with self.now payload }
     {
-        self.size + payload + FRAME
+        self.size + payload + tail_len(self.switched) + FRAME
     }
 
-    /// The certificate of a body under an identity of the house's name, by the terms of its issuer.
-    pub(crate) fn certificate_of(&self, terms: &Terms, body: &[u8], id: Id) -> [u8; 16]
-        ensures { result ≡ certificate_in (version_of self.now (series_of id)) terms.now body.now id }
+    /// The version of a series of the house's name.
+    pub fn version(&self, series: u32) -> u8
+        ensures value { result ≡ version_of self.now series }
+        ensures valid { IsVersion result }
     {
-        certificate_by(terms, body, id)
+        version_in(&self.upgrades, series)
+    }
+
+    /// The issuers of the house that were moved to the second version, and from which epoch on each has it.
+    pub fn upgrades(&self) -> &[Upgraded]
+        ensures { result.now ≡ self.now.upgrades }
+    {
+        &self.upgrades
     }
 
     /// The certificate of a piece of the house's own.
     pub fn own_certificate(&self, piece: &Piece) -> [u8; 16]
-        ensures { result ≡ certificate_in (version_of self.now (series_of piece.now.id)) self.now.own.terms (scrip_body piece.now) piece.now.id }
+        ensures { result ≡ digests.certificate self.now.own.terms (scrip_body piece.now) piece.now.id }
     {
-        let (_, cert) = certified(self.own_terms(), *piece);
-        cert
+        let mut out = [0; 512];
+        let len = write_scrip(piece, &[0; 16], &mut out);
+        certificate(self.own_terms(), &out[..len - 32], piece.id())
     }
 
     /// Writes the scrip text of a piece of the house's own to the front, and answers its length, at most 293.
@@ -208,15 +243,15 @@ impl HouseState {
     {
         let len = write_scrip(piece, &[0; 16], out);
         let body = len - 32;
-        let cert = self.certificate_of(self.own_terms(), &out[..body], piece.id());
+        let cert = certificate(self.own_terms(), &out[..body], piece.id());
         put(out, body, &hex_of(&cert))
     }
 
-    /// The secret of a customer, by the terms of the issuer of his identity.
+    /// The secret of a customer, by the terms of the issuer of his identity, in the version of its series.
     pub fn secret_of(&self, terms: &Terms, cust: Id) -> [u8; 16]
-        ensures { result ≡ secret_in (version_of self.now (series_of cust)) terms.now cust }
+        ensures { result ≡ digests.customer_secret terms.now cust (version_of self.now (series_of cust)) }
     {
-        secret_by(terms, cust)
+        customer_secret(terms, cust, self.version(cust.series()))
     }
 
     /// Asks whether an identity was accepted.
@@ -351,10 +386,11 @@ impl HouseState {
     }
 
     /// Whether the pieces that an entry mints go on with the serials of the series of its moment and fit the
-    /// limit of it; of other entries it asks nothing.
-    pub fn goes_on(&self, r: &Record<'_>) -> bool
+    /// limit of it, whether an Upgrade, at a vendor or of issuer 0, is of an own issuer that may be moved, and
+    /// whether a Switch is the first; of other entries it asks nothing.
+    pub fn goes_on(&self, kind: SiteKind, r: &Record<'_>) -> bool
         requires { Fits (entry r.now) }
-        ensures { IsTrue result ↔ GoesOn self.now (entry r.now) }
+        ensures { IsTrue result ↔ GoesOn self.now (kind_number kind) (entry r.now) }
     {
         let _pieces: Option<PieceList<'_>> = None;
         match r {
@@ -372,8 +408,42 @@ impl HouseState {
                     && stand <= self.limits.series
                     && u64::from(*count) <= self.limits.series - stand
             }
+            Record::Upgrade {
+                moment,
+                vendor,
+                issuer,
+                from,
+            } => {
+                let by_house = matches!(kind, SiteKind::Vendor) || *issuer == 0;
+                !by_house || (*vendor == self.name() && self.may_move(*moment, *issuer, *from))
+            }
+            Record::Switch { .. } => !self.switched,
             _ => true,
         }
+    }
+
+    /// Whether an issuer of the house may be moved to the second version at a moment, from an epoch on.
+    fn may_move(&self, moment: Moment, issuer: u8, from: u32) -> bool
+        ensures { IsTrue result ↔ (IsNone (upgrade_by self.now.upgrades issuer)
+            × MatchOption (terms_by self.now.terms issuer) ⊥ (λ terms. epoch terms moment < from)) }
+    {
+        if self.upgrade_of(issuer).is_some() {
+            return false;
+        }
+        match terms_of(self.terms(), issuer) {
+            Some(terms) => terms.epoch_of(moment) < from,
+            None => false,
+        }
+    }
+
+    /// The epoch from which on the series of an issuer have the second version, where there is one.
+    pub fn upgrade_of(&self, issuer: u8) -> Option<u32>
+        ensures { result ≡ upgrade_by self.now.upgrades issuer }
+    {
+        self.upgrades
+            .iter()
+            .find(|u| u.issuer == issuer)
+            .map(|u| u.from)
     }
 
     /// The identity of the first of so many next pieces of the house time's series; refused where the limit
@@ -407,15 +477,19 @@ impl HouseState {
                 Ok(())
             }
             Record::Mint { first, .. } => self.own.reserve(first.series()),
+            Record::Upgrade { .. } => {
+                self.upgrades.reserve(1)?;
+                Ok(())
+            }
             _ => Ok(()),
         }
     }
 
     /// Enters an entry that accepts nothing, with a payload of so many bytes, for which there is room. It
     /// takes no memory.
-    pub fn apply_entry(&mut self, r: &Record<'_>, bytes: u64)
+    pub fn apply_entry(&mut self, kind: SiteKind, r: &Record<'_>, bytes: u64)
         requires room { HasRoomFor self.old (entry r.now) }
-        requires goes_on { GoesOn self.old (entry r.now) }
+        requires goes_on { GoesOn self.old (kind_number kind) (entry r.now) }
         requires payload { Fits (entry r.now) }
         requires site { IsNoSite (entry r.now) }
         requires fits { size_with self.old bytes ≤ Limits.MOST_JOURNAL }
@@ -425,8 +499,18 @@ impl HouseState {
         match r {
             Record::Terms { terms, .. } => self.terms.push_reserved(*terms),
             Record::Mint { count, first, .. } => self.own.count_on(*first, u32::from(*count)),
+            Record::Upgrade {
+                vendor,
+                issuer,
+                from,
+                ..
+            } if *vendor == self.name.bytes() => self.upgrades.push_reserved(Upgraded {
+                issuer: *issuer,
+                from: *from,
+            }),
             _ => (),
         }
+        self.switched = stands_with(r.is_switch(), self.switched);
         self.count += 1;
         self.size = size;
     }
@@ -466,6 +550,7 @@ impl HouseState {
         let size = self.size_with(a.payload);
         let change = redeem(
             &mut self.own,
+            &self.upgrades,
             &mut self.takings,
             self.time,
             self.name,
@@ -499,7 +584,13 @@ impl HouseState {
     {
         let _series = self.series_now();
         let size = self.size_with(d.payload);
-        let deed = drawn(&mut self.own, self.time, self.name, d.amount);
+        let deed = drawn(
+            &mut self.own,
+            &self.upgrades,
+            self.time,
+            self.name,
+            d.amount,
+        );
         // At most as many bytes as there is room for.
         let _size = deed.size();
         let entry = KeptEntry {

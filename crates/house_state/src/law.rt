@@ -6,18 +6,17 @@ ghost use Rattle.mc_records.specs.declared.limits.Limits.{Limits as Bounds};
 ghost use Rattle.mc_records.specs.Entry.{Entry};
 ghost use Rattle.ledger_model.specs.Histories.{History};
 ghost use Rattle.ledger_model.specs.Houses.{IsHouseKind};
-ghost use Rattle.ledger_model.specs.Lawful.{MayFollow};
 ghost use Rattle.ledger_model.specs.Replies.{Contents};
 ghost use Rattle.house_state.specs.Trade.{brought_by, IsInForce, IsKeptFrom};
-ghost use Rattle.house_state.specs.Learning.{IsGoods, IsOfKind, InParts};
+ghost use Rattle.house_state.specs.Learning.{IsGoods, IsOfKind, InParts, MayEnter};
 
 use crate::trade::Trade;
 
-/// In a history of a kind of house an entry may follow exactly where the house's half and the trade's half
-/// of what makes it lawful hold.
+/// In a history of a kind of house an entry may follow, and passes the trade's own test, exactly where the house's half
+/// and the trade's half of what makes it lawful hold.
 pub fn entries_follow_in_parts<T: Trade>()
     ensures { (limits : Bounds) (kind : ℕ) (h : History) (e : Entry) → IsHouseKind kind
-        → IsOfKind kind h e → MayFollow limits h e ↔ InParts T.passes limits kind h e }
+        → IsOfKind kind h e → MayEnter T.passes limits h e ↔ InParts T.passes limits kind h e }
 {}
 
 /// What a kept deed brings stays, whatever entries follow.

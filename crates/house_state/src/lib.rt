@@ -19,6 +19,7 @@ mod ranges;
 mod stages;
 mod trade;
 mod verdict;
+mod versions;
 
 pub use body::{body_of_deed, put_piece_line};
 pub use evaluating::evaluate;

@@ -4,44 +4,26 @@ ghost use Rattle.std.specs.Prelude.{◌≡◌, ◌+◌, ◌-◌, ◌≤◌, ◌<
 ghost use Rattle.scrip_form.specs.Identities.{series_of};
 ghost use Rattle.scrip_form.specs.Issuing.{series_at};
 ghost use Rattle.scrip_form.specs.Scrip.{scrip_body};
-ghost use Rattle.ledger_model.specs.Houses.{version, certificate_in, secret_in};
+ghost use Rattle.scrip_certs.specs.Digests as digests;
 ghost use Rattle.change_issue.specs.Registers.{has_room, count_in, issued_in, redeemed_in, next_in};
 ghost use Rattle.change_issue.specs.IssuedPieces.{issued_piece};
-ghost use Rattle.house_state.specs.HouseState.{at_series, change_count, change_worth, deed_drawn};
+ghost use Rattle.house_state.specs.HouseState.{at_series, change_count, change_worth, deed_drawn, in_version};
 
+use crate::versions;
 use change_issue::Issuer;
 use kept_replies::Deed;
+use ledger_model::Upgraded;
 use mc_base::{Amount, Coin, Moment, Total};
 use scrip_certs::{certificate, customer_secret};
 use scrip_form::{Id, Name, Piece, Props, Terms, write_scrip};
 
-/// The certificate of a body under an identity, by the terms of its issuer, in the version that a series has
-/// before any entry.
-#[tactic(auto, unfolding(ledger_model::specs::Houses::version, ledger_model::specs::Houses::certificate_in))]
-pub(crate) fn certificate_by(terms: &Terms, body: &[u8], id: Id) -> [u8; 16]
-    ensures { (site : List ℕ)
-        → result ≡ certificate_in (version [] site (series_of id)) terms.now body.now id }
-{
-    certificate(terms, body, id)
-}
-
-/// The secret of a customer by the terms of the issuer, likewise.
-#[tactic(auto, unfolding(ledger_model::specs::Houses::version, ledger_model::specs::Houses::secret_in))]
-pub(crate) fn secret_by(terms: &Terms, cust: Id) -> [u8; 16]
-    ensures { (site : List ℕ)
-        → result ≡ secret_in (version [] site (series_of cust)) terms.now cust }
-{
-    customer_secret(terms, cust)
-}
-
 /// A piece of the house's own with its certificate under these terms.
-pub(crate) fn certified(terms: &Terms, piece: Piece) -> (Piece, [u8; 16])
-    ensures { (site : List ℕ)
-        → result ≡ (piece, certificate_in (version [] site (series_of piece.id)) terms.now (scrip_body piece) piece.id) }
+fn certified(terms: &Terms, piece: Piece) -> (Piece, [u8; 16])
+    ensures { result ≡ (piece, digests.certificate terms.now (scrip_body piece) piece.id) }
 {
     let mut out = [0; 512];
     let len = write_scrip(&piece, &[0; 16], &mut out);
-    let cert = certificate_by(terms, &out[..len - 32], piece.id());
+    let cert = certificate(terms, &out[..len - 32], piece.id());
     (piece, cert)
 }
 
@@ -62,6 +44,7 @@ fn parted(coin: Coin, price: u64) -> (Coin, Coin)
 /// change, where there is an identity for it. It takes no memory.
 pub(crate) fn redeem(
     own: &mut Issuer,
+    upgrades: &[Upgraded],
     takings: &mut Total,
     time: Moment,
     vendor: Name,
@@ -78,7 +61,7 @@ pub(crate) fn redeem(
     requires redeemed_small { redeemed_in own.old (series_of paid.now.id) < 2 ^ 120 }
     requires takings_small { takings.old < 2 ^ 120 }
     ensures piece { result ≡ option_map
-        (λ id. issued_piece own.old.terms time vendor (paid.now.value - price) id (Some paid.now.cust) paid.now.props) change }
+        (λ id. in_version upgrades.now (issued_piece own.old.terms time vendor (paid.now.value - price) id (Some paid.now.cust) paid.now.props)) change }
     ensures count { (s : ℕ)
         → count_in own.new s ≡ count_in own.old s + at_series (series_at own.old.terms time) (change_count change) s }
     ensures worth { (s : ℕ)
@@ -93,7 +76,10 @@ pub(crate) fn redeem(
     let (part, rest) = parted(coin, price);
     takings.put(part);
     match change {
-        Some(_) => Some(own.issue(time, vendor, rest, Some(paid.cust()), paid.props())),
+        Some(_) => {
+            let piece = own.issue(time, vendor, rest, Some(paid.cust()), paid.props());
+            Some(versions::in_version(upgrades, piece))
+        }
         None => {
             rest.end();
             None
@@ -103,11 +89,17 @@ pub(crate) fn redeem(
 
 /// The piece of a draw of this amount, handed out in the series of a moment, with its certificate and the secret
 /// of its customer. The coin of it was taken out of the account. It takes no memory.
-pub(crate) fn drawn(own: &mut Issuer, time: Moment, vendor: Name, amount: Amount) -> Deed
+pub(crate) fn drawn(
+    own: &mut Issuer,
+    upgrades: &[Upgraded],
+    time: Moment,
+    vendor: Name,
+    amount: Amount,
+) -> Deed
     requires some { 0 < amount }
     requires room { IsTrue (has_room own.old (series_at own.old.terms time)) }
     requires below { count_in own.old (series_at own.old.terms time) < own.old.most }
-    ensures deed { (site : List ℕ) → result ≡ deed_drawn (version [] site) own.old.terms (issued_piece own.old.terms time vendor amount (next_in own.old (series_at own.old.terms time)) None []) }
+    ensures deed { result ≡ deed_drawn own.old.terms (in_version upgrades.now (issued_piece own.old.terms time vendor amount (next_in own.old (series_at own.old.terms time)) None [])) }
     ensures count { (s : ℕ)
         → count_in own.new s ≡ count_in own.old s + at_series (series_at own.old.terms time) 1 s }
     ensures worth { (s : ℕ)
@@ -118,8 +110,8 @@ pub(crate) fn drawn(own: &mut Issuer, time: Moment, vendor: Name, amount: Amount
 {
     let no_props = Props::new(b"").unwrap();
     let piece = own.issue(time, vendor, Coin::minted(amount), None, no_props);
-    let (piece, cert) = certified(own.terms(), piece);
-    let secret = secret_by(own.terms(), piece.cust());
+    let (piece, cert) = certified(own.terms(), versions::in_version(upgrades, piece));
+    let secret = customer_secret(own.terms(), piece.cust(), piece.version());
     Deed::Draw {
         piece,
         cert,

@@ -20,7 +20,7 @@ use crate::verdict::Spendable;
 use change_issue::Issuer;
 use mc_base::Moment;
 use mc_records::{Refusal, Request};
-use scrip_certs::{hex_of, sign_request};
+use scrip_certs::{certificate, hex_of, sign_request};
 use scrip_form::{Id, ScripRef, Terms};
 use spent_windows::Look;
 
@@ -31,8 +31,8 @@ pub fn terms_of(terms: &[Terms], issuer: u8) -> Option<&Terms>
     terms.iter().find(|t| t.issuer() == issuer)
 }
 
-/// The secret of a piece's customer; refused where the vendor, an issuer, the end of the series or the
-/// certificate is not right.
+/// The secret of a piece's customer; refused where the vendor, an issuer, the end of the series, its version
+/// or the certificate is not right.
 pub(crate) fn genuine(state: &HouseState, scrip: &ScripRef<'_>) -> Result<[u8; 16], Refusal>
     ensures lines { as_line
         (λ s. s) result ≡ genuine_by state.now.name (version_of state.now) state.now.terms scrip.now }
@@ -54,7 +54,11 @@ pub(crate) fn genuine(state: &HouseState, scrip: &ScripRef<'_>) -> Result<[u8; 1
     if piece.expires() != end {
         return Err(Refusal::ExpiryMismatch(piece.expires(), end));
     }
-    let right = state.certificate_of(own, scrip.body(), piece.id());
+    let version = state.version(piece.id().series());
+    if piece.version() != version {
+        return Err(Refusal::WrongVersion(u64::from(version)));
+    }
+    let right = certificate(own, scrip.body(), piece.id());
     if scrip.cert().as_slice() != right.as_slice() {
         return Err(Refusal::BadCertificate);
     }

@@ -35,7 +35,7 @@ pub record StaysIn (old new : List ℕ) : Type 0 where
 -- ---- pieces
 
 abbrev pub piece_in : List ℕ → PieceParts → Scrip
-piece_in bytes p = record { vendor = part bytes p.vendor; value = p.value; id = p.id; cust = p.cust; expires = p.expires; props = part bytes p.props }
+piece_in bytes p = record { version = p.version; vendor = part bytes p.vendor; value = p.value; id = p.id; cust = p.cust; expires = p.expires; props = part bytes p.props }
 
 -- its texts lie within the buffer, and it is a piece
 pub record PieceIsWithin (bytes : List ℕ) (p : PieceParts) : Type 0 where

@@ -18,6 +18,7 @@ use scrip_form::{Id, Name, Piece, Props};
 /// A piece, whose name and properties stand in a buffer.
 #[derive(Clone, Copy, Drop)]
 pub(crate) struct PieceParts {
+    version: u8,
     vendor: Span,
     props: Span,
     value: Amount,
@@ -69,6 +70,7 @@ fn put_piece(buffer: &mut Vec<u8>, piece: &Piece) -> PieceParts
     let vendor = put(buffer, name.bytes());
     let props = put(buffer, text.bytes());
     PieceParts {
+        version: piece.version(),
         vendor,
         props,
         value: piece.value(),
@@ -93,6 +95,8 @@ fn piece_of(bytes: &[u8], parts: &PieceParts) -> Piece
         parts.expires,
         props,
     )
+    .unwrap()
+    .versioned(parts.version)
     .unwrap()
 }
 

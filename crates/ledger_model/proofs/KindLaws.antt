@@ -1,11 +1,13 @@
 -- Which sites are houses, and what a vendor does not have.
-use Rattle.std.proofs.Common.{◌≡◌, ℕ, zero, suc, Bool, false, not, cond, List, [], ◌∷◌, Option, Some, None, bytes_eq, refl, ap, arith, option_map}
-use Rattle.std.specs.Prelude.{◌==◌, unwrap_or}
+use Rattle.std.proofs.Common.{◌≡◌, ℕ, zero, suc, ◌<◌, Bool, true, false, not, cond, List, [], ◌∷◌, Option, Some, None, bytes_eq, refl, ap, arith, option_map}
+use Rattle.std.specs.Prelude.{◌==◌, unwrap_or, MatchOption}
 use Rattle.mc_records.specs.declared.limits.Limits.{Limits}
 use Rattle.mc_records.specs.declared.refusal.Refusal.TheVariants.{WrongVendor}
-use Rattle.mc_records.specs.Entry.{Entry, Site, AddTerms, Goods, Accept, Mint, Account, Deposit, Withdraw, Draw, Licence, Stock}
+use Rattle.mc_records.specs.Entry.{Entry, Site, AddTerms, Goods, Accept, Mint, Account, Deposit, Withdraw, Draw, Licence, Stock, Upgrade, Switch, Note}
 use Rattle.ledger_model.specs.Histories.{History}
-use Rattle.ledger_model.specs.Houses.{site_kind, IsHouseKind, is_vendor, is_broker}
+use Rattle.ledger_model.specs.Houses.{site_kind, IsHouseKind, is_vendor, is_broker, terms_in}
+use Rattle.scrip_form.specs.Issuing.{epoch}
+use Rattle.ledger_model.specs.Stock.{upgrade_terms}
 use Rattle.ledger_model.specs.declared.numbers.TheConstants.{VENDOR_KIND}
 use Rattle.ledger_model.specs.Lines.{refused_if}
 use Rattle.ledger_model.specs.Orders.{order_of}
@@ -14,6 +16,16 @@ use Rattle.ledger_model.specs.Lawful.{unbounded, request_of, draw_request, MayFo
 use Rattle.ledger_model.proofs.TableLaws.{line_ok, accept_answer, draw_answer}
 
 -- ---- what comes first
+
+-- before the first entry there are no terms
+none_terms : (m : ℕ) (vendor : List ℕ) (issuer from : ℕ) → MatchOption (upgrade_terms [] vendor issuer) ⊥ (λ terms. epoch terms m < from) → ⊥
+unfolding upgrade_terms
+none_terms m vendor issuer from x = go (issuer == 0) (bytes_eq vendor []) x
+  where
+    go : (a b : Bool) → MatchOption (cond a (cond b (terms_in [] issuer) None) None) ⊥ (λ terms. epoch terms m < from) → ⊥
+    go true true y = y
+    go true false y = y
+    go false b y = y
 
 -- only an entry that founds a house may be the first
 pub first_founds : (limits : Limits) (e : Entry) → MayFollow limits [] e → IsHouseSite e
@@ -31,6 +43,9 @@ first_founds limits (Withdraw m name amount reference) may = absurd (cc may.allo
 first_founds limits (Draw m target sign drawn) may = absurd (cc (draw_answer [] m (unbounded limits) (draw_request target sign) m target sign drawn may.allowed).at_broker)
 first_founds limits (Licence m vendor terms) may = absurd (cc may.allowed.0)
 first_founds limits (Stock m vendor pieces) may = absurd (cc may.allowed.0)
+first_founds limits (Upgrade m vendor issuer from) may = absurd (none_terms m vendor issuer from may.allowed.coming)
+first_founds limits (Switch m c) may = absurd (cc may.allowed.0)
+first_founds limits (Note m tag bytes) may = absurd (cc may.allowed)
 first_founds limits e may = absurd may.allowed
 
 one_kind : (kind : ℕ) → IsHouseKind kind → (kind == 1) ≡ not (kind == 0)

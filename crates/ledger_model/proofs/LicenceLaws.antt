@@ -22,14 +22,14 @@ use Rattle.ledger_model.proofs.FollowLaws.{lawful_walk}
 
 -- a sale's identity, as a piece
 abbrev pub stub : Sale → Option Scrip
-stub s = Some (record { vendor = []; value = 0; id = s.id; cust = 0; expires = 0; props = [] })
+stub s = Some (record { version = 1; vendor = []; value = 0; id = s.id; cust = 0; expires = 0; props = [] })
 
 abbrev pub licensed : List ℕ → List Sale → List Scrip
 licensed vendor ss = filter_map stub (filter (is_licensed vendor) ss)
 
 all_stubs : (ss : List Sale) → AllByRecursion (HasId stub) ss
 all_stubs [] = tt
-all_stubs (s ∷ ss) = ((record { vendor = []; value = 0; id = s.id; cust = 0; expires = 0; props = [] }, refl, refl), all_stubs ss)
+all_stubs (s ∷ ss) = ((record { version = 1; vendor = []; value = 0; id = s.id; cust = 0; expires = 0; props = [] }, refl, refl), all_stubs ss)
 
 series_counted : (h : History) (vendor : List ℕ) (series : ℕ) → in_series (licensed vendor (sales h)) series ≡ licensed_count h vendor series
 series_counted h vendor series = pieces_counted stub (is_licensed vendor) (λ n. eqb (series_of n) series) (sales h) (all_stubs (sales h))
@@ -63,7 +63,7 @@ sale_no_gap most m h vendor (Some s) le supplied no_gap = go s.stock (bytes_eq s
     go false true is made =
         let k = series_at made.terms m in
         let counted : licensed_count h s.vendor k ≡ in_series ps k = ap (λ (n : List ℕ). licensed_count h n k) ((bytes_eq-Decides s.vendor vendor).0 is) ∙ sym (series_counted h vendor k) in
-        gap_snoc ps (record { vendor = []; value = 0; id = s.id; cust = 0; expires = 0; props = [] }) k no_gap (made.next ∙ ap (numbered k) counted) (omega (arith, made.room, counted, le))
+        gap_snoc ps (record { version = 1; vendor = []; value = 0; id = s.id; cust = 0; expires = 0; props = [] }) k no_gap (made.next ∙ ap (numbered k) counted) (omega (arith, made.room, counted, le))
 
 pub licence_step : (limits : Limits) (h : History) (e : Entry) (vendor : List ℕ) → limits.series ≤ 2 ^ 32 → MayFollow limits h e → HaveNoGap (licensed vendor (sales h)) → HaveNoGap (licensed vendor (sales (h ++ e ∷ [])))
 licence_step limits h e vendor le may no_gap =

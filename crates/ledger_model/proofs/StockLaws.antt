@@ -6,12 +6,13 @@ use Rattle.std.proofs.lemmas.Bool.{eqb-true, eq-eqb, and_parts}
 use Rattle.std.proofs.lemmas.List.Elements.{filter_map-append}
 use Rattle.std.proofs.lemmas.Option.{same_Some}
 use Rattle.std.proofs.lemmas.Slice.Eq.{bytes_eq-Decides}
-use Rattle.scrip_form.specs.Identities.{series_of, issuer_of}
+use Rattle.scrip_form.specs.Identities.{series_of}
 use Rattle.scrip_form.specs.Issuing.{Issuing}
 use Rattle.scrip_form.specs.Scrip.{Scrip}
 use Rattle.mc_records.specs.declared.limits.Limits.{Limits}
 use Rattle.mc_records.specs.Entry.{goods_deed, sale, credit, Held, Entry, Accept, Stock, moment_of}
 use Rattle.ledger_model.specs.Histories.{History}
+use Rattle.ledger_model.specs.Houses.{version}
 use Rattle.ledger_model.specs.Pieces.{in_series, is_first_hand}
 use Rattle.ledger_model.specs.Stock.{is_licence_of, licence_terms, licence_in, stock_of, stock_in, held_piece, held_pieces, stock_pieces, ids_of, stock_ids, may_be_stock, are_new, Sale, sale_at, sale_of, sales, is_of_vendor, is_of_stock, is_licensed, is_sold, licensed_count, is_for_sale, licensed_piece, sold_piece, sold, stock_sold, licensed_sold}
 use Rattle.ledger_model.specs.Lawful.{unbounded, request_of, IsAllowed, IsLawful}
@@ -170,35 +171,48 @@ found_by_id test (x ∷ xs) p distinct is = go (test x) (later (eqb x.id p.id) r
 
 -- ---- the piece of a sale
 
-licence_stays : (h : History) (e : Entry) (vendor : List ℕ) (t : Issuing) → licence_in h vendor ≡ Some t → licence_in (h ++ e ∷ []) vendor ≡ Some t
+pub licence_stays : (h : History) (e : Entry) (vendor : List ℕ) (t : Issuing) → licence_in h vendor ≡ Some t → licence_in (h ++ e ∷ []) vendor ≡ Some t
 licence_stays h e vendor t is = go (find (is_licence_of vendor) h) refl is
   where
     go : (o : Option Entry) → find (is_licence_of vendor) h ≡ o → option_and_then licence_terms o ≡ Some t → licence_in (h ++ e ∷ []) vendor ≡ Some t
     go None f some = absurd cc
     go (Some x) f some = ap (option_and_then licence_terms) (found_stays (is_licence_of vendor) h (e ∷ []) x f) ∙ some
 
-piece_stays : (h : History) (e : Entry) (s : Sale) (p : Scrip) → sold_piece h s ≡ Some p → sold_piece (h ++ e ∷ []) s ≡ Some p
-piece_stays h e s p is = go s.stock is
-  where
-    of_licence : (o : Option Issuing) → licence_in h s.vendor ≡ o → option_map (λ t. licensed_piece t s.vendor s.value s.id) o ≡ Some p
-        → option_map (λ t. licensed_piece t s.vendor s.value s.id) (licence_in (h ++ e ∷ []) s.vendor) ≡ Some p
-    of_licence None f some = absurd cc
-    of_licence (Some t) f some = ap (option_map (λ x. licensed_piece x s.vendor s.value s.id)) (licence_stays h e s.vendor t f) ∙ some
-
-    go : (b : Bool) → cond b (find (λ q. eqb q.id s.id) (stock_pieces h s.vendor)) (option_map (λ t. licensed_piece t s.vendor s.value s.id) (licence_in h s.vendor)) ≡ Some p
-        → cond b (find (λ q. eqb q.id s.id) (stock_pieces (h ++ e ∷ []) s.vendor)) (option_map (λ t. licensed_piece t s.vendor s.value s.id) (licence_in (h ++ e ∷ []) s.vendor)) ≡ Some p
-    go true f =
-        ap (find (λ q. eqb q.id s.id)) (pieces_snoc h e s.vendor)
-        ∙ found_stays (λ q. eqb q.id s.id) (stock_pieces h s.vendor) (held_pieces (stock_of s.vendor e)) p f
-    go false f = of_licence (licence_in h s.vendor) refl f
-
+-- after a later entry the piece of a sale is the same, but maybe for its version
 has_stays : (h : History) (e : Entry) (s : Sale) → HasPiece h s → HasPiece (h ++ e ∷ []) s
-has_stays h e s x = record { piece = x.piece; is = piece_stays h e s x.piece x.is; vendor = x.vendor; value = x.value; id = x.id }
+has_stays h e s x = go s.stock refl x.is
+  where
+    g : History
+    g = h ++ e ∷ []
+
+    out_of : History → Bool → Option Scrip
+    out_of k b = cond b (find (λ q. eqb q.id s.id) (stock_pieces k s.vendor)) (option_map (λ t. licensed_piece (version k s.vendor (series_of s.id)) t s.vendor s.value s.id) (licence_in k s.vendor))
+
+    of_licence : (o : Option Issuing) → licence_in h s.vendor ≡ o → out_of g s.stock ≡ out_of g false → option_map (λ t. licensed_piece (version h s.vendor (series_of s.id)) t s.vendor s.value s.id) o ≡ Some x.piece → HasPiece g s
+    of_licence None f same some = absurd cc
+    of_licence (Some t) f same some = record {
+      piece = licensed_piece (version g s.vendor (series_of s.id)) t s.vendor s.value s.id;
+      is = same ∙ ap (option_map (λ y. licensed_piece (version g s.vendor (series_of s.id)) y s.vendor s.value s.id)) (licence_stays h e s.vendor t f);
+      vendor = refl;
+      value = refl;
+      id = refl;
+    }
+
+    go : (b : Bool) → s.stock ≡ b → out_of h s.stock ≡ Some x.piece → HasPiece g s
+    go true is f = record {
+      piece = x.piece;
+      is = ap (out_of g) is ∙ ap (find (λ q. eqb q.id s.id)) (pieces_snoc h e s.vendor)
+          ∙ found_stays (λ q. eqb q.id s.id) (stock_pieces h s.vendor) (held_pieces (stock_of s.vendor e)) x.piece (ap (out_of h) (sym is) ∙ f);
+      vendor = x.vendor;
+      value = x.value;
+      id = x.id;
+    }
+    go false is f = of_licence (licence_in h s.vendor) refl (ap (out_of g) is) (ap (out_of h) (sym is) ∙ f)
 
 has_here : (most m : ℕ) (h : History) (vendor : List ℕ) (value id : ℕ) (stock : Bool) → Stocked h vendor → IsSupplied most h m vendor value stock id → HasPiece h (record { vendor = vendor; value = value; stock = stock; id = id })
 has_here most m h vendor value id false stocked made = record {
-  piece = licensed_piece made.terms vendor value id;
-  is = ap (option_map (λ t. licensed_piece t vendor value id)) made.licence;
+  piece = licensed_piece (version h vendor (series_of id)) made.terms vendor value id;
+  is = ap (option_map (λ t. licensed_piece (version h vendor (series_of id)) t vendor value id)) made.licence;
   vendor = refl;
   value = refl;
   id = refl;
@@ -208,7 +222,7 @@ has_here most m h vendor value id true stocked from =
     let test = is_for_sale h m vendor value in
     let by_id = found_by_id test (stock_pieces h vendor) p stocked.once from.first in
     let parts = and_parts (eqb p.value value) (ltb m p.expires && not (is_sold h vendor p.id)) (found_passes test (stock_pieces h vendor) p from.first) in
-    let fits = and_parts (bytes_eq p.vendor vendor) (is_first_hand p && eqb (issuer_of p.id) 0) (found_holds (IsStock vendor) test (stock_pieces h vendor) p stocked.fit from.first) in
+    let fits = and_parts (bytes_eq p.vendor vendor) (is_first_hand p) (found_holds (IsStock vendor) test (stock_pieces h vendor) p stocked.fit from.first) in
     record {
       piece = p;
       is = subst (λ (n : ℕ). find (λ q. eqb q.id n) (stock_pieces h vendor) ≡ Some p) from.is by_id;

@@ -1,13 +1,14 @@
 -- What a broker sells: scrip of vendors, made under a licence or kept in stock.
-use Rattle.std.specs.Prelude.{ℕ, ◌==◌, ◌&&◌, not, Bool, true, false, if◌then◌else◌, nat_lt, bytes_eq, List, [], ◌∷◌, Option, Some, None, option_map, option_and_then, unwrap_or, find, filter, filter_map, flat_map, count_by}
+use Rattle.std.specs.Prelude.{ℕ, ◌==◌, ◌&&◌, ◌||◌, not, Bool, true, false, if◌then◌else◌, nat_lt, bytes_eq, List, [], ◌∷◌, Option, Some, None, option_map, option_and_then, unwrap_or, find, filter, filter_map, flat_map, count_by}
 use Rattle.std.specs.List.{list_any, list_all}
-use Rattle.scrip_form.specs.Identities.{issuer_of, epoch_of, series_of}
+use Rattle.scrip_form.specs.Identities.{epoch_of, series_of}
 use Rattle.scrip_form.specs.Issuing.{Issuing, series_end}
 use Rattle.scrip_form.specs.Scrip.{Scrip, scrip_body, scrip_text}
+use Rattle.scrip_certs.specs.Digests.{certificate, customer_secret}
 use Rattle.mc_records.specs.Errands.{Errand, buy, errand_of}
 use Rattle.mc_records.specs.Entry.{sale, Held, Entry, Accept, Licence, Stock}
 use Rattle.ledger_model.specs.Histories.{History}
-use Rattle.ledger_model.specs.Houses.{version, certificate_in, secret_in}
+use Rattle.ledger_model.specs.Houses.{site_name, is_vendor, is_broker, terms_in, version}
 use Rattle.ledger_model.specs.Pieces.{piece_of, is_first_hand}
 
 -- ---- licences
@@ -24,6 +25,18 @@ licence_terms _ = None
 -- the terms of the licence for a vendor
 abbrev pub licence_in : History → List ℕ → Option Issuing
 licence_in h vendor = option_and_then licence_terms (find (is_licence_of vendor) h)
+
+-- those terms, where they are of an issuer
+abbrev pub of_issuer : ℕ → Issuing → Option Issuing
+of_issuer issuer terms = if terms.issuer == issuer then Some terms else None
+
+-- The terms by which a house may move an issuer of a vendor to version 2: its own issuers, of which a broker has issuer
+-- 0 alone, under its own name; and at a broker the issuer of a vendor's licence, which is above 0.
+unfoldable pub upgrade_terms : History → List ℕ → ℕ → Option Issuing
+upgrade_terms h vendor issuer =
+    if is_vendor h || issuer == 0 then (if bytes_eq vendor (site_name h) then terms_in h issuer else None)
+    else if is_broker h then option_and_then (of_issuer issuer) (licence_in h vendor)
+    else None
 
 -- ---- stock
 
@@ -67,9 +80,9 @@ ids_of helds = filter_map (λ held. option_map (λ p. p.id) (held_piece held)) h
 abbrev pub stock_ids : History → List ℕ → List ℕ
 stock_ids h vendor = ids_of (stock_in h vendor)
 
--- whether a piece may be put into stock for a vendor: it is the vendor's, first-hand and of issuer 0
+-- whether a piece may be put into stock for a vendor: it is the vendor's, of any issuer, and first-hand
 abbrev pub may_be_stock : List ℕ → Scrip → Bool
-may_be_stock vendor p = bytes_eq p.vendor vendor && (is_first_hand p && issuer_of p.id == 0)
+may_be_stock vendor p = bytes_eq p.vendor vendor && is_first_hand p
 
 -- whether none of some identities is known, or stands twice
 abbrev pub are_new : List ℕ → List ℕ → Bool
@@ -131,16 +144,18 @@ for_sale h t vendor value = find (is_for_sale h t vendor value) (stock_pieces h 
 
 -- ---- the pieces that were sold
 
--- a piece that is made under a licence: first-hand, of this vendor, and good to the end of its series
-abbrev pub licensed_piece : Issuing → List ℕ → ℕ → ℕ → Scrip
-licensed_piece terms vendor value id = record { vendor = vendor; value = value; id = id; cust = id; expires = series_end terms (epoch_of id); props = [] }
+-- a piece that is made under a licence in a version: first-hand, of this vendor, and good to the end of its series
+abbrev pub licensed_piece : ℕ → Issuing → List ℕ → ℕ → ℕ → Scrip
+licensed_piece version terms vendor value id =
+    record { version = version; vendor = vendor; value = value; id = id; cust = id; expires = series_end terms (epoch_of id); props = [] }
 
--- The piece of a sale: out of stock the one of the identity, else made under the licence. Licences and stock stay
--- once they stand, so this is the same after any later entries.
+-- The piece of a sale: out of stock the one of the identity, else made under the licence, in the version of its series.
+-- Licences and stock stay once they stand, and the version of a series that was sold of does, so in a lawful history
+-- this is the same after any later entries.
 abbrev pub sold_piece : History → Sale → Option Scrip
 sold_piece h s =
     if s.stock then find (λ p. p.id == s.id) (stock_pieces h s.vendor)
-    else option_map (λ terms. licensed_piece terms s.vendor s.value s.id) (licence_in h s.vendor)
+    else option_map (λ terms. licensed_piece (version h s.vendor (series_of s.id)) terms s.vendor s.value s.id) (licence_in h s.vendor)
 
 -- the pieces of a vendor that were sold, in order; those out of his stock; and those under his licence
 abbrev pub sold : History → List ℕ → List Scrip
@@ -159,11 +174,11 @@ abbrev pub has_id : ℕ → Held → Bool
 has_id id held = unwrap_or (option_map (λ p. p.id == id) (held_piece held)) false
 
 -- the text of a piece that is made under a licence, with its certificate, and the secret of its customer
-abbrev pub licensed_held : ℕ → Issuing → Scrip → Held
-licensed_held version terms p = record { text = scrip_text p (certificate_in version terms (scrip_body p) p.id); secret = secret_in version terms p.cust }
+abbrev pub licensed_held : Issuing → Scrip → Held
+licensed_held terms p = record { text = scrip_text p (certificate terms (scrip_body p) p.id); secret = customer_secret terms p.cust p.version }
 
 -- the text and the secret of what was sold: those of the stock, or made under the licence
 abbrev pub sold_held : History → Sale → Option Held
 sold_held h s =
     if s.stock then find (has_id s.id) (stock_in h s.vendor)
-    else option_map (λ terms. licensed_held (version h s.vendor (series_of s.id)) terms (licensed_piece terms s.vendor s.value s.id)) (licence_in h s.vendor)
+    else option_map (λ terms. licensed_held terms (licensed_piece (version h s.vendor (series_of s.id)) terms s.vendor s.value s.id)) (licence_in h s.vendor)

@@ -9,12 +9,14 @@ ghost use Rattle.mc_records.specs.Requests.{Asked};
 ghost use Rattle.mc_records.specs.Entry.{Entry};
 ghost use Rattle.mc_records.specs.Sizes.{size};
 ghost use Rattle.ledger_model.specs.Histories.{History, time};
-ghost use Rattle.ledger_model.specs.Houses.{keeping, is_vendor, is_broker};
+ghost use Rattle.ledger_model.specs.Houses.{keeping, is_vendor, is_broker, issuer_in, epoch_in, version};
+ghost use Rattle.scrip_form.specs.Issuing.{Issuing, epoch};
+ghost use Rattle.ledger_model.specs.Stock.{upgrade_terms};
 ghost use Rattle.ledger_model.specs.Pieces.{accepted, own_out, minted};
 ghost use Rattle.ledger_model.specs.Sums.{takings, values, all_drawn};
 ghost use Rattle.ledger_model.specs.Stages.{is_repeat};
 ghost use Rattle.ledger_model.specs.Answer.{answer, draw_in, as_counted, Take, Again};
-ghost use Rattle.ledger_model.specs.Lawful.{IsLawful, IsFirstUnlawful, MayFollow};
+ghost use Rattle.ledger_model.specs.Lawful.{IsLawful, IsFirstUnlawful, MayFollow, AllFollow};
 ghost use Rattle.ledger_model.specs.Replies.{reply_after, reply_of, refusal_of, head_refusal};
 ghost use Rattle.ledger_model.specs.Laws.{AreDistinct, ArePaid, HaveNoGap, with_id};
 
@@ -111,4 +113,14 @@ pub fn taken_entries_follow()
 pub fn refused_heads_have_one_reply()
     ensures { (h : History) (t : ℕ) (q : Asked) (f : Refusal) → number_of f ≤ 16
         → refusal_of h t q f ≡ head_refusal t f }
+{}
+
+/// The version of a series whose epoch has come, by the terms under which a house may move its issuer, stays as it is,
+/// whatever entries may follow. So scrip that was made of it is of its version for ever.
+#[tactic(auto, using(crate::proofs::UpgradeLaws::version_stays))]
+pub fn versions_stay()
+    ensures { (limits : Bounds) (h more : History) (vendor : List ℕ) (series : ℕ) (terms : Issuing)
+        → AllFollow limits h more → upgrade_terms h vendor (issuer_in series) ≡ Some terms
+        → 0 < terms.period → epoch_in series ≤ epoch terms (time h)
+        → version (h ++ more) vendor series ≡ version h vendor series }
 {}

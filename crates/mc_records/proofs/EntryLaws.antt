@@ -11,7 +11,7 @@ use Rattle.mc_fields.proofs.FieldBytes.{IsBytes, ok_is}
 use Rattle.mc_fields.proofs.FormLaws.{Path, answer, path_fields, path_fits, whole_takes, whole_reads, whole_more, run_reads}
 use Rattle.mc_records.specs.Entry.{Entry, fields, payload, Fits, IsMoment}
 use Rattle.mc_records.specs.Forms.{kind_form, entry_form, entry_of}
-use Rattle.mc_records.proofs.KindLaws.{KindTells, leads, site_tells, add_terms_tells, goods_tells, accept_tells, mint_tells, account_tells, deposit_tells, withdraw_tells, draw_tells, licence_tells, stock_tells, got_pieces_tells, pend_tells, done_tells, refused_tells}
+use Rattle.mc_records.proofs.KindLaws.{KindTells, leads, site_tells, add_terms_tells, goods_tells, accept_tells, mint_tells, account_tells, deposit_tells, withdraw_tells, draw_tells, licence_tells, stock_tells, got_pieces_tells, pend_tells, done_tells, refused_tells, upgrade_tells, switch_tells, note_tells}
 
 -- ---- any kind
 
@@ -28,7 +28,7 @@ if_kind kind k m f g here other =
     eqb-ne : (a b : ℕ) → eqb a b ≡ false → a ≢ b
     eqb-ne a b e h = absurd (grind (arith, nat_tests, e, h))
 
-kind_tells : (kind m : ℕ) → 1 ≤ kind → kind ≤ 15 → IsMoment m → (p : Path (kind_form kind m)) → KindTells kind m (kind_form kind m) p
+kind_tells : (kind m : ℕ) → 1 ≤ kind → kind ≤ 18 → IsMoment m → (p : Path (kind_form kind m)) → KindTells kind m (kind_form kind m) p
 unfolding kind_form
 kind_tells kind m low high moment =
     if_kind kind 1 m _ _ (site_tells m moment) λ not1.
@@ -45,7 +45,10 @@ kind_tells kind m low high moment =
     if_kind kind 12 m _ _ (got_pieces_tells m moment) λ not12.
     if_kind kind 13 m _ _ (pend_tells m moment) λ not13.
     if_kind kind 14 m _ _ (done_tells m moment) λ not14.
-    λ p. let last : 15 ≡ kind = omega arith in subst (λ (n : ℕ). KindTells n m _ p) last (refused_tells m moment p)
+    if_kind kind 15 m _ _ (refused_tells m moment) λ not15.
+    if_kind kind 16 m _ _ (upgrade_tells m moment) λ not16.
+    if_kind kind 17 m _ _ (switch_tells m moment) λ not17.
+    λ p. let last : 18 ≡ kind = omega arith in subst (λ (n : ℕ). KindTells n m _ p) last (note_tells m moment p)
 
 entry_tells : (p : Path entry_form) → (fields (answer entry_form p) ≡ path_fields entry_form p) × Fits (answer entry_form p)
 unfolding entry_form

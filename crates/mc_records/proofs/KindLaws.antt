@@ -8,8 +8,8 @@ use Rattle.mc_fields.specs.Field.{one, four, eight, Field, number, str, plain}
 use Rattle.mc_fields.specs.Form as forms
 use Rattle.mc_fields.specs.Form.{Form, done, followed}
 use Rattle.mc_fields.proofs.FormLaws.{Path, Leads, Tells, done_leads, number_leads, str_leads, plain_leads, part_leads, last_leads, part_tells, last_tells}
-use Rattle.mc_records.specs.Entry.{Entry, Site, AddTerms, Goods, Accept, Mint, Account, Deposit, Withdraw, Draw, Licence, Stock, Got, Pend, Done, Refused, fields, Fits, IsMoment, IsAmount, IsLong, sign_fields, change_fields, text_fields}
-use Rattle.mc_records.specs.Forms.{long, amount, site_form, add_terms_form, goods_form, accept_form, mint_form, account_form, deposit_form, withdraw_form, draw_form, licence_form, stock_form, got_pieces_form, pend_form, done_form, refused_form, kind_form, entry_form}
+use Rattle.mc_records.specs.Entry.{Entry, Site, AddTerms, Goods, Accept, Mint, Account, Deposit, Withdraw, Draw, Licence, Stock, Got, Pend, Done, Refused, Upgrade, Switch, Note, fields, Fits, IsMoment, IsAmount, IsLong, sign_fields, change_fields, text_fields}
+use Rattle.mc_records.specs.Forms.{long, amount, site_form, add_terms_form, goods_form, accept_form, mint_form, account_form, deposit_form, withdraw_form, draw_form, licence_form, stock_form, got_pieces_form, pend_form, done_form, refused_form, upgrade_form, switch_form, note_form, kind_form, entry_form}
 use Rattle.mc_records.proofs.PartLaws.{sign_described, change_described, text_described, got_described, pieces_described, deed_described, terms_described, house_described, kind_of_site}
 
 -- ---- from a path through a kind's form to an entry that fits
@@ -99,6 +99,22 @@ pub refused_tells : (m : ℕ) → IsMoment m → (p : Path (refused_form m)) →
 unfolding refused_form
 refused_tells m moment (n, _, _, n_fits, (refusal, _, _, lt, _)) = (refl, record { moment = moment; number = n_fits; refusal = lt })
 
+pub upgrade_tells : (m : ℕ) → IsMoment m → (p : Path (upgrade_form m)) → KindTells 16 m (upgrade_form m) p
+unfolding upgrade_form
+upgrade_tells m moment (vendor, ok, _, (issuer, _, issuer_high, _, (from, _, from_high, _, _))) =
+    (refl, record { moment = moment; vendor = (name_decides vendor).0 ok; issuer = omega arith; from = omega arith })
+
+pub switch_tells : (m : ℕ) → IsMoment m → (p : Path (switch_form m)) → KindTells 17 m (switch_form m) p
+unfolding switch_form
+switch_tells m moment (chain, len, _) = (refl, record { moment = moment; chain = len })
+
+pub note_tells : (m : ℕ) → IsMoment m → (p : Path (note_form m)) → KindTells 18 m (note_form m) p
+unfolding note_form
+note_tells m moment (tag, ok, _, (n, _, n_high, _, (bytes, len, _))) = (
+  ap (λ (k : ℕ). front 18 m (str tag ∷ number four k ∷ plain bytes ∷ [])) len,
+  record { moment = moment; tag = (name_decides tag).0 ok; bytes = omega arith },
+)
+
 -- ---- from an entry that fits to a path
 
 name_leads : {A : Type 0} {next : List ℕ → Form A} {s : List ℕ} {x : A} {back : List Field} → IsName s → Leads (next s) x back → Leads (forms.str is_name next) x (str s ∷ back)
@@ -117,14 +133,14 @@ amount_leads : {A : Type 0} {next : ℕ → Form A} {n : ℕ} {x : A} {back : Li
 amount_leads is l = number_leads is.0 (omega (arith, is.1)) (omega (arith, is.1)) l
 
 -- an entry whose kind and moment stand before these fields, to which a path through the kind's form leads
-at_kind : (kind m : ℕ) (e : Entry) (own : List Field) → 1 ≤ kind → kind ≤ 15 → IsMoment m → fields e ≡ front kind m own → Leads (kind_form kind m) e own → Leads entry_form e (fields e)
+at_kind : (kind m : ℕ) (e : Entry) (own : List Field) → 1 ≤ kind → kind ≤ 18 → IsMoment m → fields e ≡ front kind m own → Leads (kind_form kind m) e own → Leads entry_form e (fields e)
 unfolding entry_form
 at_kind kind m e own low high moment is l =
     let all : Leads entry_form e (front kind m own) = number_leads low high (omega arith) (number_leads zero-le (omega (arith, moment)) (omega (arith, moment)) l) in
     record { path = all.path; is_answer = all.is_answer; is_spelled = all.is_spelled ∙ sym is }
 
 pub leads : (e : Entry) → Fits e → Leads entry_form e (fields e)
-unfolding kind_form site_form add_terms_form goods_form mint_form account_form deposit_form withdraw_form draw_form accept_form licence_form stock_form got_pieces_form pend_form done_form refused_form
+unfolding kind_form site_form add_terms_form goods_form mint_form account_form deposit_form withdraw_form draw_form accept_form licence_form stock_form got_pieces_form pend_form done_form refused_form upgrade_form switch_form note_form
 leads (Site m kind name house) fits =
     let le = kind_of_site kind house fits.house in
     at_kind 1 m _ _ (omega arith) (omega arith) fits.moment refl (number_leads zero-le le (omega (arith, le)) (name_leads fits.name (last_leads _ (house_described kind le) fits.house done_leads)))
@@ -149,3 +165,8 @@ leads (Pend m ask peer target scrip secret) fits =
     (part_leads _ text_described fits.scrip (plain_leads fits.secret done_leads)))))
 leads (Done m n price change got) fits = at_kind 14 m _ _ (omega arith) (omega arith) fits.moment refl (long_leads fits.number (long_leads fits.price (part_leads _ text_described fits.change (last_leads _ got_described fits.got done_leads))))
 leads (Refused m n refusal) fits = at_kind 15 m _ _ (omega arith) (omega arith) fits.moment refl (long_leads fits.number (number_leads zero-le (omega (arith, fits.refusal)) fits.refusal done_leads))
+leads (Upgrade m vendor issuer from) fits =
+    at_kind 16 m _ _ (omega arith) (omega arith) fits.moment refl (name_leads fits.vendor (number_leads zero-le (omega (arith, fits.issuer)) fits.issuer (number_leads zero-le (omega (arith, fits.from)) (omega (arith, fits.from)) done_leads)))
+leads (Switch m chain) fits = at_kind 17 m _ _ (omega arith) (omega arith) fits.moment refl (plain_leads fits.chain done_leads)
+leads (Note m tag bytes) fits =
+    at_kind 18 m _ _ (omega arith) (omega arith) fits.moment refl (name_leads fits.tag (number_leads zero-le fits.bytes (omega (arith, fits.bytes)) (plain_leads refl done_leads)))

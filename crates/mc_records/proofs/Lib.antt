@@ -6,6 +6,7 @@ pub mod GroupLaws
 pub mod PieceLaws
 pub mod ReadLaws
 pub mod PayloadSizes
+pub mod ChainLaws
 pub mod SizeLaws
 pub mod ErrandLaws
 pub mod TargetLaws

@@ -10,7 +10,7 @@ use Rattle.scrip_form.specs.Scrip.{IsScripText}
 use Rattle.scrip_form.specs.Issuing.{Issuing}
 use Rattle.scrip_form.proofs.TextTests.{scrip_is_short}
 use Rattle.mc_records.specs.declared.sizes.TheConstants.{PAYLOAD_BOUND}
-use Rattle.mc_records.specs.Entry.{Deed, goods_deed, sale, credit, House, Held, Entry, Site, AddTerms, Goods, Accept, Mint, Account, Deposit, Withdraw, Draw, Licence, Stock, Got, Pend, Done, Refused, payload, sign_fields, change_fields, deed_fields, secrets_fields, terms_fields, house_fields, held_fields, pieces_fields, text_fields, got_fields, Fits, IsKey, AreSecrets, AreTerms, SiteFits, HeldFits, ArePieces}
+use Rattle.mc_records.specs.Entry.{Deed, goods_deed, sale, credit, House, Held, Entry, Site, AddTerms, Goods, Accept, Mint, Account, Deposit, Withdraw, Draw, Licence, Stock, Got, Pend, Done, Refused, Upgrade, Switch, Note, payload, sign_fields, change_fields, deed_fields, secrets_fields, terms_fields, house_fields, held_fields, pieces_fields, text_fields, got_fields, Fits, IsKey, AreSecrets, AreTerms, SiteFits, HeldFits, ArePieces}
 
 -- the fields have at most so many bytes
 record Within (n : ℕ) (fs : List Field) : Type 0 where
@@ -128,3 +128,8 @@ payload_is_short (Pend m ask peer target scrip secret) fits =
 payload_is_short (Done m n price change got) fits =
     omega (arith, (behind 624 14 m _ (numbered 616 eight n _ (numbered 608 eight price _ (joined 296 312 _ _ (texts change fits.change) (gots got fits.got))))).most)
 payload_is_short (Refused m n refusal) fits = omega (arith, (behind 16 15 m _ (numbered 8 eight n _ (numbered 0 two refusal [] none))).most)
+payload_is_short (Upgrade m vendor issuer from) fits =
+    omega (arith, (behind 81 16 m _ (named 16 63 vendor _ fits.vendor.short (numbered 8 one issuer _ (numbered 0 four from [] none)))).most)
+payload_is_short (Switch m chain) fits = omega (arith, (behind 32 17 m _ (plainly 0 32 chain [] (omega (arith, fits.chain)) none)).most)
+payload_is_short (Note m tag bytes) fits =
+    omega (arith, (behind 65609 18 m _ (named 65544 63 tag _ fits.tag.short (numbered 65536 four (length bytes) _ (plainly 0 65536 bytes [] fits.bytes none)))).most)

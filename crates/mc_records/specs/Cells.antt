@@ -5,7 +5,7 @@ use Rattle.mc_records.specs.declared.cells.Cell.{Cell}
 use Rattle.mc_records.specs.declared.cells.Cell.TheVariants as cells
 use Rattle.mc_records.specs.declared.cells.Group.{Group}
 use Rattle.mc_fields.specs.Field.{one, two, four, eight, Field, number, flag, str, plain, spelled, FieldFits}
-use Rattle.mc_records.specs.Entry.{Entry, Site, AddTerms, Goods, Accept, Mint, Account, Deposit, Withdraw, Draw, Licence, Stock, Got, Pend, Done, Refused, secrets_fields, pieces_fields}
+use Rattle.mc_records.specs.Entry.{Entry, Site, AddTerms, Goods, Accept, Mint, Account, Deposit, Withdraw, Draw, Licence, Stock, Got, Pend, Done, Refused, Upgrade, Switch, Note, secrets_fields, pieces_fields}
 use Rattle.mc_records.specs.PieceViews.{pieces_of}
 
 abbrev pub fields_of : Cell → List Field
@@ -57,3 +57,6 @@ kind_of (Got m pieces) = 12
 kind_of (Pend m ask peer target scrip secret) = 13
 kind_of (Done m n price change got) = 14
 kind_of (Refused m n refusal) = 15
+kind_of (Upgrade m vendor issuer from) = 16
+kind_of (Switch m chain) = 17
+kind_of (Note m tag bytes) = 18

@@ -6,7 +6,7 @@ use Rattle.mc_base.specs.declared.amount.TheConstants.Amount.{MOST}
 use Rattle.scrip_form.specs.Texts.{IsName, IsTarget}
 use Rattle.scrip_form.specs.Scrip.{IsScripText}
 use Rattle.scrip_form.specs.Issuing.{Issuing, HasPeriod}
-use Rattle.mc_records.specs.declared.ranges.TheConstants.{LEAST_KEEP, MOST_CONTENTS, MOST_KEEP, MOST_PIECES}
+use Rattle.mc_records.specs.declared.ranges.TheConstants.{CHAIN_BYTES, LEAST_KEEP, MOST_CONTENTS, MOST_KEEP, MOST_PIECES}
 
 -- what was sold for an accepted piece: goods, scrip of another house, or credit in an account
 pub data Deed : Type 0 where
@@ -43,6 +43,9 @@ pub data Entry : Type 0 where
   Pend : (moment ask : ℕ) (peer target : List ℕ) (scrip : Option (List ℕ)) (secret : List ℕ) → Entry
   Done : (moment number price : ℕ) (change : Option (List ℕ)) (got : Option Held) → Entry
   Refused : (moment number refusal : ℕ) → Entry
+  Upgrade : (moment : ℕ) (vendor : List ℕ) (issuer from : ℕ) → Entry
+  Switch : (moment : ℕ) (chain : List ℕ) → Entry
+  Note : (moment : ℕ) (tag bytes : List ℕ) → Entry
 
 -- ---- the table of fields
 
@@ -100,6 +103,9 @@ fields (Pend m ask peer target scrip secret) =
     number one 13 ∷ number eight m ∷ number one ask ∷ str peer ∷ str target ∷ (text_fields scrip ++ (plain secret ∷ []))
 fields (Done m n price change got) = number one 14 ∷ number eight m ∷ number eight n ∷ number eight price ∷ (text_fields change ++ got_fields got)
 fields (Refused m n refusal) = number one 15 ∷ number eight m ∷ number eight n ∷ number two refusal ∷ []
+fields (Upgrade m vendor issuer from) = number one 16 ∷ number eight m ∷ str vendor ∷ number one issuer ∷ number four from ∷ []
+fields (Switch m chain) = number one 17 ∷ number eight m ∷ plain chain ∷ []
+fields (Note m tag bytes) = number one 18 ∷ number eight m ∷ str tag ∷ number four (length bytes) ∷ plain bytes ∷ []
 
 abbrev pub payload : Entry → List ℕ
 payload e = spelled (fields e)
@@ -114,6 +120,10 @@ IsAmount n = (1 ≤ n) × (n ≤ MOST)
 
 abbrev pub IsLong : ℕ → Type 0
 IsLong n = n < 2 ^ 64
+
+-- 32 bytes
+abbrev pub IsChain : List ℕ → Type 0
+IsChain chain = length chain ≡ CHAIN_BYTES
 
 -- 16 bytes
 abbrev pub IsKey : List ℕ → Type 0
@@ -180,6 +190,9 @@ Fits (Pend m ask peer target scrip secret) =
 Fits (Done m n price change got) =
     record { moment : IsMoment m; number : IsLong n; price : IsLong price; change : IfSome change IsScripText; got : IfSome got HeldFits }
 Fits (Refused m n refusal) = record { moment : IsMoment m; number : IsLong n; refusal : refusal < 2 ^ 16 }
+Fits (Upgrade m vendor issuer from) = record { moment : IsMoment m; vendor : IsName vendor; issuer : issuer < 2 ^ 8; from : from < 2 ^ 24 }
+Fits (Switch m chain) = record { moment : IsMoment m; chain : IsChain chain }
+Fits (Note m tag bytes) = record { moment : IsMoment m; tag : IsName tag; bytes : length bytes ≤ MOST_CONTENTS }
 
 abbrev pub moment_of : Entry → ℕ
 moment_of (Site m kind name house) = m
@@ -197,3 +210,6 @@ moment_of (Got m pieces) = m
 moment_of (Pend m ask peer target scrip secret) = m
 moment_of (Done m n price change got) = m
 moment_of (Refused m n refusal) = m
+moment_of (Upgrade m vendor issuer from) = m
+moment_of (Switch m chain) = m
+moment_of (Note m tag bytes) = m

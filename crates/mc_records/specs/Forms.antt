@@ -7,8 +7,8 @@ use Rattle.scrip_form.specs.Texts.{is_name, is_target}
 use Rattle.scrip_form.specs.Reading.{is_scrip}
 use Rattle.scrip_form.specs.Issuing.{Issuing}
 use Rattle.scrip_form.specs.declared.terms.TheConstants.Terms.{LEAST_PERIOD, MOST_SECONDS}
-use Rattle.mc_records.specs.declared.ranges.TheConstants.{LEAST_KEEP, MOST_CONTENTS, MOST_KEEP, MOST_PIECES}
-use Rattle.mc_records.specs.Entry.{Deed, goods_deed, sale, credit, House, Held, Entry, Site, AddTerms, Goods, Accept, Mint, Account, Deposit, Withdraw, Draw, Licence, Stock, Got, Pend, Done, Refused}
+use Rattle.mc_records.specs.declared.ranges.TheConstants.{CHAIN_BYTES, LEAST_KEEP, MOST_CONTENTS, MOST_EPOCH, MOST_KEEP, MOST_PIECES}
+use Rattle.mc_records.specs.Entry.{Deed, goods_deed, sale, credit, House, Held, Entry, Site, AddTerms, Goods, Accept, Mint, Account, Deposit, Withdraw, Draw, Licence, Stock, Got, Pend, Done, Refused, Upgrade, Switch, Note}
 
 abbrev pub long : {A : Type 0} → (ℕ → Form A) → Form A
 long next = number eight 0 0xffff_ffff_ffff_ffff next
@@ -114,6 +114,15 @@ done_form m = long λ n. long λ price. followed text_form λ change. followed g
 unfoldable pub refused_form : ℕ → Form Entry
 refused_form m = long λ n. number two 0 65535 λ refusal. done (Refused m n refusal)
 
+unfoldable pub upgrade_form : ℕ → Form Entry
+upgrade_form m = str is_name λ vendor. number one 0 255 λ issuer. number four 0 MOST_EPOCH λ from. done (Upgrade m vendor issuer from)
+
+unfoldable pub switch_form : ℕ → Form Entry
+switch_form m = plain CHAIN_BYTES λ chain. done (Switch m chain)
+
+unfoldable pub note_form : ℕ → Form Entry
+note_form m = str is_name λ tag. number four 0 MOST_CONTENTS λ n. plain n λ bytes. done (Note m tag bytes)
+
 -- ---- any entry
 
 unfoldable pub kind_form : ℕ → ℕ → Form Entry
@@ -132,10 +141,13 @@ kind_form kind m =
     else if kind == 12 then got_pieces_form m
     else if kind == 13 then pend_form m
     else if kind == 14 then done_form m
-    else refused_form m
+    else if kind == 15 then refused_form m
+    else if kind == 16 then upgrade_form m
+    else if kind == 17 then switch_form m
+    else note_form m
 
 unfoldable pub entry_form : Form Entry
-entry_form = number one 1 15 λ kind. number eight 0 0x7_ffff_ffff λ m. kind_form kind m
+entry_form = number one 1 18 λ kind. number eight 0 0x7_ffff_ffff λ m. kind_form kind m
 
 -- the entry that the bytes spell, or the place of the fault
 abbrev pub entry_of : List ℕ → Result Entry ℕ

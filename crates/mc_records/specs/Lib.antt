@@ -6,6 +6,7 @@ pub mod Dates
 pub mod Replies
 pub mod Entry
 pub mod Following
+pub mod Chains
 pub mod Sizes
 pub mod Forms
 pub mod Pieces

@@ -1,15 +1,26 @@
 -- How many bytes the journal of a history has.
-use Rattle.std.specs.Prelude.{ℕ, ◌+◌, List, [], ◌∷◌, ◌++◌, length}
+use Rattle.std.specs.Prelude.{ℕ, ◌+◌, Bool, if◌then◌else◌, List, [], ◌∷◌, ◌++◌, length}
 use Rattle.mc_records.specs.declared.sizes.TheConstants.{EMPTY_JOURNAL, FRAME}
+use Rattle.mc_records.specs.declared.ranges.TheConstants.{CHAIN_BYTES}
 use Rattle.mc_records.specs.Entry.{Entry, payload}
+use Rattle.mc_records.specs.Chains.{chain, has_switch}
 
--- What stands behind the payload of an entry, after the entries before it: nothing.
+-- the tail with this chain, where a Switch stands and where none does
+abbrev pub tail_by : Bool → List ℕ → List ℕ
+tail_by switched chain = if switched then chain else []
+
+-- What stands behind the payload of an entry, after the entries before it: where a Switch stands among these, the
+-- chain up to and with the entry, else nothing.
 unfoldable pub tail : List Entry → Entry → List ℕ
-tail before e = []
+tail before e = tail_by (has_switch before) (chain (before ++ e ∷ []))
+
+-- how many bytes a tail has, where a Switch stands and where none does
+abbrev pub tail_bytes : Bool → ℕ
+tail_bytes switched = if switched then CHAIN_BYTES else 0
 
 -- how many bytes that is for every entry that comes next
 unfoldable pub tail_size : List Entry → ℕ
-tail_size before = 0
+tail_size before = tail_bytes (has_switch before)
 
 -- how many bytes an entry adds to a journal, with a payload and a tail of so many bytes: these, the four bytes of
 -- the payload's length before them, and the gate after them

@@ -7,7 +7,7 @@ use Rattle.mc_records.specs.declared.record.RecordDeed.{RecordDeed}
 use Rattle.mc_records.specs.declared.record.RecordDeed.TheVariants as deeds
 use Rattle.mc_records.specs.declared.record.SiteTerms.{SiteTerms}
 use Rattle.mc_records.specs.declared.record.RecordFault.{RecordFault}
-use Rattle.mc_records.specs.Entry.{Deed, goods_deed, sale, credit, House, Held, Entry, Site, AddTerms, Goods, Accept, Mint, Account, Deposit, Withdraw, Draw, Licence, Stock, Got, Pend, Done, Refused}
+use Rattle.mc_records.specs.Entry.{Deed, goods_deed, sale, credit, House, Held, Entry, Site, AddTerms, Goods, Accept, Mint, Account, Deposit, Withdraw, Draw, Licence, Stock, Got, Pend, Done, Refused, Upgrade, Switch, Note}
 use Rattle.mc_records.specs.PieceViews.{pieces_of}
 use Rattle.mc_records.specs.Requests.{seen}
 
@@ -40,6 +40,9 @@ entry (records.Got m pieces) = Got m (pieces_of pieces)
 entry (records.Pend m ask peer target scrip secret) = Pend m ask peer.now target.now (seen scrip) secret
 entry (records.Done m number price change got) = Done m number price (seen change) (option_map held_of got)
 entry (records.Refused m number refusal) = Refused m number refusal
+entry (records.Upgrade m vendor issuer from) = Upgrade m vendor.now issuer from
+entry (records.Switch m chain) = Switch m chain
+entry (records.Note m tag bytes) = Note m tag.now bytes.now
 
 -- what reading a payload answers, seen as an entry or as the place of a fault
 abbrev pub GivesEntry : Result Record RecordFault → Result Entry ℕ → Type 0

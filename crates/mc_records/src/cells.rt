@@ -63,6 +63,9 @@ pub fn table<'a>(r: &'a Record<'a>) -> [Group<'a>; 6]
         Record::Pend { .. } => held_table(r),
         Record::Done { .. } => settled_table(r),
         Record::Refused { .. } => settled_table(r),
+        Record::Upgrade { .. } => book_table(r),
+        Record::Switch { .. } => book_table(r),
+        Record::Note { .. } => book_table(r),
     }
 }
 
@@ -250,7 +253,7 @@ fn held_table<'a>(r: &'a Record<'a>) -> [Group<'a>; 6]
 }
 
 fn settled_table<'a>(r: &'a Record<'a>) -> [Group<'a>; 6]
-    requires { 13 < kind_of (entry r.now) }
+    requires { (13 < kind_of (entry r.now)) × (kind_of (entry r.now) < 16) }
     ensures { groups_fields result ≡ fields (entry r.now) }
 {
     match r {
@@ -273,6 +276,32 @@ fn settled_table<'a>(r: &'a Record<'a>) -> [Group<'a>; 6]
         } => two_groups(
             head(15, *moment),
             Group(Cell::Long(*number), Cell::Half(*refusal), Cell::Nothing),
+        ),
+        _ => unreachable!(),
+    }
+}
+
+fn book_table<'a>(r: &'a Record<'a>) -> [Group<'a>; 6]
+    requires { 15 < kind_of (entry r.now) }
+    ensures { groups_fields result ≡ fields (entry r.now) }
+{
+    match r {
+        Record::Upgrade {
+            moment,
+            vendor,
+            issuer,
+            from,
+        } => two_groups(
+            head(16, *moment),
+            Group(Cell::Str(vendor), Cell::Byte(*issuer), Cell::Word(*from)),
+        ),
+        Record::Switch { moment, chain } => two_groups(
+            head(17, *moment),
+            Group(Cell::Plain(chain), Cell::Nothing, Cell::Nothing),
+        ),
+        Record::Note { moment, tag, bytes } => two_groups(
+            head(18, *moment),
+            Group(Cell::Str(tag), Cell::Contents(bytes), Cell::Nothing),
         ),
         _ => unreachable!(),
     }

@@ -3,11 +3,11 @@
 ghost use Rattle.std.specs.Prelude.{◌≡◌};
 ghost use Rattle.mc_fields.specs.Form.{run};
 ghost use Rattle.mc_fields.specs.Gives.{Gives};
-ghost use Rattle.mc_records.specs.Forms.{site_form, add_terms_form, goods_form, accept_form, mint_form, account_form, deposit_form, withdraw_form, draw_form, licence_form, pend_form, done_form, refused_form};
+ghost use Rattle.mc_records.specs.Forms.{site_form, add_terms_form, goods_form, accept_form, mint_form, account_form, deposit_form, withdraw_form, draw_form, licence_form, pend_form, done_form, refused_form, upgrade_form, switch_form, note_form};
 ghost use Rattle.mc_records.specs.Views.{entry};
 
-use crate::parts::{change, deed, got, house, name, scrip, sign, target, terms, text};
-use crate::ranges::{MOST_CONTENTS, MOST_PIECES};
+use crate::parts::{chain, change, deed, got, house, name, scrip, sign, target, terms, text};
+use crate::ranges::{MOST_CONTENTS, MOST_EPOCH, MOST_PIECES};
 use crate::record::Record;
 use mc_base::{Amount, Moment};
 use mc_fields::{Stuck, read_key, read_plain, read_u8, read_u16, read_u32, read_u64};
@@ -233,4 +233,38 @@ pub(crate) fn read_refused(moment: Moment, bytes: &[u8]) -> Result<(Record<'_>, 
         refusal,
     };
     Ok((record, rest))
+}
+
+#[tactic(auto, unfolding(crate::specs::Forms::upgrade_form))]
+pub(crate) fn read_upgrade(moment: Moment, bytes: &[u8]) -> Result<(Record<'_>, &[u8]), Stuck>
+    ensures { Gives (λ x. (entry x.0, x.1.now)) result (run (upgrade_form moment) bytes.now) }
+{
+    let (vendor, rest) = name(bytes)?;
+    let (issuer, rest) = read_u8(rest, 0, u8::MAX)?;
+    let (from, rest) = read_u32(rest, 0, MOST_EPOCH)?;
+    let record = Record::Upgrade {
+        moment,
+        vendor,
+        issuer,
+        from,
+    };
+    Ok((record, rest))
+}
+
+#[tactic(auto, unfolding(crate::specs::Forms::switch_form))]
+pub(crate) fn read_switch(moment: Moment, bytes: &[u8]) -> Result<(Record<'_>, &[u8]), Stuck>
+    ensures { Gives (λ x. (entry x.0, x.1.now)) result (run (switch_form moment) bytes.now) }
+{
+    let (chain, rest) = chain(bytes)?;
+    Ok((Record::Switch { moment, chain }, rest))
+}
+
+#[tactic(auto, unfolding(crate::specs::Forms::note_form))]
+pub(crate) fn read_note(moment: Moment, bytes: &[u8]) -> Result<(Record<'_>, &[u8]), Stuck>
+    ensures { Gives (λ x. (entry x.0, x.1.now)) result (run (note_form moment) bytes.now) }
+{
+    let (tag, rest) = name(bytes)?;
+    let (len, rest) = read_u32(rest, 0, MOST_CONTENTS as u32)?;
+    let (bytes, rest) = read_plain(rest, len as usize)?;
+    Ok((Record::Note { moment, tag, bytes }, rest))
 }

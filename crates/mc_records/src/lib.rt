@@ -7,6 +7,7 @@
 
 mod appending;
 mod cells;
+mod chain;
 mod date_law;
 mod errand;
 mod errand_law;
@@ -28,6 +29,7 @@ mod sizes;
 mod writing;
 
 pub use appending::write_record;
+pub use chain::{FIRST_CHAIN, chain_after};
 pub use date_law::date_of_its_second;
 pub use errand::Errand;
 pub use errand_law::errands_are_texts;
@@ -35,11 +37,13 @@ pub use errand_reading::read_errand;
 pub use law::{bytes_after_a_payload, no_payload_begins_another, payloads_are_short};
 pub use limits::Limits;
 pub use piece_list::PieceList;
-pub use ranges::{LEAST_KEEP, MOST_CONTENTS, MOST_IN_ACCOUNT, MOST_KEEP, MOST_PIECES};
+pub use ranges::{
+    CHAIN_BYTES, LEAST_KEEP, MOST_CONTENTS, MOST_EPOCH, MOST_IN_ACCOUNT, MOST_KEEP, MOST_PIECES,
+};
 pub use reading::read_record;
 pub use record::{Record, RecordDeed, RecordFault, SiteTerms};
 pub use refusal::Refusal;
 pub use refusal_text::{MOST_REFUSAL_BYTES, put_refusal_text};
 pub use request::Request;
-pub use sizes::{EMPTY_JOURNAL, FRAME, PAYLOAD_BOUND};
+pub use sizes::{EMPTY_JOURNAL, FRAME, PAYLOAD_BOUND, tail_len};
 pub use writing::put_record;

@@ -3,13 +3,13 @@
 ghost use Rattle.std.specs.Prelude.{◌≡◌, ◌≤◌, Some, take, option_map};
 ghost use Rattle.scrip_form.specs.Texts.{is_name, is_target};
 ghost use Rattle.scrip_form.specs.Reading.{is_scrip};
-ghost use Rattle.mc_fields.specs.Form.{run, repeated, plain, done, str_at};
+ghost use Rattle.mc_fields.specs.Form.{run, repeated, plain, done, plain_at, str_at};
 ghost use Rattle.mc_fields.specs.Gives.{Gives};
 ghost use Rattle.mc_records.specs.Requests.{seen};
 ghost use Rattle.mc_records.specs.Forms.{secrets_form, terms_form, house_with, house_form, sign_form, change_form, deed_form, held_form, text_form, got_form};
 ghost use Rattle.mc_records.specs.Views.{deed_of, house_of, held_of};
 
-use crate::ranges::{LEAST_KEEP, MOST_KEEP};
+use crate::ranges::{CHAIN_BYTES, LEAST_KEEP, MOST_KEEP};
 use crate::record::{RecordDeed, SiteTerms};
 use mc_base::Amount;
 use mc_fields::{Stuck, read_counted, read_flag, read_key, read_str, read_u8, read_u32, read_u64};
@@ -36,6 +36,19 @@ pub(crate) fn scrip(bytes: &[u8]) -> Result<(&[u8], &[u8]), Stuck>
         return Err(Stuck { left: bytes.len() });
     }
     Ok((text, rest))
+}
+
+/// A chain of 32 bytes.
+pub(crate) fn chain(bytes: &[u8]) -> Result<([u8; 32], &[u8]), Stuck>
+    ensures { Gives (λ x. (x.0, x.1.now)) result (plain_at CHAIN_BYTES bytes.now) }
+{
+    if bytes.len() < CHAIN_BYTES {
+        return Err(Stuck { left: bytes.len() });
+    }
+    let (front, rest) = bytes.split_at(CHAIN_BYTES);
+    let mut chain = [0; CHAIN_BYTES];
+    chain.copy_from_slice(front);
+    Ok((chain, rest))
 }
 
 /// Whether the bytes are a scrip text.

@@ -14,3 +14,9 @@ pub const MOST_KEEP: u32 = 86_400;
 
 /// The most units that may stand in one account of a broker, 2^60.
 pub const MOST_IN_ACCOUNT: u64 = 1 << 60;
+
+/// The bytes of a chain, which is a digest.
+pub const CHAIN_BYTES: usize = 32;
+
+/// The last epoch that an identity has room for: an identity has 24 bits for it.
+pub const MOST_EPOCH: u32 = (1 << 24) - 1;

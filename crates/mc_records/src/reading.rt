@@ -10,7 +10,8 @@ ghost use Rattle.mc_records.specs.Views.{entry, GivesEntry};
 
 use crate::kinds::{
     read_accept, read_account, read_add_terms, read_deposit, read_done, read_draw, read_goods,
-    read_licence, read_mint, read_pend, read_refused, read_site, read_withdraw,
+    read_licence, read_mint, read_note, read_pend, read_refused, read_site, read_switch,
+    read_upgrade, read_withdraw,
 };
 use crate::piece_lists::{read_got_pieces, read_stock};
 use crate::record::{Record, RecordFault};
@@ -53,7 +54,7 @@ fn whole_record(bytes: &[u8]) -> Result<Record<'_>, RecordFault>
 fn any_kind(bytes: &[u8]) -> Result<(Record<'_>, &[u8]), Stuck>
     ensures { Gives (λ x. (entry x.0, x.1.now)) result (run entry_form bytes.now) }
 {
-    let (kind, rest) = read_u8(bytes, 1, 15)?;
+    let (kind, rest) = read_u8(bytes, 1, 18)?;
     let (seconds, after) = read_u64(rest, 0, Moment::LAST)?;
     let Some(moment) = Moment::new(seconds) else {
         return Err(Stuck { left: rest.len() });
@@ -81,6 +82,9 @@ fn of_kind(kind: u8, moment: Moment, bytes: &[u8]) -> Result<(Record<'_>, &[u8])
         12 => read_got_pieces(moment, bytes),
         13 => read_pend(moment, bytes),
         14 => read_done(moment, bytes),
-        _ => read_refused(moment, bytes),
+        15 => read_refused(moment, bytes),
+        16 => read_upgrade(moment, bytes),
+        17 => read_switch(moment, bytes),
+        _ => read_note(moment, bytes),
     }
 }

@@ -1,4 +1,5 @@
-ghost use Rattle.std.specs.Prelude.{◌≡◌};
+ghost use Rattle.std.specs.Prelude.{◌≡◌, ◌↔◌, IsTrue};
+ghost use Rattle.mc_records.specs.Chains.{Tells, is_switch};
 ghost use Rattle.mc_records.specs.Entry.{moment_of};
 ghost use Rattle.mc_records.specs.Views.{entry};
 
@@ -144,6 +145,24 @@ pub enum Record<'a> {
         number: u64,
         refusal: u16,
     },
+    /// The series of a vendor's issuer have version 2 from this epoch on, which is below 2^24.
+    Upgrade {
+        moment: Moment,
+        vendor: &'a [u8],
+        issuer: u8,
+        from: u32,
+    },
+    /// The entries behind this one carry chains; this is the chain of those before it.
+    Switch {
+        moment: Moment,
+        chain: [u8; 32],
+    },
+    /// What an operator notes under a tag, which is a name: at most 65,536 bytes.
+    Note {
+        moment: Moment,
+        tag: &'a [u8],
+        bytes: &'a [u8],
+    },
 }
 
 impl Record<'_> {
@@ -166,7 +185,27 @@ impl Record<'_> {
             | Record::Got { moment, .. }
             | Record::Pend { moment, .. }
             | Record::Done { moment, .. }
-            | Record::Refused { moment, .. } => *moment,
+            | Record::Refused { moment, .. }
+            | Record::Upgrade { moment, .. }
+            | Record::Switch { moment, .. }
+            | Record::Note { moment, .. } => *moment,
+        }
+    }
+
+    /// Whether it is a Switch.
+    pub fn is_switch(&self) -> bool
+        ensures { result ≡ is_switch (entry self.now) }
+    {
+        matches!(self, Record::Switch { .. })
+    }
+
+    /// Whether it tells this chain, where it is a Switch. Of any other entry that is true.
+    pub fn tells(&self, chain: &[u8; 32]) -> bool
+        ensures { IsTrue result ↔ Tells chain.now (entry self.now) }
+    {
+        match self {
+            Record::Switch { chain: told, .. } => told.as_slice() == chain.as_slice(),
+            _ => true,
         }
     }
 }

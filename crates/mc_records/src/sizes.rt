@@ -1,8 +1,9 @@
 //! The length of an entry's payload, by the table of its fields.
 
-ghost use Rattle.std.specs.Prelude.{◌≡◌, ◌<◌, ◌^◌, length, flat_map};
+ghost use Rattle.std.specs.Prelude.{◌≡◌, ◌<◌, ◌≤◌, ◌^◌, length, flat_map};
 ghost use Rattle.mc_fields.specs.Field.{spelled};
 ghost use Rattle.mc_records.specs.Entry.{Fits, payload, secrets_fields};
+ghost use Rattle.mc_records.specs.Sizes.{tail_bytes};
 ghost use Rattle.mc_records.specs.Views.{entry};
 ghost use Rattle.mc_records.specs.Cells.{cell_bytes, group_bytes};
 
@@ -18,6 +19,14 @@ pub const FRAME: u64 = 5;
 
 /// The lengths of payloads are below this.
 pub const PAYLOAD_BOUND: u64 = 131_066;
+
+/// The bytes of the tail of the next entry, where a Switch stands and where none does: its chain, or none.
+pub fn tail_len(switched: bool) -> u64
+    ensures value { result ≡ tail_bytes switched }
+    ensures short { result ≤ 32 }
+{
+    if switched { 32 } else { 0 }
+}
 
 impl Record<'_> {
     /// The length of the entry's payload in bytes, below 131,066. It takes no memory.

@@ -6,6 +6,8 @@ use Rattle.mc_outside.specs.DiskView.{DiskView}
 use Rattle.mc_outside.specs.LinkView.{LinkView}
 use Rattle.house_state.specs.declared.offer.SiteKind.TheVariants.{Vendor, Broker}
 use Rattle.house_state.specs.Views.{kind_number}
+use Rattle.house_state.specs.Learning.{untested}
+use Rattle.house_state.proofs.PartLaws.{all_pass}
 use Rattle.mc_words.specs.declared.command.Command.{Command}
 use Rattle.mc_words.specs.declared.command.Command.TheVariants as commands
 use Rattle.command_status.specs.declared.status.Status.{Status}
@@ -59,12 +61,12 @@ grew : {O : Type 0} (link : O → LinkView) (disk : O → DiskView) {D : Type 0}
     → (link a).faults ≤ (link b).faults
 grew link disk book xs (commands.Once shop) a b status has calm obeys = obeys.2
 grew link disk book xs (commands.Init founder) a b status has calm obeys = omega (arith, obeys.0.1)
-grew link disk book xs (commands.Serve server) a b status has calm obeys = served_grew link disk (kind_number Vendor) server.links has.bytes a b status calm obeys.0 (obeys.1 has.bytes has.told)
+grew link disk book xs (commands.Serve server) a b status has calm obeys = served_grew link disk untested (kind_number Vendor) server.links has.bytes a b status calm obeys.0 (obeys.1 has.bytes has.told)
 grew {O = O} link disk book xs (commands.Play playing) a b status has calm obeys = omega (arith, ap (λ (o : O). (link o).faults) obeys.0)
-grew link disk book xs (commands.Operate operation) a b status has calm obeys = operated_grew link disk (kind_number Vendor) (operation_view operation) has.bytes a b status calm obeys.0 (obeys.1 has.bytes has.told)
+grew link disk book xs (commands.Operate operation) a b status has calm obeys = operated_grew link disk untested (kind_number Vendor) (operation_view operation) has.bytes a b status calm obeys.0 (obeys.1 has.bytes has.told)
 grew link disk book xs (commands.BrokerInit founder) a b status has calm obeys = omega (arith, obeys.0.1)
-grew link disk book xs (commands.BrokerServe server) a b status has calm obeys = served_grew link disk (kind_number Broker) server.links has.bytes a b status calm obeys.0 (obeys.1 has.bytes has.told)
-grew link disk book xs (commands.BrokerOperate operation) a b status has calm obeys = operated_grew link disk (kind_number Broker) (brokers.operation_view operation) has.bytes a b status calm obeys.0 (obeys.1 has.bytes has.told)
+grew link disk book xs (commands.BrokerServe server) a b status has calm obeys = served_grew link disk untested (kind_number Broker) server.links has.bytes a b status calm obeys.0 (obeys.1 has.bytes has.told)
+grew link disk book xs (commands.BrokerOperate operation) a b status has calm obeys = operated_grew link disk untested (kind_number Broker) (brokers.operation_view operation) has.bytes a b status calm obeys.0 (obeys.1 has.bytes has.told)
 grew link disk book xs (commands.WalletInit founder) a b status has calm obeys = wallet_ends.init_grew link disk a b status (at_rest link disk a b calm) obeys.0
 grew link disk book xs (commands.WalletOperate operation) a b status has calm obeys = worked_grew link disk operation a b status (at_rest link disk a b calm) obeys
 grew {O = O} link disk book xs (commands.Report reporting) a b status has calm obeys = omega (arith, ap (λ (o : O). (link o).faults) obeys)
@@ -82,6 +84,7 @@ once_well shop v w ends.BadWords calm served = absurd served
 once_well shop v w (ends.Stranger name id) calm served = absurd served
 once_well shop v w ends.NotJournal calm served = absurd served
 once_well shop v w (ends.BadEntry place) calm served = absurd served
+once_well shop v w (ends.BadChain place) calm served = absurd served
 once_well shop v w (ends.UnlawfulEntry place) calm served = absurd served
 once_well shop v w ends.DiskFault calm served = absurd served
 once_well shop v w (ends.Refused f) calm served = absurd served
@@ -97,6 +100,7 @@ play_well count ends.BadWords told = absurd told
 play_well count (ends.Stranger name id) told = absurd told
 play_well count ends.NotJournal told = absurd told
 play_well count (ends.BadEntry place) told = absurd told
+play_well count (ends.BadChain place) told = absurd told
 play_well count (ends.UnlawfulEntry place) told = absurd told
 play_well count ends.DiskFault told = absurd told
 play_well count (ends.Refused f) told = absurd told
@@ -150,12 +154,12 @@ ends_well {O = O} link disk book command a c xs ys number has no_disk no_link no
     by_command : (command : Command) → HasBook (disk a) book xs command → Works link disk command a status b → Reads book command xs status ys → Calm link disk a b → EndsWell command (number_of status)
     by_command (commands.Once shop) has obeys reads calm = once_well shop (link a) (link b) status calm.link' obeys.0
     by_command (commands.Init founder) has obeys reads calm = init_well link disk a b status calm obeys.0.0
-    by_command (commands.Serve server) has obeys reads calm = served_well link disk (kind_number Vendor) server.links a b status has calm obeys.0 (obeys.1 has.bytes has.told)
+    by_command (commands.Serve server) has obeys reads calm = served_well link disk untested (kind_number Vendor) server.links a b status has (all_pass has.history) calm obeys.0 (obeys.1 has.bytes has.told)
     by_command (commands.Play playing) has obeys reads calm = play_well playing.count status obeys.1
-    by_command (commands.Operate operation) has obeys reads calm = operated_well link disk (kind_number Vendor) (operation_view operation) a b status has calm obeys.0 (obeys.1 has.bytes has.told)
+    by_command (commands.Operate operation) has obeys reads calm = operated_well link disk untested (kind_number Vendor) (operation_view operation) a b status has (all_pass has.history) calm obeys.0 (obeys.1 has.bytes has.told)
     by_command (commands.BrokerInit founder) has obeys reads calm = init_well link disk a b status calm obeys.0.0
-    by_command (commands.BrokerServe server) has obeys reads calm = served_well link disk (kind_number Broker) server.links a b status has calm obeys.0 (obeys.1 has.bytes has.told)
-    by_command (commands.BrokerOperate operation) has obeys reads calm = operated_well link disk (kind_number Broker) (brokers.operation_view operation) a b status has calm obeys.0 (obeys.1 has.bytes has.told)
+    by_command (commands.BrokerServe server) has obeys reads calm = served_well link disk untested (kind_number Broker) server.links a b status has (all_pass has.history) calm obeys.0 (obeys.1 has.bytes has.told)
+    by_command (commands.BrokerOperate operation) has obeys reads calm = operated_well link disk untested (kind_number Broker) (brokers.operation_view operation) a b status has (all_pass has.history) calm obeys.0 (obeys.1 has.bytes has.told)
     by_command (commands.WalletInit founder) has obeys reads calm = wallet_ends.init_well link disk a b status (at_rest link disk a b calm) obeys.0
     by_command (commands.WalletOperate operation) has obeys reads calm = worked_well link disk operation a b status has (at_rest link disk a b calm) obeys
     by_command (commands.Report reporting) has obeys reads calm = reads.well has no_book

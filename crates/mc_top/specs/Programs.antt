@@ -5,6 +5,7 @@ use Rattle.mc_outside.specs.LinkView.{LinkView}
 use Rattle.house_state.specs.declared.offer.SiteKind.{SiteKind}
 use Rattle.house_state.specs.declared.offer.SiteKind.TheVariants.{Vendor, Broker}
 use Rattle.house_state.specs.Views.{kind_number}
+use Rattle.house_state.specs.Learning.{untested}
 use Rattle.millicent_http.specs.Courses.{NoLink}
 use Rattle.mc_words.specs.declared.command.Command.{Command}
 use Rattle.mc_words.specs.declared.command.Command.TheVariants as commands
@@ -45,19 +46,19 @@ TellsPlay count _ = ⊥
 
 -- Up to the line that is said: what founding a site of a kind does, serving so many links by one, and having an
 -- operation done to one. What is said of a book holds where its disk tells its bytes; the causes of faults
--- hold of every outside.
+-- hold of every outside. The trades of vendors and brokers ask nothing of Notes.
 abbrev pub Founds : {O : Type 0} → (O → LinkView) → (O → DiskView) → SiteKind → Founder → O → Status → O → Type 0
 Founds link disk kind founder a status b =
     InitCauses link disk a status b × ((bytes : List ℕ) → (disk a).contents ≡ Some bytes → FoundsBook link disk (kind_number kind) founder bytes a status b)
 
 abbrev pub Serves : {O : Type 0} → (O → LinkView) → (O → DiskView) → SiteKind → ℕ → O → Status → O → Type 0
 Serves link disk kind links a status b =
-    ServeCauses link disk a status b × ((bytes : List ℕ) → (disk a).contents ≡ Some bytes → ServesBook link disk (kind_number kind) links bytes a status b)
+    ServeCauses link disk a status b × ((bytes : List ℕ) → (disk a).contents ≡ Some bytes → ServesBook link disk untested (kind_number kind) links bytes a status b)
 
 abbrev pub Operates : {O : Type 0} → (O → LinkView) → (O → DiskView) → SiteKind → OperationView → O → Status → O → Type 0
 Operates link disk kind operation a status b =
     OperateCauses link disk operation a status b
-    × ((bytes : List ℕ) → (disk a).contents ≡ Some bytes → OperatesBook link disk (kind_number kind) operation bytes a status b)
+    × ((bytes : List ℕ) → (disk a).contents ≡ Some bytes → OperatesBook link disk untested (kind_number kind) operation bytes a status b)
 
 -- what a command does to the outside, up to the line that is said
 abbrev pub Works : {O : Type 0} → (O → LinkView) → (O → DiskView) → Command → O → Status → O → Type 0

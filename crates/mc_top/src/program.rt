@@ -57,7 +57,8 @@ pub struct Ran<O, D> {
 ///
 /// 0: it is done. 2: the words are of no command, or name another number of books; nothing was touched but what is said.
 /// That is so up to want of memory, since `clap` reads the words.
-/// 3: the book that is opened is no journal, or has bytes that can't stand, or an entry that may not follow.
+/// 3: the book that is opened is no journal, or has bytes that can't stand, or a chain that is not the one computed, or an
+/// entry that may not follow.
 /// 4: the disk failed. 5: memory was refused before anything was done, or to read the words; memory that is refused later, to
 /// accept a request, is a reply with refusal 90 (`503`), and the link goes on. 6: `next_link` failed, or
 /// receiving an operator's input, or saying the line of what is done. 7: a refusal is told: that the book to

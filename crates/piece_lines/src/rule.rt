@@ -8,7 +8,7 @@ use scrip_form::{Name, Piece};
 pub enum PieceRule {
     /// Nothing: a wallet takes any piece.
     Any,
-    /// A broker's stock of this vendor: the vendor's own pieces, of issuer 0, and first-hand, so that the
+    /// A broker's stock of this vendor: his pieces, of any of his issuers, and first-hand, so that the
     /// customer's identity is the piece's own and there are no props.
     StockOf(Name),
 }
@@ -21,9 +21,7 @@ impl PieceRule {
         match self {
             PieceRule::Any => true,
             PieceRule::StockOf(vendor) => {
-                let (issuer, _, _) = piece.id().parts();
                 piece.vendor().bytes() == vendor.bytes()
-                    && issuer == 0
                     && piece.cust().number() == piece.id().number()
                     && piece.props().bytes().is_empty()
             }

@@ -92,7 +92,7 @@ ffeeddccbbaa99887766554433221100\n";
     let props =
         b"MS1|shop.example|7|000000f400000001|000000f400000001|1000448|a=1|583eca3193a37958094708ecc14a3704 \
 ffeeddccbbaa99887766554433221100\n";
-    assert!(rt; breaks(rt.alloc(), 1, issuer, &stock) == Some(2));
+    assert!(rt; breaks(rt.alloc(), 1, issuer, &stock) == None);
     assert!(rt; breaks(rt.alloc(), 1, customer, &stock) == Some(2));
     assert!(rt; breaks(rt.alloc(), 1, props, &stock) == Some(2));
     let others = PieceRule::StockOf(Name::new(b"news.example").unwrap());

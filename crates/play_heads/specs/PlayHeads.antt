@@ -20,6 +20,7 @@ issuer_terms = record {
 -- a first-hand piece of that issuer
 abbrev pub piece_of : ℕ → ℕ → ℕ → Scrip
 piece_of epoch serial value = record {
+  version = 1;
   vendor = codes "play.example";
   value = value;
   id = identity 1 epoch serial;

@@ -6,7 +6,7 @@ use Rattle.std.specs.Int.{w64, to_be_bytes}
 use Rattle.std.proofs.lemmas.Bool.{eqb-true, le-leb, leb-true}
 use Rattle.std.proofs.lemmas.List.Elements.{All-from_recursion}
 use Rattle.hex.specs.Hex.{encode_lower}
-use Rattle.scrip_form.specs.Scrip.{Scrip, IsPiece, IsScripText, scrip_text, body_then, barred, id_digits}
+use Rattle.scrip_form.specs.Scrip.{Scrip, IsPiece, IsScripText, scrip_text, body_then, version_mark, barred, id_digits}
 use Rattle.scrip_form.specs.Texts.{is_letter_or_digit, is_name_byte, is_props_byte, is_visible}
 use Rattle.reply_reader.proofs.QuietLemmas.{and_left, and_right, and_both}
 use Rattle.reply_reader.proofs.CleanLemmas.{all_weaker, all_append, all_of, decimal_visible, hex_visible}
@@ -70,7 +70,8 @@ body_visible p rest is r =
     field_before (id_digits p.id) (barred (id_digits p.cust) ++ (barred (decimal p.expires) ++ (barred p.props ++ rest))) (id_visible p.id) four in
     let two : all_visible (barred (decimal p.value) ++ (barred (id_digits p.id) ++ (barred (id_digits p.cust) ++ (barred (decimal p.expires) ++ (barred p.props ++ rest))))) ≡ true =
     field_before (decimal p.value) (barred (id_digits p.id) ++ (barred (id_digits p.cust) ++ (barred (decimal p.expires) ++ (barred p.props ++ rest)))) (decimal_visible p.value (omega (arith, is.most))).0 three in
-    all_append is_visible (codes "MS1|") (barred p.vendor ++ (barred (decimal p.value) ++ (barred (id_digits p.id) ++ (barred (id_digits p.cust) ++ (barred (decimal p.expires) ++ (barred p.props ++ rest)))))) refl
+    let mark : all_visible (version_mark p) ≡ true = all_append is_visible (codes "MS") (barred (decimal p.version)) refl (all_append is_visible (decimal p.version) (codes "|") (decimal_visible p.version (omega (arith, is.version.within))).0 refl) in
+    all_append is_visible (version_mark p) (barred p.vendor ++ (barred (decimal p.value) ++ (barred (id_digits p.id) ++ (barred (id_digits p.cust) ++ (barred (decimal p.expires) ++ (barred p.props ++ rest)))))) mark
     (field_before p.vendor (barred (decimal p.value) ++ (barred (id_digits p.id) ++ (barred (id_digits p.cust) ++ (barred (decimal p.expires) ++ (barred p.props ++ rest))))) vendor two)
 
 pub scrip_visible : (text : List ℕ) → IsScripText text → list_all is_visible text ≡ true

@@ -2,28 +2,29 @@ ghost use Rattle.std.specs.Prelude.{◌≡◌};
 ghost use Rattle.scrip_form.specs.Issuing as issuing;
 ghost use Rattle.scrip_certs.specs.Digests as digests;
 
-use md5::{Digest, Md5};
+use crate::hasher::Hasher;
 use scrip_form::{Id, Secrets, Terms};
 
 /// The certificate of a piece: the digest of the body of its scrip text and of the scrip secret that
-/// its identity selects.
+/// its identity selects, in the version of the body.
 #[tactic(auto, unfolding(crate::specs::Digests::certificate))]
 pub fn certificate(terms: &Terms, body: &[u8], id: Id) -> [u8; 16]
     ensures { result ≡ digests.certificate terms.now body.now id }
 {
-    let mut hasher = Md5::new();
+    let mut hasher = Hasher::of_text(body);
     hasher.update(body);
     hasher.update(&selected(&terms.scrip(), id));
     hasher.finalize()
 }
 
 /// The secret of a customer, which he is handed beside his first piece: the digest of the eight bytes
-/// of his identity and of the customer secret that it selects in the terms of that identity's issuer.
+/// of his identity and of the customer secret that it selects in the terms of that identity's issuer, in
+/// the version of the identity's series.
 #[tactic(auto, unfolding(crate::specs::Digests::customer_secret))]
-pub fn customer_secret(terms: &Terms, cust: Id) -> [u8; 16]
-    ensures { result ≡ digests.customer_secret terms.now cust }
+pub fn customer_secret(terms: &Terms, cust: Id, version: u8) -> [u8; 16]
+    ensures { result ≡ digests.customer_secret terms.now cust version }
 {
-    let mut hasher = Md5::new();
+    let mut hasher = Hasher::of_version(version);
     hasher.update(&cust.number().to_be_bytes());
     hasher.update(&selected(&terms.customer(), cust));
     hasher.finalize()

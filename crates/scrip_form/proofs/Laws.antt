@@ -1,8 +1,8 @@
 -- The laws of scrip texts and of their reader.
-use Rattle.std.proofs.Common.{Ok, Err, ◌≡◌, ℕ, ◌+◌, ◌-◌, ◌^◌, ◌≤◌, ◌<◌, get_or, true, List, [], ◌∷◌, ◌++◌, length, take, drop, refl, sym, ap, ◌∙◌, subst, append_assoc, arith, inl, inr}
+use Rattle.std.proofs.Common.{Ok, Err, ◌≡◌, ℕ, zero, suc, ◌+◌, ◌-◌, ◌^◌, ◌≤◌, ◌<◌, get_or, true, List, [], ◌∷◌, ◌++◌, length, take, drop, refl, sym, ap, ◌∙◌, subst, append_assoc, arith, inl, inr}
 use Rattle.std.specs.Prelude.{codes, decimal}
 use Rattle.std.specs.Int.{w64, to_be_bytes}
-use Rattle.std.proofs.lemmas.Fmt.{length-decimal-le}
+use Rattle.std.proofs.lemmas.Fmt.{length-decimal-le, decimal_digit}
 use Rattle.std.proofs.lemmas.Bool.{ne_eqb}
 use Rattle.std.proofs.lemmas.List.{append-nil, length-append, take_at, nil_from_length, length-take-le, take-take}
 use Rattle.std.proofs.lemmas.List.Elements.{All-cons, All-nil, All-from_get_or, recursion_from_All}
@@ -10,11 +10,11 @@ use Rattle.mc_fields.specs.Texts.{IsNumber}
 use Rattle.hex.specs.Hex.{encode_lower, lower_digits}
 use Rattle.hex.proofs.HexLemmas.{length-encode_with}
 use Rattle.mc_base.specs.declared.amount.TheConstants.Amount.{MOST}
-use Rattle.scrip_form.specs.declared.piece.TheConstants.Piece.{LAST_END}
+use Rattle.scrip_form.specs.declared.piece.TheConstants.Piece.{LAST_END, LATEST_VERSION}
 use Rattle.scrip_form.specs.Texts.{IsName, IsProps, is_name_byte, is_props_byte}
-use Rattle.scrip_form.specs.Scrip.{Scrip, IsPiece, IsCert, IsTextOf, IsScripText, IsFaultPlace, scrip_text, scrip_body, barred, id_digits}
+use Rattle.scrip_form.specs.Scrip.{Scrip, IsVersion, IsPiece, IsCert, IsTextOf, IsScripText, IsFaultPlace, scrip_text, scrip_body, text_version, barred, id_digits}
 use Rattle.mc_fields.specs.Reading.{Read, whole}
-use Rattle.scrip_form.specs.Reading.{scrip_of, all_fields_at, piece_of_fields, scrip_at}
+use Rattle.scrip_form.specs.Reading.{scrip_of, AllFields, all_fields_at, piece_of_fields, scrip_at}
 use Rattle.scrip_form.specs.Told.{IsTold}
 use Rattle.mc_fields.proofs.Fronts.{common, common-le_right, common-whole, common-longest, take-common}
 use Rattle.mc_fields.proofs.Formats.{Reads, done, failed, done_is, not_both, pair_reads, map_reads, pair_spelling, PairFits, others_part}
@@ -23,17 +23,14 @@ use Rattle.scrip_form.proofs.FieldReads.{name_reads, props_reads, IsId, id_reads
 use Rattle.mc_fields.proofs.NumberField.{number_reads}
 use Rattle.mc_fields.proofs.HexField.{AreBytes, hex_reads, zeros, AreBytes-zeros}
 
-abbrev Fields : Type 0
-Fields = Unit {0} × (List ℕ × (ℕ × (ℕ × (ℕ × (ℕ × (List ℕ × List ℕ))))))
-
 abbrev id_spelling : ℕ → List ℕ
 id_spelling n = barred (id_digits n)
 
-abbrev fields_spelling : Fields → List ℕ
-fields_spelling = pair_spelling (literal_spelling (codes "MS1|")) (pair_spelling barred (pair_spelling (with_stop 124 decimal) (pair_spelling id_spelling (pair_spelling id_spelling (pair_spelling (with_stop 124 decimal) (pair_spelling barred encode_lower))))))
+abbrev fields_spelling : AllFields → List ℕ
+fields_spelling = pair_spelling (literal_spelling (codes "MS")) (pair_spelling (with_stop 124 decimal) (pair_spelling barred (pair_spelling (with_stop 124 decimal) (pair_spelling id_spelling (pair_spelling id_spelling (pair_spelling (with_stop 124 decimal) (pair_spelling barred encode_lower)))))))
 
-abbrev FieldsFit : Fields → Type 0
-FieldsFit = PairFits Always (PairFits IsName (PairFits (IsNumber MOST) (PairFits IsId (PairFits IsId (PairFits (IsNumber LAST_END) (PairFits IsProps (AreBytes 16)))))))
+abbrev FieldsFit : AllFields → Type 0
+FieldsFit = PairFits Always (PairFits (IsNumber LATEST_VERSION) (PairFits IsName (PairFits (IsNumber MOST) (PairFits IsId (PairFits IsId (PairFits (IsNumber LAST_END) (PairFits IsProps (AreBytes 16))))))))
 
 -- some value of each field
 a_name : IsName (97 ∷ [])
@@ -52,6 +49,7 @@ fields_read =
     let fc : AreBytes 16 c = AreBytes-zeros 16 in
     let f1 : IsNumber LAST_END 1 = one LAST_END (omega arith) in
     let f2 : IsNumber MOST 1 = one MOST (omega arith) in
+    let f3 : IsNumber LATEST_VERSION 1 = one LATEST_VERSION (omega arith) in
     let z : IsId 0 = omega arith in
     let props = pair_reads props_reads cert c fc in
     let expires = pair_reads (number_reads LAST_END 124 refl (omega arith) (omega arith)) props ([], c) (no_props, fc) in
@@ -59,7 +57,8 @@ fields_read =
     let id = pair_reads id_reads cust (0, (1, ([], c))) (z, (f1, (no_props, fc))) in
     let value = pair_reads (number_reads MOST 124 refl (omega arith) (omega arith)) id (0, (0, (1, ([], c)))) (z, (z, (f1, (no_props, fc)))) in
     let vendor = pair_reads name_reads value (1, (0, (0, (1, ([], c))))) (f2, (z, (z, (f1, (no_props, fc))))) in
-    pair_reads (literal_reads (codes "MS1|")) vendor (97 ∷ [], (1, (0, (0, (1, ([], c)))))) (a_name, (f2, (z, (z, (f1, (no_props, fc))))))
+    let version = pair_reads (number_reads LATEST_VERSION 124 refl (omega arith) (omega arith)) vendor (97 ∷ [], (1, (0, (0, (1, ([], c)))))) (a_name, (f2, (z, (z, (f1, (no_props, fc)))))) in
+    pair_reads (literal_reads (codes "MS")) version (1, (97 ∷ [], (1, (0, (0, (1, ([], c))))))) (f3, (a_name, (f2, (z, (z, (f1, (no_props, fc)))))))
 
 abbrev pub text_of : Scrip × List ℕ → List ℕ
 text_of x = scrip_text x.0 x.1
@@ -67,16 +66,16 @@ text_of x = scrip_text x.0 x.1
 abbrev pub HasText : Scrip × List ℕ → Type 0
 HasText x = IsPiece x.0 × IsCert x.1
 
-fields_of : Scrip × List ℕ → Fields
-fields_of x = (tt, (x.0.vendor, (x.0.value, (x.0.id, (x.0.cust, (x.0.expires, (x.0.props, x.1)))))))
+fields_of : Scrip × List ℕ → AllFields
+fields_of x = (tt, (x.0.version, (x.0.vendor, (x.0.value, (x.0.id, (x.0.cust, (x.0.expires, (x.0.props, x.1))))))))
 
-fields_there : (x : Fields) → FieldsFit x → (text_of (piece_of_fields x) ≡ fields_spelling x) × HasText (piece_of_fields x)
+fields_there : (x : AllFields) → FieldsFit x → (text_of (piece_of_fields x) ≡ fields_spelling x) × HasText (piece_of_fields x)
 unfolding scrip_text
-fields_there x f = (refl, (record { vendor = f.1.0; some = f.1.1.0.some; most = f.1.1.0.within; id = f.1.1.1.0; cust = f.1.1.1.1.0; ends = f.1.1.1.1.1.0.some; last = f.1.1.1.1.1.0.within; props = f.1.1.1.1.1.1.0 }, f.1.1.1.1.1.1.1))
+fields_there x f = (refl, (record { version = f.1.0; vendor = f.1.1.0; some = f.1.1.1.0.some; most = f.1.1.1.0.within; id = f.1.1.1.1.0; cust = f.1.1.1.1.1.0; ends = f.1.1.1.1.1.1.0.some; last = f.1.1.1.1.1.1.0.within; props = f.1.1.1.1.1.1.1.0 }, f.1.1.1.1.1.1.1.1))
 
 fields_back : (x : Scrip × List ℕ) → HasText x → (fields_spelling (fields_of x) ≡ text_of x) × FieldsFit (fields_of x) × (piece_of_fields (fields_of x) ≡ x)
 unfolding scrip_text fields_of
-fields_back x f = (refl, (tt, (f.0.vendor, (record { some = f.0.some; within = f.0.most }, (f.0.id, (f.0.cust, (record { some = f.0.ends; within = f.0.last }, (f.0.props, f.1))))))), refl)
+fields_back x f = (refl, (tt, (f.0.version, (f.0.vendor, (record { some = f.0.some; within = f.0.most }, (f.0.id, (f.0.cust, (record { some = f.0.ends; within = f.0.last }, (f.0.props, f.1)))))))), refl)
 
 pub scrip_reads : Reads text_of HasText scrip_at
 unfolding scrip_at
@@ -170,6 +169,24 @@ front_is_body buf n p cert le is =
     let there : take (n - 32) (take n buf) ≡ scrip_body p = rw len at here in
     (omega arith, sym (take-take (n - 32) n buf (omega arith)) ∙ there)
 
+-- ---- the version
+
+in_version : (n : ℕ) (rest : List ℕ) → IsVersion n → text_version (codes "MS" ++ (barred (decimal n) ++ rest)) ≡ n
+unfolding text_version
+in_version zero rest is = absurd (omega (arith, is.some))
+in_version (suc zero) rest is = ap (λ (d : List ℕ). text_version (codes "MS" ++ ((d ++ codes "|") ++ rest))) (decimal_digit 1 (omega arith))
+in_version (suc (suc zero)) rest is = ap (λ (d : List ℕ). text_version (codes "MS" ++ ((d ++ codes "|") ++ rest))) (decimal_digit 2 (omega arith))
+in_version (suc (suc (suc n))) rest is = absurd (omega (arith, is.within))
+
+-- a text tells the version of its piece, and so does its body
+pub version_of_text : (p : Scrip) (cert : List ℕ) → IsVersion p.version → text_version (scrip_text p cert) ≡ p.version
+unfolding scrip_text
+version_of_text p cert is = in_version p.version _ is
+
+pub version_of_body : (p : Scrip) → IsVersion p.version → text_version (scrip_body p) ≡ p.version
+unfolding scrip_body
+version_of_body p is = in_version p.version _ is
+
 -- ---- what the reader's answer says of the bytes
 
 pub left-le : (bytes : List ℕ) (left : ℕ) → scrip_at bytes ≡ failed left → left ≤ length bytes
@@ -197,7 +214,7 @@ one_piece text p q cert other f g =
 
 -- the text, as it is put together from the left
 pub record IsWritten (text : List ℕ) (p : Scrip) (cert : List ℕ) : Type 0 where
-  pub parts : text ≡ (((((((([] ++ codes "MS1|") ++ barred p.vendor) ++ barred (decimal p.value)) ++ barred (id_digits p.id)) ++ barred (id_digits p.cust)) ++ barred (decimal p.expires)) ++ barred p.props) ++ encode_lower cert)
+  pub parts : text ≡ ((((((((([] ++ codes "MS") ++ barred (decimal p.version)) ++ barred p.vendor) ++ barred (decimal p.value)) ++ barred (id_digits p.id)) ++ barred (id_digits p.cust)) ++ barred (decimal p.expires)) ++ barred p.props) ++ encode_lower cert)
 
 pub text_written : (text : List ℕ) (p : Scrip) (cert : List ℕ) → IsPiece p → IsCert cert → IsWritten text p cert → IsTextOf text p cert
 unfolding scrip_text
@@ -221,11 +238,16 @@ text_is_short bytes p cert is =
     let r3 = barred (id_digits p.id) ++ r4 in
     let r2 = barred (decimal p.value) ++ r3 in
     let r1 = barred p.vendor ++ r2 in
-    let all : length bytes ≡ length (codes "MS1|" ++ r1) = ap length is.spelled in
+    let r0 = barred (decimal p.version) ++ r1 in
+    let version : length (decimal p.version) ≤ 1 = length-decimal-le 1 p.version (omega arith) (omega (arith, is.is_piece.version.within)) (omega (arith, is.is_piece.version.within)) in
+    let all : length bytes ≡ length (codes "MS" ++ r0) = ap length is.spelled in
     omega (
       arith,
       all,
-      length-append (codes "MS1|") r1,
+      length-append (codes "MS") r0,
+      length-append (barred (decimal p.version)) r1,
+      barred_length (decimal p.version),
+      version,
       length-append (barred p.vendor) r2,
       length-append (barred (decimal p.value)) r3,
       length-append (barred (id_digits p.id)) r4,

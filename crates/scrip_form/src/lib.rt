@@ -3,7 +3,7 @@
 //!
 //! From the paper of 1995 come a piece's seven fields (vendor, value, identity, customer identity,
 //! expiry, properties and certificate). Their spelling is this project's own:
-//! `MS1|vendor|value|id|cust|expires|props|cert`.
+//! `MS1|vendor|value|id|cust|expires|props|cert`, in version 2 with `MS2`.
 //!
 //! No call of this crate takes memory.
 #![tactic(auto)]
@@ -23,7 +23,10 @@ mod terms;
 mod write;
 
 pub use id::Id;
-pub use law::{no_scrip_text_begins_another, scrip_of_tells_the_text, scrip_text_is_of_one_piece};
+pub use law::{
+    no_scrip_text_begins_another, scrip_of_tells_the_text, scrip_text_is_of_one_piece,
+    scrip_text_tells_its_version,
+};
 pub use name::{Name, NameRule, read_name};
 pub use piece::Piece;
 pub use props::{Props, PropsRule};

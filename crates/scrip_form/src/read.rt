@@ -44,6 +44,7 @@ pub fn read_scrip(bytes: &[u8]) -> Result<ScripRef<'_>, FormFault>
 /// What was read of a text.
 #[derive(Clone, Copy)]
 struct Fields<'a> {
+    version: u64,
     vendor: &'a [u8],
     value: u64,
     id: u64,
@@ -71,6 +72,8 @@ impl Fields<'_> {
             Props::of(self.props),
         )
         .unwrap()
+        .versioned(self.version as u8)
+        .unwrap()
     }
 }
 
@@ -79,7 +82,8 @@ impl Fields<'_> {
 fn read_fields(bytes: &[u8]) -> Result<Fields<'_>, Stuck>
     ensures { Gives (λ f. ((piece_of f, f.cert), f.rest.now)) result (scrip_at bytes.now) }
 {
-    let rest = read_literal(b"MS1|", bytes)?;
+    let rest = read_literal(b"MS", bytes)?;
+    let (version, rest) = read_number(u64::from(Piece::LATEST_VERSION), b'|', rest)?;
     let (vendor, rest) = read_name(b'|', rest)?;
     let (value, rest) = read_number(Amount::MOST, b'|', rest)?;
     let (id, rest) = read_id(rest)?;
@@ -88,6 +92,7 @@ fn read_fields(bytes: &[u8]) -> Result<Fields<'_>, Stuck>
     let (props, rest) = read_text::<PropsRule>(b'|', rest)?;
     let (cert, rest) = read_hex::<16>(rest)?;
     Ok(Fields {
+        version,
         vendor,
         value,
         id,

@@ -17,8 +17,9 @@ pub fn write_scrip(p: &Piece, cert: &[u8; 16], out: &mut [u8; 512]) -> usize
     ensures body { take (result - 32) out.new ≡ scrip_body p.now }
 {
     let (vendor, props) = (p.vendor(), p.props());
-    let (mut value, mut expires) = (Buffer::new(), Buffer::new());
-    let at = put(out, 0, b"MS1|");
+    let (mut version, mut value, mut expires) = (Buffer::new(), Buffer::new(), Buffer::new());
+    let at = put(out, 0, b"MS");
+    let at = put_field(out, at, version.format(u64::from(p.version())).as_bytes());
     let at = put_field(out, at, vendor.bytes());
     let at = put_field(out, at, value.format(p.value().get()).as_bytes());
     let at = put_field(out, at, &digits_of_id(p.id()));

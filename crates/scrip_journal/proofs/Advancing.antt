@@ -7,8 +7,9 @@ use Rattle.scrip_journal.specs.States.{Reading, IsReading, EndedBy}
 use Rattle.scrip_journal.specs.Answers.{Given, answer_of}
 use Rattle.scrip_journal.specs.Replays.{ReadAhead, FaultsBy, CausedBy, IsFrame, EndsHere, TookEntry, ReadsOn, Advanced, ending_of}
 use Rattle.scrip_journal.specs.declared.ending.Ending.{Ending}
-use Rattle.scrip_journal.specs.declared.ending.Ending.TheVariants.{Closed, Spoiled, Failed}
-use Rattle.scrip_journal.proofs.Reading.{gate_place, behind_gate, of_disk, still_reading, ended_reading, next_reading, stands_here, spoiled_here}
+use Rattle.scrip_journal.specs.declared.replay.Found.{Found}
+use Rattle.scrip_journal.specs.declared.ending.Ending.TheVariants.{Closed, Spoiled, Unchained, Failed}
+use Rattle.scrip_journal.proofs.Reading.{gate_place, behind_gate, of_disk, still_reading, ended_reading, next_reading, stands_here, spoiled_here, unchained_here}
 
 pub none_of : {A : Type 0} (o : Option A) → ((x : A) → o ≡ Some x → ⊥) → o ≡ None
 none_of None not = refl
@@ -25,6 +26,8 @@ relast view a h last r = record {
   shape = r.shape;
   gate_is = r.gate_is;
   entries_is = r.entries_is;
+  switched_is = r.switched_is;
+  chain_is = r.chain_is;
   held_is = r.held_is;
   ended_by = r.ended_by;
   synced = r.synced;
@@ -34,14 +37,15 @@ relast view a h last r = record {
 pub no_place : (e : Ending) (place : ℕ) → answer_of e ≡ Ok (Some place) → ⊥
 no_place Closed place is = cc
 no_place (Spoiled at) place is = cc
+no_place (Unchained at stood computed) place is = cc
 no_place Failed place is = cc
 
 module _ {D : Type 0} (view : D → DiskView) (moved : D → D → Type 0) (old b : Reading D) (last : List ℕ) (on : old.ended ≡ None) (goes : moved old.disk b.disk) (ahead : ReadAhead view (record old { last = last }) b) where
   not_again : (given : Given) (new : Reading D) (e : Ending) → old.ended ≡ Some e → (given ≡ answer_of e) × (new ≡ old)
   not_again given new e is = absurd (cc (sym on ∙ is))
 
-  pub advanced_on : (n gate : ℕ) (new : Reading D) → (view b.disk).faults ≡ (view old.disk).faults → IsFrame n b.gate b.held → TookEntry b n gate new → Advanced view moved old (Ok (Some gate)) new
-  advanced_on n gate new faults frame took = subst (λ (v : Reading D). Advanced view moved old (Ok (Some gate)) v) (sym took.2) (record {
+  pub advanced_on : (f : Found) (gate : ℕ) (new : Reading D) → (view b.disk).faults ≡ (view old.disk).faults → IsFrame f b.switched b.chain b.gate b.held → TookEntry b f gate new → Advanced view moved old (Ok (Some gate)) new
+  advanced_on f gate new faults frame took = subst (λ (v : Reading D). Advanced view moved old (Ok (Some gate)) v) (sym took.2) (record {
     disk_moved = goes;
     only_read = ahead.only_read;
     again = not_again (Ok (Some gate)) _;
@@ -49,10 +53,11 @@ module _ {D : Type 0} (view : D → DiskView) (moved : D → D → Type 0) (old 
     limit = ahead.same.limit;
     rises = λ place is. (omega (arith, ahead.same.gate), omega (arith, frame.within));
     stays = λ is. absurd (cc is);
+    still = λ is. absurd (cc is);
     has_payload = λ place is. (frame.next, frame.fits, took.1 frame);
     cause = λ _. faults;
     reads = λ h r.
-        (took.0 ∙ ahead.same.gate, frame.next, frame.fits, took.1 frame, next_reading view b h (still_reading view (record old { last = last }) h (relast view old h last r) b ahead) _ n frame (ahead.same.ended ∙ on) refl);
+        (took.0 ∙ ahead.same.gate, frame.next, frame.fits, took.1 frame, next_reading view b h (still_reading view (record old { last = last }) h (relast view old h last r) b ahead) _ f frame (ahead.same.ended ∙ on) refl);
   })
 
   -- what a reading that ended answers
@@ -60,23 +65,26 @@ module _ {D : Type 0} (view : D → DiskView) (moved : D → D → Type 0) (old 
   reads_no_more e ends h r =
       let before = relast view old h last r in
       let still = still_reading view (record old { last = last }) h before b ahead in
-      let by = ends h r.bytes r.told (gate_place view (record old { last = last }) h before) (of_disk view (record old { last = last }) h before) in
+      let by = ends h r.bytes r.told (gate_place view (record old { last = last }) h before) r.switched_is r.chain_is (of_disk view (record old { last = last }) h before) in
       let now : IsReading view (record b { ended = Some e }) h = ended_reading view b h still (record b { ended = Some e }) e refl (subst (λ (k : ℕ). EndedBy (Some e) (next_of h (drop k r.bytes))) (sym ahead.same.gate) by) in
       go e (subst (λ (l : List ℕ). EndedBy (Some e) (next_of h l)) (behind_gate view (record old { last = last }) h before) by) now
     where
       go : (f : Ending) → EndedBy (Some f) (next_of h r.rest) → IsReading view (record b { ended = Some f }) h → ReadsOn view h r.bytes old.gate (answer_of f) (record b { ended = Some f })
       go Closed by now = (stands_here view old h r by, now)
       go (Spoiled place) by now = (spoiled_here view old h r place by, now)
+      go (Unchained place stood computed) by now = (unchained_here view old h r place stood computed by, now)
       go Failed by now = now
 
   caused : (e : Ending) → FaultsBy {X = ℕ} (Err e) (view old.disk).faults (view b.disk).faults → CausedBy (answer_of e) (view old.disk).faults (view b.disk).faults
   caused Closed f = f
   caused (Spoiled place) f = f
+  caused (Unchained place stood computed) f = f
   caused Failed f = f
 
   ended_so : (e : Ending) → Some e ≡ ending_of (answer_of e)
   ended_so Closed = refl
   ended_so (Spoiled place) = refl
+  ended_so (Unchained place stood computed) = refl
   ended_so Failed = refl
 
   pub advanced_to_end : (e : Ending) (given : Given) (new : Reading D) → FaultsBy {X = ℕ} (Err e) (view old.disk).faults (view b.disk).faults → EndsHere view (record old { last = last }) e
@@ -90,6 +98,7 @@ module _ {D : Type 0} (view : D → DiskView) (moved : D → D → Type 0) (old 
         limit = ahead.same.limit;
         rises = λ place is. absurd (no_place e place is);
         stays = λ is. ahead.same.gate;
+        still = λ is. ahead.same.switched;
         has_payload = λ place is. absurd (no_place e place is);
         cause = λ _. caused e faults;
         reads = reads_no_more e ends;

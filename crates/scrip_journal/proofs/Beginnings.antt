@@ -6,9 +6,9 @@ use Rattle.mc_outside.specs.Bytes.{BeginsWith}
 use Rattle.mc_records.specs.declared.limits.TheConstants.Limits.{MOST_JOURNAL}
 use Rattle.mc_records.specs.Entry.{Entry, Fits, Site}
 use Rattle.mc_records.specs.Sizes.{size, size_from, entry_size}
-use Rattle.scrip_journal.specs.Layout.{header, framed, gated, Encodes, Next, at_end, spoiled, next_of, entered, IsSpoiled}
-use Rattle.scrip_journal.proofs.Unique.{IsStop, entered_there, stands_read}
-use Rattle.scrip_journal.specs.Causes.{BeginsWithEntries, SpoilsAt, FoundsSite, IsOfKind, IsOfOther, IsOfOtherKind}
+use Rattle.scrip_journal.specs.Layout.{header, framed, gated, Encodes, Next, at_end, spoiled, unchained, next_of, entered, Reads}
+use Rattle.scrip_journal.proofs.Unique.{IsStop, no_entry, entered_there, stands_read}
+use Rattle.scrip_journal.specs.Causes.{BeginsWithEntries, ComesTo, SpoilsAt, UnchainsAt, FoundsSite, IsOfKind, IsOfOther, IsOfOtherKind}
 
 -- the size up to an entry and with it
 size_apart : (front before es : List Entry) → size_from front (before ++ es) ≡ size_from front before + size_from (front ++ before) es
@@ -104,13 +104,19 @@ module _ (kinds : ℕ → Type 0) where
   pub other_begins : (bytes : List ℕ) → IsOfOther kinds bytes → BeginsWith header bytes
   other_begins bytes other = let first = first_there other.first [] bytes other.begins in (first.0, first.1)
 
-  -- and does not spoil behind entries of one of these kinds
-  pub other_is_whole : (may : List Entry → Entry → Type 0) (bytes : List ℕ) (place : ℕ) → IsOfOther kinds bytes → SpoilsAt may kinds bytes place → ⊥
-  other_is_whole may bytes place other spoils = go spoils.before spoils.of_kind spoils.spoiled
+  -- and does not come to a stop behind entries of one of these kinds
+  stops_not : (may : List Entry → Entry → Type 0) (bytes : List ℕ) (next : Next) → IsStop next → IsOfOther kinds bytes → ComesTo may kinds bytes next → ⊥
+  stops_not may bytes next stop other comes = go comes.before comes.of_kind comes.reads
     where
-      go : (h : List Entry) → IsOfKind kinds h → IsSpoiled h bytes place → ⊥
-      go [] is spoiled' =
+      go : (h : List Entry) → IsOfKind kinds h → Reads h bytes next → ⊥
+      go [] is reads =
           let first = first_there other.first [] bytes other.begins in
-          let same : spoiled place ≡ entered other.first = one_next bytes spoiled'.rest first.0 (spoiled place) (entered other.first) (spoiled'.shape ∙ append_assoc header [] spoiled'.rest) first.1 spoiled'.next_is first.2 in
-          absurd (cc same)
-      go (e ∷ es) is spoiled' = kind_tells e es bytes is (record { fits = spoiled'.fits; most = spoiled'.most; begins = (spoiled'.rest, spoiled'.shape) }) other
+          let same : next ≡ entered other.first = one_next bytes reads.rest first.0 next (entered other.first) (reads.shape ∙ append_assoc header [] reads.rest) first.1 reads.next_is first.2 in
+          no_entry next other.first same stop
+      go (e ∷ es) is reads = kind_tells e es bytes is (record { fits = reads.fits; most = reads.most; begins = (reads.rest, reads.shape) }) other
+
+  pub other_is_whole : (may : List Entry → Entry → Type 0) (bytes : List ℕ) (place : ℕ) → IsOfOther kinds bytes → SpoilsAt may kinds bytes place → ⊥
+  other_is_whole may bytes place other spoils = stops_not may bytes (spoiled place) tt other spoils
+
+  pub other_is_chained : (may : List Entry → Entry → Type 0) (bytes : List ℕ) (place : ℕ) (stood computed : List ℕ) → IsOfOther kinds bytes → UnchainsAt may kinds bytes place stood computed → ⊥
+  other_is_chained may bytes place stood computed other unchains = stops_not may bytes (unchained place stood computed) tt other unchains

@@ -1,5 +1,5 @@
 -- The bytes of entries, one entry after the other.
-use Rattle.std.proofs.Common.{◌≡◌, ◌⊎◌, inl, inr, ℕ, ◌+◌, ◌^◌, ◌≤◌, List, [], ◌∷◌, ◌++◌, length, refl, sym, ◌∙◌, ap, arith, append_assoc, length-append}
+use Rattle.std.proofs.Common.{◌≡◌, ◌⊎◌, inl, inr, ℕ, suc, ◌+◌, ◌^◌, ◌≤◌, List, [], ◌∷◌, ◌++◌, length, take, refl, sym, ◌∙◌, ap, arith, append_assoc, length-append}
 use Rattle.std.specs.List.{AllByRecursion}
 use Rattle.std.specs.Int.{to_be_bytes, w32}
 use Rattle.std.proofs.lemmas.List.{append-nil}
@@ -8,6 +8,15 @@ use Rattle.mc_records.specs.declared.limits.TheConstants.Limits.{MOST_JOURNAL}
 use Rattle.mc_records.specs.Entry.{Entry, Fits, payload}
 use Rattle.mc_records.specs.Sizes.{tail, entry_size, size_from, size}
 use Rattle.scrip_journal.specs.Layout.{header, framed, gated, body, Encodes}
+
+-- a front of a list, and some of what is behind it
+pub take_front : (a b : List ℕ) (k : ℕ) → take (length a + k) (a ++ b) ≡ a ++ take k b
+take_front [] b k = ap (λ (n : ℕ). take n b) (none_before k) where
+  none_before : (m : ℕ) → 0 + m ≡ m
+  none_before m = omega arith
+take_front (x ∷ a) b k = ap (λ (n : ℕ). take n (x ∷ (a ++ b))) (shifted (length a) k) ∙ ap (λ (l : List ℕ). x ∷ l) (take_front a b k) where
+  shifted : (n m : ℕ) → suc n + m ≡ suc (n + m)
+  shifted n m = omega arith
 
 pub header_long : length header ≡ 8
 unfolding header
@@ -18,15 +27,16 @@ unfolding framed
 framed_long before e = omega (arith, length-append (to_be_bytes w32 (length (payload e))) (payload e ++ tail before e), length-append (payload e) (tail before e))
 
 -- a block is the framed entry and a closed gate
-pub block_is : (h : List Entry) (e : Entry) (block : List ℕ) → block ≡ to_be_bytes w32 (length (payload e)) ++ (payload e ++ 0 ∷ []) → block ≡ framed h e ++ 0 ∷ []
-unfolding framed tail
-block_is h e block is =
-    is ∙ ap (λ (p : List ℕ). to_be_bytes w32 (length (payload e)) ++ (p ++ 0 ∷ [])) (sym (append-nil (payload e)))
-    ∙ sym (append_assoc (to_be_bytes w32 (length (payload e))) (payload e ++ []) (0 ∷ []))
+pub block_is : (h : List Entry) (e : Entry) (block end : List ℕ) → end ≡ tail h e → block ≡ to_be_bytes w32 (length (payload e)) ++ (payload e ++ (end ++ 0 ∷ [])) → block ≡ framed h e ++ 0 ∷ []
+unfolding framed
+block_is h e block end end_is is =
+    is ∙ ap (λ (t : List ℕ). to_be_bytes w32 (length (payload e)) ++ (payload e ++ (t ++ 0 ∷ []))) end_is
+    ∙ ap (λ (l : List ℕ). to_be_bytes w32 (length (payload e)) ++ l) (sym (append_assoc (payload e) (tail h e) (0 ∷ [])))
+    ∙ sym (append_assoc (to_be_bytes w32 (length (payload e))) (payload e ++ tail h e) (0 ∷ []))
 
-pub block_long : (e : Entry) (block : List ℕ) (n : ℕ) → block ≡ to_be_bytes w32 (length (payload e)) ++ (payload e ++ 0 ∷ []) → n ≡ length (payload e) + 5 → length block ≡ n
-block_long e block n is n_is =
-    omega (arith, ap (λ (l : List ℕ). length l) is, length-append (to_be_bytes w32 (length (payload e))) (payload e ++ 0 ∷ []), length-append (payload e) (0 ∷ []), n_is)
+pub block_long : (h : List Entry) (e : Entry) (block : List ℕ) (n : ℕ) → block ≡ framed h e ++ 0 ∷ [] → n + 1 ≡ entry_size h e + 1 → length block ≡ n
+block_long h e block n is n_is =
+    omega (arith, ap (λ (l : List ℕ). length l) is, length-append (framed h e) (0 ∷ []), framed_long h e, n_is)
 
 gated_long : (before h : List Entry) → length (gated before h) ≡ size_from before h
 gated_long before [] = refl

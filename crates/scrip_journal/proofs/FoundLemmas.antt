@@ -6,7 +6,7 @@ use Rattle.mc_records.specs.Entry.{Entry}
 use Rattle.scrip_journal.specs.Layout.{header, body, Encodes}
 use Rattle.scrip_journal.specs.States.{AtRest, Reading, IsReading}
 use Rattle.scrip_journal.specs.declared.fault.HouseFault.{HouseFault}
-use Rattle.scrip_journal.specs.declared.fault.HouseFault.TheVariants.{NotJournal, BadRecord, Unlawful, WrongKind, NotEmpty, Disk, NoMemory}
+use Rattle.scrip_journal.specs.declared.fault.HouseFault.TheVariants.{NotJournal, BadRecord, BadChain, Unlawful, WrongKind, NotEmpty, Disk, NoMemory}
 use Rattle.scrip_journal.specs.Opens.{NoLonger}
 use Rattle.scrip_journal.specs.Exits.{EitherNoOutput}
 use Rattle.scrip_journal.proofs.Reading.{bytes_told}
@@ -59,6 +59,7 @@ pub cleared : {D : Type 0} (view : D → DiskView) (x : List ℕ) (result : Resu
 cleared view x (Ok j) other is = (is.0, inr is.1)
 cleared view x (Err (NotJournal d)) other is = is
 cleared view x (Err (BadRecord d place)) other is = is
+cleared view x (Err (BadChain d place stood computed)) other is = is
 cleared view x (Err (Unlawful d place)) other is = is
 cleared view x (Err (WrongKind d)) other is = is
 cleared view x (Err (NotEmpty d count)) other is = record { count_is = is.0; many = is.1; other = other }
@@ -70,6 +71,7 @@ pub founded : {D : Type 0} (view : D → DiskView) (e : Entry) (x : List ℕ) (r
 founded view e x (Ok j) free is = (is, free)
 founded view e x (Err (NotJournal d)) free is = is
 founded view e x (Err (BadRecord d place)) free is = is
+founded view e x (Err (BadChain d place stood computed)) free is = is
 founded view e x (Err (Unlawful d place)) free is = is
 founded view e x (Err (WrongKind d)) free is = is
 founded view e x (Err (NotEmpty d count)) free is = absurd is
@@ -81,6 +83,7 @@ pub wrote : {D A : Type 0} (view : D → DiskView) (disk : D) (result : Result A
 wrote view disk (Ok x) is = tt
 wrote view disk (Err (NotJournal d)) is = tt
 wrote view disk (Err (BadRecord d place)) is = tt
+wrote view disk (Err (BadChain d place stood computed)) is = tt
 wrote view disk (Err (Unlawful d place)) is = tt
 wrote view disk (Err (WrongKind d)) is = tt
 wrote view disk (Err (NotEmpty d count)) is = absurd is

@@ -1,22 +1,25 @@
 -- What a piece read ahead and an entry taken off leave of a reading.
-use Rattle.std.proofs.Common.{◌≡◌, ℕ, ◌+◌, ◌≤◌, List, [], ◌∷◌, ◌++◌, length, take, drop, Some, refl, sym, ◌∙◌, ap, subst, arith, append-nil, length-append, length-drop}
+use Rattle.std.proofs.Common.{◌≡◌, ℕ, ◌+◌, ◌≤◌, Bool, true, false, List, [], ◌∷◌, ◌++◌, length, take, drop, Some, refl, sym, ◌∙◌, ap, subst, arith, append-nil, length-append, length-drop}
 use Rattle.std.specs.Int.{to_be_bytes, w32}
 use Rattle.std.proofs.lemmas.List.{drop-drop, take_at, drop_at}
 use Rattle.mc_outside.specs.Bytes.{BeginsWith}
 use Rattle.mc_outside.specs.DiskView.{DiskView, OnlyRead}
 use Rattle.mc_records.specs.Entry.{payload}
+use Rattle.mc_records.specs.Sizes.{tail_by, tail_bytes}
+use Rattle.mc_records.proofs.ChainLaws.{length-chain_after}
 use Rattle.scrip_journal.specs.States.{Reading}
-use Rattle.scrip_journal.specs.Replays.{ReadAhead, AllHeld, IsFrame}
+use Rattle.scrip_journal.specs.Replays.{ReadAhead, AllHeld, IsFrame, frame_size}
+use Rattle.scrip_journal.specs.declared.replay.Found.{Found}
 use Rattle.scrip_journal.proofs.Windows.{held_grows, held_all}
 
 module _ {D : Type 0} (view : D → DiskView) (old new : Reading D) (n : ℕ) (piece : List ℕ) (gate : new.gate ≡ old.gate) (grown : new.held ≡ old.held ++ piece) (only : OnlyRead (view old.disk) (view new.disk)) where
   at_gate : (bytes : List ℕ) → drop new.gate bytes ≡ drop old.gate bytes
   at_gate bytes = ap (λ (g : ℕ). drop g bytes) gate
 
-  pub piece_ahead : new.entries ≡ old.entries → new.limit ≡ old.limit → new.ended ≡ old.ended
+  pub piece_ahead : new.entries ≡ old.entries → new.limit ≡ old.limit → new.switched ≡ old.switched → new.chain ≡ old.chain → new.ended ≡ old.ended
       → ((bytes : List ℕ) → (view old.disk).contents ≡ Some bytes → piece ≡ take n (drop (old.gate + length old.held) bytes)) → ReadAhead view old new
-  piece_ahead entries limit ended is = record {
-    same = record { gate = gate; entries = entries; limit = limit; ended = ended };
+  piece_ahead entries limit switched chain ended is = record {
+    same = record { gate = gate; entries = entries; limit = limit; switched = switched; chain = chain; ended = ended };
     only_read = only;
     more = (piece, grown);
     held = λ bytes told of.
@@ -34,13 +37,22 @@ module _ {D : Type 0} (view : D → DiskView) (old new : Reading D) (n : ℕ) (p
       nothing (x ∷ p) e = absurd (omega (arith, e))
 
 -- the payload of a frame stands behind the gate and the length
-pub payload_in : (n gate : ℕ) (held : List ℕ) (f : IsFrame n gate held) → take n (drop 5 held) ≡ payload f.next
-payload_in n gate held f =
-    let bytes = to_be_bytes w32 n in
-    ap (λ (l : List ℕ). take n (drop 5 l)) f.shape
-    ∙ ap (λ (l : List ℕ). take n l) (drop_at bytes (payload f.next ++ f.rest) 4 refl)
-    ∙ take_at (payload f.next) f.rest n f.length_is
+pub payload_in : (f : Found) (switched : Bool) (chain : List ℕ) (gate : ℕ) (held : List ℕ) (g : IsFrame f switched chain gate held) → take f.bytes (drop 5 held) ≡ payload g.next
+payload_in f switched chain gate held g =
+    let bytes = to_be_bytes w32 f.bytes in
+    let rest = tail_by switched f.chain ++ g.rest in
+    ap (λ (l : List ℕ). take f.bytes (drop 5 l)) g.shape
+    ∙ ap (λ (l : List ℕ). take f.bytes l) (drop_at bytes (payload g.next ++ rest) 4 refl)
+    ∙ take_at (payload g.next) rest f.bytes g.length_is
 
-pub frame_long : (n gate : ℕ) (held : List ℕ) (f : IsFrame n gate held) → n + 5 ≤ length held
-frame_long n gate held f =
-    omega (arith, ap (λ (l : List ℕ). length l) f.shape, length-append (to_be_bytes w32 n) (payload f.next ++ f.rest), length-append (payload f.next) f.rest, f.length_is)
+pub frame_long : (f : Found) (switched : Bool) (chain : List ℕ) (gate : ℕ) (held : List ℕ) (g : IsFrame f switched chain gate held) → frame_size f switched ≤ length held
+frame_long f switched chain gate held g =
+    let rest = tail_by switched f.chain ++ g.rest in
+    omega (arith, ap (λ (l : List ℕ). length l) g.shape, length-append (to_be_bytes w32 f.bytes) (payload g.next ++ rest), length-append (payload g.next) rest, length-append (tail_by switched f.chain) g.rest, g.length_is, chain_long switched)
+  where
+    long : length f.chain ≡ 32
+    long = ap (λ (l : List ℕ). length l) g.chain_is ∙ length-chain_after chain (payload g.next)
+
+    chain_long : (b : Bool) → length (tail_by b f.chain) ≡ tail_bytes b
+    chain_long true = long
+    chain_long false = refl

@@ -1,23 +1,28 @@
 -- How a journal is read on.
-use Rattle.std.proofs.Common.{◌≡◌, ℕ, ◌+◌, List, [], ◌∷◌, ◌++◌, length, drop, Option, Some, None, sym, ◌∙◌, ap, subst, arith, append_assoc, append-nil, length-append}
+use Rattle.std.proofs.Common.{◌≡◌, ℕ, ◌+◌, Bool, ◌||◌, List, [], ◌∷◌, ◌++◌, length, drop, Option, Some, None, sym, ◌∙◌, ap, ap₂, subst, arith, append_assoc, length-append}
 use Rattle.std.specs.Int.{to_be_bytes, w32}
 use Rattle.std.proofs.lemmas.List.{drop_at}
 use Rattle.mc_outside.specs.Bytes.{BeginsWith}
 use Rattle.mc_outside.specs.DiskView.{DiskView}
 use Rattle.mc_records.specs.Entry.{Entry, payload}
-use Rattle.mc_records.specs.Sizes.{tail, size}
-use Rattle.scrip_journal.specs.Layout.{body, framed, next_of, at_end, spoiled, Encodes, IsSpoiled}
+use Rattle.mc_records.specs.Chains.{chain, chain_after, has_switch}
+use Rattle.mc_records.specs.Sizes.{tail, tail_by, tail_bytes, size}
+use Rattle.mc_records.proofs.ChainLaws.{chain-more, has_switch-more}
+use Rattle.mc_records.proofs.SizeLaws.{length-tail, tail-by, tail_size-by}
+use Rattle.scrip_journal.specs.Layout.{body, framed, next_of, at_end, spoiled, unchained, Encodes, IsSpoiled, IsUnchained}
 use Rattle.scrip_journal.specs.States.{Reading, AtRest, IsReading, IsJournal, EndedBy}
-use Rattle.scrip_journal.specs.Replays.{HeldOf, ReadAhead, IsFrame}
+use Rattle.scrip_journal.specs.Replays.{HeldOf, ReadAhead, IsFrame, frame_size}
+use Rattle.scrip_journal.specs.declared.replay.Found.{Found}
 use Rattle.scrip_journal.specs.declared.ending.Ending.{Ending}
 use Rattle.scrip_journal.specs.declared.ending.Ending.TheVariants.{Closed}
 use Rattle.scrip_journal.proofs.Bodies.{body_long, body_more, size_more, fits_more}
 use Rattle.scrip_journal.proofs.Nexts.{at_end_is}
 
--- a length and the payload of that length are the frame of an entry
-frame_is : (before : List Entry) (e : Entry) (m : ℕ) → length (payload e) ≡ m → 1 ∷ (to_be_bytes w32 m ++ payload e) ≡ 1 ∷ framed before e
-unfolding framed tail
-frame_is before e m is = ap (λ (k : ℕ). 1 ∷ (to_be_bytes w32 k ++ payload e)) (sym is) ∙ ap (λ (l : List ℕ). 1 ∷ (to_be_bytes w32 (length (payload e)) ++ l)) (sym (append-nil (payload e)))
+-- a length, the payload of that length and its tail are the frame of an entry
+frame_is : (before : List Entry) (e : Entry) (m : ℕ) (end : List ℕ) → length (payload e) ≡ m → end ≡ tail before e → 1 ∷ (to_be_bytes w32 m ++ (payload e ++ end)) ≡ 1 ∷ framed before e
+unfolding framed
+frame_is before e m end is end_is =
+    ap (λ (k : ℕ). 1 ∷ (to_be_bytes w32 k ++ (payload e ++ end))) (sym is) ∙ ap (λ (l : List ℕ). 1 ∷ (to_be_bytes w32 (length (payload e)) ++ (payload e ++ l))) end_is
 
 some_same : (x y : List ℕ) → Some x ≡ Some y → x ≡ y
 some_same x y e = cc
@@ -47,6 +52,8 @@ module _ {D : Type 0} (view : D → DiskView) (a : Reading D) (h : List Entry) (
     shape = r.shape;
     gate_is = ap (λ (n : ℕ). n + 1) x.same.gate ∙ r.gate_is;
     entries_is = x.same.entries ∙ r.entries_is;
+    switched_is = x.same.switched ∙ r.switched_is;
+    chain_is = x.same.chain ∙ r.chain_is;
     held_is = subst (BeginsWith b.held) (ap (λ (g : ℕ). drop g r.bytes) x.same.gate ∙ behind_gate) (x.held r.bytes r.told of_disk);
     ended_by = subst (λ (e : Option Ending). EndedBy e (next_of h r.rest)) (sym x.same.ended) r.ended_by;
     synced = λ c l. r.synced c (x.only_read.leaves c l);
@@ -63,37 +70,48 @@ module _ {D : Type 0} (view : D → DiskView) (a : Reading D) (h : List Entry) (
     shape = r.shape;
     gate_is = r.gate_is;
     entries_is = r.entries_is;
+    switched_is = r.switched_is;
+    chain_is = r.chain_is;
     held_is = r.held_is;
     ended_by = subst (λ (l : List ℕ). EndedBy (Some e) (next_of h l)) behind_gate by;
     synced = r.synced;
   })
 
   -- the next entry was taken off
-  pub next_reading : (b : Reading D) (n : ℕ) (f : IsFrame n a.gate a.held) → a.ended ≡ None → b ≡ record a { gate = a.gate + n + 5; entries = a.entries + 1; held = drop (n + 5) a.held; last = b.last } → IsReading view b (h ++ f.next ∷ [])
-  unfolding tail
-  next_reading b n f on is =
+  pub next_reading : (b : Reading D) (f : Found) (g : IsFrame f a.switched a.chain a.gate a.held) → a.ended ≡ None
+      → b ≡ record a { gate = a.gate + frame_size f a.switched; entries = a.entries + 1; switched = a.switched || f.switches; chain = f.chain; held = drop (frame_size f a.switched) a.held; last = b.last }
+      → IsReading view b (h ++ g.next ∷ [])
+  next_reading b f g on is =
       let more = r.held_is in
+      let n = f.bytes in
       let bytes = to_be_bytes w32 n in
-      let front : List ℕ = 1 ∷ (bytes ++ payload f.next) in
-      let long : length front ≡ n + 5 = omega (arith, length-append bytes (payload f.next), f.length_is) in
-      let held : a.held ≡ front ++ f.rest = f.shape ∙ ap (λ (l : List ℕ). 1 ∷ l) (sym (append_assoc bytes (payload f.next) f.rest)) in
-      let rest : r.rest ≡ front ++ (f.rest ++ more.0) = more.1 ∙ ap (λ (l : List ℕ). l ++ more.0) held ∙ append_assoc front f.rest more.0 in
-      let frame : front ≡ 1 ∷ framed h f.next = frame_is h f.next n f.length_is in
-      let whole : r.bytes ≡ body (h ++ f.next ∷ []) ++ (f.rest ++ more.0) =
-      r.shape ∙ ap (λ (l : List ℕ). body h ++ l) (rest ∙ ap (λ (l : List ℕ). l ++ (f.rest ++ more.0)) frame)
-      ∙ sym (append_assoc (body h) (1 ∷ framed h f.next) (f.rest ++ more.0)) ∙ ap (λ (l : List ℕ). l ++ (f.rest ++ more.0)) (sym (body_more h f.next)) in
-      let grown : size (h ++ f.next ∷ []) ≡ size h + (n + 5) = omega (arith, size_more h f.next, f.length_is) in
-      subst (λ (v : Reading D). IsReading view v (h ++ f.next ∷ [])) (sym is) (record {
+      let end = tail_by a.switched f.chain in
+      let chain_is : f.chain ≡ chain (h ++ g.next ∷ []) = g.chain_is ∙ ap (λ (c : List ℕ). chain_after c (payload g.next)) r.chain_is ∙ sym (chain-more h g.next) in
+      let end_is : end ≡ tail h g.next = ap₂ tail_by r.switched_is chain_is ∙ sym (tail-by h g.next) in
+      let end_long : length end ≡ tail_bytes a.switched = ap (λ (l : List ℕ). length l) end_is ∙ length-tail h g.next ∙ tail_size-by h ∙ ap tail_bytes (sym r.switched_is) in
+      let front : List ℕ = 1 ∷ (bytes ++ (payload g.next ++ end)) in
+      let long : length front ≡ frame_size f a.switched = omega (arith, length-append bytes (payload g.next ++ end), length-append (payload g.next) end, g.length_is, end_long) in
+      let held : a.held ≡ front ++ g.rest =
+      g.shape ∙ ap (λ (l : List ℕ). 1 ∷ (bytes ++ l)) (sym (append_assoc (payload g.next) end g.rest)) ∙ ap (λ (l : List ℕ). 1 ∷ l) (sym (append_assoc bytes (payload g.next ++ end) g.rest)) in
+      let rest : r.rest ≡ front ++ (g.rest ++ more.0) = more.1 ∙ ap (λ (l : List ℕ). l ++ more.0) held ∙ append_assoc front g.rest more.0 in
+      let frame : front ≡ 1 ∷ framed h g.next = frame_is h g.next n end g.length_is end_is in
+      let whole : r.bytes ≡ body (h ++ g.next ∷ []) ++ (g.rest ++ more.0) =
+      r.shape ∙ ap (λ (l : List ℕ). body h ++ l) (rest ∙ ap (λ (l : List ℕ). l ++ (g.rest ++ more.0)) frame)
+      ∙ sym (append_assoc (body h) (1 ∷ framed h g.next) (g.rest ++ more.0)) ∙ ap (λ (l : List ℕ). l ++ (g.rest ++ more.0)) (sym (body_more h g.next)) in
+      let grown : size (h ++ g.next ∷ []) ≡ size h + frame_size f a.switched = omega (arith, size_more h g.next, g.length_is, end_long, ap (λ (l : List ℕ). length l) end_is) in
+      subst (λ (v : Reading D). IsReading view v (h ++ g.next ∷ [])) (sym is) (record {
         bytes = r.bytes;
         told = r.told;
-        fits = fits_more h f.next r.fits f.fits;
-        most = omega (arith, grown, f.within, r.gate_is);
-        rest = f.rest ++ more.0;
+        fits = fits_more h g.next r.fits g.fits;
+        most = omega (arith, grown, g.within, r.gate_is);
+        rest = g.rest ++ more.0;
         shape = whole;
         gate_is = omega (arith, grown, r.gate_is);
-        entries_is = omega (arith, r.entries_is, length-append h (f.next ∷ []));
-        held_is = (more.0, ap (λ (l : List ℕ). l ++ more.0) (sym (ap (λ (l : List ℕ). drop (n + 5) l) held ∙ drop_at front f.rest (n + 5) long)));
-        ended_by = subst (λ (e : Option Ending). EndedBy e (next_of (h ++ f.next ∷ []) (f.rest ++ more.0))) (sym on) tt;
+        entries_is = omega (arith, r.entries_is, length-append h (g.next ∷ []));
+        switched_is = ap₂ (λ (x y : Bool). x || y) r.switched_is g.switch_is ∙ sym (has_switch-more h g.next);
+        chain_is = chain_is;
+        held_is = (more.0, ap (λ (l : List ℕ). l ++ more.0) (sym (ap (λ (l : List ℕ). drop (frame_size f a.switched) l) held ∙ drop_at front g.rest (frame_size f a.switched) long)));
+        ended_by = subst (λ (e : Option Ending). EndedBy e (next_of (h ++ g.next ∷ []) (g.rest ++ more.0))) (sym on) tt;
         synced = r.synced;
       })
 
@@ -106,13 +124,18 @@ module _ {D : Type 0} (view : D → DiskView) (a : Reading D) (h : List Entry) (
   pub spoiled_here : (place : ℕ) → next_of h r.rest ≡ spoiled place → IsSpoiled h r.bytes place
   spoiled_here place e = record { fits = r.fits; most = r.most; rest = r.rest; shape = r.shape; next_is = e }
 
+  pub unchained_here : (place : ℕ) (stood computed : List ℕ) → next_of h r.rest ≡ unchained place stood computed → IsUnchained h r.bytes place stood computed
+  unchained_here place stood computed e = record { fits = r.fits; most = r.most; rest = r.rest; shape = r.shape; next_is = e }
+
 -- a reading that ended at a closed gate leaves a journal
-pub finished : {D : Type 0} (view : D → DiskView) (a : Reading D) (h : List Entry) (j : AtRest D) → a.ended ≡ Some Closed → j ≡ record { disk = a.disk; size = a.gate + 1; entries = a.entries; limit = a.limit } → IsReading view a h → IsJournal view j h
+pub finished : {D : Type 0} (view : D → DiskView) (a : Reading D) (h : List Entry) (j : AtRest D) → a.ended ≡ Some Closed → j ≡ record { disk = a.disk; size = a.gate + 1; entries = a.entries; limit = a.limit; switched = a.switched; chain = a.chain } → IsReading view a h → IsJournal view j h
 finished {D = D} view a h j ended is r = subst (λ (v : AtRest D). IsJournal view v h) (sym is) (record {
   bytes = r.bytes;
   told = r.told;
   stands = stands_here view a h r (subst (λ (e : Option Ending). EndedBy e (next_of h r.rest)) ended r.ended_by);
   size_is = r.gate_is;
   entries_is = r.entries_is;
+  switched_is = r.switched_is;
+  chain_is = r.chain_is;
   synced = r.synced;
 })

@@ -1,11 +1,12 @@
 -- What the calls of a journal leave, from what the disk's calls promise.
-use Rattle.std.proofs.Common.{◌≡◌, ◌⊎◌, inl, ℕ, ◌+◌, ◌≤◌, ◌^◌, List, [], ◌∷◌, ◌++◌, length, drop, Option, Some, refl, sym, ◌∙◌, ap, subst, arith, append_assoc, length-append}
+use Rattle.std.proofs.Common.{◌≡◌, ◌⊎◌, inl, ℕ, Bool, ◌+◌, ◌≤◌, ◌^◌, List, [], ◌∷◌, ◌++◌, length, drop, Option, Some, refl, sym, ◌∙◌, ap, subst, arith, append_assoc, length-append}
 use Rattle.std.specs.Prelude.{option_map}
 use Rattle.mc_outside.specs.Bytes.{put}
 use Rattle.mc_outside.specs.DiskView.{DiskView, DiskGoes, CallPairs, Follows, LeavesNoMore, IsSynced, Torn, Ran}
 use Rattle.mc_outside.proofs.Runs.{ran_quiet, ran_then}
 use Rattle.mc_records.specs.declared.limits.TheConstants.Limits.{MOST_JOURNAL}
 use Rattle.mc_records.specs.Entry.{Entry, Fits}
+use Rattle.mc_records.specs.Chains.{chain, has_switch}
 use Rattle.mc_records.specs.Sizes.{size}
 use Rattle.scrip_journal.specs.Layout.{framed, body, Encodes}
 use Rattle.scrip_journal.specs.States.{AtRest, WithNext, IsJournal, IsStaged}
@@ -39,9 +40,10 @@ module _ {D : Type 0} (view : D → DiskView) (j : AtRest D) (h : List Entry) (i
       ran_then (view j.disk) b c (EncodesNoOutput h (view j.disk).aside) (stage_ran b n g pairs follows)
       (ran_quiet b c (Encodes h) (view j.disk).aside g.aside g2 pairs2 (stage_leaves b n follows) (λ i l. stage_leaves b n follows i (less i l)))
 
-  pub is_staged : (b : DiskView) (c : D) (block : List ℕ) (n : ℕ) (e : Entry) (s : WithNext D) → b.contents ≡ option_map (put (gate + 1) block) (view j.disk).contents → (view c).contents ≡ b.contents
-      → IsSynced (view c) → Fits e → block ≡ framed h e ++ 0 ∷ [] → length block ≡ n → s ≡ record { disk = c; gate = gate; size = gate + n + 1; entries = j.entries; limit = j.limit } → IsStaged view s h e
-  is_staged b c block n e s written same synced e_fits block_is n_is s_is =
+  pub is_staged : (b : DiskView) (c : D) (block : List ℕ) (n : ℕ) (e : Entry) (switched : Bool) (after : List ℕ) (s : WithNext D) → b.contents ≡ option_map (put (gate + 1) block) (view j.disk).contents → (view c).contents ≡ b.contents
+      → IsSynced (view c) → Fits e → block ≡ framed h e ++ 0 ∷ [] → length block ≡ n → s ≡ record { disk = c; gate = gate; size = gate + n + 1; entries = j.entries; limit = j.limit; switched = switched; chain = after }
+      → switched ≡ has_switch (h ++ e ∷ []) → after ≡ chain (h ++ e ∷ []) → IsStaged view s h e
+  is_staged b c block n e switched after s written same synced e_fits block_is n_is s_is switched_is chain_is =
       let bytes = put (gate + 1) block is.bytes in
       let dr = drop (gate + 1 + length block) is.bytes in
       let told : (view c).contents ≡ Some bytes = same ∙ written ∙ ap (λ (o : Option (List ℕ)). option_map (put (gate + 1) block) o) is.told in
@@ -59,6 +61,8 @@ module _ {D : Type 0} (view : D → DiskView) (j : AtRest D) (h : List Entry) (i
         gate_is = omega (arith, gate_is, is.size_is);
         size_is = omega (arith, size_more h e, framed_long h e, long, n_is, gate_is, is.size_is);
         entries_is = is.entries_is;
+        switched_is = switched_is;
+        chain_is = chain_is;
         synced = synced bytes told;
       })
 
@@ -92,7 +96,7 @@ module _ {D : Type 0} (view : D → DiskView) (s : WithNext D) (h : List Entry) 
       (ran_quiet b c (λ i. Encodes h i ⊎ Encodes (h ++ e ∷ []) i) (view s.disk).aside g.aside g2 pairs2 (open_leaves b follows) (λ i l. open_leaves b follows i (less i l)))
 
   pub is_opened : (b : DiskView) (c : D) (j : AtRest D) → b.contents ≡ option_map (put s.gate (1 ∷ [])) (view s.disk).contents → (view c).contents ≡ b.contents → IsSynced (view c)
-      → j ≡ record { disk = c; size = s.size; entries = s.entries + 1; limit = s.limit } → IsJournal view j (h ++ e ∷ [])
+      → j ≡ record { disk = c; size = s.size; entries = s.entries + 1; limit = s.limit; switched = s.switched; chain = s.chain } → IsJournal view j (h ++ e ∷ [])
   is_opened b c j written same synced j_is =
       let bytes = put s.gate (1 ∷ []) k.bytes in
       let told : (view c).contents ≡ Some bytes = same ∙ written ∙ ap (λ (o : Option (List ℕ)). option_map (put s.gate (1 ∷ [])) o) k.told in
@@ -102,5 +106,7 @@ module _ {D : Type 0} (view : D → DiskView) (s : WithNext D) (h : List Entry) 
         stands = stands_more h e k.rest bytes k.fits k.next_fits new_most (written_gate (body h) s.gate place_of k.gate (framed h e ++ 0 ∷ k.rest) k.bytes k.shape);
         size_is = k.size_is;
         entries_is = omega (arith, k.entries_is, length-append h (e ∷ []));
+        switched_is = k.switched_is;
+        chain_is = k.chain_is;
         synced = synced bytes told;
       })

@@ -1,20 +1,17 @@
 -- Bytes are read in one way: they encode one list of entries at most, and what spoils them has one
 -- place.
-use Rattle.std.proofs.Common.{◌≡◌, ℕ, ◌+◌, ◌^◌, ◌≤◌, ◌<◌, List, [], ◌∷◌, ◌++◌, length, take, drop, Ok, refl, sym, ◌∙◌, ap, subst, arith, append_assoc, append-nil, length-append}
-use Rattle.std.specs.Int.{to_be_bytes, from_be_bytes, w32}
+use Rattle.std.proofs.Common.{◌≡◌, ℕ, ◌+◌, ◌^◌, ◌≤◌, ◌<◌, List, [], ◌∷◌, ◌++◌, length, take, refl, sym, ◌∙◌, ap, subst, arith, append_assoc, append-nil, length-append}
+use Rattle.std.specs.Int.{to_be_bytes, w32}
 use Rattle.std.specs.List.{AllByRecursion}
-use Rattle.std.proofs.lemmas.List.{take_at, drop_at}
-use Rattle.std.proofs.lemmas.Nat.{from_be_bytes-to_be_bytes_4}
-use Rattle.mc_records.specs.declared.sizes.TheConstants.{PAYLOAD_BOUND}
+use Rattle.std.proofs.lemmas.List.{take_at}
 use Rattle.mc_records.specs.declared.limits.TheConstants.Limits.{MOST_JOURNAL}
 use Rattle.mc_records.specs.Entry.{Entry, Fits, payload}
-use Rattle.mc_records.specs.Sizes.{tail, entry_size, size_from, size}
-use Rattle.mc_records.specs.Forms.{entry_of}
-use Rattle.mc_records.proofs.EntryLaws.{no_prefix, payload_only}
-use Rattle.mc_records.proofs.PayloadSizes.{payload_is_short}
-use Rattle.scrip_journal.specs.Layout.{header, framed, gated, body, Next, at_end, entered, spoiled, next_of, Encodes, Reads}
+use Rattle.mc_records.specs.Sizes.{tail, tail_size, entry_size, size_from, size}
+use Rattle.mc_records.proofs.EntryLaws.{no_prefix}
+use Rattle.mc_records.proofs.SizeLaws.{length-tail}
+use Rattle.scrip_journal.specs.Layout.{header, framed, gated, body, Next, at_end, entered, spoiled, unchained, next_of, Encodes, Reads}
 use Rattle.scrip_journal.proofs.Bodies.{body_long}
-use Rattle.scrip_journal.proofs.Nexts.{payload_there, closed_there}
+use Rattle.scrip_journal.proofs.Nexts.{tail_there, behind_payload, closed_there}
 
 -- two lists with fronts of one length are split in one way
 append_split : (a b r s : List ℕ) → length a ≡ length b → a ++ r ≡ b ++ s → (a ≡ b) × (r ≡ s)
@@ -47,16 +44,10 @@ unfolding framed
 entered_there h e rest fits most =
     let n = length (payload e) in
     let bytes = to_be_bytes w32 n in
-    let all : List ℕ = framed h e ++ rest in
-    let short : n < PAYLOAD_BOUND = payload_is_short e fits in
-    let shape : all ≡ bytes ++ (payload e ++ (tail h e ++ rest)) = append_assoc bytes (payload e ++ tail h e) rest ∙ ap (λ (l : List ℕ). bytes ++ l) (append_assoc (payload e) (tail h e) rest) in
-    let front : take 4 all ≡ bytes = ap (λ (l : List ℕ). take 4 l) shape ∙ take_at bytes (payload e ++ (tail h e ++ rest)) 4 refl in
-    let back : drop 4 all ≡ payload e ++ (tail h e ++ rest) = ap (λ (l : List ℕ). drop 4 l) shape ∙ drop_at bytes (payload e ++ (tail h e ++ rest)) 4 refl in
-    let n_is : from_be_bytes w32 (take 4 all) ≡ n = ap (λ (l : List ℕ). from_be_bytes w32 l) front ∙ from_be_bytes-to_be_bytes_4 n (omega (arith, short)) in
-    let four : 4 ≤ length all = omega (arith, ap (λ (l : List ℕ). length l) shape, length-append bytes (payload e ++ (tail h e ++ rest))) in
-    let whole : n ≤ length (drop 4 all) = omega (arith, ap (λ (l : List ℕ). length l) back, length-append (payload e) (tail h e ++ rest)) in
-    let read : entry_of (take n (drop 4 all)) ≡ Ok e = ap (λ (l : List ℕ). entry_of (take n l)) back ∙ ap entry_of (take_at (payload e) (tail h e ++ rest) n refl) ∙ payload_only e fits in
-    payload_there h (length (body h)) refl n all n_is four short (omega (arith, body_long h, most)) whole (Ok e) read
+    let shape : framed h e ++ rest ≡ bytes ++ (payload e ++ (tail h e ++ rest)) = append_assoc bytes (payload e ++ tail h e) rest ∙ ap (λ (l : List ℕ). bytes ++ l) (append_assoc (payload e) (tail h e) rest) in
+    let near : length (body h) + n + tail_size h + 6 ≤ MOST_JOURNAL = omega (arith, body_long h, most, length-tail h e) in
+    ap (λ (l : List ℕ). next_of h (1 ∷ l)) shape ∙ behind_payload h (length (body h)) refl e (tail h e ++ rest) fits near
+    ∙ tail_there h (length (body h) + 5 + n) e (tail h e ++ rest) (omega (arith, length-append (tail h e) rest, length-tail h e)) (take_at (tail h e) rest (tail_size h) (length-tail h e))
 
 -- ---- one way
 
@@ -65,8 +56,9 @@ abbrev pub IsStop : Next → Type 0
 IsStop at_end = Unit {0}
 IsStop (entered e) = ⊥
 IsStop (spoiled place) = Unit {0}
+IsStop (unchained place stood computed) = Unit {0}
 
-no_entry : (n : Next) (e : Entry) → n ≡ entered e → IsStop n → ⊥
+pub no_entry : (n : Next) (e : Entry) → n ≡ entered e → IsStop n → ⊥
 no_entry n e is stop = subst IsStop is stop
 
 size_grows : (before es : List Entry) (e : Entry) → size (before ++ e ∷ es) ≤ MOST_JOURNAL → size before + entry_size before e ≤ MOST_JOURNAL
@@ -125,3 +117,16 @@ one_place h g bytes p q s t = let one = reads_one h g bytes (spoiled p) (spoiled
 
 pub not_both : (h g : List Entry) (bytes : List ℕ) (p : ℕ) → Reads h bytes (spoiled p) → Encodes g bytes → ⊥
 not_both h g bytes p s t = cc (reads_one h g bytes (spoiled p) at_end s (stands_read g bytes t) tt tt).1
+
+-- ---- chains
+
+pub one_chain : (h g : List Entry) (bytes : List ℕ) (p q : ℕ) (stood computed other sum : List ℕ) → Reads h bytes (unchained p stood computed) → Reads g bytes (unchained q other sum)
+    → (h ≡ g) × (p ≡ q) × (stood ≡ other) × (computed ≡ sum)
+one_chain h g bytes p q stood computed other sum s t =
+    let one = reads_one h g bytes (unchained p stood computed) (unchained q other sum) s t tt tt in (one.0, cc one.1, cc one.1, cc one.1)
+
+pub chain_or_history : (h g : List Entry) (bytes : List ℕ) (p : ℕ) (stood computed : List ℕ) → Reads h bytes (unchained p stood computed) → Encodes g bytes → ⊥
+chain_or_history h g bytes p stood computed s t = cc (reads_one h g bytes (unchained p stood computed) at_end s (stands_read g bytes t) tt tt).1
+
+pub chain_or_place : (h g : List Entry) (bytes : List ℕ) (p q : ℕ) (stood computed : List ℕ) → Reads h bytes (unchained p stood computed) → Reads g bytes (spoiled q) → ⊥
+chain_or_place h g bytes p q stood computed s t = cc (reads_one h g bytes (unchained p stood computed) (spoiled q) s t tt tt).1

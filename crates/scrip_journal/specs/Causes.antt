@@ -7,7 +7,7 @@ use Rattle.mc_outside.specs.Bytes.{BeginsWith}
 use Rattle.mc_records.specs.Entry.{Entry, Site, Fits}
 use Rattle.mc_records.specs.Following.{AllFollowBy}
 use Rattle.mc_records.specs.Sizes.{size}
-use Rattle.scrip_journal.specs.Layout.{body, Encodes, IsSpoiled}
+use Rattle.scrip_journal.specs.Layout.{body, Encodes, Next, spoiled, unchained, Reads}
 use Rattle.mc_records.specs.declared.limits.TheConstants.Limits.{MOST_JOURNAL}
 use Rattle.scrip_journal.specs.declared.cursor.TheConstants.{FIRST_GATE}
 
@@ -39,12 +39,20 @@ pub record BeginsWithEntries (h : List Entry) (bytes : List ℕ) : Type 0 where
   pub most : size h ≤ MOST_JOURNAL
   pub begins : BeginsWith (body h) bytes
 
--- Behind entries that may follow one another the bytes can't stand, from this place on.
-pub record SpoilsAt (may : List Entry → Entry → Type 0) (kinds : ℕ → Type 0) (bytes : List ℕ) (place : ℕ) : Type 0 where
+-- behind entries that may follow one another this comes
+pub record ComesTo (may : List Entry → Entry → Type 0) (kinds : ℕ → Type 0) (bytes : List ℕ) (next : Next) : Type 0 where
   pub before : List Entry
   pub follow : AllFollowBy may [] before
   pub of_kind : IsOfKind kinds before
-  pub spoiled : IsSpoiled before bytes place
+  pub reads : Reads before bytes next
+
+-- behind entries that may follow one another the bytes can't stand, from this place on
+abbrev pub SpoilsAt : (List Entry → Entry → Type 0) → (ℕ → Type 0) → List ℕ → ℕ → Type 0
+SpoilsAt may kinds bytes place = ComesTo may kinds bytes (spoiled place)
+
+-- behind entries that may follow one another comes one whose chain, at this place, is another than the one computed
+abbrev pub UnchainsAt : (List Entry → Entry → Type 0) → (ℕ → Type 0) → List ℕ → ℕ → List ℕ → List ℕ → Type 0
+UnchainsAt may kinds bytes place stood computed = ComesTo may kinds bytes (unchained place stood computed)
 
 -- Behind entries that may follow one another comes one, behind the gate at this place, that may not follow
 -- them.

@@ -6,7 +6,7 @@ use Rattle.mc_records.specs.Entry.{Entry}
 use Rattle.scrip_journal.specs.Layout.{Encodes}
 use Rattle.scrip_journal.specs.States.{AtRest, IsJournal}
 use Rattle.scrip_journal.specs.declared.fault.HouseFault.{HouseFault}
-use Rattle.scrip_journal.specs.declared.fault.HouseFault.TheVariants.{NotJournal, BadRecord, Unlawful, WrongKind, NotEmpty, Disk, NoMemory}
+use Rattle.scrip_journal.specs.declared.fault.HouseFault.TheVariants.{NotJournal, BadRecord, BadChain, Unlawful, WrongKind, NotEmpty, Disk, NoMemory}
 use Rattle.mc_records.specs.declared.sizes.TheConstants.{EMPTY_JOURNAL}
 
 -- The disk may be founded on: its bytes encode no entries, or are nine at most.
@@ -39,6 +39,7 @@ FoundNoOutput before e c s = FoundImage before e c × (s ≡ before.aside)
 abbrev pub fault_disk : {D : Type 0} → HouseFault D → D
 fault_disk (NotJournal d) = d
 fault_disk (BadRecord d place) = d
+fault_disk (BadChain d place stood computed) = d
 fault_disk (Unlawful d place) = d
 fault_disk (WrongKind d) = d
 fault_disk (NotEmpty d count) = d

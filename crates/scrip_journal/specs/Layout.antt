@@ -1,5 +1,6 @@
 -- What the bytes of a journal encode.
 use Rattle.std.specs.Prelude.{◌≡◌, ◌≢◌, ℕ, ◌+◌, ◌^◌, ◌≤◌, nat_lt, nat_le, ◌==◌, if◌then◌else◌, List, [], ◌∷◌, ◌++◌, length, take, drop, Result, Ok, Err}
+use Rattle.std.specs.Prelude.{bytes_eq}
 use Rattle.std.specs.Int.{w32, to_be_bytes, from_be_bytes}
 use Rattle.std.specs.List.{AllByRecursion}
 use Rattle.mc_records.specs.Entry.{Entry, Fits, payload}
@@ -38,25 +39,35 @@ pub record Encodes (h : List Entry) (bytes : List ℕ) : Type 0 where
 -- ---- reading on behind some entries
 
 -- what comes at a gate: the gate is closed, or an entry stands behind it, or the bytes can't stand,
--- from this place on
+-- from this place on, or the chain of the entry there, whose first byte has this place, is another than the one
+-- computed
 pub data Next : Type 0 where
   at_end : Next
   entered : Entry → Next
   spoiled : (place : ℕ) → Next
+  unchained : (place : ℕ) (stood computed : List ℕ) → Next
 
--- a payload whose first byte has this place
-abbrev pub next_payload : ℕ → Result Entry ℕ → Next
-next_payload place (Ok e) = entered e
-next_payload place (Err fault) = spoiled (place + fault)
+-- what stands behind a payload: the tail of its entry, whose first byte has this place
+abbrev pub next_tail : List Entry → ℕ → Entry → List ℕ → Next
+next_tail h place e rest =
+    if nat_lt (length rest) (tail_size h) then spoiled (place + length rest)
+    else if bytes_eq (take (tail_size h) rest) (tail h e) then entered e
+    else unchained place (take (tail_size h) rest) (tail h e)
+
+-- a payload of so many bytes, whose first byte has this place, and the bytes behind it
+abbrev pub next_payload : List Entry → ℕ → ℕ → Result Entry ℕ → List ℕ → Next
+next_payload h place n (Ok e) rest = next_tail h (place + n) e rest
+next_payload h place n (Err fault) rest = spoiled (place + fault)
 
 -- A length whose first byte has this place, and the bytes behind it. The length has to be below
--- the bound of payloads, the entry with the next gate has to end within the most of a journal, and its bytes have to be there.
+-- the bound of payloads, the entry with its tail and the next gate has to end within the most of a journal, and the
+-- payload has to be there.
 abbrev pub next_framed : List Entry → ℕ → ℕ → List ℕ → Next
 next_framed h place n rest =
     if nat_le PAYLOAD_BOUND n then spoiled place
     else if nat_lt MOST_JOURNAL (place + 4 + n + tail_size h + 1) then spoiled place
-    else if nat_lt (length rest) (n + tail_size h) then spoiled (place + 4 + length rest)
-    else next_payload (place + 4) (entry_of (take n rest))
+    else if nat_lt (length rest) n then spoiled (place + 4 + length rest)
+    else next_payload h (place + 4) n (entry_of (take n rest)) (drop n rest)
 
 -- behind an open gate, where the first byte has this place
 abbrev pub next_behind : List Entry → ℕ → List ℕ → Next
@@ -81,3 +92,8 @@ pub record Reads (h : List Entry) (bytes : List ℕ) (next : Next) : Type 0 wher
 -- they encode no entries.
 abbrev pub IsSpoiled : List Entry → List ℕ → ℕ → Type 0
 IsSpoiled h bytes place = Reads h bytes (spoiled place)
+
+-- The bytes begin with these entries, and the one behind them has another chain at this place than the one computed.
+-- So they encode no entries, either.
+abbrev pub IsUnchained : List Entry → List ℕ → ℕ → List ℕ → List ℕ → Type 0
+IsUnchained h bytes place stood computed = Reads h bytes (unchained place stood computed)

@@ -1,15 +1,18 @@
 -- What the calls of a journal that is read answer.
-use Rattle.std.specs.Prelude.{◌≡◌, ℕ, ◌+◌, ◌^◌, ◌<◌, ◌≤◌, List, [], ◌∷◌, ◌++◌, length, drop, Option, Some, None, Result, Ok, Err}
+use Rattle.std.specs.Prelude.{◌≡◌, ℕ, ◌+◌, ◌^◌, ◌<◌, ◌≤◌, Bool, ◌||◌, List, [], ◌∷◌, ◌++◌, length, take, drop, Option, Some, None, Result, Ok, Err}
 use Rattle.std.specs.Int.{w32, to_be_bytes}
 use Rattle.mc_outside.specs.Bytes.{BeginsWith, Rose}
 use Rattle.mc_outside.specs.DiskView.{DiskView, OnlyRead}
 use Rattle.mc_records.specs.Entry.{Entry, Fits, payload}
-use Rattle.scrip_journal.specs.Layout.{body, next_of, Encodes, IsSpoiled}
+use Rattle.mc_records.specs.Chains.{chain, chain_after, has_switch, is_switch}
+use Rattle.mc_records.specs.Sizes.{tail_by, tail_bytes}
+use Rattle.scrip_journal.specs.Layout.{body, next_of, Encodes, IsSpoiled, IsUnchained}
 use Rattle.scrip_journal.specs.States.{Reading, IsReading, EndedBy}
 use Rattle.scrip_journal.specs.Answers.{Given, answer_of}
 use Rattle.scrip_journal.specs.declared.ending.Ending.{Ending}
-use Rattle.scrip_journal.specs.declared.ending.Ending.TheVariants.{Closed, Spoiled, Failed}
-use Rattle.scrip_journal.specs.declared.ending.ReplayFault.TheVariants.{BadRecord, Disk}
+use Rattle.scrip_journal.specs.declared.ending.Ending.TheVariants.{Closed, Spoiled, Unchained, Failed}
+use Rattle.scrip_journal.specs.declared.ending.ReplayFault.TheVariants.{BadRecord, BadChain, Disk}
+use Rattle.scrip_journal.specs.declared.replay.Found.{Found}
 use Rattle.mc_records.specs.declared.limits.TheConstants.Limits.{MOST_JOURNAL}
 use Rattle.scrip_journal.specs.declared.cursor.TheConstants.{FIRST_GATE}
 
@@ -18,14 +21,16 @@ abbrev pub ending_of : Given → Option Ending
 ending_of (Ok None) = Some Closed
 ending_of (Ok (Some x)) = None
 ending_of (Err (BadRecord place)) = Some (Spoiled place)
+ending_of (Err (BadChain place stood computed)) = Some (Unchained place stood computed)
 ending_of (Err Disk) = Some Failed
 
 -- A reading of some bytes behind these entries: none where the bytes encode them, and the next one
--- where it is there; a bad record where they can't stand.
+-- where it is there; a bad record where they can't stand, a bad chain where the next one has another.
 abbrev pub ReadsOn : {D : Type 0} → (D → DiskView) → List Entry → List ℕ → ℕ → Given → Reading D → Type 0
 ReadsOn view h bytes gate (Ok None) new = Encodes h bytes × IsReading view new h
 ReadsOn view h bytes gate (Ok (Some place)) new = (place ≡ gate) × (e : Entry) × Fits e × (new.last ≡ payload e) × IsReading view new (h ++ e ∷ [])
 ReadsOn view h bytes gate (Err (BadRecord place)) new = IsSpoiled h bytes place × IsReading view new h
+ReadsOn view h bytes gate (Err (BadChain place stood computed)) new = IsUnchained h bytes place stood computed × IsReading view new h
 ReadsOn view h bytes gate (Err Disk) new = IsReading view new h
 
 -- the count of faults rose where the disk failed, and stayed else
@@ -45,6 +50,7 @@ pub record Advanced {D : Type 0} (view : D → DiskView) (moved : D → D → Ty
   pub rises : (place : ℕ) → given ≡ Ok (Some place) → (old.gate < new.gate) × (new.gate < MOST_JOURNAL)
   -- and stays where there is none
   pub stays : given ≡ Ok None → new.gate ≡ old.gate
+  pub still : given ≡ Ok None → new.switched ≡ old.switched
   -- its payload is the one that was read last
   pub has_payload : (place : ℕ) → given ≡ Ok (Some place) → (e : Entry) × Fits e × (new.last ≡ payload e)
   pub cause : old.ended ≡ None → CausedBy given (view old.disk).faults (view new.disk).faults
@@ -57,6 +63,8 @@ pub record SameBut {D : Type 0} (old new : Reading D) : Type 0 where
   pub gate : new.gate ≡ old.gate
   pub entries : new.entries ≡ old.entries
   pub limit : new.limit ≡ old.limit
+  pub switched : new.switched ≡ old.switched
+  pub chain : new.chain ≡ old.chain
   pub ended : new.ended ≡ old.ended
 
 -- the bytes held are those of the disk, from the gate on
@@ -78,6 +86,7 @@ AllHeld view old new = (bytes : List ℕ) → (view old.disk).contents ≡ Some 
 abbrev pub IsCut : {D : Type 0} → (D → DiskView) → Reading D → Reading D → ℕ → Ending → Type 0
 IsCut view old new count Closed = ⊥
 IsCut view old new count (Spoiled place) = (length new.held < count) × (place ≡ new.gate + length new.held) × AllHeld view old new
+IsCut view old new count (Unchained place stood computed) = ⊥
 IsCut view old new count Failed = Unit {0}
 
 -- the count of faults rose where the disk failed, and stayed else
@@ -87,26 +96,50 @@ FaultsBy _ before after = after ≡ before
 
 -- the reading ends so, by what comes at the gate
 abbrev pub EndsHere : {D : Type 0} → (D → DiskView) → Reading D → Ending → Type 0
-EndsHere view r ending = (h : List Entry) (bytes : List ℕ) → (view r.disk).contents ≡ Some bytes → r.gate ≡ length (body h) → HeldOf bytes r → EndedBy (Some ending) (next_of h (drop r.gate bytes))
+EndsHere view r ending = (h : List Entry) (bytes : List ℕ) → (view r.disk).contents ≡ Some bytes → r.gate ≡ length (body h) → r.switched ≡ has_switch h → r.chain ≡ chain h → HeldOf bytes r → EndedBy (Some ending) (next_of h (drop r.gate bytes))
 
--- From the gate at this place on an open gate is held, and an entry whose payload has this length.
-pub record IsFrame (n gate : ℕ) (held : List ℕ) : Type 0 where
+-- From the gate at this place on an open gate is held, and an entry whose payload has this length; where a Switch
+-- stands, there may be room for its chain.
+pub record IsPayload (n : ℕ) (switched : Bool) (gate : ℕ) (held : List ℕ) : Type 0 where
   pub next : Entry
   pub fits : Fits next
   pub length_is : length (payload next) ≡ n
   pub rest : List ℕ
   pub shape : held ≡ 1 ∷ (to_be_bytes w32 n ++ (payload next ++ rest))
-  pub within : gate + n + 6 ≤ MOST_JOURNAL
+  pub within : gate + n + tail_bytes switched + 6 ≤ MOST_JOURNAL
+
+-- The chain that is computed of a payload of this length that is held, and which stands behind it where a Switch
+-- stands.
+abbrev pub IsTold : {D : Type 0} → ℕ → Reading D → List ℕ → Type 0
+IsTold n r computed = (computed ≡ chain_after r.chain (take n (drop 5 r.held))) × (n + 5 + tail_bytes r.switched ≤ length r.held) × (take (tail_bytes r.switched) (drop (n + 5) r.held) ≡ tail_by r.switched computed)
+
+-- From the gate at this place on an open gate is held, and an entry of this payload, with its chain where a Switch
+-- stands.
+pub record IsFrame (f : Found) (switched : Bool) (before : List ℕ) (gate : ℕ) (held : List ℕ) : Type 0 where
+  pub next : Entry
+  pub fits : Fits next
+  pub length_is : length (payload next) ≡ f.bytes
+  pub switch_is : f.switches ≡ is_switch next
+  pub chain_is : f.chain ≡ chain_after before (payload next)
+  pub rest : List ℕ
+  pub shape : held ≡ 1 ∷ (to_be_bytes w32 f.bytes ++ (payload next ++ (tail_by switched f.chain ++ rest)))
+  pub within : gate + f.bytes + tail_bytes switched + 6 ≤ MOST_JOURNAL
+
+-- how many bytes an entry of this payload has up to the next gate
+abbrev pub frame_size : Found → Bool → ℕ
+frame_size f switched = f.bytes + 5 + tail_bytes switched
 
 -- the entry was taken off the front of the bytes held
-abbrev pub TookEntry : {D : Type 0} → Reading D → ℕ → ℕ → Reading D → Type 0
-TookEntry old n gate new =
-    (gate ≡ old.gate) × ((frame : IsFrame n old.gate old.held) → new.last ≡ payload frame.next)
-    × (new ≡ record old { gate = old.gate + n + 5; entries = old.entries + 1; held = drop (n + 5) old.held; last = new.last })
+abbrev pub TookEntry : {D : Type 0} → Reading D → Found → ℕ → Reading D → Type 0
+TookEntry old f gate new =
+    (gate ≡ old.gate) × ((frame : IsFrame f old.switched old.chain old.gate old.held) → new.last ≡ payload frame.next)
+    × (new ≡ record old { gate = old.gate + frame_size f old.switched; entries = old.entries + 1; switched = old.switched || f.switches; chain = f.chain; held = drop (frame_size f old.switched) old.held; last = new.last })
 
 -- the eight bytes of the header were taken off, and all else is as it was
 pub record FoundHeader {D : Type 0} (old new : Reading D) : Type 0 where
   pub gate : new.gate ≡ FIRST_GATE
   pub entries : new.entries ≡ old.entries
   pub limit : new.limit ≡ old.limit
+  pub switched : new.switched ≡ old.switched
+  pub chain : new.chain ≡ old.chain
   pub ended : new.ended ≡ old.ended

@@ -1,13 +1,14 @@
 -- The states of a journal. Each is seen as the disk that it owns and some numbers.
-use Rattle.std.specs.Prelude.{◌≡◌, ◌≢◌, ℕ, ◌+◌, ◌^◌, ◌≤◌, List, [], ◌∷◌, ◌++◌, length, Option, Some, None}
+use Rattle.std.specs.Prelude.{◌≡◌, ◌≢◌, ℕ, ◌+◌, ◌^◌, ◌≤◌, Bool, List, [], ◌∷◌, ◌++◌, length, Option, Some, None}
 use Rattle.std.specs.List.{AllByRecursion}
 use Rattle.mc_outside.specs.DiskView.{DiskView}
 use Rattle.mc_records.specs.Entry.{Entry, Fits}
+use Rattle.mc_records.specs.Chains.{chain, has_switch}
 use Rattle.mc_records.specs.Sizes.{size}
 use Rattle.mc_outside.specs.Bytes.{BeginsWith}
-use Rattle.scrip_journal.specs.Layout.{body, framed, Encodes, Next, at_end, spoiled, next_of}
+use Rattle.scrip_journal.specs.Layout.{body, framed, Encodes, Next, at_end, spoiled, unchained, next_of}
 use Rattle.scrip_journal.specs.declared.ending.Ending.{Ending}
-use Rattle.scrip_journal.specs.declared.ending.Ending.TheVariants.{Closed, Spoiled, Failed}
+use Rattle.scrip_journal.specs.declared.ending.Ending.TheVariants.{Closed, Spoiled, Unchained, Failed}
 use Rattle.mc_records.specs.declared.limits.TheConstants.Limits.{MOST_JOURNAL}
 
 -- a journal at rest
@@ -19,23 +20,30 @@ pub record AtRest (D : Type 0) : Type 0 where
   pub entries : ℕ
   -- how many bytes it may have
   pub limit : ℕ
+  -- whether a Switch stands, so that the next entry has its chain behind it, and the chain of the entries
+  pub switched : Bool
+  pub chain : List ℕ
 
--- a journal with a next entry behind its closed gate; the size is what it will be
+-- a journal with a next entry behind its closed gate; the size and the chain are what they will be
 pub record WithNext (D : Type 0) : Type 0 where
   pub disk : D
   pub gate : ℕ
   pub size : ℕ
   pub entries : ℕ
   pub limit : ℕ
+  pub switched : Bool
+  pub chain : List ℕ
 
--- A journal that is read: the place of the next gate, how many entries stand before it, the bytes from
--- the gate on that were read ahead, the payload that was read last, and how the reading ended, where it
--- has.
+-- A journal that is read: the place of the next gate, how many entries stand before it, whether a Switch is among
+-- them, and their chain; the bytes from the gate on that were read ahead, the payload that was read last, and how the
+-- reading ended, where it has.
 pub record Reading (D : Type 0) : Type 0 where
   pub disk : D
   pub gate : ℕ
   pub entries : ℕ
   pub limit : ℕ
+  pub switched : Bool
+  pub chain : List ℕ
   pub held : List ℕ
   pub last : List ℕ
   pub ended : Option Ending
@@ -47,6 +55,8 @@ pub record IsJournal {D : Type 0} (view : D → DiskView) (j : AtRest D) (h : Li
   pub stands : Encodes h bytes
   pub size_is : j.size ≡ size h
   pub entries_is : j.entries ≡ length h
+  pub switched_is : j.switched ≡ has_switch h
+  pub chain_is : j.chain ≡ chain h
   pub synced : (c : List ℕ) → (view j.disk).leaves c → c ≡ bytes
 
 -- the same, with a next entry behind the closed gate
@@ -62,6 +72,8 @@ pub record IsStaged {D : Type 0} (view : D → DiskView) (s : WithNext D) (h : L
   pub gate_is : s.gate + 1 ≡ size h
   pub size_is : s.size ≡ size (h ++ e ∷ [])
   pub entries_is : s.entries ≡ length h
+  pub switched_is : s.switched ≡ has_switch (h ++ e ∷ [])
+  pub chain_is : s.chain ≡ chain (h ++ e ∷ [])
   pub synced : (c : List ℕ) → (view s.disk).leaves c → c ≡ bytes
 
 -- a reading that ended at a closed gate, or at bytes that can't stand, did so by what comes there
@@ -69,6 +81,7 @@ abbrev pub EndedBy : Option Ending → Next → Type 0
 EndedBy None next = Unit {0}
 EndedBy (Some Closed) next = next ≡ at_end
 EndedBy (Some (Spoiled place)) next = next ≡ spoiled place
+EndedBy (Some (Unchained place stood computed)) next = next ≡ unchained place stood computed
 EndedBy (Some Failed) next = Unit {0}
 
 -- The disk tells its bytes, which begin with these entries, and a crash now leaves just those bytes.
@@ -81,6 +94,8 @@ pub record IsReading {D : Type 0} (view : D → DiskView) (r : Reading D) (h : L
   pub shape : bytes ≡ body h ++ rest
   pub gate_is : r.gate + 1 ≡ size h
   pub entries_is : r.entries ≡ length h
+  pub switched_is : r.switched ≡ has_switch h
+  pub chain_is : r.chain ≡ chain h
   pub held_is : BeginsWith r.held rest
   pub ended_by : EndedBy r.ended (next_of h rest)
   pub synced : (c : List ℕ) → (view r.disk).leaves c → c ≡ bytes

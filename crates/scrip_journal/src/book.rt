@@ -1,6 +1,6 @@
 //! Founding a book by its first entry.
 
-ghost use Rattle.std.specs.Prelude.{◌≡◌, ◌+◌, ◌≤◌, [], ◌∷◌, List, ℕ, IfOk, Some};
+ghost use Rattle.std.specs.Prelude.{◌≡◌, ◌+◌, ◌≤◌, [], ◌∷◌, List, ℕ, IfOk, Some, false};
 ghost use Rattle.mc_outside.specs.DiskView.{Ran, IsSynced};
 ghost use Rattle.mc_records.specs.Entry.{Fits};
 ghost use Rattle.mc_records.specs.Limits.{AreInRange};
@@ -55,7 +55,8 @@ fn empty_book<D: Disk>(alloc: Global, disk: D, limits: Limits) -> Result<Journal
     ensures moved { D.disk_moved disk (book_disk result) }
     ensures exact { (x : List ℕ) → (D.disk disk).contents ≡ Some x
         → FoundsBookBy D.disk [] x result }
-    ensures fresh { IfOk result (λ j. (j.size ≡ EMPTY_JOURNAL) × (j.limit ≡ limits.journal)) }
+    ensures fresh { IfOk result (λ j. (j.size ≡ EMPTY_JOURNAL) × (j.limit ≡ limits.journal)
+        × (j.switched ≡ false)) }
     ensures ran { (x : List ℕ) → (D.disk disk).contents ≡ Some x
         → Ran (D.disk disk) (D.disk (book_disk result)) (ShortNoOutput (D.disk disk)) }
     ensures read { ReadsOnly D.disk disk result }
@@ -71,6 +72,7 @@ fn empty_book<D: Disk>(alloc: Global, disk: D, limits: Limits) -> Result<Journal
         Ok(None) => Ok(replay.finish()),
         Ok(Some(_)) => empty_small(alloc, replay.close(), limits),
         Err(ReplayFault::BadRecord { .. }) => empty_small(alloc, replay.close(), limits),
+        Err(ReplayFault::BadChain { .. }) => empty_small(alloc, replay.close(), limits),
         Err(ReplayFault::Disk) => Err(HouseFault::Disk(replay.close())),
     }
 }
@@ -85,7 +87,8 @@ fn empty_small<D: Disk>(
     requires limits { AreInRange limits }
     ensures moved { D.disk_moved disk (book_disk result) }
     ensures exact { (x : List ℕ) → (D.disk disk).contents ≡ Some x → ClearsSmall D.disk x result }
-    ensures fresh { IfOk result (λ j. (j.size ≡ EMPTY_JOURNAL) × (j.limit ≡ limits.journal)) }
+    ensures fresh { IfOk result (λ j. (j.size ≡ EMPTY_JOURNAL) × (j.limit ≡ limits.journal)
+        × (j.switched ≡ false)) }
     ensures ran { (x : List ℕ) → (D.disk disk).contents ≡ Some x → IsSynced (D.disk disk)
         → Ran (D.disk disk) (D.disk (book_disk result)) (ShortNoOutput (D.disk disk)) }
     ensures read { ReadsOnly D.disk disk result }
@@ -112,7 +115,7 @@ fn enter_first<D: Disk>(
     first: &Record<'_>,
 ) -> Result<Journal<D>, HouseFault<D>>
     requires fits { Fits (entry first.now) }
-    requires empty { journal.size ≡ EMPTY_JOURNAL }
+    requires empty { (journal.size ≡ EMPTY_JOURNAL) × (journal.switched ≡ false) }
     requires room { EMPTY_JOURNAL + entry_size [] (entry first.now) ≤ journal.limit }
     ensures moved { D.disk_moved journal.disk (book_disk result) }
     ensures exact { IsJournal D.disk journal [] → EntersFirst D.disk (entry first.now) result }

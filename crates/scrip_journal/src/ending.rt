@@ -5,6 +5,12 @@ pub enum Ending {
     Closed,
     /// At bytes that can't stand from this place on.
     Spoiled(u64),
+    /// At an entry with another chain at this place than the one computed.
+    Unchained {
+        place: u64,
+        stood: [u8; 32],
+        computed: [u8; 32],
+    },
     /// By a fault of the disk.
     Failed,
 }
@@ -13,7 +19,16 @@ pub enum Ending {
 #[derive(Clone, Copy, Debug, PartialEq, Eq)]
 pub enum ReplayFault {
     /// The bytes from this place on can't stand in a journal.
-    BadRecord { place: u64 },
+    BadRecord {
+        place: u64,
+    },
+    /// The 32 bytes from this place on are another chain than that of the entries up to there, which was
+    /// computed.
+    BadChain {
+        place: u64,
+        stood: [u8; 32],
+        computed: [u8; 32],
+    },
     /// The disk failed.
     Disk,
 }
@@ -29,6 +44,15 @@ impl Ending {
         match self {
             Ending::Closed => Ok(None),
             Ending::Spoiled(place) => Err(ReplayFault::BadRecord { place }),
+            Ending::Unchained {
+                place,
+                stood,
+                computed,
+            } => Err(ReplayFault::BadChain {
+                place,
+                stood,
+                computed,
+            }),
             Ending::Failed => Err(ReplayFault::Disk),
         }
     }

@@ -14,6 +14,9 @@ pub enum HouseFault<D> {
     NotJournal(D),
     /// The bytes from this place on can't stand in a journal.
     BadRecord(D, u64),
+    /// The 32 bytes from this place on, which stand first here, are another chain than that of the entries up to
+    /// there, which was computed.
+    BadChain(D, u64, [u8; 32], [u8; 32]),
     /// The entry behind the gate at this place isn't lawful after those before it.
     Unlawful(D, u64),
     /// The book is that of a site of another kind.

@@ -1,6 +1,6 @@
 //! Founding a journal.
 
-ghost use Rattle.std.specs.Prelude.{◌≡◌, [], List, ℕ, IfOk, IfErr, OnOk, Some};
+ghost use Rattle.std.specs.Prelude.{◌≡◌, [], List, ℕ, IfOk, IfErr, OnOk, Some, false};
 ghost use Rattle.mc_outside.specs.Bytes.{Rose};
 ghost use Rattle.mc_outside.specs.DiskView.{Ran};
 ghost use Rattle.mc_records.specs.Limits.{AreInRange};
@@ -13,7 +13,7 @@ use crate::fault::OpenFault;
 use crate::journal::Journal;
 use mc_base::NoMemory;
 use mc_outside::Disk;
-use mc_records::Limits;
+use mc_records::{FIRST_CHAIN, Limits};
 use std::alloc::Global;
 
 /// The header, and the closed gate of a journal without entries.
@@ -34,7 +34,8 @@ pub fn found_journal<D: Disk>(
     ensures moved { D.disk_moved disk (found_disk result) }
     ensures founded { IfOk result (λ j. (x : List ℕ) → (D.disk disk).contents ≡ Some x
         → IsJournal D.disk j []) }
-    ensures fresh { IfOk result (λ j. (j.size ≡ EMPTY_JOURNAL) × (j.entries ≡ 0) × (j.limit ≡ limits.journal)) }
+    ensures fresh { IfOk result (λ j. (j.size ≡ EMPTY_JOURNAL) × (j.entries ≡ 0) × (j.limit ≡ limits.journal)
+        × (j.switched ≡ false)) }
     ensures ran { Ran (D.disk disk) (D.disk (found_disk result)) (NoLonger (D.disk disk)) }
     ensures fault { IfErr result (λ f. MatchOpenFault f
         (λ d. ⊥)
@@ -59,6 +60,8 @@ pub fn found_journal<D: Disk>(
         gate: FIRST_GATE,
         entries: 0,
         limit: limits.journal,
+        switched: false,
+        chain: FIRST_CHAIN,
         buf,
     };
     Ok(Journal { disk, at })

@@ -4,19 +4,21 @@ ghost use Rattle.std.specs.Prelude.{◌≡◌, ◌↔◌, ◌+◌, ◌<◌, ◌�
 ghost use Rattle.mc_outside.specs.Bytes.{Rose};
 ghost use Rattle.mc_outside.specs.DiskView.{Ran};
 ghost use Rattle.mc_records.specs.Entry.{Entry, Fits};
+ghost use Rattle.mc_records.specs.Chains.{has_switch};
 ghost use Rattle.mc_records.specs.Sizes.{size, entry_size};
 ghost use Rattle.mc_records.specs.Views.{entry};
 ghost use Rattle.scrip_journal.specs.States.{IsJournal, IsStaged};
 ghost use Rattle.scrip_journal.specs.Exits.{staged_disk, written_disk, IsFull, MatchStageFault, EncodesNoOutput, EitherNoOutput};
 
-use crate::cursor::{Cursor, put_block};
-use crate::staged::Staged;
+use crate::cursor::{Cursor, put_block, stands_with};
+use crate::staged::{Next, Staged};
 use mc_outside::Disk;
 use mc_records::Record;
 use std::marker::Model;
 
 /// A journal at rest, which owns its disk and never lends it. Contracts see the disk, the place after
-/// the closed gate as its size, how many entries there are, and how many bytes it may have.
+/// the closed gate as its size, how many entries there are, how many bytes it may have, whether a Switch is among
+/// the entries, and their chain.
 pub struct Journal<D> {
     pub(crate) disk: D,
     pub(crate) at: Cursor,
@@ -30,7 +32,7 @@ impl<D> Model for Journal<D> {
 
     ghost Value = { AtRest D };
 
-    ghost view = { λ j. record { disk = j.disk; size = j.at.gate + 1; entries = j.at.entries; limit = j.at.limit } };
+    ghost view = { λ j. record { disk = j.disk; size = j.at.gate + 1; entries = j.at.entries; limit = j.at.limit; switched = j.at.switched; chain = j.at.chain } };
 
     ghost invariant = { λ j. (j.at.gate < MOST_JOURNAL) × (j.at.entries ≤ j.at.gate) × (j.at.limit ≤ MOST_JOURNAL) × (length j.at.buf.items ≡ BUFFER) };
 }
@@ -86,7 +88,7 @@ impl<D: Disk> Journal<D> {
         // Each crash pair of the call encodes the entries as they were, and nothing is sent.
         ensures ran { (h : List Entry) → IsJournal D.disk self h
             → Ran (D.disk self.disk) (D.disk (staged_disk result)) (EncodesNoOutput h (D.disk self.disk).aside) }
-        ensures full { (h : List Entry) → self.size ≡ size h
+        ensures full { (h : List Entry) → self.size ≡ size h → self.switched ≡ has_switch h
             → IsFull result ↔ (self.limit < size h + entry_size h (entry r.now)) }
         ensures fault { IfErr result (λ f. MatchStageFault f
             (λ j. j ≡ self)
@@ -95,7 +97,7 @@ impl<D: Disk> Journal<D> {
     {
         let Journal { disk, at } = self;
         let (mut disk, mut at) = (disk, at);
-        let block = put_block(&mut at.buf, r);
+        let (block, chain) = put_block(&mut at.buf, r, at.switched, &at.chain);
         if at.limit <= at.gate + block as u64 {
             return Err(StageFault::Full(Journal { disk, at }));
         }
@@ -105,7 +107,12 @@ impl<D: Disk> Journal<D> {
         if disk.sync().is_err() {
             return Err(StageFault::Disk(Halted { disk }));
         }
-        let next = at.gate + block as u64;
+        let switched = stands_with(at.switched, r.is_switch());
+        let next = Next {
+            gate: at.gate + block as u64,
+            switched,
+            chain,
+        };
         Ok(Staged { disk, at, next })
     }
 
@@ -123,7 +130,7 @@ impl<D: Disk> Journal<D> {
         // sent.
         ensures ran { (h : List Entry) → IsJournal D.disk self h
             → Ran (D.disk self.disk) (D.disk (written_disk result)) (EitherNoOutput h (entry r.now) (D.disk self.disk).aside) }
-        ensures full { (h : List Entry) → self.size ≡ size h
+        ensures full { (h : List Entry) → self.size ≡ size h → self.switched ≡ has_switch h
             → IfErr result (λ f. MatchStageFault f
             (λ j. self.limit < size h + entry_size h (entry r.now)) (λ d. Unit {0})) }
         ensures fault { IfErr result (λ f. MatchStageFault f
@@ -146,6 +153,27 @@ impl<D: Disk> Journal<D> {
         ensures { result ≡ self.now.size }
     {
         self.at.gate + 1
+    }
+
+    /// How many entries there are.
+    pub fn entries(&self) -> u64
+        ensures { result ≡ self.now.entries }
+    {
+        self.at.entries
+    }
+
+    /// Whether a Switch is among the entries, so that the next one has its chain behind it.
+    pub fn is_switched(&self) -> bool
+        ensures { result ≡ self.now.switched }
+    {
+        self.at.switched
+    }
+
+    /// The chain of the entries.
+    pub fn chain(&self) -> [u8; 32]
+        ensures { result ≡ self.now.chain }
+    {
+        self.at.chain
     }
 
     /// The disk, as it is.

@@ -24,7 +24,9 @@ pub use ending::ReplayFault;
 pub use fault::{HouseFault, LearnFault, OpenFault};
 pub use found::found_journal;
 pub use journal::{Halted, Journal, Receipt, StageFault};
-pub use law::{a_disk_stands_for_one_history, a_spoiled_disk_has_one_place};
+pub use law::{
+    a_broken_chain_has_one_place, a_disk_stands_for_one_history, a_spoiled_disk_has_one_place,
+};
 pub use open::open_journal;
 pub use replay::Replay;
 pub use staged::Staged;

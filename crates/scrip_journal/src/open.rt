@@ -1,6 +1,6 @@
 //! Opening a journal: a sync, and then its header.
 
-ghost use Rattle.std.specs.Prelude.{◌≡◌, [], List, ℕ, IfOk, IfErr, OnOk, Some, None};
+ghost use Rattle.std.specs.Prelude.{◌≡◌, [], List, ℕ, IfOk, IfErr, OnOk, Some, None, false};
 ghost use Rattle.mc_outside.specs.Bytes.{Rose};
 ghost use Rattle.mc_outside.specs.DiskView.{OnlyRead, IsSynced};
 ghost use Rattle.mc_records.specs.Limits.{AreInRange};
@@ -33,7 +33,7 @@ pub fn open_journal<D: Disk>(
     ensures opened { IfOk result (λ r. (x : List ℕ) → (D.disk disk).contents ≡ Some x
         → IsReading D.disk r []) }
     ensures fresh { IfOk result (λ r. (r.gate ≡ FIRST_GATE) × (r.entries ≡ 0) × (r.limit ≡ limits.journal)
-        × (r.ended ≡ None)) }
+        × (r.ended ≡ None) × (r.switched ≡ false)) }
     ensures exact { (x : List ℕ) → (D.disk disk).contents ≡ Some x → OpensBy x result }
     ensures fault { IfErr result (λ f. MatchOpenFault f
         (λ d. (D.disk d).faults ≡ (D.disk disk).faults)

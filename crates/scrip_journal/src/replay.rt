@@ -1,22 +1,26 @@
 //! Reading a journal from its first entry on.
 
-ghost use Rattle.std.specs.Prelude.{◌≡◌, ◌≢◌, ◌↔◌, ◌+◌, ◌-◌, ◌^◌, ◌≤◌, ◌<◌, ◌++◌, [], ◌∷◌, List, ℕ, length, take, drop, slice_range, vec_len, option_map, IfOk, IfErr, OnOk, IfSome, IfNone, Err, Some, None, IsTrue, true, false};
+ghost use Rattle.std.specs.Prelude.{◌≡◌, ◌≢◌, ◌↔◌, ◌⊎◌, ◌+◌, ◌-◌, ◌^◌, ◌≤◌, ◌<◌, ◌++◌, [], ◌∷◌, List, ℕ, length, take, drop, slice_range, vec_len, option_map, IfOk, IfErr, OnOk, IfSome, IfNone, Err, Some, None, IsTrue, true, false};
 ghost use Rattle.std.specs.Int.{w32, to_be_bytes, from_be_bytes};
 ghost use Rattle.mc_outside.specs.Bytes.{BeginsWith, HasCause};
 ghost use Rattle.mc_outside.specs.DiskView.{OnlyRead};
+ghost use Rattle.mc_records.specs.Chains as chains;
+ghost use Rattle.mc_records.specs.Chains.{first_chain, is_switch};
 ghost use Rattle.mc_records.specs.Entry.{Entry, Fits, payload};
 ghost use Rattle.mc_records.specs.Forms.{entry_of};
+ghost use Rattle.mc_records.specs.Sizes.{tail_bytes};
 ghost use Rattle.mc_records.specs.Views.{entry};
 ghost use Rattle.scrip_journal.specs.States.{IsReading, IsJournal};
 ghost use Rattle.scrip_journal.specs.Layout.{header};
-ghost use Rattle.scrip_journal.specs.Replays.{Advanced, ReadAhead, FaultsBy, IsFrame, EndsHere, IsCut, AllHeld, TookEntry, FoundHeader};
+ghost use Rattle.scrip_journal.specs.Replays.{Advanced, ReadAhead, FaultsBy, IsPayload, IsFrame, IsTold, EndsHere, IsCut, AllHeld, TookEntry, FoundHeader};
+ghost use Rattle.mc_records.specs.declared.sizes.TheConstants.{PAYLOAD_BOUND};
 ghost use Rattle.scrip_journal.specs.declared.ending.Ending.TheVariants.{Closed};
 
-use crate::cursor::{BUFFER, Cursor, FIRST_GATE};
+use crate::cursor::{BUFFER, Cursor, FIRST_GATE, stands_with};
 use crate::ending::{Ending, ReplayFault};
 use crate::journal::Journal;
 use mc_outside::{Disk, DiskFault};
-use mc_records::{Limits, PAYLOAD_BOUND, Record, read_record};
+use mc_records::{FIRST_CHAIN, Limits, PAYLOAD_BOUND, Record, chain_after, read_record, tail_len};
 use std::marker::Model;
 
 /// What a journal begins with.
@@ -26,8 +30,9 @@ const HEADER: [u8; 8] = *b"MCJRNL1\n";
 const LAST_PLACE: u64 = Limits::MOST_JOURNAL;
 
 /// A journal that is read, entry by entry, from its first on. It owns its disk and never lends it.
-/// Contracts see the disk, the place of the next gate, how many entries stand before it, the bytes from
-/// there on that were read ahead, the payload read last, and how the reading ended.
+/// Contracts see the disk, the place of the next gate, how many entries stand before it, whether a Switch is among
+/// them, their chain, the bytes from the gate on that were read ahead, the payload read last, and how the reading
+/// ended.
 ///
 /// The disk is read once, in large pieces.
 pub struct Replay<D> {
@@ -35,12 +40,24 @@ pub struct Replay<D> {
     gate: u64,
     entries: u64,
     limit: u64,
+    switched: bool,
+    chain: [u8; 32],
     buf: Vec<u8>,
-    // the bytes read ahead lie in `start..end` of the buffer, and the payload read last right before
+    // the bytes read ahead lie in `start..end` of the buffer, and the payload read last before, in `from..to`
     start: usize,
     end: usize,
-    last: usize,
+    from: usize,
+    to: usize,
     ended: Option<Ending>,
+}
+
+/// An entry that was looked at: the length of its payload, whether it is a Switch, and the chain of the entries up
+/// to and with it.
+#[derive(Clone, Copy)]
+pub(crate) struct Found {
+    bytes: usize,
+    switches: bool,
+    chain: [u8; 32],
 }
 
 impl<D> Model for Replay<D> {
@@ -51,9 +68,9 @@ impl<D> Model for Replay<D> {
 
     ghost Value = { Reading D };
 
-    ghost view = { λ r. record { disk = r.disk; gate = r.gate; entries = r.entries; limit = r.limit; held = slice_range r.buf.items r.start r.end; last = slice_range r.buf.items (r.start - r.last) r.start; ended = r.ended } };
+    ghost view = { λ r. record { disk = r.disk; gate = r.gate; entries = r.entries; limit = r.limit; switched = r.switched; chain = r.chain; held = slice_range r.buf.items r.start r.end; last = slice_range r.buf.items r.from r.to; ended = r.ended } };
 
-    ghost invariant = { λ r. (r.gate < MOST_JOURNAL) × (r.entries ≤ r.gate) × (r.limit ≤ MOST_JOURNAL) × (length r.buf.items ≡ BUFFER) × (r.start ≤ r.end) × (r.end ≤ BUFFER) × (r.last ≤ r.start) };
+    ghost invariant = { λ r. (r.gate < MOST_JOURNAL) × (r.entries ≤ r.gate) × (r.limit ≤ MOST_JOURNAL) × (length r.buf.items ≡ BUFFER) × (r.start ≤ r.end) × (r.end ≤ BUFFER) × (r.from ≤ r.to) × (r.to ≤ r.start) };
 }
 
 impl<D: Disk> Replay<D> {
@@ -61,19 +78,21 @@ impl<D: Disk> Replay<D> {
     /// [`Replay::record`] then has the entry. It takes no memory.
     ///
     /// `BadRecord` comes where the bytes can't stand, with the least of these places that applies: the
-    /// disk's end where a gate, a length or a payload should go on; a length of 131,066 or more, and one
-    /// with which the entry and its closed gate would go past 2^40 bytes, each at its first byte; in a
-    /// payload the place that [`read_record`] gives. `Disk` comes only where the disk failed. After
-    /// `None` or a fault the same answer comes again.
+    /// disk's end where a gate, a length, a payload or a chain should go on; a length of 131,066 or more, and one
+    /// with which the entry, its chain and its closed gate would go past 2^40 bytes, each at its first byte; in a
+    /// payload the place that [`read_record`] gives. `BadChain` comes where 32 whole bytes of a chain are another
+    /// than that of the entries. `Disk` comes only where the disk failed. After `None` or a fault the same answer
+    /// comes again.
     pub fn next_record(&mut self) -> Result<Option<u64>, ReplayFault>
         ensures { Advanced D.disk D.disk_moved self.old result self.new }
     {
         if let Some(ending) = self.ended {
             return ending.answer();
         }
-        self.last = 0;
+        self.from = 0;
+        self.to = 0;
         match self.look() {
-            Ok(length) => Ok(Some(self.advance(length))),
+            Ok(found) => Ok(Some(self.advance(&found))),
             Err(ending) => {
                 self.ended = Some(ending);
                 ending.answer()
@@ -89,35 +108,44 @@ impl<D: Disk> Replay<D> {
         ensures fits { IfSome result (λ r. Fits (entry r)) }
         ensures none { self.now.last ≡ [] → result ≡ None }
     {
-        let from = self.start - self.last;
-        match read_record(&self.buf[from..self.start]) {
+        match read_record(&self.buf[self.from..self.to]) {
             Ok(record) => Some(record),
             Err(_) => None,
         }
+    }
+
+    /// The chain of the entries before the next gate.
+    pub fn chain(&self) -> [u8; 32]
+        ensures { result ≡ self.now.chain }
+    {
+        self.chain
     }
 
     /// A reading from the front of the disk on.
     pub(crate) fn at_front(disk: D, limit: u64, buf: Vec<u8>) -> Replay<D>
         requires limit { limit ≤ Limits.MOST_JOURNAL }
         requires buffer { length buf.items ≡ BUFFER }
-        ensures { result ≡ record { disk = disk; gate = 0; entries = 0; limit = limit; held = []; last = []; ended = None } }
+        ensures { result ≡ record { disk = disk; gate = 0; entries = 0; limit = limit; switched = false; chain = first_chain; held = []; last = []; ended = None } }
     {
         Replay {
             disk,
             gate: 0,
             entries: 0,
             limit,
+            switched: false,
+            chain: FIRST_CHAIN,
             buf,
             start: 0,
             end: 0,
-            last: 0,
+            from: 0,
+            to: 0,
             ended: None,
         }
     }
 
     /// Reads the header at the front of the disk. False where another eight bytes, or fewer, stand there.
     pub(crate) fn read_header(&mut self) -> Result<bool, DiskFault>
-        requires { self.old ≡ record { disk = self.old.disk; gate = 0; entries = 0; limit = self.old.limit; held = []; last = []; ended = None } }
+        requires { self.old ≡ record { disk = self.old.disk; gate = 0; entries = 0; limit = self.old.limit; switched = false; chain = first_chain; held = []; last = []; ended = None } }
         ensures moved { D.disk_moved self.old.disk self.new.disk }
         ensures only_read { OnlyRead (D.disk self.old.disk) (D.disk self.new.disk) }
         ensures cause { HasCause (D.disk self.old.disk).faults (D.disk self.new.disk).faults result }
@@ -134,6 +162,7 @@ impl<D: Disk> Replay<D> {
             Err(Ending::Failed) => return Err(DiskFault),
             Err(Ending::Closed) => return Ok(false),
             Err(Ending::Spoiled(_)) => return Ok(false),
+            Err(Ending::Unchained { .. }) => return Ok(false),
         }
         if !self.holds_header() {
             return Ok(false);
@@ -155,7 +184,8 @@ impl<D: Disk> Replay<D> {
     pub fn finish(self) -> Journal<D>
         requires { self.ended ≡ Some Closed }
         ensures disk { (result.disk ≡ self.disk) × (result.limit ≡ self.limit)
-            × (result.entries ≡ self.entries) }
+            × (result.entries ≡ self.entries) × (result.switched ≡ self.switched)
+            × (result.chain ≡ self.chain) }
         ensures size { result.size ≡ self.gate + 1 }
         ensures journal { (h : List Entry) → IsReading D.disk self h → IsJournal D.disk result h }
     {
@@ -164,16 +194,21 @@ impl<D: Disk> Replay<D> {
             gate,
             entries,
             limit,
+            switched,
+            chain,
             buf,
             start: _,
             end: _,
-            last: _,
+            from: _,
+            to: _,
             ended: _,
         } = self;
         let at = Cursor {
             gate,
             entries,
             limit,
+            switched,
+            chain,
             buf,
         };
         Journal { disk, at }
@@ -188,22 +223,50 @@ impl<D: Disk> Replay<D> {
             gate: _,
             entries: _,
             limit: _,
+            switched: _,
+            chain: _,
             buf: _,
             start: _,
             end: _,
-            last: _,
+            from: _,
+            to: _,
             ended: _,
         } = self;
         disk
     }
 
-    /// Looks for an entry behind the next gate. Answers the length of its payload, which is then
-    /// wholly in the buffer, or how the reading ends here.
-    fn look(&mut self) -> Result<usize, Ending>
+    /// Looks for an entry behind the next gate. It is then wholly in the buffer, with its chain where it has one;
+    /// or the reading ends here.
+    fn look(&mut self) -> Result<Found, Ending>
         ensures moved { D.disk_moved self.old.disk self.new.disk }
         ensures ahead { ReadAhead D.disk self.old self.new }
         ensures cause { FaultsBy result (D.disk self.old.disk).faults (D.disk self.new.disk).faults }
-        ensures frame { IfOk result (λ n. IsFrame n self.new.gate self.new.held) }
+        ensures frame { IfOk result
+            (λ f. IsFrame f self.new.switched self.new.chain self.new.gate self.new.held) }
+        ensures ends { IfErr result (EndsHere D.disk self.old) }
+    {
+        let (bytes, switches) = match self.look_payload() {
+            Ok(found) => found,
+            Err(ending) => return Err(ending),
+        };
+        match self.look_chain(bytes) {
+            Ok(chain) => Ok(Found {
+                bytes,
+                switches,
+                chain,
+            }),
+            Err(ending) => Err(ending),
+        }
+    }
+
+    /// Looks for a payload behind the next gate. Answers its length, and whether it is that of a Switch; it is then
+    /// wholly in the buffer.
+    fn look_payload(&mut self) -> Result<(usize, bool), Ending>
+        ensures moved { D.disk_moved self.old.disk self.new.disk }
+        ensures ahead { ReadAhead D.disk self.old self.new }
+        ensures cause { FaultsBy result (D.disk self.old.disk).faults (D.disk self.new.disk).faults }
+        ensures payload { IfOk result (λ p. (f : IsPayload p.0 self.new.switched self.new.gate self.new.held)
+            × (p.1 ≡ is_switch f.next)) }
         ensures ends { IfErr result (EndsHere D.disk self.old) }
     {
         if let Err(ending) = self.hold(1) {
@@ -216,17 +279,67 @@ impl<D: Disk> Replay<D> {
             return Err(ending);
         }
         let length = self.payload_length();
-        if length >= PAYLOAD_BOUND || LAST_PLACE < self.gate + length + 6 {
+        if self.is_far(length) {
             return Err(Ending::Spoiled(self.gate + 1));
         }
         let length = length as usize;
         if let Err(ending) = self.hold(length + 5) {
             return Err(ending);
         }
-        if let Some(place) = self.fault_place(length) {
-            return Err(Ending::Spoiled(self.gate + 5 + place as u64));
+        let switches = match self.read_payload(length) {
+            Ok(switches) => switches,
+            Err(place) => return Err(Ending::Spoiled(self.gate + 5 + place as u64)),
+        };
+        Ok((length, switches))
+    }
+
+    /// Looks for the chain behind a payload of this length, where a Switch stands, and answers the one that is
+    /// computed.
+    fn look_chain(&mut self, bytes: usize) -> Result<[u8; 32], Ending>
+        requires payload { IsPayload bytes self.old.switched self.old.gate self.old.held }
+        ensures moved { D.disk_moved self.old.disk self.new.disk }
+        ensures ahead { ReadAhead D.disk self.old self.new }
+        ensures cause { FaultsBy result (D.disk self.old.disk).faults (D.disk self.new.disk).faults }
+        ensures chained { IfOk result (IsTold bytes self.new) }
+        ensures ends { IfErr result (EndsHere D.disk self.old) }
+    {
+        let count = bytes + 5 + tail_len(self.switched) as usize;
+        if let Err(ending) = self.hold(count) {
+            return Err(ending);
         }
-        Ok(length)
+        let computed = self.payload_chain(bytes);
+        if !self.switched {
+            return Ok(computed);
+        }
+        let stood = self.chain_behind(bytes);
+        if !is_same(&stood, &computed) {
+            return Err(Ending::Unchained {
+                place: self.gate + 5 + bytes as u64,
+                stood,
+                computed,
+            });
+        }
+        Ok(computed)
+    }
+
+    /// The chain of the entries up to and with that whose payload of this length is held.
+    fn payload_chain(&self, bytes: usize) -> [u8; 32]
+        requires { bytes + 5 ≤ length self.now.held }
+        ensures { result ≡ chains.chain_after self.now.chain (take bytes (drop 5 self.now.held)) }
+    {
+        let from = self.start + 5;
+        chain_after(&self.chain, &self.buf[from..from + bytes])
+    }
+
+    /// The chain that stands behind a payload of this length.
+    fn chain_behind(&self, bytes: usize) -> [u8; 32]
+        requires { bytes + 37 ≤ length self.now.held }
+        ensures { result ≡ take 32 (drop (bytes + 5) self.now.held) }
+    {
+        let from = self.start + 5 + bytes;
+        let mut chain = [0; 32];
+        chain.copy_from_slice(&self.buf[from..from + 32]);
+        chain
     }
 
     /// Whether the gate is open.
@@ -248,6 +361,20 @@ impl<D: Disk> Replay<D> {
     {
         let from = self.start + 1;
         length_at(&self.buf[from..from + 4])
+    }
+
+    /// Whether a payload of this length can't stand behind the gate: no payload is so long, or its entry would go
+    /// past the last place.
+    fn is_far(&self, length: u64) -> bool
+        ensures wrong { result ≡ true → (PAYLOAD_BOUND ≤ length)
+            ⊎ (Limits.MOST_JOURNAL < self.now.gate + length + tail_bytes self.now.switched + 6) }
+        ensures right { result ≡ false → (length < PAYLOAD_BOUND)
+            × (self.now.gate + length + tail_bytes self.now.switched + 6 ≤ Limits.MOST_JOURNAL) }
+    {
+        if length >= PAYLOAD_BOUND {
+            return true;
+        }
+        LAST_PLACE < self.gate + length + tail_len(self.switched) + 6
     }
 
     /// Reads on until so many bytes are held, from the gate on; where the disk ends before, its end is the
@@ -289,40 +416,55 @@ impl<D: Disk> Replay<D> {
         move_to_front(&mut self.buf, self.start, self.end);
         self.end -= self.start;
         self.start = 0;
-        self.last = 0;
+        self.from = 0;
+        self.to = 0;
         let place = self.gate + self.end as u64;
         let read = read_behind(&mut self.disk, place, &mut self.buf, self.end)?;
         self.end += read;
         Ok(read)
     }
 
-    /// Where the payload of this length behind the gate is malformed, from its front on.
-    fn fault_place(&self, count: usize) -> Option<usize>
+    /// Whether the payload of this length behind the gate is that of a Switch; or where it is malformed, from its
+    /// front on.
+    fn read_payload(&self, count: usize) -> Result<bool, usize>
         requires { count + 5 ≤ length self.now.held }
-        ensures fault { IfSome result
+        ensures fault { IfErr result
             (λ place. entry_of (take count (drop 5 self.now.held)) ≡ Err place) }
-        ensures payload { IfNone result ((e : Entry) × Fits e
-            × (take count (drop 5 self.now.held) ≡ payload e)) }
+        ensures payload { IfOk result (λ switches. (e : Entry) × Fits e
+            × (take count (drop 5 self.now.held) ≡ payload e) × (switches ≡ is_switch e)) }
     {
         let from = self.start + 5;
         match read_record(&self.buf[from..from + count]) {
-            Ok(_) => None,
-            Err(fault) => Some(fault.place),
+            Ok(record) => Ok(record.is_switch()),
+            Err(fault) => Err(fault.place),
         }
     }
 
-    /// Takes the entry whose payload of this length is in the buffer. Answers the place of its gate.
-    fn advance(&mut self, length: usize) -> u64
-        requires frame { IsFrame length self.old.gate self.old.held }
-        ensures { TookEntry self.old length result self.new }
+    /// Takes the entry that was looked at. Answers the place of its gate.
+    fn advance(&mut self, found: &Found) -> u64
+        requires frame { IsFrame found.now self.old.switched self.old.chain self.old.gate self.old.held }
+        ensures { TookEntry self.old found.now result self.new }
     {
         let gate = self.gate;
-        self.start += length + 5;
-        self.last = length;
-        self.gate = gate + length as u64 + 5;
+        let bytes = found.bytes;
+        let chain = found.chain;
+        let size = bytes + 5 + tail_len(self.switched) as usize;
+        self.from = self.start + 5;
+        self.to = self.from + bytes;
+        self.start += size;
+        self.gate = gate + size as u64;
         self.entries += 1;
+        self.switched = stands_with(self.switched, found.switches);
+        self.chain = chain;
         gate
     }
+}
+
+/// Whether two chains are the same.
+fn is_same(a: &[u8; 32], b: &[u8; 32]) -> bool
+    ensures { IsTrue result ↔ (a.now ≡ b.now) }
+{
+    a.as_slice() == b.as_slice()
 }
 
 /// The number that four bytes spell, the high one first.

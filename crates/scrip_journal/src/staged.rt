@@ -12,11 +12,20 @@ use crate::journal::{Halted, Journal, Receipt};
 use mc_outside::Disk;
 use std::marker::Model;
 
+/// What a journal will be with the next entry: the place of the gate behind it, whether a Switch is then among the
+/// entries, and their chain.
+#[derive(Drop)]
+pub(crate) struct Next {
+    pub(crate) gate: u64,
+    pub(crate) switched: bool,
+    pub(crate) chain: [u8; 32],
+}
+
 /// A journal with a next entry on the disk, behind the gate that is still closed.
 pub struct Staged<D> {
     pub(crate) disk: D,
     pub(crate) at: Cursor,
-    pub(crate) next: u64,
+    pub(crate) next: Next,
 }
 
 impl<D> Model for Staged<D> {
@@ -27,9 +36,9 @@ impl<D> Model for Staged<D> {
 
     ghost Value = { WithNext D };
 
-    ghost view = { λ s. record { disk = s.disk; gate = s.at.gate; size = s.next + 1; entries = s.at.entries; limit = s.at.limit } };
+    ghost view = { λ s. record { disk = s.disk; gate = s.at.gate; size = s.next.gate + 1; entries = s.at.entries; limit = s.at.limit; switched = s.next.switched; chain = s.next.chain } };
 
-    ghost invariant = { λ s. (s.at.gate < s.next) × (s.next < MOST_JOURNAL) × (s.at.entries ≤ s.at.gate) × (s.at.limit ≤ MOST_JOURNAL) × (length s.at.buf.items ≡ BUFFER) };
+    ghost invariant = { λ s. (s.at.gate < s.next.gate) × (s.next.gate < MOST_JOURNAL) × (s.at.entries ≤ s.at.gate) × (s.at.limit ≤ MOST_JOURNAL) × (length s.at.buf.items ≡ BUFFER) };
 }
 
 impl<D: Disk> Staged<D> {
@@ -59,8 +68,15 @@ impl<D: Disk> Staged<D> {
         if disk.sync().is_err() {
             return Err(Halted { disk });
         }
+        let Next {
+            gate,
+            switched,
+            chain,
+        } = next;
         let number = at.entries;
-        at.gate = next;
+        at.gate = gate;
+        at.switched = switched;
+        at.chain = chain;
         at.entries = number + 1;
         Ok((Journal { disk, at }, Receipt { number }))
     }

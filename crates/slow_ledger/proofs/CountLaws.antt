@@ -5,7 +5,10 @@ use Rattle.std.proofs.lemmas.List.Sums.{sum_by-append}
 use Rattle.std.proofs.lemmas.Iterator.Adapters.{position_from-zero}
 use Rattle.scrip_form.specs.Scrip.{Scrip}
 use Rattle.mc_records.specs.Entry.{Entry, Goods, payload}
-use Rattle.mc_records.specs.Sizes.{tail, size_from}
+use Rattle.mc_records.specs.Chains.{chain, chain_after, is_switch, has_switch}
+use Rattle.mc_records.specs.Sizes.{tail_size, size_from}
+use Rattle.mc_records.proofs.ChainLaws.{chain-more, has_switch-more}
+use Rattle.mc_records.proofs.SizeLaws.{length-tail}
 use Rattle.ledger_model.specs.Histories.{History}
 use Rattle.ledger_model.specs.Goods.{bytes_in, in_force}
 use Rattle.ledger_model.specs.Pieces.{handed_piece, minted_pieces, own_out_from, minted_from, run_from, first_hand}
@@ -60,15 +63,31 @@ minted_more before value series first count k found new test lt so_far is_test i
 
 -- ---- size
 
-pub size_more : (h : History) (bytes : List ℕ) (n all some new whole : ℕ) → n < length h → all + size_from (take n h) (drop n h) ≡ whole
-    → IfSome (slice_get h n) (λ e. bytes ≡ payload e) → some ≡ all + length bytes → new ≡ some + 5 → new + size_from (take (n + 1) h) (drop (n + 1) h) ≡ whole
-unfolding tail
-size_more h bytes n all some new whole lt so_far said is_some is_new =
+pub size_more : (h : History) (bytes : List ℕ) (n tail all some new whole : ℕ) → n < length h → tail ≡ tail_size (take n h)
+    → all + size_from (take n h) (drop n h) ≡ whole → IfSome (slice_get h n) (λ e. bytes ≡ payload e) → some ≡ all + length bytes → new ≡ some + (5 + tail)
+    → new + size_from (take (n + 1) h) (drop (n + 1) h) ≡ whole
+size_more h bytes n tail all some new whole lt is_tail so_far said is_some is_new =
     let x = next h n lt in
     let is : length bytes ≡ length (payload x.entry) = ap length (of_next (λ e. bytes ≡ payload e) h n x said) in
     let here : all + size_from (take n h) (x.entry ∷ drop (n + 1) h) ≡ whole = subst (λ (t : History). all + size_from (take n h) t ≡ whole) x.rest so_far in
     let front : size_from (take (n + 1) h) (drop (n + 1) h) ≡ size_from (take n h ++ x.entry ∷ []) (drop (n + 1) h) = ap (λ (t : History). size_from t (drop (n + 1) h)) x.front in
-    omega arith
+    omega (arith, is_tail, length-tail (take n h) x.entry)
+
+pub switched_more : (h : History) (n : ℕ) (r switched : Bool) → n < length h → switched ≡ has_switch (take n h)
+    → IfSome (slice_get h n) (λ e. r ≡ (switched || is_switch e)) → r ≡ has_switch (take (n + 1) h)
+switched_more h n r switched lt so_far said =
+    let x = next h n lt in
+    of_next (λ e. r ≡ (switched || is_switch e)) h n x said
+    ∙ ap (λ (b : Bool). b || is_switch x.entry) so_far ∙ sym (has_switch-more (take n h) x.entry) ∙ ap has_switch (sym x.front)
+
+-- ---- the chain
+
+pub chain_more : (h : History) (bytes before r : List ℕ) (n : ℕ) → n < length h → before ≡ chain (take n h) → IfSome (slice_get h n) (λ e. bytes ≡ payload e)
+    → r ≡ chain_after before bytes → r ≡ chain (take (n + 1) h)
+chain_more h bytes before r n lt so_far said is =
+    let x = next h n lt in
+    is ∙ ap (λ (c : List ℕ). chain_after c bytes) so_far ∙ ap (λ (p : List ℕ). chain_after (chain (take n h)) p) (of_next (λ e. bytes ≡ payload e) h n x said)
+    ∙ sym (chain-more (take n h) x.entry) ∙ ap chain (sym x.front)
 
 -- ---- contents in force
 

@@ -1,20 +1,21 @@
 -- What the slow evaluators speak of beside the definitions.
-use Rattle.std.specs.Prelude.{◌≡◌, ℕ, Bool, ◌==◌, List, Option, None, option_map, find, Result, Ok, Err}
+use Rattle.std.specs.Prelude.{◌≡◌, ℕ, Bool, not, ◌==◌, bytes_eq, List, Option, None, option_map, find, Result, Ok, Err}
 use Rattle.std.specs.Global.{Vec}
 use Rattle.hex.specs.Hex.{encode_lower}
 use Rattle.scrip_form.specs.Identities.{series_of}
 use Rattle.scrip_form.specs.Issuing.{Issuing}
-use Rattle.scrip_form.specs.Scrip.{Scrip}
+use Rattle.scrip_form.specs.Scrip.{Scrip, Certified, scrip_body}
+use Rattle.scrip_certs.specs.Digests.{certificate, customer_secret}
 use Rattle.mc_records.specs.Errands.{errand_of}
 use Rattle.mc_records.specs.Entry.{Deed, sale, Entry, Site, AddTerms, Goods, Accept, Mint, Draw, Fits, payload}
 use Rattle.mc_records.specs.Views.{deed_of}
 use Rattle.mc_records.specs.declared.limits.Limits.{Limits}
-use Rattle.mc_records.specs.declared.refusal.Refusal.TheVariants.{NoAccount}
+use Rattle.mc_records.specs.declared.refusal.Refusal.TheVariants.{WrongVersion, BadCertificate, NoAccount}
 use Rattle.mc_records.specs.Requests.{Asked}
 use Rattle.ledger_model.specs.Histories.{History}
 use Rattle.ledger_model.specs.Orders.{Order}
 use Rattle.ledger_model.specs.Accounts.{key_in}
-use Rattle.ledger_model.specs.Lines.{Stop, Refuse, Repeat, ◌>>=◌, given}
+use Rattle.ledger_model.specs.Lines.{Stop, Refuse, Repeat, ◌>>=◌, given, refused_if}
 use Rattle.ledger_model.specs.Stages.{Offer, supplied, drawable_by, payable_by}
 use Rattle.ledger_model.specs.Answer.{known_in, drawn}
 use Rattle.ledger_model.specs.Stock.{Sale, sale_at, knows_vendor, licensed_count, is_for_sale, for_sale}
@@ -55,6 +56,13 @@ Evaluates (Err (stops.Refused refusal)) line = line ≡ Err (Refuse refusal)
 Evaluates (Err (stops.Again number)) line = line ≡ Err (Repeat number)
 Evaluates (Err stops.NoMemory) line = Unit {0}
 
+-- what is left of the stage of genuine pieces, of which the issuers are known
+abbrev pub certified_by : (ℕ → ℕ) → Issuing → Issuing → Certified → Result (List ℕ) Stop
+certified_by version issuer customers scrip = do
+  _ ← refused_if (not (scrip.piece.version == version (series_of scrip.piece.id))) (WrongVersion (version (series_of scrip.piece.id)))
+  _ ← refused_if (not (bytes_eq scrip.cert (certificate issuer (scrip_body scrip.piece) scrip.piece.id))) BadCertificate
+  Ok (customer_secret customers scrip.piece.cust (version (series_of scrip.piece.cust)))
+
 -- what is offered, as the table has it
 abbrev pub offer_of : Purchase → Offer
 offer_of o = record { price = o.price; deed = deed_of o.deed }
@@ -77,7 +85,7 @@ after_again h t limits q o = do
 abbrev pub asked_by : Option (List ℕ) → List ℕ → Option (List ℕ) → Asked
 asked_by scrip target sign = record { target = target; scrip = scrip; sign = option_map encode_lower sign }
 
--- an entry that only a broker's operator makes, or of a kind that no house has
+-- an entry that only an operator makes, and no vendor's alone, or of a kind that no house has
 abbrev pub IsOperators : Entry → Type 0
 IsOperators (Site m kind name house) = ⊥
 IsOperators (AddTerms m terms) = ⊥

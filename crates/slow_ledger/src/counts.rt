@@ -12,9 +12,10 @@ ghost use Rattle.ledger_model.specs.Pieces.{handed_piece, minted_pieces, run_fro
 ghost use Rattle.ledger_model.specs.Stages.{is_same_scrip, is_same_sign, is_repeat};
 ghost use Rattle.slow_ledger.specs.Slow.{is_of};
 
+use crate::chains::switched_by;
 use crate::prefix::Prefix;
 use mc_base::{Moment, NoMemory};
-use mc_records::{Errand, Record, Request, read_errand};
+use mc_records::{Errand, Record, Request, read_errand, tail_len};
 use scrip_certs::hex_of;
 use scrip_form::{Id, read_scrip};
 
@@ -107,8 +108,10 @@ pub(crate) fn slow_size(h: &Prefix<'_>) -> Result<u64, NoMemory>
     ensures { IfOk result (λ all. all ≡ size h.now) }
 {
     let mut all = 9;
+    let mut switched = false;
     for n in 0..h.len() {
-        all = sum(sum(all, h.payload(n).len() as u64)?, 5)?;
+        all = sum(sum(all, h.payload(n).len() as u64)?, 5 + tail_len(switched))?;
+        switched = switched_by(h, n, switched);
     }
     Ok(all)
 }

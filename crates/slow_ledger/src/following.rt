@@ -19,6 +19,7 @@ ghost use Rattle.ledger_model.specs.Lawful.{unbounded, IsAllowed, MayFollow, IsL
 ghost use Rattle.slow_ledger.specs.Slow.{Evaluates, asked_by, IsOperators};
 
 use crate::accounts::{slow_balance, slow_key};
+use crate::chains::{slow_is_site, switch_allowed};
 use crate::counts::{slow_in_force, slow_own_count};
 use crate::filters::{
     moment_at, slow_has_reference, slow_is_broker, slow_is_vendor, slow_terms, slow_time,
@@ -27,6 +28,7 @@ use crate::prefix::Prefix;
 use crate::stages::{Stopped, own_series};
 use crate::stock::{slow_are_stock, slow_licence};
 use crate::table::evaluate;
+use crate::upgrades::upgrade_allowed;
 use ledger_model::{BROKER_KIND, History, MOST_IN_FORCE};
 use mc_base::{Moment, NoMemory};
 use mc_records::{Limits, MOST_IN_ACCOUNT, Record, Request, no_payload_begins_another};
@@ -192,8 +194,9 @@ fn withdrawal_allowed(
     Ok(amount <= balance)
 }
 
-/// Whether a broker may enter the entry of a number, that its operator makes, after those before it.
-fn broker_allowed(before: &Prefix<'_>, h: &Prefix<'_>, n: usize) -> Result<bool, NoMemory>
+/// Whether a house may enter the entry of a number, that its operator makes, after those before it: an upgrade, a
+/// Switch or a Note, or at a broker what only brokers have.
+fn operator_allowed(before: &Prefix<'_>, h: &Prefix<'_>, n: usize) -> Result<bool, NoMemory>
     requires { n < length h.now }
     ensures { IfOk result
         (λ b. IfSome (slice_get h.now n) (λ e. (limits : Bounds) → IsOperators e → IsTrue b ↔ IsAllowed limits before.now e)) }
@@ -220,6 +223,14 @@ fn broker_allowed(before: &Prefix<'_>, h: &Prefix<'_>, n: usize) -> Result<bool,
         Record::Stock { vendor, pieces, .. } => Ok(
             slow_is_broker(before) && slow_are_stock(before, vendor, &pieces),
         ),
+        Record::Upgrade {
+            moment,
+            vendor,
+            issuer,
+            from,
+        } => Ok(upgrade_allowed(before, moment, vendor, issuer, from)),
+        Record::Switch { chain, .. } => Ok(switch_allowed(before, &chain)),
+        Record::Note { .. } => Ok(slow_is_site(before)),
         _ => Ok(false),
     }
 }
@@ -276,11 +287,14 @@ fn allowed(alloc: Global, h: &Prefix<'_>, n: usize, limits: Limits) -> Result<bo
             &Some(sign),
             h.payload(n),
         ),
-        Record::Account { .. } => broker_allowed(&before, h, n),
-        Record::Deposit { .. } => broker_allowed(&before, h, n),
-        Record::Withdraw { .. } => broker_allowed(&before, h, n),
-        Record::Licence { .. } => broker_allowed(&before, h, n),
-        Record::Stock { .. } => broker_allowed(&before, h, n),
+        Record::Account { .. } => operator_allowed(&before, h, n),
+        Record::Deposit { .. } => operator_allowed(&before, h, n),
+        Record::Withdraw { .. } => operator_allowed(&before, h, n),
+        Record::Licence { .. } => operator_allowed(&before, h, n),
+        Record::Stock { .. } => operator_allowed(&before, h, n),
+        Record::Upgrade { .. } => operator_allowed(&before, h, n),
+        Record::Switch { .. } => operator_allowed(&before, h, n),
+        Record::Note { .. } => operator_allowed(&before, h, n),
         _ => Ok(false),
     }
 }

@@ -3,6 +3,7 @@
 #![tactic(auto)]
 
 mod accounts;
+mod chains;
 mod counts;
 mod draws;
 mod filters;
@@ -12,8 +13,10 @@ mod prefix;
 mod stages;
 mod stock;
 mod table;
+mod upgrades;
 
 pub use accounts::slow_balance;
+pub use chains::{slow_chain, slow_has_switch};
 pub use filters::{
     moment_at, slow_fee, slow_is_broker, slow_is_spent, slow_name, slow_terms, slow_time,
 };

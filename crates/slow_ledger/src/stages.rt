@@ -1,24 +1,26 @@
 //! The stages of the table of answers.
 
-ghost use Rattle.std.specs.Prelude.{◌≡◌, ◌<◌, ◌^◌, ℕ, nat_lt};
+ghost use Rattle.std.specs.Prelude.{◌≡◌, ◌+◌, ◌<◌, ◌^◌, ℕ, nat_lt};
 ghost use Rattle.mc_records.specs.Entry as entries;
 ghost use Rattle.mc_records.specs.Limits.{AreInRange};
 ghost use Rattle.mc_records.specs.Requests.{seen, asked_of};
 ghost use Rattle.ledger_model.specs.Houses as houses;
-ghost use Rattle.ledger_model.specs.Houses.{is_clear};
+ghost use Rattle.ledger_model.specs.Houses.{site_name, is_clear};
 ghost use Rattle.ledger_model.specs.Pieces.{is_spent};
 ghost use Rattle.ledger_model.specs.Stages as stages;
 ghost use Rattle.ledger_model.specs.Answer as model;
 ghost use Rattle.ledger_model.specs.Lines.{as_line};
-ghost use Rattle.slow_ledger.specs.Slow.{Tells};
+ghost use Rattle.slow_ledger.specs.Slow.{Tells, certified_by};
 
+use crate::chains::slow_has_switch;
 use crate::counts::{slow_own_count, slow_size};
 use crate::filters::{slow_is_clear, slow_is_spent, slow_name, slow_terms};
 use crate::prefix::Prefix;
+use crate::upgrades::slow_version;
 use mc_base::{Moment, NoMemory};
-use mc_records::{Limits, Refusal};
+use mc_records::{Limits, Refusal, tail_len};
 use scrip_certs::{certificate, customer_secret, hex_of, sign_request};
-use scrip_form::{Id, ScripRef};
+use scrip_form::{Id, ScripRef, Terms};
 
 /// Why the table gives no entry.
 #[derive(Drop)]
@@ -26,6 +28,29 @@ pub(crate) enum Stopped {
     Refused(Refusal),
     Again(u64),
     NoMemory,
+}
+
+/// Whether a piece of these issuers is in the version of its series, and has its certificate: the secret of its customer.
+fn certified(
+    h: &Prefix<'_>,
+    s: &ScripRef<'_>,
+    terms: &Terms,
+    customers: &Terms,
+) -> Result<[u8; 16], Refusal>
+    ensures { as_line
+        (λ x. x) result ≡ certified_by (houses.version h.now (site_name h.now)) terms.now customers.now s.now }
+{
+    let piece = s.piece();
+    let (id, cust) = (piece.id(), piece.cust());
+    let version = slow_version(h, slow_name(h), id.series());
+    if piece.version() != version {
+        return Err(Refusal::WrongVersion(u64::from(version)));
+    }
+    if !(s.cert().as_slice() == certificate(terms, s.body(), id).as_slice()) {
+        return Err(Refusal::BadCertificate);
+    }
+    let version = slow_version(h, slow_name(h), cust.series());
+    Ok(customer_secret(customers, cust, version))
 }
 
 /// Whether the piece is one of the house's: the secret of its customer.
@@ -49,10 +74,7 @@ pub(crate) fn genuine(h: &Prefix<'_>, s: &ScripRef<'_>) -> Result<[u8; 16], Refu
     if piece.expires() != end {
         return Err(Refusal::ExpiryMismatch(piece.expires(), end));
     }
-    if !(s.cert().as_slice() == certificate(&terms, s.body(), id).as_slice()) {
-        return Err(Refusal::BadCertificate);
-    }
-    Ok(customer_secret(&customers, cust))
+    certified(h, s, &terms, &customers)
 }
 
 /// Whether the piece may be spent by a request: the signature for the entry.
@@ -139,6 +161,13 @@ pub(crate) fn change_for(
     }
 }
 
+/// Whether so many bytes more pass a limit.
+fn pass(limit: u64, size: u64, more: u64) -> bool
+    ensures { result ≡ nat_lt limit (size + more) }
+{
+    limit < size || limit - size < more
+}
+
 /// Whether an entry fits behind the history.
 pub(crate) fn fitted(h: &Prefix<'_>, limits: Limits, payload: &[u8]) -> Result<(), Stopped>
     ensures { (e : entries.Entry) → payload.now ≡ entries.payload e
@@ -149,7 +178,8 @@ pub(crate) fn fitted(h: &Prefix<'_>, limits: Limits, payload: &[u8]) -> Result<(
         Err(NoMemory) => return Err(Stopped::NoMemory),
     };
     let len = payload.len() as u64;
-    if limits.journal < size || limits.journal - size < len + 5 {
+    let more = len + tail_len(slow_has_switch(h)) + 5;
+    if pass(limits.journal, size, more) {
         return Err(Stopped::Refused(Refusal::JournalFull(size, len)));
     }
     Ok(())

@@ -302,8 +302,7 @@ fn may_stock_at(vendor: &[u8], pieces: &PieceList<'_>, k: u16) -> bool
     match held_piece(pieces, k) {
         Some(piece) => piece.vendor().bytes() == vendor
             && piece.cust() == piece.id()
-            && piece.props().bytes().len() == 0
-            && piece.id().parts().0 == 0,
+            && piece.props().bytes().len() == 0,
         None => false,
     }
 }

@@ -1,7 +1,9 @@
 //! The pieces that a broker sold.
 
 ghost use Rattle.std.specs.Prelude.{◌≡◌, ◌<◌, ◌++◌, option_map, option_and_then, map, length, slice_get, IfOk, IfSome};
+ghost use Rattle.scrip_form.specs.Identities.{series_of};
 ghost use Rattle.mc_records.specs.Views.{deed_of};
+ghost use Rattle.ledger_model.specs.Houses.{version};
 ghost use Rattle.ledger_model.specs.Stock.{sale_of, sold as pieces_sold, sold_piece, licensed_piece, licence_in};
 ghost use Rattle.slow_ledger.specs.Slow.{sale_for};
 ghost use Rattle.balanced_books.specs.Parts.{part_of};
@@ -55,7 +57,7 @@ pub(crate) fn sale_at<'a>(h: &'a Prefix<'_>, n: usize) -> Option<Sold<'a>>
 
 /// A piece that was made under the licence for a vendor.
 fn licensed(h: &Prefix<'_>, sale: &Sold<'_>) -> Option<Part>
-    ensures { result ≡ option_map part_of (option_map (λ terms. licensed_piece terms sale.now.vendor.now sale.now.value sale.now.id) (licence_in h.now sale.now.vendor.now)) }
+    ensures { result ≡ option_map part_of (option_map (λ terms. licensed_piece (version h.now sale.now.vendor.now (series_of sale.now.id)) terms sale.now.vendor.now sale.now.value sale.now.id) (licence_in h.now sale.now.vendor.now)) }
 {
     match slow_licence(h, sale.vendor) {
         Some(terms) => {

@@ -1,6 +1,7 @@
 //! Which books of wallets are lawful.
 
-ghost use Rattle.std.specs.Prelude.{◌≡◌, ◌<◌, ◌↔◌, ◌&&◌, length, take, slice_get, IsTrue, IsNone, IfSome};
+ghost use Rattle.std.specs.Prelude.{◌≡◌, ◌<◌, ◌↔◌, ◌&&◌, not, bytes_eq, length, take, slice_get, IsTrue, IsNone, IfSome};
+ghost use Rattle.mc_records.specs.Chains.{chain, has_switch};
 ghost use Rattle.mc_records.specs.Requests.{seen};
 ghost use Rattle.wallet_model.specs.Holdings.{has_held};
 ghost use Rattle.wallet_model.specs.Follows as model;
@@ -12,7 +13,7 @@ use crate::requests::slow_is_kept;
 use ledger_model::History;
 use mc_records::Record;
 use scrip_form::read_scrip;
-use slow_ledger::{Prefix, moment_at, slow_time};
+use slow_ledger::{Prefix, moment_at, slow_chain, slow_has_switch, slow_time};
 use wallet_book::{asks_to_buy, asks_to_draw};
 
 /// Whether the site is a wallet.
@@ -58,6 +59,17 @@ fn asks_rightly(h: &Prefix<'_>, ask: u8, peer: &[u8], target: &[u8], scrip: Opti
     }
 }
 
+/// Whether a Switch that tells this chain may stand behind entries.
+fn switches_rightly(h: &Prefix<'_>, told: &[u8]) -> bool
+    ensures { result ≡ (not (has_switch h.now) && bytes_eq told.now (chain h.now)) }
+{
+    if slow_has_switch(h) {
+        return false;
+    }
+    let own = slow_chain(h);
+    told == own.as_slice()
+}
+
 /// Whether the kind of the entry of a number allows it after those before it.
 fn allowed(h: &Prefix<'_>, n: usize) -> bool
     requires { n < length h.now }
@@ -82,6 +94,8 @@ fn allowed(h: &Prefix<'_>, n: usize) -> bool
             ..
         } => wallet && (slow_is_kept(&before, number) && slow_settled_new(&before, change, got)),
         Record::Refused { number, .. } => wallet && slow_is_kept(&before, number),
+        Record::Switch { chain, .. } => wallet && switches_rightly(&before, &chain),
+        Record::Note { .. } => wallet,
         _ => false,
     }
 }

@@ -12,7 +12,7 @@ use Rattle.ledger_model.specs.Answer.{fitted}
 use Rattle.house_core.specs.declared.bench.Bench.{Bench}
 use Rattle.vendor_core.specs.declared.shelf.Shelf.{Shelf}
 use Rattle.site_words.specs.Words.{Shop, IsShop}
-use Rattle.vendor_commands.specs.Opening.{terms_of, founding, licence, shop_goods, IsOpen, MayEnter}
+use Rattle.vendor_commands.specs.Opening.{terms_of, founding, licence, shop_goods, IsOpen, ComesNext}
 use Rattle.operator_command.specs.Operations.{full}
 
 -- ---- payloads
@@ -65,15 +65,15 @@ size_of_two a b fits_a fits_b = omega (arith, payload_is_short a fits_a, payload
 
 -- ---- one after another
 
-pub licence_may_enter : (shop : Shop) → IsShop shop → MayEnter (founding shop ∷ []) (licence shop)
+pub licence_may_enter : (shop : Shop) → IsShop shop → ComesNext (founding shop ∷ []) (licence shop)
 licence_may_enter shop is = record {
-  follows = record { in_order = omega arith; allowed = (refl, refl) };
+  may = record { follows = record { in_order = omega arith; allowed = (refl, refl) }; passed = tt };
   fits = fits_behind (founding shop ∷ []) (licence shop) (size_of_one (founding shop) (founding_fits shop is)) (licence_fits shop is);
 }
 
-pub shop_goods_may_enter : (shop : Shop) → IsShop shop → MayEnter (founding shop ∷ licence shop ∷ []) (shop_goods shop)
+pub shop_goods_may_enter : (shop : Shop) → IsShop shop → ComesNext (founding shop ∷ licence shop ∷ []) (shop_goods shop)
 shop_goods_may_enter shop is = record {
-  follows = record { in_order = omega arith; allowed = (refl, omega (arith, is.contents)) };
+  may = record { follows = record { in_order = omega arith; allowed = (refl, omega (arith, is.contents)) }; passed = tt };
   fits = fits_behind (founding shop ∷ licence shop ∷ []) (shop_goods shop) (size_of_two (founding shop) (licence shop) (founding_fits shop is) (licence_fits shop is)) (shop_goods_fit shop is);
 }
 
@@ -86,8 +86,8 @@ pub shop_goods_is : {m price : ℕ} {target contents : List ℕ} (shop : Shop) �
     → Goods m target price 0 contents ≡ shop_goods shop
 shop_goods_is shop m target price contents = λ i. Goods (m i) (target i) (price i) 0 (contents i)
 
-pub may_enter : {h : History} {e f : Entry} → e ≡ f → MayEnter h f → MayEnter h e
-may_enter {h = h} same may = subst (λ (e : Entry). MayEnter h e) (sym same) may
+pub may_enter : {h : History} {e f : Entry} → e ≡ f → ComesNext h f → ComesNext h e
+may_enter {h = h} same may = subst (λ (e : Entry). ComesNext h e) (sym same) may
 
 pub open_with : {b : Bench Shelf} (h : History) {e f : Entry} → e ≡ f → IsOpen b (h ++ e ∷ []) → IsOpen b (h ++ f ∷ [])
 open_with {b = b} h same is = subst (λ (e : Entry). IsOpen b (h ++ e ∷ [])) same is

@@ -5,7 +5,7 @@ use Rattle.mc_fields.specs.Texts.{is_text}
 use Rattle.mc_fields.proofs.TextTest.{text_decides}
 use Rattle.scrip_form.specs.Texts.{IsName, IsTarget, is_letter_or_digit, is_name_byte, is_slash, is_visible, is_name, is_target}
 use Rattle.mc_records.specs.Entry.{AreSecrets, Fits}
-use Rattle.vendor_commands.specs.Opening.{MayEnter}
+use Rattle.vendor_commands.specs.Opening.{ComesNext}
 use Rattle.vendor_commands.specs.Play.{play_founding, play_licence, play_goods}
 use Rattle.vendor_commands.proofs.OpeningLemmas.{fits_behind, size_of_one, size_of_two}
 
@@ -56,14 +56,14 @@ licence_fits = record {
 pub goods_fit : Fits play_goods
 goods_fit = record { moment = omega arith; target = play_target; price = (omega arith, omega arith); kind = omega arith; contents = omega arith }
 
-pub play_licence_may_enter : MayEnter (play_founding ∷ []) play_licence
+pub play_licence_may_enter : ComesNext (play_founding ∷ []) play_licence
 play_licence_may_enter = record {
-  follows = record { in_order = omega arith; allowed = (refl, refl) };
+  may = record { follows = record { in_order = omega arith; allowed = (refl, refl) }; passed = tt };
   fits = fits_behind (play_founding ∷ []) play_licence (size_of_one play_founding founding_fits) licence_fits;
 }
 
-pub play_goods_may_enter : MayEnter (play_founding ∷ play_licence ∷ []) play_goods
+pub play_goods_may_enter : ComesNext (play_founding ∷ play_licence ∷ []) play_goods
 play_goods_may_enter = record {
-  follows = record { in_order = omega arith; allowed = (refl, omega arith) };
+  may = record { follows = record { in_order = omega arith; allowed = (refl, omega arith) }; passed = tt };
   fits = fits_behind (play_founding ∷ play_licence ∷ []) play_goods (size_of_two play_founding play_licence founding_fits licence_fits) goods_fit;
 }

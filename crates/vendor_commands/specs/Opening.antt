@@ -3,7 +3,7 @@ use Rattle.std.specs.Prelude.{◌≡◌, ℕ, true, [], ◌∷◌, Some, Ok}
 use Rattle.mc_records.specs.Entry.{Entry, Site, AddTerms, Goods}
 use Rattle.ledger_model.specs.Histories.{History}
 use Rattle.ledger_model.specs.Answer.{fitted}
-use Rattle.ledger_model.specs.Lawful.{MayFollow}
+use Rattle.house_state.specs.Learning.{MayEnter, untested}
 use Rattle.house_core.specs.declared.bench.Bench.{Bench}
 use Rattle.house_core.specs.Bench.{IsHouse, IsTallied, house_time, limits_of, tally_of, windows_of}
 use Rattle.house_state.specs.LiveWindows.{AreUsed}
@@ -54,7 +54,7 @@ pub record IsOpen (b : Bench Shelf) (h : History) : Type 0 where
   pub tally : tally_of b ≡ no_tally
   pub within : IsTallied b
 
--- an entry may follow a history, and fits
-pub record MayEnter (h : History) (e : Entry) : Type 0 where
-  pub follows : MayFollow full h e
+-- an entry may be entered behind a history, and fits
+pub record ComesNext (h : History) (e : Entry) : Type 0 where
+  pub may : MayEnter untested full h e
   pub fits : fitted h full e ≡ Ok e

@@ -1,9 +1,10 @@
 ghost use Rattle.std.specs.Prelude.{◌≡◌, ◌≤◌, ◌++◌, ◌∷◌, [], IfOk, OnOk};
+ghost use Rattle.mc_records.specs.Chains.{TellsChain};
 ghost use Rattle.mc_records.specs.Entry.{Fits, moment_of};
 ghost use Rattle.mc_records.specs.Views.{entry};
 ghost use Rattle.house_state.specs.CommandEntries.{IsCommand};
 ghost use Rattle.ledger_model.specs.Histories.{History};
-ghost use Rattle.vendor_commands.specs.Opening.{terms_of, founding, opening, IsOpen, MayEnter};
+ghost use Rattle.vendor_commands.specs.Opening.{terms_of, founding, opening, IsOpen, ComesNext};
 
 use house_core::{Bench, EnterFault};
 use mc_base::{Moment, NoMemory};
@@ -82,8 +83,9 @@ fn terms_of(shop: &Shop<'_>, issuer: u8) -> Terms
 pub(crate) fn enter(bench: &mut Bench<Shelf>, r: &Record<'_>) -> Result<(), NoMemory>
     requires fits { Fits (entry r.now) }
     requires command { IsCommand (entry r.now) }
+    requires told { (h : History) → TellsChain h (entry r.now) }
     requires time { moment_of (entry r.now) ≡ 0 }
-    requires may { (h : History) × IsOpen bench.old h × MayEnter h (entry r.now) }
+    requires may { (h : History) × IsOpen bench.old h × ComesNext h (entry r.now) }
     ensures { OnOk result ((h : History) → IsOpen bench.old h
         → IsOpen bench.new (h ++ entry r.now ∷ [])) }
 {

@@ -1,6 +1,7 @@
 -- What there is to do by the calls of a vendor's operator.
-use Rattle.std.proofs.Common.{◌≡◌, ℕ, ◌<◌, ◌≤◌, true, false, [], ◌∷◌, ◌++◌, length, List, Option, Some, None, refl, sym, ap, ap₂, ◌∙◌, take, slice_get, eqb, subst, arith, length-append}
-use Rattle.std.specs.Prelude.{option_map, unwrap_or, IsFalse, Ok}
+use Rattle.std.proofs.Common.{◌≡◌, ℕ, ◌<◌, ◌≤◌, Bool, true, false, cond, ◌||◌, [], ◌∷◌, ◌++◌, length, List, Option, Some, None, refl, sym, ap, ap₂, ◌∙◌, take, slice_get, eqb, subst, arith, length-append}
+use Rattle.std.specs.Prelude.{◌==◌, option_map, option_and_then, unwrap_or, IsFalse, Ok}
+use Rattle.std.proofs.lemmas.Slice.Eq.{bytes_eq-Decides}
 use Rattle.std.proofs.lemmas.Option.{slice_get-get_or}
 use Rattle.std.proofs.Math.Seq.{get_or-append_seam, take-append_seam}
 use Rattle.std.proofs.lemmas.Bool.{lt-ltb, le-ltb}
@@ -9,10 +10,12 @@ use Rattle.scrip_form.specs.Issuing.{Issuing}
 use Rattle.issuer_terms.specs.Terms.{are_same_terms}
 use Rattle.mc_records.specs.declared.limits.Limits.{Limits}
 use Rattle.mc_records.specs.declared.refusal.Refusal.TheVariants.{ContentsFull, IssuerTaken}
+use Rattle.mc_records.specs.Cells.{kind_of}
 use Rattle.mc_records.specs.Entry.{Entry, AddTerms, Goods, Mint}
 use Rattle.ledger_model.specs.declared.numbers.TheConstants.{VENDOR_KIND, MOST_IN_FORCE}
 use Rattle.ledger_model.specs.Histories.{History, time}
-use Rattle.ledger_model.specs.Houses.{site_name, site_kind, terms_in, version}
+use Rattle.ledger_model.specs.Houses.{site_name, site_kind, is_broker, terms_in, version}
+use Rattle.ledger_model.specs.Stock.{licence_in, of_issuer, upgrade_terms}
 use Rattle.ledger_model.specs.Lawful.{MayFollow}
 use Rattle.ledger_model.proofs.VersionLaws.{version-more}
 use Rattle.ledger_model.specs.Pieces.{has_reference, run_from}
@@ -60,6 +63,15 @@ other_licensed t terms standing o issuer is other number =
 pub new_licensed : (t : ℕ) (terms : Issuing) (o : Option Issuing) → o ≡ None → Add (AddTerms t terms) ≡ licensed t terms o
 new_licensed t terms o is = sym (ap (λ (x : Option Issuing). licensed t terms x) is)
 
+-- ---- issuers that are moved
+
+-- a vendor may move each of its issuers, by the terms of it
+pub own_terms_by : (h : History) (issuer : ℕ) → site_kind h ≡ Some VENDOR_KIND → upgrade_terms h (site_name h) issuer ≡ terms_in h issuer
+unfolding upgrade_terms
+own_terms_by h issuer kind =
+    ap₂ (λ (p q : Bool). cond p (cond q (terms_in h issuer) None) (cond (is_broker h) (option_and_then (of_issuer issuer) (licence_in h (site_name h))) None))
+    (ap (λ (o : Option ℕ). unwrap_or (option_map (λ k. eqb k 0) o) false || issuer == 0) kind) ((bytes_eq-Decides (site_name h) (site_name h)).1 refl)
+
 -- ---- mints
 
 -- the last entry has the number that was the length
@@ -81,7 +93,7 @@ module _ (limits : Limits) (h : History) (t : ℕ) (reference : List ℕ) (count
   mint_tells terms out n named own lines is =
       let there : slice_get (h ++ e ∷ []) n ≡ Some (Mint t reference count value first) = last_there h e n is ∙ ap (λ (x : Entry). Some x) same in
       let still : terms_in (h ++ e ∷ []) 0 ≡ Some terms = ap (λ (x : Entry). terms_in (h ++ x ∷ []) 0) same ∙ terms_under_mint h t reference count value first 0 ∙ own in
-      let versions : version (h ++ e ∷ []) (site_name (h ++ e ∷ [])) ≡ version h (site_name h) = ap₂ (λ (v : List ℕ → ℕ → ℕ) (name : List ℕ). v name) (version-more h e) named in
+      let versions : version (h ++ e ∷ []) (site_name (h ++ e ∷ [])) ≡ version h (site_name h) = ap₂ (λ (v : List ℕ → ℕ → ℕ) (name : List ℕ). v name) (version-more h e (λ k. absurd (omega (arith, ap kind_of (sym same), k)))) named in
       let before : take n (h ++ e ∷ []) ≡ h = ap (λ (k : ℕ). take k (h ++ e ∷ [])) is ∙ take-append_seam h (e ∷ []) in (
         record { moment = t; first = first; entry = there },
         lines ∙ sym (lines_of_mint (h ++ e ∷ []) terms n t reference count value first still there

@@ -3,15 +3,15 @@ use Rattle.std.specs.Prelude.{ℕ, List, [], ◌∷◌, ◌++◌}
 use Rattle.scrip_form.specs.Issuing.{Issuing}
 use Rattle.scrip_form.specs.Scrip.{Scrip, scrip_body, scrip_text}
 use Rattle.scrip_form.specs.Identities.{series_of}
+use Rattle.scrip_certs.specs.Digests.{certificate, customer_secret}
 use Rattle.mc_records.specs.Entry.{Held}
 use Rattle.mc_records.specs.PieceLine.{piece_line}
-use Rattle.ledger_model.specs.Houses.{certificate_in, secret_in}
 
--- the text and the customer secret of a piece that the house's own terms certify, in the version of its series
+-- the text and the customer secret of a piece that the house's own terms certify, by the versions of series
 abbrev pub own_held : (ℕ → ℕ) → Issuing → Scrip → Held
 own_held version terms p = record {
-  text = scrip_text p (certificate_in (version (series_of p.id)) terms (scrip_body p) p.id);
-  secret = secret_in (version (series_of p.cust)) terms p.cust;
+  text = scrip_text p (certificate terms (scrip_body p) p.id);
+  secret = customer_secret terms p.cust (version (series_of p.cust));
 }
 
 -- its line

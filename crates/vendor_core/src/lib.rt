@@ -9,5 +9,5 @@ mod minted;
 mod operator;
 mod shelf;
 
-pub use operator::{add_terms, mint, set_goods, set_price};
+pub use operator::{add_terms, mint, set_goods, set_price, upgrade};
 pub use shelf::Shelf;

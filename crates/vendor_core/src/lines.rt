@@ -1,8 +1,11 @@
 //! The lines of minted pieces.
 
 ghost use Rattle.std.specs.Prelude.{◌≡◌, ◌++◌, ◌<◌, ◌≤◌, ◌+◌, ◌^◌, ℕ, IfSome, OnOk, OnErr, [], Some};
+ghost use Rattle.scrip_form.specs.Identities.{series_of};
 ghost use Rattle.scrip_form.specs.Issuing.{Issuing};
+ghost use Rattle.scrip_form.specs.Scrip.{IsVersion};
 ghost use Rattle.ledger_model.specs.Histories.{History};
+ghost use Rattle.ledger_model.specs.Houses as ledger;
 ghost use Rattle.ledger_model.specs.Houses.{site_name, terms_in, version};
 ghost use Rattle.ledger_model.specs.Pieces.{first_hand, run_from};
 ghost use Rattle.house_core.specs.House.{HouseRepresents};
@@ -17,8 +20,7 @@ use mc_outside::Disk;
 use scrip_form::{Id, Name, Piece, Props, Terms};
 
 /// Puts the lines of so many pieces of a value into an empty list, with identities that follow the first, as
-/// the house made them after a history of its name and terms, or is to make them next. After an `Err` the list
-/// is empty.
+/// the house makes them now. After an `Err` the list is empty.
 pub(crate) fn put_lines<D: Disk>(
     house: &House<D, Shelf>,
     first: Id,
@@ -28,17 +30,18 @@ pub(crate) fn put_lines<D: Disk>(
 ) -> Result<(), NoMemory>
     requires value { 0 < value }
     requires empty { out.old.items ≡ [] }
-    ensures lines { OnOk result ((h g : History) (terms : Issuing)
-        → HouseRepresents D.disk shelf_view house.now h → terms_in h 0 ≡ Some terms
-        → site_name g ≡ site_name h → terms_in g 0 ≡ terms_in h 0 → first + count ≤ 2 ^ 64
-        → out.new.items ≡ piece_lines (version h (site_name h)) terms (run_from g value first count)) }
+    ensures lines { OnOk result ((h : History) (terms : Issuing)
+        → HouseRepresents D.disk shelf_view house.now h → terms_in h 0 ≡ Some terms → first + count ≤ 2 ^ 64
+        → out.new.items ≡ piece_lines (version h (site_name h)) terms (run_from h value first count)) }
     ensures empty { OnErr result (out.new.items ≡ []) }
 {
     let name = house.name();
     let terms = house.own_terms();
     for i in 0..count {
         let id = Id::of_number(first.number().saturating_add(u64::from(i)));
-        match put_line(house, &new_piece(name, terms, id, value), out) {
+        let (issuer, epoch, _) = id.parts();
+        let version = house.version(issuer, epoch);
+        match put_line(house, &new_piece(name, terms, version, id, value), out) {
             Ok(()) => (),
             Err(NoMemory) => {
                 out.clear();
@@ -49,16 +52,18 @@ pub(crate) fn put_lines<D: Disk>(
     Ok(())
 }
 
-/// The piece of an identity, as it is first handed out.
-fn new_piece(name: Name, terms: Terms, id: Id, value: Amount) -> Piece
-    requires { 0 < value }
+/// The piece of an identity whose series is of this version, as it is first handed out.
+fn new_piece(name: Name, terms: Terms, version: u8, id: Id, value: Amount) -> Piece
+    requires version { IsVersion version }
+    requires some { 0 < value }
     ensures { (h : History) → site_name h ≡ name → terms_in h 0 ≡ Some terms
-        → result ≡ first_hand h value id }
+        → ledger.version h (site_name h) (series_of id) ≡ version → result ≡ first_hand h value id }
 {
     let (_, epoch, _) = id.parts();
     let expires = terms.series_end(epoch);
     let no_props = Props::new(b"").unwrap();
-    Piece::new(name, value, id, id, expires, no_props).unwrap()
+    let piece = Piece::new(name, value, id, id, expires, no_props).unwrap();
+    piece.versioned(version).unwrap()
 }
 
 /// Puts the line of a piece of the house's own behind what a list has. After an `Err` the list is as it was.

@@ -1,6 +1,6 @@
 //! What the operator of a vendor's site does with its book.
 
-ghost use Rattle.std.specs.Prelude.{◌≡◌, ◌<◌, ◌≤◌, [], ℕ, length, IsFalse, Some, Ok};
+ghost use Rattle.std.specs.Prelude.{◌≡◌, ◌<◌, ◌≤◌, ◌^◌, [], ℕ, length, IsFalse, Some, Ok};
 ghost use Rattle.scrip_form.specs.Issuing.{Issuing};
 ghost use Rattle.mc_records.specs.declared.ranges.TheConstants.{MOST_PIECES};
 ghost use Rattle.mc_records.specs.declared.ranges.TheConstants.{MOST_CONTENTS};
@@ -12,6 +12,7 @@ ghost use Rattle.ledger_model.specs.Pieces.{has_reference, run_from};
 ghost use Rattle.house_core.specs.Bench.{house_time, limits_of};
 ghost use Rattle.house_core.specs.House.{HouseRepresents, HandsBack, HasRun, KeepsTime};
 ghost use Rattle.house_core.specs.Tasks.{Performs, TellsLast, TellsAdded, NoLines};
+ghost use Rattle.house_core.specs.Upgrading.{upgrade_task};
 ghost use Rattle.vendor_core.specs.Lines.{piece_lines};
 ghost use Rattle.vendor_core.specs.Shelf.{shelf_view};
 ghost use Rattle.vendor_core.specs.Tasks.{goods_task, price_task, terms_task, IsMintTask, TellsMint};
@@ -120,6 +121,30 @@ pub fn add_terms<D: Disk>(
         Outcome::NoMemory(house) => Outcome::NoMemory(house),
         Outcome::Halted(halted) => Outcome::Halted(halted),
     }
+}
+
+/// Moves an issuer of the vendor to the second version of scrip, in the series from an epoch on, which is below 2^24.
+/// Answers the receipt of the Upgrade entry; None where it was moved from this epoch on before, and then nothing is
+/// written.
+///
+/// Refused with 71 NoTerms where the vendor takes no scrip of the issuer, with 72 VersionSet where it was moved from
+/// another epoch on, with 73 TooEarly where the epoch is not later than that of the house time, and with 33 JournalFull.
+pub fn upgrade<D: Disk>(
+    house: House<D, Shelf>,
+    issuer: u8,
+    from: u32,
+) -> Outcome<D, Shelf, Option<Receipt>>
+    requires from { from < 2 ^ 24 }
+    ensures back { HandsBack D.disk D.disk_moved (KeepsTime house) house.journal.disk result }
+    ensures exact { (h : History) → HouseRepresents D.disk shelf_view house h
+        → Performs D.disk shelf_view
+        (λ task. task ≡ upgrade_task h (house_time house.bench) (site_name h) issuer from) TellsAdded
+        (limits_of house.bench) house.journal.disk h result }
+{
+    let name = house.name();
+    let terms = house.terms(issuer);
+    let standing = house.upgraded(issuer);
+    house_core::upgrade(house, &name, issuer, from, terms, standing)
 }
 
 /// The record of terms of an issuer above 0.

@@ -138,12 +138,13 @@ impl Shelf {
 }
 
 impl Trade for Shelf {
+    ghost use Rattle.house_state.specs.Learning.{untested};
     ghost use Rattle.house_state.specs.Trade.{IsKeptFrom};
     ghost use Rattle.vendor_core.specs.Shelf.{ShelfRepresents, HasGoods, shelf_view};
 
     ghost trade = { shelf_view };
 
-    ghost passes = { λ h e. Unit {0} };
+    ghost passes = { untested };
 
     fn kind(&self) -> SiteKind {
         SiteKind::Vendor
@@ -238,7 +239,11 @@ impl Trade for Shelf {
                 };
                 self.learn_mint(reference, minting)
             }
-            Record::Accept { .. } | Record::Draw { .. } => Ok(()),
+            Record::Accept { .. }
+            | Record::Draw { .. }
+            | Record::Upgrade { .. }
+            | Record::Switch { .. }
+            | Record::Note { .. } => Ok(()),
             _ => Err(Unlawful),
         }
     }

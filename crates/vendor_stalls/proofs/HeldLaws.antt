@@ -1,12 +1,11 @@
 -- The first open piece of a stall as the text that its sale brings.
-use Rattle.std.proofs.Common.{◌≡◌, ℕ, Bool, true, false, cond, eqb, ◌&&◌, ◌||◌, List, [], ◌∷◌, length, Some, Result, Ok, Err, refl, sym, ap, ap₂, subst, ◌∙◌, find, bytes_eq}
+use Rattle.std.proofs.Common.{◌≡◌, ℕ, Bool, true, false, cond, eqb, ◌||◌, List, [], ◌∷◌, length, Some, Result, Ok, Err, refl, sym, ap, ap₂, subst, ◌∙◌, find, bytes_eq}
 use Rattle.std.specs.Prelude.{IsTrue}
 use Rattle.std.specs.List.{list_any, AllByRecursion}
 use Rattle.std.proofs.lemmas.Bool.{eqb-true, eq-eqb, and_parts, true≢false}
 use Rattle.std.proofs.lemmas.List.{nil_from_length}
 use Rattle.std.proofs.lemmas.Option.{same_Some}
 use Rattle.std.proofs.lemmas.Slice.Eq.{bytes_eq-Decides}
-use Rattle.scrip_form.specs.Identities.{issuer_of}
 use Rattle.scrip_form.specs.Scrip.{Scrip, IsPiece, scrip_text}
 use Rattle.scrip_form.specs.Reading.{scrip_of}
 use Rattle.scrip_form.specs.Told.{IsTold}
@@ -26,20 +25,19 @@ use Rattle.vendor_stalls.proofs.ListedLaws.{listed_more}
 -- ---- a piece by its parts
 
 same_piece : (x : Scrip) (vendor : List ℕ) (value : ℕ) → x.vendor ≡ vendor → x.value ≡ value → x.cust ≡ x.id → x.props ≡ []
-    → x ≡ record { vendor = vendor; value = value; id = x.id; cust = x.id; expires = x.expires; props = [] }
+    → x ≡ record { version = x.version; vendor = vendor; value = value; id = x.id; cust = x.id; expires = x.expires; props = [] }
 same_piece x vendor value a b c d = ap₂ named a b ∙ ap₂ handed c d
   where
     named : List ℕ → ℕ → Scrip
-    named v n = record { vendor = v; value = n; id = x.id; cust = x.cust; expires = x.expires; props = x.props }
+    named v n = record { version = x.version; vendor = v; value = n; id = x.id; cust = x.cust; expires = x.expires; props = x.props }
 
     handed : ℕ → List ℕ → Scrip
-    handed n ps = record { vendor = vendor; value = value; id = x.id; cust = n; expires = x.expires; props = ps }
+    handed n ps = record { version = x.version; vendor = vendor; value = value; id = x.id; cust = n; expires = x.expires; props = ps }
 
 stock_parts : (vendor : List ℕ) (x : Scrip) → may_be_stock vendor x ≡ true → (x.vendor ≡ vendor) × (x.cust ≡ x.id) × (x.props ≡ [])
 stock_parts vendor x may =
-    let parts = and_parts (bytes_eq x.vendor vendor) (is_first_hand x && eqb (issuer_of x.id) 0) may in
-    let hand = and_parts (is_first_hand x) (eqb (issuer_of x.id) 0) parts.1 in
-    let first = and_parts (eqb x.cust x.id) (eqb (length x.props) 0) hand.0 in
+    let parts = and_parts (bytes_eq x.vendor vendor) (is_first_hand x) may in
+    let first = and_parts (eqb x.cust x.id) (eqb (length x.props) 0) parts.1 in
     ((bytes_eq-Decides x.vendor vendor).0 parts.0, eqb-true x.cust x.id first.0, nil_from_length x.props (eqb-true (length x.props) 0 first.1))
 
 -- ---- the held text of a piece in stock
@@ -71,10 +69,10 @@ module _ (vendor : List ℕ) (value : ℕ) (sold : ℕ → Bool) (held : Held) (
       told : IsTold held.text (Ok x)
       told = subst (IsTold held.text) is (scrip_of_tells held.text)
 
-      is_so : x.0 ≡ record { vendor = vendor; value = value; id = x.0.id; cust = x.0.id; expires = x.0.expires; props = [] }
+      is_so : x.0 ≡ record { version = x.0.version; vendor = vendor; value = value; id = x.0.id; cust = x.0.id; expires = x.0.expires; props = [] }
       is_so = let parts = stock_parts vendor x.0 may in same_piece x.0 vendor value parts.0 same parts.1 parts.2
 
-      spelled : held.text ≡ scrip_text (record { vendor = vendor; value = value; id = x.0.id; cust = x.0.id; expires = x.0.expires; props = [] }) x.1
+      spelled : held.text ≡ scrip_text (record { version = x.0.version; vendor = vendor; value = value; id = x.0.id; cust = x.0.id; expires = x.0.expires; props = [] }) x.1
       spelled = told.spelled ∙ ap (λ (q : Scrip). scrip_text q x.1) is_so
 
   later : (p : StockPiece) → list_any (λ q. eqb q.id x.0.id) (held_pieces helds) ≡ false → Stands vendor value helds p → Stands vendor value (held ∷ helds) p

@@ -11,7 +11,7 @@ use Rattle.vendor_stalls.specs.Stalls.{StallView}
 
 -- a piece with its certificate and its secret, as it is put into stock
 abbrev pub stock_piece : List ℕ → Scrip × List ℕ → StockPiece
-stock_piece secret x = record { id = x.0.id; expires = x.0.expires; cert = x.1; secret = secret; sold = false }
+stock_piece secret x = record { id = x.0.id; expires = x.0.expires; cert = x.1; secret = secret; version = x.0.version; sold = false }
 
 -- the same of a held text, where it is of a piece of this value
 abbrev pub listed_piece : ℕ → Held → Option StockPiece
@@ -19,7 +19,7 @@ listed_piece value held = option_and_then (λ x. if x.0.value == value then Some
 
 -- the piece of a vendor that stands so in his stock at a value
 abbrev pub piece_in_stock : List ℕ → ℕ → StockPiece → Scrip
-piece_in_stock vendor value p = record { vendor = vendor; value = value; id = p.id; cust = p.id; expires = p.expires; props = [] }
+piece_in_stock vendor value p = record { version = p.version; vendor = vendor; value = value; id = p.id; cust = p.id; expires = p.expires; props = [] }
 
 -- its text with its secret
 abbrev pub held_in_stock : List ℕ → ℕ → StockPiece → Held

@@ -15,14 +15,13 @@ pub(crate) fn piece_of(scrip: &ScripRef<'_>) -> Piece
     scrip.piece()
 }
 
-/// Whether a piece may be put into stock for a vendor: it is the vendor's, first-hand, and of issuer 0.
+/// Whether a piece may be put into stock for a vendor: it is the vendor's, of any of his issuers, and first-hand.
 pub(crate) fn may_be_stock_of(vendor: &Name, piece: &Piece) -> bool
     ensures { result ≡ may_be_stock vendor.now piece.now }
 {
     piece.vendor().bytes() == vendor.bytes()
         && piece.cust().number() == piece.id().number()
         && piece.props().bytes().is_empty()
-        && piece.id().number() < 1 << 56
 }
 
 /// A piece as it is put into stock.
@@ -34,6 +33,7 @@ pub(crate) fn stock_piece(piece: &Piece, cert: [u8; 16], secret: [u8; 16]) -> St
         expires: piece.expires(),
         cert,
         secret,
+        version: piece.version(),
         sold: false,
     }
 }

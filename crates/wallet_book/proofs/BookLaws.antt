@@ -1,11 +1,14 @@
 -- What is kept of a book, with one entry more.
-use Rattle.std.proofs.Common.{◌≡◌, ℕ, suc, ◌+◌, ◌≤◌, true, false, ◌&&◌, List, [], ◌∷◌, ◌++◌, length, Option, Some, None, refl, sym, ap, subst, ◌∙◌, arith, max, option_map, find, filter, bytes_eq}
+use Rattle.std.proofs.Common.{◌≡◌, ℕ, suc, ◌+◌, ◌≤◌, Bool, true, false, ◌&&◌, ◌||◌, List, [], ◌∷◌, ◌++◌, length, Option, Some, None, refl, sym, ap, subst, ◌∙◌, arith, max, option_map, find, filter, bytes_eq}
 use Rattle.std.proofs.lemmas.Bool.{eqb-true}
 use Rattle.std.proofs.lemmas.List.{length-append}
 use Rattle.std.specs.Prelude.{◌==◌, ◌-◌, Result, Ok, Err, OnOk}
 use Rattle.mc_records.specs.declared.sizes.TheConstants.{EMPTY_JOURNAL, FRAME}
-use Rattle.mc_records.specs.Entry.{House, Entry, Site, AddTerms, Goods, Accept, Mint, Account, Deposit, Withdraw, Draw, Licence, Stock, Got, Pend, Done, Refused, moment_of, payload}
-use Rattle.mc_records.specs.Sizes.{tail, entry_size}
+use Rattle.mc_records.specs.Entry.{House, Entry, Site, AddTerms, Goods, Accept, Mint, Account, Deposit, Withdraw, Draw, Licence, Stock, Got, Pend, Done, Refused, Upgrade, Switch, Note, moment_of, payload}
+use Rattle.mc_records.specs.Chains.{has_switch, is_switch}
+use Rattle.mc_records.specs.Sizes.{tail_bytes, entry_size}
+use Rattle.mc_records.proofs.ChainLaws.{has_switch-first}
+use Rattle.mc_records.proofs.SizeLaws.{length-tail, tail_size-by}
 use Rattle.ledger_model.specs.Histories.{History, time}
 use Rattle.ledger_model.specs.Houses.{site_name}
 use Rattle.ledger_model.proofs.FollowLaws.{size_snoc}
@@ -28,15 +31,14 @@ use Rattle.wallet_book.specs.Parts.{PartsRepresent}
 use Rattle.wallet_book.specs.Book.{BookView, WalletRepresents, FoundsWallet, HasRoom, brought_count, asked_count}
 use Rattle.wallet_book.proofs.KeptLaws.{found_kept, find_map}
 
-pub long_entry : (h : History) (e : Entry) → entry_size h e ≡ length (payload e) + FRAME
-unfolding tail
-long_entry h e = omega arith
+pub long_entry : (h : History) (e : Entry) → entry_size h e ≡ length (payload e) + tail_bytes (has_switch h) + FRAME
+long_entry h e = omega (arith, length-tail h e, tail_size-by h)
 
 -- ---- the first entry
 
 first_represents : (b : BookView) (m : ℕ) (name : List ℕ) (house : Option House) → b.name ≡ name → b.last ≡ m → b.time ≡ m → b.holdings ≡ [] → b.kept ≡ [] → b.count ≡ 1
-    → b.size ≡ EMPTY_JOURNAL + length (payload (Site m 2 name house)) + FRAME → WalletRepresents b (Site m 2 name house ∷ [])
-first_represents b m name house name_is last_is time_is pieces kept count long =
+    → b.size ≡ EMPTY_JOURNAL + length (payload (Site m 2 name house)) + FRAME → b.switched ≡ false → WalletRepresents b (Site m 2 name house ∷ [])
+first_represents b m name house name_is last_is time_is pieces kept count long none_yet =
     let h : History = Site m 2 name house ∷ [] in
     let none : PartsRepresent [] [] h = record { pieces = refl; kept = refl; placed = tt } in
     let at : PartsRepresent b.holdings [] h = subst (λ (xs : List Holding). PartsRepresent xs [] h) (sym pieces) none in
@@ -48,14 +50,15 @@ first_represents b m name house name_is last_is time_is pieces kept count long =
       parts = subst (λ (ks : List Kept). PartsRepresent b.holdings ks h) (sym kept) at;
       counted = sym count;
       sized = omega (arith, long, long_entry [] (Site m 2 name house));
+      switched = sym none_yet;
     }
 
 pub first_of : (b : BookView) (e : Entry) → FoundsWallet e → b.name ≡ site_name (e ∷ []) → b.last ≡ moment_of e → b.time ≡ moment_of e → b.holdings ≡ [] → b.kept ≡ [] → b.count ≡ 1
-    → b.size ≡ EMPTY_JOURNAL + length (payload e) + FRAME → WalletRepresents b (e ∷ [])
-first_of b (Site m kind name house) wallet name_is last_is time_is pieces kept count long =
+    → b.size ≡ EMPTY_JOURNAL + length (payload e) + FRAME → b.switched ≡ false → WalletRepresents b (e ∷ [])
+first_of b (Site m kind name house) wallet name_is last_is time_is pieces kept count long none_yet =
     let P : ℕ → Type 0 = λ k. b.size ≡ EMPTY_JOURNAL + length (payload (Site m k name house)) + FRAME in
-    subst (λ (k : ℕ). WalletRepresents b (Site m k name house ∷ [])) (sym wallet) (first_represents b m name house name_is last_is time_is pieces kept count (subst P wallet long))
-first_of b e wallet name_is last_is time_is pieces kept count long = absurd wallet
+    subst (λ (k : ℕ). WalletRepresents b (Site m k name house ∷ [])) (sym wallet) (first_represents b m name house name_is last_is time_is pieces kept count (subst P wallet long) none_yet)
+first_of b e wallet name_is last_is time_is pieces kept count long none_yet = absurd wallet
 
 -- ---- the others
 
@@ -85,6 +88,9 @@ allows h (Withdraw m name amount reference) wallet is = absurd cc
 allows h (Draw m target sign drawn) wallet is = absurd cc
 allows h (Licence m vendor terms) wallet is = absurd cc
 allows h (Stock m vendor pieces) wallet is = absurd cc
+allows h (Upgrade m vendor issuer from) wallet is = absurd cc
+allows h (Switch m c) wallet is = rw (wallet, is) refl
+allows h (Note m tag bytes) wallet is = rw wallet refl
 
 first_only : (h : History) (kind : ℕ) → IsWalletBook h → (length h == 0 && kind == 2) ≡ true → ⊥
 first_only [] kind book is = book
@@ -106,6 +112,9 @@ forbids h (Withdraw m name amount reference) book is may = let it = both_right (
 forbids h (Draw m target sign drawn) book is may = let it = both_right (is_wallet h) _ may in cc (it, is)
 forbids h (Licence m vendor terms) book is may = let it = both_right (is_wallet h) _ may in cc (it, is)
 forbids h (Stock m vendor pieces) book is may = let it = both_right (is_wallet h) _ may in cc (it, is)
+forbids h (Upgrade m vendor issuer from) book is may = let it = both_right (is_wallet h) _ may in cc (it, is)
+forbids h (Switch m c) book is may = let it = both_right (is_wallet h) _ may in cc (it, is)
+forbids h (Note m tag bytes) book is may = cc is
 
 -- an entry that the history does not allow may not follow
 pub not_allowed : (old : BookView) (h : History) (e : Entry) → WalletRepresents old h → entry_allowed h e ≡ false → WalletFollows h e → ⊥
@@ -113,9 +122,9 @@ not_allowed old h e is other follows = forbids h e is.lawful other follows.allow
 
 -- an entry that the history allows, at its time or later
 pub learned : (old new : BookView) (h : History) (e : Entry) → WalletRepresents old h → old.last ≤ moment_of e → entry_allowed h e ≡ true → PartsRepresent new.holdings new.kept (h ++ e ∷ [])
-    → new.name ≡ old.name → new.last ≡ moment_of e → moment_of e ≤ new.time → new.count ≡ old.count + 1 → new.size ≡ old.size + (length (payload e) + FRAME)
+    → new.name ≡ old.name → new.last ≡ moment_of e → moment_of e ≤ new.time → new.count ≡ old.count + 1 → new.size ≡ old.size + (length (payload e) + tail_bytes old.switched + FRAME) → new.switched ≡ (is_switch e || old.switched)
     → WalletFollows h e × WalletRepresents new (h ++ e ∷ [])
-learned old new h e is at may parts name_is last_is time_is count long =
+learned old new h e is at may parts name_is last_is time_is count long switched =
     let wallet = book_is_wallet h is.lawful in
     let follows : WalletFollows h e = record { in_order = omega (arith, is.last, at); allowed = allows h e wallet may } in (
       follows,
@@ -126,7 +135,8 @@ learned old new h e is at may parts name_is last_is time_is count long =
         in_time = omega (arith, time_more h e, is.last, at, time_is);
         parts = parts;
         counted = omega (arith, length-append h (e ∷ []), is.counted, count);
-        sized = omega (arith, size_snoc h e, is.sized, long_entry h e, long);
+        sized = omega (arith, size_snoc h e, is.sized, long_entry h e, ap tail_bytes is.switched, long);
+        switched = has_switch-first h e ∙ ap (λ (b : Bool). is_switch e || b) is.switched ∙ sym switched;
       },
     )
 
@@ -156,6 +166,7 @@ raised b t h is le = record {
   parts = is.parts;
   counted = is.counted;
   sized = is.sized;
+  switched = is.switched;
 }
 
 pub with_room : (b : BookView) (xs : List Holding) (ks : List Kept) (room kept_room : ℕ) (h : History) → WalletRepresents b h → xs ≡ b.holdings → ks ≡ b.kept
@@ -170,6 +181,7 @@ with_room b xs ks room kept_room h is pieces requests =
       parts = subst (λ (js : List Kept). PartsRepresent xs js h) (sym requests) at;
       counted = is.counted;
       sized = is.sized;
+      switched = is.switched;
     }
 
 pub room_made : {A : Type 0} (r : Result (Unit {0}) A) (b : BookView) (e : Entry) (p q len capacity : ℕ) → OnOk r (p ≤ b.room) → OnOk r (len + q ≤ capacity) → p ≡ brought_count e → q ≡ asked_count e → b.kept_room ≡ capacity - len → OnOk r (HasRoom b e)

@@ -4,7 +4,7 @@ use Rattle.std.proofs.lemmas.List.{length-map, length-append}
 use Rattle.std.proofs.lemmas.Option.{slice_get_within}
 use Rattle.std.specs.Prelude.{slice_get, option_and_then, IfSome}
 use Rattle.std.specs.List.{AllByRecursion}
-use Rattle.mc_records.specs.Entry.{Held, Entry, Got, Pend}
+use Rattle.mc_records.specs.Entry.{Held, Entry, Got, Pend, Switch, Note}
 use Rattle.ledger_model.specs.Histories.{History}
 use Rattle.ledger_model.proofs.ListLaws.{all_append}
 use Rattle.wallet_model.specs.Requests.{Pending, kept_requests}
@@ -15,7 +15,7 @@ use Rattle.wallet_model.specs.Follows.{wallet_allows, IsWalletBook}
 use Rattle.wallet_model.specs.Laws.{moved}
 use Rattle.wallet_model.proofs.PieceLaws.{holdings_more}
 use Rattle.wallet_model.proofs.CameLaws.{came_once, map_both}
-use Rattle.wallet_model.proofs.KeptLaws.{kept_got, kept_pend}
+use Rattle.wallet_model.proofs.KeptLaws.{kept_got, kept_switch, kept_note, kept_pend}
 use Rattle.wallet_model.proofs.PaidLaws.{book_next}
 use Rattle.wallet_book.specs.declared.holding.State.{State}
 use Rattle.wallet_book.specs.declared.holding.State.TheVariants as states
@@ -62,6 +62,21 @@ learned_got h xs ys ks m ps book is allowed fit new brought =
       kept = kept_got h m ps ∙ kept_with xs ys ks ps h is.kept is.placed more;
       placed = placed_with xs ys ks ps is.placed more;
     }
+
+-- a Switch and a Note leave the pieces and the kept requests
+pub learned_switch : (h : History) (xs : List Holding) (ks : List Kept) (m : ℕ) (c : List ℕ) → PartsRepresent xs ks h → PartsRepresent xs ks (h ++ Switch m c ∷ [])
+learned_switch h xs ks m c is = record {
+  pieces = holdings_more h (Switch m c) ∙ ap (λ (zs : List model.Holding). zs ++ []) (unmoved (λ t. moves h t (Switch m c)) (holdings h) (λ t. refl) ∙ is.pieces) ∙ append-nil (map holding_of xs);
+  kept = kept_switch h m c ∙ is.kept;
+  placed = is.placed;
+}
+
+pub learned_note : (h : History) (xs : List Holding) (ks : List Kept) (m : ℕ) (tag bytes : List ℕ) → PartsRepresent xs ks h → PartsRepresent xs ks (h ++ Note m tag bytes ∷ [])
+learned_note h xs ks m tag bytes is = record {
+  pieces = holdings_more h (Note m tag bytes) ∙ ap (λ (zs : List model.Holding). zs ++ []) (unmoved (λ t. moves h t (Note m tag bytes)) (holdings h) (λ t. refl) ∙ is.pieces) ∙ append-nil (map holding_of xs);
+  kept = kept_note h m tag bytes ∙ is.kept;
+  placed = is.placed;
+}
 
 -- ---- a request
 

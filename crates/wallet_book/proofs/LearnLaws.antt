@@ -1,12 +1,14 @@
 -- What an entry makes of the pieces and the kept requests, or that the history does not allow it.
-use Rattle.std.proofs.Common.{◌≡◌, ℕ, zero, suc, ◌<◌, ◌≤◌, Bool, true, false, ◌&&◌, List, [], ◌∷◌, ◌++◌, length, map, Option, Some, None, option_map, refl, sym, ap, subst, ◌∙◌, arith, find}
+use Rattle.std.proofs.Common.{◌≡◌, ℕ, zero, suc, ◌<◌, ◌≤◌, Bool, true, false, not, ◌&&◌, List, [], ◌∷◌, ◌++◌, length, map, Option, Some, None, option_map, refl, sym, ap, subst, ◌∙◌, arith, find}
 use Rattle.std.specs.Prelude.{◌==◌, option_to_list, IfSome}
 use Rattle.std.specs.Borrow.{Bor}
 use Rattle.scrip_form.specs.Scrip.{IsScripText}
 use Rattle.mc_records.specs.Requests.{seen}
 use Rattle.mc_records.specs.Views.{held_of}
 use Rattle.std.specs.List.{AllByRecursion}
-use Rattle.mc_records.specs.Entry.{Held, HeldFits, Got, Pend, Done, Refused}
+use Rattle.mc_records.specs.Entry.{Held, HeldFits, Got, Pend, Done, Refused, Switch}
+use Rattle.mc_records.specs.Chains.{chain, has_switch}
+use Rattle.std.proofs.lemmas.Slice.Eq.{bytes_eq-Decides}
 use Rattle.mc_records.specs.Errands.{errand_of}
 use Rattle.ledger_model.specs.Histories.{History}
 use Rattle.wallet_model.specs.Holdings as model
@@ -21,7 +23,7 @@ use Rattle.wallet_book.specs.declared.kept.Kept.{Kept}
 use Rattle.wallet_book.specs.Holdings.{state_of, text_of, holding_of, AreSpelled}
 use Rattle.wallet_book.specs.Parts.{PartsRepresent, HasText, Brings, held_texts, put_in, in_state_at, LearnsEntry, asks_with, FindsPayment}
 use Rattle.wallet_book.proofs.PartLaws.{came_texts, brings_both, brings_less}
-use Rattle.wallet_book.proofs.EntryLaws.{learned_got, learned_pend, learned_draw}
+use Rattle.wallet_book.proofs.EntryLaws.{learned_got, learned_pend, learned_draw, learned_switch}
 use Rattle.wallet_book.proofs.SettledLaws.{not_found, without, settled_pieces_of, learns_refused, learns_done}
 
 -- ---- Got
@@ -125,3 +127,9 @@ settled_texts_fit secret None None c g = tt
 settled_texts_fit secret None (Some p) c g = (g, tt)
 settled_texts_fit secret (Some t) None c g = (c, tt)
 settled_texts_fit secret (Some t) (Some p) c g = (c, (g, tt))
+
+-- ---- Switch
+
+pub switches : (h : History) (xs : List Holding) (ks : List Kept) (m : ℕ) (c : List ℕ) (switched : Bool) → PartsRepresent xs ks h → has_switch h ≡ switched → c ≡ chain h → LearnsEntry xs ks h (Switch m c) (not switched)
+switches h xs ks m c true is on tells = rw on refl
+switches h xs ks m c false is on tells = (rw (on, (bytes_eq-Decides c (chain h)).1 tells) refl, learned_switch h xs ks m c is)

@@ -2,7 +2,7 @@
 use Rattle.std.proofs.Common.{◌≡◌, ℕ, zero, suc, Bool, true, false, ◌&&◌, ◌||◌, cond, List, [], ◌∷◌, ◌++◌, Option, Some, None, refl, sym, ap, subst, ◌∙◌, unwrap_or, bytes_eq, map, inl, inr}
 use Rattle.std.proofs.lemmas.Slice.Eq.{bytes_eq-Decides}
 use Rattle.std.specs.List.{list_any}
-use Rattle.mc_records.specs.Entry.{Held, Entry, Site, AddTerms, Goods, Accept, Mint, Account, Deposit, Withdraw, Draw, Licence, Stock, Got, Pend, Done, Refused}
+use Rattle.mc_records.specs.Entry.{Held, Entry, Site, AddTerms, Goods, Accept, Mint, Account, Deposit, Withdraw, Draw, Licence, Stock, Got, Pend, Done, Refused, Upgrade, Switch, Note}
 use Rattle.mc_records.specs.Following.{AllFollowBy}
 use Rattle.ledger_model.specs.Histories.{History}
 use Rattle.ledger_model.specs.Pieces.{piece_of}
@@ -73,6 +73,9 @@ unmoved h (Withdraw m name amount reference) text all allowed none free = refl
 unmoved h (Draw m target sign drawn) text all allowed none free = refl
 unmoved h (Licence m vendor terms) text all allowed none free = refl
 unmoved h (Stock m vendor pieces) text all allowed none free = refl
+unmoved h (Upgrade m vendor issuer from) text all allowed none free = refl
+unmoved h (Switch m c) text all allowed none free = refl
+unmoved h (Note m tag bytes) text all allowed none free = refl
 unmoved h (Got m pieces) text all allowed none free = refl
 
 earlier : (h : History) (e : Entry) (text : List ℕ) → has_piece (h ++ e ∷ []) text ≡ false → has_piece h text ≡ false

@@ -2,6 +2,7 @@
 use Rattle.std.specs.Prelude.{◌≡◌, ℕ, ◌+◌, ◌≤◌, Bool, true, false, List, [], ◌∷◌, ◌++◌, length, option_to_list}
 use Rattle.mc_records.specs.declared.limits.Limits.{Limits}
 use Rattle.mc_records.specs.Entry.{Entry, Site, Got, Pend, Done}
+use Rattle.mc_records.specs.Chains.{has_switch}
 use Rattle.mc_records.specs.Sizes.{size}
 use Rattle.ledger_model.specs.Histories.{History, time}
 use Rattle.ledger_model.specs.Houses.{site_name}
@@ -11,7 +12,8 @@ use Rattle.wallet_book.specs.declared.kept.Kept.{Kept}
 use Rattle.wallet_book.specs.Parts.{PartsRepresent}
 
 -- Its name; its time, and that of its last entry; its pieces, in the order in which they came, and its kept requests,
--- in the order of their numbers; how many entries there are, and the bytes of their journal; its limits; and for how
+-- in the order of their numbers; how many entries there are, the bytes of their journal, and whether a Switch is among
+-- them; its limits; and for how
 -- many more pieces and requests there is room.
 pub record BookView : Type 0 where
   pub name : List ℕ
@@ -21,6 +23,7 @@ pub record BookView : Type 0 where
   pub kept : List Kept
   pub count : ℕ
   pub size : ℕ
+  pub switched : Bool
   pub limits : Limits
   pub room : ℕ
   pub kept_room : ℕ
@@ -34,6 +37,7 @@ pub record WalletRepresents (b : BookView) (h : History) : Type 0 where
   pub parts : PartsRepresent b.holdings b.kept h
   pub counted : length h ≡ b.count
   pub sized : size h ≡ b.size
+  pub switched : has_switch h ≡ b.switched
 
 -- ---- the first entry
 

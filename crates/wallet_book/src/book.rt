@@ -1,7 +1,8 @@
 //! What a wallet keeps in place of its book.
 
-ghost use Rattle.std.specs.Prelude.{◌≡◌, ◌==◌, ◌+◌, ◌-◌, ◌^◌, ◌<◌, ◌≤◌, ◌&&◌, ◌∷◌, [], ℕ, length, max, nat_le, true, vec_len, vec_capacity, map, find, option_map, OnOk, IfErr, MatchOption};
+ghost use Rattle.std.specs.Prelude.{◌||◌, ◌≡◌, ◌==◌, ◌+◌, ◌-◌, ◌^◌, ◌<◌, ◌≤◌, ◌&&◌, ◌∷◌, [], ℕ, length, max, nat_le, true, vec_len, vec_capacity, map, find, option_map, OnOk, IfErr, MatchOption};
 ghost use Rattle.mc_records.specs.declared.refusal.Refusal.TheVariants.{Nothing};
+ghost use Rattle.mc_records.specs.Chains.{TellsChain, has_switch};
 ghost use Rattle.mc_records.specs.Entry.{Fits, moment_of, payload};
 ghost use Rattle.mc_records.specs.Sizes.{size, entry_size};
 ghost use Rattle.mc_records.specs.Views.{entry};
@@ -25,7 +26,7 @@ use crate::holding::Holding;
 use crate::kept::Kept;
 use crate::parts::Parts;
 use mc_base::{Amount, Moment, NoMemory};
-use mc_records::{EMPTY_JOURNAL, FRAME, Limits, Record, Refusal};
+use mc_records::{EMPTY_JOURNAL, FRAME, Limits, Record, Refusal, tail_len};
 use scrip_form::{Name, ScripRef, Target};
 use std::alloc::Global;
 use std::marker::Model;
@@ -45,6 +46,8 @@ pub struct WalletBook {
     parts: Parts,
     count: u64,
     size: u64,
+    /// Whether a Switch is among the entries.
+    switched: bool,
     limits: Limits,
 }
 
@@ -55,7 +58,7 @@ impl Model for WalletBook {
 
     ghost Value = { BookView };
 
-    ghost view = { λ b. record { name = b.name; time = b.time; last = b.last; holdings = b.parts.holdings.list; kept = b.parts.kept.items; count = b.count; size = b.size; limits = b.limits; room = b.parts.holdings.room; kept_room = vec_capacity b.parts.kept - vec_len b.parts.kept } };
+    ghost view = { λ b. record { name = b.name; time = b.time; last = b.last; holdings = b.parts.holdings.list; kept = b.parts.kept.items; count = b.count; size = b.size; switched = b.switched; limits = b.limits; room = b.parts.holdings.room; kept_room = vec_capacity b.parts.kept - vec_len b.parts.kept } };
 
     ghost invariant = { λ b. (b.count ≤ b.size) × (b.size ≤ MOST_JOURNAL) };
 }
@@ -77,6 +80,7 @@ impl WalletBook {
             parts: Parts::new(alloc),
             count: 1,
             size: EMPTY_JOURNAL + site.payload_len() + FRAME,
+            switched: false,
             limits,
         }
     }
@@ -107,6 +111,13 @@ impl WalletBook {
         ensures { result ≡ self.now.size }
     {
         self.size
+    }
+
+    /// Whether a Switch is among them.
+    pub fn is_switched(&self) -> bool
+        ensures { result ≡ self.now.switched }
+    {
+        self.switched
     }
 
     /// How many entries it has: the number of the next one.
@@ -214,13 +225,15 @@ impl WalletBook {
 
     /// Learns the next entry, for which there is room. The time is raised to its moment where that is later.
     /// False exactly where the entry may not follow those before it; then nothing is said of the book. The
-    /// limit of the journal is not asked. It takes no memory.
+    /// limit of the journal is not asked, and a Switch is told to have the chain of the entries before it. It takes no
+    /// memory.
     pub fn learn(&mut self, r: &Record<'_>) -> bool
         requires fits { Fits (entry r.now) }
         requires room { HasRoom self.old (entry r.now) }
         ensures limits { self.new.limits ≡ self.old.limits }
         ensures time { result ≡ true → self.new.time ≡ max self.old.time (moment_of (entry r.now)) }
         ensures exact { (h : History) → WalletRepresents self.old h
+            → TellsChain h (entry r.now)
             → size h + entry_size h (entry r.now) ≤ Limits.MOST_JOURNAL
             → Learns self.new h (entry r.now) result }
     {
@@ -228,13 +241,14 @@ impl WalletBook {
         if moment.seconds() < self.last.seconds() {
             return false;
         }
-        let size = match grown(self.size, r.payload_len()) {
+        let size = match grown(self.size, r.payload_len(), tail_len(self.switched)) {
             Some(size) => size,
             None => return false,
         };
-        if !learn_entry(&mut self.parts, self.count, r) {
+        if !learn_entry(&mut self.parts, self.count, self.switched, r) {
             return false;
         }
+        self.switched = stands_with(r.is_switch(), self.switched);
         self.count += 1;
         self.size = size;
         self.last = moment;
@@ -256,12 +270,15 @@ fn name_of(site: &Record<'_>) -> Name
     }
 }
 
-/// How many bytes a journal of so many has with a payload of so many more; None exactly where no journal has so
-/// many.
-fn grown(size: u64, payload: u64) -> Option<u64>
-    ensures { MatchOption result (Limits.MOST_JOURNAL < size + payload + FRAME) (λ s. (s ≡ size + payload + FRAME) × (s ≤ Limits.MOST_JOURNAL)) }
+/// How many bytes a journal of so many has with a payload and a tail of so many more; None exactly where no journal
+/// has so many.
+fn grown(size: u64, payload: u64, tail: u64) -> Option<u64>
+    ensures { MatchOption result (Limits.MOST_JOURNAL < size + (payload + tail) + FRAME) (λ s. (s ≡ size + (payload + tail) + FRAME) × (s ≤ Limits.MOST_JOURNAL)) }
 {
-    let size = size.checked_add(payload)?.checked_add(FRAME)?;
+    let size = size
+        .checked_add(payload)?
+        .checked_add(tail)?
+        .checked_add(FRAME)?;
     if size <= Limits::MOST_JOURNAL {
         Some(size)
     } else {
@@ -297,13 +314,21 @@ fn requests_of(r: &Record<'_>) -> usize
     }
 }
 
+/// Whether a Switch stands with one entry more.
+fn stands_with(switches: bool, switched: bool) -> bool
+    ensures { result ≡ (switches || switched) }
+{
+    switches || switched
+}
+
 /// Learns an entry of a moment that is not before the last one. False exactly where the history does not allow it.
-fn learn_entry(parts: &mut Parts, number: u64, r: &Record<'_>) -> bool
+fn learn_entry(parts: &mut Parts, number: u64, switched: bool, r: &Record<'_>) -> bool
     requires fits { Fits (entry r.now) }
     requires pieces { brought_count (entry r.now) ≤ parts.old.holdings.room }
     requires requests { asked_count (entry r.now) ≤ vec_capacity parts.old.kept - vec_len parts.old.kept }
     ensures { (h : History) → IsWalletBook h → PartsRepresent parts.old.holdings.list parts.old.kept.items h
-        → length h ≡ number → LearnsEntry parts.new.holdings.list parts.new.kept.items h (entry r.now) result }
+        → length h ≡ number → has_switch h ≡ switched → TellsChain h (entry r.now)
+        → LearnsEntry parts.new.holdings.list parts.new.kept.items h (entry r.now) result }
 {
     match r {
         Record::Got { pieces, .. } => parts.learn_got(pieces),
@@ -326,6 +351,8 @@ fn learn_entry(parts: &mut Parts, number: u64, r: &Record<'_>) -> bool
             refusal,
             ..
         } => parts.learn_refused(*number, *refusal),
+        Record::Switch { .. } => !switched,
+        Record::Note { .. } => true,
         _ => false,
     }
 }

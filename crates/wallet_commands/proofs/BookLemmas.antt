@@ -40,6 +40,8 @@ journal_had disk j k h keeps rests is = record {
   stands = is.stands;
   size_is = sym rests.size ∙ is.size_is;
   entries_is = sym rests.entries ∙ is.entries_is;
+  switched_is = sym rests.switched ∙ is.switched_is;
+  chain_is = sym rests.chain ∙ is.chain_is;
   synced = λ c l. is.synced c ((keeps.leaves c).1 l);
 }
 
@@ -63,6 +65,7 @@ pub not_opened : {O : Type 0} (link : O → LinkView) (disk : O → DiskView) (b
     → NotOpened link disk bytes a (fault_status fault) (fault_disk fault)
 not_opened link disk bytes a (faults.NotJournal d) opens same = (opens, same)
 not_opened link disk bytes a (faults.BadRecord d place) opens same = (opens, same)
+not_opened link disk bytes a (faults.BadChain d place stood computed) opens same = ((stood, computed, opens), same)
 not_opened link disk bytes a (faults.Unlawful d place) opens same = (opens, same)
 not_opened link disk bytes a (faults.WrongKind d) opens same = (refl, opens, same)
 not_opened link disk bytes a (faults.NotEmpty d size) opens same = absurd opens

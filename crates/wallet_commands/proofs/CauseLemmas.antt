@@ -44,6 +44,7 @@ causes_from R S link disk a m b (ends.Did line) first so second = none_then link
 causes_from R S link disk a m b ends.NoMemory first so second = none_then link disk a m b first second
 causes_from R S link disk a m b ends.NotJournal first so second = none_then link disk a m b first second
 causes_from R S link disk a m b (ends.BadEntry place) first so second = none_then link disk a m b first second
+causes_from R S link disk a m b (ends.BadChain place) first so second = none_then link disk a m b first second
 causes_from R S link disk a m b (ends.UnlawfulEntry place) first so second = none_then link disk a m b first second
 causes_from R S link disk a m b (ends.Refused f) first so second = (none_then link disk a m b first second.0, so f second.1)
 causes_from R S link disk a m b (ends.Served n) first so second = absurd second
@@ -109,6 +110,7 @@ pub opening_causes : {O : Type 0} (A : Type 0) (link : O → LinkView) (disk : O
     → link (fault_disk fault) ≡ link a → WalletCauses link disk a (fault_status fault) (fault_disk fault)
 opening_causes A link disk a (faults.NotJournal d) counts same = record { disk' = counts; link' = ap (λ (v : LinkView). v.faults) same }
 opening_causes A link disk a (faults.BadRecord d place) counts same = record { disk' = counts; link' = ap (λ (v : LinkView). v.faults) same }
+opening_causes A link disk a (faults.BadChain d place stood computed) counts same = record { disk' = counts; link' = ap (λ (v : LinkView). v.faults) same }
 opening_causes A link disk a (faults.Unlawful d place) counts same = record { disk' = counts; link' = ap (λ (v : LinkView). v.faults) same }
 opening_causes A link disk a (faults.WrongKind d) counts same = (record { disk' = counts; link' = ap (λ (v : LinkView). v.faults) same }, same)
 opening_causes A link disk a (faults.NotEmpty d size) counts same = absurd counts
@@ -123,5 +125,6 @@ founding_causes A link disk a (faults.NoMemory d) counts same = record { disk' =
 founding_causes A link disk a (faults.Disk d) counts same = record { disk' = counts; link' = same }
 founding_causes A link disk a (faults.NotJournal d) counts same = absurd counts
 founding_causes A link disk a (faults.BadRecord d place) counts same = absurd counts
+founding_causes A link disk a (faults.BadChain d place stood computed) counts same = absurd counts
 founding_causes A link disk a (faults.Unlawful d place) counts same = absurd counts
 founding_causes A link disk a (faults.WrongKind d) counts same = absurd counts

@@ -22,7 +22,7 @@ use Rattle.command_status.specs.declared.status.Status.{Status}
 use Rattle.command_status.specs.declared.status.Status.TheVariants as ends
 use Rattle.command_status.specs.Statuses.{number_of}
 pub use Rattle.command_status.proofs.OpenLaws.{Calm}
-use Rattle.command_status.proofs.OpenLaws.{begins_with_header, not_spoiled, not_unlawful}
+use Rattle.command_status.proofs.OpenLaws.{begins_with_header, not_spoiled, not_unchained, not_unlawful}
 use Rattle.wallet_model.specs.Requests.{Pending, oldest_kept}
 use Rattle.wallet_model.specs.Holdings.{holdings}
 use Rattle.wallet_model.specs.Follows.{wallet_allows, WalletFollows, IsWalletBook}
@@ -52,6 +52,7 @@ grew_by link disk a b (ends.Did line) calm causes = stayed (link a).faults (link
 grew_by link disk a b ends.NoMemory calm causes = stayed (link a).faults (link b).faults causes.link'
 grew_by link disk a b ends.NotJournal calm causes = stayed (link a).faults (link b).faults causes.link'
 grew_by link disk a b (ends.BadEntry place) calm causes = stayed (link a).faults (link b).faults causes.link'
+grew_by link disk a b (ends.BadChain place) calm causes = stayed (link a).faults (link b).faults causes.link'
 grew_by link disk a b (ends.UnlawfulEntry place) calm causes = stayed (link a).faults (link b).faults causes.link'
 grew_by link disk a b (ends.Refused f) calm causes = stayed (link a).faults (link b).faults causes.0.link'
 grew_by link disk a b (ends.Served n) calm causes = absurd causes
@@ -69,6 +70,7 @@ init_grew link disk a b ends.Done calm causes = absurd causes
 init_grew link disk a b (ends.Did line) calm causes = absurd causes
 init_grew link disk a b ends.NotJournal calm causes = absurd causes
 init_grew link disk a b (ends.BadEntry place) calm causes = absurd causes
+init_grew link disk a b (ends.BadChain place) calm causes = absurd causes
 init_grew link disk a b (ends.UnlawfulEntry place) calm causes = absurd causes
 init_grew link disk a b (ends.Served n) calm causes = absurd causes
 init_grew link disk a b ends.BadWords calm causes = absurd causes
@@ -97,6 +99,7 @@ only_memory link disk h bytes a b ends.NoMemory st lawful calm causes not = refl
 only_memory link disk h bytes a b ends.DiskFault st lawful calm causes not = absurd (calm.disk' causes.disk')
 only_memory link disk h bytes a b ends.NotJournal st lawful calm causes not = absurd (not.0 (begins_with_header h bytes st))
 only_memory link disk h bytes a b (ends.BadEntry place) st lawful calm causes not = absurd (not_spoiled WalletFollows (Only 2) h bytes place st not.0)
+only_memory link disk h bytes a b (ends.BadChain place) st lawful calm causes not = absurd (not_unchained WalletFollows (Only 2) h bytes place not.0.0 not.0.1 st not.0.2)
 only_memory link disk h bytes a b (ends.UnlawfulEntry place) st lawful calm causes not = absurd (not_unlawful WalletFollows (Only 2) h bytes place st (λ empty. subst IsWalletBook empty lawful) (all_of h lawful) not.0)
 only_memory link disk h bytes a b (ends.Refused f) st lawful calm causes not = absurd (not_of_other h bytes st lawful not.1)
 only_memory link disk h bytes a b ends.LinkFault st lawful calm causes not = absurd not
@@ -123,6 +126,7 @@ init_well link disk a b ends.Done calm causes = absurd causes
 init_well link disk a b (ends.Did line) calm causes = absurd causes
 init_well link disk a b ends.NotJournal calm causes = absurd causes
 init_well link disk a b (ends.BadEntry place) calm causes = absurd causes
+init_well link disk a b (ends.BadChain place) calm causes = absurd causes
 init_well link disk a b (ends.UnlawfulEntry place) calm causes = absurd causes
 init_well link disk a b (ends.Served n) calm causes = absurd causes
 init_well link disk a b ends.BadWords calm causes = absurd causes
@@ -141,6 +145,7 @@ well_by link disk a b (ends.Did line) calm causes three = inl refl
 well_by link disk a b (ends.Refused f) calm causes three = inr (inr refl)
 well_by link disk a b ends.NotJournal calm causes three = absurd (three refl)
 well_by link disk a b (ends.BadEntry place) calm causes three = absurd (three refl)
+well_by link disk a b (ends.BadChain place) calm causes three = absurd (three refl)
 well_by link disk a b (ends.UnlawfulEntry place) calm causes three = absurd (three refl)
 well_by link disk a b (ends.Served n) calm causes three = absurd causes
 well_by link disk a b (ends.Founded name) calm causes three = absurd causes
@@ -155,9 +160,11 @@ told_as status other same readable is = readable (sym (ap number_of same) ∙ is
 took_readable : (d : DiskView) (h : History) (todo : Result Entry Refusal) (status : Status) → TookBy d h todo status → Readable status
 took_readable d h (Ok e) ends.NotJournal took is = took
 took_readable d h (Ok e) (ends.BadEntry place) took is = took
+took_readable d h (Ok e) (ends.BadChain place) took is = took
 took_readable d h (Ok e) (ends.UnlawfulEntry place) took is = took
 took_readable d h (Err f) ends.NotJournal took is = took
 took_readable d h (Err f) (ends.BadEntry place) took is = took
+took_readable d h (Err f) (ends.BadChain place) took is = took
 took_readable d h (Err f) (ends.UnlawfulEntry place) took is = took
 took_readable d h todo status took is = absurd (cc is)
 
@@ -203,6 +210,11 @@ settled_readable h t n p r before (ends.BadEntry place) d after settles is = by_
     by_end : ((ends.BadEntry place ≡ ended_by p r) × EncodesWallet d (h ++ settlement h t n p r ∷ [])) ⊎ ((f : Refusal) × (ends.BadEntry place ≡ ends.Refused f) × (fitted h FULL (settlement h t n p r) ≡ Err (lines.Refuse f)) × EncodesWallet d h) → ⊥
     by_end (inl done) = told_as (ends.BadEntry place) (ended_by p r) done.0 (ended_readable p r) refl
     by_end (inr full) = told_as (ends.BadEntry place) (ends.Refused full.0) full.1 (λ e. cc e) refl
+settled_readable h t n p r before (ends.BadChain place) d after settles is = by_end settles.1
+  where
+    by_end : ((ends.BadChain place ≡ ended_by p r) × EncodesWallet d (h ++ settlement h t n p r ∷ [])) ⊎ ((f : Refusal) × (ends.BadChain place ≡ ends.Refused f) × (fitted h FULL (settlement h t n p r) ≡ Err (lines.Refuse f)) × EncodesWallet d h) → ⊥
+    by_end (inl done) = told_as (ends.BadChain place) (ended_by p r) done.0 (ended_readable p r) refl
+    by_end (inr full) = told_as (ends.BadChain place) (ends.Refused full.0) full.1 (λ e. cc e) refl
 settled_readable h t n p r before (ends.UnlawfulEntry place) d after settles is = by_end settles.1
   where
     by_end : ((ends.UnlawfulEntry place ≡ ended_by p r) × EncodesWallet d (h ++ settlement h t n p r ∷ [])) ⊎ ((f : Refusal) × (ends.UnlawfulEntry place ≡ ends.Refused f) × (fitted h FULL (settlement h t n p r) ≡ Err (lines.Refuse f)) × EncodesWallet d h) → ⊥

@@ -47,5 +47,6 @@ not_founded disk name moment bytes a m (faults.NoMemory d) keeps by read = read.
 not_founded disk name moment bytes a m (faults.Disk d) keeps by read = tt
 not_founded disk name moment bytes a m (faults.NotJournal d) keeps by read = absurd by
 not_founded disk name moment bytes a m (faults.BadRecord d place) keeps by read = absurd by
+not_founded disk name moment bytes a m (faults.BadChain d place stood computed) keeps by read = absurd by
 not_founded disk name moment bytes a m (faults.Unlawful d place) keeps by read = absurd by
 not_founded disk name moment bytes a m (faults.WrongKind d) keeps by read = absurd by

@@ -7,7 +7,7 @@ use Rattle.mc_records.specs.Entry.{Entry}
 use Rattle.mc_records.specs.declared.refusal.Refusal.TheVariants as refusals
 use Rattle.ledger_model.specs.Histories.{History}
 use Rattle.scrip_journal.specs.Layout.{header, Encodes}
-use Rattle.scrip_journal.specs.Causes.{Only, SpoilsAt, IsUnlawfulAt, IsOfOther}
+use Rattle.scrip_journal.specs.Causes.{Only, SpoilsAt, UnchainsAt, IsUnlawfulAt, IsOfOther}
 use Rattle.command_status.specs.declared.status.Status.{Status}
 use Rattle.command_status.specs.declared.status.Status.TheVariants as ends
 use Rattle.mc_records.specs.declared.limits.TheConstants.Limits.{FULL}
@@ -51,6 +51,7 @@ NotOpened link disk bytes a ends.DiskFault b = Untouched link disk a b
 NotOpened link disk bytes a ends.NoMemory b = Untouched link disk a b
 NotOpened link disk bytes a ends.NotJournal b = (BeginsWith header bytes → ⊥) × Untouched link disk a b
 NotOpened link disk bytes a (ends.BadEntry place) b = SpoilsAt WalletFollows (Only 2) bytes place × Untouched link disk a b
+NotOpened link disk bytes a (ends.BadChain place) b = ((stood : List ℕ) × (computed : List ℕ) × UnchainsAt WalletFollows (Only 2) bytes place stood computed) × Untouched link disk a b
 NotOpened link disk bytes a (ends.UnlawfulEntry place) b = IsUnlawfulAt WalletFollows (Only 2) bytes place × Untouched link disk a b
 NotOpened link disk bytes a (ends.Refused f) b = (f ≡ refusals.WrongKind) × IsOfOther (Only 2) bytes × Untouched link disk a b
 NotOpened link disk bytes a _ b = ⊥

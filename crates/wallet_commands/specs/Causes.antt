@@ -98,6 +98,7 @@ CausesBy Why link disk a (ends.Did line) b = NoneFailed link disk a b
 CausesBy Why link disk a ends.NoMemory b = NoneFailed link disk a b
 CausesBy Why link disk a ends.NotJournal b = NoneFailed link disk a b
 CausesBy Why link disk a (ends.BadEntry place) b = NoneFailed link disk a b
+CausesBy Why link disk a (ends.BadChain place) b = NoneFailed link disk a b
 CausesBy Why link disk a (ends.UnlawfulEntry place) b = NoneFailed link disk a b
 CausesBy Why link disk a (ends.Refused f) b = NoneFailed link disk a b × Why f (link a) (link b)
 CausesBy Why link disk a _ b = ⊥

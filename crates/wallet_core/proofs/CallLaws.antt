@@ -14,7 +14,7 @@ use Rattle.wallet_model.specs.Requests.{Pending, pending_in, is_kept}
 use Rattle.wallet_model.specs.Follows.{IsWalletBook}
 use Rattle.wallet_model.specs.Holdings.{texts_came}
 use Rattle.wallet_model.specs.Laws.{HasItsPiece}
-use Rattle.wallet_model.specs.Settling.{fits_request, is_proved, check_of, settlement}
+use Rattle.wallet_model.specs.Settling.{fits_request, is_proved, check_of}
 use Rattle.wallet_model.proofs.FitLaws.{settlement_fits, requests_have}
 use Rattle.reply_reader.specs.Replies.{Received}
 use Rattle.wallet_book.specs.Kept.{kept_in}

@@ -7,7 +7,7 @@ use Rattle.mc_records.specs.declared.limits.TheConstants.Limits.{MOST_JOURNAL}
 use Rattle.mc_records.specs.declared.refusal.Refusal.TheVariants.{JournalFull}
 use Rattle.mc_records.specs.declared.sizes.TheConstants.{FRAME}
 use Rattle.mc_records.specs.Entry.{Entry, payload}
-use Rattle.mc_records.specs.Sizes.{size, entry_size}
+use Rattle.mc_records.specs.Sizes.{size, entry_size, tail_bytes}
 use Rattle.ledger_model.specs.Histories.{History}
 use Rattle.ledger_model.specs.Lines.{Refuse, ◌>>=◌, refused_if}
 use Rattle.ledger_model.specs.Answer.{fitted}
@@ -29,14 +29,14 @@ passed_by : (e : Entry) (full : Bool) (n m : ℕ) → full ≡ false → (refuse
 passed_by e false n m is = refl
 passed_by e true n m is = absurd cc
 
--- with this many bytes the journal is within its limit
-pub fits : (b : BookView) (h : History) (e : Entry) (n : ℕ) → WalletRepresents b h → n ≡ length (payload e) → b.size + n + FRAME ≤ b.limits.journal → fitted h b.limits e ≡ Ok e
-fits b h e n is long within = passed_by e _ (size h) (length (payload e)) (le-ltb b.limits.journal (size h + entry_size h e) (omega (arith, long_entry h e, is.sized, long, within)))
+-- with this many bytes of a payload the journal is within its limit
+pub fits : (b : BookView) (h : History) (e : Entry) (n : ℕ) → WalletRepresents b h → n ≡ length (payload e) → b.size + n + tail_bytes b.switched + FRAME ≤ b.limits.journal → fitted h b.limits e ≡ Ok e
+fits b h e n is long within = passed_by e _ (size h) (length (payload e)) (le-ltb b.limits.journal (size h + entry_size h e) (omega (arith, long_entry h e, ap tail_bytes is.switched, is.sized, long, within)))
 
 -- or it passes it
-pub is_full : (b : BookView) (h : History) (e : Entry) (n : ℕ) → WalletRepresents b h → n ≡ length (payload e) → b.limits.journal < b.size + n + FRAME → fitted h b.limits e ≡ Err (Refuse (JournalFull b.size n))
+pub is_full : (b : BookView) (h : History) (e : Entry) (n : ℕ) → WalletRepresents b h → n ≡ length (payload e) → b.limits.journal < b.size + n + tail_bytes b.switched + FRAME → fitted h b.limits e ≡ Err (Refuse (JournalFull b.size n))
 is_full b h e n is long over =
-    refused_by e _ (size h) (length (payload e)) (lt-ltb b.limits.journal (size h + entry_size h e) (omega (arith, long_entry h e, is.sized, long, over)))
+    refused_by e _ (size h) (length (payload e)) (lt-ltb b.limits.journal (size h + entry_size h e) (omega (arith, long_entry h e, ap tail_bytes is.switched, is.sized, long, over)))
     ∙ ap (λ (s : ℕ). Err (Refuse (JournalFull s (length (payload e))))) is.sized ∙ ap (λ (k : ℕ). Err (Refuse (JournalFull b.size k))) (sym long)
 
 -- what fits does not pass it

@@ -32,6 +32,27 @@ pub performs_as : {D A : Type 0} (view : D → DiskView) (old : Wallet D) (h : H
 performs_as view old h e todo T U r is so performs =
     subst (λ (t : Result Entry Refusal). Performs view old h t U r) (sym is) (record { adds = tells_as view old h e T U r so performs.adds; ran = performs.ran })
 
+-- ---- another answer in the place of one
+
+module _ {D A B : Type 0} (view : D → DiskView) (old : Wallet D) (h : History) (e : Entry) (T : Entry → A → Type 0) (U : Entry → B → Type 0) where
+  -- the entry was added
+  pub done_so : (x : Wallet D) (a : A) (b : B) → U e b → Performs view old h (Ok e) T (Done x a) → Performs view old h (Ok e) U (Done x b)
+  done_so x a b told is = record { adds = (is.adds.0, told); ran = is.ran }
+
+  -- it was refused
+  pub refused_so : (x : Wallet D) (f : Refusal) → Performs view old h (Ok e) T (Refused x f) → Performs view old h (Ok e) U (Refused x f)
+  refused_so x f is = record { adds = is.adds; ran = is.ran }
+
+  -- memory was refused
+  pub wanting_so : (x : Wallet D) → Performs view old h (Ok e) T (NoMemory x) → Performs view old h (Ok e) U (NoMemory x)
+  wanting_so x is = record { adds = is.adds; ran = is.ran }
+
+  -- the disk failed
+  pub halted_so : (d : D) → Performs view old h (Ok e) T (Halted d) → Performs view old h (Ok e) U (Halted d)
+  halted_so d is = record { adds = is.adds; ran = is.ran }
+
+-- ---- what is told
+
 -- what is answered is told by less
 pub tells_more : {D A : Type 0} (R S : Refusal → Type 0) (T U : A → Type 0) (out : WalletOut D A) → ((f : Refusal) → R f → S f) → ((a : A) → T a → U a) → TellsOnly R T out → TellsOnly S U out
 tells_more R S T U (Done x a) so to told = to a told

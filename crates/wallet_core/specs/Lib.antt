@@ -6,4 +6,5 @@ pub mod Fitting
 pub mod Checking
 pub mod Answers
 pub mod Outcomes
+pub mod Switching
 pub mod Rests

@@ -3,14 +3,15 @@ use Rattle.std.specs.Prelude.{◌≡◌, ℕ, List, [], ◌∷◌, Result, Ok, E
 use Rattle.mc_outside.specs.Bytes.{BeginsWith}
 use Rattle.mc_outside.specs.DiskView.{DiskView}
 use Rattle.mc_records.specs.declared.limits.Limits.{Limits}
+use Rattle.mc_records.specs.Chains.{TellsChain}
 use Rattle.mc_records.specs.Entry.{Entry, moment_of}
 use Rattle.mc_records.specs.Limits.{AreInRange}
 use Rattle.ledger_model.specs.Histories.{History, time}
 use Rattle.scrip_journal.specs.Layout.{header, Encodes}
 use Rattle.scrip_journal.specs.Founds.{fault_disk, IsFree, IsTaken}
-use Rattle.scrip_journal.specs.Causes.{Only, SpoilsAt, IsUnlawfulAt, IsOfOther}
+use Rattle.scrip_journal.specs.Causes.{Only, SpoilsAt, UnchainsAt, IsUnlawfulAt, IsOfOther}
 use Rattle.scrip_journal.specs.declared.fault.HouseFault.{HouseFault}
-use Rattle.scrip_journal.specs.declared.fault.HouseFault.TheVariants.{NotJournal, BadRecord, Unlawful, WrongKind, NotEmpty, Disk, NoMemory}
+use Rattle.scrip_journal.specs.declared.fault.HouseFault.TheVariants.{NotJournal, BadRecord, BadChain, Unlawful, WrongKind, NotEmpty, Disk, NoMemory}
 use Rattle.book_opening.specs.Opener.{OpenerView}
 use Rattle.wallet_model.specs.Follows.{WalletFollows}
 use Rattle.wallet_book.specs.Book.{BookView, WalletRepresents}
@@ -55,6 +56,7 @@ abbrev pub OpensWallet : {D : Type 0} → (D → DiskView) → Limits → List �
 OpensWallet view limits bytes (Ok x) = OpenedFor view limits bytes x
 OpensWallet view limits bytes (Err (NotJournal d)) = BeginsWith header bytes → ⊥
 OpensWallet view limits bytes (Err (BadRecord d place)) = SpoilsAt WalletFollows (Only 2) bytes place
+OpensWallet view limits bytes (Err (BadChain d place stood computed)) = UnchainsAt WalletFollows (Only 2) bytes place stood computed
 OpensWallet view limits bytes (Err (Unlawful d place)) = IsUnlawfulAt WalletFollows (Only 2) bytes place
 OpensWallet view limits bytes (Err (WrongKind d)) = IsOfOther (Only 2) bytes
 OpensWallet view limits bytes (Err (NotEmpty d count)) = ⊥
@@ -70,4 +72,4 @@ pub record StandsAt (b : BookView) (h : History) : Type 0 where
 
 -- A book is opened as a wallet by the laws of wallets.
 abbrev pub opener_of : WalletOpener → OpenerView BookView
-opener_of o = record { ready = AreInRange o.limits; may = WalletFollows; kinds = Only 2; belongs = λ b. b.limits ≡ o.limits; holds = StandsAt }
+opener_of o = record { ready = AreInRange o.limits; may = WalletFollows; asks = TellsChain; kinds = Only 2; belongs = λ b. b.limits ≡ o.limits; holds = StandsAt }

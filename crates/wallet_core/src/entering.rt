@@ -10,20 +10,19 @@ ghost use Rattle.wallet_book.specs.Book.{WalletRepresents};
 ghost use Rattle.wallet_core.specs.Wallet.{WalletStands};
 ghost use Rattle.wallet_core.specs.Outcomes.{HandsBack, Performs};
 ghost use Rattle.wallet_core.specs.Fitting.{IsFitted};
-ghost use Rattle.wallet_core.specs.Answers.{TellsOnly, IsFull};
+ghost use Rattle.wallet_core.specs.Answers.{TellsNumber, TellsOnly, Any, IsFull};
 
 use crate::outcome::WalletOut;
 use crate::wallet::Wallet;
 use mc_base::NoMemory;
 use mc_outside::Disk;
-use mc_records::{FRAME, Record, Refusal};
-use scrip_journal::StageFault;
+use mc_records::{FRAME, Record, Refusal, tail_len};
+use scrip_journal::{Receipt, StageFault};
 use wallet_book::WalletBook;
 
 impl<D: Disk> Wallet<D> {
-    /// Adds an entry of the wallet's time that may follow its book, and answers what is to be told then: the entry is
-    /// on the disk behind an open gate, and then it is learned. All memory is taken before anything is written. It
-    /// is refused only where the journal has no room for it, with 33 `JournalFull`.
+    /// Adds an entry of the wallet's time that may follow its book, and answers what is to be told then. It is refused
+    /// only where the journal has no room for it, with 33 `JournalFull`.
     pub(crate) fn enter<A: Copy>(self, r: &Record<'_>, answer: A) -> WalletOut<D, A>
         requires fits { Fits (entry r.now) }
         requires now { moment_of (entry r.now) ≡ self.book.time }
@@ -32,6 +31,26 @@ impl<D: Disk> Wallet<D> {
         ensures exact { (h : History) → WalletStands D.disk self h
             → Performs D.disk self h (Ok (entry r.now)) (λ e a. a ≡ answer) result }
         ensures told { TellsOnly IsFull (λ a. a ≡ answer) result }
+    {
+        match self.add(r) {
+            WalletOut::Done(wallet, _receipt) => WalletOut::Done(wallet, answer),
+            WalletOut::Refused(wallet, full) => WalletOut::Refused(wallet, full),
+            WalletOut::NoMemory(wallet) => WalletOut::NoMemory(wallet),
+            WalletOut::Halted(halted) => WalletOut::Halted(halted),
+        }
+    }
+
+    /// Adds an entry of the wallet's time that may follow its book, and answers its receipt: the entry is on the disk
+    /// behind an open gate, and then it is learned. All memory is taken before anything is written. It is refused only
+    /// where the journal has no room for it, with 33 `JournalFull`.
+    pub(crate) fn add(self, r: &Record<'_>) -> WalletOut<D, Receipt>
+        requires fits { Fits (entry r.now) }
+        requires now { moment_of (entry r.now) ≡ self.book.time }
+        requires may { (h : History) → WalletStands D.disk self h → WalletFollows h (entry r.now) }
+        ensures back { HandsBack D.disk D.disk_moved self result }
+        ensures exact { (h : History) → WalletStands D.disk self h
+            → Performs D.disk self h (Ok (entry r.now)) (TellsNumber h) result }
+        ensures told { TellsOnly IsFull Any result }
     {
         let mut wallet = self;
         match room_for(&wallet.book, r) {
@@ -48,7 +67,7 @@ impl<D: Disk> Wallet<D> {
             mut book,
         } = wallet;
         match journal.append(r) {
-            Ok((journal, _)) => {
+            Ok((journal, receipt)) => {
                 // It may follow, so it is learned wherever the wallet stands for a history.
                 let _learned = book.learn(r);
                 WalletOut::Done(
@@ -57,7 +76,7 @@ impl<D: Disk> Wallet<D> {
                         journal,
                         book,
                     },
-                    answer,
+                    receipt,
                 )
             }
             // It fits, so this comes only where the wallet stands for no history.
@@ -85,16 +104,18 @@ fn room_for(book: &WalletBook, r: &Record<'_>) -> Result<(), Refusal>
     ensures refused { IfErr result IsFull }
 {
     let (size, payload) = (book.size(), r.payload_len());
-    if is_within(size, payload, book.limits().journal) {
+    let tail = tail_len(book.is_switched());
+    if is_within(size, payload, tail, book.limits().journal) {
         Ok(())
     } else {
         Err(Refusal::JournalFull(size, payload))
     }
 }
 
-/// Whether a journal of so many bytes stays within a limit with a payload of so many more.
-fn is_within(size: u64, payload: u64, limit: u64) -> bool
-    ensures { result ≡ nat_le (size + payload + FRAME) limit }
+/// Whether a journal of so many bytes stays within a limit with a payload and a tail of so many more.
+fn is_within(size: u64, payload: u64, tail: u64, limit: u64) -> bool
+    ensures { result ≡ nat_le (size + payload + tail + FRAME) limit }
 {
-    u128::from(size) + u128::from(payload) + u128::from(FRAME) <= u128::from(limit)
+    u128::from(size) + u128::from(payload) + u128::from(tail) + u128::from(FRAME)
+        <= u128::from(limit)
 }

@@ -1,5 +1,6 @@
 //! A wallet over a journal: what it has learned of its book is in memory (`wallet_book`), and its journal is
-//! founded, opened entry by entry, and written by the calls that take pieces, ask and settle (`calls.rt`).
+//! founded, opened entry by entry, and written by the calls that take pieces, ask and settle (`calls.rt`), and by the
+//! one that switches it (`switching.rt`).
 #![tactic(auto)]
 
 mod calls;
@@ -9,6 +10,7 @@ mod found;
 mod links;
 mod opening;
 mod outcome;
+mod switching;
 mod wallet;
 
 pub use checked::Checked;

@@ -22,7 +22,7 @@ pub(crate) struct WalletOpener {
 
 impl Opener for WalletOpener {
     ghost use Rattle.wallet_core.specs.Opening.{opener_of};
-    ghost use Rattle.wallet_core.specs.First.{site_first};
+    ghost use Rattle.wallet_core.specs.First.{site_first, tells_chain};
 
     type Learner = WalletBook;
 
@@ -35,6 +35,10 @@ impl Opener for WalletOpener {
     fn begin(self, alloc: Global, first: &Record<'_>) -> Result<WalletBook, LearnFault> {
         let WalletOpener { limits } = self;
         Ok(WalletBook::new(alloc, first, limits))
+    }
+
+    fn is_told(r: &Record<'_>, before: &[u8; 32]) -> bool {
+        r.tells(before)
     }
 
     fn learn(book: &mut WalletBook, r: &Record<'_>) -> Result<(), LearnFault> {
@@ -50,13 +54,16 @@ impl Opener for WalletOpener {
     }
 
     ghost site_first = { λ o. site_first };
+
+    ghost told_first = { λ o. tells_chain };
 }
 
 /// Opens the book that the disk has as a wallet. Its journal may grow to `limits.journal` bytes; its time is
 /// that of the last entry.
 ///
 /// `NotJournal` comes where the disk does not begin with the header of a journal, and `BadRecord` where
-/// its bytes can't stand, from the place told on. `Unlawful` tells the place of the gate of the first
+/// its bytes can't stand, from the place told on; `BadChain` where an entry has another chain than the one computed.
+/// `Unlawful` tells the place of the gate of the first
 /// entry that may not follow those before it, and 8 where there is no entry at all. `WrongKind` comes
 /// where the book is not that of a wallet. `Disk` comes only where the disk failed. Nothing is written, and each
 /// fault hands the disk back.

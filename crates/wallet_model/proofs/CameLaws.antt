@@ -8,7 +8,7 @@ use Rattle.std.specs.List.{list_any}
 use Rattle.mc_fields.specs.Reading.{literal_at}
 use Rattle.scrip_form.specs.Scrip.{Scrip}
 use Rattle.scrip_form.specs.Reading.{scrip_of, scrip_at}
-use Rattle.mc_records.specs.Entry.{Held, Entry, Site, AddTerms, Goods, Accept, Mint, Account, Deposit, Withdraw, Draw, Licence, Stock, Got, Pend, Done, Refused}
+use Rattle.mc_records.specs.Entry.{Held, Entry, Site, AddTerms, Goods, Accept, Mint, Account, Deposit, Withdraw, Draw, Licence, Stock, Got, Pend, Done, Refused, Upgrade, Switch, Note}
 use Rattle.ledger_model.specs.Histories.{History}
 use Rattle.ledger_model.specs.Pieces.{piece_of}
 use Rattle.wallet_model.specs.Requests.{Pending, is_kept}
@@ -130,6 +130,9 @@ brings_new h (Withdraw m name amount reference) allowed = refl
 brings_new h (Draw m target sign drawn) allowed = refl
 brings_new h (Licence m vendor terms) allowed = refl
 brings_new h (Stock m vendor pieces) allowed = refl
+brings_new h (Upgrade m vendor issuer from) allowed = refl
+brings_new h (Switch m c) allowed = refl
+brings_new h (Note m tag bytes) allowed = refl
 brings_new h (Pend m ask peer target scrip secret) allowed = refl
 brings_new h (Refused m n refusal) allowed = refl
 

@@ -6,7 +6,7 @@ use Rattle.std.proofs.lemmas.List.Folds.{list_any-append}
 use Rattle.std.proofs.lemmas.Slice.Eq.{bytes_eq-Decides}
 use Rattle.std.specs.Prelude.{◌==◌, not, is_some}
 use Rattle.std.specs.List.{list_any}
-use Rattle.mc_records.specs.Entry.{Held, Entry, Site, AddTerms, Goods, Accept, Mint, Account, Deposit, Withdraw, Draw, Licence, Stock, Got, Pend, Done, Refused}
+use Rattle.mc_records.specs.Entry.{Held, Entry, Site, AddTerms, Goods, Accept, Mint, Account, Deposit, Withdraw, Draw, Licence, Stock, Got, Pend, Done, Refused, Upgrade, Switch, Note}
 use Rattle.mc_records.specs.Following.{AllFollowBy}
 use Rattle.ledger_model.specs.Histories.{History}
 use Rattle.ledger_model.proofs.ListLaws.{counts_cons, counts_append, counts_none}
@@ -16,7 +16,7 @@ use Rattle.wallet_model.specs.Follows.{is_wallet, asks_rightly, wallet_allows, W
 use Rattle.wallet_model.specs.Laws.{is_pending, is_last}
 use Rattle.wallet_model.proofs.BookLaws.{walked, all_split, all_of_book}
 use Rattle.wallet_model.proofs.PieceLaws.{state_more}
-use Rattle.wallet_model.proofs.KeptLaws.{by_cases, both_left, both_right, not_true, kept_pend, kept_done, kept_refused, kept_got, not_kept, kept_at, count_without}
+use Rattle.wallet_model.proofs.KeptLaws.{by_cases, both_left, both_right, not_true, kept_pend, kept_done, kept_refused, kept_got, kept_switch, kept_note, not_kept, kept_at, count_without}
 
 abbrev one_if : Bool → ℕ
 one_if b = cond b 1 0
@@ -46,6 +46,9 @@ settles_kept h (Withdraw m name amount reference) n allowed is = absurd cc
 settles_kept h (Draw m target sign drawn) n allowed is = absurd cc
 settles_kept h (Licence m vendor terms) n allowed is = absurd cc
 settles_kept h (Stock m vendor pieces) n allowed is = absurd cc
+settles_kept h (Upgrade m vendor issuer from) n allowed is = absurd cc
+settles_kept h (Switch m c) n allowed is = absurd cc
+settles_kept h (Note m tag bytes) n allowed is = absurd cc
 settles_kept h (Got m pieces) n allowed is = absurd cc
 settles_kept h (Pend m ask peer target scrip secret) n allowed is = absurd cc
 
@@ -249,6 +252,9 @@ counted_step h (Withdraw m name amount reference) before allowed text = absurd (
 counted_step h (Draw m target sign drawn) before allowed text = absurd (both_false (is_wallet h) allowed)
 counted_step h (Licence m vendor terms) before allowed text = absurd (both_false (is_wallet h) allowed)
 counted_step h (Stock m vendor pieces) before allowed text = absurd (both_false (is_wallet h) allowed)
+counted_step h (Upgrade m vendor issuer from) before allowed text = absurd (both_false (is_wallet h) allowed)
+counted_step h (Switch m c) before allowed text = quiet_step h (Switch m c) before (kept_switch h m c) text refl
+counted_step h (Note m tag bytes) before allowed text = quiet_step h (Note m tag bytes) before (kept_note h m tag bytes) text refl
 
 paid_step : (h : History) (e : Entry) → Paid h → WalletFollows h e → Paid (h ++ e ∷ [])
 paid_step h e before follows = record {
@@ -325,6 +331,9 @@ no_move h (Withdraw m name amount reference) text paid allowed last = refl
 no_move h (Draw m target sign drawn) text paid allowed last = refl
 no_move h (Licence m vendor terms) text paid allowed last = refl
 no_move h (Stock m vendor pieces) text paid allowed last = refl
+no_move h (Upgrade m vendor issuer from) text paid allowed last = refl
+no_move h (Switch m c) text paid allowed last = refl
+no_move h (Note m tag bytes) text paid allowed last = refl
 
 record Stays (text : List ℕ) (s : PieceState) (h : History) : Type 0 where
   paid : Paid h

@@ -7,9 +7,9 @@ use Rattle.hex.specs.Hex.{encode_with}
 use Rattle.md5.specs.Md5.{md5, block_words, rounds, compress, hash_after, digest_bytes}
 use Rattle.mc_fields.specs.Reading.{literal_at, field_at, field_of, digit_of, digit_at, hex_at}
 use Rattle.mc_fields.specs.Texts.{is_text}
-use Rattle.scrip_form.specs.Scrip.{scrip_body, scrip_text}
+use Rattle.scrip_form.specs.Scrip.{scrip_body, scrip_text, text_version}
 use Rattle.scrip_form.specs.Reading.{scrip_of, scrip_at, id_at}
-use Rattle.scrip_certs.specs.Digests.{request_signature, reply_signature}
+use Rattle.scrip_certs.specs.Digests.{digest, request_signature, reply_signature}
 use Rattle.mc_records.specs.declared.refusal.Refusal.TheVariants as refusals
 use Rattle.mc_records.specs.Errands.{errand_of}
 use Rattle.mc_records.specs.Entry.{Held, Entry, Site, Got, Pend, Done, Refused}
@@ -108,7 +108,7 @@ unfolding scrip_of scrip_at id_at literal_at field_at digit_of digit_at hex_at s
 row_pend_twice = refl
 
 row_bytes : request_bytes request ≡ codes "GET /news/1 HTTP/1.1\r\nHost: news.example\r\nMillicent-Scrip: MS1|news.example|100|010000f400000000|010000f400000000|1011712||4e3f1e4725094e8e0ed2c25ebc26515d\r\nMillicent-Sign: e596c3d1b8ccf61661706f656dc46967\r\nConnection: close\r\n\r\n"
-unfolding request_bytes request_signature encode_with md5 block_words rounds compress hash_after digest_bytes
+unfolding request_bytes request_signature text_version digest encode_with md5 block_words rounds compress hash_after digest_bytes
 row_bytes = refl
 
 row_kept : (kept_requests asked ≡ (2, request) ∷ []) × (oldest_kept asked news ≡ Some (2, request)) × (oldest_kept asked bank ≡ None) × (kept_get asked news page ≡ Some (2, request)) × (kept_get asked news (codes "/news/2") ≡ None)
@@ -118,7 +118,7 @@ row_pending : holdings asked ≡ (record { text = p1; secret = k1; state = pendi
 row_pending = refl
 
 row_checked : check_of request reply ≡ None
-unfolding check_of scrip_of scrip_at id_at literal_at field_at field_of digit_of digit_at hex_at scrip_body encode_with digits reply_signature md5 block_words rounds compress hash_after digest_bytes
+unfolding check_of scrip_of scrip_at id_at literal_at field_at field_of digit_of digit_at hex_at scrip_body encode_with digits reply_signature text_version digest md5 block_words rounds compress hash_after digest_bytes
 row_checked = refl
 
 row_settled : settlement asked 1000000 2 request reply ≡ done
@@ -141,22 +141,22 @@ row_settled_twice = refl
 
 -- one digit of the signature is another
 row_unproved : check_of request (record reply { sign = codes "6d04ea69e9d75ecd8309b26b44acffc8" }) ≡ Some refusals.Unproved
-unfolding check_of scrip_of scrip_at id_at literal_at field_at field_of digit_of digit_at hex_at scrip_body encode_with digits reply_signature md5 block_words rounds compress hash_after digest_bytes
+unfolding check_of scrip_of scrip_at id_at literal_at field_at field_of digit_of digit_at hex_at scrip_body encode_with digits reply_signature text_version digest md5 block_words rounds compress hash_after digest_bytes
 row_unproved = refl
 
 -- change of another value is no reply to this request, though it is rightly signed
 row_wrong_change : check_of request (record reply { price = codes "26"; sign = codes "515fbeace818cb3495ce9513419547dc" }) ≡ Some refusals.BadReply
-unfolding check_of scrip_of scrip_at id_at literal_at field_at field_of digit_of digit_at hex_at scrip_body encode_with digits reply_signature md5 block_words rounds compress hash_after digest_bytes
+unfolding check_of scrip_of scrip_at id_at literal_at field_at field_of digit_of digit_at hex_at scrip_body encode_with digits reply_signature text_version digest md5 block_words rounds compress hash_after digest_bytes
 row_wrong_change = refl
 
 -- nor is a price above the value of the piece
 row_above : check_of request (record reply { price = codes "101"; change = codes "-"; sign = codes "439cda3be801be9de1dc56397ee37589" }) ≡ Some refusals.BadReply
-unfolding check_of scrip_of scrip_at id_at literal_at field_at field_of digit_of digit_at hex_at scrip_body encode_with digits reply_signature md5 block_words rounds compress hash_after digest_bytes
+unfolding check_of scrip_of scrip_at id_at literal_at field_at field_of digit_of digit_at hex_at scrip_body encode_with digits reply_signature text_version digest md5 block_words rounds compress hash_after digest_bytes
 row_above = refl
 
 -- the whole value, without change
 row_whole : check_of request (record reply { price = codes "100"; change = codes "-"; sign = codes "be4240ec277ecc57af56ab77ab89db16" }) ≡ None
-unfolding check_of scrip_of scrip_at id_at literal_at field_at field_of digit_of digit_at hex_at scrip_body encode_with digits reply_signature md5 block_words rounds compress hash_after digest_bytes
+unfolding check_of scrip_of scrip_at id_at literal_at field_at field_of digit_of digit_at hex_at scrip_body encode_with digits reply_signature text_version digest md5 block_words rounds compress hash_after digest_bytes
 row_whole = refl
 
 -- ---- signed refusals
@@ -174,7 +174,7 @@ abbrev dear : Received
 dear = refused_with 402 (codes "31 TooLittle 101") (codes "101") (codes "ee555ee4564a80140b9738c0d8f9d2c0")
 
 row_signed_refusals : (check_of request spent ≡ None) × (check_of request late ≡ None) × (check_of request dear ≡ None)
-unfolding check_of scrip_of scrip_at id_at literal_at field_at field_of digit_of digit_at hex_at scrip_body encode_with digits reply_signature md5 block_words rounds compress hash_after digest_bytes
+unfolding check_of scrip_of scrip_at id_at literal_at field_at field_of digit_of digit_at hex_at scrip_body encode_with digits reply_signature text_version digest md5 block_words rounds compress hash_after digest_bytes
 row_signed_refusals = (refl, refl, refl)
 
 row_refused : (settlement asked 1000000 2 request spent ≡ Refused 1000000 2 27) × (settlement asked 1011712 2 request late ≡ Refused 1011712 2 26) × (settlement asked 1000000 2 request dear ≡ Refused 1000000 2 31)
@@ -228,16 +228,16 @@ unfolding digits
 row_draw = refl
 
 row_draw_bytes : request_bytes draw_request ≡ codes "GET /draw/ann/5/300 HTTP/1.1\r\nHost: bank\r\nMillicent-Sign: d501c39a0ee04b11224c7d75a7684ba3\r\nConnection: close\r\n\r\n"
-unfolding request_bytes request_signature encode_with md5 block_words rounds compress hash_after digest_bytes
+unfolding request_bytes request_signature text_version digest encode_with md5 block_words rounds compress hash_after digest_bytes
 row_draw_bytes = refl
 
 row_draw_checked : check_of draw_request draw_reply ≡ None
-unfolding check_of errand_of line_at secret_at scrip_of scrip_at id_at literal_at field_at field_of is_text digit_of digit_at hex_at scrip_text scrip_body encode_with digits reply_signature md5 block_words rounds compress hash_after digest_bytes
+unfolding check_of errand_of line_at secret_at scrip_of scrip_at id_at literal_at field_at field_of is_text digit_of digit_at hex_at scrip_text scrip_body encode_with digits reply_signature text_version digest md5 block_words rounds compress hash_after digest_bytes
 row_draw_checked = refl
 
 -- a draw of another peer is not settled by this reply, though its signature is right
 row_other_peer : check_of (record draw_request { peer = codes "kiosk" }) draw_reply ≡ Some refusals.BadReply
-unfolding check_of errand_of line_at secret_at scrip_of scrip_at id_at literal_at field_at field_of is_text digit_of digit_at hex_at scrip_text scrip_body encode_with digits reply_signature md5 block_words rounds compress hash_after digest_bytes
+unfolding check_of errand_of line_at secret_at scrip_of scrip_at id_at literal_at field_at field_of is_text digit_of digit_at hex_at scrip_text scrip_body encode_with digits reply_signature text_version digest md5 block_words rounds compress hash_after digest_bytes
 row_other_peer = refl
 
 row_drawn : settlement (founded ++ drawing ∷ []) 1000000 1 draw_request draw_reply ≡ drawn
@@ -271,7 +271,7 @@ unfolding scrip_of scrip_at id_at literal_at field_at digit_of digit_at hex_at s
 row_buy = refl
 
 row_buy_checked : check_of buy_request buy_reply ≡ None
-unfolding check_of errand_of line_at secret_at scrip_of scrip_at id_at literal_at field_at field_of is_text digit_of digit_at hex_at scrip_text scrip_body encode_with digits reply_signature md5 block_words rounds compress hash_after digest_bytes
+unfolding check_of errand_of line_at secret_at scrip_of scrip_at id_at literal_at field_at field_of is_text digit_of digit_at hex_at scrip_text scrip_body encode_with digits reply_signature text_version digest md5 block_words rounds compress hash_after digest_bytes
 row_buy_checked = refl
 
 row_bought : settlement market 1000000 3 buy_request buy_reply ≡ bought

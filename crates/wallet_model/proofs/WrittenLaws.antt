@@ -1,14 +1,15 @@
 -- What a wallet writes may follow its book, and what a settlement leaves of the piece that paid.
 use Rattle.std.proofs.Common.{◌≡◌, ℕ, ◌≤◌, Bool, true, false, ◌&&◌, cond, List, [], ◌∷◌, ◌++◌, length, Option, Some, None, Result, Ok, Err, refl, ap, sym, subst, ◌∙◌, filter, unwrap_or, option_map, bytes_eq, ◌+◌}
 use Rattle.std.proofs.lemmas.Slice.Eq.{bytes_eq-Decides}
-use Rattle.std.specs.Prelude.{◌==◌, nat_lt, nat_le, option_to_list, filter_map, fold}
+use Rattle.std.specs.Prelude.{◌==◌, not, nat_lt, nat_le, option_to_list, filter_map, fold}
 use Rattle.std.specs.List.{AllByRecursion, list_any, enumerate_from, reduce, cons_option}
 use Rattle.scrip_form.specs.Scrip.{Scrip}
 use Rattle.mc_records.specs.declared.refusal.Refusal.{Refusal}
 use Rattle.mc_records.specs.Errands.{errand_of, errand_text}
 use Rattle.mc_records.specs.Errands as errands
 use Rattle.mc_records.proofs.ErrandLaws.{errand_read}
-use Rattle.mc_records.specs.Entry.{Held, Entry, Site, Pend, Done, Refused, moment_of}
+use Rattle.mc_records.specs.Entry.{Held, Entry, Site, Pend, Done, Refused, Switch, moment_of}
+use Rattle.mc_records.specs.Chains.{chain, has_switch}
 use Rattle.ledger_model.specs.Histories.{History, time}
 use Rattle.ledger_model.specs.Pieces.{piece_of}
 use Rattle.wallet_model.specs.Requests.{Pending, is_kept, pays_with}
@@ -33,6 +34,17 @@ book_is_wallet (e ∷ es) book = first e book.0.allowed
     first : (e : Entry) → wallet_allows [] e ≡ true → is_wallet (e ∷ es) ≡ true
     first (Site m kind name house) allowed = both_right (length {A = Entry} [] == 0) (kind == 2) allowed
     first x allowed = absurd cc
+
+-- ---- a Switch
+
+-- one that tells the chain of a book without a Switch may follow it
+pub switch_follows : (h : History) (t : ℕ) → IsWalletBook h → time h ≤ t → has_switch h ≡ false → WalletFollows h (Switch t (chain h))
+switch_follows h t book at none = record {
+  in_order = at;
+  allowed = ap (λ (w : Bool). w && (not (has_switch h) && bytes_eq (chain h) (chain h))) (book_is_wallet h book)
+      ∙ ap (λ (s : Bool). not s && bytes_eq (chain h) (chain h)) none
+      ∙ (bytes_eq-Decides (chain h) (chain h)).1 refl;
+}
 
 -- ---- settlements
 

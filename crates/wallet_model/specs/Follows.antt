@@ -1,7 +1,8 @@
 -- Which books of wallets are lawful.
-use Rattle.std.specs.Prelude.{◌≡◌, ℕ, zero, suc, ◌≤◌, ◌==◌, ◌&&◌, Bool, true, false, IsTrue, List, [], ◌∷◌, ◌++◌, map, length, take, slice_get, MatchOption, Option, Some, None, option_map, option_to_list, unwrap_or, bytes_eq}
+use Rattle.std.specs.Prelude.{◌≡◌, ℕ, zero, suc, ◌≤◌, ◌==◌, ◌&&◌, Bool, true, false, not, IsTrue, List, [], ◌∷◌, ◌++◌, map, length, take, slice_get, MatchOption, Option, Some, None, option_map, option_to_list, unwrap_or, bytes_eq}
 use Rattle.mc_records.specs.Errands.{Errand, buy, draw, errand_of}
-use Rattle.mc_records.specs.Entry.{Held, Entry, Site, Got, Pend, Done, Refused, moment_of}
+use Rattle.mc_records.specs.Entry.{Held, Entry, Site, Got, Pend, Done, Refused, Switch, Note, moment_of}
+use Rattle.mc_records.specs.Chains.{chain, has_switch}
 use Rattle.mc_records.specs.Following.{AllFollowBy}
 use Rattle.ledger_model.specs.Histories.{History, time}
 use Rattle.ledger_model.specs.Houses.{site_kind}
@@ -39,12 +40,15 @@ abbrev pub settled_texts : Option (List ℕ) → Option Held → List (List ℕ)
 settled_texts change got = option_to_list change ++ option_to_list (option_map (λ p. p.text) got)
 
 -- What each kind of entry of a wallet asks of the entries before it: pieces that come are new, by vendor and identity,
--- and what is settled is kept. Other kinds are a house's.
+-- and what is settled is kept. One Switch at most stands, and tells the chain of the entries before it. Other kinds are
+-- a house's.
 abbrev pub entry_allowed : History → Entry → Bool
 entry_allowed h (Got m pieces) = are_new (texts_came h) (map (λ p. p.text) pieces)
 entry_allowed h (Pend m ask peer target scrip secret) = asks_rightly h ask peer target scrip
 entry_allowed h (Done m n price change got) = is_kept h n && are_new (texts_came h) (settled_texts change got)
 entry_allowed h (Refused m n refusal) = is_kept h n
+entry_allowed h (Switch m c) = not (has_switch h) && bytes_eq c (chain h)
+entry_allowed h (Note m tag bytes) = true
 entry_allowed h _ = false
 
 -- The Site entry of a wallet is the first of its book; its other entries stand in no other book.

@@ -3,7 +3,8 @@
 ghost use Rattle.std.specs.Prelude.{◌≡◌, ◌==◌, ◌<◌, ◌≤◌, ◌∷◌, ◌++◌, [], ℕ, List, Option, Some, None, Ok, not, true, false, if◌then◌else◌, filter, map, count_by, length, bytes_eq, unwrap_or};
 ghost use Rattle.std.specs.List.{list_any};
 ghost use Rattle.scrip_form.specs.Scrip.{Scrip};
-ghost use Rattle.mc_records.specs.Entry.{Held, Entry, Pend, Done, Refused, IsMoment, IsLong, Fits};
+ghost use Rattle.mc_records.specs.Chains.{chain, has_switch};
+ghost use Rattle.mc_records.specs.Entry.{Held, Entry, Pend, Done, Refused, Switch, IsMoment, IsLong, Fits};
 ghost use Rattle.ledger_model.specs.Histories.{History, time};
 ghost use Rattle.ledger_model.specs.Pieces.{piece_of};
 ghost use Rattle.wallet_model.specs.Requests.{Pending, pending_in, settles, is_kept, kept_requests, pays, pays_with};
@@ -109,13 +110,15 @@ pub fn pieces_stay()
     ensures once { (h : History) → IsWalletBook h → are_new [] (texts_came h) ≡ true }
 {}
 
-/// The Pend entry of what is asked, and the settlement of a kept request, may follow a lawful book
-/// at each time from its own on.
+/// The Pend entry of what is asked, the settlement of a kept request, and, where none stands, the Switch that
+/// tells the chain of the entries, may follow a lawful book at each time from its own on.
 pub fn written_entries_follow()
     ensures pend { (h : History) (t : ℕ) (asking : Asking) (e : Entry) → IsWalletBook h → time h ≤ t
         → CanAsk asking → pend_entry h t asking ≡ Ok e → WalletFollows h e }
     ensures settlement { (h : History) (t n : ℕ) (p : Pending) (r : Received) → IsWalletBook h
         → time h ≤ t → is_kept h n ≡ true → WalletFollows h (settlement h t n p r) }
+    ensures switch { (h : History) (t : ℕ) → IsWalletBook h → time h ≤ t → has_switch h ≡ false
+        → WalletFollows h (Switch t (chain h)) }
 {}
 
 /// After the settlement of a request its piece is used where the reply was a 200, and else as the

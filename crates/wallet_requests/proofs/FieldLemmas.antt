@@ -1,15 +1,13 @@
 -- The parts of a request's head are in their classes.
-use Rattle.std.proofs.Common.{◌≡◌, ◌⊎◌, ℕ, zero, suc, ◌<◌, ◌≤◌, Bool, true, false, ◌&&◌, ◌||◌, List, [], ◌∷◌, ◌++◌, inl, inr, length, map, get_or, refl, arith}
+use Rattle.std.proofs.Common.{◌≡◌, ◌⊎◌, ℕ, zero, suc, ◌≤◌, Bool, true, false, ◌&&◌, ◌||◌, List, [], ◌∷◌, ◌++◌, inl, inr, length, map, refl, arith}
 use Rattle.std.specs.Prelude.{◌==◌, codes, nat_le, nat_lt, All}
 use Rattle.std.specs.List.{AllByRecursion, list_all}
 use Rattle.std.specs.Char.{is_ascii_alphanumeric}
 use Rattle.std.specs.Str.{IsAscii}
 use Rattle.std.proofs.lemmas.Bool.{eqb-true, leb-true, le-leb, lt-ltb, ltb-true}
-use Rattle.std.proofs.lemmas.List.Elements.{All-nil, All-cons, All-append, All-from_recursion}
+use Rattle.std.proofs.lemmas.List.Elements.{All-nil, All-cons}
 use Rattle.std.proofs.lemmas.List.Sums.{AllPass-from_list_all, list_all-from_AllPass}
 use Rattle.std.proofs.lemmas.Str.{IsUtf8-from_ascii}
-use Rattle.std.specs.Int.{w32, to_le_bytes}
-use Rattle.md5.specs.Md5.{md5, digest_bytes}
 use Rattle.httparse.specs.Grammar.{IsField, IsRequestHead, is_token, is_token_byte, is_uri_byte, is_value_byte}
 use Rattle.scrip_form.specs.Texts.{IsName, IsTarget, is_name_byte, is_letter_or_digit, is_visible}
 use Rattle.millicent_http.specs.Fields.{is_host, is_host_byte}
@@ -137,17 +135,3 @@ name_visible b h = elim (or_cases (is_letter_or_digit b) _ h) [
 
 pub name_is_visible : (name : List ℕ) → IsName name → list_all is_visible name ≡ true
 name_is_visible name n = all_weaker is_name_byte is_visible name name_visible (list_all-from_AllPass is_name_byte name n.all)
-
--- ---- digests
-
-digest_below : (h : List ℕ) (n : ℕ) → All (λ b. b < 256) (digest_bytes h n)
-unfolding digest_bytes
-digest_below h zero = All-nil (λ b. b < 256)
-digest_below h (suc n) = All-append (λ b. b < 256) (digest_bytes h n) (to_le_bytes w32 (get_or h n 0)) (digest_below h n) (word_below (get_or h n 0))
-  where
-    word_below : (x : ℕ) → All (λ b. b < 256) (to_le_bytes w32 x)
-    word_below x = All-from_recursion (λ b. b < 256) (to_le_bytes w32 x) (omega arith, (omega arith, (omega arith, (omega arith, tt))))
-
-pub md5_below : (m : List ℕ) → All (λ b. b < 256) (md5 m)
-unfolding md5
-md5_below m = digest_below _ 4

@@ -4,9 +4,9 @@ use Rattle.std.specs.Prelude.{codes, All, IfSome}
 use Rattle.std.specs.List.{AllByRecursion}
 use Rattle.std.proofs.lemmas.List.{length-append, take-append-drop, length-take}
 use Rattle.hex.specs.Hex.{encode_with, encode_lower}
-use Rattle.md5.proofs.StandardFacts.{length-md5}
+use Rattle.scrip_certs.proofs.DigestLaws.{length-digest, digest_below}
 use Rattle.httparse.specs.Grammar.{is_token_byte, trim_ows}
-use Rattle.scrip_form.specs.Scrip.{IsScripText}
+use Rattle.scrip_form.specs.Scrip.{IsScripText, text_version}
 use Rattle.scrip_form.specs.Texts.{is_target}
 use Rattle.scrip_form.proofs.TextTests.{target_decides, scrip_is_short}
 use Rattle.scrip_certs.specs.Digests.{line, request_text, request_signature}
@@ -27,13 +27,13 @@ use Rattle.reply_reader.proofs.ScripLemmas.{scrip_visible}
 use Rattle.wallet_requests.specs.Sent.{CanBeSent}
 use Rattle.wallet_requests.proofs.RequestLines.{start_line, request_tree, request_lines, last_asked, fields_asked, fields_of, bytes_are_lines}
 use Rattle.wallet_requests.proofs.ItemLemmas.{one_item}
-use Rattle.wallet_requests.proofs.FieldLemmas.{AreGood, fields_are_lines, fields_are_trimmed, head_is_valid, start_is_line, name_is_host, name_is_visible, md5_below}
+use Rattle.wallet_requests.proofs.FieldLemmas.{AreGood, fields_are_lines, fields_are_trimmed, head_is_valid, start_is_line, name_is_host, name_is_visible}
 
 -- ---- its fields
 
 sign_below : (p : Pending) → All (λ b. b < 256) (signature_of p)
 unfolding request_signature
-sign_below p = md5_below _
+sign_below p = digest_below _ _
 
 hex_length : (bytes : List ℕ) → length (encode_lower bytes) ≡ length bytes + length bytes
 unfolding encode_with
@@ -42,7 +42,7 @@ hex_length (b ∷ bytes) = omega (arith, hex_length bytes)
 
 sign_length : (p : Pending) → length (encode_lower (signature_of p)) ≡ 32
 unfolding request_signature
-sign_length p = omega (arith, hex_length (signature_of p), length-md5 (line (or_dash p.scrip) ++ line (request_text p.target) ++ p.secret))
+sign_length p = omega (arith, hex_length (signature_of p), length-digest (text_version (or_dash p.scrip)) (line (or_dash p.scrip) ++ line (request_text p.target) ++ p.secret))
 
 sign_clean : (p : Pending) → IsClean (encode_lower (signature_of p))
 sign_clean p = clean_visible (encode_lower (signature_of p)) (hex_visible (signature_of p) (sign_below p))

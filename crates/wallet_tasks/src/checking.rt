@@ -1,8 +1,8 @@
 //! Whether a reply settles a request.
 
 ghost use Rattle.std.specs.Prelude.{◌≡◌, ◌==◌, ◌&&◌, ◌++◌, ℕ, List, not, false, bytes_eq, option_map, option_and_then, unwrap_or};
-ghost use Rattle.md5.specs.Md5.{Holds};
 ghost use Rattle.scrip_certs.specs.Digests as digests;
+ghost use Rattle.scrip_certs.specs.Hashing.{Hashes};
 ghost use Rattle.mc_records.specs.Errands.{errand_of};
 ghost use Rattle.mc_records.specs.Replies as texts;
 ghost use Rattle.mc_records.specs.Requests.{seen};
@@ -18,10 +18,9 @@ use crate::prices::{is_dash, is_paid_by, price_of};
 use crate::request::{RequestRef, WalletRequest, lent};
 use itoa::Buffer;
 use mc_records::{Errand, Refusal, read_errand};
-use md5::{Digest, Md5};
 use millicent_http::or_dash;
 use reply_reader::ReplyRef;
-use scrip_certs::{add_request, hex_of};
+use scrip_certs::{Hasher, add_request, hex_of};
 use scrip_form::Piece;
 
 /// Whether a reply settles a request: None where it does, else 65 `BadReply` where its values are not those that
@@ -138,8 +137,9 @@ fn signature(p: &RequestRef<'_>, r: &ReplyRef<'_>) -> [u8; 16]
     ensures { result ≡ digests.reply_signature (texts.or_dash (seen p.now.scrip)) p.now.target.now (line_read (received_of r.now))
         r.now.contents.now p.now.secret }
 {
-    let mut hasher = Md5::new();
-    add_request(&mut hasher, or_dash(p.scrip), p.target);
+    let scrip = or_dash(p.scrip);
+    let mut hasher = Hasher::of_text(scrip);
+    add_request(&mut hasher, scrip, p.target);
     add_head(&mut hasher, r);
     hasher.update(r.contents);
     hasher.update(b"\n");
@@ -148,8 +148,9 @@ fn signature(p: &RequestRef<'_>, r: &ReplyRef<'_>) -> [u8; 16]
 }
 
 /// Adds the reply text up to and with its line feed.
-fn add_head(hasher: &mut Md5, r: &ReplyRef<'_>)
-    ensures { (m : List ℕ) → Holds hasher.old m → Holds hasher.new (m ++ line_read (received_of r.now)) }
+fn add_head(hasher: &mut Hasher, r: &ReplyRef<'_>)
+    ensures { (version : ℕ) (m : List ℕ) → Hashes hasher.old version m
+        → Hashes hasher.new version (m ++ line_read (received_of r.now)) }
 {
     hasher.update(Buffer::new().format(r.status).as_bytes());
     hasher.update(b" ");

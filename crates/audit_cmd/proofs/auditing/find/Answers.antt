@@ -1,4 +1,4 @@
-use Rattle.std.proofs.Common.{◌≡◌, ◌<◌, List, ℕ, Err, sym, subst, arith}
+use Rattle.std.proofs.Common.{◌<◌, List, Err, sym, subst, arith}
 use Rattle.std.specs.Prelude.{IfSome, length}
 use Rattle.mc_records.specs.declared.limits.TheConstants.Limits.{FULL}
 use Rattle.balanced_books.specs.declared.sums.Report.{Report}

@@ -1,5 +1,9 @@
-use Rattle.audit_cmd.specs.Loops.{HaveRead}
+use Rattle.std.proofs.Common.{◌≤◌, length}
+use Rattle.audit_cmd.specs.Loops.{KeptAll, HaveRead}
 use Rattle.audit_cmd.proofs.books.read_books.Given as goal
 
 abbrev pub invariant-loop-place : goal.invariant-loop-place
-invariant-loop-place g l = HaveRead g.D.Disk.disk g.D.Disk.disk_moved l.place l.initial.books.items l.books.items l.kept
+invariant-loop-place g l = record {
+  read : HaveRead g.D.Disk.disk g.D.Disk.disk_moved KeptAll l.place l.initial.books.items l.books.items l.kept;
+  few : length l.kept.houses.items ≤ l.place;
+}

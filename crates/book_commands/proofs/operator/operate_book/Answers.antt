@@ -6,7 +6,7 @@ use Rattle.book_commands.proofs.operator.operate_book.Goals as goal
 pub returns-in-Err-clause-operated : goal.returns-in-Err-clause-operated
 returns-in-Err-clause-operated g c x told =
     rw (c.not_opened.ensures.disk, c.not_opened.ensures.status)
-    (inl (not_opened g.O.Link.link g.O.Disk.disk g.T.Trade.trade (g.T.Trade.trade c.args.trade).site x c.args.out c.in-Err.fault (c.in-Err.ensures.exact x told) (g.met.O.Outside.disk_keeps _ _ c.in-Err.ensures.moved) c.in-Err.ensures.read))
+    (inl (not_opened g.O.Link.link g.O.Disk.disk g.T.Trade.trade g.T.Trade.passes (g.T.Trade.trade c.args.trade).site x c.args.out c.in-Err.fault (c.in-Err.ensures.exact x told) (g.met.O.Outside.disk_keeps _ _ c.in-Err.ensures.moved) c.in-Err.ensures.read))
 
 pub returns-in-Ok-clause-causes : goal.returns-in-Ok-clause-causes
 returns-in-Ok-clause-causes g c =

@@ -1,6 +1,7 @@
 use Rattle.std.proofs.Common.{◌≡◌, Some, refl}
 use Rattle.mc_records.specs.Views.{entry}
 use Rattle.account_ledger.specs.Tasks.{task_of}
+use Rattle.house_state.proofs.PartLaws.{every_passes}
 use Rattle.house_core.specs.Bench.{limits_of}
 use Rattle.house_core.specs.declared.outcome.Outcome.TheVariants.{Done, Refused, NoMemory, Halted}
 use Rattle.house_core.specs.Tasks.{Task, TellsAdded}
@@ -9,6 +10,9 @@ use Rattle.broker_core.specs.Desk.{desk_view}
 use Rattle.broker_core.specs.Tasks.{as_task}
 use Rattle.broker_core.proofs.OperatorLemmas.{added_is, stays_is, refused_is}
 use Rattle.broker_core.proofs.operator.perform.Goals as goal
+
+pub enter-requires-clause-passed : goal.enter-requires-clause-passed
+enter-requires-clause-passed g c h st = every_passes h (entry c.in-Some.record)
 
 pub returns-in_default-clause-exact : goal.returns-in_default-clause-exact
 returns-in_default-clause-exact g c h st =

@@ -1,12 +1,10 @@
-use Rattle.std.proofs.Common.{false, List, ℕ, ap, ap₂, ◌∙◌}
+use Rattle.std.proofs.Common.{false, List, ℕ, ap₂, ◌∙◌}
 use Rattle.scrip_certs.specs.Digests.{certificate, customer_secret}
 use Rattle.kept_replies.specs.declared.deed.Deed.TheVariants as kept
-use Rattle.ledger_model.specs.Houses.{version, certificate_in, secret_in}
 use Rattle.broker_core.proofs.sale.licensed_sale.Goals as goal
 
 pub returns : goal.returns
-unfolding version certificate_in secret_in
 returns c =
     let cert = c.certificate.ensures ∙ ap₂ (λ (body : List ℕ) (id : ℕ). certificate c.args.terms.now body id) c.write_scrip-len.ensures.body c.id.ensures.id in
-    let secret = c.customer_secret.ensures ∙ ap (customer_secret c.args.terms.now) c.cust.ensures.cust in
+    let secret = c.customer_secret.ensures ∙ ap₂ (λ (cust version : ℕ). customer_secret c.args.terms.now cust version) c.cust.ensures.cust c.version.ensures.version in
     ap₂ (λ (x y : List ℕ). kept.Sale c.args.piece x y false) cert secret

@@ -1,8 +1,13 @@
 use Rattle.std.proofs.Common.{sym, ◌≡◌, Ok, Err}
 use Rattle.mc_records.specs.Requests.{asked_of}
 use Rattle.ledger_model.specs.Lines.{Refuse}
-use Rattle.house_state.proofs.Tabled.{genuine_in, spendable_in, not_spendable, takes}
+use Rattle.house_state.proofs.Tabled.{genuine_in, spendable_in, not_genuine, not_spendable, takes}
 use Rattle.house_state.proofs.evaluating.evaluate_new.Goals as goal
+
+pub returns-in-Err-clause-lines : goal.returns-in-Err-clause-lines
+returns-in-Err-clause-lines g c h st trade kind =
+    let is : Err (Refuse c.in-Err.refusal) ≡ genuine_in c.args.state.now c.args.scrip.now = c.in-Err.ensures.lines in
+    not_genuine st c.args.limits (asked_of c.args.q.now) c.args.scrip.now (Refuse c.in-Err.refusal) is
 
 pub returns-in-Err-spendable-clause-lines : goal.returns-in-Err-spendable-clause-lines
 returns-in-Err-spendable-clause-lines g c h st trade kind =

@@ -1,7 +1,7 @@
 use Rattle.std.proofs.Common.{[], List, ℕ, Option, Ok, inl, ap, ◌∙◌, subst}
-use Rattle.scrip_journal.specs.Layout.{Encodes, IsSpoiled}
+use Rattle.scrip_journal.specs.Layout.{Encodes, IsSpoiled, IsUnchained}
 use Rattle.scrip_journal.specs.Replays.{ReadsOn}
-use Rattle.scrip_journal.proofs.Unique.{not_both}
+use Rattle.scrip_journal.proofs.Unique.{not_both, chain_or_history}
 use Rattle.scrip_journal.proofs.Reading.{bytes_told}
 use Rattle.scrip_journal.proofs.FoundLemmas.{no_more, cleared}
 use Rattle.scrip_journal.proofs.book.empty_book.Goals as goal
@@ -30,3 +30,13 @@ returns-in-Err-BadRecord-clause-exact g c x told =
     let spoiled = subst (λ (bytes : List ℕ). IsSpoiled [] bytes c.in-Err-BadRecord.field-0-0) (bytes_told g.D.Disk.disk c.in-Ok.replay [] x r at) reads.0 in
     cleared g.D.Disk.disk x c.empty_small-in-Err-BadRecord.result (not_both [] [] x c.in-Err-BadRecord.field-0-0 spoiled)
     (c.empty_small-in-Err-BadRecord.ensures.exact x (ap (λ (d : g.row.D.Denot). (g.D.Disk.disk d).contents) c.close-in-Err-BadRecord.ensures ∙ here))
+
+pub returns-in-Err-BadChain-clause-exact : goal.returns-in-Err-BadChain-clause-exact
+returns-in-Err-BadChain-clause-exact g c x told =
+    let r = c.in-Ok.ensures.opened x told in
+    let at = c.in-Ok.ensures.read.contents ∙ told in
+    let here = c.next_record.ensures.only_read.contents ∙ at in
+    let reads = rw c.in-Err-BadChain.field-0-is at c.in-Err-BadChain.ensures.reads [] r in
+    let unchained = subst (λ (bytes : List ℕ). IsUnchained [] bytes c.in-Err-BadChain.field-0-0 c.in-Err-BadChain.field-0-1 c.in-Err-BadChain.field-0-2) (bytes_told g.D.Disk.disk c.in-Ok.replay [] x r at) reads.0 in
+    cleared g.D.Disk.disk x c.empty_small-in-Err-BadChain.result (chain_or_history [] [] x c.in-Err-BadChain.field-0-0 c.in-Err-BadChain.field-0-1 c.in-Err-BadChain.field-0-2 unchained)
+    (c.empty_small-in-Err-BadChain.ensures.exact x (ap (λ (d : g.row.D.Denot). (g.D.Disk.disk d).contents) c.close-in-Err-BadChain.ensures ∙ here))

@@ -18,5 +18,5 @@ returns-in-Err-Disk-clause-ran g c j =
 -- the journal has room for its first entry
 pub unreachable-requires : goal.unreachable-requires
 unreachable-requires g c =
-    let full = rw c.in-Err-Full.field-0-is at c.in-Err-Full.ensures.full [] c.requires.empty in
+    let full = rw c.in-Err-Full.field-0-is at c.in-Err-Full.ensures.full [] c.requires.empty.0 c.requires.empty.1 in
     omega (arith, full, c.requires.room)

@@ -22,4 +22,4 @@ returns-clause-founded g c x told =
     let cut = on_ok c.cut.result _ (sym c.is_err.ensures.value ∙ c.if-is_err.false) c.cut.ensures.cut in
     let written = on_ok c.write_at.result _ (sym c.is_err-2.ensures.value ∙ c.if-is_err-2.false) c.write_at.ensures.written in
     let synced = on_ok c.sync.result _ (sym c.is_err-3.ensures.value ∙ c.if-is_err-3.false) c.sync.ensures.synced in
-    is_founded g.D.Disk.disk (g.D.Disk.disk c.args.disk) (g.D.Disk.disk c.cut.new.self) (g.D.Disk.disk c.write_at.new.self) c.sync.new.self x _ told cut written c.sync.ensures.same synced refl refl refl
+    is_founded g.D.Disk.disk (g.D.Disk.disk c.args.disk) (g.D.Disk.disk c.cut.new.self) (g.D.Disk.disk c.write_at.new.self) c.sync.new.self x _ told cut written c.sync.ensures.same synced refl refl refl refl refl

@@ -6,7 +6,7 @@ enter-requires-clause-order c h st = omega (arith, st.state.in_time, c.requires.
 
 pub returns-in-Ok : goal.returns-in-Ok
 returns-in-Ok c h open' = record {
-  house = record { represents = (c.in-Ok.ensures.exact h open'.house.represents).2; contents = c.in-Ok.ensures.contents h open'.house.represents open'.house.contents };
+  house = record { represents = (c.in-Ok.ensures.exact h open'.house.represents (c.requires.told h)).2; contents = c.in-Ok.ensures.contents h open'.house.represents open'.house.contents };
   time = omega (arith, c.in-Ok.ensures.time, open'.time, c.requires.time);
   limits = c.in-Ok.ensures.limits ∙ open'.limits;
   used = c.in-Ok.ensures.used open'.used;

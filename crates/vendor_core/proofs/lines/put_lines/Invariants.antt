@@ -9,6 +9,5 @@ use Rattle.vendor_core.specs.Shelf.{shelf_view}
 use Rattle.vendor_core.proofs.lines.put_lines.Given as goal
 
 abbrev pub invariant-loop-i : goal.invariant-loop-i
-invariant-loop-i g l = (h f : History) (terms : Issuing) → HouseRepresents g.D.Disk.disk shelf_view l.house h → terms_in h 0 ≡ Some terms
-    → site_name f ≡ site_name h → terms_in f 0 ≡ terms_in h 0 → l.first + l.count ≤ 2 ^ 64
-    → l.out.items ≡ piece_lines (version h (site_name h)) terms (run_from f l.value l.first l.i)
+invariant-loop-i g l = (h : History) (terms : Issuing) → HouseRepresents g.D.Disk.disk shelf_view l.house h → terms_in h 0 ≡ Some terms → l.first + l.count ≤ 2 ^ 64
+    → l.out.items ≡ piece_lines (version h (site_name h)) terms (run_from h l.value l.first l.i)

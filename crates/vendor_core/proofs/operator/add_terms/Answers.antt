@@ -2,6 +2,7 @@ use Rattle.std.proofs.Common.{◌≡◌, ℕ, None, Some, sym, ap, ◌∙◌, re
 use Rattle.mc_records.specs.Entry.{Entry, AddTerms}
 use Rattle.mc_records.specs.Views.{entry}
 use Rattle.ledger_model.specs.Houses.{terms_in}
+use Rattle.house_state.proofs.PartLaws.{every_passes}
 use Rattle.house_core.specs.Bench.{house_time, limits_of}
 use Rattle.house_core.specs.declared.outcome.Outcome.TheVariants.{Done, Refused, NoMemory, Halted}
 use Rattle.house_core.specs.Tasks.{Add, TellsAdded}
@@ -22,6 +23,9 @@ returns-else-are_same-clause-exact g c h st =
     let standing : terms_in h c.args.terms.now.issuer ≡ Some c.in-Some.standing = rw c.issuer.ensures at (sym (c.in-Some.ensures h st)) in
     refuses g.D.Disk.disk shelf_view _ TellsAdded (limits_of c.args.house.bench) c.args.house h (g.met.D.Disk.is_disk _) st _
     (other_licensed (house_time c.args.house.bench) c.args.terms.now c.in-Some.standing _ _ standing (sym c.if-are_same.ensures) (c.from.ensures ∙ c.issuer-else-are_same.ensures))
+
+pub enter-requires-clause-passed : goal.enter-requires-clause-passed
+enter-requires-clause-passed g c h st = every_passes h (entry c.terms_record-record.result)
 
 pub returns-in-Done-clause-exact : goal.returns-in-Done-clause-exact
 returns-in-Done-clause-exact g c h st =

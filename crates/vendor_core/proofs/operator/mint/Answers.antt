@@ -1,12 +1,13 @@
-use Rattle.std.proofs.Common.{◌≡◌, ◌+◌, ◌<◌, ◌≤◌, ◌^◌, take, inl, inr, refl, sym, ◌∙◌, arith, rules}
+use Rattle.std.proofs.Common.{◌≡◌, ◌+◌, ◌<◌, ◌≤◌, ◌^◌, inl, inr, refl, sym, ap, ◌∙◌, arith, rules}
 use Rattle.mc_records.specs.Entry.{Mint}
-use Rattle.ledger_model.specs.Houses.{own_series}
+use Rattle.ledger_model.specs.Houses.{site_name, own_series, version}
 use Rattle.ledger_model.specs.Pieces.{next_identity, own_count}
 use Rattle.house_core.specs.Bench.{house_time, limits_of}
 use Rattle.house_core.specs.Tasks.{Add, Stays}
 use Rattle.house_core.proofs.TaskLemmas.{refuses, stays, wants_memory}
 use Rattle.vendor_core.specs.Shelf.{shelf_view}
 use Rattle.vendor_core.specs.Tasks.{IsMintAt, IsUsed}
+use Rattle.vendor_core.specs.Lines.{piece_lines}
 use Rattle.vendor_core.proofs.LineLemmas.{lines_of_mint, earlier_mint, run_in_range}
 use Rattle.vendor_core.proofs.operator.mint.Goals as goal
 use Rattle.vendor_core.proofs.operator.mint.Goals.{then-minted-count-via-then-minted-count, then-minted-count-via-else-minted-count+then-minted-get}
@@ -38,7 +39,8 @@ returns-in-Ok-clause-exact g c h st =
     let own = state.own_terms in
     let earlier = earlier_mint (limits_of c.args.house.bench) h number is.0 c.args.reference.now c.args.count c.args.value c.in-Some.minted.first
     state.limits.series_most state.lawful st.journal.stands.fits st.house.represents.of_kind entry in
-    let lines = c.in-Ok.ensures.lines h (take number h) c.args.house.bench.state.own.terms st own earlier.name earlier.terms earlier.fits in
+    let terms = c.args.house.bench.state.own.terms in
+    let lines = c.in-Ok.ensures.lines h terms st own earlier.fits ∙ ap (piece_lines (version h (site_name h)) terms) (sym earlier.run) in
     stays g.D.Disk.disk shelf_view _ _ (limits_of c.args.house.bench) c.args.house h (g.met.D.Disk.is_disk _) st _ (number, at)
     (at, lines ∙ sym (lines_of_mint h c.args.house.bench.state.own.terms number is.0 c.args.reference.now c.args.count c.args.value c.in-Some.minted.first own entry))
 
@@ -71,5 +73,5 @@ returns-in-Ok-put_lines-clause-exact g c h st =
     let long : c.in-Ok-next_run.first < 2 ^ 64 = search rules in
     let few : own_count h series + c.args.count ≤ 2 ^ 32 = omega (arith, run.1, state.limits.series_most) in
     let fits = run_in_range series (own_count h series) c.args.count c.in-Ok-next_run.first run.0 few long in
-    let lines = c.in-Ok-put_lines.ensures.lines h h c.args.house.bench.state.own.terms st state.own_terms refl refl fits in
+    let lines = c.in-Ok-put_lines.ensures.lines h c.args.house.bench.state.own.terms st state.own_terms fits in
     c.enter_mint.ensures.exact h c.args.house.bench.state.own.terms st state.own_terms lines

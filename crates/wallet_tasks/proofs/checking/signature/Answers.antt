@@ -1,5 +1,6 @@
 use Rattle.std.proofs.Common.{◌≡◌, List, ℕ, [], ◌∷◌, ◌++◌, append_assoc, subst}
-use Rattle.md5.specs.Md5.{Holds}
+use Rattle.scrip_form.specs.Scrip.{text_version}
+use Rattle.scrip_certs.specs.Hashing.{Hashes}
 use Rattle.scrip_certs.specs.Digests.{line, request_text, reply_signature}
 use Rattle.mc_records.specs.Replies.{or_dash}
 use Rattle.mc_records.specs.Requests.{seen}
@@ -18,7 +19,8 @@ returns c =
     let k : List ℕ = c.args.r.now.contents.now in
     let n : List ℕ = 10 ∷ [] in
     let s : List ℕ = c.args.p.now.secret in
-    let request : Holds c.add_request.new.hasher ([] ++ a) = rw c.or_dash.ensures at c.add_request.ensures [] c.new-hasher.ensures in
-    let last : Holds c.update-3.new.self ((((([] ++ a) ++ h) ++ k) ++ n) ++ s) =
-    c.update-3.ensures (((([] ++ a) ++ h) ++ k) ++ n) (c.update-2.ensures ((([] ++ a) ++ h) ++ k) (c.update.ensures (([] ++ a) ++ h) (c.add_head.ensures ([] ++ a) request))) in
-    c.finalize.ensures ((a ++ ((h ++ k) ++ n)) ++ s) (subst (Holds c.update-3.new.self) (joined a h k n s) last)
+    let v : ℕ = text_version (or_dash (seen c.args.p.now.scrip)) in
+    let request : Hashes c.add_request.new.hasher v ([] ++ a) = rw c.or_dash-scrip.ensures at c.add_request.ensures v [] (rw c.or_dash-scrip.ensures at c.of_text-hasher.ensures) in
+    let last : Hashes c.update-3.new.self v ((((([] ++ a) ++ h) ++ k) ++ n) ++ s) =
+    c.update-3.ensures v (((([] ++ a) ++ h) ++ k) ++ n) (c.update-2.ensures v ((([] ++ a) ++ h) ++ k) (c.update.ensures v (([] ++ a) ++ h) (c.add_head.ensures v ([] ++ a) request))) in
+    c.finalize.ensures v ((a ++ ((h ++ k) ++ n)) ++ s) (subst (Hashes c.update-3.new.self v) (joined a h k n s) last)

@@ -5,23 +5,23 @@ use Rattle.ledger_model.specs.Lawful.{MayFollow}
 use Rattle.mc_records.specs.declared.limits.TheConstants.Limits.{FULL}
 use Rattle.house_core.specs.Bench.{Replays}
 use Rattle.house_core.proofs.Entered.{time_snoc}
-use Rattle.house_opening.proofs.Learned.{fault_told}
+use Rattle.audit_cmd.proofs.ReadLaws.{fault_told}
 use Rattle.audit_cmd.proofs.reader.Reader.learn.Goals as goal
 
 pub returns-in-Ok-learn-clause-exact : goal.returns-in-Ok-learn-clause-exact
-returns-in-Ok-learn-clause-exact g c h full reads room =
+returns-in-Ok-learn-clause-exact g c h full reads told room =
     let e = entry c.args.r.now in
-    let replays = c.in-Ok.ensures.exact h reads.house reads.time' room in (
-      subst (λ (l : Limits). MayFollow l h e) full replays.0,
+    let replays = c.in-Ok.ensures.exact h reads.house reads.time' told room in (
+      subst (λ (l : Limits). MayFollow l h e) full replays.0.follows,
       record {
         house = replays.1;
-        time' = omega (arith, replays.2, time_snoc h e, replays.0.in_order);
+        time' = omega (arith, replays.2, time_snoc h e, replays.0.follows.in_order);
         sums' = c.in-Ok-learn.ensures h reads.sums';
       },
     )
 
 pub returns-in-Err-clause-exact : goal.returns-in-Err-clause-exact
-returns-in-Err-clause-exact g c h full reads room =
+returns-in-Err-clause-exact g c h full reads told room =
     let e = entry c.args.r.now in
-    let replays = c.in-Err.ensures.exact h reads.house reads.time' room in
-    fault_told {A = Unit {0}} g.T.Trade.trade c.replay.new.self FULL (λ u k. Unit {0}) h e c.in-Err.fault (subst (λ (l : Limits). Replays g.T.Trade.trade c.replay.new.self l h e (Err c.in-Err.fault)) full replays)
+    let replays = c.in-Err.ensures.exact h reads.house reads.time' told room in
+    fault_told {A = Unit {0}} g.T.Trade.trade g.T.Trade.passes c.replay.new.self FULL (λ u k. Unit {0}) h e (c.requires.passed h) c.in-Err.fault (subst (λ (l : Limits). Replays g.T.Trade.trade g.T.Trade.passes c.replay.new.self l h e (Err c.in-Err.fault)) full replays)

@@ -7,6 +7,7 @@ pub returns-then-not-learn-2-clause-same : goal.returns-then-not-learn-2-clause-
 returns-then-not-learn-2-clause-same c h stands fails = record {
   of_accounts = stands.of_accounts;
   of_stalls = c.learn-in-Licence.ensures.same h stands.of_stalls c.if-not-learn-2.true;
+  of_moves = stands.of_moves;
   of_fee = stands.of_fee;
 }
 
@@ -22,5 +23,6 @@ returns-else-not-learn c =
       accounts = λ h stands answer ok. c.learn.ensures.learned h stands.of_accounts answer c.if-not-learn.false;
       stalls = λ most h stands answer ok. c.learn-in_default.ensures.learned most h stands.of_stalls answer ok;
       same = λ h stands fails. absurd (false≢true (sym fails ∙ (c.learn-in_default.ensures.exact h stands.of_stalls).1 (free h)));
+      moves = refl;
       fee = refl;
     }

@@ -8,18 +8,18 @@ use Rattle.house_core.proofs.Contents.{contents_roomed}
 use Rattle.house_core.proofs.bench.Bench.follow.Goals as goal
 
 pub returns-in-Ok-apply_entry-clause-exact : goal.returns-in-Ok-apply_entry-clause-exact
-returns-in-Ok-apply_entry-clause-exact g c h st =
+returns-in-Ok-apply_entry-clause-exact g c h st tells =
     let same = c.in-Ok.ensures.same in
     let limits : limits_of c.room_for.new.self ≡ limits_of c.args.self.now = same.state.limits in
     let order : time h ≤ moment_of (entry c.args.r.now) = omega (arith, st.state.in_time, c.requires.time) in
-    rw limits at (c.in-Ok-apply_entry.ensures.exact h (holds_roomed g.T.Trade.trade _ _ h same st) order)
+    rw limits at (c.in-Ok-apply_entry.ensures.exact h (holds_roomed g.T.Trade.trade _ _ h same st) order tells)
 
 pub returns-in-Err-apply_entry-clause-exact : goal.returns-in-Err-apply_entry-clause-exact
-returns-in-Err-apply_entry-clause-exact g c h st =
+returns-in-Err-apply_entry-clause-exact g c h st tells =
     let same = c.in-Ok.ensures.same in
     let limits : limits_of c.room_for.new.self ≡ limits_of c.args.self.now = same.state.limits in
     let order : time h ≤ moment_of (entry c.args.r.now) = omega (arith, st.state.in_time, c.requires.time) in
-    rw limits at (c.in-Err-apply_entry.ensures.exact h (holds_roomed g.T.Trade.trade _ _ h same st) order)
+    rw limits at (c.in-Err-apply_entry.ensures.exact h (holds_roomed g.T.Trade.trade _ _ h same st) order tells)
 
 pub returns-in-Ok-apply_entry-clause-contents : goal.returns-in-Ok-apply_entry-clause-contents
 returns-in-Ok-apply_entry-clause-contents g c h st has =

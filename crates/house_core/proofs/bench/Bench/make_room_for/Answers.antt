@@ -8,7 +8,7 @@ use Rattle.house_state.proofs.Tabled.{fitted_stands}
 use Rattle.house_core.proofs.bench.Bench.make_room_for.Goals as goal
 
 pub returns-in-Err-clause-fault : goal.returns-in-Err-clause-fault
-returns-in-Err-clause-fault g c h st =
+returns-in-Err-clause-fault g c h st tells =
     let b = c.args.self.now.state in
     let e = entry c.args.r.now in
     let refused = c.in-Err.ensures.lines e c.payload_len-bytes.ensures ∙ ap (λ (l : Limits). fitted_by l.journal b.size (tail_of b) e) c.limits.ensures.limits in

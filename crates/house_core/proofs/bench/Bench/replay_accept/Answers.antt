@@ -20,7 +20,7 @@ returns-in-Err-clause-exact g c h st =
     let asked : c.of-q.result ≡ request_of c.args.scrip.now c.args.target.now c.args.sign.now = c.of-q.ensures ∙ c.request_for.ensures ∙ ap (scrip_request c.args.scrip.now c.args.target.now) c.digits_of-digits.ensures in
     let is = c.in-Err.ensures.exact h st.state st.learned st.of_kind
     ∙ ap₂ (λ (l : Limits) (q : Asked). answer h t l q) (c.unbounded_of-limits.ensures ∙ ap unbounded c.limits.ensures.limits) asked in
-    stops (stop_of c.in-Err.field-0) (answer h t bounds (request_of c.args.scrip.now c.args.target.now c.args.sign.now)) _ is may.allowed
+    stops (stop_of c.in-Err.field-0) (answer h t bounds (request_of c.args.scrip.now c.args.target.now c.args.sign.now)) _ is may.follows.allowed
 
 pub returns-then-not-is_said-clause-exact : goal.returns-then-not-is_said-clause-exact
 returns-then-not-is_said-clause-exact g c h st =
@@ -31,7 +31,7 @@ returns-then-not-is_said-clause-exact g c h st =
     let is = c.in-Ok.ensures.exact h st.state st.learned st.of_kind
     ∙ ap₂ (λ (l : Limits) (q : Asked). answer h t l q) (c.unbounded_of-limits.ensures ∙ ap unbounded c.limits.ensures.limits) asked in
     let said = is_said t t c.args.scrip.now c.of-q.result.target c.args.target.now c.in-Ok.authorization c.args.sign.now c.args.price c.args.change (deed_of c.args.deed.now)
-    (answer h t bounds (request_of c.args.scrip.now c.args.target.now c.args.sign.now)) is may.allowed in
+    (answer h t bounds (request_of c.args.scrip.now c.args.target.now c.args.sign.now)) is may.follows.allowed in
     let yes' = c.is_said.ensures.1 said in
     absurd (cc)
 
@@ -49,7 +49,7 @@ returns-in-Ok-commit-clause-exact g c h st =
     c.in-Ok.ensures.new (ap (λ (q : Asked). q.scrip) asked) (ap (λ (q : Asked). q.target) asked) (c.is_said.ensures.0 c.if-not-is_said.false) in
     let most : 2 ^ 40 ≤ 2 ^ 40 = omega arith in
     let taken = c.in-Ok-commit.ensures.exact bounds h st refl most (sym is) in (
-      record { in_order = st.state.in_time; allowed = sym (is ∙ ap (answer h t bounds) asked) ∙ ap (λ (x : Entry). answers.Take x) same },
+      record { follows = record { in_order = st.state.in_time; allowed = sym (is ∙ ap (answer h t bounds) asked) ∙ ap (λ (x : Entry). answers.Take x) same }; passed = tt },
       subst (λ (x : Entry). Represents g.T.Trade.trade c.commit.new.self (h ++ x ∷ [])) same taken.1,
       c.in-Ok-commit.ensures.time,
     )

@@ -19,7 +19,7 @@ returns-in-Err-clause-exact g c h st =
     c.of-q.ensures ∙ c.draw_request.ensures ∙ ap (λ (s : List ℕ). record { target = c.args.target.now; scrip = None; sign = Some s }) c.hex_of-digits.ensures in
     let is = c.in-Err.ensures.exact h st.state st.learned st.of_kind
     ∙ ap₂ (λ (l : Limits) (q : Asked). answer h t l q) (c.unbounded_of-limits.ensures ∙ ap unbounded c.limits.ensures.limits) asked in
-    stops (stop_of c.in-Err.field-0) (answer h t bounds (draw_request c.args.target.now c.args.sign.now)) _ is may.allowed
+    stops (stop_of c.in-Err.field-0) (answer h t bounds (draw_request c.args.target.now c.args.sign.now)) _ is may.follows.allowed
 
 pub returns-then-not-is_drawn-clause-exact : goal.returns-then-not-is_drawn-clause-exact
 returns-then-not-is_drawn-clause-exact g c h st =
@@ -31,7 +31,7 @@ returns-then-not-is_drawn-clause-exact g c h st =
     let is = c.in-Ok.ensures.exact h st.state st.learned st.of_kind
     ∙ ap₂ (λ (l : Limits) (q : Asked). answer h t l q) (c.unbounded_of-limits.ensures ∙ ap unbounded c.limits.ensures.limits) asked in
     let said = says_drawn t t c.of-q.result.target c.args.target.now c.in-Ok.authorization c.args.sign.now c.args.drawn
-    (answer h t bounds (draw_request c.args.target.now c.args.sign.now)) is may.allowed in
+    (answer h t bounds (draw_request c.args.target.now c.args.sign.now)) is may.follows.allowed in
     let yes' = c.is_drawn.ensures.1 said in
     absurd (cc)
 
@@ -49,7 +49,7 @@ returns-in-Ok-commit-clause-exact g c h st =
     drawn_entry t c.of-q.result.target c.args.target.now a c.args.sign.now c.args.drawn (ap (λ (q : Asked). q.target) asked) (c.is_drawn.ensures.0 c.if-not-is_drawn.false) in
     let most : 2 ^ 40 ≤ 2 ^ 40 = omega arith in
     let taken = c.in-Ok-commit.ensures.exact bounds h st refl most (sym is) in (
-      record { in_order = st.state.in_time; allowed = sym (is ∙ ap (answer h t bounds) asked) ∙ ap (λ (x : Entry). answers.Take x) same },
+      record { follows = record { in_order = st.state.in_time; allowed = sym (is ∙ ap (answer h t bounds) asked) ∙ ap (λ (x : Entry). answers.Take x) same }; passed = tt },
       subst (λ (x : Entry). Represents g.T.Trade.trade c.commit.new.self (h ++ x ∷ [])) same taken.1,
       c.in-Ok-commit.ensures.time,
     )

@@ -1,3 +1,5 @@
+use Rattle.std.proofs.Common.{ℕ, sym, subst}
+use Rattle.house_state.specs.HouseState.{GoesOn}
 use Rattle.mc_records.specs.Views.{entry}
 use Rattle.house_core.proofs.Accepting.{stands_as_before}
 use Rattle.house_core.proofs.Applied.{house_half}
@@ -5,16 +7,16 @@ use Rattle.house_state.proofs.PartLaws.{halves}
 use Rattle.house_core.proofs.bench.Bench.room_for.Goals as goal
 
 pub returns-then-not-goes_on-clause-end : goal.returns-then-not-goes_on-clause-end
-returns-then-not-goes_on-clause-end g c h st = (
+returns-then-not-goes_on-clause-end g c h st tells = (
   λ may.
       let e = entry c.args.r.now in
-      let half = house_half st.state (g.T.Trade.trade c.args.self.now.trade).site e c.requires.command in
-      let goes = half.1 ((halves g.T.Trade.passes c.args.self.now.state.limits (g.T.Trade.trade c.args.self.now.trade).site h e st.of_kind).0 may.allowed).0 in
-      let yes' = c.goes_on.ensures.1 goes in
+      let half = house_half st.state (g.T.Trade.trade c.args.self.now.trade).site st.of_kind e c.requires.command tells in
+      let goes = half.1 ((halves g.T.Trade.passes c.args.self.now.state.limits (g.T.Trade.trade c.args.self.now.trade).site h e st.of_kind).0 (may.follows.allowed, may.passed)).0 in
+      let yes' = c.goes_on.ensures.1 (subst (λ (k : ℕ). GoesOn c.args.self.now.state k e) (sym c.kind.ensures) goes) in
       absurd (cc),
   st,
 )
 
 pub returns-in-Err-reserve_for-clause-end : goal.returns-in-Err-reserve_for-clause-end
-returns-in-Err-reserve_for-clause-end g c h st =
+returns-in-Err-reserve_for-clause-end g c h st tells =
     record { state = stands_as_before st.state c.in-Err-reserve_for.ensures.same; learned = c.in-Ok.ensures.same h st.learned; of_kind = rw c.in-Ok.ensures.site st.of_kind }

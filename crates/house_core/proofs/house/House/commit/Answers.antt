@@ -59,7 +59,7 @@ returns-in-Ok-append-clause-ran g c h st =
 pub returns-in-Err-Full-clause-exact : goal.returns-in-Err-Full-clause-exact
 returns-in-Err-Full-clause-exact g c h st in_force brings takes =
     let is : entry c.entry_of-record.result ≡ authorized_entry (house_time c.args.self.bench) c.args.q.now.target c.args.authorization = rw (c.entry_of-record.ensures.same, c.time.ensures) (ap (λ (q : Asked). authorized_entry (house_time c.args.self.bench) q.target c.args.authorization) c.request.ensures) in
-    let full : c.args.self.journal.limit < size h + entry_size h (entry c.entry_of-record.result) = rw c.in-Err-Full.field-0-is at (c.in-Err-Full.ensures.full h st.journal.size_is) in
+    let full : c.args.self.journal.limit < size h + entry_size h (entry c.entry_of-record.result) = rw c.in-Err-Full.field-0-is at (c.in-Err-Full.ensures.full h st.journal.size_is st.journal.switched_is) in
     let long = payload_is c.args.self.bench.state c.args.q.now.target c.args.authorization c.requires.ready ∙ ap (λ (e : Entry). length (payload e)) (sym is) in
     absurd (not_full_of c.args.self.bench.state h c.args.self.journal.limit (payload_of c.args.authorization) (entry c.entry_of-record.result) st.house.represents.state long c.requires.room st.limit full)
 

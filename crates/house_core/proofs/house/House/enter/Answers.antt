@@ -5,12 +5,13 @@ use Rattle.mc_records.specs.Sizes.{size, entry_size}
 use Rattle.mc_records.specs.declared.limits.Limits.{Limits}
 use Rattle.mc_records.specs.Views.{entry}
 use Rattle.scrip_journal.specs.States.{AtRest}
+use Rattle.house_state.specs.Learning.{MayEnter}
 use Rattle.scrip_journal.specs.Exits.{EitherNoOutput}
 use Rattle.house_core.specs.declared.house.House.{House}
 use Rattle.house_core.specs.Bench.{limits_of}
 use Rattle.house_core.proofs.Accepting.{holds_roomed}
 use Rattle.house_core.proofs.Contents.{contents_roomed}
-use Rattle.house_core.proofs.HouseDisk.{ran_nothing, stands_with, as_roomed, has_entered, not_full_of, applied}
+use Rattle.house_core.proofs.HouseDisk.{ran_nothing, stands_with, as_roomed, has_entered, not_full_of, may_tell, applied}
 use Rattle.house_core.proofs.house.House.enter.Goals as goal
 
 pub returns-in-Err-clause-exact : goal.returns-in-Err-clause-exact
@@ -31,7 +32,8 @@ returns-in-Ok-append-clause-exact g c h st =
     let after : House g.row.D.Denot g.row.T.Denot = record { journal = c.in-Ok-append.journal; bench = c.apply_entry-applied.new.self } in
     let wrote = c.in-Ok-append.ensures in
     let may = c.requires.may h st in
-    let both = applied c.apply_entry-applied.result _ _ _ _ _ _ may (rw limits at (c.apply_entry-applied.ensures.exact h st' may.in_order)) (c.apply_entry-applied.ensures.contents h st' has) in
+    let enters : MayEnter g.T.Trade.passes (limits_of c.args.self.bench) h (entry c.args.r.now) = record { follows = may; passed = c.requires.passed h st } in
+    let both = applied c.apply_entry-applied.result _ _ _ _ _ _ enters (rw limits at (c.apply_entry-applied.ensures.exact h st' may.in_order (may_tell _ h _ may))) (c.apply_entry-applied.ensures.contents h st' has) in
     has_entered g.D.Disk.disk g.T.Trade.trade c.args.self after h (entry c.args.r.now) (entry c.args.r.now)
     c.in-Ok-append.receipt refl st (wrote.written h st.journal).0 wrote.limit (c.apply_entry-applied.ensures.limits ∙ limits) (wrote.written h st.journal).1 both.0 both.1
 
@@ -39,7 +41,7 @@ pub returns-in-Err-Full-clause-exact : goal.returns-in-Err-Full-clause-exact
 returns-in-Err-Full-clause-exact g c h st =
     let same = c.make_room_for.ensures.same in
     let st' = holds_roomed g.T.Trade.trade _ _ h same (c.raise.ensures.same h st.house.represents) in
-    let full : c.args.self.journal.limit < size h + entry_size h (entry c.args.r.now) = rw c.in-Err-Full.field-0-is at (c.in-Err-Full.ensures.full h st.journal.size_is) in
+    let full : c.args.self.journal.limit < size h + entry_size h (entry c.args.r.now) = rw c.in-Err-Full.field-0-is at (c.in-Err-Full.ensures.full h st.journal.size_is st.journal.switched_is) in
     absurd (not_full_of c.make_room_for.new.self.state h c.args.self.journal.limit c.in-Ok.bytes (entry c.args.r.now) st'.state c.in-Ok.ensures.len c.in-Ok.ensures.fits
     (st.limit ∙ ap (λ (l : Limits). l.journal) (sym (same.state.limits ∙ c.raise.ensures.limits))) full)
 
@@ -65,5 +67,5 @@ pub returns-in-Err-Refused-clause-exact : goal.returns-in-Err-Refused-clause-exa
 returns-in-Err-Refused-clause-exact g c h st =
     let raised : House g.row.D.Denot g.row.T.Denot = record { journal = c.args.self.journal; bench = c.raise.new.self } in
     let st' = stands_with g.D.Disk.disk g.T.Trade.trade c.args.self c.raise.new.self h st (c.raise.ensures.same h st.house.represents) (c.raise.ensures.contents h st.house.represents st.house.contents) c.raise.ensures.limits in
-    let fault = rw c.in-Err-Refused.field-0-is at (c.in-Err-Refused.ensures.fault h (c.raise.ensures.same h st.house.represents)) in
+    let fault = rw c.in-Err-Refused.field-0-is at (c.in-Err-Refused.ensures.fault h (c.raise.ensures.same h st.house.represents) (may_tell _ h _ (c.requires.may h st))) in
     (rw c.raise.ensures.limits at fault.0, as_roomed g.D.Disk.disk g.T.Trade.trade raised _ h refl c.in-Err-Refused.ensures.same st')

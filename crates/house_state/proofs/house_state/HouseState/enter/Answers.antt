@@ -14,7 +14,7 @@ keep-number-requires-clause-room c =
     let paid = c.args.paid.now in
     let a = c.args.a.now in
     let room = subst (λ (b : HouseStateView). text_size q + pieces_size b.name paid a < b.kept.room) (sym c.self.view_is) c.requires.room.reply in
-    let change = change_fits c.self.inside.own.terms c.self.inside.time (paid.value - a.price) c.self.inside.name paid.cust paid.props a.change c.redeem-change.result c.redeem-change.ensures.piece in
+    let change = change_fits c.self.inside.upgrades.items c.self.inside.own.terms c.self.inside.time (paid.value - a.price) c.self.inside.name paid.cust paid.props a.change c.redeem-change.result (rw c.deref.ensures.value at c.redeem-change.ensures.piece) in
     rw change room
 
 pub keep-number-requires-clause-new_request : goal.keep-number-requires-clause-new_request
@@ -32,7 +32,7 @@ invariant_of-self c =
     let fits = subst (λ (b : HouseStateView). size_with b c.args.a.now.payload ≤ 2 ^ 40) (sym c.self.view_is) c.requires.fits in
     sound_entered _ _ (asked_of c.args.q.now) c.args.paid.now c.args.a.now c.self.invariant c.id.ensures.piece fits
     (entered _ c.mark.new.self c.keep-number.new.self c.redeem-change.new.own c.redeem-change.new.takings _ (asked_of c.args.q.now) c.args.paid.now c.args.a.now c.redeem-change.result c.self.invariant short
-    (rw c.id.ensures.id at c.mark.ensures.marked) c.mark.ensures.ends c.keep-number.ensures.keep c.keep-number.ensures.replies c.redeem-change.ensures.piece c.redeem-change.ensures.terms c.redeem-change.ensures.most
+    (rw c.id.ensures.id at c.mark.ensures.marked) c.mark.ensures.ends c.keep-number.ensures.keep c.keep-number.ensures.replies (rw c.deref.ensures.value at c.redeem-change.ensures.piece) c.redeem-change.ensures.terms c.redeem-change.ensures.most
     c.redeem-change.ensures.count c.redeem-change.ensures.worth c.redeem-change.ensures.redeemed c.redeem-change.ensures.takings size)
 
 pub returns-clause-entered : goal.returns-clause-entered
@@ -44,6 +44,8 @@ returns-clause-entered c =
       clear = c.self.inside.clear;
       terms = c.self.inside.terms.items;
       terms_room = vec_capacity c.self.inside.terms - vec_len c.self.inside.terms;
+      upgrades = c.self.inside.upgrades.items;
+      upgrades_room = vec_capacity c.self.inside.upgrades - vec_len c.self.inside.upgrades;
       time = c.self.inside.time;
       spent = c.self.inside.spent;
       kept = c.self.inside.kept;
@@ -51,12 +53,13 @@ returns-clause-entered c =
       takings = c.self.inside.takings;
       count = c.self.inside.count;
       size = c.self.inside.size;
+      switched = c.self.inside.switched;
       limits = c.self.inside.limits;
     } in
     let new : HouseStateView = record old { spent = c.mark.new.self; kept = c.keep-number.new.self; own = c.redeem-change.new.own; takings = c.redeem-change.new.takings; count = c.self.inside.count + 1; size = c.size_with-size.result } in
     subst (λ (b : HouseStateView). IsEntered b new (asked_of c.args.q.now) c.args.paid.now c.args.a.now) c.self.view_is
     (entered old c.mark.new.self c.keep-number.new.self c.redeem-change.new.own c.redeem-change.new.takings _ (asked_of c.args.q.now) c.args.paid.now c.args.a.now c.redeem-change.result c.self.invariant short
-    (rw c.id.ensures.id at c.mark.ensures.marked) c.mark.ensures.ends c.keep-number.ensures.keep c.keep-number.ensures.replies c.redeem-change.ensures.piece c.redeem-change.ensures.terms c.redeem-change.ensures.most
+    (rw c.id.ensures.id at c.mark.ensures.marked) c.mark.ensures.ends c.keep-number.ensures.keep c.keep-number.ensures.replies (rw c.deref.ensures.value at c.redeem-change.ensures.piece) c.redeem-change.ensures.terms c.redeem-change.ensures.most
     c.redeem-change.ensures.count c.redeem-change.ensures.worth c.redeem-change.ensures.redeemed c.redeem-change.ensures.takings size)
 
 pub returns-clause-number : goal.returns-clause-number

@@ -23,7 +23,7 @@ invariant_of-self c =
     let size = subst (λ (b : HouseStateView). c.size_with-size.result ≡ size_with b c.args.d.now.payload) (sym c.self.view_is) c.size_with-size.ensures in
     let ready = subst (λ (b : HouseStateView). IsDrawReady b c.args.q.now.target.now c.args.d.now) (sym c.self.view_is) c.requires.ready in
     sound_drawn _ _ (asked_of c.args.q.now) c.args.d.now c.self.invariant ready.fits
-    (drawn _ c.keep-number.new.self c.drawn-deed.new.own _ (asked_of c.args.q.now) c.args.d.now c.drawn-deed.result c.self.invariant short ready.next (c.drawn-deed.ensures.deed c.self.inside.name)
+    (drawn _ c.keep-number.new.self c.drawn-deed.new.own _ (asked_of c.args.q.now) c.args.d.now c.drawn-deed.result c.self.invariant short ready.next (rw c.deref.ensures.value at c.drawn-deed.ensures.deed)
     c.keep-number.ensures.keep (rw c.get.ensures.units at c.keep-number.ensures.replies) c.drawn-deed.ensures.terms c.drawn-deed.ensures.most c.drawn-deed.ensures.count c.drawn-deed.ensures.worth c.drawn-deed.ensures.redeemed size)
 
 pub returns-clause-drawn : goal.returns-clause-drawn
@@ -36,6 +36,8 @@ returns-clause-drawn c =
       clear = c.self.inside.clear;
       terms = c.self.inside.terms.items;
       terms_room = vec_capacity c.self.inside.terms - vec_len c.self.inside.terms;
+      upgrades = c.self.inside.upgrades.items;
+      upgrades_room = vec_capacity c.self.inside.upgrades - vec_len c.self.inside.upgrades;
       time = c.self.inside.time;
       spent = c.self.inside.spent;
       kept = c.self.inside.kept;
@@ -43,11 +45,12 @@ returns-clause-drawn c =
       takings = c.self.inside.takings;
       count = c.self.inside.count;
       size = c.self.inside.size;
+      switched = c.self.inside.switched;
       limits = c.self.inside.limits;
     } in
     let new : HouseStateView = record old { kept = c.keep-number.new.self; own = c.drawn-deed.new.own; count = c.self.inside.count + 1; size = c.size_with-size.result } in
     subst (λ (b : HouseStateView). IsDrawn b new (asked_of c.args.q.now) c.args.d.now) c.self.view_is
-    (drawn old c.keep-number.new.self c.drawn-deed.new.own _ (asked_of c.args.q.now) c.args.d.now c.drawn-deed.result c.self.invariant short ready.next (c.drawn-deed.ensures.deed c.self.inside.name)
+    (drawn old c.keep-number.new.self c.drawn-deed.new.own _ (asked_of c.args.q.now) c.args.d.now c.drawn-deed.result c.self.invariant short ready.next (rw c.deref.ensures.value at c.drawn-deed.ensures.deed)
     c.keep-number.ensures.keep (rw c.get.ensures.units at c.keep-number.ensures.replies) c.drawn-deed.ensures.terms c.drawn-deed.ensures.most c.drawn-deed.ensures.count c.drawn-deed.ensures.worth c.drawn-deed.ensures.redeemed size)
 
 pub returns-clause-number : goal.returns-clause-number

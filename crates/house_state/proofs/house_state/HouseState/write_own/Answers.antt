@@ -1,8 +1,6 @@
 use Rattle.std.proofs.Common.{◌∙◌}
-use Rattle.scrip_form.specs.Identities.{series_of}
 use Rattle.scrip_form.specs.Scrip.{scrip_body}
-use Rattle.ledger_model.specs.Houses.{certificate_in}
-use Rattle.house_state.specs.HouseState.{version_of}
+use Rattle.scrip_certs.specs.Digests.{certificate}
 use Rattle.house_state.proofs.SpellLaws.{text_in_parts}
 use Rattle.house_state.proofs.house_state.HouseState.write_own.Goals as goal
 
@@ -10,5 +8,5 @@ pub returns-clause-text : goal.returns-clause-text
 returns-clause-text c =
     let p = c.args.piece.now in
     let b = c.args.self.now in
-    c.put.ensures.put ∙ rw (c.hex_of.ensures, c.certificate_of-cert.ensures, c.id.ensures.id, c.own_terms.ensures, c.write_scrip-len.ensures.body)
-    (text_in_parts p (certificate_in (version_of b (series_of p.id)) b.own.terms (scrip_body p) p.id))
+    c.put.ensures.put ∙ rw (c.hex_of.ensures, c.certificate-cert.ensures, c.id.ensures.id, c.own_terms.ensures, c.write_scrip-len.ensures.body)
+    (text_in_parts p (certificate b.own.terms (scrip_body p) p.id))

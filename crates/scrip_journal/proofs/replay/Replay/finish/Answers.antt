@@ -4,7 +4,7 @@ use Rattle.scrip_journal.proofs.Reading.{finished}
 use Rattle.scrip_journal.proofs.replay.Replay.finish.Goals as goal
 
 rested : {D : Type 0} → Reading D → AtRest D
-rested v = record { disk = v.disk; size = v.gate + 1; entries = v.entries; limit = v.limit }
+rested v = record { disk = v.disk; size = v.gate + 1; entries = v.entries; limit = v.limit; switched = v.switched; chain = v.chain }
 
 pub returns-clause-journal : goal.returns-clause-journal
 unfolding rested

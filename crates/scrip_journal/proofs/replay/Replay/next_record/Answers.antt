@@ -1,4 +1,4 @@
-use Rattle.std.proofs.Common.{◌-◌, ◌∙◌, sym, ap, subst, List, ℕ, Some, Err}
+use Rattle.std.proofs.Common.{◌∙◌, sym, ap, subst, List, ℕ, Some, Err}
 use Rattle.std.specs.Prelude.{slice_range}
 use Rattle.scrip_journal.specs.States.{Reading}
 use Rattle.scrip_journal.specs.Replays.{ReadAhead, FaultsBy, EndsHere}
@@ -7,17 +7,17 @@ use Rattle.scrip_journal.proofs.replay.Replay.next_record.Goals as goal
 
 pub returns-in-Ok : goal.returns-in-Ok
 returns-in-Ok g c =
-    let last : List ℕ = slice_range c.self.inside.buf.items (c.self.inside.start - 0) c.self.inside.start in
+    let last : List ℕ = slice_range c.self.inside.buf.items 0 0 in
     let old = c.self.view_is in
     let on = sym (ap (λ (v : Reading g.row.D.Denot). v.ended) old) ∙ none_of c.self.inside.ended c.in_default.not-Some in
     let disk = ap (λ (v : Reading g.row.D.Denot). v.disk) old in
     advanced_on g.D.Disk.disk g.D.Disk.disk_moved c.args.self.now c.look.new.self last on (subst (λ (d : g.row.D.Denot). g.D.Disk.disk_moved d c.look.new.self.disk) disk c.look.ensures.moved)
-    (subst (λ (v : Reading g.row.D.Denot). ReadAhead g.D.Disk.disk (record v { last = last }) c.look.new.self) old c.look.ensures.ahead) c.in-Ok.length c.advance.result c.advance.new.self
+    (subst (λ (v : Reading g.row.D.Denot). ReadAhead g.D.Disk.disk (record v { last = last }) c.look.new.self) old c.look.ensures.ahead) c.in-Ok.found c.advance.result c.advance.new.self
     (c.in-Ok.ensures.cause ∙ ap (λ (d : g.row.D.Denot). (g.D.Disk.disk d).faults) disk) c.in-Ok.ensures.frame c.advance.ensures
 
 pub returns-in-Err : goal.returns-in-Err
 returns-in-Err g c =
-    let last : List ℕ = slice_range c.self.inside.buf.items (c.self.inside.start - 0) c.self.inside.start in
+    let last : List ℕ = slice_range c.self.inside.buf.items 0 0 in
     let old = c.self.view_is in
     let on = sym (ap (λ (v : Reading g.row.D.Denot). v.ended) old) ∙ none_of c.self.inside.ended c.in_default.not-Some in
     let disk = ap (λ (v : Reading g.row.D.Denot). v.disk) old in

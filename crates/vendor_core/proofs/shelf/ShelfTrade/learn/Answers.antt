@@ -1,7 +1,7 @@
 use Rattle.std.proofs.Common.{◌≡◌, true, false, sym, ◌∙◌, refl, inl, inr, append-nil}
 use Rattle.std.specs.Prelude.{◌==◌}
 use Rattle.std.specs.List.{list_any}
-use Rattle.std.proofs.lemmas.Bool.{false≢true}
+use Rattle.std.proofs.lemmas.Bool.{false≢true, true≢false}
 use Rattle.vendor_core.proofs.ShelfLaws.{issuer_is_taken, issuer_is_free, quiet_learned}
 use Rattle.vendor_core.proofs.shelf.ShelfTrade.learn.Goals as goal
 
@@ -27,9 +27,23 @@ pub returns-else-contains-clause-learned : goal.returns-else-contains-clause-lea
 returns-else-contains-clause-learned c limits h stands may =
     rw (c.in-Terms.is, c.push_reserved-in-Terms.ensures.items, c.issuer-issuer.ensures) (quiet_learned _ _ _ _ _ _ h _ (λ target. refl) refl refl refl stands)
 
+-- of each of these the house tells, or it always may come
+pub returns-in-Accept-clause-exact : goal.returns-in-Accept-clause-exact
+returns-in-Accept-clause-exact c limits h stands may =
+    elim c.in-Accept.is [
+      | inl x ↦ rw x.7 (λ ok. tt, λ half. refl)
+      | inr (inl x) ↦ rw x.4 (λ ok. tt, λ half. refl)
+      | inr (inr (inl x)) ↦ rw x.4 (λ ok other. absurd (true≢false other), λ half. refl)
+      | inr (inr (inr (inl x))) ↦ rw x.2 (λ ok. tt, λ half. refl)
+      | inr (inr (inr (inr x))) ↦ rw x.3 (λ ok. tt, λ half. refl)
+    ]
+
 pub returns-in-Accept-clause-learned : goal.returns-in-Accept-clause-learned
 returns-in-Accept-clause-learned c limits h stands may =
     elim c.in-Accept.is [
       | inl x ↦ rw x.7 (quiet_learned _ _ _ _ _ _ h _ (λ target. refl) refl (append-nil _) refl stands)
-      | inr x ↦ rw x.4 (quiet_learned _ _ _ _ _ _ h _ (λ target. refl) refl (append-nil _) refl stands)
+      | inr (inl x) ↦ rw x.4 (quiet_learned _ _ _ _ _ _ h _ (λ target. refl) refl (append-nil _) refl stands)
+      | inr (inr (inl x)) ↦ rw x.4 (quiet_learned _ _ _ _ _ _ h _ (λ target. refl) refl (append-nil _) refl stands)
+      | inr (inr (inr (inl x))) ↦ rw x.2 (quiet_learned _ _ _ _ _ _ h _ (λ target. refl) refl (append-nil _) refl stands)
+      | inr (inr (inr (inr x))) ↦ rw x.3 (quiet_learned _ _ _ _ _ _ h _ (λ target. refl) refl (append-nil _) refl stands)
     ]

@@ -1,6 +1,6 @@
-use Rattle.std.proofs.Common.{◌≡◌, List, ℕ, Some, None, false, true, sym, ap, subst, ◌∙◌}
+use Rattle.std.proofs.Common.{List, ℕ, Some, None, sym, ap, subst, ◌∙◌}
 use Rattle.wallet_model.specs.Newness.{is_new}
-use Rattle.wallet_book.specs.Holdings.{texts_of, FindsPiece}
+use Rattle.wallet_book.specs.Holdings.{FindsPiece}
 use Rattle.wallet_book.specs.Book.{BookView}
 use Rattle.wallet_book.proofs.HoldingLaws.{not_new}
 use Rattle.wallet_book.proofs.PartLaws.{came_texts}

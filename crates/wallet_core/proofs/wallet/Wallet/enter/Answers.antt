@@ -1,70 +1,21 @@
-use Rattle.std.proofs.Common.{◌∙◌, ◌+◌, ◌<◌, refl, sym, ap, subst, arith}
-use Rattle.mc_outside.specs.Bytes.{Rose}
-use Rattle.mc_outside.specs.DiskView.{Ran}
-use Rattle.mc_records.specs.declared.limits.Limits.{Limits}
-use Rattle.mc_records.specs.Sizes.{size, entry_size}
+use Rattle.std.proofs.Common.{◌≡◌, refl}
 use Rattle.mc_records.specs.Views.{entry}
-use Rattle.scrip_journal.specs.Exits.{EitherNoOutput}
-use Rattle.wallet_core.proofs.EnterLaws.{has_room, learned, not_full, ran_nothing}
-use Rattle.wallet_core.proofs.OutcomeLaws.{as_it_stood}
+use Rattle.wallet_core.specs.Answers.{TellsNumber}
+use Rattle.wallet_core.proofs.OutcomeLaws.{done_so, refused_so, wanting_so, halted_so}
 use Rattle.wallet_core.proofs.wallet.Wallet.enter.Goals as goal
 
-pub returns-in-Ok-append-clause-exact : goal.returns-in-Ok-append-clause-exact
-returns-in-Ok-append-clause-exact g c = λ h st.
-    let e = entry c.args.r.now in
-    let wrote = c.in-Ok-append.ensures in
-    let journal = (wrote.written h st.journal).0 in
-    let made = c.in-Ok-reserve.ensures in
-    let knows = c.learn-learned.ensures in
-    let both = learned c.learn-learned.new.self h e c.learn-learned.result (c.requires.may h st) (knows.exact h (made.same h st.book) (has_room g.D.Disk.disk c.in-Ok-append.journal h e journal)) in
-    record {
-      adds = (
-        record {
-          fits = c.in-Ok.ensures.fitted h st.book;
-          stands = record {
-            journal = journal;
-            book = both.1;
-            limit = wrote.limit ∙ st.limit ∙ ap (λ (l : Limits). l.journal) (sym (knows.limits ∙ made.limits));
-          };
-          time' = omega (arith, knows.time both.0, made.time, c.requires.now);
-        },
-        refl,
-      );
-      ran = wrote.ran h st.journal;
-    }
+pub returns-in-Done-clause-exact : goal.returns-in-Done-clause-exact
+returns-in-Done-clause-exact g c = λ h st.
+    done_so g.D.Disk.disk c.args.self h (entry c.args.r.now) (TellsNumber h) (λ e a. a ≡ c.args.answer) c.in-Done.wallet c.in-Done._receipt c.args.answer refl (c.in-Done.ensures.exact h st)
 
-pub returns-in-Err-Full-clause-exact : goal.returns-in-Err-Full-clause-exact
-returns-in-Err-Full-clause-exact g c = λ h st.
-    let full : c.args.self.journal.limit < size h + entry_size h (entry c.args.r.now) = rw c.in-Err-Full.field-0-is at (c.in-Err-Full.ensures.full h st.journal.size_is) in
-    absurd (not_full c.args.self.book h (entry c.args.r.now) (c.in-Ok.ensures.fitted h st.book) (omega (arith, full, st.limit)))
+pub returns-in-Refused-clause-exact : goal.returns-in-Refused-clause-exact
+returns-in-Refused-clause-exact g c = λ h st.
+    refused_so g.D.Disk.disk c.args.self h (entry c.args.r.now) (TellsNumber h) (λ e a. a ≡ c.args.answer) c.in-Refused.wallet c.in-Refused.full (c.in-Refused.ensures.exact h st)
 
-pub returns-in-Err-Disk-clause-exact : goal.returns-in-Err-Disk-clause-exact
-returns-in-Err-Disk-clause-exact g c = λ h st.
-    let rose : Rose (g.D.Disk.disk c.args.self.journal.disk).faults (g.D.Disk.disk c.in-Err-Disk.halted).faults = rw c.in-Err-Disk.field-0-is at c.in-Err-Disk.ensures.fault in
-    let ran : Ran (g.D.Disk.disk c.args.self.journal.disk) (g.D.Disk.disk c.in-Err-Disk.halted) (EitherNoOutput h (entry c.args.r.now) (g.D.Disk.disk c.args.self.journal.disk).aside) = rw c.in-Err-Disk.field-0-is at (c.in-Err-Disk.ensures.ran h st.journal) in
-    record {
-      adds = record {
-        fits = c.in-Ok.ensures.fitted h st.book;
-        follows = c.requires.may h st;
-        rose = subst (λ (d : g.row.D.Denot). Rose (g.D.Disk.disk c.args.self.journal.disk).faults (g.D.Disk.disk d).faults) (sym c.in-Err-Disk.halted-is) rose;
-      };
-      ran = subst (λ (d : g.row.D.Denot). Ran (g.D.Disk.disk c.args.self.journal.disk) (g.D.Disk.disk d) (EitherNoOutput h (entry c.args.r.now) (g.D.Disk.disk c.args.self.journal.disk).aside)) (sym c.in-Err-Disk.halted-is) ran;
-    }
+pub returns-in-NoMemory-clause-exact : goal.returns-in-NoMemory-clause-exact
+returns-in-NoMemory-clause-exact g c = λ h st.
+    wanting_so g.D.Disk.disk c.args.self h (entry c.args.r.now) (TellsNumber h) (λ e a. a ≡ c.args.answer) c.in-NoMemory.wallet (c.in-NoMemory.ensures.exact h st)
 
-pub returns-in-Err-reserve-clause-exact : goal.returns-in-Err-reserve-clause-exact
-returns-in-Err-reserve-clause-exact g c = λ h st.
-    let made = c.reserve.ensures in
-    record {
-      adds = record {
-        stands = record { journal = st.journal; book = made.same h st.book; limit = st.limit ∙ ap (λ (l : Limits). l.journal) (sym made.limits) };
-        journal' = refl;
-        time' = made.time;
-      };
-      ran = ran_nothing g.D.Disk.disk c.args.self.journal h (g.met.D.Disk.is_disk c.args.self.journal.disk) st.journal;
-    }
-
-pub returns-in-Err-clause-exact : goal.returns-in-Err-clause-exact
-returns-in-Err-clause-exact g c = λ h st. record {
-  adds = (c.in-Err.ensures.fitted h st.book, as_it_stood g.D.Disk.disk c.args.self h st);
-  ran = ran_nothing g.D.Disk.disk c.args.self.journal h (g.met.D.Disk.is_disk c.args.self.journal.disk) st.journal;
-}
+pub returns-in-Halted-clause-exact : goal.returns-in-Halted-clause-exact
+returns-in-Halted-clause-exact g c = λ h st.
+    halted_so g.D.Disk.disk c.args.self h (entry c.args.r.now) (TellsNumber h) (λ e a. a ≡ c.args.answer) c.in-Halted.halted (c.in-Halted.ensures.exact h st)
