@@ -8,7 +8,7 @@ sys.path.insert(0, str(Path(__file__).resolve().parent / "second"))
 
 from desk import read_errand  # noqa: E402, F401
 from forms import Terms, id_of, read_scrip, reply_signature, request_signature  # noqa: E402, F401
-from journal import HEADER, Replay  # noqa: E402
+from journal import HEADER, BadEntry, NotJournal, Replay  # noqa: E402
 from market import Book, broker_sums, first_stranger, vendor_sums  # noqa: E402, F401
 from payloads import (  # noqa: E402, F401
     ACCEPT, ACCOUNT, BROKER, DEPOSIT, DONE, DRAW, GOODS, MINT, PEND, SITE, STOCK, TERMS, VENDOR, entry_of)
@@ -92,5 +92,41 @@ def write_book(file, entries):
 
 def entries_of(data):
     """The entries that a book encodes."""
-    replay = Replay(Stage(data))
-    return [entry for _, entry in iter(replay.next, None)]
+    return list(entries_on(Stage(data)))
+
+
+def entries_on(disk):
+    replay = Replay(disk)
+    return (entry for _, entry in iter(replay.next, None))
+
+
+class ReadOnly:
+    """A book's file as a disk that is only read, from front to back."""
+
+    def __init__(self, path):
+        self.file = open(path, "rb")
+
+    def sync(self):
+        pass
+
+    def read(self, at, length):
+        self.file.seek(at)
+        return self.file.read(length)
+
+
+def read_book(path):
+    """The entries of a book's file, one after another. What can't stand ends the script as it ends the program: with status 3 and
+    the place on standard error."""
+    try:
+        yield from entries_on(ReadOnly(path))
+    except OSError as error:
+        leave(1, "%s: %s" % (path, error.strerror))
+    except NotJournal:
+        leave(3, "%s: not a journal" % path)
+    except BadEntry as bad:
+        leave(3, "%s: bad entry at %d" % (path, bad.place))
+
+
+def leave(status, why):
+    print("%s: %s" % (Path(sys.argv[0]).name, why), file=sys.stderr)
+    raise SystemExit(status)

@@ -113,10 +113,26 @@ class Scrip:
 
 
 BAR = ord("|")
+WHOLE = re.compile(rb"MS([12])\|([a-z0-9][a-z0-9.-]{0,62})\|([1-9][0-9]{0,12})\|([0-9a-f]{16})\|([0-9a-f]{16})\|([1-9][0-9]{0,14})"
+                   rb"\|([a-z0-9=,.-]{0,128})\|([0-9a-f]{32})")
 
 
 def read_scrip(data):
-    """The scrip that the bytes are the text of."""
+    """The scrip that the bytes are the text of: what is whole at once, and else the place of the fault, field by field."""
+    whole = WHOLE.fullmatch(data)
+    return (whole and whole_scrip(data, *whole.groups())) or read_fields(data)
+
+
+def whole_scrip(data, version, vendor, value, ident, cust, expires, props, cert):
+    """The scrip of these fields, where its numbers are in their ranges."""
+    value, expires = int(value), int(expires)
+    if value <= MOST_VALUE and expires <= MOST_EXPIRES:
+        return Scrip(data, int(version), vendor, value, int(ident, 16), int(cust, 16), expires, props, bytes.fromhex(cert.decode()))
+    return None
+
+
+def read_fields(data):
+    """As `read_scrip`, field by field."""
     version, at = read_number(data, read_literal(data, 0, b"MS"), BAR, 2)
     vendor, at = read_name(data, at, BAR)
     value, at = read_number(data, at, BAR, MOST_VALUE)

@@ -1,7 +1,7 @@
 use crate::source::Source;
 use std::io;
 use std::io::{ErrorKind, Read, Write};
-use std::net::{Net, OpenStream, ToSocketAddrs};
+use std::net::{Net, OpenStream, SocketAddr, ToSocketAddrs};
 use std::time::Duration;
 
 #[cfg(test)]
@@ -23,6 +23,10 @@ pub struct Caller<'a, R: Net> {
     address: &'a str,
     stream: Option<R::Stream>,
     called: bool,
+    // whom the connection was made to
+    peer: Option<SocketAddr>,
+    // why none was made
+    reason: Option<io::Error>,
 }
 
 /// A caller of this address, an IP address or a host's name and a port.
@@ -32,6 +36,20 @@ pub fn call<'a, R: Net>(rt: &'a R, address: &'a str) -> Caller<'a, R> {
         address,
         stream: None,
         called: false,
+        peer: None,
+        reason: None,
+    }
+}
+
+impl<'a, R: Net> Caller<'a, R> {
+    /// The address of the host that took the connection, where one was made.
+    pub fn peer(&self) -> Option<SocketAddr> {
+        self.peer
+    }
+
+    /// Why no link came, where none did.
+    pub fn reason(&self) -> Option<io::Error> {
+        self.reason
     }
 }
 
@@ -41,9 +59,19 @@ impl<'a, R: Net> Source for Caller<'a, R> {
         if self.called {
             return Ok(false);
         }
-        self.stream = connection(self.rt, self.address)?;
+        let called = connection(self.rt, self.address)?;
         self.called = true;
-        Ok(self.stream.is_some())
+        match called {
+            Called::Taken(stream, peer) => {
+                self.stream = Some(stream);
+                self.peer = Some(peer);
+                Ok(true)
+            }
+            Called::NotTaken(reason) => {
+                self.reason = Some(reason);
+                Ok(false)
+            }
+        }
     }
 
     fn recv(&mut self, buf: &mut [u8]) -> io::Result<usize> {
@@ -81,24 +109,34 @@ impl<'a, R: Net> Source for Caller<'a, R> {
     }
 }
 
-/// A connection to the first of the address's hosts that takes one; None where none does.
-fn connection<R: Net>(rt: &R, address: &str) -> io::Result<Option<R::Stream>> {
+/// How a call of an address went.
+#[derive(Drop)]
+enum Called<S> {
+    /// This host took the connection.
+    Taken(S, SocketAddr),
+    /// No host did, and why.
+    NotTaken(io::Error),
+}
+
+/// A connection to the first of the address's hosts that takes one.
+fn connection<R: Net>(rt: &R, address: &str) -> io::Result<Called<R::Stream>> {
     let hosts = match address.to_socket_addrs(rt) {
         Ok(hosts) => hosts,
-        Err(e) if is_unknown(&e) => return Ok(None),
+        Err(e) if is_unknown(&e) => return Ok(Called::NotTaken(e)),
         Err(e) => return Err(e),
     };
+    let mut reason = ErrorKind::AddrNotAvailable.into();
     let mut fault = None;
     for host in hosts {
         match rt.connect_timeout(host, Duration::from_secs(CONNECTING)) {
-            Ok(stream) => return Ok(Some(patient(stream)?)),
-            Err(e) if is_out_of_reach(e.kind()) => {}
+            Ok(stream) => return Ok(Called::Taken(patient(stream)?, host)),
+            Err(e) if is_out_of_reach(e.kind()) => reason = e,
             Err(e) => fault = Some(e),
         }
     }
     match fault {
         Some(e) => Err(e),
-        None => Ok(None),
+        None => Ok(Called::NotTaken(reason)),
     }
 }
 

@@ -21,6 +21,8 @@ mod tests;
 #[derive(Drop)]
 pub struct Listener<C> {
     door: Option<Door>,
+    // why there is no door, where the system says it
+    fault: Option<io::Error>,
     clock: C,
 }
 
@@ -32,11 +34,11 @@ pub fn listen<R: Net, C: Clock + Drop>(
     address: &str,
     clock: C,
 ) -> Result<Listener<C>, AllocError> {
-    let door = match bind(rt, address) {
-        Ok(socket) => Door::open(rt, alloc, socket, &clock)?,
-        Err(_) => None,
+    let (door, fault) = match bind(rt, address) {
+        Ok(socket) => (Door::open(rt, alloc, socket, &clock)?, None),
+        Err(e) => (None, Some(e)),
     };
-    Ok(Listener { door, clock })
+    Ok(Listener { door, fault, clock })
 }
 
 /// A socket at the first of the addresses that can be bound.
@@ -67,6 +69,14 @@ impl<C> Listener<C> {
             None => None,
         }
     }
+
+    /// The error of each call where there is no socket.
+    fn no_door(&self) -> io::Error {
+        match self.fault {
+            Some(e) => e,
+            None => ErrorKind::NotConnected.into(),
+        }
+    }
 }
 
 impl<C: Clock> Source for Listener<C> {
@@ -76,7 +86,7 @@ impl<C: Clock> Source for Listener<C> {
                 door.next(&self.clock)?;
                 Ok(true)
             }
-            None => Err(ErrorKind::NotConnected.into()),
+            None => Err(self.no_door()),
         }
     }
 

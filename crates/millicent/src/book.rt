@@ -5,7 +5,7 @@ use crate::faults::counted;
 use mc_outside::{Disk, DiskFault};
 use std::fs::{File, Files, OpenFile, OpenOptions};
 use std::io::ErrorKind;
-use std::os::fd::AsRawFd;
+use std::os::fd::{AsRawFd, RawFd};
 use std::os::unix::fs::{FileExt, MetadataExt, OpenOptionsExt};
 use std::path::Path;
 use std::{fs, io};
@@ -16,6 +16,8 @@ use std::{fs, io};
 pub struct Book<F> {
     file: Option<F>,
     faults: u64,
+    /// What the system said of the last fault.
+    last_fault: Option<io::Error>,
     /// The file was made for it.
     made: bool,
 }
@@ -28,8 +30,22 @@ impl<F> Book<F> {
         Book {
             file: None,
             faults: 0,
+            last_fault: None,
             made: false,
         }
+    }
+
+    /// What the system said of the last fault of the open file.
+    pub fn fault(&self) -> Option<io::Error> {
+        match self.file {
+            Some(_) => self.last_fault,
+            None => None,
+        }
+    }
+
+    /// Whether there is a file.
+    pub fn is_open(&self) -> bool {
+        self.file.is_some()
     }
 
     fn opened(&self) -> io::Result<&F> {
@@ -52,11 +68,12 @@ impl Book<File> {
         Ok(Book {
             file: Some(file),
             faults: 0,
+            last_fault: None,
             made,
         })
     }
 
-    /// As `open`, to read alone: nothing can be written to the book, and no file is made.
+    /// As `open`, to read alone: nothing can be written to the book, no file is made, and others may read it, too.
     pub fn open_to_read<R: Files<File = File>>(rt: &R, path: &str) -> io::Result<Book<File>>
         ensures { IfOk result (λ book. book.faults ≡ 0) }
     {
@@ -64,6 +81,7 @@ impl Book<File> {
         Ok(Book {
             file: Some(file),
             faults: 0,
+            last_fault: None,
             made: false,
         })
     }
@@ -74,6 +92,14 @@ impl Book<File> {
             && self.made
         {
             let _ = fs::remove_file(rt, path);
+        }
+    }
+
+    /// What its file is known by, whatever its name.
+    pub fn mark(&self) -> Option<FileMark> {
+        match self.opened() {
+            Ok(file) => mark_of(file).ok(),
+            Err(_) => None,
         }
     }
 
@@ -88,6 +114,23 @@ impl Book<File> {
     fn mode(&self) -> io::Result<u32> {
         Ok(self.opened()?.metadata()?.mode())
     }
+}
+
+/// What an open file is known by.
+#[derive(Clone, Copy)]
+pub struct FileMark {
+    pub inode: u64,
+    pub device: u64,
+    pub descriptor: RawFd,
+}
+
+fn mark_of(file: &File) -> io::Result<FileMark> {
+    let here = file.metadata()?;
+    Ok(FileMark {
+        inode: here.ino(),
+        device: here.dev(),
+        descriptor: file.as_raw_fd(),
+    })
 }
 
 /// Why a book was not opened, in a few words, by what the system tells.
@@ -134,13 +177,13 @@ fn file_at<R: Files<File = File>>(rt: &R, path: &str, create: bool) -> io::Resul
     Ok((file, false))
 }
 
-/// The file at this path, locked, to read alone. What is no regular file is not opened, since that may wait.
+/// The file at this path, to read alone, under a lock that others who only read may have, too. What is no regular file is not opened, since that may wait.
 fn file_to_read<R: Files<File = File>>(rt: &R, path: &str) -> io::Result<File> {
     if !fs::metadata(rt, path)?.is_file() {
         return Err(ErrorKind::Unsupported.into());
     }
     let file = File::open(rt, path)?;
-    file.try_lock()?;
+    file.try_lock_shared()?;
     usable(rt, path, &file)?;
     Ok(file)
 }
@@ -190,7 +233,8 @@ impl<F: OpenFile + FileExt> Book<F> {
         Ok(self.opened()?.metadata()?.len())
     }
 
-    fn read_there(&self, at: u64, buf: &mut [u8]) -> io::Result<usize>
+    /// Reads from a place of the file, whatever the count of faults.
+    pub(crate) fn read_there(&self, at: u64, buf: &mut [u8]) -> io::Result<usize>
         ensures { IfOk result (λ n. n ≤ length buf.old) }
     {
         self.opened()?.read_at(buf, at)
@@ -232,27 +276,27 @@ impl<F: OpenFile + FileExt> Disk for Book<F> {
 
     fn size(&mut self) -> Result<u64, DiskFault> {
         let answer = self.length();
-        counted(&mut self.faults, answer, DiskFault)
+        counted(&mut self.faults, &mut self.last_fault, answer, DiskFault)
     }
 
     fn read(&mut self, at: u64, buf: &mut [u8]) -> Result<usize, DiskFault> {
         let answer = self.read_there(at, buf);
-        counted(&mut self.faults, answer, DiskFault)
+        counted(&mut self.faults, &mut self.last_fault, answer, DiskFault)
     }
 
     fn write_at(&mut self, at: u64, bytes: &[u8]) -> Result<(), DiskFault> {
         let answer = self.write_there(at, bytes);
-        counted(&mut self.faults, answer, DiskFault)
+        counted(&mut self.faults, &mut self.last_fault, answer, DiskFault)
     }
 
     fn cut(&mut self, size: u64) -> Result<(), DiskFault> {
         let answer = self.shorten(size);
-        counted(&mut self.faults, answer, DiskFault)
+        counted(&mut self.faults, &mut self.last_fault, answer, DiskFault)
     }
 
     fn sync(&mut self) -> Result<(), DiskFault> {
         let answer = self.sync_data();
-        counted(&mut self.faults, answer, DiskFault)
+        counted(&mut self.faults, &mut self.last_fault, answer, DiskFault)
     }
 }
 
@@ -378,7 +422,8 @@ mod tests {
         lock(&rt, &mut first);
         drop(first);
         let mut audited = Book::open_to_read(&rt, LOCKED)?;
-        assert!(rt; Book::open_to_read(&rt, LOCKED).is_err());
+        assert!(rt; Book::open_to_read(&rt, LOCKED).is_ok());
+        assert_eq!(rt; refused(&rt, LOCKED, false), "locked by another process");
         is_read_alone(&rt, &mut audited);
         drop(audited);
         Book::open(&rt, LOCKED, true)?.forget_if_empty(&rt, LOCKED);

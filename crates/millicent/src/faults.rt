@@ -3,10 +3,11 @@ ghost use Rattle.mc_outside.specs.Bytes.{HasCause};
 
 use std::io;
 
-/// What a call of the system answered, with `fault` in place of what it says of its error; an error raises
-/// the count.
+/// What a call of the system answered, with `fault` in place of what it says of its error, which is kept; an
+/// error raises the count.
 pub(crate) fn counted<T: Drop, F: Drop>(
     count: &mut u64,
+    last: &mut Option<io::Error>,
     answer: io::Result<T>,
     fault: F,
 ) -> Result<T, F>
@@ -16,8 +17,9 @@ pub(crate) fn counted<T: Drop, F: Drop>(
 {
     match answer {
         Ok(x) => Ok(x),
-        Err(_) => {
+        Err(e) => {
             raise(count);
+            *last = Some(e);
             Err(fault)
         }
     }

@@ -5,24 +5,42 @@
 ghost use Rattle.std.specs.Prelude.{◌≡◌};
 
 mod book;
+mod clock_gap;
+mod endings;
+mod entries;
 mod faults;
+mod input_faults;
+mod passed;
+mod pending_draws;
+mod settling;
 mod site;
 mod streams;
+mod texts;
+mod watched;
+mod wrong_words;
 
 use book::{Book, cause_of};
-use command_table::usage;
+use clock_gap::{tell_ahead, tell_behind};
+use endings::{tell_clear, tell_fault, tell_no_bytes};
+use entries::newest_moment;
+use input_faults::tell_bad_line;
 use mc_base::{List, NoMemory};
 use mc_door::{call, listen};
 use mc_top::{Places, places, run};
-use mc_words::{WrongWord, wrong_word};
-use site::Site;
+use passed::Passed;
+use pending_draws::tell_pending_draws;
+use settling::tell_reply;
+use site::{Site, reading};
 use std::alloc::{AllocError, Global};
 use std::fs::File;
-use std::io::Write;
+use std::io::{IsTerminal, Write};
 use std::net::SocketAddr;
 use std::process::ExitCode;
-use std::{env, io};
+use std::{env, fs, io};
 use streams::Streams;
+use texts::word;
+use watched::Watched;
+use wrong_words::tell_usage;
 
 fn main(rt: HostRuntime) -> ExitCode {
     let alloc = rt.alloc();
@@ -31,7 +49,7 @@ fn main(rt: HostRuntime) -> ExitCode {
             Ok(places) => {
                 let status = start(&rt, &words, &places);
                 if status == BAD_WORDS {
-                    tell_usage(&rt, &words);
+                    tell_usage(&rt, alloc, &words);
                 }
                 status
             }
@@ -40,7 +58,7 @@ fn main(rt: HostRuntime) -> ExitCode {
         Err(NoWords::Memory) => end(&rt, b"no memory\n", 5),
         Err(NoWords::Bad) => {
             let status = end(&rt, b"bad words\n", BAD_WORDS);
-            tell_usage(&rt, &[]);
+            tell_usage(&rt, alloc, &[]);
             status
         }
     })
@@ -48,22 +66,6 @@ fn main(rt: HostRuntime) -> ExitCode {
 
 /// The status of words that are of no command.
 const BAD_WORDS: u8 = 2;
-
-/// Tells on standard error which word is wrong, where one is, by its place where it may be a secret, and which
-/// words the command has that these begin with, or which commands there are.
-fn tell_usage(rt: &HostRuntime, words: &[String]) {
-    match wrong_word(rt.alloc(), words) {
-        Ok(Some(WrongWord::Word(word))) => {
-            let _ = eprintln!(rt; "millicent: {word}: wrong word");
-        }
-        Ok(Some(WrongWord::Place(place))) => {
-            let _ = eprintln!(rt; "millicent: word {place}: wrong word");
-        }
-        Ok(None) | Err(_) => {}
-    }
-    let line = usage(words);
-    let _ = eprintln!(rt; "{line}");
-}
 
 /// Why there are no words.
 enum NoWords {
@@ -104,32 +106,190 @@ fn start(rt: &HostRuntime, words: &[String], places: &Places) -> u8 {
         Some(path) => book_at(rt, path.slice(), places.founds),
         None => Book::none(),
     };
-    if let Some(address) = &places.connect {
-        let source = call(rt, text(address.slice()));
-        let out = Site::new(book, source, rt.stdout(), rt);
-        return run(rt.alloc(), words, out, others).status;
+    tell_before(rt, places, &book, &others);
+    match (&places.connect, &places.listen) {
+        (Some(address), _) => ask(rt, words, places, book, others, text(address.slice())),
+        (None, Some(address)) => serve(rt, words, places, book, others, text(address.slice())),
+        (None, None) => work(rt, words, places, book, others),
     }
-    match &places.listen {
-        Some(address) => {
-            let Ok(source) = listen(rt, rt.alloc(), text(address.slice()), rt) else {
-                return end(rt, b"no memory\n", 5);
-            };
-            tell_port(rt, text(address.slice()), source.address());
-            let out = Site::new(book, source, rt.stdout(), rt);
-            let ran = run(rt.alloc(), words, out, others);
-            let _book = ran.out.finish();
-            ran.status
+}
+
+/// Runs a command whose one link goes to this address.
+fn ask(
+    rt: &HostRuntime,
+    words: &[String],
+    places: &Places,
+    book: Book<File>,
+    others: Vec<Book<File>>,
+    address: &str,
+) -> u8 {
+    let mut out = Site::new(book, call(rt, address), rt.stdout(), rt);
+    out.keep(rt.alloc());
+    let ran = run(rt.alloc(), words, out, others);
+    tell_faults(
+        rt,
+        places,
+        ran.status,
+        ran.out.book(),
+        (address, ran.out.link_fault()),
+    );
+    tell_fault(rt, OUTPUT, ran.out.said_fault());
+    tell_fault(rt, address, ran.out.source().reason());
+    tell_clear(rt, ran.out.source().peer());
+    if let Some(passed) = ran.out.passed() {
+        tell_reply(rt, word(words, 3), ran.status, passed);
+    }
+    ran.status
+}
+
+/// Runs a command that serves links which come to this address.
+fn serve(
+    rt: &HostRuntime,
+    words: &[String],
+    places: &Places,
+    book: Book<File>,
+    others: Vec<Book<File>>,
+    address: &str,
+) -> u8 {
+    let Ok(source) = listen(rt, rt.alloc(), address, rt) else {
+        return end(rt, b"no memory\n", 5);
+    };
+    tell_port(rt, address, source.address());
+    tell_clear(rt, source.address());
+    let path = match &places.site {
+        Some(path) => text(path.slice()),
+        None => "",
+    };
+    let source = Watched::new(source, rt, path, &book);
+    let ran = run(
+        rt.alloc(),
+        words,
+        Site::new(book, source, rt.stdout(), rt),
+        others,
+    );
+    let link_fault = ran.out.link_fault();
+    tell_fault(rt, OUTPUT, ran.out.said_fault());
+    let book = ran.out.finish();
+    tell_faults(rt, places, ran.status, &book, (address, link_fault));
+    ran.status
+}
+
+/// Runs a command whose one link is standard input and output, or which has none.
+fn work(
+    rt: &HostRuntime,
+    words: &[String],
+    places: &Places,
+    book: Book<File>,
+    others: Vec<Book<File>>,
+) -> u8 {
+    let asks = if rt.stdin().is_terminal() {
+        Some(rt)
+    } else {
+        None
+    };
+    let source = Streams::new(rt.stdin(), rt.stdout(), asks);
+    let mut out = Site::new(book, source, rt.stdout(), rt);
+    out.keep(rt.alloc());
+    let ran = run(rt.alloc(), words, out, others);
+    tell_faults(
+        rt,
+        places,
+        ran.status,
+        ran.out.book(),
+        (STREAMS, ran.out.link_fault()),
+    );
+    tell_fault(rt, OUTPUT, ran.out.said_fault());
+    tell_other_faults(rt, places, ran.status, &ran.books);
+    tell_work(rt, words, ran.status, ran.out.book(), ran.out.passed());
+    if let Some(path) = &places.site
+        && places.founds
+    {
+        leave(rt, text(path.slice()), ran.out.book());
+    }
+    ran.status
+}
+
+/// How messages name the link over standard input and output.
+const STREAMS: &str = "standard input or output";
+
+/// How they name what lines are said on.
+const OUTPUT: &str = "standard output";
+
+/// Tells of the times of the books against the clock, before anything is done, and through which link of the file
+/// system a book is founded.
+fn tell_before(rt: &HostRuntime, places: &Places, book: &Book<File>, others: &[Book<File>]) {
+    let now = reading(&rt);
+    for (path, other) in places.books.slice().iter().zip(others) {
+        if let Some(newest) = newest_moment(rt.alloc(), other) {
+            tell_ahead(rt, text(path.slice()), newest, now);
         }
-        None => {
-            let source = Streams::new(rt.stdin(), rt.stdout());
-            let out = Site::new(book, source, rt.stdout(), rt);
-            let ran = run(rt.alloc(), words, out, others);
-            if let Some(path) = &places.site
-                && places.founds
-            {
-                leave(rt, text(path.slice()), ran.out.book());
-            }
-            ran.status
+    }
+    let Some(path) = &places.site else {
+        return;
+    };
+    let path = text(path.slice());
+    if places.founds {
+        tell_symlink(rt, path, book);
+    } else if let Some(newest) = newest_moment(rt.alloc(), book) {
+        tell_ahead(rt, path, newest, now);
+        tell_behind(rt, path, newest, now);
+    }
+}
+
+/// Tells which file a path leads to that is a symbolic link, where a book is founded there.
+fn tell_symlink(rt: &HostRuntime, path: &str, book: &Book<File>) {
+    if let Ok(named) = fs::symlink_metadata(rt, path)
+        && named.file_type().is_symlink()
+        && book.is_open()
+        && let Ok(target) = fs::canonicalize(rt, path)
+    {
+        let target = target.as_str();
+        let _ = eprintln!(rt; "millicent: {path} is a symbolic link to {target}");
+    }
+}
+
+/// Tells why the disk failed, or the link, by the status.
+fn tell_faults(
+    rt: &HostRuntime,
+    places: &Places,
+    status: u8,
+    book: &Book<File>,
+    link: (&str, Option<io::Error>),
+) {
+    match (status, &places.site) {
+        (4, Some(path)) => tell_fault(rt, text(path.slice()), book.fault()),
+        (6, _) => tell_fault(rt, link.0, link.1),
+        _ => {}
+    }
+}
+
+/// Tells why the disk of a book that is only read failed.
+fn tell_other_faults(rt: &HostRuntime, places: &Places, status: u8, others: &[Book<File>]) {
+    if status == 4 {
+        for (path, other) in places.books.slice().iter().zip(others) {
+            tell_fault(rt, text(path.slice()), other.fault());
+        }
+    }
+}
+
+/// Tells of what a command without a peer took and did.
+fn tell_work(
+    rt: &HostRuntime,
+    words: &[String],
+    status: u8,
+    book: &Book<File>,
+    passed: Option<&Passed>,
+) {
+    let Some(passed) = passed else {
+        return;
+    };
+    if status == 7 {
+        tell_bad_line(rt, words, passed);
+    }
+    if status == 0 {
+        tell_no_bytes(rt, passed);
+        if word(words, 0) == "wallet" && word(words, 1) == "list" {
+            tell_pending_draws(rt, rt.alloc(), book);
         }
     }
 }

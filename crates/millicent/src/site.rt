@@ -3,10 +3,13 @@ ghost use Rattle.millicent.specs.Counts.{site_counts};
 
 use crate::book::Book;
 use crate::faults::counted;
+use crate::passed::Passed;
 use mc_base::Moment;
 use mc_door::Source;
 use mc_outside::{Disk, DiskFault, Link, LinkFault, Outside};
+use std::alloc::Global;
 use std::fs::OpenFile;
+use std::io;
 use std::io::{ErrorKind, Write};
 use std::os::unix::fs::FileExt;
 use std::rt::Clock;
@@ -24,6 +27,11 @@ pub struct Site<F, S, W, C> {
     at_end: bool,
     over: bool,
     link_faults: u64,
+    // what the system said of the last fault of a link, and of one in saying a line
+    link_fault: Option<io::Error>,
+    said_fault: Option<io::Error>,
+    // what passed through, where it is kept
+    passed: Option<Passed>,
 }
 
 impl<F, S: Source, W: Write, C: Clock> Site<F, S, W, C> {
@@ -40,12 +48,40 @@ impl<F, S: Source, W: Write, C: Clock> Site<F, S, W, C> {
             at_end: false,
             over: false,
             link_faults: 0,
+            link_fault: None,
+            said_fault: None,
+            passed: None,
         }
+    }
+
+    /// Keeps from now on what passes through, so that it can be told of.
+    pub fn keep(&mut self, alloc: Global) {
+        self.passed = Some(Passed::new(alloc));
     }
 
     /// The book of it.
     pub fn book(&self) -> &Book<F> {
         &self.book
+    }
+
+    /// Where its links come from.
+    pub fn source(&self) -> &S {
+        &self.source
+    }
+
+    /// What the system said of the last fault of a link.
+    pub fn link_fault(&self) -> Option<io::Error> {
+        self.link_fault
+    }
+
+    /// What the system said where a line could not be said.
+    pub fn said_fault(&self) -> Option<io::Error> {
+        self.said_fault
+    }
+
+    /// What passed through, where it is kept.
+    pub fn passed(&self) -> Option<&Passed> {
+        self.passed.as_ref()
     }
 
     /// Sees for a bounded time to what is still under way to peers, and gives back the book.
@@ -85,6 +121,9 @@ impl<F: OpenFile + FileExt, S: Source, W: Write, C: Clock> Disk for Site<F, S, W
     }
 
     fn write_at(&mut self, at: u64, bytes: &[u8]) -> Result<(), DiskFault> {
+        if let Some(passed) = &mut self.passed {
+            passed.write(bytes);
+        }
         self.book.write_at(at, bytes)
     }
 
@@ -118,7 +157,12 @@ impl<F: OpenFile + FileExt, S: Source, W: Write, C: Clock> Link for Site<F, S, W
             return Ok(false);
         }
         let answer = self.source.next();
-        let more = counted(&mut self.link_faults, answer, LinkFault)?;
+        let more = counted(
+            &mut self.link_faults,
+            &mut self.link_fault,
+            answer,
+            LinkFault,
+        )?;
         self.stands = more;
         self.over = !more;
         self.at_end = self.at_end && !more;
@@ -130,8 +174,16 @@ impl<F: OpenFile + FileExt, S: Source, W: Write, C: Clock> Link for Site<F, S, W
             return Ok(0);
         }
         let answer = self.source.recv(buf);
-        let n = counted(&mut self.link_faults, answer, LinkFault)?;
+        let n = counted(
+            &mut self.link_faults,
+            &mut self.link_fault,
+            answer,
+            LinkFault,
+        )?;
         self.at_end = n == 0;
+        if let (Some(passed), Some(bytes)) = (&mut self.passed, buf.get(..n)) {
+            passed.receive(bytes);
+        }
         Ok(n)
     }
 
@@ -140,7 +192,12 @@ impl<F: OpenFile + FileExt, S: Source, W: Write, C: Clock> Link for Site<F, S, W
             Ok(0) if !bytes.is_empty() => Err(ErrorKind::WriteZero.into()),
             answer => answer,
         };
-        counted(&mut self.link_faults, answer, LinkFault)
+        counted(
+            &mut self.link_faults,
+            &mut self.link_fault,
+            answer,
+            LinkFault,
+        )
     }
 
     fn end_link(&mut self) {
@@ -149,19 +206,31 @@ impl<F: OpenFile + FileExt, S: Source, W: Write, C: Clock> Link for Site<F, S, W
     }
 
     fn say(&mut self, bytes: &[u8]) -> Result<(), LinkFault> {
+        if let Some(passed) = &mut self.passed {
+            passed.say(bytes);
+        }
         let answer = self.output.write_all(bytes);
-        counted(&mut self.link_faults, answer, LinkFault)
+        counted(
+            &mut self.link_faults,
+            &mut self.said_fault,
+            answer,
+            LinkFault,
+        )
     }
 
     fn now(&mut self) -> Moment {
-        let seconds = match SystemTime::now(&self.clock) {
-            Ok(time) => match time.duration_since(UNIX_EPOCH) {
-                Ok(since) => since.as_secs(),
-                Err(_) => 0,
-            },
+        Moment::clamped(reading(&self.clock))
+    }
+}
+
+/// The reading of a clock in seconds since 1970; 0 where it can't be read.
+pub(crate) fn reading<C: Clock>(clock: &C) -> u64 {
+    match SystemTime::now(clock) {
+        Ok(time) => match time.duration_since(UNIX_EPOCH) {
+            Ok(since) => since.as_secs(),
             Err(_) => 0,
-        };
-        Moment::clamped(seconds)
+        },
+        Err(_) => 0,
     }
 }
 
@@ -188,7 +257,7 @@ mod tests {
 
     #[test]
     fn a_link_over_streams(rt: HostRuntime) -> Result<(), Fail> {
-        let source = Streams::new(b"in".as_slice(), Vec::new(rt.alloc()));
+        let source = Streams::new(b"in".as_slice(), Vec::new(rt.alloc()), None::<&HostRuntime>);
         let book: Book<File> = Book::none();
         let mut site = Site::new(book, source, Vec::new(rt.alloc()), &rt);
         assert_eq!(rt; site.next_link(), Ok(true));

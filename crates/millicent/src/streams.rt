@@ -4,23 +4,26 @@ use std::io::{Read, Write};
 
 /// One link over a reader and a writer, as standard input and standard output are; no more come.
 #[derive(Drop)]
-pub struct Streams<R, W> {
+pub struct Streams<R, W, E> {
     input: R,
     output: W,
     taken: bool,
+    // where somebody is told that he is asked for input, before it is read
+    asks: Option<E>,
 }
 
-impl<R: Read, W: Write> Streams<R, W> {
-    pub fn new(input: R, output: W) -> Streams<R, W> {
+impl<R: Read, W: Write, E: Eprint> Streams<R, W, E> {
+    pub fn new(input: R, output: W, asks: Option<E>) -> Streams<R, W, E> {
         Streams {
             input,
             output,
             taken: false,
+            asks,
         }
     }
 }
 
-impl<R: Read, W: Write> Source for Streams<R, W> {
+impl<R: Read, W: Write, E: Eprint + Drop> Source for Streams<R, W, E> {
     fn next(&mut self) -> io::Result<bool> {
         let first = !self.taken;
         self.taken = true;
@@ -28,6 +31,11 @@ impl<R: Read, W: Write> Source for Streams<R, W> {
     }
 
     fn recv(&mut self, buf: &mut [u8]) -> io::Result<usize> {
+        if let Some(rt) = self.asks.take() {
+            let _ = eprintln!(rt;
+                "millicent: reads standard input, a terminal, up to its end: Ctrl-D on a line of its own"
+            );
+        }
         self.input.read(buf)
     }
 
