@@ -69,17 +69,33 @@ def documented(text, variant, where):
     return rows
 
 
+def parameters():
+    """Of each parameter how it is written in a usage line."""
+    text = source("crates/command_table/src/parameter.rt")
+    names, shapes = {}, {}
+    for variants, name in re.findall(r'((?:\|?\s*Parameter::\w+\s*)+)=> "(\w+)",', part(text, "fn name(self)", "\n    }\n", "parameter.rt")):
+        names.update((variant, name) for variant in re.findall(r"Parameter::(\w+)", variants))
+    for variants, shape in re.findall(r"((?:\|?\s*Parameter::\w+\s*)+)=> Shape::(\w+)", part(text, "fn shape(self)", "\n    }\n", "parameter.rt")):
+        shapes.update((variant, shape) for variant in re.findall(r"Parameter::(\w+)", variants))
+    if set(names) != set(shapes):
+        fail("parameter.rt: names and shapes are not of the same parameters")
+    forms = {"One": "%s", "Places": "%s..", "Setting": "[--%s VALUE]", "Flag": "[--%s]"}
+    return {variant: forms[shapes[variant]] % name for variant, name in names.items()}
+
+
 def commands():
     """Of each command that is carried out: its words, and what it is for."""
-    table, usage = source("crates/command_table/src/table.rt"), source("crates/command_table/src/usage_lines.rt")
-    docs = dict(documented(part(table, "pub enum CommandName {", "\n}", "table.rt"), r"(\w+),", "table.rt"))
-    lines = dict(re.findall(r'CommandName::(\w+) => (?:\{\s*)?Some\(\s*"usage: (millicent [^"]*)"', usage))
-    count, names = re.search(r"CARRIED_OUT: \[CommandName; (\d+)\] = \[(.*?)\];", usage, re.S).groups()
-    names = re.findall(r"CommandName::(\w+)", names)
-    missing = [name for name in names if name not in docs or name not in lines]
-    if len(names) != int(count) or missing:
-        fail("commands without words or without a purpose: %s of %s" % (missing, count))
-    return [(lines[name], docs[name]) for name in names]
+    table, written = source("crates/command_table/src/table.rt"), parameters()
+    docs = documented(part(table, "pub enum CommandName {", "\n}", "table.rt"), r"(\w+),", "table.rt")
+    rows = re.findall(r'CommandName::(\w+) => (done|to_come)\(\s*"(\w+)",\s*"(\w+)",\s*&\[(.*?)\],?\s*\),', table, re.S)
+    if [row[0] for row in rows] != [name for name, _ in docs]:
+        fail("table.rt: the commands and their rows are not the same")
+    docs = dict(docs)
+    return [
+        (" ".join(["millicent", role, name, *(written[it] for it in re.findall(r"\w+", words))]), docs[command])
+        for command, kind, role, name, words in rows
+        if kind == "done"
+    ]
 
 
 def forms(head):

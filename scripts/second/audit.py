@@ -3,7 +3,7 @@ import json
 from types import SimpleNamespace
 
 from forms import id_text
-from house import Ends, chain_line, read_through
+from house import Ends, read_through
 from ledger import FULL, History, follow
 from market import Book, broker_sums, first_stranger, vendor_sums
 from payloads import BROKER, SITE, VENDOR
@@ -80,28 +80,7 @@ def as_json(broker, vendors):
     return json.dumps(whole, sort_keys=True, separators=(",", ":")).encode() + b"\n"
 
 
-def parse_chain(words):
-    return SimpleNamespace(books=[place(word) for word in words])
-
-
-def chain(order, stage, *disks):
-    return b"".join(map(chain_of, disks))
-
-
-def chain_of(disk):
-    """The line of a book that stands for entries, of which the first founds a site."""
-    names = []
-
-    def follow_site(entry):
-        if not names and entry.kind == SITE:
-            names.append(entry.name)
-        return bool(names)
-    journal = read_through(disk, (VENDOR, BROKER, WALLET), follow_site)
-    return chain_line(names[0], journal)
-
-
 # As those of a vendor; None where there may be any number of words, but one at least.
 COMMANDS = {
     b"report": (None, (), (b"--json",), parse_report, report),
-    b"chain": (None, (), (), parse_chain, chain),
 }

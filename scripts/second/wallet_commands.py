@@ -3,9 +3,9 @@ from types import SimpleNamespace
 
 from broker import MOST_INPUT
 from forms import MOST_VALUE, id_text, is_name, is_target, read_scrip
-from house import Ends, chain_line, founded, read_pieces, read_through, received
+from house import Ends, founded, read_pieces, read_through, received
 from journal import Halted
-from payloads import DONE, GOT, PEND, REFUSED, SITE, SWITCH, entry_of
+from payloads import DONE, GOT, PEND, REFUSED, SITE, entry_of
 from refusals import Refusal, refused
 from replies import Bad, take as take_reply
 from stage import LinkFault
@@ -155,14 +155,6 @@ def holding_line(state, piece):
     return b"%s %s %d %s %d\n" % (state.encode(), piece.vendor, piece.value, id_text(piece.id).encode(), piece.expires)
 
 
-def chain(order, stage):
-    """Switches the chain of the book on, where it is not, and answers its line."""
-    wallet = opened_now(stage)
-    if not wallet.journal.chain.switched:
-        wallet.enter(SWITCH, chain=wallet.journal.chain.digest)
-    return chain_line(wallet.book.name, wallet.journal)
-
-
 # As those of a vendor.
 COMMANDS = {
     b"init": (2, (), (), parse_init, init),
@@ -172,5 +164,4 @@ COMMANDS = {
     b"get": (5, (), (), parse_get, pay),
     b"retry": (3, (), (), parse_retry, retry),
     b"list": (1, (), (), parse_book, holdings),
-    b"chain": (1, (), (), parse_book, chain),
 }

@@ -12,7 +12,7 @@ use mc_records::{PieceList, Record, SiteTerms};
 use site_words::Founder;
 
 /// The first entry of the book that is founded, as a house of this kind.
-pub(crate) fn site<'a>(founder: &'a Founder<'_>, kind: SiteKind, moment: Moment) -> Record<'a>
+pub(crate) fn site<'a>(founder: &'a Founder, kind: SiteKind, moment: Moment) -> Record<'a>
     requires house { IsHouseKind (kind_number kind) }
     requires fee { kind_number kind ≡ kind_number Vendor → founder.now.fee ≡ 0 }
     ensures site { entry result ≡ site_of (kind_number kind) founder.now moment }

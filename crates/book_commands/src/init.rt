@@ -23,7 +23,7 @@ use std::alloc::Global;
 /// and tells how it ended.
 pub fn found_book<O: Outside, T: Trade>(
     alloc: Global,
-    founder: &Founder<'_>,
+    founder: &Founder,
     trade: T,
     mut out: O,
 ) -> (O, Status)

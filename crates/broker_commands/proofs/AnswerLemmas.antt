@@ -1,5 +1,5 @@
 -- What was answered is what is told of it.
-use Rattle.std.proofs.Common.{◌≡◌, ℕ, List, Bool, true, false, Option, Some, None, IfSome, is_some, option_map, refl, sym, ap, ap₂, subst, ◌∙◌}
+use Rattle.std.proofs.Common.{◌≡◌, ℕ, List, true, false, Option, Some, None, IfSome, is_some, option_map, refl, sym, ap, ap₂, subst, ◌∙◌}
 use Rattle.std.proofs.lemmas.Option.{none-some}
 use Rattle.mc_outside.specs.DiskView.{DiskView, IsDisk}
 use Rattle.mc_outside.proofs.Runs.{ran_none}
@@ -18,7 +18,8 @@ use Rattle.house_core.specs.House.{HouseRepresents}
 use Rattle.house_state.specs.Trade.{TradeView}
 use Rattle.house_core.specs.Tasks.{Task, Add, Stays, Refuse, Does, Performs}
 use Rattle.broker_commands.specs.Answers.{answer_in}
-use Rattle.broker_commands.specs.Operations.{balance_words, with_number, balance_task}
+use Rattle.said_lines.specs.Lines.{with_number}
+use Rattle.broker_commands.specs.Operations.{balance_words, balance_task}
 
 does_told : {D T A : Type 0} (disk : D → DiskView) (trade : T → TradeView) (Told : Task → History → A → Type 0) (L : A → Type 0) (limits : Limits) (d : D) (h : History) (task : Task) (out : Outcome D T A)
     → IfSome (answer_in out) L → Does disk trade Told limits d h task out → Does disk trade (λ t g a. Told t g a × L a) limits d h task out

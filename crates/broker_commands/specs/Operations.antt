@@ -1,18 +1,23 @@
 -- What the operations of a broker's operator mean.
-use Rattle.std.specs.Prelude.{◌≡◌, ◌++◌, ℕ, List, [], length, replicate, Option, Some, None, Result, Ok, Err, is_some, if◌then◌else◌, codes, decimal}
+use Rattle.std.specs.Prelude.{◌≡◌, ◌++◌, ℕ, List, [], length, Some, None, Result, Ok, Err, is_some, if◌then◌else◌, codes, decimal}
 use Rattle.scrip_form.specs.Issuing.{Issuing}
 use Rattle.mc_records.specs.declared.refusal.Refusal.TheVariants.{NoAccount, BadInput}
 use Rattle.ledger_model.specs.Histories.{History}
 use Rattle.ledger_model.specs.Accounts.{key_in, balance}
 use Rattle.house_core.specs.Tasks.{Task, Stays, Refuse, after}
-use Rattle.broker_core.specs.Tasks.{account_task, deposit_task, withdraw_task, licence_task, stock_task, stock_lines, pieces_in}
+use Rattle.broker_core.specs.Moves.{moved_issuer}
+use Rattle.broker_core.specs.Tasks.{account_task, deposit_task, withdraw_task, licence_task, stock_task, stock_lines, pieces_in, upgrade_licence_task}
 use Rattle.licence_lines.specs.Licences.{IsTold}
-use Rattle.broker_commands.specs.declared.lines.TheConstants.{READY}
 use Rattle.broker_commands.specs.declared.operation.TheConstants.{MOST_LINES}
 use Rattle.site_words.specs.declared.broker_operation.BrokerOperation.{BrokerOperation}
 use Rattle.site_words.specs.declared.broker_operation.BrokerOperation.TheVariants as operations
-use Rattle.site_words.specs.Words.{Opening, Payment, Inquiry, Taking, Stocking}
-use Rattle.operator_command.specs.Operations.{OperationView}
+use Rattle.site_words.specs.declared.broker_operation.Inquiry.{Inquiry}
+use Rattle.site_words.specs.declared.broker_operation.LicenceUpgrading.{LicenceUpgrading}
+use Rattle.site_words.specs.declared.broker_operation.Opening.{Opening}
+use Rattle.site_words.specs.declared.broker_operation.Payment.{Payment}
+use Rattle.site_words.specs.declared.broker_operation.Stocking.{Stocking}
+use Rattle.said_lines.specs.Lines.{chain_words, ready, upgrade_line, with_number}
+use Rattle.operator_command.specs.Operations.{OperationView, chain_operation}
 
 -- ---- the lines
 
@@ -25,13 +30,6 @@ balance_words name = codes "balance " ++ name ++ codes " "
 
 abbrev pub stock_words : List ℕ → List ℕ
 stock_words vendor = codes "stock " ++ vendor ++ codes " "
-
-abbrev pub with_number : List ℕ → ℕ → List ℕ
-with_number words n = words ++ decimal n ++ codes "\n"
-
--- words that a line begins with, and behind them bytes that hold the place of the rest
-abbrev pub ready : List ℕ → List ℕ
-ready words = words ++ replicate READY 0
 
 -- ---- what each means
 
@@ -101,6 +99,14 @@ stock_operation s = record {
   says = λ input h task line. line ≡ with_number (stock_words s.vendor) (length (pieces_in (stock_lines s.vendor input)));
 }
 
+-- the issuer of a vendor's licence is moved to the second version of scrip, or the broker's own
+abbrev pub upgrade_operation : LicenceUpgrading → OperationView
+upgrade_operation u = record {
+  input = None;
+  asks = λ input h t task. task ≡ upgrade_licence_task h t u.vendor u.from;
+  says = λ input h task line. line ≡ upgrade_line u.vendor (moved_issuer h u.vendor) u.from;
+}
+
 -- ---- all of them
 
 -- what an operation of a broker's operator means
@@ -111,6 +117,8 @@ operation_view (operations.Withdraw p) = withdraw_operation p
 operation_view (operations.Balance i) = balance_operation i
 operation_view (operations.Licence l) = licence_operation
 operation_view (operations.Stock s) = stock_operation s
+operation_view (operations.Upgrade u) = upgrade_operation u
+operation_view (operations.Chain c) = chain_operation
 
 -- its line as far as it is known before the book is touched
 abbrev pub begins : BrokerOperation → List ℕ → List ℕ → Type 0
@@ -120,3 +128,5 @@ begins (operations.Withdraw p) site line = line ≡ ready (balance_words p.accou
 begins (operations.Balance i) site line = line ≡ ready (balance_words i.account)
 begins (operations.Licence l) site line = line ≡ ready []
 begins (operations.Stock s) site line = line ≡ ready (stock_words s.vendor)
+begins (operations.Upgrade u) site line = line ≡ ready []
+begins (operations.Chain c) site line = line ≡ ready (chain_words site)

@@ -5,13 +5,14 @@ ghost use Rattle.ledger_model.specs.Histories.{History};
 ghost use Rattle.house_core.specs.House.{HandsBack, HouseRepresents, KeepsTime};
 ghost use Rattle.broker_core.specs.Desk.{desk_view};
 ghost use Rattle.operator_command.specs.Operations.{CarriesOut};
-ghost use Rattle.broker_commands.specs.Operations.{balance_words, ready, balance_operation};
+ghost use Rattle.said_lines.specs.Lines.{ready};
+ghost use Rattle.broker_commands.specs.Operations.{balance_words, balance_operation};
 
-use crate::lines::{end_line, lay_bare};
 use broker_core::Desk;
 use house_core::{House, Outcome};
 use mc_outside::Disk;
 use mc_records::Refusal;
+use said_lines::{end_line, lay_bare};
 use site_words::Inquiry;
 
 /// Tells the balance of an account, and enters nothing.

@@ -9,5 +9,6 @@ mod lines;
 mod operation;
 mod payment;
 mod stock;
+mod upgrade;
 
 pub use operation::DeskOperation;

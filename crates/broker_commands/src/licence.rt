@@ -5,15 +5,17 @@ ghost use Rattle.ledger_model.specs.Histories.{History};
 ghost use Rattle.house_core.specs.House.{HandsBack, HouseRepresents, KeepsTime};
 ghost use Rattle.broker_core.specs.Desk.{desk_view};
 ghost use Rattle.operator_command.specs.Operations.{CarriesOut};
-ghost use Rattle.broker_commands.specs.Operations.{licence_operation, ready};
+ghost use Rattle.said_lines.specs.Lines.{ready};
+ghost use Rattle.broker_commands.specs.Operations.{licence_operation};
 
-use crate::lines::{lay_bare, put_taken};
+use crate::lines::put_taken;
 use broker_core::{Desk, add_licence};
 use house_core::{House, Outcome};
 use licence_lines::read_licence_line;
 use mc_outside::Disk;
 use mc_records::Refusal;
 use operator_command::without_answer;
+use said_lines::lay_bare;
 
 /// Takes the licence that the input gives, and puts its line into an empty one.
 pub(crate) fn take_licence<D: Disk>(

@@ -15,11 +15,13 @@ use crate::licence::take_licence;
 use crate::lines;
 use crate::payment::{pay_in, pay_out};
 use crate::stock::take_stock;
+use crate::upgrade::move_issuer;
 use broker_core::Desk;
 use house_core::{House, Outcome};
 use mc_base::NoMemory;
 use mc_outside::Disk;
-use operator_command::OperatorCommand;
+use operator_command::{OperatorCommand, switch_book};
+use said_lines::{begin_chain, ready};
 use scrip_form::Name;
 use site_words::BrokerOperation;
 use std::alloc::Global;
@@ -62,22 +64,25 @@ impl<'a> OperatorCommand<Desk> for DeskOperation<'a> {
             BrokerOperation::Account(_)
             | BrokerOperation::Deposit(_)
             | BrokerOperation::Withdraw(_)
-            | BrokerOperation::Balance(_) => None,
+            | BrokerOperation::Balance(_)
+            | BrokerOperation::Upgrade(_)
+            | BrokerOperation::Chain(_) => None,
         }
     }
 
-    fn begin(&self, alloc: Global, _site: &Name) -> Result<Vec<u8>, NoMemory> {
+    fn begin(&self, alloc: Global, site: &Name) -> Result<Vec<u8>, NoMemory> {
         match self.said {
             BrokerOperation::Account(opening) => lines::account_line(alloc, opening.account()),
             BrokerOperation::Deposit(payment) | BrokerOperation::Withdraw(payment) => {
-                lines::ready(lines::balance_words(alloc, payment.account())?)
+                ready(lines::balance_words(alloc, payment.account())?)
             }
             BrokerOperation::Balance(inquiry) => {
-                lines::ready(lines::balance_words(alloc, inquiry.account())?)
+                ready(lines::balance_words(alloc, inquiry.account())?)
             }
-            BrokerOperation::Licence(_) => lines::ready(Vec::new(alloc)),
+            BrokerOperation::Licence(_) | BrokerOperation::Upgrade(_) => ready(Vec::new(alloc)),
+            BrokerOperation::Chain(_) => ready(begin_chain(alloc, site)?),
             BrokerOperation::Stock(stocking) => {
-                lines::ready(lines::stock_words(alloc, stocking.vendor())?)
+                ready(lines::stock_words(alloc, stocking.vendor())?)
             }
         }
     }
@@ -102,6 +107,8 @@ impl<'a> OperatorCommand<Desk> for DeskOperation<'a> {
             BrokerOperation::Balance(inquiry) => tell_balance(inquiry, house, line),
             BrokerOperation::Licence(_) => take_licence(house, input, line),
             BrokerOperation::Stock(stocking) => take_stock(stocking, house, input, line),
+            BrokerOperation::Upgrade(upgrading) => move_issuer(upgrading, house, line),
+            BrokerOperation::Chain(_) => switch_book(house, line),
         }
     }
 }

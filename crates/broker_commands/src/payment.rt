@@ -5,14 +5,16 @@ ghost use Rattle.ledger_model.specs.Histories.{History};
 ghost use Rattle.house_core.specs.House.{HandsBack, HouseRepresents, KeepsTime};
 ghost use Rattle.broker_core.specs.Desk.{desk_view};
 ghost use Rattle.operator_command.specs.Operations.{CarriesOut};
-ghost use Rattle.broker_commands.specs.Operations.{balance_words, ready, deposit_operation, withdraw_operation};
+ghost use Rattle.said_lines.specs.Lines.{ready};
+ghost use Rattle.broker_commands.specs.Operations.{balance_words, deposit_operation, withdraw_operation};
 
 use crate::answer::answer_of;
-use crate::lines::{end_by, lay_bare};
+use crate::lines::end_by;
 use broker_core::{Desk, deposit, withdraw};
 use house_core::{House, Outcome};
 use mc_outside::Disk;
 use operator_command::without_answer;
+use said_lines::lay_bare;
 use site_words::Payment;
 
 /// Pays into an account, and ends its line by the balance.

@@ -9,4 +9,6 @@ mod sale;
 mod stock;
 
 pub use desk::Desk;
-pub use operator::{add_licence, add_stock, deposit, open_account, upgrade_licence, withdraw};
+pub use operator::{
+    add_licence, add_stock, deposit, open_account, terms_to_move, upgrade_licence, withdraw,
+};

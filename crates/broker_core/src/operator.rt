@@ -181,7 +181,7 @@ pub fn upgrade_licence<D: Disk>(
 }
 
 /// The issuer that is moved by the name of a vendor, and the terms by which it may be.
-fn terms_to_move<D: Disk>(house: &House<D, Desk>, vendor: &Name) -> (u8, Option<Terms>)
+pub fn terms_to_move<D: Disk>(house: &House<D, Desk>, vendor: &Name) -> (u8, Option<Terms>)
     ensures issuer { (h : History) → HouseRepresents D.disk desk_view house.now h
         → result.0 ≡ moved_issuer h vendor.now }
     ensures terms { (h : History) → HouseRepresents D.disk desk_view house.now h

@@ -7,7 +7,8 @@ use Rattle.std.proofs.lemmas.List.{map-append, same_from_push}
 use Rattle.clap.specs.Walk.{Row, Rule, Text}
 use Rattle.command_words.specs.Arguments.{found, optional, value_of}
 use Rattle.command_table.specs.declared.table.CommandName.{CommandName}
-use Rattle.command_table.specs.Table.{form_of}
+use Rattle.command_table.specs.Table.{form_of, rules}
+use Rattle.command_table.specs.Values.{HaveValues}
 use Rattle.command_table.specs.Beginning.{AreTaken, EndInOption, LackValue, MayBecome, MayBegin, is_option}
 use Rattle.command_table.proofs.SpellLemmas.{and_iff}
 
@@ -86,9 +87,9 @@ lack_by given rules Finds words front name rows fits absent r same end taken is_
 
 -- ---- the role and the name
 
-pub name_begins : (name : CommandName) (Finds : List Row → Type 0) (words behind : List Text) (role command : Text) (b : Bool) → words ≡ role ∷ command ∷ behind → role ≡ (form_of name).role
-    → command ≡ (form_of name).name → (IsTrue b ↔ (AreTaken (form_of name).rules Finds behind ⊎ LackValue (form_of name).rules Finds behind)) → IsTrue b ↔ MayBegin name Finds words
-name_begins name Finds words behind role command b e is_role is_name may = (
-  λ t. subst (MayBegin name Finds) (sym e) (is_role, is_name, may.0 t),
-  λ begins. may.1 (subst (MayBegin name Finds) e begins).2,
+pub name_begins : (name : CommandName) (words behind : List Text) (role command : Text) (b : Bool) → words ≡ role ∷ command ∷ behind → role ≡ (form_of name).role → command ≡ (form_of name).name
+    → (IsTrue b ↔ (AreTaken (rules (form_of name)) (HaveValues (form_of name).parameters) behind ⊎ LackValue (rules (form_of name)) (HaveValues (form_of name).parameters) behind)) → IsTrue b ↔ MayBegin name words
+name_begins name words behind role command b e is_role is_name may = (
+  λ t. subst (MayBegin name) (sym e) (is_role, is_name, may.0 t),
+  λ begins. may.1 (subst (MayBegin name) e begins).2,
 )

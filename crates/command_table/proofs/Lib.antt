@@ -1,9 +1,11 @@
 pub mod TableLemmas
+pub mod NamingLemmas
 pub mod SecretLemmas
-pub mod SecretWords
+pub mod BookLemmas
+pub mod OneLemmas
+pub mod SpellLemmas
+pub mod Samples
+pub mod FitLemmas
+pub mod BeginLemmas
 pub mod UsageLemmas
 pub mod Rows
-pub mod SpellLemmas
-pub mod BeginLemmas
-pub mod Samples
-pub mod OneLemmas

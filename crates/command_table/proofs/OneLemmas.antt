@@ -1,42 +1,70 @@
--- The words of a command spell one value.
-use Rattle.std.proofs.Common.{◌≡◌, ℕ, List, Option, Some, None, refl, sym, ap, ◌∙◌, arith}
-use Rattle.std.specs.Prelude.{◌<◌, ◌^◌, IfSome, decimal, option_map}
+-- The words of a command spell one value of each parameter.
+use Rattle.std.proofs.Common.{◌≡◌, ◌∙◌, ℕ, ◌≤◌, ◌&&◌, true, List, [], ◌∷◌, Option, Some, None, refl, sym, ap, arith}
+use Rattle.std.specs.Prelude.{IfSome, nat_le, option_map}
+use Rattle.std.proofs.lemmas.Bool.{leb-true}
 use Rattle.std.proofs.lemmas.Fmt.{decimal_injective}
 use Rattle.clap.specs.Walk.{Row, Text}
-use Rattle.mc_fields.specs.Texts.{IsNumber}
-use Rattle.scrip_form.specs.Issuing.{Issuing}
+use Rattle.clap.proofs.WalkLemmas.{both}
+use Rattle.command_table.specs.declared.parameter.Parameter.{Parameter}
+use Rattle.command_table.specs.declared.parameter.Parameter.TheVariants as parameters
+use Rattle.command_table.specs.declared.parameter.Shape.{Shape}
+use Rattle.command_table.specs.declared.parameter.Shape.TheVariants.{One, Places, Setting, Flag}
+use Rattle.command_table.specs.declared.parameter.Sort.{Sort}
+use Rattle.command_table.specs.declared.parameter.Sort.TheVariants as sorts
 use Rattle.command_table.specs.declared.table.CommandName.{CommandName}
-use Rattle.command_table.specs.Table.{AreOf}
-use Rattle.command_table.specs.Ranges.{AreTerms, IsWithin}
-use Rattle.command_table.specs.Finding.{FindsTerms}
+use Rattle.command_table.specs.declared.value.TheConstants.{MOST_NUMBER}
+use Rattle.command_table.specs.Parameters.{is_range, name_of, shape_of}
+use Rattle.command_table.specs.Table.{AreOf, form_of}
+use Rattle.command_table.specs.Values.{AreFound, IsFound, IsOf, Spells, ValueOf, ValuesOf, spelled}
+use Rattle.command_table.proofs.SecretLemmas.{same_secret, same_secrets}
+use Rattle.command_table.proofs.SpellLemmas.{one_range}
 use Rattle.command_table.proofs.TableLemmas.{one_value, read_once}
-use Rattle.command_table.proofs.SecretLemmas.{same_secrets}
 
--- ---- one value
+-- the ranges of numbers hold one at least, and are those of words
+pub all_ranges : (parameter : Parameter) → is_range (shape_of parameter) ≡ true
+all_ranges parameters.Book = refl
+all_ranges _ = refl
 
-pub same_number : {found : Option Text} (most a b : ℕ) → most < 2 ^ 64 → IsNumber most a → IsNumber most b → found ≡ Some (decimal a) → found ≡ Some (decimal b) → a ≡ b
-same_number most a b small is_a is_b fa fb = decimal_injective a b (omega (arith, is_a.within, small)) (omega (arith, is_b.within, small)) (one_value fa fb)
+pub range_of : (least most : ℕ) → nat_le least most && nat_le most MOST_NUMBER ≡ true → (least ≤ most) × (most ≤ MOST_NUMBER)
+range_of least most is = let each = both (nat_le least most) (nat_le most MOST_NUMBER) is in (leb-true least most each.0, leb-true most MOST_NUMBER each.1)
 
-pub same_option : {found : Option Text} (least most : ℕ) (a b : Option ℕ) → most < 2 ^ 64 → IfSome a (IsWithin least most) → IfSome b (IsWithin least most)
-    → found ≡ option_map decimal a → found ≡ option_map decimal b → a ≡ b
-same_option least most None None small is_a is_b fa fb = refl
-same_option least most None (Some b) small is_a is_b fa fb = absurd (let none : None ≡ Some (decimal b) = sym fa ∙ fb in cc)
-same_option least most (Some a) None small is_a is_b fa fb = absurd (let none : None ≡ Some (decimal a) = sym fb ∙ fa in cc)
-same_option least most (Some a) (Some b) small is_a is_b fa fb = ap Some (decimal_injective a b (omega (arith, is_a.most', small)) (omega (arith, is_b.most', small)) (one_value fa fb))
+-- ---- one word
 
--- ---- the values of each command
+one_spelled : (sort : Sort) → is_range (One sort) ≡ true → (a b : Spells sort) → IsOf sort a → IsOf sort b → spelled sort a ≡ spelled sort b → a ≡ b
+one_spelled sorts.Place range a b is_a is_b e = e
+one_spelled sorts.Name range a b is_a is_b e = e
+one_spelled sorts.Target range a b is_a is_b e = e
+one_spelled sorts.Contents range a b is_a is_b e = e
+one_spelled sorts.Secret range a b is_a is_b e = same_secret a b is_a is_b e
+one_spelled sorts.Secrets range a b is_a is_b e = same_secrets a b is_a.secrets' is_b.secrets' e
+one_spelled (sorts.Number least most) range a b is_a is_b e =
+    let small = (range_of least most range).1 in
+    decimal_injective a b (omega (arith, is_a.most', small)) (omega (arith, is_b.most', small)) e
 
-pub one_terms : (rows : List Row) (a b : Issuing) → AreTerms a → AreTerms b → FindsTerms rows a → FindsTerms rows b → a.issuer ≡ b.issuer → a ≡ b
-one_terms rows a b is_a is_b fa fb issuer =
-    let period = decimal_injective a.period b.period (omega (arith, is_a.period.most)) (omega (arith, is_b.period.most)) (one_value fa.period fb.period) in
-    let life = decimal_injective a.life b.life (omega (arith, is_a.period.short)) (omega (arith, is_b.period.short)) (one_value fa.life fb.life) in
-    let scrip = same_secrets a.scrip b.scrip is_a.scrip.secrets' is_b.scrip.secrets' (one_value fa.scrip fb.scrip) in
-    let customer = same_secrets a.customer b.customer is_a.customer.secrets' is_b.customer.secrets' (one_value fa.customer fb.customer) in
-    λ i. record { issuer = issuer i; period = period i; life = life i; scrip = scrip i; customer = customer i }
+one_setting : (sort : Sort) → is_range (One sort) ≡ true → (found : Option Text) (a b : Option (Spells sort)) → IfSome a (IsOf sort) → IfSome b (IsOf sort)
+    → found ≡ option_map (spelled sort) a → found ≡ option_map (spelled sort) b → a ≡ b
+one_setting sort range found None None is_a is_b fa fb = refl
+one_setting sort range found None (Some b) is_a is_b fa fb = absurd (let none : None ≡ Some (spelled sort b) = sym fa ∙ fb in cc)
+one_setting sort range found (Some a) None is_a is_b fa fb = absurd (let none : None ≡ Some (spelled sort a) = sym fb ∙ fa in cc)
+one_setting sort range found (Some a) (Some b) is_a is_b fa fb = ap Some (one_spelled sort range a b is_a is_b (one_value fa fb))
 
--- ---- commands
+-- ---- the parameters of a command
 
--- what is told of one list of rows is told of the words of a command
-pub one_of : {X : Type 0} (name : CommandName) (words : List Text) (Finds : List Row → X → Type 0) → ((rows : List Row) (a b : X) → Finds rows a → Finds rows b → a ≡ b)
-    → (a b : X) → AreOf name words (λ rows. Finds rows a) → AreOf name words (λ rows. Finds rows b) → a ≡ b
-one_of name words Finds one a b fa fb = one fa.rows a b fa.finds (rw (read_once name words fa.rows fb.rows fa.read fb.read) at fb.finds)
+one_found : (rows : List Row) (name : Text) (shape : Shape) → is_range shape ≡ true → (a b : ValueOf shape) → IsFound rows name shape a → IsFound rows name shape b → a ≡ b
+one_found rows name (One sort) range a b fa fb = one_spelled sort range a b fa.0 fb.0 (one_value fa.1 fb.1)
+one_found rows name Places range a b fa fb = one_value fa.2 fb.2
+one_found rows name (Setting sort) range a b fa fb = one_setting sort (one_range sort range) _ a b fa.0 fb.0 fa.1 fb.1
+one_found rows name Flag range a b fa fb = sym fa ∙ fb
+
+-- one list of rows gives one value of each parameter
+pub all_found_once : (rows : List Row) (parameters : List Parameter) (a b : ValuesOf parameters) → AreFound rows parameters a → AreFound rows parameters b → a ≡ b
+all_found_once rows [] a b fa fb = refl
+all_found_once rows (parameter ∷ parameters) a b fa fb =
+    let first = one_found rows (name_of parameter) (shape_of parameter) (all_ranges parameter) a.0 b.0 fa.0 fb.0 in
+    let others = all_found_once rows parameters a.1 b.1 fa.1 fb.1 in
+    λ i. (first i, others i)
+
+-- the words of a command spell one value of each
+pub all_spelled_once : (name : CommandName) (words : List Text) (a b : ValuesOf (form_of name).parameters) → AreOf name words a → AreOf name words b → a ≡ b
+all_spelled_once name words a b fa fb =
+    all_found_once fa.rows (form_of name).parameters a b fa.found' (rw (read_once name words fa.rows fb.rows fa.read fb.read) at fb.found')

@@ -3,7 +3,7 @@ use Rattle.std.proofs.Common.{◌≡◌, Bool, true, false, refl, codes, List, [
 use Rattle.clap.specs.Walk.{Text}
 use Rattle.clap.proofs.OnLiterals.{clap_on_literals}
 use Rattle.command_words.specs.Arguments.{command, found, has_flag, value_of, values_of}
-use Rattle.command_table.specs.Table.{form_of}
+use Rattle.command_table.specs.Table.{form_of, rules}
 use Rattle.command_table.specs.declared.table.CommandName.{CommandName}
 use Rattle.command_table.specs.declared.table.CommandName.TheVariants as names
 
@@ -14,18 +14,18 @@ Init = Option Text × (Option Text × (Option Text × (Option Text × Bool)))
 
 abbrev init : List Text → Option Init
 init words = option_map (λ rows. (value_of rows (codes "BOOK"), (value_of rows (codes "NAME"), (value_of rows (codes "CUSTOMER"), (value_of rows (codes "keep"), has_flag rows (codes "clear"))))))
-    (found (form_of names.VendorInit).rules words)
+    (found (rules (form_of names.VendorInit)) words)
 
 abbrev given : Text → Option Text → Bool → Option Init
 given book keep clear = Some (Some book, (Some (codes "n"), (Some (codes "c"), (keep, clear))))
 
 -- of those behind `audit report`: the books, and whether it is JSON
 abbrev report : List Text → Option (Option (List Text) × Bool)
-report words = option_map (λ rows. (values_of rows (codes "BOOK"), has_flag rows (codes "json"))) (found (form_of names.AuditReport).rules words)
+report words = option_map (λ rows. (values_of rows (codes "BOOK"), has_flag rows (codes "json"))) (found (rules (form_of names.AuditReport)) words)
 
 -- whether words are taken for the arguments of a command
 abbrev taken : CommandName → List Text → Bool
-taken name words = is_some (found (form_of name).rules words)
+taken name words = is_some (found (rules (form_of name)) words)
 
 -- ---- `vendor init`
 
@@ -251,7 +251,7 @@ broker_init_no_fee = refl
 
 -- the life and the fee, of the words behind `broker init`
 abbrev broker_init : List Text → Option (Option Text × Option Text)
-broker_init words = option_map (λ rows. (value_of rows (codes "LIFE"), value_of rows (codes "FEE"))) (found (form_of names.BrokerInit).rules words)
+broker_init words = option_map (λ rows. (value_of rows (codes "LIFE"), value_of rows (codes "FEE"))) (found (rules (form_of names.BrokerInit)) words)
 
 broker_init_fee : broker_init (codes "b" ∷ codes "n" ∷ codes "4096" ∷ codes "0" ∷ codes "s" ∷ codes "c" ∷ codes "1" ∷ []) ≡ Some (Some (codes "0"), Some (codes "1"))
 unfolding clap_on_literals found command form_of

@@ -1,10 +1,18 @@
 -- Which words may still become those of a value.
-use Rattle.std.proofs.Common.{◌≡◌, ◌∙◌, ℕ, ◌<◌, ◌&&◌, ◌||◌, Bool, Bor, zero, suc, get_or, true, false, List, [], ◌∷◌, length, map, Option, Some, None, is_some, option_map, refl, sym, subst, ap, arith}
-use Rattle.std.specs.Prelude.{IsNone, IfSome, IsTrue, ◌↔◌, decimal, ◌<◌, ◌&&◌, nat_le, nat_lt}
+use Rattle.std.proofs.Common.{◌≡◌, ◌∙◌, ℕ, ◌+◌, ◌<◌, ◌≤◌, drop, ◌&&◌, ◌||◌, Bool, Bor, zero, suc, get_or, true, false, List, [], ◌∷◌, length, map, Option, Some, None, is_some, option_map, refl, sym, subst, ap, arith}
+use Rattle.std.specs.Prelude.{IsNone, IfSome, IsTrue, ◌↔◌, ◌<◌, ◌&&◌, nat_le, nat_lt}
 use Rattle.std.specs.List.{list_any, AllByRecursion, list_all}
 use Rattle.clap.specs.Walk.{Text}
-use Rattle.command_table.specs.Ranges.{IsWithin, IsPathOrAddress, is_path_or_address}
-use Rattle.command_table.specs.Finding.{MaySpell}
+use Rattle.command_table.specs.Ranges.{IsPathOrAddress, is_path_or_address}
+use Rattle.clap.specs.Walk.{Row}
+use Rattle.std.proofs.lemmas.List.{at_drop_all, at_drop_more}
+use Rattle.command_table.specs.declared.parameter.Parameter.{Parameter}
+use Rattle.command_table.specs.declared.parameter.Shape.{Shape}
+use Rattle.command_table.specs.declared.parameter.Shape.TheVariants.{One, Setting}
+use Rattle.command_table.specs.declared.parameter.Sort.{Sort}
+use Rattle.command_table.specs.declared.parameter.Sort.TheVariants as sorts
+use Rattle.command_table.specs.Parameters.{is_range, name_of, shape_of}
+use Rattle.command_table.specs.Values.{EachMayBe, IsOf, MayBe, MaySpell, spelled}
 use Rattle.std.proofs.lemmas.Bool.{le-leb, leb-true}
 use Rattle.command_table.specs.declared.value.TheConstants.{MOST_PLACE}
 
@@ -43,10 +51,6 @@ borrowed (Some word) Is None some none there = (λ t. absurd (cc t), λ may. abs
     no : (o : Option Text) → IfSome o Is → Some word ≡ option_map (λ x. x) o → ⊥
     no None is e = cc
     no (Some x) is e = none refl x is e
-
--- bounds that a call was given are these
-pub bounds_are : (b : Bool) (word : Option Text) {l m least most : ℕ} → l ≡ least → m ≡ most → (IsTrue b ↔ MaySpell word (IsWithin l m) decimal) → IsTrue b ↔ MaySpell word (IsWithin least most) decimal
-bounds_are b word {l} {m} {least} {most} el em h = subst (λ n. IsTrue b ↔ MaySpell word (IsWithin n most) decimal) el (subst (λ n. IsTrue b ↔ MaySpell word (IsWithin l n) decimal) em h)
 
 -- ---- tests
 
@@ -89,3 +93,29 @@ pub places_told : (words : List (Bor Text)) (found : Option (List Text)) (b : Bo
 places_told words found b e is =
     subst (λ (o : Option (List Text)). IsTrue b ↔ IfSome o (AllByRecursion IsPathOrAddress)) e
     (subst (λ (c : Bool). IsTrue c ↔ AllByRecursion IsPathOrAddress (map (λ (word : Bor Text). word.now) words)) (sym is) (places_decide words))
+
+-- ---- sorts and shapes
+
+-- a word of the sort that a call was given
+pub spells_as : (word : Option Text) (b : Bool) {given sort : Sort} → given ≡ sort → (IsTrue b ↔ MaySpell word (IsOf sort) (spelled sort)) → IsTrue b ↔ MaySpell word (IsOf given) (spelled given)
+spells_as word b {given} {sort} e = subst (λ (s : Sort). IsTrue b ↔ MaySpell word (IsOf s) (spelled s)) (sym e)
+
+-- of the shape
+pub is_as : (rows : List Row) (b : Bool) {given name : Text} {shape other : Shape} → given ≡ name → other ≡ shape → shape ≡ other → (IsTrue b ↔ MayBe rows given other) → IsTrue b ↔ MayBe rows name shape
+is_as rows b {given} {name} {shape} {other} same e back is = subst (λ (n : Text). IsTrue b ↔ MayBe rows n shape) same (subst (λ (s : Shape). IsTrue b ↔ MayBe rows given s) e is)
+
+-- the ranges of an option's value are those of a word
+pub one_range : (sort : Sort) → is_range (Setting sort) ≡ true → is_range (One sort) ≡ true
+one_range (sorts.Number least most) range = range
+one_range sorts.Place range = refl
+one_range _ range = refl
+
+-- the next of some parameters
+pub each_next : (rows : List Row) (parameters : List Parameter) (k : ℕ) (d : Parameter) → k < length parameters
+    → EachMayBe rows (drop k parameters) ↔ (MayBe rows (name_of (get_or parameters k d)) (shape_of (get_or parameters k d)) × EachMayBe rows (drop (k + 1) parameters))
+each_next rows parameters k d lt =
+    let e = at_drop_more (λ (ps : List Parameter). ps) parameters k d lt in
+    (λ each. subst (EachMayBe rows) e each, λ each. subst (EachMayBe rows) (sym e) each)
+
+pub each_last : (rows : List Row) (parameters : List Parameter) (k : ℕ) → length parameters ≤ k → EachMayBe rows (drop k parameters)
+each_last rows parameters k le = subst (EachMayBe rows) (sym (at_drop_all (λ (ps : List Parameter). ps) parameters k le)) tt

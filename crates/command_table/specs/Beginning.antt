@@ -8,7 +8,8 @@ use Rattle.clap.specs.declared.builder.action.ArgAction.{ArgAction}
 use Rattle.clap.specs.declared.builder.action.ArgAction.TheVariants.{Append, Set}
 use Rattle.command_words.specs.Arguments.{found, optional, value_of, values_of}
 use Rattle.command_table.specs.declared.table.CommandName.{CommandName}
-use Rattle.command_table.specs.Table.{form_of}
+use Rattle.command_table.specs.Table.{form_of, rules}
+use Rattle.command_table.specs.Values.{HaveValues}
 
 -- what was found of an argument is found in the whole: its word, or of several words the first ones
 abbrev pub IsKept : Option ArgAction → Text → List Row → List Row → Type 0
@@ -51,7 +52,9 @@ pub record LackValue (rules : List Rule) (Finds : List Row → Type 0) (words : 
   pub once : value_of taken.rows name ≡ None
 
 -- a command's words may begin with these
-abbrev pub MayBegin : CommandName → (List Row → Type 0) → List Text → Type 0
-MayBegin name Finds [] = Unit {0}
-MayBegin name Finds (role ∷ []) = role ≡ (form_of name).role
-MayBegin name Finds (role ∷ command ∷ words) = (role ≡ (form_of name).role) × (command ≡ (form_of name).name) × (AreTaken (form_of name).rules Finds words ⊎ LackValue (form_of name).rules Finds words)
+abbrev pub MayBegin : CommandName → List Text → Type 0
+MayBegin name [] = Unit {0}
+MayBegin name (role ∷ []) = role ≡ (form_of name).role
+MayBegin name (role ∷ command ∷ words) =
+    (role ≡ (form_of name).role) × (command ≡ (form_of name).name)
+    × (AreTaken (rules (form_of name)) (HaveValues (form_of name).parameters) words ⊎ LackValue (rules (form_of name)) (HaveValues (form_of name).parameters) words)

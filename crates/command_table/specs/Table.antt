@@ -1,105 +1,88 @@
--- The table of the commands: the role and the name of each, and its arguments.
-use Rattle.std.specs.Prelude.{◌≡◌, List, [], ◌∷◌, Option, Some, None, codes}
+-- The table of the commands: the role and the name of each, its parameters, and whether it is carried out.
+use Rattle.std.specs.Prelude.{◌≡◌, Bool, true, false, List, [], ◌∷◌, Option, Some, None, codes}
 use Rattle.clap.specs.Walk.{Row, Rule, Text}
-use Rattle.command_words.specs.Arguments.{flag, found, positional, positionals, value}
+use Rattle.command_words.specs.Arguments.{found}
+use Rattle.command_table.specs.declared.parameter.Parameter.{Parameter}
+use Rattle.command_table.specs.declared.parameter.Parameter.TheVariants.{Account, Amount, AnyIssuer, Before, Book, Books, Broker, Budget, Clear, Connect, Contents, Customer, Epoch, Fee, Heads, Issuer, Json, Keep, Key, Kind, Life, Limit, Links, Listen, Name, Order, Peer, Period, Pieces, Price, Reference, Scrip, Secret, Target, Value, Vendor}
 use Rattle.command_table.specs.declared.table.CommandName.{CommandName}
 use Rattle.command_table.specs.declared.table.CommandName.TheVariants as names
+use Rattle.command_table.specs.Values.{AreFound, ValuesOf, rules_of}
 
--- how the words of a command are: its role, its name, and its arguments
+-- how the words of a command are: its role, its name, and its parameters; and whether it is carried out
 pub record CommandForm : Type 0 where
   pub role : Text
   pub name : Text
-  pub rules : List Rule
+  pub parameters : List Parameter
+  pub carried_out : Bool
 
-abbrev pub vendor : Text → List Rule → CommandForm
-vendor name rules = record { role = codes "vendor"; name = name; rules = rules }
+abbrev pub done : Text → Text → List Parameter → CommandForm
+done role name parameters = record { role = role; name = name; parameters = parameters; carried_out = true }
 
-abbrev pub broker : Text → List Rule → CommandForm
-broker name rules = record { role = codes "broker"; name = name; rules = rules }
-
-abbrev pub wallet : Text → List Rule → CommandForm
-wallet name rules = record { role = codes "wallet"; name = name; rules = rules }
-
-abbrev pub audit : Text → List Rule → CommandForm
-audit name rules = record { role = codes "audit"; name = name; rules = rules }
-
-abbrev pub book : Rule
-book = positional (codes "BOOK")
-
-abbrev pub books : Rule
-books = positionals (codes "BOOK")
-
--- PERIOD LIFE SCRIP CUSTOMER, and what is behind them
-abbrev pub terms : List Rule → List Rule
-terms rules = positional (codes "PERIOD") ∷ positional (codes "LIFE") ∷ positional (codes "SCRIP") ∷ positional (codes "CUSTOMER") ∷ rules
-
--- `[--keep SECONDS] [--clear]`
-abbrev pub house_options : List Rule
-house_options = value (codes "keep") ∷ flag (codes "clear") ∷ []
-
--- BOOK LISTEN LINKS
-abbrev pub serve_rules : List Rule
-serve_rules = book ∷ positional (codes "LISTEN") ∷ positional (codes "LINKS") ∷ []
-
--- BOOK alone
-abbrev pub book_rules : List Rule
-book_rules = book ∷ []
-
--- BOOK ACCOUNT AMOUNT REFERENCE
-abbrev pub payment_rules : List Rule
-payment_rules = book ∷ positional (codes "ACCOUNT") ∷ positional (codes "AMOUNT") ∷ positional (codes "REFERENCE") ∷ []
+abbrev pub to_come : Text → Text → List Parameter → CommandForm
+to_come role name parameters = record { role = role; name = name; parameters = parameters; carried_out = false }
 
 unfoldable pub form_of : CommandName → CommandForm
-form_of names.VendorInit = vendor (codes "init") (book ∷ positional (codes "NAME") ∷ terms house_options)
-form_of names.VendorGoods = vendor (codes "goods") (book ∷ positional (codes "TARGET") ∷ positional (codes "PRICE") ∷ value (codes "kind") ∷ [])
-form_of names.VendorPrice = vendor (codes "price") (book ∷ positional (codes "TARGET") ∷ positional (codes "PRICE") ∷ [])
-form_of names.VendorLicence = vendor (codes "licence") (book ∷ positional (codes "ISSUER") ∷ terms [])
-form_of names.VendorMint = vendor (codes "mint") (book ∷ positional (codes "COUNT") ∷ positional (codes "VALUE") ∷ positional (codes "REFERENCE") ∷ [])
-form_of names.VendorServe = vendor (codes "serve") serve_rules
-form_of names.VendorOnce = vendor (codes "once") (positional (codes "NAME") ∷ positional (codes "TARGET") ∷ positional (codes "PRICE") ∷ positional (codes "SECRET") ∷ positional (codes "CONTENTS") ∷ [])
-form_of names.VendorPlay = vendor (codes "play") (positional (codes "COUNT") ∷ [])
-form_of names.VendorUpgrade = vendor (codes "upgrade") (book ∷ positional (codes "ISSUER") ∷ positional (codes "EPOCH") ∷ [])
-form_of names.VendorChain = vendor (codes "chain") (book ∷ [])
-form_of names.VendorStatement = vendor (codes "statement") (book ∷ positional (codes "ISSUER") ∷ positional (codes "EPOCH") ∷ [])
-form_of names.BrokerInit = broker (codes "init") (book ∷ positional (codes "NAME") ∷ terms (positional (codes "FEE") ∷ house_options))
-form_of names.BrokerAccount = broker (codes "account") (book ∷ positional (codes "ACCOUNT") ∷ positional (codes "KEY") ∷ [])
-form_of names.BrokerDeposit = broker (codes "deposit") payment_rules
-form_of names.BrokerWithdraw = broker (codes "withdraw") payment_rules
-form_of names.BrokerBalance = broker (codes "balance") (book ∷ positional (codes "ACCOUNT") ∷ [])
-form_of names.BrokerLicence = broker (codes "licence") (book ∷ [])
-form_of names.BrokerStock = broker (codes "stock") (book ∷ positional (codes "VENDOR") ∷ [])
-form_of names.BrokerServe = broker (codes "serve") serve_rules
-form_of names.BrokerUpgrade = broker (codes "upgrade") (book ∷ positional (codes "VENDOR") ∷ positional (codes "EPOCH") ∷ [])
-form_of names.BrokerChain = broker (codes "chain") (book ∷ [])
-form_of names.BrokerSettle = broker (codes "settle") (book ∷ [])
-form_of names.WalletInit = wallet (codes "init") (book ∷ positional (codes "NAME") ∷ [])
-form_of names.WalletTake = wallet (codes "take") book_rules
-form_of names.WalletDraw = wallet (codes "draw") (book ∷ positional (codes "BROKER") ∷ positional (codes "ACCOUNT") ∷ positional (codes "KEY") ∷ positional (codes "ORDER") ∷ positional (codes "AMOUNT") ∷ positional (codes "CONNECT") ∷ [])
-form_of names.WalletBuy = wallet (codes "buy") (book ∷ positional (codes "BROKER") ∷ positional (codes "VENDOR") ∷ positional (codes "AMOUNT") ∷ positional (codes "LIMIT") ∷ positional (codes "CONNECT") ∷ [])
-form_of names.WalletGet = wallet (codes "get") (book ∷ positional (codes "VENDOR") ∷ positional (codes "TARGET") ∷ positional (codes "LIMIT") ∷ positional (codes "CONNECT") ∷ [])
-form_of names.WalletRetry = wallet (codes "retry") (book ∷ positional (codes "PEER") ∷ positional (codes "CONNECT") ∷ [])
-form_of names.WalletList = wallet (codes "list") book_rules
-form_of names.WalletLines = wallet (codes "lines") (book ∷ positional (codes "VENDOR") ∷ [])
-form_of names.WalletChain = wallet (codes "chain") (book ∷ [])
-form_of names.WalletProxy = wallet (codes "proxy") (book ∷ positional (codes "VENDOR") ∷ positional (codes "LIMIT") ∷ positional (codes "BUDGET") ∷ positional (codes "LISTEN") ∷ positional (codes "CONNECT") ∷ positional (codes "LINKS") ∷ [])
-form_of names.AuditReport = audit (codes "report") (books ∷ flag (codes "json") ∷ [])
-form_of names.AuditChain = audit (codes "chain") (books ∷ [])
-form_of names.AuditTree = audit (codes "tree") (books ∷ [])
+form_of names.VendorInit = done (codes "vendor") (codes "init") (Book ∷ Name ∷ Period ∷ Life ∷ Scrip ∷ Customer ∷ Keep ∷ Clear ∷ [])
+form_of names.VendorGoods = done (codes "vendor") (codes "goods") (Book ∷ Target ∷ Price ∷ Kind ∷ [])
+form_of names.VendorPrice = done (codes "vendor") (codes "price") (Book ∷ Target ∷ Price ∷ [])
+form_of names.VendorLicence = done (codes "vendor") (codes "licence") (Book ∷ Issuer ∷ Period ∷ Life ∷ Scrip ∷ Customer ∷ [])
+form_of names.VendorMint = done (codes "vendor") (codes "mint") (Book ∷ Pieces ∷ Value ∷ Reference ∷ [])
+form_of names.VendorServe = done (codes "vendor") (codes "serve") (Book ∷ Listen ∷ Links ∷ [])
+form_of names.VendorOnce = done (codes "vendor") (codes "once") (Name ∷ Target ∷ Price ∷ Secret ∷ Contents ∷ [])
+form_of names.VendorPlay = done (codes "vendor") (codes "play") (Heads ∷ [])
+form_of names.VendorUpgrade = done (codes "vendor") (codes "upgrade") (Book ∷ AnyIssuer ∷ Epoch ∷ [])
+form_of names.VendorChain = done (codes "vendor") (codes "chain") (Book ∷ [])
+form_of names.VendorStatement = to_come (codes "vendor") (codes "statement") (Book ∷ Issuer ∷ Epoch ∷ [])
+form_of names.BrokerInit = done (codes "broker") (codes "init") (Book ∷ Name ∷ Period ∷ Life ∷ Scrip ∷ Customer ∷ Fee ∷ Keep ∷ Clear ∷ [])
+form_of names.BrokerAccount = done (codes "broker") (codes "account") (Book ∷ Account ∷ Key ∷ [])
+form_of names.BrokerDeposit = done (codes "broker") (codes "deposit") (Book ∷ Account ∷ Amount ∷ Reference ∷ [])
+form_of names.BrokerWithdraw = done (codes "broker") (codes "withdraw") (Book ∷ Account ∷ Amount ∷ Reference ∷ [])
+form_of names.BrokerBalance = done (codes "broker") (codes "balance") (Book ∷ Account ∷ [])
+form_of names.BrokerLicence = done (codes "broker") (codes "licence") (Book ∷ [])
+form_of names.BrokerStock = done (codes "broker") (codes "stock") (Book ∷ Vendor ∷ [])
+form_of names.BrokerServe = done (codes "broker") (codes "serve") (Book ∷ Listen ∷ Links ∷ [])
+form_of names.BrokerUpgrade = done (codes "broker") (codes "upgrade") (Book ∷ Vendor ∷ Epoch ∷ [])
+form_of names.BrokerChain = done (codes "broker") (codes "chain") (Book ∷ [])
+form_of names.BrokerSettle = to_come (codes "broker") (codes "settle") (Book ∷ [])
+form_of names.WalletInit = done (codes "wallet") (codes "init") (Book ∷ Name ∷ [])
+form_of names.WalletTake = done (codes "wallet") (codes "take") (Book ∷ [])
+form_of names.WalletDraw = done (codes "wallet") (codes "draw") (Book ∷ Broker ∷ Account ∷ Key ∷ Order ∷ Amount ∷ Connect ∷ [])
+form_of names.WalletBuy = done (codes "wallet") (codes "buy") (Book ∷ Broker ∷ Vendor ∷ Amount ∷ Limit ∷ Connect ∷ [])
+form_of names.WalletGet = done (codes "wallet") (codes "get") (Book ∷ Vendor ∷ Target ∷ Limit ∷ Connect ∷ [])
+form_of names.WalletRetry = done (codes "wallet") (codes "retry") (Book ∷ Peer ∷ Connect ∷ [])
+form_of names.WalletList = done (codes "wallet") (codes "list") (Book ∷ [])
+form_of names.WalletLines = to_come (codes "wallet") (codes "lines") (Book ∷ Vendor ∷ [])
+form_of names.WalletChain = to_come (codes "wallet") (codes "chain") (Book ∷ [])
+form_of names.WalletProxy = to_come (codes "wallet") (codes "proxy") (Book ∷ Vendor ∷ Limit ∷ Budget ∷ Listen ∷ Connect ∷ Links ∷ [])
+form_of names.WalletRenew = to_come (codes "wallet") (codes "renew") (Book ∷ Vendor ∷ Target ∷ Before ∷ Connect ∷ [])
+form_of names.AuditReport = done (codes "audit") (codes "report") (Books ∷ Json ∷ [])
+form_of names.AuditChain = to_come (codes "audit") (codes "chain") (Books ∷ [])
+form_of names.AuditTree = to_come (codes "audit") (codes "tree") (Books ∷ [])
+
+-- the rules of its arguments
+abbrev pub rules : CommandForm → List Rule
+rules form = rules_of form.parameters
 
 -- The words begin with the role and the name of the command, and these rows are what `clap` finds in those
 -- behind, which it promises to take for its arguments.
 pub record IsRead (name : CommandName) (words : List Text) (rows : List Row) : Type 0 where
   pub behind : List Text
   pub words' : words ≡ (form_of name).role ∷ (form_of name).name ∷ behind
-  pub rows' : found (form_of name).rules behind ≡ Some rows
+  pub rows' : found (rules (form_of name)) behind ≡ Some rows
 
 -- what is read of the words of a command: None where they are not of its role, its name and its arguments
 abbrev pub Reads : CommandName → List Text → Option (List Row) → Type 0
 Reads name words (Some rows) = IsRead name words rows
 Reads name words None = (rows : List Row) → IsRead name words rows → ⊥
 
--- the words are of the command, and what `clap` finds in them is what is looked for
-pub record AreOf (name : CommandName) (words : List Text) (Finds : List Row → Type 0) : Type 0 where
+-- the words are of the command, which is carried out, and spell these values of its parameters
+pub record AreOf (name : CommandName) (words : List Text) (values : ValuesOf (form_of name).parameters) : Type 0 where
+  pub carried_out : (form_of name).carried_out ≡ true
   pub rows : List Row
   pub read : IsRead name words rows
-  pub finds : Finds rows
+  pub found' : AreFound rows (form_of name).parameters values
+
+-- What a reader of the values of a command gives of these rows: values that are found of its parameters, or None where none are.
+abbrev pub Gives : {X : Type 0} (name : CommandName) → (X → ValuesOf (form_of name).parameters) → List Row → Option X → Type 0
+Gives name values rows (Some x) = AreFound rows (form_of name).parameters (values x)
+Gives name values rows None = (others : ValuesOf (form_of name).parameters) → AreFound rows (form_of name).parameters others → ⊥

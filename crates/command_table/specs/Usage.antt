@@ -1,54 +1,55 @@
 -- The line that tells which words a command has.
-use Rattle.std.specs.Prelude.{Bool, true, false, ◌&&◌, if◌then◌else◌, List, [], ◌∷◌, ◌++◌, Option, Some, None, codes, flat_map}
+use Rattle.std.specs.Prelude.{if◌then◌else◌, List, [], ◌∷◌, ◌++◌, Option, Some, None, codes, flat_map}
 use Rattle.std.specs.Str.{bytes_eq}
-use Rattle.clap.specs.Walk.{Rule, Text}
-use Rattle.clap.specs.declared.builder.action.ArgAction.{ArgAction}
-use Rattle.clap.specs.declared.builder.action.ArgAction.TheVariants.{Append, SetTrue}
+use Rattle.clap.specs.Walk.{Text}
+use Rattle.command_table.specs.declared.parameter.Parameter.{Parameter}
+use Rattle.command_table.specs.declared.parameter.Shape.{Shape}
+use Rattle.command_table.specs.declared.parameter.Shape.TheVariants.{One, Places, Setting, Flag}
 use Rattle.command_table.specs.declared.table.CommandName.{CommandName}
-use Rattle.command_table.specs.declared.table.CommandName.TheVariants as names
-use Rattle.command_table.specs.declared.usage_lines.TheConstants.{CARRIED_OUT}
+use Rattle.command_table.specs.declared.table.TheConstants.{COMMANDS}
+use Rattle.command_table.specs.Naming.{named}
+use Rattle.command_table.specs.Parameters.{name_of, shape_of}
 use Rattle.command_table.specs.Table.{CommandForm, form_of}
 
--- an argument: `NAME`, `NAME..`, `[--name VALUE]` or `[--name]`
-abbrev pub shown : Text → Option Text → Option ArgAction → Text
-shown id (Some long) (Some SetTrue) = codes " [--" ++ long ++ codes "]"
-shown id (Some long) _ = codes " [--" ++ long ++ codes " VALUE]"
-shown id None (Some Append) = codes " " ++ id ++ codes ".."
-shown id None _ = codes " " ++ id
+-- a parameter: `NAME`, `NAME..`, `[--name VALUE]` or `[--name]`
+abbrev pub shown_as : Text → Shape → Text
+shown_as name (One sort) = codes " " ++ name
+shown_as name Places = codes " " ++ name ++ codes ".."
+shown_as name (Setting sort) = codes " [--" ++ name ++ codes " VALUE]"
+shown_as name Flag = codes " [--" ++ name ++ codes "]"
 
--- the line of a command: its role, its name, and its arguments
+abbrev pub shown : Parameter → Text
+shown parameter = shown_as (name_of parameter) (shape_of parameter)
+
+-- the line of a command: its role, its name, and its parameters
 abbrev pub usage_line : CommandForm → Text
-usage_line form = codes "usage: millicent " ++ form.role ++ codes " " ++ form.name ++ flat_map (λ (rule : Rule). shown rule.id rule.long rule.action) form.rules
+usage_line form = codes "usage: millicent " ++ form.role ++ codes " " ++ form.name ++ flat_map shown form.parameters
 
--- whether a command is carried out
-unfoldable pub is_carried_out : CommandName → Bool
-is_carried_out names.VendorUpgrade = false
-is_carried_out names.VendorChain = false
-is_carried_out names.VendorStatement = false
-is_carried_out names.BrokerUpgrade = false
-is_carried_out names.BrokerChain = false
-is_carried_out names.BrokerSettle = false
-is_carried_out names.WalletLines = false
-is_carried_out names.WalletChain = false
-is_carried_out names.WalletProxy = false
-is_carried_out names.AuditChain = false
-is_carried_out names.AuditTree = false
-is_carried_out _ = true
+-- a command's name behind that of another command, or at the beginning of the line
+abbrev pub next_name : Option CommandName → CommandForm → Text
+next_name None form = codes "usage: millicent " ++ form.role ++ codes " " ++ form.name
+next_name (Some before) form =
+    if bytes_eq (form_of before).role form.role then codes "|" ++ form.name else codes " .. or " ++ form.role ++ codes " " ++ form.name
 
--- the line of the commands that are carried out
-abbrev pub commands : Text
-commands = codes "usage: millicent vendor init|goods|price|licence|mint|serve|once|play .. or broker init|account|deposit|withdraw|balance|licence|stock|serve .. or wallet init|take|draw|buy|get|retry|list .. or audit report .."
+-- the names of those that are carried out, behind another one or at the beginning
+unfoldable pub names_behind : Option CommandName → List CommandName → Text
+names_behind before [] = codes " .."
+names_behind before (c ∷ cs) = if (form_of c).carried_out then next_name before (form_of c) ++ names_behind (Some c) cs else names_behind before cs
 
--- whether a command has this role and this name
-abbrev pub is_called : Text → Text → CommandForm → Bool
-is_called role name form = bytes_eq role form.role && bytes_eq name form.name
+-- the line of all commands that are carried out
+unfoldable pub commands : Text
+commands = names_behind None COMMANDS
 
--- the line of the one among some commands that is called so, or that of all
-unfoldable pub line_among : List CommandName → Text → Text → Text
-line_among [] role name = commands
-line_among (c ∷ cs) role name = if is_called role name (form_of c) then usage_line (form_of c) else line_among cs role name
+-- the line of a command, or that of all
+abbrev pub line_of : Option CommandName → Text
+line_of None = commands
+line_of (Some name) = usage_line (form_of name)
+
+-- a command that is carried out
+abbrev pub done_of : Option CommandName → Option CommandName
+done_of None = None
+done_of (Some name) = if (form_of name).carried_out then Some name else None
 
 -- what is told of words: the line of the command that they begin with, where it is carried out, or that of all
-unfoldable pub told_of : List Text → Text
-told_of (role ∷ name ∷ behind) = line_among CARRIED_OUT role name
-told_of _ = commands
+abbrev pub told_of : List Text → Text
+told_of words = line_of (done_of (named words))

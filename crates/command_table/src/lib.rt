@@ -1,29 +1,39 @@
-//! The table of the program's commands: the role, the name and the arguments of each, what `clap` finds in the words of
-//! one, and the readers of the values of single words.
+//! The table of the program's commands: the role, the name and the parameters of each, what `clap` finds in the words of
+//! one, and the readers of the values of parameters.
 //!
-//! The values of each command are a type of a crate above, which is [`Spelled`]. Whether a book is there, or is one, is
-//! no matter of this crate.
+//! The values of each command are a type of a crate above, made of what these readers give. Whether a book is there, or is
+//! one, is no matter of this crate.
 #![tactic(auto)]
 
 mod beginning;
+mod books;
+mod contents;
 mod may;
+mod parameter;
+mod place;
+mod reading;
 mod secrets;
-mod spelled;
 mod table;
-mod terms;
-mod usage_lines;
+mod usage;
 mod value;
+mod within;
 
 pub use beginning::may_begin;
-pub use may::{
-    may_contents, may_name, may_number, may_place, may_places, may_secret, may_secrets, may_target,
+pub use books::{Books, books_in};
+pub use contents::Contents;
+pub use parameter::{
+    LEAST_KEPT, LEAST_PERIOD, MOST_EPOCH, MOST_HEADS, MOST_ISSUER, MOST_KEPT, MOST_KIND,
+    MOST_LINKS, MOST_MINTED, MOST_SECONDS, Parameter,
+};
+pub use place::Place;
+pub use reading::{
+    contents_in, flag_in, name_in, number_in, place_in, secret_in, secrets_in, setting_in,
+    target_in,
 };
 pub use secrets::{reads_secrets, secrets_of};
-pub use spelled::{Spelled, values_of};
-pub use table::{CommandName, read_command};
-pub use terms::{may_terms, terms_in};
-pub use usage_lines::{CARRIED_OUT, usage};
-pub use value::{
-    MOST_NUMBER, amount_in, amount_or_zero_in, are_places, contents_in, name_in, number_from,
-    number_in, number_within, option_within, place_in, secret_in, secrets_in, target_in,
+pub use table::{COMMANDS, CommandName, named, read_command};
+pub use usage::{Usage, usage_of};
+pub use value::{MOST_NUMBER, number_from};
+pub use within::{
+    AnyIssuer, Count, Epoch, Fee, Heads, Issuer, Keep, Kind, Life, Links, Period, Sum, Within,
 };

@@ -2,21 +2,14 @@ ghost use Rattle.std.specs.Prelude.{◌≡◌, ℕ, List, map, string_bytes, IfS
 ghost use Rattle.hex.specs.Hex.{encode_lower};
 ghost use Rattle.scrip_form.specs.Scrip.{IsCert};
 ghost use Rattle.command_table.specs.Ranges.{IsSecretList, joined};
+ghost use Rattle.std.specs.List.{list_any};
+ghost use Rattle.command_table.specs.Parameters.{is_secret};
 ghost use Rattle.command_table.specs.Secrets.{ReadSecrets};
 
-use crate::table::{CommandName, parts_of};
+use crate::parameter::Parameter;
+use crate::table::named;
 use mc_fields::read_hex;
 use scrip_form::Secrets;
-
-/// The commands that read secrets.
-static WITH_SECRETS: [CommandName; 6] = [
-    CommandName::VendorInit,
-    CommandName::VendorLicence,
-    CommandName::VendorOnce,
-    CommandName::BrokerInit,
-    CommandName::BrokerAccount,
-    CommandName::WalletDraw,
-];
 
 /// The secrets that a word spells, each as 32 lower-case hex digits, with a comma between each two;
 /// None exactly where it spells none or more than 16.
@@ -66,14 +59,15 @@ pub(crate) fn secret_of(word: &[u8]) -> Option<[u8; 16]>
 pub fn reads_secrets(words: &[String]) -> bool
     ensures { IsTrue result ↔ ReadSecrets (map string_bytes words.now) }
 {
-    let Some((role, command, _)) = parts_of(words) else {
-        return false;
-    };
-    for name in &WITH_SECRETS {
-        let form = name.form();
-        if role == form.role && command == form.name {
-            return true;
-        }
+    match named(words) {
+        Some(name) => have_secrets(name.form().parameters),
+        None => false,
     }
-    false
+}
+
+/// Whether one of the parameters has words that are secrets.
+fn have_secrets(parameters: &[Parameter]) -> bool
+    ensures { result ≡ list_any is_secret parameters.now }
+{
+    parameters.iter().any(|parameter| parameter.is_secret())
 }

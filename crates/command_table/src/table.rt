@@ -1,9 +1,15 @@
-ghost use Rattle.std.specs.Prelude.{◌≡◌, ◌<◌, ◌∷◌, length, map, string_bytes, IfOk, IfSome, IsNone};
-ghost use Rattle.command_words.specs.Arguments.{found, optional, rules_of};
-ghost use Rattle.command_table.specs.Table.{Reads, form_of};
+ghost use Rattle.std.specs.Prelude.{◌≡◌, ◌<◌, ◌∷◌, true, false, length, map, string_bytes, IfOk, IfSome, IsNone};
+ghost use Rattle.command_words.specs.Arguments.{found, optional};
+ghost use Rattle.command_table.specs.Table.{Reads, form_of, rules};
+ghost use Rattle.command_table.specs.Naming.{named};
 
-use command_words::Argument::{Flag, Positional, Positionals, Value};
-use command_words::{Argument, Found, read_beginning, read_words};
+use crate::parameter::Parameter;
+use crate::parameter::Parameter::{
+    Account, Amount, AnyIssuer, Before, Book, Books, Broker, Budget, Clear, Connect, Contents,
+    Customer, Epoch, Fee, Heads, Issuer, Json, Keep, Key, Kind, Life, Limit, Links, Listen, Name,
+    Order, Peer, Period, Pieces, Price, Reference, Scrip, Secret, Target, Value, Vendor,
+};
+use command_words::{Found, read_beginning, read_words};
 use std::alloc::{AllocError, Global};
 
 /// The commands that the program has words for, also those that it does not carry out yet.
@@ -73,6 +79,8 @@ pub enum CommandName {
     WalletChain,
     /// Pays for the requests of a browser.
     WalletProxy,
+    /// Pays a cheap target with the piece that ends first, and keeps its change.
+    WalletRenew,
     /// Reports of books.
     AuditReport,
     /// Tells the last digest of each book.
@@ -81,233 +89,200 @@ pub enum CommandName {
     AuditTree,
 }
 
-static VENDOR_INIT: [Argument; 8] = [
-    Positional("BOOK"),
-    Positional("NAME"),
-    Positional("PERIOD"),
-    Positional("LIFE"),
-    Positional("SCRIP"),
-    Positional("CUSTOMER"),
-    Value("keep"),
-    Flag("clear"),
+/// All of them.
+pub static COMMANDS: [CommandName; 36] = [
+    CommandName::VendorInit,
+    CommandName::VendorGoods,
+    CommandName::VendorPrice,
+    CommandName::VendorLicence,
+    CommandName::VendorMint,
+    CommandName::VendorServe,
+    CommandName::VendorOnce,
+    CommandName::VendorPlay,
+    CommandName::VendorUpgrade,
+    CommandName::VendorChain,
+    CommandName::VendorStatement,
+    CommandName::BrokerInit,
+    CommandName::BrokerAccount,
+    CommandName::BrokerDeposit,
+    CommandName::BrokerWithdraw,
+    CommandName::BrokerBalance,
+    CommandName::BrokerLicence,
+    CommandName::BrokerStock,
+    CommandName::BrokerServe,
+    CommandName::BrokerUpgrade,
+    CommandName::BrokerChain,
+    CommandName::BrokerSettle,
+    CommandName::WalletInit,
+    CommandName::WalletTake,
+    CommandName::WalletDraw,
+    CommandName::WalletBuy,
+    CommandName::WalletGet,
+    CommandName::WalletRetry,
+    CommandName::WalletList,
+    CommandName::WalletLines,
+    CommandName::WalletChain,
+    CommandName::WalletProxy,
+    CommandName::WalletRenew,
+    CommandName::AuditReport,
+    CommandName::AuditChain,
+    CommandName::AuditTree,
 ];
 
-static VENDOR_GOODS: [Argument; 4] = [
-    Positional("BOOK"),
-    Positional("TARGET"),
-    Positional("PRICE"),
-    Value("kind"),
-];
-
-static BOOK_TARGET_PRICE: [Argument; 3] = [
-    Positional("BOOK"),
-    Positional("TARGET"),
-    Positional("PRICE"),
-];
-
-static VENDOR_LICENCE: [Argument; 6] = [
-    Positional("BOOK"),
-    Positional("ISSUER"),
-    Positional("PERIOD"),
-    Positional("LIFE"),
-    Positional("SCRIP"),
-    Positional("CUSTOMER"),
-];
-
-static VENDOR_MINT: [Argument; 4] = [
-    Positional("BOOK"),
-    Positional("COUNT"),
-    Positional("VALUE"),
-    Positional("REFERENCE"),
-];
-
-static BOOK_LISTEN_LINKS: [Argument; 3] = [
-    Positional("BOOK"),
-    Positional("LISTEN"),
-    Positional("LINKS"),
-];
-
-static VENDOR_ONCE: [Argument; 5] = [
-    Positional("NAME"),
-    Positional("TARGET"),
-    Positional("PRICE"),
-    Positional("SECRET"),
-    Positional("CONTENTS"),
-];
-
-static VENDOR_PLAY: [Argument; 1] = [Positional("COUNT")];
-
-static BOOK_ISSUER_EPOCH: [Argument; 3] = [
-    Positional("BOOK"),
-    Positional("ISSUER"),
-    Positional("EPOCH"),
-];
-
-static BOOK: [Argument; 1] = [Positional("BOOK")];
-
-static BROKER_INIT: [Argument; 9] = [
-    Positional("BOOK"),
-    Positional("NAME"),
-    Positional("PERIOD"),
-    Positional("LIFE"),
-    Positional("SCRIP"),
-    Positional("CUSTOMER"),
-    Positional("FEE"),
-    Value("keep"),
-    Flag("clear"),
-];
-
-static BROKER_ACCOUNT: [Argument; 3] = [
-    Positional("BOOK"),
-    Positional("ACCOUNT"),
-    Positional("KEY"),
-];
-
-static BOOK_ACCOUNT_AMOUNT_REFERENCE: [Argument; 4] = [
-    Positional("BOOK"),
-    Positional("ACCOUNT"),
-    Positional("AMOUNT"),
-    Positional("REFERENCE"),
-];
-
-static BROKER_BALANCE: [Argument; 2] = [Positional("BOOK"), Positional("ACCOUNT")];
-
-static BOOK_VENDOR: [Argument; 2] = [Positional("BOOK"), Positional("VENDOR")];
-
-static BROKER_UPGRADE: [Argument; 3] = [
-    Positional("BOOK"),
-    Positional("VENDOR"),
-    Positional("EPOCH"),
-];
-
-static WALLET_INIT: [Argument; 2] = [Positional("BOOK"), Positional("NAME")];
-
-static WALLET_DRAW: [Argument; 7] = [
-    Positional("BOOK"),
-    Positional("BROKER"),
-    Positional("ACCOUNT"),
-    Positional("KEY"),
-    Positional("ORDER"),
-    Positional("AMOUNT"),
-    Positional("CONNECT"),
-];
-
-static WALLET_BUY: [Argument; 6] = [
-    Positional("BOOK"),
-    Positional("BROKER"),
-    Positional("VENDOR"),
-    Positional("AMOUNT"),
-    Positional("LIMIT"),
-    Positional("CONNECT"),
-];
-
-static WALLET_GET: [Argument; 5] = [
-    Positional("BOOK"),
-    Positional("VENDOR"),
-    Positional("TARGET"),
-    Positional("LIMIT"),
-    Positional("CONNECT"),
-];
-
-static WALLET_RETRY: [Argument; 3] = [
-    Positional("BOOK"),
-    Positional("PEER"),
-    Positional("CONNECT"),
-];
-
-static WALLET_PROXY: [Argument; 7] = [
-    Positional("BOOK"),
-    Positional("VENDOR"),
-    Positional("LIMIT"),
-    Positional("BUDGET"),
-    Positional("LISTEN"),
-    Positional("CONNECT"),
-    Positional("LINKS"),
-];
-
-static AUDIT_REPORT: [Argument; 2] = [Positionals("BOOK"), Flag("json")];
-
-static BOOKS: [Argument; 1] = [Positionals("BOOK")];
-
-/// How the words of a command are: its role, its name, and its arguments.
+/// How the words of a command are: its role, its name, and its parameters; and whether it is carried out.
 #[derive(Clone, Copy)]
 pub(crate) struct CommandForm {
     pub(crate) role: &'static str,
     pub(crate) name: &'static str,
-    pub(crate) arguments: &'static [Argument],
+    pub(crate) parameters: &'static [Parameter],
+    pub(crate) carried_out: bool,
 }
 
-/// A row of the table.
-fn form(role: &'static str, name: &'static str, arguments: &'static [Argument]) -> CommandForm
+/// A row of the table, of a command that is carried out.
+fn done(role: &'static str, name: &'static str, parameters: &'static [Parameter]) -> CommandForm
     ensures role { result.role.now ≡ role.now }
     ensures name { result.name.now ≡ name.now }
-    ensures arguments { result.arguments.now ≡ arguments.now }
+    ensures parameters { result.parameters.now ≡ parameters.now }
+    ensures carried_out { result.carried_out ≡ true }
 {
     CommandForm {
         role,
         name,
-        arguments,
+        parameters,
+        carried_out: true,
+    }
+}
+
+/// A row of one that is not carried out yet.
+fn to_come(role: &'static str, name: &'static str, parameters: &'static [Parameter]) -> CommandForm
+    ensures role { result.role.now ≡ role.now }
+    ensures name { result.name.now ≡ name.now }
+    ensures parameters { result.parameters.now ≡ parameters.now }
+    ensures carried_out { result.carried_out ≡ false }
+{
+    CommandForm {
+        role,
+        name,
+        parameters,
+        carried_out: false,
     }
 }
 
 impl CommandName {
+    /// Whether it is carried out.
+    pub fn is_carried_out(self) -> bool
+        ensures { result ≡ (form_of self).carried_out }
+    {
+        self.form().carried_out
+    }
+
     /// The row of the command in the table.
     #[tactic(auto, unfolding(crate::specs::Table::form_of))]
     pub(crate) fn form(self) -> CommandForm
         ensures role { result.role.now ≡ (form_of self).role }
         ensures name { result.name.now ≡ (form_of self).name }
-        ensures rules { rules_of result.arguments.now ≡ (form_of self).rules }
+        ensures parameters { result.parameters.now ≡ (form_of self).parameters }
+        ensures carried_out { result.carried_out ≡ (form_of self).carried_out }
     {
         match self {
-            CommandName::VendorInit => form("vendor", "init", VENDOR_INIT.as_slice()),
-            CommandName::VendorGoods => form("vendor", "goods", VENDOR_GOODS.as_slice()),
-            CommandName::VendorPrice => form("vendor", "price", BOOK_TARGET_PRICE.as_slice()),
-            CommandName::VendorLicence => form("vendor", "licence", VENDOR_LICENCE.as_slice()),
-            CommandName::VendorMint => form("vendor", "mint", VENDOR_MINT.as_slice()),
-            CommandName::VendorServe => form("vendor", "serve", BOOK_LISTEN_LINKS.as_slice()),
-            CommandName::VendorOnce => form("vendor", "once", VENDOR_ONCE.as_slice()),
-            CommandName::VendorPlay => form("vendor", "play", VENDOR_PLAY.as_slice()),
-            CommandName::VendorUpgrade => form("vendor", "upgrade", BOOK_ISSUER_EPOCH.as_slice()),
-            CommandName::VendorChain => form("vendor", "chain", BOOK.as_slice()),
-            CommandName::VendorStatement => form(
+            CommandName::VendorInit => done(
                 "vendor",
-                "statement",
-                BOOK_ISSUER_EPOCH.as_slice(),
+                "init",
+                &[Book, Name, Period, Life, Scrip, Customer, Keep, Clear],
             ),
-            CommandName::BrokerInit => form("broker", "init", BROKER_INIT.as_slice()),
-            CommandName::BrokerAccount => form("broker", "account", BROKER_ACCOUNT.as_slice()),
-            CommandName::BrokerDeposit => form(
+            CommandName::VendorGoods => done("vendor", "goods", &[Book, Target, Price, Kind]),
+            CommandName::VendorPrice => done("vendor", "price", &[Book, Target, Price]),
+            CommandName::VendorLicence => done(
+                "vendor",
+                "licence",
+                &[Book, Issuer, Period, Life, Scrip, Customer],
+            ),
+            CommandName::VendorMint => done("vendor", "mint", &[Book, Pieces, Value, Reference]),
+            CommandName::VendorServe => done("vendor", "serve", &[Book, Listen, Links]),
+            CommandName::VendorOnce => done(
+                "vendor",
+                "once",
+                &[Name, Target, Price, Secret, Contents],
+            ),
+            CommandName::VendorPlay => done("vendor", "play", &[Heads]),
+            CommandName::VendorUpgrade => done("vendor", "upgrade", &[Book, AnyIssuer, Epoch]),
+            CommandName::VendorChain => done("vendor", "chain", &[Book]),
+            CommandName::VendorStatement => to_come("vendor", "statement", &[Book, Issuer, Epoch]),
+            CommandName::BrokerInit => done(
+                "broker",
+                "init",
+                &[Book, Name, Period, Life, Scrip, Customer, Fee, Keep, Clear],
+            ),
+            CommandName::BrokerAccount => done("broker", "account", &[Book, Account, Key]),
+            CommandName::BrokerDeposit => done(
                 "broker",
                 "deposit",
-                BOOK_ACCOUNT_AMOUNT_REFERENCE.as_slice(),
+                &[Book, Account, Amount, Reference],
             ),
-            CommandName::BrokerWithdraw => form(
+            CommandName::BrokerWithdraw => done(
                 "broker",
                 "withdraw",
-                BOOK_ACCOUNT_AMOUNT_REFERENCE.as_slice(),
+                &[Book, Account, Amount, Reference],
             ),
-            CommandName::BrokerBalance => form("broker", "balance", BROKER_BALANCE.as_slice()),
-            CommandName::BrokerLicence => form("broker", "licence", BOOK.as_slice()),
-            CommandName::BrokerStock => form("broker", "stock", BOOK_VENDOR.as_slice()),
-            CommandName::BrokerServe => form("broker", "serve", BOOK_LISTEN_LINKS.as_slice()),
-            CommandName::BrokerUpgrade => form("broker", "upgrade", BROKER_UPGRADE.as_slice()),
-            CommandName::BrokerChain => form("broker", "chain", BOOK.as_slice()),
-            CommandName::BrokerSettle => form("broker", "settle", BOOK.as_slice()),
-            CommandName::WalletInit => form("wallet", "init", WALLET_INIT.as_slice()),
-            CommandName::WalletTake => form("wallet", "take", BOOK.as_slice()),
-            CommandName::WalletDraw => form("wallet", "draw", WALLET_DRAW.as_slice()),
-            CommandName::WalletBuy => form("wallet", "buy", WALLET_BUY.as_slice()),
-            CommandName::WalletGet => form("wallet", "get", WALLET_GET.as_slice()),
-            CommandName::WalletRetry => form("wallet", "retry", WALLET_RETRY.as_slice()),
-            CommandName::WalletList => form("wallet", "list", BOOK.as_slice()),
-            CommandName::WalletLines => form("wallet", "lines", BOOK_VENDOR.as_slice()),
-            CommandName::WalletChain => form("wallet", "chain", BOOK.as_slice()),
-            CommandName::WalletProxy => form("wallet", "proxy", WALLET_PROXY.as_slice()),
-            CommandName::AuditReport => form("audit", "report", AUDIT_REPORT.as_slice()),
-            CommandName::AuditChain => form("audit", "chain", BOOKS.as_slice()),
-            CommandName::AuditTree => form("audit", "tree", BOOKS.as_slice()),
+            CommandName::BrokerBalance => done("broker", "balance", &[Book, Account]),
+            CommandName::BrokerLicence => done("broker", "licence", &[Book]),
+            CommandName::BrokerStock => done("broker", "stock", &[Book, Vendor]),
+            CommandName::BrokerServe => done("broker", "serve", &[Book, Listen, Links]),
+            CommandName::BrokerUpgrade => done("broker", "upgrade", &[Book, Vendor, Epoch]),
+            CommandName::BrokerChain => done("broker", "chain", &[Book]),
+            CommandName::BrokerSettle => to_come("broker", "settle", &[Book]),
+            CommandName::WalletInit => done("wallet", "init", &[Book, Name]),
+            CommandName::WalletTake => done("wallet", "take", &[Book]),
+            CommandName::WalletDraw => done(
+                "wallet",
+                "draw",
+                &[Book, Broker, Account, Key, Order, Amount, Connect],
+            ),
+            CommandName::WalletBuy => done(
+                "wallet",
+                "buy",
+                &[Book, Broker, Vendor, Amount, Limit, Connect],
+            ),
+            CommandName::WalletGet => done(
+                "wallet",
+                "get",
+                &[Book, Vendor, Target, Limit, Connect],
+            ),
+            CommandName::WalletRetry => done("wallet", "retry", &[Book, Peer, Connect]),
+            CommandName::WalletList => done("wallet", "list", &[Book]),
+            CommandName::WalletLines => to_come("wallet", "lines", &[Book, Vendor]),
+            CommandName::WalletChain => to_come("wallet", "chain", &[Book]),
+            CommandName::WalletProxy => to_come(
+                "wallet",
+                "proxy",
+                &[Book, Vendor, Limit, Budget, Listen, Connect, Links],
+            ),
+            CommandName::WalletRenew => to_come(
+                "wallet",
+                "renew",
+                &[Book, Vendor, Target, Before, Connect],
+            ),
+            CommandName::AuditReport => done("audit", "report", &[Books, Json]),
+            CommandName::AuditChain => to_come("audit", "chain", &[Books]),
+            CommandName::AuditTree => to_come("audit", "tree", &[Books]),
         }
     }
+}
+
+/// The command that words begin with; None where they begin with the role and the name of none.
+pub fn named(words: &[String]) -> Option<CommandName>
+    ensures { result ≡ named (map string_bytes words.now) }
+{
+    let Some((role, command, _)) = parts_of(words) else {
+        return None;
+    };
+    for name in &COMMANDS {
+        let form = name.form();
+        if role == form.role && command == form.name {
+            return Some(*name);
+        }
+    }
+    None
 }
 
 /// What `clap` finds in the words of this command; None exactly where the words begin with another role
@@ -326,7 +301,7 @@ pub fn read_command<'a>(
     if role != form.role || command != form.name {
         return Ok(None);
     }
-    read_words(alloc, form.arguments, behind)
+    read_words(alloc, form.parameters, behind)
 }
 
 /// What `clap` finds in words behind the name of a command, where none of its arguments is required; None exactly
@@ -336,10 +311,10 @@ pub(crate) fn read_beginning_of<'a>(
     name: CommandName,
     words: &'a [String],
 ) -> Result<Option<Found<'a>>, AllocError>
-    ensures { IfOk result (λ r. r ≡ found (map optional (form_of name).rules)
+    ensures { IfOk result (λ r. r ≡ found (map optional (rules (form_of name)))
         (map string_bytes words.entry.now)) }
 {
-    read_beginning(alloc, name.form().arguments, words)
+    read_beginning(alloc, name.form().parameters, words)
 }
 
 /// The role, the name and the words behind them; None exactly below two words.

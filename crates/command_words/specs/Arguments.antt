@@ -1,5 +1,5 @@
 -- The arguments of a command, and what `clap` finds in the words that it takes for them.
-use Rattle.std.specs.Prelude.{◌&&◌, Bool, true, false, List, [], map, Option, Some, None, if◌then◌else◌, codes}
+use Rattle.std.specs.Prelude.{◌&&◌, Bool, true, false, List, [], Option, Some, None, if◌then◌else◌, codes}
 use Rattle.std.specs.List.{list_all}
 use Rattle.std.specs.Option.{option_map_or}
 use Rattle.std.specs.Str.{bytes_eq}
@@ -39,10 +39,6 @@ rule_of_argument (Positional name) = positional name.now
 rule_of_argument (Positionals name) = positionals name.now
 rule_of_argument (Value name) = value name.now
 rule_of_argument (Flag name) = flag name.now
-
--- the rules of a command's arguments
-abbrev pub rules_of : List Argument → List Rule
-rules_of = map rule_of_argument
 
 -- ---- the command
 

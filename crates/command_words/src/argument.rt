@@ -1,5 +1,5 @@
 ghost use Rattle.std.specs.Prelude.{◌≡◌, false};
-ghost use Rattle.clap.specs.Walk.{rule_of};
+ghost use Rattle.clap.specs.Walk.{Rule, rule_of};
 ghost use Rattle.command_words.specs.Arguments.{rule_of_argument};
 
 use clap::{Arg, ArgAction};
@@ -19,6 +19,16 @@ pub enum Argument {
     Value(&'static str),
     /// An option without a value, `--NAME`, at most once.
     Flag(&'static str),
+}
+
+/// What tells an argument of a command.
+pub trait AsArgument {
+    // Its rule of `clap`.
+    ghost rule: { Self → Rule };
+
+    /// The argument that it tells.
+    fn as_argument(&self) -> Argument
+        ensures { rule_of_argument result ≡ rule self.now };
 }
 
 impl Argument {

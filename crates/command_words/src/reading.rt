@@ -1,9 +1,9 @@
 ghost use Rattle.std.specs.Prelude.{◌≡◌, true, List, [], map, string_bytes, IfOk};
 ghost use Rattle.clap.specs.Simple.{app_of};
 ghost use Rattle.clap.specs.Walk.{Rule};
-ghost use Rattle.command_words.specs.Arguments.{command, found, is_exact, optional, rules_of};
+ghost use Rattle.command_words.specs.Arguments.{command, found, is_exact, optional};
 
-use crate::argument::Argument;
+use crate::argument::AsArgument;
 use crate::found::Found;
 use clap::Command;
 use clap::error::ErrorKind;
@@ -16,26 +16,26 @@ use std::alloc::{AllocError, Global};
 /// It takes memory, of bad words as well, since `clap` makes the text of its error; an Err is want of
 /// memory alone. `is_exact` computes: for arguments that a program writes down `refl` proves it, with
 /// `is_exact` and `command` unfolded. It fails where positional arguments stand behind `Positionals`.
-pub fn read_words<'a>(
+pub fn read_words<'a, A: AsArgument>(
     alloc: Global,
-    arguments: &[Argument],
+    arguments: &[A],
     words: &'a [String],
 ) -> Result<Option<Found<'a>>, AllocError>
-    requires { is_exact (rules_of arguments.now) ≡ true }
-    ensures { IfOk result (λ r. r ≡ found (rules_of arguments.now) (map string_bytes words.entry.now)) }
+    requires { is_exact (map A.rule arguments.now) ≡ true }
+    ensures { IfOk result (λ r. r ≡ found (map A.rule arguments.now) (map string_bytes words.entry.now)) }
 {
     let command = command_of(alloc, arguments)?;
     read_by(command, words)
 }
 
 /// Reads words with which those of a command may begin: as `read_words`, where no argument is required.
-pub fn read_beginning<'a>(
+pub fn read_beginning<'a, A: AsArgument>(
     alloc: Global,
-    arguments: &[Argument],
+    arguments: &[A],
     words: &'a [String],
 ) -> Result<Option<Found<'a>>, AllocError>
-    requires { is_exact (map optional (rules_of arguments.now)) ≡ true }
-    ensures { IfOk result (λ r. r ≡ found (map optional (rules_of arguments.now))
+    requires { is_exact (map optional (map A.rule arguments.now)) ≡ true }
+    ensures { IfOk result (λ r. r ≡ found (map optional (map A.rule arguments.now))
         (map string_bytes words.entry.now)) }
 {
     let command = beginning_of(alloc, arguments)?;
@@ -57,23 +57,26 @@ fn read_by<'a>(app: Command<'a>, words: &'a [String]) -> Result<Option<Found<'a>
 }
 
 /// The command of `clap` with these arguments and nothing else.
-fn command_of<'a>(alloc: Global, arguments: &[Argument]) -> Result<Command<'a>, AllocError>
-    ensures { IfOk result (λ c. app_of c ≡ command (rules_of arguments.now)) }
+fn command_of<'a, A: AsArgument>(alloc: Global, arguments: &[A]) -> Result<Command<'a>, AllocError>
+    ensures { IfOk result (λ c. app_of c ≡ command (map A.rule arguments.now)) }
 {
     let mut command = no_arguments(alloc);
     for argument in arguments {
-        command = command.arg(argument.arg(alloc))?;
+        command = command.arg(argument.as_argument().arg(alloc))?;
     }
     Ok(command)
 }
 
 /// The command of `clap` that has these arguments, none of them required.
-fn beginning_of<'a>(alloc: Global, arguments: &[Argument]) -> Result<Command<'a>, AllocError>
-    ensures { IfOk result (λ c. app_of c ≡ command (map optional (rules_of arguments.now))) }
+fn beginning_of<'a, A: AsArgument>(
+    alloc: Global,
+    arguments: &[A],
+) -> Result<Command<'a>, AllocError>
+    ensures { IfOk result (λ c. app_of c ≡ command (map optional (map A.rule arguments.now))) }
 {
     let mut command = no_arguments(alloc);
     for argument in arguments {
-        command = command.arg(argument.arg(alloc).required(false))?;
+        command = command.arg(argument.as_argument().arg(alloc).required(false))?;
     }
     Ok(command)
 }

@@ -3,10 +3,10 @@ use Rattle.std.specs.Prelude.{◌≡◌, ◌⊎◌, ℕ, true, false, List, [], 
 use Rattle.mc_words.specs.declared.command.Command.{Command}
 use Rattle.mc_words.specs.declared.command.Command.TheVariants.{Once, Init, Serve, Play, Operate, BrokerInit, BrokerServe, BrokerOperate, WalletInit, WalletOperate, Report}
 use Rattle.wallet_words.specs.declared.wallet_operation.WalletOperation.{WalletOperation}
-use Rattle.mc_words.specs.Commands.{AreWords, AreNoWords}
+use Rattle.mc_words.specs.Commands.{AreOfNoRow, AreWords}
 use Rattle.site_words.specs.Commands.{book_of, broker_book_of}
 use Rattle.wallet_words.specs.Commands.{connect_of, wallet_book_of}
-use Rattle.site_words.specs.Words.{Server}
+use Rattle.site_words.specs.declared.serving.Server.{Server}
 use Rattle.mc_top.specs.declared.named.Places.{Places}
 
 -- words that name none
@@ -51,4 +51,4 @@ places_of (Report reporting) = audited_places reporting.books
 
 -- the places of the command that the words are of, or none where they are of none
 abbrev pub ArePlaces : List (List ℕ) → Places → Type 0
-ArePlaces words places = ((c : Command) × AreWords words c × (places ≡ places_of c)) ⊎ (AreNoWords words × (places ≡ no_places))
+ArePlaces words places = ((c : Command) × AreWords words c × (places ≡ places_of c)) ⊎ (AreOfNoRow words × (places ≡ no_places))

@@ -11,7 +11,7 @@ use Rattle.mc_words.specs.declared.command.Command.{Command}
 use Rattle.mc_words.specs.declared.command.Command.TheVariants as commands
 use Rattle.command_status.specs.declared.status.Status.{Status}
 use Rattle.command_status.specs.declared.status.Status.TheVariants as ends
-use Rattle.site_words.specs.Words.{Shop, Founder}
+use Rattle.site_words.specs.Words.{Shop, Founder, broker_founder, vendor_founder}
 use Rattle.vendor_commands.specs.Course.{IsDone}
 use Rattle.vendor_commands.specs.Play.{ArePlayLines}
 use Rattle.mc_top.specs.Saying.{Says}
@@ -63,11 +63,11 @@ Operates link disk kind operation a status b =
 -- what a command does to the outside, up to the line that is said
 abbrev pub Works : {O : Type 0} → (O → LinkView) → (O → DiskView) → Command → O → Status → O → Type 0
 Works link disk (commands.Once shop) a status b = ServesOnce shop (link a) status (link b) × LinkKeeps (disk a) (disk b) × ((link a).faults ≤ (link b).faults)
-Works link disk (commands.Init founder) a status b = Founds link disk Vendor founder a status b
+Works link disk (commands.Init founder) a status b = Founds link disk Vendor (vendor_founder founder) a status b
 Works link disk (commands.Serve server) a status b = Serves link disk Vendor server.links a status b
 Works link disk (commands.Play playing) a status b = (b ≡ a) × TellsPlay playing.count status
 Works link disk (commands.Operate operation) a status b = Operates link disk Vendor (operation_view operation) a status b
-Works link disk (commands.BrokerInit founder) a status b = Founds link disk Broker founder a status b
+Works link disk (commands.BrokerInit founder) a status b = Founds link disk Broker (broker_founder founder) a status b
 Works link disk (commands.BrokerServe server) a status b = Serves link disk Broker server.links a status b
 Works link disk (commands.BrokerOperate operation) a status b = Operates link disk Broker (brokers.operation_view operation) a status b
 Works link disk (commands.WalletInit founder) a status b = Inits link disk founder.name a status b

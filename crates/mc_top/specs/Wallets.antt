@@ -3,7 +3,9 @@ use Rattle.mc_outside.specs.DiskView.{DiskView}
 use Rattle.mc_outside.specs.LinkView.{LinkView}
 use Rattle.wallet_words.specs.declared.wallet_operation.WalletOperation.{WalletOperation}
 use Rattle.wallet_words.specs.declared.wallet_operation.WalletOperation.TheVariants as wallets
-use Rattle.wallet_words.specs.Words.{Drawing, Buying, Getting}
+use Rattle.wallet_words.specs.declared.wallet_operation.Buying.{Buying}
+use Rattle.wallet_words.specs.declared.wallet_operation.Drawing.{Drawing}
+use Rattle.wallet_words.specs.declared.wallet_operation.Getting.{Getting}
 use Rattle.command_status.specs.declared.status.Status.{Status}
 use Rattle.wallet_model.specs.Asks.{Asking, get, buy, draw}
 use Rattle.wallet_commands.specs.Taking.{Takes}

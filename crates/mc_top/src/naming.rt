@@ -1,5 +1,5 @@
 ghost use Rattle.std.specs.Prelude.{◌≡◌, map, string_bytes, IfOk};
-ghost use Rattle.mc_top.specs.Places.{ArePlaces, audited_places, founded_places, operated_places, served_places, wallet_places};
+ghost use Rattle.mc_top.specs.Places.{ArePlaces, audited_places, founded_places, no_places, operated_places, served_places, wallet_places};
 
 use crate::named::Places;
 use mc_base::{List, NoMemory};
@@ -14,21 +14,30 @@ pub fn places(alloc: Global, words: &[String]) -> Result<Places, NoMemory>
     ensures { IfOk result (ArePlaces (map string_bytes words.now)) }
 {
     match command_of(alloc, words)? {
-        Some(Command::Init(founder)) => founded(alloc, founder.founder().book()),
-        Some(Command::BrokerInit(founder)) => founded(alloc, founder.founder().book()),
+        Some(Command::Init(founder)) => founded(alloc, founder.book()),
+        Some(Command::BrokerInit(founder)) => founded(alloc, founder.book()),
         Some(Command::Serve(server)) | Some(Command::BrokerServe(server)) => served(alloc, &server),
         Some(Command::Operate(operation)) => operated(alloc, operation.book()),
         Some(Command::BrokerOperate(operation)) => operated(alloc, operation.book()),
         Some(Command::WalletInit(founder)) => founded(alloc, founder.book()),
         Some(Command::WalletOperate(operation)) => connected(alloc, &operation),
         Some(Command::Report(reporting)) => audited(alloc, reporting.books()),
-        Some(Command::Once(_)) | Some(Command::Play(_)) | None => Ok(Places {
-            site: None,
-            founds: false,
-            books: List::of(Vec::new(alloc)),
-            listen: None,
-            connect: None,
-        }),
+        Some(Command::Once(_)) => Ok(nowhere(alloc)),
+        Some(Command::Play(_)) => Ok(nowhere(alloc)),
+        None => Ok(nowhere(alloc)),
+    }
+}
+
+/// The places of words that name none. It takes no memory.
+fn nowhere(alloc: Global) -> Places
+    ensures { result ≡ no_places }
+{
+    Places {
+        site: None,
+        founds: false,
+        books: List::of(Vec::new(alloc)),
+        listen: None,
+        connect: None,
     }
 }
 

@@ -2,7 +2,7 @@ ghost use Rattle.std.specs.Prelude.{◌≡◌, ◌⊎◌, ◌↔◌, ◌≤◌, 
 ghost use Rattle.mc_outside.specs.Bytes.{Rose};
 ghost use Rattle.mc_outside.specs.DiskView.{LinkKeeps, OnlyRead};
 ghost use Rattle.mc_words.specs.declared.command.Command.{Command as Commanded};
-ghost use Rattle.mc_words.specs.Commands.{AreWords, AreNoWords};
+ghost use Rattle.mc_words.specs.Commands.{AreNoWords, AreOfNoRow, AreWords};
 ghost use Rattle.command_status.specs.Statuses.{number_of};
 ghost use Rattle.std.specs.List.{AllZip};
 ghost use Rattle.audit_commands.specs.Reports.{AreCalm};
@@ -67,7 +67,7 @@ pub struct Ran<O, D> {
 /// becomes 6, and any other status stays. 8: a stranger stands in the books. The outside and the books are handed back.
 pub fn run<O: Outside, D: Disk>(alloc: Global, words: &[String], out: O, books: Vec<D>) -> Ran<O, D>
     ensures books { AllZip (λ a b. OnlyRead (D.disk a) (D.disk b)) books.items result.books.items }
-    ensures words { result.status ≡ 2 → AreNoWords (map string_bytes words.now)
+    ensures words { result.status ≡ 2 → AreOfNoRow (map string_bytes words.now)
         ⊎ HaveOtherBooks (map string_bytes words.now) (length books.items) }
     ensures no_words { AreNoWords (map string_bytes words.now)
         → Refuses O.link O.disk out books.items result.status result.out result.books.items }
@@ -140,7 +140,7 @@ fn obey<O: Outside, D: Disk>(
         }
         Command::Play(playing) => beside((out, play(alloc, playing)), books),
         Command::Init(founder) => {
-            let done = found_book(alloc, founder.founder(), Shelf::new(alloc), out);
+            let done = found_book(alloc, &founder.founder(), Shelf::new(alloc), out);
             beside(done, books)
         }
         Command::Serve(server) => {
@@ -149,7 +149,7 @@ fn obey<O: Outside, D: Disk>(
         }
         Command::Operate(operation) => beside(operate_shelf(alloc, operation, out), books),
         Command::BrokerInit(founder) => {
-            let done = found_book(alloc, founder.founder(), Desk::new(alloc), out);
+            let done = found_book(alloc, &founder.founder(), Desk::new(alloc), out);
             beside(done, books)
         }
         Command::BrokerServe(server) => {

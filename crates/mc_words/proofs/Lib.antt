@@ -1,2 +1,2 @@
-pub mod CarriedLemmas
 pub mod WordLaws
+pub mod GoLemmas

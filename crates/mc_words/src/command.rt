@@ -1,13 +1,17 @@
 ghost use Rattle.std.specs.Prelude.{map, string_bytes, IfOk, IfSome, IsNone};
-ghost use Rattle.mc_words.specs.Commands.{AreWords, AreNoWords};
+ghost use Rattle.mc_words.specs.Commands.{AreOfNoRow, AreWords, GivesCommand};
 
-use command_table::{CommandName, values_of};
+use command_table::{CommandName, named, read_command};
+use command_words::Found;
 use site_words::{
-    BrokerFounder, BrokerOperation, Operation, Playing, Server, Shop, VendorFounder,
-    broker_operation_of, operation_of,
+    BrokerFounder, BrokerOperation, Inquiry, LicenceUpgrading, Licensing, Listing, Minting,
+    Opening, Operation, Payment, Playing, Pricing, Server, Shop, Stocking, Switching, Taking,
+    Upgrading, VendorFounder,
 };
 use std::alloc::{AllocError, Global};
-use wallet_words::{Reporting, WalletFounder, WalletOperation, wallet_operation_of};
+use wallet_words::{
+    Buying, Drawing, Getting, Reporting, Retrying, WalletBook, WalletFounder, WalletOperation,
+};
 
 /// What the words say to do.
 #[derive(Drop)]
@@ -37,45 +41,147 @@ pub enum Command<'a> {
 }
 
 /// The command that the words, those after the program's name, are of; None exactly where they are of
-/// none that is carried out. An Err is want of memory alone.
+/// no row of the table that is carried out. An Err is want of memory alone.
 pub fn command_of<'a>(alloc: Global, words: &'a [String]) -> Result<Option<Command<'a>>, AllocError>
     ensures command { IfOk result (λ r. IfSome r
         (λ command. AreWords (map string_bytes words.entry.now) command)) }
     ensures none { IfOk result
-        (λ r. IsNone r → AreNoWords (map string_bytes words.entry.now)) }
+        (λ r. IsNone r → AreOfNoRow (map string_bytes words.entry.now)) }
 {
-    if let Some(shop) = values_of::<Shop>(alloc, CommandName::VendorOnce, words)? {
-        return Ok(Some(Command::Once(shop)));
+    let Some(name) = named(words) else {
+        return Ok(None);
+    };
+    match read_command(alloc, name, words)? {
+        Some(found) => Ok(command_in(name, found)),
+        None => Ok(None),
     }
-    if let Some(founder) = values_of::<VendorFounder>(alloc, CommandName::VendorInit, words)? {
-        return Ok(Some(Command::Init(founder)));
+}
+
+/// The command of this name whose values were found; None where none were, or it is not carried out.
+#[tactic(auto, unfolding(command_table::specs::Table::form_of))]
+fn command_in<'a>(name: CommandName, found: Found<'a>) -> Option<Command<'a>>
+    ensures { GivesCommand name found.entry result }
+{
+    match name {
+        CommandName::VendorInit => {
+            let vendor = VendorFounder::read(&found)?;
+            Some(Command::Init(vendor))
+        }
+        CommandName::VendorGoods => {
+            let listing = Listing::read(&found)?;
+            Some(Command::Operate(Operation::Goods(listing)))
+        }
+        CommandName::VendorPrice => {
+            let pricing = Pricing::read(&found)?;
+            Some(Command::Operate(Operation::Price(pricing)))
+        }
+        CommandName::VendorLicence => {
+            let licensing = Licensing::read(&found)?;
+            Some(Command::Operate(Operation::Licence(licensing)))
+        }
+        CommandName::VendorMint => {
+            let minting = Minting::read(&found)?;
+            Some(Command::Operate(Operation::Mint(minting)))
+        }
+        CommandName::VendorUpgrade => {
+            let upgrading = Upgrading::read(&found)?;
+            Some(Command::Operate(Operation::Upgrade(upgrading)))
+        }
+        CommandName::VendorChain => {
+            let switching = Switching::read(&found)?;
+            Some(Command::Operate(Operation::Chain(switching)))
+        }
+        CommandName::VendorServe => {
+            let server = Server::read(&found)?;
+            Some(Command::Serve(server))
+        }
+        CommandName::VendorOnce => {
+            let shop = Shop::read(&found)?;
+            Some(Command::Once(shop))
+        }
+        CommandName::VendorPlay => {
+            let playing = Playing::read(&found)?;
+            Some(Command::Play(playing))
+        }
+        CommandName::BrokerInit => {
+            let broker = BrokerFounder::read(&found)?;
+            Some(Command::BrokerInit(broker))
+        }
+        CommandName::BrokerAccount => {
+            let opening = Opening::read(&found)?;
+            Some(Command::BrokerOperate(BrokerOperation::Account(opening)))
+        }
+        CommandName::BrokerDeposit => {
+            let deposit = Payment::read(&found)?;
+            Some(Command::BrokerOperate(BrokerOperation::Deposit(deposit)))
+        }
+        CommandName::BrokerWithdraw => {
+            let withdrawal = Payment::read(&found)?;
+            Some(Command::BrokerOperate(BrokerOperation::Withdraw(withdrawal)))
+        }
+        CommandName::BrokerBalance => {
+            let inquiry = Inquiry::read(&found)?;
+            Some(Command::BrokerOperate(BrokerOperation::Balance(inquiry)))
+        }
+        CommandName::BrokerLicence => {
+            let taking = Taking::read(&found)?;
+            Some(Command::BrokerOperate(BrokerOperation::Licence(taking)))
+        }
+        CommandName::BrokerStock => {
+            let stocking = Stocking::read(&found)?;
+            Some(Command::BrokerOperate(BrokerOperation::Stock(stocking)))
+        }
+        CommandName::BrokerUpgrade => {
+            let moving = LicenceUpgrading::read(&found)?;
+            Some(Command::BrokerOperate(BrokerOperation::Upgrade(moving)))
+        }
+        CommandName::BrokerChain => {
+            let chained = Switching::read(&found)?;
+            Some(Command::BrokerOperate(BrokerOperation::Chain(chained)))
+        }
+        CommandName::BrokerServe => {
+            let desk = Server::read(&found)?;
+            Some(Command::BrokerServe(desk))
+        }
+        CommandName::WalletInit => {
+            let founder = WalletFounder::read(&found)?;
+            Some(Command::WalletInit(founder))
+        }
+        CommandName::WalletTake => {
+            let filling = WalletBook::read(&found)?;
+            Some(Command::WalletOperate(WalletOperation::Take(filling)))
+        }
+        CommandName::WalletDraw => {
+            let drawing = Drawing::read(&found)?;
+            Some(Command::WalletOperate(WalletOperation::Draw(drawing)))
+        }
+        CommandName::WalletBuy => {
+            let buying = Buying::read(&found)?;
+            Some(Command::WalletOperate(WalletOperation::Buy(buying)))
+        }
+        CommandName::WalletGet => {
+            let getting = Getting::read(&found)?;
+            Some(Command::WalletOperate(WalletOperation::Get(getting)))
+        }
+        CommandName::WalletRetry => {
+            let retrying = Retrying::read(&found)?;
+            Some(Command::WalletOperate(WalletOperation::Retry(retrying)))
+        }
+        CommandName::WalletList => {
+            let telling = WalletBook::read(&found)?;
+            Some(Command::WalletOperate(WalletOperation::List(telling)))
+        }
+        CommandName::AuditReport => {
+            let reporting = Reporting::read(found)?;
+            Some(Command::Report(reporting))
+        }
+        CommandName::VendorStatement
+        | CommandName::BrokerSettle
+        | CommandName::WalletLines
+        | CommandName::WalletChain
+        | CommandName::WalletProxy
+        | CommandName::WalletRenew
+        | CommandName::AuditChain
+        | CommandName::AuditTree => None,
     }
-    if let Some(server) = values_of::<Server>(alloc, CommandName::VendorServe, words)? {
-        return Ok(Some(Command::Serve(server)));
-    }
-    if let Some(playing) = values_of::<Playing>(alloc, CommandName::VendorPlay, words)? {
-        return Ok(Some(Command::Play(playing)));
-    }
-    if let Some(operation) = operation_of(alloc, words)? {
-        return Ok(Some(Command::Operate(operation)));
-    }
-    if let Some(founder) = values_of::<BrokerFounder>(alloc, CommandName::BrokerInit, words)? {
-        return Ok(Some(Command::BrokerInit(founder)));
-    }
-    if let Some(server) = values_of::<Server>(alloc, CommandName::BrokerServe, words)? {
-        return Ok(Some(Command::BrokerServe(server)));
-    }
-    if let Some(operation) = broker_operation_of(alloc, words)? {
-        return Ok(Some(Command::BrokerOperate(operation)));
-    }
-    if let Some(founder) = values_of::<WalletFounder>(alloc, CommandName::WalletInit, words)? {
-        return Ok(Some(Command::WalletInit(founder)));
-    }
-    if let Some(operation) = wallet_operation_of(alloc, words)? {
-        return Ok(Some(Command::WalletOperate(operation)));
-    }
-    if let Some(reporting) = values_of::<Reporting>(alloc, CommandName::AuditReport, words)? {
-        return Ok(Some(Command::Report(reporting)));
-    }
-    Ok(None)
 }

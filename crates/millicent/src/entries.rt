@@ -94,16 +94,16 @@ fn is_journal<F: OpenFile + FileExt>(book: &Book<F>) -> bool {
 }
 
 /// The greatest moment of a book's entries, in seconds since 1970; None where it has none.
-pub(crate) fn newest_moment<F: OpenFile + FileExt>(alloc: Global, book: &Book<F>) -> Option<u64> {
+pub(crate) fn latest_moment<F: OpenFile + FileExt>(alloc: Global, book: &Book<F>) -> Option<u64> {
     let mut entries = Entries::of(alloc, book).ok()?;
-    let mut newest = None;
+    let mut latest = None;
     for _ in 0..u64::MAX {
         let Some(payload) = entries.next_payload() else {
             break;
         };
-        newest = newest.max(moment_of(payload));
+        latest = latest.max(moment_of(payload));
     }
-    newest
+    latest
 }
 
 /// The moment of a payload, which stands behind its kind.

@@ -22,7 +22,7 @@ mod wrong_words;
 use book::{Book, cause_of};
 use clock_gap::{tell_ahead, tell_behind};
 use endings::{tell_clear, tell_fault, tell_no_bytes};
-use entries::newest_moment;
+use entries::latest_moment;
 use input_faults::tell_bad_line;
 use mc_base::{List, NoMemory};
 use mc_door::{call, listen};
@@ -220,8 +220,8 @@ const OUTPUT: &str = "standard output";
 fn tell_before(rt: &HostRuntime, places: &Places, book: &Book<File>, others: &[Book<File>]) {
     let now = reading(&rt);
     for (path, other) in places.books.slice().iter().zip(others) {
-        if let Some(newest) = newest_moment(rt.alloc(), other) {
-            tell_ahead(rt, text(path.slice()), newest, now);
+        if let Some(latest) = latest_moment(rt.alloc(), other) {
+            tell_ahead(rt, text(path.slice()), latest, now);
         }
     }
     let Some(path) = &places.site else {
@@ -230,9 +230,9 @@ fn tell_before(rt: &HostRuntime, places: &Places, book: &Book<File>, others: &[B
     let path = text(path.slice());
     if places.founds {
         tell_symlink(rt, path, book);
-    } else if let Some(newest) = newest_moment(rt.alloc(), book) {
-        tell_ahead(rt, path, newest, now);
-        tell_behind(rt, path, newest, now);
+    } else if let Some(latest) = latest_moment(rt.alloc(), book) {
+        tell_ahead(rt, path, latest, now);
+        tell_behind(rt, path, latest, now);
     }
 }
 

@@ -22,7 +22,7 @@ pub(crate) struct Passed {
 
 impl Passed {
     /// Nothing yet.
-    pub(crate) fn new(alloc: Global) -> Passed {
+    fn new(alloc: Global) -> Passed {
         Passed {
             received: Vec::new(alloc),
             payload: Vec::new(alloc),
@@ -31,7 +31,7 @@ impl Passed {
     }
 
     /// These bytes came on the link.
-    pub(crate) fn receive(&mut self, bytes: &[u8]) {
+    fn receive(&mut self, bytes: &[u8]) {
         let room = MOST_RECEIVED.saturating_sub(self.received.len());
         let _ = self
             .received
@@ -40,7 +40,7 @@ impl Passed {
 
     /// These bytes were written to the book. An entry is staged as the length of its payload, the payload and a
     /// gate; what is shorter is none.
-    pub(crate) fn write(&mut self, bytes: &[u8]) {
+    fn write(&mut self, bytes: &[u8]) {
         if let [_, _, _, _, payload @ .., _] = bytes {
             self.payload.clear();
             let _ = self.payload.extend_from_slice(payload);
@@ -48,7 +48,7 @@ impl Passed {
     }
 
     /// These bytes were said.
-    pub(crate) fn say(&mut self, bytes: &[u8]) {
+    fn say(&mut self, bytes: &[u8]) {
         self.said.clear();
         let _ = self
             .said
@@ -76,6 +76,51 @@ impl Passed {
         match read_reply(&self.received) {
             ReplyRead::Whole(reply) => Some(reply),
             ReplyRead::Bad | ReplyRead::Short(_) => None,
+        }
+    }
+}
+
+/// What passes through, where it is kept.
+#[derive(Drop)]
+pub(crate) struct Keeping {
+    passed: Option<Passed>,
+}
+
+impl Keeping {
+    /// Nothing is kept.
+    pub(crate) fn none() -> Keeping {
+        Keeping { passed: None }
+    }
+
+    /// What passes through from now on is kept.
+    pub(crate) fn new(alloc: Global) -> Keeping {
+        Keeping {
+            passed: Some(Passed::new(alloc)),
+        }
+    }
+
+    pub(crate) fn passed(&self) -> Option<&Passed> {
+        self.passed.as_ref()
+    }
+
+    /// So many bytes came on the link, in the front of the buffer.
+    pub(crate) fn receive(&mut self, buf: &[u8], count: usize) {
+        if let (Some(passed), Some(bytes)) = (&mut self.passed, buf.get(..count)) {
+            passed.receive(bytes);
+        }
+    }
+
+    /// These bytes were written to the book.
+    pub(crate) fn write(&mut self, bytes: &[u8]) {
+        if let Some(passed) = &mut self.passed {
+            passed.write(bytes);
+        }
+    }
+
+    /// These bytes were said.
+    pub(crate) fn say(&mut self, bytes: &[u8]) {
+        if let Some(passed) = &mut self.passed {
+            passed.say(bytes);
         }
     }
 }

@@ -3,7 +3,7 @@ ghost use Rattle.millicent.specs.Counts.{site_counts};
 
 use crate::book::Book;
 use crate::faults::counted;
-use crate::passed::Passed;
+use crate::passed::{Keeping, Passed};
 use mc_base::Moment;
 use mc_door::Source;
 use mc_outside::{Disk, DiskFault, Link, LinkFault, Outside};
@@ -30,8 +30,8 @@ pub struct Site<F, S, W, C> {
     // what the system said of the last fault of a link, and of one in saying a line
     link_fault: Option<io::Error>,
     said_fault: Option<io::Error>,
-    // what passed through, where it is kept
-    passed: Option<Passed>,
+    // what passes through
+    keeping: Keeping,
 }
 
 impl<F, S: Source, W: Write, C: Clock> Site<F, S, W, C> {
@@ -50,13 +50,13 @@ impl<F, S: Source, W: Write, C: Clock> Site<F, S, W, C> {
             link_faults: 0,
             link_fault: None,
             said_fault: None,
-            passed: None,
+            keeping: Keeping::none(),
         }
     }
 
     /// Keeps from now on what passes through, so that it can be told of.
     pub fn keep(&mut self, alloc: Global) {
-        self.passed = Some(Passed::new(alloc));
+        self.keeping = Keeping::new(alloc);
     }
 
     /// The book of it.
@@ -81,7 +81,7 @@ impl<F, S: Source, W: Write, C: Clock> Site<F, S, W, C> {
 
     /// What passed through, where it is kept.
     pub fn passed(&self) -> Option<&Passed> {
-        self.passed.as_ref()
+        self.keeping.passed()
     }
 
     /// Sees for a bounded time to what is still under way to peers, and gives back the book.
@@ -121,9 +121,7 @@ impl<F: OpenFile + FileExt, S: Source, W: Write, C: Clock> Disk for Site<F, S, W
     }
 
     fn write_at(&mut self, at: u64, bytes: &[u8]) -> Result<(), DiskFault> {
-        if let Some(passed) = &mut self.passed {
-            passed.write(bytes);
-        }
+        self.keeping.write(bytes);
         self.book.write_at(at, bytes)
     }
 
@@ -181,9 +179,7 @@ impl<F: OpenFile + FileExt, S: Source, W: Write, C: Clock> Link for Site<F, S, W
             LinkFault,
         )?;
         self.at_end = n == 0;
-        if let (Some(passed), Some(bytes)) = (&mut self.passed, buf.get(..n)) {
-            passed.receive(bytes);
-        }
+        self.keeping.receive(buf, n);
         Ok(n)
     }
 
@@ -206,9 +202,7 @@ impl<F: OpenFile + FileExt, S: Source, W: Write, C: Clock> Link for Site<F, S, W
     }
 
     fn say(&mut self, bytes: &[u8]) -> Result<(), LinkFault> {
-        if let Some(passed) = &mut self.passed {
-            passed.say(bytes);
-        }
+        self.keeping.say(bytes);
         let answer = self.output.write_all(bytes);
         counted(
             &mut self.link_faults,

@@ -1,6 +1,6 @@
 //! What is told of words that are of no command.
 
-use command_table::usage;
+use command_table::usage_of;
 use mc_words::{WrongWord, wrong_word};
 use std::alloc::{AllocError, Global};
 
@@ -20,7 +20,7 @@ pub(crate) fn tell_usage(rt: &impl Eprint, alloc: Global, words: &[String]) {
         }
         Ok(None) | Err(_) => {}
     }
-    let line = usage(words);
+    let line = usage_of(words);
     let _ = eprintln!(rt; "{line}");
 }
 

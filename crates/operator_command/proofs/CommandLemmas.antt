@@ -1,5 +1,5 @@
 -- What a call of the trade's performed, as an operation of the operator.
-use Rattle.std.proofs.Common.{◌≡◌, ℕ, List, refl, sym, subst}
+use Rattle.std.proofs.Common.{◌≡◌, ℕ, List, [], ◌∷◌, ◌++◌, refl, sym, subst}
 use Rattle.mc_outside.specs.DiskView.{DiskView, IsDisk, Ran}
 use Rattle.mc_outside.proofs.Runs.{ran_none, ran_weaker}
 use Rattle.mc_records.specs.declared.limits.Limits.{Limits}
@@ -13,7 +13,7 @@ use Rattle.house_core.specs.declared.outcome.Outcome.TheVariants as outcomes
 use Rattle.house_core.specs.House.{HouseRepresents, HandsBack, outcome_disk}
 use Rattle.house_state.specs.Trade.{TradeView}
 use Rattle.house_core.specs.Tasks.{Task, Add, Stays, Refuse, after, IsDoable, Does, LeavesBy, Performs}
-use Rattle.operator_command.specs.Operations.{without_answer}
+use Rattle.operator_command.specs.Operations.{without_answer, IfDone}
 
 disk_as : {D T A : Type 0} (out : Outcome D T A) → outcome_disk (without_answer out) ≡ outcome_disk out
 disk_as (outcomes.Done x a) = refl
@@ -73,3 +73,37 @@ performs_refused {D = D} disk trade Wanted Told limits x h f is_disk st wanted =
   does = (refl, record { represents = st; disk' = refl });
   ran = ran_none (disk x.journal.disk) (EncodesNoOutput h (disk x.journal.disk).aside) (is_disk x.journal.disk) (λ c leaves. (journal_leaves disk x.journal h st.journal c leaves, refl));
 }
+
+-- what the house that goes on shows is said of the history that it stands for then
+does_shown : {D T A : Type 0} (disk : D → DiskView) (trade : T → TradeView) (Told : Task → History → A → Type 0) (Says : History → Type 0) (limits : Limits) (d : D) (h : History) (task : Task) (out : Outcome D T A)
+    → ((g : History) → IfDone out (λ x. HouseRepresents disk trade x g → Says g))
+    → Does disk trade Told limits d h task out → Does disk trade (λ t g answer. Says (after t h)) limits d h task (without_answer out)
+does_shown disk trade Told Says limits d h (Add e) (outcomes.Done x a) says does = (does.0, says (h ++ e ∷ []) does.0)
+does_shown disk trade Told Says limits d h (Add e) (outcomes.Refused x f) says does = does
+does_shown disk trade Told Says limits d h (Add e) (outcomes.NoMemory x) says does = does
+does_shown disk trade Told Says limits d h (Add e) (outcomes.Halted y) says does = does
+does_shown disk trade Told Says limits d h Stays (outcomes.Done x a) says does = (does.0, says h does.0.represents)
+does_shown disk trade Told Says limits d h Stays (outcomes.Refused x f) says does = absurd does
+does_shown disk trade Told Says limits d h Stays (outcomes.NoMemory x) says does = does
+does_shown disk trade Told Says limits d h Stays (outcomes.Halted y) says does = absurd does
+does_shown disk trade Told Says limits d h (Refuse g) (outcomes.Done x a) says does = absurd does
+does_shown disk trade Told Says limits d h (Refuse g) (outcomes.Refused x f) says does = does
+does_shown disk trade Told Says limits d h (Refuse g) (outcomes.NoMemory x) says does = absurd does
+does_shown disk trade Told Says limits d h (Refuse g) (outcomes.Halted y) says does = absurd does
+
+pub performs_shown : {D T A : Type 0} (disk : D → DiskView) (trade : T → TradeView) (Asks : Task → Type 0) (Told : Task → History → A → Type 0) (Says : History → Type 0) (limits : Limits) (d : D) (h : History) (out : Outcome D T A)
+    → ((g : History) → IfDone out (λ x. HouseRepresents disk trade x g → Says g))
+    → Performs disk trade Asks Told limits d h out → Performs disk trade Asks (λ task g answer. Says (after task h)) limits d h (without_answer out)
+performs_shown {D = D} disk trade Asks Told Says limits d h out says does = record {
+  task = does.task;
+  asks = does.asks;
+  does = does_shown disk trade Told Says limits d h does.task out says does.does;
+  ran = subst (λ (y : D). Ran (disk d) (disk y) (LeavesBy does.task (without_answer out) h (disk d).aside)) (sym (disk_as out))
+      (ran_weaker (disk d) (disk (outcome_disk out)) _ _ does.ran (λ c s p. leaves_as does.task out h (disk d).aside c s p));
+}
+
+pub if_done : {D T A : Type 0} (out : Outcome D T A) (P Q : House D T → Type 0) → ((x : House D T) → P x → Q x) → IfDone out P → IfDone out Q
+if_done (outcomes.Done x a) P Q more p = more x p
+if_done (outcomes.Refused x f) P Q more p = tt
+if_done (outcomes.NoMemory x) P Q more p = tt
+if_done (outcomes.Halted d) P Q more p = tt

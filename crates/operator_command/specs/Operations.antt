@@ -1,15 +1,18 @@
 -- What the operations of a site's operator mean.
-use Rattle.std.specs.Prelude.{ℕ, List, Option}
+use Rattle.std.specs.Prelude.{◌≡◌, ℕ, List, length, Option, None}
 use Rattle.mc_records.specs.declared.limits.Limits.{Limits}
 use Rattle.mc_records.specs.declared.limits.TheConstants.Limits.{MOST_JOURNAL, MOST_SERIES}
+use Rattle.mc_records.specs.Chains.{chain}
 use Rattle.ledger_model.specs.Histories.{History}
+use Rattle.ledger_model.specs.Houses.{site_name}
 use Rattle.house_core.specs.declared.house.House.{House}
 use Rattle.house_core.specs.declared.outcome.Outcome.{Outcome}
 use Rattle.house_core.specs.declared.outcome.Outcome.TheVariants as outcomes
 use Rattle.house_core.specs.Bench.{house_time, limits_of}
-use Rattle.house_core.specs.Tasks.{Task, Performs}
+use Rattle.house_core.specs.Tasks.{Task, Performs, switch_task, after}
 use Rattle.house_state.specs.Trade.{TradeView}
 use Rattle.mc_outside.specs.DiskView.{DiskView}
+use Rattle.said_lines.specs.Lines.{chain_line}
 
 -- the greatest limits, under which the program runs
 abbrev pub full : Limits
@@ -34,3 +37,18 @@ without_answer (outcomes.Done x a) = outcomes.Done x tt
 without_answer (outcomes.Refused x f) = outcomes.Refused x f
 without_answer (outcomes.NoMemory x) = outcomes.NoMemory x
 without_answer (outcomes.Halted d) = outcomes.Halted d
+
+-- what holds of the house that goes on, where the task was done
+abbrev pub IfDone : {D T A : Type 0} → Outcome D T A → (House D T → Type 0) → Type 0
+IfDone (outcomes.Done x a) P = P x
+IfDone _ P = Unit {0}
+
+-- ---- what operators of both sites do
+
+-- the book is switched, where it is not, and its chain is said as it then stands
+abbrev pub chain_operation : OperationView
+chain_operation = record {
+  input = None;
+  asks = λ input h t task. task ≡ switch_task h t;
+  says = λ input h task line. line ≡ chain_line (site_name h) (length (after task h)) (chain (after task h));
+}

@@ -2,6 +2,8 @@
 //! of the site's book, and the line that is said of it.
 #![tactic(auto)]
 
+mod chain;
 mod command;
 
+pub use chain::switch_book;
 pub use command::{OperatorCommand, without_answer};

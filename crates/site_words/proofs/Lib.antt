@@ -1,2 +1,1 @@
-pub mod FitLemmas
-pub mod WordLaws
+pub mod WordLemmas

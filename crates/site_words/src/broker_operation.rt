@@ -1,14 +1,19 @@
-ghost use Rattle.std.specs.Prelude.{◌≡◌, map, string_bytes, IfOk, IfSome, IsNone};
-ghost use Rattle.site_words.specs.Commands.{AreBrokerOperationWords, broker_book_of};
-ghost use Rattle.site_words.specs.declared.broker_operation.BrokerOperation.{BrokerOperation as Said};
+//! What a broker's operator has done to its book.
 
-use crate::account::Opening;
-use crate::balance::Inquiry;
-use crate::payment::Payment;
-use crate::stock::Stocking;
-use crate::taking::Taking;
-use command_table::{CommandName, values_of};
-use std::alloc::{AllocError, Global};
+ghost use Rattle.std.specs.Prelude.{◌≡◌};
+ghost use Rattle.command_table.specs.Ranges.{IsWithin};
+ghost use Rattle.command_table.specs.Table.{Gives};
+ghost use Rattle.command_table.specs.declared.table.CommandName.TheVariants.{BrokerAccount, BrokerBalance, BrokerDeposit, BrokerLicence, BrokerStock, BrokerUpgrade};
+ghost use Rattle.site_words.specs.Words.{inquiry_values, licence_upgrading_values, opening_values, payment_values, stocking_values, taking_values};
+ghost use Rattle.site_words.specs.Commands.{broker_book_of};
+
+use crate::switching::Switching;
+use command_table::{
+    Epoch, MOST_EPOCH, Parameter, Place, Sum, name_in, number_in, place_in, secret_in,
+};
+use command_words::Found;
+use mc_base::Amount;
+use scrip_form::Name;
 
 /// What a broker's operator has done to its book.
 #[derive(Drop)]
@@ -25,6 +30,10 @@ pub enum BrokerOperation<'a> {
     Licence(Taking<'a>),
     /// Takes pieces of a vendor as stock.
     Stock(Stocking<'a>),
+    /// Moves the issuer of a vendor's licence to the second version of scrip.
+    Upgrade(LicenceUpgrading<'a>),
+    /// Switches the chain of the book on, and tells it.
+    Chain(Switching<'a>),
 }
 
 impl<'a> BrokerOperation<'a> {
@@ -33,44 +42,262 @@ impl<'a> BrokerOperation<'a> {
         ensures { result.now ≡ broker_book_of self.now }
     {
         match self {
-            BrokerOperation::Account(opening) => opening.book(),
+            BrokerOperation::Account(opening) => opening.book.bytes(),
             BrokerOperation::Deposit(payment) | BrokerOperation::Withdraw(payment) => {
-                payment.book()
+                payment.book.bytes()
             }
-            BrokerOperation::Balance(inquiry) => inquiry.book(),
-            BrokerOperation::Licence(taking) => taking.book(),
-            BrokerOperation::Stock(stocking) => stocking.book(),
+            BrokerOperation::Balance(inquiry) => inquiry.book.bytes(),
+            BrokerOperation::Licence(taking) => taking.book.bytes(),
+            BrokerOperation::Stock(stocking) => stocking.book.bytes(),
+            BrokerOperation::Upgrade(upgrading) => upgrading.book.bytes(),
+            BrokerOperation::Chain(switching) => switching.book.bytes(),
         }
     }
 }
 
-/// The operation of a broker's operator that the words are of; None exactly where they are of none.
-pub fn broker_operation_of<'a>(
-    alloc: Global,
-    words: &'a [String],
-) -> Result<Option<BrokerOperation<'a>>, AllocError>
-    ensures some { IfOk result (λ r. IfSome r
-        (λ operation. AreBrokerOperationWords (map string_bytes words.entry.now) operation)) }
-    ensures none { IfOk result (λ r. IsNone r → (operation : Said)
-        → AreBrokerOperationWords (map string_bytes words.entry.now) operation → ⊥) }
-{
-    if let Some(opening) = values_of::<Opening>(alloc, CommandName::BrokerAccount, words)? {
-        return Ok(Some(BrokerOperation::Account(opening)));
+/// An account that is opened.
+#[derive(Drop)]
+pub struct Opening<'a> {
+    /// The book of the broker.
+    pub book: Place<'a>,
+    /// The name of the account.
+    pub account: Name,
+    /// The secret by which the account's customer signs.
+    pub key: [u8; 16],
+}
+
+impl<'a> Opening<'a> {
+    /// `broker account BOOK ACCOUNT KEY`.
+    #[tactic(auto, unfolding(command_table::specs::Table::form_of, crate::specs::Words::opening_values))]
+    pub fn read(found: &Found<'a>) -> Option<Opening<'a>>
+        ensures { Gives BrokerAccount opening_values found.now result }
+    {
+        let book = place_in(found, Parameter::Book)?;
+        let account = name_in(found, Parameter::Account)?;
+        let key = secret_in(found, Parameter::Key)?;
+        Some(Opening { book, account, key })
     }
-    if let Some(deposit) = values_of::<Payment>(alloc, CommandName::BrokerDeposit, words)? {
-        return Ok(Some(BrokerOperation::Deposit(deposit)));
+
+    /// The book of the broker.
+    pub fn book(&self) -> &'a [u8]
+        ensures { result.now ≡ self.now.book }
+    {
+        self.book.bytes()
     }
-    if let Some(withdrawal) = values_of::<Payment>(alloc, CommandName::BrokerWithdraw, words)? {
-        return Ok(Some(BrokerOperation::Withdraw(withdrawal)));
+
+    /// The name of the account.
+    pub fn account(&self) -> &Name
+        ensures value { result.now ≡ self.now.account }
+    {
+        &self.account
     }
-    if let Some(inquiry) = values_of::<Inquiry>(alloc, CommandName::BrokerBalance, words)? {
-        return Ok(Some(BrokerOperation::Balance(inquiry)));
+
+    /// The secret by which the account's customer signs.
+    pub fn key(&self) -> [u8; 16]
+        ensures value { result ≡ self.now.key }
+    {
+        self.key
     }
-    if let Some(taking) = values_of::<Taking>(alloc, CommandName::BrokerLicence, words)? {
-        return Ok(Some(BrokerOperation::Licence(taking)));
+}
+
+/// What is paid into an account or out of it.
+#[derive(Drop)]
+pub struct Payment<'a> {
+    /// The book of the broker.
+    pub book: Place<'a>,
+    /// The name of the account.
+    pub account: Name,
+    /// What is paid.
+    pub amount: Sum,
+    /// The reference by which the payment is known.
+    pub reference: Name,
+}
+
+impl<'a> Payment<'a> {
+    /// `broker deposit BOOK ACCOUNT AMOUNT REFERENCE`, and `broker withdraw` likewise.
+    #[tactic(auto, unfolding(command_table::specs::Table::form_of, crate::specs::Words::payment_values))]
+    pub fn read(found: &Found<'a>) -> Option<Payment<'a>>
+        ensures { Gives BrokerDeposit payment_values found.now result }
+    {
+        let book = place_in(found, Parameter::Book)?;
+        let account = name_in(found, Parameter::Account)?;
+        let amount = number_in(found, Parameter::Amount)?;
+        let reference = name_in(found, Parameter::Reference)?;
+        Some(Payment {
+            book,
+            account,
+            amount,
+            reference,
+        })
     }
-    if let Some(stocking) = values_of::<Stocking>(alloc, CommandName::BrokerStock, words)? {
-        return Ok(Some(BrokerOperation::Stock(stocking)));
+
+    /// The book of the broker.
+    pub fn book(&self) -> &'a [u8]
+        ensures { result.now ≡ self.now.book }
+    {
+        self.book.bytes()
     }
-    Ok(None)
+
+    /// The name of the account.
+    pub fn account(&self) -> &Name
+        ensures value { result.now ≡ self.now.account }
+    {
+        &self.account
+    }
+
+    /// What is paid.
+    pub fn amount(&self) -> Amount
+        ensures value { result ≡ self.now.amount }
+        ensures range { IsWithin 1 Amount.MOST self.now.amount }
+    {
+        self.amount.amount()
+    }
+
+    /// The reference by which the payment is known.
+    pub fn reference(&self) -> &Name
+        ensures value { result.now ≡ self.now.reference }
+    {
+        &self.reference
+    }
+}
+
+/// The account whose balance is asked for.
+#[derive(Drop)]
+pub struct Inquiry<'a> {
+    /// The book of the broker.
+    pub book: Place<'a>,
+    /// The name of the account.
+    pub account: Name,
+}
+
+impl<'a> Inquiry<'a> {
+    /// `broker balance BOOK ACCOUNT`.
+    #[tactic(auto, unfolding(command_table::specs::Table::form_of, crate::specs::Words::inquiry_values))]
+    pub fn read(found: &Found<'a>) -> Option<Inquiry<'a>>
+        ensures { Gives BrokerBalance inquiry_values found.now result }
+    {
+        let book = place_in(found, Parameter::Book)?;
+        let account = name_in(found, Parameter::Account)?;
+        Some(Inquiry { book, account })
+    }
+
+    /// The book of the broker.
+    pub fn book(&self) -> &'a [u8]
+        ensures { result.now ≡ self.now.book }
+    {
+        self.book.bytes()
+    }
+
+    /// The name of the account.
+    pub fn account(&self) -> &Name
+        ensures value { result.now ≡ self.now.account }
+    {
+        &self.account
+    }
+}
+
+/// Which broker takes a licence.
+#[derive(Drop)]
+pub struct Taking<'a> {
+    /// The book of the broker.
+    pub book: Place<'a>,
+}
+
+impl<'a> Taking<'a> {
+    /// `broker licence BOOK`.
+    #[tactic(auto, unfolding(command_table::specs::Table::form_of, crate::specs::Words::taking_values))]
+    pub fn read(found: &Found<'a>) -> Option<Taking<'a>>
+        ensures { Gives BrokerLicence taking_values found.now result }
+    {
+        let book = place_in(found, Parameter::Book)?;
+        Some(Taking { book })
+    }
+
+    /// The book of the broker.
+    pub fn book(&self) -> &'a [u8]
+        ensures { result.now ≡ self.now.book }
+    {
+        self.book.bytes()
+    }
+}
+
+/// Whose pieces are taken as stock.
+#[derive(Drop)]
+pub struct Stocking<'a> {
+    /// The book of the broker.
+    pub book: Place<'a>,
+    /// The name of the vendor.
+    pub vendor: Name,
+}
+
+impl<'a> Stocking<'a> {
+    /// `broker stock BOOK VENDOR`.
+    #[tactic(auto, unfolding(command_table::specs::Table::form_of, crate::specs::Words::stocking_values))]
+    pub fn read(found: &Found<'a>) -> Option<Stocking<'a>>
+        ensures { Gives BrokerStock stocking_values found.now result }
+    {
+        let book = place_in(found, Parameter::Book)?;
+        let vendor = name_in(found, Parameter::Vendor)?;
+        Some(Stocking { book, vendor })
+    }
+
+    /// The book of the broker.
+    pub fn book(&self) -> &'a [u8]
+        ensures { result.now ≡ self.now.book }
+    {
+        self.book.bytes()
+    }
+
+    /// The name of the vendor.
+    pub fn vendor(&self) -> &Name
+        ensures value { result.now ≡ self.now.vendor }
+    {
+        &self.vendor
+    }
+}
+
+/// The issuer of a vendor's licence that is moved to the second version of scrip, or the broker's own.
+#[derive(Drop)]
+pub struct LicenceUpgrading<'a> {
+    /// The book of the broker.
+    pub book: Place<'a>,
+    /// The name of the vendor; the broker's own name means its own scrip.
+    pub vendor: Name,
+    /// The first epoch whose series have that version.
+    pub from: Epoch,
+}
+
+impl<'a> LicenceUpgrading<'a> {
+    /// `broker upgrade BOOK VENDOR EPOCH`.
+    #[tactic(auto, unfolding(command_table::specs::Table::form_of, crate::specs::Words::licence_upgrading_values))]
+    pub fn read(found: &Found<'a>) -> Option<LicenceUpgrading<'a>>
+        ensures { Gives BrokerUpgrade licence_upgrading_values found.now result }
+    {
+        let book = place_in(found, Parameter::Book)?;
+        let vendor = name_in(found, Parameter::Vendor)?;
+        let from = number_in(found, Parameter::Epoch)?;
+        Some(LicenceUpgrading { book, vendor, from })
+    }
+
+    /// The book of the broker.
+    pub fn book(&self) -> &'a [u8]
+        ensures { result.now ≡ self.now.book }
+    {
+        self.book.bytes()
+    }
+
+    /// The name of the vendor; the broker's own name means its own scrip.
+    pub fn vendor(&self) -> &Name
+        ensures value { result.now ≡ self.now.vendor }
+    {
+        &self.vendor
+    }
+
+    /// The first epoch whose series have that version.
+    pub fn from(&self) -> u32
+        ensures value { result ≡ self.now.from }
+        ensures range { IsWithin 0 MOST_EPOCH self.now.from }
+    {
+        self.from.get() as u32
+    }
 }

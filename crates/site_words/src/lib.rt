@@ -3,34 +3,20 @@
 //! What `clap` finds in the words is read by the readers of `command_table`.
 #![tactic(auto)]
 
-mod account;
-mod balance;
 mod broker_operation;
-mod goods;
-mod init;
-mod licence;
-mod mint;
-mod once;
+mod founder;
 mod operation;
-mod payment;
-mod play;
-mod price;
-mod serve;
-mod stock;
-mod taking;
+mod secrets;
+mod serving;
+mod shop;
+mod switching;
 
-pub use account::Opening;
-pub use balance::Inquiry;
-pub use broker_operation::{BrokerOperation, broker_operation_of};
-pub use goods::Listing;
-pub use init::{BrokerFounder, Founder, KEEP, VendorFounder};
-pub use licence::Licensing;
-pub use mint::Minting;
-pub use once::{Shop, shop_of};
-pub use operation::{Operation, operation_of};
-pub use payment::Payment;
-pub use play::Playing;
-pub use price::Pricing;
-pub use serve::Server;
-pub use stock::Stocking;
-pub use taking::Taking;
+pub use broker_operation::{
+    BrokerOperation, Inquiry, LicenceUpgrading, Opening, Payment, Stocking, Taking,
+};
+pub use founder::{BrokerFounder, Founder, KEEP, VendorFounder};
+pub use operation::{Licensing, Listing, Minting, Operation, Pricing, Upgrading};
+pub use secrets::SecretList;
+pub use serving::{Playing, Server};
+pub use shop::{Shop, shop_of};
+pub use switching::Switching;

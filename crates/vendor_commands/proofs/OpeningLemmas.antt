@@ -42,7 +42,7 @@ shop_goods_fit : (shop : Shop) → IsShop shop → Fits (shop_goods shop)
 shop_goods_fit shop is = record {
   moment = omega arith;
   target = is.target;
-  price = (omega (arith, is.price.some), is.price.within);
+  price = (omega (arith, is.price.least'), is.price.most');
   kind = omega arith;
   contents = is.contents;
 }

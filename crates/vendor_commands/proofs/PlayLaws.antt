@@ -1,5 +1,5 @@
 -- A play has one run in which memory is refused for no request.
-use Rattle.std.proofs.Common.{◌≡◌, ◌∙◌, ℕ, zero, suc, ◌+◌, Bool, cond, true, false, List, [], ◌∷◌, ◌++◌, length, map, refl, sym, ap, ap₂, subst, count_by, min, inl, inr, arith}
+use Rattle.std.proofs.Common.{◌≡◌, ◌∙◌, ℕ, zero, suc, ◌+◌, Bool, cond, true, false, List, [], ◌∷◌, ◌++◌, length, refl, sym, ap, ap₂, subst, count_by, min, inl, inr, arith}
 use Rattle.std.specs.List.{AllByRecursion}
 use Rattle.std.specs.Prelude.{◌-◌, ◌^◌, nat_lt}
 use Rattle.std.proofs.lemmas.List.{length-append}

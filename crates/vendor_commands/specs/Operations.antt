@@ -4,12 +4,19 @@ use Rattle.mc_records.specs.declared.ranges.TheConstants.{MOST_CONTENTS}
 use Rattle.mc_records.specs.declared.refusal.Refusal.TheVariants.{ContentsFull}
 use Rattle.ledger_model.specs.Houses.{site_name}
 use Rattle.house_core.specs.Tasks.{Refuse, after}
+use Rattle.house_core.specs.Upgrading.{upgrade_task}
 use Rattle.vendor_core.specs.Tasks.{goods_task, price_task, terms_task, IsMintTask, IsMintAt, mint_lines}
 use Rattle.site_words.specs.declared.operation.Operation.{Operation}
 use Rattle.site_words.specs.declared.operation.Operation.TheVariants as operations
 use Rattle.licence_lines.specs.Licences.{licence_line}
-use Rattle.site_words.specs.Words.{Listing, Pricing, Licensing, Minting, licensed_terms}
-use Rattle.operator_command.specs.Operations.{full, OperationView}
+use Rattle.site_words.specs.declared.operation.Licensing.{Licensing}
+use Rattle.site_words.specs.declared.operation.Listing.{Listing}
+use Rattle.site_words.specs.declared.operation.Minting.{Minting}
+use Rattle.site_words.specs.declared.operation.Pricing.{Pricing}
+use Rattle.site_words.specs.declared.operation.Upgrading.{Upgrading}
+use Rattle.site_words.specs.Words.{licensed_terms}
+use Rattle.said_lines.specs.Lines.{chain_words, ready, upgrade_line}
+use Rattle.operator_command.specs.Operations.{full, OperationView, chain_operation}
 
 -- ---- the lines
 
@@ -52,6 +59,14 @@ mint_operation m = record {
   says = λ input h task line. (number : ℕ) × IsMintAt (after task h) m.reference m.count m.value number × (line ≡ mint_lines (after task h) number);
 }
 
+-- an issuer of the vendor's is moved to the second version of scrip
+abbrev pub upgrade_operation : Upgrading → OperationView
+upgrade_operation u = record {
+  input = None;
+  asks = λ input h t task. task ≡ upgrade_task h t (site_name h) u.issuer u.from;
+  says = λ input h task line. line ≡ upgrade_line (site_name h) u.issuer u.from;
+}
+
 -- ---- the line as far as it is known before the book is touched
 
 abbrev pub begins_goods : Listing → List ℕ → List ℕ → Type 0
@@ -66,6 +81,12 @@ begins_licence l site line = line ≡ licence_line site (licensed_terms l)
 abbrev pub begins_mint : Minting → List ℕ → List ℕ → Type 0
 begins_mint m site line = line ≡ []
 
+abbrev pub begins_upgrade : Upgrading → List ℕ → List ℕ → Type 0
+begins_upgrade u site line = line ≡ upgrade_line site u.issuer u.from
+
+abbrev pub begins_chain : List ℕ → List ℕ → Type 0
+begins_chain site line = line ≡ ready (chain_words site)
+
 -- ---- all of them
 
 -- what an operation of a vendor's operator means
@@ -74,6 +95,8 @@ operation_view (operations.Goods l) = goods_operation l
 operation_view (operations.Price p) = price_operation p
 operation_view (operations.Licence l) = licence_operation l
 operation_view (operations.Mint m) = mint_operation m
+operation_view (operations.Upgrade u) = upgrade_operation u
+operation_view (operations.Chain c) = chain_operation
 
 -- its line as far as it is known before the book is touched
 abbrev pub begins : Operation → List ℕ → List ℕ → Type 0
@@ -81,3 +104,5 @@ begins (operations.Goods l) = begins_goods l
 begins (operations.Price p) = begins_price p
 begins (operations.Licence l) = begins_licence l
 begins (operations.Mint m) = begins_mint m
+begins (operations.Upgrade u) = begins_upgrade u
+begins (operations.Chain c) = begins_chain

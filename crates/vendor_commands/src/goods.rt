@@ -29,11 +29,10 @@ pub(crate) fn list_goods<D: Disk>(
     if input.len() > MOST_CONTENTS {
         return Outcome::Refused(house, Refusal::ContentsFull(MOST_CONTENTS as u64 + 1));
     }
-    let pricing = listing.pricing();
     without_answer(set_goods(
         house,
-        pricing.target(),
-        pricing.price(),
+        listing.target(),
+        listing.price(),
         listing.kind(),
         input,
     ))

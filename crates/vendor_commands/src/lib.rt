@@ -12,6 +12,7 @@ mod operation;
 mod play;
 mod price;
 mod shop;
+mod upgrade;
 
 pub use law::a_play_has_one_text;
 pub use once::{reply_to_all, serve_once};

@@ -24,5 +24,5 @@ pub(crate) fn take_issuer<D: Disk>(
         → begins_licence licensing.now (site_name h) line
         → CarriesOut D.disk shelf_view (licence_operation licensing.now) house input line h result }
 {
-    without_answer(add_terms(house, licensing.terms()))
+    without_answer(add_terms(house, &licensing.terms()))
 }

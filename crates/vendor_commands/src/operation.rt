@@ -14,11 +14,13 @@ use crate::licence::take_issuer;
 use crate::lines;
 use crate::mint::mint_pieces;
 use crate::price::price_goods;
+use crate::upgrade::move_issuer;
 use house_core::{House, Outcome};
 use mc_base::NoMemory;
 use mc_outside::Disk;
 use mc_records::MOST_CONTENTS;
-use operator_command::OperatorCommand;
+use operator_command::{OperatorCommand, switch_book};
+use said_lines::{begin_chain, ready, upgrade_line};
 use scrip_form::Name;
 use site_words::Operation;
 use std::alloc::Global;
@@ -56,21 +58,28 @@ impl<'a> OperatorCommand<Shelf> for VendorOperation<'a> {
     fn input(&self) -> Option<usize> {
         match self.said {
             Operation::Goods(_) => Some(MOST_CONTENTS),
-            Operation::Price(_) | Operation::Licence(_) | Operation::Mint(_) => None,
+            Operation::Price(_)
+            | Operation::Licence(_)
+            | Operation::Mint(_)
+            | Operation::Upgrade(_)
+            | Operation::Chain(_) => None,
         }
     }
 
     fn begin(&self, alloc: Global, site: &Name) -> Result<Vec<u8>, NoMemory> {
         match self.said {
             Operation::Goods(listing) => {
-                let pricing = listing.pricing();
-                lines::goods_line(alloc, pricing.target(), pricing.price())
+                lines::goods_line(alloc, listing.target(), listing.price())
             }
             Operation::Price(pricing) => {
                 lines::goods_line(alloc, pricing.target(), pricing.price())
             }
-            Operation::Licence(licensing) => lines::licence_line(alloc, site, licensing.terms()),
+            Operation::Licence(licensing) => lines::licence_line(alloc, site, &licensing.terms()),
             Operation::Mint(_) => Ok(Vec::new(alloc)),
+            Operation::Upgrade(upgrading) => {
+                upgrade_line(alloc, site, upgrading.issuer(), upgrading.from())
+            }
+            Operation::Chain(_) => ready(begin_chain(alloc, site)?),
         }
     }
 
@@ -92,6 +101,8 @@ impl<'a> OperatorCommand<Shelf> for VendorOperation<'a> {
             Operation::Price(pricing) => price_goods(pricing, house),
             Operation::Licence(licensing) => take_issuer(licensing, house),
             Operation::Mint(minting) => mint_pieces(minting, house, line),
+            Operation::Upgrade(upgrading) => move_issuer(upgrading, house),
+            Operation::Chain(_) => switch_book(house, line),
         }
     }
 }

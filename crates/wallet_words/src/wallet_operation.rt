@@ -1,14 +1,16 @@
-ghost use Rattle.std.specs.Prelude.{◌≡◌, map, option_map, string_bytes, IfOk, IfSome, IsNone};
-ghost use Rattle.wallet_words.specs.Commands.{AreWalletOperationWords, connect_of, wallet_book_of};
-ghost use Rattle.wallet_words.specs.declared.wallet_operation.WalletOperation.{WalletOperation as Said};
+//! What a customer has done with the book of a wallet.
 
-use crate::buying::Buying;
-use crate::drawing::Drawing;
-use crate::getting::Getting;
-use crate::retrying::Retrying;
-use crate::wallet_book::WalletBook;
-use command_table::{CommandName, values_of};
-use std::alloc::{AllocError, Global};
+ghost use Rattle.std.specs.Prelude.{◌≡◌, option_map};
+ghost use Rattle.command_table.specs.Ranges.{IsWithin};
+ghost use Rattle.command_table.specs.Table.{Gives};
+ghost use Rattle.command_table.specs.declared.table.CommandName.TheVariants.{WalletBuy, WalletDraw, WalletGet, WalletRetry, WalletTake};
+ghost use Rattle.wallet_words.specs.Words.{buying_values, drawing_values, getting_values, retrying_values, wallet_book_values};
+ghost use Rattle.wallet_words.specs.Commands.{connect_of, wallet_book_of};
+
+use command_table::{Parameter, Place, Sum, name_in, number_in, place_in, secret_in, target_in};
+use command_words::Found;
+use mc_base::Amount;
+use scrip_form::{Name, Target};
 
 /// What a customer has done with the book of a wallet.
 #[derive(Drop)]
@@ -33,11 +35,11 @@ impl<'a> WalletOperation<'a> {
         ensures { result.now ≡ wallet_book_of self.now }
     {
         match self {
-            WalletOperation::Take(wallet) | WalletOperation::List(wallet) => wallet.book(),
-            WalletOperation::Draw(drawing) => drawing.calling().book(),
-            WalletOperation::Buy(buying) => buying.calling().book(),
-            WalletOperation::Get(getting) => getting.calling().book(),
-            WalletOperation::Retry(retrying) => retrying.calling().book(),
+            WalletOperation::Take(wallet) | WalletOperation::List(wallet) => wallet.book.bytes(),
+            WalletOperation::Draw(drawing) => drawing.book.bytes(),
+            WalletOperation::Buy(buying) => buying.book.bytes(),
+            WalletOperation::Get(getting) => getting.book.bytes(),
+            WalletOperation::Retry(retrying) => retrying.book.bytes(),
         }
     }
 
@@ -47,41 +49,335 @@ impl<'a> WalletOperation<'a> {
     {
         match self {
             WalletOperation::Take(_) | WalletOperation::List(_) => None,
-            WalletOperation::Draw(drawing) => Some(drawing.calling().connect()),
-            WalletOperation::Buy(buying) => Some(buying.calling().connect()),
-            WalletOperation::Get(getting) => Some(getting.calling().connect()),
-            WalletOperation::Retry(retrying) => Some(retrying.calling().connect()),
+            WalletOperation::Draw(drawing) => Some(drawing.connect.bytes()),
+            WalletOperation::Buy(buying) => Some(buying.connect.bytes()),
+            WalletOperation::Get(getting) => Some(getting.connect.bytes()),
+            WalletOperation::Retry(retrying) => Some(retrying.connect.bytes()),
         }
     }
 }
 
-/// The operation for the book of a wallet that the words are of; None exactly where they are of none.
-pub fn wallet_operation_of<'a>(
-    alloc: Global,
-    words: &'a [String],
-) -> Result<Option<WalletOperation<'a>>, AllocError>
-    ensures some { IfOk result (λ r. IfSome r
-        (λ operation. AreWalletOperationWords (map string_bytes words.entry.now) operation)) }
-    ensures none { IfOk result (λ r. IsNone r → (operation : Said)
-        → AreWalletOperationWords (map string_bytes words.entry.now) operation → ⊥) }
-{
-    if let Some(filling) = values_of::<WalletBook>(alloc, CommandName::WalletTake, words)? {
-        return Ok(Some(WalletOperation::Take(filling)));
+/// The wallet that takes pieces, or whose holdings are told.
+#[derive(Drop)]
+pub struct WalletBook<'a> {
+    /// The book of the wallet.
+    pub book: Place<'a>,
+}
+
+impl<'a> WalletBook<'a> {
+    /// `wallet take BOOK`, and `wallet list` likewise.
+    #[tactic(auto, unfolding(command_table::specs::Table::form_of, crate::specs::Words::wallet_book_values))]
+    pub fn read(found: &Found<'a>) -> Option<WalletBook<'a>>
+        ensures { Gives WalletTake wallet_book_values found.now result }
+    {
+        let book = place_in(found, Parameter::Book)?;
+        Some(WalletBook { book })
     }
-    if let Some(drawing) = values_of::<Drawing>(alloc, CommandName::WalletDraw, words)? {
-        return Ok(Some(WalletOperation::Draw(drawing)));
+
+    /// The book of the wallet.
+    pub fn book(&self) -> &'a [u8]
+        ensures { result.now ≡ self.now.book }
+    {
+        self.book.bytes()
     }
-    if let Some(buying) = values_of::<Buying>(alloc, CommandName::WalletBuy, words)? {
-        return Ok(Some(WalletOperation::Buy(buying)));
+}
+
+/// What is drawn from an account as scrip of the broker.
+#[derive(Drop)]
+pub struct Drawing<'a> {
+    /// The book of the wallet.
+    pub book: Place<'a>,
+    /// The name of the broker.
+    pub broker: Name,
+    /// The name of the account.
+    pub account: Name,
+    /// The secret by which the account's customer signs.
+    pub key: [u8; 16],
+    /// The number of the order.
+    pub order: Sum,
+    /// What is drawn.
+    pub amount: Sum,
+    /// Where the link goes.
+    pub connect: Place<'a>,
+}
+
+impl<'a> Drawing<'a> {
+    /// `wallet draw BOOK BROKER ACCOUNT KEY ORDER AMOUNT CONNECT`.
+    #[tactic(auto, unfolding(command_table::specs::Table::form_of, crate::specs::Words::drawing_values))]
+    pub fn read(found: &Found<'a>) -> Option<Drawing<'a>>
+        ensures { Gives WalletDraw drawing_values found.now result }
+    {
+        let book = place_in(found, Parameter::Book)?;
+        let broker = name_in(found, Parameter::Broker)?;
+        let account = name_in(found, Parameter::Account)?;
+        let key = secret_in(found, Parameter::Key)?;
+        let order = number_in(found, Parameter::Order)?;
+        let amount = number_in(found, Parameter::Amount)?;
+        let connect = place_in(found, Parameter::Connect)?;
+        Some(Drawing {
+            book,
+            broker,
+            account,
+            key,
+            order,
+            amount,
+            connect,
+        })
     }
-    if let Some(getting) = values_of::<Getting>(alloc, CommandName::WalletGet, words)? {
-        return Ok(Some(WalletOperation::Get(getting)));
+
+    /// The book of the wallet.
+    pub fn book(&self) -> &'a [u8]
+        ensures { result.now ≡ self.now.book }
+    {
+        self.book.bytes()
     }
-    if let Some(retrying) = values_of::<Retrying>(alloc, CommandName::WalletRetry, words)? {
-        return Ok(Some(WalletOperation::Retry(retrying)));
+
+    /// The name of the broker.
+    pub fn broker(&self) -> &Name
+        ensures value { result.now ≡ self.now.broker }
+    {
+        &self.broker
     }
-    if let Some(telling) = values_of::<WalletBook>(alloc, CommandName::WalletList, words)? {
-        return Ok(Some(WalletOperation::List(telling)));
+
+    /// The name of the account.
+    pub fn account(&self) -> &Name
+        ensures value { result.now ≡ self.now.account }
+    {
+        &self.account
     }
-    Ok(None)
+
+    /// The secret by which the account's customer signs.
+    pub fn key(&self) -> [u8; 16]
+        ensures value { result ≡ self.now.key }
+    {
+        self.key
+    }
+
+    /// The number of the order.
+    pub fn order(&self) -> u64
+        ensures value { result ≡ self.now.order }
+        ensures range { IsWithin 1 Amount.MOST self.now.order }
+    {
+        self.order.get()
+    }
+
+    /// What is drawn.
+    pub fn amount(&self) -> Amount
+        ensures value { result ≡ self.now.amount }
+        ensures range { IsWithin 1 Amount.MOST self.now.amount }
+    {
+        self.amount.amount()
+    }
+
+    /// Where the link goes.
+    pub fn connect(&self) -> &'a [u8]
+        ensures { result.now ≡ self.now.connect }
+    {
+        self.connect.bytes()
+    }
+}
+
+/// What scrip of a vendor is bought from a broker.
+#[derive(Drop)]
+pub struct Buying<'a> {
+    /// The book of the wallet.
+    pub book: Place<'a>,
+    /// The name of the broker.
+    pub broker: Name,
+    /// The name of the vendor whose scrip is bought.
+    pub vendor: Name,
+    /// The value of the scrip.
+    pub amount: Sum,
+    /// What it may cost at most.
+    pub limit: Sum,
+    /// Where the link goes.
+    pub connect: Place<'a>,
+}
+
+impl<'a> Buying<'a> {
+    /// `wallet buy BOOK BROKER VENDOR AMOUNT LIMIT CONNECT`.
+    #[tactic(auto, unfolding(command_table::specs::Table::form_of, crate::specs::Words::buying_values))]
+    pub fn read(found: &Found<'a>) -> Option<Buying<'a>>
+        ensures { Gives WalletBuy buying_values found.now result }
+    {
+        let book = place_in(found, Parameter::Book)?;
+        let broker = name_in(found, Parameter::Broker)?;
+        let vendor = name_in(found, Parameter::Vendor)?;
+        let amount = number_in(found, Parameter::Amount)?;
+        let limit = number_in(found, Parameter::Limit)?;
+        let connect = place_in(found, Parameter::Connect)?;
+        Some(Buying {
+            book,
+            broker,
+            vendor,
+            amount,
+            limit,
+            connect,
+        })
+    }
+
+    /// The book of the wallet.
+    pub fn book(&self) -> &'a [u8]
+        ensures { result.now ≡ self.now.book }
+    {
+        self.book.bytes()
+    }
+
+    /// The name of the broker.
+    pub fn broker(&self) -> &Name
+        ensures value { result.now ≡ self.now.broker }
+    {
+        &self.broker
+    }
+
+    /// The name of the vendor whose scrip is bought.
+    pub fn vendor(&self) -> &Name
+        ensures value { result.now ≡ self.now.vendor }
+    {
+        &self.vendor
+    }
+
+    /// The value of the scrip.
+    pub fn amount(&self) -> Amount
+        ensures value { result ≡ self.now.amount }
+        ensures range { IsWithin 1 Amount.MOST self.now.amount }
+    {
+        self.amount.amount()
+    }
+
+    /// What it may cost at most.
+    pub fn limit(&self) -> Amount
+        ensures value { result ≡ self.now.limit }
+        ensures range { IsWithin 1 Amount.MOST self.now.limit }
+    {
+        self.limit.amount()
+    }
+
+    /// Where the link goes.
+    pub fn connect(&self) -> &'a [u8]
+        ensures { result.now ≡ self.now.connect }
+    {
+        self.connect.bytes()
+    }
+}
+
+/// What contents of a vendor are paid for.
+#[derive(Drop)]
+pub struct Getting<'a> {
+    /// The book of the wallet.
+    pub book: Place<'a>,
+    /// The name of the vendor.
+    pub vendor: Name,
+    /// The target of the contents.
+    pub target: Target,
+    /// What the piece that pays has to be worth at least.
+    pub limit: Sum,
+    /// Where the link goes.
+    pub connect: Place<'a>,
+}
+
+impl<'a> Getting<'a> {
+    /// `wallet get BOOK VENDOR TARGET LIMIT CONNECT`.
+    #[tactic(auto, unfolding(command_table::specs::Table::form_of, crate::specs::Words::getting_values))]
+    pub fn read(found: &Found<'a>) -> Option<Getting<'a>>
+        ensures { Gives WalletGet getting_values found.now result }
+    {
+        let book = place_in(found, Parameter::Book)?;
+        let vendor = name_in(found, Parameter::Vendor)?;
+        let target = target_in(found, Parameter::Target)?;
+        let limit = number_in(found, Parameter::Limit)?;
+        let connect = place_in(found, Parameter::Connect)?;
+        Some(Getting {
+            book,
+            vendor,
+            target,
+            limit,
+            connect,
+        })
+    }
+
+    /// The book of the wallet.
+    pub fn book(&self) -> &'a [u8]
+        ensures { result.now ≡ self.now.book }
+    {
+        self.book.bytes()
+    }
+
+    /// The name of the vendor.
+    pub fn vendor(&self) -> &Name
+        ensures value { result.now ≡ self.now.vendor }
+    {
+        &self.vendor
+    }
+
+    /// The target of the contents.
+    pub fn target(&self) -> &Target
+        ensures value { result.now ≡ self.now.target }
+    {
+        &self.target
+    }
+
+    /// What the piece that pays has to be worth at least.
+    pub fn limit(&self) -> Amount
+        ensures value { result ≡ self.now.limit }
+        ensures range { IsWithin 1 Amount.MOST self.now.limit }
+    {
+        self.limit.amount()
+    }
+
+    /// Where the link goes.
+    pub fn connect(&self) -> &'a [u8]
+        ensures { result.now ≡ self.now.connect }
+    {
+        self.connect.bytes()
+    }
+}
+
+/// Of which peer the oldest kept request is sent again.
+#[derive(Drop)]
+pub struct Retrying<'a> {
+    /// The book of the wallet.
+    pub book: Place<'a>,
+    /// The name of the peer, a vendor or a broker.
+    pub peer: Name,
+    /// Where the link goes.
+    pub connect: Place<'a>,
+}
+
+impl<'a> Retrying<'a> {
+    /// `wallet retry BOOK PEER CONNECT`.
+    #[tactic(auto, unfolding(command_table::specs::Table::form_of, crate::specs::Words::retrying_values))]
+    pub fn read(found: &Found<'a>) -> Option<Retrying<'a>>
+        ensures { Gives WalletRetry retrying_values found.now result }
+    {
+        let book = place_in(found, Parameter::Book)?;
+        let peer = name_in(found, Parameter::Peer)?;
+        let connect = place_in(found, Parameter::Connect)?;
+        Some(Retrying {
+            book,
+            peer,
+            connect,
+        })
+    }
+
+    /// The book of the wallet.
+    pub fn book(&self) -> &'a [u8]
+        ensures { result.now ≡ self.now.book }
+    {
+        self.book.bytes()
+    }
+
+    /// The name of the peer, a vendor or a broker.
+    pub fn peer(&self) -> &Name
+        ensures value { result.now ≡ self.now.peer }
+    {
+        &self.peer
+    }
+
+    /// Where the link goes.
+    pub fn connect(&self) -> &'a [u8]
+        ensures { result.now ≡ self.now.connect }
+    {
+        self.connect.bytes()
+    }
 }

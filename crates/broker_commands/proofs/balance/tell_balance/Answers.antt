@@ -1,4 +1,4 @@
-use Rattle.std.proofs.Common.{◌≡◌, List, ℕ, sym}
+use Rattle.std.proofs.Common.{List, ℕ, sym}
 use Rattle.mc_records.specs.declared.refusal.Refusal.TheVariants.{NoAccount}
 use Rattle.house_core.specs.Bench.{house_time}
 use Rattle.broker_core.specs.Desk.{desk_view}

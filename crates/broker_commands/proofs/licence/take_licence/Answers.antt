@@ -1,4 +1,4 @@
-use Rattle.std.proofs.Common.{◌≡◌, ◌++◌, List, [], ℕ, Ok, Err, ap, ap₂, ◌∙◌}
+use Rattle.std.proofs.Common.{◌++◌, List, [], ℕ, Ok, Err, ap, ap₂, ◌∙◌}
 use Rattle.mc_records.specs.declared.refusal.Refusal.TheVariants.{BadInput}
 use Rattle.house_core.specs.Bench.{house_time}
 use Rattle.house_core.specs.Tasks.{Refuse, TellsAdded}

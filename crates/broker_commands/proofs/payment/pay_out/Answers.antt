@@ -4,7 +4,8 @@ use Rattle.house_core.specs.Tasks.{after}
 use Rattle.broker_core.specs.Desk.{desk_view}
 use Rattle.broker_core.specs.Tasks.{withdraw_task}
 use Rattle.operator_command.proofs.CommandLemmas.{back_as, performs_as}
-use Rattle.broker_commands.specs.Operations.{balance_words, with_number, withdraw_operation}
+use Rattle.said_lines.specs.Lines.{with_number}
+use Rattle.broker_commands.specs.Operations.{balance_words, withdraw_operation}
 use Rattle.broker_commands.proofs.AnswerLemmas.{performs_told, balance_said}
 use Rattle.broker_commands.proofs.payment.pay_out.Goals as goal
 

@@ -3,7 +3,8 @@ use Rattle.house_core.specs.Bench.{house_time}
 use Rattle.broker_core.specs.Desk.{desk_view}
 use Rattle.broker_core.specs.Tasks.{stock_task, stock_lines, pieces_in}
 use Rattle.operator_command.proofs.CommandLemmas.{back_as, performs_as}
-use Rattle.broker_commands.specs.Operations.{stock_words, with_number, stock_operation}
+use Rattle.said_lines.specs.Lines.{with_number}
+use Rattle.broker_commands.specs.Operations.{stock_words, stock_operation}
 use Rattle.broker_commands.proofs.AnswerLemmas.{performs_told}
 use Rattle.broker_commands.proofs.stock.take_stock.Goals as goal
 

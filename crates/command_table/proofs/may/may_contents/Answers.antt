@@ -6,4 +6,4 @@ use Rattle.command_table.proofs.may.may_contents.Goals as goal
 pub returns-else-is_none : goal.returns-else-is_none
 returns-else-is_none c =
     let some : is_some c.value_of.result ≡ true = c.is_none.ensures ∙ ap not c.if-is_none.false in
-    rw c.is_some.ensures (borrowed _ (λ c. length c ≤ MOST_CONTENTS) c.contents_in.result c.contents_in.ensures.some c.contents_in.ensures.none (is_there c.value_of.result _ some c.value_of.ensures))
+    rw c.is_some.ensures (borrowed _ (λ c. length c ≤ MOST_CONTENTS) c.spelled_contents.result c.spelled_contents.ensures.some c.spelled_contents.ensures.none (is_there c.value_of.result _ some c.value_of.ensures))

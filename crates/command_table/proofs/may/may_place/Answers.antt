@@ -6,4 +6,4 @@ use Rattle.command_table.proofs.may.may_place.Goals as goal
 pub returns-else-is_none : goal.returns-else-is_none
 returns-else-is_none c =
     let some : is_some c.value_of.result ≡ true = c.is_none.ensures ∙ ap not c.if-is_none.false in
-    rw c.is_some.ensures (borrowed _ IsPathOrAddress c.place_in.result c.place_in.ensures.some c.place_in.ensures.none (is_there c.value_of.result _ some c.value_of.ensures))
+    rw c.is_some.ensures (borrowed _ IsPathOrAddress c.spelled_place.result c.spelled_place.ensures.some c.spelled_place.ensures.none (is_there c.value_of.result _ some c.value_of.ensures))

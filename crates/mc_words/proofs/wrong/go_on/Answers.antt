@@ -1,16 +1,16 @@
 use Rattle.std.proofs.Common.{map, string_bytes, get_or, sym, subst, arith, below_more}
 use Rattle.std.proofs.lemmas.List.{get_or_default}
 use Rattle.command_table.specs.declared.table.CommandName.{CommandName}
-use Rattle.command_table.specs.declared.usage_lines.TheConstants.{CARRIED_OUT}
+use Rattle.command_table.specs.declared.table.TheConstants.{COMMANDS}
+use Rattle.mc_words.proofs.GoLemmas.{stands_at}
 use Rattle.mc_words.specs.Wrong.{GoOnAs}
-use Rattle.mc_words.proofs.CarriedLemmas.{carried_out}
 use Rattle.mc_words.proofs.wrong.go_on.Goals as goal
 
 pub loop-name-preserved : goal.loop-name-preserved
 loop-name-preserved c =
-    below_more (λ k. (d : CommandName) → GoOnAs (get_or CARRIED_OUT k d) (map string_bytes c.args.words.now) → ⊥) c.loop-name.name-index c.loop-name.invariant
+    below_more (λ k. (d : CommandName) → GoOnAs (get_or COMMANDS k d) (map string_bytes c.args.words.now) → ⊥) c.loop-name.name-index c.loop-name.invariant
     (λ d goes.
-    let same = get_or_default CARRIED_OUT c.loop-name.name-index d _ c.loop-name-test.true in
+    let same = get_or_default COMMANDS c.loop-name.name-index d _ c.loop-name-test.true in
     let is = c.in_ok-go_on_as.ensures.1 (subst (λ (n : CommandName). GoOnAs n (map string_bytes c.args.words.now)) same goes) in
     absurd (cc (c.if-branch.false, is)))
 
@@ -18,6 +18,6 @@ pub returns : goal.returns
 returns c = (
   λ t. absurd (cc t),
   λ goes. absurd (
-      let at = carried_out goes.0 goes.1.rows goes.1.values in
+      let at = stands_at goes.0 in
       c.loop-name.invariant at.0 (omega (arith, at.1, c.loop-name-test.false)) goes.0 (subst (λ (n : CommandName). GoOnAs n (map string_bytes c.args.words.now)) (sym at.2) goes.1)),
 )

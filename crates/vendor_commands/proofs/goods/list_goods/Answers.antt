@@ -5,7 +5,6 @@ use Rattle.mc_records.specs.declared.ranges.TheConstants.{MOST_CONTENTS}
 use Rattle.mc_records.specs.declared.refusal.Refusal.TheVariants.{ContentsFull}
 use Rattle.vendor_core.specs.Shelf.{shelf_view}
 use Rattle.vendor_core.specs.Tasks.{goods_task}
-use Rattle.site_words.specs.Words.{Pricing}
 use Rattle.vendor_commands.specs.Operations.{goods_operation}
 use Rattle.operator_command.proofs.CommandLemmas.{back_as, performs_as, performs_refused}
 use Rattle.vendor_commands.proofs.goods.list_goods.Goals as goal
@@ -26,7 +25,7 @@ returns-clause-exact g c h line st begun =
     (performs_as g.D.Disk.disk shelf_view _ (operation.asks c.args.input.now h (house_time c.args.house.bench)) TellsLast (λ task. operation.says c.args.input.now h task line) _ c.args.house.journal.disk h c.set_goods.result
     (λ task is. inl (
       omega (arith, c.if-input-gt-MOST_CONTENTS.false),
-      is ∙ ap₂ (λ (target : List ℕ) (price : ℕ). goods_task h (house_time c.args.house.bench) target price c.kind.result c.args.input.now) (c.target.ensures.value ∙ ap (λ (p : Pricing). p.target) c.pricing-pricing.ensures) (c.price.ensures.value ∙ ap (λ (p : Pricing). p.price) c.pricing-pricing.ensures)
+      is ∙ ap₂ (λ (target : List ℕ) (price : ℕ). goods_task h (house_time c.args.house.bench) target price c.kind.result c.args.input.now) c.target.ensures.value c.price.ensures.value
           ∙ ap (λ (kind : ℕ). goods_task h (house_time c.args.house.bench) c.args.listing.now.target c.args.listing.now.price kind c.args.input.now) c.kind.ensures.value,
     ))
     (λ task answer doable told. begun) (c.set_goods.ensures.exact h st))

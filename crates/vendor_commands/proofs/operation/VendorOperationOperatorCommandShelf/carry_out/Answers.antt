@@ -21,3 +21,13 @@ pub returns-in-Mint-clause-exact : goal.returns-in-Mint-clause-exact
 returns-in-Mint-clause-exact g c h st all begun =
     let said : c.args.self.now ≡ operations.Mint c.in-Mint.minting = sym c.self.view_is ∙ c.in-Mint.is in
     rw said (c.mint_pieces.ensures.exact h c.args.input.now st all)
+
+pub returns-in-Upgrade-clause-exact : goal.returns-in-Upgrade-clause-exact
+returns-in-Upgrade-clause-exact g c h st all begun =
+    let said : c.args.self.now ≡ operations.Upgrade c.in-Upgrade.upgrading = sym c.self.view_is ∙ c.in-Upgrade.is in
+    rw said (c.move_issuer.ensures.exact h c.args.input.now c.args.line.now.items st (rw said at begun))
+
+pub returns-in-Chain-clause-exact : goal.returns-in-Chain-clause-exact
+returns-in-Chain-clause-exact g c h st all begun =
+    let said : c.args.self.now ≡ operations.Chain c.in-Chain.field-0 = sym c.self.view_is ∙ c.in-Chain.is in
+    rw said (c.switch_book.ensures.exact h c.args.input.now st (rw said at begun))

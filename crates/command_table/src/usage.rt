@@ -1,0 +1,156 @@
+//! What is told of words that are of no command.
+
+ghost use Rattle.std.specs.Prelude.{◌≡◌, Some, map, string_bytes};
+ghost use Rattle.command_table.specs.Usage.{done_of, line_of, told_of};
+
+use crate::parameter::{Parameter, Shape};
+use crate::table::{COMMANDS, CommandName, named};
+use std::fmt;
+
+/// One line for standard error that tells which words the program has.
+#[derive(Drop)]
+pub struct Usage {
+    name: Option<CommandName>,
+}
+
+/// The line for these words: of the command that they begin with, where it is carried out, or else of all
+/// commands. It takes no memory.
+pub fn usage_of(words: &[String]) -> Usage
+    ensures { line_of result.name ≡ told_of (map string_bytes words.now) }
+{
+    Usage {
+        name: done(named(words)),
+    }
+}
+
+/// The command, where it is carried out.
+fn done(named: Option<CommandName>) -> Option<CommandName>
+    ensures { result ≡ done_of named }
+{
+    match named {
+        Some(name) if name.form().carried_out => Some(name),
+        _ => None,
+    }
+}
+
+impl fmt::Display for Usage {
+    ghost use Rattle.command_table.specs.Usage.{line_of};
+
+    ghost output = { λ u. Some (line_of u.name) };
+
+    fn fmt<W: fmt::Write>(&self, f: &mut fmt::Formatter<W>) -> fmt::Result {
+        match self.name {
+            Some(name) => write!(f, "{}", CommandLine { name }),
+            None => write!(f, "{}", AllCommands),
+        }
+    }
+}
+
+/// The line of a command.
+#[derive(Drop)]
+struct CommandLine {
+    name: CommandName,
+}
+
+impl fmt::Display for CommandLine {
+    ghost use Rattle.command_table.specs.Table.{form_of};
+    ghost use Rattle.command_table.specs.Usage.{usage_line};
+
+    ghost output = { λ c. Some (usage_line (form_of c.name)) };
+
+    fn fmt<W: fmt::Write>(&self, f: &mut fmt::Formatter<W>) -> fmt::Result {
+        let form = self.name.form();
+        let role = form.role;
+        let name = form.name;
+        let words = AllParameters {
+            parameters: form.parameters,
+        };
+        write!(f, "usage: millicent {role} {name}{words}")
+    }
+}
+
+/// The parameters of a command in its line.
+#[derive(Drop)]
+struct AllParameters {
+    parameters: &'static [Parameter],
+}
+
+impl fmt::Display for AllParameters {
+    ghost use Rattle.std.specs.Prelude.{flat_map};
+    ghost use Rattle.command_table.specs.Usage.{shown};
+
+    ghost output = { λ a. Some (flat_map shown a.parameters.now) };
+
+    fn fmt<W: fmt::Write>(&self, f: &mut fmt::Formatter<W>) -> fmt::Result {
+        for parameter in self.parameters {
+            write!(f, "{parameter}")?;
+        }
+        Ok(())
+    }
+}
+
+impl fmt::Display for Parameter {
+    ghost use Rattle.command_table.specs.Usage.{shown};
+
+    ghost output = { λ p. Some (shown p) };
+
+    fn fmt<W: fmt::Write>(&self, f: &mut fmt::Formatter<W>) -> fmt::Result {
+        let name = self.name();
+        match self.shape() {
+            Shape::One(_) => write!(f, " {name}"),
+            Shape::Places => write!(f, " {name}.."),
+            Shape::Setting(_) => write!(f, " [--{name} VALUE]"),
+            Shape::Flag => write!(f, " [--{name}]"),
+        }
+    }
+}
+
+/// The line of all commands that are carried out.
+#[derive(Drop)]
+struct AllCommands;
+
+impl fmt::Display for AllCommands {
+    ghost use Rattle.command_table.specs.Usage.{commands};
+
+    ghost output = { λ a. Some commands };
+
+    fn fmt<W: fmt::Write>(&self, f: &mut fmt::Formatter<W>) -> fmt::Result {
+        let mut before = None;
+        for name in &COMMANDS {
+            if name.form().carried_out {
+                let next = NextName {
+                    before,
+                    name: *name,
+                };
+                write!(f, "{next}")?;
+                before = Some(*name);
+            }
+        }
+        write!(f, " ..")
+    }
+}
+
+/// The name of a command in that line, behind that of another one.
+#[derive(Drop)]
+struct NextName {
+    before: Option<CommandName>,
+    name: CommandName,
+}
+
+impl fmt::Display for NextName {
+    ghost use Rattle.command_table.specs.Table.{form_of};
+    ghost use Rattle.command_table.specs.Usage.{next_name};
+
+    ghost output = { λ n. Some (next_name n.before (form_of n.name)) };
+
+    fn fmt<W: fmt::Write>(&self, f: &mut fmt::Formatter<W>) -> fmt::Result {
+        let form = self.name.form();
+        let role = form.role;
+        let name = form.name;
+        match self.before {
+            None => write!(f, "usage: millicent {role} {name}"),
+            Some(before) if before.form().role == role => write!(f, "|{name}"),
+            Some(_) => write!(f, " .. or {role} {name}"),
+        }
+    }
+}

@@ -1,8 +1,0 @@
-use Rattle.site_words.proofs.FitLemmas.{server_fits, server_spells}
-use Rattle.command_table.proofs.SpellLemmas.{and_iff}
-use Rattle.site_words.proofs.serve.ServerSpelled.fits.Goals as goal
-
-pub returns : goal.returns
-returns c =
-    let each = and_iff _ _ (and_iff _ _ c.may_place-book.ensures c.may_place-listen.ensures) c.may_number-links.ensures in
-    (λ t. let p = each.0 t in server_fits c.args.found.now p.0.0 p.0.1 p.1, λ may. let s = server_spells c.args.found.now may in each.1 ((s.0, s.1), s.2))

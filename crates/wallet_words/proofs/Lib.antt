@@ -1,2 +1,0 @@
-pub mod FitLemmas
-pub mod WordLaws
