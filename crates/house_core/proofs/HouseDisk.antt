@@ -1,6 +1,6 @@
 -- The disk of a house, while an entry is written.
 use Rattle.std.proofs.Common.{◌≡◌, ◌∙◌, ℕ, ◌+◌, ◌<◌, ◌≤◌, arith, false, Some, Option, option_map, Ok, List, [], ◌∷◌, ◌++◌, length, Err, subst, refl, sym, ap}
-use Rattle.std.specs.Prelude.{Result, MatchResult}
+use Rattle.std.specs.Prelude.{Result, MatchResult, max}
 use Rattle.std.specs.Result.{result_ok}
 use Rattle.mc_outside.specs.DiskView.{DiskView, IsDisk, LinkKeeps, Ran}
 use Rattle.mc_outside.proofs.Runs.{ran_none}
@@ -197,6 +197,11 @@ may_tell limits h e may = tt
 pub applied : {E : Type 0} (r : Result ℕ E) (M A B C D : Type 0) (N : ℕ → Type 0) → M → MatchResult r (λ n. M × N n × A) (λ f. (M → ⊥) × B) → MatchResult r (λ n. C) (λ f. D) → A × C
 applied (Ok n) M A B C D N may is contents = (is.2, contents)
 applied (Err f) M A B C D N may is contents = absurd (is.0 may)
+
+-- an entry of a moment that has come leaves the house time
+pub time_stays : {E : Type 0} (r : Result ℕ E) (m n t : ℕ) → m ≤ n → MatchResult r (λ k. t ≡ max n m) (λ f. t ≡ n) → t ≡ n
+time_stays (Ok k) m n t come is = omega (arith, is, come)
+time_stays (Err f) m n t come is = is
 
 -- ---- while links work
 

@@ -10,10 +10,11 @@ use Rattle.kept_replies.specs.declared.deed.KeptEntry.{KeptEntry}
 use Rattle.kept_replies.specs.Requests.{is_same_request}
 use Rattle.kept_replies.specs.Kept.{KeptReply, KeptView, is_in_time, found}
 use Rattle.scrip_form.specs.Issuing.{Issuing}
+use Rattle.mc_records.specs.Entry.{Entry, AddTerms, Mint, Upgrade}
 use Rattle.spent_windows.specs.Windows.{WindowView, is_marked}
 use Rattle.ledger_model.specs.Histories.{History}
 use Rattle.ledger_model.specs.Houses.{all_terms}
-use Rattle.house_state.specs.HouseState.{HouseStateView, ended_by}
+use Rattle.house_state.specs.HouseState.{HouseStateView, ended_by, MayMove, HasRoomFor, GoesOn}
 use Rattle.house_core.specs.declared.bench.Bench.{Bench}
 use Rattle.house_state.specs.Trade.{Replaces, LiesBehind, IsKeptFrom, OfGoods, TradeView}
 use Rattle.house_state.specs.Representation.{StateRepresents, IsReply}
@@ -97,6 +98,18 @@ stands_later {b = b} {h = h} st t spent kept le marked keep replies = record {
   lawful = st.lawful;
 }
 
+-- the room for an entry by a command does not depend on the time, and neither does what it goes on with
+pub room_later : (b : HouseStateView) (t : ℕ) (spent : List WindowView) (kept : KeptView) (e : Entry) → HasRoomFor b e → HasRoomFor (record b { time = t; spent = spent; kept = kept }) e
+room_later b t spent kept (AddTerms m terms) room = room
+room_later b t spent kept (Upgrade m vendor issuer from) room = room
+room_later b t spent kept (Mint m reference count value first) room = room
+room_later b t spent kept e room = room
+
+pub goes_later : (b : HouseStateView) (t : ℕ) (spent : List WindowView) (kept : KeptView) (kind : ℕ) (e : Entry) → GoesOn b kind e → GoesOn (record b { time = t; spent = spent; kept = kept }) kind e
+goes_later b t spent kept kind (Upgrade m vendor issuer from) goes =
+    λ house. let moves : MayMove b m vendor issuer from = goes house in record { own = moves.own; new = moves.new; coming = moves.coming }
+goes_later b t spent kept kind e goes = goes
+
 pub contents_later : {T : Type 0} (trade : T → TradeView) (b c : Bench T) (h : History) (t : ℕ) (from : Option ℕ)
     → HasContents trade b h → c.state.kept.replies ≡ filter (is_in_time b.state.kept.keep t) b.state.kept.replies
     → IfSome from (λ n. All (λ r. n ≤ r.entry.number) c.state.kept.replies) → (from ≡ None → c.state.kept.replies ≡ [])
@@ -107,3 +120,10 @@ contents_later {T = T} trade b c h t from has replies least none keeps =
     let in_force = of_rest (IsInForceFor h) has.in_force in
     let held = of_rest (λ r. OfGoods (trade b.trade).holds r.entry.deed) has.held in
     record { in_force = in_force; held = all_held (trade b.trade).holds (trade c.trade).holds h from c.state.kept.replies keeps least none in_force held }
+
+-- the same, where the trade forgets nothing
+pub contents_raised : {T : Type 0} (trade : T → TradeView) (b c : Bench T) (h : History) (t : ℕ)
+    → HasContents trade b h → c.state.kept.replies ≡ filter (is_in_time b.state.kept.keep t) b.state.kept.replies
+    → ((n : ℕ) → (trade b.trade).holds n → (trade c.trade).holds n) → HasContents trade c h
+contents_raised trade b c h t has replies keeps =
+    contents_later trade b c h t (Some 0) has replies (λ k d lt. omega arith) (λ some. absurd (cc)) (λ n kept held. keeps n held)

@@ -31,7 +31,7 @@ module _ {D T A : Type 0} (view : D → DiskView) (trade : T → TradeView) (Ask
   pub enters : (f : ℕ → A) (disk : D) (h : History) (e : Entry) (r : Outcome D T ℕ) → Asks (Add e) → (IsDone r → (n : ℕ) → n ≡ length h → Told (Add e) (h ++ e ∷ []) (f n))
       → Entered view trade limits disk h e r → Ran (view disk) (view (outcome_disk r)) (Leaves (answers.Take e) r h (view disk).aside)
       → Performs view trade Asks Told limits disk h (answered_as f r)
-  enters f disk h e (outcomes.Done x n) asks told is ran = record { task = Add e; asks = asks; does = (is.represents, told tt n is.number'); ran = ran }
+  enters f disk h e (outcomes.Done x n) asks told is ran = record { task = Add e; asks = asks; does = (is.0.represents, told tt n is.0.number', is.1); ran = ran }
   enters f disk h e (outcomes.Refused x g) asks told is ran = record { task = Add e; asks = asks; does = is; ran = ran }
   enters f disk h e (outcomes.NoMemory x) asks told is ran = record { task = Add e; asks = asks; does = is; ran = ran }
   enters f disk h e (outcomes.Halted d) asks told is ran = record { task = Add e; asks = asks; does = is; ran = ran }

@@ -1,5 +1,5 @@
 -- What there is to do where an issuer is to be moved.
-use Rattle.std.proofs.Common.{◌≡◌, ℕ, ◌<◌, ◌≤◌, Bool, true, cond, List, Option, Some, None, sym, ap, ap₂, subst, ◌∙◌, arith, eqb, ltb}
+use Rattle.std.proofs.Common.{◌≡◌, ℕ, ◌<◌, ◌≤◌, Bool, cond, List, Option, Some, None, sym, ap, ap₂, subst, ◌∙◌, arith, eqb}
 use Rattle.std.specs.Prelude.{MatchOption, is_some}
 use Rattle.std.proofs.lemmas.Bool.{eq-eqb, false_from_ne_true, eqb-true, lt-ltb, le-ltb}
 use Rattle.scrip_form.specs.Issuing.{Issuing, epoch}

@@ -124,10 +124,10 @@ abbrev pub stopped_with : NotAuthorized → Result ℕ BenchFault
 stopped_with (stops.Refused f) = Err (faults.Refused f)
 stopped_with (stops.Again n) = Ok n
 
--- Of an entry by a command: it may follow and passes the trade's own test, and is entered under the next number; or it
--- may not, does not fit, or there is no memory for it, and the house stays as it was.
+-- Of an entry by a command: it may follow and passes the trade's own test, fits, and is entered under the next number;
+-- or it may not, does not fit, or there is no memory for it, and the house stays as it was.
 abbrev pub Enters : {T : Type 0} → (T → TradeView) → (History → Entry → Type 0) → Bench T → Limits → History → Entry → Result ℕ EnterFault → Type 0
-Enters trade passes b limits h e (Ok n) = MayEnter passes limits h e × (n ≡ length h) × Represents trade b (h ++ e ∷ [])
+Enters trade passes b limits h e (Ok n) = MayEnter passes limits h e × (n ≡ length h) × Represents trade b (h ++ e ∷ []) × (fitted h limits e ≡ Ok e)
 Enters trade passes b limits h e (Err enters.Unlawful) = (MayEnter passes limits h e → ⊥) × Represents trade b h
 Enters trade passes b limits h e (Err (enters.Refused f)) = (fitted h limits e ≡ Err (Refuse f)) × Represents trade b h
 Enters trade passes b limits h e (Err enters.NoMemory) = Represents trade b h

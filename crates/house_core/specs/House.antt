@@ -142,12 +142,13 @@ Accepted view trade disk h (answers.Refused f) (Refused x g) = (g ≡ f) × IsAs
 Accepted view trade disk h (answers.Again n) (Refused x g) = (g ≡ Spent) × IsAsItWas view trade disk x h
 Accepted view trade disk h _ _ = ⊥
 
--- Of an entry by a command, likewise. One that is in doubt since the disk failed may follow.
+-- Of an entry by a command, likewise. It is refused where it does not fit the journal; one that is entered fits, and one
+-- that is in doubt since the disk failed may follow, and fits.
 abbrev pub Entered : {D T : Type 0} → (D → DiskView) → (T → TradeView) → Limits → D → History → Entry → Outcome D T ℕ → Type 0
-Entered view trade limits disk h e (Done x n) = HasEntered view trade x h e n
+Entered view trade limits disk h e (Done x n) = HasEntered view trade x h e n × (fitted h limits e ≡ Ok e)
 Entered view trade limits disk h e (Refused x f) = (fitted h limits e ≡ Err (Refuse f)) × IsAsItWas view trade disk x h
 Entered view trade limits disk h e (NoMemory x) = IsAsItWas view trade disk x h
-Entered view trade limits disk h e (Halted d) = MayFollow limits h e × Rose (view disk).faults (view d).faults
+Entered view trade limits disk h e (Halted d) = MayFollow limits h e × Rose (view disk).faults (view d).faults × (fitted h limits e ≡ Ok e)
 
 -- The crash pairs of a call: with the new entry or without it where one was written, else with the
 -- entries as they were; and nothing was sent.

@@ -1,5 +1,5 @@
 -- What comes of a command of a site's operator: what there is to do, and what was done.
-use Rattle.std.specs.Prelude.{◌≡◌, ℕ, ◌+◌, List, [], ◌∷◌, ◌++◌, length, Option, None, Err, MatchOption, if◌then◌else◌}
+use Rattle.std.specs.Prelude.{◌≡◌, ℕ, ◌+◌, List, [], ◌∷◌, ◌++◌, length, Option, None, Ok, Err, MatchOption, if◌then◌else◌}
 use Rattle.mc_outside.specs.Bytes.{Rose}
 use Rattle.mc_outside.specs.DiskView.{DiskView, Ran}
 use Rattle.mc_records.specs.declared.limits.Limits.{Limits}
@@ -46,14 +46,15 @@ switch_task h moment = if has_switch h then Stays else Add (Switch moment (chain
 
 -- ---- what was done
 
--- What comes of a task over a history: an entry is on the disk and is entered; nothing was changed, where the
--- same stands, where it is refused or does not fit the journal (33), or where memory was refused; or the disk
--- failed, and then the entry may follow. `Told` holds of the task, of the history that stands then, and of what is answered.
+-- What comes of a task over a history: an entry, which fits the journal, is on the disk and is entered; nothing was
+-- changed, where the same stands, where it is refused or does not fit the journal (33), or where memory was refused; or the
+-- disk failed, and then the entry may follow, and fits. `Told` holds of the task, of the history that stands then, and of
+-- what is answered.
 abbrev pub Does : {D T A : Type 0} → (D → DiskView) → (T → TradeView) → (Task → History → A → Type 0) → Limits → D → History → Task → Outcome D T A → Type 0
-Does view trade Told limits disk h (Add e) (outcomes.Done x a) = HouseRepresents view trade x (h ++ e ∷ []) × Told (Add e) (h ++ e ∷ []) a
+Does view trade Told limits disk h (Add e) (outcomes.Done x a) = HouseRepresents view trade x (h ++ e ∷ []) × Told (Add e) (h ++ e ∷ []) a × (fitted h limits e ≡ Ok e)
 Does view trade Told limits disk h (Add e) (outcomes.Refused x f) = (fitted h limits e ≡ Err (lines.Refuse f)) × IsAsItWas view trade disk x h
 Does view trade Told limits disk h (Add e) (outcomes.NoMemory x) = IsAsItWas view trade disk x h
-Does view trade Told limits disk h (Add e) (outcomes.Halted d) = MayFollow limits h e × Rose (view disk).faults (view d).faults
+Does view trade Told limits disk h (Add e) (outcomes.Halted d) = MayFollow limits h e × Rose (view disk).faults (view d).faults × (fitted h limits e ≡ Ok e)
 Does view trade Told limits disk h Stays (outcomes.Done x a) = IsAsItWas view trade disk x h × Told Stays h a
 Does view trade Told limits disk h Stays (outcomes.NoMemory x) = IsAsItWas view trade disk x h
 Does view trade Told limits disk h (Refuse f) (outcomes.Refused x g) = (g ≡ f) × IsAsItWas view trade disk x h

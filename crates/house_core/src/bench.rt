@@ -96,6 +96,13 @@ impl<T: Trade> Bench<T> {
         self.state.alloc()
     }
 
+    /// The limits of its journal and its series. It takes no memory.
+    pub fn limits(&self) -> Limits
+        ensures { result ≡ limits_of self.now }
+    {
+        self.state.limits()
+    }
+
     /// How many windows of accepted identities there are: as many as have an accepted identity whose series
     /// has not ended at the house time, where each has one. A bench that is new has none that is empty, and
     /// its calls leave none. It takes no memory.
@@ -230,14 +237,16 @@ impl<T: Trade> Bench<T> {
     }
 
     /// Enters an entry by a command of the house's operator, whose moment is not before the last entry's, and
-    /// answers its number, from 0. The house time is raised to that moment where it is later. After an
-    /// `Err` the house is as it was, but for that.
+    /// answers its number, from 0. The house time is then raised to that moment where it is later. After an
+    /// `Err` the house is as it was, and so is its time.
     pub fn enter(&mut self, r: &Record<'_>) -> Result<u64, EnterFault>
         requires fits { Fits (entry r.now) }
         requires command { IsCommand (entry r.now) }
         requires order { (h : History) → Represents T.trade self.old h
             → time h ≤ moment_of (entry r.now) }
-        ensures time { house_time self.new ≡ max (house_time self.old) (moment_of (entry r.now)) }
+        ensures time { MatchResult result
+            (λ n. house_time self.new ≡ max (house_time self.old) (moment_of (entry r.now)))
+            (λ f. house_time self.new ≡ house_time self.old) }
         ensures limits { limits_of self.new ≡ limits_of self.old }
         ensures tally { tally_of self.new ≡ tally_of self.old }
         ensures within { IsTallied self.old → IsTallied self.new }
@@ -251,7 +260,6 @@ impl<T: Trade> Bench<T> {
             → MatchResult result (λ n. HasContents T.trade self.new (h ++ entry r.now ∷ []))
             (λ f. HasContents T.trade self.new h) }
     {
-        self.raise(r.moment());
         let bytes = match self.make_room_for(r) {
             Ok(bytes) => bytes,
             Err(fault) => return Err(fault),
@@ -272,6 +280,8 @@ impl<T: Trade> Bench<T> {
         ensures fits { IfOk result
             (λ n. size_with self.new.state n ≤ self.new.state.limits.journal) }
         ensures room { IfOk result (λ n. size_with self.new.state n ≤ Limits.MOST_JOURNAL) }
+        ensures fitted { (h : History) → Represents T.trade self.old h
+            → OnOk result (model.fitted h (limits_of self.old) (entry r.now) ≡ Ok (entry r.now)) }
         ensures goes_on { OnOk result (GoesOn self.new.state (T.trade self.new.trade).site (entry r.now)) }
         ensures trade { OnOk result ((T.trade self.new.trade).has_room (entry r.now)) }
         ensures state { OnOk result (HasRoomFor self.new.state (entry r.now)) }
@@ -322,20 +332,22 @@ impl<T: Trade> Bench<T> {
     }
 
     /// Enters such an entry, for which there is room, with a payload of so many bytes, and answers its
-    /// number. Its moment is neither after the house time nor before the last entry's. `Err` comes where the
-    /// trade's half of what makes it lawful does not hold, and leaves the house as it was. It takes no memory.
+    /// number. Its moment is not before the last entry's; the house time is raised to it where it is later.
+    /// `Err` comes where the trade's half of what makes it lawful does not hold, and leaves the house as it
+    /// was. It takes no memory.
     pub(crate) fn apply_entry(&mut self, r: &Record<'_>, bytes: u64) -> Result<u64, Unlawful>
         requires fits { Fits (entry r.now) }
         requires command { IsCommand (entry r.now) }
-        requires time { moment_of (entry r.now) ≤ house_time self.old }
         requires len { bytes ≡ length (payload (entry r.now)) }
         requires room { size_with self.old.state bytes ≤ Limits.MOST_JOURNAL }
         requires goes_on { GoesOn self.old.state (T.trade self.old.trade).site (entry r.now) }
         requires trade { (T.trade self.old.trade).has_room (entry r.now) }
         requires state { HasRoomFor self.old.state (entry r.now) }
-        ensures time { house_time self.new ≡ house_time self.old }
+        ensures time { MatchResult result
+            (λ n. house_time self.new ≡ max (house_time self.old) (moment_of (entry r.now)))
+            (λ f. house_time self.new ≡ house_time self.old) }
         ensures limits { limits_of self.new ≡ limits_of self.old }
-        ensures spent { windows_of self.new ≡ windows_of self.old }
+        ensures used { AreUsed (windows_of self.old) → AreUsed (windows_of self.new) }
         ensures tally { tally_of self.new ≡ tally_of self.old }
         ensures grows { self.old.state.count ≤ self.new.state.count }
         ensures exact { (h : History) → Represents T.trade self.old h
@@ -355,6 +367,7 @@ impl<T: Trade> Bench<T> {
             Ok(()) => (),
             Err(Unlawful) => return Err(Unlawful),
         }
+        self.state.raise(r.moment());
         self.state.apply_entry(self.trade.kind(), r, bytes);
         Ok(number)
     }

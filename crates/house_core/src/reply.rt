@@ -6,7 +6,7 @@ ghost use Rattle.millicent_http.specs.ReplyHeads.{IsReplyHead, reply_of};
 ghost use Rattle.house_state.specs.Replying.{IsOfSite};
 
 use mc_base::{Moment, NoMemory};
-use mc_fields::put;
+use mc_fields::{append_both, put};
 use mc_outside::{Link, LinkFault};
 use mc_records::Refusal;
 use millicent_http::{ReplyHead, send_all, write_reply_head};
@@ -87,13 +87,19 @@ impl<'a> Reply<'a> {
         }
     }
 
-    /// Appends the reply. An `Err` leaves a part of it.
+    /// Appends the reply. After an `Err` the bytes are as before.
     pub fn append_to(&self, out: &mut Vec<u8>) -> Result<(), NoMemory>
-        ensures { OnOk result (out.new.items ≡ out.old.items ++ self.now) }
+        ensures ok { OnOk result (out.new.items ≡ out.old.items ++ self.now) }
+        ensures err { OnErr result (out.new.items ≡ out.old.items) }
     {
-        out.extend_from_slice(self.page)?;
-        out.extend_from_slice(self.rest)?;
-        Ok(())
+        let old = out.len();
+        match append_both(out, self.page, self.rest) {
+            Ok(()) => Ok(()),
+            Err(_) => {
+                out.truncate(old);
+                Err(NoMemory)
+            }
+        }
     }
 
     /// Sends the reply: in one call of the link where it fits a page and the link takes it whole. At an

@@ -1,11 +1,13 @@
 -- What opening a book as a house answers.
-use Rattle.std.specs.Prelude.{◌≡◌, ℕ, List, [], Result, Ok, Err}
+use Rattle.std.specs.Prelude.{◌≡◌, ℕ, List, [], Some, Result, Ok, Err}
 use Rattle.mc_outside.specs.Bytes.{BeginsWith}
 use Rattle.mc_outside.specs.DiskView.{DiskView}
 use Rattle.mc_records.specs.declared.limits.Limits.{Limits}
 use Rattle.mc_records.specs.Limits.{AreInRange}
 use Rattle.mc_records.specs.Chains.{TellsChain}
+use Rattle.mc_records.specs.Following.{AllFollowBy}
 use Rattle.ledger_model.specs.Histories.{History, time}
+use Rattle.ledger_model.specs.Houses.{site_kind}
 use Rattle.scrip_journal.specs.Layout as layout
 use Rattle.scrip_journal.specs.Layout.{header}
 use Rattle.scrip_journal.specs.Founds.{fault_disk}
@@ -47,17 +49,20 @@ IsOfOther kind bytes = causes.IsOfOther (Only kind) bytes
 
 -- ---- what is answered
 
--- The bytes encode a history, and the house represents it too, at the time of the history.
-pub record OpenedFor {D T : Type 0} (view : D → DiskView) (trade : T → TradeView) (limits : Limits) (bytes : List ℕ) (x : House D T) : Type 0 where
+-- The bytes encode a history of a site of this kind, each entry of which may follow those before it and passes this test
+-- where it is a Note; and the house represents it too, at the time of the history.
+pub record OpenedFor {D T : Type 0} (view : D → DiskView) (trade : T → TradeView) (passes : Test) (limits : Limits) (kind : ℕ) (bytes : List ℕ) (x : House D T) : Type 0 where
   pub history : History
   pub of_bytes : layout.Encodes history bytes
+  pub of_kind : site_kind history ≡ Some kind
+  pub follow : AllFollowBy (MayEnter passes limits) [] history
   pub house : HouseRepresents view trade x history
   pub time' : house_time x.bench ≡ time history
   pub limits' : limits_of x.bench ≡ limits
 
 -- what is answered by the bytes of the disk, at a trade with this kind of site
 abbrev pub OpensHouse : {D T : Type 0} → (D → DiskView) → (T → TradeView) → Test → Limits → ℕ → List ℕ → Result (House D T) (HouseFault D) → Type 0
-OpensHouse view trade passes limits kind bytes (Ok x) = OpenedFor view trade limits bytes x
+OpensHouse view trade passes limits kind bytes (Ok x) = OpenedFor view trade passes limits kind bytes x
 OpensHouse view trade passes limits kind bytes (Err (NotJournal d)) = BeginsWith header bytes → ⊥
 OpensHouse view trade passes limits kind bytes (Err (BadRecord d place)) = SpoilsAt passes limits kind bytes place
 OpensHouse view trade passes limits kind bytes (Err (BadChain d place stood computed)) = UnchainsAt passes limits kind bytes place stood computed

@@ -23,10 +23,11 @@ use std::alloc::Global;
 /// Founds the book of a house by its Site entry, with a trade that has learned nothing yet. The house may
 /// grow to these limits; its time is the entry's moment.
 ///
-/// A disk that encodes no entries is used as it is, and one of at most nine bytes is written anew. Any
-/// other is left as it is: `NotEmpty` tells its size. `Disk` comes only where the disk failed, `NoMemory`
-/// with nothing written, and no other fault does. A crash in this call leaves what encodes no entries
-/// or for the Site entry, at most nine bytes, or what a crash before could have left.
+/// A disk that encodes the empty history is used as it is, and any other of at most nine bytes is written
+/// anew. A longer one is left as it is: `NotEmpty` tells its size. `Disk` comes only where the disk failed,
+/// `NoMemory` with nothing written, and no other fault does. A crash in this call leaves what encodes no
+/// entries or the Site entry, or what a crash before could have left, and at most nine bytes where the
+/// disk is written anew.
 pub fn found_house<D: Disk, T: Trade>(
     alloc: Global,
     disk: D,

@@ -59,8 +59,9 @@ impl<T: Trade> Opener for HouseOpener<T> {
     ghost told_first = { λ o. tells_chain T.passes o.limits };
 }
 
-/// Opens the book that the disk has as a house with this trade, which has learned nothing yet. The house
-/// may grow to these limits; its time is that of the last entry.
+/// Opens the book that the disk has as a house with this trade, which has learned nothing yet. The history is of
+/// a site of the trade's kind, and each of its entries may follow by the ledger and by the trade's own test of
+/// Notes. The house may grow to these limits; its time is that of the last entry.
 ///
 /// `NotJournal` comes where the disk does not begin with the header of a journal, and `BadRecord` where
 /// its bytes can't stand, from the place told on; `BadChain` where an entry has another chain than the one computed.

@@ -9,14 +9,13 @@ use Rattle.mc_outside.proofs.Runs.{ran_none, ran_then, ran_weaker, ran_link, ran
 use Rattle.mc_records.specs.Entry.{Entry}
 use Rattle.ledger_model.specs.Histories.{History}
 use Rattle.scrip_journal.specs.Layout.{Encodes}
-use Rattle.scrip_journal.specs.Rests.{journal_keeps, journal_leaves}
+use Rattle.scrip_journal.specs.Rests.{journal_leaves}
 use Rattle.scrip_journal.specs.Exits.{EitherNoOutput}
 use Rattle.millicent_http.specs.Steps.{Did, sent_of, state_after}
 use Rattle.millicent_http.proofs.StepLemmas.{sent_of-append, state_after-append}
 use Rattle.house_core.specs.declared.house.House.{House}
-use Rattle.house_core.specs.declared.bench.Bench.{Bench}
-use Rattle.house_core.specs.Bench.{IsHouse, house_time, limits_of}
-use Rattle.house_core.specs.House.{HouseRepresents, HouseRests}
+use Rattle.house_core.specs.Bench.{house_time}
+use Rattle.house_core.specs.House.{HouseRepresents}
 use Rattle.house_core.specs.Session.{State}
 use Rattle.house_serving.specs.Orders.{InOrder, MovedBy, RefinesBy, IsEither, InDoubt, HaltedBy}
 use Rattle.command_input.proofs.AsideLemmas.{TellsAside, SentNoMore, aside_still, aside_sent}

@@ -6,7 +6,7 @@ use Rattle.mc_outside.specs.LinkView.{LinkView, next_taken}
 use Rattle.millicent_http.specs.Items.{Item}
 use Rattle.millicent_http.specs.declared.clock.Clock.{Clock}
 use Rattle.millicent_http.specs.Steps.{StepRelation, Did, sent_of, state_after, Run}
-use Rattle.millicent_http.specs.Courses.{Replied, IsServed, BrokeReceiving, BrokeSending, HadLink, HadLinks, ServedAll, ServedSome}
+use Rattle.millicent_http.specs.Courses.{Replied, IsServed, BrokeReceiving, BrokeSending, HadLink, HadLinks}
 use Rattle.house_serving.specs.declared.serving.BenchEnd.{BenchEnd}
 use Rattle.house_serving.specs.declared.serving.BenchEnd.TheVariants as ends
 use Rattle.house_serving.specs.Served.{Served}

@@ -1,5 +1,5 @@
 -- What comes of serving links by a house over a journal.
-use Rattle.std.specs.Prelude.{◌≡◌, ◌≤◌, ℕ, Bool, false, List, [], ◌∷◌, Result, Ok, Err}
+use Rattle.std.specs.Prelude.{◌≡◌, ◌<◌, ◌≤◌, ◌⊎◌, ℕ, Bool, false, IsTrue, List, [], ◌∷◌, Result, Ok, Err}
 use Rattle.mc_outside.specs.Bytes.{Rose}
 use Rattle.mc_outside.specs.DiskView.{DiskView, LinkKeeps}
 use Rattle.mc_outside.specs.LinkView.{LinkView}
@@ -64,6 +64,11 @@ HaveCauses link disk a (Done x n) = KeptCounts link disk a x.journal.disk
 HaveCauses link disk a (Link x) = TakesNoLink link disk a x.journal.disk
 HaveCauses link disk a (NoMemory x) = x.journal.disk ≡ a
 HaveCauses link disk a (Halted d) = Rose (disk a).faults (disk d).faults
+
+-- As many links were served as were asked for; or fewer, where `next_link` has answered that no more come.
+abbrev pub ServedEnough : {O T : Type 0} → (O → LinkView) → ℕ → ServeOut O T → Type 0
+ServedEnough link links (Done x n) = (n ≡ links) ⊎ ((n < links) × IsTrue (link x.journal.disk).over)
+ServedEnough link links _ = Unit {0}
 
 -- ---- its parts
 

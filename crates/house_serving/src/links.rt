@@ -5,7 +5,7 @@ ghost use Rattle.ledger_model.specs.Histories.{History};
 ghost use Rattle.millicent_http.specs.Held.{nothing_held};
 ghost use Rattle.house_core.specs.Bench.{limits_of, state_of};
 ghost use Rattle.house_core.specs.House.{HouseRepresents};
-ghost use Rattle.house_serving.specs.Links.{ServesLinks, HaveCauses, PartCauses, EndsTurns, ServesLink};
+ghost use Rattle.house_serving.specs.Links.{ServesLinks, ServedEnough, HaveCauses, PartCauses, EndsTurns, ServesLink};
 
 use crate::house_turn::take_turn;
 use crate::turn::Turn;
@@ -37,6 +37,7 @@ pub enum ServeOut<O, T> {
 /// where the disk failed.
 pub fn serve_links<O: Outside, T: Trade>(mut house: House<O, T>, links: u32) -> ServeOut<O, T>
     ensures causes { HaveCauses O.link O.disk house.journal.disk result }
+    ensures enough { ServedEnough O.link links result }
     ensures served { (h : History) → HouseRepresents O.disk T.trade house h
         → ServesLinks O.link O.disk T.trade (limits_of house.bench) links house.journal.disk (state_of h house.bench) result }
 {

@@ -1,6 +1,6 @@
 //! Replies to a link whose bytes are all there.
 
-ghost use Rattle.std.specs.Prelude.{◌≡◌, ◌++◌, [], ℕ, List, OnOk};
+ghost use Rattle.std.specs.Prelude.{◌≡◌, ◌++◌, [], ℕ, List, OnOk, OnErr};
 ghost use Rattle.millicent_http.specs.Takes.{item_of};
 ghost use Rattle.millicent_http.specs.Steps.{BySteps, IsSession, sent_of};
 ghost use Rattle.house_core.specs.Bench.{Refines, limits_of};
@@ -12,8 +12,29 @@ use mc_base::{Moment, NoMemory};
 use millicent_http::{ItemRef, MAX_ITEMS, next_item};
 
 /// Appends the replies to a link whose bytes are all there, by a clock that stands at a moment: those
-/// that [`serve_bench_by`](crate::serve_bench_by) sends on it. An `Err` leaves a part of them.
+/// that [`serve_bench_by`](crate::serve_bench_by) sends on it. After an `Err` there are none.
 pub fn reply_to_link<T: Trade>(
+    bench: &mut Bench<T>,
+    link: &[u8],
+    moment: Moment,
+    out: &mut Vec<u8>,
+) -> Result<(), NoMemory>
+    requires { out.old.items ≡ [] }
+    ensures limits { limits_of bench.new ≡ limits_of bench.old }
+    ensures err { OnErr result (out.new.items ≡ out.old.items) }
+    ensures replied { OnOk result (Refines T.trade (BySteps (λ steps s. (out.new.items ≡ sent_of steps) × IsSession (Step (limits_of bench.old)) moment link.now s steps)) bench.old bench.new) }
+{
+    match append_replies(bench, link, moment, out) {
+        Ok(()) => Ok(()),
+        Err(NoMemory) => {
+            out.clear();
+            Err(NoMemory)
+        }
+    }
+}
+
+/// Appends them item by item. After an `Err` some may stand behind the bytes from before.
+fn append_replies<T: Trade>(
     bench: &mut Bench<T>,
     link: &[u8],
     moment: Moment,

@@ -32,3 +32,4 @@ pub use ranges::{authorization_fits, draw_fits};
 pub use stages::{fitted, terms_of};
 pub use trade::Trade;
 pub use verdict::{Authorization, Authorized, DrawAuthorization, NotAuthorized, Verdict};
+pub use versions::raises;

@@ -103,12 +103,15 @@ pub trait Trade: Drop {
             → OfGoods (trade self.now).holds deed.now
             → brought_by h deed.now ≡ Some (contents_of result) };
 
-    /// Lets contents go that no reply of an entry from this number on brings, and that are not in force.
-    /// With None no reply is kept.
+    /// Lets those contents go that no reply of an entry from this number on brings, and that are not in
+    /// force. With None no reply is kept.
     fn forget(&mut self, kept_from: Option<u64>)
         ensures site { (trade self.new).site ≡ (trade self.old).site }
         ensures same { (h : History) → (trade self.old).represents h
             → (trade self.new).represents h }
         ensures held { (h : History) (n : ℕ) → (trade self.old).represents h
-            → IsKeptFrom h kept_from n → (trade self.old).holds n → (trade self.new).holds n };
+            → IsKeptFrom h kept_from n → (trade self.old).holds n → (trade self.new).holds n }
+        // No other contents stay.
+        ensures freed { (h : History) (n : ℕ) → (trade self.old).represents h
+            → (trade self.new).holds n → IsKeptFrom h kept_from n };
 }

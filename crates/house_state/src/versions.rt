@@ -26,8 +26,9 @@ fn is_raised(upgrades: &[Upgraded], series: u32) -> bool
     upgrades.iter().any(|u| raises(series, u))
 }
 
-/// Whether an issuer that was moved has the second version in a series.
-fn raises(series: u32, u: &Upgraded) -> bool
+/// Whether an issuer that was moved has the second version in a series: one of its own, of the epoch that
+/// it was moved from or of a later one. It takes no memory.
+pub fn raises(series: u32, u: &Upgraded) -> bool
     ensures { result ≡ ledger.raises series u.now }
 {
     u32::from(u.issuer) == series / (1 << 24) && u.from <= series % (1 << 24)

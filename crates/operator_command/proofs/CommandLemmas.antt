@@ -24,7 +24,7 @@ disk_as (outcomes.Halted d) = refl
 does_as : {D T A : Type 0} (disk : D → DiskView) (trade : T → TradeView) (Told : Task → History → A → Type 0) (Says : Task → Type 0) (limits : Limits) (d : D) (h : History) (task : Task) (out : Outcome D T A)
     → ((answer : A) → IsDoable task → Told task (after task h) answer → Says task)
     → Does disk trade Told limits d h task out → Does disk trade (λ t g answer. Says t) limits d h task (without_answer out)
-does_as disk trade Told Says limits d h (Add e) (outcomes.Done x a) says does = (does.0, says a tt does.1)
+does_as disk trade Told Says limits d h (Add e) (outcomes.Done x a) says does = (does.0, says a tt does.1, does.2)
 does_as disk trade Told Says limits d h (Add e) (outcomes.Refused x f) says does = does
 does_as disk trade Told Says limits d h (Add e) (outcomes.NoMemory x) says does = does
 does_as disk trade Told Says limits d h (Add e) (outcomes.Halted y) says does = does
@@ -78,7 +78,7 @@ performs_refused {D = D} disk trade Wanted Told limits x h f is_disk st wanted =
 does_shown : {D T A : Type 0} (disk : D → DiskView) (trade : T → TradeView) (Told : Task → History → A → Type 0) (Says : History → Type 0) (limits : Limits) (d : D) (h : History) (task : Task) (out : Outcome D T A)
     → ((g : History) → IfDone out (λ x. HouseRepresents disk trade x g → Says g))
     → Does disk trade Told limits d h task out → Does disk trade (λ t g answer. Says (after t h)) limits d h task (without_answer out)
-does_shown disk trade Told Says limits d h (Add e) (outcomes.Done x a) says does = (does.0, says (h ++ e ∷ []) does.0)
+does_shown disk trade Told Says limits d h (Add e) (outcomes.Done x a) says does = (does.0, says (h ++ e ∷ []) does.0, does.2)
 does_shown disk trade Told Says limits d h (Add e) (outcomes.Refused x f) says does = does
 does_shown disk trade Told Says limits d h (Add e) (outcomes.NoMemory x) says does = does
 does_shown disk trade Told Says limits d h (Add e) (outcomes.Halted y) says does = does

@@ -1,7 +1,8 @@
 -- What founding a book leaves on the disk, step by step.
-use Rattle.std.proofs.Common.{◌≡◌, inl, inr, ⊎_elim, ℕ, ◌≤◌, max, Some, Result, Ok, Err, List, [], ◌∷◌, ◌++◌, length, drop, sym, ◌∙◌, ap, subst, arith}
-use Rattle.mc_outside.specs.DiskView.{DiskView, DiskGoes, IsSynced, OnlyRead, Ran}
-use Rattle.mc_outside.proofs.Runs.{ran_then, ran_weaker}
+use Rattle.std.proofs.Common.{◌≡◌, inl, inr, ⊎_elim, ℕ, ◌≤◌, max, Some, Result, Ok, Err, List, [], ◌∷◌, ◌++◌, length, drop, append-nil, sym, ◌∙◌, ap, subst, arith}
+use Rattle.mc_outside.specs.Bytes.{BeginsWith}
+use Rattle.mc_outside.specs.DiskView.{DiskView, DiskGoes, LinkKeeps, IsSynced, OnlyRead, Ran}
+use Rattle.mc_outside.proofs.Runs.{ran_then, ran_weaker, read_then}
 use Rattle.mc_records.specs.Entry.{Entry}
 use Rattle.scrip_journal.specs.Layout.{header, body, Encodes}
 use Rattle.scrip_journal.specs.States.{AtRest, Reading, IsReading}
@@ -9,11 +10,23 @@ use Rattle.scrip_journal.specs.declared.fault.HouseFault.{HouseFault}
 use Rattle.scrip_journal.specs.declared.fault.HouseFault.TheVariants.{NotJournal, BadRecord, BadChain, Unlawful, WrongKind, NotEmpty, Disk, NoMemory}
 use Rattle.scrip_journal.specs.Opens.{NoLonger}
 use Rattle.scrip_journal.specs.Exits.{EitherNoOutput}
-use Rattle.scrip_journal.proofs.Reading.{bytes_told}
-use Rattle.scrip_journal.specs.Founds.{IsFree, FoundsBookBy, ReadsOnly, ShortNoOutput, FoundNoOutput, ClearsSmall, EntersFirst, IsOfWriting}
+use Rattle.scrip_journal.proofs.Reading.{bytes_told, some_same}
+use Rattle.scrip_journal.specs.Founds.{IsFree, IsNoEmptyJournal, EmptiedImage, FoundsBookBy, ReadsOnly, ShortNoOutput, FoundImage, FoundNoOutput, ClearsSmall, EntersFirst, IsOfWriting}
 
 pub ran_at : {D : Type 0} (view : D → DiskView) (a : DiskView) (d e : D) (P : List ℕ → List ℕ → Type 0) → e ≡ d → Ran a (view d) P → Ran a (view e) P
 ran_at {D = D} view a d e P is ran = subst (λ (x : D). Ran a (view x) P) (sym is) ran
+
+-- by the bytes that the disk tells
+no_empty : (d : DiskView) (x : List ℕ) → d.contents ≡ Some x → (Encodes [] x → ⊥) → IsNoEmptyJournal d
+no_empty d x told other bytes here stands = other (subst (Encodes []) (some_same bytes x (sym here ∙ told)) stands)
+
+-- such an image of a disk whose bytes were the same before
+emptied_before : (a b : DiskView) (c : List ℕ) → b.contents ≡ a.contents → (b.leaves c → a.leaves c) → EmptiedImage b c → EmptiedImage a c
+emptied_before a b c same left image = ⊎_elim (λ short. inl (short.0, λ bytes told. short.1 bytes (same ∙ told))) (λ l. inr (left l)) image
+
+-- and of one at which only links worked since
+pub found_before : (a b : DiskView) (e : Entry) (c : List ℕ) → LinkKeeps a b → FoundImage b e c → FoundImage a e c
+found_before a b e c keeps image = ⊎_elim (λ emptied. inl (emptied_before a b c keeps.contents (keeps.leaves c).0 emptied)) (λ encoded. inr encoded) image
 
 -- what was only read left nothing new
 pub read_short : (a b : DiskView) → OnlyRead a b → Ran a b (ShortNoOutput a)
@@ -21,17 +34,28 @@ read_short a b read = ran_weaker a b _ (ShortNoOutput a) read.ran (λ c s p. (in
 
 -- what was done to a disk that was read before
 pub short_then : (a b d : DiskView) → OnlyRead a b → Ran b d (ShortNoOutput b) → Ran a d (ShortNoOutput a)
-short_then a b d read ran = ran_then a b d (ShortNoOutput a) (read_short a b read) (ran_weaker b d (ShortNoOutput b) (ShortNoOutput a) ran (λ c s p. (⊎_elim (λ short. inl short) (λ l. inr (read.leaves c l)) p.0, p.1 ∙ read.aside)))
+short_then a b d read ran = ran_then a b d (ShortNoOutput a) (read_short a b read) (ran_weaker b d (ShortNoOutput b) (ShortNoOutput a) ran (λ c s p. (emptied_before a b c read.contents (read.leaves c) p.0, p.1 ∙ read.aside)))
 
--- a small disk that was synced, and then founded
-pub founded_short : (a b d : DiskView) (x : List ℕ) → OnlyRead a b → a.contents ≡ Some x → IsSynced a → length x ≤ 9 → Ran b d (NoLonger b) → Ran a d (ShortNoOutput a)
-founded_short a b d x read told synced small ran =
-    short_then a b d read (ran_weaker b d (NoLonger b) (ShortNoOutput b) ran (λ c s p. (inl (short c p.0.0 p.0.1 p.0.2), p.1)))
+-- a small disk that was synced, and then founded; it did not encode the empty history
+pub founded_short : (a b d : DiskView) (x : List ℕ) → OnlyRead a b → a.contents ≡ Some x → IsSynced a → length x ≤ 9 → (Encodes [] x → ⊥) → Ran b d (NoLonger b) → Ran a d (ShortNoOutput a)
+founded_short a b d x read told synced small other ran =
+    short_then a b d read (ran_weaker b d (NoLonger b) (ShortNoOutput b) ran (λ c s p. (inl (short c p.0.0 p.0.1 p.0.2, no_empty b x (read.contents ∙ told) other), p.1)))
   where
     short : (c e : List ℕ) → b.leaves e → length c ≤ max 9 (length e) → length c ≤ 9
     short c e l le =
         let is : length e ≡ length x = ap (λ (z : List ℕ). length z) (synced x told e (read.leaves e l)) in
         omega (arith, le, is, small)
+
+-- a reading was synced, and still is where it was only read since
+reading_synced : {D : Type 0} (view : D → DiskView) (r : Reading D) (h : List Entry) (b : DiskView) → IsReading view r h → OnlyRead (view r.disk) b → IsSynced b
+reading_synced view r h b is read x told c l = is.synced c (read.leaves c l) ∙ some_same is.bytes x (sym is.told ∙ (sym read.contents ∙ told))
+
+-- a journal was opened and read on, and then emptied
+pub read_then_emptied : {D : Type 0} (view : D → DiskView) (a : DiskView) (r : Reading D) (b d : D) (x : List ℕ) → OnlyRead a (view r.disk) → IsReading view r [] → a.contents ≡ Some x → OnlyRead (view r.disk) (view b) → (Encodes [] x → ⊥)
+    → ((z : List ℕ) → (view b).contents ≡ Some z → (Encodes [] z → ⊥) → IsSynced (view b) → Ran (view b) (view d) (ShortNoOutput (view b))) → Ran a (view d) (ShortNoOutput a)
+read_then_emptied view a r b d x opened is told read other emptied =
+    let all = read_then a (view r.disk) (view b) opened read in
+    short_then a (view b) (view d) all (emptied x (all.contents ∙ told) other (reading_synced view r [] (view b) is read))
 
 -- no entry was written
 pub short_found : (a b : DiskView) (e : Entry) → Ran a b (ShortNoOutput a) → Ran a b (FoundNoOutput a e)
@@ -46,6 +70,10 @@ found_quiet a b d e goes first then' =
 
 head_same : {A : Type 0} (x y : A) (xs ys : List A) → x ∷ xs ≡ y ∷ ys → x ≡ y
 head_same x y xs ys e = cc
+
+-- those that do begin with the header
+pub empty_begins : (x : List ℕ) → Encodes [] x → BeginsWith header x
+empty_begins x st = (st.gate ∷ st.rest, st.shape ∙ ap (λ (l : List ℕ). l ++ st.gate ∷ st.rest) (append-nil header))
 
 -- those with an entry do not
 pub no_more : {D : Type 0} (view : D → DiskView) (r : Reading D) (e : Entry) (x : List ℕ) → IsReading view r (e ∷ []) → (view r.disk).contents ≡ Some x → Encodes [] x → ⊥

@@ -24,7 +24,7 @@ unfolding framed
 frame_is before e m end is end_is =
     ap (λ (k : ℕ). 1 ∷ (to_be_bytes w32 k ++ (payload e ++ end))) (sym is) ∙ ap (λ (l : List ℕ). 1 ∷ (to_be_bytes w32 (length (payload e)) ++ (payload e ++ l))) end_is
 
-some_same : (x y : List ℕ) → Some x ≡ Some y → x ≡ y
+pub some_same : (x y : List ℕ) → Some x ≡ Some y → x ≡ y
 some_same x y e = cc
 
 -- the bytes of a reading are those of its disk

@@ -1,5 +1,5 @@
 -- What calls hand back, and what a crash in them leaves.
-use Rattle.std.specs.Prelude.{◌≡◌, ◌⊎◌, ℕ, List, [], ◌∷◌, ◌++◌, Result, Ok, Err}
+use Rattle.std.specs.Prelude.{◌≡◌, ◌⊎◌, ℕ, ◌<◌, ◌≤◌, List, [], ◌∷◌, ◌++◌, Result, Ok, Err}
 use Rattle.mc_records.specs.Entry.{Entry}
 use Rattle.scrip_journal.specs.Layout.{Encodes}
 use Rattle.scrip_journal.specs.States.{AtRest, WithNext}
@@ -28,10 +28,11 @@ abbrev pub MatchStageFault : {D : Type 0} → StageFault D → (AtRest D → Typ
 MatchStageFault (Full j) P Q = P j
 MatchStageFault (Disk d) P Q = Q d
 
--- the answer is that the entry would pass the limit
-abbrev pub IsFull : {D : Type 0} → Result (WithNext D) (StageFault D) → Type 0
-IsFull (Err (Full j)) = Unit {0}
-IsFull _ = ⊥
+-- An entry is refused room where the journal needs more bytes for it than the limit; any other answer comes where
+-- it does not.
+abbrev pub RoomBy : {D A : Type 0} → Result A (StageFault D) → ℕ → ℕ → Type 0
+RoomBy (Err (Full j)) limit needed = limit < needed
+RoomBy _ limit needed = needed ≤ limit
 
 -- a crash pair that encodes these entries, with nothing sent
 abbrev pub EncodesNoOutput : List Entry → List ℕ → List ℕ → List ℕ → Type 0

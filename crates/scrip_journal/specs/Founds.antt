@@ -1,5 +1,5 @@
 -- On which disks a book is founded, what founding it answers, and what a crash in it leaves.
-use Rattle.std.specs.Prelude.{◌≡◌, ◌⊎◌, ℕ, ◌<◌, ◌≤◌, List, [], ◌∷◌, length, Result, Ok, Err}
+use Rattle.std.specs.Prelude.{◌≡◌, ◌⊎◌, ℕ, ◌<◌, ◌≤◌, List, [], ◌∷◌, length, Some, Result, Ok, Err}
 use Rattle.mc_outside.specs.Bytes.{Rose}
 use Rattle.mc_outside.specs.DiskView.{DiskView, OnlyRead}
 use Rattle.mc_records.specs.Entry.{Entry}
@@ -19,15 +19,22 @@ pub record IsTaken (bytes : List ℕ) (count : ℕ) : Type 0 where
   pub many : EMPTY_JOURNAL < count
   pub other : Encodes [] bytes → ⊥
 
--- A crash pair whose image has at most nine bytes, or is one that a crash before could have left, with
--- nothing sent.
-abbrev pub ShortNoOutput : DiskView → List ℕ → List ℕ → Type 0
-ShortNoOutput before c s = ((length c ≤ EMPTY_JOURNAL) ⊎ before.leaves c) × (s ≡ before.aside)
+-- the bytes of the disk, where it tells them, don't encode the empty history
+abbrev pub IsNoEmptyJournal : DiskView → Type 0
+IsNoEmptyJournal d = (bytes : List ℕ) → d.contents ≡ Some bytes → Encodes [] bytes → ⊥
 
--- an image of at most nine bytes, or one that a crash before could have left, or one that encodes no
--- entries or this one alone
+-- An image that a crash before could have left; or one of at most nine bytes, where the disk has to be written anew.
+-- A disk that encodes the empty history is used as it is.
+abbrev pub EmptiedImage : DiskView → List ℕ → Type 0
+EmptiedImage before c = ((length c ≤ EMPTY_JOURNAL) × IsNoEmptyJournal before) ⊎ before.leaves c
+
+-- a crash pair of such an image, with nothing sent
+abbrev pub ShortNoOutput : DiskView → List ℕ → List ℕ → Type 0
+ShortNoOutput before c s = EmptiedImage before c × (s ≡ before.aside)
+
+-- such an image, or one that encodes no entries or this one alone
 abbrev pub FoundImage : DiskView → Entry → List ℕ → Type 0
-FoundImage before e c = ((length c ≤ EMPTY_JOURNAL) ⊎ before.leaves c) ⊎ (Encodes [] c ⊎ Encodes (e ∷ []) c)
+FoundImage before e c = EmptiedImage before c ⊎ (Encodes [] c ⊎ Encodes (e ∷ []) c)
 
 -- a crash pair of such an image, with nothing sent
 abbrev pub FoundNoOutput : DiskView → Entry → List ℕ → List ℕ → Type 0

@@ -6,6 +6,7 @@ ghost use Rattle.mc_records.specs.Entry.{Fits};
 ghost use Rattle.mc_records.specs.Limits.{AreInRange};
 ghost use Rattle.mc_records.specs.Sizes.{entry_size};
 ghost use Rattle.mc_records.specs.Views.{entry};
+ghost use Rattle.scrip_journal.specs.Layout.{Encodes};
 ghost use Rattle.scrip_journal.specs.States.{IsJournal};
 ghost use Rattle.scrip_journal.specs.Exits.{EitherNoOutput};
 ghost use Rattle.scrip_journal.specs.Founds.{FoundsBookBy, CountsBy, ReadsOnly, ShortNoOutput, FoundNoOutput, book_disk, ClearsSmall, EntersFirst, IsOfWriting};
@@ -21,10 +22,11 @@ use std::alloc::Global;
 
 /// Founds a book by its first entry; it may grow to `limits.journal` bytes, for which the entry has room.
 ///
-/// A disk that encodes no entries is used as it is, and one of at most nine bytes is written anew. Any
-/// other is left as it is: `NotEmpty` tells its size. `Disk` comes only where the disk failed, `NoMemory`
-/// with nothing written, and no other fault does. A crash in this call leaves what encodes no entries
-/// or this one, at most nine bytes, or what a crash before could have left.
+/// A disk that encodes the empty history is used as it is, and any other of at most nine bytes is written
+/// anew. Any other is left as it is: `NotEmpty` tells its size. `Disk` comes only where the disk failed,
+/// `NoMemory` with nothing written, and no other fault does. A crash in this call leaves what encodes no
+/// entries or this one, or what a crash before could have left, and at most nine bytes where the disk is
+/// written anew.
 pub fn found_book<D: Disk>(
     alloc: Global,
     disk: D,
@@ -78,7 +80,7 @@ fn empty_book<D: Disk>(alloc: Global, disk: D, limits: Limits) -> Result<Journal
 }
 
 /// A journal without entries in place of what the disk has, where that is nine bytes at most. The disk was
-/// synced.
+/// synced, and does not encode the empty history.
 fn empty_small<D: Disk>(
     alloc: Global,
     mut disk: D,
@@ -89,8 +91,8 @@ fn empty_small<D: Disk>(
     ensures exact { (x : List ℕ) → (D.disk disk).contents ≡ Some x → ClearsSmall D.disk x result }
     ensures fresh { IfOk result (λ j. (j.size ≡ EMPTY_JOURNAL) × (j.limit ≡ limits.journal)
         × (j.switched ≡ false)) }
-    ensures ran { (x : List ℕ) → (D.disk disk).contents ≡ Some x → IsSynced (D.disk disk)
-        → Ran (D.disk disk) (D.disk (book_disk result)) (ShortNoOutput (D.disk disk)) }
+    ensures ran { (x : List ℕ) → (D.disk disk).contents ≡ Some x → (Encodes [] x → ⊥)
+        → IsSynced (D.disk disk) → Ran (D.disk disk) (D.disk (book_disk result)) (ShortNoOutput (D.disk disk)) }
     ensures read { ReadsOnly D.disk disk result }
     ensures fault { CountsBy result (D.disk disk).faults (D.disk (book_disk result)).faults }
 {

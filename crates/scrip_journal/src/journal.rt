@@ -1,6 +1,6 @@
 //! A journal at rest, and what its calls end as.
 
-ghost use Rattle.std.specs.Prelude.{◌≡◌, ◌↔◌, ◌+◌, ◌<◌, ◌∷◌, ◌++◌, [], List, length, IfOk, IfErr, OnOk};
+ghost use Rattle.std.specs.Prelude.{◌≡◌, ◌+◌, ◌∷◌, ◌++◌, [], List, length, IfOk, IfErr, OnOk};
 ghost use Rattle.mc_outside.specs.Bytes.{Rose};
 ghost use Rattle.mc_outside.specs.DiskView.{Ran};
 ghost use Rattle.mc_records.specs.Entry.{Entry, Fits};
@@ -8,7 +8,7 @@ ghost use Rattle.mc_records.specs.Chains.{has_switch};
 ghost use Rattle.mc_records.specs.Sizes.{size, entry_size};
 ghost use Rattle.mc_records.specs.Views.{entry};
 ghost use Rattle.scrip_journal.specs.States.{IsJournal, IsStaged};
-ghost use Rattle.scrip_journal.specs.Exits.{staged_disk, written_disk, IsFull, MatchStageFault, EncodesNoOutput, EitherNoOutput};
+ghost use Rattle.scrip_journal.specs.Exits.{staged_disk, written_disk, RoomBy, MatchStageFault, EncodesNoOutput, EitherNoOutput};
 
 use crate::cursor::{Cursor, put_block, stands_with};
 use crate::staged::{Next, Staged};
@@ -89,7 +89,7 @@ impl<D: Disk> Journal<D> {
         ensures ran { (h : List Entry) → IsJournal D.disk self h
             → Ran (D.disk self.disk) (D.disk (staged_disk result)) (EncodesNoOutput h (D.disk self.disk).aside) }
         ensures full { (h : List Entry) → self.size ≡ size h → self.switched ≡ has_switch h
-            → IsFull result ↔ (self.limit < size h + entry_size h (entry r.now)) }
+            → RoomBy result self.limit (size h + entry_size h (entry r.now)) }
         ensures fault { IfErr result (λ f. MatchStageFault f
             (λ j. j ≡ self)
             (λ d. Rose (D.disk self.disk).faults (D.disk d).faults)) }
@@ -118,7 +118,7 @@ impl<D: Disk> Journal<D> {
 
     /// Writes an entry behind the closed gate, and opens the gate: it lasts then. It takes no memory.
     ///
-    /// A crash in this call leaves the entries with the new one or without it. `Full` comes only where
+    /// A crash in this call leaves the entries with the new one or without it. `Full` comes exactly where
     /// the journal would pass its limit, and hands it back unchanged; `Disk` only where the disk failed.
     pub fn append(self, r: &Record<'_>) -> Result<(Journal<D>, Receipt), StageFault<D>>
         requires { Fits (entry r.now) }
@@ -131,8 +131,7 @@ impl<D: Disk> Journal<D> {
         ensures ran { (h : List Entry) → IsJournal D.disk self h
             → Ran (D.disk self.disk) (D.disk (written_disk result)) (EitherNoOutput h (entry r.now) (D.disk self.disk).aside) }
         ensures full { (h : List Entry) → self.size ≡ size h → self.switched ≡ has_switch h
-            → IfErr result (λ f. MatchStageFault f
-            (λ j. self.limit < size h + entry_size h (entry r.now)) (λ d. Unit {0})) }
+            → RoomBy result self.limit (size h + entry_size h (entry r.now)) }
         ensures fault { IfErr result (λ f. MatchStageFault f
             (λ j. j ≡ self)
             (λ d. Rose (D.disk self.disk).faults (D.disk d).faults)) }

@@ -1,5 +1,6 @@
 use Rattle.std.proofs.Common.{◌∙◌, ap, sym}
 use Rattle.mc_records.specs.declared.limits.Limits.{Limits}
+use Rattle.house_opening.proofs.Beginnings.{of_kind}
 use Rattle.house_opening.proofs.opening.open_house.Goals as goal
 
 pub returns-in-Ok-clause-exact : goal.returns-in-Ok-clause-exact
@@ -10,6 +11,8 @@ returns-in-Ok-clause-exact g c x told =
     record {
       history = opened.history;
       of_bytes = opened.of_bytes;
+      of_kind = of_kind (g.T.Trade.trade c.args.trade).site opened.history opened.learned.of_site;
+      follow = opened.learned.follow;
       house = c.new.ensures.stands opened.history opened.journal stands.house limit;
       time' = c.new.ensures.time ∙ stands.time';
       limits' = c.new.ensures.limits ∙ c.in-Ok.ensures.belongs;

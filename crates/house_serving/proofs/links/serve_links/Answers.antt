@@ -1,4 +1,5 @@
-use Rattle.std.proofs.Common.{◌≡◌, ◌+◌, refl, arith, ap, ◌∙◌}
+use Rattle.std.proofs.Common.{◌≡◌, ◌+◌, refl, arith, ap, ◌∙◌, inl, inr}
+use Rattle.mc_outside.specs.LinkView.{LinkView}
 use Rattle.house_core.specs.declared.bench.Bench.{Bench}
 use Rattle.house_core.specs.Bench.{limits_of, state_of}
 use Rattle.house_serving.proofs.CauseLemmas.{counts_none, counts_link, counts_then, rose_then}
@@ -80,6 +81,11 @@ returns-in-Ok-false-clause-served g c h st =
     linked_house_over g.O.Link.link g.O.Disk.disk g.T.Trade.trade (limits_of c.args.house.bench) c.args.links c.links.served c.args.house.journal.disk (state_of h c.args.house.bench) x y
     c.links-test.true on over (c.links.invariant.linked h st)
 
+pub returns-in-Ok-false-clause-enough : goal.returns-in-Ok-false-clause-enough
+returns-in-Ok-false-clause-enough g c =
+    let over = rw c.in-Ok-false.field-0-test at c.in-Ok-false.ensures.taken in
+    inr (c.links-test.true, ap (λ (v : LinkView). v.over) over)
+
 pub returns-in-Err-clause-causes : goal.returns-in-Err-clause-causes
 returns-in-Err-clause-causes g c = record {
   before = c.links.house.journal.disk;
@@ -105,3 +111,6 @@ pub returns-clause-served : goal.returns-clause-served
 returns-clause-served g c h st =
     linked_house_all g.O.Link.link g.O.Disk.disk g.T.Trade.trade (limits_of c.args.house.bench) c.args.links c.links.served c.args.house.journal.disk (state_of h c.args.house.bench) c.links.house
     (omega (arith, c.links-test.false, c.links.invariant.few)) (c.links.invariant.linked h st)
+
+pub returns-clause-enough : goal.returns-clause-enough
+returns-clause-enough g c = inl (omega (arith, c.links-test.false, c.links.invariant.few))

@@ -35,4 +35,4 @@ returns-in-Request-clause-stepped g c =
         e ∙ ap (λ (l : List ℕ). old ++ l) (c.reply.ensures came.history came.house),
       );
     })
-    c.append_to.ensures
+    c.append_to.ensures.ok

@@ -1,9 +1,11 @@
-use Rattle.std.proofs.Common.{[], List, ℕ, Option, Ok, inl, ap, ◌∙◌, subst}
+use Rattle.std.proofs.Common.{[], List, ℕ, Option, Ok, inl, ap, ◌∙◌, sym, subst}
+use Rattle.mc_outside.specs.DiskView.{OnlyRead}
 use Rattle.scrip_journal.specs.Layout.{Encodes, IsSpoiled, IsUnchained}
+use Rattle.scrip_journal.specs.Founds.{book_disk}
 use Rattle.scrip_journal.specs.Replays.{ReadsOn}
 use Rattle.scrip_journal.proofs.Unique.{not_both, chain_or_history}
 use Rattle.scrip_journal.proofs.Reading.{bytes_told}
-use Rattle.scrip_journal.proofs.FoundLemmas.{no_more, cleared}
+use Rattle.scrip_journal.proofs.FoundLemmas.{no_more, cleared, empty_begins, short_then, read_then_emptied}
 use Rattle.scrip_journal.proofs.book.empty_book.Goals as goal
 
 pub returns-in-Ok-None-clause-exact : goal.returns-in-Ok-None-clause-exact
@@ -40,3 +42,38 @@ returns-in-Err-BadChain-clause-exact g c x told =
     let unchained = subst (λ (bytes : List ℕ). IsUnchained [] bytes c.in-Err-BadChain.field-0-0 c.in-Err-BadChain.field-0-1 c.in-Err-BadChain.field-0-2) (bytes_told g.D.Disk.disk c.in-Ok.replay [] x r at) reads.0 in
     cleared g.D.Disk.disk x c.empty_small-in-Err-BadChain.result (chain_or_history [] [] x c.in-Err-BadChain.field-0-0 c.in-Err-BadChain.field-0-1 c.in-Err-BadChain.field-0-2 unchained)
     (c.empty_small-in-Err-BadChain.ensures.exact x (ap (λ (d : g.row.D.Denot). (g.D.Disk.disk d).contents) c.close-in-Err-BadChain.ensures ∙ here))
+
+pub returns-in-Err-NotJournal-clause-ran : goal.returns-in-Err-NotJournal-clause-ran
+returns-in-Err-NotJournal-clause-ran g c x told =
+    let no = c.in-Err-NotJournal in
+    let read = rw no.field-0-is at no.ensures.read in
+    let opens = rw no.field-0-is at no.ensures.exact x told in
+    let synced = rw no.field-0-is at no.ensures.synced in
+    short_then _ _ _ read (c.empty_small.ensures.ran x (read.contents ∙ told) (λ stands. opens (empty_begins x stands)) synced)
+
+pub returns-in-Ok-Some-clause-ran : goal.returns-in-Ok-Some-clause-ran
+returns-in-Ok-Some-clause-ran g c x told =
+    let r = c.in-Ok.ensures.opened x told in
+    let here = c.next_record.ensures.only_read.contents ∙ (c.in-Ok.ensures.read.contents ∙ told) in
+    let reads = subst (λ (o : Option ℕ). ReadsOn g.D.Disk.disk [] r.bytes c.in-Ok.replay.gate (Ok o) c.next_record.new.self) c.in-Ok-Some.field-0-is (c.in-Ok-Some.ensures.reads [] r) in
+    let read = subst (λ (d : g.row.D.Denot). OnlyRead (g.D.Disk.disk c.in-Ok.replay.disk) (g.D.Disk.disk d)) (sym c.close.ensures) c.next_record.ensures.only_read in
+    read_then_emptied g.D.Disk.disk (g.D.Disk.disk c.args.disk) c.in-Ok.replay c.close.result (book_disk c.empty_small-in-Ok-Some.result) x c.in-Ok.ensures.read r told read
+    (no_more g.D.Disk.disk c.next_record.new.self reads.1 x reads.4 here) c.empty_small-in-Ok-Some.ensures.ran
+
+pub returns-in-Err-BadRecord-clause-ran : goal.returns-in-Err-BadRecord-clause-ran
+returns-in-Err-BadRecord-clause-ran g c x told =
+    let r = c.in-Ok.ensures.opened x told in
+    let reads = rw c.in-Err-BadRecord.field-0-is at c.in-Err-BadRecord.ensures.reads [] r in
+    let spoiled = subst (λ (bytes : List ℕ). IsSpoiled [] bytes c.in-Err-BadRecord.field-0-0) (bytes_told g.D.Disk.disk c.in-Ok.replay [] x r (c.in-Ok.ensures.read.contents ∙ told)) reads.0 in
+    let read = subst (λ (d : g.row.D.Denot). OnlyRead (g.D.Disk.disk c.in-Ok.replay.disk) (g.D.Disk.disk d)) (sym c.close-in-Err-BadRecord.ensures) c.next_record.ensures.only_read in
+    read_then_emptied g.D.Disk.disk (g.D.Disk.disk c.args.disk) c.in-Ok.replay c.close-in-Err-BadRecord.result (book_disk c.empty_small-in-Err-BadRecord.result) x c.in-Ok.ensures.read r told read
+    (not_both [] [] x c.in-Err-BadRecord.field-0-0 spoiled) c.empty_small-in-Err-BadRecord.ensures.ran
+
+pub returns-in-Err-BadChain-clause-ran : goal.returns-in-Err-BadChain-clause-ran
+returns-in-Err-BadChain-clause-ran g c x told =
+    let r = c.in-Ok.ensures.opened x told in
+    let reads = rw c.in-Err-BadChain.field-0-is at c.in-Err-BadChain.ensures.reads [] r in
+    let unchained = subst (λ (bytes : List ℕ). IsUnchained [] bytes c.in-Err-BadChain.field-0-0 c.in-Err-BadChain.field-0-1 c.in-Err-BadChain.field-0-2) (bytes_told g.D.Disk.disk c.in-Ok.replay [] x r (c.in-Ok.ensures.read.contents ∙ told)) reads.0 in
+    let read = subst (λ (d : g.row.D.Denot). OnlyRead (g.D.Disk.disk c.in-Ok.replay.disk) (g.D.Disk.disk d)) (sym c.close-in-Err-BadChain.ensures) c.next_record.ensures.only_read in
+    read_then_emptied g.D.Disk.disk (g.D.Disk.disk c.args.disk) c.in-Ok.replay c.close-in-Err-BadChain.result (book_disk c.empty_small-in-Err-BadChain.result) x c.in-Ok.ensures.read r told read
+    (chain_or_history [] [] x c.in-Err-BadChain.field-0-0 c.in-Err-BadChain.field-0-1 c.in-Err-BadChain.field-0-2 unchained) c.empty_small-in-Err-BadChain.ensures.ran

@@ -21,6 +21,9 @@ returns-in-Err-apply_entry-clause-exact g c h st tells =
     let order : time h ≤ moment_of (entry c.args.r.now) = omega (arith, st.state.in_time, c.requires.time) in
     rw limits at (c.in-Err-apply_entry.ensures.exact h (holds_roomed g.T.Trade.trade _ _ h same st) order tells)
 
+pub returns-in-Ok-apply_entry-clause-time : goal.returns-in-Ok-apply_entry-clause-time
+returns-in-Ok-apply_entry-clause-time g c = omega (arith, c.in-Ok-apply_entry.ensures.time, c.in-Ok.ensures.same.state.time, c.requires.time)
+
 pub returns-in-Ok-apply_entry-clause-contents : goal.returns-in-Ok-apply_entry-clause-contents
 returns-in-Ok-apply_entry-clause-contents g c h st has =
     let same = c.in-Ok.ensures.same in

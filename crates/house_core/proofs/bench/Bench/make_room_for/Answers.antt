@@ -13,3 +13,10 @@ returns-in-Err-clause-fault g c h st tells =
     let e = entry c.args.r.now in
     let refused = c.in-Err.ensures.lines e c.payload_len-bytes.ensures ∙ ap (λ (l : Limits). fitted_by l.journal b.size (tail_of b) e) c.limits.ensures.limits in
     (fitted_stands st.state (limits_of c.args.self.now) e ∙ sym refused, st)
+
+pub returns-in-Ok-room_for-clause-fitted : goal.returns-in-Ok-room_for-clause-fitted
+returns-in-Ok-room_for-clause-fitted g c h st =
+    let b = c.args.self.now.state in
+    let e = entry c.args.r.now in
+    let fits = c.in-Ok.ensures.lines e c.payload_len-bytes.ensures ∙ ap (λ (l : Limits). fitted_by l.journal b.size (tail_of b) e) c.limits.ensures.limits in
+    fitted_stands st.state (limits_of c.args.self.now) e ∙ sym fits

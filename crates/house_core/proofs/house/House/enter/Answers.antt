@@ -1,17 +1,19 @@
-use Rattle.std.proofs.Common.{◌≡◌, ◌∙◌, ◌<◌, ◌+◌, refl, sym, ap}
+use Rattle.std.proofs.Common.{◌≡◌, ◌∙◌, ◌<◌, ◌≤◌, ◌+◌, refl, sym, ap, arith}
+use Rattle.std.specs.Prelude.{max}
 use Rattle.mc_outside.specs.Bytes.{Rose}
 use Rattle.mc_outside.specs.DiskView.{Ran}
 use Rattle.mc_records.specs.Sizes.{size, entry_size}
 use Rattle.mc_records.specs.declared.limits.Limits.{Limits}
+use Rattle.mc_records.specs.Entry.{moment_of}
 use Rattle.mc_records.specs.Views.{entry}
 use Rattle.scrip_journal.specs.States.{AtRest}
 use Rattle.house_state.specs.Learning.{MayEnter}
 use Rattle.scrip_journal.specs.Exits.{EitherNoOutput}
 use Rattle.house_core.specs.declared.house.House.{House}
-use Rattle.house_core.specs.Bench.{limits_of}
+use Rattle.house_core.specs.Bench.{house_time, limits_of}
 use Rattle.house_core.proofs.Accepting.{holds_roomed}
 use Rattle.house_core.proofs.Contents.{contents_roomed}
-use Rattle.house_core.proofs.HouseDisk.{ran_nothing, stands_with, as_roomed, has_entered, not_full_of, may_tell, applied}
+use Rattle.house_core.proofs.HouseDisk.{ran_nothing, stands_with, as_roomed, has_entered, not_full_of, may_tell, applied, time_stays}
 use Rattle.house_core.proofs.house.House.enter.Goals as goal
 
 pub returns-in-Err-clause-exact : goal.returns-in-Err-clause-exact
@@ -33,9 +35,26 @@ returns-in-Ok-append-clause-exact g c h st =
     let wrote = c.in-Ok-append.ensures in
     let may = c.requires.may h st in
     let enters : MayEnter g.T.Trade.passes (limits_of c.args.self.bench) h (entry c.args.r.now) = record { follows = may; passed = c.requires.passed h st } in
-    let both = applied c.apply_entry-applied.result _ _ _ _ _ _ enters (rw limits at (c.apply_entry-applied.ensures.exact h st' may.in_order (may_tell _ h _ may))) (c.apply_entry-applied.ensures.contents h st' has) in
-    has_entered g.D.Disk.disk g.T.Trade.trade c.args.self after h (entry c.args.r.now) (entry c.args.r.now)
-    c.in-Ok-append.receipt refl st (wrote.written h st.journal).0 wrote.limit (c.apply_entry-applied.ensures.limits ∙ limits) (wrote.written h st.journal).1 both.0 both.1
+    let both = applied c.apply_entry-applied.result _ _ _ _ _ _ enters (rw limits at (c.apply_entry-applied.ensures.exact h st' may.in_order (may_tell _ h _ may))) (c.apply_entry-applied.ensures.contents h st' has) in (
+      has_entered g.D.Disk.disk g.T.Trade.trade c.args.self after h (entry c.args.r.now) (entry c.args.r.now)
+          c.in-Ok-append.receipt refl st (wrote.written h st.journal).0 wrote.limit (c.apply_entry-applied.ensures.limits ∙ limits) (wrote.written h st.journal).1 both.0 both.1,
+      rw c.raise.ensures.limits at (c.in-Ok.ensures.fitted h (c.raise.ensures.same h st.house.represents)),
+    )
+
+pub returns-in-Ok-append-clause-back : goal.returns-in-Ok-append-clause-back
+returns-in-Ok-append-clause-back g c =
+    let same = c.make_room_for.ensures.same in
+    let t = max (house_time c.args.self.bench) (moment_of (entry c.args.r.now)) in
+    let at : house_time c.make_room_for.new.self ≡ t = same.state.time ∙ c.raise.ensures.raised ∙ ap (max (house_time c.args.self.bench)) c.moment.ensures in
+    let come : moment_of (entry c.args.r.now) ≤ house_time c.make_room_for.new.self = omega (arith, at) in
+    record {
+      moved' = c.in-Ok-append.ensures.moved;
+      keeps = record {
+        time = time_stays c.apply_entry-applied.result _ _ _ come c.apply_entry-applied.ensures.time ∙ at;
+        limits = c.apply_entry-applied.ensures.limits ∙ same.state.limits ∙ c.raise.ensures.limits;
+      };
+      counts = c.in-Ok-append.ensures.same_count;
+    }
 
 pub returns-in-Err-Full-clause-exact : goal.returns-in-Err-Full-clause-exact
 returns-in-Err-Full-clause-exact g c h st =
@@ -53,7 +72,7 @@ returns-in-Err-Full-clause-ran g c h st =
 pub returns-in-Err-Disk-clause-exact : goal.returns-in-Err-Disk-clause-exact
 returns-in-Err-Disk-clause-exact g c h st =
     let rose : Rose (g.D.Disk.disk c.args.self.journal.disk).faults (g.D.Disk.disk c.in-Err-Disk.halted).faults = rw c.in-Err-Disk.field-0-is at c.in-Err-Disk.ensures.fault in
-    (c.requires.may h st, rose)
+    (c.requires.may h st, rose, rw c.raise.ensures.limits at (c.in-Ok.ensures.fitted h (c.raise.ensures.same h st.house.represents)))
 
 pub returns-in-Err-Disk-clause-ran : goal.returns-in-Err-Disk-clause-ran
 returns-in-Err-Disk-clause-ran g c h st =

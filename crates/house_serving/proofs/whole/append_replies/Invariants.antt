@@ -1,7 +1,7 @@
 use Rattle.std.proofs.Common.{◌≡◌}
 use Rattle.house_core.specs.Bench.{limits_of}
 use Rattle.house_serving.proofs.ReplyingLemmas.{Replying}
-use Rattle.house_serving.proofs.whole.reply_to_link.Given as goal
+use Rattle.house_serving.proofs.whole.append_replies.Given as goal
 
 abbrev pub invariant-loop : goal.invariant-loop
 invariant-loop g l = record {

@@ -2,7 +2,7 @@ use Rattle.std.proofs.Common.{inl, inr, refl, sym, ◌∙◌, arith}
 use Rattle.millicent_http.specs.Takes.{item_of}
 use Rattle.house_core.specs.Bench.{limits_of}
 use Rattle.house_serving.proofs.ReplyingLemmas.{replying_starts, replying_goes_on, replying_closes, replying_ends}
-use Rattle.house_serving.proofs.whole.reply_to_link.Goals as goal
+use Rattle.house_serving.proofs.whole.append_replies.Goals as goal
 
 pub loop-init : goal.loop-init
 loop-init g c = record {
