@@ -23,7 +23,7 @@ use Rattle.broker_commands.specs.Operations.{balance_words, balance_task}
 
 does_told : {D T A : Type 0} (disk : D → DiskView) (trade : T → TradeView) (Told : Task → History → A → Type 0) (L : A → Type 0) (limits : Limits) (d : D) (h : History) (task : Task) (out : Outcome D T A)
     → IfSome (answer_in out) L → Does disk trade Told limits d h task out → Does disk trade (λ t g a. Told t g a × L a) limits d h task out
-does_told disk trade Told L limits d h (Add e) (outcomes.Done x a) is does = (does.0, (does.1, is))
+does_told disk trade Told L limits d h (Add e) (outcomes.Done x a) is does = (does.0, (does.1, is), does.2)
 does_told disk trade Told L limits d h (Add e) (outcomes.Refused x f) is does = does
 does_told disk trade Told L limits d h (Add e) (outcomes.NoMemory x) is does = does
 does_told disk trade Told L limits d h (Add e) (outcomes.Halted y) is does = does

@@ -113,7 +113,7 @@ module _ {D T A B : Type 0} (view : D → DiskView) (trade : T → TradeView) (T
   Says x = (task : Task) (g : History) → HouseRepresents view trade x g → Tells task g b
 
   does_as : (task : Task) (r : Outcome D T A) → IfDone (λ x a. Says x) r → Does view trade Told limits disk h task r → Does view trade Tells limits disk h task (told_as b r)
-  does_as (Add e) (outcomes.Done x a) says d = (d.0, says (Add e) (h ++ e ∷ []) d.0)
+  does_as (Add e) (outcomes.Done x a) says d = (d.0, says (Add e) (h ++ e ∷ []) d.0, d.2)
   does_as (Add e) (outcomes.Refused x f) says d = d
   does_as (Add e) (outcomes.NoMemory x) says d = d
   does_as (Add e) (outcomes.Halted y) says d = d

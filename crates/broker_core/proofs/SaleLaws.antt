@@ -106,12 +106,12 @@ licence_brings h target vendor s value id v terms shows asks stands same =
     held : Held → Option Held
     held x = Some x
 
-pub made_brings : (h : History) (target vendor : List ℕ) (s : StallView) (value series v : ℕ) (terms : Issuing) (r : Result Deed Refusal) → Shows h vendor s → errand_of target ≡ Some (buy vendor value) → Some terms ≡ terms_of s
-    → v ≡ version h vendor series → IfOk r (IsLicensed terms series v vendor value) → IfOk r (BringsFor h target)
-made_brings h target vendor s value series v terms (Err f) shows asks stands same made = made
-made_brings h target vendor s value series v terms (Ok (kept.Sale piece cert secret stock)) shows asks stands same made =
-    subst (BringsFor h target) (sym made.1) (licence_brings h target vendor s value piece.id v terms shows asks stands (same ∙ ap (version h vendor) (sym made.0)))
-made_brings h target vendor s value series v terms (Ok d) shows asks stands same made = absurd made
+pub made_brings : (h : History) (target vendor : List ℕ) (s : StallView) (value : ℕ) (versions : ℕ → ℕ) (terms : Issuing) (r : Result Deed Refusal) → Shows h vendor s → errand_of target ≡ Some (buy vendor value) → Some terms ≡ terms_of s
+    → ((series : ℕ) → versions series ≡ version h vendor series) → IfOk r (IsLicensed terms versions vendor value) → IfOk r (BringsFor h target)
+made_brings h target vendor s value versions terms (Err f) shows asks stands same made = made
+made_brings h target vendor s value versions terms (Ok (kept.Sale piece cert secret stock)) shows asks stands same made =
+    subst (BringsFor h target) (sym made) (licence_brings h target vendor s value piece.id (versions (series_of piece.id)) terms shows asks stands (same (series_of piece.id)))
+made_brings h target vendor s value versions terms (Ok d) shows asks stands same made = absurd made
 
 pub on_ok : (P : Deed → Type 0) (r : Result Deed Refusal) {d : Deed} → r ≡ Ok d → P d → IfOk r P
 on_ok P r is holds = subst (λ (x : Result Deed Refusal). IfOk x P) (sym is) holds

@@ -26,11 +26,11 @@ licensed_deed terms p = kept.Sale p (certificate terms (scrip_body p) p.id) (cus
 abbrev pub stock_deed : List ℕ → ℕ → StockPiece → Deed
 stock_deed vendor value p = kept.Sale (piece_in_stock vendor value p) p.cert p.secret true
 
--- a deed is the sale of some piece of a series, a vendor and a value that is made under a licence in a version
-abbrev pub IsLicensed : Issuing → ℕ → ℕ → List ℕ → ℕ → Deed → Type 0
-IsLicensed terms series version vendor value (kept.Sale piece cert secret stock) =
-    (series_of piece.id ≡ series) × (kept.Sale piece cert secret stock ≡ licensed_deed terms (licensed_piece version terms vendor value piece.id))
-IsLicensed terms series version vendor value _ = ⊥
+-- a deed is the sale of some piece of a vendor and a value that is made under a licence, in the version of its series
+abbrev pub IsLicensed : Issuing → (ℕ → ℕ) → List ℕ → ℕ → Deed → Type 0
+IsLicensed terms version vendor value (kept.Sale piece cert secret stock) =
+    kept.Sale piece cert secret stock ≡ licensed_deed terms (licensed_piece (version (series_of piece.id)) terms vendor value piece.id)
+IsLicensed terms version vendor value _ = ⊥
 
 -- the sale of the next piece of a series in which so many pieces stand
 abbrev pub sale_of_next : ℕ → ℕ → ℕ → Result entries.Deed Stop

@@ -6,11 +6,11 @@ ghost use Rattle.std.specs.Option.{option_copied};
 ghost use Rattle.scrip_form.specs.Scrip.{IsVersion};
 ghost use Rattle.mc_records.specs.Views.{entry};
 ghost use Rattle.ledger_model.specs.Histories.{History};
-ghost use Rattle.ledger_model.specs.Houses as ledger;
 ghost use Rattle.ledger_model.specs.Houses.{version_by, upgrade_by};
 ghost use Rattle.house_state.specs.Learning.{CommandFits};
 ghost use Rattle.broker_core.specs.Moves.{moves_of, is_move_of, raises_of, MovesRepresent, MovesHaveRoom};
 
+use house_state::raises;
 use ledger_model::Upgraded;
 use mc_base::NoMemory;
 use mc_records::Record;
@@ -120,21 +120,14 @@ fn version_in(moved: &[Moved], vendor: &[u8], series: u32) -> u8
 fn is_raised(moved: &[Moved], vendor: &[u8], series: u32) -> bool
     ensures { result ≡ list_any (raises_of vendor.now series) moved.now }
 {
-    moved.iter().any(|m| raises(m, vendor, series))
+    moved.iter().any(|m| raises_of(m, vendor, series))
 }
 
 /// Whether it is of a vendor, and has the second version in a series.
-fn raises(moved: &Moved, vendor: &[u8], series: u32) -> bool
+fn raises_of(moved: &Moved, vendor: &[u8], series: u32) -> bool
     ensures { result ≡ raises_of vendor.now series moved.now }
 {
-    moved.vendor.bytes() == vendor && raises_issuer(&moved.upgraded, series)
-}
-
-/// Whether an issuer that was moved has the second version in a series.
-fn raises_issuer(upgraded: &Upgraded, series: u32) -> bool
-    ensures { result ≡ ledger.raises series upgraded.now }
-{
-    u32::from(upgraded.issuer) == series / (1 << 24) && upgraded.from <= series % (1 << 24)
+    moved.vendor.bytes() == vendor && raises(series, &moved.upgraded)
 }
 
 /// The first that is of an issuer of a vendor.

@@ -1,10 +1,12 @@
 //! What is sold of a vendor, by his stall.
 
-ghost use Rattle.std.specs.Prelude.{◌≡◌, ◌<◌, ℕ, List, Some, Ok, false, IfOk, IfErr};
+ghost use Rattle.std.specs.Prelude.{◌≡◌, ◌<◌, ◌^◌, ℕ, List, Some, Ok, false, IfOk, IfErr};
+ghost use Rattle.scrip_form.specs.Identities.{numbered};
 ghost use Rattle.scrip_form.specs.Issuing.{HasPeriod, series_at};
 ghost use Rattle.scrip_form.specs.Scrip.{IsPiece, IsVersion};
 ghost use Rattle.mc_records.specs.Errands.{buy, errand_of};
 ghost use Rattle.ledger_model.specs.Histories.{History};
+ghost use Rattle.ledger_model.specs.Houses.{version_by};
 ghost use Rattle.ledger_model.specs.Stock.{licence_in, licensed_count, knows_vendor, for_sale, licensed_piece};
 ghost use Rattle.ledger_model.specs.Lines.{as_line};
 ghost use Rattle.ledger_model.specs.Stages.{supplied};
@@ -13,7 +15,7 @@ ghost use Rattle.vendor_stalls.specs.Shown.{Shows};
 ghost use Rattle.house_state.specs.Replying.{IsOfSite};
 ghost use Rattle.house_state.specs.Trade.{BringsFor};
 ghost use Rattle.house_state.specs.Views.{entry_deed};
-ghost use Rattle.broker_core.specs.Moves.{MovesRepresent};
+ghost use Rattle.broker_core.specs.Moves.{moves_of, MovesRepresent};
 ghost use Rattle.broker_core.specs.Sales.{IsSale, IsLicensed, sale_of_next, licensed_deed, stock_deed};
 
 use crate::moves::Moves;
@@ -46,10 +48,8 @@ pub(crate) fn sold_from(
 {
     match stall.licence() {
         Some(terms) => {
-            let series = terms.series_at(time);
-            let count = stall.count(series);
-            let version = moves.version(asked.vendor.bytes(), series);
-            return sold_under(terms, version, count, time, limits, asked);
+            let count = stall.count(terms.series_at(time));
+            return sold_under(terms, moves, count, time, limits, asked);
         }
         None => (),
     }
@@ -62,29 +62,31 @@ pub(crate) fn sold_from(
     }
 }
 
-/// The next piece under a licence, of which this many were sold in the series of the moment, whose version this is.
+/// The next piece under a licence, of which this many were sold in the series of the moment, in the version of its
+/// series.
 fn sold_under(
     terms: &Terms,
-    version: u8,
-    count: u32,
+    moves: &Moves,
+    count: u64,
     time: Moment,
     limits: Limits,
     asked: &Purchase,
 ) -> Result<Deed, Refusal>
     requires period { HasPeriod terms.now.period terms.now.life }
-    requires version { IsVersion version }
+    requires number { numbered (series_at terms.now time) count < 2 ^ 64 }
     requires some { 0 < asked.now.value }
     ensures deed { as_line entry_deed result
         ≡ sale_of_next limits.series (series_at terms.now time) count }
-    ensures made { IfOk result
-        (IsLicensed terms.now (series_at terms.now time) version asked.now.vendor asked.now.value) }
+    ensures made { IfOk result (IsLicensed terms.now
+        (version_by (moves_of moves.now.moved asked.now.vendor)) asked.now.vendor asked.now.value) }
     ensures site { IfErr result IsOfSite }
 {
     let series = terms.series_at(time);
-    if limits.series <= u64::from(count) {
+    if limits.series <= count {
         return Err(Refusal::SeriesFull(u64::from(series)));
     }
-    let id = Id::of_number(u64::from(series) * (1 << 32) + u64::from(count));
+    let id = Id::of_number(u64::from(series) * (1 << 32) + count);
+    let version = moves.version(asked.vendor.bytes(), id.series());
     Ok(licensed_sale(terms, licensed_piece(terms, version, asked, id)))
 }
 

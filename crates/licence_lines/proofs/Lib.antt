@@ -1,3 +1,4 @@
 mod CutLaws
 mod FieldLaws
+mod LengthLaws
 mod OneLicence

@@ -9,5 +9,5 @@ mod fields;
 mod law;
 mod licence;
 
-pub use law::inputs_are_of_one_licence;
+pub use law::{inputs_are_of_one_licence, long_inputs_break};
 pub use licence::read_licence_line;

@@ -1,4 +1,4 @@
-//! The pieces of one value that a broker has in stock, sold in the order in which they came.
+//! The pieces of one vendor that a broker has in stock and did not sell, by their value, in the order in which they came.
 #![tactic(auto)]
 
 mod piece;

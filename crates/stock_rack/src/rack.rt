@@ -1,32 +1,34 @@
-ghost use Rattle.std.specs.Prelude.{◌≡◌, ◌<◌, ◌≤◌, ◌+◌, ◌++◌, ◌∷◌, [], find, position, drop, length, option_copied, is_some, OnOk};
-ghost use Rattle.stock_rack.specs.Racks.{is_open, sold_first, IsPassed};
+ghost use Rattle.std.specs.Prelude.{◌≡◌, ◌<◌, ◌≤◌, ◌+◌, ◌++◌, ◌∷◌, [], find, length, is_some, OnOk, MatchOption};
+ghost use Rattle.stock_rack.specs.Racks.{is_open, sold_first, AreClosed, IsPassed, IsFirstOpen};
 
 use crate::piece::StockPiece;
 use mc_base::{Moment, NoMemory};
 use std::alloc::Global;
+use std::collections::VecDeque;
 use std::marker::Model;
 
-/// Pieces of one value, in the order in which they came. The first ones that were sold or have ended are
+/// Pieces of one value that were not sold, in the order in which they came. The first ones that have ended are
 /// passed over once, as long as the moments that are asked for rise. Contracts see it as the record
 /// `RackView`: the pieces, and how many more there is room for.
 #[derive(Drop)]
 pub(crate) struct Rack {
-    pieces: Vec<StockPiece>,
-    /// How many of the first pieces are not for sale any more.
-    head: usize,
+    pieces: VecDeque<StockPiece>,
+    /// How many of the first pieces have ended.
+    ended: usize,
     /// The moment at which that was seen: that of the last sale.
     noted: Moment,
 }
 
 impl Model for Rack {
-    ghost use Rattle.std.specs.Prelude.{◌-◌, vec_len, vec_capacity};
+    ghost use Rattle.std.specs.Prelude.{◌-◌};
+    ghost use Rattle.std.specs.VecDeque.{deque_len, deque_capacity};
     ghost use Rattle.stock_rack.specs.Racks.{RackView, IsPassed};
 
     ghost Value = { RackView };
 
-    ghost view = { λ r. record { pieces = r.pieces.items; room = vec_capacity r.pieces - vec_len r.pieces } };
+    ghost view = { λ r. record { pieces = r.pieces.items; room = deque_capacity r.pieces - deque_len r.pieces } };
 
-    ghost invariant = { λ r. IsPassed r.noted r.head r.pieces.items };
+    ghost invariant = { λ r. IsPassed r.noted r.ended r.pieces.items };
 }
 
 impl Rack {
@@ -36,8 +38,8 @@ impl Rack {
         ensures room { result.room ≡ 0 }
     {
         Rack {
-            pieces: Vec::new(alloc),
-            head: 0,
+            pieces: VecDeque::from_vec(Vec::new(alloc)),
+            ended: 0,
             noted: Moment::clamped(0),
         }
     }
@@ -58,31 +60,32 @@ impl Rack {
         ensures pieces { self.new.pieces ≡ self.old.pieces ++ piece ∷ [] }
         ensures room { self.old.room ≡ self.new.room + 1 }
     {
-        self.pieces.push_reserved(piece);
+        self.pieces.push_back_reserved(piece);
     }
 
     /// The first piece that is for sale at a moment.
     pub(crate) fn first(&self, now: Moment) -> Option<StockPiece>
         ensures { result ≡ find (is_open now) self.now.pieces }
     {
-        first_open(rest_of(&self.pieces, self.start(now)), now).copied()
+        match place_of_open(&self.pieces, self.start(now), now) {
+            Some(place) => Some(self.pieces[place]),
+            None => None,
+        }
     }
 
-    /// Sells the first piece that is for sale at a moment; false where there is none, and all is then as
-    /// it was.
+    /// Sells the first piece that is for sale at a moment, and lets go of it; false where there is none, and all
+    /// is then as it was. Those before it move by a place. It takes no memory.
     pub(crate) fn sell_first(&mut self, now: Moment) -> bool
         ensures sold { self.new.pieces ≡ sold_first now self.old.pieces }
         ensures some { result ≡ is_some (find (is_open now) self.old.pieces) }
-        ensures room { self.new.room ≡ self.old.room }
+        ensures more { self.old.room ≤ self.new.room }
     {
-        let start = self.start(now);
-        let at = match place_of_open(rest_of(&self.pieces, start), now) {
-            Some(at) => at,
+        let place = match place_of_open(&self.pieces, self.start(now), now) {
+            Some(place) => place,
             None => return false,
         };
-        let place = start + at;
-        self.pieces[place].sold = true;
-        self.head = place + 1;
+        self.pieces.remove(place);
+        self.ended = place;
         self.noted = now;
         true
     }
@@ -95,36 +98,28 @@ impl Rack {
         if now.seconds() < self.noted.seconds() {
             0
         } else {
-            self.head
+            self.ended
         }
     }
 }
 
-/// The first piece that is for sale at a moment.
-fn first_open(pieces: &[StockPiece], now: Moment) -> Option<&StockPiece>
-    ensures { option_copied result ≡ find (is_open now) pieces.now }
+/// The place of the first piece that is for sale at a moment, where those before a start are not.
+fn place_of_open(pieces: &VecDeque<StockPiece>, start: usize, now: Moment) -> Option<usize>
+    requires { IsPassed now start pieces.now.items }
+    ensures { MatchOption result (AreClosed now (length pieces.now.items) pieces.now.items)
+        (IsFirstOpen now pieces.now.items) }
 {
-    pieces.iter().find(|p| is_open(p, now))
-}
-
-/// The pieces from a place on.
-fn rest_of(pieces: &[StockPiece], head: usize) -> &[StockPiece]
-    requires { head ≤ length pieces.now }
-    ensures { result.now ≡ drop head pieces.now }
-{
-    &pieces[head..]
-}
-
-/// The place of it.
-fn place_of_open(pieces: &[StockPiece], now: Moment) -> Option<usize>
-    ensures { result ≡ position (is_open now) pieces.now }
-{
-    pieces.iter().position(|p| is_open(p, now))
+    for place in start..pieces.len() {
+        if is_open(&pieces[place], now) {
+            return Some(place);
+        }
+    }
+    None
 }
 
 /// Whether a piece is for sale at a moment.
 fn is_open(p: &StockPiece, now: Moment) -> bool
     ensures { result ≡ is_open now p.now }
 {
-    !p.sold && now.seconds() < p.expires
+    now.seconds() < p.expires
 }

@@ -9,8 +9,8 @@ use std::alloc::Global;
 use std::collections::HashMap;
 use std::marker::Model;
 
-/// Racks, one for each value of pieces, in units. The rack of a value is found in a few looks, however many there
-/// are. A value without a rack has no pieces.
+/// Racks, one for each value of pieces, in units, with the pieces that were not sold. The rack of a value is found in
+/// a few looks, however many there are. A value without a rack has no pieces.
 ///
 /// Contracts see them as the list of values with their racks, and speak of a value by `pieces_at` and `room_at`.
 #[derive(Drop)]
@@ -73,13 +73,13 @@ impl Racks {
         }
     }
 
-    /// Sells the first piece of a value that is for sale at a moment; false where there is none, and all is then as
-    /// it was. It takes no memory.
+    /// Sells the first piece of a value that is for sale at a moment, and lets go of it; false where there is none,
+    /// and all is then as it was. It takes no memory.
     pub fn sell_first(&mut self, value: u64, now: Moment) -> bool
         ensures sold { (v : ℕ) → pieces_at self.new v
             ≡ (if value == v then sold_first now (pieces_at self.old v) else pieces_at self.old v) }
         ensures some { result ≡ is_some (find (is_open now) (pieces_at self.old value)) }
-        ensures room { (v : ℕ) → room_at self.new v ≡ room_at self.old v }
+        ensures more { (v : ℕ) → room_at self.old v ≤ room_at self.new v }
     {
         let rack = match self.racks.get_mut(&value) {
             Some(rack) => rack,

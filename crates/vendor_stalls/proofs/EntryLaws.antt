@@ -4,8 +4,7 @@ use Rattle.std.specs.Prelude.{IsTrue, option_and_then, option_map, unwrap_or, is
 use Rattle.std.specs.Option.{option_or}
 use Rattle.std.specs.List.{list_any, cons_option, AllByRecursion}
 use Rattle.std.proofs.lemmas.Bool.{false≢true, true≢false, and_parts, eqb-true, eq-eqb}
-use Rattle.std.proofs.lemmas.List.Elements.{filter_map-append}
-use Rattle.std.proofs.lemmas.List.{map-append}
+use Rattle.std.proofs.lemmas.List.Elements.{filter-append, filter_map-append}
 use Rattle.std.proofs.lemmas.List.Folds.{list_any-append}
 use Rattle.std.proofs.lemmas.Option.{same_Some}
 use Rattle.std.proofs.lemmas.Slice.Eq.{bytes_eq-Decides}
@@ -26,7 +25,7 @@ use Rattle.vendor_stalls.specs.Stalls.{StockIdsView, has_id, StallView, terms_of
 use Rattle.vendor_stalls.specs.Listed.{stock_piece, listed_at, listed_piece}
 use Rattle.vendor_stalls.proofs.StockedLaws.{fits_more, once_more}
 use Rattle.vendor_stalls.proofs.ListedLaws.{listed_more, ids_more, any_turned, eqb_turned}
-use Rattle.vendor_stalls.specs.Shown.{marked, IsOfOther, Shows}
+use Rattle.vendor_stalls.specs.Shown.{unsold, IsOfOther, Shows}
 
 -- ---- one entry more
 
@@ -86,9 +85,9 @@ count_same h vendor e other series =
     ∙ counts_append (λ s. is_licensed vendor s && eqb (series_of s.id) series) (sales h) (cons_option (sale_of e) []) in
     omega (arith, snoc, not_counted vendor series (sale_of e) other)
 
-marked_alike : (f g : ℕ → Bool) → ((id : ℕ) → f id ≡ g id) → (ps : List StockPiece) → marked f ps ≡ marked g ps
-marked_alike f g alike [] = refl
-marked_alike f g alike (p ∷ ps) = ap₂ (λ (b : Bool) (qs : List StockPiece). record p { sold = b } ∷ qs) (alike p.id) (marked_alike f g alike ps)
+unsold_alike : (f g : ℕ → Bool) → ((id : ℕ) → f id ≡ g id) → (ps : List StockPiece) → unsold f ps ≡ unsold g ps
+unsold_alike f g alike [] = refl
+unsold_alike f g alike (p ∷ ps) = ap₂ (λ (b : Bool) (qs : List StockPiece). cond (not b) (p ∷ qs) qs) (alike p.id) (unsold_alike f g alike ps)
 
 or_true : (a b : Bool) → b ≡ true → (a || b) ≡ true
 or_true true b e = refl
@@ -116,8 +115,8 @@ stall_stays h vendor s e none other shows =
       terms = shows.terms ∙ sym (ap (λ (o : Option Entry). option_and_then licence_terms o) (found_snoc (is_licence_of vendor) h e (not_licence vendor e none)));
       counts = λ series. shows.counts series ∙ sym (count_same h vendor e other series);
       ids = λ id. shows.ids id ∙ ap (λ (known : List ℕ). list_any (λ k. eqb id k) known) (sym ids);
-      pieces = λ value. shows.pieces value ∙ marked_alike (is_sold h vendor) (is_sold (h ++ e ∷ []) vendor) (λ id. sym (sold_same h vendor e other id)) (listed_at value (stock_in h vendor))
-          ∙ ap (λ (helds : List Held). marked (is_sold (h ++ e ∷ []) vendor) (listed_at value helds)) (sym stock);
+      pieces = λ value. shows.pieces value ∙ unsold_alike (is_sold h vendor) (is_sold (h ++ e ∷ []) vendor) (λ id. sym (sold_same h vendor e other id)) (listed_at value (stock_in h vendor))
+          ∙ ap (λ (helds : List Held). unsold (is_sold (h ++ e ∷ []) vendor) (listed_at value helds)) (sym stock);
       known = shows.known ∙ sym (knows_snoc h e vendor ∙ or_false (knows_vendor h vendor) (names_vendor vendor e) none);
       sold = λ id is. ap (λ (known : List ℕ). list_any (λ k. eqb id k) known) ids ∙ shows.sold id (sym (sold_same h vendor e other id) ∙ is);
       fits = fits_same vendor stock shows.fits;
@@ -161,8 +160,8 @@ licence_shown h vendor s s' m terms none taken counts ids racks shows =
       counts = λ series. counts series ∙ shows.counts series ∙ sym (count_same h vendor e tt series);
       ids = λ id. ap (λ (k : StockIdsView). has_id k id) ids ∙ shows.ids id ∙ ap (λ (helds : List Held). list_any (λ k. eqb id k) (ids_of helds)) (sym stock);
       pieces = λ value. ap (λ (r : List (ℕ × RackView)). pieces_at r value) racks ∙ shows.pieces value
-          ∙ marked_alike (is_sold h vendor) (is_sold (h ++ e ∷ []) vendor) (λ id. sym (sold_same h vendor e tt id)) (listed_at value (stock_in h vendor))
-          ∙ ap (λ (helds : List Held). marked (is_sold (h ++ e ∷ []) vendor) (listed_at value helds)) (sym stock);
+          ∙ unsold_alike (is_sold h vendor) (is_sold (h ++ e ∷ []) vendor) (λ id. sym (sold_same h vendor e tt id)) (listed_at value (stock_in h vendor))
+          ∙ ap (λ (helds : List Held). unsold (is_sold (h ++ e ∷ []) vendor) (listed_at value helds)) (sym stock);
       known = known_by_terms s' terms has ∙ sym (knows_snoc h e vendor ∙ or_true (knows_vendor h vendor) (names_vendor vendor e) (same_name vendor));
       sold = λ id is. ap (λ (helds : List Held). list_any (λ k. eqb id k) (ids_of helds)) stock ∙ shows.sold id (sym (sold_same h vendor e tt id) ∙ is);
       fits = fits_same vendor stock shows.fits;
@@ -176,23 +175,23 @@ not_from {b = true} e = absurd (false≢true e)
 not_from {b = false} e = refl
 
 -- pieces that are new are none of those that were sold
-unsold : (sold : ℕ → Bool) (known : List ℕ) (value : ℕ) (helds : List Held) → are_new known (ids_of helds) ≡ true → ((id : ℕ) → sold id ≡ true → list_any (λ k. eqb k id) known ≡ true)
-    → marked sold (listed_at value helds) ≡ listed_at value helds
-unsold sold known value [] new all = refl
-unsold sold known value (held ∷ helds) new all = go (scrip_of held.text) refl (λ k n a. unsold sold k value helds n a)
+none_sold : (sold : ℕ → Bool) (known : List ℕ) (value : ℕ) (helds : List Held) → are_new known (ids_of helds) ≡ true → ((id : ℕ) → sold id ≡ true → list_any (λ k. eqb k id) known ≡ true)
+    → unsold sold (listed_at value helds) ≡ listed_at value helds
+none_sold sold known value [] new all = refl
+none_sold sold known value (held ∷ helds) new all = go (scrip_of held.text) refl (λ k n a. none_sold sold k value helds n a)
   where
     go : (r : Result (Scrip × List ℕ) ℕ) → scrip_of held.text ≡ r
-        → ((known' : List ℕ) → are_new known' (ids_of helds) ≡ true → ((id : ℕ) → sold id ≡ true → list_any (λ k. eqb k id) known' ≡ true) → marked sold (listed_at value helds) ≡ listed_at value helds)
-        → marked sold (listed_at value (held ∷ helds)) ≡ listed_at value (held ∷ helds)
+        → ((known' : List ℕ) → are_new known' (ids_of helds) ≡ true → ((id : ℕ) → sold id ≡ true → list_any (λ k. eqb k id) known' ≡ true) → unsold sold (listed_at value helds) ≡ listed_at value helds)
+        → unsold sold (listed_at value (held ∷ helds)) ≡ listed_at value (held ∷ helds)
     go (Err place) is more =
         let same : listed_at value (held ∷ helds) ≡ listed_at value helds = rw is refl in
         let ids : ids_of (held ∷ helds) ≡ ids_of helds = rw is refl in
-        ap (marked sold) same ∙ more known (sym (ap (are_new known) ids) ∙ new) all ∙ sym same
+        ap (unsold sold) same ∙ more known (sym (ap (are_new known) ids) ∙ new) all ∙ sym same
     go (Ok x) is more =
         let parts = and_parts _ _ (sym (ap (are_new known) (ids_more held helds x is)) ∙ new) in
         let rest = more (x.0.id ∷ known) parts.1 (λ id e. ap (λ b. eqb x.0.id id || b) (all id e) ∙ any_true (eqb x.0.id id)) in
         let free : sold x.0.id ≡ false = not_true (sold x.0.id) (λ e. true≢false (sym (all x.0.id e) ∙ not_from parts.0)) in
-        ap (marked sold) (listed_more held helds x is value) ∙ here (eqb x.0.value value) free rest ∙ sym (listed_more held helds x is value)
+        ap (unsold sold) (listed_more held helds x is value) ∙ here (eqb x.0.value value) free rest ∙ sym (listed_more held helds x is value)
       where
         any_true : (b : Bool) → (b || true) ≡ true
         any_true true = refl
@@ -202,9 +201,9 @@ unsold sold known value (held ∷ helds) new all = go (scrip_of held.text) refl 
         not_true true never = absurd (never refl)
         not_true false never = refl
 
-        here : (b : Bool) → sold x.0.id ≡ false → marked sold (listed_at value helds) ≡ listed_at value helds
-            → marked sold (cond b (stock_piece held.secret x ∷ listed_at value helds) (listed_at value helds)) ≡ cond b (stock_piece held.secret x ∷ listed_at value helds) (listed_at value helds)
-        here true f rest = ap₂ (λ (y : Bool) (ps : List StockPiece). record (stock_piece held.secret x) { sold = y } ∷ ps) f rest
+        here : (b : Bool) → sold x.0.id ≡ false → unsold sold (listed_at value helds) ≡ listed_at value helds
+            → unsold sold (cond b (stock_piece held.secret x ∷ listed_at value helds) (listed_at value helds)) ≡ cond b (stock_piece held.secret x ∷ listed_at value helds) (listed_at value helds)
+        here true f rest = ap₂ (λ (y : Bool) (ps : List StockPiece). cond (not y) (stock_piece held.secret x ∷ ps) ps) f rest
         here false f rest = rest
 
 pub stock_shown : (h : History) (vendor : List ℕ) (s s' : StallView) (m : ℕ) (pieces : List Held) → are_stock vendor (stock_ids h vendor) pieces ≡ true → s'.licence ≡ s.licence
@@ -217,17 +216,17 @@ stock_shown h vendor s s' m pieces may licence ids stocked known shows =
     let any : (id : ℕ) → list_any (λ k. eqb id k) (stock_ids (h ++ e ∷ []) vendor) ≡ (list_any (λ k. eqb id k) (stock_ids h vendor) || list_any (λ k. eqb id k) (ids_of pieces)) =
     λ id. ap (λ (helds : List Held). list_any (λ k. eqb id k) (ids_of helds)) stock ∙ ap (λ (known : List ℕ). list_any (λ k. eqb id k) known) (filter_map-append one_id (stock_in h vendor) pieces)
     ∙ list_any-append (λ k. eqb id k) (stock_ids h vendor) (ids_of pieces) in
-    let free = λ (value : ℕ). unsold f (stock_ids h vendor) value pieces ((and_parts _ _ may).1) (λ id is. any_turned id (stock_ids h vendor) ∙ shows.sold id is) in
+    let free = λ (value : ℕ). none_sold f (stock_ids h vendor) value pieces ((and_parts _ _ may).1) (λ id is. any_turned id (stock_ids h vendor) ∙ shows.sold id is) in
     record {
       terms = ap (λ (o : Option Register). option_map (λ r. r.terms) o) licence ∙ shows.terms ∙ sym (ap (λ (o : Option Entry). option_and_then licence_terms o) (found_snoc (is_licence_of vendor) h e refl));
       counts = λ series. ap (λ (o : Option Register). unwrap_or (option_map (λ r. count_in r series) o) 0) licence ∙ shows.counts series ∙ sym (count_same h vendor e tt series);
       ids = λ id. ids id ∙ ap (λ b. b || list_any (λ k. eqb id k) (ids_of pieces)) (shows.ids id) ∙ sym (any id);
       pieces = λ value. stocked value ∙ ap (λ (ps : List StockPiece). ps ++ listed_at value pieces) (shows.pieces value)
-          ∙ ap (λ (ps : List StockPiece). marked f (listed_at value (stock_in h vendor)) ++ ps) (sym (free value))
-          ∙ sym (map-append (λ (p : StockPiece). record p { sold = f p.id }) (listed_at value (stock_in h vendor)) (listed_at value pieces))
-          ∙ ap (marked f) (sym (filter_map-append (listed_piece value) (stock_in h vendor) pieces))
-          ∙ marked_alike f (is_sold (h ++ e ∷ []) vendor) (λ id. sym (sold_same h vendor e tt id)) (listed_at value (stock_in h vendor ++ pieces))
-          ∙ ap (λ (helds : List Held). marked (is_sold (h ++ e ∷ []) vendor) (listed_at value helds)) (sym stock);
+          ∙ ap (λ (ps : List StockPiece). unsold f (listed_at value (stock_in h vendor)) ++ ps) (sym (free value))
+          ∙ sym (filter-append (λ (p : StockPiece). not (f p.id)) (listed_at value (stock_in h vendor)) (listed_at value pieces))
+          ∙ ap (unsold f) (sym (filter_map-append (listed_piece value) (stock_in h vendor) pieces))
+          ∙ unsold_alike f (is_sold (h ++ e ∷ []) vendor) (λ id. sym (sold_same h vendor e tt id)) (listed_at value (stock_in h vendor ++ pieces))
+          ∙ ap (λ (helds : List Held). unsold (is_sold (h ++ e ∷ []) vendor) (listed_at value helds)) (sym stock);
       known = known ∙ sym (knows_snoc h e vendor ∙ or_true (knows_vendor h vendor) (names_vendor vendor e) (same_name vendor));
       sold = λ id is. any id ∙ ap (λ b. b || list_any (λ k. eqb id k) (ids_of pieces)) (shows.sold id (sym (sold_same h vendor e tt id) ∙ is));
       fits = fits_same vendor stock (fits_more vendor (stock_in h vendor) pieces (and_parts _ _ may).0 shows.fits);
@@ -273,8 +272,8 @@ sale_shown h vendor s s' e value id is none terms counts ids racks shows =
           ∙ sym (count_with h vendor e x is series ∙ ap (λ b. licensed_count h vendor series + cond (b && eqb (series_of id) series) 1 0) (same_name vendor));
       ids = λ k. ap (λ (v : StockIdsView). has_id v k) ids ∙ shows.ids k ∙ ap (λ (helds : List Held). list_any (λ j. eqb k j) (ids_of helds)) (sym stock);
       pieces = λ u. ap (λ (r : List (ℕ × RackView)). pieces_at r u) racks ∙ shows.pieces u
-          ∙ marked_alike (is_sold h vendor) (is_sold (h ++ e ∷ []) vendor) (λ k. sym (sold k)) (listed_at u (stock_in h vendor))
-          ∙ ap (λ (helds : List Held). marked (is_sold (h ++ e ∷ []) vendor) (listed_at u helds)) (sym stock);
+          ∙ unsold_alike (is_sold h vendor) (is_sold (h ++ e ∷ []) vendor) (λ k. sym (sold k)) (listed_at u (stock_in h vendor))
+          ∙ ap (λ (helds : List Held). unsold (is_sold (h ++ e ∷ []) vendor) (listed_at u helds)) (sym stock);
       known = known_alike s s' terms ids ∙ shows.known ∙ sym (knows_snoc h e vendor ∙ or_false (knows_vendor h vendor) (names_vendor vendor e) none);
       sold = λ k was. ap (λ (helds : List Held). list_any (λ j. eqb k j) (ids_of helds)) stock ∙ shows.sold k (sym (sold k) ∙ was);
       fits = fits_same vendor stock shows.fits;
@@ -290,65 +289,71 @@ neither : (a b : Bool) → (a || b) ≡ false → (a ≡ false) × (b ≡ false)
 neither true b e = absurd (true≢false e)
 neither false b e = (refl, e)
 
--- where none has an identity, the mark of it changes nothing
-unmarked : (sold : ℕ → Bool) (id value : ℕ) (helds : List Held) → list_any (λ p. eqb p.id id) (held_pieces helds) ≡ false
-    → marked (λ k. sold k || eqb id k) (listed_at value helds) ≡ marked sold (listed_at value helds)
-unmarked sold id value [] none = refl
-unmarked sold id value (held ∷ helds) none = go (scrip_of held.text) refl (unmarked sold id value helds)
+-- where none has an identity, its sale changes nothing
+sold_other : (sold : ℕ → Bool) (id value : ℕ) (helds : List Held) → list_any (λ p. eqb p.id id) (held_pieces helds) ≡ false
+    → unsold (λ k. sold k || eqb id k) (listed_at value helds) ≡ unsold sold (listed_at value helds)
+sold_other sold id value [] none = refl
+sold_other sold id value (held ∷ helds) none = go (scrip_of held.text) refl (sold_other sold id value helds)
   where
     go : (r : Result (Scrip × List ℕ) ℕ) → scrip_of held.text ≡ r
-        → (list_any (λ p. eqb p.id id) (held_pieces helds) ≡ false → marked (λ k. sold k || eqb id k) (listed_at value helds) ≡ marked sold (listed_at value helds))
-        → marked (λ k. sold k || eqb id k) (listed_at value (held ∷ helds)) ≡ marked sold (listed_at value (held ∷ helds))
+        → (list_any (λ p. eqb p.id id) (held_pieces helds) ≡ false → unsold (λ k. sold k || eqb id k) (listed_at value helds) ≡ unsold sold (listed_at value helds))
+        → unsold (λ k. sold k || eqb id k) (listed_at value (held ∷ helds)) ≡ unsold sold (listed_at value (held ∷ helds))
     go (Err place) is more =
         let same : listed_at value (held ∷ helds) ≡ listed_at value helds = rw is refl in
         let pieces : held_pieces (held ∷ helds) ≡ held_pieces helds = rw is refl in
-        ap (marked (λ k. sold k || eqb id k)) same ∙ more (sym (ap (λ (ps : List Scrip). list_any (λ p. eqb p.id id) ps) pieces) ∙ none) ∙ sym (ap (marked sold) same)
+        ap (unsold (λ k. sold k || eqb id k)) same ∙ more (sym (ap (λ (ps : List Scrip). list_any (λ p. eqb p.id id) ps) pieces) ∙ none) ∙ sym (ap (unsold sold) same)
     go (Ok x) is more =
         let pieces : held_pieces (held ∷ helds) ≡ x.0 ∷ held_pieces helds = rw is refl in
         let parts = neither (eqb x.0.id id) _ (sym (ap (λ (ps : List Scrip). list_any (λ p. eqb p.id id) ps) pieces) ∙ none) in
-        ap (marked (λ k. sold k || eqb id k)) (listed_more held helds x is value) ∙ here (eqb x.0.value value) (eqb_turned id x.0.id ∙ parts.0) (more parts.1)
-        ∙ sym (ap (marked sold) (listed_more held helds x is value))
+        ap (unsold (λ k. sold k || eqb id k)) (listed_more held helds x is value) ∙ here (eqb x.0.value value) (eqb_turned id x.0.id ∙ parts.0) (more parts.1)
+        ∙ sym (ap (unsold sold) (listed_more held helds x is value))
       where
-        here : (b : Bool) → eqb id x.0.id ≡ false → marked (λ k. sold k || eqb id k) (listed_at value helds) ≡ marked sold (listed_at value helds)
-            → marked (λ k. sold k || eqb id k) (cond b (stock_piece held.secret x ∷ listed_at value helds) (listed_at value helds)) ≡ marked sold (cond b (stock_piece held.secret x ∷ listed_at value helds) (listed_at value helds))
-        here true other rest = ap₂ (λ (y : Bool) (ps : List StockPiece). record (stock_piece held.secret x) { sold = y } ∷ ps) (or_false (sold x.0.id) (eqb id x.0.id) other) rest
+        here : (b : Bool) → eqb id x.0.id ≡ false → unsold (λ k. sold k || eqb id k) (listed_at value helds) ≡ unsold sold (listed_at value helds)
+            → unsold (λ k. sold k || eqb id k) (cond b (stock_piece held.secret x ∷ listed_at value helds) (listed_at value helds)) ≡ unsold sold (cond b (stock_piece held.secret x ∷ listed_at value helds) (listed_at value helds))
+        here true other rest = ap₂ (λ (y : Bool) (ps : List StockPiece). cond (not y) (stock_piece held.secret x ∷ ps) ps) (or_false (sold x.0.id) (eqb id x.0.id) other) rest
         here false other rest = rest
 
--- the first that is free is marked
+-- the first that is free goes
 hit : (sold : ℕ → Bool) (t value u id v : ℕ) (q : StockPiece) (others : List StockPiece) → v ≡ value → q.id ≡ id → ltb t q.expires ≡ true → sold q.id ≡ false
-    → marked (λ k. sold k || eqb id k) others ≡ marked sold others
-    → cond (eqb value u) (sold_first t (marked sold (cond (eqb v u) (q ∷ others) others))) (marked sold (cond (eqb v u) (q ∷ others) others)) ≡ marked (λ k. sold k || eqb id k) (cond (eqb v u) (q ∷ others) others)
+    → unsold (λ k. sold k || eqb id k) others ≡ unsold sold others
+    → cond (eqb value u) (sold_first t (unsold sold (cond (eqb v u) (q ∷ others) others))) (unsold sold (cond (eqb v u) (q ∷ others) others)) ≡ unsold (λ k. sold k || eqb id k) (cond (eqb v u) (q ∷ others) others)
 hit sold t value u id v q others same is open' free rest =
-    subst (λ (w : ℕ). cond (eqb value u) (sold_first t (marked sold (cond (eqb w u) (q ∷ others) others))) (marked sold (cond (eqb w u) (q ∷ others) others)) ≡ marked (λ k. sold k || eqb id k) (cond (eqb w u) (q ∷ others) others))
+    subst (λ (w : ℕ). cond (eqb value u) (sold_first t (unsold sold (cond (eqb w u) (q ∷ others) others))) (unsold sold (cond (eqb w u) (q ∷ others) others)) ≡ unsold (λ k. sold k || eqb id k) (cond (eqb w u) (q ∷ others) others))
     (sym same) (go (eqb value u))
   where
-    go : (b : Bool) → cond b (sold_first t (marked sold (cond b (q ∷ others) others))) (marked sold (cond b (q ∷ others) others)) ≡ marked (λ k. sold k || eqb id k) (cond b (q ∷ others) others)
+    go : (b : Bool) → cond b (sold_first t (unsold sold (cond b (q ∷ others) others))) (unsold sold (cond b (q ∷ others) others)) ≡ unsold (λ k. sold k || eqb id k) (cond b (q ∷ others) others)
     go false = sym rest
     go true =
-        ap₂ (λ (a b : Bool). cond (not a && b) (record q { sold = true } ∷ marked sold others) (record q { sold = sold q.id } ∷ sold_first t (marked sold others))) free open'
-        ∙ ap₂ (λ (y : Bool) (ps : List StockPiece). record q { sold = y } ∷ ps) (sym (or_true (sold q.id) (eqb id q.id) (eq-eqb id q.id (sym is)))) (sym rest)
+        ap (λ (a : Bool). sold_first t (cond (not a) (q ∷ unsold sold others) (unsold sold others))) free
+        ∙ ap (λ (b : Bool). cond b (unsold sold others) (q ∷ sold_first t (unsold sold others))) open'
+        ∙ sym rest
+        ∙ sym (ap (λ (y : Bool). cond (not y) (q ∷ unsold (λ k. sold k || eqb id k) others) (unsold (λ k. sold k || eqb id k) others)) (or_true (sold q.id) (eqb id q.id) (eq-eqb id q.id (sym is))))
 
 -- one before it is left
 miss : (sold : ℕ → Bool) (t value u id v : ℕ) (q : StockPiece) (others : List StockPiece) → (eqb v value && (ltb t q.expires && not (sold q.id))) ≡ false → eqb id q.id ≡ false
-    → cond (eqb value u) (sold_first t (marked sold others)) (marked sold others) ≡ marked (λ k. sold k || eqb id k) others
-    → cond (eqb value u) (sold_first t (marked sold (cond (eqb v u) (q ∷ others) others))) (marked sold (cond (eqb v u) (q ∷ others) others)) ≡ marked (λ k. sold k || eqb id k) (cond (eqb v u) (q ∷ others) others)
+    → cond (eqb value u) (sold_first t (unsold sold others)) (unsold sold others) ≡ unsold (λ k. sold k || eqb id k) others
+    → cond (eqb value u) (sold_first t (unsold sold (cond (eqb v u) (q ∷ others) others))) (unsold sold (cond (eqb v u) (q ∷ others) others)) ≡ unsold (λ k. sold k || eqb id k) (cond (eqb v u) (q ∷ others) others)
 miss sold t value u id v q others shut other rest = go (eqb v u) refl (eqb value u) refl rest
   where
-    closed : (a b : Bool) → (a && not b) ≡ false → (not b && a) ≡ false
-    closed true true e = refl
-    closed true false e = e
-    closed false true e = refl
-    closed false false e = refl
+    has_ended : (b : Bool) → (b && true) ≡ false → b ≡ false
+    has_ended true e = e
+    has_ended false e = refl
 
-    go : (c : Bool) → eqb v u ≡ c → (d : Bool) → eqb value u ≡ d → cond d (sold_first t (marked sold others)) (marked sold others) ≡ marked (λ k. sold k || eqb id k) others
-        → cond d (sold_first t (marked sold (cond c (q ∷ others) others))) (marked sold (cond c (q ∷ others) others)) ≡ marked (λ k. sold k || eqb id k) (cond c (q ∷ others) others)
+    at : (y : Bool) → (ltb t q.expires && not y) ≡ false → sold_first t (unsold sold others) ≡ unsold (λ k. sold k || eqb id k) others
+        → sold_first t (cond (not y) (q ∷ unsold sold others) (unsold sold others)) ≡ cond (not y) (q ∷ unsold (λ k. sold k || eqb id k) others) (unsold (λ k. sold k || eqb id k) others)
+    at true e ih = ih
+    at false e ih =
+        ap (λ (b : Bool). cond b (unsold sold others) (q ∷ sold_first t (unsold sold others))) (has_ended (ltb t q.expires) e) ∙ ap (λ (ps : List StockPiece). q ∷ ps) ih
+
+    go : (c : Bool) → eqb v u ≡ c → (d : Bool) → eqb value u ≡ d → cond d (sold_first t (unsold sold others)) (unsold sold others) ≡ unsold (λ k. sold k || eqb id k) others
+        → cond d (sold_first t (unsold sold (cond c (q ∷ others) others))) (unsold sold (cond c (q ∷ others) others)) ≡ unsold (λ k. sold k || eqb id k) (cond c (q ∷ others) others)
     go false cu d du ih = ih
-    go true cu false du ih = ap₂ (λ (y : Bool) (ps : List StockPiece). record q { sold = y } ∷ ps) (sym (or_false (sold q.id) (eqb id q.id) other)) ih
+    go true cu false du ih = ap₂ (λ (y : Bool) (ps : List StockPiece). cond (not y) (q ∷ ps) ps) (sym (or_false (sold q.id) (eqb id q.id) other)) ih
     go true cu true du ih =
         let equal : eqb v value ≡ true = eq-eqb v value (eqb-true v u cu ∙ sym (eqb-true value u du)) in
         let none = sym (ap (λ b. b && (ltb t q.expires && not (sold q.id))) equal) ∙ shut in
-        ap (λ b. cond b (record q { sold = true } ∷ marked sold others) (record q { sold = sold q.id } ∷ sold_first t (marked sold others))) (closed (ltb t q.expires) (sold q.id) none)
-        ∙ ap₂ (λ (y : Bool) (ps : List StockPiece). record q { sold = y } ∷ ps) (sym (or_false (sold q.id) (eqb id q.id) other)) ih
+        at (sold q.id) none ih
+        ∙ ap (λ (y : Bool). cond (not y) (q ∷ unsold (λ k. sold k || eqb id k) others) (unsold (λ k. sold k || eqb id k) others)) (sym (or_false (sold q.id) (eqb id q.id) other))
 
 -- what is found has none of the identities that none has
 found_other : (test : Scrip → Bool) (ps : List Scrip) (p : Scrip) (n : ℕ) → find test ps ≡ Some p → list_any (λ q. eqb q.id n) ps ≡ false → eqb p.id n ≡ false
@@ -360,39 +365,39 @@ found_other test (q ∷ qs) p n found none = go (test q) found (neither (eqb q.i
     go true is parts more = ap (λ (r : Scrip). eqb r.id n) (sym (same_Some q p is)) ∙ parts.0
     go false is parts more = more is parts.1
 
--- the first that is free is marked as sold, and no other
-marks_first : (sold : ℕ → Bool) (t value u : ℕ) (helds : List Held) (p : Scrip) → AreDistinct (held_pieces helds) → find (is_free sold t value) (held_pieces helds) ≡ Some p
-    → cond (eqb value u) (sold_first t (marked sold (listed_at u helds))) (marked sold (listed_at u helds)) ≡ marked (λ k. sold k || eqb p.id k) (listed_at u helds)
-marks_first sold t value u [] p distinct first = absurd cc
-marks_first sold t value u (held ∷ helds) p distinct first = go (scrip_of held.text) refl (marks_first sold t value u helds p)
+-- the first that is free goes, and no other
+sells_first : (sold : ℕ → Bool) (t value u : ℕ) (helds : List Held) (p : Scrip) → AreDistinct (held_pieces helds) → find (is_free sold t value) (held_pieces helds) ≡ Some p
+    → cond (eqb value u) (sold_first t (unsold sold (listed_at u helds))) (unsold sold (listed_at u helds)) ≡ unsold (λ k. sold k || eqb p.id k) (listed_at u helds)
+sells_first sold t value u [] p distinct first = absurd cc
+sells_first sold t value u (held ∷ helds) p distinct first = go (scrip_of held.text) refl (sells_first sold t value u helds p)
   where
     go : (r : Result (Scrip × List ℕ) ℕ) → scrip_of held.text ≡ r
         → (AreDistinct (held_pieces helds) → find (is_free sold t value) (held_pieces helds) ≡ Some p
-        → cond (eqb value u) (sold_first t (marked sold (listed_at u helds))) (marked sold (listed_at u helds)) ≡ marked (λ k. sold k || eqb p.id k) (listed_at u helds))
-        → cond (eqb value u) (sold_first t (marked sold (listed_at u (held ∷ helds)))) (marked sold (listed_at u (held ∷ helds))) ≡ marked (λ k. sold k || eqb p.id k) (listed_at u (held ∷ helds))
+        → cond (eqb value u) (sold_first t (unsold sold (listed_at u helds))) (unsold sold (listed_at u helds)) ≡ unsold (λ k. sold k || eqb p.id k) (listed_at u helds))
+        → cond (eqb value u) (sold_first t (unsold sold (listed_at u (held ∷ helds)))) (unsold sold (listed_at u (held ∷ helds))) ≡ unsold (λ k. sold k || eqb p.id k) (listed_at u (held ∷ helds))
     go (Err place) is more =
         let same : listed_at u (held ∷ helds) ≡ listed_at u helds = rw is refl in
         let pieces : held_pieces (held ∷ helds) ≡ held_pieces helds = rw is refl in
-        ap (λ (ps : List StockPiece). cond (eqb value u) (sold_first t (marked sold ps)) (marked sold ps)) same
-        ∙ more (subst AreDistinct pieces distinct) (sym (ap (find (is_free sold t value)) pieces) ∙ first) ∙ sym (ap (marked (λ k. sold k || eqb p.id k)) same)
+        ap (λ (ps : List StockPiece). cond (eqb value u) (sold_first t (unsold sold ps)) (unsold sold ps)) same
+        ∙ more (subst AreDistinct pieces distinct) (sym (ap (find (is_free sold t value)) pieces) ∙ first) ∙ sym (ap (unsold (λ k. sold k || eqb p.id k)) same)
     go (Ok x) is more =
         let pieces : held_pieces (held ∷ helds) ≡ x.0 ∷ held_pieces helds = rw is refl in
         let apart = subst AreDistinct pieces distinct in
         let found = sym (ap (find (is_free sold t value)) pieces) ∙ first in
-        ap (λ (ps : List StockPiece). cond (eqb value u) (sold_first t (marked sold ps)) (marked sold ps)) (listed_more held helds x is u)
-        ∙ by_first (is_free sold t value x.0) refl found apart (λ e. more apart.1 e) ∙ sym (ap (marked (λ k. sold k || eqb p.id k)) (listed_more held helds x is u))
+        ap (λ (ps : List StockPiece). cond (eqb value u) (sold_first t (unsold sold ps)) (unsold sold ps)) (listed_more held helds x is u)
+        ∙ by_first (is_free sold t value x.0) refl found apart (λ e. more apart.1 e) ∙ sym (ap (unsold (λ k. sold k || eqb p.id k)) (listed_more held helds x is u))
       where
         by_first : (b : Bool) → is_free sold t value x.0 ≡ b → cond b (Some x.0) (find (is_free sold t value) (held_pieces helds)) ≡ Some p → AreDistinct (x.0 ∷ held_pieces helds)
             → (find (is_free sold t value) (held_pieces helds) ≡ Some p
-            → cond (eqb value u) (sold_first t (marked sold (listed_at u helds))) (marked sold (listed_at u helds)) ≡ marked (λ k. sold k || eqb p.id k) (listed_at u helds))
-            → cond (eqb value u) (sold_first t (marked sold (cond (eqb x.0.value u) (stock_piece held.secret x ∷ listed_at u helds) (listed_at u helds)))) (marked sold (cond (eqb x.0.value u) (stock_piece held.secret x ∷ listed_at u helds) (listed_at u helds)))
-            ≡ marked (λ k. sold k || eqb p.id k) (cond (eqb x.0.value u) (stock_piece held.secret x ∷ listed_at u helds) (listed_at u helds))
+            → cond (eqb value u) (sold_first t (unsold sold (listed_at u helds))) (unsold sold (listed_at u helds)) ≡ unsold (λ k. sold k || eqb p.id k) (listed_at u helds))
+            → cond (eqb value u) (sold_first t (unsold sold (cond (eqb x.0.value u) (stock_piece held.secret x ∷ listed_at u helds) (listed_at u helds)))) (unsold sold (cond (eqb x.0.value u) (stock_piece held.secret x ∷ listed_at u helds) (listed_at u helds)))
+            ≡ unsold (λ k. sold k || eqb p.id k) (cond (eqb x.0.value u) (stock_piece held.secret x ∷ listed_at u helds) (listed_at u helds))
         by_first true free is' apart more =
             let p_is : x.0 ≡ p = same_Some x.0 p is' in
             let parts = and_parts _ _ free in
             let more_parts = and_parts _ _ parts.1 in
             hit sold t value u p.id x.0.value (stock_piece held.secret x) (listed_at u helds) (eqb-true x.0.value value parts.0) (ap (λ (r : Scrip). r.id) p_is) more_parts.0 (not_from more_parts.1)
-            (unmarked sold p.id u helds (ap (λ (r : Scrip). list_any (λ q. eqb q.id r.id) (held_pieces helds)) (sym p_is) ∙ apart.0))
+            (sold_other sold p.id u helds (ap (λ (r : Scrip). list_any (λ q. eqb q.id r.id) (held_pieces helds)) (sym p_is) ∙ apart.0))
         by_first false free is' apart more =
             miss sold t value u p.id x.0.value (stock_piece held.secret x) (listed_at u helds) free (found_other (is_free sold t value) (held_pieces helds) p x.0.id is' apart.0) (more is')
 
@@ -431,9 +436,9 @@ stock_sale_shown h vendor s s' e t value id p is none first same licence ids sto
           ∙ sym (let more = count_with h vendor e x is series in omega (arith, more));
       ids = λ k. ap (λ (v : StockIdsView). has_id v k) ids ∙ shows.ids k ∙ ap (λ (helds : List Held). list_any (λ j. eqb k j) (ids_of helds)) (sym stock);
       pieces = λ u. stocked u ∙ ap (λ (ps : List StockPiece). cond (eqb value u) (sold_first t ps) ps) (shows.pieces u)
-          ∙ marks_first f t value u (stock_in h vendor) p shows.once first
-          ∙ marked_alike (λ k. f k || eqb p.id k) (is_sold (h ++ e ∷ []) vendor) (λ k. sym (sold k)) (listed_at u (stock_in h vendor))
-          ∙ ap (λ (helds : List Held). marked (is_sold (h ++ e ∷ []) vendor) (listed_at u helds)) (sym stock);
+          ∙ sells_first f t value u (stock_in h vendor) p shows.once first
+          ∙ unsold_alike (λ k. f k || eqb p.id k) (is_sold (h ++ e ∷ []) vendor) (λ k. sym (sold k)) (listed_at u (stock_in h vendor))
+          ∙ ap (λ (helds : List Held). unsold (is_sold (h ++ e ∷ []) vendor) (listed_at u helds)) (sym stock);
       known = ap₂ (λ (o : Option Register) (k : StockIdsView). is_some o || not (eqb (length k.ids) 0)) licence ids ∙ shows.known
           ∙ sym (knows_snoc h e vendor ∙ or_false (knows_vendor h vendor) (names_vendor vendor e) none);
       sold = λ k was. ap (λ (helds : List Held). list_any (λ j. eqb k j) (ids_of helds)) stock ∙ there k (f k) refl (sym (sold k) ∙ was);

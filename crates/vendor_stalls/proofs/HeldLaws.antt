@@ -1,5 +1,5 @@
 -- The first open piece of a stall as the text that its sale brings.
-use Rattle.std.proofs.Common.{◌≡◌, ℕ, Bool, true, false, cond, eqb, ◌||◌, List, [], ◌∷◌, length, Some, Result, Ok, Err, refl, sym, ap, ap₂, subst, ◌∙◌, find, bytes_eq}
+use Rattle.std.proofs.Common.{◌≡◌, ℕ, Bool, true, false, cond, eqb, ◌||◌, not, List, [], ◌∷◌, length, Some, Result, Ok, Err, refl, sym, ap, ap₂, subst, ◌∙◌, find, bytes_eq}
 use Rattle.std.specs.Prelude.{IsTrue}
 use Rattle.std.specs.List.{list_any, AllByRecursion}
 use Rattle.std.proofs.lemmas.Bool.{eqb-true, eq-eqb, and_parts, true≢false}
@@ -19,7 +19,7 @@ use Rattle.stock_rack.specs.declared.piece.StockPiece.{StockPiece}
 use Rattle.stock_rack.specs.Racks.{is_open}
 use Rattle.vendor_stalls.specs.Stalls.{StallView, stocked_at}
 use Rattle.vendor_stalls.specs.Listed.{stock_piece, listed_at, piece_in_stock, held_in_stock}
-use Rattle.vendor_stalls.specs.Shown.{marked, Shows}
+use Rattle.vendor_stalls.specs.Shown.{unsold, Shows}
 use Rattle.vendor_stalls.proofs.ListedLaws.{listed_more}
 
 -- ---- a piece by its parts
@@ -48,19 +48,16 @@ record Stands (vendor : List ℕ) (value : ℕ) (helds : List Held) (p : StockPi
   piece : IsPiece (piece_in_stock vendor value p)
   known : list_any (λ q. eqb q.id p.id) (held_pieces helds) ≡ true
 
-abbrev mark : (ℕ → Bool) → StockPiece → StockPiece
-mark sold p = record p { sold = sold p.id }
-
 -- the first held text, where it is read as x
-module _ (vendor : List ℕ) (value : ℕ) (sold : ℕ → Bool) (held : Held) (helds : List Held) (x : Scrip × List ℕ) (is : scrip_of held.text ≡ Ok x) where
+module _ (vendor : List ℕ) (value : ℕ) (held : Held) (helds : List Held) (x : Scrip × List ℕ) (is : scrip_of held.text ≡ Ok x) where
   pieces_are : held_pieces (held ∷ helds) ≡ x.0 ∷ held_pieces helds
   pieces_are = rw is refl
 
   has_is : (n : ℕ) → has_id n held ≡ eqb x.0.id n
   has_is n = rw is refl
 
-  here : (p : StockPiece) → may_be_stock vendor x.0 ≡ true → x.0.value ≡ value → mark sold (stock_piece held.secret x) ≡ p → Stands vendor value (held ∷ helds) p
-  here p may same marks = subst (Stands vendor value (held ∷ helds)) marks (record {
+  here : (p : StockPiece) → may_be_stock vendor x.0 ≡ true → x.0.value ≡ value → stock_piece held.secret x ≡ p → Stands vendor value (held ∷ helds) p
+  here p may same is_p = subst (Stands vendor value (held ∷ helds)) is_p (record {
     found = ap (λ (b : Bool). cond b (Some held) (find (has_id x.0.id) helds)) (has_is x.0.id ∙ eq-eqb x.0.id x.0.id refl) ∙ ap (λ (t : List ℕ). Some (record { text = t; secret = held.secret })) spelled;
     piece = subst IsPiece is_so told.is_piece;
     known = ap (list_any (λ q. eqb q.id x.0.id)) pieces_are ∙ ap (λ b. b || list_any (λ q. eqb q.id x.0.id) (held_pieces helds)) (eq-eqb x.0.id x.0.id refl);
@@ -90,41 +87,46 @@ module _ (vendor : List ℕ) (value : ℕ) (sold : ℕ → Bool) (held : Held) (
       other = go (eqb x.0.id p.id) refl
 
 first_stands : (vendor : List ℕ) (value t : ℕ) (sold : ℕ → Bool) (helds : List Held) (p : StockPiece) → AllByRecursion (λ q. IsTrue (may_be_stock vendor q)) (held_pieces helds) → AreDistinct (held_pieces helds)
-    → find (is_open t) (marked sold (listed_at value helds)) ≡ Some p → Stands vendor value helds p
+    → find (is_open t) (unsold sold (listed_at value helds)) ≡ Some p → Stands vendor value helds p
 first_stands vendor value t sold [] p fits once first = absurd cc
 first_stands vendor value t sold (held ∷ helds) p fits once first = go (scrip_of held.text) refl (first_stands vendor value t sold helds p)
   where
     Rest : Type 0
-    Rest = AllByRecursion (λ q. IsTrue (may_be_stock vendor q)) (held_pieces helds) → AreDistinct (held_pieces helds) → find (is_open t) (marked sold (listed_at value helds)) ≡ Some p → Stands vendor value helds p
+    Rest = AllByRecursion (λ q. IsTrue (may_be_stock vendor q)) (held_pieces helds) → AreDistinct (held_pieces helds) → find (is_open t) (unsold sold (listed_at value helds)) ≡ Some p → Stands vendor value helds p
 
     go : (r : Result (Scrip × List ℕ) ℕ) → scrip_of held.text ≡ r → Rest → Stands vendor value (held ∷ helds) p
     go (Err place) is rest =
         let pieces : held_pieces (held ∷ helds) ≡ held_pieces helds = rw is refl in
         let listed : listed_at value (held ∷ helds) ≡ listed_at value helds = rw is refl in
         let none : has_id p.id held ≡ false = rw is refl in
-        let stands = rest (subst (AllByRecursion (λ q. IsTrue (may_be_stock vendor q))) pieces fits) (subst AreDistinct pieces once) (sym (ap (λ (ps : List StockPiece). find (is_open t) (marked sold ps)) listed) ∙ first) in
+        let stands = rest (subst (AllByRecursion (λ q. IsTrue (may_be_stock vendor q))) pieces fits) (subst AreDistinct pieces once) (sym (ap (λ (ps : List StockPiece). find (is_open t) (unsold sold ps)) listed) ∙ first) in
         record {
           found = ap (λ (b : Bool). cond b (Some held) (find (has_id p.id) helds)) none ∙ stands.found;
           piece = stands.piece;
           known = ap (list_any (λ q. eqb q.id p.id)) pieces ∙ stands.known;
         }
     go (Ok x) is rest =
-        let fit = subst (AllByRecursion (λ q. IsTrue (may_be_stock vendor q))) (pieces_are vendor value sold held helds x is) fits in
-        let apart = subst AreDistinct (pieces_are vendor value sold held helds x is) once in
-        by_value (eqb x.0.value value) refl fit apart (sym (ap (λ (ps : List StockPiece). find (is_open t) (marked sold ps)) (listed_more held helds x is value)) ∙ first)
+        let fit = subst (AllByRecursion (λ q. IsTrue (may_be_stock vendor q))) (pieces_are vendor value held helds x is) fits in
+        let apart = subst AreDistinct (pieces_are vendor value held helds x is) once in
+        by_value (eqb x.0.value value) refl fit apart (sym (ap (λ (ps : List StockPiece). find (is_open t) (unsold sold ps)) (listed_more held helds x is value)) ∙ first)
       where
         Fits : Type 0
         Fits = AllByRecursion (λ q. IsTrue (may_be_stock vendor q)) (x.0 ∷ held_pieces helds)
 
         by_open : (b : Bool) → x.0.value ≡ value → Fits → AreDistinct (x.0 ∷ held_pieces helds)
-            → cond b (Some (mark sold (stock_piece held.secret x))) (find (is_open t) (marked sold (listed_at value helds))) ≡ Some p → Stands vendor value (held ∷ helds) p
-        by_open true same fit apart e = here vendor value sold held helds x is p fit.0 same (same_Some (mark sold (stock_piece held.secret x)) p e)
-        by_open false same fit apart e = later vendor value sold held helds x is p apart.0 (rest fit.1 apart.1 e)
+            → cond b (Some (stock_piece held.secret x)) (find (is_open t) (unsold sold (listed_at value helds))) ≡ Some p → Stands vendor value (held ∷ helds) p
+        by_open true same fit apart e = here vendor value held helds x is p fit.0 same (same_Some (stock_piece held.secret x) p e)
+        by_open false same fit apart e = later vendor value held helds x is p apart.0 (rest fit.1 apart.1 e)
+
+        by_sold : (b : Bool) → x.0.value ≡ value → Fits → AreDistinct (x.0 ∷ held_pieces helds)
+            → find (is_open t) (cond b (stock_piece held.secret x ∷ unsold sold (listed_at value helds)) (unsold sold (listed_at value helds))) ≡ Some p → Stands vendor value (held ∷ helds) p
+        by_sold true same fit apart e = by_open (is_open t (stock_piece held.secret x)) same fit apart e
+        by_sold false same fit apart e = later vendor value held helds x is p apart.0 (rest fit.1 apart.1 e)
 
         by_value : (b : Bool) → eqb x.0.value value ≡ b → Fits → AreDistinct (x.0 ∷ held_pieces helds)
-            → find (is_open t) (marked sold (cond b (stock_piece held.secret x ∷ listed_at value helds) (listed_at value helds))) ≡ Some p → Stands vendor value (held ∷ helds) p
-        by_value true same fit apart e = by_open (is_open t (mark sold (stock_piece held.secret x))) (eqb-true x.0.value value same) fit apart e
-        by_value false same fit apart e = later vendor value sold held helds x is p apart.0 (rest fit.1 apart.1 e)
+            → find (is_open t) (unsold sold (cond b (stock_piece held.secret x ∷ listed_at value helds) (listed_at value helds))) ≡ Some p → Stands vendor value (held ∷ helds) p
+        by_value true same fit apart e = by_sold (not (sold x.0.id)) (eqb-true x.0.value value same) fit apart e
+        by_value false same fit apart e = later vendor value held helds x is p apart.0 (rest fit.1 apart.1 e)
 
 stands_in : (h : History) (vendor : List ℕ) (s : StallView) (t value : ℕ) (p : StockPiece) → Shows h vendor s → find (is_open t) (stocked_at s value) ≡ Some p → Stands vendor value (stock_in h vendor) p
 stands_in h vendor s t value p shows first =

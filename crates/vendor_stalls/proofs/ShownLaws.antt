@@ -9,7 +9,7 @@ use Rattle.stock_rack.specs.declared.piece.StockPiece.{StockPiece}
 use Rattle.stock_rack.specs.Racks.{is_open}
 use Rattle.vendor_stalls.specs.Stalls.{StallView, stocked_at, has_id}
 use Rattle.vendor_stalls.specs.Listed.{stock_piece, listed_at}
-use Rattle.vendor_stalls.specs.Shown.{marked, Shows}
+use Rattle.vendor_stalls.specs.Shown.{unsold, Shows}
 use Rattle.vendor_stalls.proofs.ListedLaws.{listed_more, any_turned, stock_alike}
 
 abbrev id_of : Option Scrip → Option ℕ
@@ -25,28 +25,28 @@ is_free sold t value p = eqb p.value value && (ltb t p.expires && not (sold p.id
 unread : (value : ℕ) (held : Held) (helds : List Held) (place : ℕ) → scrip_of held.text ≡ Err place → listed_at value (held ∷ helds) ≡ listed_at value helds
 unread value held helds place is = rw is refl
 
-first_free : (sold : ℕ → Bool) (t value : ℕ) (helds : List Held) → stock_id (find (is_open t) (marked sold (listed_at value helds))) ≡ id_of (find (is_free sold t value) (held_pieces helds))
+first_free : (sold : ℕ → Bool) (t value : ℕ) (helds : List Held) → stock_id (find (is_open t) (unsold sold (listed_at value helds))) ≡ id_of (find (is_free sold t value) (held_pieces helds))
 first_free sold t value [] = refl
 first_free sold t value (held ∷ helds) = go (scrip_of held.text) refl (first_free sold t value helds)
   where
-    by_parts : (x : Scrip × List ℕ) (same ends sold' : Bool) → stock_id (find (is_open t) (marked sold (listed_at value helds))) ≡ id_of (find (is_free sold t value) (held_pieces helds))
+    by_parts : (x : Scrip × List ℕ) (same ends sold' : Bool) → stock_id (find (is_open t) (unsold sold (listed_at value helds))) ≡ id_of (find (is_free sold t value) (held_pieces helds))
         → eqb x.0.value value ≡ same → ltb t x.0.expires ≡ ends → sold x.0.id ≡ sold'
-        → stock_id (find (is_open t) (marked sold (cond (eqb x.0.value value) (stock_piece held.secret x ∷ listed_at value helds) (listed_at value helds))))
+        → stock_id (find (is_open t) (unsold sold (cond (eqb x.0.value value) (stock_piece held.secret x ∷ listed_at value helds) (listed_at value helds))))
         ≡ id_of (find (is_free sold t value) (x.0 ∷ held_pieces helds))
-    by_parts x true true true more a b c = rw (a, b, c) more
-    by_parts x true true false more a b c = rw (a, b, c) refl
-    by_parts x true false true more a b c = rw (a, b, c) more
-    by_parts x true false false more a b c = rw (a, b, c) more
+    by_parts x true true true more a b c = rw (a, c, b) more
+    by_parts x true true false more a b c = rw (a, c, b) refl
+    by_parts x true false true more a b c = rw (a, c, b) more
+    by_parts x true false false more a b c = rw (a, c, b) more
     by_parts x false ends sold' more a b c = rw a more
 
-    go : (r : Result (Scrip × List ℕ) ℕ) → scrip_of held.text ≡ r → stock_id (find (is_open t) (marked sold (listed_at value helds))) ≡ id_of (find (is_free sold t value) (held_pieces helds))
-        → stock_id (find (is_open t) (marked sold (listed_at value (held ∷ helds)))) ≡ id_of (find (is_free sold t value) (held_pieces (held ∷ helds)))
+    go : (r : Result (Scrip × List ℕ) ℕ) → scrip_of held.text ≡ r → stock_id (find (is_open t) (unsold sold (listed_at value helds))) ≡ id_of (find (is_free sold t value) (held_pieces helds))
+        → stock_id (find (is_open t) (unsold sold (listed_at value (held ∷ helds)))) ≡ id_of (find (is_free sold t value) (held_pieces (held ∷ helds)))
     go (Ok x) is more =
-        ap (λ (ps : List StockPiece). stock_id (find (is_open t) (marked sold ps))) (listed_more held helds x is value)
+        ap (λ (ps : List StockPiece). stock_id (find (is_open t) (unsold sold ps))) (listed_more held helds x is value)
         ∙ by_parts x (eqb x.0.value value) (ltb t x.0.expires) (sold x.0.id) more refl refl refl
         ∙ sym (rw is refl)
     go (Err place) is more =
-        ap (λ (ps : List StockPiece). stock_id (find (is_open t) (marked sold ps))) (unread value held helds place is)
+        ap (λ (ps : List StockPiece). stock_id (find (is_open t) (unsold sold ps))) (unread value held helds place is)
         ∙ more ∙ sym (rw is refl)
 
 pub first_is : (h : History) (vendor : List ℕ) (s : StallView) (t value : ℕ) → Shows h vendor s

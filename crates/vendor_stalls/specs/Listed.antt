@@ -11,7 +11,7 @@ use Rattle.vendor_stalls.specs.Stalls.{StallView}
 
 -- a piece with its certificate and its secret, as it is put into stock
 abbrev pub stock_piece : List ℕ → Scrip × List ℕ → StockPiece
-stock_piece secret x = record { id = x.0.id; expires = x.0.expires; cert = x.1; secret = secret; version = x.0.version; sold = false }
+stock_piece secret x = record { id = x.0.id; expires = x.0.expires; cert = x.1; secret = secret; version = x.0.version }
 
 -- the same of a held text, where it is of a piece of this value
 abbrev pub listed_piece : ℕ → Held → Option StockPiece

@@ -1,8 +1,8 @@
 -- What a broker has of one vendor to sell.
-use Rattle.std.specs.Prelude.{ℕ, ◌+◌, ◌==◌, ◌||◌, ◌<◌, ◌^◌, ◌≡◌, not, Bool, IsTrue, IfSome, List, [], length, Option, None, option_map, unwrap_or, is_some}
+use Rattle.std.specs.Prelude.{ℕ, ◌+◌, ◌==◌, ◌||◌, ◌<◌, ◌≤◌, ◌^◌, ◌≡◌, not, Bool, IsTrue, IfSome, List, [], length, Option, None, option_map, unwrap_or, is_some}
 use Rattle.std.specs.List.{list_any}
 use Rattle.scrip_form.specs.Issuing.{Issuing, HasPeriod}
-use Rattle.change_issue.specs.Registers.{Register, has_room, count_in}
+use Rattle.change_issue.specs.Registers.{Register, has_room, count_in, next_in}
 use Rattle.stock_rack.specs.declared.piece.StockPiece.{StockPiece}
 use Rattle.stock_rack.specs.Racks.{RackView}
 use Rattle.stock_rack.specs.Shelves.{pieces_at}
@@ -21,7 +21,7 @@ abbrev pub no_ids : StockIdsView
 no_ids = record { ids = []; room = 0 }
 
 -- A stall: what is sold under a licence, where there is one; the identities of all pieces that ever were in stock;
--- and the pieces in stock by their value, the sold ones too.
+-- and the pieces in stock by their value, which were not sold.
 pub record StallView : Type 0 where
   pub licence : Option Register
   pub ids : StockIdsView
@@ -51,16 +51,19 @@ stocked_at s value = pieces_at s.racks value
 abbrev pub is_known : StallView → Bool
 is_known s = is_some s.licence || not (length s.ids.ids == 0)
 
--- Under a licence at most 2^32 - 1 pieces of a series are sold, as many as a count of 32 bits tells.
-pub record IsShort (r : Register) : Type 0 where
+-- Under a licence at most 2^32 pieces of a series are sold, all that a series has; and the next identity is a number of
+-- 64 bits, also behind the last piece.
+pub record IsWithin (r : Register) : Type 0 where
   pub most : r.most ≡ 2 ^ 32
-  pub below : (series : ℕ) → count_in r series < 2 ^ 32
+  pub below : (series : ℕ) → count_in r series ≤ 2 ^ 32
+  pub next : (series : ℕ) → series < 2 ^ 32 → next_in r series < 2 ^ 64
   pub period : HasPeriod r.terms.period r.terms.life
 
 -- there is room for one more piece of a series under a licence
 pub record HasPlace (series : ℕ) (r : Register) : Type 0 where
   pub room : IsTrue (has_room r series)
-  pub left : count_in r series + 1 < 2 ^ 32
+  pub left : count_in r series < 2 ^ 32
+  pub number : next_in r series + 1 < 2 ^ 64
 
 -- where there is a licence, there is room for one more piece of a series
 abbrev pub HasSeries : StallView → ℕ → Type 0

@@ -34,6 +34,5 @@ pub(crate) fn stock_piece(piece: &Piece, cert: [u8; 16], secret: [u8; 16]) -> St
         cert,
         secret,
         version: piece.version(),
-        sold: false,
     }
 }

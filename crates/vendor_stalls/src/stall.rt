@@ -2,15 +2,15 @@ ghost use Rattle.std.specs.Prelude.{◌≡◌, ◌||◌, ◌&&◌, not, ◌^◌,
 ghost use Rattle.std.specs.Bool.{OnTrue, OnFalse};
 ghost use Rattle.std.specs.List.{list_any};
 ghost use Rattle.std.specs.Option.{option_or};
-ghost use Rattle.scrip_form.specs.Identities.{series_of};
+ghost use Rattle.scrip_form.specs.Identities.{series_of, numbered};
 ghost use Rattle.scrip_form.specs.Issuing.{HasPeriod};
-ghost use Rattle.change_issue.specs.Registers.{count_in, IsRaisedAt};
+ghost use Rattle.change_issue.specs.Registers.{count_in, next_in, IsRaisedAt};
 ghost use Rattle.mc_records.specs.declared.ranges.TheConstants.{MOST_PIECES};
 ghost use Rattle.mc_records.specs.PieceViews.{pieces_of};
 ghost use Rattle.ledger_model.specs.Stock.{may_be_stock, are_stock, ids_of};
 ghost use Rattle.stock_rack.specs.Racks.{is_open, sold_first};
 ghost use Rattle.stock_rack.specs.Shelves.{pieces_at, room_at};
-ghost use Rattle.vendor_stalls.specs.Stalls.{has_id, empty_stall, terms_of, sold_count, was_stocked, stocked_at, is_known, IsAlike, IsShort, HasPlace, HasSeries};
+ghost use Rattle.vendor_stalls.specs.Stalls.{has_id, empty_stall, terms_of, sold_count, was_stocked, stocked_at, is_known, IsAlike, IsWithin, HasPlace, HasSeries};
 ghost use Rattle.vendor_stalls.specs.Listed.{listed_at, HasRoomFor};
 
 use crate::listed::{may_be_stock_of, piece_of, stock_piece};
@@ -35,13 +35,13 @@ pub struct Stall {
 
 impl Model for Stall {
     ghost use Rattle.std.specs.Prelude.{IfSome};
-    ghost use Rattle.vendor_stalls.specs.Stalls.{StallView, IsShort};
+    ghost use Rattle.vendor_stalls.specs.Stalls.{StallView, IsWithin};
 
     ghost Value = { StallView };
 
     ghost view = { λ s. record { licence = s.licence; ids = s.ids; racks = s.racks } };
 
-    ghost invariant = { λ s. IfSome s.licence IsShort };
+    ghost invariant = { λ s. IfSome s.licence IsWithin };
 }
 
 impl Stall {
@@ -68,12 +68,14 @@ impl Stall {
         }
     }
 
-    /// How many pieces of a series were sold under the licence: the next serial of the series.
-    pub fn count(&self, series: u32) -> u32
-        ensures { result ≡ sold_count self.now series }
+    /// How many pieces of a series were sold under the licence, at most 2^32: the next serial of the series. With it
+    /// the series makes a number of 64 bits.
+    pub fn count(&self, series: u32) -> u64
+        ensures count { result ≡ sold_count self.now series }
+        ensures number { numbered series result < 2 ^ 64 }
     {
         match &self.licence {
-            Some(issuer) => issuer.count(series) as u32,
+            Some(issuer) => issuer.count(series),
             None => 0,
         }
     }
@@ -99,8 +101,8 @@ impl Stall {
         self.racks.first(value.get(), now)
     }
 
-    /// Makes room for one more piece of a series of the licence, if there is one. There is none for the last of the
-    /// 2^32 serials of a series. What is told of the vendor stays.
+    /// Makes room for one more piece of a series of the licence, if there is one. There is none in a series that is full,
+    /// of which 2^32 pieces were sold, and none for the last number of 64 bits. What is told of the vendor stays.
     pub fn reserve_series(&mut self, series: u32) -> Result<(), NoMemory>
         ensures room { OnOk result (HasSeries self.new series) }
         ensures terms { terms_of self.new ≡ terms_of self.old }
@@ -200,13 +202,14 @@ impl Stall {
 
 /// Makes room for one more piece of a series under a licence.
 fn reserve_place(licence: &mut Issuer, series: u32) -> Result<(), NoMemory>
-    requires { IsShort licence.old }
+    requires { IsWithin licence.old }
     ensures room { OnOk result (HasPlace series licence.new) }
+    ensures within { IsWithin licence.new }
     ensures terms { licence.new.terms ≡ licence.old.terms }
-    ensures most { licence.new.most ≡ licence.old.most }
     ensures counts { (s : ℕ) → count_in licence.new s ≡ count_in licence.old s }
 {
-    if licence.count(series) >= u64::from(u32::MAX) {
+    let count = licence.count(series);
+    if count >= Limits::MOST_SERIES || number_of(series, count) == u64::MAX {
         return Err(NoMemory);
     }
     licence.reserve(series)
@@ -215,13 +218,21 @@ fn reserve_place(licence: &mut Issuer, series: u32) -> Result<(), NoMemory>
 /// Counts one more piece of a series under a licence, which has room for it.
 fn count_one(licence: &mut Issuer, series: u32)
     requires place { HasPlace series licence.old }
-    requires most { licence.old.most ≡ 2 ^ 32 }
+    requires within { IsWithin licence.old }
+    ensures within { IsWithin licence.new }
     ensures terms { licence.new.terms ≡ licence.old.terms }
-    ensures most { licence.new.most ≡ licence.old.most }
     ensures counts { IsRaisedAt series 1 (count_in licence.old) (count_in licence.new) }
 {
-    let next = u64::from(series) * (1 << 32) + licence.count(series);
+    let next = number_of(series, licence.count(series));
     licence.count_on(Id::of_number(next), 1);
+}
+
+/// The number that a series makes with a serial, or with how many pieces of it were sold.
+fn number_of(series: u32, serial: u64) -> u64
+    requires { numbered series serial < 2 ^ 64 }
+    ensures { result ≡ numbered series serial }
+{
+    u64::from(series) * (1 << 32) + serial
 }
 
 /// Puts the pieces of a list into stock, behind the others.

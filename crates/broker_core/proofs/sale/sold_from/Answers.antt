@@ -1,4 +1,5 @@
-use Rattle.std.proofs.Common.{List, sym, ap, ◌∙◌}
+use Rattle.std.proofs.Common.{List, sym, ap, subst, ◌∙◌, ◌<◌, ◌^◌, ℕ}
+use Rattle.scrip_form.specs.Identities.{numbered}
 use Rattle.ledger_model.specs.declared.upgraded.Upgraded.{Upgraded}
 use Rattle.ledger_model.specs.Houses.{version_by}
 use Rattle.broker_core.specs.Moves.{moves_of}
@@ -7,16 +8,19 @@ use Rattle.vendor_stalls.proofs.HeldLaws.{piece_fits}
 use Rattle.broker_core.proofs.SaleLaws.{by_licence, made_brings, none_open, one_open, stock_brings, on_ok}
 use Rattle.broker_core.proofs.sale.sold_from.Goals as goal
 
+pub sold_under-requires-clause-number : goal.sold_under-requires-clause-number
+sold_under-requires-clause-number c = subst (λ (series : ℕ). numbered series c.count-count.result < 2 ^ 64) c.series_at.ensures.series c.count-count.ensures.number
+
 pub returns-in-Some-clause-deed : goal.returns-in-Some-clause-deed
 returns-in-Some-clause-deed c h shows =
-    c.sold_under.ensures.deed ∙ by_licence h c.args.asked.now.vendor c.args.stall.now c.args.limits.series c.args.time c.args.asked.now.value c.in-Some.terms.now _ _ c.series_at-series.result c.count-count.result
-    shows c.in-Some.ensures.terms c.series_at-series.ensures.series c.count-count.ensures
+    c.sold_under.ensures.deed ∙ by_licence h c.args.asked.now.vendor c.args.stall.now c.args.limits.series c.args.time c.args.asked.now.value c.in-Some.terms.now _ _ c.series_at.result c.count-count.result
+    shows c.in-Some.ensures.terms c.series_at.ensures.series c.count-count.ensures.count
 
 pub returns-in-Some-clause-brings : goal.returns-in-Some-clause-brings
 returns-in-Some-clause-brings c h target shows moves asks =
-    let same = c.version-version.ensures.value ∙ ap (λ (us : List Upgraded). version_by us c.series_at-series.result) (ap (moves_of c.args.moves.now.moved) c.bytes.ensures.value ∙ moves c.args.asked.now.vendor) in
-    made_brings h target c.args.asked.now.vendor c.args.stall.now c.args.asked.now.value c.series_at-series.result c.version-version.result c.in-Some.terms.now c.sold_under.result
-    shows asks c.in-Some.ensures.terms same (rw (sym c.series_at-series.ensures.series) at c.sold_under.ensures.made)
+    let v = c.args.asked.now.vendor in
+    made_brings h target v c.args.stall.now c.args.asked.now.value (version_by (moves_of c.args.moves.now.moved v)) c.in-Some.terms.now c.sold_under.result
+    shows asks c.in-Some.ensures.terms (λ series. ap (λ (us : List Upgraded). version_by us series) (moves v)) c.sold_under.ensures.made
 
 pub returns-in-Some-first-clause-deed : goal.returns-in-Some-first-clause-deed
 returns-in-Some-first-clause-deed c h shows =

@@ -1,12 +1,13 @@
-use Rattle.std.proofs.Common.{ap, ◌∙◌, drop}
+use Rattle.std.proofs.Common.{ap, sym, ◌∙◌}
 use Rattle.std.specs.Prelude.{find}
 use Rattle.stock_rack.specs.Racks.{RackView, is_open}
-use Rattle.stock_rack.proofs.RackLaws.{find_past}
+use Rattle.stock_rack.proofs.RackLaws.{first_at, none_found}
 use Rattle.stock_rack.proofs.rack.Rack.first.Goals as goal
 
-pub returns : goal.returns
-returns c =
-    let items = c.self.inside.pieces.items in
-    let same = ap (λ (v : RackView). v.pieces) c.self.view_is in
-    c.copied.ensures ∙ c.first_open.ensures ∙ ap (find (is_open c.args.now)) (c.rest_of.ensures ∙ ap (drop c.start.result) (c.deref.ensures.value ∙ same))
-    ∙ find_past c.args.now c.start.result c.args.self.now.pieces c.start.ensures.closed
+pub returns-in-Some : goal.returns-in-Some
+returns-in-Some c =
+    first_at c.args.now c.in-Some.place c.self.inside.pieces.items c.index.result.now c.index.ensures c.in-Some.ensures ∙ ap (λ (v : RackView). find (is_open c.args.now) v.pieces) c.self.view_is
+
+pub returns-in-None : goal.returns-in-None
+returns-in-None c =
+    sym (none_found c.args.now c.self.inside.pieces.items c.in-None.ensures) ∙ ap (λ (v : RackView). find (is_open c.args.now) v.pieces) c.self.view_is

@@ -8,5 +8,5 @@ pub invariant_of-self : goal.invariant_of-self
 invariant_of-self c =
     let items = c.self.inside.pieces.items in
     let passed = c.self.invariant in
-    subst (λ (ps : List StockPiece). IsPassed c.self.inside.noted c.self.inside.head ps) (sym c.push_reserved.ensures.items)
-    (record { within = omega (arith, passed.within, length-append items (c.args.piece ∷ [])); closed = closed_push c.self.inside.noted c.self.inside.head items c.args.piece passed.closed })
+    subst (λ (ps : List StockPiece). IsPassed c.self.inside.noted c.self.inside.ended ps) (sym c.push_back_reserved.ensures.items)
+    (record { within = omega (arith, passed.within, length-append items (c.args.piece ∷ [])); closed = closed_push c.self.inside.noted c.self.inside.ended items c.args.piece passed.closed })

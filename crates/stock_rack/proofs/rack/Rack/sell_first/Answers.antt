@@ -1,40 +1,31 @@
-use Rattle.std.proofs.Common.{List, ap, sym, ◌∙◌, drop, arith, refl, true, rules}
-use Rattle.std.specs.Prelude.{position, find, is_some}
+use Rattle.std.proofs.Common.{List, Option, Some, None, ◌≡◌, ap, sym, subst, ◌∙◌, arith}
+use Rattle.std.specs.Prelude.{find, is_some, IsSome, OnSome}
 use Rattle.stock_rack.specs.declared.piece.StockPiece.{StockPiece}
-use Rattle.stock_rack.specs.Racks.{RackView, IsPassed, is_open, sold_first}
-use Rattle.stock_rack.proofs.RackLaws.{sells_at, sells_none, some_found, none_found}
+use Rattle.stock_rack.specs.Racks.{RackView, is_open, sold_first, IsPassed}
+use Rattle.stock_rack.proofs.RackLaws.{none_found, none_sold, some_found, sold_is, passed_sold}
 use Rattle.stock_rack.proofs.rack.Rack.sell_first.Goals as goal
 
-pub returns-in-None : goal.returns-in-None
-returns-in-None c =
-    let ps = c.args.self.now.pieces in
-    let same = ap (λ (v : RackView). v.pieces) c.self.view_is in
-    let t = c.args.now in
-    let none = sym (ap (position (is_open t)) (c.rest_of.ensures ∙ ap (drop c.start-start.result) (c.deref.ensures.value ∙ same))) ∙ sym c.place_of_open.ensures ∙ c.in-None.is in
-    record {
-      sold = sells_none t t c.start-start.result ps (omega arith) c.start-start.ensures none;
-      some = none_found t t c.start-start.result ps (omega arith) c.start-start.ensures none;
-      room = refl;
-    }
+removed : {X : Type 0} {P : Type 0} (o : Option X) → IsSome o → OnSome o P → P
+removed (Some x) some holds = holds
+removed None some holds = absurd cc
+
+pub returns-in-None-clause-sold : goal.returns-in-None-clause-sold
+returns-in-None-clause-sold c = subst (λ (v : RackView). v.pieces ≡ sold_first c.args.now v.pieces) c.self.view_is (none_sold c.args.now c.self.inside.pieces.items c.in-None.ensures)
+
+pub returns-in-None-clause-some : goal.returns-in-None-clause-some
+returns-in-None-clause-some c =
+    sym (ap is_some (none_found c.args.now c.self.inside.pieces.items c.in-None.ensures)) ∙ ap (λ (v : RackView). is_some (find (is_open c.args.now) v.pieces)) c.self.view_is
 
 pub invariant_of-self : goal.invariant_of-self
 invariant_of-self c =
     let items = c.self.inside.pieces.items in
-    let same = ap (λ (v : RackView). v.pieces) c.self.view_is in
-    let t = c.args.now in
-    let passed : IsPassed t c.start-start.result items = rw same c.start-start.ensures in
-    let at = sym (ap (position (is_open t)) (c.rest_of.ensures ∙ ap (drop c.start-start.result) c.deref.ensures.value)) ∙ sym c.place_of_open.ensures ∙ c.in-Some.is in
-    (sells_at t t c.start-start.result c.in-Some.at items c.index_mut.result.now (record c.index_mut.result.now { sold = true }) (omega arith) passed at c.index_mut.ensures.value refl).1
+    subst (λ (ps : List StockPiece). IsPassed c.args.now c.in-Some.place ps) (sym (removed c.remove.result (c.remove.ensures.variant.1 (omega (arith, c.in-Some.ensures.within))) c.remove.ensures.items))
+    (passed_sold c.args.now c.in-Some.place items c.in-Some.ensures)
 
-pub returns : goal.returns
-returns c =
-    let items = c.self.inside.pieces.items in
-    let same = ap (λ (v : RackView). v.pieces) c.self.view_is in
-    let t = c.args.now in
-    let passed : IsPassed t c.start-start.result items = rw same c.start-start.ensures in
-    let at = sym (ap (position (is_open t)) (c.rest_of.ensures ∙ ap (drop c.start-start.result) c.deref.ensures.value)) ∙ sym c.place_of_open.ensures ∙ c.in-Some.is in
-    record {
-      sold = (sells_at t t c.start-start.result c.in-Some.at items c.index_mut.result.now (record c.index_mut.result.now { sold = true }) (omega arith) passed at c.index_mut.ensures.value refl).0 ∙ ap (sold_first t) same;
-      some = some_found t t c.start-start.result c.in-Some.at items (omega arith) passed at ∙ ap (λ (xs : List StockPiece). is_some (find (is_open t) xs)) same;
-      room = search rules;
-    }
+pub returns-clause-sold : goal.returns-clause-sold
+returns-clause-sold c =
+    removed c.remove.result (c.remove.ensures.variant.1 (omega (arith, c.in-Some.ensures.within))) c.remove.ensures.items
+    ∙ sold_is c.args.now c.in-Some.place c.self.inside.pieces.items c.in-Some.ensures ∙ ap (λ (v : RackView). sold_first c.args.now v.pieces) c.self.view_is
+
+pub returns-clause-some : goal.returns-clause-some
+returns-clause-some c = some_found c.args.now c.in-Some.place c.self.inside.pieces.items c.in-Some.ensures ∙ ap (λ (v : RackView). is_some (find (is_open c.args.now) v.pieces)) c.self.view_is

@@ -9,4 +9,4 @@ returns-else-seconds c =
     let items = c.self.inside.pieces.items in
     let same = ap (λ (v : RackView). v.pieces) c.self.view_is in
     let passed = c.self.invariant in
-    subst (λ (ps : List StockPiece). IsPassed c.args.now c.self.inside.head ps) same (record { within = passed.within; closed = all_later c.self.inside.noted c.args.now c.self.inside.head items (omega arith) passed.closed })
+    subst (λ (ps : List StockPiece). IsPassed c.args.now c.self.inside.ended ps) same (record { within = passed.within; closed = all_later c.self.inside.noted c.args.now c.self.inside.ended items (omega arith) passed.closed })

@@ -1,9 +1,9 @@
-use Rattle.std.proofs.Common.{[], ◌∙◌, sym, ap}
+use Rattle.std.proofs.Common.{[], ◌∙◌, sym, ap, arith}
 use Rattle.std.specs.Prelude.{find, is_some}
 use Rattle.std.specs.Option.{option_copied_mut}
 use Rattle.stock_rack.specs.Racks.{RackView, is_open, sold_first}
 use Rattle.stock_rack.specs.Shelves.{pieces_at, room_at}
-use Rattle.stock_rack.proofs.ShelfLaws.{on, written, kept, found, not_found, rewritten, none_sold}
+use Rattle.stock_rack.proofs.ShelfLaws.{on, written, no_less, found, not_found, rewritten, none_sold}
 use Rattle.stock_rack.proofs.racks.Racks.sell_first.Goals as goal
 
 pub returns-in-None : goal.returns-in-None
@@ -14,7 +14,7 @@ returns-in-None c =
     record {
       sold = λ v. ap (λ r. pieces_at r v) same ∙ none_sold c.args.now c.args.self.now c.args.value none v;
       some = sym (ap (λ o. is_some (find (is_open c.args.now) (on (λ (r : RackView). r.pieces) [] o))) none);
-      room = λ v. ap (λ r. room_at r v) same;
+      more = λ v. let e = ap (λ r. room_at r v) same in omega (arith, e);
     }
 
 pub returns : goal.returns
@@ -26,5 +26,5 @@ returns c =
     record {
       sold = written h (λ r. r.pieces) [] (sold_first c.args.now) c.sell_first.ensures.sold;
       some = c.sell_first.ensures.some ∙ ap (λ o. is_some (find (is_open c.args.now) (on (λ (r : RackView). r.pieces) [] o))) (found c.args.value c.self.view_is is);
-      room = kept h (λ r. r.room) 0 c.sell_first.ensures.room;
+      more = no_less h c.sell_first.ensures.more;
     }
