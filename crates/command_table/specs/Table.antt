@@ -52,11 +52,11 @@ form_of names.WalletGet = done (codes "wallet") (codes "get") (Book ∷ Vendor �
 form_of names.WalletRetry = done (codes "wallet") (codes "retry") (Book ∷ Peer ∷ Connect ∷ [])
 form_of names.WalletList = done (codes "wallet") (codes "list") (Book ∷ [])
 form_of names.WalletLines = to_come (codes "wallet") (codes "lines") (Book ∷ Vendor ∷ [])
-form_of names.WalletChain = to_come (codes "wallet") (codes "chain") (Book ∷ [])
+form_of names.WalletChain = done (codes "wallet") (codes "chain") (Book ∷ [])
 form_of names.WalletProxy = to_come (codes "wallet") (codes "proxy") (Book ∷ Vendor ∷ Limit ∷ Budget ∷ Listen ∷ Connect ∷ Links ∷ [])
 form_of names.WalletRenew = to_come (codes "wallet") (codes "renew") (Book ∷ Vendor ∷ Target ∷ Before ∷ Connect ∷ [])
 form_of names.AuditReport = done (codes "audit") (codes "report") (Books ∷ Json ∷ [])
-form_of names.AuditChain = to_come (codes "audit") (codes "chain") (Books ∷ [])
+form_of names.AuditChain = done (codes "audit") (codes "chain") (Books ∷ [])
 form_of names.AuditTree = to_come (codes "audit") (codes "tree") (Books ∷ [])
 
 -- the rules of its arguments

@@ -135,7 +135,7 @@ pub enum Parameter {
     Order,
     /// Where the link goes.
     Connect,
-    /// What the piece that pays has to be worth at least, or scrip may cost at most.
+    /// What the piece that pays has to be worth at least.
     Limit,
     /// What all payments may come to.
     Budget,

@@ -83,7 +83,7 @@ pub enum CommandName {
     WalletRenew,
     /// Reports of books.
     AuditReport,
-    /// Tells the last digest of each book.
+    /// Tells of each book how many entries it has, and the digest of all of them.
     AuditChain,
     /// Reports of brokers that sell scrip of each other.
     AuditTree,
@@ -251,7 +251,7 @@ impl CommandName {
             CommandName::WalletRetry => done("wallet", "retry", &[Book, Peer, Connect]),
             CommandName::WalletList => done("wallet", "list", &[Book]),
             CommandName::WalletLines => to_come("wallet", "lines", &[Book, Vendor]),
-            CommandName::WalletChain => to_come("wallet", "chain", &[Book]),
+            CommandName::WalletChain => done("wallet", "chain", &[Book]),
             CommandName::WalletProxy => to_come(
                 "wallet",
                 "proxy",
@@ -263,7 +263,7 @@ impl CommandName {
                 &[Book, Vendor, Target, Before, Connect],
             ),
             CommandName::AuditReport => done("audit", "report", &[Books, Json]),
-            CommandName::AuditChain => to_come("audit", "chain", &[Books]),
+            CommandName::AuditChain => done("audit", "chain", &[Books]),
             CommandName::AuditTree => to_come("audit", "tree", &[Books]),
         }
     }

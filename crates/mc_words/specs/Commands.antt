@@ -6,79 +6,52 @@ use Rattle.command_table.specs.declared.table.CommandName.TheVariants as names
 use Rattle.command_table.specs.Table.{AreOf, form_of}
 use Rattle.command_table.specs.Values.{AreFound, ValuesOf}
 use Rattle.mc_words.specs.declared.command.Command.{Command}
-use Rattle.mc_words.specs.declared.command.Command.TheVariants.{Once, Init, Serve, Play, Operate, BrokerInit, BrokerServe, BrokerOperate, WalletInit, WalletOperate, Report}
+use Rattle.mc_words.specs.declared.command.Command.TheVariants.{Once, Init, Serve, Play, Operate, BrokerInit, BrokerServe, BrokerOperate, WalletInit, WalletOperate, Report, Chains}
 use Rattle.site_words.specs.declared.operation.Operation.TheVariants as operations
 use Rattle.site_words.specs.declared.broker_operation.BrokerOperation.TheVariants as brokers
-use Rattle.site_words.specs.Words.{broker_founder_values, inquiry_values, licence_upgrading_values, licensing_values, listing_values, minting_values, opening_values, payment_values, playing_values, pricing_values, server_values, shop_values, stocking_values, switching_values, taking_values, upgrading_values, vendor_founder_values}
 use Rattle.wallet_words.specs.declared.wallet_operation.WalletOperation.TheVariants as wallets
-use Rattle.wallet_words.specs.Words.{buying_values, drawing_values, getting_values, reporting_values, retrying_values, wallet_book_values, wallet_founder_values}
 
--- its name in the table
-abbrev pub name_of : Command → CommandName
-name_of (Init x) = names.VendorInit
-name_of (Operate (operations.Goods x)) = names.VendorGoods
-name_of (Operate (operations.Price x)) = names.VendorPrice
-name_of (Operate (operations.Licence x)) = names.VendorLicence
-name_of (Operate (operations.Mint x)) = names.VendorMint
-name_of (Operate (operations.Upgrade x)) = names.VendorUpgrade
-name_of (Operate (operations.Chain x)) = names.VendorChain
-name_of (Serve x) = names.VendorServe
-name_of (Once x) = names.VendorOnce
-name_of (Play x) = names.VendorPlay
-name_of (BrokerInit x) = names.BrokerInit
-name_of (BrokerOperate (brokers.Account x)) = names.BrokerAccount
-name_of (BrokerOperate (brokers.Deposit x)) = names.BrokerDeposit
-name_of (BrokerOperate (brokers.Withdraw x)) = names.BrokerWithdraw
-name_of (BrokerOperate (brokers.Balance x)) = names.BrokerBalance
-name_of (BrokerOperate (brokers.Licence x)) = names.BrokerLicence
-name_of (BrokerOperate (brokers.Stock x)) = names.BrokerStock
-name_of (BrokerOperate (brokers.Upgrade x)) = names.BrokerUpgrade
-name_of (BrokerOperate (brokers.Chain x)) = names.BrokerChain
-name_of (BrokerServe x) = names.BrokerServe
-name_of (WalletInit x) = names.WalletInit
-name_of (WalletOperate (wallets.Take x)) = names.WalletTake
-name_of (WalletOperate (wallets.Draw x)) = names.WalletDraw
-name_of (WalletOperate (wallets.Buy x)) = names.WalletBuy
-name_of (WalletOperate (wallets.Get x)) = names.WalletGet
-name_of (WalletOperate (wallets.Retry x)) = names.WalletRetry
-name_of (WalletOperate (wallets.List x)) = names.WalletList
-name_of (Report x) = names.AuditReport
+-- The command that a row makes of the values of its parameters, in their order; None of a row that is not carried out.
+unfoldable pub command_with : (name : CommandName) → ValuesOf (form_of name).parameters → Option Command
+unfolding form_of
+command_with names.VendorInit v = Some (Init (record { book = v.0; name = v.1.0; period = v.1.1.0; life = v.1.1.1.0; scrip = v.1.1.1.1.0; customer = v.1.1.1.1.1.0; keep = v.1.1.1.1.1.1.0; clear = v.1.1.1.1.1.1.1.0 }))
+command_with names.VendorGoods v = Some (Operate (operations.Goods (record { book = v.0; target = v.1.0; price = v.1.1.0; kind = v.1.1.1.0 })))
+command_with names.VendorPrice v = Some (Operate (operations.Price (record { book = v.0; target = v.1.0; price = v.1.1.0 })))
+command_with names.VendorLicence v = Some (Operate (operations.Licence (record { book = v.0; issuer = v.1.0; period = v.1.1.0; life = v.1.1.1.0; scrip = v.1.1.1.1.0; customer = v.1.1.1.1.1.0 })))
+command_with names.VendorMint v = Some (Operate (operations.Mint (record { book = v.0; count = v.1.0; value = v.1.1.0; reference = v.1.1.1.0 })))
+command_with names.VendorUpgrade v = Some (Operate (operations.Upgrade (record { book = v.0; issuer = v.1.0; from = v.1.1.0 })))
+command_with names.VendorChain v = Some (Operate (operations.Chain (record { book = v.0 })))
+command_with names.VendorServe v = Some (Serve (record { book = v.0; listen = v.1.0; links = v.1.1.0 }))
+command_with names.VendorOnce v = Some (Once (record { name = v.0; target = v.1.0; price = v.1.1.0; secret = v.1.1.1.0; contents = v.1.1.1.1.0 }))
+command_with names.VendorPlay v = Some (Play (record { count = v.0 }))
+command_with names.BrokerInit v = Some (BrokerInit (record { book = v.0; name = v.1.0; period = v.1.1.0; life = v.1.1.1.0; scrip = v.1.1.1.1.0; customer = v.1.1.1.1.1.0; fee = v.1.1.1.1.1.1.0; keep = v.1.1.1.1.1.1.1.0; clear = v.1.1.1.1.1.1.1.1.0 }))
+command_with names.BrokerAccount v = Some (BrokerOperate (brokers.Account (record { book = v.0; account = v.1.0; key = v.1.1.0 })))
+command_with names.BrokerDeposit v = Some (BrokerOperate (brokers.Deposit (record { book = v.0; account = v.1.0; amount = v.1.1.0; reference = v.1.1.1.0 })))
+command_with names.BrokerWithdraw v = Some (BrokerOperate (brokers.Withdraw (record { book = v.0; account = v.1.0; amount = v.1.1.0; reference = v.1.1.1.0 })))
+command_with names.BrokerBalance v = Some (BrokerOperate (brokers.Balance (record { book = v.0; account = v.1.0 })))
+command_with names.BrokerLicence v = Some (BrokerOperate (brokers.Licence (record { book = v.0 })))
+command_with names.BrokerStock v = Some (BrokerOperate (brokers.Stock (record { book = v.0; vendor = v.1.0 })))
+command_with names.BrokerUpgrade v = Some (BrokerOperate (brokers.Upgrade (record { book = v.0; vendor = v.1.0; from = v.1.1.0 })))
+command_with names.BrokerChain v = Some (BrokerOperate (brokers.Chain (record { book = v.0 })))
+command_with names.BrokerServe v = Some (BrokerServe (record { book = v.0; listen = v.1.0; links = v.1.1.0 }))
+command_with names.WalletInit v = Some (WalletInit (record { book = v.0; name = v.1.0 }))
+command_with names.WalletTake v = Some (WalletOperate (wallets.Take (record { book = v.0 })))
+command_with names.WalletDraw v = Some (WalletOperate (wallets.Draw (record { book = v.0; broker = v.1.0; account = v.1.1.0; key = v.1.1.1.0; order = v.1.1.1.1.0; amount = v.1.1.1.1.1.0; connect = v.1.1.1.1.1.1.0 })))
+command_with names.WalletBuy v = Some (WalletOperate (wallets.Buy (record { book = v.0; broker = v.1.0; vendor = v.1.1.0; amount = v.1.1.1.0; limit = v.1.1.1.1.0; connect = v.1.1.1.1.1.0 })))
+command_with names.WalletGet v = Some (WalletOperate (wallets.Get (record { book = v.0; vendor = v.1.0; target = v.1.1.0; limit = v.1.1.1.0; connect = v.1.1.1.1.0 })))
+command_with names.WalletRetry v = Some (WalletOperate (wallets.Retry (record { book = v.0; peer = v.1.0; connect = v.1.1.0 })))
+command_with names.WalletList v = Some (WalletOperate (wallets.List (record { book = v.0 })))
+command_with names.WalletChain v = Some (WalletOperate (wallets.Chain (record { book = v.0 })))
+command_with names.AuditReport v = Some (Report (record { books = v.0; json = v.1.0 }))
+command_with names.AuditChain v = Some (Chains (record { books = v.0 }))
+command_with _ v = None
 
--- its values
-unfoldable pub values_of : (c : Command) → ValuesOf (form_of (name_of c)).parameters
-unfolding form_of payment_values server_values switching_values wallet_book_values
-values_of (Init x) = vendor_founder_values x
-values_of (Operate (operations.Goods x)) = listing_values x
-values_of (Operate (operations.Price x)) = pricing_values x
-values_of (Operate (operations.Licence x)) = licensing_values x
-values_of (Operate (operations.Mint x)) = minting_values x
-values_of (Operate (operations.Upgrade x)) = upgrading_values x
-values_of (Operate (operations.Chain x)) = switching_values x
-values_of (Serve x) = server_values x
-values_of (Once x) = shop_values x
-values_of (Play x) = playing_values x
-values_of (BrokerInit x) = broker_founder_values x
-values_of (BrokerOperate (brokers.Account x)) = opening_values x
-values_of (BrokerOperate (brokers.Deposit x)) = payment_values x
-values_of (BrokerOperate (brokers.Withdraw x)) = payment_values x
-values_of (BrokerOperate (brokers.Balance x)) = inquiry_values x
-values_of (BrokerOperate (brokers.Licence x)) = taking_values x
-values_of (BrokerOperate (brokers.Stock x)) = stocking_values x
-values_of (BrokerOperate (brokers.Upgrade x)) = licence_upgrading_values x
-values_of (BrokerOperate (brokers.Chain x)) = switching_values x
-values_of (BrokerServe x) = server_values x
-values_of (WalletInit x) = wallet_founder_values x
-values_of (WalletOperate (wallets.Take x)) = wallet_book_values x
-values_of (WalletOperate (wallets.Draw x)) = drawing_values x
-values_of (WalletOperate (wallets.Buy x)) = buying_values x
-values_of (WalletOperate (wallets.Get x)) = getting_values x
-values_of (WalletOperate (wallets.Retry x)) = retrying_values x
-values_of (WalletOperate (wallets.List x)) = wallet_book_values x
-values_of (Report x) = reporting_values x
-
--- the words are of this command
-abbrev pub AreWords : List (List ℕ) → Command → Type 0
-AreWords words c = AreOf (name_of c) words (values_of c)
+-- the words spell values of a row, of which the command is made
+pub record AreWords (words : List (List ℕ)) (c : Command) : Type 0 where
+  pub name : CommandName
+  pub values : ValuesOf (form_of name).parameters
+  pub are : AreOf name words values
+  pub made : command_with name values ≡ Some c
 
 -- the words are of no command
 abbrev pub AreNoWords : List (List ℕ) → Type 0
@@ -88,8 +61,16 @@ AreNoWords words = (c : Command) → AreWords words c → ⊥
 abbrev pub AreOfNoRow : List (List ℕ) → Type 0
 AreOfNoRow words = (name : CommandName) (values : ValuesOf (form_of name).parameters) → AreOf name words values → ⊥
 
--- What is made of rows that were found for a command: a command of its name with their values, or None where they have none, or
--- it is not carried out.
+-- of these rows, which were found for a command of this name, the command is made by its row, which is carried out
+pub record IsMadeOf (name : CommandName) (rows : List Row) (c : Command) : Type 0 where
+  pub row : CommandName
+  pub is : name ≡ row
+  pub carried_out : (form_of row).carried_out ≡ true
+  pub values : ValuesOf (form_of row).parameters
+  pub found' : AreFound rows (form_of row).parameters values
+  pub made : command_with row values ≡ Some c
+
+-- What is made of rows that were found: a command, or None where they have no values, or none of this name is carried out.
 abbrev pub GivesCommand : CommandName → List Row → Option Command → Type 0
-GivesCommand name rows (Some c) = (name ≡ name_of c) × AreFound rows (form_of (name_of c)).parameters (values_of c)
+GivesCommand name rows (Some c) = IsMadeOf name rows c
 GivesCommand name rows None = (form_of name).carried_out ≡ true → (values : ValuesOf (form_of name).parameters) → AreFound rows (form_of name).parameters values → ⊥

@@ -10,7 +10,8 @@ use site_words::{
 };
 use std::alloc::{AllocError, Global};
 use wallet_words::{
-    Buying, Drawing, Getting, Reporting, Retrying, WalletBook, WalletFounder, WalletOperation,
+    AuditBooks, Buying, Drawing, Getting, Reporting, Retrying, WalletBook, WalletFounder,
+    WalletOperation,
 };
 
 /// What the words say to do.
@@ -38,6 +39,8 @@ pub enum Command<'a> {
     WalletOperate(WalletOperation<'a>),
     /// Reports of books, as their auditor.
     Report(Reporting<'a>),
+    /// Tells the chains of books, as their auditor.
+    Chains(AuditBooks<'a>),
 }
 
 /// The command that the words, those after the program's name, are of; None exactly where they are of
@@ -171,17 +174,23 @@ fn command_in<'a>(name: CommandName, found: Found<'a>) -> Option<Command<'a>>
             let telling = WalletBook::read(&found)?;
             Some(Command::WalletOperate(WalletOperation::List(telling)))
         }
+        CommandName::WalletChain => {
+            let chaining = WalletBook::read(&found)?;
+            Some(Command::WalletOperate(WalletOperation::Chain(chaining)))
+        }
         CommandName::AuditReport => {
             let reporting = Reporting::read(found)?;
             Some(Command::Report(reporting))
         }
+        CommandName::AuditChain => {
+            let audited = AuditBooks::read(found)?;
+            Some(Command::Chains(audited))
+        }
         CommandName::VendorStatement
         | CommandName::BrokerSettle
         | CommandName::WalletLines
-        | CommandName::WalletChain
         | CommandName::WalletProxy
         | CommandName::WalletRenew
-        | CommandName::AuditChain
         | CommandName::AuditTree => None,
     }
 }

@@ -10,22 +10,22 @@ use Rattle.command_table.specs.Table.{form_of}
 use Rattle.command_table.specs.Values.{ValuesOf}
 use Rattle.command_table.specs.declared.table.CommandName.TheVariants as names
 use Rattle.site_words.specs.Ranges.{IsKeepingTime}
-pub use Rattle.site_words.specs.declared.operation.Licensing.{Licensing}
-pub use Rattle.site_words.specs.declared.operation.Listing.{Listing}
-pub use Rattle.site_words.specs.declared.operation.Minting.{Minting}
-pub use Rattle.site_words.specs.declared.operation.Pricing.{Pricing}
-pub use Rattle.site_words.specs.declared.operation.Upgrading.{Upgrading}
-pub use Rattle.site_words.specs.declared.broker_operation.Inquiry.{Inquiry}
-pub use Rattle.site_words.specs.declared.broker_operation.LicenceUpgrading.{LicenceUpgrading}
-pub use Rattle.site_words.specs.declared.broker_operation.Opening.{Opening}
-pub use Rattle.site_words.specs.declared.broker_operation.Payment.{Payment}
-pub use Rattle.site_words.specs.declared.broker_operation.Stocking.{Stocking}
-pub use Rattle.site_words.specs.declared.broker_operation.Taking.{Taking}
-pub use Rattle.site_words.specs.declared.serving.Playing.{Playing}
-pub use Rattle.site_words.specs.declared.serving.Server.{Server}
-pub use Rattle.site_words.specs.declared.switching.Switching.{Switching}
-pub use Rattle.site_words.specs.declared.founder.BrokerFounder.{BrokerFounder}
-pub use Rattle.site_words.specs.declared.founder.VendorFounder.{VendorFounder}
+use Rattle.site_words.specs.declared.operation.Licensing.{Licensing}
+use Rattle.site_words.specs.declared.operation.Listing.{Listing}
+use Rattle.site_words.specs.declared.operation.Minting.{Minting}
+use Rattle.site_words.specs.declared.operation.Pricing.{Pricing}
+use Rattle.site_words.specs.declared.operation.Upgrading.{Upgrading}
+use Rattle.site_words.specs.declared.broker_operation.Inquiry.{Inquiry}
+use Rattle.site_words.specs.declared.broker_operation.LicenceUpgrading.{LicenceUpgrading}
+use Rattle.site_words.specs.declared.broker_operation.Opening.{Opening}
+use Rattle.site_words.specs.declared.broker_operation.Payment.{Payment}
+use Rattle.site_words.specs.declared.broker_operation.Stocking.{Stocking}
+use Rattle.site_words.specs.declared.broker_operation.Taking.{Taking}
+use Rattle.site_words.specs.declared.serving.Playing.{Playing}
+use Rattle.site_words.specs.declared.serving.Server.{Server}
+use Rattle.site_words.specs.declared.switching.Switching.{Switching}
+use Rattle.site_words.specs.declared.founder.BrokerFounder.{BrokerFounder}
+use Rattle.site_words.specs.declared.founder.VendorFounder.{VendorFounder}
 
 -- ---- a vendor
 

@@ -78,13 +78,6 @@ impl<'a> Opening<'a> {
         Some(Opening { book, account, key })
     }
 
-    /// The book of the broker.
-    pub fn book(&self) -> &'a [u8]
-        ensures { result.now ≡ self.now.book }
-    {
-        self.book.bytes()
-    }
-
     /// The name of the account.
     pub fn account(&self) -> &Name
         ensures value { result.now ≡ self.now.account }
@@ -131,13 +124,6 @@ impl<'a> Payment<'a> {
         })
     }
 
-    /// The book of the broker.
-    pub fn book(&self) -> &'a [u8]
-        ensures { result.now ≡ self.now.book }
-    {
-        self.book.bytes()
-    }
-
     /// The name of the account.
     pub fn account(&self) -> &Name
         ensures value { result.now ≡ self.now.account }
@@ -181,13 +167,6 @@ impl<'a> Inquiry<'a> {
         Some(Inquiry { book, account })
     }
 
-    /// The book of the broker.
-    pub fn book(&self) -> &'a [u8]
-        ensures { result.now ≡ self.now.book }
-    {
-        self.book.bytes()
-    }
-
     /// The name of the account.
     pub fn account(&self) -> &Name
         ensures value { result.now ≡ self.now.account }
@@ -212,13 +191,6 @@ impl<'a> Taking<'a> {
         let book = place_in(found, Parameter::Book)?;
         Some(Taking { book })
     }
-
-    /// The book of the broker.
-    pub fn book(&self) -> &'a [u8]
-        ensures { result.now ≡ self.now.book }
-    {
-        self.book.bytes()
-    }
 }
 
 /// Whose pieces are taken as stock.
@@ -239,13 +211,6 @@ impl<'a> Stocking<'a> {
         let book = place_in(found, Parameter::Book)?;
         let vendor = name_in(found, Parameter::Vendor)?;
         Some(Stocking { book, vendor })
-    }
-
-    /// The book of the broker.
-    pub fn book(&self) -> &'a [u8]
-        ensures { result.now ≡ self.now.book }
-    {
-        self.book.bytes()
     }
 
     /// The name of the vendor.
@@ -277,13 +242,6 @@ impl<'a> LicenceUpgrading<'a> {
         let vendor = name_in(found, Parameter::Vendor)?;
         let from = number_in(found, Parameter::Epoch)?;
         Some(LicenceUpgrading { book, vendor, from })
-    }
-
-    /// The book of the broker.
-    pub fn book(&self) -> &'a [u8]
-        ensures { result.now ≡ self.now.book }
-    {
-        self.book.bytes()
     }
 
     /// The name of the vendor; the broker's own name means its own scrip.

@@ -82,13 +82,6 @@ impl<'a> Listing<'a> {
         })
     }
 
-    /// The book of the vendor.
-    pub fn book(&self) -> &'a [u8]
-        ensures { result.now ≡ self.now.book }
-    {
-        self.book.bytes()
-    }
-
     /// The target of the goods.
     pub fn target(&self) -> &Target
         ensures value { result.now ≡ self.now.target }
@@ -141,13 +134,6 @@ impl<'a> Pricing<'a> {
             target,
             price,
         })
-    }
-
-    /// The book of the vendor.
-    pub fn book(&self) -> &'a [u8]
-        ensures { result.now ≡ self.now.book }
-    {
-        self.book.bytes()
     }
 
     /// The target of the goods.
@@ -214,13 +200,6 @@ impl<'a> Licensing<'a> {
         let issuer = self.issuer.get() as u8;
         terms_of(issuer, self.period, self.life, self.scrip, self.customer)
     }
-
-    /// The book of the vendor.
-    pub fn book(&self) -> &'a [u8]
-        ensures { result.now ≡ self.now.book }
-    {
-        self.book.bytes()
-    }
 }
 
 /// Pieces of the vendor's own scrip that are minted.
@@ -252,13 +231,6 @@ impl<'a> Minting<'a> {
             value,
             reference,
         })
-    }
-
-    /// The book of the vendor.
-    pub fn book(&self) -> &'a [u8]
-        ensures { result.now ≡ self.now.book }
-    {
-        self.book.bytes()
     }
 
     /// How many pieces.
@@ -306,13 +278,6 @@ impl<'a> Upgrading<'a> {
         let issuer = number_in(found, Parameter::AnyIssuer)?;
         let from = number_in(found, Parameter::Epoch)?;
         Some(Upgrading { book, issuer, from })
-    }
-
-    /// The book of the vendor.
-    pub fn book(&self) -> &'a [u8]
-        ensures { result.now ≡ self.now.book }
-    {
-        self.book.bytes()
     }
 
     /// The number of the issuer, the vendor itself being 0.

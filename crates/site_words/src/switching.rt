@@ -24,11 +24,4 @@ impl<'a> Switching<'a> {
         let book = place_in(found, Parameter::Book)?;
         Some(Switching { book })
     }
-
-    /// The book of the site.
-    pub fn book(&self) -> &'a [u8]
-        ensures { result.now ≡ self.now.book }
-    {
-        self.book.bytes()
-    }
 }

@@ -11,6 +11,7 @@ wallet_book_of (wallets.Buy buying) = buying.book
 wallet_book_of (wallets.Get getting) = getting.book
 wallet_book_of (wallets.Retry retrying) = retrying.book
 wallet_book_of (wallets.List wallet) = wallet.book
+wallet_book_of (wallets.Chain wallet) = wallet.book
 
 -- where its link goes, where it has one
 abbrev pub connect_of : WalletOperation → Option (List ℕ)
@@ -20,3 +21,4 @@ connect_of (wallets.Buy buying) = Some buying.connect
 connect_of (wallets.Get getting) = Some getting.connect
 connect_of (wallets.Retry retrying) = Some retrying.connect
 connect_of (wallets.List wallet) = None
+connect_of (wallets.Chain wallet) = None

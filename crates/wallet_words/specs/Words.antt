@@ -2,19 +2,20 @@
 use Rattle.command_table.specs.Table.{form_of}
 use Rattle.command_table.specs.Values.{ValuesOf}
 use Rattle.command_table.specs.declared.table.CommandName.TheVariants as names
-pub use Rattle.wallet_words.specs.declared.reporting.Reporting.{Reporting}
-pub use Rattle.wallet_words.specs.declared.wallet_init.WalletFounder.{WalletFounder}
-pub use Rattle.wallet_words.specs.declared.wallet_operation.Buying.{Buying}
-pub use Rattle.wallet_words.specs.declared.wallet_operation.Drawing.{Drawing}
-pub use Rattle.wallet_words.specs.declared.wallet_operation.Getting.{Getting}
-pub use Rattle.wallet_words.specs.declared.wallet_operation.Retrying.{Retrying}
-pub use Rattle.wallet_words.specs.declared.wallet_operation.WalletBook.{WalletBook}
+use Rattle.wallet_words.specs.declared.audit_books.AuditBooks.{AuditBooks}
+use Rattle.wallet_words.specs.declared.reporting.Reporting.{Reporting}
+use Rattle.wallet_words.specs.declared.wallet_init.WalletFounder.{WalletFounder}
+use Rattle.wallet_words.specs.declared.wallet_operation.Buying.{Buying}
+use Rattle.wallet_words.specs.declared.wallet_operation.Drawing.{Drawing}
+use Rattle.wallet_words.specs.declared.wallet_operation.Getting.{Getting}
+use Rattle.wallet_words.specs.declared.wallet_operation.Retrying.{Retrying}
+use Rattle.wallet_words.specs.declared.wallet_operation.WalletBook.{WalletBook}
 
 unfoldable pub wallet_founder_values : WalletFounder → ValuesOf (form_of names.WalletInit).parameters
 unfolding form_of
 wallet_founder_values f = (f.book, (f.name, tt))
 
--- of `wallet list` likewise
+-- of `wallet list` and `wallet chain` likewise
 unfoldable pub wallet_book_values : WalletBook → ValuesOf (form_of names.WalletTake).parameters
 unfolding form_of
 wallet_book_values w = (w.book, tt)
@@ -38,3 +39,7 @@ retrying_values r = (r.book, (r.peer, (r.connect, tt)))
 unfoldable pub reporting_values : Reporting → ValuesOf (form_of names.AuditReport).parameters
 unfolding form_of
 reporting_values r = (r.books, (r.json, tt))
+
+unfoldable pub audit_books_values : AuditBooks → ValuesOf (form_of names.AuditChain).parameters
+unfolding form_of
+audit_books_values a = (a.books, tt)

@@ -3,10 +3,12 @@
 //! What `clap` finds in the words is read by the readers of `command_table`.
 #![tactic(auto)]
 
+mod audit_books;
 mod reporting;
 mod wallet_init;
 mod wallet_operation;
 
+pub use audit_books::AuditBooks;
 pub use reporting::Reporting;
 pub use wallet_init::WalletFounder;
 pub use wallet_operation::{Buying, Drawing, Getting, Retrying, WalletBook, WalletOperation};

@@ -27,6 +27,8 @@ pub enum WalletOperation<'a> {
     Retry(Retrying<'a>),
     /// Tells what it holds.
     List(WalletBook<'a>),
+    /// Switches the chain of the book on, and tells it.
+    Chain(WalletBook<'a>),
 }
 
 impl<'a> WalletOperation<'a> {
@@ -35,7 +37,9 @@ impl<'a> WalletOperation<'a> {
         ensures { result.now ≡ wallet_book_of self.now }
     {
         match self {
-            WalletOperation::Take(wallet) | WalletOperation::List(wallet) => wallet.book.bytes(),
+            WalletOperation::Take(wallet)
+            | WalletOperation::List(wallet)
+            | WalletOperation::Chain(wallet) => wallet.book.bytes(),
             WalletOperation::Draw(drawing) => drawing.book.bytes(),
             WalletOperation::Buy(buying) => buying.book.bytes(),
             WalletOperation::Get(getting) => getting.book.bytes(),
@@ -48,7 +52,7 @@ impl<'a> WalletOperation<'a> {
         ensures { option_map (λ place. place.now) result ≡ connect_of self.now }
     {
         match self {
-            WalletOperation::Take(_) | WalletOperation::List(_) => None,
+            WalletOperation::Take(_) | WalletOperation::List(_) | WalletOperation::Chain(_) => None,
             WalletOperation::Draw(drawing) => Some(drawing.connect.bytes()),
             WalletOperation::Buy(buying) => Some(buying.connect.bytes()),
             WalletOperation::Get(getting) => Some(getting.connect.bytes()),
@@ -57,7 +61,7 @@ impl<'a> WalletOperation<'a> {
     }
 }
 
-/// The wallet that takes pieces, or whose holdings are told.
+/// The wallet that takes pieces, whose holdings are told, or whose chain is switched on.
 #[derive(Drop)]
 pub struct WalletBook<'a> {
     /// The book of the wallet.
@@ -65,20 +69,13 @@ pub struct WalletBook<'a> {
 }
 
 impl<'a> WalletBook<'a> {
-    /// `wallet take BOOK`, and `wallet list` likewise.
+    /// `wallet take BOOK`, and `wallet list` and `wallet chain` likewise.
     #[tactic(auto, unfolding(command_table::specs::Table::form_of, crate::specs::Words::wallet_book_values))]
     pub fn read(found: &Found<'a>) -> Option<WalletBook<'a>>
         ensures { Gives WalletTake wallet_book_values found.now result }
     {
         let book = place_in(found, Parameter::Book)?;
         Some(WalletBook { book })
-    }
-
-    /// The book of the wallet.
-    pub fn book(&self) -> &'a [u8]
-        ensures { result.now ≡ self.now.book }
-    {
-        self.book.bytes()
     }
 }
 
@@ -125,13 +122,6 @@ impl<'a> Drawing<'a> {
         })
     }
 
-    /// The book of the wallet.
-    pub fn book(&self) -> &'a [u8]
-        ensures { result.now ≡ self.now.book }
-    {
-        self.book.bytes()
-    }
-
     /// The name of the broker.
     pub fn broker(&self) -> &Name
         ensures value { result.now ≡ self.now.broker }
@@ -168,13 +158,6 @@ impl<'a> Drawing<'a> {
     {
         self.amount.amount()
     }
-
-    /// Where the link goes.
-    pub fn connect(&self) -> &'a [u8]
-        ensures { result.now ≡ self.now.connect }
-    {
-        self.connect.bytes()
-    }
 }
 
 /// What scrip of a vendor is bought from a broker.
@@ -188,7 +171,7 @@ pub struct Buying<'a> {
     pub vendor: Name,
     /// The value of the scrip.
     pub amount: Sum,
-    /// What it may cost at most.
+    /// What the piece that pays has to be worth at least.
     pub limit: Sum,
     /// Where the link goes.
     pub connect: Place<'a>,
@@ -216,13 +199,6 @@ impl<'a> Buying<'a> {
         })
     }
 
-    /// The book of the wallet.
-    pub fn book(&self) -> &'a [u8]
-        ensures { result.now ≡ self.now.book }
-    {
-        self.book.bytes()
-    }
-
     /// The name of the broker.
     pub fn broker(&self) -> &Name
         ensures value { result.now ≡ self.now.broker }
@@ -245,19 +221,12 @@ impl<'a> Buying<'a> {
         self.amount.amount()
     }
 
-    /// What it may cost at most.
+    /// What the piece that pays has to be worth at least.
     pub fn limit(&self) -> Amount
         ensures value { result ≡ self.now.limit }
         ensures range { IsWithin 1 Amount.MOST self.now.limit }
     {
         self.limit.amount()
-    }
-
-    /// Where the link goes.
-    pub fn connect(&self) -> &'a [u8]
-        ensures { result.now ≡ self.now.connect }
-    {
-        self.connect.bytes()
     }
 }
 
@@ -296,13 +265,6 @@ impl<'a> Getting<'a> {
         })
     }
 
-    /// The book of the wallet.
-    pub fn book(&self) -> &'a [u8]
-        ensures { result.now ≡ self.now.book }
-    {
-        self.book.bytes()
-    }
-
     /// The name of the vendor.
     pub fn vendor(&self) -> &Name
         ensures value { result.now ≡ self.now.vendor }
@@ -323,13 +285,6 @@ impl<'a> Getting<'a> {
         ensures range { IsWithin 1 Amount.MOST self.now.limit }
     {
         self.limit.amount()
-    }
-
-    /// Where the link goes.
-    pub fn connect(&self) -> &'a [u8]
-        ensures { result.now ≡ self.now.connect }
-    {
-        self.connect.bytes()
     }
 }
 
@@ -360,24 +315,10 @@ impl<'a> Retrying<'a> {
         })
     }
 
-    /// The book of the wallet.
-    pub fn book(&self) -> &'a [u8]
-        ensures { result.now ≡ self.now.book }
-    {
-        self.book.bytes()
-    }
-
     /// The name of the peer, a vendor or a broker.
     pub fn peer(&self) -> &Name
         ensures value { result.now ≡ self.now.peer }
     {
         &self.peer
-    }
-
-    /// Where the link goes.
-    pub fn connect(&self) -> &'a [u8]
-        ensures { result.now ≡ self.now.connect }
-    {
-        self.connect.bytes()
     }
 }

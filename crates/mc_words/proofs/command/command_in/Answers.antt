@@ -1,115 +1,127 @@
+use Rattle.std.proofs.Common.{refl}
+use Rattle.command_table.specs.declared.table.CommandName.TheVariants as names
 use Rattle.command_table.specs.Table.{form_of}
-use Rattle.mc_words.specs.Commands.{values_of}
+use Rattle.site_words.specs.Words.{broker_founder_values, inquiry_values, licence_upgrading_values, licensing_values, listing_values, minting_values, opening_values, payment_values, playing_values, pricing_values, server_values, shop_values, stocking_values, switching_values, taking_values, upgrading_values, vendor_founder_values}
+use Rattle.wallet_words.specs.Words.{audit_books_values, buying_values, drawing_values, getting_values, reporting_values, retrying_values, wallet_book_values, wallet_founder_values}
+use Rattle.mc_words.specs.Commands.{command_with}
 use Rattle.mc_words.proofs.command.command_in.Goals as goal
 
 pub returns-in-VendorInit : goal.returns-in-VendorInit
-unfolding values_of
-returns-in-VendorInit c = (c.in-VendorInit.is, c.in_ok-vendor-in-VendorInit.ensures)
+unfolding form_of command_with vendor_founder_values
+returns-in-VendorInit c = record { row = names.VendorInit; is = c.in-VendorInit.is; carried_out = refl; values = vendor_founder_values c.in_ok-vendor-in-VendorInit.vendor; found' = c.in_ok-vendor-in-VendorInit.ensures; made = refl }
 
 pub returns-in-VendorGoods : goal.returns-in-VendorGoods
-unfolding values_of
-returns-in-VendorGoods c = (c.in-VendorGoods.is, c.in_ok-listing-in-VendorGoods.ensures)
+unfolding form_of command_with listing_values
+returns-in-VendorGoods c = record { row = names.VendorGoods; is = c.in-VendorGoods.is; carried_out = refl; values = listing_values c.in_ok-listing-in-VendorGoods.listing; found' = c.in_ok-listing-in-VendorGoods.ensures; made = refl }
 
 pub returns-in-VendorPrice : goal.returns-in-VendorPrice
-unfolding values_of
-returns-in-VendorPrice c = (c.in-VendorPrice.is, c.in_ok-pricing-in-VendorPrice.ensures)
+unfolding form_of command_with pricing_values
+returns-in-VendorPrice c = record { row = names.VendorPrice; is = c.in-VendorPrice.is; carried_out = refl; values = pricing_values c.in_ok-pricing-in-VendorPrice.pricing; found' = c.in_ok-pricing-in-VendorPrice.ensures; made = refl }
 
 pub returns-in-VendorLicence : goal.returns-in-VendorLicence
-unfolding values_of
-returns-in-VendorLicence c = (c.in-VendorLicence.is, c.in_ok-licensing-in-VendorLicence.ensures)
+unfolding form_of command_with licensing_values
+returns-in-VendorLicence c = record { row = names.VendorLicence; is = c.in-VendorLicence.is; carried_out = refl; values = licensing_values c.in_ok-licensing-in-VendorLicence.licensing; found' = c.in_ok-licensing-in-VendorLicence.ensures; made = refl }
 
 pub returns-in-VendorMint : goal.returns-in-VendorMint
-unfolding values_of
-returns-in-VendorMint c = (c.in-VendorMint.is, c.in_ok-minting-in-VendorMint.ensures)
-
-pub returns-in-VendorServe : goal.returns-in-VendorServe
-unfolding values_of
-returns-in-VendorServe c = (c.in-VendorServe.is, c.in_ok-server-in-VendorServe.ensures)
-
-pub returns-in-VendorOnce : goal.returns-in-VendorOnce
-unfolding values_of
-returns-in-VendorOnce c = (c.in-VendorOnce.is, c.in_ok-shop-in-VendorOnce.ensures)
-
-pub returns-in-VendorPlay : goal.returns-in-VendorPlay
-unfolding values_of
-returns-in-VendorPlay c = (c.in-VendorPlay.is, c.in_ok-playing-in-VendorPlay.ensures)
-
-pub returns-in-BrokerInit : goal.returns-in-BrokerInit
-unfolding values_of
-returns-in-BrokerInit c = (c.in-BrokerInit.is, c.in_ok-broker-in-BrokerInit.ensures)
-
-pub returns-in-BrokerAccount : goal.returns-in-BrokerAccount
-unfolding values_of
-returns-in-BrokerAccount c = (c.in-BrokerAccount.is, c.in_ok-opening-in-BrokerAccount.ensures)
-
-pub returns-in-BrokerDeposit : goal.returns-in-BrokerDeposit
-unfolding values_of
-returns-in-BrokerDeposit c = (c.in-BrokerDeposit.is, c.in_ok-deposit-in-BrokerDeposit.ensures)
-
-pub returns-in-BrokerWithdraw : goal.returns-in-BrokerWithdraw
-unfolding values_of form_of
-returns-in-BrokerWithdraw c = (c.in-BrokerWithdraw.is, c.in_ok-withdrawal-in-BrokerWithdraw.ensures)
-
-pub returns-in-BrokerBalance : goal.returns-in-BrokerBalance
-unfolding values_of
-returns-in-BrokerBalance c = (c.in-BrokerBalance.is, c.in_ok-inquiry-in-BrokerBalance.ensures)
-
-pub returns-in-BrokerLicence : goal.returns-in-BrokerLicence
-unfolding values_of
-returns-in-BrokerLicence c = (c.in-BrokerLicence.is, c.in_ok-taking-in-BrokerLicence.ensures)
-
-pub returns-in-BrokerStock : goal.returns-in-BrokerStock
-unfolding values_of
-returns-in-BrokerStock c = (c.in-BrokerStock.is, c.in_ok-stocking-in-BrokerStock.ensures)
-
-pub returns-in-BrokerServe : goal.returns-in-BrokerServe
-unfolding values_of form_of
-returns-in-BrokerServe c = (c.in-BrokerServe.is, c.in_ok-desk-in-BrokerServe.ensures)
-
-pub returns-in-WalletInit : goal.returns-in-WalletInit
-unfolding values_of
-returns-in-WalletInit c = (c.in-WalletInit.is, c.in_ok-founder-in-WalletInit.ensures)
-
-pub returns-in-WalletTake : goal.returns-in-WalletTake
-unfolding values_of
-returns-in-WalletTake c = (c.in-WalletTake.is, c.in_ok-filling-in-WalletTake.ensures)
-
-pub returns-in-WalletDraw : goal.returns-in-WalletDraw
-unfolding values_of
-returns-in-WalletDraw c = (c.in-WalletDraw.is, c.in_ok-drawing-in-WalletDraw.ensures)
-
-pub returns-in-WalletBuy : goal.returns-in-WalletBuy
-unfolding values_of
-returns-in-WalletBuy c = (c.in-WalletBuy.is, c.in_ok-buying-in-WalletBuy.ensures)
-
-pub returns-in-WalletGet : goal.returns-in-WalletGet
-unfolding values_of
-returns-in-WalletGet c = (c.in-WalletGet.is, c.in_ok-getting-in-WalletGet.ensures)
-
-pub returns-in-WalletRetry : goal.returns-in-WalletRetry
-unfolding values_of
-returns-in-WalletRetry c = (c.in-WalletRetry.is, c.in_ok-retrying-in-WalletRetry.ensures)
-
-pub returns-in-WalletList : goal.returns-in-WalletList
-unfolding values_of form_of
-returns-in-WalletList c = (c.in-WalletList.is, c.in_ok-telling-in-WalletList.ensures)
-
-pub returns-in-AuditReport : goal.returns-in-AuditReport
-unfolding values_of
-returns-in-AuditReport c = (c.in-AuditReport.is, c.in_ok-reporting-in-AuditReport.ensures)
+unfolding form_of command_with minting_values
+returns-in-VendorMint c = record { row = names.VendorMint; is = c.in-VendorMint.is; carried_out = refl; values = minting_values c.in_ok-minting-in-VendorMint.minting; found' = c.in_ok-minting-in-VendorMint.ensures; made = refl }
 
 pub returns-in-VendorUpgrade : goal.returns-in-VendorUpgrade
-unfolding values_of
-returns-in-VendorUpgrade c = (c.in-VendorUpgrade.is, c.in_ok-upgrading-in-VendorUpgrade.ensures)
+unfolding form_of command_with upgrading_values
+returns-in-VendorUpgrade c = record { row = names.VendorUpgrade; is = c.in-VendorUpgrade.is; carried_out = refl; values = upgrading_values c.in_ok-upgrading-in-VendorUpgrade.upgrading; found' = c.in_ok-upgrading-in-VendorUpgrade.ensures; made = refl }
 
 pub returns-in-VendorChain : goal.returns-in-VendorChain
-unfolding values_of
-returns-in-VendorChain c = (c.in-VendorChain.is, c.in_ok-switching-in-VendorChain.ensures)
+unfolding form_of command_with switching_values
+returns-in-VendorChain c = record { row = names.VendorChain; is = c.in-VendorChain.is; carried_out = refl; values = switching_values c.in_ok-switching-in-VendorChain.switching; found' = c.in_ok-switching-in-VendorChain.ensures; made = refl }
+
+pub returns-in-VendorServe : goal.returns-in-VendorServe
+unfolding form_of command_with server_values
+returns-in-VendorServe c = record { row = names.VendorServe; is = c.in-VendorServe.is; carried_out = refl; values = server_values c.in_ok-server-in-VendorServe.server; found' = c.in_ok-server-in-VendorServe.ensures; made = refl }
+
+pub returns-in-VendorOnce : goal.returns-in-VendorOnce
+unfolding form_of command_with shop_values
+returns-in-VendorOnce c = record { row = names.VendorOnce; is = c.in-VendorOnce.is; carried_out = refl; values = shop_values c.in_ok-shop-in-VendorOnce.shop; found' = c.in_ok-shop-in-VendorOnce.ensures; made = refl }
+
+pub returns-in-VendorPlay : goal.returns-in-VendorPlay
+unfolding form_of command_with playing_values
+returns-in-VendorPlay c = record { row = names.VendorPlay; is = c.in-VendorPlay.is; carried_out = refl; values = playing_values c.in_ok-playing-in-VendorPlay.playing; found' = c.in_ok-playing-in-VendorPlay.ensures; made = refl }
+
+pub returns-in-BrokerInit : goal.returns-in-BrokerInit
+unfolding form_of command_with broker_founder_values
+returns-in-BrokerInit c = record { row = names.BrokerInit; is = c.in-BrokerInit.is; carried_out = refl; values = broker_founder_values c.in_ok-broker-in-BrokerInit.broker; found' = c.in_ok-broker-in-BrokerInit.ensures; made = refl }
+
+pub returns-in-BrokerAccount : goal.returns-in-BrokerAccount
+unfolding form_of command_with opening_values
+returns-in-BrokerAccount c = record { row = names.BrokerAccount; is = c.in-BrokerAccount.is; carried_out = refl; values = opening_values c.in_ok-opening-in-BrokerAccount.opening; found' = c.in_ok-opening-in-BrokerAccount.ensures; made = refl }
+
+pub returns-in-BrokerDeposit : goal.returns-in-BrokerDeposit
+unfolding form_of command_with payment_values
+returns-in-BrokerDeposit c = record { row = names.BrokerDeposit; is = c.in-BrokerDeposit.is; carried_out = refl; values = payment_values c.in_ok-deposit-in-BrokerDeposit.deposit; found' = c.in_ok-deposit-in-BrokerDeposit.ensures; made = refl }
+
+pub returns-in-BrokerWithdraw : goal.returns-in-BrokerWithdraw
+unfolding form_of command_with payment_values
+returns-in-BrokerWithdraw c = record { row = names.BrokerWithdraw; is = c.in-BrokerWithdraw.is; carried_out = refl; values = payment_values c.in_ok-withdrawal-in-BrokerWithdraw.withdrawal; found' = c.in_ok-withdrawal-in-BrokerWithdraw.ensures; made = refl }
+
+pub returns-in-BrokerBalance : goal.returns-in-BrokerBalance
+unfolding form_of command_with inquiry_values
+returns-in-BrokerBalance c = record { row = names.BrokerBalance; is = c.in-BrokerBalance.is; carried_out = refl; values = inquiry_values c.in_ok-inquiry-in-BrokerBalance.inquiry; found' = c.in_ok-inquiry-in-BrokerBalance.ensures; made = refl }
+
+pub returns-in-BrokerLicence : goal.returns-in-BrokerLicence
+unfolding form_of command_with taking_values
+returns-in-BrokerLicence c = record { row = names.BrokerLicence; is = c.in-BrokerLicence.is; carried_out = refl; values = taking_values c.in_ok-taking-in-BrokerLicence.taking; found' = c.in_ok-taking-in-BrokerLicence.ensures; made = refl }
+
+pub returns-in-BrokerStock : goal.returns-in-BrokerStock
+unfolding form_of command_with stocking_values
+returns-in-BrokerStock c = record { row = names.BrokerStock; is = c.in-BrokerStock.is; carried_out = refl; values = stocking_values c.in_ok-stocking-in-BrokerStock.stocking; found' = c.in_ok-stocking-in-BrokerStock.ensures; made = refl }
 
 pub returns-in-BrokerUpgrade : goal.returns-in-BrokerUpgrade
-unfolding values_of
-returns-in-BrokerUpgrade c = (c.in-BrokerUpgrade.is, c.in_ok-moving-in-BrokerUpgrade.ensures)
+unfolding form_of command_with licence_upgrading_values
+returns-in-BrokerUpgrade c = record { row = names.BrokerUpgrade; is = c.in-BrokerUpgrade.is; carried_out = refl; values = licence_upgrading_values c.in_ok-moving-in-BrokerUpgrade.moving; found' = c.in_ok-moving-in-BrokerUpgrade.ensures; made = refl }
 
 pub returns-in-BrokerChain : goal.returns-in-BrokerChain
-unfolding values_of form_of
-returns-in-BrokerChain c = (c.in-BrokerChain.is, c.in_ok-chained-in-BrokerChain.ensures)
+unfolding form_of command_with switching_values
+returns-in-BrokerChain c = record { row = names.BrokerChain; is = c.in-BrokerChain.is; carried_out = refl; values = switching_values c.in_ok-chained-in-BrokerChain.chained; found' = c.in_ok-chained-in-BrokerChain.ensures; made = refl }
+
+pub returns-in-BrokerServe : goal.returns-in-BrokerServe
+unfolding form_of command_with server_values
+returns-in-BrokerServe c = record { row = names.BrokerServe; is = c.in-BrokerServe.is; carried_out = refl; values = server_values c.in_ok-desk-in-BrokerServe.desk; found' = c.in_ok-desk-in-BrokerServe.ensures; made = refl }
+
+pub returns-in-WalletInit : goal.returns-in-WalletInit
+unfolding form_of command_with wallet_founder_values
+returns-in-WalletInit c = record { row = names.WalletInit; is = c.in-WalletInit.is; carried_out = refl; values = wallet_founder_values c.in_ok-founder-in-WalletInit.founder; found' = c.in_ok-founder-in-WalletInit.ensures; made = refl }
+
+pub returns-in-WalletTake : goal.returns-in-WalletTake
+unfolding form_of command_with wallet_book_values
+returns-in-WalletTake c = record { row = names.WalletTake; is = c.in-WalletTake.is; carried_out = refl; values = wallet_book_values c.in_ok-filling-in-WalletTake.filling; found' = c.in_ok-filling-in-WalletTake.ensures; made = refl }
+
+pub returns-in-WalletDraw : goal.returns-in-WalletDraw
+unfolding form_of command_with drawing_values
+returns-in-WalletDraw c = record { row = names.WalletDraw; is = c.in-WalletDraw.is; carried_out = refl; values = drawing_values c.in_ok-drawing-in-WalletDraw.drawing; found' = c.in_ok-drawing-in-WalletDraw.ensures; made = refl }
+
+pub returns-in-WalletBuy : goal.returns-in-WalletBuy
+unfolding form_of command_with buying_values
+returns-in-WalletBuy c = record { row = names.WalletBuy; is = c.in-WalletBuy.is; carried_out = refl; values = buying_values c.in_ok-buying-in-WalletBuy.buying; found' = c.in_ok-buying-in-WalletBuy.ensures; made = refl }
+
+pub returns-in-WalletGet : goal.returns-in-WalletGet
+unfolding form_of command_with getting_values
+returns-in-WalletGet c = record { row = names.WalletGet; is = c.in-WalletGet.is; carried_out = refl; values = getting_values c.in_ok-getting-in-WalletGet.getting; found' = c.in_ok-getting-in-WalletGet.ensures; made = refl }
+
+pub returns-in-WalletRetry : goal.returns-in-WalletRetry
+unfolding form_of command_with retrying_values
+returns-in-WalletRetry c = record { row = names.WalletRetry; is = c.in-WalletRetry.is; carried_out = refl; values = retrying_values c.in_ok-retrying-in-WalletRetry.retrying; found' = c.in_ok-retrying-in-WalletRetry.ensures; made = refl }
+
+pub returns-in-WalletList : goal.returns-in-WalletList
+unfolding form_of command_with wallet_book_values
+returns-in-WalletList c = record { row = names.WalletList; is = c.in-WalletList.is; carried_out = refl; values = wallet_book_values c.in_ok-telling-in-WalletList.telling; found' = c.in_ok-telling-in-WalletList.ensures; made = refl }
+
+pub returns-in-WalletChain : goal.returns-in-WalletChain
+unfolding form_of command_with wallet_book_values
+returns-in-WalletChain c = record { row = names.WalletChain; is = c.in-WalletChain.is; carried_out = refl; values = wallet_book_values c.in_ok-chaining-in-WalletChain.chaining; found' = c.in_ok-chaining-in-WalletChain.ensures; made = refl }
+
+pub returns-in-AuditReport : goal.returns-in-AuditReport
+unfolding form_of command_with reporting_values
+returns-in-AuditReport c = record { row = names.AuditReport; is = c.in-AuditReport.is; carried_out = refl; values = reporting_values c.in_ok-reporting-in-AuditReport.reporting; found' = c.in_ok-reporting-in-AuditReport.ensures; made = refl }
+
+pub returns-in-AuditChain : goal.returns-in-AuditChain
+unfolding form_of command_with audit_books_values
+returns-in-AuditChain c = record { row = names.AuditChain; is = c.in-AuditChain.is; carried_out = refl; values = audit_books_values c.in_ok-audited-in-AuditChain.audited; found' = c.in_ok-audited-in-AuditChain.ensures; made = refl }
