@@ -55,7 +55,8 @@ all_long (e ∷ es) fits = go (terms_of e) (entry_long e fits.0) (all_long es fi
 
 -- ---- own series
 
-own_series_below : (h : History) (m : ℕ) → AllByRecursion Fits h → m < 2 ^ 35 → own_series h m < 2 ^ 24
+-- a series that is told by a moment in range is below 2^24, where the periods are in range
+pub own_series_below : (h : History) (m : ℕ) → AllByRecursion Fits h → m < 2 ^ 35 → own_series h m < 2 ^ 24
 own_series_below h m fits lt = go (terms_in h 0) (λ t is. found_holds HasLong (λ x. eqb x.issuer 0) (all_terms h) t (all_long h fits) is)
   where
     go : (o : Option Issuing) → ((t : Issuing) → o ≡ Some t → HasLong t) → unwrap_or (option_map (λ t. epoch t m) o) 0 < 2 ^ 24

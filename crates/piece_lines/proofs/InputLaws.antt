@@ -149,3 +149,13 @@ front_told test (b ∷ bytes) (suc n) (Err line) long t = front_breaks test (b �
 
 pub front_tells : (test : Scrip → Bool) (bytes : List ℕ) (n : ℕ) → 83712 < n → input_lines test (take n bytes) ≡ input_lines test bytes
 front_tells test bytes n long = sym (told_only test (take n bytes) (input_lines test bytes) (front_told test bytes n (input_lines test bytes) long (input_told test bytes)))
+
+-- a longer input than 256 lines is none of pieces
+pub long_breaks : (test : Scrip → Bool) (bytes : List ℕ) → 83712 < length bytes → (line : ℕ) × (input_lines test bytes ≡ Err line)
+long_breaks test bytes long = go (input_lines test bytes) refl
+  where
+    go : (r : Result (List Held) ℕ) → input_lines test bytes ≡ r → (line : ℕ) × (input_lines test bytes ≡ Err line)
+    go (Ok ps) is =
+        let lines : AreLines test bytes ps = subst (λ (r : Result (List Held) ℕ). IsTold test bytes r) is (input_told test bytes) in
+        absurd (omega (arith, most_is, long, lines.few, lines_are_short test ps lines.fit, ap length lines.spelled))
+    go (Err line) is = (line, is)

@@ -1,4 +1,4 @@
-ghost use Rattle.std.specs.Prelude.{◌≡◌, ◌<◌, ℕ, Bool, List, Result, Ok, take};
+ghost use Rattle.std.specs.Prelude.{◌≡◌, ◌<◌, ℕ, Bool, List, Result, Ok, Err, length, take};
 ghost use Rattle.scrip_form.specs.Scrip.{Scrip};
 ghost use Rattle.mc_records.specs.Entry.{Held, ArePieces};
 ghost use Rattle.piece_lines.specs.PieceLines.{IsTold, input_lines};
@@ -22,4 +22,10 @@ pub fn lines_are_of_pieces()
 pub fn fronts_tell_the_input()
     ensures { (test : Scrip → Bool) (bytes : List ℕ) (n : ℕ) → 83712 < n
         → input_lines test (take n bytes) ≡ input_lines test bytes }
+{}
+
+/// So an input of more than 83,712 bytes breaks at a line: it is never that of some pieces.
+pub fn long_inputs_break()
+    ensures { (test : Scrip → Bool) (bytes : List ℕ) → 83712 < length bytes
+        → (line : ℕ) × (input_lines test bytes ≡ Err line) }
 {}

@@ -17,7 +17,9 @@ mod rule;
 mod tests;
 
 pub use ids::read_piece_ids;
-pub use law::{fronts_tell_the_input, input_lines_tell_the_input, lines_are_of_pieces};
+pub use law::{
+    fronts_tell_the_input, input_lines_tell_the_input, lines_are_of_pieces, long_inputs_break,
+};
 pub use line::read_secret;
 pub use lines::{PieceLinesFault, read_piece_lines};
 pub use rule::PieceRule;

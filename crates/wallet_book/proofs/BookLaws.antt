@@ -1,5 +1,5 @@
 -- What is kept of a book, with one entry more.
-use Rattle.std.proofs.Common.{◌≡◌, ℕ, suc, ◌+◌, ◌≤◌, Bool, true, false, ◌&&◌, ◌||◌, List, [], ◌∷◌, ◌++◌, length, Option, Some, None, refl, sym, ap, subst, ◌∙◌, arith, max, option_map, find, filter, bytes_eq}
+use Rattle.std.proofs.Common.{◌≡◌, ℕ, suc, ◌+◌, ◌≤◌, Bool, true, false, ◌&&◌, ◌||◌, List, [], ◌∷◌, ◌++◌, length, Option, Some, None, refl, sym, ap, ap₂, subst, ◌∙◌, arith, max, option_map, find, filter, bytes_eq}
 use Rattle.std.proofs.lemmas.Bool.{eqb-true}
 use Rattle.std.proofs.lemmas.List.{length-append}
 use Rattle.std.specs.Prelude.{◌==◌, ◌-◌, Result, Ok, Err, OnOk}
@@ -28,7 +28,7 @@ use Rattle.wallet_book.specs.declared.kept.Kept.{Kept}
 use Rattle.wallet_book.specs.Holdings.{texts_of}
 use Rattle.wallet_book.specs.Kept.{request_of, kept_of, kept_in, is_get_of, Retries}
 use Rattle.wallet_book.specs.Parts.{PartsRepresent}
-use Rattle.wallet_book.specs.Book.{BookView, WalletRepresents, FoundsWallet, HasRoom, brought_count, asked_count}
+use Rattle.wallet_book.specs.Book.{BookView, WalletRepresents, IsSameBook, FoundsWallet, HasRoom, brought_count, asked_count}
 use Rattle.wallet_book.proofs.KeptLaws.{found_kept, find_map}
 
 pub long_entry : (h : History) (e : Entry) → entry_size h e ≡ length (payload e) + tail_bytes (has_switch h) + FRAME
@@ -183,6 +183,12 @@ with_room b xs ks room kept_room h is pieces requests =
       sized = is.sized;
       switched = is.switched;
     }
+
+-- and it is the same book
+pub same_with_room : (old b : BookView) (xs : List Holding) (ks : List Kept) (room kept_room : ℕ) → b ≡ old → xs ≡ b.holdings → ks ≡ b.kept → IsSameBook old (record b { holdings = xs; kept = ks; room = room; kept_room = kept_room })
+same_with_room old b xs ks room kept_room is pieces requests =
+    subst (λ (o : BookView). IsSameBook o (record b { holdings = xs; kept = ks; room = room; kept_room = kept_room })) is
+    (ap₂ (λ (ys : List Holding) (js : List Kept). record b { holdings = ys; kept = js; room = room; kept_room = kept_room }) pieces requests)
 
 pub room_made : {A : Type 0} (r : Result (Unit {0}) A) (b : BookView) (e : Entry) (p q len capacity : ℕ) → OnOk r (p ≤ b.room) → OnOk r (len + q ≤ capacity) → p ≡ brought_count e → q ≡ asked_count e → b.kept_room ≡ capacity - len → OnOk r (HasRoom b e)
 room_made (Ok x) b e p q len capacity pieces requests is_p is_q left = record { pieces = omega (arith, pieces, is_p); requests = omega (arith, requests, is_q, left) }

@@ -39,6 +39,10 @@ pub record WalletRepresents (b : BookView) (h : History) : Type 0 where
   pub sized : size h ≡ b.size
   pub switched : has_switch h ≡ b.switched
 
+-- the same, perhaps with other room
+abbrev pub IsSameBook : BookView → BookView → Type 0
+IsSameBook old new = new ≡ record old { room = new.room; kept_room = new.kept_room }
+
 -- ---- the first entry
 
 -- the entry that founds a wallet

@@ -18,7 +18,7 @@ ghost use Rattle.wallet_book.specs.Holdings.{holding_of, texts_of, AreSpelled};
 ghost use Rattle.wallet_book.specs.Kept.{request_of, kept_of, kept_in, Retries};
 ghost use Rattle.wallet_book.specs.Parts.{PartsRepresent, LearnsEntry};
 ghost use Rattle.wallet_book.specs.Choosing.{Chooses, IsNoFunds};
-ghost use Rattle.wallet_book.specs.Book.{WalletRepresents, FoundsWallet, brought_count, asked_count, HasRoom, Learns};
+ghost use Rattle.wallet_book.specs.Book.{WalletRepresents, IsSameBook, FoundsWallet, brought_count, asked_count, HasRoom, Learns};
 
 use crate::choosing::choose;
 use crate::finding::{first_get, first_of_peer};
@@ -216,6 +216,7 @@ impl WalletBook {
     /// Makes room for an entry. What is kept stays as it is, after an `Err` too.
     pub fn reserve(&mut self, r: &Record<'_>) -> Result<(), NoMemory>
         ensures room { OnOk result (HasRoom self.new (entry r.now)) }
+        ensures book { IsSameBook self.old self.new }
         ensures time { self.new.time ≡ self.old.time }
         ensures limits { self.new.limits ≡ self.old.limits }
         ensures same { (h : History) → WalletRepresents self.old h → WalletRepresents self.new h }

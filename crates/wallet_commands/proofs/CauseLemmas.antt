@@ -13,7 +13,11 @@ use Rattle.command_status.specs.declared.status.Status.{Status}
 use Rattle.command_status.specs.declared.status.Status.TheVariants as ends
 use Rattle.command_status.specs.Faults.{fault_status}
 use Rattle.reply_reader.specs.Replies.{Received}
-use Rattle.wallet_core.specs.Answers.{IsFull, MayCheck, MayPend, MayTake}
+use Rattle.wallet_core.specs.declared.outcome.WalletOut.{WalletOut}
+use Rattle.wallet_core.specs.declared.outcome.WalletOut.TheVariants as outs
+use Rattle.wallet_core.specs.Answers.{TellsOnly, Any, IsFull, MayCheck, MayPend, MayTake}
+use Rattle.wallet_core.specs.Outcomes.{outcome_disk, CountsFaults}
+use Rattle.wallet_commands.specs.Books.{outcome_status}
 use Rattle.wallet_commands.specs.Causes.{NoneFailed, DiskFailed, LinkFailed, SettleRefused, CheckRefused, ReplyRefused, ReadRefused, LinkRefused, OnlyClocked, InputTaken, RefusedBy, CausesBy, WalletCauses}
 use Rattle.wallet_commands.specs.Founding.{InitCauses}
 
@@ -104,6 +108,18 @@ taken_so (refusals.BadInput line) v w taken may = taken
 taken_so (refusals.TwiceHeld id) v w taken may = taken
 taken_so (refusals.JournalFull size payload) v w taken may = inl taken
 taken_so f v w taken may = absurd may
+
+pub full_so : (f : Refusal) (v w : LinkView) → OnlyClocked v w → IsFull f → RefusedBy f v w
+full_so (refusals.JournalFull size payload) v w clocked is = inr (inl clocked)
+full_so f v w clocked is = absurd is
+
+-- what a wallet did, of which a line is told where it is done
+pub outcome_causes : {O A : Type 0} (May : Refusal → Type 0) (said : A → List ℕ) (link : O → LinkView) (disk : O → DiskView) (y : O) (out : WalletOut O A) → CountsFaults out (disk y).faults (disk (outcome_disk out)).faults
+    → link (outcome_disk out) ≡ link y → TellsOnly May Any out → CausesBy (λ f v w. May f × (w ≡ v)) link disk y (outcome_status (λ a. ends.Did (said a)) out) (outcome_disk out)
+outcome_causes May said link disk y (outs.Done x a) counts same told = record { disk' = counts; link' = ap (λ (v : LinkView). v.faults) same }
+outcome_causes May said link disk y (outs.Refused x f) counts same told = (record { disk' = counts; link' = ap (λ (v : LinkView). v.faults) same }, (told, same))
+outcome_causes May said link disk y (outs.NoMemory x) counts same told = record { disk' = counts; link' = ap (λ (v : LinkView). v.faults) same }
+outcome_causes May said link disk y (outs.Halted d) counts same told = record { disk' = counts; link' = ap (λ (v : LinkView). v.faults) same }
 
 -- why a book was not opened
 pub opening_causes : {O : Type 0} (A : Type 0) (link : O → LinkView) (disk : O → DiskView) (a : O) (fault : HouseFault O) → CountedBy {D = O} {A = A} (Err fault) (disk a).faults (disk (fault_disk fault)).faults

@@ -14,7 +14,7 @@ use Rattle.ledger_model.specs.Histories.{History, time}
 use Rattle.ledger_model.specs.Lines as lines
 use Rattle.ledger_model.specs.Answer.{fitted}
 use Rattle.scrip_journal.specs.Layout.{Encodes}
-use Rattle.scrip_journal.specs.Causes.{Only, IsOfOther, IsOfOtherKind}
+use Rattle.scrip_journal.specs.Causes.{Only, IsUnlawfulAt, IsOfOther, IsOfOtherKind}
 use Rattle.scrip_journal.proofs.Beginnings.{begins_history}
 use Rattle.reply_reader.specs.Replies.{Received}
 use Rattle.command_input.specs.Inputs.{LostInput}
@@ -36,6 +36,7 @@ use Rattle.wallet_commands.specs.Causes.{WalletCauses}
 use Rattle.wallet_commands.specs.Founding.{InitCauses}
 use Rattle.wallet_commands.specs.Taking.{TookBy, TakesBook}
 use Rattle.wallet_commands.specs.Listing.{ListsBook}
+use Rattle.wallet_commands.specs.Chaining.{ChainedBy, ChainsBook, switch_entry}
 use Rattle.wallet_commands.specs.Payments.{Learned, Settles, Stays, Breaks}
 use Rattle.wallet_commands.specs.Paying.{ended_by, SettlesBy, EndsBy, UsesLink, PaysBy, PaysBook, RetriesBy, RetriesBook}
 
@@ -86,11 +87,15 @@ first_is_wallet : (e : Entry) → wallet_allows [] e ≡ true → IsOfOtherKind 
 first_is_wallet (Site m kind name house) allowed other = other (eqb-true kind 2 allowed)
 first_is_wallet e allowed other = other
 
-not_of_other : (h : History) (bytes : List ℕ) → Encodes h bytes → IsWalletBook h → IsOfOther (Only 2) bytes → ⊥
+pub not_of_other : (h : History) (bytes : List ℕ) → Encodes h bytes → IsWalletBook h → IsOfOther (Only 2) bytes → ⊥
 not_of_other h bytes st lawful other =
     let more = begins_history h (other.first ∷ []) bytes st other.begins in
     let all : AllFollowBy WalletFollows [] (other.first ∷ more.0) = subst (λ (g : History). AllFollowBy WalletFollows [] g) more.1 (all_of h lawful) in
     first_is_wallet other.first all.0.allowed other.other
+
+-- no entry of it breaks
+pub no_entry_breaks : (h : History) (bytes : List ℕ) (place : ℕ) → Encodes h bytes → IsWalletBook h → IsUnlawfulAt WalletFollows (Only 2) bytes place → ⊥
+no_entry_breaks h bytes place st lawful unlawful = not_unlawful WalletFollows (Only 2) h bytes place st (λ empty. subst IsWalletBook empty lawful) (all_of h lawful) unlawful
 
 -- it was opened, unless memory was refused
 only_memory : {O : Type 0} (link : O → LinkView) (disk : O → DiskView) (h : History) (bytes : List ℕ) (a b : O) (status : Status) → Encodes h bytes → IsWalletBook h → Calm link disk a b → WalletCauses link disk a status b
@@ -100,7 +105,7 @@ only_memory link disk h bytes a b ends.DiskFault st lawful calm causes not = abs
 only_memory link disk h bytes a b ends.NotJournal st lawful calm causes not = absurd (not.0 (begins_with_header h bytes st))
 only_memory link disk h bytes a b (ends.BadEntry place) st lawful calm causes not = absurd (not_spoiled WalletFollows (Only 2) h bytes place st not.0)
 only_memory link disk h bytes a b (ends.BadChain place) st lawful calm causes not = absurd (not_unchained WalletFollows (Only 2) h bytes place not.0.0 not.0.1 st not.0.2)
-only_memory link disk h bytes a b (ends.UnlawfulEntry place) st lawful calm causes not = absurd (not_unlawful WalletFollows (Only 2) h bytes place st (λ empty. subst IsWalletBook empty lawful) (all_of h lawful) not.0)
+only_memory link disk h bytes a b (ends.UnlawfulEntry place) st lawful calm causes not = absurd (no_entry_breaks h bytes place st lawful not.0)
 only_memory link disk h bytes a b (ends.Refused f) st lawful calm causes not = absurd (not_of_other h bytes st lawful not.1)
 only_memory link disk h bytes a b ends.LinkFault st lawful calm causes not = absurd not
 only_memory link disk h bytes a b ends.Done st lawful calm causes not = absurd not
@@ -254,3 +259,22 @@ tried_well link disk peer a b status has calm causes (inl not) = inr (inl (only_
 tried_well link disk peer a b status has calm causes (inr (inl wanted)) = inr (inl (ap number_of wanted.memory))
 tried_well link disk peer a b status has calm causes (inr (inr at)) =
     well_by link disk a b status calm causes (tried_readable link disk at.history (max (time at.history) at.moment) (oldest_kept at.history peer) a b at.clocked status at.does)
+
+-- ---- telling the chain
+
+chained_readable : (d : DiskView) (h : History) (todo : Option Entry) (status : Status) → ChainedBy d h todo status → Readable status
+chained_readable d h (Some e) ends.NotJournal did is = did
+chained_readable d h (Some e) (ends.BadEntry place) did is = did
+chained_readable d h (Some e) (ends.BadChain place) did is = did
+chained_readable d h (Some e) (ends.UnlawfulEntry place) did is = did
+chained_readable d h None ends.NotJournal did is = did
+chained_readable d h None (ends.BadEntry place) did is = did
+chained_readable d h None (ends.BadChain place) did is = did
+chained_readable d h None (ends.UnlawfulEntry place) did is = did
+chained_readable d h todo status did is = absurd (cc is)
+
+pub chained_well : {O : Type 0} (link : O → LinkView) (disk : O → DiskView) (a b : O) (status : Status) (has : HasWallet (disk a)) → Calm link disk a b → WalletCauses link disk a status b → ChainsBook link disk has.bytes a status b → Well status
+chained_well link disk a b status has calm causes (inl not) = inr (inl (only_memory link disk has.history has.bytes a b status has.stands has.lawful calm causes not))
+chained_well link disk a b status has calm causes (inr (inl wanted)) = inr (inl (ap number_of wanted.memory))
+chained_well link disk a b status has calm causes (inr (inr at)) =
+    well_by link disk a b status calm causes (chained_readable (disk b) at.history (switch_entry at.history (max (time at.history) at.moment)) status at.does.did)

@@ -6,6 +6,7 @@ pub mod SettleLemmas
 pub mod UseLemmas
 pub mod PayLemmas
 pub mod TakeLemmas
+pub mod ChainLemmas
 pub mod EndLemmas
 pub mod FoundLemmas
 pub mod LineLemmas

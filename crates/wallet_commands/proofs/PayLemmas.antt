@@ -15,6 +15,7 @@ use Rattle.ledger_model.specs.Histories.{History}
 use Rattle.ledger_model.specs.Lines as lines
 use Rattle.ledger_model.specs.Answer.{fitted}
 use Rattle.scrip_journal.specs.States.{AtRest}
+use Rattle.scrip_journal.specs.Exits.{EncodesNoOutput}
 use Rattle.millicent_http.specs.declared.clock.Clock.TheVariants.{OfLinks}
 use Rattle.millicent_http.specs.Courses.{AreRead, with_readings}
 use Rattle.command_status.specs.declared.status.Status.{Status}
@@ -85,6 +86,12 @@ entry_pairs {O} {A} disk tells before h y e out old same ran =
     by_out (outs.NoMemory w) c s l = (inr (inl l.0), λ told. l.1 ∙ same told)
     by_out (outs.Halted d) c s l = (inr l.0, λ told. l.1 ∙ same told)
 
+-- or it was not
+pub unwritten : {O : Type 0} (disk : O → DiskView) (tells : Type 0) (before : DiskView) (h : History) (y z : O) → Ran before (disk y) (OldPair tells before h) → (tells → (disk y).aside ≡ before.aside)
+    → Ran (disk y) (disk z) (EncodesNoOutput h (disk y).aside) → Ran before (disk z) (OldPair tells before h)
+unwritten disk tells before h y z old same ran =
+    ran_then before (disk y) (disk z) (OldPair tells before h) old (ran_weaker (disk y) (disk z) _ _ ran (λ c s l. (inr l.0, λ told. l.1 ∙ same told)))
+
 -- it is in doubt
 pub doubted : {O A : Type 0} (disk : O → DiskView) (h : History) (y : Wallet O) (e : Entry) (d : O) (T : Entry → A → Type 0) → IsDisk (disk d) → WalletStands disk y h → Adds {D = O} {A = A} disk y h (Ok e) T (outs.Halted d)
     → Ran (disk y.journal.disk) (disk d) (LeavesBy {D = O} {A = A} (Ok e) (outs.Halted d) h (disk y.journal.disk).aside) → EncodesEither (disk d) h e
@@ -119,7 +126,7 @@ module _ {O : Type 0} (link : O → LinkView) (disk : O → DiskView) (bytes : L
   pub old : Ran (disk a) (disk y.journal.disk) (OldPair (IsSome (link a).sessions) (disk a) at.opened.opened.history)
   old = old_pairs link disk at.opened.opened.history a x.journal.disk y.journal.disk all at.opened.untouched at.keeps (no_more_still (link x.journal.disk) (link y.journal.disk) (ap (λ (v : LinkView). v.sessions) at.rest))
 
-  aside_at : IsSome (link a).sessions → (disk y.journal.disk).aside ≡ (disk a).aside
+  pub aside_at : IsSome (link a).sessions → (disk y.journal.disk).aside ≡ (disk a).aside
   aside_at told =
       aside_still link (λ o. (disk o).aside) x.journal.disk y.journal.disk all (tells_on link a x.journal.disk at.opened.untouched.link' told) (no_more_still (link x.journal.disk) (link y.journal.disk) (ap (λ (v : LinkView). v.sessions) at.rest))
       ∙ at.opened.untouched.read.aside

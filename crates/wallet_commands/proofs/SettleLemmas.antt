@@ -33,7 +33,7 @@ use Rattle.wallet_core.specs.Outcomes.{outcome_disk, CountsFaults, Adds, LeavesB
 use Rattle.wallet_core.specs.Answers.{TellsOnly, IsFull}
 use Rattle.wallet_commands.specs.Causes.{SettleRefused, CausesBy}
 use Rattle.wallet_commands.specs.Saying.{contents_said, IsSaid, IsSaidInPart}
-use Rattle.wallet_commands.specs.Paying.{ended_by, SettlesBy, EndsBy, settled_by}
+use Rattle.wallet_commands.specs.Paying.{ended_by, SettlesBy, EndsBy, entered_by, settled_by}
 use Rattle.wallet_commands.specs.Replies.{settlement_status, settled_status, learned_by, SettledPair, EndsReply}
 use Rattle.command_input.proofs.AsideLemmas.{TellsAside, SentNoMore, no_more_still, aside_still, quiet_link}
 use Rattle.wallet_commands.proofs.BookLemmas.{on_disk}
@@ -105,8 +105,10 @@ module _ {O : Type 0} (link : O → LinkView) (disk : O → DiskView) (h : Histo
     said,
   )
 
-  settle_pair : (tells : Type 0) (e : Entry) (out : WalletOut O Settlement) (aside now : List ℕ) (c s : List ℕ) → (tells → aside ≡ now) → LeavesBy (Ok e) out h aside c s → SettledPair tells now h (e ∷ []) c s
-  settle_pair tells e (outs.Done x a) aside now c s same leaves = (leaves.0, λ t. leaves.1 ∙ same t)
+  settle_pair : (tells : Type 0) (e : Entry) (out : WalletOut O Settlement) (aside now : List ℕ) (c s : List ℕ) → (tells → aside ≡ now) → LeavesBy (Ok e) out h aside c s → SettledPair tells now h (entered_by (settled_status out) e) c s
+  settle_pair tells e (outs.Done x (settled.Paid price)) aside now c s same leaves = (leaves.0, λ t. leaves.1 ∙ same t)
+  settle_pair tells e (outs.Done x (settled.Got piece)) aside now c s same leaves = (leaves.0, λ t. leaves.1 ∙ same t)
+  settle_pair tells e (outs.Done x (settled.Refused number)) aside now c s same leaves = (leaves.0, λ t. leaves.1 ∙ same t)
   settle_pair tells e (outs.Refused x f) aside now c s same leaves = (inl leaves.0, λ t. leaves.1 ∙ same t)
   settle_pair tells e (outs.NoMemory x) aside now c s same leaves = (inl leaves.0, λ t. leaves.1 ∙ same t)
   settle_pair tells e (outs.Halted d) aside now c s same leaves = (leaves.0, λ t. leaves.1 ∙ same t)
@@ -121,13 +123,14 @@ module _ {O : Type 0} (link : O → LinkView) (disk : O → DiskView) (h : Histo
       let m : O = y.journal.disk in
       let b : O = outcome_disk out in
       let e : Entry = settlement h y.book.time n p r in
+      let entered : List Entry = entered_by (settled_status out) e in
       let quiet : SentNoMore (link a) (link m) = no_more_still (link a) (link m) (ap (λ (v : LinkView). v.sessions) said) in
       record {
         ends' = subst (λ (o : Option Refusal). EndsBy h y.book.time n p (learned_by r o) (link a) (settled_status out) (disk b) (link b)) (sym none)
             (settles (link a) y out limits now is_disk (same ∙ said) adds ran);
-        pairs = subst (λ (o : Option Refusal). Ran (disk a) (disk b) (SettledPair (IsSome (link a).sessions) (disk a).aside h (settled_by h y.book.time n p (learned_by r o)))) (sym none)
-            (ran_then (disk a) (disk m) (disk b) (SettledPair (IsSome (link a).sessions) (disk a).aside h (e ∷ []))
-            (quiet_link link disk (IsSome (link a).sessions) (λ c. Encodes h c ⊎ Encodes (h ++ e ∷ []) c) (disk a).aside a m all keeps (λ t. t) quiet (λ t. refl) (λ c l. inl (journal_leaves disk x.journal h st.journal c l)))
+        pairs = subst (λ (o : Option Refusal). Ran (disk a) (disk b) (SettledPair (IsSome (link a).sessions) (disk a).aside h (settled_by h y.book.time n p (learned_by r o) (settled_status out)))) (sym none)
+            (ran_then (disk a) (disk m) (disk b) (SettledPair (IsSome (link a).sessions) (disk a).aside h entered)
+            (quiet_link link disk (IsSome (link a).sessions) (λ c. Encodes h c ⊎ Encodes (h ++ entered) c) (disk a).aside a m all keeps (λ t. t) quiet (λ t. refl) (λ c l. inl (journal_leaves disk x.journal h st.journal c l)))
             (ran_weaker (disk m) (disk b) _ _ ran (λ c s l. settle_pair (IsSome (link a).sessions) e out (disk m).aside (disk a).aside c s (λ t. aside_still link (λ o. (disk o).aside) a m all t quiet) l)));
       }
 

@@ -1,9 +1,9 @@
 -- How pieces are taken.
-use Rattle.std.proofs.Common.{◌≡◌, ◌⊎◌, ◌∙◌, inr, ℕ, List, [], ◌∷◌, ◌++◌, length, max, sym, ap, subst, Result, Ok, Err}
+use Rattle.std.proofs.Common.{◌≡◌, ◌⊎◌, ◌∙◌, ℕ, List, [], ◌∷◌, ◌++◌, length, max, sym, ap, subst, Result, Ok, Err}
 use Rattle.std.specs.Prelude.{IsSome}
+use Rattle.std.specs.Result.{result_ok}
 use Rattle.mc_outside.specs.DiskView.{DiskView, IsDisk, LinkKeeps, Ran}
 use Rattle.mc_outside.specs.LinkView.{LinkView}
-use Rattle.mc_outside.proofs.Runs.{ran_then, ran_weaker}
 use Rattle.mc_records.specs.declared.limits.Limits.{Limits}
 use Rattle.mc_records.specs.declared.limits.TheConstants.Limits.{FULL}
 use Rattle.mc_records.specs.declared.refusal.Refusal.{Refusal}
@@ -22,16 +22,15 @@ use Rattle.wallet_core.specs.declared.wallet.Wallet.{Wallet}
 use Rattle.wallet_core.specs.declared.outcome.WalletOut.{WalletOut}
 use Rattle.wallet_core.specs.declared.outcome.WalletOut.TheVariants as outs
 use Rattle.wallet_core.specs.Wallet.{WalletStands}
-use Rattle.wallet_core.specs.Answers.{TellsCount, TellsOnly, Any, MayTake}
-use Rattle.wallet_core.specs.Outcomes.{outcome_disk, CountsFaults, Adds, LeavesBy}
+use Rattle.wallet_core.specs.Answers.{TellsCount}
+use Rattle.wallet_core.specs.Outcomes.{outcome_disk, Adds, LeavesBy}
 use Rattle.wallet_commands.specs.declared.taking.TheConstants.{MOST_LINES}
 use Rattle.wallet_commands.specs.Lines.{taken_line}
-use Rattle.wallet_commands.specs.Causes.{CausesBy}
-use Rattle.wallet_commands.specs.Books.{Opened, OldPair}
-use Rattle.wallet_commands.specs.Taking.{taken_status, TookBy, TookPair, Unread, Took}
+use Rattle.wallet_commands.specs.Books.{Opened, OldPair, AddPair}
+use Rattle.wallet_commands.specs.Taking.{taken_status, TookBy, Unread, Took}
 use Rattle.command_input.proofs.AsideLemmas.{TellsAside, SentNoMore, no_more_then, no_more_still, aside_still, input_quiet}
 use Rattle.wallet_commands.proofs.BookLemmas.{on_disk, tells_on, old_pairs}
-use Rattle.wallet_commands.proofs.PayLemmas.{entry_pairs, doubted}
+use Rattle.wallet_commands.proofs.PayLemmas.{entry_pairs, unwritten, doubted}
 
 -- ---- what is taken
 
@@ -51,17 +50,16 @@ took_by disk h y (Err g) (outs.NoMemory x) limits st is_disk adds ran = on_disk 
 took_by disk h y (Err g) (outs.Halted d) limits st is_disk adds ran = absurd adds
 
 took_pairs : {O : Type 0} (disk : O → DiskView) (tells : Type 0) (before : DiskView) (h : History) (y : Wallet O) (todo : Result Entry Refusal) (out : WalletOut O ℕ) → Ran before (disk y.journal.disk) (OldPair tells before h)
-    → (tells → (disk y.journal.disk).aside ≡ before.aside) → Ran (disk y.journal.disk) (disk (outcome_disk out)) (LeavesBy todo out h (disk y.journal.disk).aside) → Ran before (disk (outcome_disk out)) (TookPair tells before h todo)
-took_pairs disk tells before h y (Ok e) out old same ran = entry_pairs disk tells before h y e out old same ran
-took_pairs {O = O} disk tells before h y (Err g) out old same ran =
-    ran_then before (disk y.journal.disk) (disk (outcome_disk out)) (OldPair tells before h) old
-    (ran_weaker (disk y.journal.disk) (disk (outcome_disk out)) _ _ ran (λ c s l. by_out out c s l))
-  where
-    by_out : (o : WalletOut O ℕ) (c s : List ℕ) → LeavesBy (Err g) o h (disk y.journal.disk).aside c s → OldPair tells before h c s
-    by_out (outs.Done w n) c s l = (inr l.0, λ told. l.1 ∙ same told)
-    by_out (outs.Refused w f) c s l = (inr l.0, λ told. l.1 ∙ same told)
-    by_out (outs.NoMemory w) c s l = (inr l.0, λ told. l.1 ∙ same told)
-    by_out (outs.Halted d) c s l = (inr l.0, λ told. l.1 ∙ same told)
+    → (tells → (disk y.journal.disk).aside ≡ before.aside) → Ran (disk y.journal.disk) (disk (outcome_disk out)) (LeavesBy todo out h (disk y.journal.disk).aside)
+    → Ran before (disk (outcome_disk out)) (AddPair tells before h (result_ok todo) (taken_status out))
+took_pairs disk tells before h y (Ok e) (outs.Done x n) old same ran = entry_pairs disk tells before h y e (outs.Done x n) old same ran
+took_pairs disk tells before h y (Ok e) (outs.Refused x f) old same ran = unwritten disk tells before h y.journal.disk x.journal.disk old same ran
+took_pairs disk tells before h y (Ok e) (outs.NoMemory x) old same ran = unwritten disk tells before h y.journal.disk x.journal.disk old same ran
+took_pairs {O = O} disk tells before h y (Ok e) (outs.Halted d) old same ran = entry_pairs {A = ℕ} disk tells before h y e (outs.Halted d) old same ran
+took_pairs disk tells before h y (Err g) (outs.Done x n) old same ran = unwritten disk tells before h y.journal.disk x.journal.disk old same ran
+took_pairs disk tells before h y (Err g) (outs.Refused x f) old same ran = unwritten disk tells before h y.journal.disk x.journal.disk old same ran
+took_pairs disk tells before h y (Err g) (outs.NoMemory x) old same ran = unwritten disk tells before h y.journal.disk x.journal.disk old same ran
+took_pairs disk tells before h y (Err g) (outs.Halted d) old same ran = unwritten disk tells before h y.journal.disk d old same ran
 
 module _ {O : Type 0} (link : O → LinkView) (disk : O → DiskView) (bytes : List ℕ) (a : O) (x : Wallet O) (all : TellsAside link (λ o. (disk o).aside)) (at : Opened link disk bytes a x) where
   -- the input was not read
@@ -98,15 +96,6 @@ module _ {O : Type 0} (link : O → LinkView) (disk : O → DiskView) (bytes : L
         read = subst (λ (v : LinkView). AreRead OfLinks (moment ∷ []) (link m.journal.disk).readings v.readings) (sym same) read;
         rest = subst (λ (v : LinkView). v ≡ with_readings v.readings (link m.journal.disk)) (sym same) rest;
         took = subst (λ (n : ℕ). TookBy (disk (outcome_disk out)) h (take_entry h n input) (taken_status out)) t (took_by disk h y (take_entry h y.book.time input) out limits st is_disk adds ran);
-        pairs = subst (λ (n : ℕ). Ran (disk a) (disk (outcome_disk out)) (TookPair (IsSome (link a).sessions) (disk a) h (take_entry h n input))) t
+        pairs = subst (λ (n : ℕ). Ran (disk a) (disk (outcome_disk out)) (AddPair (IsSome (link a).sessions) (disk a) h (result_ok (take_entry h n input)) (taken_status out))) t
             (took_pairs disk (IsSome (link a).sessions) (disk a) h y (take_entry h y.book.time input) out (old_pairs link disk h a x.journal.disk y.journal.disk all at.untouched keeps quiet) before ran);
       }
-
--- ---- causes
-
-pub taken_causes : {O : Type 0} (link : O → LinkView) (disk : O → DiskView) (y : O) (out : WalletOut O ℕ) → CountsFaults out (disk y).faults (disk (outcome_disk out)).faults → link (outcome_disk out) ≡ link y
-    → TellsOnly MayTake Any out → CausesBy (λ f v w. MayTake f × (w ≡ v)) link disk y (taken_status out) (outcome_disk out)
-taken_causes link disk y (outs.Done x count) counts same told = record { disk' = counts; link' = ap (λ (v : LinkView). v.faults) same }
-taken_causes link disk y (outs.Refused x f) counts same told = (record { disk' = counts; link' = ap (λ (v : LinkView). v.faults) same }, (told, same))
-taken_causes link disk y (outs.NoMemory x) counts same told = record { disk' = counts; link' = ap (λ (v : LinkView). v.faults) same }
-taken_causes link disk y (outs.Halted d) counts same told = record { disk' = counts; link' = ap (λ (v : LinkView). v.faults) same }

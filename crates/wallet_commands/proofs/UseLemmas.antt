@@ -64,7 +64,7 @@ module _ {O : Type 0} (link : O → LinkView) (disk : O → DiskView) (h : Histo
       let a : O = x.journal.disk in
       let m : O = y.journal.disk in
       let quiet : SentNoMore (link a) (link m) = took_quiet (link a) (link m) (Ok r) took in
-      let settled : List Entry = settled_by h t n p (learned_by r (check_of p r)) in
+      let settled : List Entry = settled_by h t n p (learned_by r (check_of p r)) status in
       record {
         answer = Ok r;
         middle = link m;
@@ -108,7 +108,7 @@ module _ {O : Type 0} (link : O → LinkView) (disk : O → DiskView) (h : Histo
       let a : O = x.journal.disk in
       let m : O = y.journal.disk in
       let more : SentMore (request_bytes p) (link a) (link m) = more_on_next (link a) (link m) (request_bytes p) (ap (λ (v : LinkView). v.sessions) sent) in
-      let settled : List Entry = settled_by h t n p (learned_of p reads.answer) in
+      let settled : List Entry = settled_by h t n p (learned_of p reads.answer) status in
       record {
         learned = learned_of p reads.answer;
         middle = reads.middle;

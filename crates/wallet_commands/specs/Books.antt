@@ -1,5 +1,5 @@
 -- The book of a wallet on a disk.
-use Rattle.std.specs.Prelude.{◌≡◌, ◌⊎◌, ℕ, List, [], ◌∷◌, ◌++◌, Some}
+use Rattle.std.specs.Prelude.{◌≡◌, ◌⊎◌, ℕ, List, [], ◌∷◌, ◌++◌, Option, Some, None}
 use Rattle.mc_outside.specs.Bytes.{BeginsWith}
 use Rattle.mc_outside.specs.DiskView.{DiskView, OnlyRead}
 use Rattle.mc_outside.specs.LinkView.{LinkView}
@@ -15,6 +15,8 @@ use Rattle.wallet_model.specs.Follows.{WalletFollows, IsWalletBook}
 use Rattle.wallet_core.specs.declared.wallet.Wallet.{Wallet}
 use Rattle.wallet_core.specs.Wallet.{WalletStands}
 use Rattle.wallet_core.specs.Opening.{OpenedFor}
+use Rattle.wallet_core.specs.declared.outcome.WalletOut.{WalletOut}
+use Rattle.wallet_core.specs.declared.outcome.WalletOut.TheVariants as outs
 
 -- The disk tells bytes that encode the lawful history of a wallet.
 pub record HasWallet (d : DiskView) : Type 0 where
@@ -75,3 +77,20 @@ OldPair tells before h image sent = (before.leaves image ⊎ Encodes h image) ×
 -- likewise while an entry is written: with it or without
 abbrev pub EntryPair : Type 0 → DiskView → History → Entry → List ℕ → List ℕ → Type 0
 EntryPair tells before h e image sent = (before.leaves image ⊎ (Encodes h image ⊎ Encodes (h ++ e ∷ []) image)) × (tells → sent ≡ before.aside)
+
+-- A crash pair of a command that has an entry to add, or none, by how it ended: with the entry or without it where it
+-- was added or is in doubt, else of before.
+abbrev pub AddPair : Type 0 → DiskView → History → Option Entry → Status → List ℕ → List ℕ → Type 0
+AddPair tells before h None status image sent = OldPair tells before h image sent
+AddPair tells before h (Some e) (ends.Did line) image sent = EntryPair tells before h e image sent
+AddPair tells before h (Some e) ends.DiskFault image sent = EntryPair tells before h e image sent
+AddPair tells before h (Some e) status image sent = OldPair tells before h image sent
+
+-- ---- by the outcome of a call of the wallet
+
+-- how a command ends by what its wallet did: as told where that is done
+abbrev pub outcome_status : {D A : Type 0} → (A → Status) → WalletOut D A → Status
+outcome_status told (outs.Done x a) = told a
+outcome_status told (outs.Refused x f) = ends.Refused f
+outcome_status told (outs.NoMemory x) = ends.NoMemory
+outcome_status told (outs.Halted d) = ends.DiskFault

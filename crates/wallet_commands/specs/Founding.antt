@@ -16,12 +16,19 @@ use Rattle.wallet_commands.specs.Causes.{NoneFailed, DiskFailed}
 abbrev pub site_of : List ℕ → ℕ → Entry
 site_of name moment = Site moment 2 name None
 
--- The clock was read once. Each crash pair has an image that encodes no entries or the Site entry of that moment, has at
--- most nine bytes, or is what a crash before could have left; and where what is sent is told, nothing was sent.
-pub record FoundAt {O : Type 0} (link : O → LinkView) (disk : O → DiskView) (name : List ℕ) (a b : O) (moment : ℕ) : Type 0 where
+-- The image of a crash pair, by how the command ended: where nothing was founded, one that a crash before could have
+-- left; else also one of founding.
+abbrev pub FoundingImage : DiskView → Entry → Status → List ℕ → Type 0
+FoundingImage before site (ends.Refused f) image = before.leaves image
+FoundingImage before site ends.NoMemory image = before.leaves image
+FoundingImage before site status image = FoundImage before site image
+
+-- The clock was read once, and each crash pair has such an image of the Site entry of that moment; where what is sent is
+-- told, nothing was sent.
+pub record FoundAt {O : Type 0} (link : O → LinkView) (disk : O → DiskView) (name : List ℕ) (a : O) (status : Status) (b : O) (moment : ℕ) : Type 0 where
   pub read : AreRead OfLinks (moment ∷ []) (link a).readings (link b).readings
   pub rest : link b ≡ with_readings (link b).readings (link a)
-  pub pairs : Ran (disk a) (disk b) (λ image sent. FoundImage (disk a) (site_of name moment) image × (IsSome (link a).sessions → sent ≡ (disk a).aside))
+  pub pairs : Ran (disk a) (disk b) (λ image sent. FoundingImage (disk a) (site_of name moment) status image × (IsSome (link a).sessions → sent ≡ (disk a).aside))
 
 -- what the disk is then, by how the command ended, where it had these bytes
 abbrev pub FoundsBy : DiskView → List ℕ → List ℕ → ℕ → Status → DiskView → Type 0
@@ -33,7 +40,7 @@ FoundsBy before name bytes moment _ after = ⊥
 
 -- how founding a wallet of this name ended, on an outside whose disk had these bytes
 abbrev pub FoundsBook : {O : Type 0} → (O → LinkView) → (O → DiskView) → List ℕ → List ℕ → O → Status → O → Type 0
-FoundsBook link disk name bytes a status b = (moment : ℕ) × FoundAt link disk name a b moment × FoundsBy (disk a) name bytes moment status (disk b)
+FoundsBook link disk name bytes a status b = (moment : ℕ) × FoundAt link disk name a status b moment × FoundsBy (disk a) name bytes moment status (disk b)
 
 -- why it ended so; it ends in no other way than these
 abbrev pub InitCauses : {O : Type 0} → (O → LinkView) → (O → DiskView) → O → Status → O → Type 0

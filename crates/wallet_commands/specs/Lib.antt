@@ -8,3 +8,4 @@ pub mod Paying
 pub mod Replies
 pub mod Taking
 pub mod Listing
+pub mod Chaining

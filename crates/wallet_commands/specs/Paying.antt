@@ -54,10 +54,19 @@ EndsBy h t n p (Stays f) before status d after = (status ≡ ends.Refused f) × 
 EndsBy h t n p Breaks before status d after = (status ≡ ends.LinkFault) × EncodesWallet d h × (after ≡ before)
 EndsBy h t n p (Settles r) before status d after = SettlesBy h t n p r before status d after
 
--- the entries that may be added by what was learned
-abbrev pub settled_by : History → ℕ → ℕ → Pending → Learned → List Entry
-settled_by h t n p (Settles r) = settlement h t n p r ∷ []
-settled_by h t n p _ = []
+-- a settlement, where a command that ends so has added it or leaves it in doubt
+abbrev pub entered_by : Status → Entry → List Entry
+entered_by ends.Done e = e ∷ []
+entered_by (ends.Did line) e = e ∷ []
+entered_by (ends.Refused (refusals.SiteRefused number)) e = e ∷ []
+entered_by ends.DiskFault e = e ∷ []
+entered_by _ e = []
+
+-- the entries that are added or in doubt, by what was learned and by how the command ended
+abbrev pub settled_by : History → ℕ → ℕ → Pending → Learned → Status → List Entry
+settled_by h t n p (Settles r) status = entered_by status (settlement h t n p r)
+settled_by h t n p (Stays f) status = []
+settled_by h t n p Breaks status = []
 
 -- A crash pair while a link is used for a request that is kept in a history: the image encodes that, with the settlement
 -- or without it. Where what is sent is told, a first part of the request was sent.
@@ -70,7 +79,7 @@ pub record UsesLink {O : Type 0} (link : O → LinkView) (disk : O → DiskView)
   pub middle : LinkView
   pub learns : Learns p learned (link a) middle
   pub ends' : EndsBy h t n p learned middle status (disk b) (link b)
-  pub pairs : Ran (disk a) (disk b) (UsePair (IsSome (link a).sessions) (disk a).aside p h (settled_by h t n p learned))
+  pub pairs : Ran (disk a) (disk b) (UsePair (IsSome (link a).sessions) (disk a).aside p h (settled_by h t n p learned status))
 
 -- ---- get, buy, draw
 

@@ -18,8 +18,8 @@ use Rattle.wallet_model.specs.Settling.{check_of}
 use Rattle.wallet_tasks.specs.declared.settling.Settlement.{Settlement}
 use Rattle.wallet_tasks.specs.declared.settling.Settlement.TheVariants as settled
 use Rattle.wallet_core.specs.declared.outcome.WalletOut.{WalletOut}
-use Rattle.wallet_core.specs.declared.outcome.WalletOut.TheVariants as outs
 use Rattle.wallet_commands.specs.Lines.{got_line}
+use Rattle.wallet_commands.specs.Books.{outcome_status}
 use Rattle.wallet_commands.specs.Payments.{Learned, Settles, Stays, Breaks}
 use Rattle.wallet_commands.specs.Paying.{EndsBy, settled_by}
 
@@ -31,10 +31,7 @@ settlement_status (settled.Refused number) = ends.Refused (refusals.SiteRefused 
 
 -- and by the outcome of settling it
 abbrev pub settled_status : {D : Type 0} → WalletOut D Settlement → Status
-settled_status (outs.Done x s) = settlement_status s
-settled_status (outs.Refused x f) = ends.Refused f
-settled_status (outs.NoMemory x) = ends.NoMemory
-settled_status (outs.Halted d) = ends.DiskFault
+settled_status out = outcome_status settlement_status out
 
 -- what is learned of a reply by its check
 abbrev pub learned_by : Received → Option Refusal → Learned
@@ -56,7 +53,7 @@ SettledPair tells aside h settled image sent = (Encodes h image ⊎ Encodes (h +
 -- The reply was checked, and settled the request of a number, or left it kept.
 pub record EndsReply {O : Type 0} (link : O → LinkView) (disk : O → DiskView) (h : History) (t n : ℕ) (p : Pending) (r : Received) (a : O) (status : Status) (b : O) : Type 0 where
   pub ends' : EndsBy h t n p (learned_by r (check_of p r)) (link a) status (disk b) (link b)
-  pub pairs : Ran (disk a) (disk b) (SettledPair (IsSome (link a).sessions) (disk a).aside h (settled_by h t n p (learned_by r (check_of p r))))
+  pub pairs : Ran (disk a) (disk b) (SettledPair (IsSome (link a).sessions) (disk a).aside h (settled_by h t n p (learned_by r (check_of p r)) status))
 
 -- The reply was read on the link that stands, and settled the request, or left it kept.
 pub record ReadsReply {O : Type 0} (link : O → LinkView) (disk : O → DiskView) (h : History) (t n : ℕ) (p : Pending) (a : O) (status : Status) (b : O) : Type 0 where
@@ -64,4 +61,4 @@ pub record ReadsReply {O : Type 0} (link : O → LinkView) (disk : O → DiskVie
   pub middle : LinkView
   pub took : TookReply (link a) answer middle
   pub ends' : EndsBy h t n p (learned_of p answer) middle status (disk b) (link b)
-  pub pairs : Ran (disk a) (disk b) (SettledPair (IsSome (link a).sessions) (disk a).aside h (settled_by h t n p (learned_of p answer)))
+  pub pairs : Ran (disk a) (disk b) (SettledPair (IsSome (link a).sessions) (disk a).aside h (settled_by h t n p (learned_of p answer) status))

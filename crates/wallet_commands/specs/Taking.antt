@@ -1,5 +1,6 @@
 -- Taking pieces, up to the line that is said.
 use Rattle.std.specs.Prelude.{◌≡◌, ◌⊎◌, ℕ, max, List, [], ◌∷◌, ◌++◌, length, Some, IsSome, Result, Ok, Err}
+use Rattle.std.specs.Result.{result_ok}
 use Rattle.mc_outside.specs.DiskView.{DiskView, Ran}
 use Rattle.mc_outside.specs.LinkView.{LinkView}
 use Rattle.mc_records.specs.declared.limits.TheConstants.Limits.{FULL}
@@ -17,18 +18,14 @@ use Rattle.command_input.specs.Inputs.{IsInput, LostInput}
 use Rattle.wallet_model.specs.Holdings.{brings}
 use Rattle.wallet_tasks.specs.Taking.{take_entry}
 use Rattle.wallet_core.specs.declared.outcome.WalletOut.{WalletOut}
-use Rattle.wallet_core.specs.declared.outcome.WalletOut.TheVariants as outs
 use Rattle.wallet_commands.specs.declared.taking.TheConstants.{MOST_LINES}
 use Rattle.wallet_commands.specs.Lines.{taken_line}
-use Rattle.wallet_commands.specs.Books.{EncodesWallet, EncodesEither, NotOpened, OldPair, EntryPair}
+use Rattle.wallet_commands.specs.Books.{EncodesWallet, EncodesEither, NotOpened, OldPair, AddPair, outcome_status}
 use Rattle.wallet_commands.specs.Causes.{WalletCauses}
 
 -- how a command ends that took pieces, or did not
 abbrev pub taken_status : {D : Type 0} → WalletOut D ℕ → Status
-taken_status (outs.Done x count) = ends.Did (taken_line count)
-taken_status (outs.Refused x f) = ends.Refused f
-taken_status (outs.NoMemory x) = ends.NoMemory
-taken_status (outs.Halted d) = ends.DiskFault
+taken_status out = outcome_status (λ count. ends.Did (taken_line count)) out
 
 -- what became of the entry of the pieces, or of the refusal in its place, by how the command ended
 abbrev pub TookBy : DiskView → History → Result Entry Refusal → Status → Type 0
@@ -38,11 +35,6 @@ TookBy d h (Ok e) ends.DiskFault = EncodesEither d h e
 TookBy d h (Err g) (ends.Refused f) = (f ≡ g) × EncodesWallet d h
 TookBy d h todo ends.NoMemory = EncodesWallet d h
 TookBy d h todo _ = ⊥
-
--- the crash pairs of it
-abbrev pub TookPair : Type 0 → DiskView → History → Result Entry Refusal → List ℕ → List ℕ → Type 0
-TookPair tells before h (Ok e) image sent = EntryPair tells before h e image sent
-TookPair tells before h (Err f) image sent = OldPair tells before h image sent
 
 -- The book encoded a history, and still does; the input was not read.
 pub record Unread {O : Type 0} (link : O → LinkView) (disk : O → DiskView) (bytes : List ℕ) (a : O) (status : Status) (b : O) : Type 0 where
@@ -64,7 +56,7 @@ pub record Took {O : Type 0} (link : O → LinkView) (disk : O → DiskView) (by
   pub read : AreRead OfLinks (moment ∷ []) taken.readings (link b).readings
   pub rest : link b ≡ with_readings (link b).readings taken
   pub took : TookBy (disk b) history (take_entry history (max (time history) moment) input) status
-  pub pairs : Ran (disk a) (disk b) (TookPair (IsSome (link a).sessions) (disk a) history (take_entry history (max (time history) moment) input))
+  pub pairs : Ran (disk a) (disk b) (AddPair (IsSome (link a).sessions) (disk a) history (result_ok (take_entry history (max (time history) moment) input)) status)
 
 -- how taking pieces ended, on an outside whose disk had these bytes
 abbrev pub TakesBook : {O : Type 0} → (O → LinkView) → (O → DiskView) → List ℕ → O → Status → O → Type 0

@@ -1,9 +1,11 @@
 //! What the commands of a wallet do with its book, up to the line that is said: it is founded, pieces are taken and
-//! listed, goods are got, scrip is bought and drawn, and what is kept is tried again.
+//! listed, goods are got, scrip is bought and drawn, what is kept is tried again, and the chain of the book is told.
 #![tactic(auto)]
 
+mod chaining;
 mod clock;
 mod founding;
+mod law;
 mod lines;
 mod listing;
 mod paying;
@@ -12,7 +14,9 @@ mod sending;
 mod settling;
 mod taking;
 
+pub use chaining::chain;
 pub use founding::init;
+pub use law::lawful_wallets_are_opened;
 pub use listing::list;
 pub use paying::{pay, retry};
 pub use taking::{MOST_LINES, take};

@@ -1,63 +1,46 @@
 //! The lines that a wallet's commands say.
 
-ghost use Rattle.std.specs.Prelude.{◌≡◌, ◌++◌, ◌+◌, ◌≤◌, [], length, flat_map, codes, IfOk, OnOk, vec_len, vec_capacity};
+ghost use Rattle.std.specs.Prelude.{◌≡◌, ◌++◌, ◌+◌, ◌≤◌, [], flat_map, codes, IfOk, OnOk, vec_len, vec_capacity};
 ghost use Rattle.wallet_book.specs.Holdings.{state_of};
 ghost use Rattle.wallet_commands.specs.Lines.{got_line, taken_line, state_word, piece_line};
 
 use itoa::Buffer;
 use mc_base::NoMemory;
+use said_lines::{READY, put, put_number};
 use scrip_form::{Piece, digits_of_id};
 use std::alloc::Global;
 use wallet_book::{Holding, State};
 
-/// How many bytes a line has room for that is made without memory: that of a piece, or of a count.
-pub const LINE_ROOM: usize = 128;
-
 /// An empty line with room for one that is put together later, without memory.
 pub(crate) fn line_room(alloc: Global) -> Result<Vec<u8>, NoMemory>
     ensures items { IfOk result (λ line. line.items ≡ []) }
-    ensures room { IfOk result (λ line. vec_len line + LINE_ROOM ≤ vec_capacity line) }
+    ensures room { IfOk result (λ line. vec_len line + READY ≤ vec_capacity line) }
 {
     let mut line = Vec::new(alloc);
-    line.reserve(LINE_ROOM)?;
+    line.reserve(READY)?;
     Ok(line)
 }
 
 /// Puts the line of a piece that was bought or drawn into an empty line with room. It takes no memory.
 pub(crate) fn put_got(line: &mut Vec<u8>, piece: &Piece)
-    requires room { vec_len line.old + LINE_ROOM ≤ vec_capacity line.old }
+    requires room { vec_len line.old + READY ≤ vec_capacity line.old }
     ensures { line.new.items ≡ line.old.items ++ got_line piece.now }
 {
-    let mut digits = Buffer::new();
     put(line, b"got ");
     put(line, piece.vendor().bytes());
     put(line, b" ");
-    put(line, digits.format(piece.value().get()).as_bytes());
+    put_number(line, piece.value().get());
     put(line, b"\n");
 }
 
 /// Puts the line of so many pieces that were taken into an empty line with room. It takes no memory.
 pub(crate) fn put_taken(line: &mut Vec<u8>, count: u16)
-    requires room { vec_len line.old + LINE_ROOM ≤ vec_capacity line.old }
+    requires room { vec_len line.old + READY ≤ vec_capacity line.old }
     ensures { line.new.items ≡ line.old.items ++ taken_line count }
 {
-    let mut digits = Buffer::new();
     put(line, b"taken ");
-    put(line, digits.format(count).as_bytes());
+    put_number(line, u64::from(count));
     put(line, b"\n");
-}
-
-/// Appends bytes, for which there is room. It takes no memory.
-fn put(line: &mut Vec<u8>, bytes: &[u8])
-    requires { vec_len line.old + length bytes.now ≤ vec_capacity line.old }
-    ensures items { line.new.items ≡ line.old.items ++ bytes.now }
-    ensures len { vec_len line.new ≡ vec_len line.old + length bytes.now }
-    ensures capacity { vec_capacity line.old ≤ vec_capacity line.new }
-{
-    match line.extend_from_slice(bytes) {
-        Ok(()) => (),
-        Err(_) => unreachable!(),
-    }
 }
 
 /// A line for each piece, in their order.

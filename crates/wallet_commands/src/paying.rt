@@ -11,13 +11,14 @@ ghost use Rattle.wallet_commands.specs.Causes.{WalletCauses};
 ghost use Rattle.wallet_commands.specs.Paying.{PaysBook, PaysBy, RetriesBook, RetriesBy, Clocked};
 
 use crate::clock::raise_by_clock;
-use crate::lines::{LINE_ROOM, line_room};
+use crate::lines::line_room;
 use crate::settling::use_link;
 use command_status::{Status, not_opened};
 use mc_base::NoMemory;
 use mc_outside::Outside;
 use mc_records::Limits;
 use reply_reader::ReplyReader;
+use said_lines::READY;
 use scrip_form::Name;
 use std::alloc::Global;
 use wallet_core::{Wallet, WalletOut, open_wallet};
@@ -65,7 +66,7 @@ pub fn retry<O: Outside>(alloc: Global, peer: &Name, out: O) -> (O, Status)
 /// The memory that using a link takes: for the reply that comes, and for the line that is said then.
 fn reply_room(alloc: Global) -> Result<(ReplyReader, Vec<u8>), NoMemory>
     ensures items { IfOk result (λ r. r.1.items ≡ []) }
-    ensures room { IfOk result (λ r. vec_len r.1 + LINE_ROOM ≤ vec_capacity r.1) }
+    ensures room { IfOk result (λ r. vec_len r.1 + READY ≤ vec_capacity r.1) }
 {
     let reader = ReplyReader::new(alloc)?;
     let line = line_room(alloc)?;
@@ -84,7 +85,7 @@ fn pay_by_clock<O: Outside>(
     requires known { IsKnown O.disk wallet }
     requires limits { wallet.book.limits ≡ FULL }
     requires empty { line.items ≡ [] }
-    requires room { vec_len line + LINE_ROOM ≤ vec_capacity line }
+    requires room { vec_len line + READY ≤ vec_capacity line }
     ensures words { number_of result.1 ≡ 2 → ⊥ }
     ensures causes { WalletCauses O.link O.disk wallet.journal.disk result.1 result.0 }
     ensures paid { (a : O) (x : Items ℕ) → Opened O.link O.disk x a wallet
@@ -109,7 +110,7 @@ fn retry_by_clock<O: Outside>(
 ) -> (O, Status)
     requires limits { wallet.book.limits ≡ FULL }
     requires empty { line.items ≡ [] }
-    requires room { vec_len line + LINE_ROOM ≤ vec_capacity line }
+    requires room { vec_len line + READY ≤ vec_capacity line }
     ensures words { number_of result.1 ≡ 2 → ⊥ }
     ensures causes { WalletCauses O.link O.disk wallet.journal.disk result.1 result.0 }
     ensures tried { (a : O) (x : Items ℕ) → Opened O.link O.disk x a wallet

@@ -13,7 +13,7 @@ ghost use Rattle.wallet_commands.specs.Causes.{CausesBy, CheckRefused, ReadRefus
 ghost use Rattle.wallet_commands.specs.Paying.{UsesLink};
 ghost use Rattle.wallet_commands.specs.Replies.{ReadsReply, EndsReply, settled_status, settlement_status};
 
-use crate::lines::{LINE_ROOM, put_got};
+use crate::lines::put_got;
 use crate::saying::{said_first, say_all};
 use crate::sending::{SendFault, send_request};
 use command_status::Status;
@@ -21,6 +21,7 @@ use mc_base::List;
 use mc_outside::{LinkFault, Outside};
 use mc_records::Refusal;
 use reply_reader::{ReplyFault, ReplyReader, ReplyRef};
+use said_lines::READY;
 use wallet_core::{Wallet, WalletOut};
 use wallet_tasks::Settlement;
 
@@ -35,7 +36,7 @@ pub(crate) fn use_link<O: Outside>(
     requires kept { (h : History) → WalletStands O.disk wallet h
         → (p : Pending) × (kept_in h number ≡ Some p) }
     requires empty { line.items ≡ [] }
-    requires room { vec_len line + LINE_ROOM ≤ vec_capacity line }
+    requires room { vec_len line + READY ≤ vec_capacity line }
     requires limits { wallet.book.limits ≡ FULL }
     ensures words { number_of result.1 ≡ 2 → ⊥ }
     ensures causes { CausesBy LinkRefused O.link O.disk wallet.journal.disk result.1 result.0 }
@@ -67,7 +68,7 @@ fn settle_by_reply<O: Outside>(
         → (p : Pending) × (kept_in h number ≡ Some p) }
     requires stands { IsTrue (O.link wallet.journal.disk).stands }
     requires empty { line.items ≡ [] }
-    requires room { vec_len line + LINE_ROOM ≤ vec_capacity line }
+    requires room { vec_len line + READY ≤ vec_capacity line }
     requires limits { wallet.book.limits ≡ FULL }
     ensures words { number_of result.1 ≡ 2 → ⊥ }
     ensures causes { CausesBy ReadRefused O.link O.disk wallet.journal.disk result.1 result.0 }
@@ -94,7 +95,7 @@ fn settle<O: Outside>(
     requires kept { (h : History) → WalletStands O.disk wallet h
         → (p : Pending) × (kept_in h number ≡ Some p) }
     requires empty { line.items ≡ [] }
-    requires room { vec_len line + LINE_ROOM ≤ vec_capacity line }
+    requires room { vec_len line + READY ≤ vec_capacity line }
     requires limits { wallet.book.limits ≡ FULL }
     ensures words { number_of result.1 ≡ 2 → ⊥ }
     ensures causes { CausesBy (CheckRefused (received_of reply.now)) O.link O.disk wallet.journal.disk result.1 result.0 }
@@ -116,7 +117,7 @@ fn settle<O: Outside>(
 /// The outside of a wallet whose request was settled, or was not, and how that ended.
 fn settled<O: Outside>(outcome: WalletOut<O, Settlement>, line: Vec<u8>) -> (O, Status)
     requires empty { line.items ≡ [] }
-    requires room { vec_len line + LINE_ROOM ≤ vec_capacity line }
+    requires room { vec_len line + READY ≤ vec_capacity line }
     ensures out { result.0 ≡ outcome_disk outcome }
     ensures status { result.1 ≡ settled_status outcome }
     ensures words { number_of result.1 ≡ 2 → ⊥ }
@@ -132,7 +133,7 @@ fn settled<O: Outside>(outcome: WalletOut<O, Settlement>, line: Vec<u8>) -> (O, 
 /// How a command ends whose request was settled so.
 fn told(settlement: Settlement, mut line: Vec<u8>) -> Status
     requires empty { line.items ≡ [] }
-    requires room { vec_len line + LINE_ROOM ≤ vec_capacity line }
+    requires room { vec_len line + READY ≤ vec_capacity line }
     ensures status { result ≡ settlement_status settlement }
     ensures words { number_of result ≡ 2 → ⊥ }
 {

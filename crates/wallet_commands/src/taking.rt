@@ -9,12 +9,13 @@ ghost use Rattle.wallet_commands.specs.Causes.{WalletCauses};
 ghost use Rattle.wallet_commands.specs.Taking.{TakesBook, Unread, Took, taken_status};
 
 use crate::clock::raise_by_clock;
-use crate::lines::{LINE_ROOM, line_room, put_taken};
+use crate::lines::{line_room, put_taken};
 use command_input::{InputFault, input_of};
 use command_status::{Status, not_opened};
 use mc_base::List;
 use mc_outside::Outside;
 use mc_records::Limits;
+use said_lines::READY;
 use std::alloc::Global;
 use wallet_core::{Wallet, WalletOut, open_wallet};
 
@@ -58,7 +59,7 @@ fn take_input<O: Outside>(alloc: Global, mut wallet: Wallet<O>) -> (O, Status)
 /// The outside of a wallet that took pieces, or did not, and how that ended.
 fn taken<O: Outside>(outcome: WalletOut<O, u16>, mut line: Vec<u8>) -> (O, Status)
     requires empty { line.items ≡ [] }
-    requires room { vec_len line + LINE_ROOM ≤ vec_capacity line }
+    requires room { vec_len line + READY ≤ vec_capacity line }
     ensures out { result.0 ≡ outcome_disk outcome }
     ensures status { result.1 ≡ taken_status outcome }
     ensures words { number_of result.1 ≡ 2 → ⊥ }

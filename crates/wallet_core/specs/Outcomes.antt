@@ -9,6 +9,7 @@ use Rattle.ledger_model.specs.Lines as lines
 use Rattle.ledger_model.specs.Answer.{fitted}
 use Rattle.scrip_journal.specs.Exits.{EncodesNoOutput, EitherNoOutput}
 use Rattle.wallet_model.specs.Follows.{WalletFollows}
+use Rattle.wallet_book.specs.Book.{IsSameBook}
 use Rattle.wallet_core.specs.declared.wallet.Wallet.{Wallet}
 use Rattle.wallet_core.specs.declared.outcome.WalletOut.{WalletOut}
 use Rattle.wallet_core.specs.declared.outcome.WalletOut.TheVariants.{Done, Refused, NoMemory, Halted}
@@ -33,12 +34,25 @@ abbrev pub CountsFaults : {D A : Type 0} → WalletOut D A → ℕ → ℕ → T
 CountsFaults (Halted d) before after = Rose before after
 CountsFaults _ before after = after ≡ before
 
--- What each call that may write an entry hands back: the wallet with its limits, or the disk where that failed. Calls
--- of Disk alone led there, and the count of faults rose exactly where the wallet halted.
+-- The wallet is the one that was given: its journal, its time and all that it has learned. Room may have been made.
+pub record IsUnchanged {D : Type 0} (old x : Wallet D) : Type 0 where
+  pub journal' : x.journal ≡ old.journal
+  pub book' : IsSameBook old.book x.book
+
+-- a wallet that is refused something, by a rule or for want of memory, is unchanged
+abbrev pub StaysUnchanged : {D A : Type 0} → Wallet D → WalletOut D A → Type 0
+StaysUnchanged old (Refused x f) = IsUnchanged old x
+StaysUnchanged old (NoMemory x) = IsUnchanged old x
+StaysUnchanged old _ = Unit {0}
+
+-- What each call that may write an entry hands back, whatever the disk tells: the wallet with its limits, unchanged
+-- where nothing was written, or the disk where that failed. Calls of Disk alone led there, and the count of faults rose
+-- exactly where the wallet halted.
 pub record HandsBack {D A : Type 0} (view : D → DiskView) (moved : D → D → Type 0) (old : Wallet D) (result : WalletOut D A) : Type 0 where
   pub moved' : moved old.journal.disk (outcome_disk result)
   pub limits : OfWallet (λ x. x.book.limits ≡ old.book.limits) result
   pub counts : CountsFaults result (view old.journal.disk).faults (view (outcome_disk result)).faults
+  pub stays : StaysUnchanged old result
 
 -- ---- what was done
 

@@ -20,10 +20,10 @@ use wallet_book::WalletBook;
 /// Founds the book of a wallet of this name. Its journal may grow to `limits.journal` bytes, for which the Site
 /// entry has room; its time is `now`.
 ///
-/// A disk that encodes no entries is used as it is, and one of at most nine bytes is written anew. Any
+/// A disk that encodes the empty history is used as it is, and any other of at most nine bytes is written anew. Any
 /// other is left as it is: `NotEmpty` tells its size. `Disk` comes only where the disk failed, `NoMemory`
 /// with nothing written, and no other fault does. A crash in this call leaves what encodes no entries
-/// or the Site entry, at most nine bytes, or what a crash before could have left.
+/// or the Site entry, or what a crash before could have left, and at most nine bytes where the disk is written anew.
 pub fn found_wallet<D: Disk>(
     alloc: Global,
     disk: D,

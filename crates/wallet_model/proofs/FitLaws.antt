@@ -50,7 +50,8 @@ refused_range (Some text) = refusal_range text
 
 -- ---- texts
 
-text_of_piece : (text : List ℕ) (p : Scrip) → piece_of text ≡ Some p → IsScripText text
+-- a text that is read as a piece is a scrip text
+pub text_of_piece : (text : List ℕ) (p : Scrip) → piece_of text ≡ Some p → IsScripText text
 unfolding is_scrip
 text_of_piece text p is = (scrip_decides text).0 (go (scrip_of text) is)
   where
@@ -80,7 +81,8 @@ paid_by_text : (o : Option Scrip) (price : ℕ) (text : List ℕ) → IsSome o �
 paid_by_text (Some paid) price text some fits no_dash = paid_text paid price text fits no_dash
 paid_by_text None price text some fits no_dash = absurd cc
 
-settles_text : (p : Pending) (r : Received) (ask price : ℕ) (scrip : Option (List ℕ)) → HasItsPiece ask scrip → is_paid_by (option_and_then piece_of scrip) price r.change ≡ true
+-- the change of a reply that settles a request is a scrip text, or `-`
+pub settles_text : (p : Pending) (r : Received) (ask price : ℕ) (scrip : Option (List ℕ)) → HasItsPiece ask scrip → is_paid_by (option_and_then piece_of scrip) price r.change ≡ true
     → brings_asked p ask price r ≡ true → bytes_eq r.change (codes "-") ≡ false → IsScripText r.change
 settles_text p r zero price (Some text) has paid brings no_dash = paid_by_text (piece_of text) price r.change has paid no_dash
 settles_text p r zero price None has paid brings no_dash = absurd has

@@ -11,11 +11,12 @@ use Rattle.wallet_core.specs.Answers.{MayTake}
 use Rattle.wallet_core.specs.Outcomes.{outcome_disk}
 use Rattle.wallet_commands.specs.Causes.{OnlyClocked, RefusedBy}
 use Rattle.wallet_commands.specs.Taking.{taken_status}
+use Rattle.wallet_commands.specs.Lines.{taken_line}
 use Rattle.wallet_commands.specs.declared.taking.TheConstants.{MOST_LINES}
 use Rattle.command_input.proofs.InputLemmas.{lost_rose, input_counts}
 use Rattle.command_input.proofs.AsideLemmas.{no_more_still, lost_quiet}
-use Rattle.wallet_commands.proofs.CauseLemmas.{causes_from, none_linked, none_then, taken_so}
-use Rattle.wallet_commands.proofs.TakeLemmas.{unread, took, taken_causes}
+use Rattle.wallet_commands.proofs.CauseLemmas.{causes_from, none_linked, none_then, taken_so, outcome_causes}
+use Rattle.wallet_commands.proofs.TakeLemmas.{unread, took}
 use Rattle.wallet_commands.proofs.taking.take_input.Goals as goal
 
 pub returns-in_default-clause-took : goal.returns-in_default-clause-took
@@ -63,7 +64,7 @@ returns-clause-causes g c =
     (causes_from (λ (f : Refusal) (u v : LinkView). MayTake f × (v ≡ u)) RefusedBy g.O.Link.link g.O.Disk.disk w.journal.disk y.journal.disk b (taken_status c.take.result) (none_then g.O.Link.link g.O.Disk.disk w.journal.disk m.journal.disk y.journal.disk first second)
     (λ f why. taken_so f (g.O.Link.link w.journal.disk) (g.O.Link.link b)
     (c.in-Ok-input_of.input.items, g.O.Link.link m.journal.disk, input, subst (λ (v : LinkView). OnlyClocked (g.O.Link.link m.journal.disk) v) (sym why.1) c.raise_by_clock-reading.ensures.rest) why.0)
-    (taken_causes g.O.Link.link g.O.Disk.disk y.journal.disk c.take.result c.take.ensures.back.counts (g.met.O.Outside.disk_keeps _ _ c.take.ensures.back.moved') c.take.ensures.refused))
+    (outcome_causes MayTake taken_line g.O.Link.link g.O.Disk.disk y.journal.disk c.take.result c.take.ensures.back.counts (g.met.O.Outside.disk_keeps _ _ c.take.ensures.back.moved') c.take.ensures.refused))
 
 pub returns-clause-took : goal.returns-clause-took
 returns-clause-took g c a x at =
