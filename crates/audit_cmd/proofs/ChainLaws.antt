@@ -1,17 +1,30 @@
 -- What is found of a book that is read for its chain.
-use Rattle.std.proofs.Common.{◌≡◌, ◌+◌, inl, inr, ℕ, List, [], ◌∷◌, ◌++◌, Err, sym, subst, arith}
+use Rattle.std.proofs.Common.{◌≡◌, ◌+◌, inl, inr, true, ℕ, List, [], ◌∷◌, ◌++◌, length, Err, refl, sym, subst, arith}
+use Rattle.std.specs.Global.{Vec}
 use Rattle.std.specs.List.{AllZip, AllByRecursion}
 use Rattle.mc_outside.specs.DiskView.{DiskView}
 use Rattle.mc_records.specs.Entry.{Entry, Site}
 use Rattle.mc_records.specs.Sizes.{size}
+use Rattle.mc_records.specs.Chains.{chain}
 use Rattle.ledger_model.specs.Histories.{History}
+use Rattle.ledger_model.specs.Houses.{site_name}
+use Rattle.scrip_journal.specs.Layout.{Encodes}
 use Rattle.scrip_journal.specs.Causes.{IsOfOtherKind, BeginsWithEntries, IsUnlawfulAt}
 use Rattle.scrip_journal.specs.declared.fault.HouseFault.{HouseFault}
 use Rattle.scrip_journal.specs.declared.fault.HouseFault.TheVariants.{NotJournal, BadRecord, BadChain, Unlawful, WrongKind, NotEmpty, Disk, NoMemory}
-use Rattle.book_opening.specs.Opening.{OpensBook}
+use Rattle.scrip_journal.proofs.Beginnings.{begins_history}
+use Rattle.scrip_journal.proofs.Unique.{one_history, not_both, chain_or_history}
+use Rattle.book_opening.specs.Opener.{IsSite}
+use Rattle.book_opening.specs.Opening.{AreOfSite, OpensBook}
+use Rattle.wallet_model.specs.Follows.{wallet_allows}
 use Rattle.audit_cmd.specs.declared.chain_reading.ChainLine.{ChainLine}
-use Rattle.audit_cmd.specs.Books.{AreTold}
-use Rattle.audit_cmd.specs.Chains.{BeginsAs, AnyKind, KnowsSite, chain_reader, IsLineOf, HasLine, HasNoSite, ReadsChain}
+use Rattle.audit_cmd.specs.declared.fault.AuditFault.{AuditFault}
+use Rattle.audit_cmd.specs.declared.fault.AuditFault.TheVariants as faults
+use Rattle.audit_cmd.specs.Notes.{site_first}
+use Rattle.audit_cmd.specs.Books.{AreTold, IsHistoryOf, IsLawfulBook, IsOfLawful}
+use Rattle.audit_cmd.specs.Chains.{BeginsAs, AnyKind, KnowsSite, chain_reader, IsLineOf, HasLine, HasNoSite, ReadsChain, ChainsOf}
+use Rattle.audit_cmd.proofs.Zips.{at_place}
+use Rattle.audit_cmd.proofs.LawfulLaws.{lawful_begins, encodes}
 
 -- ---- what is learned
 
@@ -61,3 +74,55 @@ all_have_lines (b ∷ bs) (l ∷ ls) are = ((l, are.0), all_have_lines bs ls are
 pub no_lines : {D : Type 0} (view : D → DiskView) (books : List (List ℕ)) (lines : List ChainLine) → lines ≡ [] → AreTold view [] books → AllZip IsLineOf books lines
 no_lines view [] lines is told = subst (λ (l : List ChainLine). AllZip IsLineOf [] l) (sym is) tt
 no_lines view (b ∷ bs) lines is told = absurd told
+
+-- ---- books that have lines
+
+wallet_founds : (e : Entry) → wallet_allows [] e ≡ true → IsSite e
+wallet_founds (Site m kind name house) allowed = tt
+wallet_founds e allowed = absurd (cc allowed)
+
+lawful_founds : (h : History) (bytes : List ℕ) → IsHistoryOf bytes h → AreOfSite AnyKind h
+lawful_founds [] bytes (inl house) = absurd house.lawful
+lawful_founds [] bytes (inr wallet) = absurd wallet.lawful
+lawful_founds (e ∷ es) bytes (inl house) = site_first e house.lawful.0
+lawful_founds (e ∷ es) bytes (inr wallet) = wallet_founds e wallet.lawful.0.allowed
+
+-- a lawful one has
+lawful_lined : (bytes : List ℕ) → IsLawfulBook bytes → HasLine bytes
+lawful_lined bytes (h, is) = (
+  record { name = site_name h; entries = length h; chain = chain h },
+  record { history = h; of_bytes = encodes h bytes is; site = lawful_founds h bytes is; name = refl; entries = refl; chain' = refl },
+)
+
+pub lawful_all_lined : (books : List (List ℕ)) → AllByRecursion IsLawfulBook books → AllByRecursion HasLine books
+lawful_all_lined [] all = tt
+lawful_all_lined (b ∷ bs) all = (lawful_lined b all.0, lawful_all_lined bs all.1)
+
+-- one that has a line has a Site entry first
+has_a_site : (h : History) (bytes : List ℕ) (place : ℕ) → Encodes h bytes → AreOfSite AnyKind h → HasNoSite bytes place → ⊥
+has_a_site [] bytes place st site none = absurd site
+has_a_site (e ∷ es) bytes place st site (first, inl empty) = absurd (cc (one_history (e ∷ es) [] bytes st empty))
+has_a_site (e ∷ es) bytes place st site (first, inr (f, begins, other)) =
+    let more = begins_history (e ∷ es) (f ∷ []) bytes st begins in
+    let is : e ≡ f = cc more.1 in
+    other (subst (λ (x : Entry). IsSite x) is site)
+
+-- and no fault in its bytes
+pub lined_halt : (books : List (List ℕ)) (fault : AuditFault) → ChainsOf books (Err fault) → AllByRecursion HasLine books → IsOfLawful {A = Vec ChainLine} (Err fault)
+lined_halt books (faults.NotJournal book) finds all =
+    let line = at_place HasLine books book finds.bytes all finds.there in
+    finds.cause (lawful_begins line.1.history finds.bytes line.1.of_bytes)
+lined_halt books (faults.BadRecord book place) finds all =
+    let line = at_place HasLine books book finds.bytes all finds.there in
+    not_both finds.cause.before line.1.history finds.bytes place finds.cause.reads line.1.of_bytes
+lined_halt books (faults.BadChain book place stood computed) finds all =
+    let line = at_place HasLine books book finds.bytes all finds.there in
+    chain_or_history finds.cause.before line.1.history finds.bytes place stood computed finds.cause.reads line.1.of_bytes
+lined_halt books (faults.Unlawful book place) finds all =
+    let line = at_place HasLine books book finds.bytes all finds.there in
+    has_a_site line.1.history finds.bytes place line.1.of_bytes line.1.site finds.cause
+lined_halt books (faults.Disk book) finds all = tt
+lined_halt books faults.BadBooks finds all = tt
+lined_halt books (faults.MissingBook name) finds all = tt
+lined_halt books (faults.Stranger book name id) finds all = tt
+lined_halt books faults.NoMemory finds all = tt

@@ -8,7 +8,7 @@ use Rattle.book_audit.specs.declared.fault.BooksFault.{BooksFault}
 use Rattle.book_audit.specs.declared.fault.BooksFault.TheVariants as founds
 use Rattle.book_audit.specs.Audit.{AreLearned, Audited, NamesBook}
 use Rattle.book_sums.specs.declared.book_sums.BookSums.{BookSums}
-use Rattle.audit_cmd.specs.Books.{AreAudited, FindsOf, CountsBy, told_book, fault_of}
+use Rattle.audit_cmd.specs.Books.{AreAudited, FindsOf, IsOfAll, CountsBy, told_book, fault_of}
 use Rattle.audit_cmd.specs.Loops.{AreKept, KeptOf}
 
 pub fault_found : (books : List (List ℕ)) (fault : BooksFault) → AreAudited books (Err fault) → FindsOf books (Err (fault_of fault))
@@ -22,6 +22,12 @@ fault_calm founds.BadBooks before = refl
 fault_calm (founds.MissingBook name) before = refl
 fault_calm (founds.Stranger book name id) before = refl
 fault_calm founds.NoMemory before = refl
+
+pub fault_of_all : (fault : BooksFault) → IsOfAll {A = Report} (Err (fault_of fault))
+fault_of_all founds.BadBooks = tt
+fault_of_all (founds.MissingBook name) = tt
+fault_of_all (founds.Stranger book name id) = tt
+fault_of_all founds.NoMemory = tt
 
 pub fault_place : (houses : List BookSums) (fault : BooksFault) → NamesBook houses (Err fault) → IfSome (told_book {A = Report} (Err (fault_of fault))) (λ book. book < length houses)
 fault_place houses founds.BadBooks named = tt

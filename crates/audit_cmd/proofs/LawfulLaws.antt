@@ -24,7 +24,7 @@ use Rattle.audit_cmd.specs.Loops.{AuditsAll}
 use Rattle.audit_cmd.proofs.Zips.{at_place}
 
 -- it begins with the header
-lawful_begins : (h : History) (bytes : List ℕ) → Encodes h bytes → BeginsWith header bytes
+pub lawful_begins : (h : History) (bytes : List ℕ) → Encodes h bytes → BeginsWith header bytes
 lawful_begins h bytes st = (gated [] h ++ st.gate ∷ st.rest, st.shape ∙ append_assoc header (gated [] h) (st.gate ∷ st.rest))
 
 -- ---- no entry of it breaks
@@ -88,7 +88,7 @@ not_unlawful (e ∷ es) bytes place (inl house) (inr breaks) = no_other_break Wa
 not_unlawful (e ∷ es) bytes place (inr wallet) (inl breaks) = no_other_break (MayFollow FULL) IsHouseKind e es bytes place wallet.of_bytes (wallet_first e wallet.lawful.0.allowed) breaks
 not_unlawful (e ∷ es) bytes place (inr wallet) (inr breaks) = no_break WalletFollows (Only 2) e es bytes place wallet.of_bytes wallet.lawful breaks
 
-encodes : (h : History) (bytes : List ℕ) → IsHistoryOf bytes h → Encodes h bytes
+pub encodes : (h : History) (bytes : List ℕ) → IsHistoryOf bytes h → Encodes h bytes
 encodes h bytes (inl house) = house.of_bytes
 encodes h bytes (inr wallet) = wallet.of_bytes
 
@@ -98,7 +98,7 @@ first_lawful : (books : List (List ℕ)) (book : ℕ) (Cause : List ℕ → Type
 first_lawful books book Cause all first = at_place IsLawfulBook books book first.bytes all first.there
 
 -- what ends the reading is found
-halt_found : (books : List (List ℕ)) (fault : AuditFault) → AuditsAll books (Err fault) → FindsOf books (Err fault)
+pub halt_found : (books : List (List ℕ)) (fault : AuditFault) → AuditsAll books (Err fault) → FindsOf books (Err fault)
 halt_found books (faults.NotJournal book) read = read
 halt_found books (faults.BadRecord book place) read = read
 halt_found books (faults.BadChain book place stood computed) read = read
@@ -121,5 +121,5 @@ none_faulty books (Err (faults.MissingBook name)) finds all = tt
 none_faulty books (Err (faults.Stranger book name id)) finds all = tt
 none_faulty books (Err faults.NoMemory) finds all = tt
 
-pub no_halt : (books : List (List ℕ)) (fault : AuditFault) → AuditsAll books (Err fault) → AllByRecursion IsLawfulBook books → IsOfLawful (Err fault)
+pub no_halt : (books : List (List ℕ)) (fault : AuditFault) → AuditsAll books (Err fault) → AllByRecursion IsLawfulBook books → IsOfLawful {A = Report} (Err fault)
 no_halt books fault read all = none_faulty books (Err fault) (halt_found books fault read) all

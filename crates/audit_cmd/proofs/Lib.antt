@@ -1,5 +1,6 @@
 pub mod ReadLaws
 pub mod Zips
+pub mod Deciding
 pub mod KeptLaws
 pub mod Loops
 pub mod WalletLaws

@@ -1,5 +1,5 @@
 -- Reading one book after another.
-use Rattle.std.proofs.Common.{◌≡◌, ℕ, ◌+◌, ◌≤◌, List, [], ◌∷◌, ◌++◌, length, take, Some, Ok, Err, refl, sym, ap, ◌∙◌, subst, arith, append-nil, append_assoc, Result}
+use Rattle.std.proofs.Common.{◌≡◌, ℕ, suc, ◌+◌, ◌≤◌, List, [], ◌∷◌, ◌++◌, length, take, Some, Ok, Err, refl, sym, ap, ◌∙◌, subst, arith, append-nil, append_assoc, Result}
 use Rattle.std.proofs.lemmas.List.{length-append}
 use Rattle.std.specs.Prelude.{slice_get, slice_set, map}
 use Rattle.std.specs.List.{AllZip, AllByRecursion}
@@ -8,10 +8,10 @@ use Rattle.mc_outside.specs.DiskView.{DiskView, OnlyRead}
 use Rattle.scrip_journal.specs.Layout.{header}
 use Rattle.audit_cmd.specs.declared.fault.AuditFault.{AuditFault}
 use Rattle.audit_cmd.specs.declared.fault.AuditFault.TheVariants as faults
-use Rattle.audit_cmd.specs.Books.{AreTold, counts, FirstOf, RoseAt, CountsBy}
-use Rattle.audit_cmd.specs.Places.{Causes, FindsBook, ReadsAt}
+use Rattle.audit_cmd.specs.Books.{AreTold, counts, decided_by, FirstOf, RoseAt, CountsBy}
+use Rattle.audit_cmd.specs.Places.{Causes, ReadsAt}
 use Rattle.audit_cmd.specs.Loops.{ReadsAll, IsCalm, AreReadTo, HaveRead}
-use Rattle.audit_cmd.proofs.Zips.{zip_append, zip_more, zip_weaker, zip_long, zip_parted, zip_same, zip_none, zip_maps, map_append, length_map, Comes, comes_at, get_at, set_at, take_at, none_left}
+use Rattle.audit_cmd.proofs.Zips.{zip_append, zip_more, zip_weaker, zip_long, zip_parted, zip_same, zip_none, zip_maps, map_append, length_map, Comes, comes_at, get_at, set_at, take_at, take_next, none_left}
 
 -- ---- the disks
 
@@ -75,14 +75,26 @@ module _ {D X : Type 0} (view : D → DiskView) (moved : D → D → Type 0) (st
       others = counts_new ∙ sym (set_at (map count to.before) (map count next_at.behind) (count at.old) (count at.new)) ∙ ap (λ (k : ℕ). slice_set (map count to.before ++ count at.old ∷ map count next_at.behind) k (count at.new)) (place_is ∙ sym is) ∙ ap (λ (l : List ℕ). slice_set l book (count at.new)) (sym counts_old);
     }
 
-    -- what stands before the next book is read, and it has its own cause
-    pub first_here : (IsRead : List ℕ → Type 0) (book : ℕ) (Cause : List ℕ → Type 0) → ((xs : List (List ℕ)) → AreTold view to.before xs → AllByRecursion IsRead xs)
-        → ((x : List ℕ) → (view at.old).contents ≡ Some x → (book ≡ place) × Cause x) → (xs : List (List ℕ)) → AreTold view olds xs → FirstOf IsRead xs book Cause
-    first_here IsRead book Cause before_read here xs told =
+    -- the books before the next one, and with it
+    up_to : (book : ℕ) → book ≡ place → take book olds ≡ to.before
+    up_to book is = ap (take book) to.olds_are ∙ ap (λ (k : ℕ). take k (to.before ++ to.rest)) (is ∙ sym to.long) ∙ take_at to.before to.rest
+
+    with_next : (book : ℕ) → book ≡ place → take (suc book) olds ≡ to.before ++ at.old ∷ []
+    with_next book is = ap (take (suc book)) old_parts ∙ ap (λ (k : ℕ). take (suc k) (to.before ++ at.old ∷ next_at.behind)) (is ∙ sym to.long) ∙ take_next to.before next_at.behind at.old
+
+    -- those before it are read
+    pub read_before : (IsRead : List ℕ → Type 0) (book : ℕ) → book ≡ place → ((xs : List (List ℕ)) → AreTold view to.before xs → AllByRecursion IsRead xs)
+        → (xs : List (List ℕ)) → AreTold view (take book olds) xs → AllByRecursion IsRead xs
+    read_before IsRead book is before_read xs told = before_read xs (subst (λ (l : List D). AreTold view l xs) (up_to book is) told)
+
+    -- and it has its own cause
+    pub first_here : (IsRead : List ℕ → Type 0) (book : ℕ) (Cause : List ℕ → Type 0) → book ≡ place → ((xs : List (List ℕ)) → AreTold view to.before xs → AllByRecursion IsRead xs)
+        → ((x : List ℕ) → (view at.old).contents ≡ Some x → (book ≡ place) × Cause x) → (xs : List (List ℕ)) → AreTold view (take (suc book) olds) xs → FirstOf IsRead xs book Cause
+    first_here IsRead book Cause is before_read here xs told =
         let R : D → List ℕ → Type 0 = λ d x. (view d).contents ≡ Some x in
-        let p = zip_parted R to.before next_at.behind at.old xs (subst (λ (l : List D). AllZip R l xs) old_parts told) in
+        let p = zip_parted R to.before [] at.old xs (subst (λ (l : List D). AllZip R l xs) (with_next book is) told) in
         let found = here p.there p.here in
-        let long : length p.front ≡ book = zip_long R to.before p.front p.fronts ∙ to.long ∙ sym found.0 in
+        let long : length p.front ≡ book = zip_long R to.before p.front p.fronts ∙ to.long ∙ sym is in
         record {
           bytes = p.there;
           there = ap (λ (l : List (List ℕ)). slice_get l book) p.is ∙ ap (λ (k : ℕ). slice_get (p.front ++ p.there ∷ p.back) k) (sym long) ∙ get_at p.front p.back p.there;
@@ -149,31 +161,22 @@ module _ {D X K : Type 0} (view : D → DiskView) (moved : D → D → Type 0) (
 
 -- why the first book that is not read is not
 module _ {D X K : Type 0} (view : D → DiskView) (moved : D → D → Type 0) (still : (d : D) → OnlyRead (view d) (view d)) (stays : (d : D) → moved d d) (causes : Causes) (keeps : List ℕ → X → Type 0) (keeps_all : List (List ℕ) → K → Type 0) where
-  -- what no book is told of
-  none_found : (place : ℕ) (olds news afters : List D) (found : Result X AuditFault) (to : AreReadTo view moved place olds news) (at : ReadsAt view moved causes keeps place news afters found)
-      → ((x : List ℕ) → FindsBook causes keeps place x found → ⊥) → (xs : List (List ℕ)) → AreTold view olds xs → ⊥
-  none_found place olds news afters found to at never xs told =
-      let R : D → List ℕ → Type 0 = λ d x. (view d).contents ≡ Some x in
-      let next = next_at view moved still stays causes keeps place olds news afters found to at in
-      let p = zip_parted R to.before next.behind at.old xs (subst (λ (l : List D). AllZip R l xs) (old_parts view moved still stays causes keeps place olds news afters found to at) told) in
-      never p.there (at.told p.there p.here)
-
   pub halts : (IsRead : List ℕ → Type 0) (place : ℕ) (olds news afters : List D) (fault : AuditFault) (to : AreReadTo view moved place olds news) → ReadsAt view moved causes keeps place news afters (Err fault)
-      → ((xs : List (List ℕ)) → AreTold view to.before xs → AllByRecursion IsRead xs) → (xs : List (List ℕ)) → AreTold view olds xs → ReadsAll causes IsRead keeps_all xs (Err fault)
+      → ((xs : List (List ℕ)) → AreTold view to.before xs → AllByRecursion IsRead xs) → (xs : List (List ℕ)) → AreTold view (decided_by fault olds) xs → ReadsAll causes IsRead keeps_all xs (Err fault)
   halts IsRead place olds news afters (faults.NotJournal book) to at read xs told =
-      first_here view moved still stays causes keeps place olds news afters (Err (faults.NotJournal book)) to at IsRead book (λ x. BeginsWith header x → ⊥) read at.told xs told
+      first_here view moved still stays causes keeps place olds news afters (Err (faults.NotJournal book)) to at IsRead book (λ x. BeginsWith header x → ⊥) at.at read at.told xs told
   halts IsRead place olds news afters (faults.BadRecord book p) to at read xs told =
-      first_here view moved still stays causes keeps place olds news afters (Err (faults.BadRecord book p)) to at IsRead book (λ x. causes.spoiled x p) read at.told xs told
+      first_here view moved still stays causes keeps place olds news afters (Err (faults.BadRecord book p)) to at IsRead book (λ x. causes.spoiled x p) at.at read at.told xs told
   halts IsRead place olds news afters (faults.BadChain book p stood computed) to at read xs told =
-      first_here view moved still stays causes keeps place olds news afters (Err (faults.BadChain book p stood computed)) to at IsRead book (λ x. causes.unchained x p stood computed) read at.told xs told
+      first_here view moved still stays causes keeps place olds news afters (Err (faults.BadChain book p stood computed)) to at IsRead book (λ x. causes.unchained x p stood computed) at.at read at.told xs told
   halts IsRead place olds news afters (faults.Unlawful book p) to at read xs told =
-      first_here view moved still stays causes keeps place olds news afters (Err (faults.Unlawful book p)) to at IsRead book (λ x. causes.unlawful x p) read at.told xs told
+      first_here view moved still stays causes keeps place olds news afters (Err (faults.Unlawful book p)) to at IsRead book (λ x. causes.unlawful x p) at.at read at.told xs told
   halts IsRead place olds news afters (faults.Disk book) to at read xs told =
-      first_here view moved still stays causes keeps place olds news afters (Err (faults.Disk book)) to at IsRead book (λ x. Unit {0}) read (λ x is. (at.count.0, tt)) xs told
+      read_before view moved still stays causes keeps place olds news afters (Err (faults.Disk book)) to at IsRead book at.at read xs told
   halts IsRead place olds news afters faults.NoMemory to at read xs told = tt
-  halts IsRead place olds news afters faults.BadBooks to at read xs told = none_found place olds news afters (Err faults.BadBooks) to at (λ x never. never) xs told
-  halts IsRead place olds news afters (faults.MissingBook name) to at read xs told = none_found place olds news afters (Err (faults.MissingBook name)) to at (λ x never. never) xs told
-  halts IsRead place olds news afters (faults.Stranger book name id) to at read xs told = none_found place olds news afters (Err (faults.Stranger book name id)) to at (λ x never. never) xs told
+  halts IsRead place olds news afters faults.BadBooks to at read xs told = at.at
+  halts IsRead place olds news afters (faults.MissingBook name) to at read xs told = at.at
+  halts IsRead place olds news afters (faults.Stranger book name id) to at read xs told = at.at
 
   pub halt_counts : (place : ℕ) (olds news afters : List D) (fault : AuditFault) (to : AreReadTo view moved place olds news) (at : ReadsAt view moved causes keeps place news afters (Err fault)) → CountsBy {A = K} (Err fault) (counts view olds) (counts view afters)
   halt_counts place olds news afters (faults.NotJournal book) to at = counts_stay view moved still stays causes keeps place olds news afters (Err (faults.NotJournal book)) to at at.count

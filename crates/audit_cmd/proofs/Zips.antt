@@ -98,9 +98,27 @@ module _ {X : Type 0} where
   take_at [] rest = refl
   take_at (d ∷ ds) rest = ap (λ (l : List X). d ∷ l) (take_at ds rest)
 
+  pub take_next : (done rest : List X) (x : X) → take (suc (length done)) (done ++ x ∷ rest) ≡ done ++ x ∷ []
+  take_next [] rest x = refl
+  take_next (d ∷ ds) rest x = ap (λ (l : List X). d ∷ l) (take_next ds rest x)
+
   pub none_left : (rest : List X) → length rest ≡ 0 → rest ≡ []
   none_left [] is = refl
   none_left (x ∷ xs) is = absurd (cc is)
+
+-- ---- the first elements
+
+pub zip_take : {A B : Type 0} (R : A → B → Type 0) (n : ℕ) (xs : List A) (ys : List B) → AllZip R xs ys → AllZip R (take n xs) (take n ys)
+zip_take R zero xs ys a = tt
+zip_take R (suc n) [] [] a = tt
+zip_take R (suc n) [] (y ∷ ys) a = absurd a
+zip_take R (suc n) (x ∷ xs) [] a = absurd a
+zip_take R (suc n) (x ∷ xs) (y ∷ ys) a = (a.0, zip_take R n xs ys a.1)
+
+pub all_take : {X : Type 0} (P : X → Type 0) (n : ℕ) (xs : List X) → AllByRecursion P xs → AllByRecursion P (take n xs)
+all_take P zero xs all = tt
+all_take P (suc n) [] all = tt
+all_take P (suc n) (x ∷ xs) all = (all.0, all_take P n xs all.1)
 
 -- what holds of each holds of one
 pub at_place : {X : Type 0} (P : X → Type 0) (xs : List X) (i : ℕ) (x : X) → AllByRecursion P xs → slice_get xs i ≡ Some x → P x

@@ -1,5 +1,5 @@
 -- What an audit of books on disks answers, by their bytes.
-use Rattle.std.specs.Prelude.{◌≡◌, ◌⊎◌, ℕ, IsTrue, List, map, take, slice_get, slice_set, Option, Some, None, Result, Ok, Err}
+use Rattle.std.specs.Prelude.{◌≡◌, ◌⊎◌, ℕ, suc, IsTrue, List, map, take, slice_get, slice_set, Option, Some, None, Result, Ok, Err}
 use Rattle.std.specs.List.{AllZip, AllByRecursion, list_any}
 use Rattle.mc_outside.specs.Bytes.{BeginsWith, Rose}
 use Rattle.mc_outside.specs.DiskView.{DiskView}
@@ -25,6 +25,25 @@ AreTold view disks books = AllZip (λ d bytes. (view d).contents ≡ Some bytes)
 -- the counts of their faults
 abbrev pub counts : {D : Type 0} → (D → DiskView) → List D → List ℕ
 counts view disks = map (λ d. (view d).faults) disks
+
+-- ---- which books decide
+
+-- the books by which a fault is decided: up to the one that is not read; where its disk failed, those before it; else all
+abbrev pub decided_by : {X : Type 0} → AuditFault → List X → List X
+decided_by (faults.NotJournal book) xs = take (suc book) xs
+decided_by (faults.BadRecord book place) xs = take (suc book) xs
+decided_by (faults.BadChain book place stood computed) xs = take (suc book) xs
+decided_by (faults.Unlawful book place) xs = take (suc book) xs
+decided_by (faults.Disk book) xs = take book xs
+decided_by faults.BadBooks xs = xs
+decided_by (faults.MissingBook name) xs = xs
+decided_by (faults.Stranger book name id) xs = xs
+decided_by faults.NoMemory xs = xs
+
+-- the books that decide what is found: all where no fault is
+abbrev pub deciding : {A X : Type 0} → Result A AuditFault → List X → List X
+deciding (Ok a) xs = xs
+deciding (Err fault) xs = decided_by fault xs
 
 -- ---- lawful books
 
@@ -65,14 +84,14 @@ pub record HaveWallet (books : List (List ℕ)) : Type 0 where
   pub stand : AllZip IsHistoryOf books histories
   pub wallet : IsTrue (list_any is_wallet histories)
 
--- What is found by the bytes of the books. The first that is not read as a lawful one decides; where there is none,
--- the books are those of one broker and of vendors with names of their own, or not.
+-- What is found by the bytes of the books that decide. The first that is not read as a lawful one decides; where there is
+-- none, the books are those of one broker and of vendors with names of their own, or not.
 abbrev pub FindsOf : List (List ℕ) → Result Report AuditFault → Type 0
 FindsOf books (Err (faults.NotJournal book)) = IsFirst books book (λ bytes. BeginsWith header bytes → ⊥)
 FindsOf books (Err (faults.BadRecord book place)) = IsFirst books book (λ bytes. IsSpoiledFrom bytes place)
 FindsOf books (Err (faults.BadChain book place stood computed)) = IsFirst books book (λ bytes. IsUnchainedFrom bytes place stood computed)
 FindsOf books (Err (faults.Unlawful book place)) = IsFirst books book (λ bytes. IsUnlawfulFrom bytes place)
-FindsOf books (Err (faults.Disk book)) = IsFirst books book (λ bytes. Unit {0})
+FindsOf books (Err (faults.Disk book)) = AllByRecursion IsLawfulBook books
 FindsOf books (Err faults.BadBooks) = HaveWallet books ⊎ AreAudited books (Err founds.BadBooks)
 FindsOf books (Err (faults.MissingBook name)) = AreAudited books (Err (founds.MissingBook name))
 FindsOf books (Err (faults.Stranger book name id)) = AreAudited books (Err (founds.Stranger book name id))
@@ -87,7 +106,7 @@ fault_of (founds.Stranger book name id) = faults.Stranger book name id
 fault_of founds.NoMemory = faults.NoMemory
 
 -- what is found where all books are lawful: none is told to be otherwise
-abbrev pub IsOfLawful : Result Report AuditFault → Type 0
+abbrev pub IsOfLawful : {A : Type 0} → Result A AuditFault → Type 0
 IsOfLawful (Err (faults.NotJournal book)) = ⊥
 IsOfLawful (Err (faults.BadRecord book place)) = ⊥
 IsOfLawful (Err (faults.BadChain book place stood computed)) = ⊥
@@ -103,6 +122,25 @@ told_book (Err (faults.Unlawful book place)) = Some book
 told_book (Err (faults.Disk book)) = Some book
 told_book (Err (faults.Stranger book name id)) = Some book
 told_book _ = None
+
+-- what ends the reading of books: memory was refused, or a book is told that is so
+abbrev pub EndsReading : (ℕ → Type 0) → AuditFault → Type 0
+EndsReading Is (faults.NotJournal book) = Is book
+EndsReading Is (faults.BadRecord book place) = Is book
+EndsReading Is (faults.BadChain book place stood computed) = Is book
+EndsReading Is (faults.Unlawful book place) = Is book
+EndsReading Is (faults.Disk book) = Is book
+EndsReading Is faults.NoMemory = Unit {0}
+EndsReading Is _ = ⊥
+
+-- what is found of books that were all read: none is told not to be
+abbrev pub IsOfAll : {A : Type 0} → Result A AuditFault → Type 0
+IsOfAll (Err (faults.NotJournal book)) = ⊥
+IsOfAll (Err (faults.BadRecord book place)) = ⊥
+IsOfAll (Err (faults.BadChain book place stood computed)) = ⊥
+IsOfAll (Err (faults.Unlawful book place)) = ⊥
+IsOfAll (Err (faults.Disk book)) = ⊥
+IsOfAll _ = Unit {0}
 
 -- ---- the counts of faults
 

@@ -1,6 +1,6 @@
 -- Reading books one after another.
 use Rattle.std.specs.Prelude.{◌≡◌, ℕ, Bool, true, false, List, ◌++◌, length, Result, Ok, Err}
-use Rattle.std.specs.List.{AllZip}
+use Rattle.std.specs.List.{AllZip, AllByRecursion}
 use Rattle.mc_outside.specs.Bytes.{BeginsWith}
 use Rattle.mc_outside.specs.DiskView.{DiskView, OnlyRead}
 use Rattle.mc_records.specs.declared.limits.TheConstants.Limits.{FULL}
@@ -36,7 +36,7 @@ ReadsAll causes IsRead keeps books (Err (faults.NotJournal book)) = FirstOf IsRe
 ReadsAll causes IsRead keeps books (Err (faults.BadRecord book place)) = FirstOf IsRead books book (λ bytes. causes.spoiled bytes place)
 ReadsAll causes IsRead keeps books (Err (faults.BadChain book place stood computed)) = FirstOf IsRead books book (λ bytes. causes.unchained bytes place stood computed)
 ReadsAll causes IsRead keeps books (Err (faults.Unlawful book place)) = FirstOf IsRead books book (λ bytes. causes.unlawful bytes place)
-ReadsAll causes IsRead keeps books (Err (faults.Disk book)) = FirstOf IsRead books book (λ bytes. Unit {0})
+ReadsAll causes IsRead keeps books (Err (faults.Disk book)) = AllByRecursion IsRead books
 ReadsAll causes IsRead keeps books (Err faults.NoMemory) = Unit {0}
 ReadsAll causes IsRead keeps books (Err _) = ⊥
 

@@ -1,11 +1,11 @@
 -- What reading the book at a place of a list answers.
-use Rattle.std.specs.Prelude.{◌≡◌, ℕ, List, Some, IfSome, slice_get, slice_set, Result, Ok, Err}
+use Rattle.std.specs.Prelude.{◌≡◌, ℕ, List, Some, IfErr, slice_get, slice_set, Result, Ok, Err}
 use Rattle.mc_outside.specs.Bytes.{BeginsWith, Rose}
 use Rattle.mc_outside.specs.DiskView.{DiskView, OnlyRead}
 use Rattle.scrip_journal.specs.Layout.{header}
 use Rattle.audit_cmd.specs.declared.fault.AuditFault.{AuditFault}
 use Rattle.audit_cmd.specs.declared.fault.AuditFault.TheVariants as faults
-use Rattle.audit_cmd.specs.Books.{told_book}
+use Rattle.audit_cmd.specs.Books.{EndsReading}
 
 -- why a book is not read, by its bytes and by what is told of them
 pub record Causes : Type 1 where
@@ -42,4 +42,4 @@ pub record ReadsAt {D X : Type 0} (view : D → DiskView) (moved : D → D → T
   pub moves : moved old new
   pub told : (bytes : List ℕ) → (view old).contents ≡ Some bytes → FindsBook causes keeps place bytes found
   pub count : CountsBook place found (view old).faults (view new).faults
-  pub at : IfSome (told_book found) (λ book. book ≡ place)
+  pub at : IfErr found (EndsReading (λ book. book ≡ place))

@@ -3,7 +3,7 @@
 ghost use Rattle.std.specs.Prelude.{◌<◌, List, ℕ, IfSome, length};
 ghost use Rattle.std.specs.List.{AllZip, AllByRecursion};
 ghost use Rattle.mc_outside.specs.DiskView.{OnlyRead};
-ghost use Rattle.audit_cmd.specs.Books.{AreTold, counts, IsLawfulBook, FindsOf, IsOfLawful, told_book, CountsBy};
+ghost use Rattle.audit_cmd.specs.Books.{AreTold, counts, deciding, IsLawfulBook, FindsOf, IsOfLawful, IsOfAll, told_book, CountsBy};
 ghost use Rattle.audit_cmd.specs.Loops.{KeptOf};
 
 use crate::books::{Kept, read_books};
@@ -23,11 +23,13 @@ use std::alloc::Global;
 /// there is not one broker's, or a wallet's is among them, or two vendors share a name; then `MissingBook` exactly where
 /// the broker sold of a vendor whose book is not there, with the least such name; then `Stranger` exactly where one
 /// stands, with the first by book and then by entry. `NoMemory` may come at any point. Nothing is written.
+///
+/// What is said of bytes asks no disk for them behind the one whose book decides.
 pub fn audit<D: Disk>(alloc: Global, mut books: Vec<D>) -> (Vec<D>, Result<Report, AuditFault>)
     ensures read { AllZip (λ a b. OnlyRead (D.disk a) (D.disk b)) books.items result.0.items }
     ensures moved { AllZip D.disk_moved books.items result.0.items }
-    ensures exact { (contents : List (List ℕ)) → AreTold D.disk books.items contents
-        → FindsOf contents result.1 }
+    ensures exact { (contents : List (List ℕ))
+        → AreTold D.disk (deciding result.1 books.items) contents → FindsOf contents result.1 }
     ensures lawful { (contents : List (List ℕ)) → AreTold D.disk books.items contents
         → AllByRecursion IsLawfulBook contents → IsOfLawful result.1 }
     ensures fault { CountsBy result.1 (counts D.disk books.items) (counts D.disk result.0.items) }
@@ -44,6 +46,7 @@ fn find(alloc: Global, kept: &Kept) -> Result<Report, AuditFault>
     ensures found { (contents : List (List ℕ))
         → KeptOf contents kept.now.wallet kept.now.houses.items → FindsOf contents result }
     ensures calm { (before : List ℕ) → CountsBy result before before }
+    ensures all { IsOfAll result }
     ensures place { IfSome (told_book result) (λ book. book < length kept.now.houses.items) }
 {
     if kept.wallet {

@@ -1,11 +1,11 @@
 //! The chains of books on disks.
 
-ghost use Rattle.std.specs.Prelude.{◌≡◌, ◌<◌, List, ℕ, Some, IfSome, length};
-ghost use Rattle.std.specs.List.{AllZip};
+ghost use Rattle.std.specs.Prelude.{◌≡◌, ◌<◌, List, ℕ, Some, IfErr, length};
+ghost use Rattle.std.specs.List.{AllZip, AllByRecursion};
 ghost use Rattle.mc_outside.specs.DiskView.{OnlyRead};
-ghost use Rattle.audit_cmd.specs.Books.{AreTold, counts, told_book, CountsBy};
+ghost use Rattle.audit_cmd.specs.Books.{AreTold, counts, deciding, EndsReading, IsOfLawful, CountsBy};
 ghost use Rattle.audit_cmd.specs.Places.{FindsBook, CountsBook, ReadsAt};
-ghost use Rattle.audit_cmd.specs.Chains.{IsLineOf, chain_causes, ChainsOf};
+ghost use Rattle.audit_cmd.specs.Chains.{IsLineOf, HasLine, chain_causes, ChainsOf};
 
 use crate::chain_reading::{ChainLine, read_chain};
 use crate::fault::AuditFault;
@@ -21,16 +21,20 @@ use std::alloc::Global;
 /// entry's chain at the place told is another than the one computed, `Unlawful` with the place 8 where no Site entry is
 /// its first, and `Disk` only where its disk failed. `NoMemory` may come at any point. No other fault comes: of entries
 /// behind the first nothing else is asked. Nothing is written.
+///
+/// What is said of bytes asks no disk for them behind the one whose book decides.
 pub fn chains<D: Disk>(
     alloc: Global,
     mut books: Vec<D>,
 ) -> (Vec<D>, Result<Vec<ChainLine>, AuditFault>)
     ensures read { AllZip (λ a b. OnlyRead (D.disk a) (D.disk b)) books.items result.0.items }
     ensures moved { AllZip D.disk_moved books.items result.0.items }
-    ensures exact { (contents : List (List ℕ)) → AreTold D.disk books.items contents
-        → ChainsOf contents result.1 }
+    ensures exact { (contents : List (List ℕ))
+        → AreTold D.disk (deciding result.1 books.items) contents → ChainsOf contents result.1 }
+    ensures lined { (contents : List (List ℕ)) → AreTold D.disk books.items contents
+        → AllByRecursion HasLine contents → IsOfLawful result.1 }
     ensures fault { CountsBy result.1 (counts D.disk books.items) (counts D.disk result.0.items) }
-    ensures place { IfSome (told_book result.1) (λ book. book < length books.items) }
+    ensures place { IfErr result.1 (EndsReading (λ book. book < length books.items)) }
 {
     match read_chains(alloc, &mut books) {
         Ok(lines) => (books, Ok(lines)),
@@ -42,11 +46,11 @@ pub fn chains<D: Disk>(
 fn read_chains<D: Disk>(alloc: Global, books: &mut Vec<D>) -> Result<Vec<ChainLine>, AuditFault>
     ensures read { AllZip (λ a b. OnlyRead (D.disk a) (D.disk b)) books.old.items books.new.items }
     ensures moved { AllZip D.disk_moved books.old.items books.new.items }
-    ensures exact { (contents : List (List ℕ)) → AreTold D.disk books.old.items contents
-        → ChainsOf contents result }
+    ensures exact { (contents : List (List ℕ))
+        → AreTold D.disk (deciding result books.old.items) contents → ChainsOf contents result }
     ensures fault { CountsBy result (counts D.disk books.old.items)
         (counts D.disk books.new.items) }
-    ensures place { IfSome (told_book result) (λ book. book < length books.old.items) }
+    ensures place { IfErr result (EndsReading (λ book. book < length books.old.items)) }
 {
     let mut lines = Vec::new(alloc);
     for place in 0..books.len() {
@@ -86,7 +90,7 @@ fn line_of<D: Disk>(alloc: Global, disk: D, book: usize) -> (D, Result<ChainLine
     ensures exact { (bytes : List ℕ) → (D.disk disk).contents ≡ Some bytes
         → FindsBook chain_causes IsLineOf book bytes result.1 }
     ensures fault { CountsBook book result.1 (D.disk disk).faults (D.disk result.0).faults }
-    ensures place { IfSome (told_book result.1) (λ told. told ≡ book) }
+    ensures place { IfErr result.1 (EndsReading (λ told. told ≡ book)) }
 {
     match read_chain(alloc, disk) {
         Ok((disk, line)) => (disk, Ok(line)),

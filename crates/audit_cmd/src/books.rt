@@ -1,9 +1,9 @@
 //! Reading books one after another.
 
-ghost use Rattle.std.specs.Prelude.{◌≡◌, ◌<◌, ◌≤◌, ◌+◌, ◌++◌, ◌∷◌, [], List, ℕ, Some, IfSome, IfOk, OnOk, length};
+ghost use Rattle.std.specs.Prelude.{◌≡◌, ◌<◌, ◌≤◌, ◌+◌, ◌++◌, ◌∷◌, [], List, ℕ, Some, IfOk, IfErr, OnOk, length};
 ghost use Rattle.std.specs.List.{AllZip};
 ghost use Rattle.mc_outside.specs.DiskView.{OnlyRead};
-ghost use Rattle.audit_cmd.specs.Books.{AreTold, counts, told_book, CountsBy};
+ghost use Rattle.audit_cmd.specs.Books.{AreTold, counts, deciding, EndsReading, CountsBy};
 ghost use Rattle.audit_cmd.specs.Places.{FindsBook, CountsBook, ReadsAt};
 ghost use Rattle.audit_cmd.specs.Reading.{IsKeptOf};
 ghost use Rattle.audit_cmd.specs.Loops.{KeptOf, AuditsAll, audit_causes};
@@ -45,11 +45,11 @@ impl Kept {
 pub(crate) fn read_books<D: Disk>(alloc: Global, books: &mut Vec<D>) -> Result<Kept, AuditFault>
     ensures read { AllZip (λ a b. OnlyRead (D.disk a) (D.disk b)) books.old.items books.new.items }
     ensures moved { AllZip D.disk_moved books.old.items books.new.items }
-    ensures exact { (contents : List (List ℕ)) → AreTold D.disk books.old.items contents
-        → AuditsAll contents result }
+    ensures exact { (contents : List (List ℕ))
+        → AreTold D.disk (deciding result books.old.items) contents → AuditsAll contents result }
     ensures fault { CountsBy result (counts D.disk books.old.items)
         (counts D.disk books.new.items) }
-    ensures place { IfSome (told_book result) (λ book. book < length books.old.items) }
+    ensures place { IfErr result (EndsReading (λ book. book < length books.old.items)) }
     ensures few { IfOk result (λ kept. length kept.houses.items ≤ length books.old.items) }
 {
     let mut kept = Kept {
@@ -97,7 +97,7 @@ fn find_at<D: Disk>(
     ensures exact { (bytes : List ℕ) → (D.disk disk).contents ≡ Some bytes
         → FindsBook audit_causes IsKeptOf book bytes result.1 }
     ensures fault { CountsBook book result.1 (D.disk disk).faults (D.disk result.0).faults }
-    ensures place { IfSome (told_book result.1) (λ told. told ≡ book) }
+    ensures place { IfErr result.1 (EndsReading (λ told. told ≡ book)) }
 {
     match read_book(alloc, disk) {
         Ok((disk, kept)) => (disk, Ok(kept)),

@@ -10,6 +10,7 @@ mod reader;
 mod reading;
 
 pub use auditing::audit;
+pub use balanced_books::{Report, Sums, VendorSums};
 pub use book_chains::chains;
 pub use chain_reading::ChainLine;
 pub use fault::AuditFault;

@@ -1,5 +1,7 @@
 -- What is told of the books that an auditor's command reads.
-use Rattle.std.specs.Prelude.{◌≡◌, ◌⊎◌, ℕ, Bool, true, false, List, Result, Err, Ok}
+use Rattle.std.specs.Prelude.{◌≡◌, ◌⊎◌, ◌<◌, ℕ, suc, Bool, true, false, List, length, take, flat_map, Result, Err, Ok}
+use Rattle.std.specs.Global.{Vec}
+use Rattle.std.specs.List.{AllZip, AllByRecursion}
 use Rattle.mc_outside.specs.Bytes.{BeginsWith}
 use Rattle.mc_outside.specs.DiskView.{DiskView}
 use Rattle.mc_records.specs.declared.refusal.Refusal.{Refusal}
@@ -12,7 +14,10 @@ use Rattle.book_audit.specs.declared.fault.BooksFault.TheVariants as founds
 use Rattle.audit_cmd.specs.declared.fault.AuditFault.{AuditFault}
 use Rattle.audit_cmd.specs.declared.fault.AuditFault.TheVariants as faults
 use Rattle.audit_cmd.specs.Reading.{IsSpoiledFrom, IsUnchainedFrom, IsUnlawfulFrom}
-use Rattle.audit_cmd.specs.Books.{AreTold, counts, IsFirst, AreAudited, HaveWallet, RoseAt}
+use Rattle.audit_cmd.specs.declared.chain_reading.ChainLine.{ChainLine}
+use Rattle.audit_cmd.specs.Books.{AreTold, counts, IsLawfulBook, FirstOf, AreAudited, HaveWallet, RoseAt}
+use Rattle.audit_cmd.specs.Chains.{IsLineOf, HasLine, SpoilsChain, BreaksChain, HasNoSite}
+use Rattle.said_lines.specs.Lines.{chain_line}
 use Rattle.command_status.specs.declared.status.Status.{Status}
 use Rattle.command_status.specs.declared.status.Status.TheVariants as ends
 
@@ -20,6 +25,10 @@ use Rattle.command_status.specs.declared.status.Status.TheVariants as ends
 abbrev pub report_lines : Bool → Report → List ℕ
 report_lines true r = report_json r
 report_lines false r = report_text r
+
+-- the lines of the chains of books, in their order
+abbrev pub chain_lines : List ChainLine → List ℕ
+chain_lines lines = flat_map (λ l. chain_line l.name l.entries l.chain) lines
 
 -- ---- statuses
 
@@ -39,16 +48,17 @@ audit_status (faults.MissingBook name) = ends.Refused (refusals.MissingBook name
 audit_status (faults.Stranger book name id) = ends.Stranger name id
 audit_status faults.NoMemory = ends.NoMemory
 
--- the status by which it is told what was found
+-- the status by which it is told what was found of books
 abbrev pub TellsFound : Bool → Result Report AuditFault → Status → Type 0
 TellsFound json (Ok r) status = IsReportStatus (report_lines json r) status
 TellsFound json (Err fault) status = status ≡ audit_status fault
 
--- the status tells something that an audit may find
-abbrev pub TellsAudit : Bool → Status → Type 0
-TellsAudit json status = (found : Result Report AuditFault) × TellsFound json found status
+-- and by which their chains are told
+abbrev pub TellsLines : Result (Vec ChainLine) AuditFault → Status → Type 0
+TellsLines (Ok lines) status = IsReportStatus (chain_lines lines.items) status
+TellsLines (Err fault) status = status ≡ audit_status fault
 
--- ---- what is told of the bytes of books
+-- ---- what is told of books
 
 -- Why lawful books are refused: a wallet's is among them, or they are not of one broker and of vendors with names of their
 -- own; or the broker sold of a vendor whose book is not there.
@@ -57,32 +67,67 @@ RefusesBooks books refusals.BadBooks = HaveWallet books ⊎ AreAudited books (Er
 RefusesBooks books (refusals.MissingBook name) = AreAudited books (Err (founds.MissingBook name))
 RefusesBooks books _ = ⊥
 
--- How the report of books ends, by their bytes: the books balance and their report is said, or the first that is not read
--- as a lawful one decides, or lawful books are refused, or the first stranger is told, with the name of its book.
-abbrev pub ReportsBooks : Bool → List (List ℕ) → Status → Type 0
-ReportsBooks json books (ends.Did lines) = (r : Report) × (lines ≡ report_lines json r) × AreAudited books (Ok r)
-ReportsBooks json books ends.NotJournal = (book : ℕ) × IsFirst books book (λ bytes. BeginsWith header bytes → ⊥)
-ReportsBooks json books (ends.BadEntry place) = (book : ℕ) × IsFirst books book (λ bytes. IsSpoiledFrom bytes place)
-ReportsBooks json books (ends.BadChain place) = (book : ℕ) × (stood : List ℕ) × (computed : List ℕ) × IsFirst books book (λ bytes. IsUnchainedFrom bytes place stood computed)
-ReportsBooks json books (ends.UnlawfulEntry place) = (book : ℕ) × IsFirst books book (λ bytes. IsUnlawfulFrom bytes place)
-ReportsBooks json books (ends.Refused refusal) = RefusesBooks books refusal
-ReportsBooks json books (ends.Stranger name id) = (book : ℕ) × AreAudited books (Err (founds.Stranger book name id))
-ReportsBooks json books ends.DiskFault = Unit {0}
-ReportsBooks json books ends.NoMemory = Unit {0}
-ReportsBooks json books _ = ⊥
+-- the refusals that come so
+abbrev pub IsOfBooks : Refusal → Type 0
+IsOfBooks refusals.BadBooks = Unit {0}
+IsOfBooks (refusals.MissingBook name) = Unit {0}
+IsOfBooks _ = ⊥
+
+-- where all disks tell their bytes
+abbrev pub IfTold : {D : Type 0} → (D → DiskView) → List D → (List (List ℕ) → Type 0) → Type 0
+IfTold view disks Holds = (contents : List (List ℕ)) → AreTold view disks contents → Holds contents
+
+-- One of the books is the first that is not read, for this cause, where its disk and those before it tell their bytes.
+pub record TellsFirst {D : Type 0} (view : D → DiskView) (IsRead : List ℕ → Type 0) (disks : List D) (Cause : List ℕ → Type 0) : Type 0 where
+  pub book : ℕ
+  pub there : book < length disks
+  pub first : IfTold view (take (suc book) disks) (λ books. FirstOf IsRead books book Cause)
+
+-- How the report of books ends, whatever their disks tell, and by their bytes: the books balance and their report is said, or
+-- the first that is not read as a lawful one decides, or lawful books are refused, or the first stranger is told, with the
+-- name of its book.
+abbrev pub ReportsBooks : {D : Type 0} → (D → DiskView) → Bool → List D → Status → Type 0
+ReportsBooks view json disks (ends.Did lines) = (r : Report) × (lines ≡ report_lines json r) × IfTold view disks (λ books. AreAudited books (Ok r))
+ReportsBooks view json disks ends.NotJournal = TellsFirst view IsLawfulBook disks (λ bytes. BeginsWith header bytes → ⊥)
+ReportsBooks view json disks (ends.BadEntry place) = TellsFirst view IsLawfulBook disks (λ bytes. IsSpoiledFrom bytes place)
+ReportsBooks view json disks (ends.BadChain place) = (stood : List ℕ) × (computed : List ℕ) × TellsFirst view IsLawfulBook disks (λ bytes. IsUnchainedFrom bytes place stood computed)
+ReportsBooks view json disks (ends.UnlawfulEntry place) = TellsFirst view IsLawfulBook disks (λ bytes. IsUnlawfulFrom bytes place)
+ReportsBooks view json disks (ends.Refused refusal) = IsOfBooks refusal × IfTold view disks (λ books. RefusesBooks books refusal)
+ReportsBooks view json disks (ends.Stranger name id) = (book : ℕ) × (book < length disks) × IfTold view disks (λ books. AreAudited books (Err (founds.Stranger book name id)))
+ReportsBooks view json disks ends.DiskFault = Unit {0}
+ReportsBooks view json disks ends.NoMemory = Unit {0}
+ReportsBooks view json disks _ = ⊥
+
+-- How telling the chains of books ends, likewise: with a line for each, or by the first that has none.
+abbrev pub TellsChains : {D : Type 0} → (D → DiskView) → List D → Status → Type 0
+TellsChains view disks (ends.Did text) = (lines : List ChainLine) × (text ≡ chain_lines lines) × IfTold view disks (λ books. AllZip IsLineOf books lines)
+TellsChains view disks ends.NotJournal = TellsFirst view HasLine disks (λ bytes. BeginsWith header bytes → ⊥)
+TellsChains view disks (ends.BadEntry place) = TellsFirst view HasLine disks (λ bytes. SpoilsChain bytes place)
+TellsChains view disks (ends.BadChain place) = (stood : List ℕ) × (computed : List ℕ) × TellsFirst view HasLine disks (λ bytes. BreaksChain bytes place stood computed)
+TellsChains view disks (ends.UnlawfulEntry place) = TellsFirst view HasLine disks (λ bytes. HasNoSite bytes place)
+TellsChains view disks ends.DiskFault = Unit {0}
+TellsChains view disks ends.NoMemory = Unit {0}
+TellsChains view disks _ = ⊥
 
 -- ---- faults of disks
 
--- The count of one disk rose, and the others stayed; the books before it are lawful, where their disks tell them.
-pub record FailsAt {D : Type 0} (view : D → DiskView) (before after : List D) : Type 0 where
+-- The count of one disk rose, and the others stayed; the books before it are read, where their disks tell them.
+pub record FailsAt {D : Type 0} (view : D → DiskView) (IsRead : List ℕ → Type 0) (before after : List D) : Type 0 where
   pub book : ℕ
   pub rose : RoseAt book (counts view before) (counts view after)
-  pub first : (contents : List (List ℕ)) → AreTold view before contents → IsFirst contents book (λ bytes. Unit {0})
+  pub first : IfTold view (take book before) (λ books. AllByRecursion IsRead books)
 
 -- A disk failed where that is told; else no count rose.
+abbrev pub CausesOf : {D : Type 0} → (D → DiskView) → (List ℕ → Type 0) → List D → Status → List D → Type 0
+CausesOf view IsRead before ends.DiskFault after = FailsAt view IsRead before after
+CausesOf view IsRead before _ after = counts view after ≡ counts view before
+
+-- of a report, before whose failing disk the books are lawful, and of chains, before whose they have lines
 abbrev pub ReportCauses : {D : Type 0} → (D → DiskView) → List D → Status → List D → Type 0
-ReportCauses view before ends.DiskFault after = FailsAt view before after
-ReportCauses view before _ after = counts view after ≡ counts view before
+ReportCauses view before status after = CausesOf view IsLawfulBook before status after
+
+abbrev pub ChainCauses : {D : Type 0} → (D → DiskView) → List D → Status → List D → Type 0
+ChainCauses view before status after = CausesOf view HasLine before status after
 
 -- no disk failed
 abbrev pub AreCalm : {D : Type 0} → (D → DiskView) → List D → List D → Type 0
@@ -91,3 +136,7 @@ AreCalm view before after = (book : ℕ) → RoseAt book (counts view before) (c
 -- the report is said, memory was refused, the books are refused, or a stranger is told
 abbrev pub EndsReport : ℕ → Type 0
 EndsReport number = (number ≡ 0) ⊎ ((number ≡ 5) ⊎ ((number ≡ 7) ⊎ (number ≡ 8)))
+
+-- the lines are said, or memory was refused
+abbrev pub EndsChains : ℕ → Type 0
+EndsChains number = (number ≡ 0) ⊎ (number ≡ 5)

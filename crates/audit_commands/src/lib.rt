@@ -1,6 +1,8 @@
 //! What an auditor's commands do with books on disks, and how they end.
 #![tactic(auto)]
 
+mod chains;
 mod report;
 
+pub use chains::tell_chains;
 pub use report::report_books;

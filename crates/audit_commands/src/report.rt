@@ -1,11 +1,11 @@
 //! Reporting books.
 
-ghost use Rattle.std.specs.Prelude.{◌≡◌, ◌⊎◌, List as Items, ℕ};
+ghost use Rattle.std.specs.Prelude.{◌≡◌, ◌⊎◌};
 ghost use Rattle.std.specs.List.{AllZip, AllByRecursion};
 ghost use Rattle.mc_outside.specs.DiskView.{OnlyRead};
-ghost use Rattle.audit_cmd.specs.Books.{AreTold, IsLawfulBook};
+ghost use Rattle.audit_cmd.specs.Books.{IsLawfulBook};
 ghost use Rattle.command_status.specs.Statuses.{number_of};
-ghost use Rattle.audit_commands.specs.Reports.{report_lines, audit_status, IsReportStatus, TellsFound, TellsAudit, ReportsBooks, ReportCauses, AreCalm, EndsReport};
+ghost use Rattle.audit_commands.specs.Reports.{report_lines, audit_status, IsReportStatus, TellsFound, IfTold, ReportsBooks, ReportCauses, AreCalm, EndsReport};
 
 use audit_cmd::{AuditFault, audit};
 use audit_report::{report_json, report_text};
@@ -22,14 +22,11 @@ use std::alloc::Global;
 pub fn report_books<D: Disk>(alloc: Global, books: Vec<D>, as_json: bool) -> (Vec<D>, Status)
     ensures read { AllZip (λ a b. OnlyRead (D.disk a) (D.disk b)) books.items result.0.items }
     ensures moved { AllZip D.disk_moved books.items result.0.items }
-    ensures told { TellsAudit as_json result.1 }
     ensures words { number_of result.1 ≡ 2 → ⊥ }
     ensures causes { ReportCauses D.disk books.items result.1 result.0.items }
-    ensures reported { (contents : Items (Items ℕ)) → AreTold D.disk books.items contents
-        → ReportsBooks as_json contents result.1 }
-    ensures ends { (contents : Items (Items ℕ)) → AreTold D.disk books.items contents
-        → AllByRecursion IsLawfulBook contents → AreCalm D.disk books.items result.0.items
-        → EndsReport (number_of result.1) }
+    ensures reported { ReportsBooks D.disk as_json books.items result.1 }
+    ensures ends { IfTold D.disk books.items (λ contents. AllByRecursion IsLawfulBook contents
+        → AreCalm D.disk books.items result.0.items → EndsReport (number_of result.1)) }
 {
     let (books, found) = audit(alloc, books);
     let status = status_of(alloc, found, as_json);
@@ -62,8 +59,8 @@ fn said(alloc: Global, report: &Report, as_json: bool) -> Status
     }
 }
 
-/// The status of books that are not reported.
-fn of_fault(fault: AuditFault) -> Status
+/// The status of books that are not reported, or whose chains are not told.
+pub(crate) fn of_fault(fault: AuditFault) -> Status
     ensures { result ≡ audit_status fault }
 {
     match fault {

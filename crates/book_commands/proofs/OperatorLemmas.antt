@@ -1,5 +1,5 @@
 -- What becomes of a book by an operation of its operator.
-use Rattle.std.proofs.Common.{◌≡◌, ◌⊎◌, inl, inr, ⊎_elim, ℕ, ◌≤◌, List, [], ◌∷◌, ◌++◌, max, refl, sym, ap, ◌∙◌, subst, Err}
+use Rattle.std.proofs.Common.{◌≡◌, ◌⊎◌, inl, inr, ⊎_elim, ℕ, List, [], ◌∷◌, ◌++◌, max, refl, sym, ap, ◌∙◌, subst, Some, Err}
 use Rattle.std.specs.Prelude.{IsSome}
 use Rattle.mc_outside.specs.Bytes.{Rose}
 use Rattle.mc_outside.specs.DiskView.{DiskView, IsDisk, LinkKeeps, OnlyRead, Ran}
@@ -7,6 +7,7 @@ use Rattle.mc_outside.specs.LinkView.{LinkView}
 use Rattle.mc_outside.proofs.Runs.{ran_then, ran_weaker, ran_now}
 use Rattle.mc_records.specs.declared.limits.Limits.{Limits}
 use Rattle.ledger_model.specs.Histories.{History, time}
+use Rattle.ledger_model.specs.Houses.{site_kind}
 use Rattle.ledger_model.specs.Lawful.{IsLawful, MayFollow}
 use Rattle.ledger_model.proofs.AcceptLaws.{accepted_once}
 use Rattle.ledger_model.proofs.FollowLaws.{longer_lawful}
@@ -21,6 +22,7 @@ use Rattle.house_core.specs.declared.outcome.Outcome.TheVariants as outcomes
 use Rattle.house_core.specs.Bench.{house_time, limits_of}
 use Rattle.house_core.specs.House.{HouseRepresents, HouseRests, house_rests_none, KeepsTime, OfHouse, CountsFaults, outcome_disk}
 use Rattle.house_core.proofs.HouseDisk.{house_keeps}
+use Rattle.house_state.specs.Learning.{Test}
 use Rattle.house_state.specs.Trade.{TradeView}
 use Rattle.house_core.specs.Tasks.{Task, Add, Stays, Refuse, Does, LeavesBy, Performs}
 use Rattle.command_input.proofs.AsideLemmas.{TellsAside, SentNoMore, no_more_then, no_more_still, taken_quiet, aside_still, quiet_link}
@@ -30,7 +32,7 @@ use Rattle.command_input.specs.Inputs.{TakesInput, LosesInput}
 use Rattle.operator_command.specs.Operations.{full, OperationView}
 use Rattle.book_commands.specs.Endings.{outcome_status}
 use Rattle.book_commands.specs.Serving.{EncodesLawful}
-use Rattle.book_commands.specs.Operator.{DidBy, OperatePair, OperateCauses, Operated, Opened, Unread}
+use Rattle.book_commands.specs.Operator.{DidBy, OperateImage, OperatePair, IsReady, OperateCauses, Operated, Opened, Unread}
 use Rattle.book_commands.proofs.ServedLemmas.{stands_lawful}
 
 lawful_in : {O T : Type 0} (disk : O → DiskView) (trade : T → TradeView) (x : House O T) (h : History) → limits_of x.bench ≡ full → HouseRepresents disk trade x h → EncodesLawful (disk x.journal.disk) h
@@ -71,8 +73,9 @@ worked_pairs link disk trade x y tells worked =
     )
 
 -- The house of a book whose history is this, with its operation's input and the reading of the clock.
-pub record Ready {O T : Type 0} (link : O → LinkView) (disk : O → DiskView) (trade : T → TradeView) (operation : OperationView) (bytes input : List ℕ) (a : O) (y : House O T) (h : History) : Type 0 where
+pub record Ready {O T : Type 0} (link : O → LinkView) (disk : O → DiskView) (trade : T → TradeView) (kind : ℕ) (operation : OperationView) (bytes input : List ℕ) (a : O) (y : House O T) (h : History) : Type 0 where
   pub of_bytes : Encodes h bytes
+  pub of_kind : site_kind h ≡ Some kind
   pub house : HouseRepresents disk trade y h
   pub limits' : limits_of y.bench ≡ full
   pub taken : LinkView
@@ -117,17 +120,18 @@ by_links link disk trade x y quiet keeps rests = record {
 }
 
 -- an operation was ready once its input was read, and the clock
-pub ready_by : {O T : Type 0} (link : O → LinkView) (disk : O → DiskView) (trade : T → TradeView) (operation : OperationView) (bytes input : List ℕ) (a : O) (x m y : House O T) (moment : ℕ) → TellsAside link (λ o. (disk o).aside)
-    → (at : Opened link disk trade bytes a x) → TakesInput operation.input (link x.journal.disk) input (link m.journal.disk) → LinkKeeps (disk x.journal.disk) (disk m.journal.disk) → HouseRests x m
+pub ready_by : {O T : Type 0} (link : O → LinkView) (disk : O → DiskView) (trade : T → TradeView) (passes : Test) (kind : ℕ) (operation : OperationView) (bytes input : List ℕ) (a : O) (x m y : House O T) (moment : ℕ) → TellsAside link (λ o. (disk o).aside)
+    → (at : Opened link disk trade passes kind bytes a x) → TakesInput operation.input (link x.journal.disk) input (link m.journal.disk) → LinkKeeps (disk x.journal.disk) (disk m.journal.disk) → HouseRests x m
     → LinkKeeps (disk x.journal.disk) (disk y.journal.disk) → LinkKeeps (disk m.journal.disk) (disk y.journal.disk)
     → ((h : History) → HouseRepresents disk trade m h → HouseRepresents disk trade y h) → limits_of y.bench ≡ limits_of m.bench
     → AreRead OfLinks (moment ∷ []) (link m.journal.disk).readings (link y.journal.disk).readings → link y.journal.disk ≡ with_readings (link y.journal.disk).readings (link m.journal.disk)
-    → house_time y.bench ≡ max (house_time m.bench) moment → Ready link disk trade operation bytes input a y at.house.history
-ready_by link disk trade operation bytes input a x m y moment tells at takes kept_so_far rests kept_both kept_then stands limits read rest raised =
+    → house_time y.bench ≡ max (house_time m.bench) moment → Ready link disk trade kind operation bytes input a y at.house.history
+ready_by link disk trade passes kind operation bytes input a x m y moment tells at takes kept_so_far rests kept_both kept_then stands limits read rest raised =
     let by_input = by_links link disk trade x m (taken_quiet operation.input (link x.journal.disk) (link m.journal.disk) input takes) kept_so_far rests in
     let worked = worked_then link disk trade x m y by_input kept_both (by_clock link disk trade m y kept_then rest stands limits) in
     record {
       of_bytes = at.house.of_bytes;
+      of_kind = at.house.of_kind;
       house = worked.represents at.house.history at.house.house;
       limits' = worked.limits' ∙ at.house.limits';
       taken = link m.journal.disk;
@@ -139,24 +143,42 @@ ready_by link disk trade operation bytes input a x m y moment tells at takes kep
       pairs = before_pairs link disk trade a x y tells at.read at.link' worked;
     }
 
+-- an image of before, or of the entries as they were, is one however the operation ended
+unchanged : (before : DiskView) (task : Task) (h : History) (status : Status) (image : List ℕ) → before.leaves image ⊎ Encodes h image → OperateImage before task h status image
+unchanged before task h (ends.Did line) image is = ⊎_elim (λ l. inl l) (λ st. inr (inl st)) is
+unchanged before task h ends.DiskFault image is = ⊎_elim (λ l. inl l) (λ st. inr (inl st)) is
+unchanged before task h ends.Done image is = is
+unchanged before task h (ends.Served n) image is = is
+unchanged before task h (ends.Founded name) image is = is
+unchanged before task h ends.BadWords image is = is
+unchanged before task h (ends.Stranger name id) image is = is
+unchanged before task h ends.NotJournal image is = is
+unchanged before task h (ends.BadEntry place) image is = is
+unchanged before task h (ends.BadChain place) image is = is
+unchanged before task h (ends.UnlawfulEntry place) image is = is
+unchanged before task h ends.NoMemory image is = is
+unchanged before task h ends.LinkFault image is = is
+unchanged before task h (ends.Refused f) image is = is
+
 -- nothing was done to the book
-pub unread : {O T : Type 0} (link : O → LinkView) (disk : O → DiskView) (trade : T → TradeView) (operation : OperationView) (bytes : List ℕ) (a : O) (x y : House O T) (status : Status) → TellsAside link (λ o. (disk o).aside) → Opened link disk trade bytes a x → Worked link disk trade x y
-    → ((status ≡ ends.LinkFault) × LosesInput operation.input (link x.journal.disk) (link y.journal.disk)) ⊎ ((status ≡ ends.NoMemory) × (link y.journal.disk ≡ link x.journal.disk)) → Unread link disk operation bytes a status y.journal.disk
-unread link disk trade operation bytes a x y status tells at worked lost = record {
+pub unread : {O T : Type 0} (link : O → LinkView) (disk : O → DiskView) (trade : T → TradeView) (passes : Test) (kind : ℕ) (operation : OperationView) (bytes : List ℕ) (a : O) (x y : House O T) (status : Status) → TellsAside link (λ o. (disk o).aside) → Opened link disk trade passes kind bytes a x → Worked link disk trade x y
+    → ((status ≡ ends.LinkFault) × LosesInput operation.input (link x.journal.disk) (link y.journal.disk)) ⊎ ((status ≡ ends.NoMemory) × (link y.journal.disk ≡ link x.journal.disk)) → Unread link disk kind operation bytes a status y.journal.disk
+unread link disk trade passes kind operation bytes a x y status tells at worked lost = record {
   history = at.house.history;
   stands = at.house.of_bytes;
+  of_kind = at.house.of_kind;
   left = lawful_in disk trade y at.house.history (worked.limits' ∙ at.house.limits') (worked.represents at.house.history at.house.house);
-  pairs = ran_weaker (disk a) (disk y.journal.disk) _ _ (before_pairs link disk trade a x y tells at.read at.link' worked).0 (λ i s p. (inl p.0, p.1));
+  pairs = ran_weaker (disk a) (disk y.journal.disk) _ _ (before_pairs link disk trade a x y tells at.read at.link' worked).0 (λ i s p. (unchanged (disk a) Stays at.house.history status i (inl p.0), p.1));
   lost = ⊎_elim
       (λ l. inl (l.0, subst (λ (v : LinkView). LosesInput operation.input v (link y.journal.disk)) at.link' l.1))
       (λ l. inr (l.0, l.1 ∙ at.link')) lost;
 }
 
 -- memory was refused before anything was done
-pub unread_at_once : {O T : Type 0} (link : O → LinkView) (disk : O → DiskView) (trade : T → TradeView) (operation : OperationView) (bytes : List ℕ) (a : O) (x : House O T) → TellsAside link (λ o. (disk o).aside) → LinkKeeps (disk x.journal.disk) (disk x.journal.disk) → Opened link disk trade bytes a x
-    → Unread link disk operation bytes a ends.NoMemory x.journal.disk
-unread_at_once link disk trade operation bytes a x tells keeps at =
-    unread link disk trade operation bytes a x x ends.NoMemory tells at (by_links link disk trade x x (no_more_still (link x.journal.disk) (link x.journal.disk) refl) keeps (house_rests_none x)) (inr (refl, refl))
+pub unread_at_once : {O T : Type 0} (link : O → LinkView) (disk : O → DiskView) (trade : T → TradeView) (passes : Test) (kind : ℕ) (operation : OperationView) (bytes : List ℕ) (a : O) (x : House O T) → TellsAside link (λ o. (disk o).aside) → LinkKeeps (disk x.journal.disk) (disk x.journal.disk) → Opened link disk trade passes kind bytes a x
+    → Unread link disk kind operation bytes a ends.NoMemory x.journal.disk
+unread_at_once link disk trade passes kind operation bytes a x tells keeps at =
+    unread link disk trade passes kind operation bytes a x x ends.NoMemory tells at (by_links link disk trade x x (no_more_still (link x.journal.disk) (link x.journal.disk) refl) keeps (house_rests_none x)) (inr (refl, refl))
 
 -- ---- the task
 
@@ -182,22 +204,24 @@ did disk trade operation input line y h (Refuse g) (outcomes.NoMemory x) limits 
 did disk trade operation input line y h (Refuse g) (outcomes.Halted d) limits lawful is_disk keeps does ran = absurd does
 
 -- the crash pairs of a task
-leaves_pair : {O T A : Type 0} (tells : Type 0) (before : DiskView) (task : Task) (out : Outcome O T A) (h : History) (aside image sent : List ℕ) → (tells → aside ≡ before.aside) → LeavesBy task out h aside image sent → OperatePair tells before task h image sent
-leaves_pair tells before (Add e) (outcomes.Done x n) h aside image sent same p = (inr p.0, λ t. p.1 ∙ same t)
-leaves_pair tells before (Add e) (outcomes.Refused x f) h aside image sent same p = (inr (inl p.0), λ t. p.1 ∙ same t)
-leaves_pair tells before (Add e) (outcomes.NoMemory x) h aside image sent same p = (inr (inl p.0), λ t. p.1 ∙ same t)
-leaves_pair tells before (Add e) (outcomes.Halted d) h aside image sent same p = (inr p.0, λ t. p.1 ∙ same t)
-leaves_pair tells before Stays out h aside image sent same p = (inr (inl p.0), λ t. p.1 ∙ same t)
-leaves_pair tells before (Refuse f) out h aside image sent same p = (inr (inl p.0), λ t. p.1 ∙ same t)
+leaves_pair : {O T : Type 0} (tells : Type 0) (before : DiskView) (task : Task) (out : Outcome O T (Unit {0})) (line : List ℕ) (h : History) (aside image sent : List ℕ) → (tells → aside ≡ before.aside) → LeavesBy task out h aside image sent
+    → OperatePair tells before task h (outcome_status out line) image sent
+leaves_pair tells before (Add e) (outcomes.Done x n) line h aside image sent same p = (inr p.0, λ t. p.1 ∙ same t)
+leaves_pair tells before (Add e) (outcomes.Refused x f) line h aside image sent same p = (inr p.0, λ t. p.1 ∙ same t)
+leaves_pair tells before (Add e) (outcomes.NoMemory x) line h aside image sent same p = (inr p.0, λ t. p.1 ∙ same t)
+leaves_pair tells before (Add e) (outcomes.Halted d) line h aside image sent same p = (inr p.0, λ t. p.1 ∙ same t)
+leaves_pair tells before Stays out line h aside image sent same p = (unchanged before Stays h (outcome_status out line) image (inr p.0), λ t. p.1 ∙ same t)
+leaves_pair tells before (Refuse f) out line h aside image sent same p = (unchanged before (Refuse f) h (outcome_status out line) image (inr p.0), λ t. p.1 ∙ same t)
 
 -- an operation that the book's house was ready for
-pub operated : {O T : Type 0} (link : O → LinkView) (disk : O → DiskView) (trade : T → TradeView) (operation : OperationView) (bytes input line : List ℕ) (a : O) (y : House O T) (h : History) (out : Outcome O T (Unit {0}))
-    → Ready link disk trade operation bytes input a y h → ((o : O) → IsDisk (disk o)) → link (outcome_disk out) ≡ link y.journal.disk → OfHouse (KeepsTime y) out
+pub operated : {O T : Type 0} (link : O → LinkView) (disk : O → DiskView) (trade : T → TradeView) (kind : ℕ) (operation : OperationView) (bytes input line : List ℕ) (a : O) (y : House O T) (h : History) (out : Outcome O T (Unit {0}))
+    → Ready link disk trade kind operation bytes input a y h → ((o : O) → IsDisk (disk o)) → link (outcome_disk out) ≡ link y.journal.disk → OfHouse (KeepsTime y) out
     → Performs disk trade (operation.asks input h (house_time y.bench)) (λ task g answer. operation.says input h task line) (limits_of y.bench) y.journal.disk h out
-    → Operated link disk operation bytes a (outcome_status out line) (outcome_disk out)
-operated link disk trade operation bytes input line a y h out at is_disk same keeps does = record {
+    → Operated link disk kind operation bytes a (outcome_status out line) (outcome_disk out)
+operated link disk trade kind operation bytes input line a y h out at is_disk same keeps does = record {
   history = h;
   stands = at.of_bytes;
+  of_kind = at.of_kind;
   input = input;
   taken = at.taken;
   takes = at.takes;
@@ -207,37 +231,34 @@ operated link disk trade operation bytes input line a y h out at is_disk same ke
   task = does.task;
   asks = subst (λ (t : ℕ). operation.asks input h t does.task) at.time' does.asks;
   did = did disk trade operation input line y h does.task out at.limits' (subst (λ (l : Limits). IsLawful l h) at.limits' at.house.house.represents.state.lawful) is_disk keeps does.does does.ran;
-  pairs = ran_then (disk a) (disk y.journal.disk) (disk (outcome_disk out)) (OperatePair (Tells link a) (disk a) does.task h)
-      (ran_weaker (disk a) (disk y.journal.disk) _ _ at.pairs.0 (λ i s p. (inl p.0, p.1)))
-      (ran_weaker (disk y.journal.disk) (disk (outcome_disk out)) _ _ does.ran (λ i s p. leaves_pair (Tells link a) (disk a) does.task out h (disk y.journal.disk).aside i s at.pairs.1 p));
+  pairs = ran_then (disk a) (disk y.journal.disk) (disk (outcome_disk out)) (OperatePair (Tells link a) (disk a) does.task h (outcome_status out line))
+      (ran_weaker (disk a) (disk y.journal.disk) _ _ at.pairs.0 (λ i s p. (unchanged (disk a) does.task h (outcome_status out line) i (inl p.0), p.1)))
+      (ran_weaker (disk y.journal.disk) (disk (outcome_disk out)) _ _ does.ran (λ i s p. leaves_pair (Tells link a) (disk a) does.task out line h (disk y.journal.disk).aside i s at.pairs.1 p));
 }
 
 -- ---- causes
 
+-- the input was read, and then the clock, before what was done to the disk
 pub operated_causes : {O T A : Type 0} (link : O → LinkView) (disk : O → DiskView) (operation : OperationView) (a y : O) (out : Outcome O T A) (line : List ℕ) → (disk y).faults ≡ (disk a).faults → CountsFaults out (disk y).faults (disk (outcome_disk out)).faults
-    → OperateCauses link disk operation a (outcome_status out line) (outcome_disk out)
-operated_causes link disk operation a y (outcomes.Done x n) line same counts = counts ∙ same
-operated_causes link disk operation a y (outcomes.Refused x f) line same counts = counts ∙ same
-operated_causes link disk operation a y (outcomes.NoMemory x) line same counts = counts ∙ same
-operated_causes link disk operation a y (outcomes.Halted d) line same counts = subst (λ (n : ℕ). Rose n (disk d).faults) same counts
+    → IsReady operation (link a) (link (outcome_disk out)) → OperateCauses link disk operation a (outcome_status out line) (outcome_disk out)
+operated_causes link disk operation a y (outcomes.Done x n) line same counts ready = (counts ∙ same, ready)
+operated_causes link disk operation a y (outcomes.Refused x f) line same counts ready = (counts ∙ same, inr ready)
+operated_causes link disk operation a y (outcomes.NoMemory x) line same counts ready = (counts ∙ same, inr ready)
+operated_causes link disk operation a y (outcomes.Halted d) line same counts ready = subst (λ (n : ℕ). Rose n (disk d).faults) same counts
 
 -- the causes from the outside on that was opened
 pub causes_opened : {O : Type 0} (link : O → LinkView) (disk : O → DiskView) (operation : OperationView) (a x : O) (status : Status) (b : O) → (disk x).faults ≡ (disk a).faults → link x ≡ link a → OperateCauses link disk operation x status b → OperateCauses link disk operation a status b
-causes_opened link disk operation a x ends.Done b same links causes = causes ∙ same
-causes_opened link disk operation a x (ends.Served n) b same links causes = (causes.0 ∙ same, subst (λ (v : LinkView). v.faults ≤ (link b).faults) links causes.1)
-causes_opened link disk operation a x (ends.Founded name) b same links causes = causes ∙ same
-causes_opened link disk operation a x (ends.Did line) b same links causes = causes ∙ same
-causes_opened link disk operation a x ends.BadWords b same links causes = causes ∙ same
-causes_opened link disk operation a x (ends.Stranger name id) b same links causes = causes ∙ same
-causes_opened link disk operation a x ends.NotJournal b same links causes = causes ∙ same
-causes_opened link disk operation a x (ends.BadEntry place) b same links causes = causes ∙ same
-causes_opened link disk operation a x (ends.BadChain place) b same links causes = causes ∙ same
-causes_opened link disk operation a x (ends.UnlawfulEntry place) b same links causes = causes ∙ same
+causes_opened link disk operation a x ends.Done b same links causes = absurd causes.1
+causes_opened link disk operation a x (ends.Served n) b same links causes = absurd causes.1
+causes_opened link disk operation a x (ends.Founded name) b same links causes = absurd causes.1
+causes_opened link disk operation a x (ends.Did line) b same links causes = (causes.0 ∙ same, subst (λ (v : LinkView). IsReady operation v (link b)) links causes.1)
+causes_opened link disk operation a x ends.BadWords b same links causes = absurd causes.1
+causes_opened link disk operation a x (ends.Stranger name id) b same links causes = absurd causes.1
+causes_opened link disk operation a x ends.NotJournal b same links causes = (causes.0 ∙ same, causes.1 ∙ links)
+causes_opened link disk operation a x (ends.BadEntry place) b same links causes = (causes.0 ∙ same, causes.1 ∙ links)
+causes_opened link disk operation a x (ends.BadChain place) b same links causes = (causes.0 ∙ same, causes.1 ∙ links)
+causes_opened link disk operation a x (ends.UnlawfulEntry place) b same links causes = (causes.0 ∙ same, causes.1 ∙ links)
 causes_opened link disk operation a x ends.DiskFault b same links causes = subst (λ (n : ℕ). Rose n (disk b).faults) same causes
-causes_opened link disk operation a x ends.NoMemory b same links causes = causes ∙ same
-causes_opened link disk operation a x ends.LinkFault b same links causes = (
-  causes.0 ∙ same,
-  subst (λ (v : LinkView). Rose v.faults (link b).faults) links causes.1,
-  subst (λ (v : LinkView). LosesInput operation.input v (link b)) links causes.2,
-)
-causes_opened link disk operation a x (ends.Refused f) b same links causes = causes ∙ same
+causes_opened link disk operation a x ends.NoMemory b same links causes = (causes.0 ∙ same, ⊎_elim (λ still. inl (still ∙ links)) (λ ready. inr (subst (λ (v : LinkView). IsReady operation v (link b)) links ready)) causes.1)
+causes_opened link disk operation a x ends.LinkFault b same links causes = (causes.0 ∙ same, (subst (λ (v : LinkView). Rose v.faults (link b).faults) links causes.1.0, subst (λ (v : LinkView). LosesInput operation.input v (link b)) links causes.1.1))
+causes_opened link disk operation a x (ends.Refused f) b same links causes = (causes.0 ∙ same, ⊎_elim (λ other. inl (other.0, other.1 ∙ links)) (λ ready. inr (subst (λ (v : LinkView). IsReady operation v (link b)) links ready)) causes.1)

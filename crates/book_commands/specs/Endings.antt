@@ -1,5 +1,6 @@
 -- The statuses of what houses answer.
-use Rattle.std.specs.Prelude.{ℕ, List}
+use Rattle.std.specs.Prelude.{◌≡◌, ℕ, List}
+use Rattle.mc_records.specs.declared.refusal.Refusal.TheVariants as refusals
 use Rattle.house_core.specs.declared.outcome.Outcome.{Outcome}
 use Rattle.house_core.specs.declared.outcome.Outcome.TheVariants as outcomes
 use Rattle.house_serving.specs.declared.links.ServeOut.{ServeOut}
@@ -20,3 +21,10 @@ outcome_status (outcomes.Done x a) line = ends.Did line
 outcome_status (outcomes.Refused x f) line = ends.Refused f
 outcome_status (outcomes.NoMemory x) line = ends.NoMemory
 outcome_status (outcomes.Halted d) line = ends.DiskFault
+
+-- of a command over the book of a site of another kind: that is told (52), unless the disk failed or memory was refused
+abbrev pub TellsOtherKind : Status → Type 0
+TellsOtherKind (ends.Refused f) = f ≡ refusals.WrongKind
+TellsOtherKind ends.DiskFault = Unit {0}
+TellsOtherKind ends.NoMemory = Unit {0}
+TellsOtherKind _ = ⊥

@@ -14,16 +14,22 @@ use Rattle.site_words.specs.Words.{Founder}
 use Rattle.book_commands.specs.Founding.{site_of}
 use Rattle.book_commands.specs.Serving.{EncodesLawful}
 
--- A crash pair: the image encodes no entries or the Site entry of that moment, has at most nine bytes, or
--- is what a crash before could have left. Where what is sent is told, nothing was sent.
-abbrev pub FoundPair : Type 0 → DiskView → Entry → List ℕ → List ℕ → Type 0
-FoundPair tells before site image sent = FoundImage before site image × (tells → sent ≡ before.aside)
+-- The image of a crash pair, by how the command ended: where nothing was founded, one that a crash before could have left;
+-- else one of founding by the Site entry.
+abbrev pub FoundingImage : DiskView → Entry → Status → List ℕ → Type 0
+FoundingImage before site (ends.Refused f) image = before.leaves image
+FoundingImage before site ends.NoMemory image = before.leaves image
+FoundingImage before site _ image = FoundImage before site image
 
--- The clock was read once, and each crash pair is of the founding.
-pub record FoundAt {O : Type 0} (link : O → LinkView) (disk : O → DiskView) (kind : ℕ) (founder : Founder) (a b : O) (moment : ℕ) : Type 0 where
+-- A crash pair of it. Where what is sent is told, nothing was sent.
+abbrev pub FoundPair : Type 0 → DiskView → Entry → Status → List ℕ → List ℕ → Type 0
+FoundPair tells before site status image sent = FoundingImage before site status image × (tells → sent ≡ before.aside)
+
+-- The clock was read once, and each crash pair is of the Site entry of that moment.
+pub record FoundAt {O : Type 0} (link : O → LinkView) (disk : O → DiskView) (kind : ℕ) (founder : Founder) (a : O) (status : Status) (b : O) (moment : ℕ) : Type 0 where
   pub read : AreRead OfLinks (moment ∷ []) (link a).readings (link b).readings
   pub rest : link b ≡ with_readings (link b).readings (link a)
-  pub pairs : Ran (disk a) (disk b) (FoundPair (IsSome (link a).sessions) (disk a) (site_of kind founder moment))
+  pub pairs : Ran (disk a) (disk b) (FoundPair (IsSome (link a).sessions) (disk a) (site_of kind founder moment) status)
 
 -- what the disk is then, by how the command ended, where it had these bytes
 abbrev pub FoundsBy : DiskView → ℕ → Founder → List ℕ → ℕ → Status → DiskView → Type 0
@@ -35,7 +41,7 @@ FoundsBy before kind founder bytes moment _ after = ⊥
 
 -- how founding a site of a kind ended
 abbrev pub FoundsBook : {O : Type 0} → (O → LinkView) → (O → DiskView) → ℕ → Founder → List ℕ → O → Status → O → Type 0
-FoundsBook link disk kind founder bytes a status b = (moment : ℕ) × FoundAt link disk kind founder a b moment × FoundsBy (disk a) kind founder bytes moment status (disk b)
+FoundsBook link disk kind founder bytes a status b = (moment : ℕ) × FoundAt link disk kind founder a status b moment × FoundsBy (disk a) kind founder bytes moment status (disk b)
 
 -- The count of the disk's faults rose where the disk failed, and stayed else; it ends in no other way than
 -- these.

@@ -1,5 +1,5 @@
 -- What serving the book of a site does, up to the line that is said.
-use Rattle.std.specs.Prelude.{◌≤◌, ◌≡◌, ◌⊎◌, ℕ, List, [], ◌∷◌, ◌++◌, Some, IsSome}
+use Rattle.std.specs.Prelude.{◌<◌, ◌≤◌, ◌≡◌, ◌⊎◌, IsTrue, ℕ, List, [], ◌∷◌, ◌++◌, Some, IsSome}
 use Rattle.mc_outside.specs.Bytes.{Rose, BeginsWith}
 use Rattle.mc_outside.specs.DiskView.{DiskView, OnlyRead, Ran}
 use Rattle.mc_outside.specs.LinkView.{LinkView}
@@ -24,9 +24,10 @@ use Rattle.command_status.specs.declared.status.Status.{Status}
 use Rattle.command_status.specs.declared.status.Status.TheVariants as ends
 use Rattle.operator_command.specs.Operations.{full}
 
--- the bytes of the book encoded the history of this state, at its time
-pub record EncodesState (bytes : List ℕ) (s : State) : Type 0 where
+-- the bytes of the book encoded the history of this state, which is of a site of this kind, at its time
+pub record EncodesState (kind : ℕ) (bytes : List ℕ) (s : State) : Type 0 where
   pub stands : Encodes s.history bytes
+  pub of_kind : site_kind s.history ≡ Some kind
   pub time' : s.time ≡ time s.history
 
 -- The disk tells bytes that encode a lawful history, in which no identity was accepted twice, and so does
@@ -61,16 +62,16 @@ ServePair tells before s steps image sent = (before.leaves image × (sent ≡ be
 
 -- From the history that the book encoded these steps led to the one that the disk encodes, and each
 -- crash pair is in order.
-pub record ServedFrom {O : Type 0} (link : O → LinkView) (disk : O → DiskView) (bytes : List ℕ) (a b : O) (s : State) (steps : List (Did State)) : Type 0 where
-  pub encoded : EncodesState bytes s
+pub record ServedFrom {O : Type 0} (link : O → LinkView) (disk : O → DiskView) (kind : ℕ) (bytes : List ℕ) (a b : O) (s : State) (steps : List (Did State)) : Type 0 where
+  pub encoded : EncodesState kind bytes s
   pub left : EncodesLawful (disk b) (state_after s steps).history
   pub pairs : Ran (disk a) (disk b) (ServePair (IsSome (link a).sessions) (disk a) s steps)
 
 -- After these steps a request was taken, and up to that moment the disk had not failed and each crash pair is
 -- in order. Then the disk failed while this entry was written, which may follow, and so much of the refusal
 -- was sent.
-pub record HaltedFrom {O : Type 0} (link : O → LinkView) (disk : O → DiskView) (bytes : List ℕ) (a b : O) (s : State) (steps : List (Did State)) (e : Entry) (said : List ℕ) : Type 0 where
-  pub encoded : EncodesState bytes s
+pub record HaltedFrom {O : Type 0} (link : O → LinkView) (disk : O → DiskView) (kind : ℕ) (bytes : List ℕ) (a b : O) (s : State) (steps : List (Did State)) (e : Entry) (said : List ℕ) : Type 0 where
+  pub encoded : EncodesState kind bytes s
   pub left : EncodesEither (disk b) (state_after s steps).history e
   pub taken : O
   pub quiet : (disk taken).faults ≡ (disk a).faults
@@ -100,30 +101,42 @@ NotOpened link disk passes kind bytes a (ends.UnlawfulEntry place) b = IsUnlawfu
 NotOpened link disk passes kind bytes a (ends.Refused f) b = (f ≡ refusals.WrongKind) × IsOfOther kind bytes × Unserved link disk a b
 NotOpened link disk passes kind bytes a _ b = ⊥
 
--- how the links of a book that was opened were served
-abbrev pub ServesLinksOf : {O : Type 0} → (O → LinkView) → (O → DiskView) → ℕ → List ℕ → O → Status → O → Type 0
-ServesLinksOf link disk links bytes a (ends.Served n) b =
-    (s : State) × (steps : List (Did State)) × ServedFrom link disk bytes a b s steps × ServedAll (Step full) OfLinks links n steps s (link a) (link b)
-ServesLinksOf link disk links bytes a ends.LinkFault b =
-    (s : State) × (steps : List (Did State)) × ServedFrom link disk bytes a b s steps × ServedSome (Step full) OfLinks links steps s (link a) (link b)
-ServesLinksOf link disk links bytes a ends.DiskFault b =
-    (s : State) × (steps : List (Did State)) × (e : Entry) × (said : List ℕ) × HaltedFrom link disk bytes a b s steps e said × InDoubtLinks full links steps s (link a) e said (link b)
-ServesLinksOf link disk links bytes a ends.NoMemory b = Unserved link disk a b
-ServesLinksOf link disk links bytes a _ b = ⊥
+-- how the links of a book that was opened as that of a site of a kind were served
+abbrev pub ServesLinksOf : {O : Type 0} → (O → LinkView) → (O → DiskView) → ℕ → ℕ → List ℕ → O → Status → O → Type 0
+ServesLinksOf link disk kind links bytes a (ends.Served n) b =
+    (s : State) × (steps : List (Did State)) × ServedFrom link disk kind bytes a b s steps × ServedAll (Step full) OfLinks links n steps s (link a) (link b)
+ServesLinksOf link disk kind links bytes a ends.LinkFault b =
+    (s : State) × (steps : List (Did State)) × ServedFrom link disk kind bytes a b s steps × ServedSome (Step full) OfLinks links steps s (link a) (link b)
+ServesLinksOf link disk kind links bytes a ends.DiskFault b =
+    (s : State) × (steps : List (Did State)) × (e : Entry) × (said : List ℕ) × HaltedFrom link disk kind bytes a b s steps e said × InDoubtLinks full links steps s (link a) e said (link b)
+ServesLinksOf link disk kind links bytes a ends.NoMemory b = Unserved link disk a b
+ServesLinksOf link disk kind links bytes a _ b = ⊥
 
 -- how serving so many links by the book of a site of a kind ended, on an outside whose disk had these bytes
 abbrev pub ServesBook : {O : Type 0} → (O → LinkView) → (O → DiskView) → Test → ℕ → ℕ → List ℕ → O → Status → O → Type 0
-ServesBook link disk passes kind links bytes a status b = NotOpened link disk passes kind bytes a status b ⊎ ServesLinksOf link disk links bytes a status b
+ServesBook link disk passes kind links bytes a status b = NotOpened link disk passes kind bytes a status b ⊎ ServesLinksOf link disk kind links bytes a status b
 
--- Of a command over a book that stands: the count of the disk's faults rose where the disk failed, and else it
--- is what it was. Where a link failed that the command needs, it is lost so. Where links were served the count
--- of their faults did not fall.
-abbrev pub BookCauses : {O : Type 0} → (O → LinkView) → (O → DiskView) → (O → O → Type 0) → O → Status → O → Type 0
-BookCauses link disk Lost a (ends.Served n) b = ((disk b).faults ≡ (disk a).faults) × ((link a).faults ≤ (link b).faults)
-BookCauses link disk Lost a ends.DiskFault b = Rose (disk a).faults (disk b).faults
-BookCauses link disk Lost a ends.LinkFault b = ((disk b).faults ≡ (disk a).faults) × Rose (link a).faults (link b).faults × Lost a b
-BookCauses link disk Lost a _ b = (disk b).faults ≡ (disk a).faults
+-- ---- why a command over a book ends so, whatever the disk and the links tell
 
--- of serving: `next_link` failed where a link was lost
-abbrev pub ServeCauses : {O : Type 0} → (O → LinkView) → (O → DiskView) → O → Status → O → Type 0
-ServeCauses link disk a status b = BookCauses link disk (TakesNoLink link disk) a status b
+-- The count of the disk's faults rose where the disk failed, and else it is what it was. A book that is bad (3) or of another
+-- kind (52) is told with the links as they were. `Own` says of what else the command may end with.
+abbrev pub BookCauses : {O : Type 0} → (O → LinkView) → (O → DiskView) → (Status → O → O → Type 0) → O → Status → O → Type 0
+BookCauses link disk Own a ends.DiskFault b = Rose (disk a).faults (disk b).faults
+BookCauses link disk Own a ends.NotJournal b = ((disk b).faults ≡ (disk a).faults) × (link b ≡ link a)
+BookCauses link disk Own a (ends.BadEntry place) b = ((disk b).faults ≡ (disk a).faults) × (link b ≡ link a)
+BookCauses link disk Own a (ends.BadChain place) b = ((disk b).faults ≡ (disk a).faults) × (link b ≡ link a)
+BookCauses link disk Own a (ends.UnlawfulEntry place) b = ((disk b).faults ≡ (disk a).faults) × (link b ≡ link a)
+BookCauses link disk Own a (ends.Refused f) b = ((disk b).faults ≡ (disk a).faults) × (((f ≡ refusals.WrongKind) × (link b ≡ link a)) ⊎ Own (ends.Refused f) a b)
+BookCauses link disk Own a status b = ((disk b).faults ≡ (disk a).faults) × Own status a b
+
+-- Serving so many links ends so too. As many were served as were asked for, or fewer, where `next_link` has answered that
+-- no more come; the count of the links' faults did not fall then. `next_link` failed where a link was lost. Memory was
+-- refused before the first link.
+abbrev pub ServeEnds : {O : Type 0} → (O → LinkView) → (O → DiskView) → ℕ → Status → O → O → Type 0
+ServeEnds link disk links (ends.Served n) a b = ((link a).faults ≤ (link b).faults) × ((n ≡ links) ⊎ ((n < links) × IsTrue (link b).over))
+ServeEnds link disk links ends.LinkFault a b = Rose (link a).faults (link b).faults × TakesNoLink link disk a b
+ServeEnds link disk links ends.NoMemory a b = link b ≡ link a
+ServeEnds link disk links _ a b = ⊥
+
+abbrev pub ServeCauses : {O : Type 0} → (O → LinkView) → (O → DiskView) → ℕ → O → Status → O → Type 0
+ServeCauses link disk links a status b = BookCauses link disk (ServeEnds link disk links) a status b

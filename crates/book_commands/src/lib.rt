@@ -9,6 +9,6 @@ mod operator;
 mod serving;
 
 pub use init::found_book;
-pub use law::lawful_books_are_opened;
+pub use law::{books_of_another_kind_are_told, lawful_books_are_opened};
 pub use operator::operate_book;
 pub use serving::serve_book;

@@ -48,8 +48,9 @@ fn operate_house<O: Outside, T: Trade, C: OperatorCommand<T>>(
     ensures words { number_of result.1 ≡ 2 → ⊥ }
     ensures causes { OperateCauses O.link O.disk (C.operation command.now)
         house.journal.disk result.1 result.0 }
-    ensures operated { (a : O) (x : Items ℕ) → Opened O.link O.disk T.trade x a house
-        → OperatesOpened O.link O.disk (C.operation command.now) x a result.1 result.0 }
+    ensures operated { (kind : ℕ) (a : O) (x : Items ℕ)
+        → Opened O.link O.disk T.trade T.passes kind x a house
+        → OperatesOpened O.link O.disk kind (C.operation command.now) x a result.1 result.0 }
 {
     let Ok(mut line) = command.begin(alloc, &house.name()) else {
         return (house.close(), Status::NoMemory);

@@ -19,7 +19,7 @@ use std::alloc::Global;
 pub fn serve_book<O: Outside, T: Trade>(alloc: Global, links: u32, trade: T, out: O) -> (O, Status)
     requires { (T.trade trade).represents [] }
     ensures words { number_of result.1 ≡ 2 → ⊥ }
-    ensures causes { ServeCauses O.link O.disk out result.1 result.0 }
+    ensures causes { ServeCauses O.link O.disk links out result.1 result.0 }
     ensures served { (x : List ℕ) → (O.disk out).contents ≡ Some x
         → ServesBook O.link O.disk T.passes (T.trade trade).site links x out result.1 result.0 }
 {

@@ -1,2 +1,4 @@
 mod ReadLemmas
+mod SayLemmas
+mod RefusedLemmas
 pub mod CompleteLemmas

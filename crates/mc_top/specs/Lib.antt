@@ -1,4 +1,5 @@
 pub mod Places
 pub mod Saying
 pub mod Wallets
+pub mod Refusals
 pub mod Programs

@@ -1,7 +1,7 @@
 -- The places that words name.
 use Rattle.std.specs.Prelude.{◌≡◌, ◌⊎◌, ℕ, true, false, List, [], Some, None}
 use Rattle.mc_words.specs.declared.command.Command.{Command}
-use Rattle.mc_words.specs.declared.command.Command.TheVariants.{Once, Init, Serve, Play, Operate, BrokerInit, BrokerServe, BrokerOperate, WalletInit, WalletOperate, Report}
+use Rattle.mc_words.specs.declared.command.Command.TheVariants.{Once, Init, Serve, Play, Operate, BrokerInit, BrokerServe, BrokerOperate, WalletInit, WalletOperate, Report, Chains}
 use Rattle.wallet_words.specs.declared.wallet_operation.WalletOperation.{WalletOperation}
 use Rattle.mc_words.specs.Commands.{AreOfNoRow, AreWords}
 use Rattle.site_words.specs.Commands.{book_of, broker_book_of}
@@ -29,13 +29,13 @@ operated_places book = record { site = Some book; founds = false; books = []; li
 abbrev pub wallet_places : WalletOperation → Places
 wallet_places operation = record { site = Some (wallet_book_of operation); founds = false; books = []; listen = None; connect = connect_of operation }
 
--- the books of which a report is made
+-- the books that are audited
 abbrev pub audited_places : List (List ℕ) → Places
 audited_places books = record { site = None; founds = false; books = books; listen = None; connect = None }
 
 -- `vendor init`, `broker init` and `wallet init` name the book that they found, `vendor serve` and `broker serve` the book
 -- and where the links come, an operation of an operator the book that it is for, one of a wallet its book and, where it pays,
--- where the link goes, and `audit report` the books of which the report is made
+-- where the link goes, and `audit report` and `audit chain` the books that they read
 abbrev pub places_of : Command → Places
 places_of (Once shop) = no_places
 places_of (Init founder) = founded_places founder.book
@@ -48,6 +48,7 @@ places_of (BrokerOperate operation) = operated_places (broker_book_of operation)
 places_of (WalletInit founder) = founded_places founder.book
 places_of (WalletOperate operation) = wallet_places operation
 places_of (Report reporting) = audited_places reporting.books
+places_of (Chains chained) = audited_places chained.books
 
 -- the places of the command that the words are of, or none where they are of none
 abbrev pub ArePlaces : List (List ℕ) → Places → Type 0

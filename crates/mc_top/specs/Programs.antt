@@ -1,5 +1,5 @@
 -- What the program does by its words.
-use Rattle.std.specs.Prelude.{◌≡◌, ◌⊎◌, ◌≤◌, ℕ, zero, suc, List, length, Bool, true, false, Some}
+use Rattle.std.specs.Prelude.{◌≡◌, ◌⊎◌, ◌≤◌, ℕ, zero, suc, List, length, Bool, true, false, Some, Err}
 use Rattle.mc_outside.specs.DiskView.{DiskView, LinkKeeps}
 use Rattle.mc_outside.specs.LinkView.{LinkView}
 use Rattle.house_state.specs.declared.offer.SiteKind.{SiteKind}
@@ -7,6 +7,7 @@ use Rattle.house_state.specs.declared.offer.SiteKind.TheVariants.{Vendor, Broker
 use Rattle.house_state.specs.Views.{kind_number}
 use Rattle.house_state.specs.Learning.{untested}
 use Rattle.millicent_http.specs.Courses.{NoLink}
+use Rattle.mc_records.specs.declared.refusal.Refusal.{Refusal}
 use Rattle.mc_words.specs.declared.command.Command.{Command}
 use Rattle.mc_words.specs.declared.command.Command.TheVariants as commands
 use Rattle.command_status.specs.declared.status.Status.{Status}
@@ -25,10 +26,12 @@ use Rattle.broker_commands.specs.Operations as brokers
 use Rattle.wallet_commands.specs.Founding.{Inits}
 use Rattle.wallet_commands.specs.Books.{HasWallet}
 use Rattle.std.specs.List.{AllByRecursion}
-use Rattle.audit_cmd.specs.Books.{AreTold, IsLawfulBook}
-use Rattle.audit_commands.specs.Reports.{ReportsBooks, ReportCauses, AreCalm, EndsReport}
+use Rattle.book_audit.specs.declared.fault.BooksFault.TheVariants as founds
+use Rattle.audit_cmd.specs.Books.{AreTold, IsLawfulBook, AreAudited}
+use Rattle.audit_commands.specs.Reports.{RefusesBooks, ReportsBooks, ReportCauses, TellsChains, ChainCauses, AreCalm, EndsReport, EndsChains}
 use Rattle.mc_words.specs.Commands.{AreWords}
 use Rattle.mc_top.specs.Wallets.{WorksOn}
+use Rattle.mc_top.specs.Refusals.{RefusesFounder, RefusesOperator, RefusesCustomer}
 
 -- how a shop served its one link, or why it took none
 abbrev pub ServesOnce : Shop → LinkView → Status → LinkView → Type 0
@@ -53,7 +56,7 @@ Founds link disk kind founder a status b =
 
 abbrev pub Serves : {O : Type 0} → (O → LinkView) → (O → DiskView) → SiteKind → ℕ → O → Status → O → Type 0
 Serves link disk kind links a status b =
-    ServeCauses link disk a status b × ((bytes : List ℕ) → (disk a).contents ≡ Some bytes → ServesBook link disk untested (kind_number kind) links bytes a status b)
+    ServeCauses link disk links a status b × ((bytes : List ℕ) → (disk a).contents ≡ Some bytes → ServesBook link disk untested (kind_number kind) links bytes a status b)
 
 abbrev pub Operates : {O : Type 0} → (O → LinkView) → (O → DiskView) → SiteKind → OperationView → O → Status → O → Type 0
 Operates link disk kind operation a status b =
@@ -73,10 +76,12 @@ Works link disk (commands.BrokerOperate operation) a status b = Operates link di
 Works link disk (commands.WalletInit founder) a status b = Inits link disk founder.name a status b
 Works link disk (commands.WalletOperate operation) a status b = WorksOn link disk operation a status b
 Works link disk (commands.Report reporting) a status b = b ≡ a
+Works link disk (commands.Chains chained) a status b = b ≡ a
 
 -- how many books a command has audited
 abbrev pub count_of : Command → ℕ
 count_of (commands.Report reporting) = length reporting.books
+count_of (commands.Chains chained) = length chained.books
 count_of (commands.Once shop) = 0
 count_of (commands.Init founder) = 0
 count_of (commands.Serve server) = 0
@@ -94,17 +99,25 @@ pub record HaveBooks {D : Type 0} (book : D → DiskView) (xs : List D) : Type 0
   pub told : AreTold book xs contents
   pub lawful : AllByRecursion IsLawfulBook contents
 
--- Books are audited and reported, up to the line that is said. What is said of books holds where their disks tell their bytes;
--- the causes of faults hold of every disk. Where the books are lawful and no disk failed, nothing but a stranger, a refusal or
--- want of memory keeps them from being reported.
+-- Books are audited and reported, up to the line that is said. The causes of faults and which statuses may come hold of every
+-- disk; what is said of books holds where the disks of those that decide tell their bytes. Where the books are lawful and no disk failed,
+-- nothing but a stranger, a refusal or want of memory keeps them from being reported.
 pub record Audits {D : Type 0} (book : D → DiskView) (json : Bool) (xs : List D) (status : Status) (ys : List D) : Type 0 where
   pub causes : ReportCauses book xs status ys
-  pub reports : (contents : List (List ℕ)) → AreTold book xs contents → ReportsBooks json contents status
+  pub reports : ReportsBooks book json xs status
   pub well : HaveBooks book xs → AreCalm book xs ys → EndsReport (number_of status)
 
--- what a command does with the books: a report has them audited, and no other command touches any
+-- The chains of books are told, likewise. Where the books are lawful and no disk failed, nothing but want of memory keeps
+-- them from being told.
+pub record Tells {D : Type 0} (book : D → DiskView) (xs : List D) (status : Status) (ys : List D) : Type 0 where
+  pub causes : ChainCauses book xs status ys
+  pub tells : TellsChains book xs status
+  pub well : HaveBooks book xs → AreCalm book xs ys → EndsChains (number_of status)
+
+-- what a command does with the books: an auditor's reads them, and no other touches any
 abbrev pub Reads : {D : Type 0} → (D → DiskView) → Command → List D → Status → List D → Type 0
 Reads book (commands.Report reporting) xs status ys = Audits book reporting.json xs status ys
+Reads book (commands.Chains chained) xs status ys = Tells book xs status ys
 Reads book (commands.Once shop) xs status ys = ys ≡ xs
 Reads book (commands.Init founder) xs status ys = ys ≡ xs
 Reads book (commands.Serve server) xs status ys = ys ≡ xs
@@ -167,25 +180,40 @@ HasBook d book xs (commands.BrokerOperate operation) = HasSite (kind_number Brok
 HasBook d book xs (commands.WalletInit founder) = Unit {0}
 HasBook d book xs (commands.WalletOperate operation) = HasWallet d
 HasBook d book xs (commands.Report reporting) = HaveBooks book xs
+HasBook d book xs (commands.Chains chained) = HaveBooks book xs
 
 -- it is done, or memory was refused
 abbrev pub IsDoneOrShort : ℕ → Type 0
 IsDoneOrShort number = (number ≡ 0) ⊎ (number ≡ 5)
 
--- it is done, memory was refused, or a refusal is told
-abbrev pub IsDoneOrRefused : ℕ → Type 0
-IsDoneOrRefused number = (number ≡ 0) ⊎ ((number ≡ 5) ⊎ (number ≡ 7))
+-- it is done, memory was refused, or a refusal is told, for which there is this reason
+abbrev pub IsDoneOrRefused : (Refusal → Type 0) → ℕ → Type 0
+IsDoneOrRefused Reason number = (number ≡ 0) ⊎ ((number ≡ 5) ⊎ ((number ≡ 7) × (f : Refusal) × Reason f))
 
--- the statuses of a command that has its book, where no call failed
-abbrev pub EndsWell : Command → ℕ → Type 0
-EndsWell (commands.Once shop) number = IsDoneOrShort number
-EndsWell (commands.Init founder) number = IsDoneOrRefused number
-EndsWell (commands.Serve server) number = IsDoneOrShort number
-EndsWell (commands.Play playing) number = IsDoneOrShort number
-EndsWell (commands.Operate operation) number = IsDoneOrRefused number
-EndsWell (commands.BrokerInit founder) number = IsDoneOrRefused number
-EndsWell (commands.BrokerServe server) number = IsDoneOrShort number
-EndsWell (commands.BrokerOperate operation) number = IsDoneOrRefused number
-EndsWell (commands.WalletInit founder) number = IsDoneOrRefused number
-EndsWell (commands.WalletOperate operation) number = IsDoneOrRefused number
-EndsWell (commands.Report reporting) number = EndsReport number
+-- the disks tell bytes of which this is so
+abbrev pub AreBooksOf : {D : Type 0} → (D → DiskView) → List D → (List (List ℕ) → Type 0) → Type 0
+AreBooksOf book xs Are = (contents : List (List ℕ)) × AreTold book xs contents × Are contents
+
+-- or the books are refused, or a stranger stands in them
+abbrev pub IsDoneOrStrange : {D : Type 0} → (D → DiskView) → List D → ℕ → Type 0
+IsDoneOrStrange book xs number =
+    (number ≡ 0)
+    ⊎ ((number ≡ 5)
+    ⊎ (((number ≡ 7) × (f : Refusal) × AreBooksOf book xs (λ books. RefusesBooks books f))
+    ⊎ ((number ≡ 8) × (place : ℕ) × (name : List ℕ) × (id : ℕ) × AreBooksOf book xs (λ books. AreAudited books (Err (founds.Stranger place name id))))))
+
+-- The statuses of a command that has its book, where no call failed: where no rule refuses what the words ask, by the history
+-- of the book and what came on the links, it is done, or memory was refused.
+abbrev pub EndsWell : {O D : Type 0} → (O → LinkView) → (O → DiskView) → (D → DiskView) → Command → O → List D → ℕ → O → Type 0
+EndsWell link disk book (commands.Once shop) a xs number c = IsDoneOrShort number
+EndsWell link disk book (commands.Init founder) a xs number c = IsDoneOrRefused (RefusesFounder (disk a)) number
+EndsWell link disk book (commands.Serve server) a xs number c = IsDoneOrShort number
+EndsWell link disk book (commands.Play playing) a xs number c = IsDoneOrShort number
+EndsWell link disk book (commands.Operate operation) a xs number c = IsDoneOrRefused (RefusesOperator (operation_view operation) (disk a) (link a) (link c)) number
+EndsWell link disk book (commands.BrokerInit founder) a xs number c = IsDoneOrRefused (RefusesFounder (disk a)) number
+EndsWell link disk book (commands.BrokerServe server) a xs number c = IsDoneOrShort number
+EndsWell link disk book (commands.BrokerOperate operation) a xs number c = IsDoneOrRefused (RefusesOperator (brokers.operation_view operation) (disk a) (link a) (link c)) number
+EndsWell link disk book (commands.WalletInit founder) a xs number c = IsDoneOrRefused (RefusesFounder (disk a)) number
+EndsWell link disk book (commands.WalletOperate operation) a xs number c = IsDoneOrRefused (RefusesCustomer link disk operation a (link c)) number
+EndsWell link disk book (commands.Report reporting) a xs number c = IsDoneOrStrange book xs number
+EndsWell link disk book (commands.Chains chained) a xs number c = IsDoneOrShort number

@@ -22,6 +22,7 @@ pub fn places(alloc: Global, words: &[String]) -> Result<Places, NoMemory>
         Some(Command::WalletInit(founder)) => founded(alloc, founder.book()),
         Some(Command::WalletOperate(operation)) => connected(alloc, &operation),
         Some(Command::Report(reporting)) => audited(alloc, reporting.books()),
+        Some(Command::Chains(chained)) => audited(alloc, chained.books.list()),
         Some(Command::Once(_)) => Ok(nowhere(alloc)),
         Some(Command::Play(_)) => Ok(nowhere(alloc)),
         None => Ok(nowhere(alloc)),
@@ -97,7 +98,7 @@ fn connected(alloc: Global, operation: &WalletOperation<'_>) -> Result<Places, N
     })
 }
 
-/// The places of a report of these books.
+/// The places of a command that has these books audited.
 fn audited(alloc: Global, books: &[&str]) -> Result<Places, NoMemory>
     ensures { IfOk result (λ places. places ≡ audited_places (map (λ book. book.now) books.now)) }
 {

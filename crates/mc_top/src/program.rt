@@ -11,10 +11,10 @@ ghost use Rattle.mc_top.specs.Programs as programs;
 ghost use Rattle.house_state.specs.declared.offer.SiteKind.TheVariants.{Vendor, Broker};
 ghost use Rattle.vendor_commands.specs.Operations.{operation_view};
 ghost use Rattle.broker_commands.specs.Operations as brokers;
-ghost use Rattle.mc_top.specs.Programs.{ServesOnce, TellsPlay, Operates, Audits, Obeys, Ends, Refuses, RunsAs, HasBook, EndsWell, HaveOtherBooks, count_of};
+ghost use Rattle.mc_top.specs.Programs.{ServesOnce, TellsPlay, Operates, Audits, Tells, Obeys, Ends, Refuses, RunsAs, HasBook, EndsWell, HaveOtherBooks, count_of};
 
 use crate::wallet::work;
-use audit_commands::report_books;
+use audit_commands::{report_books, tell_chains};
 use book_commands::{found_book, operate_book, serve_book};
 use broker_commands::DeskOperation;
 use broker_core::Desk;
@@ -45,15 +45,16 @@ pub struct Ran<O, D> {
 /// disk. `vendor play COUNT` plays so many heads that it makes itself by such a house, and says what it counted.
 /// `vendor init BOOK NAME PERIOD LIFE SCRIP CUSTOMER [--keep S] [--clear]` founds a vendor in the
 /// book on the outside's disk. `vendor serve BOOK LISTEN LINKS` serves so many links by the house of that
-/// book, or all that come. `vendor goods`, `vendor price`, `vendor licence` and `vendor mint` enter into that
-/// book what its operator says, at the reading of the clock; the contents of goods come on one link.
+/// book, or all that come. `vendor goods`, `vendor price`, `vendor licence`, `vendor mint` and `vendor upgrade` enter into
+/// that book what its operator says, at the reading of the clock; the contents of goods come on one link.
 /// `broker init` founds a broker, with its FEE behind CUSTOMER, and `broker serve` serves its links. `broker account`,
-/// `broker deposit`, `broker withdraw`, `broker licence` and `broker stock` enter into its book what its operator says;
-/// a licence and the pieces of stock come on one link. `broker balance` enters nothing.
+/// `broker deposit`, `broker withdraw`, `broker licence`, `broker stock` and `broker upgrade` enter into its book what its
+/// operator says; a licence and the pieces of stock come on one link. `broker balance` enters nothing.
 /// `wallet init` founds a wallet in the book. `wallet take` takes pieces whose lines come on one link. `wallet get`,
 /// `wallet buy` and `wallet draw` enter what is asked, ask it on one link, and enter how the reply settled it; `wallet retry`
-/// asks again what was entered. `wallet list` says the pieces and their states. `audit report BOOK.. [--json]` says the sums
-/// of the books of a broker and of vendors, in which no stranger stands.
+/// asks again what was entered. `wallet list` says the pieces and their states. `vendor chain`, `broker chain` and
+/// `wallet chain` switch the chain of the book on, where it is not, and say it. `audit report BOOK.. [--json]` says the sums
+/// of the books of a broker and of vendors, in which no stranger stands, and `audit chain BOOK..` the chain of each book.
 ///
 /// 0: it is done. 2: the words are of no command, or name another number of books; nothing was touched but what is said.
 /// That is so up to want of memory, since `clap` reads the words.
@@ -62,8 +63,8 @@ pub struct Ran<O, D> {
 /// 4: the disk failed. 5: memory was refused before anything was done, or to read the words; memory that is refused later, to
 /// accept a request, is a reply with refusal 90 (`503`), and the link goes on. 6: `next_link` failed, or
 /// receiving an operator's input, or saying the line of what is done. 7: a refusal is told: that the book to
-/// be founded has bytes already (50), that the book that is opened is of a site of another kind (52), or what an
-/// operator's call refuses. A line says how it ended; where it can't be said, 0
+/// be founded has bytes already (50), that the book that is opened is of a site of another kind (52), or what rules
+/// refuse an operator, a customer or an auditor. A line says how it ended; where it can't be said, 0
 /// becomes 6, and any other status stays. 8: a stranger stands in the books. The outside and the books are handed back.
 pub fn run<O: Outside, D: Disk>(alloc: Global, words: &[String], out: O, books: Vec<D>) -> Ran<O, D>
     ensures books { AllZip (λ a b. OnlyRead (D.disk a) (D.disk b)) books.items result.books.items }
@@ -86,7 +87,7 @@ pub fn run<O: Outside, D: Disk>(alloc: Global, words: &[String], out: O, books: 
         → (Rose (O.disk out).faults (O.disk result.out).faults → ⊥)
         → (Rose (O.link out).faults (O.link result.out).faults → ⊥)
         → AreCalm D.disk books.items result.books.items
-        → EndsWell command result.status }
+        → EndsWell O.link O.disk D.disk command out books.items result.status result.out }
 {
     let command = match command_of(alloc, words) {
         Ok(Some(command)) => command,
@@ -117,6 +118,7 @@ fn book_count(command: &Command<'_>) -> usize
 {
     match command {
         Command::Report(reporting) => reporting.books().len(),
+        Command::Chains(chained) => chained.books.list().len(),
         _ => 0,
     }
 }
@@ -163,6 +165,10 @@ fn obey<O: Outside, D: Disk>(
             let (books, status) = report(alloc, reporting, books);
             (out, books, status)
         }
+        Command::Chains(_) => {
+            let (books, status) = tell(alloc, books);
+            (out, books, status)
+        }
     }
 }
 
@@ -204,6 +210,15 @@ fn report<D: Disk>(alloc: Global, reporting: &Reporting<'_>, books: Vec<D>) -> (
     ensures words { number_of result.1 ≡ 2 → ⊥ }
 {
     report_books(alloc, books, reporting.is_json())
+}
+
+/// Tells the chains of books, and how that ended.
+fn tell<D: Disk>(alloc: Global, books: Vec<D>) -> (Vec<D>, Status)
+    ensures told { Tells D.disk books.items result.1 result.0.items }
+    ensures read { AllZip (λ a b. OnlyRead (D.disk a) (D.disk b)) books.items result.0.items }
+    ensures words { number_of result.1 ≡ 2 → ⊥ }
+{
+    tell_chains(alloc, books)
 }
 
 /// Serves the one link of a shop that keeps no book, and tells how it ended.
@@ -253,7 +268,7 @@ fn answered(is_said: bool, number: u8) -> u8
     }
 }
 
-/// Says a line, where there is one, and answers whether it was said whole.
+/// Says a line, where there is one, and answers whether it was said whole; where there is none nothing can fail.
 fn say<O: Outside>(mut out: O, line: &[u8]) -> (O, bool)
     ensures said { Says line.now result.1 (O.link out) (O.link result.0) }
     ensures keeps { LinkKeeps (O.disk out) (O.disk result.0) }
@@ -261,6 +276,8 @@ fn say<O: Outside>(mut out: O, line: &[u8]) -> (O, bool)
     if line.is_empty() {
         return (out, true);
     }
-    let is_said = out.say(line).is_ok();
-    (out, is_said)
+    match out.say(line) {
+        Ok(()) => (out, true),
+        Err(_) => (out, false),
+    }
 }

@@ -8,7 +8,7 @@ ghost use Rattle.mc_top.specs.Wallets.{WorksOn, bought, drawn, got};
 use command_status::Status;
 use mc_outside::Outside;
 use std::alloc::Global;
-use wallet_commands::{list, pay, retry, take};
+use wallet_commands::{chain, list, pay, retry, take};
 use wallet_tasks::Ask;
 use wallet_words::{Buying, Drawing, Getting, WalletOperation};
 
@@ -28,6 +28,7 @@ pub(crate) fn work<O: Outside>(
         WalletOperation::Get(getting) => pay(alloc, &get_of(getting), out),
         WalletOperation::Retry(retrying) => retry(alloc, retrying.peer(), out),
         WalletOperation::List(_) => list(alloc, out),
+        WalletOperation::Chain(_) => chain(alloc, out),
     }
 }
 

@@ -5,8 +5,8 @@ use Rattle.balanced_books.specs.declared.sums.Report.{Report}
 use Rattle.book_sums.specs.declared.book_sums.BookSums.{BookSums}
 use Rattle.book_audit.specs.Audit.{AreLearned, NamesBook}
 use Rattle.audit_cmd.specs.declared.fault.AuditFault.{AuditFault}
-use Rattle.audit_cmd.specs.Books.{FindsOf, CountsBy, told_book}
-use Rattle.audit_cmd.proofs.FoundLaws.{fault_found, fault_calm, fault_place, kept_audited}
+use Rattle.audit_cmd.specs.Books.{FindsOf, CountsBy, IsOfAll, told_book}
+use Rattle.audit_cmd.proofs.FoundLaws.{fault_found, fault_calm, fault_of_all, fault_place, kept_audited}
 use Rattle.audit_cmd.proofs.auditing.find.Goals as goal
 
 pub returns-in-Err-clause-found : goal.returns-in-Err-clause-found
@@ -17,6 +17,9 @@ returns-in-Err-clause-found c contents kept =
 
 pub returns-in-Err-clause-calm : goal.returns-in-Err-clause-calm
 returns-in-Err-clause-calm c before = subst (λ (f : AuditFault). CountsBy {A = Report} (Err f) before before) (sym c.of_books.ensures) (fault_calm c.in-Err.fault before)
+
+pub returns-in-Err-clause-all : goal.returns-in-Err-clause-all
+returns-in-Err-clause-all c = subst (λ (f : AuditFault). IsOfAll {A = Report} (Err f)) (sym c.of_books.ensures) (fault_of_all c.in-Err.fault)
 
 pub returns-in-Err-clause-place : goal.returns-in-Err-clause-place
 returns-in-Err-clause-place c =

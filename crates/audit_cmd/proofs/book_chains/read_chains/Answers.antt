@@ -1,9 +1,10 @@
-use Rattle.std.proofs.Common.{List, [], ◌∷◌, ◌++◌, refl, sym, subst, Ok, Err, arith}
+use Rattle.std.proofs.Common.{◌≡◌, ◌<◌, ℕ, length, List, [], ◌∷◌, ◌++◌, refl, sym, subst, Ok, Err, arith}
 use Rattle.std.specs.List.{AllZip}
 use Rattle.mc_outside.proofs.Runs.{read_none}
 use Rattle.audit_cmd.specs.declared.chain_reading.ChainLine.{ChainLine}
 use Rattle.audit_cmd.specs.Chains.{IsLineOf, HasLine, chain_causes, AreLinesOf}
 use Rattle.audit_cmd.proofs.Zips.{zip_more}
+use Rattle.audit_cmd.proofs.Deciding.{ends_so}
 use Rattle.audit_cmd.proofs.ChainLaws.{all_have_lines, no_lines}
 use Rattle.audit_cmd.proofs.Loops.{goes_on, halted_read, halted_moved, counts_stay, halts, halt_counts, whole_read, whole_moved, whole_counts, whole_told}
 use Rattle.audit_cmd.proofs.book_chains.read_chains.Goals as goal
@@ -37,6 +38,11 @@ returns-in-Err-clause-exact g c = halts g.D.Disk.disk g.D.Disk.disk_moved (λ d.
 
 pub returns-in-Err-clause-fault : goal.returns-in-Err-clause-fault
 returns-in-Err-clause-fault g c = halt_counts g.D.Disk.disk g.D.Disk.disk_moved (λ d. read_none (g.D.Disk.disk d) (g.met.D.Disk.is_disk d)) g.met.D.Disk.disk_stays chain_causes IsLineOf AreLinesOf c.loop-place.place c.args.books.now.items c.loop-place.books.items c.line_at.new.books.items c.in-Err.fault c.loop-place.invariant.to c.in-Err.ensures
+
+pub returns-in-Err-clause-place : goal.returns-in-Err-clause-place
+returns-in-Err-clause-place g c =
+    let within : (book : ℕ) → book ≡ c.loop-place.place → book < length c.args.books.now.items = λ book is. omega (arith, is, c.loop-place-test.true, c.len-place-end.ensures, c.args.books.now.ok.0) in
+    ends_so (λ book. book ≡ c.loop-place.place) (λ book. book < length c.args.books.now.items) within c.in-Err.fault c.in-Err.ensures.at
 
 pub returns-clause-read : goal.returns-clause-read
 returns-clause-read g c = whole_read g.D.Disk.disk g.D.Disk.disk_moved c.args.books.now.items c.loop-place.books.items c.loop-place.place c.loop-place.invariant.to (omega (arith, c.loop-place-test.false, c.len-place-end.ensures, c.args.books.now.ok.0))

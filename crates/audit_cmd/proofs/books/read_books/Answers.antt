@@ -1,8 +1,9 @@
-use Rattle.std.proofs.Common.{[], length, refl, ap, Ok, Err, arith}
+use Rattle.std.proofs.Common.{◌≡◌, ◌<◌, ℕ, [], length, refl, ap, Ok, Err, arith}
 use Rattle.mc_outside.proofs.Runs.{read_none}
 use Rattle.audit_cmd.specs.Reading.{IsKeptOf}
 use Rattle.audit_cmd.specs.Books.{IsLawfulBook}
 use Rattle.audit_cmd.specs.Loops.{audit_causes, KeptAll}
+use Rattle.audit_cmd.proofs.Deciding.{ends_so}
 use Rattle.audit_cmd.proofs.KeptLaws.{none_kept, all_lawful}
 use Rattle.audit_cmd.proofs.Loops.{goes_on, halted_read, halted_moved, counts_stay, halts, halt_counts, whole_read, whole_moved, whole_counts, whole_told}
 use Rattle.audit_cmd.proofs.books.read_books.Goals as goal
@@ -42,6 +43,11 @@ returns-in-Err-clause-exact g c = halts g.D.Disk.disk g.D.Disk.disk_moved (λ d.
 
 pub returns-in-Err-clause-fault : goal.returns-in-Err-clause-fault
 returns-in-Err-clause-fault g c = halt_counts g.D.Disk.disk g.D.Disk.disk_moved (λ d. read_none (g.D.Disk.disk d) (g.met.D.Disk.is_disk d)) g.met.D.Disk.disk_stays audit_causes IsKeptOf KeptAll c.loop-place.place c.args.books.now.items c.loop-place.books.items c.read_at.new.books.items c.in-Err.fault c.loop-place.invariant.read.to c.in-Err.ensures
+
+pub returns-in-Err-clause-place : goal.returns-in-Err-clause-place
+returns-in-Err-clause-place g c =
+    let within : (book : ℕ) → book ≡ c.loop-place.place → book < length c.args.books.now.items = λ book is. omega (arith, is, c.loop-place-test.true, c.len-place-end.ensures, c.args.books.now.ok.0) in
+    ends_so (λ book. book ≡ c.loop-place.place) (λ book. book < length c.args.books.now.items) within c.in-Err.fault c.in-Err.ensures.at
 
 pub returns-clause-read : goal.returns-clause-read
 returns-clause-read g c = whole_read g.D.Disk.disk g.D.Disk.disk_moved c.args.books.now.items c.loop-place.books.items c.loop-place.place c.loop-place.invariant.read.to (omega (arith, c.loop-place-test.false, c.len-place-end.ensures, c.args.books.now.ok.0))

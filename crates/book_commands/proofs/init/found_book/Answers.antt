@@ -11,10 +11,11 @@ use Rattle.scrip_journal.specs.Founds.{FoundNoOutput, CountsBy, fault_disk}
 use Rattle.ledger_model.specs.Houses.{IsHouseKind}
 use Rattle.house_state.specs.Views.{kind_number}
 use Rattle.book_commands.specs.Founding.{site_of}
-use Rattle.command_status.specs.declared.status.Status.{Status}
+use Rattle.command_status.specs.declared.status.Status.TheVariants as ends
+use Rattle.command_status.specs.Faults.{fault_status}
 use Rattle.operator_command.specs.Operations.{full}
-use Rattle.book_commands.specs.Init.{FoundAt, FoundsBy}
-use Rattle.book_commands.proofs.InitLemmas.{first_has_room, found_pairs, fault_causes, founded_for, not_founded}
+use Rattle.book_commands.specs.Init.{FoundAt}
+use Rattle.book_commands.proofs.InitLemmas.{first_has_room, found_pairs, unfounded_pairs, fault_causes, founded_for, not_founded}
 use Rattle.book_commands.proofs.init.found_book.Goals as goal
 
 -- only a house may begin a book
@@ -55,7 +56,7 @@ returns-in-Ok-clause-founded g c x told =
     let e : Entry = site_of (g.T.Trade.trade c.args.trade).site c.args.founder.now c.now-moment.result in
     let same_site : entry c.site-site.result ≡ e = c.site-site.ensures.site ∙ ap (λ (k : ℕ). site_of k c.args.founder.now c.now-moment.result) c.kind-kind.ensures in
     let by = subst (λ (f : Entry). FoundsHouseBy {D = g.row.O.Denot} {T = g.row.T.Denot} g.O.Disk.disk g.T.Trade.trade full f x (Ok c.in-Ok.house)) same_site (c.in-Ok.ensures.exact x at) in
-    let found : FoundAt g.O.Link.link g.O.Disk.disk (g.T.Trade.trade c.args.trade).site c.args.founder.now c.args.out b c.now-moment.result = record {
+    let found : FoundAt g.O.Link.link g.O.Disk.disk (g.T.Trade.trade c.args.trade).site c.args.founder.now c.args.out (ends.Founded c.name.result.now) b c.now-moment.result = record {
       read = subst (λ (v : LinkView). AreRead OfLinks (c.now-moment.result ∷ []) (g.O.Link.link c.args.out).readings v.readings) (sym same) c.now-moment.ensures.read;
       rest = subst (λ (v : LinkView). v ≡ with_readings v.readings (g.O.Link.link c.args.out)) (sym same) c.now-moment.ensures.rest;
       pairs = found_pairs g.O.Link.link g.O.Disk.disk c.args.out m b e g.met.O.Outside.sent_aside keeps c.now-moment.ensures.rest (subst (λ (f : Entry). Ran (g.O.Disk.disk m) (g.O.Disk.disk b) (FoundNoOutput (g.O.Disk.disk m) f)) same_site (c.in-Ok.ensures.ran x at));
@@ -65,20 +66,19 @@ returns-in-Ok-clause-founded g c x told =
 pub returns-in-Err-clause-founded : goal.returns-in-Err-clause-founded
 returns-in-Err-clause-founded g c x told =
     let m = c.now-moment.new.self in
-    let b = c.not_opened.result.0 in
+    let b = fault_disk c.in-Err.fault in
+    let kind = (g.T.Trade.trade c.args.trade).site in
     let keeps = g.met.O.Outside.link_keeps _ _ c.now-moment.ensures.moved in
     let at : (g.O.Disk.disk m).contents ≡ Some x = keeps.contents ∙ told in
-    let e : Entry = site_of (g.T.Trade.trade c.args.trade).site c.args.founder.now c.now-moment.result in
+    let e : Entry = site_of kind c.args.founder.now c.now-moment.result in
     let same_site : entry c.site-site.result ≡ e = c.site-site.ensures.site ∙ ap (λ (k : ℕ). site_of k c.args.founder.now c.now-moment.result) c.kind-kind.ensures in
-    let same : g.O.Link.link b ≡ g.O.Link.link m = ap (λ d. g.O.Link.link d) c.not_opened.ensures.disk ∙ g.met.O.Outside.disk_keeps _ _ c.in-Err.ensures.moved in
-    let found : FoundAt g.O.Link.link g.O.Disk.disk (g.T.Trade.trade c.args.trade).site c.args.founder.now c.args.out b c.now-moment.result = record {
+    let same : g.O.Link.link b ≡ g.O.Link.link m = g.met.O.Outside.disk_keeps _ _ c.in-Err.ensures.moved in
+    let by = subst (λ (f : Entry). FoundsHouseBy {D = g.row.O.Denot} {T = g.row.T.Denot} g.O.Disk.disk g.T.Trade.trade full f x (Err c.in-Err.fault)) same_site (c.in-Err.ensures.exact x at) in
+    let found : FoundAt g.O.Link.link g.O.Disk.disk kind c.args.founder.now c.args.out (fault_status c.in-Err.fault) b c.now-moment.result = record {
       read = subst (λ (v : LinkView). AreRead OfLinks (c.now-moment.result ∷ []) (g.O.Link.link c.args.out).readings v.readings) (sym same) c.now-moment.ensures.read;
       rest = subst (λ (v : LinkView). v ≡ with_readings v.readings (g.O.Link.link c.args.out)) (sym same) c.now-moment.ensures.rest;
-      pairs = found_pairs g.O.Link.link g.O.Disk.disk c.args.out m b e g.met.O.Outside.sent_aside keeps c.now-moment.ensures.rest (subst (λ (d : g.row.O.Denot). Ran (g.O.Disk.disk m) (g.O.Disk.disk d) (FoundNoOutput (g.O.Disk.disk m) e)) (sym c.not_opened.ensures.disk)
-          (subst (λ (f : Entry). Ran (g.O.Disk.disk m) (g.O.Disk.disk (fault_disk c.in-Err.fault)) (FoundNoOutput (g.O.Disk.disk m) f)) same_site (c.in-Err.ensures.ran x at)));
-    } in (
-      c.now-moment.result,
-      found,
-      subst (λ (d : g.row.O.Denot). FoundsBy (g.O.Disk.disk c.args.out) (g.T.Trade.trade c.args.trade).site c.args.founder.now x c.now-moment.result c.not_opened.result.1 (g.O.Disk.disk d)) (sym c.not_opened.ensures.disk)
-          (subst (λ (s : Status). FoundsBy (g.O.Disk.disk c.args.out) (g.T.Trade.trade c.args.trade).site c.args.founder.now x c.now-moment.result s (g.O.Disk.disk (fault_disk c.in-Err.fault))) (sym c.not_opened.ensures.status) (not_founded g.O.Disk.disk g.T.Trade.trade (g.T.Trade.trade c.args.trade).site c.args.founder.now c.now-moment.result x c.args.out m c.in-Err.fault keeps (subst (λ (f : Entry). FoundsHouseBy {D = g.row.O.Denot} {T = g.row.T.Denot} g.O.Disk.disk g.T.Trade.trade full f x (Err c.in-Err.fault)) same_site (c.in-Err.ensures.exact x at)) c.in-Err.ensures.read)),
-    )
+      pairs = unfounded_pairs g.O.Link.link g.O.Disk.disk g.T.Trade.trade e x c.args.out m c.in-Err.fault g.met.O.Outside.sent_aside keeps c.now-moment.ensures.rest by c.in-Err.ensures.read
+          (subst (λ (f : Entry). Ran (g.O.Disk.disk m) (g.O.Disk.disk b) (FoundNoOutput (g.O.Disk.disk m) f)) same_site (c.in-Err.ensures.ran x at));
+    } in
+    rw (c.not_opened.ensures.disk, c.not_opened.ensures.status)
+    (c.now-moment.result, found, not_founded g.O.Disk.disk g.T.Trade.trade kind c.args.founder.now c.now-moment.result x c.args.out m c.in-Err.fault keeps by c.in-Err.ensures.read)

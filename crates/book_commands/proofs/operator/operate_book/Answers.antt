@@ -1,5 +1,7 @@
 use Rattle.std.proofs.Common.{inl, inr}
-use Rattle.book_commands.proofs.ServedLemmas.{not_opened}
+use Rattle.house_core.specs.declared.house.House.{House}
+use Rattle.book_commands.specs.Operator.{OperateEnds}
+use Rattle.book_commands.proofs.ServedLemmas.{unopened_causes, not_opened}
 use Rattle.book_commands.proofs.OperatorLemmas.{causes_opened}
 use Rattle.book_commands.proofs.operator.operate_book.Goals as goal
 
@@ -14,4 +16,9 @@ returns-in-Ok-clause-causes g c =
 
 pub returns-in-Ok-clause-operated : goal.returns-in-Ok-clause-operated
 returns-in-Ok-clause-operated g c x told =
-    inr (c.operate_house.ensures.operated c.args.out x (record { house = c.in-Ok.ensures.exact x told; read = c.in-Ok.ensures.read; link' = g.met.O.Outside.disk_keeps _ _ c.in-Ok.ensures.moved }))
+    inr (c.operate_house.ensures.operated (g.T.Trade.trade c.args.trade).site c.args.out x (record { house = c.in-Ok.ensures.exact x told; read = c.in-Ok.ensures.read; link' = g.met.O.Outside.disk_keeps _ _ c.in-Ok.ensures.moved }))
+
+pub returns-in-Err-clause-causes : goal.returns-in-Err-clause-causes
+returns-in-Err-clause-causes g c =
+    rw (c.not_opened.ensures.disk, c.not_opened.ensures.status)
+    (unopened_causes (House g.row.O.Denot g.row.T.Denot) g.O.Link.link g.O.Disk.disk (OperateEnds g.O.Link.link (g.C.OperatorCommand.operation c.args.command.now)) c.args.out c.in-Err.fault (λ b same. inl same) c.in-Err.ensures.fault (g.met.O.Outside.disk_keeps _ _ c.in-Err.ensures.moved))

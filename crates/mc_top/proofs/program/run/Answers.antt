@@ -3,7 +3,6 @@ use Rattle.std.specs.Prelude.{is_some}
 use Rattle.std.specs.List.{AllZip}
 use Rattle.mc_outside.specs.DiskView.{OnlyRead}
 use Rattle.mc_words.specs.declared.command.Command.{Command}
-use Rattle.mc_words.specs.Commands.{name_of, values_of}
 use Rattle.mc_words.proofs.WordLaws.{one_command}
 use Rattle.mc_top.specs.Programs.{Obeys, RunsAs, count_of}
 use Rattle.mc_top.proofs.CompleteLemmas.{ends_well}
@@ -13,10 +12,10 @@ pub returns-in-Ok-None-clause-words : goal.returns-in-Ok-None-clause-words
 returns-in-Ok-None-clause-words g c two = inl (c.in-Ok-None.ensures.none (ap is_some c.in-Ok-None.field-0-is))
 
 pub returns-in-Ok-None-clause-obeyed : goal.returns-in-Ok-None-clause-obeyed
-returns-in-Ok-None-clause-obeyed g c command words count = absurd (c.in-Ok-None.ensures.none (ap is_some c.in-Ok-None.field-0-is) (name_of command) (values_of command) words)
+returns-in-Ok-None-clause-obeyed g c command words count = absurd (c.in-Ok-None.ensures.none (ap is_some c.in-Ok-None.field-0-is) words.name words.values words.are)
 
 pub returns-in-Ok-None-clause-complete : goal.returns-in-Ok-None-clause-complete
-returns-in-Ok-None-clause-complete g c command words count has no_disk no_link calm = absurd (c.in-Ok-None.ensures.none (ap is_some c.in-Ok-None.field-0-is) (name_of command) (values_of command) words)
+returns-in-Ok-None-clause-complete g c command words count has no_disk no_link calm = absurd (c.in-Ok-None.ensures.none (ap is_some c.in-Ok-None.field-0-is) words.name words.values words.are)
 
 pub returns-then-len-book_count-clause-words : goal.returns-then-len-book_count-clause-words
 returns-then-len-book_count-clause-words g c two =
