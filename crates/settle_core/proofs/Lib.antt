@@ -1,0 +1,15 @@
+pub mod Wide
+pub mod TextLaws
+pub mod Walks
+pub mod PaymentLaws
+pub mod StatementLaws
+pub mod CountLaws
+pub mod MarketLaws
+pub mod NumberLaws
+pub mod CutLaws
+pub mod PaymentReads
+pub mod TaskLaws
+pub mod StatementTexts
+pub mod LineParts
+pub mod NoteOrders
+pub mod Rows
