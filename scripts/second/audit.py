@@ -3,7 +3,7 @@ import json
 from types import SimpleNamespace
 
 from forms import id_text
-from house import Ends, read_through
+from house import Ends, chain_line, read_through
 from ledger import FULL, History, follow
 from market import Book, broker_sums, first_stranger, vendor_sums
 from payloads import BROKER, SITE, VENDOR
@@ -80,7 +80,23 @@ def as_json(broker, vendors):
     return json.dumps(whole, sort_keys=True, separators=(",", ":")).encode() + b"\n"
 
 
+def chain(order, stage, *disks):
+    """Reads the entries of each book, which may be any but has its site first, and tells how many there are and their chain."""
+    return b"".join(chain_of(disk) for disk in disks)
+
+
+def chain_of(disk):
+    entries = []
+
+    def follow_first(entry):
+        entries.append(entry)
+        return entries[0].kind == SITE
+    journal = read_through(disk, (VENDOR, BROKER, WALLET), follow_first)
+    return chain_line(entries[0].name, journal)
+
+
 # As those of a vendor; None where there may be any number of words, but one at least.
 COMMANDS = {
     b"report": (None, (), (b"--json",), parse_report, report),
+    b"chain": (None, (), (), parse_report, chain),
 }

@@ -5,7 +5,7 @@ import os
 from bytes_text import bytes_of, words_of
 
 DATA = os.path.join(os.path.dirname(os.path.abspath(__file__)), "../../crates/cases/data")
-CHOICES = (0, 1, 5, 128)
+CHOICES = (0, 1, 5, 7, 128)
 NOW = 1000000
 PERIOD, LIFE = 4096, 8192
 
@@ -67,12 +67,16 @@ def length(spelled):
     return len(bytes_of(spelled, NAMES))
 
 
+def with_byte(name, at, byte):
+    """The bytes of this name with one of them in place of that at a place."""
+    front, behind = ["$%s[:%d]" % (name, at)] * (at > 0), ["$%s[%d:]" % (name, at + 1)] * (at + 1 < length("$" + name))
+    return "+".join([*front, "x%02x" % byte, *behind])
+
+
 def raised(name):
     """The bytes of this name with each of them in turn raised by one."""
-    data = NAMES[name]
-    for at, byte in enumerate(data):
-        front, behind = ["$%s[:%d]" % (name, at)] * (at > 0), ["$%s[%d:]" % (name, at + 1)] * (at + 1 < len(data))
-        yield "+".join([*front, "x%02x" % ((byte + 1) % 256), *behind])
+    for at, byte in enumerate(NAMES[name]):
+        yield with_byte(name, at, (byte + 1) % 256)
 
 
 def cut(name):
@@ -261,6 +265,20 @@ def bytes_and_bounds():
                  "run vendor goods b /news/1 25", "run vendor licence b 1 4096 8192 $threes $fours",
                  *("link $pays",) * 3, "clock 1000000 %d %d" % (NOW + keep - 1, NOW + keep), "run vendor serve b l 3")
     out.write("bytes")
+
+
+def heads():
+    out = Cases("The worked head of a payment, cut at every place, and with each of its bytes in turn 00, 0a and ff, served over the\n"
+                "book of a vendor.")
+
+    def served(name, links):
+        out.case(name, "clock 1000000", *(line for link in links for line in ("book $shop", "link " + link, "run vendor serve b l 1")))
+    served("cut at every place", cut("pays_curl"))
+    for byte in (0x00, 0x0a, 0xff):
+        for start in range(0, length("$pays_curl"), 20):
+            places = range(start, min(start + 20, length("$pays_curl")))
+            served("bytes %d to %d are %02x" % (places[0], places[-1], byte), (with_byte("pays_curl", at, byte) for at in places))
+    out.write("heads")
 
 
 REQUESTS = ["pays", "pays_curl", "pays_exact", "pays_short", "pays60", "pays_minted", "pays_signed", "pays2",
@@ -677,6 +695,7 @@ def operators():
 if __name__ == "__main__":
     faults()
     bytes_and_bounds()
+    heads()
     links()
     answers()
     brokers()

@@ -11,6 +11,10 @@ from payloads import SWITCH, entry_of
 from stage import Stage
 
 CHOICES = (0, 1, 7)
+# The roles whose command switches a chain on, each with a book, and what comes behind the Switch.
+OPERATORS = [("vendor", "$shop", ["link $pays", "run vendor serve b l 1"]),
+             ("broker", "$f_rich", ["link $f_draw", "run broker serve b l 1"]),
+             ("wallet", "$wallet_book", ["link $line_pieces", "run wallet take b"])]
 
 
 def earlier_names():
@@ -50,7 +54,7 @@ def each_byte(out):
     out.group("A vendor's and a broker's: each byte raised by one, and cut.")
     for name, verb in (("h_vendor", "serve 0"), ("h_broker", "desk 0")):
         out.case("%s, each byte raised" % name, *(line for one in raised(name) for line in ("book " + one, verb)))
-        out.case("%s, cut at every third place" % name, *(line for one in cut(name)[::3] for line in ("book " + one, verb)))
+        out.case("%s, cut at every place" % name, *(line for one in cut(name) for line in ("book " + one, verb)))
 
 
 def switching(out):
@@ -61,6 +65,17 @@ def switching(out):
             for choice in CHOICES:
                 out.case("%s: disk call %d, crash %d" % (verb, call, choice), "book " + book, "fail disk %d" % call,
                          verb + " 1000000", "crash %d" % choice, "replay", verb + " 1000100", serve + " 0", "replay")
+
+
+def operators(out):
+    """Each call of the disk fails while a command switches a book, and then the disk crashes and the command comes again."""
+    out.group("Each call of the disk fails while a command switches a book, and then the disk crashes, the command is given again, and\n"
+              "the book takes an entry.")
+    for role, book, then in OPERATORS:
+        for call in range(7):
+            for choice in CHOICES:
+                out.case("%s chain: disk call %d, crash %d" % (role, call, choice), "book " + book, "clock 1000000", "fail disk %d" % call,
+                         "run %s chain b" % role, "crash %d" % choice, "run %s chain b" % role, *then, "replay")
 
 
 def commands(out):
@@ -101,6 +116,7 @@ def chains():
     grown(out, "h_broker", ["book $f_rich", "switched 1000000", "clock 1000000", "link $f_draw", "run broker serve b l 1"])
     each_byte(out)
     switching(out)
+    operators(out)
     commands(out)
     out.write("chains")
 

@@ -3,9 +3,9 @@ from types import SimpleNamespace
 
 from broker import MOST_INPUT
 from forms import MOST_VALUE, id_text, is_name, is_target, read_scrip
-from house import Ends, founded, read_pieces, read_through, received
+from house import Ends, chain_line, founded, read_pieces, read_through, received
 from journal import Halted
-from payloads import DONE, GOT, PEND, REFUSED, SITE, entry_of
+from payloads import DONE, GOT, PEND, REFUSED, SITE, SWITCH, entry_of
 from refusals import Refusal, refused
 from replies import Bad, take as take_reply
 from stage import LinkFault
@@ -63,6 +63,11 @@ class Wallet:
         except Halted:
             raise Ends.disk_fault()
         assert self.book.follow(entry), "a wallet entered what may not follow"
+
+    def switch(self):
+        """Switches the chain on, where it is not."""
+        if not self.journal.chain.switched:
+            self.enter(SWITCH, chain=self.journal.chain.digest)
 
     def pend(self, request):
         """Enters a request that is now kept; its number."""
@@ -151,6 +156,12 @@ def holdings(order, stage):
     return b"".join(holding_line(state, read_scrip(text_of)) for state, text_of, _ in opened_now(stage).book.holdings())
 
 
+def chain(order, stage):
+    wallet = opened_now(stage)
+    wallet.switch()
+    return chain_line(wallet.book.name, wallet.journal)
+
+
 def holding_line(state, piece):
     return b"%s %s %d %s %d\n" % (state.encode(), piece.vendor, piece.value, id_text(piece.id).encode(), piece.expires)
 
@@ -164,4 +175,5 @@ COMMANDS = {
     b"get": (5, (), (), parse_get, pay),
     b"retry": (3, (), (), parse_retry, retry),
     b"list": (1, (), (), parse_book, holdings),
+    b"chain": (1, (), (), parse_book, chain),
 }
