@@ -1,5 +1,7 @@
-ghost use Rattle.std.specs.Prelude.{◌≡◌, ◌<◌, IfOk, IfSome};
+ghost use Rattle.std.specs.Prelude.{◌≡◌, ◌==◌, ◌<◌, ◌∷◌, [], IfErr, IfOk, IfSome, IsTrue};
+ghost use Rattle.std.specs.List.{list_any};
 ghost use Rattle.mc_records.specs.Entry.{Account, Deposit, Withdraw, Fits};
+ghost use Rattle.mc_records.specs.Refusals.{number_of};
 ghost use Rattle.mc_records.specs.Views.{entry};
 ghost use Rattle.ledger_model.specs.Histories.{History};
 ghost use Rattle.account_ledger.specs.Ledger.{Represents, AccountsAllow};
@@ -29,6 +31,7 @@ impl AccountLedger {
             → IfOk result (λ r. IfSome r (λ r. AccountsAllow h (entry r))) }
         ensures fits { IfOk result (λ r. IfSome r (λ r. Fits (entry r))) }
         ensures entry { IfOk result (λ r. IfSome r (λ r. entry r ≡ Account moment name.now key)) }
+        ensures refusals { IfErr result (λ f. IsTrue (list_any (λ n. n == number_of f) (60 ∷ []))) }
     {
         // What the moment knows of itself.
         let _moment = moment.seconds();
@@ -64,6 +67,7 @@ impl AccountLedger {
             → IfOk result (λ r. IfSome r (λ r. AccountsAllow h (entry r))) }
         ensures fits { IfOk result (λ r. IfSome r (λ r. Fits (entry r))) }
         ensures entry { IfOk result (λ r. IfSome r (λ r. entry r ≡ Deposit moment name.now amount reference.now)) }
+        ensures refusals { IfErr result (λ f. IsTrue (list_any (λ n. n == number_of f) (40 ∷ 45 ∷ 56 ∷ []))) }
     {
         // What the moment knows of itself.
         let _moment = moment.seconds();
@@ -107,6 +111,7 @@ impl AccountLedger {
             → IfOk result (λ r. IfSome r (λ r. AccountsAllow h (entry r))) }
         ensures fits { IfOk result (λ r. IfSome r (λ r. Fits (entry r))) }
         ensures entry { IfOk result (λ r. IfSome r (λ r. entry r ≡ Withdraw moment name.now amount reference.now)) }
+        ensures refusals { IfErr result (λ f. IsTrue (list_any (λ n. n == number_of f) (40 ∷ 42 ∷ 56 ∷ []))) }
     {
         // What the moment knows of itself.
         let _moment = moment.seconds();

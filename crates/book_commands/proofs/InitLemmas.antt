@@ -22,7 +22,8 @@ use Rattle.operator_command.specs.Operations.{full}
 use Rattle.site_words.specs.Words.{Founder}
 use Rattle.book_commands.specs.Founding.{site_of}
 use Rattle.command_status.specs.Faults.{fault_status}
-use Rattle.book_commands.specs.Init.{FoundPair, FoundsBy, FoundCauses}
+use Rattle.command_status.specs.Founding.{FoundPair}
+use Rattle.book_commands.specs.Init.{FoundsBy, FoundCauses}
 use Rattle.book_commands.specs.Serving.{EncodesLawful}
 use Rattle.book_commands.proofs.ServedLemmas.{stands_lawful}
 use Rattle.house_state.specs.Trade.{TradeView}

@@ -20,7 +20,8 @@ use Rattle.house_core.specs.declared.house.House.{House}
 use Rattle.house_core.specs.declared.outcome.Outcome.{Outcome}
 use Rattle.house_core.specs.declared.outcome.Outcome.TheVariants as outcomes
 use Rattle.house_core.specs.Bench.{house_time, limits_of}
-use Rattle.house_core.specs.House.{HouseRepresents, HouseRests, house_rests_none, KeepsTime, OfHouse, CountsFaults, outcome_disk}
+use Rattle.house_core.specs.House.{HouseRepresents, HouseRests, house_rests_none, IfRefused, KeepsTime, OfHouse, CountsFaults, outcome_disk}
+use Rattle.house_core.specs.Refusing.{IsAmong}
 use Rattle.house_core.proofs.HouseDisk.{house_keeps}
 use Rattle.house_state.specs.Learning.{Test}
 use Rattle.house_state.specs.Trade.{TradeView}
@@ -238,13 +239,13 @@ operated link disk trade kind operation bytes input line a y h out at is_disk sa
 
 -- ---- causes
 
--- the input was read, and then the clock, before what was done to the disk
+-- the input was read, and then the clock, before what was done to the disk; a refusal is one of the operation's
 pub operated_causes : {O T A : Type 0} (link : O → LinkView) (disk : O → DiskView) (operation : OperationView) (a y : O) (out : Outcome O T A) (line : List ℕ) → (disk y).faults ≡ (disk a).faults → CountsFaults out (disk y).faults (disk (outcome_disk out)).faults
-    → IsReady operation (link a) (link (outcome_disk out)) → OperateCauses link disk operation a (outcome_status out line) (outcome_disk out)
-operated_causes link disk operation a y (outcomes.Done x n) line same counts ready = (counts ∙ same, ready)
-operated_causes link disk operation a y (outcomes.Refused x f) line same counts ready = (counts ∙ same, inr ready)
-operated_causes link disk operation a y (outcomes.NoMemory x) line same counts ready = (counts ∙ same, inr ready)
-operated_causes link disk operation a y (outcomes.Halted d) line same counts ready = subst (λ (n : ℕ). Rose n (disk d).faults) same counts
+    → IfRefused (IsAmong operation.refusals) out → IsReady operation (link a) (link (outcome_disk out)) → OperateCauses link disk operation a (outcome_status out line) (outcome_disk out)
+operated_causes link disk operation a y (outcomes.Done x n) line same counts among ready = (counts ∙ same, ready)
+operated_causes link disk operation a y (outcomes.Refused x f) line same counts among ready = (counts ∙ same, inr (among, ready))
+operated_causes link disk operation a y (outcomes.NoMemory x) line same counts among ready = (counts ∙ same, inr ready)
+operated_causes link disk operation a y (outcomes.Halted d) line same counts among ready = subst (λ (n : ℕ). Rose n (disk d).faults) same counts
 
 -- the causes from the outside on that was opened
 pub causes_opened : {O : Type 0} (link : O → LinkView) (disk : O → DiskView) (operation : OperationView) (a x : O) (status : Status) (b : O) → (disk x).faults ≡ (disk a).faults → link x ≡ link a → OperateCauses link disk operation x status b → OperateCauses link disk operation a status b
@@ -261,4 +262,4 @@ causes_opened link disk operation a x (ends.UnlawfulEntry place) b same links ca
 causes_opened link disk operation a x ends.DiskFault b same links causes = subst (λ (n : ℕ). Rose n (disk b).faults) same causes
 causes_opened link disk operation a x ends.NoMemory b same links causes = (causes.0 ∙ same, ⊎_elim (λ still. inl (still ∙ links)) (λ ready. inr (subst (λ (v : LinkView). IsReady operation v (link b)) links ready)) causes.1)
 causes_opened link disk operation a x ends.LinkFault b same links causes = (causes.0 ∙ same, (subst (λ (v : LinkView). Rose v.faults (link b).faults) links causes.1.0, subst (λ (v : LinkView). LosesInput operation.input v (link b)) links causes.1.1))
-causes_opened link disk operation a x (ends.Refused f) b same links causes = (causes.0 ∙ same, ⊎_elim (λ other. inl (other.0, other.1 ∙ links)) (λ ready. inr (subst (λ (v : LinkView). IsReady operation v (link b)) links ready)) causes.1)
+causes_opened link disk operation a x (ends.Refused f) b same links causes = (causes.0 ∙ same, ⊎_elim (λ other. inl (other.0, other.1 ∙ links)) (λ own. inr (own.0, subst (λ (v : LinkView). IsReady operation v (link b)) links own.1)) causes.1)

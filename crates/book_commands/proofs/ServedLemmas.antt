@@ -1,6 +1,6 @@
 -- How serving the book of a site ends.
-use Rattle.std.proofs.Common.{◌≤◌, ◌≡◌, ◌⊎◌, inl, inr, ℕ, List, ◌++◌, refl, sym, ap, ◌∙◌, subst, arith, Err}
-use Rattle.std.specs.Prelude.{IsSome}
+use Rattle.std.proofs.Common.{◌≤◌, ◌≡◌, ◌⊎◌, inl, inr, ℕ, List, [], ◌∷◌, ◌++◌, refl, sym, ap, ◌∙◌, subst, arith, append-nil, Err}
+use Rattle.std.specs.Prelude.{Bool, IsSome, IsTrue}
 use Rattle.mc_outside.specs.Bytes.{Rose}
 use Rattle.mc_outside.specs.DiskView.{DiskView, OnlyRead, Ran}
 use Rattle.mc_outside.specs.LinkView.{LinkView}
@@ -12,6 +12,8 @@ use Rattle.ledger_model.proofs.AcceptLaws.{accepted_once}
 use Rattle.millicent_http.specs.declared.clock.Clock.TheVariants.{OfLinks}
 use Rattle.millicent_http.specs.Steps.{Did, sent_of, state_after}
 use Rattle.millicent_http.specs.Courses.{ServedAll, ServedSome}
+use Rattle.link_turns.specs.Orders.{InOrder, MovedBy, IsEither}
+use Rattle.link_turns.proofs.OrderLemmas.{doubt_told}
 use Rattle.house_core.specs.declared.house.House.{House}
 use Rattle.house_core.specs.Bench.{limits_of, state_of}
 use Rattle.house_core.specs.House.{HouseRepresents}
@@ -25,7 +27,7 @@ use Rattle.house_core.specs.Session.{State, Step}
 use Rattle.house_serving.specs.declared.links.ServeOut.{ServeOut}
 use Rattle.house_serving.specs.declared.links.ServeOut.TheVariants as outs
 use Rattle.house_serving.specs.InDoubt.{InDoubtLinks}
-use Rattle.house_serving.specs.Orders.{InOrder, MovedBy, RefinesBy, InDoubt}
+use Rattle.house_serving.specs.Orders.{history_of, RefinesBy}
 use Rattle.house_serving.specs.Links.{ServesLinks, ServedEnough, HaveCauses, served_outside}
 use Rattle.operator_command.specs.Operations.{full}
 use Rattle.command_status.specs.declared.status.Status.{Status}
@@ -68,10 +70,10 @@ serve_causes link disk wanted a b (outs.Halted d) same links kept enough = subst
 -- ---- from the opened house on
 
 -- the book was only read, and then the house went by these steps
-pub read_then_moved : (tells : Type 0) (a b c : DiskView) (s : State) (steps : List (Did State)) → OnlyRead a b → MovedBy tells b c s steps → Ran a c (ServePair tells a s steps)
+pub read_then_moved : (tells : Type 0) (a b c : DiskView) (s : State) (steps : List (Did State)) → OnlyRead a b → MovedBy history_of tells b c s steps → Ran a c (ServePair tells a s steps)
 read_then_moved tells a b c s steps read moved =
     ran_then a b c (ServePair tells a s steps) (ran_weaker a b _ _ read.ran (λ i x p. inl p))
-    (subst (λ (l : List ℕ). Ran b c (λ i x. (a.leaves i × (x ≡ a.aside)) ⊎ InOrder tells s l steps i x)) read.aside (ran_weaker b c _ _ moved.ran (λ i x o. inr o)))
+    (subst (λ (l : List ℕ). Ran b c (λ i x. (a.leaves i × (x ≡ a.aside)) ⊎ InOrder history_of tells s l steps i x)) read.aside (ran_weaker b c _ _ moved.ran (λ i x o. inr o)))
 
 -- the state of the house that was opened
 opened_sound : {O T : Type 0} (disk : O → DiskView) (trade : T → TradeView) (passes : Test) (kind : ℕ) (bytes : List ℕ) (x : House O T) (at : OpenedFor disk trade passes full kind bytes x)
@@ -96,9 +98,9 @@ served_from : {O T : Type 0} (link : O → LinkView) (disk : O → DiskView) (tr
     → IsLawful full (state_after (state_of at.history x.bench) steps).history → ServedFrom link disk kind bytes a y.journal.disk (state_of at.history x.bench) steps
 served_from link disk trade passes kind bytes a x y steps at read same went lawful = record {
   encoded = record { stands = at.of_bytes; of_kind = at.of_kind; time' = at.time' };
-  left = stands_lawful disk trade y (state_after (state_of at.history x.bench) steps).history went.house lawful;
+  left = stands_lawful disk trade y (state_after (state_of at.history x.bench) steps).history went.stands.house lawful;
   pairs = read_then_moved (IsSome (link a).sessions) (disk a) (disk x.journal.disk) (disk y.journal.disk) (state_of at.history x.bench) steps read
-      (subst (λ (v : LinkView). MovedBy (IsSome v.sessions) (disk x.journal.disk) (disk y.journal.disk) (state_of at.history x.bench) steps) same went.moved);
+      (subst (λ (v : LinkView). MovedBy history_of (IsSome v.sessions) (disk x.journal.disk) (disk y.journal.disk) (state_of at.history x.bench) steps) same went.moved);
 }
 
 -- why a book was not opened
@@ -140,8 +142,10 @@ serves_book link disk trade passes kind links bytes a x (outs.Halted d) at read 
     let by = served at.history at.house in
     let halted = by.3 in
     let tells : Type 0 = IsSome (link a).sessions in
-    let until : MovedBy tells (disk x.journal.disk) (disk halted.taken) s by.0 =
-    subst (λ (v : LinkView). MovedBy (IsSome v.sessions) (disk x.journal.disk) (disk halted.taken) s by.0) same halted.until in
+    let until : MovedBy history_of tells (disk x.journal.disk) (disk halted.taken) s by.0 =
+    subst (λ (v : LinkView). MovedBy history_of (IsSome v.sessions) (disk x.journal.disk) (disk halted.taken) s by.0) same halted.until in
+    let h : History = (state_after s by.0).history in
+    let still : tells → IsSome (link halted.taken).sessions = λ told'. subst (λ (o : Bool). IsTrue o) (sym halted.tells) (subst (λ (v : LinkView). IsSome v.sessions) (sym same) told') in
     let doubt = subst (λ (v : LinkView). InDoubtLinks full links by.0 s v by.1 by.2 (link d)) same
     (subst (λ (l : Limits). InDoubtLinks l links by.0 s (link x.journal.disk) by.1 by.2 (link d)) at.limits' by.4) in
     let sound = doubt_sound full links by.0 s (link a) by.1 by.2 (link d) (omega arith) (opened_sound disk trade passes kind bytes x at) doubt in (
@@ -151,13 +155,13 @@ serves_book link disk trade passes kind links bytes a x (outs.Halted d) at read 
       by.2,
       record {
         encoded = record { stands = at.of_bytes; of_kind = at.of_kind; time' = at.time' };
-        left = record { leaves = halted.leaves; lawful = sound.1; once = accepted_once full _ sound.1 };
+        left = record { leaves = λ i l. subst (λ (g : History). IsEither g by.1 i) (append-nil h) (halted.halts.leaves i l); lawful = sound.1; once = accepted_once full _ sound.1 };
         taken = halted.taken;
         quiet = halted.quiet ∙ calm;
         aside = λ told'. until.aside told' ∙ ap (λ (l : List ℕ). l ++ sent_of by.0) read.aside;
         until = read_then_moved tells (disk a) (disk x.journal.disk) (disk halted.taken) s by.0 read until;
-        rose = halted.rose;
-        since = subst (λ (v : LinkView). Ran (disk halted.taken) (disk d) (InDoubt (IsSome v.sessions) (state_after s by.0).history (disk halted.taken).aside by.1 by.2)) same halted.since;
+        rose = halted.halts.rose;
+        since = ran_weaker (disk halted.taken) (disk d) _ _ halted.halts.since (λ i x. doubt_told tells (IsSome (link halted.taken).sessions) h (disk halted.taken).aside (by.1 ∷ []) by.2 i x still);
       },
       doubt,
     )

@@ -9,6 +9,7 @@ use Rattle.scrip_journal.specs.Layout.{Encodes}
 use Rattle.millicent_http.specs.declared.clock.Clock.TheVariants.{OfLinks}
 use Rattle.millicent_http.specs.Courses.{AreRead, with_readings}
 use Rattle.house_core.specs.declared.house.House.{House}
+use Rattle.house_core.specs.Refusing.{IsAmong}
 use Rattle.house_state.specs.Learning.{Test}
 use Rattle.house_state.specs.Trade.{TradeView}
 use Rattle.house_opening.specs.Opening.{OpenedFor}
@@ -91,11 +92,11 @@ OperatesBook link disk passes kind operation bytes a status b = NotOpened link d
 abbrev pub IsReady : OperationView → LinkView → LinkView → Type 0
 IsReady operation before after = (input : List ℕ) × (taken : LinkView) × TakesInput operation.input before input taken × (after ≡ with_readings after.readings taken)
 
--- An operation ends so too: it was done or refused once its input was read and the clock; memory was refused then, or before
--- a link was taken; and where a link failed, the input was lost.
+-- An operation ends so too: it was done, or refused with one of its refusals, once its input was read and the clock; memory was
+-- refused then, or before a link was taken; and where a link failed, the input was lost.
 abbrev pub OperateEnds : {O : Type 0} → (O → LinkView) → OperationView → Status → O → O → Type 0
 OperateEnds link operation (ends.Did line) a b = IsReady operation (link a) (link b)
-OperateEnds link operation (ends.Refused f) a b = IsReady operation (link a) (link b)
+OperateEnds link operation (ends.Refused f) a b = IsAmong operation.refusals f × IsReady operation (link a) (link b)
 OperateEnds link operation ends.NoMemory a b = (link b ≡ link a) ⊎ IsReady operation (link a) (link b)
 OperateEnds link operation ends.LinkFault a b = Rose (link a).faults (link b).faults × LosesInput operation.input (link a) (link b)
 OperateEnds link operation _ a b = ⊥

@@ -14,12 +14,13 @@ use Rattle.scrip_journal.specs.Layout.{header, Encodes}
 use Rattle.millicent_http.specs.declared.clock.Clock.TheVariants.{OfLinks}
 use Rattle.millicent_http.specs.Steps.{Did, sent_of, state_after}
 use Rattle.millicent_http.specs.Courses.{ServedAll, ServedSome}
+use Rattle.link_turns.specs.Sending.{TakesNoLink}
+use Rattle.link_turns.specs.Orders.{InOrder, IsEither, InDoubt}
 use Rattle.house_state.specs.Learning.{Test}
 use Rattle.house_opening.specs.Opening.{SpoilsAt, UnchainsAt, IsUnlawfulAt, IsOfOther}
 use Rattle.house_core.specs.Session.{State, Step}
-use Rattle.house_serving.specs.Orders.{InOrder, IsEither, InDoubt}
+use Rattle.house_serving.specs.Orders.{history_of}
 use Rattle.house_serving.specs.InDoubt.{InDoubtLinks}
-use Rattle.house_serving.specs.Links.{TakesNoLink}
 use Rattle.command_status.specs.declared.status.Status.{Status}
 use Rattle.command_status.specs.declared.status.Status.TheVariants as ends
 use Rattle.operator_command.specs.Operations.{full}
@@ -58,7 +59,7 @@ pub record EncodesEither (d : DiskView) (h : History) (e : Entry) : Type 0 where
 
 -- a crash pair: of before, with nothing sent, or in the order of these steps
 abbrev pub ServePair : Type 0 → DiskView → State → List (Did State) → List ℕ → List ℕ → Type 0
-ServePair tells before s steps image sent = (before.leaves image × (sent ≡ before.aside)) ⊎ InOrder tells s before.aside steps image sent
+ServePair tells before s steps image sent = (before.leaves image × (sent ≡ before.aside)) ⊎ InOrder history_of tells s before.aside steps image sent
 
 -- From the history that the book encoded these steps led to the one that the disk encodes, and each
 -- crash pair is in order.
@@ -78,7 +79,7 @@ pub record HaltedFrom {O : Type 0} (link : O → LinkView) (disk : O → DiskVie
   pub aside : IsSome (link a).sessions → (disk taken).aside ≡ (disk a).aside ++ sent_of steps
   pub until : Ran (disk a) (disk taken) (ServePair (IsSome (link a).sessions) (disk a) s steps)
   pub rose : Rose (disk taken).faults (disk b).faults
-  pub since : Ran (disk taken) (disk b) (InDoubt (IsSome (link a).sessions) (state_after s steps).history (disk taken).aside e said)
+  pub since : Ran (disk taken) (disk b) (InDoubt (IsSome (link a).sessions) (state_after s steps).history (disk taken).aside (e ∷ []) said)
 
 -- no link was taken, and the book was only read
 pub record Unserved {O : Type 0} (link : O → LinkView) (disk : O → DiskView) (a b : O) : Type 0 where

@@ -1,5 +1,5 @@
 -- What the operations of a broker's operator mean.
-use Rattle.std.specs.Prelude.{◌≡◌, ◌++◌, ℕ, List, [], length, Some, None, Result, Ok, Err, is_some, if◌then◌else◌, codes, decimal}
+use Rattle.std.specs.Prelude.{◌≡◌, ◌++◌, ℕ, List, [], length, Some, None, Result, Ok, Err, is_some, if◌then◌else◌, codes, decimal, ◌∷◌}
 use Rattle.scrip_form.specs.Issuing.{Issuing}
 use Rattle.mc_records.specs.declared.refusal.Refusal.TheVariants.{NoAccount, BadInput}
 use Rattle.ledger_model.specs.Histories.{History}
@@ -39,6 +39,7 @@ account_operation o = record {
   input = None;
   asks = λ input h t task. task ≡ account_task h t o.account o.key;
   says = λ input h task line. line ≡ account_line o.account;
+  refusals = 33 ∷ 60 ∷ [];
 }
 
 -- the balance of an account, by the history that stands when it was done
@@ -51,6 +52,7 @@ deposit_operation p = record {
   input = None;
   asks = λ input h t task. task ≡ deposit_task h t p.account p.amount p.reference;
   says = says_balance p.account;
+  refusals = 33 ∷ 40 ∷ 45 ∷ 56 ∷ [];
 }
 
 abbrev pub withdraw_operation : Payment → OperationView
@@ -58,6 +60,7 @@ withdraw_operation p = record {
   input = None;
   asks = λ input h t task. task ≡ withdraw_task h t p.account p.amount p.reference;
   says = says_balance p.account;
+  refusals = 33 ∷ 40 ∷ 42 ∷ 56 ∷ [];
 }
 
 -- A balance is told and nothing is entered; 40 NoAccount where there is no account of the name.
@@ -69,6 +72,7 @@ balance_operation i = record {
   input = None;
   asks = λ input h t task. task ≡ balance_task h i.account;
   says = says_balance i.account;
+  refusals = 40 ∷ [];
 }
 
 -- A licence is taken, which the input gives as its one line: 53 BadInput tells the line at which it breaks.
@@ -89,6 +93,7 @@ licence_operation = record {
   input = Some MOST_LINES;
   asks = λ input h t task. (told : Result (List ℕ × Issuing) ℕ) × IsTold input told × (task ≡ taken h t told);
   says = λ input h task line. (told : Result (List ℕ × Issuing) ℕ) × IsTold input told × says_taken line told;
+  refusals = 33 ∷ 53 ∷ 59 ∷ [];
 }
 
 -- pieces of a vendor are taken as stock, whose lines are the input
@@ -97,6 +102,7 @@ stock_operation s = record {
   input = Some MOST_LINES;
   asks = λ input h t task. task ≡ stock_task h t s.vendor input;
   says = λ input h task line. line ≡ with_number (stock_words s.vendor) (length (pieces_in (stock_lines s.vendor input)));
+  refusals = 33 ∷ 53 ∷ 57 ∷ [];
 }
 
 -- the issuer of a vendor's licence is moved to the second version of scrip, or the broker's own
@@ -105,6 +111,7 @@ upgrade_operation u = record {
   input = None;
   asks = λ input h t task. task ≡ upgrade_licence_task h t u.vendor u.from;
   says = λ input h task line. line ≡ upgrade_line u.vendor (moved_issuer h u.vendor) u.from;
+  refusals = 33 ∷ 71 ∷ 72 ∷ 73 ∷ [];
 }
 
 -- ---- all of them

@@ -2,7 +2,8 @@
 
 ghost use Rattle.std.specs.Prelude.{◌≡◌, List as Items, ℕ};
 ghost use Rattle.ledger_model.specs.Histories.{History};
-ghost use Rattle.house_core.specs.House.{HandsBack, HouseRepresents, KeepsTime};
+ghost use Rattle.house_core.specs.House.{HandsBack, HouseRepresents, IfRefused, KeepsTime};
+ghost use Rattle.house_core.specs.Refusing.{IsAmong};
 ghost use Rattle.broker_core.specs.Desk.{desk_view};
 ghost use Rattle.operator_command.specs.Operations.{CarriesOut};
 ghost use Rattle.said_lines.specs.Lines.{ready};
@@ -25,6 +26,7 @@ pub(crate) fn tell_balance<D: Disk>(
     ensures back { HandsBack D.disk D.disk_moved (KeepsTime house) house.journal.disk result }
     ensures exact { (h : History) (input : Items ℕ) → HouseRepresents D.disk desk_view house h
         → CarriesOut D.disk desk_view (balance_operation inquiry.now) house input line.new.items h result }
+    ensures refusals { IfRefused (IsAmong (balance_operation inquiry.now).refusals) result }
 {
     let Some(standing) = house.trade().accounts().standing(inquiry.account()) else {
         return Outcome::Refused(house, Refusal::NoAccount);

@@ -2,7 +2,8 @@
 
 ghost use Rattle.std.specs.Prelude.{◌≡◌, []};
 ghost use Rattle.ledger_model.specs.Histories.{History};
-ghost use Rattle.house_core.specs.House.{HandsBack, HouseRepresents, KeepsTime};
+ghost use Rattle.house_core.specs.House.{HandsBack, HouseRepresents, IfRefused, KeepsTime};
+ghost use Rattle.house_core.specs.Refusing.{IsAmong};
 ghost use Rattle.broker_core.specs.Desk.{desk_view};
 ghost use Rattle.operator_command.specs.Operations.{CarriesOut};
 ghost use Rattle.said_lines.specs.Lines.{ready};
@@ -27,6 +28,7 @@ pub(crate) fn take_licence<D: Disk>(
     ensures back { HandsBack D.disk D.disk_moved (KeepsTime house) house.journal.disk result }
     ensures exact { (h : History) → HouseRepresents D.disk desk_view house h
         → CarriesOut D.disk desk_view licence_operation house input.now line.new.items h result }
+    ensures refusals { IfRefused (IsAmong licence_operation.refusals) result }
 {
     let (vendor, terms) = match read_licence_line(input) {
         Ok(licence) => licence,

@@ -4,7 +4,8 @@ ghost use Rattle.std.specs.Prelude.{◌≡◌, ℕ, List as Items};
 ghost use Rattle.ledger_model.specs.Histories.{History};
 ghost use Rattle.ledger_model.specs.Houses.{site_name};
 ghost use Rattle.house_core.specs.Bench.{limits_of};
-ghost use Rattle.house_core.specs.House.{HandsBack, HouseRepresents, KeepsTime};
+ghost use Rattle.house_core.specs.House.{HandsBack, HouseRepresents, IfRefused, KeepsTime};
+ghost use Rattle.house_core.specs.Refusing.{IsAmong};
 ghost use Rattle.broker_core.specs.Desk.{desk_view};
 ghost use Rattle.operator_command.specs.Operations.{CarriesOut, full};
 ghost use Rattle.broker_commands.specs.Operations.{operation_view, begins};
@@ -99,6 +100,7 @@ impl<'a> OperatorCommand<Desk> for DeskOperation<'a> {
             → limits_of house.bench ≡ full → begins self.now (site_name h) line.old.items
             → CarriesOut D.disk desk_view (operation_view self.now) house input.now
             line.new.items h result }
+        ensures refusals { IfRefused (IsAmong (operation_view self.now).refusals) result }
     {
         match self.said {
             BrokerOperation::Account(opening) => open(opening, house),

@@ -2,7 +2,8 @@
 
 ghost use Rattle.std.specs.Prelude.{◌≡◌, List as Items, ℕ};
 ghost use Rattle.ledger_model.specs.Histories.{History};
-ghost use Rattle.house_core.specs.House.{HandsBack, HouseRepresents, KeepsTime};
+ghost use Rattle.house_core.specs.House.{HandsBack, HouseRepresents, IfRefused, KeepsTime};
+ghost use Rattle.house_core.specs.Refusing.{IsAmong};
 ghost use Rattle.broker_core.specs.Desk.{desk_view};
 ghost use Rattle.operator_command.specs.Operations.{CarriesOut};
 ghost use Rattle.said_lines.specs.Lines.{ready};
@@ -27,6 +28,7 @@ pub(crate) fn pay_in<D: Disk>(
     ensures back { HandsBack D.disk D.disk_moved (KeepsTime house) house.journal.disk result }
     ensures exact { (h : History) (input : Items ℕ) → HouseRepresents D.disk desk_view house h
         → CarriesOut D.disk desk_view (deposit_operation payment.now) house input line.new.items h result }
+    ensures refusals { IfRefused (IsAmong (deposit_operation payment.now).refusals) result }
 {
     lay_bare(line);
     let paid = deposit(
@@ -49,6 +51,7 @@ pub(crate) fn pay_out<D: Disk>(
     ensures back { HandsBack D.disk D.disk_moved (KeepsTime house) house.journal.disk result }
     ensures exact { (h : History) (input : Items ℕ) → HouseRepresents D.disk desk_view house h
         → CarriesOut D.disk desk_view (withdraw_operation payment.now) house input line.new.items h result }
+    ensures refusals { IfRefused (IsAmong (withdraw_operation payment.now).refusals) result }
 {
     lay_bare(line);
     let paid = withdraw(

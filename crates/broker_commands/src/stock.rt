@@ -2,7 +2,8 @@
 
 ghost use Rattle.std.specs.Prelude.{◌≡◌};
 ghost use Rattle.ledger_model.specs.Histories.{History};
-ghost use Rattle.house_core.specs.House.{HandsBack, HouseRepresents, KeepsTime};
+ghost use Rattle.house_core.specs.House.{HandsBack, HouseRepresents, IfRefused, KeepsTime};
+ghost use Rattle.house_core.specs.Refusing.{IsAmong};
 ghost use Rattle.broker_core.specs.Desk.{desk_view};
 ghost use Rattle.operator_command.specs.Operations.{CarriesOut};
 ghost use Rattle.said_lines.specs.Lines.{ready};
@@ -28,6 +29,7 @@ pub(crate) fn take_stock<D: Disk>(
     ensures back { HandsBack D.disk D.disk_moved (KeepsTime house) house.journal.disk result }
     ensures exact { (h : History) → HouseRepresents D.disk desk_view house h
         → CarriesOut D.disk desk_view (stock_operation stocking.now) house input.now line.new.items h result }
+    ensures refusals { IfRefused (IsAmong (stock_operation stocking.now).refusals) result }
 {
     lay_bare(line);
     let taken = add_stock(house, stocking.vendor(), input);

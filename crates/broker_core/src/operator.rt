@@ -1,6 +1,6 @@
 //! What the operator of a broker's site does with its book.
 
-ghost use Rattle.std.specs.Prelude.{◌≡◌, ◌<◌, ◌^◌, ℕ, None, IfOk, IfSome, IsSome};
+ghost use Rattle.std.specs.Prelude.{◌≡◌, ◌<◌, ◌^◌, ◌∷◌, [], List as Items, ℕ, None, IfErr, IfOk, IfSome, IsSome};
 ghost use Rattle.mc_records.specs.Entry.{Licence, Fits};
 ghost use Rattle.mc_records.specs.Views.{entry};
 ghost use Rattle.account_ledger.specs.Tasks.{task_of};
@@ -8,7 +8,8 @@ ghost use Rattle.ledger_model.specs.Accounts.{balance};
 ghost use Rattle.ledger_model.specs.Histories.{History};
 ghost use Rattle.ledger_model.specs.Lawful.{MayFollow};
 ghost use Rattle.house_core.specs.Bench.{house_time, limits_of};
-ghost use Rattle.house_core.specs.House.{HouseRepresents, HandsBack, KeepsTime};
+ghost use Rattle.house_core.specs.House.{HouseRepresents, HandsBack, IfRefused, KeepsTime};
+ghost use Rattle.house_core.specs.Refusing.{IsAmong};
 ghost use Rattle.house_core.specs.Tasks.{Performs, TellsAdded};
 ghost use Rattle.broker_core.specs.Desk.{DeskRepresents, desk_view};
 ghost use Rattle.ledger_model.specs.Stock.{licence_in, stock_ids, upgrade_terms};
@@ -40,6 +41,7 @@ pub fn open_account<D: Disk>(
         → Performs D.disk desk_view
         (λ task. task ≡ account_task h (house_time house.bench) name.now key) TellsAdded
         (limits_of house.bench) house.journal.disk h result }
+    ensures refusals { IfRefused (IsAmong (33 ∷ 60 ∷ [])) result }
 {
     // The check lets a record go only where the types of its parts are named.
     let _parts: Option<(PieceList<'_>, Id, Terms)> = None;
@@ -67,6 +69,7 @@ pub fn deposit<'a, D: Disk>(
         → Performs D.disk desk_view
         (λ task. task ≡ deposit_task h (house_time house.bench) name.now amount reference.now) (TellsBalance name.now)
         (limits_of house.bench) house.journal.disk h result }
+    ensures refusals { IfRefused (IsAmong (33 ∷ 40 ∷ 45 ∷ 56 ∷ [])) result }
 {
     // The check lets a record go only where the types of its parts are named.
     let _parts: Option<(PieceList<'_>, Id, Terms)> = None;
@@ -94,6 +97,7 @@ pub fn withdraw<'a, D: Disk>(
         → Performs D.disk desk_view
         (λ task. task ≡ withdraw_task h (house_time house.bench) name.now amount reference.now) (TellsBalance name.now)
         (limits_of house.bench) house.journal.disk h result }
+    ensures refusals { IfRefused (IsAmong (33 ∷ 40 ∷ 42 ∷ 56 ∷ [])) result }
 {
     // The check lets a record go only where the types of its parts are named.
     let _parts: Option<(PieceList<'_>, Id, Terms)> = None;
@@ -118,6 +122,7 @@ pub fn add_licence<D: Disk>(
         → Performs D.disk desk_view
         (λ task. task ≡ licence_task h (house_time house.bench) vendor.now terms.now) TellsAdded
         (limits_of house.bench) house.journal.disk h result }
+    ensures refusals { IfRefused (IsAmong (33 ∷ 59 ∷ [])) result }
 {
     // The check lets a record go only where the types of its parts are named.
     let _parts: Option<(PieceList<'_>, Id)> = None;
@@ -139,6 +144,7 @@ fn licence_task<'a>(
         → IfOk result (λ r. IsSome r → licence_in h vendor.now ≡ None) }
     ensures entry { IfOk result (λ r. IfSome r (λ r. entry r ≡ Licence moment vendor.now terms.now)) }
     ensures fits { IfOk result (λ r. IfSome r (λ r. Fits (entry r))) }
+    ensures refusals { IfErr result (IsAmong (59 ∷ [])) }
 {
     // What the moment and the terms know of themselves.
     let _moment = moment.seconds();
@@ -174,6 +180,7 @@ pub fn upgrade_licence<D: Disk>(
         → Performs D.disk desk_view
         (λ task. task ≡ upgrade_licence_task h (house_time house.bench) vendor.now from) TellsAdded
         (limits_of house.bench) house.journal.disk h result }
+    ensures refusals { IfRefused (IsAmong (33 ∷ 71 ∷ 72 ∷ 73 ∷ [])) result }
 {
     let (issuer, terms) = terms_to_move(&house, vendor);
     let standing = house.trade().upgraded(vendor.bytes(), issuer);
@@ -211,6 +218,7 @@ pub fn add_stock<D: Disk>(
         → Performs D.disk desk_view
         (λ task. task ≡ stock_task h (house_time house.bench) vendor.now lines.now) (TellsCount vendor.now lines.now)
         (limits_of house.bench) house.journal.disk h result }
+    ensures refusals { IfRefused (IsAmong (33 ∷ 53 ∷ 57 ∷ [])) result }
 {
     if let Some(refusal) = refusal_of(house.trade().stall(vendor.bytes()), vendor, lines) {
         return Outcome::Refused(house, refusal);
@@ -241,6 +249,7 @@ fn enter_stock<D: Disk>(
         → Performs D.disk desk_view
         (λ task. task ≡ stock_task h (house_time house.bench) vendor.now lines.now) (TellsCount vendor.now lines.now)
         (limits_of house.bench) house.journal.disk h result }
+    ensures refusals { IfRefused (IsAmong (33 ∷ [])) result }
 {
     // The check lets a record go only where the types of its parts are named.
     let _parts: Option<(Id, Terms)> = None;
@@ -272,6 +281,8 @@ fn perform<D: Disk>(
     ensures exact { (h : History) → HouseRepresents D.disk desk_view house h
         → Performs D.disk desk_view (λ t. t ≡ as_task (task_of task.now)) TellsAdded
         (limits_of house.bench) house.journal.disk h result }
+    ensures refusals { (numbers : Items ℕ) → IfErr task.now (IsAmong numbers)
+        → IfRefused (IsAmong (33 ∷ numbers)) result }
 {
     let added = match task {
         Ok(added) => added,
@@ -301,6 +312,8 @@ fn pay<D: Disk>(
     ensures exact { (h : History) → HouseRepresents D.disk desk_view house h
         → Performs D.disk desk_view (λ t. t ≡ as_task (task_of task.now)) (TellsBalance name.now)
         (limits_of house.bench) house.journal.disk h result }
+    ensures refusals { (numbers : Items ℕ) → IfErr task.now (IsAmong numbers)
+        → IfRefused (IsAmong (33 ∷ numbers)) result }
 {
     match perform(house, task) {
         Outcome::Done(house, _) => {

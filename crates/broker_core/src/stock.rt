@@ -1,8 +1,9 @@
 //! Which lines are taken as stock.
 
-ghost use Rattle.std.specs.Prelude.{◌≡◌, ◌==◌, ◌||◌, ◌≤◌, ℕ, nat_lt, count_by, find, length};
+ghost use Rattle.std.specs.Prelude.{◌≡◌, ◌==◌, ◌||◌, ◌≤◌, ◌∷◌, [], ℕ, nat_lt, count_by, find, length, IfSome};
 ghost use Rattle.ledger_model.specs.Histories.{History};
 ghost use Rattle.ledger_model.specs.Stock.{stock_ids};
+ghost use Rattle.house_core.specs.Refusing.{IsAmong};
 ghost use Rattle.piece_lines.specs.Rules.{passes};
 ghost use Rattle.vendor_stalls.specs.Shown.{Shows};
 ghost use Rattle.vendor_stalls.specs.Stalls.{was_stocked};
@@ -17,8 +18,9 @@ use vendor_stalls::Stall;
 /// Why lines are not taken as stock of a vendor, who has this stall, if he has one; None where they are taken.
 /// It takes no memory.
 pub(crate) fn refusal_of(stall: Option<&Stall>, vendor: &Name, lines: &[u8]) -> Option<Refusal>
-    ensures { (h : History) → Shows h vendor.now (found_stall stall.entry)
+    ensures exact { (h : History) → Shows h vendor.now (found_stall stall.entry)
         → result ≡ stock_refusal (stock_ids h vendor.now) (stock_lines vendor.now lines.now) }
+    ensures refusals { IfSome result (IsAmong (53 ∷ 57 ∷ [])) }
 {
     let mut ids = [0; MOST_PIECES as usize];
     let rule = PieceRule::StockOf(*vendor);

@@ -11,7 +11,6 @@ pub mod Founded
 pub mod Applied
 pub mod Contents
 pub mod Replayed
-pub mod SendLemmas
 pub mod Refused
 pub mod FirstReply
 pub mod Said
@@ -19,3 +18,4 @@ pub mod HouseDisk
 pub mod Committing
 pub mod TaskLemmas
 pub mod UpgradeLemmas
+pub mod RefusingLemmas

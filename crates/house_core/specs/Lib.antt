@@ -4,3 +4,4 @@ pub mod Bench
 pub mod House
 pub mod Tasks
 pub mod Upgrading
+pub mod Refusing

@@ -14,10 +14,11 @@ ghost use Rattle.house_core.specs.Session.{raised, Says, said_reply, refused_rep
 
 use crate::bench::Bench;
 use crate::fault::BenchFault;
-use crate::reply::{Page, Reply, ReplyRoom, refusal_head};
+use crate::reply::{ReplyRoom, SigningRoom, refusal_head};
 use crate::signing::{customer_of, signed_refusal, taken_reply};
 use house_state::{Presented, Trade, without_scrip};
 use kept_replies::KeptNumber;
+use link_turns::Reply;
 use mc_base::Moment;
 use mc_records::{Refusal, Request};
 use millicent_http::HeadRefusal;
@@ -61,7 +62,7 @@ impl<T: Trade> Bench<T> {
     {
         match said {
             Ok(number) => self.first_reply(number, room),
-            Err(refusal) => self.refusal_reply(q, refusal, &mut room.page),
+            Err(refusal) => self.refusal_reply(q, refusal, &mut room.signing),
         }
     }
 
@@ -87,8 +88,7 @@ impl<T: Trade> Bench<T> {
         Reply::of(
             &refusal_head(time, &refusal, None),
             b"",
-            &mut room.page.head,
-            &mut room.page.bytes,
+            &mut room.signing.page,
         )
     }
 
@@ -111,7 +111,7 @@ impl<T: Trade> Bench<T> {
             &entry,
             &body,
             &mut room.change,
-            &mut room.page,
+            &mut room.signing,
         )
     }
 
@@ -120,7 +120,7 @@ impl<T: Trade> Bench<T> {
         &self,
         q: &Presented<'_>,
         refusal: &Refusal,
-        page: &'a mut Page,
+        room: &'a mut SigningRoom,
     ) -> Reply<'a>
         requires { IsOfSite refusal.now }
         ensures { (h : History) → Represents T.trade self.now h
@@ -130,13 +130,8 @@ impl<T: Trade> Bench<T> {
         let request = self.as_counted(q.request());
         let price = self.price_told(request.target, refusal);
         match self.secret_of_refusal(q, refusal) {
-            Some(secret) => signed_refusal(time, &request, refusal, price, &secret, page),
-            None => Reply::of(
-                &refusal_head(time, refusal, price),
-                b"",
-                &mut page.head,
-                &mut page.bytes,
-            ),
+            Some(secret) => signed_refusal(time, &request, refusal, price, &secret, room),
+            None => Reply::of(&refusal_head(time, refusal, price), b"", &mut room.page),
         }
     }
 
@@ -146,7 +141,7 @@ impl<T: Trade> Bench<T> {
         &self,
         q: Option<&Presented<'_>>,
         refusal: &Refusal,
-        page: &'a mut Page,
+        room: &'a mut SigningRoom,
     ) -> Reply<'a>
         requires { IsOfSite refusal.now }
         ensures { (h : History) → Represents T.trade self.now h
@@ -154,12 +149,11 @@ impl<T: Trade> Bench<T> {
             (λ q. q.now) q.entry) refusal.now }
     {
         match q {
-            Some(q) => self.refusal_reply(q, refusal, page),
+            Some(q) => self.refusal_reply(q, refusal, room),
             None => Reply::of(
                 &refusal_head(self.state.time(), refusal, None),
                 b"",
-                &mut page.head,
-                &mut page.bytes,
+                &mut room.page,
             ),
         }
     }

@@ -14,6 +14,7 @@ ghost use Rattle.mc_records.specs.Views.{deed_of, entry};
 ghost use Rattle.ledger_model.specs.Histories.{History, time};
 ghost use Rattle.ledger_model.specs.Answer as model;
 ghost use Rattle.house_core.specs.Bench.{Represents, HasContents, IsRoomed, KeepsReply, Takes, Accepts, KeepsContents, FaultIsOfSite, Enters, Follows, stopped_with, house_time, limits_of, windows_of, tally_of, IsTallied};
+ghost use Rattle.house_core.specs.Refusing.{FaultIsAmong};
 ghost use Rattle.house_core.specs.Tallies.{IsWithin, no_tally, tallied, told};
 ghost use Rattle.house_state.specs.HouseState.{size_with, HasRoomFor, GoesOn};
 ghost use Rattle.house_state.specs.Views.{entry_deed};
@@ -237,8 +238,8 @@ impl<T: Trade> Bench<T> {
     }
 
     /// Enters an entry by a command of the house's operator, whose moment is not before the last entry's, and
-    /// answers its number, from 0. The house time is then raised to that moment where it is later. After an
-    /// `Err` the house is as it was, and so is its time.
+    /// answers its number, from 0. The house time is then raised to that moment where it is later. The only
+    /// refusal is 33 JournalFull. After an `Err` the house is as it was, and so is its time.
     pub fn enter(&mut self, r: &Record<'_>) -> Result<u64, EnterFault>
         requires fits { Fits (entry r.now) }
         requires command { IsCommand (entry r.now) }
@@ -259,6 +260,7 @@ impl<T: Trade> Bench<T> {
             → HasContents T.trade self.old h
             → MatchResult result (λ n. HasContents T.trade self.new (h ++ entry r.now ∷ []))
             (λ f. HasContents T.trade self.new h) }
+        ensures refusals { IfErr result (FaultIsAmong (33 ∷ [])) }
     {
         let bytes = match self.make_room_for(r) {
             Ok(bytes) => bytes,
@@ -290,6 +292,7 @@ impl<T: Trade> Bench<T> {
             → TellsChain h (entry r.now)
             → IfErr result
             (λ f. Enters T.trade T.passes self.new (limits_of self.old) h (entry r.now) (Err f)) }
+        ensures refusals { IfErr result (FaultIsAmong (33 ∷ [])) }
     {
         let bytes = r.payload_len();
         match fitted(&self.state, self.state.limits().journal, bytes) {

@@ -27,6 +27,7 @@ ghost use Rattle.house_state.specs.Trade.{OfGoods, NamesInForce};
 ghost use Rattle.house_state.specs.Replying.{IsOfSite};
 ghost use Rattle.house_state.specs.declared.verdict.Verdict.TheVariants as verdicts;
 ghost use Rattle.house_state.specs.Verdicts.{judged, judged_of, repeat_of, authorized_entry, payload_of, BringsAs, IsOfNew, MayCommit, OfDeed};
+ghost use Rattle.house_core.specs.Refusing.{IsAmong};
 ghost use Rattle.house_core.specs.House.{HouseRepresents, HandsBack, HasRun, KeepsTime, RaisedTo, IfDone, IfRefused, Accepted, Responds, Entered, Leaves, number_in, outcome_disk};
 
 use crate::bench::{Bench, entry_of};
@@ -141,8 +142,9 @@ impl<D: Disk, T: Trade> House<D, T> {
     /// exactly where the limit of a series leaves no room for so many.
     pub fn next_run(&self, count: u16) -> Result<Id, Refusal>
         requires { 0 < count }
-        ensures { (h : History) → HouseRepresents D.disk T.trade self.now h
+        ensures exact { (h : History) → HouseRepresents D.disk T.trade self.now h
             → HasRun h (house_time self.now.bench) (limits_of self.now.bench) count result }
+        ensures refusals { IfErr result (IsAmong (32 ∷ [])) }
     {
         self.bench.state.next_run(count)
     }
@@ -302,7 +304,7 @@ impl<D: Disk, T: Trade> House<D, T> {
     /// Enters an entry by a command of the house's operator, which may follow the entries before it, and passes
     /// the trade's own test: it is on the disk behind an open gate, and then it is entered. The house time is
     /// raised to its moment where that is later. All memory is taken before anything is written. It is refused
-    /// only where the journal has no room for it.
+    /// only where the journal has no room for it, with 33 JournalFull.
     pub fn enter(self, r: &Record<'_>) -> Outcome<D, T, Receipt>
         requires fits { Fits (entry r.now) }
         requires command { IsCommand (entry r.now) }
@@ -316,6 +318,7 @@ impl<D: Disk, T: Trade> House<D, T> {
         ensures ran { (h : History) → HouseRepresents D.disk T.trade self h
             → Ran (D.disk self.journal.disk) (D.disk (outcome_disk result))
             (Leaves (model.Take (entry r.now)) result h (D.disk self.journal.disk).aside) }
+        ensures refusals { IfRefused (IsAmong (33 ∷ [])) result }
     {
         let House { journal, mut bench } = self;
         bench.raise(r.moment());

@@ -2,7 +2,7 @@
 //! request. Here is how it takes an entry and how it answers, in memory or over a journal.
 //!
 //! `Bench::new` and `Bench::replay` take memory, and so do the calls `accept`, `respond`, `answer` and
-//! `enter` of a bench or of a house, and `Reply::append_to`. No other call of this crate does.
+//! `enter` of a bench or of a house. No other call of this crate does.
 #![tactic(auto)]
 
 mod answering;
@@ -23,7 +23,7 @@ pub use bench::Bench;
 pub use fault::{BenchFault, EnterFault};
 pub use house::House;
 pub use outcome::{Outcome, Response};
-pub use reply::{Reply, ReplyRoom};
+pub use reply::ReplyRoom;
 pub use sending::{send_again, send_disk_fault, send_kept, send_refusal, send_settled};
 pub use settled::{Settled, drop_settled};
 pub use tally::Tally;

@@ -15,10 +15,11 @@ ghost use Rattle.house_state.specs.Replying.{IsOfSite};
 ghost use Rattle.house_core.specs.Session.{refused_reply};
 
 use crate::house::House;
-use crate::reply::{Reply, ReplyRoom, refusal_head};
+use crate::reply::{ReplyRoom, refusal_head};
 use crate::settled::Settled;
 use house_state::{Presented, Trade};
 use kept_replies::KeptNumber;
+use link_turns::Reply;
 use mc_base::Moment;
 use mc_outside::{Link, LinkFault, Outside};
 use mc_records::Refusal;
@@ -194,7 +195,7 @@ pub fn send_refusal<O: Outside, T: Trade>(
         → (n : ℕ) × (n < length (refused_reply h (house_time house.old.bench) (option_map (λ q. q.now) q.entry) refusal.now))
         × Failed (after_send (take n (refused_reply h (house_time house.old.bench) (option_map (λ q. q.now) q.entry) refusal.now)) (O.link house.old.journal.disk)) (O.link house.new.journal.disk)) }
 {
-    let reply = house.bench.refused_reply(q, refusal, &mut room.page);
+    let reply = house.bench.refused_reply(q, refusal, &mut room.signing);
     reply.send(&mut house.journal)
 }
 
@@ -217,8 +218,7 @@ pub fn send_disk_fault<O: Outside>(
     let reply = Reply::of(
         &refusal_head(time, &Refusal::DiskFault, None),
         b"",
-        &mut room.page.head,
-        &mut room.page.bytes,
+        &mut room.signing.page,
     );
     reply.send(halted)
 }

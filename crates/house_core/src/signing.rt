@@ -12,9 +12,10 @@ ghost use Rattle.house_state.specs.Views.{contents_of};
 ghost use Rattle.house_state.specs.Replying.{AreContents, IsOfSite};
 ghost use Rattle.house_state.specs.Representation.{StateRepresents};
 
-use crate::reply::{Page, Reply, refusal_head};
+use crate::reply::{SigningRoom, refusal_head};
 use house_state::{Body, HouseState, Presented, terms_of};
 use kept_replies::KeptEntry;
+use link_turns::Reply;
 use mc_base::Moment;
 use mc_records::{Refusal, Request};
 use millicent_http::{ReplyHead, write_reply_text};
@@ -28,7 +29,7 @@ pub(crate) fn taken_reply<'a>(
     entry: &KeptEntry,
     body: &Body<'a>,
     text: &mut [u8; 512],
-    page: &'a mut Page,
+    room: &'a mut SigningRoom,
 ) -> Reply<'a>
     requires { AreContents body.now }
     ensures { result ≡ ledger.taken_reply (Some entry.now.secret) (unwrap_or (seen q.now.scrip) (codes "-")) q.now.target.now (contents_of body.now)
@@ -37,9 +38,9 @@ pub(crate) fn taken_reply<'a>(
     match &entry.change {
         Some(piece) => {
             let len = state.write_own(piece, text);
-            give(q, entry, body, Some(&text[..len]), page)
+            give(q, entry, body, Some(&text[..len]), room)
         }
-        None => give(q, entry, body, None, page),
+        None => give(q, entry, body, None, room),
     }
 }
 
@@ -49,7 +50,7 @@ fn give<'a>(
     entry: &KeptEntry,
     body: &Body<'a>,
     change: Option<&[u8]>,
-    page: &'a mut Page,
+    room: &'a mut SigningRoom,
 ) -> Reply<'a>
     requires contents { AreContents body.now }
     requires change { IfSome change (λ text. length text.now ≤ 293) }
@@ -66,8 +67,8 @@ fn give<'a>(
         change,
         sign: None,
     };
-    head.sign = Some(sign(q, &head, body.bytes, &entry.secret, &mut page.text));
-    Reply::of(&head, body.bytes, &mut page.head, &mut page.bytes)
+    head.sign = Some(sign(q, &head, body.bytes, &entry.secret, &mut room.text));
+    Reply::of(&head, body.bytes, &mut room.page)
 }
 
 /// The reply to a refusal, signed under this secret.
@@ -77,14 +78,14 @@ pub(crate) fn signed_refusal<'a>(
     refusal: &Refusal,
     price: Option<u64>,
     secret: &[u8; 16],
-    page: &'a mut Page,
+    room: &'a mut SigningRoom,
 ) -> Reply<'a>
     requires { IsOfSite refusal.now }
     ensures { result ≡ reply_head (ledger.signed (Some secret.now) (unwrap_or (seen q.now.scrip) (codes "-")) q.now.target.now [] (ledger.refused_values time refusal.now price)) }
 {
     let mut head = refusal_head(time, refusal, price);
-    head.sign = Some(sign(q, &head, b"", secret, &mut page.text));
-    Reply::of(&head, b"", &mut page.head, &mut page.bytes)
+    head.sign = Some(sign(q, &head, b"", secret, &mut room.text));
+    Reply::of(&head, b"", &mut room.page)
 }
 
 /// The signature of a reply to a request, with `-` for a scrip text that is not there. `text` is for the text

@@ -1,13 +1,14 @@
 //! How an issuer of a vendor is moved to the second version of scrip.
 
-ghost use Rattle.std.specs.Prelude.{◌≡◌, ◌<◌, ◌^◌};
+ghost use Rattle.std.specs.Prelude.{◌≡◌, ◌<◌, ◌^◌, ◌∷◌, []};
 ghost use Rattle.mc_records.specs.Entry.{Upgrade, Fits};
 ghost use Rattle.mc_records.specs.Views.{entry};
 ghost use Rattle.ledger_model.specs.Histories.{History};
 ghost use Rattle.ledger_model.specs.Houses.{upgrade_in};
 ghost use Rattle.ledger_model.specs.Stock.{upgrade_terms};
 ghost use Rattle.house_core.specs.Bench.{house_time, limits_of};
-ghost use Rattle.house_core.specs.House.{HouseRepresents, HandsBack, KeepsTime};
+ghost use Rattle.house_core.specs.House.{HouseRepresents, HandsBack, IfRefused, KeepsTime};
+ghost use Rattle.house_core.specs.Refusing.{IsAmong};
 ghost use Rattle.house_core.specs.Tasks.{Performs, TellsAdded};
 ghost use Rattle.house_core.specs.Upgrading.{upgrade_task};
 
@@ -44,6 +45,7 @@ pub fn upgrade<D: Disk, T: Trade>(
         → Performs D.disk T.trade
         (λ task. task ≡ upgrade_task h (house_time house.bench) vendor.now issuer from) TellsAdded
         (limits_of house.bench) house.journal.disk h result }
+    ensures refusals { IfRefused (IsAmong (33 ∷ 71 ∷ 72 ∷ 73 ∷ [])) result }
 {
     let Some(terms) = terms else {
         return Outcome::Refused(house, Refusal::NoTerms);

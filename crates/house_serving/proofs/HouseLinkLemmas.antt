@@ -1,11 +1,8 @@
 -- Links that a house over a journal serves.
-use Rattle.std.proofs.Common.{◌≡◌, inl, inr, ℕ, ◌<◌, suc, false, List, [], ◌++◌, refl, sym, ap, ◌∙◌, subst, arith, Result, Ok, Err}
-use Rattle.std.specs.Prelude.{Bool, IsSome, IsTrue}
+use Rattle.std.proofs.Common.{◌≡◌, inl, inr, ℕ, ◌<◌, suc, false, List, [], ◌++◌, refl, ap, subst, arith, Result, Ok, Err}
 use Rattle.std.proofs.lemmas.List.{append-nil}
-use Rattle.mc_outside.specs.Bytes.{BeginsWith, Rose}
 use Rattle.mc_outside.specs.DiskView.{DiskView, IsDisk, LinkKeeps}
 use Rattle.mc_outside.specs.LinkView.{LinkView, LinkGoes, next_taken, none_left}
-use Rattle.mc_outside.proofs.Runs.{ran_then, ran_link}
 use Rattle.mc_records.specs.declared.limits.Limits.{Limits}
 use Rattle.mc_records.specs.Entry.{Entry}
 use Rattle.ledger_model.specs.Histories.{History}
@@ -16,61 +13,37 @@ use Rattle.millicent_http.specs.Steps.{Did, sent_of, state_after}
 use Rattle.millicent_http.specs.Courses.{HadLinks, NoLink}
 use Rattle.millicent_http.proofs.LinkCalls.{heard_on}
 use Rattle.millicent_http.proofs.CourseLemmas.{links_start, links_go_on}
-use Rattle.house_core.specs.declared.bench.Bench.{Bench}
 use Rattle.house_core.specs.declared.house.House.{House}
-use Rattle.house_core.specs.Bench.{house_time, limits_of, state_of}
+use Rattle.house_core.specs.Bench.{limits_of, state_of}
 use Rattle.house_core.specs.House.{HouseRepresents}
-use Rattle.house_core.proofs.HouseDisk.{house_keeps}
 use Rattle.house_core.specs.Session.{State, Step}
-use Rattle.house_serving.specs.declared.turn.Turn.{Turn}
-use Rattle.house_serving.specs.declared.turn.Turn.TheVariants as turns
+use Rattle.link_turns.specs.declared.turn.Turn.{Turn}
+use Rattle.link_turns.specs.declared.turn.Turn.TheVariants as turns
+use Rattle.link_turns.proofs.ServingLemmas.{IsServing, serving_starts, serving_goes_on, serving_ended}
+use Rattle.link_turns.proofs.LinksLemmas.{had_link}
+use Rattle.link_turns.proofs.OrderLemmas.{went_nowhere, went_on, went_quiet, halted_later, halted_on, halted_still}
 use Rattle.house_serving.specs.declared.links.ServeOut.TheVariants as outs
-use Rattle.house_serving.specs.Orders.{RefinesBy, InDoubt, HaltedBy}
+use Rattle.house_serving.specs.Orders.{outside_of, history_of, StandsAt, RefinesBy}
 use Rattle.house_serving.specs.InDoubt.{RequestInDoubt, InDoubtTurn, InDoubtLink}
 use Rattle.house_serving.specs.Links.{TurnsHouse, EndsTurns, ServesLink, ServesLinks}
-use Rattle.house_serving.proofs.ServingLemmas.{IsServing, serving_starts, serving_goes_on, serving_ended}
-use Rattle.house_serving.proofs.LinksLemmas.{had_link}
-use Rattle.command_input.proofs.AsideLemmas.{TellsAside, SentNoMore, no_more_still, no_more_taken, aside_still}
-use Rattle.house_serving.proofs.OrderLemmas.{begins_then, went_nowhere, went_on, went_quiet, halted_later}
-use Rattle.house_serving.proofs.HouseTurnLemmas.{ReadOn}
+use Rattle.command_input.proofs.AsideLemmas.{TellsAside, SentNoMore, no_more_still, no_more_taken}
+use Rattle.house_serving.proofs.HouseOrders.{house_leaves, stands_kept}
+use Rattle.house_serving.proofs.HouseTurnLemmas.{ReadOn, stands_at}
 use Rattle.house_state.specs.Trade.{TradeView}
 
 -- the state that a house is in after its steps
 went_at : {O T : Type 0} (link : O → LinkView) (disk : O → DiskView) (trade : T → TradeView) (a : O) (s : State) (xs : List (Did State)) (x : House O T) → RefinesBy link disk trade a s xs x
     → state_of (state_after s xs).history x.bench ≡ state_after s xs
-went_at link disk trade a s xs x went = ap (λ (t : ℕ). record { history = (state_after s xs).history; time = t }) went.time
+went_at link disk trade a s xs x went = ap (λ (t : ℕ). record { history = (state_after s xs).history; time = t }) went.stands.time
 
 -- links did what sends nothing, after some steps
 pub went_still : {O T : Type 0} (link : O → LinkView) (disk : O → DiskView) (trade : T → TradeView) (a : O) (s : State) (xs : List (Did State)) (x y : House O T) → ReadOn link disk x y
     → SentNoMore (link x.journal.disk) (link y.journal.disk) → RefinesBy link disk trade a s xs x → RefinesBy link disk trade a s xs y
-went_still {T = T} link disk trade a s xs x y on same went =
+went_still link disk trade a s xs x y on same went =
+    let t : State = state_after s xs in
     subst (λ (l : List (Did State)). RefinesBy link disk trade a s l y) (append-nil xs)
-    (went_on link disk trade a s xs [] x y went
-    (went_quiet link disk trade x y (state_after s xs) on.tells went.house (ap (λ (b : Bench T). house_time b) on.rests.bench ∙ went.time) on.keeps on.goes
-    (house_keeps disk trade x y (state_after s xs).history went.house on.keeps on.rests) same))
-
--- the same where the disk failed
-pub halted_still : {O : Type 0} (link : O → LinkView) (disk : O → DiskView) (a c d : O) (s : State) (xs : List (Did State)) (e : Entry) (said : List ℕ) → TellsAside link (λ o. (disk o).aside) → LinkKeeps (disk c) (disk d) → LinkGoes (link c) (link d)
-    → SentNoMore (link c) (link d) → HaltedBy link disk a s xs e said c → HaltedBy link disk a s xs e said d
-halted_still link disk a c d s xs e said tells keeps goes same halted =
-    let quiet : IsSome (link a).sessions → (disk d).aside ≡ (disk c).aside = λ told'. aside_still link (λ o. (disk o).aside) c d tells (subst (λ (b : Bool). IsTrue b) (sym halted.tells) told') same in
-    let before : List ℕ = (disk halted.taken).aside in
-    let all : IsSome (link a).sessions → (disk d).aside ≡ before ++ said = λ told'. quiet told' ∙ halted.aside told' in
-    record {
-      taken = halted.taken;
-      tells = goes.tells ∙ halted.tells;
-      quiet = halted.quiet;
-      until = halted.until;
-      rose = subst (λ (n : ℕ). Rose (disk halted.taken).faults n) (sym keeps.faults) halted.rose;
-      since = ran_then (disk halted.taken) (disk c) (disk d) (InDoubt (IsSome (link a).sessions) (state_after s xs).history before e said) halted.since
-          (ran_link (disk c) (disk d) (InDoubt (IsSome (link a).sessions) (state_after s xs).history before e said) keeps (λ i y l from upto. record {
-            stands = halted.leaves i l;
-            began = λ told'. begins_then before (before ++ said) y (said, refl) (subst (λ (z : List ℕ). BeginsWith z y) (halted.aside told') from);
-            part = λ told'. subst (λ (z : List ℕ). BeginsWith y z) (all told') upto;
-          }));
-      leaves = λ i l. halted.leaves i ((keeps.leaves i).0 l);
-      aside = all;
-    }
+    (went_on link disk outside_of (StandsAt disk trade) history_of (house_leaves disk trade) on.tells a s xs [] x y went
+    (went_quiet link disk outside_of (StandsAt disk trade) history_of (house_leaves disk trade) on.tells x y t t refl went.stands on.keeps on.goes (stands_kept disk trade x y t on.keeps on.rests went.stands) same))
 
 -- ---- the turns of a link
 
@@ -79,11 +52,11 @@ abbrev pub ServingHouse : {O T : Type 0} → (O → LinkView) → (O → DiskVie
 ServingHouse link disk trade limits a s x k =
     (steps : List (Did State)) × RefinesBy link disk trade a s steps x × IsServing (Step limits) OfLinks steps s (link a) k (link x.journal.disk)
 
-pub house_starts : {O T : Type 0} (link : O → LinkView) (disk : O → DiskView) (trade : T → TradeView) (x : House O T) (h : History) (k : Held) → IsDisk (disk x.journal.disk) → k ≡ nothing_held
+pub house_starts : {O T : Type 0} (link : O → LinkView) (disk : O → DiskView) (trade : T → TradeView) (x : House O T) (h : History) (k : Held) → TellsAside link (λ o. (disk o).aside) → IsDisk (disk x.journal.disk) → k ≡ nothing_held
     → HouseRepresents disk trade x h → ServingHouse link disk trade (limits_of x.bench) x.journal.disk (state_of h x.bench) x k
-house_starts link disk trade x h k is empty st = (
+house_starts link disk trade x h k tells is empty st = (
   [],
-  went_nowhere link disk trade x (state_of h x.bench) is st refl,
+  went_nowhere link disk outside_of (StandsAt disk trade) history_of (house_leaves disk trade) tells x (state_of h x.bench) is (stands_at disk trade x h st),
   serving_starts (Step (limits_of x.bench)) OfLinks (state_of h x.bench) k (link x.journal.disk) empty,
 )
 
@@ -94,29 +67,29 @@ turn_from : {O T : Type 0} (link : O → LinkView) (disk : O → DiskView) (trad
     → TurnsHouse link disk trade limits x.journal.disk (state_after s xs) k m r
 turn_from link disk trade limits a s xs x k m r went same turned =
     subst (λ (t : State). TurnsHouse link disk trade limits x.journal.disk t k m r) (went_at link disk trade a s xs x went)
-    (subst (λ (l : Limits). TurnsHouse link disk trade l x.journal.disk (state_of (state_after s xs).history x.bench) k m r) same (turned (state_after s xs).history went.house))
+    (subst (λ (l : Limits). TurnsHouse link disk trade l x.journal.disk (state_of (state_after s xs).history x.bench) k m r) same (turned (state_after s xs).history went.stands.house))
 
-pub house_goes_on : {O T : Type 0} (link : O → LinkView) (disk : O → DiskView) (trade : T → TradeView) (limits : Limits) (a : O) (s : State) (x y : House O T) (k m : Held)
+pub house_goes_on : {O T : Type 0} (link : O → LinkView) (disk : O → DiskView) (trade : T → TradeView) (limits : Limits) (a : O) (s : State) (x y : House O T) (k m : Held) → TellsAside link (λ o. (disk o).aside)
     → limits_of x.bench ≡ limits → ServingHouse link disk trade limits a s x k
     → ((h : History) → HouseRepresents disk trade x h → TurnsHouse link disk trade (limits_of x.bench) x.journal.disk (state_of h x.bench) k m (Ok (y, turns.GoOn)))
     → ServingHouse link disk trade limits a s y m
-house_goes_on link disk trade limits a s x y k m same so turned =
+house_goes_on link disk trade limits a s x y k m tells same so turned =
     let xs : List (Did State) = so.0 in
     let next = turn_from link disk trade limits a s xs x k m (Ok (y, turns.GoOn)) so.1 same turned in (
       xs ++ next.0,
-      went_on link disk trade a s xs next.0 x y so.1 next.1,
+      went_on link disk outside_of (StandsAt disk trade) history_of (house_leaves disk trade) tells a s xs next.0 x y so.1 next.1,
       serving_goes_on (Step limits) OfLinks xs next.0 s (link a) k m (link x.journal.disk) (link y.journal.disk) so.2 next.2,
     )
 
-pub house_ends : {O T : Type 0} (link : O → LinkView) (disk : O → DiskView) (trade : T → TradeView) (limits : Limits) (a : O) (s : State) (x y : House O T) (k m : Held) (turn : Turn)
+pub house_ends : {O T : Type 0} (link : O → LinkView) (disk : O → DiskView) (trade : T → TradeView) (limits : Limits) (a : O) (s : State) (x y : House O T) (k m : Held) (turn : Turn) → TellsAside link (λ o. (disk o).aside)
     → limits_of x.bench ≡ limits → (turn ≡ turns.GoOn → ⊥) → ServingHouse link disk trade limits a s x k
     → ((h : History) → HouseRepresents disk trade x h → TurnsHouse link disk trade (limits_of x.bench) x.journal.disk (state_of h x.bench) k m (Ok (y, turn)))
     → EndsTurns link disk trade limits a s (Ok (y, turn))
-house_ends link disk trade limits a s x y k m turn same last so turned =
+house_ends link disk trade limits a s x y k m turn tells same last so turned =
     let xs : List (Did State) = so.0 in
     let next = turn_from link disk trade limits a s xs x k m (Ok (y, turn)) so.1 same turned in (
       xs ++ next.0,
-      went_on link disk trade a s xs next.0 x y so.1 next.1,
+      went_on link disk outside_of (StandsAt disk trade) history_of (house_leaves disk trade) tells a s xs next.0 x y so.1 next.1,
       serving_ended (Step limits) OfLinks turn xs next.0 s (link a) k m (link x.journal.disk) (link y.journal.disk) last so.2 next.2,
     )
 
@@ -139,18 +112,18 @@ doubt_link limits xs s before now k e said after so doubt = record {
   in_doubt = subst (λ (v : LinkView). RequestInDoubt limits doubt.q (state_after s xs) e said v after) (heard_on before now so.got doubt.more (sent_of xs) now.readings so.link) doubt.in_doubt;
 }
 
-pub house_halts : {O T : Type 0} (link : O → LinkView) (disk : O → DiskView) (trade : T → TradeView) (limits : Limits) (a : O) (s : State) (x : House O T) (k m : Held) (d : O)
+pub house_halts : {O T : Type 0} (link : O → LinkView) (disk : O → DiskView) (trade : T → TradeView) (limits : Limits) (a : O) (s : State) (x : House O T) (k m : Held) (d : O) → TellsAside link (λ o. (disk o).aside)
     → limits_of x.bench ≡ limits → ServingHouse link disk trade limits a s x k
     → ((h : History) → HouseRepresents disk trade x h → TurnsHouse link disk trade (limits_of x.bench) x.journal.disk (state_of h x.bench) k m (Err d))
     → EndsTurns {O = O} {T = T} link disk trade limits a s (Err d)
-house_halts link disk trade limits a s x k m d same so turned =
+house_halts link disk trade limits a s x k m d tells same so turned =
     let xs : List (Did State) = so.0 in
     let next = turn_from link disk trade limits a s xs x k m (Err d) so.1 same turned in (
-      xs ++ [],
+      xs,
       next.0,
       next.1,
-      halted_later link disk trade a s xs [] x next.0 next.1 d so.1 next.2,
-      subst (λ (l : List (Did State)). InDoubtLink limits l s (link a) next.0 next.1 (link d)) (sym (append-nil xs)) (doubt_link limits xs s (link a) (link x.journal.disk) k next.0 next.1 (link d) so.2 next.3),
+      halted_later link disk outside_of (StandsAt disk trade) history_of (house_leaves disk trade) tells a s xs x [] next.0 next.1 d so.1 next.2,
+      doubt_link limits xs s (link a) (link x.journal.disk) k next.0 next.1 (link d) so.2 next.3,
     )
 
 -- ---- a link
@@ -171,7 +144,7 @@ link_halted link disk trade limits a s c d tells keeps goes is ended = (
   ended.1,
   ended.2,
   link c,
-  halted_still link disk a c d s ended.0 ended.1 ended.2 tells keeps goes (no_more_still (link c) (link d) (ap (λ (v : LinkView). v.sessions) is)) ended.3,
+  halted_still link disk tells history_of a c d s ended.0 [] ended.1 ended.2 keeps goes (no_more_still (link c) (link d) (ap (λ (v : LinkView). v.sessions) is)) ended.3,
   ended.4,
   is,
 )
@@ -182,11 +155,11 @@ abbrev pub LinkedHouse : {O T : Type 0} → (O → LinkView) → (O → DiskView
 LinkedHouse link disk trade limits n a s x =
     (steps : List (Did State)) × RefinesBy link disk trade a s steps x × HadLinks (Step limits) OfLinks n steps s (link a) (link x.journal.disk)
 
-pub linked_starts : {O T : Type 0} (link : O → LinkView) (disk : O → DiskView) (trade : T → TradeView) (limits : Limits) (x : House O T) (h : History) → IsDisk (disk x.journal.disk) → HouseRepresents disk trade x h
+pub linked_starts : {O T : Type 0} (link : O → LinkView) (disk : O → DiskView) (trade : T → TradeView) (limits : Limits) (x : House O T) (h : History) → TellsAside link (λ o. (disk o).aside) → IsDisk (disk x.journal.disk) → HouseRepresents disk trade x h
     → LinkedHouse link disk trade limits 0 x.journal.disk (state_of h x.bench) x
-linked_starts link disk trade limits x h is st = (
+linked_starts link disk trade limits x h tells is st = (
   [],
-  went_nowhere link disk trade x (state_of h x.bench) is st refl,
+  went_nowhere link disk outside_of (StandsAt disk trade) history_of (house_leaves disk trade) tells x (state_of h x.bench) is (stands_at disk trade x h st),
   links_start (Step limits) OfLinks (state_of h x.bench) (link x.journal.disk),
 )
 
@@ -197,7 +170,7 @@ link_from : {O T : Type 0} (link : O → LinkView) (disk : O → DiskView) (trad
     → ServesLink link disk trade limits y.journal.disk (state_after s xs) r
 link_from link disk trade limits a s xs y r went same served =
     subst (λ (t : State). ServesLink link disk trade limits y.journal.disk t r) (went_at link disk trade a s xs y went)
-    (subst (λ (l : Limits). ServesLink link disk trade l y.journal.disk (state_of (state_after s xs).history y.bench) r) same (served (state_after s xs).history went.house))
+    (subst (λ (l : Limits). ServesLink link disk trade l y.journal.disk (state_of (state_after s xs).history y.bench) r) same (served (state_after s xs).history went.stands.house))
 
 pub linked_goes_on : {O T : Type 0} (link : O → LinkView) (disk : O → DiskView) (trade : T → TradeView) (limits : Limits) (n m : ℕ) (a : O) (s : State) (x y z : House O T) → m ≡ suc n → ReadOn link disk x y
     → link y.journal.disk ≡ next_taken (link x.journal.disk) → limits_of y.bench ≡ limits → LinkedHouse link disk trade limits n a s x
@@ -208,7 +181,7 @@ linked_goes_on link disk trade limits n m a s x y z more on taken same so served
     let went = went_still link disk trade a s xs x y on (no_more_taken (link x.journal.disk) (link y.journal.disk) taken) so.1 in
     let had = link_from link disk trade limits a s xs y (Ok z) went same served in (
       xs ++ had.0,
-      went_on link disk trade a s xs had.0 y z went had.1,
+      went_on link disk outside_of (StandsAt disk trade) history_of (house_leaves disk trade) on.tells a s xs had.0 y z went had.1,
       links_go_on (Step limits) OfLinks n m xs had.0 s (link a) (link x.journal.disk) (link y.journal.disk) (link z.journal.disk) more taken so.2 had.2,
     )
 
@@ -247,7 +220,7 @@ linked_house_halts link disk trade limits links n a s x y d few on taken same so
       xs ++ had.0,
       had.1,
       had.2,
-      halted_later link disk trade a s xs had.0 y had.1 had.2 d went had.4,
+      halted_on link disk outside_of (StandsAt disk trade) history_of a s xs had.0 y [] had.1 had.2 d went had.4,
       record {
         n = n;
         few = few;

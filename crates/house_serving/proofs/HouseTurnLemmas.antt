@@ -1,6 +1,6 @@
 -- One turn of a house over a journal.
-use Rattle.std.proofs.Common.{◌≡◌, inl, inr, ℕ, ◌+◌, ◌<◌, Bool, List, [], ◌∷◌, length, take, refl, sym, ap, ap₂, ◌∙◌, subst, arith, Option, Result, Ok, Err}
-use Rattle.std.specs.Prelude.{OnOk, OnErr, IfOk, IsTrue, max}
+use Rattle.std.proofs.Common.{◌≡◌, inl, inr, ℕ, ◌<◌, Bool, List, [], ◌∷◌, length, take, refl, sym, ap, ap₂, ◌∙◌, subst, append-nil, Option, Result, Ok, Err}
+use Rattle.std.specs.Prelude.{OnOk, OnErr, IsTrue, max}
 use Rattle.mc_outside.specs.declared.link.LinkFault.{LinkFault}
 use Rattle.mc_outside.specs.Bytes.{Rose}
 use Rattle.mc_outside.specs.DiskView.{DiskView, IsDisk, LinkKeeps, Ran}
@@ -11,13 +11,11 @@ use Rattle.mc_records.specs.declared.refusal.Refusal.TheVariants as refusals
 use Rattle.mc_records.specs.Entry.{Entry}
 use Rattle.mc_records.specs.declared.request.Request.{Request}
 use Rattle.mc_records.specs.Requests.{Asked, asked_of}
-use Rattle.scrip_form.specs.Texts.{IsTarget}
 use Rattle.ledger_model.specs.Histories.{History}
 use Rattle.ledger_model.specs.Answer as answers
 use Rattle.ledger_model.specs.Answer.{Answer, answer}
 use Rattle.ledger_model.specs.Replies.{reply_of, refusal_of, head_refusal}
 use Rattle.millicent_http.specs.declared.item.After.{After}
-use Rattle.millicent_http.specs.declared.item.After.TheVariants as afters
 use Rattle.millicent_http.specs.declared.item.HeadRefusal.{HeadRefusal}
 use Rattle.millicent_http.specs.declared.item.HeadOut.{HeadOut}
 use Rattle.millicent_http.specs.declared.item.HeadOut.TheVariants as outs
@@ -25,8 +23,6 @@ use Rattle.millicent_http.specs.HeadRefusals.{as_refusal}
 use Rattle.millicent_http.specs.Held.{Held}
 use Rattle.millicent_http.specs.Takes.{Took, TookItem, with_more}
 use Rattle.millicent_http.specs.Items.{Item, request, refused}
-use Rattle.millicent_http.proofs.JudgeLemmas.{asks_a_target}
-use Rattle.scrip_journal.specs.Layout.{Encodes}
 use Rattle.scrip_journal.specs.Exits.{EitherNoOutput}
 use Rattle.millicent_http.specs.declared.clock.Clock.TheVariants.{OfLinks}
 use Rattle.millicent_http.specs.Steps.{Did}
@@ -41,36 +37,19 @@ use Rattle.house_core.specs.Bench.{house_time, limits_of, state_of}
 use Rattle.house_core.specs.House.{HouseRepresents, HouseRests, HasEntered, IsAsItWas, Responds, Leaves}
 use Rattle.house_core.proofs.HouseDisk.{house_keeps}
 use Rattle.house_core.specs.Session.{State, Gives, entered, raised, Step}
-use Rattle.house_serving.specs.declared.turn.Turn.{Turn}
-use Rattle.house_serving.specs.declared.turn.Turn.TheVariants.{GoOn, Last, End, NotReceived, NotSent}
-use Rattle.house_serving.specs.Turns.{Sent, AnsweredItem, Turned, turn_after}
-use Rattle.house_serving.specs.Orders.{RefinesBy, HaltedBy}
-use Rattle.house_serving.specs.InDoubt.{Sends, RequestInDoubt}
+use Rattle.link_turns.specs.declared.turn.Turn.{Turn}
+use Rattle.link_turns.specs.declared.turn.Turn.TheVariants.{End, NotReceived}
+use Rattle.link_turns.specs.Turns.{Sent, AnsweredItem, Turned, turn_after}
+use Rattle.link_turns.specs.Sending.{Sends}
+use Rattle.link_turns.proofs.TurnLemmas.{leads_so, item_turned}
+use Rattle.link_turns.proofs.ItemLemmas.{item_answered, sent_so, sent_sessions, sends_so, said_sessions, said_readings}
+use Rattle.link_turns.proofs.OrderLemmas.{went_on, went_quiet, went_sent, went_written, went_from, halts_told, halts_quiet}
+use Rattle.house_serving.specs.Orders.{outside_of, history_of, StandsAt, RefinesBy}
+use Rattle.house_serving.specs.InDoubt.{RequestInDoubt}
 use Rattle.house_serving.specs.Links.{RepliesTo, AnswersRequest, RefusesHead, TurnsHouse}
 use Rattle.command_input.proofs.AsideLemmas.{TellsAside, SentNoMore, no_more_still, no_more_then, no_more_heard, no_more_finished}
-use Rattle.house_serving.proofs.TurnLemmas.{leads_so, item_turned}
-use Rattle.house_serving.proofs.ItemLemmas.{item_answered, sent_so}
-use Rattle.house_serving.proofs.OrderLemmas.{went_on, went_quiet, went_sent, went_written, went_from, halted_told, halted_later, halted_from}
+use Rattle.house_serving.proofs.HouseOrders.{house_leaves, stands_kept}
 use Rattle.house_state.specs.Trade.{TradeView}
-
--- ---- sending
-
--- the refusal of a request that the disk failed was sent, or a prefix of it
-pub sends_so : (reply : List ℕ) (r : Result (Unit {0}) LinkFault) (v w : LinkView) → OnOk r (w ≡ after_send reply v) → OnErr r ((n : ℕ) × (n < length reply) × Failed (after_send (take n reply) v) w)
-    → (said : List ℕ) × Sends reply said v w
-sends_so reply (Ok u) v w sent fault = (reply, inl (refl, sent))
-sends_so reply (Err e) v w sent fault = (take fault.0 reply, inr (fault.0, fault.1, refl, fault.2))
-
-sent_sessions : (after : After) (reply part : List ℕ) (turn : Turn) (v w : LinkView) → Sent after reply turn part v w → w.sessions ≡ (after_send part v).sessions
-sent_sessions after reply part GoOn v w sent = ap (λ (u : LinkView). u.sessions) sent.2
-sent_sessions after reply part Last v w sent = ap (λ (u : LinkView). u.sessions) sent.2
-sent_sessions after reply part End v w sent = absurd sent
-sent_sessions after reply part NotReceived v w sent = absurd sent
-sent_sessions after reply part NotSent v w sent = ap (λ (u : LinkView). u.sessions) sent.3.same
-
-said_sessions : (reply said : List ℕ) (v w : LinkView) → Sends reply said v w → w.sessions ≡ (after_send said v).sessions
-said_sessions reply said v w (inl sent) = ap (λ (u : LinkView). u.sessions) sent.1 ∙ ap (λ (l : List ℕ). (after_send l v).sessions) (sym sent.0)
-said_sessions reply said v w (inr fault) = ap (λ (u : LinkView). u.sessions) fault.3.same
 
 -- what follows of an answer
 told_so : {A E : Type 0} (r : Result A E) (P Q : Type 0) → (P → Q) → OnOk r P → OnOk r Q
@@ -80,11 +59,6 @@ told_so (Err e) P Q so p = p
 failed_so : {A E : Type 0} (r : Result A E) (P Q : Type 0) → (P → Q) → OnErr r P → OnErr r Q
 failed_so (Ok x) P Q so p = p
 failed_so (Err e) P Q so p = so p
-
--- sending reads no clock
-said_readings : (reply said : List ℕ) (v w : LinkView) → Sends reply said v w → w.readings ≡ v.readings
-said_readings reply said v w (inl sent) = ap (λ (u : LinkView). u.readings) sent.1
-said_readings reply said v w (inr fault) = ap (λ (u : LinkView). u.readings) fault.3.same
 
 -- ---- what an outcome says of the answer
 
@@ -131,6 +105,12 @@ pub record SentOn {O T : Type 0} (link : O → LinkView) (disk : O → DiskView)
   pub goes : LinkGoes (link y.journal.disk) (link z.journal.disk)
   pub rests : HouseRests y z
 
+-- a reply was sent, or a prefix of it, when what it speaks of was there
+reply_went : {O T : Type 0} (link : O → LinkView) (disk : O → DiskView) (trade : T → TradeView) (y z : House O T) (s : State) (d : Did State) → SentOn link disk y z → StandsAt disk trade y d.after
+    → (link z.journal.disk).sessions ≡ (after_send d.sent (link y.journal.disk)).sessions → RefinesBy link disk trade y.journal.disk s (d ∷ []) z
+reply_went link disk trade y z s d on st sent =
+    went_sent link disk outside_of (StandsAt disk trade) history_of (house_leaves disk trade) on.tells y z s d on.is_link on.standing st (stands_kept disk trade y z d.after on.keeps on.rests st) on.keeps on.goes sent
+
 -- nothing new is entered: the reply is the first one of an entry, or a refusal
 pub replied_old : {O T : Type 0} (link : O → LinkView) (disk : O → DiskView) (trade : T → TradeView) (limits : Limits) (q : Asked) (after : After) (y z : House O T) (s : State)
     (reply : List ℕ) (r : Result (Unit {0}) LinkFault) → SentOn link disk y z → HouseRepresents disk trade y s.history → house_time y.bench ≡ s.time
@@ -142,8 +122,7 @@ replied_old {T = T} link disk trade limits q after y z s reply r on st time give
     let step : Did State = record { sent = was.0; after = s } in (
       step,
       reply,
-      went_sent link disk trade y z s step on.tells on.is_link on.standing st (house_keeps disk trade y z s.history st on.keeps on.rests)
-          (ap (λ (b : Bench T). house_time b) on.rests.bench ∙ time) on.keeps on.goes (sent_sessions after reply was.0 (turn_after r after) (link y.journal.disk) (link z.journal.disk) was.1),
+      reply_went link disk trade y z s step on (record { house = st; time = time }) (sent_sessions after reply was.0 (turn_after r after) (link y.journal.disk) (link z.journal.disk) was.1),
       gives,
       was.1,
     )
@@ -167,8 +146,8 @@ replied_new {T = T} link disk trade limits q after a y z s settled r on time qui
     let step : Did State = record { sent = was.0; after = t } in (
       step,
       reply,
-      went_written link disk trade a y z s e step on.tells refl is.3 quiet calm same on.is_link on.standing st (house_keeps disk trade y z t.history st on.keeps on.rests)
-          (ap (λ (b : Bench T). house_time b) on.rests.bench ∙ time) on.keeps on.goes (sent_sessions after reply was.0 (turn_after r after) (link y.journal.disk) (link z.journal.disk) was.1),
+      went_written link disk outside_of (StandsAt disk trade) history_of (house_leaves disk trade) on.tells a y.journal.disk s t e step [] z refl (sym (append-nil t.history)) is.3 quiet calm same
+          (reply_went link disk trade y z t step on (record { house = st; time = time }) (sent_sessions after reply was.0 (turn_after r after) (link y.journal.disk) (link z.journal.disk) was.1)),
       subst (λ (b : Answer). Gives s q b reply t) (sym is.1) (inl (ap (λ (n : ℕ). reply_of t.history n) is.2.number', refl)),
       subst (λ (v : LinkView). Sent after reply (turn_after r after) was.0 v (link z.journal.disk)) same was.1,
     )
@@ -223,24 +202,28 @@ replied_again {O = O} link disk trade limits q after a y z s number r on time re
 
 -- the disk failed while the entry of the request was written, and it was told so
 pub replied_halted : {O T : Type 0} (link : O → LinkView) (disk : O → DiskView) (trade : T → TradeView) (limits : Limits) (q : Asked) (after : After) (a b c : O) (s : State)
-    (r : Result (Unit {0}) LinkFault) → TellsAside link (λ o. (disk o).aside) → IsDisk (disk a) → ((i : List ℕ) → (disk a).leaves i → Encodes s.history i) → IsDisk (disk b) → IsLink (link b) → IsTrue (link b).stands → (disk b).aside ≡ (disk a).aside → link b ≡ link a → LinkKeeps (disk b) (disk c) → LinkGoes (link b) (link c)
+    (r : Result (Unit {0}) LinkFault) → TellsAside link (λ o. (disk o).aside) → IsDisk (disk b) → IsLink (link b) → IsTrue (link b).stands → (disk b).aside ≡ (disk a).aside → link b ≡ link a → LinkKeeps (disk b) (disk c) → LinkGoes (link b) (link c)
     → Responds {D = O} {T = T} disk trade a s.history (answer s.history s.time limits q) (outcomes.Halted b)
     → Ran (disk a) (disk b) (Leaves {D = O} {T = T} {A = Response} (answer s.history s.time limits q) (outcomes.Halted b) s.history (disk a).aside)
     → OnOk r ((x : History × Asked) → link c ≡ after_send (refusal_of x.0 s.time x.1 refusals.DiskFault) (link b))
     → OnErr r ((x : History × Asked) → (n : ℕ) × (n < length (refusal_of x.0 s.time x.1 refusals.DiskFault)) × Failed (after_send (take n (refusal_of x.0 s.time x.1 refusals.DiskFault)) (link b)) (link c))
     → RepliesTo {O = O} {T = T} link disk trade limits q after a s (Err c)
-replied_halted link disk trade limits q after a b c s r tells is_a stood is_b is_link on quiet same keeps goes responds ran sent fault =
+replied_halted link disk trade limits q after a b c s r tells is_b is_link on quiet same keeps goes responds ran sent fault =
     let taken = halted_is disk trade a b s.history (answer s.history s.time limits q) (disk a) (disk b) (disk a).aside responds ran in
     let reply : List ℕ = refusal_of s.history s.time q refusals.DiskFault in
     let was = sends_so reply r (link b) (link c) (told_so r _ _ (λ g. g (s.history, q)) sent) (failed_so r _ _ (λ g. g (s.history, q)) fault) in (
       taken.0,
       was.0,
-      halted_told link disk a b c s taken.0 was.0 tells is_a stood is_b taken.2 quiet taken.3 same is_link on keeps goes (said_sessions reply was.0 (link b) (link c) was.1),
+      halts_told link disk tells a b c s.history taken.0 was.0 is_b taken.2 quiet taken.3 same is_link on keeps goes (said_sessions reply was.0 (link b) (link c) was.1),
       taken.1,
       subst (λ (v : LinkView). Sends reply was.0 v (link c)) same was.1,
     )
 
 -- ---- an item, at a reading of the clock
+
+-- a house that represents a history is in a state
+pub stands_at : {O T : Type 0} (disk : O → DiskView) (trade : T → TradeView) (x : House O T) (h : History) → HouseRepresents disk trade x h → StandsAt disk trade x (state_of h x.bench)
+stands_at disk trade x h st = record { house = st; time = refl }
 
 -- A house was raised to a reading of the clock.
 pub record RaisedBy {O T : Type 0} (link : O → LinkView) (disk : O → DiskView) (trade : T → TradeView) (x y : House O T) (reading : ℕ) : Type 0 where
@@ -257,7 +240,7 @@ pub record RaisedBy {O T : Type 0} (link : O → LinkView) (disk : O → DiskVie
 raised_quiet : {O T : Type 0} (link : O → LinkView) (disk : O → DiskView) (trade : T → TradeView) (x y : House O T) (reading : ℕ) (h : History)
     → RaisedBy link disk trade x y reading → HouseRepresents disk trade x h → RefinesBy link disk trade x.journal.disk (state_of h y.bench) [] y
 raised_quiet link disk trade x y reading h up st =
-    went_quiet link disk trade x y (state_of h y.bench) up.tells st refl up.keeps up.goes (up.represents h st)
+    went_quiet link disk outside_of (StandsAt disk trade) history_of (house_leaves disk trade) up.tells x y (state_of h x.bench) (state_of h y.bench) refl (stands_at disk trade x h st) up.keeps up.goes (stands_at disk trade y h (up.represents h st))
     (no_more_still (link x.journal.disk) (link y.journal.disk) (ap (λ (v : LinkView). v.sessions) up.rest))
 
 -- a step after it, as a step from before
@@ -265,8 +248,8 @@ raised_went : {O T : Type 0} (link : O → LinkView) (disk : O → DiskView) (tr
     → RaisedBy link disk trade x y reading → HouseRepresents disk trade x h → RefinesBy link disk trade y.journal.disk (state_of h y.bench) (step ∷ []) z
     → RefinesBy link disk trade x.journal.disk (state_of h x.bench) (step ∷ []) z
 raised_went link disk trade x y z reading h step up st went =
-    went_from link disk trade x.journal.disk (state_of h x.bench) (state_of h y.bench) step [] z refl
-    (went_on link disk trade x.journal.disk (state_of h y.bench) [] (step ∷ []) y z (raised_quiet link disk trade x y reading h up st) went)
+    went_from link disk outside_of (StandsAt disk trade) history_of (house_leaves disk trade) up.tells x.journal.disk (state_of h x.bench) (state_of h y.bench) step [] z refl
+    (went_on link disk outside_of (StandsAt disk trade) history_of (house_leaves disk trade) up.tells x.journal.disk (state_of h y.bench) [] (step ∷ []) y z (raised_quiet link disk trade x y reading h up st) went)
 
 -- the state at the reading
 raised_is : {O T : Type 0} (link : O → LinkView) (disk : O → DiskView) (trade : T → TradeView) (x y : House O T) (reading : ℕ) (h : History) → RaisedBy link disk trade x y reading
@@ -296,8 +279,8 @@ request_answered link disk trade q after x y reading h (Err d) up st replied =
     let readings : (link d).readings ≡ mid.readings = said_readings (refusal_of h (house_time y.bench) q refusals.DiskFault) said mid (link d) replied.4 in (
       e,
       said,
-      halted_from link disk x.journal.disk (state_of h x.bench) (state_of h y.bench) [] e said d refl
-          (halted_later link disk trade x.journal.disk (state_of h y.bench) [] [] y e said d (raised_quiet link disk trade x y reading h up st) replied.2),
+      halts_quiet link disk up.tells x.journal.disk y.journal.disk h [] e said d up.keeps up.goes (no_more_still (link x.journal.disk) (link y.journal.disk) (ap (λ (v : LinkView). v.sessions) up.rest))
+          (house_leaves disk trade x (state_of h x.bench) (stands_at disk trade x h st)) replied.2,
       record {
         reading = reading;
         read = subst (λ (o : Option (List ℕ)). AreRead OfLinks (reading ∷ []) (link x.journal.disk).readings o) (sym readings) up.read;
@@ -322,8 +305,7 @@ head_answered {T = T} link disk trade f after x y z reading h r up on st sent fa
     let step : Did State = record { sent = was.0; after = t } in (
       step,
       raised_went link disk trade x y z reading h step up st
-          (went_sent link disk trade y z t step on.tells on.is_link on.standing st' (house_keeps disk trade y z h st' on.keeps on.rests)
-          (ap (λ (b : Bench T). house_time b) on.rests.bench) on.keeps on.goes (sent_sessions after reply was.0 (turn_after r after) (link y.journal.disk) (link z.journal.disk) was.1)),
+          (reply_went link disk trade y z t step on (stands_at disk trade y h st') (sent_sessions after reply was.0 (turn_after r after) (link y.journal.disk) (link z.journal.disk) was.1)),
       λ closes. item_answered (Step (limits_of x.bench)) OfLinks (refused f closes) after (turn_after r after) (state_of h x.bench) t (link x.journal.disk) (link y.journal.disk) (link z.journal.disk) reading reply was.0 up.read up.rest
           (ap (λ (n : ℕ). head_refusal n f) up.time, raised_is link disk trade x y reading h up) was.1,
     )
@@ -340,7 +322,9 @@ pub record ReadOn {O T : Type 0} (link : O → LinkView) (disk : O → DiskView)
 read_quiet : {O T : Type 0} (link : O → LinkView) (disk : O → DiskView) (trade : T → TradeView) (x y : House O T) (h : History) → ReadOn link disk x y → HouseRepresents disk trade x h
     → SentNoMore (link x.journal.disk) (link y.journal.disk) → RefinesBy link disk trade x.journal.disk (state_of h x.bench) [] y
 read_quiet {T = T} link disk trade x y h on st same =
-    went_quiet link disk trade x y (state_of h x.bench) on.tells st (ap (λ (b : Bench T). house_time b) on.rests.bench) on.keeps on.goes (house_keeps disk trade x y h st on.keeps on.rests) same
+    let s : State = state_of h x.bench in
+    let at = stands_at disk trade x h st in
+    went_quiet link disk outside_of (StandsAt disk trade) history_of (house_leaves disk trade) on.tells x y s s refl at on.keeps on.goes (stands_kept disk trade x y s on.keeps on.rests at) same
 
 pub read_stands : {O T : Type 0} (link : O → LinkView) (disk : O → DiskView) (trade : T → TradeView) (x y : House O T) (h : History) → ReadOn link disk x y → HouseRepresents disk trade x h
     → HouseRepresents disk trade y h
@@ -357,7 +341,7 @@ item_turns {T = T} link disk trade item after x y z h old new turn more closing 
     let answered : AnsweredItem (Step (limits_of x.bench)) OfLinks (item closing) after turn step (state_of h x.bench) (link y.journal.disk) (link z.journal.disk) =
     subst (λ (b : Bench T). AnsweredItem (Step (limits_of b)) OfLinks (item closing) after turn step (state_of h b) (link y.journal.disk) (link z.journal.disk)) on.rests.bench (did.2 closing) in (
       step ∷ [],
-      went_on link disk trade x.journal.disk (state_of h x.bench) [] (step ∷ []) y z
+      went_on link disk outside_of (StandsAt disk trade) history_of (house_leaves disk trade) on.tells x.journal.disk (state_of h x.bench) [] (step ∷ []) y z
           (read_quiet link disk trade x y h on st (no_more_heard (link x.journal.disk) (link y.journal.disk) more (ap (λ (v : LinkView). v.sessions) came))) from,
       item_turned (Step (limits_of x.bench)) OfLinks turn step (state_of h x.bench) old (link x.journal.disk) (link y.journal.disk) more (item closing) after new (link z.journal.disk) took came answered,
     )
@@ -373,13 +357,12 @@ head_turns {T = T} link disk trade q after x y h old new out (Err d) took is on 
     let leads = leads_so old (link x.journal.disk) out (outs.Head q after) new (link y.journal.disk) took is in
     let e : Entry = did.0 in
     let said : List ℕ = did.1 in
-    let halted : HaltedBy link disk y.journal.disk (state_of h x.bench) [] e said d = subst (λ (b : Bench T). HaltedBy link disk y.journal.disk (state_of h b) [] e said d) on.rests.bench did.2 in
     let in_doubt : RequestInDoubt (limits_of x.bench) (asked_of q) (state_of h x.bench) e said (link y.journal.disk) (link d) =
     subst (λ (b : Bench T). RequestInDoubt (limits_of b) (asked_of q) (state_of h b) e said (link y.journal.disk) (link d)) on.rests.bench did.3 in (
       e,
       said,
-      halted_later link disk trade x.journal.disk (state_of h x.bench) [] [] y e said d
-          (read_quiet link disk trade x y h on st (no_more_heard (link x.journal.disk) (link y.journal.disk) took.got (ap (λ (v : LinkView). v.sessions) leads.1))) halted,
+      halts_quiet link disk on.tells x.journal.disk y.journal.disk h [] e said d on.keeps on.goes (no_more_heard (link x.journal.disk) (link y.journal.disk) took.got (ap (λ (v : LinkView). v.sessions) leads.1))
+          (house_leaves disk trade x (state_of h x.bench) (stands_at disk trade x h st)) did.2,
       record {
         more = took.got;
         q = asked_of q;
@@ -417,32 +400,3 @@ fault_turns link disk trade x y h old new out took is on st =
     let leads = leads_so old (link x.journal.disk) out outs.Fault new (link y.journal.disk) took is in
     let same : SentNoMore (link x.journal.disk) (link y.journal.disk) = no_more_heard (link x.journal.disk) (link y.journal.disk) took.got (ap (λ (v : LinkView). v.sessions) leads.2.same) in
     ([], read_quiet link disk trade x y h on st same, record { none_done = refl; more = took.got; none = leads.1; then' = leads.2 })
-
-item_given : (bytes : List ℕ) (old : Held) (item : Item) (after : After) (new : Held) → TookItem bytes old.given item after new → (after ≡ afters.Close → ⊥) → (new.given ≡ old.given + 1) × (old.given < 1000)
-item_given bytes old item after new took open' =
-    let last : new.given ≡ 1000 → ⊥ = λ e. open' (took.after_is.1 (inr e)) in
-    (omega (arith, took.given_is, last), omega (arith, took.given_is, last))
-
--- a request asks a target
-pub head_target : (old : Held) (before mid : LinkView) (q : Request) (after : After) (new : Held) (out : HeadOut) → Took old before out new mid → out ≡ outs.Head q after → IsTarget q.target.now
-head_target old before mid q after new out took is =
-    let leads = leads_so old before out (outs.Head q after) new mid took is in
-    asks_a_target _ new.bytes (asked_of q) leads.0.0 leads.0.1.next
-
--- after an item that lets the link go on, another may come
-pub head_given : (old : Held) (before mid : LinkView) (q : Request) (after : After) (new : Held) (out : HeadOut) → Took old before out new mid → out ≡ outs.Head q after → (after ≡ afters.Close → ⊥)
-    → (new.given ≡ old.given + 1) × (old.given < 1000)
-head_given old before mid q after new out took is open' =
-    let leads = leads_so old before out (outs.Head q after) new mid took is in
-    item_given _ (with_more old took.got) _ after new leads.0.1 open'
-
-pub refused_given : (old : Held) (before mid : LinkView) (f : HeadRefusal) (after : After) (new : Held) (out : HeadOut) → Took old before out new mid → out ≡ outs.Refused f after → (after ≡ afters.Close → ⊥)
-    → (new.given ≡ old.given + 1) × (old.given < 1000)
-refused_given old before mid f after new out took is open' =
-    let leads = leads_so old before out (outs.Refused f after) new mid took is in
-    item_given _ (with_more old took.got) _ after new leads.0.1 open'
-
--- the same, where the turn is part of an answer
-pub given_if : {A E : Type 0} (r : Result (A × Turn) E) (Q Closes : Type 0) → IfOk r (λ x. x.1 ≡ GoOn → Closes → ⊥) → ((Closes → ⊥) → Q) → IfOk r (λ x. x.1 ≡ GoOn → Q)
-given_if (Ok x) Q Closes open' so = λ goes. so (open' goes)
-given_if (Err e) Q Closes open' so = tt

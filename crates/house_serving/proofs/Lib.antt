@@ -1,13 +1,10 @@
 pub mod RefinesLemmas
 pub mod OtherStates
 pub mod CountsLemmas
-pub mod ServingLemmas
-pub mod TurnLemmas
-pub mod ItemLemmas
+pub mod SaidLemmas
 pub mod TurnsLemmas
 pub mod LinksLemmas
 pub mod ReplyingLemmas
-pub mod OrderLemmas
-pub mod CauseLemmas
+pub mod HouseOrders
 pub mod HouseTurnLemmas
 pub mod HouseLinkLemmas

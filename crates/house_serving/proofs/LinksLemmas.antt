@@ -1,5 +1,5 @@
 -- Links one after another.
-use Rattle.std.proofs.Common.{◌≡◌, inl, inr, ℕ, suc, ◌<◌, false, List, subst, Ok, Err}
+use Rattle.std.proofs.Common.{◌≡◌, inl, inr, ℕ, suc, ◌<◌, List, subst, Ok, Err}
 use Rattle.mc_outside.specs.LinkView.{LinkView, next_taken, none_left}
 use Rattle.mc_records.specs.declared.limits.Limits.{Limits}
 use Rattle.millicent_http.specs.declared.clock.Clock.{Clock}
@@ -8,23 +8,11 @@ use Rattle.millicent_http.specs.Courses.{HadLink, HadLinks, NoLink}
 use Rattle.millicent_http.proofs.CourseLemmas.{links_start, links_go_on}
 use Rattle.house_core.specs.declared.bench.Bench.{Bench}
 use Rattle.house_serving.specs.declared.serving.BenchEnd.TheVariants as ends
-use Rattle.house_serving.specs.declared.turn.Turn.{Turn}
-use Rattle.house_serving.specs.declared.turn.Turn.TheVariants.{GoOn, Last, End, NotReceived, NotSent}
 use Rattle.house_serving.specs.Counting.{Counts}
 use Rattle.house_core.specs.Tallies.{ToldState, ToldStep}
-use Rattle.house_serving.specs.Turns.{Ended}
 use Rattle.house_serving.proofs.CountsLemmas.{counts_so, counts_then, counts_nowhere}
 use Rattle.house_serving.specs.Served.{Served}
 use Rattle.house_state.specs.Trade.{TradeView}
-
--- a link was ended by its last turn
-pub had_link : {S : Type 0} (Step : StepRelation S) (clock : Clock) (turn : Turn) (steps : List (Did S)) (s : S) (before served after : LinkView) → after ≡ record served { stands = false } → Ended Step clock turn steps s before served
-    → HadLink Step clock steps s before after
-had_link Step clock GoOn steps s before served after is ended = absurd ended
-had_link Step clock Last steps s before served after is ended = record { served = served; course = inl ended; ended = is }
-had_link Step clock End steps s before served after is ended = record { served = served; course = inl ended; ended = is }
-had_link Step clock NotReceived steps s before served after is ended = record { served = served; course = inr (inl ended); ended = is }
-had_link Step clock NotSent steps s before served after is ended = record { served = served; course = inr (inr ended); ended = is }
 
 -- as many links as were asked for
 pub links_all : {S : Type 0} (Step : StepRelation S) (clock : Clock) (links n : ℕ) (steps : List (Did S)) (s : S) (before now : LinkView) → n ≡ links → HadLinks Step clock n steps s before now

@@ -8,14 +8,14 @@ use Rattle.ledger_model.specs.Histories.{History}
 use Rattle.millicent_http.specs.declared.clock.Clock.{Clock}
 use Rattle.millicent_http.specs.Steps.{Did, state_after}
 use Rattle.house_core.specs.declared.bench.Bench.{Bench}
-use Rattle.house_serving.specs.declared.turn.Turn.{Turn}
-use Rattle.house_serving.specs.declared.turn.Turn.TheVariants.{GoOn}
+use Rattle.link_turns.specs.declared.turn.Turn.{Turn}
+use Rattle.link_turns.specs.declared.turn.Turn.TheVariants.{GoOn}
 use Rattle.house_core.specs.Bench.{IsHouse}
 use Rattle.house_serving.specs.Counting.{Counts, told_state}
 use Rattle.house_core.specs.Tallies.{Repeated, ToldState, ToldStep}
-use Rattle.house_serving.specs.Turns.{Answered, Turned, Ended}
+use Rattle.link_turns.specs.Turns.{Answered, Turned, Ended}
 use Rattle.house_serving.proofs.CountsLemmas.{counts_then, counts_nowhere}
-use Rattle.house_serving.proofs.ServingLemmas.{IsServing, serving_starts, serving_stands, serving_goes_on, serving_ended, given_grows}
+use Rattle.link_turns.proofs.ServingLemmas.{IsServing, serving_starts, serving_stands, serving_goes_on, serving_ended, given_grows}
 use Rattle.house_state.specs.Trade.{TradeView}
 
 -- from one house to another, so far these items were answered

@@ -1,6 +1,6 @@
 -- How a link ends where the disk fails: with the refusal that tells so.
-use Rattle.std.specs.Prelude.{◌≡◌, ◌⊎◌, ℕ, ◌<◌, Bool, false, List, [], ◌∷◌, ◌++◌, length, take, Option}
-use Rattle.mc_outside.specs.LinkView.{LinkView, next_taken, after_recv, after_send, Failed}
+use Rattle.std.specs.Prelude.{◌≡◌, ℕ, ◌<◌, Bool, false, List, [], ◌∷◌, ◌++◌, Option}
+use Rattle.mc_outside.specs.LinkView.{LinkView, next_taken, after_recv, after_send}
 use Rattle.mc_records.specs.declared.limits.Limits.{Limits}
 use Rattle.mc_records.specs.declared.refusal.Refusal.TheVariants.{DiskFault}
 use Rattle.mc_records.specs.Entry.{Entry}
@@ -14,13 +14,8 @@ use Rattle.millicent_http.specs.Takes.{TookItem}
 use Rattle.millicent_http.specs.declared.clock.Clock.TheVariants.{OfLinks}
 use Rattle.millicent_http.specs.Steps.{Did, sent_of, state_after}
 use Rattle.millicent_http.specs.Courses.{AreRead, with_readings, Replied, AreFirst, HadLinks}
+use Rattle.link_turns.specs.Sending.{Sends}
 use Rattle.house_core.specs.Session.{State, raised, Step}
-
--- a reply was sent, or a proper prefix of it where sending failed
-abbrev pub Sends : List ℕ → List ℕ → LinkView → LinkView → Type 0
-Sends reply said before after =
-    ((said ≡ reply) × (after ≡ after_send reply before))
-    ⊎ ((n : ℕ) × (n < length reply) × (said ≡ take n reply) × Failed (after_send said before) after)
 
 -- A request that is accepted with this entry, at a reading of the clock, is told that the disk failed.
 pub record RequestInDoubt (limits : Limits) (q : Asked) (s : State) (e : Entry) (said : List ℕ) (before after : LinkView) : Type 0 where

@@ -1,5 +1,4 @@
 pub mod Served
-pub mod Turns
 pub mod Counting
 pub mod Orders
 pub mod InDoubt

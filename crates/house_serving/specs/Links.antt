@@ -1,7 +1,7 @@
 -- What comes of serving links by a house over a journal.
-use Rattle.std.specs.Prelude.{◌≡◌, ◌<◌, ◌≤◌, ◌⊎◌, ℕ, Bool, false, IsTrue, List, [], ◌∷◌, Result, Ok, Err}
+use Rattle.std.specs.Prelude.{◌≡◌, ◌<◌, ◌⊎◌, ℕ, Bool, false, IsTrue, List, [], ◌∷◌, Result, Ok, Err}
 use Rattle.mc_outside.specs.Bytes.{Rose}
-use Rattle.mc_outside.specs.DiskView.{DiskView, LinkKeeps}
+use Rattle.mc_outside.specs.DiskView.{DiskView}
 use Rattle.mc_outside.specs.LinkView.{LinkView}
 use Rattle.mc_records.specs.declared.limits.Limits.{Limits}
 use Rattle.mc_records.specs.declared.refusal.Refusal.{Refusal}
@@ -15,15 +15,17 @@ use Rattle.millicent_http.specs.Items.{request, refused}
 use Rattle.millicent_http.specs.Held.{Held}
 use Rattle.millicent_http.specs.declared.clock.Clock.TheVariants.{OfLinks}
 use Rattle.millicent_http.specs.Steps.{Did}
-use Rattle.millicent_http.specs.Courses.{HadLink, NoLink, ServedAll, ServedSome}
+use Rattle.millicent_http.specs.Courses.{HadLink, ServedAll, ServedSome}
+use Rattle.link_turns.specs.declared.turn.Turn.{Turn}
+use Rattle.link_turns.specs.Turns.{Sent, AnsweredItem, Turned, Ended}
+use Rattle.link_turns.specs.Sending.{Sends, KeptCounts, TakesNoLink}
+use Rattle.link_turns.specs.Orders.{HaltsAt}
 use Rattle.house_core.specs.declared.house.House.{House}
 use Rattle.house_core.specs.Session.{State, Gives, Step}
-use Rattle.house_serving.specs.declared.turn.Turn.{Turn}
 use Rattle.house_serving.specs.declared.links.ServeOut.{ServeOut}
 use Rattle.house_serving.specs.declared.links.ServeOut.TheVariants.{Done, Link, NoMemory, Halted}
-use Rattle.house_serving.specs.Turns.{Sent, AnsweredItem, Turned, Ended}
-use Rattle.house_serving.specs.Orders.{RefinesBy, HaltedBy}
-use Rattle.house_serving.specs.InDoubt.{Sends, RequestInDoubt, InDoubtTurn, InDoubtLink, InDoubtLinks}
+use Rattle.house_serving.specs.Orders.{RefinesBy, HouseHalted}
+use Rattle.house_serving.specs.InDoubt.{RequestInDoubt, InDoubtTurn, InDoubtLink, InDoubtLinks}
 use Rattle.house_state.specs.Trade.{TradeView}
 
 -- the outside that comes back, whatever is answered
@@ -43,19 +45,7 @@ ServesLinks link disk trade limits links a s (Link x) =
     (steps : List (Did State)) × RefinesBy link disk trade a s steps x × ServedSome (Step limits) OfLinks links steps s (link a) (link x.journal.disk)
 ServesLinks link disk trade limits links a s (NoMemory x) = RefinesBy link disk trade a s [] x × (x.journal.disk ≡ a)
 ServesLinks link disk trade limits links a s (Halted d) =
-    (steps : List (Did State)) × (e : Entry) × (said : List ℕ) × HaltedBy link disk a s steps e said d × InDoubtLinks limits links steps s (link a) e said (link d)
-
--- The disk did not fail, and the count of the links' faults did not fall.
-pub record KeptCounts {O : Type 0} (link : O → LinkView) (disk : O → DiskView) (a b : O) : Type 0 where
-  pub disk' : (disk b).faults ≡ (disk a).faults
-  pub link' : (link a).faults ≤ (link b).faults
-
--- `next_link` failed, after a moment up to which the disk did not fail.
-pub record TakesNoLink {O : Type 0} (link : O → LinkView) (disk : O → DiskView) (a b : O) : Type 0 where
-  pub before : O
-  pub counts : KeptCounts link disk a before
-  pub keeps : LinkKeeps (disk before) (disk b)
-  pub fault : NoLink (link before) (link b)
+    (steps : List (Did State)) × (e : Entry) × (said : List ℕ) × HouseHalted link disk a s steps e said d × InDoubtLinks limits links steps s (link a) e said (link d)
 
 -- Each fault that is answered has its cause: the count of the disk's faults rose where the house halted, and
 -- `next_link` failed where a link could not be taken; in any other answer the disk did not fail.
@@ -72,11 +62,6 @@ ServedEnough link links _ = Unit {0}
 
 -- ---- its parts
 
--- the same of a part of serving, that halts at an Err
-abbrev pub PartCauses : {O T A : Type 0} → (O → LinkView) → (O → DiskView) → O → (A → House O T) → Result A O → Type 0
-PartCauses link disk a house (Ok x) = KeptCounts link disk a (house x).journal.disk
-PartCauses link disk a house (Err d) = Rose (disk a).faults (disk d).faults
-
 -- A request was replied to at the house time: by its first reply or by its refusal, which was sent, or not
 -- the whole of it. Or the disk failed while its entry was written, and it was told so.
 abbrev pub RepliesTo : {O T : Type 0} → (O → LinkView) → (O → DiskView) → (T → TradeView) → Limits → Asked → After → O → State → Result (House O T × Turn) O → Type 0
@@ -84,7 +69,7 @@ RepliesTo link disk trade limits q after a s (Ok r) =
     (step : Did State) × (reply : List ℕ) × RefinesBy link disk trade a s (step ∷ []) r.0 × Gives s q (answer s.history s.time limits q) reply step.after
     × Sent after reply r.1 step.sent (link a) (link r.0.journal.disk)
 RepliesTo link disk trade limits q after a s (Err d) =
-    (e : Entry) × (said : List ℕ) × HaltedBy link disk a s [] e said d × (answer s.history s.time limits q ≡ Take e)
+    (e : Entry) × (said : List ℕ) × HaltsAt link disk a s.history [] e said d × (answer s.history s.time limits q ≡ Take e)
     × Sends (refusal_of s.history s.time q DiskFault) said (link a) (link d)
 
 -- one request that was taken
@@ -92,7 +77,7 @@ abbrev pub AnswersRequest : {O T : Type 0} → (O → LinkView) → (O → DiskV
 AnswersRequest link disk trade limits q after a s (Ok r) =
     (step : Did State) × RefinesBy link disk trade a s (step ∷ []) r.0 × ((closes : Bool) → AnsweredItem (Step limits) OfLinks (request q closes) after r.1 step s (link a) (link r.0.journal.disk))
 AnswersRequest link disk trade limits q after a s (Err d) =
-    (e : Entry) × (said : List ℕ) × HaltedBy link disk a s [] e said d × RequestInDoubt limits q s e said (link a) (link d)
+    (e : Entry) × (said : List ℕ) × HaltsAt link disk a s.history [] e said d × RequestInDoubt limits q s e said (link a) (link d)
 
 -- one head that was refused
 abbrev pub RefusesHead : {O T : Type 0} → (O → LinkView) → (O → DiskView) → (T → TradeView) → Limits → Refusal → After → O → State → House O T × Turn → Type 0
@@ -104,18 +89,18 @@ abbrev pub TurnsHouse : {O T : Type 0} → (O → LinkView) → (O → DiskView)
 TurnsHouse link disk trade limits a s old new (Ok r) =
     (steps : List (Did State)) × RefinesBy link disk trade a s steps r.0 × Turned (Step limits) OfLinks r.1 steps s old (link a) new (link r.0.journal.disk)
 TurnsHouse link disk trade limits a s old new (Err d) =
-    (e : Entry) × (said : List ℕ) × HaltedBy link disk a s [] e said d × InDoubtTurn limits s old (link a) e said (link d)
+    (e : Entry) × (said : List ℕ) × HaltsAt link disk a s.history [] e said d × InDoubtTurn limits s old (link a) e said (link d)
 
 -- the turns of a link
 abbrev pub EndsTurns : {O T : Type 0} → (O → LinkView) → (O → DiskView) → (T → TradeView) → Limits → O → State → Result (House O T × Turn) O → Type 0
 EndsTurns link disk trade limits a s (Ok r) =
     (steps : List (Did State)) × RefinesBy link disk trade a s steps r.0 × Ended (Step limits) OfLinks r.1 steps s (link a) (link r.0.journal.disk)
 EndsTurns link disk trade limits a s (Err d) =
-    (steps : List (Did State)) × (e : Entry) × (said : List ℕ) × HaltedBy link disk a s steps e said d × InDoubtLink limits steps s (link a) e said (link d)
+    (steps : List (Did State)) × (e : Entry) × (said : List ℕ) × HouseHalted link disk a s steps e said d × InDoubtLink limits steps s (link a) e said (link d)
 
 -- a link
 abbrev pub ServesLink : {O T : Type 0} → (O → LinkView) → (O → DiskView) → (T → TradeView) → Limits → O → State → Result (House O T) O → Type 0
 ServesLink link disk trade limits a s (Ok x) =
     (steps : List (Did State)) × RefinesBy link disk trade a s steps x × HadLink (Step limits) OfLinks steps s (link a) (link x.journal.disk)
 ServesLink link disk trade limits a s (Err d) =
-    (steps : List (Did State)) × (e : Entry) × (said : List ℕ) × (stopped : LinkView) × HaltedBy link disk a s steps e said d × InDoubtLink limits steps s (link a) e said stopped × (link d ≡ record stopped { stands = false })
+    (steps : List (Did State)) × (e : Entry) × (said : List ℕ) × (stopped : LinkView) × HouseHalted link disk a s steps e said d × InDoubtLink limits steps s (link a) e said stopped × (link d ≡ record stopped { stands = false })

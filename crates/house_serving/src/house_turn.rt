@@ -8,16 +8,17 @@ ghost use Rattle.millicent_http.specs.declared.item.After.TheVariants.{Close};
 ghost use Rattle.millicent_http.specs.HeadRefusals.{as_refusal};
 ghost use Rattle.millicent_http.specs.declared.clock.Clock.TheVariants.{OfLinks};
 ghost use Rattle.millicent_http.specs.Courses.{AreRead, with_readings};
+ghost use Rattle.link_turns.specs.declared.turn.Turn.TheVariants.{GoOn};
+ghost use Rattle.link_turns.specs.Sending.{KeptCounts, PartCauses};
 ghost use Rattle.house_core.specs.Bench.{house_time, limits_of, state_of};
 ghost use Rattle.house_core.specs.House.{HouseRepresents};
-ghost use Rattle.house_serving.specs.declared.turn.Turn.TheVariants.{GoOn};
-ghost use Rattle.house_serving.specs.Links.{KeptCounts, PartCauses, RepliesTo, AnswersRequest, RefusesHead, TurnsHouse};
+ghost use Rattle.house_serving.specs.Links.{RepliesTo, AnswersRequest, RefusesHead, TurnsHouse};
 
-use crate::turn::{Turn, turn_of};
 use house_core::{
     House, Outcome, ReplyRoom, Response, send_disk_fault, send_kept, send_refusal, send_settled,
 };
 use house_state::{Presented, Trade};
+use link_turns::{Turn, turn_of};
 use mc_base::Moment;
 use mc_outside::{Link, Outside};
 use mc_records::Refusal;
@@ -31,7 +32,7 @@ pub(crate) fn take_turn<O: Outside, T: Trade>(
     room: &mut ReplyRoom,
 ) -> Result<(House<O, T>, Turn), Halted<O>>
     requires stands { IsTrue (O.link house.journal.disk).stands }
-    ensures causes { PartCauses O.link O.disk house.journal.disk (λ r. r.0) result }
+    ensures causes { PartCauses O.link O.disk house.journal.disk (λ r. r.0.journal.disk) result }
     ensures limits { IfOk result (λ r. limits_of r.0.bench ≡ limits_of house.bench) }
     ensures stands { IfOk result (λ r. r.1 ≡ GoOn → IsTrue (O.link r.0.journal.disk).stands) }
     ensures given { IfOk result (λ r. r.1 ≡ GoOn → (reader.new.given ≡ reader.old.given + 1)
@@ -56,7 +57,7 @@ fn answer_request<O: Outside, T: Trade>(
 ) -> Result<(House<O, T>, Turn), Halted<O>>
     requires stands { IsTrue (O.link house.journal.disk).stands }
     requires target { IsTarget q.now.target }
-    ensures causes { PartCauses O.link O.disk house.journal.disk (λ r. r.0) result }
+    ensures causes { PartCauses O.link O.disk house.journal.disk (λ r. r.0.journal.disk) result }
     ensures limits { IfOk result (λ r. limits_of r.0.bench ≡ limits_of house.bench) }
     ensures stands { IfOk result (λ r. r.1 ≡ GoOn → IsTrue (O.link r.0.journal.disk).stands) }
     ensures open { IfOk result (λ r. r.1 ≡ GoOn → after ≡ Close → ⊥) }
@@ -96,7 +97,7 @@ fn reply_to<O: Outside, T: Trade>(
 ) -> Result<(House<O, T>, Turn), Halted<O>>
     requires stands { IsTrue (O.link house.journal.disk).stands }
     requires target { IsTarget q.now.target }
-    ensures causes { PartCauses O.link O.disk house.journal.disk (λ r. r.0) result }
+    ensures causes { PartCauses O.link O.disk house.journal.disk (λ r. r.0.journal.disk) result }
     ensures limits { IfOk result (λ r. limits_of r.0.bench ≡ limits_of house.bench) }
     ensures stands { IfOk result (λ r. r.1 ≡ GoOn → IsTrue (O.link r.0.journal.disk).stands) }
     ensures open { IfOk result (λ r. r.1 ≡ GoOn → after ≡ Close → ⊥) }

@@ -3,14 +3,15 @@
 ghost use Rattle.std.specs.Prelude.{◌≡◌, IsTrue, IfOk};
 ghost use Rattle.ledger_model.specs.Histories.{History};
 ghost use Rattle.millicent_http.specs.Held.{nothing_held};
+ghost use Rattle.link_turns.specs.Sending.{PartCauses};
 ghost use Rattle.house_core.specs.Bench.{limits_of, state_of};
 ghost use Rattle.house_core.specs.House.{HouseRepresents};
-ghost use Rattle.house_serving.specs.Links.{ServesLinks, ServedEnough, HaveCauses, PartCauses, EndsTurns, ServesLink};
+ghost use Rattle.house_serving.specs.Links.{ServesLinks, ServedEnough, HaveCauses, EndsTurns, ServesLink};
 
 use crate::house_turn::take_turn;
-use crate::turn::Turn;
 use house_core::{House, ReplyRoom};
 use house_state::Trade;
+use link_turns::Turn;
 use mc_outside::{Link, Outside};
 use millicent_http::HeadReader;
 use scrip_journal::Halted;
@@ -68,7 +69,7 @@ fn serve_link<O: Outside, T: Trade>(
     room: &mut ReplyRoom,
 ) -> Result<House<O, T>, Halted<O>>
     requires stands { IsTrue (O.link house.journal.disk).stands }
-    ensures causes { PartCauses O.link O.disk house.journal.disk (λ x. x) result }
+    ensures causes { PartCauses O.link O.disk house.journal.disk (λ x. x.journal.disk) result }
     ensures limits { IfOk result (λ x. limits_of x.bench ≡ limits_of house.bench) }
     ensures served { (h : History) → HouseRepresents O.disk T.trade house h
         → ServesLink O.link O.disk T.trade (limits_of house.bench) house.journal.disk (state_of h house.bench) result }
@@ -94,7 +95,7 @@ fn serve_turns<O: Outside, T: Trade>(
 ) -> Result<(House<O, T>, Turn), Halted<O>>
     requires stands { IsTrue (O.link house.journal.disk).stands }
     requires empty { reader.old ≡ nothing_held }
-    ensures causes { PartCauses O.link O.disk house.journal.disk (λ r. r.0) result }
+    ensures causes { PartCauses O.link O.disk house.journal.disk (λ r. r.0.journal.disk) result }
     ensures limits { IfOk result (λ r. limits_of r.0.bench ≡ limits_of house.bench) }
     ensures ended { (h : History) → HouseRepresents O.disk T.trade house h
         → EndsTurns O.link O.disk T.trade (limits_of house.bench) house.journal.disk (state_of h house.bench) result }

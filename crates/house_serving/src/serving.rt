@@ -5,17 +5,18 @@ ghost use Rattle.ledger_model.specs.Histories.{History};
 ghost use Rattle.millicent_http.specs.Held.{nothing_held};
 ghost use Rattle.millicent_http.specs.Steps.{BySteps};
 ghost use Rattle.millicent_http.specs.Courses.{HadLink};
+ghost use Rattle.link_turns.specs.Turns.{Ended};
 ghost use Rattle.house_core.specs.Bench.{IsHouse, Refines, limits_of, windows_of};
 ghost use Rattle.house_state.specs.LiveWindows.{AreUsed};
 ghost use Rattle.house_core.specs.Session.{Step};
 ghost use Rattle.house_core.specs.Tallies.{ToldStep};
 ghost use Rattle.house_serving.specs.Counting.{Counts};
-ghost use Rattle.house_serving.specs.Turns.{Ended};
 ghost use Rattle.house_serving.specs.Served.{Served};
 
-use crate::turn::{Turn, serve_next};
+use crate::turn::serve_next;
 use house_core::{Bench, ReplyRoom};
 use house_state::Trade;
+use link_turns::Turn;
 use mc_outside::Link;
 use millicent_http::{Clock, HeadReader};
 

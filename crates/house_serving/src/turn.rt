@@ -1,35 +1,21 @@
 //! One turn of serving a link.
 
 ghost use Rattle.std.specs.Prelude.{◌≡◌, Bool, ℕ, List, [], ◌∷◌, IsTrue};
-ghost use Rattle.millicent_http.specs.declared.item.After.TheVariants.{Close};
 ghost use Rattle.millicent_http.specs.HeadRefusals.{as_refusal};
 ghost use Rattle.millicent_http.specs.Items.{request, refused};
 ghost use Rattle.millicent_http.specs.Courses.{AreRead, with_readings};
+ghost use Rattle.link_turns.specs.Turns.{Sent, AnsweredItem, Turned};
 ghost use Rattle.house_core.specs.Bench.{limits_of, windows_of};
 ghost use Rattle.house_state.specs.LiveWindows.{AreUsed};
-ghost use Rattle.house_serving.specs.declared.turn.Turn.TheVariants.{GoOn};
 ghost use Rattle.house_core.specs.Tallies.{ToldStep};
 ghost use Rattle.house_serving.specs.Counting.{Counts, IsOne};
-ghost use Rattle.house_serving.specs.Turns.{Sent, AnsweredItem, Turned, turn_after};
 
-use house_core::{Bench, Reply, ReplyRoom};
+use house_core::{Bench, ReplyRoom};
 use house_state::{Presented, Trade};
+use link_turns::{Reply, Turn, turn_of};
 use mc_base::Moment;
-use mc_outside::{Link, LinkFault};
+use mc_outside::Link;
 use millicent_http::{After, Clock, HeadOut, HeadReader, HeadRefusal};
-
-/// How one turn of serving a link ended.
-#[derive(Clone, Copy)]
-pub(crate) enum Turn {
-    /// The next item may follow.
-    GoOn,
-    /// The item ends the link.
-    Last,
-    /// The link was read to its end.
-    End,
-    NotReceived,
-    NotSent,
-}
 
 /// Answers the next item of the standing link.
 pub(crate) fn serve_next<K: Link, T: Trade>(
@@ -114,18 +100,4 @@ fn send<K: Link>(reply: &Reply<'_>, after: After, k: &mut K) -> Turn
         × Sent after reply.now result part (K.link k.old) (K.link k.new) }
 {
     turn_of(reply.send(k), after)
-}
-
-/// How a turn ended whose reply was sent with this result.
-pub(crate) fn turn_of(sent: Result<(), LinkFault>, after: After) -> Turn
-    ensures turn { result ≡ turn_after sent after }
-    ensures open { result ≡ GoOn → after ≡ Close → ⊥ }
-{
-    match sent {
-        Ok(()) => match after {
-            After::GoOn => Turn::GoOn,
-            After::Close => Turn::Last,
-        },
-        Err(LinkFault) => Turn::NotSent,
-    }
 }

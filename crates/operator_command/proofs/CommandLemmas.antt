@@ -10,7 +10,7 @@ use Rattle.scrip_journal.specs.Rests.{journal_leaves}
 use Rattle.house_core.specs.declared.house.House.{House}
 use Rattle.house_core.specs.declared.outcome.Outcome.{Outcome}
 use Rattle.house_core.specs.declared.outcome.Outcome.TheVariants as outcomes
-use Rattle.house_core.specs.House.{HouseRepresents, HandsBack, outcome_disk}
+use Rattle.house_core.specs.House.{HouseRepresents, HandsBack, IfRefused, outcome_disk}
 use Rattle.house_state.specs.Trade.{TradeView}
 use Rattle.house_core.specs.Tasks.{Task, Add, Stays, Refuse, after, IsDoable, Does, LeavesBy, Performs}
 use Rattle.operator_command.specs.Operations.{without_answer, IfDone}
@@ -63,6 +63,13 @@ back_as disk moved Keeps d (outcomes.Done x a) is = record { moved' = is.moved';
 back_as disk moved Keeps d (outcomes.Refused x f) is = record { moved' = is.moved'; keeps = is.keeps; counts = is.counts }
 back_as disk moved Keeps d (outcomes.NoMemory x) is = record { moved' = is.moved'; keeps = is.keeps; counts = is.counts }
 back_as disk moved Keeps d (outcomes.Halted y) is = record { moved' = is.moved'; keeps = is.keeps; counts = is.counts }
+
+-- and it is refused as the call is
+pub refused_as : {D T A : Type 0} (P : Refusal → Type 0) (out : Outcome D T A) → IfRefused P out → IfRefused P (without_answer out)
+refused_as P (outcomes.Done x a) is = tt
+refused_as P (outcomes.Refused x f) is = is
+refused_as P (outcomes.NoMemory x) is = tt
+refused_as P (outcomes.Halted y) is = tt
 
 -- it is refused before the trade is asked
 pub performs_refused : {D T : Type 0} (disk : D → DiskView) (trade : T → TradeView) (Wanted : Task → Type 0) (Told : Task → History → Unit {0} → Type 0) (limits : Limits) (x : House D T) (h : History) (f : Refusal)

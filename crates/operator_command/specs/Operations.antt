@@ -1,5 +1,5 @@
 -- What the operations of a site's operator mean.
-use Rattle.std.specs.Prelude.{◌≡◌, ℕ, List, length, Option, None}
+use Rattle.std.specs.Prelude.{◌≡◌, ℕ, List, [], ◌∷◌, length, Option, None}
 use Rattle.mc_records.specs.declared.limits.Limits.{Limits}
 use Rattle.mc_records.specs.declared.limits.TheConstants.Limits.{MOST_JOURNAL, MOST_SERIES}
 use Rattle.mc_records.specs.Chains.{chain}
@@ -26,6 +26,8 @@ pub record OperationView : Type 1 where
   pub asks : List ℕ → History → ℕ → Task → Type 0
   -- what is said where it was done, by the input, the history that it was set over and its task
   pub says : List ℕ → History → Task → List ℕ → Type 0
+  -- the numbers of the refusals that it may end with, whatever the book is
+  pub refusals : List ℕ
 
 -- what an operation asks of a history was done with this input over a house, and this line says so
 abbrev pub CarriesOut : {D T : Type 0} → (D → DiskView) → (T → TradeView) → OperationView → House D T → List ℕ → List ℕ → History → Outcome D T (Unit {0}) → Type 0
@@ -51,4 +53,5 @@ chain_operation = record {
   input = None;
   asks = λ input h t task. task ≡ switch_task h t;
   says = λ input h task line. line ≡ chain_line (site_name h) (length (after task h)) (chain (after task h));
+  refusals = 33 ∷ [];
 }

@@ -4,7 +4,8 @@ ghost use Rattle.std.specs.Prelude.{◌≡◌, ◌++◌, ◌≤◌, ◌+◌, Lis
 ghost use Rattle.mc_records.specs.Chains.{chain};
 ghost use Rattle.ledger_model.specs.Histories.{History};
 ghost use Rattle.ledger_model.specs.Houses.{site_name};
-ghost use Rattle.house_core.specs.House.{HandsBack, HouseRepresents, KeepsTime};
+ghost use Rattle.house_core.specs.House.{HandsBack, HouseRepresents, IfRefused, KeepsTime};
+ghost use Rattle.house_core.specs.Refusing.{IsAmong};
 ghost use Rattle.said_lines.specs.Lines.{chain_end, chain_words, ready};
 ghost use Rattle.operator_command.specs.Operations.{CarriesOut, IfDone, chain_operation};
 
@@ -21,6 +22,7 @@ pub fn switch_book<D: Disk, T: Trade>(house: House<D, T>, line: &mut Vec<u8>) ->
     ensures exact { (h : History) (input : Items ℕ) → HouseRepresents D.disk T.trade house h
         → line.old.items ≡ ready (chain_words (site_name h))
         → CarriesOut D.disk T.trade chain_operation house input line.new.items h result }
+    ensures refusals { IfRefused (IsAmong chain_operation.refusals) result }
 {
     lay_bare(line);
     let switched = house.switch();

@@ -2,7 +2,8 @@ ghost use Rattle.std.specs.Prelude.{◌≡◌, ◌<◌, ◌^◌, List as Items, 
 ghost use Rattle.ledger_model.specs.Histories.{History};
 ghost use Rattle.ledger_model.specs.Houses.{site_name};
 ghost use Rattle.house_core.specs.Bench.{limits_of};
-ghost use Rattle.house_core.specs.House.{HandsBack, HouseRepresents, KeepsTime};
+ghost use Rattle.house_core.specs.House.{HandsBack, HouseRepresents, IfRefused, KeepsTime};
+ghost use Rattle.house_core.specs.Refusing.{IsAmong};
 ghost use Rattle.operator_command.specs.Operations.{CarriesOut, OperationView, full, without_answer};
 
 use house_core::{House, Outcome};
@@ -30,7 +31,8 @@ pub trait OperatorCommand<T: Trade> {
     fn begin(&self, alloc: Global, site: &Name) -> Result<Vec<u8>, NoMemory>
         ensures { IfOk result (λ line. begun self.now site.now line.items) };
 
-    /// Does it with this input over a house, and ends its line, which was begun.
+    /// Does it with this input over a house, and ends its line, which was begun. It is refused with one of the
+    /// operation's refusals, whatever the house represents.
     fn carry_out<D: Disk>(
         &self,
         house: House<D, T>,
@@ -42,7 +44,8 @@ pub trait OperatorCommand<T: Trade> {
         ensures exact { (h : History) → HouseRepresents D.disk T.trade house h
             → limits_of house.bench ≡ full → begun self.now (site_name h) line.old.items
             → CarriesOut D.disk T.trade (operation self.now) house input.now
-            line.new.items h result };
+            line.new.items h result }
+        ensures refusals { IfRefused (IsAmong (operation self.now).refusals) result };
 }
 
 /// The outcome, without what was answered.

@@ -1,5 +1,5 @@
 -- What the operations of a vendor's operator mean.
-use Rattle.std.specs.Prelude.{◌≡◌, ◌⊎◌, ℕ, ◌+◌, ◌<◌, ◌≤◌, List, [], ◌++◌, length, Some, None, unwrap_or, codes, decimal}
+use Rattle.std.specs.Prelude.{◌≡◌, ◌⊎◌, ℕ, ◌+◌, ◌<◌, ◌≤◌, List, [], ◌++◌, length, Some, None, unwrap_or, codes, decimal, ◌∷◌}
 use Rattle.mc_records.specs.declared.ranges.TheConstants.{MOST_CONTENTS}
 use Rattle.mc_records.specs.declared.refusal.Refusal.TheVariants.{ContentsFull}
 use Rattle.ledger_model.specs.Houses.{site_name}
@@ -33,6 +33,7 @@ goods_operation l = record {
       ((length input ≤ MOST_CONTENTS) × (task ≡ goods_task h t l.target l.price (unwrap_or l.kind 0) input))
       ⊎ ((MOST_CONTENTS < length input) × (task ≡ Refuse (ContentsFull (MOST_CONTENTS + 1))));
   says = λ input h task line. line ≡ goods_line l.target l.price;
+  refusals = 33 ∷ 54 ∷ [];
 }
 
 -- goods are sold at another price
@@ -41,6 +42,7 @@ price_operation p = record {
   input = None;
   asks = λ input h t task. task ≡ price_task h t p.target p.price;
   says = λ input h task line. line ≡ goods_line p.target p.price;
+  refusals = 30 ∷ 33 ∷ [];
 }
 
 -- scrip of an issuer is taken from now on
@@ -49,6 +51,7 @@ licence_operation l = record {
   input = None;
   asks = λ input h t task. task ≡ terms_task h t (licensed_terms l);
   says = λ input h task line. line ≡ licence_line (site_name h) (licensed_terms l);
+  refusals = 33 ∷ 55 ∷ [];
 }
 
 -- pieces of the vendor's own scrip are minted, whose lines are said
@@ -57,6 +60,7 @@ mint_operation m = record {
   input = None;
   asks = λ input h t task. IsMintTask h t full m.reference m.count m.value task;
   says = λ input h task line. (number : ℕ) × IsMintAt (after task h) m.reference m.count m.value number × (line ≡ mint_lines (after task h) number);
+  refusals = 32 ∷ 33 ∷ 56 ∷ [];
 }
 
 -- an issuer of the vendor's is moved to the second version of scrip
@@ -65,6 +69,7 @@ upgrade_operation u = record {
   input = None;
   asks = λ input h t task. task ≡ upgrade_task h t (site_name h) u.issuer u.from;
   says = λ input h task line. line ≡ upgrade_line (site_name h) u.issuer u.from;
+  refusals = 33 ∷ 71 ∷ 72 ∷ 73 ∷ [];
 }
 
 -- ---- the line as far as it is known before the book is touched

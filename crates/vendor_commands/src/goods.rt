@@ -3,7 +3,8 @@
 ghost use Rattle.std.specs.Prelude.{List as Items, ℕ};
 ghost use Rattle.ledger_model.specs.Histories.{History};
 ghost use Rattle.ledger_model.specs.Houses.{site_name};
-ghost use Rattle.house_core.specs.House.{HandsBack, HouseRepresents, KeepsTime};
+ghost use Rattle.house_core.specs.House.{HandsBack, HouseRepresents, IfRefused, KeepsTime};
+ghost use Rattle.house_core.specs.Refusing.{IsAmong};
 ghost use Rattle.vendor_core.specs.Shelf.{shelf_view};
 ghost use Rattle.operator_command.specs.Operations.{CarriesOut};
 ghost use Rattle.vendor_commands.specs.Operations.{goods_operation, begins_goods};
@@ -25,6 +26,7 @@ pub(crate) fn list_goods<D: Disk>(
     ensures exact { (h : History) (line : Items ℕ) → HouseRepresents D.disk shelf_view house h
         → begins_goods listing.now (site_name h) line
         → CarriesOut D.disk shelf_view (goods_operation listing.now) house input.now line h result }
+    ensures refusals { IfRefused (IsAmong (goods_operation listing.now).refusals) result }
 {
     if input.len() > MOST_CONTENTS {
         return Outcome::Refused(house, Refusal::ContentsFull(MOST_CONTENTS as u64 + 1));

@@ -3,7 +3,8 @@
 ghost use Rattle.std.specs.Prelude.{◌≡◌, List as Items, ℕ, []};
 ghost use Rattle.ledger_model.specs.Histories.{History};
 ghost use Rattle.house_core.specs.Bench.{limits_of};
-ghost use Rattle.house_core.specs.House.{HandsBack, HouseRepresents, KeepsTime};
+ghost use Rattle.house_core.specs.House.{HandsBack, HouseRepresents, IfRefused, KeepsTime};
+ghost use Rattle.house_core.specs.Refusing.{IsAmong};
 ghost use Rattle.vendor_core.specs.Shelf.{shelf_view};
 ghost use Rattle.operator_command.specs.Operations.{CarriesOut, full};
 ghost use Rattle.vendor_commands.specs.Operations.{mint_operation};
@@ -26,6 +27,7 @@ pub(crate) fn mint_pieces<D: Disk>(
         → limits_of house.bench ≡ full
         → CarriesOut D.disk shelf_view (mint_operation minting.now) house input
         line.new.items h result }
+    ensures refusals { IfRefused (IsAmong (mint_operation minting.now).refusals) result }
 {
     without_answer(mint(
         house,

@@ -4,7 +4,8 @@ ghost use Rattle.std.specs.Prelude.{◌≡◌, ℕ, List as Items};
 ghost use Rattle.ledger_model.specs.Histories.{History};
 ghost use Rattle.ledger_model.specs.Houses.{site_name};
 ghost use Rattle.house_core.specs.Bench.{limits_of};
-ghost use Rattle.house_core.specs.House.{HandsBack, HouseRepresents, KeepsTime};
+ghost use Rattle.house_core.specs.House.{HandsBack, HouseRepresents, IfRefused, KeepsTime};
+ghost use Rattle.house_core.specs.Refusing.{IsAmong};
 ghost use Rattle.vendor_core.specs.Shelf.{shelf_view};
 ghost use Rattle.operator_command.specs.Operations.{CarriesOut, full};
 ghost use Rattle.vendor_commands.specs.Operations.{operation_view, begins};
@@ -95,6 +96,7 @@ impl<'a> OperatorCommand<Shelf> for VendorOperation<'a> {
             → limits_of house.bench ≡ full → begins self.now (site_name h) line.old.items
             → CarriesOut D.disk shelf_view (operation_view self.now) house input.now
             line.new.items h result }
+        ensures refusals { IfRefused (IsAmong (operation_view self.now).refusals) result }
     {
         match self.said {
             Operation::Goods(listing) => list_goods(listing, house, input),

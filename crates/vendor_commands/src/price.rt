@@ -3,7 +3,8 @@
 ghost use Rattle.std.specs.Prelude.{List as Items, ℕ};
 ghost use Rattle.ledger_model.specs.Histories.{History};
 ghost use Rattle.ledger_model.specs.Houses.{site_name};
-ghost use Rattle.house_core.specs.House.{HandsBack, HouseRepresents, KeepsTime};
+ghost use Rattle.house_core.specs.House.{HandsBack, HouseRepresents, IfRefused, KeepsTime};
+ghost use Rattle.house_core.specs.Refusing.{IsAmong};
 ghost use Rattle.vendor_core.specs.Shelf.{shelf_view};
 ghost use Rattle.operator_command.specs.Operations.{CarriesOut};
 ghost use Rattle.vendor_commands.specs.Operations.{price_operation, begins_price};
@@ -23,6 +24,7 @@ pub(crate) fn price_goods<D: Disk>(
     ensures exact { (h : History) (input line : Items ℕ) → HouseRepresents D.disk shelf_view house h
         → begins_price pricing.now (site_name h) line
         → CarriesOut D.disk shelf_view (price_operation pricing.now) house input line h result }
+    ensures refusals { IfRefused (IsAmong (price_operation pricing.now).refusals) result }
 {
     without_answer(set_price(house, pricing.target(), pricing.price()))
 }

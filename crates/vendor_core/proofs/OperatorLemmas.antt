@@ -26,7 +26,7 @@ use Rattle.house_core.specs.House.{HasRun, Entered, Leaves, outcome_disk}
 use Rattle.house_core.specs.Tasks.{Add, Stays, Refuse, Performs}
 use Rattle.house_state.specs.Trade.{TradeView}
 use Rattle.house_core.proofs.TaskLemmas.{IsDone, answered_as, enters}
-use Rattle.vendor_core.specs.Tasks.{goods_entered, goods_task, repriced, price_task, licensed, IsMintTask, TellsMint}
+use Rattle.vendor_core.specs.Tasks.{goods_entered, repriced, price_task, licensed, IsMintTask, TellsMint}
 use Rattle.vendor_core.specs.Lines.{piece_lines}
 use Rattle.vendor_core.proofs.GoodsLaws.{bytes_of, in_force_goods}
 use Rattle.vendor_core.proofs.LineLemmas.{lines_of_mint, terms_under_mint}
@@ -40,14 +40,16 @@ pub goods_added : (e : Entry) (bytes n : ℕ) → bytes ≡ n → bytes ≤ MOST
 goods_added e bytes n is most = sym (rw (le-ltb MOST_IN_FORCE n (omega (arith, is, most))) refl)
 
 -- at another price the goods of a target have the contents in force, which stay within the bound
-pub repriced_is_goods : (h : History) (t price kind : ℕ) (target contents : List ℕ) (e : Entry) → in_force h ≤ MOST_IN_FORCE
-    → goods_in h target ≡ Some e → goods_kind e ≡ kind → goods_contents e ≡ contents → goods_task h t target price kind contents ≡ price_task h t target price
-repriced_is_goods h t price kind target contents e most is of_kind has =
-    let put = Goods t target price kind contents in
+pub repriced_within : (h : History) (t price kind : ℕ) (target contents : List ℕ) (e : Entry) → in_force h ≤ MOST_IN_FORCE
+    → goods_in h target ≡ Some e → goods_contents e ≡ contents → in_force (h ++ Goods t target price kind contents ∷ []) ≤ MOST_IN_FORCE
+repriced_within h t price kind target contents e most is has =
     let old : bytes_of (goods_in h target) ≡ length contents = ap bytes_of is ∙ ap (λ (c : List ℕ). length c) has in
-    let within : in_force (h ++ put ∷ []) ≤ MOST_IN_FORCE = omega (arith, most, old, in_force_goods h t price kind target contents) in
-    sym (goods_added put (in_force (h ++ put ∷ [])) (in_force (h ++ put ∷ [])) refl within)
-    ∙ ap₂ (λ (k : ℕ) (c : List ℕ). Add (Goods t target price k c)) (sym of_kind) (sym has)
+    omega (arith, most, old, in_force_goods h t price kind target contents)
+
+pub repriced_adds : (h : History) (t price kind : ℕ) (target contents : List ℕ) (e : Entry)
+    → goods_in h target ≡ Some e → goods_kind e ≡ kind → goods_contents e ≡ contents → Add (Goods t target price kind contents) ≡ price_task h t target price
+repriced_adds h t price kind target contents e is of_kind has =
+    ap₂ (λ (k : ℕ) (c : List ℕ). Add (Goods t target price k c)) (sym of_kind) (sym has)
     ∙ ap (λ (o : Option Entry). repriced t target price o) (sym is)
 
 -- ---- terms

@@ -1,17 +1,20 @@
 //! What the operator of a vendor's site does with its book.
 
-ghost use Rattle.std.specs.Prelude.{◌≡◌, ◌<◌, ◌≤◌, ◌^◌, [], ℕ, length, IsFalse, Some, Ok};
+ghost use Rattle.std.specs.Prelude.{◌≡◌, ◌<◌, ◌≤◌, ◌^◌, ◌∷◌, ◌++◌, [], ℕ, length, IsFalse, Some, Ok};
 ghost use Rattle.scrip_form.specs.Issuing.{Issuing};
 ghost use Rattle.mc_records.specs.declared.ranges.TheConstants.{MOST_PIECES};
 ghost use Rattle.mc_records.specs.declared.ranges.TheConstants.{MOST_CONTENTS};
-ghost use Rattle.mc_records.specs.Entry.{AddTerms, Fits};
+ghost use Rattle.mc_records.specs.Entry.{AddTerms, Fits, Goods};
 ghost use Rattle.mc_records.specs.Views.{entry};
+ghost use Rattle.ledger_model.specs.Goods.{in_force};
 ghost use Rattle.ledger_model.specs.Histories.{History};
+ghost use Rattle.ledger_model.specs.declared.numbers.TheConstants.{MOST_IN_FORCE};
 ghost use Rattle.ledger_model.specs.Houses.{site_name, terms_in, version};
 ghost use Rattle.ledger_model.specs.Pieces.{has_reference, run_from};
 ghost use Rattle.house_core.specs.Bench.{house_time, limits_of};
-ghost use Rattle.house_core.specs.House.{HouseRepresents, HandsBack, HasRun, KeepsTime};
-ghost use Rattle.house_core.specs.Tasks.{Performs, TellsLast, TellsAdded, NoLines};
+ghost use Rattle.house_core.specs.House.{HouseRepresents, HandsBack, HasRun, IfRefused, KeepsTime};
+ghost use Rattle.house_core.specs.Refusing.{IsAmong};
+ghost use Rattle.house_core.specs.Tasks.{Add, Performs, TellsLast, TellsAdded, NoLines};
 ghost use Rattle.house_core.specs.Upgrading.{upgrade_task};
 ghost use Rattle.vendor_core.specs.Lines.{piece_lines};
 ghost use Rattle.vendor_core.specs.Shelf.{shelf_view};
@@ -48,21 +51,13 @@ pub fn set_goods<D: Disk>(
         → Performs D.disk shelf_view
         (λ task. task ≡ goods_task h (house_time house.bench) target.now price kind contents.now) TellsLast
         (limits_of house.bench) house.journal.disk h result }
+    ensures refusals { IfRefused (IsAmong (33 ∷ 54 ∷ [])) result }
 {
-    // The check lets a record go only where the types of its parts are named.
-    let _parts: Option<(PieceList<'_>, Id, Terms)> = None;
     let bytes = house.trade().in_force_with(target.bytes(), contents);
     if bytes > MOST_IN_FORCE {
         return Outcome::Refused(house, Refusal::ContentsFull(bytes));
     }
-    let goods = Record::Goods {
-        moment: house.time(),
-        target: target.bytes(),
-        price: price.get(),
-        kind,
-        contents,
-    };
-    house.enter(&goods)
+    enter_goods(house, target, price, kind, contents)
 }
 
 /// Sells the goods of a target at another price, 1 to 2^40 units. Answers the receipt of the Goods entry.
@@ -79,6 +74,7 @@ pub fn set_price<D: Disk>(
         → Performs D.disk shelf_view
         (λ task. task ≡ price_task h (house_time house.bench) target.now price) TellsLast
         (limits_of house.bench) house.journal.disk h result }
+    ensures refusals { IfRefused (IsAmong (30 ∷ 33 ∷ [])) result }
 {
     let Some(goods) = house.trade().goods(target.bytes()) else {
         return Outcome::Refused(house, Refusal::NoSuchGoods);
@@ -88,7 +84,40 @@ pub fn set_price<D: Disk>(
         Ok(contents) => contents,
         Err(_) => return Outcome::NoMemory(house),
     };
-    set_goods(house, target, price, kind, &contents)
+    enter_goods(house, target, price, kind, &contents)
+}
+
+/// Enters goods of a target, with which the contents in force stay within their most bytes. Answers the receipt of the
+/// Goods entry; refused only with 33 JournalFull.
+fn enter_goods<D: Disk>(
+    house: House<D, Shelf>,
+    target: &Target,
+    price: Amount,
+    kind: u8,
+    contents: &[u8],
+) -> Outcome<D, Shelf, Receipt>
+    requires price { 0 < price }
+    requires kind { kind < 3 }
+    requires short { length contents.now ≤ MOST_CONTENTS }
+    requires within { (h : History) → HouseRepresents D.disk shelf_view house h
+        → in_force (h ++ Goods (house_time house.bench) target.now price kind contents.now ∷ []) ≤ MOST_IN_FORCE }
+    ensures back { HandsBack D.disk D.disk_moved (KeepsTime house) house.journal.disk result }
+    ensures exact { (h : History) → HouseRepresents D.disk shelf_view house h
+        → Performs D.disk shelf_view
+        (λ task. task ≡ Add (Goods (house_time house.bench) target.now price kind contents.now)) TellsLast
+        (limits_of house.bench) house.journal.disk h result }
+    ensures refusals { IfRefused (IsAmong (33 ∷ [])) result }
+{
+    // The check lets a record go only where the types of its parts are named.
+    let _parts: Option<(PieceList<'_>, Id, Terms)> = None;
+    let goods = Record::Goods {
+        moment: house.time(),
+        target: target.bytes(),
+        price: price.get(),
+        kind,
+        contents,
+    };
+    house.enter(&goods)
 }
 
 /// Takes scrip of an issuer above 0 from now on, which is made under these terms. Answers the receipt of the
@@ -105,6 +134,7 @@ pub fn add_terms<D: Disk>(
         → Performs D.disk shelf_view
         (λ task. task ≡ terms_task h (house_time house.bench) terms.now) TellsAdded
         (limits_of house.bench) house.journal.disk h result }
+    ensures refusals { IfRefused (IsAmong (33 ∷ 55 ∷ [])) result }
 {
     if let Some(standing) = house.terms(terms.issuer()) {
         return if are_same(&standing, terms) {
@@ -140,6 +170,7 @@ pub fn upgrade<D: Disk>(
         → Performs D.disk shelf_view
         (λ task. task ≡ upgrade_task h (house_time house.bench) (site_name h) issuer from) TellsAdded
         (limits_of house.bench) house.journal.disk h result }
+    ensures refusals { IfRefused (IsAmong (33 ∷ 71 ∷ 72 ∷ 73 ∷ [])) result }
 {
     let name = house.name();
     let terms = house.terms(issuer);
@@ -182,6 +213,7 @@ pub fn mint<D: Disk>(
     ensures exact { (h : History) → HouseRepresents D.disk shelf_view house h
         → Performs D.disk shelf_view (IsMintTask h (house_time house.bench) (limits_of house.bench) reference.now count value) (TellsMint reference.now count value out.new.items)
         (limits_of house.bench) house.journal.disk h result }
+    ensures refusals { IfRefused (IsAmong (32 ∷ 33 ∷ 56 ∷ [])) result }
 {
     if let Some(minted) = house.trade().minted(reference.bytes()) {
         if minted.count != count || minted.value != value.get() {
@@ -227,6 +259,7 @@ fn enter_mint<D: Disk>(
         → out.old.items ≡ piece_lines (version h (site_name h)) terms (run_from h value first count)
         → Performs D.disk shelf_view (IsMintTask h (house_time house.bench) (limits_of house.bench) reference.now count value) (TellsMint reference.now count value out.new.items)
         (limits_of house.bench) house.journal.disk h result }
+    ensures refusals { IfRefused (IsAmong (33 ∷ [])) result }
 {
     let _pieces: Option<PieceList<'_>> = None;
     let record = Record::Mint {

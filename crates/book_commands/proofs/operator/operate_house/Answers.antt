@@ -57,7 +57,7 @@ returns-clause-causes g c =
     let ready : IsReady operation (g.O.Link.link c.args.house.journal.disk) (g.O.Link.link y) = (input, g.O.Link.link m.journal.disk, takes, c.raise_by_clock-reading.ensures.rest) in
     rw (c.closed_with.ensures.out, c.closed_with.ensures.status)
     (operated_causes g.O.Link.link g.O.Disk.disk operation c.args.house.journal.disk y c.carry_out-outcome.result c.of.result ((g.met.O.Outside.link_keeps _ _ c.raise_by_clock-reading.ensures.moved).faults ∙ (g.met.O.Outside.link_keeps _ _ c.input_of.ensures.moved.0).faults) c.carry_out-outcome.ensures.back.counts
-    (subst (λ (v : LinkView). IsReady operation (g.O.Link.link c.args.house.journal.disk) v) (sym same) ready))
+    c.carry_out-outcome.ensures.refusals (subst (λ (v : LinkView). IsReady operation (g.O.Link.link c.args.house.journal.disk) v) (sym same) ready))
 
 pub returns-clause-operated : goal.returns-clause-operated
 returns-clause-operated g c kind a x at =

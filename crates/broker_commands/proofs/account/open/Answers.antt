@@ -4,7 +4,7 @@ use Rattle.house_core.specs.Tasks.{TellsAdded}
 use Rattle.broker_core.specs.Desk.{desk_view}
 use Rattle.broker_core.specs.Tasks.{account_task}
 use Rattle.broker_commands.specs.Operations.{account_operation}
-use Rattle.operator_command.proofs.CommandLemmas.{back_as, performs_as}
+use Rattle.operator_command.proofs.CommandLemmas.{back_as, performs_as, refused_as}
 use Rattle.broker_commands.proofs.account.open.Goals as goal
 
 pub returns-clause-back : goal.returns-clause-back
@@ -17,3 +17,6 @@ returns-clause-exact g c h input line st is_line =
     (performs_as g.D.Disk.disk desk_view _ (operation.asks input h (house_time c.args.house.bench)) TellsAdded (λ task. operation.says input h task line) _ c.args.house.journal.disk h c.open_account.result
     (λ task is. is ∙ ap₂ (λ (name key : List ℕ). account_task h (house_time c.args.house.bench) name key) c.account.ensures.value c.key.ensures.value)
     (λ task answer doable told. is_line) (c.open_account.ensures.exact h st))
+
+pub returns-clause-refusals : goal.returns-clause-refusals
+returns-clause-refusals g c = rw c.without_answer.ensures (refused_as _ c.open_account.result c.open_account.ensures.refusals)

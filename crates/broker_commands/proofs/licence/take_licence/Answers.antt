@@ -1,10 +1,11 @@
-use Rattle.std.proofs.Common.{◌++◌, List, [], ℕ, Ok, Err, ap, ap₂, ◌∙◌}
+use Rattle.std.proofs.Common.{◌++◌, List, [], ℕ, Ok, Err, ap, ap₂, ◌∙◌, ◌∷◌, refl}
 use Rattle.mc_records.specs.declared.refusal.Refusal.TheVariants.{BadInput}
 use Rattle.house_core.specs.Bench.{house_time}
 use Rattle.house_core.specs.Tasks.{Refuse, TellsAdded}
 use Rattle.broker_core.specs.Desk.{desk_view}
-use Rattle.operator_command.proofs.CommandLemmas.{back_as, performs_as, performs_refused}
+use Rattle.operator_command.proofs.CommandLemmas.{back_as, performs_as, performs_refused, refused_as}
 use Rattle.broker_commands.specs.Operations.{licence_operation, taken_line}
+use Rattle.house_core.proofs.RefusingLemmas.{refused_more}
 use Rattle.broker_commands.proofs.licence.take_licence.Goals as goal
 
 pub returns-in-Err-clause-exact : goal.returns-in-Err-clause-exact
@@ -28,3 +29,7 @@ returns-clause-exact g c h st =
     (λ task is. (Ok licence, c.in-Ok.ensures, is))
     (λ task answer doable told. (Ok licence, c.in-Ok.ensures, c.put_taken.ensures ∙ ap₂ (λ (bare : List ℕ) (n : ℕ). bare ++ taken_line licence.0 n) (c.lay_bare.ensures.words [] c.requires.begun) c.issuer.ensures))
     (c.add_licence.ensures.exact h st))
+
+pub returns-clause-refusals : goal.returns-clause-refusals
+returns-clause-refusals g c = rw c.without_answer.ensures
+    (refused_as _ c.add_licence.result (refused_more (33 ∷ 59 ∷ []) (33 ∷ 53 ∷ 59 ∷ []) c.add_licence.result refl c.add_licence.ensures.refusals))

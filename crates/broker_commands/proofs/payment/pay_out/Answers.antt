@@ -3,7 +3,7 @@ use Rattle.house_core.specs.Bench.{house_time}
 use Rattle.house_core.specs.Tasks.{after}
 use Rattle.broker_core.specs.Desk.{desk_view}
 use Rattle.broker_core.specs.Tasks.{withdraw_task}
-use Rattle.operator_command.proofs.CommandLemmas.{back_as, performs_as}
+use Rattle.operator_command.proofs.CommandLemmas.{back_as, performs_as, refused_as}
 use Rattle.said_lines.specs.Lines.{with_number}
 use Rattle.broker_commands.specs.Operations.{balance_words, withdraw_operation}
 use Rattle.broker_commands.proofs.AnswerLemmas.{performs_told, balance_said}
@@ -26,3 +26,6 @@ returns-clause-exact g c h input st =
     (λ task answer doable told. balance_said (after task h) c.account.result.now p.account answer bare line c.account.ensures.value is_bare told.0 told.1)
     (performs_told g.D.Disk.disk desk_view _ _ (λ (n : ℕ). line ≡ with_number bare n) _ c.args.house.journal.disk h c.withdraw-paid.result
     (subst (λ (o : Option ℕ). IfSome o (λ (n : ℕ). line ≡ with_number bare n)) c.answer_of.ensures c.end_by.ensures) (c.withdraw-paid.ensures.exact h st)))
+
+pub returns-clause-refusals : goal.returns-clause-refusals
+returns-clause-refusals g c = rw c.without_answer.ensures (refused_as _ c.withdraw-paid.result c.withdraw-paid.ensures.refusals)

@@ -2,7 +2,7 @@ use Rattle.std.proofs.Common.{◌≡◌, List, ℕ, Option, IfSome, length, ap, 
 use Rattle.house_core.specs.Bench.{house_time}
 use Rattle.broker_core.specs.Desk.{desk_view}
 use Rattle.broker_core.specs.Tasks.{stock_task, stock_lines, pieces_in}
-use Rattle.operator_command.proofs.CommandLemmas.{back_as, performs_as}
+use Rattle.operator_command.proofs.CommandLemmas.{back_as, performs_as, refused_as}
 use Rattle.said_lines.specs.Lines.{with_number}
 use Rattle.broker_commands.specs.Operations.{stock_words, stock_operation}
 use Rattle.broker_commands.proofs.AnswerLemmas.{performs_told}
@@ -25,3 +25,6 @@ returns-clause-exact g c h st =
     (λ task answer doable told. told.1 ∙ ap₂ (λ (words : List ℕ) (n : ℕ). with_number words n) is_bare (told.0 ∙ ap (λ (n : List ℕ). length (pieces_in (stock_lines n input))) c.vendor.ensures.value))
     (performs_told g.D.Disk.disk desk_view _ _ (λ (n : ℕ). line ≡ with_number bare n) _ c.args.house.journal.disk h c.add_stock-taken.result
     (subst (λ (o : Option ℕ). IfSome o (λ (n : ℕ). line ≡ with_number bare n)) (c.counted.ensures ∙ c.answer_of.ensures) c.end_by.ensures) (c.add_stock-taken.ensures.exact h st)))
+
+pub returns-clause-refusals : goal.returns-clause-refusals
+returns-clause-refusals g c = rw c.without_answer.ensures (refused_as _ c.add_stock-taken.result c.add_stock-taken.ensures.refusals)

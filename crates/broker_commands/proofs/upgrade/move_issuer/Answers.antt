@@ -6,7 +6,7 @@ use Rattle.broker_core.specs.Desk.{desk_view}
 use Rattle.broker_core.specs.Moves.{moved_issuer}
 use Rattle.broker_core.specs.Tasks.{upgrade_licence_task}
 use Rattle.said_lines.specs.Lines.{upgrade_line}
-use Rattle.operator_command.proofs.CommandLemmas.{back_as, performs_as}
+use Rattle.operator_command.proofs.CommandLemmas.{back_as, performs_as, refused_as}
 use Rattle.broker_commands.specs.Operations.{upgrade_operation}
 use Rattle.broker_commands.proofs.upgrade.move_issuer.Goals as goal
 
@@ -29,3 +29,6 @@ returns-clause-exact g c h input st =
     (λ task is. is ∙ ap₂ (λ (v : List ℕ) (e : ℕ). upgrade_licence_task h (house_time c.args.house.bench) v e) c.vendor-vendor.ensures.value c.from-from.ensures.value)
     (λ task answer doable told. moved_line h _ u.vendor _ _ u.from _ line (c.lay_bare.ensures.words [] c.requires.begun) c.put_upgrade.ensures (c.terms_to_move-issuer.ensures.issuer h st) c.vendor-vendor.ensures.value c.from-from.ensures.value)
     (c.upgrade_licence.ensures.exact h st))
+
+pub returns-clause-refusals : goal.returns-clause-refusals
+returns-clause-refusals g c = rw c.without_answer.ensures (refused_as _ c.upgrade_licence.result c.upgrade_licence.ensures.refusals)

@@ -1,4 +1,4 @@
-use Rattle.std.proofs.Common.{ℕ, ◌≤◌, ◌∙◌, ap, refl, arith}
+use Rattle.std.proofs.Common.{ℕ, ◌≤◌, ◌∙◌, ap, refl, arith, [], ◌∷◌}
 use Rattle.mc_records.specs.Entry.{Licence}
 use Rattle.ledger_model.specs.Histories.{time}
 use Rattle.house_core.specs.Bench.{limits_of}
@@ -23,3 +23,6 @@ returns-clause-exact g c h st =
     let p = c.perform.ensures.exact h st in
     let is = c.licence_task-task.ensures.exact h (c.trade.ensures h st) ∙ ap (λ (m : ℕ). tasks.licence_task h m c.args.vendor.now c.args.terms.now) c.time.ensures in
     record { task = p.task; asks = p.asks ∙ is; does = p.does; ran = p.ran }
+
+pub returns-clause-refusals : goal.returns-clause-refusals
+returns-clause-refusals g c = c.perform.ensures.refusals (59 ∷ []) c.licence_task-task.ensures.refusals

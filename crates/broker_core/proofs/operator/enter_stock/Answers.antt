@@ -74,3 +74,6 @@ returns-in-Halted-clause-exact g c h st =
     ap (λ (x : Entry). Add x) (same_stock c.time.ensures c.bytes.ensures.value (same ∙ sym (ap pieces_in r.read))) ∙ stock_added h (house_time c.args.house.bench) c.args.vendor.now c.args.lines.now (c.requires.new h st) in
     enters g.D.Disk.disk desk_view (λ (task : Task). task ≡ stock_task h (house_time c.args.house.bench) c.args.vendor.now c.args.lines.now) (TellsCount c.args.vendor.now c.args.lines.now)
     (limits_of c.args.house.bench) (λ n. 0) c.args.house.journal.disk h e (Halted c.in-Halted.halted) asks (λ done. absurd done) (c.in-Halted.ensures.exact h st) (c.in-Halted.ensures.ran h st)
+
+pub returns-in-Refused-clause-refusals : goal.returns-in-Refused-clause-refusals
+returns-in-Refused-clause-refusals g c = c.in-Refused.ensures.refusals

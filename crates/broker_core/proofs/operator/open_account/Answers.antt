@@ -1,4 +1,4 @@
-use Rattle.std.proofs.Common.{ℕ, ◌≤◌, ◌∙◌, ap, arith}
+use Rattle.std.proofs.Common.{ℕ, ◌≤◌, ◌∙◌, ap, arith, [], ◌∷◌}
 use Rattle.mc_records.specs.Entry.{Account}
 use Rattle.ledger_model.specs.Histories.{time}
 use Rattle.account_ledger.specs.Tasks as accounts
@@ -25,3 +25,6 @@ returns-clause-exact g c h st =
     let p = c.perform.ensures.exact h st in
     let is = c.account_task-task.ensures.exact h (c.accounts-accounts.ensures h (c.trade.ensures h st)) ∙ ap (λ (m : ℕ). accounts.account_task h m c.args.name.now c.args.key) c.time.ensures in
     record { task = p.task; asks = p.asks ∙ ap as_task is; does = p.does; ran = p.ran }
+
+pub returns-clause-refusals : goal.returns-clause-refusals
+returns-clause-refusals g c = c.perform.ensures.refusals (60 ∷ []) c.account_task-task.ensures.refusals

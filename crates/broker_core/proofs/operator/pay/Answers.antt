@@ -27,3 +27,6 @@ pub returns-in-Halted-clause-exact : goal.returns-in-Halted-clause-exact
 returns-in-Halted-clause-exact g c h st =
     performs_as g.D.Disk.disk desk_view TellsAdded (TellsBalance c.args.name.now) (limits_of c.args.house.bench) c.args.house.journal.disk h 0
     (λ (t : Task). t ≡ as_task (task_of c.args.task.now)) (Halted c.in-Halted.halted) tt (c.in-Halted.ensures.exact h st)
+
+pub returns-in-Refused-clause-refusals : goal.returns-in-Refused-clause-refusals
+returns-in-Refused-clause-refusals g c numbers is = c.in-Refused.ensures.refusals numbers is

@@ -1,4 +1,7 @@
-use Rattle.std.proofs.Common.{◌≡◌, Some, refl}
+use Rattle.std.proofs.Common.{◌≡◌, Some, refl, [], ◌∷◌}
+use Rattle.std.specs.Prelude.{◌==◌}
+use Rattle.std.proofs.lemmas.Bool.{or_right}
+use Rattle.mc_records.specs.Refusals.{number_of}
 use Rattle.mc_records.specs.Views.{entry}
 use Rattle.account_ledger.specs.Tasks.{task_of}
 use Rattle.house_state.proofs.PartLaws.{every_passes}
@@ -9,6 +12,7 @@ use Rattle.house_core.proofs.TaskLemmas.{enters, refuses, stays, tells_last}
 use Rattle.broker_core.specs.Desk.{desk_view}
 use Rattle.broker_core.specs.Tasks.{as_task}
 use Rattle.broker_core.proofs.OperatorLemmas.{added_is, stays_is, refused_is}
+use Rattle.house_core.proofs.RefusingLemmas.{among_more}
 use Rattle.broker_core.proofs.operator.perform.Goals as goal
 
 pub enter-requires-clause-passed : goal.enter-requires-clause-passed
@@ -51,3 +55,9 @@ returns-in-Halted-clause-exact g c h st =
     enters g.D.Disk.disk desk_view (λ (t : Task). t ≡ as_task (task_of c.args.task.now)) TellsAdded (limits_of c.args.house.bench) (λ n. Some n)
     c.args.house.journal.disk h e (Halted c.in-Halted.halted) (added_is c.args.task.now _ _ c.in-Ok.is c.in-Some.is)
     (λ done. absurd done) (c.in-Halted.ensures.exact h st) (c.in-Halted.ensures.ran h st)
+
+pub returns-in-Err-clause-refusals : goal.returns-in-Err-clause-refusals
+returns-in-Err-clause-refusals g c numbers is = or_right (33 == number_of c.in-Err.refusal) _ (rw c.in-Err.is at is)
+
+pub returns-in-Refused-clause-refusals : goal.returns-in-Refused-clause-refusals
+returns-in-Refused-clause-refusals g c numbers is = among_more (33 ∷ []) (33 ∷ numbers) _ refl c.in-Refused.ensures.refusals

@@ -3,7 +3,7 @@ use Rattle.mc_records.specs.Requests.{Asked}
 use Rattle.ledger_model.specs.Histories.{History}
 use Rattle.ledger_model.specs.Replies.{refusal_of}
 use Rattle.house_core.proofs.Refused.{disk_fault_is}
-use Rattle.house_core.proofs.SendLemmas.{sent_as, fault_as}
+use Rattle.link_turns.proofs.SendLemmas.{sent_as, fault_as}
 use Rattle.house_core.proofs.sending.send_disk_fault.Goals as goal
 
 pub returns-clause-sent : goal.returns-clause-sent

@@ -1,4 +1,4 @@
-use Rattle.std.proofs.Common.{◌≡◌, ℕ, Some, sym, ap, ◌∙◌, refl, arith}
+use Rattle.std.proofs.Common.{◌≡◌, [], ◌∷◌, ℕ, Some, sym, ap, ◌∙◌, refl, arith}
 use Rattle.scrip_form.specs.Issuing.{epoch}
 use Rattle.mc_records.specs.Entry.{Entry, Upgrade}
 use Rattle.mc_records.specs.Views.{entry}
@@ -10,6 +10,7 @@ use Rattle.house_core.specs.Tasks.{Add, TellsAdded}
 use Rattle.house_core.specs.Upgrading.{upgrade_task}
 use Rattle.house_core.proofs.TaskLemmas.{enters, refuses, stays, tells_last}
 use Rattle.house_core.proofs.UpgradeLemmas.{no_terms, stays_set, is_set, is_early, adds}
+use Rattle.house_core.proofs.RefusingLemmas.{among_more}
 use Rattle.house_core.proofs.upgrading.upgrade.Goals as goal
 
 pub returns-in_default-clause-exact : goal.returns-in_default-clause-exact
@@ -76,3 +77,6 @@ returns-in-NoMemory-clause-exact g c h st =
     ∙ adds t c.args.vendor.now c.args.issuer c.args.from h c.in-Some.terms c.epoch_of-now.result (sym c.in-Some.is ∙ c.requires.terms h st) (sym c.in_default-standing.is ∙ c.requires.standing h st) now (omega (arith, c.if-from-now.false)) in
     enters g.D.Disk.disk g.T.Trade.trade (λ task. task ≡ upgrade_task h t c.args.vendor.now c.args.issuer c.args.from) TellsAdded (limits_of c.args.house.bench) (λ n. Some n)
     c.args.house.journal.disk h e (NoMemory c.in-NoMemory.house) asks (λ done. absurd done) (c.in-NoMemory.ensures.exact h st) (c.in-NoMemory.ensures.ran h st)
+
+pub returns-in-Refused-clause-refusals : goal.returns-in-Refused-clause-refusals
+returns-in-Refused-clause-refusals g c = among_more (33 ∷ []) (33 ∷ 71 ∷ 72 ∷ 73 ∷ []) _ refl c.in-Refused.ensures.refusals

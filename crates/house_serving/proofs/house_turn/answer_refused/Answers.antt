@@ -3,9 +3,9 @@ use Rattle.std.specs.Prelude.{IsTrue}
 use Rattle.mc_outside.specs.LinkView.{LinkView}
 use Rattle.millicent_http.specs.HeadRefusals.{as_refusal}
 use Rattle.house_core.specs.Bench.{limits_of, state_of}
-use Rattle.house_serving.specs.declared.turn.Turn.{Turn}
+use Rattle.link_turns.specs.declared.turn.Turn.{Turn}
 use Rattle.house_serving.specs.Links.{RefusesHead}
-use Rattle.house_serving.proofs.CauseLemmas.{counts_link, counts_then}
+use Rattle.link_turns.proofs.CauseLemmas.{counts_link, counts_then}
 use Rattle.house_serving.proofs.HouseTurnLemmas.{RaisedBy, SentOn, head_answered}
 use Rattle.house_serving.proofs.house_turn.answer_refused.Goals as goal
 

@@ -1,11 +1,11 @@
-use Rattle.house_serving.proofs.CauseLemmas.{counts_link, causes_then}
+use Rattle.link_turns.proofs.CauseLemmas.{counts_link, causes_then}
 use Rattle.house_serving.proofs.HouseTurnLemmas.{RaisedBy, request_answered}
 use Rattle.house_serving.proofs.house_turn.answer_request.Goals as goal
 
 pub returns-clause-causes : goal.returns-clause-causes
 returns-clause-causes g c =
     let moved = c.raise_by_clock-reading.ensures.moved in
-    causes_then g.O.Link.link g.O.Disk.disk _ _ (λ r. r.0) c.reply_to.result (counts_link g.O.Link.link g.O.Disk.disk _ _ (g.met.O.Outside.link_keeps _ _ moved) (g.met.O.Link.link_goes _ _ moved)) c.reply_to.ensures.causes
+    causes_then g.O.Link.link g.O.Disk.disk _ _ (λ r. r.0.journal.disk) c.reply_to.result (counts_link g.O.Link.link g.O.Disk.disk _ _ (g.met.O.Outside.link_keeps _ _ moved) (g.met.O.Link.link_goes _ _ moved)) c.reply_to.ensures.causes
 
 pub returns-clause-answered : goal.returns-clause-answered
 returns-clause-answered g c h st =

@@ -2,9 +2,8 @@ use Rattle.std.proofs.Common.{sym, subst, Ok}
 use Rattle.std.specs.Prelude.{IsTrue}
 use Rattle.mc_outside.specs.LinkView.{LinkView}
 use Rattle.house_core.specs.Bench.{limits_of, state_of}
-use Rattle.house_serving.specs.declared.turn.Turn.{Turn}
+use Rattle.link_turns.specs.declared.turn.Turn.{Turn}
 use Rattle.house_serving.specs.Links.{RepliesTo}
-use Rattle.house_serving.proofs.OrderLemmas.{house_leaves}
 use Rattle.house_serving.proofs.HouseTurnLemmas.{SentOn, replied_new, replied_again, replied_refused, replied_starved, replied_halted}
 use Rattle.house_serving.proofs.house_turn.reply_to.Goals as goal
 
@@ -87,5 +86,5 @@ returns-in-Halted-clause-replied g c h st =
     let d = c.send_disk_fault-told.new.halted in
     let same = g.met.O.Outside.disk_keeps _ _ c.in-Halted.ensures.back.moved' in
     replied_halted g.O.Link.link g.O.Disk.disk g.T.Trade.trade (limits_of c.args.house.bench) c.args.q.now c.args.after a b d (state_of h c.args.house.bench) c.send_disk_fault-told.result
-    g.met.O.Outside.sent_aside (g.met.O.Disk.is_disk a) (house_leaves g.O.Disk.disk g.T.Trade.trade c.args.house h st) (g.met.O.Disk.is_disk b) (g.met.O.Link.is_link b) (subst (λ (v : LinkView). IsTrue v.stands) (sym same) c.requires.stands) (g.met.O.Disk.disk_goes _ _ c.in-Halted.ensures.back.moved').aside same
+    g.met.O.Outside.sent_aside (g.met.O.Disk.is_disk b) (g.met.O.Link.is_link b) (subst (λ (v : LinkView). IsTrue v.stands) (sym same) c.requires.stands) (g.met.O.Disk.disk_goes _ _ c.in-Halted.ensures.back.moved').aside same
     (g.met.O.Outside.link_keeps _ _ c.send_disk_fault-told.ensures.moved) (g.met.O.Link.link_goes _ _ c.send_disk_fault-told.ensures.moved) (c.in-Halted.ensures.exact h st) (c.in-Halted.ensures.ran h st) (rw c.time-time.ensures at c.send_disk_fault-told.ensures.sent) (rw c.time-time.ensures at c.send_disk_fault-told.ensures.fault)

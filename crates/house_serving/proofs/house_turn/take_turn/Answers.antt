@@ -2,8 +2,9 @@ use Rattle.std.proofs.Common.{subst}
 use Rattle.mc_records.specs.Requests.{Asked}
 use Rattle.house_core.specs.Bench.{limits_of, state_of}
 use Rattle.house_serving.specs.Links.{AnswersRequest}
-use Rattle.house_serving.proofs.CauseLemmas.{counts_link, counts_then, causes_then}
-use Rattle.house_serving.proofs.HouseTurnLemmas.{ReadOn, head_turns, refused_turns, end_turns, fault_turns, head_target, head_given, refused_given, given_if, read_stands}
+use Rattle.link_turns.proofs.CauseLemmas.{counts_link, counts_then, causes_then}
+use Rattle.link_turns.proofs.TurnLemmas.{head_target, head_given, refused_given, given_if}
+use Rattle.house_serving.proofs.HouseTurnLemmas.{ReadOn, head_turns, refused_turns, end_turns, fault_turns, read_stands}
 use Rattle.house_serving.proofs.house_turn.take_turn.Goals as goal
 
 pub answer_request-requires-clause-target : goal.answer_request-requires-clause-target
@@ -12,7 +13,7 @@ answer_request-requires-clause-target g c = rw c.of.ensures (head_target c.args.
 pub returns-in-Head-clause-causes : goal.returns-in-Head-clause-causes
 returns-in-Head-clause-causes g c =
     let moved = c.take.ensures.moved.0 in
-    causes_then g.O.Link.link g.O.Disk.disk _ _ (λ r. r.0) c.answer_request.result (counts_link g.O.Link.link g.O.Disk.disk _ _ (g.met.O.Outside.link_keeps _ _ moved) (g.met.O.Link.link_goes _ _ moved)) c.answer_request.ensures.causes
+    causes_then g.O.Link.link g.O.Disk.disk _ _ (λ r. r.0.journal.disk) c.answer_request.result (counts_link g.O.Link.link g.O.Disk.disk _ _ (g.met.O.Outside.link_keeps _ _ moved) (g.met.O.Link.link_goes _ _ moved)) c.answer_request.ensures.causes
 
 pub returns-in-Head-clause-given : goal.returns-in-Head-clause-given
 returns-in-Head-clause-given g c =

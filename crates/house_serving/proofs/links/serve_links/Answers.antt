@@ -2,22 +2,28 @@ use Rattle.std.proofs.Common.{◌≡◌, ◌+◌, refl, arith, ap, ◌∙◌, in
 use Rattle.mc_outside.specs.LinkView.{LinkView}
 use Rattle.house_core.specs.declared.bench.Bench.{Bench}
 use Rattle.house_core.specs.Bench.{limits_of, state_of}
-use Rattle.house_serving.proofs.CauseLemmas.{counts_none, counts_link, counts_then, rose_then}
-use Rattle.house_serving.proofs.OrderLemmas.{went_nowhere}
-use Rattle.house_serving.proofs.HouseTurnLemmas.{ReadOn}
+use Rattle.link_turns.proofs.CauseLemmas.{counts_none, counts_link, counts_then, rose_then}
+use Rattle.link_turns.proofs.OrderLemmas.{went_nowhere}
+use Rattle.house_serving.specs.Orders.{outside_of, history_of, StandsAt}
+use Rattle.house_serving.proofs.HouseOrders.{house_leaves}
+use Rattle.house_serving.proofs.HouseTurnLemmas.{ReadOn, stands_at}
 use Rattle.house_serving.proofs.HouseLinkLemmas.{linked_starts, linked_goes_on, linked_house_all, linked_house_over, linked_house_broke, linked_house_halts}
 use Rattle.house_serving.proofs.links.serve_links.Goals as goal
 
 pub returns-in_default-clause-served : goal.returns-in_default-clause-served
 returns-in_default-clause-served g c h st =
-    (went_nowhere g.O.Link.link g.O.Disk.disk g.T.Trade.trade c.args.house (state_of h c.args.house.bench) (g.met.O.Disk.is_disk _) st refl, refl)
+    let disk = g.O.Disk.disk in
+    let trade = g.T.Trade.trade in (
+      went_nowhere g.O.Link.link disk outside_of (StandsAt disk trade) history_of (house_leaves disk trade) g.met.O.Outside.sent_aside c.args.house (state_of h c.args.house.bench) (g.met.O.Disk.is_disk _) (stands_at disk trade c.args.house h st),
+      refl,
+    )
 
 pub links-init : goal.links-init
 links-init g c = record {
   few = omega arith;
   counts = counts_none g.O.Link.link g.O.Disk.disk c.args.house.journal.disk;
   limits = refl;
-  linked = λ h st. linked_starts g.O.Link.link g.O.Disk.disk g.T.Trade.trade (limits_of c.args.house.bench) c.args.house h (g.met.O.Disk.is_disk _) st;
+  linked = λ h st. linked_starts g.O.Link.link g.O.Disk.disk g.T.Trade.trade (limits_of c.args.house.bench) c.args.house h g.met.O.Outside.sent_aside (g.met.O.Disk.is_disk _) st;
 }
 
 pub links-preserved : goal.links-preserved

@@ -2,7 +2,7 @@ use Rattle.std.proofs.Common.{◌-◌, ◌≡◌, ◌≤◌}
 use Rattle.ledger_model.specs.Histories.{History}
 use Rattle.house_core.specs.Bench.{limits_of, state_of}
 use Rattle.house_core.specs.House.{HouseRepresents}
-use Rattle.house_serving.specs.Links.{KeptCounts}
+use Rattle.link_turns.specs.Sending.{KeptCounts}
 use Rattle.house_serving.proofs.HouseLinkLemmas.{LinkedHouse}
 use Rattle.house_serving.proofs.links.serve_links.Given as goal
 

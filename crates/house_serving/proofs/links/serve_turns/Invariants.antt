@@ -3,7 +3,7 @@ use Rattle.std.specs.Prelude.{IsTrue}
 use Rattle.ledger_model.specs.Histories.{History}
 use Rattle.house_core.specs.Bench.{limits_of, state_of}
 use Rattle.house_core.specs.House.{HouseRepresents}
-use Rattle.house_serving.specs.Links.{KeptCounts}
+use Rattle.link_turns.specs.Sending.{KeptCounts}
 use Rattle.house_serving.proofs.HouseLinkLemmas.{ServingHouse}
 use Rattle.house_serving.proofs.links.serve_turns.Given as goal
 

@@ -3,8 +3,8 @@ use Rattle.millicent_http.specs.Steps.{Did}
 use Rattle.millicent_http.specs.Courses.{HadLink}
 use Rattle.house_core.specs.Bench.{limits_of}
 use Rattle.house_core.specs.Tallies.{ToldState, ToldStep}
-use Rattle.house_serving.specs.Turns.{Ended}
-use Rattle.house_serving.proofs.LinksLemmas.{had_link}
+use Rattle.link_turns.specs.Turns.{Ended}
+use Rattle.link_turns.proofs.LinksLemmas.{had_link}
 use Rattle.house_serving.proofs.CountsLemmas.{counts_so}
 use Rattle.house_serving.proofs.serving.serve_standing.Goals as goal
 

@@ -1,7 +1,7 @@
 use Rattle.std.proofs.Common.{sym, subst, List, ℕ}
-use Rattle.house_serving.specs.declared.turn.Turn.{Turn}
-use Rattle.house_serving.specs.Turns.{Sent}
-use Rattle.house_serving.proofs.ItemLemmas.{sent_so}
+use Rattle.link_turns.specs.declared.turn.Turn.{Turn}
+use Rattle.link_turns.specs.Turns.{Sent}
+use Rattle.link_turns.proofs.ItemLemmas.{sent_so}
 use Rattle.house_serving.proofs.turn.send.Goals as goal
 
 pub returns-clause-sent : goal.returns-clause-sent

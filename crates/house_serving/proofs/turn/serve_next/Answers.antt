@@ -3,10 +3,10 @@ use Rattle.millicent_http.specs.Steps.{Did}
 use Rattle.house_core.specs.Bench.{limits_of}
 use Rattle.house_core.specs.Tallies.{ToldState, ToldStep}
 use Rattle.house_serving.specs.Counting.{told_state}
-use Rattle.house_serving.specs.declared.turn.Turn.TheVariants.{End, NotReceived}
-use Rattle.house_serving.specs.Turns.{Turned}
+use Rattle.link_turns.specs.declared.turn.Turn.TheVariants.{End, NotReceived}
+use Rattle.link_turns.specs.Turns.{Turned}
 use Rattle.house_serving.proofs.CountsLemmas.{counts_nowhere}
-use Rattle.house_serving.proofs.TurnLemmas.{head_turned, refused_turned, end_turned, fault_turned}
+use Rattle.link_turns.proofs.TurnLemmas.{head_turned, refused_turned, end_turned, fault_turned}
 use Rattle.house_serving.proofs.turn.serve_next.Goals as goal
 
 pub returns-in-Head-clause-turned : goal.returns-in-Head-clause-turned

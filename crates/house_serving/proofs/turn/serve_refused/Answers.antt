@@ -7,7 +7,7 @@ use Rattle.house_core.specs.Bench.{limits_of, state_of}
 use Rattle.house_core.specs.Session.{State}
 use Rattle.house_core.specs.Tallies.{RefusedBy, ToldState, ToldStep}
 use Rattle.house_serving.specs.Counting.{told_state}
-use Rattle.house_serving.proofs.ItemLemmas.{item_answered}
+use Rattle.link_turns.proofs.ItemLemmas.{item_answered}
 use Rattle.house_serving.proofs.turn.serve_refused.Goals as goal
 
 pub returns-clause-answered : goal.returns-clause-answered

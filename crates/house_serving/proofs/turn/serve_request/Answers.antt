@@ -5,9 +5,10 @@ use Rattle.millicent_http.specs.Items.{request}
 use Rattle.house_core.specs.Bench.{limits_of, state_of, tally_of}
 use Rattle.house_core.specs.Session.{State, raised, said_reply}
 use Rattle.house_core.specs.Tallies.{Told, ToldState, ToldStep, told_item, tallied}
-use Rattle.house_serving.specs.Turns.{Sent}
+use Rattle.link_turns.specs.Turns.{Sent}
 use Rattle.house_serving.specs.Counting.{told_state}
-use Rattle.house_serving.proofs.ItemLemmas.{says_gives, says_told, item_answered}
+use Rattle.link_turns.proofs.ItemLemmas.{item_answered}
+use Rattle.house_serving.proofs.SaidLemmas.{says_gives, says_told}
 use Rattle.house_serving.proofs.turn.serve_request.Goals as goal
 
 pub returns-clause-answered : goal.returns-clause-answered

@@ -6,7 +6,7 @@ use Rattle.millicent_http.specs.Takes.{item_of}
 use Rattle.millicent_http.specs.declared.item.ItemRef.{ItemRef}
 use Rattle.house_core.specs.Bench.{Refines, limits_of, state_of}
 use Rattle.house_core.specs.Session.{State, Step, raised, said_reply}
-use Rattle.house_serving.proofs.ItemLemmas.{says_gives, on_ok}
+use Rattle.house_serving.proofs.SaidLemmas.{says_gives, on_ok}
 use Rattle.house_serving.proofs.ReplyingLemmas.{Stepped}
 use Rattle.house_serving.proofs.whole.reply_to.Goals as goal
 

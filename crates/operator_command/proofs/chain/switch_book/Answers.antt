@@ -3,7 +3,7 @@ use Rattle.mc_records.specs.Chains.{chain}
 use Rattle.ledger_model.specs.Houses.{site_name}
 use Rattle.house_core.specs.Tasks.{TellsAdded}
 use Rattle.said_lines.specs.Lines.{chain_words, chain_end, chain_line}
-use Rattle.operator_command.proofs.CommandLemmas.{back_as, performs_shown, if_done}
+use Rattle.operator_command.proofs.CommandLemmas.{back_as, performs_shown, if_done, refused_as}
 use Rattle.operator_command.proofs.chain.switch_book.Goals as goal
 
 pub returns-clause-back : goal.returns-clause-back
@@ -17,3 +17,6 @@ returns-clause-exact g c h input st begun =
     (performs_shown g.D.Disk.disk g.T.Trade.trade _ TellsAdded (λ x. line ≡ chain_line (site_name h) (length x) (chain x)) _ c.args.house.journal.disk h c.switch-switched.result
     (λ x. if_done c.switch-switched.result _ _ (λ house shown represents. shown represents ∙ ap (λ (words : List ℕ). words ++ chain_end (length x) (chain x)) bare) (c.end_by_house.ensures x))
     (c.switch-switched.ensures.exact h st))
+
+pub returns-clause-refusals : goal.returns-clause-refusals
+returns-clause-refusals g c = rw c.without_answer.ensures (refused_as _ c.switch-switched.result c.switch-switched.ensures.refusals)

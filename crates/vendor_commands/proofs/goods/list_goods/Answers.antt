@@ -6,7 +6,7 @@ use Rattle.mc_records.specs.declared.refusal.Refusal.TheVariants.{ContentsFull}
 use Rattle.vendor_core.specs.Shelf.{shelf_view}
 use Rattle.vendor_core.specs.Tasks.{goods_task}
 use Rattle.vendor_commands.specs.Operations.{goods_operation}
-use Rattle.operator_command.proofs.CommandLemmas.{back_as, performs_as, performs_refused}
+use Rattle.operator_command.proofs.CommandLemmas.{back_as, performs_as, performs_refused, refused_as}
 use Rattle.vendor_commands.proofs.goods.list_goods.Goals as goal
 
 pub returns-then-input-gt-MOST_CONTENTS-clause-exact : goal.returns-then-input-gt-MOST_CONTENTS-clause-exact
@@ -29,3 +29,6 @@ returns-clause-exact g c h line st begun =
           ∙ ap (λ (kind : ℕ). goods_task h (house_time c.args.house.bench) c.args.listing.now.target c.args.listing.now.price kind c.args.input.now) c.kind.ensures.value,
     ))
     (λ task answer doable told. begun) (c.set_goods.ensures.exact h st))
+
+pub returns-clause-refusals : goal.returns-clause-refusals
+returns-clause-refusals g c = rw c.without_answer.ensures (refused_as _ c.set_goods.result c.set_goods.ensures.refusals)

@@ -1,4 +1,4 @@
-use Rattle.std.proofs.Common.{◌≡◌, ℕ, None, Some, sym, ap, ◌∙◌, refl}
+use Rattle.std.proofs.Common.{◌≡◌, ℕ, None, Some, sym, ap, ◌∙◌, refl, [], ◌∷◌}
 use Rattle.mc_records.specs.Entry.{Entry, AddTerms}
 use Rattle.mc_records.specs.Views.{entry}
 use Rattle.ledger_model.specs.Houses.{terms_in}
@@ -10,6 +10,7 @@ use Rattle.house_core.proofs.TaskLemmas.{enters, refuses, stays, tells_last}
 use Rattle.vendor_core.specs.Shelf.{shelf_view}
 use Rattle.vendor_core.specs.Tasks.{terms_task}
 use Rattle.vendor_core.proofs.OperatorLemmas.{same_licensed, other_licensed, new_licensed}
+use Rattle.house_core.proofs.RefusingLemmas.{among_more}
 use Rattle.vendor_core.proofs.operator.add_terms.Goals as goal
 
 pub returns-then-are_same-clause-exact : goal.returns-then-are_same-clause-exact
@@ -66,3 +67,6 @@ returns-in-NoMemory-clause-exact g c h st =
     let asks : Add e ≡ terms_task h t c.args.terms.now = ap (λ (x : Entry). Add x) same ∙ new_licensed t c.args.terms.now _ none in
     enters g.D.Disk.disk shelf_view (λ task. task ≡ terms_task h t c.args.terms.now) TellsAdded (limits_of c.args.house.bench) (λ n. Some n)
     c.args.house.journal.disk h e (NoMemory c.in-NoMemory.house) asks (λ done. absurd done) (c.in-NoMemory.ensures.exact h st) (c.in-NoMemory.ensures.ran h st)
+
+pub returns-in-Refused-clause-refusals : goal.returns-in-Refused-clause-refusals
+returns-in-Refused-clause-refusals g c = among_more (33 ∷ []) (33 ∷ 55 ∷ []) _ refl c.in-Refused.ensures.refusals

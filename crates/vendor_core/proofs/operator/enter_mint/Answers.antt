@@ -44,3 +44,6 @@ returns-in-Halted-clause-exact g c h terms st own lines =
     mint_enters (limits_of c.args.house.bench) h (house_time c.args.house.bench) c.args.reference.now c.args.count c.args.value c.args.first _
     (same_mint _ _ _ _ _ _ _ _ c.time.ensures c.bytes.ensures.value c.get.ensures.units) (c.requires.new h st) (c.requires.run h st)
     g.D.Disk.disk shelf_view c.args.house.journal.disk terms c.clear-in-Halted.new.self.items (outcomes.Halted c.in-Halted.halted) named own (λ done. absurd done) (c.in-Halted.ensures.exact h st) (c.in-Halted.ensures.ran h st)
+
+pub returns-in-Refused-clause-refusals : goal.returns-in-Refused-clause-refusals
+returns-in-Refused-clause-refusals g c = c.in-Refused.ensures.refusals

@@ -1,4 +1,4 @@
-use Rattle.std.proofs.Common.{◌≡◌, ◌+◌, ◌<◌, ◌≤◌, ◌^◌, inl, inr, refl, sym, ap, ◌∙◌, arith, rules}
+use Rattle.std.proofs.Common.{◌≡◌, ◌+◌, ◌<◌, ◌≤◌, ◌^◌, inl, inr, refl, sym, ap, ◌∙◌, arith, rules, [], ◌∷◌}
 use Rattle.mc_records.specs.Entry.{Mint}
 use Rattle.ledger_model.specs.Houses.{site_name, own_series, version}
 use Rattle.ledger_model.specs.Pieces.{next_identity, own_count}
@@ -9,6 +9,7 @@ use Rattle.vendor_core.specs.Shelf.{shelf_view}
 use Rattle.vendor_core.specs.Tasks.{IsMintAt, IsUsed}
 use Rattle.vendor_core.specs.Lines.{piece_lines}
 use Rattle.vendor_core.proofs.LineLemmas.{lines_of_mint, earlier_mint, run_in_range}
+use Rattle.house_core.proofs.RefusingLemmas.{among_more, refused_more}
 use Rattle.vendor_core.proofs.operator.mint.Goals as goal
 use Rattle.vendor_core.proofs.operator.mint.Goals.{then-minted-count-via-then-minted-count, then-minted-count-via-else-minted-count+then-minted-get}
 
@@ -54,14 +55,14 @@ returns-in-Err-clause-exact g c h st =
 pub returns-in-Err-next_run-clause-exact : goal.returns-in-Err-next_run-clause-exact
 returns-in-Err-next_run-clause-exact g c h st =
     let new = rw c.bytes.ensures.value at (c.in_default.ensures h (c.trade.ensures h st)) in
-    let run = c.in-Err-next_run.ensures h st in
+    let run = c.in-Err-next_run.ensures.exact h st in
     refuses g.D.Disk.disk shelf_view _ _ (limits_of c.args.house.bench) c.args.house h (g.met.D.Disk.is_disk _) st _ (inr (new, run.1, run.0))
 
 pub returns-in-Err-put_lines-clause-exact : goal.returns-in-Err-put_lines-clause-exact
 returns-in-Err-put_lines-clause-exact g c h st =
     let t = house_time c.args.house.bench in
     let new = rw c.bytes.ensures.value at (c.in_default.ensures h (c.trade.ensures h st)) in
-    let run = c.in-Ok-next_run.ensures h st in
+    let run = c.in-Ok-next_run.ensures.exact h st in
     wants_memory g.D.Disk.disk shelf_view _ _ (limits_of c.args.house.bench) c.args.house h (g.met.D.Disk.is_disk _) st
     (Add (Mint t c.args.reference.now c.args.count c.args.value (next_identity h (own_series h t)))) tt (new, run.1, refl)
 
@@ -69,9 +70,15 @@ pub returns-in-Ok-put_lines-clause-exact : goal.returns-in-Ok-put_lines-clause-e
 returns-in-Ok-put_lines-clause-exact g c h st =
     let state = st.house.represents.state in
     let series = own_series h (house_time c.args.house.bench) in
-    let run = c.in-Ok-next_run.ensures h st in
+    let run = c.in-Ok-next_run.ensures.exact h st in
     let long : c.in-Ok-next_run.first < 2 ^ 64 = search rules in
     let few : own_count h series + c.args.count ≤ 2 ^ 32 = omega (arith, run.1, state.limits.series_most) in
     let fits = run_in_range series (own_count h series) c.args.count c.in-Ok-next_run.first run.0 few long in
     let lines = c.in-Ok-put_lines.ensures.lines h c.args.house.bench.state.own.terms st state.own_terms fits in
     c.enter_mint.ensures.exact h c.args.house.bench.state.own.terms st state.own_terms lines
+
+pub returns-in-Err-next_run-clause-refusals : goal.returns-in-Err-next_run-clause-refusals
+returns-in-Err-next_run-clause-refusals g c = among_more (32 ∷ []) (32 ∷ 33 ∷ 56 ∷ []) _ refl c.in-Err-next_run.ensures.refusals
+
+pub returns-in-Ok-put_lines-clause-refusals : goal.returns-in-Ok-put_lines-clause-refusals
+returns-in-Ok-put_lines-clause-refusals g c = refused_more (33 ∷ []) (32 ∷ 33 ∷ 56 ∷ []) c.enter_mint.result refl c.enter_mint.ensures.refusals

@@ -32,3 +32,6 @@ pub returns-in-Err-apply_entry-clause-contents : goal.returns-in-Err-apply_entry
 returns-in-Err-apply_entry-clause-contents g c h st has =
     let same = c.in-Ok.ensures.same in
     c.in-Err-apply_entry.ensures.contents h (holds_roomed g.T.Trade.trade _ _ h same st) (contents_roomed g.T.Trade.trade _ _ h same has)
+
+pub returns-in-Err-clause-refusals : goal.returns-in-Err-clause-refusals
+returns-in-Err-clause-refusals g c = c.in-Err.ensures.refusals

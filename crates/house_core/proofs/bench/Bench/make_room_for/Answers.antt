@@ -5,6 +5,7 @@ use Rattle.ledger_model.specs.Stages.{fitted_by}
 use Rattle.house_core.specs.Bench.{limits_of}
 use Rattle.house_state.specs.HouseState.{tail_of}
 use Rattle.house_state.proofs.Tabled.{fitted_stands}
+use Rattle.house_core.proofs.RefusingLemmas.{full_among}
 use Rattle.house_core.proofs.bench.Bench.make_room_for.Goals as goal
 
 pub returns-in-Err-clause-fault : goal.returns-in-Err-clause-fault
@@ -20,3 +21,7 @@ returns-in-Ok-room_for-clause-fitted g c h st =
     let e = entry c.args.r.now in
     let fits = c.in-Ok.ensures.lines e c.payload_len-bytes.ensures ∙ ap (λ (l : Limits). fitted_by l.journal b.size (tail_of b) e) c.limits.ensures.limits in
     fitted_stands st.state (limits_of c.args.self.now) e ∙ sym fits
+
+pub returns-in-Err-clause-refusals : goal.returns-in-Err-clause-refusals
+returns-in-Err-clause-refusals g c =
+    full_among _ c.args.self.now.state.size (tail_of c.args.self.now.state) (entry c.args.r.now) _ (c.in-Err.ensures.lines (entry c.args.r.now) c.payload_len-bytes.ensures)

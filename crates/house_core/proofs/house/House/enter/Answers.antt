@@ -88,3 +88,6 @@ returns-in-Err-Refused-clause-exact g c h st =
     let st' = stands_with g.D.Disk.disk g.T.Trade.trade c.args.self c.raise.new.self h st (c.raise.ensures.same h st.house.represents) (c.raise.ensures.contents h st.house.represents st.house.contents) c.raise.ensures.limits in
     let fault = rw c.in-Err-Refused.field-0-is at (c.in-Err-Refused.ensures.fault h (c.raise.ensures.same h st.house.represents) (may_tell _ h _ (c.requires.may h st))) in
     (rw c.raise.ensures.limits at fault.0, as_roomed g.D.Disk.disk g.T.Trade.trade raised _ h refl c.in-Err-Refused.ensures.same st')
+
+pub returns-in-Err-Refused-clause-refusals : goal.returns-in-Err-Refused-clause-refusals
+returns-in-Err-Refused-clause-refusals g c = rw c.in-Err-Refused.field-0-is at c.in-Err-Refused.ensures.refusals

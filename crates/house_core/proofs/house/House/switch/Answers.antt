@@ -39,3 +39,6 @@ returns-in-Halted-clause-exact g c h st =
     let asks = unswitched h t c.time.result c.chain.result (sym st.journal.switched_is ∙ sym c.if-is_switched.ensures) c.time.ensures (c.chain.ensures ∙ st.journal.chain_is) in
     enters g.D.Disk.disk g.T.Trade.trade (λ (task : Task). task ≡ switch_task h t) TellsAdded (limits_of c.args.self.bench) (λ n. Some n)
     c.args.self.journal.disk h (Switch c.time.result c.chain.result) (Halted c.in-Halted.halted) asks (λ done. absurd done) (c.in-Halted.ensures.exact h st) (c.in-Halted.ensures.ran h st)
+
+pub returns-in-Refused-clause-refusals : goal.returns-in-Refused-clause-refusals
+returns-in-Refused-clause-refusals g c = c.in-Refused.ensures.refusals

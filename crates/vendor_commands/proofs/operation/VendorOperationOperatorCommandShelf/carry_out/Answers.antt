@@ -31,3 +31,33 @@ pub returns-in-Chain-clause-exact : goal.returns-in-Chain-clause-exact
 returns-in-Chain-clause-exact g c h st all begun =
     let said : c.args.self.now ≡ operations.Chain c.in-Chain.field-0 = sym c.self.view_is ∙ c.in-Chain.is in
     rw said (c.switch_book.ensures.exact h c.args.input.now st (rw said at begun))
+
+pub returns-in-Goods-clause-refusals : goal.returns-in-Goods-clause-refusals
+returns-in-Goods-clause-refusals g c =
+    let said : c.args.self.now ≡ operations.Goods c.in-Goods.listing = sym c.self.view_is ∙ c.in-Goods.is in
+    rw said c.list_goods.ensures.refusals
+
+pub returns-in-Price-clause-refusals : goal.returns-in-Price-clause-refusals
+returns-in-Price-clause-refusals g c =
+    let said : c.args.self.now ≡ operations.Price c.in-Price.pricing = sym c.self.view_is ∙ c.in-Price.is in
+    rw said c.price_goods.ensures.refusals
+
+pub returns-in-Licence-clause-refusals : goal.returns-in-Licence-clause-refusals
+returns-in-Licence-clause-refusals g c =
+    let said : c.args.self.now ≡ operations.Licence c.in-Licence.licensing = sym c.self.view_is ∙ c.in-Licence.is in
+    rw said c.take_issuer.ensures.refusals
+
+pub returns-in-Mint-clause-refusals : goal.returns-in-Mint-clause-refusals
+returns-in-Mint-clause-refusals g c =
+    let said : c.args.self.now ≡ operations.Mint c.in-Mint.minting = sym c.self.view_is ∙ c.in-Mint.is in
+    rw said c.mint_pieces.ensures.refusals
+
+pub returns-in-Upgrade-clause-refusals : goal.returns-in-Upgrade-clause-refusals
+returns-in-Upgrade-clause-refusals g c =
+    let said : c.args.self.now ≡ operations.Upgrade c.in-Upgrade.upgrading = sym c.self.view_is ∙ c.in-Upgrade.is in
+    rw said c.move_issuer.ensures.refusals
+
+pub returns-in-Chain-clause-refusals : goal.returns-in-Chain-clause-refusals
+returns-in-Chain-clause-refusals g c =
+    let said : c.args.self.now ≡ operations.Chain c.in-Chain.field-0 = sym c.self.view_is ∙ c.in-Chain.is in
+    rw said c.switch_book.ensures.refusals

@@ -1,9 +1,12 @@
 -- One turn of serving a link.
-use Rattle.std.proofs.Common.{◌≡◌, ℕ, Bool, List, [], ◌∷◌, refl, sym, subst}
+use Rattle.std.proofs.Common.{◌≡◌, inr, ℕ, ◌+◌, ◌<◌, Bool, List, [], ◌∷◌, refl, sym, subst, arith, Result, Ok, Err}
+use Rattle.std.specs.Prelude.{IfOk}
 use Rattle.mc_outside.specs.LinkView.{LinkView, after_recv}
+use Rattle.scrip_form.specs.Texts.{IsTarget}
 use Rattle.mc_records.specs.declared.request.Request.{Request}
 use Rattle.mc_records.specs.Requests.{asked_of}
 use Rattle.millicent_http.specs.declared.item.After.{After}
+use Rattle.millicent_http.specs.declared.item.After.TheVariants as afters
 use Rattle.millicent_http.specs.declared.item.HeadRefusal.{HeadRefusal}
 use Rattle.millicent_http.specs.declared.item.HeadOut.{HeadOut}
 use Rattle.millicent_http.specs.declared.item.HeadOut.TheVariants as outs
@@ -11,11 +14,12 @@ use Rattle.millicent_http.specs.Items.{Item, request, refused}
 use Rattle.millicent_http.specs.HeadRefusals.{as_refusal}
 use Rattle.millicent_http.specs.Held.{Held}
 use Rattle.millicent_http.specs.Takes.{Took, TookItem, LeadsTo, with_more}
+use Rattle.millicent_http.proofs.JudgeLemmas.{asks_a_target}
 use Rattle.millicent_http.specs.declared.clock.Clock.{Clock}
 use Rattle.millicent_http.specs.Steps.{Did, StepRelation}
-use Rattle.house_serving.specs.declared.turn.Turn.{Turn}
-use Rattle.house_serving.specs.declared.turn.Turn.TheVariants.{GoOn, Last, End, NotReceived, NotSent}
-use Rattle.house_serving.specs.Turns.{Answered, AnsweredItem, Turned}
+use Rattle.link_turns.specs.declared.turn.Turn.{Turn}
+use Rattle.link_turns.specs.declared.turn.Turn.TheVariants.{GoOn, Last, End, NotReceived, NotSent}
+use Rattle.link_turns.specs.Turns.{Answered, AnsweredItem, Turned}
 
 turned : {S : Type 0} (Step : StepRelation S) (clock : Clock) (turn : Turn) (steps : List (Did S)) (s : S) (old : Held) (before : LinkView) (new : Held) (link : LinkView)
     → Answered Step clock turn steps s old before new link → Turned Step clock turn steps s old before new link
@@ -76,3 +80,34 @@ pub fault_turned : {S : Type 0} (Step : StepRelation S) (clock : Clock) (s : S) 
 fault_turned Step clock s old before out new link took is =
     let leads = leads_so old before out outs.Fault new link took is in
     record { none_done = refl; more = took.got; none = leads.1; then' = leads.2 }
+
+-- ---- what an item leaves of the reader
+
+item_given : (bytes : List ℕ) (old : Held) (item : Item) (after : After) (new : Held) → TookItem bytes old.given item after new → (after ≡ afters.Close → ⊥) → (new.given ≡ old.given + 1) × (old.given < 1000)
+item_given bytes old item after new took open' =
+    let last : new.given ≡ 1000 → ⊥ = λ e. open' (took.after_is.1 (inr e)) in
+    (omega (arith, took.given_is, last), omega (arith, took.given_is, last))
+
+-- a request asks a target
+pub head_target : (old : Held) (before mid : LinkView) (q : Request) (after : After) (new : Held) (out : HeadOut) → Took old before out new mid → out ≡ outs.Head q after → IsTarget q.target.now
+head_target old before mid q after new out took is =
+    let leads = leads_so old before out (outs.Head q after) new mid took is in
+    asks_a_target _ new.bytes (asked_of q) leads.0.0 leads.0.1.next
+
+-- after an item that lets the link go on, another may come
+pub head_given : (old : Held) (before mid : LinkView) (q : Request) (after : After) (new : Held) (out : HeadOut) → Took old before out new mid → out ≡ outs.Head q after → (after ≡ afters.Close → ⊥)
+    → (new.given ≡ old.given + 1) × (old.given < 1000)
+head_given old before mid q after new out took is open' =
+    let leads = leads_so old before out (outs.Head q after) new mid took is in
+    item_given _ (with_more old took.got) _ after new leads.0.1 open'
+
+pub refused_given : (old : Held) (before mid : LinkView) (f : HeadRefusal) (after : After) (new : Held) (out : HeadOut) → Took old before out new mid → out ≡ outs.Refused f after → (after ≡ afters.Close → ⊥)
+    → (new.given ≡ old.given + 1) × (old.given < 1000)
+refused_given old before mid f after new out took is open' =
+    let leads = leads_so old before out (outs.Refused f after) new mid took is in
+    item_given _ (with_more old took.got) _ after new leads.0.1 open'
+
+-- the same, where the turn is part of an answer
+pub given_if : {A E : Type 0} (r : Result (A × Turn) E) (Q Closes : Type 0) → IfOk r (λ x. x.1 ≡ GoOn → Closes → ⊥) → ((Closes → ⊥) → Q) → IfOk r (λ x. x.1 ≡ GoOn → Q)
+given_if (Ok x) Q Closes open' so = λ goes. so (open' goes)
+given_if (Err e) Q Closes open' so = tt
