@@ -35,5 +35,6 @@ pub use table::{COMMANDS, CommandName, named, read_command};
 pub use usage::{Usage, usage_of};
 pub use value::{MOST_NUMBER, number_from};
 pub use within::{
-    AnyIssuer, Count, Epoch, Fee, Heads, Issuer, Keep, Kind, Life, Links, Period, Sum, Within,
+    AnyIssuer, Before, Count, Epoch, Fee, Heads, Issuer, Keep, Kind, Life, Links, Period, Sum,
+    Within,
 };

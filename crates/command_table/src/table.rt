@@ -207,7 +207,7 @@ impl CommandName {
             CommandName::VendorPlay => done("vendor", "play", &[Heads]),
             CommandName::VendorUpgrade => done("vendor", "upgrade", &[Book, AnyIssuer, Epoch]),
             CommandName::VendorChain => done("vendor", "chain", &[Book]),
-            CommandName::VendorStatement => to_come("vendor", "statement", &[Book, Issuer, Epoch]),
+            CommandName::VendorStatement => done("vendor", "statement", &[Book, Issuer, Epoch]),
             CommandName::BrokerInit => done(
                 "broker",
                 "init",
@@ -230,7 +230,7 @@ impl CommandName {
             CommandName::BrokerServe => done("broker", "serve", &[Book, Listen, Links]),
             CommandName::BrokerUpgrade => done("broker", "upgrade", &[Book, Vendor, Epoch]),
             CommandName::BrokerChain => done("broker", "chain", &[Book]),
-            CommandName::BrokerSettle => to_come("broker", "settle", &[Book]),
+            CommandName::BrokerSettle => done("broker", "settle", &[Book]),
             CommandName::WalletInit => done("wallet", "init", &[Book, Name]),
             CommandName::WalletTake => done("wallet", "take", &[Book]),
             CommandName::WalletDraw => done(
@@ -250,21 +250,21 @@ impl CommandName {
             ),
             CommandName::WalletRetry => done("wallet", "retry", &[Book, Peer, Connect]),
             CommandName::WalletList => done("wallet", "list", &[Book]),
-            CommandName::WalletLines => to_come("wallet", "lines", &[Book, Vendor]),
+            CommandName::WalletLines => done("wallet", "lines", &[Book, Vendor]),
             CommandName::WalletChain => done("wallet", "chain", &[Book]),
             CommandName::WalletProxy => to_come(
                 "wallet",
                 "proxy",
                 &[Book, Vendor, Limit, Budget, Listen, Connect, Links],
             ),
-            CommandName::WalletRenew => to_come(
+            CommandName::WalletRenew => done(
                 "wallet",
                 "renew",
                 &[Book, Vendor, Target, Before, Connect],
             ),
             CommandName::AuditReport => done("audit", "report", &[Books, Json]),
             CommandName::AuditChain => done("audit", "chain", &[Books]),
-            CommandName::AuditTree => to_come("audit", "tree", &[Books]),
+            CommandName::AuditTree => done("audit", "tree", &[Books]),
         }
     }
 }

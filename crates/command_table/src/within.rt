@@ -5,7 +5,7 @@ use crate::parameter::{
     LEAST_KEPT, LEAST_PERIOD, MOST_EPOCH, MOST_HEADS, MOST_ISSUER, MOST_KEPT, MOST_KIND,
     MOST_LINKS, MOST_MINTED, MOST_SECONDS,
 };
-use mc_base::Amount;
+use mc_base::{Amount, Moment};
 use std::marker::Model;
 
 /// A number from `LEAST` to `MOST`. Contracts see it as the number.
@@ -51,6 +51,15 @@ impl<const LEAST: u64, const MOST: u64> Within<LEAST, MOST> {
     {
         Amount::new(self.number).unwrap()
     }
+
+    /// The moment so many seconds after 1970 began.
+    pub fn moment(self) -> Moment
+        requires { MOST ≤ Moment.LAST }
+        ensures value { result ≡ self.entry }
+        ensures range { IsWithin LEAST MOST self.entry }
+    {
+        Moment::new(self.number).unwrap()
+    }
 }
 
 /// A price, an amount that is paid, or the number of an order.
@@ -79,6 +88,9 @@ pub type AnyIssuer = Within<0, MOST_ISSUER>;
 
 /// The epoch of a series.
 pub type Epoch = Within<0, MOST_EPOCH>;
+
+/// The moment before which a piece ends.
+pub type Before = Within<0, { Moment::LAST }>;
 
 /// How many pieces are minted.
 pub type Count = Within<1, MOST_MINTED>;

@@ -6,7 +6,7 @@ use Rattle.command_table.specs.declared.table.CommandName.TheVariants as names
 use Rattle.command_table.specs.Table.{AreOf, form_of}
 use Rattle.command_table.specs.Values.{AreFound, ValuesOf}
 use Rattle.mc_words.specs.declared.command.Command.{Command}
-use Rattle.mc_words.specs.declared.command.Command.TheVariants.{Once, Init, Serve, Play, Operate, BrokerInit, BrokerServe, BrokerOperate, WalletInit, WalletOperate, Report, Chains}
+use Rattle.mc_words.specs.declared.command.Command.TheVariants.{Once, Init, Serve, Play, Operate, State, BrokerInit, BrokerServe, BrokerOperate, Settle, WalletInit, WalletOperate, Report, Chains, Tree}
 use Rattle.site_words.specs.declared.operation.Operation.TheVariants as operations
 use Rattle.site_words.specs.declared.broker_operation.BrokerOperation.TheVariants as brokers
 use Rattle.wallet_words.specs.declared.wallet_operation.WalletOperation.TheVariants as wallets
@@ -21,6 +21,7 @@ command_with names.VendorLicence v = Some (Operate (operations.Licence (record {
 command_with names.VendorMint v = Some (Operate (operations.Mint (record { book = v.0; count = v.1.0; value = v.1.1.0; reference = v.1.1.1.0 })))
 command_with names.VendorUpgrade v = Some (Operate (operations.Upgrade (record { book = v.0; issuer = v.1.0; from = v.1.1.0 })))
 command_with names.VendorChain v = Some (Operate (operations.Chain (record { book = v.0 })))
+command_with names.VendorStatement v = Some (State (record { book = v.0; issuer = v.1.0; epoch = v.1.1.0 }))
 command_with names.VendorServe v = Some (Serve (record { book = v.0; listen = v.1.0; links = v.1.1.0 }))
 command_with names.VendorOnce v = Some (Once (record { name = v.0; target = v.1.0; price = v.1.1.0; secret = v.1.1.1.0; contents = v.1.1.1.1.0 }))
 command_with names.VendorPlay v = Some (Play (record { count = v.0 }))
@@ -33,6 +34,7 @@ command_with names.BrokerLicence v = Some (BrokerOperate (brokers.Licence (recor
 command_with names.BrokerStock v = Some (BrokerOperate (brokers.Stock (record { book = v.0; vendor = v.1.0 })))
 command_with names.BrokerUpgrade v = Some (BrokerOperate (brokers.Upgrade (record { book = v.0; vendor = v.1.0; from = v.1.1.0 })))
 command_with names.BrokerChain v = Some (BrokerOperate (brokers.Chain (record { book = v.0 })))
+command_with names.BrokerSettle v = Some (Settle (record { book = v.0 }))
 command_with names.BrokerServe v = Some (BrokerServe (record { book = v.0; listen = v.1.0; links = v.1.1.0 }))
 command_with names.WalletInit v = Some (WalletInit (record { book = v.0; name = v.1.0 }))
 command_with names.WalletTake v = Some (WalletOperate (wallets.Take (record { book = v.0 })))
@@ -41,9 +43,12 @@ command_with names.WalletBuy v = Some (WalletOperate (wallets.Buy (record { book
 command_with names.WalletGet v = Some (WalletOperate (wallets.Get (record { book = v.0; vendor = v.1.0; target = v.1.1.0; limit = v.1.1.1.0; connect = v.1.1.1.1.0 })))
 command_with names.WalletRetry v = Some (WalletOperate (wallets.Retry (record { book = v.0; peer = v.1.0; connect = v.1.1.0 })))
 command_with names.WalletList v = Some (WalletOperate (wallets.List (record { book = v.0 })))
+command_with names.WalletLines v = Some (WalletOperate (wallets.Lines (record { book = v.0; vendor = v.1.0 })))
 command_with names.WalletChain v = Some (WalletOperate (wallets.Chain (record { book = v.0 })))
+command_with names.WalletRenew v = Some (WalletOperate (wallets.Renew (record { book = v.0; vendor = v.1.0; target = v.1.1.0; before = v.1.1.1.0; connect = v.1.1.1.1.0 })))
 command_with names.AuditReport v = Some (Report (record { books = v.0; json = v.1.0 }))
 command_with names.AuditChain v = Some (Chains (record { books = v.0 }))
+command_with names.AuditTree v = Some (Tree (record { books = v.0 }))
 command_with _ v = None
 
 -- the words spell values of a row, of which the command is made

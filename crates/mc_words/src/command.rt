@@ -5,13 +5,13 @@ use command_table::{CommandName, named, read_command};
 use command_words::Found;
 use site_words::{
     BrokerFounder, BrokerOperation, Inquiry, LicenceUpgrading, Licensing, Listing, Minting,
-    Opening, Operation, Payment, Playing, Pricing, Server, Shop, Stocking, Switching, Taking,
-    Upgrading, VendorFounder,
+    Opening, Operation, Payment, Playing, Pricing, Server, Settling, Shop, Stating, Stocking,
+    Switching, Taking, Upgrading, VendorFounder,
 };
 use std::alloc::{AllocError, Global};
 use wallet_words::{
-    AuditBooks, Buying, Drawing, Getting, Reporting, Retrying, WalletBook, WalletFounder,
-    WalletOperation,
+    AuditBooks, Buying, Drawing, Getting, Relaying, Renewing, Reporting, Retrying, WalletBook,
+    WalletFounder, WalletOperation,
 };
 
 /// What the words say to do.
@@ -27,12 +27,16 @@ pub enum Command<'a> {
     Play(Playing),
     /// Has something done to the book of a vendor, as its operator.
     Operate(Operation<'a>),
+    /// States what the vendor of a book redeemed of a series that ended.
+    State(Stating<'a>),
     /// Founds a broker in a book.
     BrokerInit(BrokerFounder<'a>),
     /// Serves the broker of a book.
     BrokerServe(Server<'a>),
     /// Has something done to the book of a broker, as its operator.
     BrokerOperate(BrokerOperation<'a>),
+    /// Has the broker of a book pay a vendor's statement.
+    Settle(Settling<'a>),
     /// Founds a wallet in a book.
     WalletInit(WalletFounder<'a>),
     /// Has something done with the book of a wallet, as its customer.
@@ -41,6 +45,8 @@ pub enum Command<'a> {
     Report(Reporting<'a>),
     /// Tells the chains of books, as their auditor.
     Chains(AuditBooks<'a>),
+    /// Reports of brokers that sell scrip of each other, as their auditor.
+    Tree(AuditBooks<'a>),
 }
 
 /// The command that the words, those after the program's name, are of; None exactly where they are of
@@ -94,6 +100,10 @@ fn command_in<'a>(name: CommandName, found: Found<'a>) -> Option<Command<'a>>
             let switching = Switching::read(&found)?;
             Some(Command::Operate(Operation::Chain(switching)))
         }
+        CommandName::VendorStatement => {
+            let stating = Stating::read(&found)?;
+            Some(Command::State(stating))
+        }
         CommandName::VendorServe => {
             let server = Server::read(&found)?;
             Some(Command::Serve(server))
@@ -142,6 +152,10 @@ fn command_in<'a>(name: CommandName, found: Found<'a>) -> Option<Command<'a>>
             let chained = Switching::read(&found)?;
             Some(Command::BrokerOperate(BrokerOperation::Chain(chained)))
         }
+        CommandName::BrokerSettle => {
+            let settling = Settling::read(&found)?;
+            Some(Command::Settle(settling))
+        }
         CommandName::BrokerServe => {
             let desk = Server::read(&found)?;
             Some(Command::BrokerServe(desk))
@@ -174,9 +188,17 @@ fn command_in<'a>(name: CommandName, found: Found<'a>) -> Option<Command<'a>>
             let telling = WalletBook::read(&found)?;
             Some(Command::WalletOperate(WalletOperation::List(telling)))
         }
+        CommandName::WalletLines => {
+            let relaying = Relaying::read(&found)?;
+            Some(Command::WalletOperate(WalletOperation::Lines(relaying)))
+        }
         CommandName::WalletChain => {
             let chaining = WalletBook::read(&found)?;
             Some(Command::WalletOperate(WalletOperation::Chain(chaining)))
+        }
+        CommandName::WalletRenew => {
+            let renewing = Renewing::read(&found)?;
+            Some(Command::WalletOperate(WalletOperation::Renew(renewing)))
         }
         CommandName::AuditReport => {
             let reporting = Reporting::read(found)?;
@@ -186,11 +208,10 @@ fn command_in<'a>(name: CommandName, found: Found<'a>) -> Option<Command<'a>>
             let audited = AuditBooks::read(found)?;
             Some(Command::Chains(audited))
         }
-        CommandName::VendorStatement
-        | CommandName::BrokerSettle
-        | CommandName::WalletLines
-        | CommandName::WalletProxy
-        | CommandName::WalletRenew
-        | CommandName::AuditTree => None,
+        CommandName::AuditTree => {
+            let tree = AuditBooks::read(found)?;
+            Some(Command::Tree(tree))
+        }
+        CommandName::WalletProxy => None,
     }
 }

@@ -23,6 +23,8 @@ use Rattle.site_words.specs.declared.broker_operation.Stocking.{Stocking}
 use Rattle.site_words.specs.declared.broker_operation.Taking.{Taking}
 use Rattle.site_words.specs.declared.serving.Playing.{Playing}
 use Rattle.site_words.specs.declared.serving.Server.{Server}
+use Rattle.site_words.specs.declared.settlement.Settling.{Settling}
+use Rattle.site_words.specs.declared.settlement.Stating.{Stating}
 use Rattle.site_words.specs.declared.switching.Switching.{Switching}
 use Rattle.site_words.specs.declared.founder.BrokerFounder.{BrokerFounder}
 use Rattle.site_words.specs.declared.founder.VendorFounder.{VendorFounder}
@@ -53,6 +55,10 @@ unfoldable pub upgrading_values : Upgrading → ValuesOf (form_of names.VendorUp
 unfolding form_of
 upgrading_values u = (u.book, (u.issuer, (u.from, tt)))
 
+unfoldable pub stating_values : Stating → ValuesOf (form_of names.VendorStatement).parameters
+unfolding form_of
+stating_values s = (s.book, (s.issuer, (s.epoch, tt)))
+
 -- ---- a broker
 
 unfoldable pub opening_values : Opening → ValuesOf (form_of names.BrokerAccount).parameters
@@ -79,6 +85,10 @@ stocking_values s = (s.book, (s.vendor, tt))
 unfoldable pub licence_upgrading_values : LicenceUpgrading → ValuesOf (form_of names.BrokerUpgrade).parameters
 unfolding form_of
 licence_upgrading_values u = (u.book, (u.vendor, (u.from, tt)))
+
+unfoldable pub settling_values : Settling → ValuesOf (form_of names.BrokerSettle).parameters
+unfolding form_of
+settling_values s = (s.book, tt)
 
 -- ---- a site
 

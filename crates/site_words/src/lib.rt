@@ -8,6 +8,7 @@ mod founder;
 mod operation;
 mod secrets;
 mod serving;
+mod settlement;
 mod shop;
 mod switching;
 
@@ -18,5 +19,6 @@ pub use founder::{BrokerFounder, Founder, KEEP, VendorFounder};
 pub use operation::{Licensing, Listing, Minting, Operation, Pricing, Upgrading};
 pub use secrets::SecretList;
 pub use serving::{Playing, Server};
+pub use settlement::{Settling, Stating};
 pub use shop::{Shop, shop_of};
 pub use switching::Switching;

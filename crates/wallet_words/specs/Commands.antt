@@ -11,7 +11,9 @@ wallet_book_of (wallets.Buy buying) = buying.book
 wallet_book_of (wallets.Get getting) = getting.book
 wallet_book_of (wallets.Retry retrying) = retrying.book
 wallet_book_of (wallets.List wallet) = wallet.book
+wallet_book_of (wallets.Lines relaying) = relaying.book
 wallet_book_of (wallets.Chain wallet) = wallet.book
+wallet_book_of (wallets.Renew renewing) = renewing.book
 
 -- where its link goes, where it has one
 abbrev pub connect_of : WalletOperation → Option (List ℕ)
@@ -21,4 +23,6 @@ connect_of (wallets.Buy buying) = Some buying.connect
 connect_of (wallets.Get getting) = Some getting.connect
 connect_of (wallets.Retry retrying) = Some retrying.connect
 connect_of (wallets.List wallet) = None
+connect_of (wallets.Lines relaying) = None
 connect_of (wallets.Chain wallet) = None
+connect_of (wallets.Renew renewing) = Some renewing.connect

@@ -8,6 +8,8 @@ use Rattle.wallet_words.specs.declared.wallet_init.WalletFounder.{WalletFounder}
 use Rattle.wallet_words.specs.declared.wallet_operation.Buying.{Buying}
 use Rattle.wallet_words.specs.declared.wallet_operation.Drawing.{Drawing}
 use Rattle.wallet_words.specs.declared.wallet_operation.Getting.{Getting}
+use Rattle.wallet_words.specs.declared.wallet_operation.Relaying.{Relaying}
+use Rattle.wallet_words.specs.declared.wallet_operation.Renewing.{Renewing}
 use Rattle.wallet_words.specs.declared.wallet_operation.Retrying.{Retrying}
 use Rattle.wallet_words.specs.declared.wallet_operation.WalletBook.{WalletBook}
 
@@ -36,10 +38,19 @@ unfoldable pub retrying_values : Retrying → ValuesOf (form_of names.WalletRetr
 unfolding form_of
 retrying_values r = (r.book, (r.peer, (r.connect, tt)))
 
+unfoldable pub relaying_values : Relaying → ValuesOf (form_of names.WalletLines).parameters
+unfolding form_of
+relaying_values r = (r.book, (r.vendor, tt))
+
+unfoldable pub renewing_values : Renewing → ValuesOf (form_of names.WalletRenew).parameters
+unfolding form_of
+renewing_values r = (r.book, (r.vendor, (r.target, (r.before, (r.connect, tt)))))
+
 unfoldable pub reporting_values : Reporting → ValuesOf (form_of names.AuditReport).parameters
 unfolding form_of
 reporting_values r = (r.books, (r.json, tt))
 
+-- of `audit tree` likewise
 unfoldable pub audit_books_values : AuditBooks → ValuesOf (form_of names.AuditChain).parameters
 unfolding form_of
 audit_books_values a = (a.books, tt)

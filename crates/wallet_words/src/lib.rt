@@ -11,4 +11,6 @@ mod wallet_operation;
 pub use audit_books::AuditBooks;
 pub use reporting::Reporting;
 pub use wallet_init::WalletFounder;
-pub use wallet_operation::{Buying, Drawing, Getting, Retrying, WalletBook, WalletOperation};
+pub use wallet_operation::{
+    Buying, Drawing, Getting, Relaying, Renewing, Retrying, WalletBook, WalletOperation,
+};

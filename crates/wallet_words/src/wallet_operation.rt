@@ -3,13 +3,15 @@
 ghost use Rattle.std.specs.Prelude.{◌≡◌, option_map};
 ghost use Rattle.command_table.specs.Ranges.{IsWithin};
 ghost use Rattle.command_table.specs.Table.{Gives};
-ghost use Rattle.command_table.specs.declared.table.CommandName.TheVariants.{WalletBuy, WalletDraw, WalletGet, WalletRetry, WalletTake};
-ghost use Rattle.wallet_words.specs.Words.{buying_values, drawing_values, getting_values, retrying_values, wallet_book_values};
+ghost use Rattle.command_table.specs.declared.table.CommandName.TheVariants.{WalletBuy, WalletDraw, WalletGet, WalletLines, WalletRenew, WalletRetry, WalletTake};
+ghost use Rattle.wallet_words.specs.Words.{buying_values, drawing_values, getting_values, relaying_values, renewing_values, retrying_values, wallet_book_values};
 ghost use Rattle.wallet_words.specs.Commands.{connect_of, wallet_book_of};
 
-use command_table::{Parameter, Place, Sum, name_in, number_in, place_in, secret_in, target_in};
+use command_table::{
+    Before, Parameter, Place, Sum, name_in, number_in, place_in, secret_in, target_in,
+};
 use command_words::Found;
-use mc_base::Amount;
+use mc_base::{Amount, Moment};
 use scrip_form::{Name, Target};
 
 /// What a customer has done with the book of a wallet.
@@ -27,8 +29,12 @@ pub enum WalletOperation<'a> {
     Retry(Retrying<'a>),
     /// Tells what it holds.
     List(WalletBook<'a>),
+    /// Tells the pieces of a vendor that may be sold on.
+    Lines(Relaying<'a>),
     /// Switches the chain of the book on, and tells it.
     Chain(WalletBook<'a>),
+    /// Pays a cheap target with the piece that ends first, and keeps its change.
+    Renew(Renewing<'a>),
 }
 
 impl<'a> WalletOperation<'a> {
@@ -44,6 +50,8 @@ impl<'a> WalletOperation<'a> {
             WalletOperation::Buy(buying) => buying.book.bytes(),
             WalletOperation::Get(getting) => getting.book.bytes(),
             WalletOperation::Retry(retrying) => retrying.book.bytes(),
+            WalletOperation::Lines(relaying) => relaying.book.bytes(),
+            WalletOperation::Renew(renewing) => renewing.book.bytes(),
         }
     }
 
@@ -52,11 +60,15 @@ impl<'a> WalletOperation<'a> {
         ensures { option_map (λ place. place.now) result ≡ connect_of self.now }
     {
         match self {
-            WalletOperation::Take(_) | WalletOperation::List(_) | WalletOperation::Chain(_) => None,
+            WalletOperation::Take(_)
+            | WalletOperation::List(_)
+            | WalletOperation::Lines(_)
+            | WalletOperation::Chain(_) => None,
             WalletOperation::Draw(drawing) => Some(drawing.connect.bytes()),
             WalletOperation::Buy(buying) => Some(buying.connect.bytes()),
             WalletOperation::Get(getting) => Some(getting.connect.bytes()),
             WalletOperation::Retry(retrying) => Some(retrying.connect.bytes()),
+            WalletOperation::Renew(renewing) => Some(renewing.connect.bytes()),
         }
     }
 }
@@ -320,5 +332,91 @@ impl<'a> Retrying<'a> {
         ensures value { result.now ≡ self.now.peer }
     {
         &self.peer
+    }
+}
+
+/// Which pieces of a wallet are told, so that a broker takes them as stock.
+#[derive(Drop)]
+pub struct Relaying<'a> {
+    /// The book of the wallet.
+    pub book: Place<'a>,
+    /// The name of the vendor whose pieces they are.
+    pub vendor: Name,
+}
+
+impl<'a> Relaying<'a> {
+    /// `wallet lines BOOK VENDOR`.
+    #[tactic(auto, unfolding(command_table::specs::Table::form_of, crate::specs::Words::relaying_values))]
+    pub fn read(found: &Found<'a>) -> Option<Relaying<'a>>
+        ensures { Gives WalletLines relaying_values found.now result }
+    {
+        let book = place_in(found, Parameter::Book)?;
+        let vendor = name_in(found, Parameter::Vendor)?;
+        Some(Relaying { book, vendor })
+    }
+
+    /// The name of the vendor whose pieces they are.
+    pub fn vendor(&self) -> &Name
+        ensures value { result.now ≡ self.now.vendor }
+    {
+        &self.vendor
+    }
+}
+
+/// What is paid for so that change comes that ends later.
+#[derive(Drop)]
+pub struct Renewing<'a> {
+    /// The book of the wallet.
+    pub book: Place<'a>,
+    /// The name of the vendor.
+    pub vendor: Name,
+    /// The cheap target that is paid for.
+    pub target: Target,
+    /// The moment before which the piece that pays ends, or at it.
+    pub before: Before,
+    /// Where the link goes.
+    pub connect: Place<'a>,
+}
+
+impl<'a> Renewing<'a> {
+    /// `wallet renew BOOK VENDOR TARGET BEFORE CONNECT`.
+    #[tactic(auto, unfolding(command_table::specs::Table::form_of, crate::specs::Words::renewing_values))]
+    pub fn read(found: &Found<'a>) -> Option<Renewing<'a>>
+        ensures { Gives WalletRenew renewing_values found.now result }
+    {
+        let book = place_in(found, Parameter::Book)?;
+        let vendor = name_in(found, Parameter::Vendor)?;
+        let target = target_in(found, Parameter::Target)?;
+        let before = number_in(found, Parameter::Before)?;
+        let connect = place_in(found, Parameter::Connect)?;
+        Some(Renewing {
+            book,
+            vendor,
+            target,
+            before,
+            connect,
+        })
+    }
+
+    /// The name of the vendor.
+    pub fn vendor(&self) -> &Name
+        ensures value { result.now ≡ self.now.vendor }
+    {
+        &self.vendor
+    }
+
+    /// The cheap target that is paid for.
+    pub fn target(&self) -> &Target
+        ensures value { result.now ≡ self.now.target }
+    {
+        &self.target
+    }
+
+    /// The moment before which the piece that pays ends, or at it.
+    pub fn before(&self) -> Moment
+        ensures value { result ≡ self.now.before }
+        ensures range { IsWithin 0 Moment.LAST self.now.before }
+    {
+        self.before.moment()
     }
 }

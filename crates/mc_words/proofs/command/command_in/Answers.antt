@@ -1,8 +1,8 @@
 use Rattle.std.proofs.Common.{refl}
 use Rattle.command_table.specs.declared.table.CommandName.TheVariants as names
 use Rattle.command_table.specs.Table.{form_of}
-use Rattle.site_words.specs.Words.{broker_founder_values, inquiry_values, licence_upgrading_values, licensing_values, listing_values, minting_values, opening_values, payment_values, playing_values, pricing_values, server_values, shop_values, stocking_values, switching_values, taking_values, upgrading_values, vendor_founder_values}
-use Rattle.wallet_words.specs.Words.{audit_books_values, buying_values, drawing_values, getting_values, reporting_values, retrying_values, wallet_book_values, wallet_founder_values}
+use Rattle.site_words.specs.Words.{broker_founder_values, inquiry_values, licence_upgrading_values, licensing_values, listing_values, minting_values, opening_values, payment_values, playing_values, pricing_values, server_values, settling_values, shop_values, stating_values, stocking_values, switching_values, taking_values, upgrading_values, vendor_founder_values}
+use Rattle.wallet_words.specs.Words.{audit_books_values, buying_values, drawing_values, getting_values, relaying_values, renewing_values, reporting_values, retrying_values, wallet_book_values, wallet_founder_values}
 use Rattle.mc_words.specs.Commands.{command_with}
 use Rattle.mc_words.proofs.command.command_in.Goals as goal
 
@@ -33,6 +33,10 @@ returns-in-VendorUpgrade c = record { row = names.VendorUpgrade; is = c.in-Vendo
 pub returns-in-VendorChain : goal.returns-in-VendorChain
 unfolding form_of command_with switching_values
 returns-in-VendorChain c = record { row = names.VendorChain; is = c.in-VendorChain.is; carried_out = refl; values = switching_values c.in_ok-switching-in-VendorChain.switching; found' = c.in_ok-switching-in-VendorChain.ensures; made = refl }
+
+pub returns-in-VendorStatement : goal.returns-in-VendorStatement
+unfolding form_of command_with stating_values
+returns-in-VendorStatement c = record { row = names.VendorStatement; is = c.in-VendorStatement.is; carried_out = refl; values = stating_values c.in_ok-stating-in-VendorStatement.stating; found' = c.in_ok-stating-in-VendorStatement.ensures; made = refl }
 
 pub returns-in-VendorServe : goal.returns-in-VendorServe
 unfolding form_of command_with server_values
@@ -82,6 +86,10 @@ pub returns-in-BrokerChain : goal.returns-in-BrokerChain
 unfolding form_of command_with switching_values
 returns-in-BrokerChain c = record { row = names.BrokerChain; is = c.in-BrokerChain.is; carried_out = refl; values = switching_values c.in_ok-chained-in-BrokerChain.chained; found' = c.in_ok-chained-in-BrokerChain.ensures; made = refl }
 
+pub returns-in-BrokerSettle : goal.returns-in-BrokerSettle
+unfolding form_of command_with settling_values
+returns-in-BrokerSettle c = record { row = names.BrokerSettle; is = c.in-BrokerSettle.is; carried_out = refl; values = settling_values c.in_ok-settling-in-BrokerSettle.settling; found' = c.in_ok-settling-in-BrokerSettle.ensures; made = refl }
+
 pub returns-in-BrokerServe : goal.returns-in-BrokerServe
 unfolding form_of command_with server_values
 returns-in-BrokerServe c = record { row = names.BrokerServe; is = c.in-BrokerServe.is; carried_out = refl; values = server_values c.in_ok-desk-in-BrokerServe.desk; found' = c.in_ok-desk-in-BrokerServe.ensures; made = refl }
@@ -114,9 +122,17 @@ pub returns-in-WalletList : goal.returns-in-WalletList
 unfolding form_of command_with wallet_book_values
 returns-in-WalletList c = record { row = names.WalletList; is = c.in-WalletList.is; carried_out = refl; values = wallet_book_values c.in_ok-telling-in-WalletList.telling; found' = c.in_ok-telling-in-WalletList.ensures; made = refl }
 
+pub returns-in-WalletLines : goal.returns-in-WalletLines
+unfolding form_of command_with relaying_values
+returns-in-WalletLines c = record { row = names.WalletLines; is = c.in-WalletLines.is; carried_out = refl; values = relaying_values c.in_ok-relaying-in-WalletLines.relaying; found' = c.in_ok-relaying-in-WalletLines.ensures; made = refl }
+
 pub returns-in-WalletChain : goal.returns-in-WalletChain
 unfolding form_of command_with wallet_book_values
 returns-in-WalletChain c = record { row = names.WalletChain; is = c.in-WalletChain.is; carried_out = refl; values = wallet_book_values c.in_ok-chaining-in-WalletChain.chaining; found' = c.in_ok-chaining-in-WalletChain.ensures; made = refl }
+
+pub returns-in-WalletRenew : goal.returns-in-WalletRenew
+unfolding form_of command_with renewing_values
+returns-in-WalletRenew c = record { row = names.WalletRenew; is = c.in-WalletRenew.is; carried_out = refl; values = renewing_values c.in_ok-renewing-in-WalletRenew.renewing; found' = c.in_ok-renewing-in-WalletRenew.ensures; made = refl }
 
 pub returns-in-AuditReport : goal.returns-in-AuditReport
 unfolding form_of command_with reporting_values
@@ -125,3 +141,7 @@ returns-in-AuditReport c = record { row = names.AuditReport; is = c.in-AuditRepo
 pub returns-in-AuditChain : goal.returns-in-AuditChain
 unfolding form_of command_with audit_books_values
 returns-in-AuditChain c = record { row = names.AuditChain; is = c.in-AuditChain.is; carried_out = refl; values = audit_books_values c.in_ok-audited-in-AuditChain.audited; found' = c.in_ok-audited-in-AuditChain.ensures; made = refl }
+
+pub returns-in-AuditTree : goal.returns-in-AuditTree
+unfolding form_of command_with audit_books_values
+returns-in-AuditTree c = record { row = names.AuditTree; is = c.in-AuditTree.is; carried_out = refl; values = audit_books_values c.in_ok-tree-in-AuditTree.tree; found' = c.in_ok-tree-in-AuditTree.ensures; made = refl }
