@@ -15,7 +15,7 @@ use Rattle.ledger_model.proofs.FollowLaws.{size_snoc}
 use Rattle.std.specs.Prelude.{filter_map}
 use Rattle.std.specs.List.{enumerate_from}
 use Rattle.mc_records.specs.declared.refusal.Refusal.{Refusal}
-use Rattle.wallet_model.specs.Asks.{offered_at, is_fit, chosen_by, chosen}
+use Rattle.wallet_model.specs.Asks.{offered_at, is_fit, chosen_by, chosen, due_of, due}
 use Rattle.wallet_model.specs.Holdings as model
 use Rattle.wallet_model.specs.Requests.{Pending, oldest_kept, kept_get}
 use Rattle.wallet_book.specs.Choosing.{fit_among, Chooses}
@@ -154,6 +154,11 @@ kept_request b h n is = some_of n (texts_of b.holdings) (find (λ k. n == k.numb
 pub chosen_here : (b : BookView) (h : History) (t limit : ℕ) (vendor : List ℕ) (r : Result ℕ Refusal) → WalletRepresents b h → Chooses (chosen_by (fit_among b.holdings t vendor) limit) r → Chooses (chosen h t vendor limit) r
 chosen_here b h t limit vendor r is choice =
     subst (λ (hs : List model.Holding). Chooses (chosen_by (filter (is_fit t vendor) (filter_map offered_at (enumerate_from 0 hs))) limit) r) (sym is.parts.pieces) choice
+
+pub due_here : (b : BookView) (h : History) (t before : ℕ) (vendor : List ℕ) (r : Option ℕ) → WalletRepresents b h → r ≡ option_map (λ o. o.place) (due_of (fit_among b.holdings t vendor) before)
+    → r ≡ option_map (λ o. o.place) (due h t vendor before)
+due_here b h t before vendor r is first =
+    subst (λ (hs : List model.Holding). r ≡ option_map (λ o. o.place) (due_of (filter (is_fit t vendor) (filter_map offered_at (enumerate_from 0 hs))) before)) (sym is.parts.pieces) first
 
 -- ---- the time, and room
 

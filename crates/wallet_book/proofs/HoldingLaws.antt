@@ -11,11 +11,21 @@ use Rattle.scrip_form.proofs.Laws.{scrip_of_tells, one_piece}
 use Rattle.ledger_model.specs.Pieces.{piece_of}
 use Rattle.ledger_model.proofs.ListLaws.{all_append}
 use Rattle.wallet_model.proofs.CameLaws.{or_right}
+use Rattle.wallet_model.specs.Holdings.{is_held}
 use Rattle.wallet_model.specs.Newness.{are_one_piece, is_new}
 use Rattle.wallet_book.specs.declared.holding.State.{State}
+use Rattle.wallet_book.specs.declared.holding.State.TheVariants as states
 use Rattle.wallet_book.specs.declared.holding.Holding.{Holding}
 use Rattle.wallet_book.specs.PieceIndex.{PieceIndexView, place_of}
-use Rattle.wallet_book.specs.Holdings.{text_of, texts_of, IsSpelled, AreSpelled, is_of, LeadsTo, IsIndexed, FindsPiece}
+use Rattle.wallet_book.specs.Holdings.{state_of, text_of, texts_of, IsSpelled, AreSpelled, is_of, LeadsTo, IsIndexed, FindsPiece}
+
+-- a state that is held by the definitions
+pub held_state : (s : State) → is_held (state_of s) ≡ true → s ≡ states.Held
+held_state states.Held is = refl
+held_state states.Pending is = absurd cc
+held_state states.Disputed is = absurd cc
+held_state states.Used is = absurd cc
+held_state states.Dead is = absurd cc
 
 -- ---- texts
 

@@ -9,11 +9,10 @@ use Rattle.wallet_model.specs.Holdings.{is_held}
 use Rattle.wallet_model.specs.Newness.{are_new}
 use Rattle.wallet_model.specs.Follows.{is_of_vendor, is_buy}
 use Rattle.wallet_book.specs.declared.holding.State.{State}
-use Rattle.wallet_book.specs.declared.holding.State.TheVariants as states
 use Rattle.wallet_book.specs.declared.holding.Holding.{Holding}
 use Rattle.wallet_book.specs.Holdings.{state_of, text_of, texts_of, holding_of, FindsPiece}
 use Rattle.wallet_book.specs.Parts.{HeldAt, FindsHeld, is_held_text, if_held, FindsPayment}
-use Rattle.wallet_book.proofs.HoldingLaws.{any_at, get_map}
+use Rattle.wallet_book.proofs.HoldingLaws.{any_at, get_map, held_state}
 use Rattle.wallet_book.proofs.PlaceLaws.{held_by_one, new_not_held}
 
 of_vendor : (vendor text : List ℕ) (q : Scrip) → piece_of text ≡ Some q → is_of_vendor vendor text ≡ bytes_eq q.vendor vendor
@@ -25,13 +24,6 @@ and_false false b is = refl
 
 pub other_vendor : (xs : List Holding) (text vendor : List ℕ) (q : Scrip) → piece_of text ≡ Some q → bytes_eq q.vendor vendor ≡ false → FindsHeld xs text vendor None
 other_vendor xs text vendor q is other = and_false (list_any (λ x. bytes_eq x.text text && is_held x.state) (map holding_of xs)) (is_of_vendor vendor text) (of_vendor vendor text q is ∙ other)
-
-held_state : (s : State) → is_held (state_of s) ≡ true → s ≡ states.Held
-held_state states.Held is = refl
-held_state states.Pending is = absurd cc
-held_state states.Disputed is = absurd cc
-held_state states.Used is = absurd cc
-held_state states.Dead is = absurd cc
 
 -- a place that was found is that of the piece to pay with, where that is held and has the text
 pub finds_held : (xs : List Holding) (text vendor : List ℕ) (q : Scrip) (o : Option ℕ) → are_new [] (texts_of xs) ≡ true → piece_of text ≡ Some q → bytes_eq q.vendor vendor ≡ true → FindsPiece xs text o

@@ -1,6 +1,6 @@
 //! What a wallet keeps in place of its book.
 
-ghost use Rattle.std.specs.Prelude.{◌||◌, ◌≡◌, ◌==◌, ◌+◌, ◌-◌, ◌^◌, ◌<◌, ◌≤◌, ◌&&◌, ◌∷◌, [], ℕ, length, max, nat_le, true, vec_len, vec_capacity, map, find, option_map, OnOk, IfErr, MatchOption};
+ghost use Rattle.std.specs.Prelude.{◌||◌, ◌≡◌, ◌==◌, ◌+◌, ◌-◌, ◌^◌, ◌<◌, ◌≤◌, ◌&&◌, ◌∷◌, [], ℕ, length, max, nat_le, true, vec_len, vec_capacity, map, find, option_map, OnOk, IfErr, IfSome, MatchOption};
 ghost use Rattle.mc_records.specs.declared.refusal.Refusal.TheVariants.{Nothing};
 ghost use Rattle.mc_records.specs.Chains.{TellsChain, has_switch};
 ghost use Rattle.mc_records.specs.Entry.{Fits, moment_of, payload};
@@ -8,7 +8,7 @@ ghost use Rattle.mc_records.specs.Sizes.{size, entry_size};
 ghost use Rattle.mc_records.specs.Views.{entry};
 ghost use Rattle.ledger_model.specs.Histories.{History};
 ghost use Rattle.ledger_model.specs.Houses.{site_name};
-ghost use Rattle.wallet_model.specs.Asks.{chosen};
+ghost use Rattle.wallet_model.specs.Asks.{chosen, due};
 ghost use Rattle.wallet_model.specs.Requests.{oldest_kept, kept_get};
 ghost use Rattle.wallet_model.specs.Follows.{IsWalletBook};
 ghost use Rattle.wallet_model.specs.Holdings as model;
@@ -17,10 +17,10 @@ ghost use Rattle.wallet_model.specs.Newness.{is_new};
 ghost use Rattle.wallet_book.specs.Holdings.{holding_of, texts_of, AreSpelled};
 ghost use Rattle.wallet_book.specs.Kept.{request_of, kept_of, kept_in, Retries};
 ghost use Rattle.wallet_book.specs.Parts.{PartsRepresent, LearnsEntry};
-ghost use Rattle.wallet_book.specs.Choosing.{Chooses, IsNoFunds};
+ghost use Rattle.wallet_book.specs.Choosing.{Chooses, IsNoFunds, IsFitAt};
 ghost use Rattle.wallet_book.specs.Book.{WalletRepresents, IsSameBook, FoundsWallet, brought_count, asked_count, HasRoom, Learns};
 
-use crate::choosing::choose;
+use crate::choosing::{choose, first_due};
 use crate::finding::{first_get, first_of_peer};
 use crate::holding::Holding;
 use crate::kept::Kept;
@@ -158,6 +158,17 @@ impl WalletBook {
         ensures refused { IfErr result IsNoFunds }
     {
         choose(self.parts.holdings.as_slice(), self.time, vendor, limit)
+    }
+
+    /// The place among the holdings of the piece that is due for renewal: of the held pieces of a vendor that are not
+    /// expired and end at a moment at the latest the one that ends first, and of two that end together the first. None
+    /// exactly where there is none.
+    pub fn first_due(&self, vendor: &Name, before: Moment) -> Option<usize>
+        ensures exact { (h : History) → WalletRepresents self.now h
+            → result ≡ option_map (λ o. o.place) (due h self.now.time vendor.now before) }
+        ensures pays { IfSome result (IsFitAt self.now.holdings self.now.time vendor.now) }
+    {
+        first_due(self.parts.holdings.as_slice(), self.time, vendor, before)
     }
 
     /// The request of a number, where it is kept.

@@ -1,10 +1,10 @@
 //! Choosing the piece to pay with.
 
-ghost use Rattle.std.specs.Prelude.{◌≡◌, ◌∷◌, ◌++◌, [], ℕ, max, IfErr};
+ghost use Rattle.std.specs.Prelude.{◌≡◌, ◌∷◌, ◌++◌, [], ℕ, max, nat_le, option_map, IfErr, IfSome};
 ghost use Rattle.wallet_model.specs.Asks as model;
-ghost use Rattle.wallet_model.specs.Asks.{Offered, chosen_by};
+ghost use Rattle.wallet_model.specs.Asks.{Offered, chosen_by, due_of};
 ghost use Rattle.wallet_book.specs.Holdings.{AreSpelled, holding_of};
-ghost use Rattle.wallet_book.specs.Choosing.{fit_among, Chooses, IsNoFunds, least_with};
+ghost use Rattle.wallet_book.specs.Choosing.{fit_among, Chooses, IsNoFunds, IsFitAt, least_with};
 
 use crate::holding::{Holding, State};
 use mc_base::{Amount, Moment};
@@ -29,13 +29,39 @@ pub(crate) fn choose(
     for (place, x) in holdings.iter().enumerate() {
         let value = x.piece.value().get();
         if is_fit(x, time, vendor) {
-            least = lesser(least, place, value, limit);
+            least = lesser(least, limit.get() <= value, place, value);
             greatest = greater(greatest, value);
         }
     }
     match least {
         Some((place, _)) => Ok(place),
         None => Err(Refusal::NoFunds(greatest)),
+    }
+}
+
+/// The place of the piece that is due for renewal: of the held pieces of a vendor that are not expired at a time and
+/// end at a moment at the latest the one that ends first, and of two that end together the first. None exactly where
+/// there is none.
+pub(crate) fn first_due(
+    holdings: &[Holding],
+    time: Moment,
+    vendor: &Name,
+    before: Moment,
+) -> Option<usize>
+    requires { AreSpelled holdings.now }
+    ensures exact { result ≡ option_map (λ o. o.place) (due_of (fit_among holdings.now time vendor.now) before) }
+    ensures pays { IfSome result (IsFitAt holdings.now time vendor.now) }
+{
+    let mut first = None;
+    for (place, x) in holdings.iter().enumerate() {
+        let end = x.piece.expires();
+        if is_fit(x, time, vendor) {
+            first = lesser(first, end <= before.seconds(), place, end);
+        }
+    }
+    match first {
+        Some((place, _)) => Some(place),
+        None => None,
     }
 }
 
@@ -54,21 +80,15 @@ fn greater(a: u64, b: u64) -> u64
     if a < b { b } else { a }
 }
 
-/// The one of least value of those before, if there is one, and a piece of this place and value, if it covers
-/// the limit.
-fn lesser(
-    least: Option<(usize, u64)>,
-    place: usize,
-    value: u64,
-    limit: Amount,
-) -> Option<(usize, u64)>
-    ensures { result ≡ least_with limit least place value }
+/// The one of the least key of those before, if there is one, and a piece of this place and key, if it counts.
+fn lesser(least: Option<(usize, u64)>, counts: bool, place: usize, key: u64) -> Option<(usize, u64)>
+    ensures { result ≡ least_with counts least place key }
 {
-    if value < limit.get() {
+    if !counts {
         return least;
     }
     match least {
-        Some((_, lower)) if lower <= value => least,
-        _ => Some((place, value)),
+        Some((_, lower)) if lower <= key => least,
+        _ => Some((place, key)),
     }
 }

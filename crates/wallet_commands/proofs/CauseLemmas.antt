@@ -95,6 +95,7 @@ clocked_so (refusals.BadInput line) v c w clocked why = absurd why.1.3
 clocked_so (refusals.TwiceHeld id) v c w clocked why = absurd why.1.3
 clocked_so (refusals.NoFunds greatest) v c w clocked why = absurd why.1.3
 clocked_so refusals.Nothing v c w clocked why = subst (λ (u : LinkView). OnlyClocked v u) (sym why) clocked
+clocked_so refusals.NothingDue v c w clocked why = absurd why.1.3
 clocked_so (refusals.JournalFull size payload) v c w clocked why = inr (inr (c, clocked, why))
 clocked_so f v c w clocked why = (c, clocked, why)
 

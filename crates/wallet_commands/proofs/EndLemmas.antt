@@ -26,19 +26,22 @@ use Rattle.command_status.proofs.OpenLaws.{begins_with_header, not_spoiled, not_
 use Rattle.wallet_model.specs.Requests.{Pending, oldest_kept}
 use Rattle.wallet_model.specs.Holdings.{holdings}
 use Rattle.wallet_model.specs.Follows.{wallet_allows, WalletFollows, IsWalletBook}
-use Rattle.wallet_model.specs.Asks.{Asking, pend_entry}
+use Rattle.wallet_model.specs.Asks.{Offered, Asking, pend_entry, due_entry}
 use Rattle.wallet_model.specs.Settling.{settlement}
 use Rattle.wallet_tasks.specs.Settled.{bought}
 use Rattle.wallet_tasks.specs.Taking.{take_entry}
+use Rattle.held_lines.specs.Resold.{resold_for}
+use Rattle.wallet_commands.specs.declared.saying.Saying.{Saying}
+use Rattle.wallet_commands.specs.declared.saying.Saying.TheVariants as sayings
 use Rattle.wallet_commands.specs.Lines.{got_line, holding_lines}
 use Rattle.wallet_commands.specs.Books.{HasWallet, EncodesWallet, NotOpened}
 use Rattle.wallet_commands.specs.Causes.{WalletCauses}
 use Rattle.wallet_commands.specs.Founding.{InitCauses}
 use Rattle.wallet_commands.specs.Taking.{TookBy, TakesBook}
-use Rattle.wallet_commands.specs.Listing.{ListsBook}
+use Rattle.wallet_commands.specs.Listing.{ListsBook, SaysHeld, ListsHeld}
 use Rattle.wallet_commands.specs.Chaining.{ChainedBy, ChainsBook, switch_entry}
 use Rattle.wallet_commands.specs.Payments.{Learned, Settles, Stays, Breaks}
-use Rattle.wallet_commands.specs.Paying.{ended_by, SettlesBy, EndsBy, UsesLink, PaysBy, PaysBook, RetriesBy, RetriesBook}
+use Rattle.wallet_commands.specs.Paying.{ended_by, renewed_by, ended_as, SettlesAs, EndsAs, UsesLinkAs, PaysAs, PaysBook, RenewsBook, RetriesBy, RetriesBook}
 
 -- ---- the count of the links' faults did not fall
 
@@ -191,7 +194,18 @@ listed_well link disk a b status has calm causes (inr listed) = by_said listed.s
     by_said (inl did) = inl (ap number_of did)
     by_said (inr wants) = inr (ap number_of wants)
 
--- ---- paying and trying again
+held_readable : (os : List Offered) (status : Status) → SaysHeld os status → Readable status
+held_readable os ends.NotJournal said is = said
+held_readable os (ends.BadEntry place) said is = said
+held_readable os (ends.BadChain place) said is = said
+held_readable os (ends.UnlawfulEntry place) said is = said
+held_readable os status said is = absurd (cc is)
+
+pub told_well : {O : Type 0} (link : O → LinkView) (disk : O → DiskView) (vendor : List ℕ) (a b : O) (status : Status) (has : HasWallet (disk a)) → Calm link disk a b → WalletCauses link disk a status b → ListsHeld link disk vendor has.bytes a status b → Well status
+told_well link disk vendor a b status has calm causes (inl not) = inr (inl (only_memory link disk has.history has.bytes a b status has.stands has.lawful calm causes not))
+told_well link disk vendor a b status has calm causes (inr at) = well_by link disk a b status calm causes (held_readable (resold_for at.history (max (time at.history) at.moment) vendor) status at.does.0)
+
+-- ---- paying, renewing and trying again
 
 got_readable : (o : Option Scrip) → Readable (unwrap_or (option_map (λ x. ends.Did (got_line x)) o) ends.Done)
 got_readable None is = cc is
@@ -204,55 +218,73 @@ ended_readable p r is = by_test (r.status == 200) refl
     by_test true test = got_readable (bought p.ask r.contents) (rw test at is)
     by_test false test = cc (rw test at is)
 
-settled_readable : (h : History) (t n : ℕ) (p : Pending) (r : Received) (before : LinkView) (status : Status) (d : DiskView) (after : LinkView) → SettlesBy h t n p r before status d after → Readable status
-settled_readable h t n p r before ends.NotJournal d after settles is = by_end settles.1
+renewed_readable : (vendor : List ℕ) (h : History) (e : Entry) (r : Received) → Readable (renewed_by vendor h e r)
+renewed_readable vendor h e r is = by_test (r.status == 200) refl
   where
-    by_end : ((ends.NotJournal ≡ ended_by p r) × EncodesWallet d (h ++ settlement h t n p r ∷ [])) ⊎ ((f : Refusal) × (ends.NotJournal ≡ ends.Refused f) × (fitted h FULL (settlement h t n p r) ≡ Err (lines.Refuse f)) × EncodesWallet d h) → ⊥
-    by_end (inl done) = told_as ends.NotJournal (ended_by p r) done.0 (ended_readable p r) refl
+    by_test : (b : Bool) → (r.status == 200) ≡ b → ⊥
+    by_test true test = cc (rw test at is)
+    by_test false test = cc (rw test at is)
+
+told_readable : (k : Saying) (h : History) (e : Entry) (p : Pending) (r : Received) → Readable (ended_as k h e p r)
+told_readable sayings.Contents h e p r = ended_readable p r
+told_readable (sayings.Renewal vendor) h e p r = renewed_readable vendor h e r
+
+settled_readable : (k : Saying) (h : History) (t n : ℕ) (p : Pending) (r : Received) (before : LinkView) (status : Status) (d : DiskView) (after : LinkView) → SettlesAs k h t n p r before status d after → Readable status
+settled_readable k h t n p r before ends.NotJournal d after settles is = by_end settles.1
+  where
+    by_end : ((ends.NotJournal ≡ ended_as k h (settlement h t n p r) p r) × EncodesWallet d (h ++ settlement h t n p r ∷ [])) ⊎ ((f : Refusal) × (ends.NotJournal ≡ ends.Refused f) × (fitted h FULL (settlement h t n p r) ≡ Err (lines.Refuse f)) × EncodesWallet d h) → ⊥
+    by_end (inl done) = told_as ends.NotJournal (ended_as k h (settlement h t n p r) p r) done.0 (told_readable k h (settlement h t n p r) p r) refl
     by_end (inr full) = told_as ends.NotJournal (ends.Refused full.0) full.1 (λ e. cc e) refl
-settled_readable h t n p r before (ends.BadEntry place) d after settles is = by_end settles.1
+settled_readable k h t n p r before (ends.BadEntry place) d after settles is = by_end settles.1
   where
-    by_end : ((ends.BadEntry place ≡ ended_by p r) × EncodesWallet d (h ++ settlement h t n p r ∷ [])) ⊎ ((f : Refusal) × (ends.BadEntry place ≡ ends.Refused f) × (fitted h FULL (settlement h t n p r) ≡ Err (lines.Refuse f)) × EncodesWallet d h) → ⊥
-    by_end (inl done) = told_as (ends.BadEntry place) (ended_by p r) done.0 (ended_readable p r) refl
+    by_end : ((ends.BadEntry place ≡ ended_as k h (settlement h t n p r) p r) × EncodesWallet d (h ++ settlement h t n p r ∷ [])) ⊎ ((f : Refusal) × (ends.BadEntry place ≡ ends.Refused f) × (fitted h FULL (settlement h t n p r) ≡ Err (lines.Refuse f)) × EncodesWallet d h) → ⊥
+    by_end (inl done) = told_as (ends.BadEntry place) (ended_as k h (settlement h t n p r) p r) done.0 (told_readable k h (settlement h t n p r) p r) refl
     by_end (inr full) = told_as (ends.BadEntry place) (ends.Refused full.0) full.1 (λ e. cc e) refl
-settled_readable h t n p r before (ends.BadChain place) d after settles is = by_end settles.1
+settled_readable k h t n p r before (ends.BadChain place) d after settles is = by_end settles.1
   where
-    by_end : ((ends.BadChain place ≡ ended_by p r) × EncodesWallet d (h ++ settlement h t n p r ∷ [])) ⊎ ((f : Refusal) × (ends.BadChain place ≡ ends.Refused f) × (fitted h FULL (settlement h t n p r) ≡ Err (lines.Refuse f)) × EncodesWallet d h) → ⊥
-    by_end (inl done) = told_as (ends.BadChain place) (ended_by p r) done.0 (ended_readable p r) refl
+    by_end : ((ends.BadChain place ≡ ended_as k h (settlement h t n p r) p r) × EncodesWallet d (h ++ settlement h t n p r ∷ [])) ⊎ ((f : Refusal) × (ends.BadChain place ≡ ends.Refused f) × (fitted h FULL (settlement h t n p r) ≡ Err (lines.Refuse f)) × EncodesWallet d h) → ⊥
+    by_end (inl done) = told_as (ends.BadChain place) (ended_as k h (settlement h t n p r) p r) done.0 (told_readable k h (settlement h t n p r) p r) refl
     by_end (inr full) = told_as (ends.BadChain place) (ends.Refused full.0) full.1 (λ e. cc e) refl
-settled_readable h t n p r before (ends.UnlawfulEntry place) d after settles is = by_end settles.1
+settled_readable k h t n p r before (ends.UnlawfulEntry place) d after settles is = by_end settles.1
   where
-    by_end : ((ends.UnlawfulEntry place ≡ ended_by p r) × EncodesWallet d (h ++ settlement h t n p r ∷ [])) ⊎ ((f : Refusal) × (ends.UnlawfulEntry place ≡ ends.Refused f) × (fitted h FULL (settlement h t n p r) ≡ Err (lines.Refuse f)) × EncodesWallet d h) → ⊥
-    by_end (inl done) = told_as (ends.UnlawfulEntry place) (ended_by p r) done.0 (ended_readable p r) refl
+    by_end : ((ends.UnlawfulEntry place ≡ ended_as k h (settlement h t n p r) p r) × EncodesWallet d (h ++ settlement h t n p r ∷ [])) ⊎ ((f : Refusal) × (ends.UnlawfulEntry place ≡ ends.Refused f) × (fitted h FULL (settlement h t n p r) ≡ Err (lines.Refuse f)) × EncodesWallet d h) → ⊥
+    by_end (inl done) = told_as (ends.UnlawfulEntry place) (ended_as k h (settlement h t n p r) p r) done.0 (told_readable k h (settlement h t n p r) p r) refl
     by_end (inr full) = told_as (ends.UnlawfulEntry place) (ends.Refused full.0) full.1 (λ e. cc e) refl
-settled_readable h t n p r before status d after settles is = absurd (cc is)
+settled_readable k h t n p r before status d after settles is = absurd (cc is)
 
-ends_readable : (h : History) (t n : ℕ) (p : Pending) (learned : Learned) (before : LinkView) (status : Status) (d : DiskView) (after : LinkView) → EndsBy h t n p learned before status d after → Readable status
-ends_readable h t n p (Stays f) before status d after by = told_as status (ends.Refused f) by.0 (λ is. cc is)
-ends_readable h t n p Breaks before status d after by = told_as status ends.LinkFault by.0 (λ is. cc is)
-ends_readable h t n p (Settles r) before status d after by = settled_readable h t n p r before status d after by
+ends_readable : (k : Saying) (h : History) (t n : ℕ) (p : Pending) (learned : Learned) (before : LinkView) (status : Status) (d : DiskView) (after : LinkView) → EndsAs k h t n p learned before status d after → Readable status
+ends_readable k h t n p (Stays f) before status d after by = told_as status (ends.Refused f) by.0 (λ is. cc is)
+ends_readable k h t n p Breaks before status d after by = told_as status ends.LinkFault by.0 (λ is. cc is)
+ends_readable k h t n p (Settles r) before status d after by = settled_readable k h t n p r before status d after by
 
-used_readable : {O : Type 0} (link : O → LinkView) (disk : O → DiskView) (h : History) (t n : ℕ) (p : Pending) (a b : O) (status : Status) → UsesLink link disk h t n p a status b → Readable status
-used_readable link disk h t n p a b status used = ends_readable h t n p used.learned used.middle status (disk b) (link b) used.ends'
+used_readable : (k : Saying) {O : Type 0} (link : O → LinkView) (disk : O → DiskView) (h : History) (t n : ℕ) (p : Pending) (a b : O) (status : Status) → UsesLinkAs k link disk h t n p a status b → Readable status
+used_readable k link disk h t n p a b status used = ends_readable k h t n p used.learned used.middle status (disk b) (link b) used.ends'
 
-paid_readable : {O : Type 0} (link : O → LinkView) (disk : O → DiskView) (h : History) (t : ℕ) (todo : Result Entry Refusal) (a b : O) (clocked : LinkView) (status : Status) → PaysBy link disk h t todo a clocked status b → Readable status
-paid_readable link disk h t (Err f) a b clocked status (inl is, not) = told_as status (ends.Refused f) is (λ e. cc e)
-paid_readable link disk h t (Err f) a b clocked status (inr is, not) = told_as status ends.NoMemory is (λ e. cc e)
-paid_readable link disk h t (Ok e) a b clocked status (inl (inl is, not)) = told_as status ends.NoMemory is (λ x. cc x)
-paid_readable link disk h t (Ok e) a b clocked status (inl (inr full, not)) = told_as status (ends.Refused full.0) full.1 (λ x. cc x)
-paid_readable link disk h t (Ok e) a b clocked status (inr (inl doubt)) = told_as status ends.DiskFault doubt.0 (λ x. cc x)
-paid_readable link disk h t (Ok e) a b clocked status (inr (inr asked)) = used_readable link disk (h ++ e ∷ []) t (length h) asked.p asked.entered b status asked.since
+paid_readable : (k : Saying) {O : Type 0} (link : O → LinkView) (disk : O → DiskView) (h : History) (t : ℕ) (todo : Result Entry Refusal) (a b : O) (clocked : LinkView) (status : Status) → PaysAs k link disk h t todo a clocked status b → Readable status
+paid_readable k link disk h t (Err f) a b clocked status (inl is, not) = told_as status (ends.Refused f) is (λ e. cc e)
+paid_readable k link disk h t (Err f) a b clocked status (inr is, not) = told_as status ends.NoMemory is (λ e. cc e)
+paid_readable k link disk h t (Ok e) a b clocked status (inl (inl is, not)) = told_as status ends.NoMemory is (λ x. cc x)
+paid_readable k link disk h t (Ok e) a b clocked status (inl (inr full, not)) = told_as status (ends.Refused full.0) full.1 (λ x. cc x)
+paid_readable k link disk h t (Ok e) a b clocked status (inr (inl doubt)) = told_as status ends.DiskFault doubt.0 (λ x. cc x)
+paid_readable k link disk h t (Ok e) a b clocked status (inr (inr asked)) = used_readable k link disk (h ++ e ∷ []) t (length h) asked.p asked.entered b status asked.since
 
 pub paid_well : {O : Type 0} (link : O → LinkView) (disk : O → DiskView) (asking : Asking) (a b : O) (status : Status) (has : HasWallet (disk a)) → Calm link disk a b → WalletCauses link disk a status b → PaysBook link disk asking has.bytes a status b → Well status
 paid_well link disk asking a b status has calm causes (inl not) = inr (inl (only_memory link disk has.history has.bytes a b status has.stands has.lawful calm causes not))
 paid_well link disk asking a b status has calm causes (inr (inl wanted)) = inr (inl (ap number_of wanted.memory))
 paid_well link disk asking a b status has calm causes (inr (inr at)) =
     well_by link disk a b status calm causes
-    (paid_readable link disk at.history (max (time at.history) at.moment) (pend_entry at.history (max (time at.history) at.moment) asking) a b at.clocked status at.does)
+    (paid_readable sayings.Contents link disk at.history (max (time at.history) at.moment) (pend_entry at.history (max (time at.history) at.moment) asking) a b at.clocked status at.does)
+
+pub renewed_well : {O : Type 0} (link : O → LinkView) (disk : O → DiskView) (vendor target : List ℕ) (before : ℕ) (a b : O) (status : Status) (has : HasWallet (disk a)) → Calm link disk a b → WalletCauses link disk a status b → RenewsBook link disk vendor target before has.bytes a status b → Well status
+renewed_well link disk vendor target before a b status has calm causes (inl not) = inr (inl (only_memory link disk has.history has.bytes a b status has.stands has.lawful calm causes not))
+renewed_well link disk vendor target before a b status has calm causes (inr (inl wanted)) = inr (inl (ap number_of wanted.memory))
+renewed_well link disk vendor target before a b status has calm causes (inr (inr at)) =
+    well_by link disk a b status calm causes
+    (paid_readable (sayings.Renewal vendor) link disk at.history (max (time at.history) at.moment) (due_entry at.history (max (time at.history) at.moment) vendor target before) a b at.clocked status at.does)
 
 tried_readable : {O : Type 0} (link : O → LinkView) (disk : O → DiskView) (h : History) (t : ℕ) (o : Option (ℕ × Pending)) (a b : O) (clocked : LinkView) (status : Status) → RetriesBy link disk h t o a clocked status b → Readable status
 tried_readable link disk h t None a b clocked status by = told_as status (ends.Refused refusals.Nothing) by.0 (λ e. cc e)
-tried_readable link disk h t (Some k) a b clocked status by = used_readable link disk h t k.0 k.1 by.kept b status by.since
+tried_readable link disk h t (Some k) a b clocked status by = used_readable sayings.Contents link disk h t k.0 k.1 by.kept b status by.since
 
 pub tried_well : {O : Type 0} (link : O → LinkView) (disk : O → DiskView) (peer : List ℕ) (a b : O) (status : Status) (has : HasWallet (disk a)) → Calm link disk a b → WalletCauses link disk a status b → RetriesBook link disk peer has.bytes a status b → Well status
 tried_well link disk peer a b status has calm causes (inl not) = inr (inl (only_memory link disk has.history has.bytes a b status has.stands has.lawful calm causes not))

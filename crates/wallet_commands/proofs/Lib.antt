@@ -10,3 +10,4 @@ pub mod ChainLemmas
 pub mod EndLemmas
 pub mod FoundLemmas
 pub mod LineLemmas
+pub mod HeldLemmas

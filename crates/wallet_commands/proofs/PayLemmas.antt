@@ -1,6 +1,6 @@
 -- How a request is entered, or chosen, at a reading of the clock.
 use Rattle.std.proofs.Common.{◌≡◌, ◌∙◌, inl, inr, ⊎_elim, ℕ, true, List, [], ◌∷◌, ◌++◌, max, refl, sym, ap, subst, Option, Some, None, Result, Ok, Err}
-use Rattle.std.specs.Prelude.{IsSome, is_some}
+use Rattle.std.specs.Prelude.{IsSome, is_some, option_map}
 use Rattle.mc_outside.specs.DiskView.{DiskView, IsDisk, LinkKeeps, Ran}
 use Rattle.mc_outside.specs.LinkView.{LinkView}
 use Rattle.mc_outside.proofs.Runs.{ran_then, ran_weaker, ran_now}
@@ -21,17 +21,23 @@ use Rattle.millicent_http.specs.Courses.{AreRead, with_readings}
 use Rattle.command_status.specs.declared.status.Status.{Status}
 use Rattle.command_status.specs.declared.status.Status.TheVariants as ends
 use Rattle.wallet_model.specs.Requests.{Pending, pending_of, oldest_kept}
-use Rattle.wallet_model.specs.Asks.{Asking, get, buy, draw, Offered, chosen, paid_with, pend_entry}
+use Rattle.wallet_model.specs.Asks.{Asking, get, buy, draw, Offered, chosen, due, paid_with, pend_entry, or_none_due, due_entry}
 use Rattle.wallet_model.proofs.BookLaws.{book_grows}
 use Rattle.wallet_book.specs.Kept.{kept_in, Retries}
+use Rattle.wallet_tasks.specs.declared.ask.Ask.{Ask}
+use Rattle.wallet_tasks.specs.declared.ask.Ask.TheVariants as what_is
+use Rattle.wallet_tasks.specs.Asks.{asking_of, pend_with_entry}
+use Rattle.wallet_tasks.proofs.AskLaws.{due_pays}
 use Rattle.wallet_core.specs.declared.wallet.Wallet.{Wallet}
 use Rattle.wallet_core.specs.declared.outcome.WalletOut.{WalletOut}
 use Rattle.wallet_core.specs.declared.outcome.WalletOut.TheVariants as outs
 use Rattle.wallet_core.specs.Wallet.{WalletStands}
 use Rattle.wallet_core.specs.Answers.{TellsNumber}
-use Rattle.wallet_core.specs.Outcomes.{outcome_disk, Adds, LeavesBy}
+use Rattle.wallet_core.specs.Outcomes.{outcome_disk, Adds, LeavesBy, Performs}
+use Rattle.wallet_commands.specs.declared.saying.Saying.{Saying}
+use Rattle.wallet_commands.specs.declared.saying.Saying.TheVariants as sayings
 use Rattle.wallet_commands.specs.Books.{EncodesEither, IsKnown, Opened, OldPair, EntryPair}
-use Rattle.wallet_commands.specs.Paying.{UsesLink, NotAsked, PaysBy, Clocked, RetriesBy}
+use Rattle.wallet_commands.specs.Paying.{UsesLink, UsesLinkAs, NotAsked, PaysAs, Clocked, RetriesBy}
 use Rattle.command_input.proofs.AsideLemmas.{TellsAside, no_more_still, aside_still}
 use Rattle.wallet_commands.proofs.BookLemmas.{on_disk, one_book, tells_on, old_pairs}
 use Rattle.wallet_commands.proofs.KeptLemmas.{entered_is_kept, oldest_is_kept}
@@ -48,6 +54,18 @@ asks h t (get vendor target limit) e is = asked_with t 0 vendor target (chosen h
 asks h t (buy broker vendor amount limit) e is = asked_with t 1 broker (errand_text (errands.buy vendor amount)) (chosen h t broker limit) e is
 asks h t (draw broker account key order amount) e is = (record { ask = 2; peer = broker; target = errand_text (errands.draw account order amount); scrip = None; secret = key }, sym (ap pending_of (let same : Pend t 2 broker (errand_text (errands.draw account order amount)) None key ≡ e = cc in same)))
 
+-- and so is that of a renewal
+pub due_asks : (h : History) (t : ℕ) (vendor target : List ℕ) (before : ℕ) (e : Entry) → due_entry h t vendor target before ≡ Ok e → (p : Pending) × (pending_of e ≡ Some p)
+due_asks h t vendor target before e is = asked_with t 0 vendor target (or_none_due (due h t vendor before)) e is
+
+-- what a wallet does with the piece of the place that is due it does for the renewal
+pub due_performs : {O A : Type 0} (disk : O → DiskView) (y : Wallet O) (h : History) (vendor target : List ℕ) (before limit place : ℕ) (ask : Ask) (T : Entry → A → Type 0) (out : WalletOut O A) → ask ≡ what_is.Get vendor target limit
+    → Some place ≡ option_map (λ o. o.place) (due h y.book.time vendor before) → (e : Entry) × (pend_with_entry h y.book.time place (asking_of ask) ≡ Some e) × Performs disk y h (Ok e) T out
+    → Performs disk y h (due_entry h y.book.time vendor target before) T out
+due_performs disk y h vendor target before limit place ask T out what at done =
+    let pays : pend_with_entry h y.book.time place (get vendor target limit) ≡ Some done.0 = ap (λ (a : Ask). pend_with_entry h y.book.time place (asking_of a)) (sym what) ∙ done.1 in
+    subst (λ (todo : Result Entry Refusal). Performs disk y h todo T out) (sym (due_pays h y.book.time vendor target before limit place done.0 at pays)) done.2
+
 told_before : {A : Type 0} (o q : Option A) (x : A) → is_some q ≡ is_some o → q ≡ Some x → (y : A) × (o ≡ Some y)
 told_before None q x same is = let b : is_some q ≡ true = ap is_some is in absurd (cc (same, b))
 told_before (Some y) q x same is = (y, refl)
@@ -57,17 +75,18 @@ pub known_on : {O : Type 0} (disk : O → DiskView) (x y : Wallet O) → LinkKee
 known_on disk x y keeps stands known bytes told = let at = known bytes (sym keeps.contents ∙ told) in (at.0, stands at.0 at.1)
 
 -- the request that was just entered is kept, whatever history the wallet stands for
-pub pend_keeps : {O : Type 0} (disk : O → DiskView) (y z : Wallet O) (asking : Asking) (number : ℕ) → IsKnown disk y → is_some (disk z.journal.disk).contents ≡ is_some (disk y.journal.disk).contents
-    → ((h : History) → WalletStands disk y h → Adds disk y h (pend_entry h y.book.time asking) (TellsNumber h) (outs.Done z number)) → (g : History) → WalletStands disk z g → (p : Pending) × (kept_in g number ≡ Some p)
-pend_keeps disk y z asking number known tells adds g st =
+pub pend_keeps : {O : Type 0} (disk : O → DiskView) (y z : Wallet O) (todo : History → Result Entry Refusal) (number : ℕ) → ((h : History) (e : Entry) → todo h ≡ Ok e → (p : Pending) × (pending_of e ≡ Some p)) → IsKnown disk y
+    → is_some (disk z.journal.disk).contents ≡ is_some (disk y.journal.disk).contents
+    → ((h : History) → WalletStands disk y h → Adds disk y h (todo h) (TellsNumber h) (outs.Done z number)) → (g : History) → WalletStands disk z g → (p : Pending) × (kept_in g number ≡ Some p)
+pend_keeps disk y z todo number asks_it known tells adds g st =
     let before = told_before (disk y.journal.disk).contents (disk z.journal.disk).contents st.journal.bytes tells st.journal.told in
     let stood = known before.0 before.1 in
-    by_todo stood.0 stood.1 (pend_entry stood.0 y.book.time asking) refl (adds stood.0 stood.1)
+    by_todo stood.0 stood.1 (todo stood.0) refl (adds stood.0 stood.1)
   where
-    by_todo : (h : History) → WalletStands disk y h → (todo : Result Entry Refusal) → pend_entry h y.book.time asking ≡ todo → Adds disk y h todo (TellsNumber h) (outs.Done z number) → (p : Pending) × (kept_in g number ≡ Some p)
+    by_todo : (h : History) → WalletStands disk y h → (r : Result Entry Refusal) → todo h ≡ r → Adds disk y h r (TellsNumber h) (outs.Done z number) → (p : Pending) × (kept_in g number ≡ Some p)
     by_todo h at (Err f) is added = absurd added
     by_todo h at (Ok e) is added =
-        let p = asks h y.book.time asking e is in
+        let p = asks_it h e is in
         (p.0, ap (λ (i : History). kept_in i number) (one_book disk z g (h ++ e ∷ []) st added.0.stands) ∙ ap (kept_in (h ++ e ∷ [])) added.1 ∙ entered_is_kept h e p.0 at.book.lawful p.1)
 
 -- ---- while an entry is written
@@ -132,7 +151,7 @@ module _ {O : Type 0} (link : O → LinkView) (disk : O → DiskView) (bytes : L
       ∙ at.opened.untouched.read.aside
 
   -- nothing was entered
-  not_asked : (z : Wallet O) → WalletStands disk z at.opened.opened.history → z.journal ≡ y.journal → NotAsked link disk at.opened.opened.history a (link y.journal.disk) z.journal.disk
+  pub not_asked : (z : Wallet O) → WalletStands disk z at.opened.opened.history → z.journal ≡ y.journal → NotAsked link disk at.opened.opened.history a (link y.journal.disk) z.journal.disk
   not_asked z st same = record {
     left = on_disk disk z at.opened.opened.history st;
     link' = ap (λ (j : AtRest O). link j.disk) same;
@@ -146,33 +165,40 @@ module _ {O : Type 0} (link : O → LinkView) (disk : O → DiskView) (bytes : L
   -- ---- paying
 
   -- it was refused
-  pub pay_refused : (todo : Result Entry Refusal) (z : Wallet O) (f : Refusal) (T : Entry → ℕ → Type 0) → y.book.limits ≡ FULL → Adds disk y at.opened.opened.history todo T (outs.Refused z f)
-      → PaysBy link disk at.opened.opened.history y.book.time todo a (link y.journal.disk) (ends.Refused f) z.journal.disk
-  pay_refused (Ok e) z f T limits adds = inl (inr (f, refl, subst (λ (l : Limits). fitted at.opened.opened.history l e ≡ Err (lines.Refuse f)) limits adds.0), not_asked z adds.1.stands adds.1.journal')
-  pay_refused (Err g) z f T limits adds = (inl (ap (λ (r : Refusal). ends.Refused r) adds.0), not_asked z adds.1.stands adds.1.journal')
+  pub pay_refused : (k : Saying) (todo : Result Entry Refusal) (z : Wallet O) (f : Refusal) (T : Entry → ℕ → Type 0) → y.book.limits ≡ FULL → Adds disk y at.opened.opened.history todo T (outs.Refused z f)
+      → PaysAs k link disk at.opened.opened.history y.book.time todo a (link y.journal.disk) (ends.Refused f) z.journal.disk
+  pay_refused k (Ok e) z f T limits adds = inl (inr (f, refl, subst (λ (l : Limits). fitted at.opened.opened.history l e ≡ Err (lines.Refuse f)) limits adds.0), not_asked z adds.1.stands adds.1.journal')
+  pay_refused k (Err g) z f T limits adds = (inl (ap (λ (r : Refusal). ends.Refused r) adds.0), not_asked z adds.1.stands adds.1.journal')
+
+  -- nothing is due
+  pub not_due : (vendor target : List ℕ) (before : ℕ) → due_entry at.opened.opened.history y.book.time vendor target before ≡ Err refusals.NothingDue
+      → PaysAs (sayings.Renewal vendor) link disk at.opened.opened.history y.book.time (due_entry at.opened.opened.history y.book.time vendor target before) a (link y.journal.disk) (ends.Refused refusals.NothingDue) y.journal.disk
+  not_due vendor target before none =
+      subst (λ (todo : Result Entry Refusal). PaysAs (sayings.Renewal vendor) link disk at.opened.opened.history y.book.time todo a (link y.journal.disk) (ends.Refused refusals.NothingDue) y.journal.disk) (sym none)
+      (inl refl, not_asked y at.stands refl)
 
   -- memory was refused
-  pub pay_wants : (todo : Result Entry Refusal) (z : Wallet O) (T : Entry → ℕ → Type 0) → Adds disk y at.opened.opened.history todo T (outs.NoMemory z)
-      → PaysBy link disk at.opened.opened.history y.book.time todo a (link y.journal.disk) ends.NoMemory z.journal.disk
-  pay_wants (Ok e) z T adds = inl (inl refl, not_asked z adds.stands adds.journal')
-  pay_wants (Err g) z T adds = (inr refl, not_asked z adds.stands adds.journal')
+  pub pay_wants : (k : Saying) (todo : Result Entry Refusal) (z : Wallet O) (T : Entry → ℕ → Type 0) → Adds disk y at.opened.opened.history todo T (outs.NoMemory z)
+      → PaysAs k link disk at.opened.opened.history y.book.time todo a (link y.journal.disk) ends.NoMemory z.journal.disk
+  pay_wants k (Ok e) z T adds = inl (inl refl, not_asked z adds.stands adds.journal')
+  pay_wants k (Err g) z T adds = (inr refl, not_asked z adds.stands adds.journal')
 
   -- the disk failed
-  pub pay_doubted : (todo : Result Entry Refusal) (d : O) (T : Entry → ℕ → Type 0) → IsDisk (disk d) → link d ≡ link y.journal.disk → Adds disk y at.opened.opened.history todo T (outs.Halted d)
-      → Ran (disk y.journal.disk) (disk d) (LeavesBy {A = ℕ} todo (outs.Halted d) at.opened.opened.history (disk y.journal.disk).aside) → PaysBy link disk at.opened.opened.history y.book.time todo a (link y.journal.disk) ends.DiskFault d
-  pay_doubted (Ok e) d T is_disk same adds ran = inr (inl (refl, record { left = doubted disk at.opened.opened.history y e d T is_disk at.stands adds ran; link' = same; pairs = entered_pairs {A = ℕ} e (outs.Halted d) ran }))
-  pay_doubted (Err g) d T is_disk same adds ran = absurd adds
+  pub pay_doubted : (k : Saying) (todo : Result Entry Refusal) (d : O) (T : Entry → ℕ → Type 0) → IsDisk (disk d) → link d ≡ link y.journal.disk → Adds disk y at.opened.opened.history todo T (outs.Halted d)
+      → Ran (disk y.journal.disk) (disk d) (LeavesBy {A = ℕ} todo (outs.Halted d) at.opened.opened.history (disk y.journal.disk).aside) → PaysAs k link disk at.opened.opened.history y.book.time todo a (link y.journal.disk) ends.DiskFault d
+  pay_doubted k (Ok e) d T is_disk same adds ran = inr (inl (refl, record { left = doubted disk at.opened.opened.history y e d T is_disk at.stands adds ran; link' = same; pairs = entered_pairs {A = ℕ} e (outs.Halted d) ran }))
+  pay_doubted k (Err g) d T is_disk same adds ran = absurd adds
 
   -- the request was entered, and a link used for it
-  pub pay_asked : (asking : Asking) (todo : Result Entry Refusal) (z : Wallet O) (number : ℕ) (status : Status) (b : O) → pend_entry at.opened.opened.history y.book.time asking ≡ todo → link z.journal.disk ≡ link y.journal.disk
+  pub pay_asked : (k : Saying) (todo : Result Entry Refusal) (z : Wallet O) (number : ℕ) (status : Status) (b : O) → ((e : Entry) → todo ≡ Ok e → (p : Pending) × (pending_of e ≡ Some p)) → link z.journal.disk ≡ link y.journal.disk
       → Adds disk y at.opened.opened.history todo (TellsNumber at.opened.opened.history) (outs.Done z number)
       → Ran (disk y.journal.disk) (disk z.journal.disk) (LeavesBy todo (outs.Done z number) at.opened.opened.history (disk y.journal.disk).aside)
-      → ((g : History) (p : Pending) → WalletStands disk z g → kept_in g number ≡ Some p → UsesLink link disk g z.book.time number p z.journal.disk status b)
-      → PaysBy link disk at.opened.opened.history y.book.time todo a (link y.journal.disk) status b
-  pay_asked asking (Err f) z number status b is same adds ran used = absurd adds
-  pay_asked asking (Ok e) z number status b is same adds ran used =
+      → ((g : History) (p : Pending) → WalletStands disk z g → kept_in g number ≡ Some p → UsesLinkAs k link disk g z.book.time number p z.journal.disk status b)
+      → PaysAs k link disk at.opened.opened.history y.book.time todo a (link y.journal.disk) status b
+  pay_asked k (Err f) z number status b asks_it same adds ran used = absurd adds
+  pay_asked k (Ok e) z number status b asks_it same adds ran used =
       let h : History = at.opened.opened.history in
-      let asked = asks h y.book.time asking e is in
+      let asked = asks_it e refl in
       let kept : kept_in (h ++ e ∷ []) number ≡ Some asked.0 = ap (kept_in (h ++ e ∷ [])) adds.1 ∙ entered_is_kept h e asked.0 at.stands.book.lawful asked.1 in
       inr (inr (record {
         p = asked.0;
@@ -181,8 +207,8 @@ module _ {O : Type 0} (link : O → LinkView) (disk : O → DiskView) (bytes : L
         stands = on_disk disk z (h ++ e ∷ []) adds.0.stands;
         link' = same;
         until = entered_pairs e (outs.Done z number) ran;
-        since = subst (λ (n : ℕ). UsesLink link disk (h ++ e ∷ []) y.book.time n asked.0 z.journal.disk status b) adds.1
-            (subst (λ (t : ℕ). UsesLink link disk (h ++ e ∷ []) t number asked.0 z.journal.disk status b) adds.0.time' (used (h ++ e ∷ []) asked.0 adds.0.stands kept));
+        since = subst (λ (n : ℕ). UsesLinkAs k link disk (h ++ e ∷ []) y.book.time n asked.0 z.journal.disk status b) adds.1
+            (subst (λ (t : ℕ). UsesLinkAs k link disk (h ++ e ∷ []) t number asked.0 z.journal.disk status b) adds.0.time' (used (h ++ e ∷ []) asked.0 adds.0.stands kept));
       }))
 
   -- ---- trying again

@@ -24,8 +24,10 @@ use Rattle.wallet_model.specs.Settling.{check_of}
 use Rattle.wallet_core.specs.declared.wallet.Wallet.{Wallet}
 use Rattle.wallet_core.specs.Wallet.{WalletStands}
 use Rattle.wallet_core.specs.Checking.{IsWritten}
+use Rattle.wallet_commands.specs.declared.saying.Saying.{Saying}
 use Rattle.wallet_commands.specs.Payments.{Stays, Breaks, SentPart, Learns, Read}
-use Rattle.wallet_commands.specs.Paying.{EndsBy, UsePair, UsesLink, settled_by}
+use Rattle.wallet_commands.specs.Paying as paying
+use Rattle.wallet_commands.specs.Paying.{UsePair, UsesLinkAs, settled_by}
 use Rattle.wallet_commands.specs.Replies.{learned_by, learned_of, SettledPair, EndsReply, ReadsReply}
 use Rattle.command_input.proofs.AsideLemmas.{TellsAside, SentNoMore, no_more_then, no_more_still, no_more_heard, no_more_finished, aside_still, still_told, quiet_link}
 use Rattle.wallet_commands.proofs.SentLemmas.{SentMore, more_none, more_on_next, still_tells, aside_more, begins_itself, begins_take, begun_link}
@@ -56,10 +58,10 @@ took_counts u v answer took other = answer_counts took.got answer (after_recv to
 pub took_rose : (u v : LinkView) → TookReply u (Err replies.Fault) v → Rose u.faults v.faults
 took_rose u v took = took.ends.1.rose
 
-module _ {O : Type 0} (link : O → LinkView) (disk : O → DiskView) (h : History) (n : ℕ) (p : Pending) (all : TellsAside link (λ o. (disk o).aside)) where
+module _ (k : Saying) {O : Type 0} (link : O → LinkView) (disk : O → DiskView) (h : History) (n : ℕ) (p : Pending) (all : TellsAside link (λ o. (disk o).aside)) where
   -- a reply was read, and then this became of it
   pub read_reply : (t : ℕ) (r : Received) (x y : Wallet O) (status : Status) (b : O) → WalletStands disk x h → LinkKeeps (disk x.journal.disk) (disk y.journal.disk) → TookReply (link x.journal.disk) (Ok r) (link y.journal.disk)
-      → EndsReply link disk h t n p r y.journal.disk status b → ReadsReply link disk h t n p x.journal.disk status b
+      → EndsReply k link disk h t n p r y.journal.disk status b → ReadsReply k link disk h t n p x.journal.disk status b
   read_reply t r x y status b st keeps took ends' =
       let a : O = x.journal.disk in
       let m : O = y.journal.disk in
@@ -77,7 +79,7 @@ module _ {O : Type 0} (link : O → LinkView) (disk : O → DiskView) (h : Histo
 
   -- no reply was read, and the request stays kept
   pub no_reply : (t : ℕ) (fault : ReplyFault) (x y : Wallet O) (status : Status) → WalletStands disk x h → WalletStands disk y h → LinkKeeps (disk x.journal.disk) (disk y.journal.disk) → TookReply (link x.journal.disk) (Err fault) (link y.journal.disk)
-      → EndsBy h t n p (learned_of p (Err fault)) (link y.journal.disk) status (disk y.journal.disk) (link y.journal.disk) → ReadsReply link disk h t n p x.journal.disk status y.journal.disk
+      → paying.EndsAs k h t n p (learned_of p (Err fault)) (link y.journal.disk) status (disk y.journal.disk) (link y.journal.disk) → ReadsReply k link disk h t n p x.journal.disk status y.journal.disk
   no_reply t fault x y status st now keeps took ends' = record {
     answer = Err fault;
     middle = link y.journal.disk;
@@ -100,10 +102,10 @@ learns_of p (Err replies.NoReply) u v read = inr (inl (refl, read))
 learns_of p (Err replies.BadReply) u v read = inr (inr (inl (refl, read)))
 learns_of p (Err replies.Fault) u v read = inr (inr read)
 
-module _ {O : Type 0} (link : O → LinkView) (disk : O → DiskView) (h : History) (t n : ℕ) (p : Pending) (all : TellsAside link (λ o. (disk o).aside)) where
+module _ (k : Saying) {O : Type 0} (link : O → LinkView) (disk : O → DiskView) (h : History) (t n : ℕ) (p : Pending) (all : TellsAside link (λ o. (disk o).aside)) where
   -- the request was sent whole, and then a reply was read, or none
   pub used_link : (x y : Wallet O) (status : Status) (b : O) → WalletStands disk x h → LinkKeeps (disk x.journal.disk) (disk y.journal.disk) → link y.journal.disk ≡ after_send (request_bytes p) (next_taken (link x.journal.disk))
-      → ReadsReply link disk h t n p y.journal.disk status b → UsesLink link disk h t n p x.journal.disk status b
+      → ReadsReply k link disk h t n p y.journal.disk status b → UsesLinkAs k link disk h t n p x.journal.disk status b
   used_link x y status b st keeps sent reads =
       let a : O = x.journal.disk in
       let m : O = y.journal.disk in
@@ -125,7 +127,7 @@ module _ {O : Type 0} (link : O → LinkView) (disk : O → DiskView) (h : Histo
 
   -- no link came
   pub came_none : (x y : Wallet O) → WalletStands disk x h → WalletStands disk y h → LinkKeeps (disk x.journal.disk) (disk y.journal.disk) → link y.journal.disk ≡ none_left (link x.journal.disk)
-      → UsesLink link disk h t n p x.journal.disk (ends.Refused refusals.NoLink) y.journal.disk
+      → UsesLinkAs k link disk h t n p x.journal.disk (ends.Refused refusals.NoLink) y.journal.disk
   came_none x y st now keeps none = record {
     learned = Stays refusals.NoLink;
     middle = link y.journal.disk;
@@ -137,7 +139,7 @@ module _ {O : Type 0} (link : O → LinkView) (disk : O → DiskView) (h : Histo
 
   -- no link could be taken, or the request was not sent whole
   pub broke : (x y : Wallet O) → WalletStands disk x h → WalletStands disk y h → LinkKeeps (disk x.journal.disk) (disk y.journal.disk) → NoLink (link x.journal.disk) (link y.journal.disk) ⊎ SentPart (request_bytes p) (link x.journal.disk) (link y.journal.disk)
-      → UsesLink link disk h t n p x.journal.disk ends.LinkFault y.journal.disk
+      → UsesLinkAs k link disk h t n p x.journal.disk ends.LinkFault y.journal.disk
   broke x y st now keeps (inl none) = record {
     learned = Breaks;
     middle = link y.journal.disk;

@@ -75,14 +75,16 @@ abbrev pub NextRefused : Refusal → LinkView → LinkView → Type 0
 NextRefused f before after = (clocked : LinkView) × OnlyClocked before clocked × LinkRefused f clocked after
 
 -- Of a command over a book: the book is of another kind (52), and the links are as they were; of an input (53, 61); there
--- are no funds (62) or nothing is kept (67), and no link was taken; or it was refused on the next link. The journal is full
--- (33) for pieces of an input, for the request that was to be sent, or for what was read on the next link.
+-- are no funds (62), nothing is kept (67) or nothing is due (80), and no link was taken; or it was refused on the next
+-- link. The journal is full (33) for pieces of an input, for the request that was to be sent, or for what was read on the
+-- next link.
 abbrev pub RefusedBy : Refusal → LinkView → LinkView → Type 0
 RefusedBy refusals.WrongKind before after = after ≡ before
 RefusedBy (refusals.BadInput line) before after = InputTaken before after
 RefusedBy (refusals.TwiceHeld id) before after = InputTaken before after
 RefusedBy (refusals.NoFunds greatest) before after = OnlyClocked before after
 RefusedBy refusals.Nothing before after = OnlyClocked before after
+RefusedBy refusals.NothingDue before after = OnlyClocked before after
 RefusedBy (refusals.JournalFull size payload) before after = InputTaken before after ⊎ (OnlyClocked before after ⊎ NextRefused (refusals.JournalFull size payload) before after)
 RefusedBy f before after = NextRefused f before after
 

@@ -4,11 +4,12 @@ use Rattle.mc_outside.specs.DiskView.{DiskView, Ran}
 use Rattle.mc_outside.specs.LinkView.{LinkView}
 use Rattle.mc_records.specs.Entry.{Entry, Site}
 use Rattle.mc_records.specs.declared.refusal.Refusal.TheVariants as refusals
-use Rattle.scrip_journal.specs.Founds.{IsFree, IsTaken, FoundImage}
+use Rattle.scrip_journal.specs.Founds.{IsFree, IsTaken}
 use Rattle.millicent_http.specs.declared.clock.Clock.TheVariants.{OfLinks}
 use Rattle.millicent_http.specs.Courses.{AreRead, with_readings}
 use Rattle.command_status.specs.declared.status.Status.{Status}
 use Rattle.command_status.specs.declared.status.Status.TheVariants as ends
+use Rattle.command_status.specs.Founding.{FoundPair}
 use Rattle.wallet_commands.specs.Books.{EncodesWallet}
 use Rattle.wallet_commands.specs.Causes.{NoneFailed, DiskFailed}
 
@@ -16,19 +17,11 @@ use Rattle.wallet_commands.specs.Causes.{NoneFailed, DiskFailed}
 abbrev pub site_of : List ℕ → ℕ → Entry
 site_of name moment = Site moment 2 name None
 
--- The image of a crash pair, by how the command ended: where nothing was founded, one that a crash before could have
--- left; else also one of founding.
-abbrev pub FoundingImage : DiskView → Entry → Status → List ℕ → Type 0
-FoundingImage before site (ends.Refused f) image = before.leaves image
-FoundingImage before site ends.NoMemory image = before.leaves image
-FoundingImage before site status image = FoundImage before site image
-
--- The clock was read once, and each crash pair has such an image of the Site entry of that moment; where what is sent is
--- told, nothing was sent.
+-- The clock was read once, and each crash pair is of the Site entry of that moment.
 pub record FoundAt {O : Type 0} (link : O → LinkView) (disk : O → DiskView) (name : List ℕ) (a : O) (status : Status) (b : O) (moment : ℕ) : Type 0 where
   pub read : AreRead OfLinks (moment ∷ []) (link a).readings (link b).readings
   pub rest : link b ≡ with_readings (link b).readings (link a)
-  pub pairs : Ran (disk a) (disk b) (λ image sent. FoundingImage (disk a) (site_of name moment) status image × (IsSome (link a).sessions → sent ≡ (disk a).aside))
+  pub pairs : Ran (disk a) (disk b) (FoundPair (IsSome (link a).sessions) (disk a) (site_of name moment) status)
 
 -- what the disk is then, by how the command ended, where it had these bytes
 abbrev pub FoundsBy : DiskView → List ℕ → List ℕ → ℕ → Status → DiskView → Type 0

@@ -12,6 +12,14 @@ got_line p = codes "got " ++ p.vendor ++ codes " " ++ decimal p.value ++ codes "
 abbrev pub taken_line : ℕ → List ℕ
 taken_line count = codes "taken " ++ decimal count ++ codes "\n"
 
+-- of a renewal at a vendor: the value and the end of its change, or 0 and 0
+abbrev pub renewed_words : List ℕ → ℕ → ℕ → List ℕ
+renewed_words vendor value end = codes "renewed " ++ vendor ++ codes " " ++ decimal value ++ codes " " ++ decimal end ++ codes "\n"
+
+abbrev pub renewed_line : List ℕ → Option Scrip → List ℕ
+renewed_line vendor (Some p) = renewed_words vendor p.value p.expires
+renewed_line vendor None = renewed_words vendor 0 0
+
 abbrev pub state_word : PieceState → List ℕ
 state_word held = codes "held"
 state_word pending = codes "pending"

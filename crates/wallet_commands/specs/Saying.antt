@@ -4,10 +4,17 @@ use Rattle.mc_outside.specs.Bytes.{Rose, Told, AddsPart}
 use Rattle.mc_outside.specs.LinkView.{LinkView}
 use Rattle.reply_reader.specs.Replies.{Received}
 use Rattle.wallet_model.specs.Requests.{Pending}
+use Rattle.wallet_commands.specs.declared.saying.Saying.{Saying}
+use Rattle.wallet_commands.specs.declared.saying.Saying.TheVariants as sayings
 
 -- the contents that a get brings; of other requests nothing is said then
 abbrev pub contents_said : Pending → Received → List ℕ
 contents_said p r = if (p.ask == 0) && (r.status == 200) then r.contents else []
+
+-- what a command says of a reply before it settles its request; a renewal says nothing then
+abbrev pub said_as : Saying → Pending → Received → List ℕ
+said_as sayings.Contents p r = contents_said p r
+said_as (sayings.Renewal vendor) p r = []
 
 -- bytes were said
 abbrev pub IsSaid : List ℕ → LinkView → LinkView → Type 0

@@ -1,5 +1,6 @@
 //! What the commands of a wallet do with its book, up to the line that is said: it is founded, pieces are taken and
-//! listed, goods are got, scrip is bought and drawn, what is kept is tried again, and the chain of the book is told.
+//! listed, goods are got, scrip is bought and drawn, pieces are renewed, what is kept is tried again, and the chain of
+//! the book is told.
 #![tactic(auto)]
 
 mod chaining;
@@ -9,6 +10,7 @@ mod law;
 mod lines;
 mod listing;
 mod paying;
+mod renewing;
 mod saying;
 mod sending;
 mod settling;
@@ -17,6 +19,8 @@ mod taking;
 pub use chaining::chain;
 pub use founding::init;
 pub use law::lawful_wallets_are_opened;
-pub use listing::list;
+pub use listing::{held_lines, list, list_held};
 pub use paying::{pay, retry};
+pub use renewing::renew;
+pub use saying::Saying;
 pub use taking::{MOST_LINES, take};

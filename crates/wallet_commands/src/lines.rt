@@ -2,12 +2,12 @@
 
 ghost use Rattle.std.specs.Prelude.{◌≡◌, ◌++◌, ◌+◌, ◌≤◌, [], flat_map, codes, IfOk, OnOk, vec_len, vec_capacity};
 ghost use Rattle.wallet_book.specs.Holdings.{state_of};
-ghost use Rattle.wallet_commands.specs.Lines.{got_line, taken_line, state_word, piece_line};
+ghost use Rattle.wallet_commands.specs.Lines.{got_line, renewed_words, renewed_line, taken_line, state_word, piece_line};
 
 use itoa::Buffer;
 use mc_base::NoMemory;
 use said_lines::{READY, put, put_number};
-use scrip_form::{Piece, digits_of_id};
+use scrip_form::{Name, Piece, digits_of_id};
 use std::alloc::Global;
 use wallet_book::{Holding, State};
 
@@ -30,6 +30,31 @@ pub(crate) fn put_got(line: &mut Vec<u8>, piece: &Piece)
     put(line, piece.vendor().bytes());
     put(line, b" ");
     put_number(line, piece.value().get());
+    put(line, b"\n");
+}
+
+/// Puts the line of a renewal at a vendor into an empty line with room: the value and the end of the change that came,
+/// or 0 and 0 where none did. It takes no memory.
+pub(crate) fn put_renewed(line: &mut Vec<u8>, vendor: &Name, change: Option<Piece>)
+    requires room { vec_len line.old + READY ≤ vec_capacity line.old }
+    ensures { line.new.items ≡ line.old.items ++ renewed_line vendor.now change }
+{
+    match change {
+        Some(piece) => put_renewal(line, vendor, piece.value().get(), piece.expires()),
+        None => put_renewal(line, vendor, 0, 0),
+    }
+}
+
+fn put_renewal(line: &mut Vec<u8>, vendor: &Name, value: u64, end: u64)
+    requires room { vec_len line.old + READY ≤ vec_capacity line.old }
+    ensures { line.new.items ≡ line.old.items ++ renewed_words vendor.now value end }
+{
+    put(line, b"renewed ");
+    put(line, vendor.bytes());
+    put(line, b" ");
+    put_number(line, value);
+    put(line, b" ");
+    put_number(line, end);
     put(line, b"\n");
 }
 

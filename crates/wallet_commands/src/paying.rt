@@ -12,6 +12,7 @@ ghost use Rattle.wallet_commands.specs.Paying.{PaysBook, PaysBy, RetriesBook, Re
 
 use crate::clock::raise_by_clock;
 use crate::lines::line_room;
+use crate::saying::Saying;
 use crate::settling::use_link;
 use command_status::{Status, not_opened};
 use mc_base::NoMemory;
@@ -64,7 +65,7 @@ pub fn retry<O: Outside>(alloc: Global, peer: &Name, out: O) -> (O, Status)
 }
 
 /// The memory that using a link takes: for the reply that comes, and for the line that is said then.
-fn reply_room(alloc: Global) -> Result<(ReplyReader, Vec<u8>), NoMemory>
+pub(crate) fn reply_room(alloc: Global) -> Result<(ReplyReader, Vec<u8>), NoMemory>
     ensures items { IfOk result (λ r. r.1.items ≡ []) }
     ensures room { IfOk result (λ r. vec_len r.1 + READY ≤ vec_capacity r.1) }
 {
@@ -93,7 +94,13 @@ fn pay_by_clock<O: Outside>(
 {
     let _reading = raise_by_clock(&mut wallet);
     match wallet.pend(ask) {
-        WalletOut::Done(wallet, number) => use_link(wallet, number, &mut reader, line),
+        WalletOut::Done(wallet, number) => use_link(
+            wallet,
+            number,
+            &Saying::Contents,
+            &mut reader,
+            line,
+        ),
         WalletOut::Refused(wallet, refusal) => (wallet.close(), Status::Refused(refusal)),
         WalletOut::NoMemory(wallet) => (wallet.close(), Status::NoMemory),
         WalletOut::Halted(halted) => (halted.close(), Status::DiskFault),
@@ -118,7 +125,7 @@ fn retry_by_clock<O: Outside>(
 {
     let _reading = raise_by_clock(&mut wallet);
     match wallet.retry_next(peer) {
-        Ok(number) => use_link(wallet, number, &mut reader, line),
+        Ok(number) => use_link(wallet, number, &Saying::Contents, &mut reader, line),
         Err(refusal) => (wallet.close(), Status::Refused(refusal)),
     }
 }

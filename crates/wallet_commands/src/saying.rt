@@ -1,16 +1,36 @@
-//! Saying what a reply brings.
+//! What is said of a reply, and saying it.
 
 ghost use Rattle.std.specs.Prelude.{◌≡◌, OnOk, OnErr, Some};
 ghost use Rattle.reply_reader.specs.Seen.{received_of};
 ghost use Rattle.wallet_model.specs.Requests.{Pending};
-ghost use Rattle.wallet_commands.specs.Saying.{contents_said, IsSaid, IsSaidInPart};
+ghost use Rattle.wallet_commands.specs.Saying.{contents_said, said_as, IsSaid, IsSaidInPart};
 
 use mc_outside::{Link, LinkFault};
 use reply_reader::ReplyRef;
+use scrip_form::Name;
 
-/// What is said of a reply before it settles a request of this kind: the contents that a get brings, and of any other
-/// nothing.
-pub(crate) fn said_first<'r>(kind: Option<u8>, reply: &ReplyRef<'r>) -> &'r [u8]
+/// What a command says of the reply that settles its request.
+#[derive(Clone, Copy, Drop)]
+pub enum Saying {
+    /// The contents that a get brings, before it is settled; of a buy or a draw the piece.
+    Contents,
+    /// The change of a renewal at this vendor, and none of its contents.
+    Renewal(Name),
+}
+
+/// What is said of a reply before it settles a request of this kind.
+pub(crate) fn said_first<'r>(saying: &Saying, kind: Option<u8>, reply: &ReplyRef<'r>) -> &'r [u8]
+    ensures { (p : Pending) → kind ≡ Some p.ask
+        → result.now ≡ said_as saying.now p (received_of reply.now) }
+{
+    match saying {
+        Saying::Contents => contents_of(kind, reply),
+        Saying::Renewal(_) => &[],
+    }
+}
+
+/// The contents that a get brings, and of any other request nothing.
+fn contents_of<'r>(kind: Option<u8>, reply: &ReplyRef<'r>) -> &'r [u8]
     ensures { (p : Pending) → kind ≡ Some p.ask
         → result.now ≡ contents_said p (received_of reply.now) }
 {

@@ -4,3 +4,4 @@ pub mod EnterLaws
 pub mod OutcomeLaws
 pub mod SwitchLaws
 pub mod CallLaws
+pub mod DueLaws

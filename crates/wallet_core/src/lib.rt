@@ -10,6 +10,7 @@ mod found;
 mod links;
 mod opening;
 mod outcome;
+mod renewing;
 mod switching;
 mod wallet;
 
@@ -17,4 +18,5 @@ pub use checked::Checked;
 pub use found::found_wallet;
 pub use opening::open_wallet;
 pub use outcome::WalletOut;
+pub use renewing::renew_place;
 pub use wallet::Wallet;

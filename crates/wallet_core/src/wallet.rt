@@ -71,6 +71,7 @@ impl<D: Disk> Wallet<D> {
 
     /// Its pieces, whatever their states, in the order in which they came.
     pub fn holdings(&self) -> &[Holding]
+        ensures all { result.now ≡ self.now.book.holdings }
         ensures list { (h : History) → WalletStands D.disk self.now h
             → map holding_of result.now ≡ model.holdings h }
         // The text of each is that of its piece and its certificate.

@@ -16,7 +16,7 @@ use Rattle.wallet_model.specs.Requests.{Pending, is_kept, pays_with}
 use Rattle.wallet_model.specs.Holdings.{PieceState, used, refused_state, moves, state_in, Holding, holdings, texts_came, is_held, has_held}
 use Rattle.wallet_model.specs.Newness.{is_new, are_new}
 use Rattle.wallet_model.specs.Follows.{is_wallet, is_of_vendor, is_draw, asks_rightly, settled_texts, entry_allowed, wallet_allows, WalletFollows, IsWalletBook}
-use Rattle.wallet_model.specs.Asks.{Offered, offered_at, is_fit, fit_for, lesser, chosen_of, chosen, Asking, get, buy, draw, paid_with, pend_entry}
+use Rattle.wallet_model.specs.Asks.{Offered, offered_at, is_fit, fit_for, lesser, sooner, chosen_of, chosen, Asking, get, buy, draw, paid_with, pend_entry}
 use Rattle.reply_reader.specs.Replies.{Received}
 use Rattle.wallet_model.specs.Settling.{price_of, change_came, if_new, contents_came, got_came, refusal_number, settlement}
 use Rattle.wallet_model.specs.Laws.{CanAsk}
@@ -168,17 +168,26 @@ filtered_all P f (x ∷ xs) all = go (f x) (filtered_all P f xs all.1)
     go true rest = (all.0, rest)
     go false rest = rest
 
-least_of : (P : Offered → Type 0) (o : Offered) (os : List Offered) → P o → AllByRecursion P os → P (fold lesser o os)
-least_of P o [] p all = p
-least_of P o (x ∷ xs) p all = least_of P (lesser o x) xs (go (nat_lt x.piece.value o.piece.value)) all.1
-  where
-    go : (b : Bool) → P (cond b x o)
-    go true = all.0
-    go false = p
+-- what holds of some pieces holds of the one that is picked out of them, two by two
+picked : (P : Offered → Type 0) (pick : Offered → Offered → Offered) → ((a b : Offered) → P a → P b → P (pick a b)) → (o : Offered) (os : List Offered) → P o → AllByRecursion P os → P (fold pick o os)
+picked P pick either o [] p all = p
+picked P pick either o (x ∷ xs) p all = picked P pick either (pick o x) xs (either o x p all.0) all.1
+
+one_of : (P : Offered → Type 0) (a b : Offered) (second : Bool) → P a → P b → P (cond second b a)
+one_of P a b true p q = q
+one_of P a b false p q = p
 
 pub chosen_one : (P : Offered → Type 0) (fit os : List Offered) (o : Offered) → AllByRecursion P os → chosen_of fit (reduce lesser os) ≡ Ok o → P o
 chosen_one P fit [] o all is = absurd cc
-chosen_one P fit (x ∷ xs) o all is = subst P (same_ok (fold lesser x xs) o (Ok (fold lesser x xs)) refl is) (least_of P x xs all.0 all.1)
+chosen_one P fit (x ∷ xs) o all is =
+    subst P (same_ok (fold lesser x xs) o (Ok (fold lesser x xs)) refl is)
+    (picked P lesser (λ a b. one_of P a b (nat_lt b.piece.value a.piece.value)) x xs all.0 all.1)
+
+pub due_one : (P : Offered → Type 0) (os : List Offered) (o : Offered) → AllByRecursion P os → reduce sooner os ≡ Some o → P o
+due_one P [] o all is = absurd cc
+due_one P (x ∷ xs) o all is =
+    let same : fold sooner x xs ≡ o = cc in
+    subst P same (picked P sooner (λ a b. one_of P a b (nat_lt b.piece.expires a.piece.expires)) x xs all.0 all.1)
 
 -- the piece that is chosen is held, and its vendor's
 chosen_fits : (h : History) (t : ℕ) (vendor : List ℕ) (limit : ℕ) (o : Offered) → chosen h t vendor limit ≡ Ok o → IsFit t vendor (holdings h) o

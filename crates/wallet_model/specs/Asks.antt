@@ -5,7 +5,7 @@ use Rattle.hex.specs.Hex.{encode_lower}
 use Rattle.scrip_form.specs.Scrip.{Scrip}
 use Rattle.scrip_certs.specs.Digests.{request_signature, request_text}
 use Rattle.mc_records.specs.declared.refusal.Refusal.{Refusal}
-use Rattle.mc_records.specs.declared.refusal.Refusal.TheVariants.{NoFunds}
+use Rattle.mc_records.specs.declared.refusal.Refusal.TheVariants.{NoFunds, NothingDue}
 use Rattle.mc_records.specs.Errands as errands
 use Rattle.mc_records.specs.Errands.{errand_text}
 use Rattle.mc_records.specs.Replies.{field, field_if, or_dash}
@@ -73,6 +73,20 @@ chosen_by fit limit = chosen_of fit (reduce lesser (filter (λ o. nat_le limit o
 abbrev pub chosen : History → ℕ → List ℕ → ℕ → Result Offered Refusal
 chosen h t vendor limit = chosen_by (fit_for h t vendor) limit
 
+-- ---- renewing
+
+-- the one that ends first, and of two that end together the first
+abbrev pub sooner : Offered → Offered → Offered
+sooner a b = if nat_lt b.piece.expires a.piece.expires then b else a
+
+-- of those that end at a moment at the latest the one that ends first
+abbrev pub due_of : List Offered → ℕ → Option Offered
+due_of fit before = reduce sooner (filter (λ o. nat_le o.piece.expires before) fit)
+
+-- the piece of a vendor that is due for renewal at a time
+abbrev pub due : History → ℕ → List ℕ → ℕ → Option Offered
+due h t vendor before = due_of (fit_for h t vendor) before
+
 -- ---- what is asked
 
 -- Goods of a vendor; scrip of a vendor for scrip of a broker; scrip of a broker out of an account, signed under the
@@ -91,3 +105,12 @@ abbrev pub pend_entry : History → ℕ → Asking → Result Entry Refusal
 pend_entry h t (get vendor target limit) = paid_with t 0 vendor target (chosen h t vendor limit)
 pend_entry h t (buy broker vendor amount limit) = paid_with t 1 broker (errand_text (errands.buy vendor amount)) (chosen h t broker limit)
 pend_entry h t (draw broker account key order amount) = Ok (Pend t 2 broker (errand_text (errands.draw account order amount)) None key)
+
+-- 80 NothingDue where none is
+abbrev pub or_none_due : Option Offered → Result Offered Refusal
+or_none_due (Some o) = Ok o
+or_none_due None = Err NothingDue
+
+-- the Pend entry of a renewal at a time: of goods of a vendor, with the piece that is due; or 80 NothingDue
+abbrev pub due_entry : History → ℕ → (vendor target : List ℕ) (before : ℕ) → Result Entry Refusal
+due_entry h t vendor target before = paid_with t 0 vendor target (or_none_due (due h t vendor before))

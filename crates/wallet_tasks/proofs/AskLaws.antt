@@ -6,6 +6,7 @@ use Rattle.std.specs.Prelude.{nat_le, filter_map, slice_get, IfOk}
 use Rattle.std.specs.List.{AllByRecursion, enumerate_from, cons_option}
 use Rattle.scrip_form.specs.Scrip.{Scrip}
 use Rattle.mc_records.specs.declared.refusal.Refusal.{Refusal}
+use Rattle.mc_records.specs.declared.refusal.Refusal.TheVariants.{NothingDue}
 use Rattle.mc_records.specs.Errands as errands
 use Rattle.mc_records.specs.Errands.{IsErrand, errand_text}
 use Rattle.mc_records.proofs.ErrandLaws.{errand_read}
@@ -15,9 +16,9 @@ use Rattle.ledger_model.specs.Pieces.{piece_of}
 use Rattle.wallet_model.specs.Holdings as model
 use Rattle.wallet_model.specs.Holdings.{holdings, is_held, has_held}
 use Rattle.wallet_model.specs.Follows.{is_of_vendor, asks_rightly, WalletFollows}
-use Rattle.wallet_model.specs.Asks.{Offered, offered_at, is_fit, fit_for, chosen, Asking, paid_with, pend_entry}
+use Rattle.wallet_model.specs.Asks.{Offered, offered_at, is_fit, fit_for, chosen, due, Asking, get, paid_with, pend_entry, or_none_due, due_entry}
 use Rattle.wallet_model.specs.Laws.{CanAsk}
-use Rattle.wallet_model.proofs.WrittenLaws.{book_is_wallet, chosen_one, filtered_all, pend_follows}
+use Rattle.wallet_model.proofs.WrittenLaws.{book_is_wallet, chosen_one, due_one, filtered_all, pend_follows}
 use Rattle.wallet_book.specs.declared.holding.Holding.{Holding}
 use Rattle.wallet_book.specs.declared.holding.State.{State}
 use Rattle.wallet_book.specs.declared.holding.State.TheVariants.{Held}
@@ -56,6 +57,32 @@ chosen_stands : (h : History) (t : ℕ) (vendor : List ℕ) (limit : ℕ) (o : O
 chosen_stands h t vendor limit o is =
     (chosen_one (Stands (holdings h)) (fit_for h t vendor) (filter (λ x. nat_le limit x.piece.value) (fit_for h t vendor)) o
     (filtered_all (Stands (holdings h)) (λ x. nat_le limit x.piece.value) (fit_for h t vendor) (filtered_all (Stands (holdings h)) (is_fit t vendor) (filter_map offered_at (enumerate_from 0 (holdings h))) (all_stand [] (holdings h) 0 refl))) is).here
+
+due_stands : (h : History) (t : ℕ) (vendor : List ℕ) (before : ℕ) (o : Offered) → due h t vendor before ≡ Some o → slice_get (holdings h) o.place ≡ Some o.holding
+due_stands h t vendor before o is =
+    (due_one (Stands (holdings h)) (filter (λ x. nat_le x.piece.expires before) (fit_for h t vendor)) o
+    (filtered_all (Stands (holdings h)) (λ x. nat_le x.piece.expires before) (fit_for h t vendor) (filtered_all (Stands (holdings h)) (is_fit t vendor) (filter_map offered_at (enumerate_from 0 (holdings h))) (all_stand [] (holdings h) 0 refl))) is).here
+
+-- the piece of the place of the one that is due pays for the renewal
+pub due_pays : (h : History) (t : ℕ) (vendor target : List ℕ) (before limit place : ℕ) (e : Entry) → Some place ≡ option_map (λ o. o.place) (due h t vendor before)
+    → pend_with_entry h t place (get vendor target limit) ≡ Some e → due_entry h t vendor target before ≡ Ok e
+due_pays h t vendor target before limit place e at pays = go (due h t vendor before) refl at
+  where
+    go : (r : Option Offered) → due h t vendor before ≡ r → Some place ≡ option_map (λ o. o.place) r → paid_with t 0 vendor target (or_none_due r) ≡ Ok e
+    go None is none = absurd cc
+    go (Some o) is one =
+        let same : place ≡ o.place = cc in
+        let here : slice_get (holdings h) place ≡ Some o.holding = ap (slice_get (holdings h)) same ∙ due_stands h t vendor before o is in
+        let made : Some (Pend t 0 vendor target (Some o.holding.text) o.holding.secret) ≡ Some e = ap (λ (x : Option model.Holding). paid_by_one t x (get vendor target limit)) (sym here) ∙ pays in
+        cc
+
+-- nothing is due where there is no place
+pub none_due : (h : History) (t : ℕ) (vendor target : List ℕ) (before : ℕ) → None ≡ option_map (λ o. o.place) (due h t vendor before) → due_entry h t vendor target before ≡ Err NothingDue
+none_due h t vendor target before none = go (due h t vendor before) none
+  where
+    go : (r : Option Offered) → None ≡ option_map (λ o. o.place) r → paid_with t 0 vendor target (or_none_due r) ≡ Err NothingDue
+    go None e = refl
+    go (Some o) e = absurd cc
 
 -- ---- the answer
 

@@ -1,7 +1,7 @@
-use Rattle.std.proofs.Common.{◌≡◌, ℕ, ◌+◌, ◌<◌, List, length, Option, Some, max, take, ap, sym, subst, ◌∙◌, arith}
+use Rattle.std.proofs.Common.{◌≡◌, ℕ, ◌+◌, ◌<◌, List, length, Option, Some, max, take, ap, ap₂, sym, subst, ◌∙◌, arith, nat_le}
 use Rattle.std.specs.Prelude.{slice_get}
 use Rattle.wallet_book.specs.declared.holding.Holding.{Holding}
-use Rattle.wallet_book.specs.Choosing.{fit_among, HasSeen, covers, least_with}
+use Rattle.wallet_book.specs.Choosing.{fit_among, HasSeen, least_with}
 use Rattle.wallet_book.proofs.ChoosingLaws.{seen_fit, seen_other}
 use Rattle.wallet_book.proofs.HoldingLaws.{read_at}
 use Rattle.wallet_book.proofs.choosing.choose.Goals as goal
@@ -20,13 +20,13 @@ loop-place-preserved c =
     let lt : i < length xs = omega arith in
     let here : slice_get xs i ≡ Some x = read_at xs i x c.index-holdings-place.is lt in
     let value : c.get-value.result ≡ x.piece.value = c.get-value.ensures.units ∙ c.value.ensures.value in
-    let seen : Option (ℕ × ℕ) → ℕ → Type 0 = HasSeen (fit_among (take (i + 1) xs) t vendor) (covers limit) in
+    let seen : Option (ℕ × ℕ) → ℕ → Type 0 = HasSeen (fit_among (take (i + 1) xs) t vendor) limit in
     elim c.if-is_fit.branch [
       | then-is_fit w ↦
-          let h : seen (least_with limit least i x.piece.value) (max greatest x.piece.value) = seen_fit xs i x t limit vendor least greatest c.requires here (sym (c.is_fit.ensures i) ∙ w.if-is_fit.true) c.loop-place.invariant in
-          let a : least_with limit least i x.piece.value ≡ c.if-is_fit.least = sym (w.least-is ∙ w.lesser-least.ensures ∙ ap (λ (v : ℕ). least_with limit least i v) value) in
+          let h : seen (least_with (nat_le limit x.piece.value) least i x.piece.value) (max greatest x.piece.value) = seen_fit xs i x t limit vendor least greatest c.requires here (sym (c.is_fit.ensures i) ∙ w.if-is_fit.true) c.loop-place.invariant in
+          let a : least_with (nat_le limit x.piece.value) least i x.piece.value ≡ c.if-is_fit.least = sym (w.least-is ∙ w.lesser-least.ensures ∙ ap₂ (λ (l v : ℕ). least_with (nat_le l v) least i v) w.get.ensures.units value) in
           let b : max greatest x.piece.value ≡ c.if-is_fit.greatest = sym (w.greatest-is ∙ w.greater-greatest.ensures ∙ ap (λ (v : ℕ). max greatest v) value) in
-          subst (λ (l : Option (ℕ × ℕ)). seen l c.if-is_fit.greatest) a (subst (seen (least_with limit least i x.piece.value)) b h)
+          subst (λ (l : Option (ℕ × ℕ)). seen l c.if-is_fit.greatest) a (subst (seen (least_with (nat_le limit x.piece.value) least i x.piece.value)) b h)
       | else-is_fit w ↦
           let h : seen least greatest = seen_other xs i x t limit vendor least greatest c.requires here (sym (c.is_fit.ensures i) ∙ w.if-is_fit.false) c.loop-place.invariant in
           subst (λ (l : Option (ℕ × ℕ)). seen l c.if-is_fit.greatest) (sym w.least-is) (subst (seen least) (sym w.greatest-is) h)

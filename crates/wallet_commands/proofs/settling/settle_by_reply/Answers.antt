@@ -38,9 +38,9 @@ returns-in-Ok-clause-read g c h p st kept =
     let keeps = g.met.O.Outside.link_keeps _ _ c.take.ensures.moved.0 in
     let rests = c.take.ensures.moved.1 in
     let took : TookReply (g.O.Link.link w.journal.disk) (Ok (received_of c.in-Ok.reply)) (g.O.Link.link y.journal.disk) = subst (λ (r : Result ReplyRef ReplyFault). TookReply (g.O.Link.link w.journal.disk) (taken_of r) (g.O.Link.link y.journal.disk)) c.in-Ok.is c.take.follows.holds-at-none in
-    let ended = subst (λ (b : BookView). EndsReply g.O.Link.link g.O.Disk.disk h b.time c.args.number p (received_of c.in-Ok.reply) y.journal.disk c.settle.result.1 c.settle.result.0) rests.book
+    let ended = subst (λ (b : BookView). EndsReply c.args.saying.now g.O.Link.link g.O.Disk.disk h b.time c.args.number p (received_of c.in-Ok.reply) y.journal.disk c.settle.result.1 c.settle.result.0) rests.book
     (c.settle.ensures.ended h p (wallet_keeps g.O.Disk.disk w y h st keeps rests) kept) in
-    read_reply g.O.Link.link g.O.Disk.disk h c.args.number p g.met.O.Outside.sent_aside w.book.time (received_of c.in-Ok.reply) w y c.settle.result.1 c.settle.result.0 st keeps took ended
+    read_reply c.args.saying.now g.O.Link.link g.O.Disk.disk h c.args.number p g.met.O.Outside.sent_aside w.book.time (received_of c.in-Ok.reply) w y c.settle.result.1 c.settle.result.0 st keeps took ended
 
 pub returns-in-Err-NoReply-clause-causes : goal.returns-in-Err-NoReply-clause-causes
 returns-in-Err-NoReply-clause-causes g c =
@@ -58,7 +58,7 @@ returns-in-Err-NoReply-clause-read g c h p st kept =
     let is : c.take.result ≡ Err replies.NoReply = c.in-Err-NoReply.is ∙ ap (λ (f : ReplyFault). Err f) c.in-Err-NoReply.field-0-is in
     let took : TookReply (g.O.Link.link w.journal.disk) (Err replies.NoReply) (g.O.Link.link y.journal.disk) = subst (λ (r : Result ReplyRef ReplyFault). TookReply (g.O.Link.link w.journal.disk) (taken_of r) (g.O.Link.link y.journal.disk)) is c.take.follows.holds-at-none in
     let now = wallet_keeps g.O.Disk.disk w y h st keeps c.take.ensures.moved.1 in
-    rw c.close.ensures (no_reply g.O.Link.link g.O.Disk.disk h c.args.number p g.met.O.Outside.sent_aside w.book.time replies.NoReply w y (ends.Refused refusals.NoReply) st now keeps took (refl, on_disk g.O.Disk.disk y h now, refl))
+    rw c.close.ensures (no_reply c.args.saying.now g.O.Link.link g.O.Disk.disk h c.args.number p g.met.O.Outside.sent_aside w.book.time replies.NoReply w y (ends.Refused refusals.NoReply) st now keeps took (refl, on_disk g.O.Disk.disk y h now, refl))
 
 pub returns-in-Err-BadReply-clause-causes : goal.returns-in-Err-BadReply-clause-causes
 returns-in-Err-BadReply-clause-causes g c =
@@ -76,7 +76,7 @@ returns-in-Err-BadReply-clause-read g c h p st kept =
     let is : c.take.result ≡ Err replies.BadReply = c.in-Err-BadReply.is ∙ ap (λ (f : ReplyFault). Err f) c.in-Err-BadReply.field-0-is in
     let took : TookReply (g.O.Link.link w.journal.disk) (Err replies.BadReply) (g.O.Link.link y.journal.disk) = subst (λ (r : Result ReplyRef ReplyFault). TookReply (g.O.Link.link w.journal.disk) (taken_of r) (g.O.Link.link y.journal.disk)) is c.take.follows.holds-at-none in
     let now = wallet_keeps g.O.Disk.disk w y h st keeps c.take.ensures.moved.1 in
-    rw c.close-in-Err-BadReply.ensures (no_reply g.O.Link.link g.O.Disk.disk h c.args.number p g.met.O.Outside.sent_aside w.book.time replies.BadReply w y (ends.Refused refusals.BadReply) st now keeps took (refl, on_disk g.O.Disk.disk y h now, refl))
+    rw c.close-in-Err-BadReply.ensures (no_reply c.args.saying.now g.O.Link.link g.O.Disk.disk h c.args.number p g.met.O.Outside.sent_aside w.book.time replies.BadReply w y (ends.Refused refusals.BadReply) st now keeps took (refl, on_disk g.O.Disk.disk y h now, refl))
 
 pub returns-clause-causes : goal.returns-clause-causes
 returns-clause-causes g c =
@@ -94,4 +94,4 @@ returns-clause-read g c h p st kept =
     let is : c.take.result ≡ Err replies.Fault = c.in-Err-Fault.is ∙ ap (λ (f : ReplyFault). Err f) c.in-Err-Fault.field-0-is in
     let took : TookReply (g.O.Link.link w.journal.disk) (Err replies.Fault) (g.O.Link.link y.journal.disk) = subst (λ (r : Result ReplyRef ReplyFault). TookReply (g.O.Link.link w.journal.disk) (taken_of r) (g.O.Link.link y.journal.disk)) is c.take.follows.holds-at-none in
     let now = wallet_keeps g.O.Disk.disk w y h st keeps c.take.ensures.moved.1 in
-    rw c.close-in-Err-Fault.ensures (no_reply g.O.Link.link g.O.Disk.disk h c.args.number p g.met.O.Outside.sent_aside w.book.time replies.Fault w y ends.LinkFault st now keeps took (refl, on_disk g.O.Disk.disk y h now, refl))
+    rw c.close-in-Err-Fault.ensures (no_reply c.args.saying.now g.O.Link.link g.O.Disk.disk h c.args.number p g.met.O.Outside.sent_aside w.book.time replies.Fault w y ends.LinkFault st now keeps took (refl, on_disk g.O.Disk.disk y h now, refl))

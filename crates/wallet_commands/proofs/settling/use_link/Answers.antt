@@ -46,9 +46,9 @@ returns-in-Ok-clause-used g c h p st kept =
     let cut = written_bytes (kept_in h c.args.number) p c.request_bytes.new.out c.in-Some.len kept (c.in-Some.ensures h st) in
     let sent : g.O.Link.link y.journal.disk ≡ after_send (request_bytes p) (next_taken (g.O.Link.link w.journal.disk)) =
     subst (λ (l : List ℕ). g.O.Link.link y.journal.disk ≡ after_send l (next_taken (g.O.Link.link w.journal.disk))) cut c.in-Ok.ensures.sent in
-    let reads = subst (λ (b : BookView). ReadsReply g.O.Link.link g.O.Disk.disk h b.time c.args.number p y.journal.disk c.settle_by_reply.result.1 c.settle_by_reply.result.0) rests.book
+    let reads = subst (λ (b : BookView). ReadsReply c.args.saying.now g.O.Link.link g.O.Disk.disk h b.time c.args.number p y.journal.disk c.settle_by_reply.result.1 c.settle_by_reply.result.0) rests.book
     (c.settle_by_reply.ensures.read h p (wallet_keeps g.O.Disk.disk w y h st keeps rests) kept) in
-    used_link g.O.Link.link g.O.Disk.disk h w.book.time c.args.number p g.met.O.Outside.sent_aside w y c.settle_by_reply.result.1 c.settle_by_reply.result.0 st keeps sent reads
+    used_link c.args.saying.now g.O.Link.link g.O.Disk.disk h w.book.time c.args.number p g.met.O.Outside.sent_aside w y c.settle_by_reply.result.1 c.settle_by_reply.result.0 st keeps sent reads
 
 pub returns-in-Err-NoLink-clause-used : goal.returns-in-Err-NoLink-clause-used
 returns-in-Err-NoLink-clause-used g c h p st kept =
@@ -56,7 +56,7 @@ returns-in-Err-NoLink-clause-used g c h p st kept =
     let y = c.send_request.new.k in
     let keeps = g.met.O.Outside.link_keeps _ _ c.send_request.ensures.moved.0 in
     let none : g.O.Link.link y.journal.disk ≡ none_left (g.O.Link.link w.journal.disk) = rw c.in-Err-NoLink.field-0-is at c.in-Err-NoLink.ensures.fault in
-    rw c.close-in-Err-NoLink.ensures (came_none g.O.Link.link g.O.Disk.disk h w.book.time c.args.number p g.met.O.Outside.sent_aside w y st (wallet_keeps g.O.Disk.disk w y h st keeps c.send_request.ensures.moved.1) keeps none)
+    rw c.close-in-Err-NoLink.ensures (came_none c.args.saying.now g.O.Link.link g.O.Disk.disk h w.book.time c.args.number p g.met.O.Outside.sent_aside w y st (wallet_keeps g.O.Disk.disk w y h st keeps c.send_request.ensures.moved.1) keeps none)
 
 pub returns-clause-used : goal.returns-clause-used
 returns-clause-used g c h p st kept =
@@ -66,4 +66,4 @@ returns-clause-used g c h p st kept =
     let cut = written_bytes (kept_in h c.args.number) p c.request_bytes.new.out c.in-Some.len kept (c.in-Some.ensures h st) in
     let lost : NoLink (g.O.Link.link w.journal.disk) (g.O.Link.link y.journal.disk) ⊎ SentPart (take c.in-Some.len c.request_bytes.new.out) (g.O.Link.link w.journal.disk) (g.O.Link.link y.journal.disk) = rw c.in-Err-Link.field-0-is at c.in-Err-Link.ensures.fault in
     let lost' = subst (λ (l : List ℕ). NoLink (g.O.Link.link w.journal.disk) (g.O.Link.link y.journal.disk) ⊎ SentPart l (g.O.Link.link w.journal.disk) (g.O.Link.link y.journal.disk)) cut lost in
-    rw c.close-in-Err-Link.ensures (broke g.O.Link.link g.O.Disk.disk h w.book.time c.args.number p g.met.O.Outside.sent_aside w y st (wallet_keeps g.O.Disk.disk w y h st keeps c.send_request.ensures.moved.1) keeps lost')
+    rw c.close-in-Err-Link.ensures (broke c.args.saying.now g.O.Link.link g.O.Disk.disk h w.book.time c.args.number p g.met.O.Outside.sent_aside w y st (wallet_keeps g.O.Disk.disk w y h st keeps c.send_request.ensures.moved.1) keeps lost')

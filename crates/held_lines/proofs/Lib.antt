@@ -1,0 +1,2 @@
+pub mod LineLoops
+pub mod ResoldLaws

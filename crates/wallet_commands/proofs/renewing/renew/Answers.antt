@@ -1,0 +1,43 @@
+use Rattle.std.proofs.Common.{◌∙◌, inl, inr, refl, sym}
+use Rattle.scrip_journal.specs.Founds.{fault_disk}
+use Rattle.wallet_core.specs.declared.wallet.Wallet.{Wallet}
+use Rattle.wallet_commands.specs.Books.{Untouched, Opened}
+use Rattle.wallet_commands.proofs.CauseLemmas.{causes_opened, none_on_disk, opening_causes}
+use Rattle.wallet_commands.proofs.BookLemmas.{on_disk, not_opened}
+use Rattle.wallet_commands.proofs.renewing.renew.Goals as goal
+
+pub returns-in-Err-clause-causes : goal.returns-in-Err-clause-causes
+returns-in-Err-clause-causes g c =
+    rw (c.not_opened.ensures.disk, c.not_opened.ensures.status)
+    (opening_causes (Wallet g.row.O.Denot) g.O.Link.link g.O.Disk.disk c.args.out c.in-Err.fault c.in-Err.ensures.fault (g.met.O.Outside.disk_keeps _ _ c.in-Err.ensures.moved))
+
+pub returns-in-Err-clause-renewed : goal.returns-in-Err-clause-renewed
+returns-in-Err-clause-renewed g c x told =
+    let same : Untouched g.O.Link.link g.O.Disk.disk c.args.out (fault_disk c.in-Err.fault) = record { link' = g.met.O.Outside.disk_keeps _ _ c.in-Err.ensures.moved; read = c.in-Err.ensures.read } in
+    rw (c.not_opened.ensures.disk, c.not_opened.ensures.status) (inl (not_opened g.O.Link.link g.O.Disk.disk x c.args.out c.in-Err.fault (c.in-Err.ensures.exact x told) same))
+
+pub returns-in-Ok-reply_room-clause-causes : goal.returns-in-Ok-reply_room-clause-causes
+returns-in-Ok-reply_room-clause-causes g c =
+    causes_opened g.O.Link.link g.O.Disk.disk c.args.out c.in-Ok.wallet.journal.disk c.renew_by_clock.result.0 c.renew_by_clock.result.1
+    (none_on_disk g.O.Link.link g.O.Disk.disk c.args.out c.in-Ok.wallet.journal.disk c.in-Ok.ensures.fault (g.met.O.Outside.disk_keeps _ _ c.in-Ok.ensures.moved)) (g.met.O.Outside.disk_keeps _ _ c.in-Ok.ensures.moved) c.renew_by_clock.ensures.causes
+
+pub returns-in-Ok-reply_room-clause-renewed : goal.returns-in-Ok-reply_room-clause-renewed
+returns-in-Ok-reply_room-clause-renewed g c x told =
+    let same : Untouched g.O.Link.link g.O.Disk.disk c.args.out c.in-Ok.wallet.journal.disk = record { link' = g.met.O.Outside.disk_keeps _ _ c.in-Ok.ensures.moved; read = c.in-Ok.ensures.read } in
+    let at : Opened g.O.Link.link g.O.Disk.disk x c.args.out c.in-Ok.wallet = record { opened = c.in-Ok.ensures.exact x told; untouched = same } in
+    inr (inr (c.renew_by_clock.ensures.renewed c.args.out x at))
+
+pub returns-in-Err-reply_room-clause-causes : goal.returns-in-Err-reply_room-clause-causes
+returns-in-Err-reply_room-clause-causes g c =
+    rw c.close.ensures (none_on_disk g.O.Link.link g.O.Disk.disk c.args.out c.in-Ok.wallet.journal.disk c.in-Ok.ensures.fault (g.met.O.Outside.disk_keeps _ _ c.in-Ok.ensures.moved))
+
+pub returns-in-Err-reply_room-clause-renewed : goal.returns-in-Err-reply_room-clause-renewed
+returns-in-Err-reply_room-clause-renewed g c x told =
+    let same : Untouched g.O.Link.link g.O.Disk.disk c.args.out c.in-Ok.wallet.journal.disk = record { link' = g.met.O.Outside.disk_keeps _ _ c.in-Ok.ensures.moved; read = c.in-Ok.ensures.read } in
+    let at = c.in-Ok.ensures.exact x told in
+    rw c.close.ensures (inr (inl (record { history = at.history; stands = at.of_bytes; memory = refl; left = on_disk g.O.Disk.disk c.in-Ok.wallet at.history at.wallet; untouched = same })))
+
+pub renew_by_clock-requires-clause-known : goal.renew_by_clock-requires-clause-known
+renew_by_clock-requires-clause-known g c bytes told =
+    let at = c.in-Ok.ensures.exact bytes (sym c.in-Ok.ensures.read.contents ∙ told) in
+    (at.history, at.wallet)
