@@ -3,7 +3,6 @@ use Rattle.std.proofs.Common.{◌≡◌, ℕ, suc, List, Result, Ok, Err, refl}
 use Rattle.std.specs.Prelude.{◌<◌, IfSome}
 use Rattle.std.specs.List.{AllByRecursion}
 use Rattle.mc_outside.specs.DiskView.{DiskView}
-use Rattle.balanced_books.specs.declared.sums.Report.{Report}
 use Rattle.audit_cmd.specs.declared.fault.AuditFault.{AuditFault}
 use Rattle.audit_cmd.specs.declared.fault.AuditFault.TheVariants as faults
 use Rattle.audit_cmd.specs.Books.{AreTold, decided_by, deciding, EndsReading, IsOfAll, told_book}
@@ -59,13 +58,13 @@ ends_so P Q f (faults.MissingBook name) ended = absurd ended
 ends_so P Q f (faults.Stranger book name id) ended = absurd ended
 ends_so P Q f faults.NoMemory ended = tt
 
-pub told_so : (count : ℕ) (fault : AuditFault) → EndsReading (λ book. book < count) fault → IfSome (told_book {A = Report} (Err fault)) (λ book. book < count)
-told_so count (faults.NotJournal book) ended = ended
-told_so count (faults.BadRecord book place) ended = ended
-told_so count (faults.BadChain book place stood computed) ended = ended
-told_so count (faults.Unlawful book place) ended = ended
-told_so count (faults.Disk book) ended = ended
-told_so count faults.BadBooks ended = absurd ended
-told_so count (faults.MissingBook name) ended = absurd ended
-told_so count (faults.Stranger book name id) ended = absurd ended
-told_so count faults.NoMemory ended = tt
+pub told_so : (R : Type 0) (count : ℕ) (fault : AuditFault) → EndsReading (λ book. book < count) fault → IfSome (told_book {A = R} (Err fault)) (λ book. book < count)
+told_so R count (faults.NotJournal book) ended = ended
+told_so R count (faults.BadRecord book place) ended = ended
+told_so R count (faults.BadChain book place stood computed) ended = ended
+told_so R count (faults.Unlawful book place) ended = ended
+told_so R count (faults.Disk book) ended = ended
+told_so R count faults.BadBooks ended = absurd ended
+told_so R count (faults.MissingBook name) ended = absurd ended
+told_so R count (faults.Stranger book name id) ended = absurd ended
+told_so R count faults.NoMemory ended = tt

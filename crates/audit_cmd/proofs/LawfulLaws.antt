@@ -14,12 +14,12 @@ use Rattle.scrip_journal.specs.Causes.{Only, FoundsSite, IsOfKind, IsOfOtherKind
 use Rattle.scrip_journal.proofs.Beginnings.{begins_history}
 use Rattle.scrip_journal.proofs.Unique.{one_history, not_both, chain_or_history}
 use Rattle.wallet_model.specs.Follows.{WalletFollows, wallet_allows}
-use Rattle.balanced_books.specs.declared.sums.Report.{Report}
+use Rattle.book_audit.specs.declared.fault.BooksFault.{BooksFault}
 use Rattle.audit_cmd.specs.declared.fault.AuditFault.{AuditFault}
 use Rattle.audit_cmd.specs.declared.fault.AuditFault.TheVariants as faults
 use Rattle.audit_cmd.specs.Notes.{site_first}
 use Rattle.audit_cmd.specs.Reading.{IsSpoiledFrom, IsUnchainedFrom, IsUnlawfulFrom}
-use Rattle.audit_cmd.specs.Books.{IsHistoryOf, IsLawfulBook, IsFirst, FindsOf, IsOfLawful}
+use Rattle.audit_cmd.specs.Books.{IsHistoryOf, IsLawfulBook, IsFirst, FindsBy, IsOfLawful}
 use Rattle.audit_cmd.specs.Loops.{AuditsAll}
 use Rattle.audit_cmd.proofs.Zips.{at_place}
 
@@ -98,28 +98,28 @@ first_lawful : (books : List (List ℕ)) (book : ℕ) (Cause : List ℕ → Type
 first_lawful books book Cause all first = at_place IsLawfulBook books book first.bytes all first.there
 
 -- what ends the reading is found
-pub halt_found : (books : List (List ℕ)) (fault : AuditFault) → AuditsAll books (Err fault) → FindsOf books (Err fault)
-halt_found books (faults.NotJournal book) read = read
-halt_found books (faults.BadRecord book place) read = read
-halt_found books (faults.BadChain book place stood computed) read = read
-halt_found books (faults.Unlawful book place) read = read
-halt_found books (faults.Disk book) read = read
-halt_found books faults.BadBooks read = absurd read
-halt_found books (faults.MissingBook name) read = absurd read
-halt_found books (faults.Stranger book name id) read = absurd read
-halt_found books faults.NoMemory read = tt
+pub halt_found : {R : Type 0} (Audits : List History → Result R BooksFault → Type 0) (books : List (List ℕ)) (fault : AuditFault) → AuditsAll books (Err fault) → FindsBy Audits books (Err fault)
+halt_found Audits books (faults.NotJournal book) read = read
+halt_found Audits books (faults.BadRecord book place) read = read
+halt_found Audits books (faults.BadChain book place stood computed) read = read
+halt_found Audits books (faults.Unlawful book place) read = read
+halt_found Audits books (faults.Disk book) read = read
+halt_found Audits books faults.BadBooks read = absurd read
+halt_found Audits books (faults.MissingBook name) read = absurd read
+halt_found Audits books (faults.Stranger book name id) read = absurd read
+halt_found Audits books faults.NoMemory read = tt
 
-pub none_faulty : (books : List (List ℕ)) (found : Result Report AuditFault) → FindsOf books found → AllByRecursion IsLawfulBook books → IsOfLawful found
-none_faulty books (Ok r) finds all = tt
-none_faulty books (Err (faults.NotJournal book)) finds all = let h = first_lawful books book (λ bytes. BeginsWith header bytes → ⊥) all finds in finds.cause (lawful_begins h.0 finds.bytes (encodes h.0 finds.bytes h.1))
-none_faulty books (Err (faults.BadRecord book place)) finds all = let h = first_lawful books book (λ bytes. IsSpoiledFrom bytes place) all finds in not_spoiled h.0 finds.bytes place (encodes h.0 finds.bytes h.1) finds.cause
-none_faulty books (Err (faults.BadChain book place stood computed)) finds all = let h = first_lawful books book (λ bytes. IsUnchainedFrom bytes place stood computed) all finds in not_unchained h.0 finds.bytes place stood computed (encodes h.0 finds.bytes h.1) finds.cause
-none_faulty books (Err (faults.Unlawful book place)) finds all = let h = first_lawful books book (λ bytes. IsUnlawfulFrom bytes place) all finds in not_unlawful h.0 finds.bytes place h.1 finds.cause
-none_faulty books (Err (faults.Disk book)) finds all = tt
-none_faulty books (Err faults.BadBooks) finds all = tt
-none_faulty books (Err (faults.MissingBook name)) finds all = tt
-none_faulty books (Err (faults.Stranger book name id)) finds all = tt
-none_faulty books (Err faults.NoMemory) finds all = tt
+pub none_faulty : {R : Type 0} (Audits : List History → Result R BooksFault → Type 0) (books : List (List ℕ)) (found : Result R AuditFault) → FindsBy Audits books found → AllByRecursion IsLawfulBook books → IsOfLawful found
+none_faulty Audits books (Ok r) finds all = tt
+none_faulty Audits books (Err (faults.NotJournal book)) finds all = let h = first_lawful books book (λ bytes. BeginsWith header bytes → ⊥) all finds in finds.cause (lawful_begins h.0 finds.bytes (encodes h.0 finds.bytes h.1))
+none_faulty Audits books (Err (faults.BadRecord book place)) finds all = let h = first_lawful books book (λ bytes. IsSpoiledFrom bytes place) all finds in not_spoiled h.0 finds.bytes place (encodes h.0 finds.bytes h.1) finds.cause
+none_faulty Audits books (Err (faults.BadChain book place stood computed)) finds all = let h = first_lawful books book (λ bytes. IsUnchainedFrom bytes place stood computed) all finds in not_unchained h.0 finds.bytes place stood computed (encodes h.0 finds.bytes h.1) finds.cause
+none_faulty Audits books (Err (faults.Unlawful book place)) finds all = let h = first_lawful books book (λ bytes. IsUnlawfulFrom bytes place) all finds in not_unlawful h.0 finds.bytes place h.1 finds.cause
+none_faulty Audits books (Err (faults.Disk book)) finds all = tt
+none_faulty Audits books (Err faults.BadBooks) finds all = tt
+none_faulty Audits books (Err (faults.MissingBook name)) finds all = tt
+none_faulty Audits books (Err (faults.Stranger book name id)) finds all = tt
+none_faulty Audits books (Err faults.NoMemory) finds all = tt
 
-pub no_halt : (books : List (List ℕ)) (fault : AuditFault) → AuditsAll books (Err fault) → AllByRecursion IsLawfulBook books → IsOfLawful {A = Report} (Err fault)
-no_halt books fault read all = none_faulty books (Err fault) (halt_found books fault read) all
+pub no_halt : {R : Type 0} (Audits : List History → Result R BooksFault → Type 0) (books : List (List ℕ)) (fault : AuditFault) → AuditsAll books (Err fault) → AllByRecursion IsLawfulBook books → IsOfLawful {A = R} (Err fault)
+no_halt Audits books fault read all = none_faulty Audits books (Err fault) (halt_found Audits books fault read) all

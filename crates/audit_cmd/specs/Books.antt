@@ -10,6 +10,8 @@ use Rattle.scrip_journal.specs.Layout.{header, Encodes}
 use Rattle.balanced_books.specs.declared.sums.Report.{Report}
 use Rattle.wallet_model.specs.Follows.{is_wallet}
 use Rattle.book_audit.specs.Audit.{Audited}
+use Rattle.relay_core.specs.declared.tree.Tree.{Tree}
+use Rattle.tree_audit.specs.Audit.{TreeAudited}
 use Rattle.book_audit.specs.declared.fault.BooksFault.{BooksFault}
 use Rattle.book_audit.specs.declared.fault.BooksFault.TheVariants as founds
 use Rattle.audit_cmd.specs.declared.fault.AuditFault.{AuditFault}
@@ -72,11 +74,19 @@ pub record FirstOf (IsRead : List ℕ → Type 0) (books : List (List ℕ)) (boo
 abbrev pub IsFirst : List (List ℕ) → ℕ → (List ℕ → Type 0) → Type 0
 IsFirst books book Cause = FirstOf IsLawfulBook books book Cause
 
--- The books stand for lawful histories of houses, of which this is found.
-pub record AreAudited (books : List (List ℕ)) (found : Result Report BooksFault) : Type 0 where
+-- The books stand for lawful histories of houses, of which this is found by an audit that answers so.
+pub record AreAuditedBy {R : Type 0} (Audits : List History → Result R BooksFault → Type 0) (books : List (List ℕ)) (found : Result R BooksFault) : Type 0 where
   pub histories : List History
   pub stand : AllZip IsHousesHistory books histories
-  pub audited : Audited FULL histories found
+  pub audited : Audits histories found
+
+-- by that of one broker and vendors
+abbrev pub AreAudited : List (List ℕ) → Result Report BooksFault → Type 0
+AreAudited books found = AreAuditedBy (Audited FULL) books found
+
+-- by that of several brokers and vendors
+abbrev pub AreAuditedTrees : List (List ℕ) → Result Tree BooksFault → Type 0
+AreAuditedTrees books found = AreAuditedBy (TreeAudited FULL) books found
 
 -- The books stand for lawful histories, among them that of a wallet.
 pub record HaveWallet (books : List (List ℕ)) : Type 0 where
@@ -85,18 +95,26 @@ pub record HaveWallet (books : List (List ℕ)) : Type 0 where
   pub wallet : IsTrue (list_any is_wallet histories)
 
 -- What is found by the bytes of the books that decide. The first that is not read as a lawful one decides; where there is
--- none, the books are those of one broker and of vendors with names of their own, or not.
+-- none, the books stand together or not, by the audit.
+abbrev pub FindsBy : {R : Type 0} → (List History → Result R BooksFault → Type 0) → List (List ℕ) → Result R AuditFault → Type 0
+FindsBy Audits books (Err (faults.NotJournal book)) = IsFirst books book (λ bytes. BeginsWith header bytes → ⊥)
+FindsBy Audits books (Err (faults.BadRecord book place)) = IsFirst books book (λ bytes. IsSpoiledFrom bytes place)
+FindsBy Audits books (Err (faults.BadChain book place stood computed)) = IsFirst books book (λ bytes. IsUnchainedFrom bytes place stood computed)
+FindsBy Audits books (Err (faults.Unlawful book place)) = IsFirst books book (λ bytes. IsUnlawfulFrom bytes place)
+FindsBy Audits books (Err (faults.Disk book)) = AllByRecursion IsLawfulBook books
+FindsBy Audits books (Err faults.BadBooks) = HaveWallet books ⊎ AreAuditedBy Audits books (Err founds.BadBooks)
+FindsBy Audits books (Err (faults.MissingBook name)) = AreAuditedBy Audits books (Err (founds.MissingBook name))
+FindsBy Audits books (Err (faults.Stranger book name id)) = AreAuditedBy Audits books (Err (founds.Stranger book name id))
+FindsBy Audits books (Err faults.NoMemory) = Unit {0}
+FindsBy Audits books (Ok r) = AreAuditedBy Audits books (Ok r)
+
+-- the books are those of one broker and of vendors with names of their own, or not
 abbrev pub FindsOf : List (List ℕ) → Result Report AuditFault → Type 0
-FindsOf books (Err (faults.NotJournal book)) = IsFirst books book (λ bytes. BeginsWith header bytes → ⊥)
-FindsOf books (Err (faults.BadRecord book place)) = IsFirst books book (λ bytes. IsSpoiledFrom bytes place)
-FindsOf books (Err (faults.BadChain book place stood computed)) = IsFirst books book (λ bytes. IsUnchainedFrom bytes place stood computed)
-FindsOf books (Err (faults.Unlawful book place)) = IsFirst books book (λ bytes. IsUnlawfulFrom bytes place)
-FindsOf books (Err (faults.Disk book)) = AllByRecursion IsLawfulBook books
-FindsOf books (Err faults.BadBooks) = HaveWallet books ⊎ AreAudited books (Err founds.BadBooks)
-FindsOf books (Err (faults.MissingBook name)) = AreAudited books (Err (founds.MissingBook name))
-FindsOf books (Err (faults.Stranger book name id)) = AreAudited books (Err (founds.Stranger book name id))
-FindsOf books (Err faults.NoMemory) = Unit {0}
-FindsOf books (Ok r) = AreAudited books (Ok r)
+FindsOf books found = FindsBy (Audited FULL) books found
+
+-- the books are those of brokers and of vendors, each with a name of its own, or not
+abbrev pub FindsTree : List (List ℕ) → Result Tree AuditFault → Type 0
+FindsTree books found = FindsBy (TreeAudited FULL) books found
 
 -- why lawful books, none of which is a wallet's, are not reported
 abbrev pub fault_of : BooksFault → AuditFault

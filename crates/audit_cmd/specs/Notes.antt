@@ -1,5 +1,5 @@
 -- An audit asks nothing of Notes: what may follow by the ledger may be entered where no Note is tested.
-use Rattle.std.specs.Prelude.{[], List}
+use Rattle.std.specs.Prelude.{[]}
 use Rattle.mc_records.specs.Entry.{Entry}
 use Rattle.mc_records.specs.Chains.{TellsChain}
 use Rattle.mc_records.specs.declared.limits.TheConstants.Limits.{FULL}

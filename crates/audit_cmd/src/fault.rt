@@ -34,9 +34,10 @@ pub enum AuditFault {
     Disk {
         book: usize,
     },
-    /// There is not one broker's book, there is a wallet's, or two vendors share a name.
+    /// There is not one broker's book, there is a wallet's, or two vendors share a name; of several brokers, there is none, or
+    /// two books share a name.
     BadBooks,
-    /// The broker sold of this vendor, whose book is not there: of several the least name.
+    /// A broker sold of this vendor, whose book is not there: of several the least name.
     MissingBook {
         name: Name,
     },

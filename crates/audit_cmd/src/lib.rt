@@ -8,9 +8,12 @@ mod chain_reading;
 mod fault;
 mod reader;
 mod reading;
+mod tree_auditing;
 
 pub use auditing::audit;
 pub use balanced_books::{Report, Sums, VendorSums};
 pub use book_chains::chains;
 pub use chain_reading::ChainLine;
 pub use fault::AuditFault;
+pub use relay_core::{BrokerSums, Tree};
+pub use tree_auditing::audit_tree;

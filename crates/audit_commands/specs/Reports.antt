@@ -6,16 +6,23 @@ use Rattle.mc_outside.specs.Bytes.{BeginsWith}
 use Rattle.mc_outside.specs.DiskView.{DiskView}
 use Rattle.mc_records.specs.declared.refusal.Refusal.{Refusal}
 use Rattle.mc_records.specs.declared.refusal.Refusal.TheVariants as refusals
+use Rattle.mc_records.specs.declared.limits.TheConstants.Limits.{FULL}
+use Rattle.ledger_model.specs.Histories.{History}
 use Rattle.scrip_journal.specs.Layout.{header}
 use Rattle.balanced_books.specs.declared.sums.Report.{Report}
 use Rattle.audit_report.specs.Text.{report_text}
 use Rattle.audit_report.specs.Json.{report_json}
+use Rattle.relay_core.specs.declared.tree.Tree.{Tree}
+use Rattle.relay_core.specs.Text.{tree_text}
+use Rattle.book_audit.specs.declared.fault.BooksFault.{BooksFault}
 use Rattle.book_audit.specs.declared.fault.BooksFault.TheVariants as founds
+use Rattle.book_audit.specs.Audit.{Audited}
+use Rattle.tree_audit.specs.Audit.{TreeAudited}
 use Rattle.audit_cmd.specs.declared.fault.AuditFault.{AuditFault}
 use Rattle.audit_cmd.specs.declared.fault.AuditFault.TheVariants as faults
 use Rattle.audit_cmd.specs.Reading.{IsSpoiledFrom, IsUnchainedFrom, IsUnlawfulFrom}
 use Rattle.audit_cmd.specs.declared.chain_reading.ChainLine.{ChainLine}
-use Rattle.audit_cmd.specs.Books.{AreTold, counts, IsLawfulBook, FirstOf, AreAudited, HaveWallet, RoseAt}
+use Rattle.audit_cmd.specs.Books.{AreTold, counts, IsLawfulBook, FirstOf, AreAuditedBy, HaveWallet, RoseAt}
 use Rattle.audit_cmd.specs.Chains.{IsLineOf, HasLine, SpoilsChain, BreaksChain, HasNoSite}
 use Rattle.said_lines.specs.Lines.{chain_line}
 use Rattle.command_status.specs.declared.status.Status.{Status}
@@ -48,10 +55,16 @@ audit_status (faults.MissingBook name) = ends.Refused (refusals.MissingBook name
 audit_status (faults.Stranger book name id) = ends.Stranger name id
 audit_status faults.NoMemory = ends.NoMemory
 
--- the status by which it is told what was found of books
+-- the status by which it is told what was found of books, where what is found has these lines
+abbrev pub TellsBy : {R : Type 0} → (R → List ℕ) → Result R AuditFault → Status → Type 0
+TellsBy lines (Ok r) status = IsReportStatus (lines r) status
+TellsBy lines (Err fault) status = status ≡ audit_status fault
+
 abbrev pub TellsFound : Bool → Result Report AuditFault → Status → Type 0
-TellsFound json (Ok r) status = IsReportStatus (report_lines json r) status
-TellsFound json (Err fault) status = status ≡ audit_status fault
+TellsFound json found status = TellsBy (report_lines json) found status
+
+abbrev pub TellsTree : Result Tree AuditFault → Status → Type 0
+TellsTree found status = TellsBy tree_text found status
 
 -- and by which their chains are told
 abbrev pub TellsLines : Result (Vec ChainLine) AuditFault → Status → Type 0
@@ -60,12 +73,20 @@ TellsLines (Err fault) status = status ≡ audit_status fault
 
 -- ---- what is told of books
 
--- Why lawful books are refused: a wallet's is among them, or they are not of one broker and of vendors with names of their
--- own; or the broker sold of a vendor whose book is not there.
+-- Why lawful books are refused: a wallet's is among them, or an audit finds that they don't stand together, or that a broker
+-- sold of a vendor whose book is not there.
+abbrev pub RefusesBy : {R : Type 0} → (List History → Result R BooksFault → Type 0) → List (List ℕ) → Refusal → Type 0
+RefusesBy Audits books refusals.BadBooks = HaveWallet books ⊎ AreAuditedBy Audits books (Err founds.BadBooks)
+RefusesBy Audits books (refusals.MissingBook name) = AreAuditedBy Audits books (Err (founds.MissingBook name))
+RefusesBy Audits books _ = ⊥
+
+-- they are not of one broker and of vendors with names of their own, or the broker sold of a vendor without a book
 abbrev pub RefusesBooks : List (List ℕ) → Refusal → Type 0
-RefusesBooks books refusals.BadBooks = HaveWallet books ⊎ AreAudited books (Err founds.BadBooks)
-RefusesBooks books (refusals.MissingBook name) = AreAudited books (Err (founds.MissingBook name))
-RefusesBooks books _ = ⊥
+RefusesBooks books refusal = RefusesBy (Audited FULL) books refusal
+
+-- they are not of brokers and of vendors, each with a name of its own, or a broker sold of a vendor without a book
+abbrev pub RefusesTree : List (List ℕ) → Refusal → Type 0
+RefusesTree books refusal = RefusesBy (TreeAudited FULL) books refusal
 
 -- the refusals that come so
 abbrev pub IsOfBooks : Refusal → Type 0
@@ -86,17 +107,25 @@ pub record TellsFirst {D : Type 0} (view : D → DiskView) (IsRead : List ℕ �
 -- How the report of books ends, whatever their disks tell, and by their bytes: the books balance and their report is said, or
 -- the first that is not read as a lawful one decides, or lawful books are refused, or the first stranger is told, with the
 -- name of its book.
+abbrev pub ReportsBy : {D R : Type 0} → (D → DiskView) → (List History → Result R BooksFault → Type 0) → (R → List ℕ) → List D → Status → Type 0
+ReportsBy {R = R} view Audits said disks (ends.Did lines) = (r : R) × (lines ≡ said r) × IfTold view disks (λ books. AreAuditedBy Audits books (Ok r))
+ReportsBy view Audits said disks ends.NotJournal = TellsFirst view IsLawfulBook disks (λ bytes. BeginsWith header bytes → ⊥)
+ReportsBy view Audits said disks (ends.BadEntry place) = TellsFirst view IsLawfulBook disks (λ bytes. IsSpoiledFrom bytes place)
+ReportsBy view Audits said disks (ends.BadChain place) = (stood : List ℕ) × (computed : List ℕ) × TellsFirst view IsLawfulBook disks (λ bytes. IsUnchainedFrom bytes place stood computed)
+ReportsBy view Audits said disks (ends.UnlawfulEntry place) = TellsFirst view IsLawfulBook disks (λ bytes. IsUnlawfulFrom bytes place)
+ReportsBy view Audits said disks (ends.Refused refusal) = IsOfBooks refusal × IfTold view disks (λ books. RefusesBy Audits books refusal)
+ReportsBy view Audits said disks (ends.Stranger name id) = (book : ℕ) × (book < length disks) × IfTold view disks (λ books. AreAuditedBy Audits books (Err (founds.Stranger book name id)))
+ReportsBy view Audits said disks ends.DiskFault = Unit {0}
+ReportsBy view Audits said disks ends.NoMemory = Unit {0}
+ReportsBy view Audits said disks _ = ⊥
+
+-- by the audit of one broker and vendors, with its report as JSON or as text
 abbrev pub ReportsBooks : {D : Type 0} → (D → DiskView) → Bool → List D → Status → Type 0
-ReportsBooks view json disks (ends.Did lines) = (r : Report) × (lines ≡ report_lines json r) × IfTold view disks (λ books. AreAudited books (Ok r))
-ReportsBooks view json disks ends.NotJournal = TellsFirst view IsLawfulBook disks (λ bytes. BeginsWith header bytes → ⊥)
-ReportsBooks view json disks (ends.BadEntry place) = TellsFirst view IsLawfulBook disks (λ bytes. IsSpoiledFrom bytes place)
-ReportsBooks view json disks (ends.BadChain place) = (stood : List ℕ) × (computed : List ℕ) × TellsFirst view IsLawfulBook disks (λ bytes. IsUnchainedFrom bytes place stood computed)
-ReportsBooks view json disks (ends.UnlawfulEntry place) = TellsFirst view IsLawfulBook disks (λ bytes. IsUnlawfulFrom bytes place)
-ReportsBooks view json disks (ends.Refused refusal) = IsOfBooks refusal × IfTold view disks (λ books. RefusesBooks books refusal)
-ReportsBooks view json disks (ends.Stranger name id) = (book : ℕ) × (book < length disks) × IfTold view disks (λ books. AreAudited books (Err (founds.Stranger book name id)))
-ReportsBooks view json disks ends.DiskFault = Unit {0}
-ReportsBooks view json disks ends.NoMemory = Unit {0}
-ReportsBooks view json disks _ = ⊥
+ReportsBooks view json disks status = ReportsBy view (Audited FULL) (report_lines json) disks status
+
+-- by that of several brokers and vendors
+abbrev pub ReportsTree : {D : Type 0} → (D → DiskView) → List D → Status → Type 0
+ReportsTree view disks status = ReportsBy view (TreeAudited FULL) tree_text disks status
 
 -- How telling the chains of books ends, likewise: with a line for each, or by the first that has none.
 abbrev pub TellsChains : {D : Type 0} → (D → DiskView) → List D → Status → Type 0

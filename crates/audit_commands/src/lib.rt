@@ -3,6 +3,8 @@
 
 mod chains;
 mod report;
+mod tree;
 
 pub use chains::tell_chains;
 pub use report::report_books;
+pub use tree::report_tree;

@@ -5,4 +5,4 @@ mod json;
 mod text;
 
 pub use json::report_json;
-pub use text::report_text;
+pub use text::{append_name, append_number, append_vendors, report_text};

@@ -48,7 +48,7 @@ fn append_broker(lines: &mut Vec<u8>, broker: &Name) -> Result<(), NoMemory>
 }
 
 /// Appends the line of each vendor. After an `Err` there may be a part of them.
-fn append_vendors(lines: &mut Vec<u8>, vendors: &[VendorSums]) -> Result<(), NoMemory>
+pub fn append_vendors(lines: &mut Vec<u8>, vendors: &[VendorSums]) -> Result<(), NoMemory>
     ensures { OnOk result (lines.new.items ≡ lines.old.items ++ vendor_lines vendors.now) }
 {
     for vendor in vendors {
@@ -80,7 +80,7 @@ fn append_line(lines: &mut Vec<u8>, word: &[u8], number: u128) -> Result<(), NoM
 }
 
 /// Appends a text and a name, likewise.
-fn append_name(lines: &mut Vec<u8>, text: &[u8], name: &Name) -> Result<(), NoMemory>
+pub fn append_name(lines: &mut Vec<u8>, text: &[u8], name: &Name) -> Result<(), NoMemory>
     ensures { OnOk result (lines.new.items ≡ lines.old.items ++ text.now ++ name.now) }
 {
     lines.extend_from_slice(text)?;
@@ -88,8 +88,8 @@ fn append_name(lines: &mut Vec<u8>, text: &[u8], name: &Name) -> Result<(), NoMe
     Ok(())
 }
 
-/// Appends a text and a number, likewise.
-fn append_number(lines: &mut Vec<u8>, text: &[u8], number: u128) -> Result<(), NoMemory>
+/// Appends a text and a number in decimal, likewise.
+pub fn append_number(lines: &mut Vec<u8>, text: &[u8], number: u128) -> Result<(), NoMemory>
     ensures { OnOk result (lines.new.items ≡ lines.old.items ++ text.now ++ decimal number) }
 {
     let mut digits = Buffer::new();

@@ -121,7 +121,7 @@ left_true true b e f = refl
 left_true false b e f = absurd cc
 
 -- where names differ, the vendor of a name is the one that minted
-minted_here : (name : List ℕ) (p : Scrip) (vs : List History) → HaveOwnNames vs → is_minted vs name p ≡ true
+pub minted_here : (name : List ℕ) (p : Scrip) (vs : List History) → HaveOwnNames vs → is_minted vs name p ≡ true
     → AllByRecursion (λ v. bytes_eq name (site_name v) ≡ true → is_among (minted v) p ≡ true) vs
 minted_here name p [] own any = tt
 minted_here name p (v ∷ vs) own any = go (bytes_eq name (site_name v)) refl any (minted_here name p vs own.1)
@@ -308,7 +308,7 @@ none_first : (book : ℕ) (b : History) (vs books : List History) → AllByRecur
 none_first book b vs [] all = refl
 none_first book b vs (h ∷ hs) all = ap (λ (ids : List ℕ). first_by book ids (first_from (book + 1) b vs hs)) all.0 ∙ none_first (book + 1) b vs hs all.1
 
-all_merge : {X : Type 0} (P : X → Type 0) (test : X → Bool) (xs : List X) → AllByRecursion (λ x. test x ≡ true → P x) (filter test xs) → AllByRecursion (λ x. test x ≡ false → P x) (filter (λ x. not (test x)) xs) → AllByRecursion P xs
+pub all_merge : {X : Type 0} (P : X → Type 0) (test : X → Bool) (xs : List X) → AllByRecursion (λ x. test x ≡ true → P x) (filter test xs) → AllByRecursion (λ x. test x ≡ false → P x) (filter (λ x. not (test x)) xs) → AllByRecursion P xs
 all_merge P test [] yes' no' = tt
 all_merge P test (x ∷ xs) yes' no' = go (test x) refl yes' no' (all_merge P test xs)
   where

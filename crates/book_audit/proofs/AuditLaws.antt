@@ -23,20 +23,18 @@ use Rattle.balanced_books.proofs.Strange.{sells_nothing}
 use Rattle.balanced_books.proofs.Left.{same_vendor}
 use Rattle.book_sums.specs.declared.rows.Acceptance.{Acceptance}
 use Rattle.book_sums.specs.declared.rows.Sold.{Sold}
-use Rattle.book_sums.specs.declared.rows.Stocked.{Stocked}
 use Rattle.book_sums.specs.declared.book_sums.BookSums.{BookSums}
 use Rattle.book_sums.specs.Rows.{sale_by}
 use Rattle.book_sums.specs.Learned.{SumsRepresent, name_of, kind_of, time_of, accepted_of, stock_rows_of, sales_of}
 use Rattle.book_audit.specs.declared.shop.Shop.{Shop}
 use Rattle.book_audit.specs.Known.{has_part, was_accepted}
 use Rattle.book_audit.specs.Filed.{HaveStocked, HaveSold}
-use Rattle.book_audit.specs.Shops.{stocked_row}
-use Rattle.book_audit.specs.Strange.{shop_in, not_in, not_minted, first_in}
+use Rattle.book_audit.specs.Strange.{sold_at, not_in, not_minted, first_in}
 use Rattle.book_audit.specs.Checks.{is_desk, handed_from, left_at, left_in, stranger_in, row_of, first_over}
 use Rattle.book_audit.specs.Audit.{IsLearned, AreLearned, has_book}
 use Rattle.book_audit.proofs.Ties.{is_same, parts_are, accepted_is, out_is, gone_is}
-use Rattle.book_audit.proofs.ShopLaws.{stocked_is, sold_are}
-use Rattle.book_audit.proofs.StrangeLaws.{AreShopsAt, HaveStock, has_shop, with_stock, sale_tells, first_is}
+use Rattle.book_audit.proofs.StandLaws.{stock, sold_is}
+use Rattle.book_audit.proofs.StrangeLaws.{AreShopsAt, sale_tells, first_is}
 use Rattle.book_audit.proofs.MarketLaws.{shops_among}
 
 -- ---- lists
@@ -88,7 +86,7 @@ each_has (h ∷ hs) = go (is_broker h) refl (each_has hs)
     go false e all = ((λ vendor. ap (λ (a : Bool). a || has_book (shops_among hs) (site_name h)) (same_bytes (site_name h))), wider h false hs hs all)
 
 -- tests that agree find the same
-in_alike : (f g : Option Part → Option ℕ) (k : Sold → Option ℕ) → ((o : Option Part) → f o ≡ g o) → (rows : List Acceptance) (ss : List Sold) → first_in f k rows ss ≡ first_in g k rows ss
+in_alike : {X : Type 0} (f g : Option Part → Option ℕ) (k : X → Option ℕ) → ((o : Option Part) → f o ≡ g o) → (rows : List Acceptance) (ss : List X) → first_in f k rows ss ≡ first_in g k rows ss
 in_alike f g k same [] ss = refl
 in_alike f g k same (a ∷ rows) ss = rw (same a.piece, in_alike f g k same rows _) refl
 
@@ -97,7 +95,7 @@ not_alike p q same None = refl
 not_alike p q same (Some x) = ap (λ (b : Bool). cond b None (Some x.id)) (same x.id x.value)
 
 -- where two tests of what was handed out agree, they find the same first stranger
-pub first_alike : (p q : ℕ → ℕ → Bool) (k : Sold → Option ℕ) → ((id value : ℕ) → p id value ≡ q id value) → (rows : List Acceptance) (ss : List Sold)
+pub first_alike : {X : Type 0} (p q : ℕ → ℕ → Bool) (k : X → Option ℕ) → ((id value : ℕ) → p id value ≡ q id value) → (rows : List Acceptance) (ss : List X)
     → first_in (not_in p) k rows ss ≡ first_in (not_in q) k rows ss
 first_alike p q k same rows ss = in_alike (not_in p) (not_in q) k (not_alike p q same) rows ss
 
@@ -132,30 +130,20 @@ module _ (limits : Limits) (s : BookSums) (h : History) (is : IsLearned limits s
 
 module _ (limits : Limits) (broker : BookSums) (b : History) (vs : List History) (shops : List Shop) (is_b : SumsRepresent broker b)
     (at : AreShopsAt b vs shops) (stocked : HaveStocked shops (stock_rows_of broker)) (have : HaveSold shops (sales_of broker)) (own : HaveOwnNames vs) (known : AllByRecursion (λ (s : Sale). IsTrue (has_book vs s.vendor)) (sales b)) where
-  stock : HaveStock b shops
-  stock name shop found id = stocked name shop found id ∙ ap (λ (rows : List Stocked). stocked_row rows shop.name id) is_b.market'.stock' ∙ stocked_is shop.name id b
-
   -- what was handed out of a book
   abbrev handed_parts : History → List Part
   handed_parts h = map part_of (handed_of b h)
 
-  vendor_handed : (s : BookSums) (h : History) → IsLearned limits s h → has_book vs (site_name h) ≡ true → unwrap_or (option_map (λ shop. shop.sold.items) (shop_in shops (name_of s))) [] ≡ map part_of (sold b (site_name h))
-  vendor_handed s h is any =
-      let r = has_shop b vs shops (site_name h) at own any in
-      let name : site_name h ≡ site_name r.vendor = (bytes_eq-Decides (site_name h) r.shop.name).0 r.named ∙ r.stands.name' in
-      ap (λ (n : List ℕ). unwrap_or (option_map (λ shop. shop.sold.items) (shop_in shops n)) []) (sym is.sums.name')
-      ∙ ap (λ (o : Option Shop). unwrap_or (option_map (λ shop. shop.sold.items) o) []) r.found
-      ∙ have (site_name h) r.shop r.found
-      ∙ sold_are b r.vendor r.shop (sales_of broker) (with_stock b vs shops (site_name h) r stock)
-      ∙ ap₂ (λ (n : List ℕ) (ss : List Sale). map part_of (filter_map (sold_piece b) (filter (λ x. bytes_eq x.vendor n) ss))) (sym name) is_b.market'.sales'
+  vendor_handed : (s : BookSums) (h : History) → IsLearned limits s h → has_book vs (site_name h) ≡ true → sold_at shops (name_of s) ≡ map part_of (sold b (site_name h))
+  vendor_handed s h is any = ap (sold_at shops) (sym is.sums.name') ∙ sold_is broker b vs shops is_b at stocked own have (site_name h) any
 
   handed_is : (s : BookSums) (h : History) → IsLearned limits s h → (is_broker h ≡ false → has_book vs (site_name h) ≡ true) → handed_from shops s ≡ handed_parts h
   handed_is s h is any =
-      ap₂ (λ (d : Bool) (own_ones : List Part). cond d [] (unwrap_or (option_map (λ shop. shop.sold.items) (shop_in shops (name_of s))) []) ++ own_ones)
+      ap₂ (λ (d : Bool) (own_ones : List Part). cond d [] (sold_at shops (name_of s)) ++ own_ones)
       (ap (λ (o : Option ℕ). unwrap_or (option_map (λ kind. eqb kind BROKER_KIND) o) false) (sym is.sums.kind')) is.sums.pieces'.own_out'
       ∙ go (is_broker h) refl
     where
-      go : (d : Bool) → is_broker h ≡ d → cond d [] (unwrap_or (option_map (λ shop. shop.sold.items) (shop_in shops (name_of s))) []) ++ map part_of (own_out h) ≡ map part_of (cond d (own_out h) (handed_out b h))
+      go : (d : Bool) → is_broker h ≡ d → cond d [] (sold_at shops (name_of s)) ++ map part_of (own_out h) ≡ map part_of (cond d (own_out h) (handed_out b h))
       go true e = refl
       go false e = ap (λ (l : List Part). l ++ map part_of (own_out h)) (vendor_handed s h is (any e)) ∙ sym (map-append part_of (sold b (site_name h)) (own_out h))
 
@@ -165,7 +153,7 @@ module _ (limits : Limits) (broker : BookSums) (b : History) (vs : List History)
 
   told : (ss : List Sold) → AllByRecursion (λ (s : Sale). IsTrue (has_book vs s.vendor)) (map sale_by ss) → TellsAll b ss
   told [] all = tt
-  told (s ∷ ss) all = (sale_tells b vs shops s at stock own all.0, told ss all.1)
+  told (s ∷ ss) all = (sale_tells b vs shops s at (stock broker b vs shops is_b at stocked own) own all.0, told ss all.1)
 
   broker_tells : TellsAll b (sales_of broker)
   broker_tells = told (sales_of broker) (subst (AllByRecursion (λ (s : Sale). IsTrue (has_book vs s.vendor))) (sym is_b.market'.sales') known)

@@ -60,7 +60,7 @@ kept_where P (h ∷ hs) all = go (is_broker h) refl (kept_where P hs all.1)
     go true e rest = rest
     go false e rest = ((e, all.0 e), rest)
 
-accounts_are : (limits : Limits) (s : BookSums) (b : History) → IsLearned limits s b → accounts_of (till_of s) ≡ all_balances b
+pub accounts_are : (limits : Limits) (s : BookSums) (b : History) → IsLearned limits s b → accounts_of (till_of s) ≡ all_balances b
 accounts_are limits s b is =
     let m = is.sums.money in
     omega (arith, accounts_hold limits b is.lawful, m.paid_in', m.paid_out', m.credited', m.drawn')

@@ -2,6 +2,7 @@ pub mod Ties
 pub mod ShopLaws
 pub mod StrangeLaws
 pub mod MarketLaws
+pub mod StandLaws
 pub mod AuditLaws
 pub mod Loops
 pub mod FiledLaws

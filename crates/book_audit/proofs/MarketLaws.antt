@@ -20,7 +20,7 @@ use Rattle.book_audit.specs.Audit.{IsLearned, AreLearned, has_book, IsLeastMissi
 use Rattle.book_audit.proofs.ShopLaws.{shop_on}
 use Rattle.book_audit.proofs.StrangeLaws.{AreShopsAt}
 
-desk_is : (limits : Limits) (s : BookSums) (h : History) → IsLearned limits s h → is_desk s ≡ is_broker h
+pub desk_is : (limits : Limits) (s : BookSums) (h : History) → IsLearned limits s h → is_desk s ≡ is_broker h
 desk_is limits s h is = sym (ap (λ (o : Option ℕ). unwrap_or (option_map (λ kind. eqb kind BROKER_KIND) o) false) is.sums.kind')
 
 -- the books that are no broker's

@@ -25,7 +25,7 @@ use Rattle.book_audit.specs.Filed.{EachFound}
 use Rattle.book_audit.specs.Strange.{not_in, shop_in, not_minted, next_sale, later_sales, strange_of, first_in}
 use Rattle.book_audit.proofs.ShopLaws.{IsShopOn, IsShopAt, part_is}
 
-first_append : (xs ys : List ℕ) → first_of (xs ++ ys) ≡ option_or (first_of xs) (first_of ys)
+pub first_append : (xs ys : List ℕ) → first_of (xs ++ ys) ≡ option_or (first_of xs) (first_of ys)
 first_append [] ys = refl
 first_append (x ∷ xs) ys = refl
 

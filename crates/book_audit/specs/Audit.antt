@@ -79,7 +79,7 @@ pub record IsStranger (limits : Limits) (books : List History) (book : ℕ) (nam
   pub named : name ≡ site_name of
 
 -- A stranger is told with the name that was learned of its book, be the books lawful or not.
-abbrev pub NamesBook : List BookSums → Result Report BooksFault → Type 0
+abbrev pub NamesBook : {R : Type 0} → List BookSums → Result R BooksFault → Type 0
 NamesBook books (Err (faults.Stranger book name id)) = (s : BookSums) × (slice_get books book ≡ Some s) × (name ≡ name_of s)
 NamesBook books _ = Unit {0}
 

@@ -1,5 +1,5 @@
 -- What is found of each book, by what was kept of it.
-use Rattle.std.specs.Prelude.{◌≡◌, ℕ, ◌+◌, Bool, ◌==◌, if◌then◌else◌, List, [], ◌∷◌, ◌++◌, Option, None, Some, option_map, unwrap_or, sum_by, Result, Ok, Err}
+use Rattle.std.specs.Prelude.{◌≡◌, ℕ, ◌+◌, Bool, ◌==◌, if◌then◌else◌, List, [], ◌∷◌, ◌++◌, Option, None, Some, option_map, sum_by, Result, Ok, Err}
 use Rattle.std.specs.Option.{option_or}
 use Rattle.ledger_model.specs.declared.numbers.TheConstants.{BROKER_KIND}
 use Rattle.balanced_books.specs.declared.part.Part.{Part}
@@ -13,14 +13,14 @@ use Rattle.book_audit.specs.declared.fault.BooksFault.TheVariants as audits
 use Rattle.book_audit.specs.declared.check.CheckFault.{CheckFault}
 use Rattle.book_audit.specs.declared.check.CheckFault.TheVariants as faults
 use Rattle.book_audit.specs.Known.{has_part, was_accepted, out_at, gone_at}
-use Rattle.book_audit.specs.Strange.{shop_in, not_in, not_minted, first_in}
+use Rattle.book_audit.specs.Strange.{sold_at, not_in, not_minted, first_in}
 
 abbrev pub is_desk : BookSums → Bool
 is_desk s = kind_of s == BROKER_KIND
 
 -- the pieces of a vendor's that were sold; a broker has none of its own among them
 abbrev pub sold_from : List Shop → BookSums → List Part
-sold_from shops s = if is_desk s then [] else unwrap_or (option_map (λ shop. shop.sold.items) (shop_in shops (name_of s))) []
+sold_from shops s = if is_desk s then [] else sold_at shops (name_of s)
 
 -- what was handed out of a book: the sold pieces, and those of its own series
 abbrev pub handed_from : List Shop → BookSums → List Part

@@ -6,3 +6,4 @@ pub mod Checks
 pub mod Markets
 pub mod Findings
 pub mod Audit
+pub mod Standing

@@ -80,7 +80,7 @@ fn report(broker: &BookSums, totals: Totals) -> Result<Report, NoMemory>
 }
 
 /// The sums of vendors in the order of their names, by their bytes.
-fn by_name(mut vendors: Vec<VendorSums>) -> Result<Vec<VendorSums>, NoMemory>
+pub fn by_name(mut vendors: Vec<VendorSums>) -> Result<Vec<VendorSums>, NoMemory>
     ensures { IfOk result (λ ordered. AreInOrder vendors.items ordered.items) }
 {
     vendors.sort_by(|a, b| a.name.bytes().cmp(b.name.bytes()))?;

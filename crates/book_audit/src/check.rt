@@ -17,7 +17,7 @@ use std::alloc::Global;
 
 /// Why a book does not pass.
 #[derive(Clone, Copy, Drop)]
-pub(crate) enum CheckFault {
+pub enum CheckFault {
     /// Its first stranger is the piece of this identity.
     Stranger(Id),
     /// Memory was refused.
@@ -26,7 +26,7 @@ pub(crate) enum CheckFault {
 
 impl CheckFault {
     /// The fault of an audit, where it is of the book at a place.
-    pub(crate) fn of_book(self, place: usize, book: &BookSums) -> BooksFault
+    pub fn of_book(self, place: usize, book: &BookSums) -> BooksFault
         ensures { result ≡ fault_at place book.now self }
     {
         match self {
@@ -41,7 +41,7 @@ impl CheckFault {
 }
 
 /// Whether a book is a broker's.
-pub(crate) fn is_desk(book: &BookSums) -> bool
+pub fn is_desk(book: &BookSums) -> bool
     ensures { result ≡ is_desk book.now }
 {
     book.kind() == BROKER_KIND
@@ -54,10 +54,7 @@ fn sold_from<'a>(shops: &'a Shops, book: &BookSums) -> &'a [Part]
     if is_desk(book) {
         return &[];
     }
-    match shops.find(book.name()) {
-        Some(shop) => &shop.sold,
-        None => &[],
-    }
+    shops.sold(book.name())
 }
 
 /// The pieces that were handed out of a book.
@@ -92,8 +89,8 @@ pub(crate) fn check_book(alloc: Global, shops: &Shops, book: &BookSums) -> Resul
     }
 }
 
-/// What is left of the pieces that were handed out of a book.
-fn left_of(alloc: Global, handed: &[Part], book: &BookSums) -> Result<Left, NoMemory>
+/// What is left of the pieces that were handed out of a book. It takes memory for the pieces that the book accepted.
+pub fn left_of(alloc: Global, handed: &[Part], book: &BookSums) -> Result<Left, NoMemory>
     ensures { IfOk result (λ left. left ≡ left_at handed.now book.now) }
 {
     let spent = Spent::of(alloc, book.accepted())?;

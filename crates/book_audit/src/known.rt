@@ -13,7 +13,7 @@ use std::marker::Model;
 
 /// The identities of some pieces, each with its value. Contracts see the list of the pairs, in no order.
 #[derive(Drop)]
-pub(crate) struct Known {
+pub struct Known {
     keys: HashSet<(u64, u64)>,
 }
 
@@ -27,7 +27,7 @@ impl Model for Known {
 
 impl Known {
     /// Those of some pieces.
-    pub(crate) fn of_parts(alloc: Global, parts: &[Part]) -> Result<Known, NoMemory>
+    pub fn of_parts(alloc: Global, parts: &[Part]) -> Result<Known, NoMemory>
         ensures { IfOk result (λ k. (id value : ℕ) → knows k id value ≡ has_part parts.now id value) }
     {
         let mut keys = HashSet::with_capacity(alloc, parts.len())?;
@@ -50,7 +50,7 @@ impl Known {
     }
 
     /// Whether a piece of this identity and this value is among them.
-    pub(crate) fn has(&self, part: &Part) -> bool
+    pub fn has(&self, part: &Part) -> bool
         ensures { result ≡ knows self.now part.now.id part.now.value }
     {
         self.keys.contains(&(part.id.number(), part.value))

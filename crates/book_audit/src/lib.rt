@@ -9,8 +9,16 @@ mod market;
 mod shop;
 mod shops;
 mod spent;
+mod standing;
 mod strangers;
 mod totals;
 
-pub use audit::audit_books;
+pub use audit::{audit_books, by_name};
+pub use check::{CheckFault, is_desk, left_of};
 pub use fault::BooksFault;
+pub use known::Known;
+pub use market::{least_beside, vendor_names};
+pub use shops::Shops;
+pub use spent::Left;
+pub use strangers::unknown;
+pub use totals::accounts_of;

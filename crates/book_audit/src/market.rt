@@ -1,7 +1,8 @@
 //! Which books stand together: those of one broker and of vendors with names of their own.
 
-ghost use Rattle.std.specs.Prelude.{◌≡◌, map, List, ℕ, true, false, filter, option_map, is_some, IfOk, MatchOption, if◌then◌else◌};
+ghost use Rattle.std.specs.Prelude.{◌≡◌, ◌++◌, map, List, ℕ, true, false, filter, option_map, is_some, IfOk, MatchOption, if◌then◌else◌};
 ghost use Rattle.name_places.specs.NamePlaces.{place_of};
+ghost use Rattle.book_sums.specs.declared.rows.Sold.{Sold as Row};
 ghost use Rattle.book_sums.specs.Learned.{name_of};
 ghost use Rattle.book_audit.specs.Checks.{is_desk};
 ghost use Rattle.book_audit.specs.Filed.{place_in};
@@ -33,10 +34,7 @@ pub(crate) fn only_broker(books: &[BookSums]) -> Option<&BookSums>
 }
 
 /// The names of the vendors, each with the place of its book among theirs; None exactly where two share one.
-pub(crate) fn vendor_names(
-    alloc: Global,
-    books: &[BookSums],
-) -> Result<Option<NamePlaces>, NoMemory>
+pub fn vendor_names(alloc: Global, books: &[BookSums]) -> Result<Option<NamePlaces>, NoMemory>
     ensures own { IfOk result (λ names. is_some names ≡ own_names books.now) }
     ensures names { IfOk result (λ o. MatchOption o (Unit {0})
         (λ names. (name : List ℕ) → is_some (place_of names name) ≡ has_vendor books.now name)) }
@@ -64,7 +62,17 @@ pub(crate) fn least_lacking(names: &NamePlaces, sales: &[Sold]) -> Option<Name>
     ensures { MatchOption result (HasAll (λ name. is_some (place_of names.now name)) sales.now)
         (IsLeast (λ name. is_some (place_of names.now name)) sales.now) }
 {
-    let mut least = None;
+    least_beside(names, None, sales)
+}
+
+/// The least name that is lacking of the vendors that some sales are of, or of those of earlier sales, of which this is the least.
+pub fn least_beside(names: &NamePlaces, earlier: Option<Name>, sales: &[Sold]) -> Option<Name>
+    ensures { (rows : List Row) → MatchOption earlier (HasAll (λ name. is_some (place_of names.now name)) rows)
+        (IsLeast (λ name. is_some (place_of names.now name)) rows)
+        → MatchOption result (HasAll (λ name. is_some (place_of names.now name)) (rows ++ sales.now))
+        (IsLeast (λ name. is_some (place_of names.now name)) (rows ++ sales.now)) }
+{
+    let mut least = earlier;
     for sale in sales {
         if names.get(sale.vendor.bytes()).is_none() {
             least = Some(lesser(least, sale.vendor));

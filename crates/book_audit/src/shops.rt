@@ -21,7 +21,7 @@ use std::alloc::Global;
 /// The shops of all vendors at a broker, in the order of their books. That of a vendor is found by its name in a few
 /// looks, however many there are.
 #[derive(Drop)]
-pub(crate) struct Shops {
+pub struct Shops {
     pub(crate) list: Vec<Shop>,
     /// Where the shop of each vendor stands.
     pub(crate) places: NamePlaces,

@@ -68,11 +68,11 @@ impl Spent {
 
 /// The values of pieces that were handed out and did not come back, in units.
 #[derive(Clone, Copy, Drop)]
-pub(crate) struct Left {
+pub struct Left {
     /// Of those whose end is after the time of the house.
-    pub(crate) outstanding: u128,
+    pub outstanding: u128,
     /// Of those that have ended.
-    pub(crate) lapsed: u128,
+    pub lapsed: u128,
 }
 
 impl Left {

@@ -12,7 +12,7 @@ use book_sums::{Acceptance, BookSums, Sold};
 use scrip_form::Id;
 
 /// The identity of a piece, where there is one, that is not among those that are known.
-fn unknown(known: &Known, piece: Option<Part>) -> Option<Id>
+pub fn unknown(known: &Known, piece: Option<Part>) -> Option<Id>
     ensures { result ≡ not_in (knows known.now) piece }
 {
     match piece {

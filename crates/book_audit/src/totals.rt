@@ -70,7 +70,7 @@ fn add(totals: &mut Totals, book: &BookSums, left: Left) -> Result<(), NoMemory>
 }
 
 /// What stands in the accounts of a broker of this money: what came into them, less what went out.
-pub(crate) fn accounts_of(till: &Till) -> Result<u128, NoMemory>
+pub fn accounts_of(till: &Till) -> Result<u128, NoMemory>
     ensures { IfOk result (λ all. all ≡ accounts_of till.now) }
 {
     let Some(came) = till.paid_in.checked_add(till.credited) else {

@@ -1,5 +1,8 @@
-use Rattle.std.proofs.Common.{List, sym, subst}
+use Rattle.std.proofs.Common.{List, subst}
 use Rattle.std.specs.Prelude.{length}
+use Rattle.mc_records.specs.declared.limits.TheConstants.Limits.{FULL}
+use Rattle.balanced_books.specs.declared.sums.Report.{Report}
+use Rattle.book_audit.specs.Audit.{Audited}
 use Rattle.audit_cmd.specs.Books.{IsLawfulBook, AreTold, decided_by}
 use Rattle.audit_cmd.proofs.Deciding.{all_decide, told_decide, decided_by_all, told_so}
 use Rattle.audit_cmd.proofs.LawfulLaws.{halt_found, none_faulty, no_halt}
@@ -11,15 +14,15 @@ returns-in-Ok-clause-exact g c contents told =
     c.find.ensures.found contents (c.in-Ok.ensures.exact contents all)
 
 pub returns-in-Err-clause-exact : goal.returns-in-Err-clause-exact
-returns-in-Err-clause-exact g c contents told = halt_found contents c.in-Err.fault (c.in-Err.ensures.exact contents told)
+returns-in-Err-clause-exact g c contents told = halt_found (Audited FULL) contents c.in-Err.fault (c.in-Err.ensures.exact contents told)
 
 pub returns-in-Err-clause-place : goal.returns-in-Err-clause-place
-returns-in-Err-clause-place g c = told_so (length c.args.books.items) c.in-Err.fault c.in-Err.ensures.place
+returns-in-Err-clause-place g c = told_so Report (length c.args.books.items) c.in-Err.fault c.in-Err.ensures.place
 
 pub returns-in-Ok-clause-lawful : goal.returns-in-Ok-clause-lawful
-returns-in-Ok-clause-lawful g c contents told all = none_faulty contents c.find.result (c.find.ensures.found contents (c.in-Ok.ensures.exact contents told)) all
+returns-in-Ok-clause-lawful g c contents told all = none_faulty (Audited FULL) contents c.find.result (c.find.ensures.found contents (c.in-Ok.ensures.exact contents told)) all
 
 pub returns-in-Err-clause-lawful : goal.returns-in-Err-clause-lawful
 returns-in-Err-clause-lawful g c contents told all =
     let books = decided_by c.in-Err.fault contents in
-    no_halt books c.in-Err.fault (c.in-Err.ensures.exact books (told_decide g.D.Disk.disk c.in-Err.fault c.args.books.items contents told)) (all_decide IsLawfulBook c.in-Err.fault contents all)
+    no_halt (Audited FULL) books c.in-Err.fault (c.in-Err.ensures.exact books (told_decide g.D.Disk.disk c.in-Err.fault c.args.books.items contents told)) (all_decide IsLawfulBook c.in-Err.fault contents all)

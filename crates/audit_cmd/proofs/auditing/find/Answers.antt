@@ -3,7 +3,7 @@ use Rattle.std.specs.Prelude.{IfSome, length}
 use Rattle.mc_records.specs.declared.limits.TheConstants.Limits.{FULL}
 use Rattle.balanced_books.specs.declared.sums.Report.{Report}
 use Rattle.book_sums.specs.declared.book_sums.BookSums.{BookSums}
-use Rattle.book_audit.specs.Audit.{AreLearned, NamesBook}
+use Rattle.book_audit.specs.Audit.{AreLearned, Audited, NamesBook}
 use Rattle.audit_cmd.specs.declared.fault.AuditFault.{AuditFault}
 use Rattle.audit_cmd.specs.Books.{FindsOf, CountsBy, IsOfAll, told_book}
 use Rattle.audit_cmd.proofs.FoundLaws.{fault_found, fault_calm, fault_of_all, fault_place, kept_audited}
@@ -12,17 +12,17 @@ use Rattle.audit_cmd.proofs.auditing.find.Goals as goal
 pub returns-in-Err-clause-found : goal.returns-in-Err-clause-found
 returns-in-Err-clause-found c contents kept =
     subst (λ (f : AuditFault). FindsOf contents (Err f)) (sym c.of_books.ensures)
-    (fault_found contents c.in-Err.fault (kept_audited contents c.args.kept.now.wallet c.args.kept.now.houses.items (Err c.in-Err.fault) c.if-kept.false kept
+    (fault_found (Audited FULL) contents c.in-Err.fault (kept_audited (Audited FULL) contents c.args.kept.now.wallet c.args.kept.now.houses.items (Err c.in-Err.fault) c.if-kept.false kept
     (λ hs learned. c.in-Err.ensures.audited FULL hs (omega arith) (subst (λ (l : List BookSums). AreLearned FULL l hs) (sym c.deref.ensures.value) learned))))
 
 pub returns-in-Err-clause-calm : goal.returns-in-Err-clause-calm
-returns-in-Err-clause-calm c before = subst (λ (f : AuditFault). CountsBy {A = Report} (Err f) before before) (sym c.of_books.ensures) (fault_calm c.in-Err.fault before)
+returns-in-Err-clause-calm c before = subst (λ (f : AuditFault). CountsBy {A = Report} (Err f) before before) (sym c.of_books.ensures) (fault_calm Report c.in-Err.fault before)
 
 pub returns-in-Err-clause-all : goal.returns-in-Err-clause-all
-returns-in-Err-clause-all c = subst (λ (f : AuditFault). IsOfAll {A = Report} (Err f)) (sym c.of_books.ensures) (fault_of_all c.in-Err.fault)
+returns-in-Err-clause-all c = subst (λ (f : AuditFault). IsOfAll {A = Report} (Err f)) (sym c.of_books.ensures) (fault_of_all Report c.in-Err.fault)
 
 pub returns-in-Err-clause-place : goal.returns-in-Err-clause-place
 returns-in-Err-clause-place c =
     let houses = c.args.kept.now.houses.items in
     subst (λ (f : AuditFault). IfSome (told_book {A = Report} (Err f)) (λ book. book < length houses)) (sym c.of_books.ensures)
-    (fault_place houses c.in-Err.fault (subst (λ (l : List BookSums). NamesBook l (Err c.in-Err.fault)) c.deref.ensures.value c.in-Err.ensures.named))
+    (fault_place Report houses c.in-Err.fault (subst (λ (l : List BookSums). NamesBook {R = Report} l (Err c.in-Err.fault)) c.deref.ensures.value c.in-Err.ensures.named))

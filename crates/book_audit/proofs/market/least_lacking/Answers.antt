@@ -1,29 +1,5 @@
-use Rattle.std.proofs.Common.{◌≡◌, ℕ, ◌+◌, Bool, not, List, ◌++◌, ◌∷◌, [], take, Option, sym, ap, ◌∙◌, subst}
-use Rattle.std.specs.Prelude.{is_some, MatchOption}
-use Rattle.name_places.specs.NamePlaces.{place_of}
-use Rattle.book_sums.specs.declared.rows.Sold.{Sold}
-use Rattle.book_audit.specs.Markets.{IsLeast, HasAll}
-use Rattle.book_audit.proofs.Loops.{one_more}
-use Rattle.book_audit.proofs.NameLaws.{least_same, least_more}
+use Rattle.std.proofs.Common.{[]}
 use Rattle.book_audit.proofs.market.least_lacking.Goals as goal
-use Rattle.book_audit.proofs.market.least_lacking.Goals.{then-is_none, else-is_none}
 
-pub loop-sale-preserved : goal.loop-sale-preserved
-loop-sale-preserved c =
-    let sales = c.args.sales.now in
-    let i = c.loop-sale.sale-index in
-    let s = c.sale-item.result in
-    let has : List ℕ → Bool = λ name. is_some (place_of c.args.names.now name) in
-    let at : has s.vendor ≡ is_some c.get.result = ap has (sym c.bytes.ensures.value) ∙ ap is_some (sym c.get.ensures) in
-    let on : (o : Option (List ℕ)) → MatchOption o (HasAll has (take i sales ++ s ∷ [])) (IsLeast has (take i sales ++ s ∷ [])) → MatchOption o (HasAll has (take (i + 1) sales)) (IsLeast has (take (i + 1) sales)) =
-    λ o. subst (λ (l : List Sold). MatchOption o (HasAll has l) (IsLeast has l)) (sym (one_more sales i s c.loop-sale-test.true c.sale-item.is)) in
-    elim c.if-is_none.branch [
-      | then-is_none w ↦
-          on c.if-is_none.least
-          (subst (λ (o : Option (List ℕ)). MatchOption o (HasAll has (take i sales ++ s ∷ [])) (IsLeast has (take i sales ++ s ∷ []))) (sym w.least-is)
-          (least_more has (take i sales) s c.loop-sale.least w.lesser.result (at ∙ c.is_none.ensures ∙ ap not w.if-is_none.true) c.loop-sale.invariant w.lesser.ensures))
-      | else-is_none w ↦
-          on c.if-is_none.least
-          (subst (λ (o : Option (List ℕ)). MatchOption o (HasAll has (take i sales ++ s ∷ [])) (IsLeast has (take i sales ++ s ∷ []))) (sym w.least-is)
-          (least_same has (take i sales) s c.loop-sale.least (at ∙ c.is_none.ensures ∙ ap not w.if-is_none.false) c.loop-sale.invariant))
-    ]
+pub returns : goal.returns
+returns c = c.least_beside.ensures [] tt

@@ -1,8 +1,0 @@
-use Rattle.std.proofs.Common.{take}
-use Rattle.std.specs.Prelude.{is_some, MatchOption}
-use Rattle.name_places.specs.NamePlaces.{place_of}
-use Rattle.book_audit.specs.Markets.{IsLeast, HasAll}
-use Rattle.book_audit.proofs.market.least_lacking.Given as goal
-
-abbrev pub invariant-loop-sale : goal.invariant-loop-sale
-invariant-loop-sale l = MatchOption l.least (HasAll (λ name. is_some (place_of l.names name)) (take l.sale-index l.sales)) (IsLeast (λ name. is_some (place_of l.names name)) (take l.sale-index l.sales))
