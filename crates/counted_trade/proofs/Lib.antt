@@ -1,0 +1,4 @@
+pub mod LicenceLaws
+pub mod NoteLaws
+pub mod OrderLaws
+pub mod TradeLaws

@@ -1,0 +1,32 @@
+-- What a counted trade means: what its inner one means, and what was counted beside it.
+use Rattle.mc_records.specs.Entry.{Entry}
+use Rattle.ledger_model.specs.Histories.{History}
+use Rattle.house_state.specs.Learning.{Test}
+use Rattle.house_state.specs.Trade.{TradeView}
+use Rattle.settle_core.specs.Settlement.{IsInOrder}
+use Rattle.counted_trade.specs.Counts.{CountsRepresent, HasRoomToCount}
+use Rattle.counted_trade.specs.declared.counted.Counted.{Counted}
+
+-- both represent a history
+pub record BothRepresent {T : Type 0} (trade : T → TradeView) (c : Counted T) (h : History) : Type 0 where
+  pub inner' : (trade c.inner).represents h
+  pub counts' : CountsRepresent c.counts h
+
+-- both have room for an entry
+pub record BothHaveRoom {T : Type 0} (trade : T → TradeView) (c : Counted T) (e : Entry) : Type 0 where
+  pub inner' : (trade c.inner).has_room e
+  pub counts' : HasRoomToCount c.counts e
+
+-- it is a trade of the inner one's site, and has the contents that the inner one has
+abbrev pub counted_view : {T : Type 0} → (T → TradeView) → Counted T → TradeView
+counted_view trade c = record {
+  represents = BothRepresent trade c;
+  site = (trade c.inner).site;
+  has_room = BothHaveRoom trade c;
+  holds = (trade c.inner).holds;
+}
+
+-- a note passes where it passes the inner trade's test, and is in order
+pub record PassesBoth (inner : Test) (h : History) (e : Entry) : Type 0 where
+  pub inner' : inner h e
+  pub in_order : IsInOrder h e

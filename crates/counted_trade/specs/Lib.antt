@@ -1,0 +1,4 @@
+pub mod Licences
+pub mod Notes
+pub mod Counts
+pub mod Counted

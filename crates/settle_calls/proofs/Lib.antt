@@ -1,0 +1,4 @@
+pub mod TaskLemmas
+pub mod JudgeLemmas
+pub mod NoteLemmas
+pub mod PayLemmas
