@@ -7,7 +7,7 @@ use Rattle.mc_outside.specs.LinkView.{LinkView}
 use Rattle.house_state.specs.declared.offer.SiteKind.{SiteKind}
 use Rattle.house_state.specs.declared.offer.SiteKind.TheVariants.{Vendor, Broker}
 use Rattle.house_state.specs.Views.{kind_number}
-use Rattle.house_state.specs.Learning.{untested}
+use Rattle.house_state.specs.Learning.{Test, AllPass, untested}
 use Rattle.house_state.proofs.PartLaws.{all_pass}
 use Rattle.mc_words.specs.declared.command.Command.{Command}
 use Rattle.mc_words.specs.declared.command.Command.TheVariants as commands
@@ -22,9 +22,9 @@ use Rattle.vendor_commands.specs.Operations.{operation_view}
 use Rattle.broker_commands.specs.Operations as brokers
 use Rattle.mc_top.specs.Wallets.{WorksOn, drawn, bought, got}
 use Rattle.mc_top.specs.Refusals.{RefusesFounder, RefusesOperator, RefusesPieces, RefusesPayment, RefusesCustomer}
-use Rattle.mc_top.specs.Programs.{ServesOnce, TellsPlay, Founds, Operates, Works, Reads, Ends, RunsAs, HasBook, IsDoneOrRefused, EndsWell, answered}
+use Rattle.mc_top.specs.Programs.{ServesOnce, TellsPlay, Founds, Operates, ordered, statement, settlement, Works, Reads, Ends, RunsAs, HasBook, IsDoneOrRefused, EndsWell, answered}
 use Rattle.mc_top.proofs.SayLemmas.{said_in_part}
-use Rattle.mc_top.proofs.RefusedLemmas.{with_reason, strange_reason, site_reason, wallet_reason, operator_reason, payment_reason, retry_reason, pieces_reason, chain_reason}
+use Rattle.mc_top.proofs.RefusedLemmas.{with_reason, strange_reason, site_reason, wallet_reason, operator_reason, payment_reason, renewal_reason, lines_reason, retry_reason, pieces_reason, chain_reason}
 use Rattle.book_commands.proofs.EndLemmas.{Calm, served_grew, operated_grew, init_well, served_well, operated_well}
 use Rattle.operator_command.specs.Operations.{OperationView}
 use Rattle.book_commands.specs.Serving.{HasSite}
@@ -32,10 +32,15 @@ use Rattle.wallet_model.specs.Asks.{Asking}
 use Rattle.wallet_commands.specs.Books.{HasWallet}
 use Rattle.wallet_commands.specs.Founding.{Inits}
 use Rattle.wallet_commands.specs.Taking.{Takes}
-use Rattle.wallet_commands.specs.Paying.{Pays, Retries}
+use Rattle.wallet_commands.specs.Listing.{ListsLines}
+use Rattle.wallet_commands.specs.Paying.{Pays, Renews, Retries}
 use Rattle.wallet_commands.specs.Chaining.{Chains}
 use Rattle.wallet_commands.proofs.EndLemmas as wallet_ends
-use Rattle.audit_commands.specs.Reports.{AreCalm}
+use Rattle.audit_commands.specs.Reports.{AreCalm, report_lines}
+use Rattle.mc_records.specs.declared.limits.TheConstants.Limits.{FULL}
+use Rattle.book_audit.specs.Audit.{Audited}
+use Rattle.relay_core.specs.Text.{tree_text}
+use Rattle.tree_audit.specs.Audit.{TreeAudited}
 
 -- a call that failed is seen at the end
 rose_at_end : (a b c : ℕ) (line : List ℕ) (v w : LinkView) (whole : Bool) → b ≡ v.faults → c ≡ w.faults → Says line whole v w → Rose a b → Rose a c
@@ -71,7 +76,9 @@ worked_grew link disk (wallets.Buy buying) a b status calm works = wallet_ends.g
 worked_grew link disk (wallets.Get getting) a b status calm works = wallet_ends.grew_by link disk a b status calm works.0
 worked_grew link disk (wallets.Retry retrying) a b status calm works = wallet_ends.grew_by link disk a b status calm works.0
 worked_grew link disk (wallets.List wallet) a b status calm works = wallet_ends.grew_by link disk a b status calm works.0
+worked_grew link disk (wallets.Lines relaying) a b status calm works = wallet_ends.grew_by link disk a b status calm works.0
 worked_grew link disk (wallets.Chain wallet) a b status calm works = wallet_ends.grew_by link disk a b status calm works.0
+worked_grew link disk (wallets.Renew renewing) a b status calm works = wallet_ends.grew_by link disk a b status calm works.0
 
 -- whatever the command is, where its book is there
 grew : {O : Type 0} (link : O → LinkView) (disk : O → DiskView) {D : Type 0} (book : D → DiskView) (xs : List D) (command : Command) (a b : O) (status : Status) → HasBook (disk a) book xs command → Calm link disk a b → Works link disk command a status b
@@ -81,13 +88,16 @@ grew link disk book xs (commands.Init founder) a b status has calm obeys = omega
 grew link disk book xs (commands.Serve server) a b status has calm obeys = served_grew link disk untested (kind_number Vendor) server.links has.bytes a b status calm obeys.0 (obeys.1 has.bytes has.told)
 grew {O = O} link disk book xs (commands.Play playing) a b status has calm obeys = omega (arith, ap (λ (o : O). (link o).faults) obeys.0)
 grew link disk book xs (commands.Operate operation) a b status has calm obeys = operated_grew link disk untested (kind_number Vendor) (operation_view operation) has.bytes a b status calm obeys.0 (obeys.1 has.bytes has.told)
+grew link disk book xs (commands.State stating) a b status has calm obeys = operated_grew link disk ordered (kind_number Vendor) (statement stating) has.site.bytes a b status calm obeys.0 (obeys.1 has.site.bytes has.site.told)
 grew link disk book xs (commands.BrokerInit founder) a b status has calm obeys = omega (arith, obeys.0.1)
 grew link disk book xs (commands.BrokerServe server) a b status has calm obeys = served_grew link disk untested (kind_number Broker) server.links has.bytes a b status calm obeys.0 (obeys.1 has.bytes has.told)
 grew link disk book xs (commands.BrokerOperate operation) a b status has calm obeys = operated_grew link disk untested (kind_number Broker) (brokers.operation_view operation) has.bytes a b status calm obeys.0 (obeys.1 has.bytes has.told)
+grew link disk book xs (commands.Settle paying) a b status has calm obeys = operated_grew link disk ordered (kind_number Broker) settlement has.site.bytes a b status calm obeys.0 (obeys.1 has.site.bytes has.site.told)
 grew link disk book xs (commands.WalletInit founder) a b status has calm obeys = wallet_ends.init_grew link disk a b status (at_rest link disk a b calm) obeys.0
 grew link disk book xs (commands.WalletOperate operation) a b status has calm obeys = worked_grew link disk operation a b status (at_rest link disk a b calm) obeys
 grew {O = O} link disk book xs (commands.Report reporting) a b status has calm obeys = omega (arith, ap (λ (o : O). (link o).faults) obeys)
 grew {O = O} link disk book xs (commands.Chains chained) a b status has calm obeys = omega (arith, ap (λ (o : O). (link o).faults) obeys)
+grew {O = O} link disk book xs (commands.Tree tree) a b status has calm obeys = omega (arith, ap (λ (o : O). (link o).faults) obeys)
 
 -- ---- how it ends
 
@@ -130,13 +140,16 @@ without_memory link disk book (commands.Init founder) a c xs number is = inr (in
 without_memory link disk book (commands.Serve server) a c xs number is = inr is
 without_memory link disk book (commands.Play playing) a c xs number is = inr is
 without_memory link disk book (commands.Operate operation) a c xs number is = inr (inl is)
+without_memory link disk book (commands.State stating) a c xs number is = inr (inl is)
 without_memory link disk book (commands.BrokerInit founder) a c xs number is = inr (inl is)
 without_memory link disk book (commands.BrokerServe server) a c xs number is = inr is
 without_memory link disk book (commands.BrokerOperate operation) a c xs number is = inr (inl is)
+without_memory link disk book (commands.Settle paying) a c xs number is = inr (inl is)
 without_memory link disk book (commands.WalletInit founder) a c xs number is = inr (inl is)
 without_memory link disk book (commands.WalletOperate operation) a c xs number is = inr (inl is)
 without_memory link disk book (commands.Report reporting) a c xs number is = inr (inl is)
 without_memory link disk book (commands.Chains chained) a c xs number is = inr is
+without_memory link disk book (commands.Tree tree) a c xs number is = inr (inl is)
 
 -- want of memory stays want of memory where the line can't be said
 memory_stays : (whole : Bool) → answered whole 5 ≡ 5
@@ -167,14 +180,21 @@ module _ {O : Type 0} (link : O → LinkView) (disk : O → DiskView) (a b c : O
   worked_well (wallets.Chain wallet) works =
       with_reason (RefusesCustomer link disk (wallets.Chain wallet) a (link c)) status (wallet_ends.chained_well link disk a b status has calm works.0 (works.1 has.bytes has.told))
       (λ f is. let told : Chains link disk a (ends.Refused f) b = subst (λ (s : Status). Chains link disk a s b) is works in chain_reason link disk a b f has (told.1 has.bytes has.told))
+  worked_well (wallets.Lines relaying) works =
+      with_reason (RefusesCustomer link disk (wallets.Lines relaying) a (link c)) status (wallet_ends.told_well link disk relaying.vendor a b status has calm works.0 (works.1 has.bytes has.told))
+      (λ f is. let told : ListsLines link disk relaying.vendor a (ends.Refused f) b = subst (λ (s : Status). ListsLines link disk relaying.vendor a s b) is works in lines_reason link disk a b f relaying.vendor has (told.1 has.bytes has.told))
+  worked_well (wallets.Renew renewing) works =
+      with_reason (RefusesCustomer link disk (wallets.Renew renewing) a (link c)) status (wallet_ends.renewed_well link disk renewing.vendor renewing.target renewing.before a b status has calm works.0 (works.1 has.bytes has.told))
+      (λ f is. let told : Renews link disk renewing.vendor renewing.target renewing.before a (ends.Refused f) b = subst (λ (s : Status). Renews link disk renewing.vendor renewing.target renewing.before a s b) is works in renewal_reason link disk a b f renewing.vendor renewing.target renewing.before has (told.1 has.bytes has.told))
   worked_well (wallets.List wallet) works = or_refused (wallet_ends.listed_well link disk a b status has calm works.0 (works.1 has.bytes has.told))
 
 -- what was done with the book of a site
 module _ {O : Type 0} (link : O → LinkView) (disk : O → DiskView) (a b : O) (status : Status) (calm : Calm link disk a b) where
-  did_well : (c : O) → (link c).readings ≡ (link b).readings → (kind : SiteKind) (operation : OperationView) (has : HasSite (kind_number kind) (disk a)) → Operates link disk kind operation a status b → IsDoneOrRefused (RefusesOperator operation (disk a) (link a) (link c)) (number_of status)
-  did_well c read kind operation has works =
-      with_reason (RefusesOperator operation (disk a) (link a) (link c)) status (operated_well link disk untested (kind_number kind) operation a b status has (all_pass has.history) calm works.0 (works.1 has.bytes has.told))
-      (λ f is. let told : Operates link disk kind operation a (ends.Refused f) b = subst (λ (s : Status). Operates link disk kind operation a s b) is works in operator_reason link disk a b c read f (kind_number kind) operation has (told.1 has.bytes has.told))
+  did_well : (c : O) → (link c).readings ≡ (link b).readings → (passes : Test) (kind : SiteKind) (operation : OperationView) (has : HasSite (kind_number kind) (disk a)) → AllPass passes has.history → Operates link disk passes kind operation a status b
+      → IsDoneOrRefused (RefusesOperator operation (disk a) (link a) (link c)) (number_of status)
+  did_well c read passes kind operation has pass works =
+      with_reason (RefusesOperator operation (disk a) (link a) (link c)) status (operated_well link disk passes (kind_number kind) operation a b status has pass calm works.0 (works.1 has.bytes has.told))
+      (λ f is. let told : Operates link disk passes kind operation a (ends.Refused f) b = subst (λ (s : Status). Operates link disk passes kind operation a s b) is works in operator_reason link disk a b c read f passes (kind_number kind) operation has (told.1 has.bytes has.told))
 
   founded_well : (kind : SiteKind) (founder : Founder) → Founds link disk kind founder a status b → IsDoneOrRefused (RefusesFounder (disk a)) (number_of status)
   founded_well kind founder founds =
@@ -207,11 +227,14 @@ ends_well {O = O} link disk book command a c xs ys number has no_disk no_link no
     by_command (commands.Init founder) has obeys reads calm = founded_well link disk a b status calm Vendor (vendor_founder founder) obeys
     by_command (commands.Serve server) has obeys reads calm = served_well link disk untested (kind_number Vendor) server.links a b status has (all_pass has.history) calm obeys.0 (obeys.1 has.bytes has.told)
     by_command (commands.Play playing) has obeys reads calm = play_well playing.count status obeys.1
-    by_command (commands.Operate operation) has obeys reads calm = did_well link disk a b status calm c read Vendor (operation_view operation) has obeys
+    by_command (commands.Operate operation) has obeys reads calm = did_well link disk a b status calm c read untested Vendor (operation_view operation) has (all_pass has.history) obeys
+    by_command (commands.State stating) has obeys reads calm = did_well link disk a b status calm c read ordered Vendor (statement stating) has.site has.in_order obeys
     by_command (commands.BrokerInit founder) has obeys reads calm = founded_well link disk a b status calm Broker (broker_founder founder) obeys
     by_command (commands.BrokerServe server) has obeys reads calm = served_well link disk untested (kind_number Broker) server.links a b status has (all_pass has.history) calm obeys.0 (obeys.1 has.bytes has.told)
-    by_command (commands.BrokerOperate operation) has obeys reads calm = did_well link disk a b status calm c read Broker (brokers.operation_view operation) has obeys
+    by_command (commands.BrokerOperate operation) has obeys reads calm = did_well link disk a b status calm c read untested Broker (brokers.operation_view operation) has (all_pass has.history) obeys
+    by_command (commands.Settle paying) has obeys reads calm = did_well link disk a b status calm c read ordered Broker settlement has.site has.in_order obeys
     by_command (commands.WalletInit founder) has obeys reads calm = wallet_founded_well link disk a b status calm founder.name obeys
     by_command (commands.WalletOperate operation) has obeys reads calm = worked_well link disk a b c read status has (at_rest link disk a b calm) operation obeys
-    by_command (commands.Report reporting) has obeys reads calm = strange_reason book reporting.json xs status has reads.reports (reads.well has no_book)
+    by_command (commands.Report reporting) has obeys reads calm = strange_reason book (Audited FULL) (report_lines reporting.json) xs status has reads.reports (reads.well has no_book)
+    by_command (commands.Tree tree) has obeys reads calm = strange_reason book (TreeAudited FULL) tree_text xs status has reads.reports (reads.well has no_book)
     by_command (commands.Chains chained) has obeys reads calm = reads.well has no_book

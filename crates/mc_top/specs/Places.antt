@@ -1,7 +1,7 @@
 -- The places that words name.
 use Rattle.std.specs.Prelude.{◌≡◌, ◌⊎◌, ℕ, true, false, List, [], Some, None}
 use Rattle.mc_words.specs.declared.command.Command.{Command}
-use Rattle.mc_words.specs.declared.command.Command.TheVariants.{Once, Init, Serve, Play, Operate, BrokerInit, BrokerServe, BrokerOperate, WalletInit, WalletOperate, Report, Chains}
+use Rattle.mc_words.specs.declared.command.Command.TheVariants.{Once, Init, Serve, Play, Operate, State, BrokerInit, BrokerServe, BrokerOperate, Settle, WalletInit, WalletOperate, Report, Chains, Tree}
 use Rattle.wallet_words.specs.declared.wallet_operation.WalletOperation.{WalletOperation}
 use Rattle.mc_words.specs.Commands.{AreOfNoRow, AreWords}
 use Rattle.site_words.specs.Commands.{book_of, broker_book_of}
@@ -35,20 +35,23 @@ audited_places books = record { site = None; founds = false; books = books; list
 
 -- `vendor init`, `broker init` and `wallet init` name the book that they found, `vendor serve` and `broker serve` the book
 -- and where the links come, an operation of an operator the book that it is for, one of a wallet its book and, where it pays,
--- where the link goes, and `audit report` and `audit chain` the books that they read
+-- where the link goes, and `audit report`, `audit chain` and `audit tree` the books that they read
 abbrev pub places_of : Command → Places
 places_of (Once shop) = no_places
 places_of (Init founder) = founded_places founder.book
 places_of (Serve server) = served_places server
 places_of (Play playing) = no_places
 places_of (Operate operation) = operated_places (book_of operation)
+places_of (State stating) = operated_places stating.book
 places_of (BrokerInit founder) = founded_places founder.book
 places_of (BrokerServe server) = served_places server
 places_of (BrokerOperate operation) = operated_places (broker_book_of operation)
+places_of (Settle settling) = operated_places settling.book
 places_of (WalletInit founder) = founded_places founder.book
 places_of (WalletOperate operation) = wallet_places operation
 places_of (Report reporting) = audited_places reporting.books
 places_of (Chains chained) = audited_places chained.books
+places_of (Tree tree) = audited_places tree.books
 
 -- the places of the command that the words are of, or none where they are of none
 abbrev pub ArePlaces : List (List ℕ) → Places → Type 0

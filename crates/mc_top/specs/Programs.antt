@@ -1,11 +1,11 @@
 -- What the program does by its words.
-use Rattle.std.specs.Prelude.{◌≡◌, ◌⊎◌, ◌≤◌, ℕ, zero, suc, List, length, Bool, true, false, Some, Err}
+use Rattle.std.specs.Prelude.{◌≡◌, ◌⊎◌, ◌≤◌, ℕ, zero, suc, List, length, Bool, true, false, Some, Result, Err}
 use Rattle.mc_outside.specs.DiskView.{DiskView, LinkKeeps}
 use Rattle.mc_outside.specs.LinkView.{LinkView}
 use Rattle.house_state.specs.declared.offer.SiteKind.{SiteKind}
 use Rattle.house_state.specs.declared.offer.SiteKind.TheVariants.{Vendor, Broker}
 use Rattle.house_state.specs.Views.{kind_number}
-use Rattle.house_state.specs.Learning.{untested}
+use Rattle.house_state.specs.Learning.{Test, AllPass, untested}
 use Rattle.millicent_http.specs.Courses.{NoLink}
 use Rattle.mc_records.specs.declared.refusal.Refusal.{Refusal}
 use Rattle.mc_words.specs.declared.command.Command.{Command}
@@ -23,12 +23,20 @@ use Rattle.book_commands.specs.Operator.{OperatesBook, OperateCauses}
 use Rattle.operator_command.specs.Operations.{OperationView}
 use Rattle.vendor_commands.specs.Operations.{operation_view}
 use Rattle.broker_commands.specs.Operations as brokers
+use Rattle.counted_trade.specs.Counted.{PassesBoth}
+use Rattle.settle_commands.specs.Operations.{stating, settling}
+use Rattle.site_words.specs.declared.settlement.Stating.{Stating}
 use Rattle.wallet_commands.specs.Founding.{Inits}
 use Rattle.wallet_commands.specs.Books.{HasWallet}
 use Rattle.std.specs.List.{AllByRecursion}
 use Rattle.book_audit.specs.declared.fault.BooksFault.TheVariants as founds
-use Rattle.audit_cmd.specs.Books.{AreTold, IsLawfulBook, AreAudited}
-use Rattle.audit_commands.specs.Reports.{RefusesBooks, ReportsBooks, ReportCauses, TellsChains, ChainCauses, AreCalm, EndsReport, EndsChains}
+use Rattle.mc_records.specs.declared.limits.TheConstants.Limits.{FULL}
+use Rattle.ledger_model.specs.Histories.{History}
+use Rattle.book_audit.specs.declared.fault.BooksFault.{BooksFault}
+use Rattle.book_audit.specs.Audit.{Audited}
+use Rattle.tree_audit.specs.Audit.{TreeAudited}
+use Rattle.audit_cmd.specs.Books.{AreTold, IsLawfulBook, AreAuditedBy}
+use Rattle.audit_commands.specs.Reports.{RefusesBy, ReportsBooks, ReportsTree, ReportCauses, TellsChains, ChainCauses, AreCalm, EndsReport, EndsChains}
 use Rattle.mc_words.specs.Commands.{AreWords}
 use Rattle.mc_top.specs.Wallets.{WorksOn}
 use Rattle.mc_top.specs.Refusals.{RefusesFounder, RefusesOperator, RefusesCustomer}
@@ -49,7 +57,7 @@ TellsPlay count _ = ⊥
 
 -- Up to the line that is said: what founding a site of a kind does, serving so many links by one, and having an
 -- operation done to one. What is said of a book holds where its disk tells its bytes; the causes of faults
--- hold of every outside. The trades of vendors and brokers ask nothing of Notes.
+-- hold of every outside. The trades of vendors and brokers ask nothing of Notes, but where a series is settled.
 abbrev pub Founds : {O : Type 0} → (O → LinkView) → (O → DiskView) → SiteKind → Founder → O → Status → O → Type 0
 Founds link disk kind founder a status b =
     InitCauses link disk a status b × ((bytes : List ℕ) → (disk a).contents ≡ Some bytes → FoundsBook link disk (kind_number kind) founder bytes a status b)
@@ -58,10 +66,22 @@ abbrev pub Serves : {O : Type 0} → (O → LinkView) → (O → DiskView) → S
 Serves link disk kind links a status b =
     ServeCauses link disk links a status b × ((bytes : List ℕ) → (disk a).contents ≡ Some bytes → ServesBook link disk untested (kind_number kind) links bytes a status b)
 
-abbrev pub Operates : {O : Type 0} → (O → LinkView) → (O → DiskView) → SiteKind → OperationView → O → Status → O → Type 0
-Operates link disk kind operation a status b =
+abbrev pub Operates : {O : Type 0} → (O → LinkView) → (O → DiskView) → Test → SiteKind → OperationView → O → Status → O → Type 0
+Operates link disk passes kind operation a status b =
     OperateCauses link disk operation a status b
-    × ((bytes : List ℕ) → (disk a).contents ≡ Some bytes → OperatesBook link disk untested (kind_number kind) operation bytes a status b)
+    × ((bytes : List ℕ) → (disk a).contents ≡ Some bytes → OperatesBook link disk passes (kind_number kind) operation bytes a status b)
+
+-- A series is settled over a book whose notes of settlement are in order.
+abbrev pub ordered : Test
+ordered = PassesBoth untested
+
+-- what a vendor states by these words
+abbrev pub statement : Stating → OperationView
+statement s = stating s.issuer s.epoch
+
+-- what a broker does with a statement
+abbrev pub settlement : OperationView
+settlement = settling
 
 -- what a command does to the outside, up to the line that is said
 abbrev pub Works : {O : Type 0} → (O → LinkView) → (O → DiskView) → Command → O → Status → O → Type 0
@@ -69,27 +89,33 @@ Works link disk (commands.Once shop) a status b = ServesOnce shop (link a) statu
 Works link disk (commands.Init founder) a status b = Founds link disk Vendor (vendor_founder founder) a status b
 Works link disk (commands.Serve server) a status b = Serves link disk Vendor server.links a status b
 Works link disk (commands.Play playing) a status b = (b ≡ a) × TellsPlay playing.count status
-Works link disk (commands.Operate operation) a status b = Operates link disk Vendor (operation_view operation) a status b
+Works link disk (commands.Operate operation) a status b = Operates link disk untested Vendor (operation_view operation) a status b
+Works link disk (commands.State stating) a status b = Operates link disk ordered Vendor (statement stating) a status b
 Works link disk (commands.BrokerInit founder) a status b = Founds link disk Broker (broker_founder founder) a status b
 Works link disk (commands.BrokerServe server) a status b = Serves link disk Broker server.links a status b
-Works link disk (commands.BrokerOperate operation) a status b = Operates link disk Broker (brokers.operation_view operation) a status b
+Works link disk (commands.BrokerOperate operation) a status b = Operates link disk untested Broker (brokers.operation_view operation) a status b
+Works link disk (commands.Settle paying) a status b = Operates link disk ordered Broker settlement a status b
 Works link disk (commands.WalletInit founder) a status b = Inits link disk founder.name a status b
 Works link disk (commands.WalletOperate operation) a status b = WorksOn link disk operation a status b
 Works link disk (commands.Report reporting) a status b = b ≡ a
 Works link disk (commands.Chains chained) a status b = b ≡ a
+Works link disk (commands.Tree tree) a status b = b ≡ a
 
 -- how many books a command has audited
 abbrev pub count_of : Command → ℕ
 count_of (commands.Report reporting) = length reporting.books
 count_of (commands.Chains chained) = length chained.books
+count_of (commands.Tree tree) = length tree.books
 count_of (commands.Once shop) = 0
 count_of (commands.Init founder) = 0
 count_of (commands.Serve server) = 0
 count_of (commands.Play playing) = 0
 count_of (commands.Operate operation) = 0
+count_of (commands.State stating) = 0
 count_of (commands.BrokerInit founder) = 0
 count_of (commands.BrokerServe server) = 0
 count_of (commands.BrokerOperate operation) = 0
+count_of (commands.Settle paying) = 0
 count_of (commands.WalletInit founder) = 0
 count_of (commands.WalletOperate operation) = 0
 
@@ -107,6 +133,12 @@ pub record Audits {D : Type 0} (book : D → DiskView) (json : Bool) (xs : List 
   pub reports : ReportsBooks book json xs status
   pub well : HaveBooks book xs → AreCalm book xs ys → EndsReport (number_of status)
 
+-- The books of several brokers are audited and reported, likewise.
+pub record AuditsTree {D : Type 0} (book : D → DiskView) (xs : List D) (status : Status) (ys : List D) : Type 0 where
+  pub causes : ReportCauses book xs status ys
+  pub reports : ReportsTree book xs status
+  pub well : HaveBooks book xs → AreCalm book xs ys → EndsReport (number_of status)
+
 -- The chains of books are told, likewise. Where the books are lawful and no disk failed, nothing but want of memory keeps
 -- them from being told.
 pub record Tells {D : Type 0} (book : D → DiskView) (xs : List D) (status : Status) (ys : List D) : Type 0 where
@@ -118,14 +150,17 @@ pub record Tells {D : Type 0} (book : D → DiskView) (xs : List D) (status : St
 abbrev pub Reads : {D : Type 0} → (D → DiskView) → Command → List D → Status → List D → Type 0
 Reads book (commands.Report reporting) xs status ys = Audits book reporting.json xs status ys
 Reads book (commands.Chains chained) xs status ys = Tells book xs status ys
+Reads book (commands.Tree tree) xs status ys = AuditsTree book xs status ys
 Reads book (commands.Once shop) xs status ys = ys ≡ xs
 Reads book (commands.Init founder) xs status ys = ys ≡ xs
 Reads book (commands.Serve server) xs status ys = ys ≡ xs
 Reads book (commands.Play playing) xs status ys = ys ≡ xs
 Reads book (commands.Operate operation) xs status ys = ys ≡ xs
+Reads book (commands.State stating) xs status ys = ys ≡ xs
 Reads book (commands.BrokerInit founder) xs status ys = ys ≡ xs
 Reads book (commands.BrokerServe server) xs status ys = ys ≡ xs
 Reads book (commands.BrokerOperate operation) xs status ys = ys ≡ xs
+Reads book (commands.Settle paying) xs status ys = ys ≡ xs
 Reads book (commands.WalletInit founder) xs status ys = ys ≡ xs
 Reads book (commands.WalletOperate operation) xs status ys = ys ≡ xs
 
@@ -166,6 +201,11 @@ Refuses link disk a xs number c ys = (Ends link disk ends.BadWords a c number �
 abbrev pub HaveOtherBooks : List (List ℕ) → ℕ → Type 0
 HaveOtherBooks words count = (command : Command) × AreWords words command × (count ≡ count_of command → ⊥)
 
+-- the book is that of a site of a kind, and what it has of settlement is in order
+pub record HasOrdered (kind : ℕ) (d : DiskView) : Type 0 where
+  pub site : HasSite kind d
+  pub in_order : AllPass ordered site.history
+
 -- The book that a command opens is there, and of a site of its kind or of a wallet, and so are the books that it has audited.
 -- `vendor once` and `vendor play` have none, and a command that founds one does so on any disk.
 abbrev pub HasBook : {D : Type 0} → DiskView → (D → DiskView) → List D → Command → Type 0
@@ -174,13 +214,16 @@ HasBook d book xs (commands.Init founder) = Unit {0}
 HasBook d book xs (commands.Serve server) = HasSite (kind_number Vendor) d
 HasBook d book xs (commands.Play playing) = Unit {0}
 HasBook d book xs (commands.Operate operation) = HasSite (kind_number Vendor) d
+HasBook d book xs (commands.State stating) = HasOrdered (kind_number Vendor) d
 HasBook d book xs (commands.BrokerInit founder) = Unit {0}
 HasBook d book xs (commands.BrokerServe server) = HasSite (kind_number Broker) d
 HasBook d book xs (commands.BrokerOperate operation) = HasSite (kind_number Broker) d
+HasBook d book xs (commands.Settle paying) = HasOrdered (kind_number Broker) d
 HasBook d book xs (commands.WalletInit founder) = Unit {0}
 HasBook d book xs (commands.WalletOperate operation) = HasWallet d
 HasBook d book xs (commands.Report reporting) = HaveBooks book xs
 HasBook d book xs (commands.Chains chained) = HaveBooks book xs
+HasBook d book xs (commands.Tree tree) = HaveBooks book xs
 
 -- it is done, or memory was refused
 abbrev pub IsDoneOrShort : ℕ → Type 0
@@ -194,13 +237,13 @@ IsDoneOrRefused Reason number = (number ≡ 0) ⊎ ((number ≡ 5) ⊎ ((number 
 abbrev pub AreBooksOf : {D : Type 0} → (D → DiskView) → List D → (List (List ℕ) → Type 0) → Type 0
 AreBooksOf book xs Are = (contents : List (List ℕ)) × AreTold book xs contents × Are contents
 
--- or the books are refused, or a stranger stands in them
-abbrev pub IsDoneOrStrange : {D : Type 0} → (D → DiskView) → List D → ℕ → Type 0
-IsDoneOrStrange book xs number =
+-- or the books are refused, or a stranger stands in them, by an audit
+abbrev pub IsDoneOrStrange : {D R : Type 0} → (D → DiskView) → (List History → Result R BooksFault → Type 0) → List D → ℕ → Type 0
+IsDoneOrStrange book Audits xs number =
     (number ≡ 0)
     ⊎ ((number ≡ 5)
-    ⊎ (((number ≡ 7) × (f : Refusal) × AreBooksOf book xs (λ books. RefusesBooks books f))
-    ⊎ ((number ≡ 8) × (place : ℕ) × (name : List ℕ) × (id : ℕ) × AreBooksOf book xs (λ books. AreAudited books (Err (founds.Stranger place name id))))))
+    ⊎ (((number ≡ 7) × (f : Refusal) × AreBooksOf book xs (λ books. RefusesBy Audits books f))
+    ⊎ ((number ≡ 8) × (place : ℕ) × (name : List ℕ) × (id : ℕ) × AreBooksOf book xs (λ books. AreAuditedBy Audits books (Err (founds.Stranger place name id))))))
 
 -- The statuses of a command that has its book, where no call failed: where no rule refuses what the words ask, by the history
 -- of the book and what came on the links, it is done, or memory was refused.
@@ -210,10 +253,13 @@ EndsWell link disk book (commands.Init founder) a xs number c = IsDoneOrRefused 
 EndsWell link disk book (commands.Serve server) a xs number c = IsDoneOrShort number
 EndsWell link disk book (commands.Play playing) a xs number c = IsDoneOrShort number
 EndsWell link disk book (commands.Operate operation) a xs number c = IsDoneOrRefused (RefusesOperator (operation_view operation) (disk a) (link a) (link c)) number
+EndsWell link disk book (commands.State stating) a xs number c = IsDoneOrRefused (RefusesOperator (statement stating) (disk a) (link a) (link c)) number
 EndsWell link disk book (commands.BrokerInit founder) a xs number c = IsDoneOrRefused (RefusesFounder (disk a)) number
 EndsWell link disk book (commands.BrokerServe server) a xs number c = IsDoneOrShort number
 EndsWell link disk book (commands.BrokerOperate operation) a xs number c = IsDoneOrRefused (RefusesOperator (brokers.operation_view operation) (disk a) (link a) (link c)) number
+EndsWell link disk book (commands.Settle paying) a xs number c = IsDoneOrRefused (RefusesOperator settlement (disk a) (link a) (link c)) number
 EndsWell link disk book (commands.WalletInit founder) a xs number c = IsDoneOrRefused (RefusesFounder (disk a)) number
 EndsWell link disk book (commands.WalletOperate operation) a xs number c = IsDoneOrRefused (RefusesCustomer link disk operation a (link c)) number
-EndsWell link disk book (commands.Report reporting) a xs number c = IsDoneOrStrange book xs number
+EndsWell link disk book (commands.Report reporting) a xs number c = IsDoneOrStrange book (Audited FULL) xs number
 EndsWell link disk book (commands.Chains chained) a xs number c = IsDoneOrShort number
+EndsWell link disk book (commands.Tree tree) a xs number c = IsDoneOrStrange book (TreeAudited FULL) xs number

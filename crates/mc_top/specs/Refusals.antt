@@ -21,7 +21,8 @@ use Rattle.operator_command.specs.Operations.{OperationView, full}
 use Rattle.wallet_words.specs.declared.wallet_operation.WalletOperation.{WalletOperation}
 use Rattle.wallet_words.specs.declared.wallet_operation.WalletOperation.TheVariants as wallets
 use Rattle.wallet_model.specs.Requests.{Pending, pending_of, oldest_kept}
-use Rattle.wallet_model.specs.Asks.{Asking, pend_entry}
+use Rattle.wallet_model.specs.Asks.{Asking, pend_entry, due_entry}
+use Rattle.held_lines.specs.Resold.{resold_for}
 use Rattle.wallet_model.specs.Settling.{settlement}
 use Rattle.wallet_tasks.specs.Taking.{take_entry}
 use Rattle.wallet_commands.specs.declared.taking.TheConstants.{MOST_LINES}
@@ -107,6 +108,14 @@ IsAtTime link disk Is a = (bytes : List ℕ) × ((disk a).contents ≡ Some byte
 abbrev pub RefusesPayment : {O : Type 0} → (O → LinkView) → (O → DiskView) → Asking → O → Refusal → Type 0
 RefusesPayment link disk asking a f = IsAtTime link disk (λ h t clocked. RefusesAsking h t (pend_entry h t asking) clocked f) a
 
+-- no piece of the vendor may be sold on
+abbrev pub RefusesLines : {O : Type 0} → (O → LinkView) → (O → DiskView) → List ℕ → O → Refusal → Type 0
+RefusesLines link disk vendor a f = IsAtTime link disk (λ h t clocked. (f ≡ refusals.NoFunds 0) × (resold_for h t vendor ≡ [])) a
+
+-- none is due, or the request that pays with the one that is, as of a payment
+abbrev pub RefusesRenewal : {O : Type 0} → (O → LinkView) → (O → DiskView) → (vendor target : List ℕ) (before : ℕ) → O → Refusal → Type 0
+RefusesRenewal link disk vendor target before a f = IsAtTime link disk (λ h t clocked. RefusesAsking h t (due_entry h t vendor target before) clocked f) a
+
 abbrev pub RefusesCustomer : {O : Type 0} → (O → LinkView) → (O → DiskView) → WalletOperation → O → LinkView → Refusal → Type 0
 RefusesCustomer link disk (wallets.Take wallet) a after f = RefusesPieces (disk a) (link a) after f
 RefusesCustomer link disk (wallets.Draw drawing) a after f = RefusesPayment link disk (drawn drawing) a f
@@ -114,4 +123,6 @@ RefusesCustomer link disk (wallets.Buy buying) a after f = RefusesPayment link d
 RefusesCustomer link disk (wallets.Get getting) a after f = RefusesPayment link disk (got getting) a f
 RefusesCustomer link disk (wallets.Retry retrying) a after f = IsAtTime link disk (λ h t clocked. RefusesAgain h t (oldest_kept h retrying.peer) clocked f) a
 RefusesCustomer link disk (wallets.List wallet) a after f = ⊥
+RefusesCustomer link disk (wallets.Lines relaying) a after f = RefusesLines link disk relaying.vendor a f
+RefusesCustomer link disk (wallets.Renew renewing) a after f = RefusesRenewal link disk renewing.vendor renewing.target renewing.before a f
 RefusesCustomer link disk (wallets.Chain wallet) a after f = IsAtTime link disk (λ h t clocked. RefusesSwitch h (switch_entry h t) f) a

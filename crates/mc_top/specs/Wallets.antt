@@ -9,8 +9,8 @@ use Rattle.wallet_words.specs.declared.wallet_operation.Getting.{Getting}
 use Rattle.command_status.specs.declared.status.Status.{Status}
 use Rattle.wallet_model.specs.Asks.{Asking, get, buy, draw}
 use Rattle.wallet_commands.specs.Taking.{Takes}
-use Rattle.wallet_commands.specs.Listing.{Lists}
-use Rattle.wallet_commands.specs.Paying.{Pays, Retries}
+use Rattle.wallet_commands.specs.Listing.{Lists, ListsLines}
+use Rattle.wallet_commands.specs.Paying.{Pays, Renews, Retries}
 use Rattle.wallet_commands.specs.Chaining.{Chains}
 
 -- what the words ask for
@@ -31,4 +31,6 @@ WorksOn link disk (wallets.Buy buying) a status b = Pays link disk (bought buyin
 WorksOn link disk (wallets.Get getting) a status b = Pays link disk (got getting) a status b
 WorksOn link disk (wallets.Retry retrying) a status b = Retries link disk retrying.peer a status b
 WorksOn link disk (wallets.List wallet) a status b = Lists link disk a status b
+WorksOn link disk (wallets.Lines relaying) a status b = ListsLines link disk relaying.vendor a status b
 WorksOn link disk (wallets.Chain wallet) a status b = Chains link disk a status b
+WorksOn link disk (wallets.Renew renewing) a status b = Renews link disk renewing.vendor renewing.target renewing.before a status b

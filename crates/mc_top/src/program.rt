@@ -9,21 +9,24 @@ ghost use Rattle.audit_commands.specs.Reports.{AreCalm};
 ghost use Rattle.mc_top.specs.Saying.{IsSaid, Says};
 ghost use Rattle.mc_top.specs.Programs as programs;
 ghost use Rattle.house_state.specs.declared.offer.SiteKind.TheVariants.{Vendor, Broker};
+ghost use Rattle.house_state.specs.Learning.{untested};
 ghost use Rattle.vendor_commands.specs.Operations.{operation_view};
 ghost use Rattle.broker_commands.specs.Operations as brokers;
-ghost use Rattle.mc_top.specs.Programs.{ServesOnce, TellsPlay, Operates, Audits, Tells, Obeys, Ends, Refuses, RunsAs, HasBook, EndsWell, HaveOtherBooks, count_of};
+ghost use Rattle.mc_top.specs.Programs.{ServesOnce, TellsPlay, Operates, ordered, settlement, statement, Audits, AuditsTree, Tells, Obeys, Ends, Refuses, RunsAs, HasBook, EndsWell, HaveOtherBooks, count_of};
 
 use crate::wallet::work;
-use audit_commands::{report_books, tell_chains};
+use audit_commands::{report_books, report_tree, tell_chains};
 use book_commands::{found_book, operate_book, serve_book};
 use broker_commands::DeskOperation;
 use broker_core::Desk;
 use command_status::Status;
+use counted_trade::Counted;
 use house_serving::BenchEnd;
 use mc_base::NoMemory;
 use mc_outside::{Disk, Link, Outside};
 use mc_words::{Command, command_of};
-use site_words::{BrokerOperation, Operation, Playing, Shop};
+use settle_commands::{SeriesStatement, StatementPayment};
+use site_words::{BrokerOperation, Operation, Playing, Shop, Stating};
 use std::alloc::Global;
 use vendor_commands::{VendorOperation, answer_play, serve_once};
 use vendor_core::Shelf;
@@ -49,12 +52,15 @@ pub struct Ran<O, D> {
 /// that book what its operator says, at the reading of the clock; the contents of goods come on one link.
 /// `broker init` founds a broker, with its FEE behind CUSTOMER, and `broker serve` serves its links. `broker account`,
 /// `broker deposit`, `broker withdraw`, `broker licence`, `broker stock` and `broker upgrade` enter into its book what its
-/// operator says; a licence and the pieces of stock come on one link. `broker balance` enters nothing.
+/// operator says; a licence and the pieces of stock come on one link. `broker balance` enters nothing. `vendor statement` and
+/// `broker settle` enter what of a series was stated and paid; the statement that is paid comes on one link.
 /// `wallet init` founds a wallet in the book. `wallet take` takes pieces whose lines come on one link. `wallet get`,
 /// `wallet buy` and `wallet draw` enter what is asked, ask it on one link, and enter how the reply settled it; `wallet retry`
-/// asks again what was entered. `wallet list` says the pieces and their states. `vendor chain`, `broker chain` and
+/// asks again what was entered. `wallet renew` pays for a target with the piece that ends first, and keeps the change. `wallet
+/// list` says the pieces and their states, and `wallet lines` those of a vendor that may be sold on. `vendor chain`, `broker chain` and
 /// `wallet chain` switch the chain of the book on, where it is not, and say it. `audit report BOOK.. [--json]` says the sums
-/// of the books of a broker and of vendors, in which no stranger stands, and `audit chain BOOK..` the chain of each book.
+/// of the books of a broker and of vendors, in which no stranger stands, `audit tree BOOK..` those of several brokers and of
+/// vendors, and `audit chain BOOK..` the chain of each book.
 ///
 /// 0: it is done. 2: the words are of no command, or name another number of books; nothing was touched but what is said.
 /// That is so up to want of memory, since `clap` reads the words.
@@ -119,6 +125,7 @@ fn book_count(command: &Command<'_>) -> usize
     match command {
         Command::Report(reporting) => reporting.books().len(),
         Command::Chains(chained) => chained.books.list().len(),
+        Command::Tree(tree) => tree.books.list().len(),
         _ => 0,
     }
 }
@@ -150,6 +157,7 @@ fn obey<O: Outside, D: Disk>(
             beside(done, books)
         }
         Command::Operate(operation) => beside(operate_shelf(alloc, operation, out), books),
+        Command::State(stating) => beside(state(alloc, stating, out), books),
         Command::BrokerInit(founder) => {
             let done = found_book(alloc, &founder.founder(), Desk::new(alloc), out);
             beside(done, books)
@@ -159,6 +167,7 @@ fn obey<O: Outside, D: Disk>(
             beside(done, books)
         }
         Command::BrokerOperate(operation) => beside(operate_desk(alloc, operation, out), books),
+        Command::Settle(_) => beside(settle(alloc, out), books),
         Command::WalletInit(founder) => beside(init(alloc, founder.name(), out), books),
         Command::WalletOperate(operation) => beside(work(alloc, operation, out), books),
         Command::Report(reporting) => {
@@ -167,6 +176,10 @@ fn obey<O: Outside, D: Disk>(
         }
         Command::Chains(_) => {
             let (books, status) = tell(alloc, books);
+            (out, books, status)
+        }
+        Command::Tree(_) => {
+            let (books, status) = report_trees(alloc, books);
             (out, books, status)
         }
     }
@@ -185,7 +198,7 @@ fn beside<O, D: Disk>(done: (O, Status), books: Vec<D>) -> (O, Vec<D>, Status)
 
 /// Has something done to the book of a vendor, and tells how it ended.
 fn operate_shelf<O: Outside>(alloc: Global, operation: &Operation<'_>, out: O) -> (O, Status)
-    ensures operated { Operates O.link O.disk Vendor (operation_view operation.now)
+    ensures operated { Operates O.link O.disk untested Vendor (operation_view operation.now)
         out result.1 result.0 }
     ensures words { number_of result.1 ≡ 2 → ⊥ }
 {
@@ -195,12 +208,35 @@ fn operate_shelf<O: Outside>(alloc: Global, operation: &Operation<'_>, out: O) -
 
 /// Has something done to the book of a broker, and tells how it ended.
 fn operate_desk<O: Outside>(alloc: Global, operation: &BrokerOperation<'_>, out: O) -> (O, Status)
-    ensures operated { Operates O.link O.disk Broker (brokers.operation_view operation.now)
+    ensures operated { Operates O.link O.disk untested Broker (brokers.operation_view operation.now)
         out result.1 result.0 }
     ensures words { number_of result.1 ≡ 2 → ⊥ }
 {
     let command = DeskOperation::of(operation);
     operate_book(alloc, &command, Desk::new(alloc), out)
+}
+
+/// Has a series stated by the vendor of a book, which is opened with its counts, and tells how it ended.
+fn state<O: Outside>(alloc: Global, stating: &Stating<'_>, out: O) -> (O, Status)
+    ensures operated { Operates O.link O.disk ordered Vendor (statement stating.now)
+        out result.1 result.0 }
+    ensures words { number_of result.1 ≡ 2 → ⊥ }
+{
+    let command = SeriesStatement::of(stating.issuer, stating.epoch);
+    operate_book(alloc, &command, Counted::new(alloc, Shelf::new(alloc)), out)
+}
+
+/// Has a statement paid by the broker of a book, which is opened with its counts, and tells how it ended.
+fn settle<O: Outside>(alloc: Global, out: O) -> (O, Status)
+    ensures operated { Operates O.link O.disk ordered Broker settlement out result.1 result.0 }
+    ensures words { number_of result.1 ≡ 2 → ⊥ }
+{
+    operate_book(
+        alloc,
+        &StatementPayment,
+        Counted::new(alloc, Desk::new(alloc)),
+        out,
+    )
 }
 
 /// Audits books, and tells how it ended.
@@ -210,6 +246,15 @@ fn report<D: Disk>(alloc: Global, reporting: &Reporting<'_>, books: Vec<D>) -> (
     ensures words { number_of result.1 ≡ 2 → ⊥ }
 {
     report_books(alloc, books, reporting.is_json())
+}
+
+/// Audits books of several brokers, and tells how it ended.
+fn report_trees<D: Disk>(alloc: Global, books: Vec<D>) -> (Vec<D>, Status)
+    ensures audited { AuditsTree D.disk books.items result.1 result.0.items }
+    ensures read { AllZip (λ a b. OnlyRead (D.disk a) (D.disk b)) books.items result.0.items }
+    ensures words { number_of result.1 ≡ 2 → ⊥ }
+{
+    report_tree(alloc, books)
 }
 
 /// Tells the chains of books, and how that ended.

@@ -8,7 +8,7 @@ ghost use Rattle.mc_top.specs.Wallets.{WorksOn, bought, drawn, got};
 use command_status::Status;
 use mc_outside::Outside;
 use std::alloc::Global;
-use wallet_commands::{chain, list, pay, retry, take};
+use wallet_commands::{chain, list, list_held, pay, renew, retry, take};
 use wallet_tasks::Ask;
 use wallet_words::{Buying, Drawing, Getting, WalletOperation};
 
@@ -28,7 +28,15 @@ pub(crate) fn work<O: Outside>(
         WalletOperation::Get(getting) => pay(alloc, &get_of(getting), out),
         WalletOperation::Retry(retrying) => retry(alloc, retrying.peer(), out),
         WalletOperation::List(_) => list(alloc, out),
+        WalletOperation::Lines(relaying) => list_held(alloc, relaying.vendor(), out),
         WalletOperation::Chain(_) => chain(alloc, out),
+        WalletOperation::Renew(renewing) => renew(
+            alloc,
+            renewing.vendor(),
+            renewing.target(),
+            renewing.before(),
+            out,
+        ),
     }
 }
 

@@ -18,6 +18,7 @@ pub(crate) fn tell_bad_line(rt: &impl Eprint, words: &[String], passed: &Passed)
     let input = passed.received();
     let fault = match word(words, 1) {
         "licence" => licence_input_fault(input, number),
+        "settle" => statement_input_fault(input, number),
         _ => pieces_input_fault(input, number, &rule_of(words)),
     };
     let _ = eprintln!(rt; "millicent: line {number}: {fault}");
@@ -64,6 +65,20 @@ fn licence_input_fault(input: &[u8], number: u64) -> &'static str {
     match plain_fault(line) {
         Some(fault) => fault,
         None => licence_line_fault(line),
+    }
+}
+
+/// What is wrong with the line of this number of an input that is one statement.
+fn statement_input_fault(input: &[u8], number: u64) -> &'static str {
+    if number == 0 {
+        return "no line came";
+    }
+    if number > 1 {
+        return "more than one line came";
+    }
+    match plain_fault(line_at(input, number)) {
+        Some(fault) => fault,
+        None => "it is not a statement, as vendor statement says it",
     }
 }
 

@@ -1,5 +1,6 @@
 use Rattle.std.proofs.Common.{subst}
 use Rattle.house_state.specs.declared.offer.SiteKind.TheVariants.{Broker}
+use Rattle.house_state.specs.Learning.{untested}
 use Rattle.broker_commands.specs.Operations as brokers
 use Rattle.mc_top.specs.Programs.{Operates}
 use Rattle.mc_top.proofs.program.operate_desk.Goals as goal
@@ -7,5 +8,5 @@ use Rattle.mc_top.proofs.program.operate_desk.Goals as goal
 -- src/program.rt:197:1
 pub returns-clause-operated : goal.returns-clause-operated
 returns-clause-operated g c =
-    subst (λ o. Operates g.O.Link.link g.O.Disk.disk Broker (brokers.operation_view o) c.args.out c.operate_book.result.1 c.operate_book.result.0)
+    subst (λ o. Operates g.O.Link.link g.O.Disk.disk untested Broker (brokers.operation_view o) c.args.out c.operate_book.result.1 c.operate_book.result.0)
     c.of-command.ensures (c.operate_book.ensures.causes, c.operate_book.ensures.operated)
