@@ -8,6 +8,7 @@ from ledger import FULL, History, follow
 from market import Book, broker_sums, first_stranger, vendor_sums
 from payloads import BROKER, SITE, VENDOR
 from refusals import refused
+from tree import Tree, lines
 from wallet import WALLET, WalletBook
 from words import place
 
@@ -50,8 +51,30 @@ def report(order, stage, *disks):
         raise Ends.refused(refused(70, min(missing)))
     stranger = first_stranger(books)
     if stranger:
-        raise Ends(8, b"stranger %s %s" % (books[stranger[0]].name, id_text(stranger[1]).encode()))
+        raise stranger_of(books[stranger[0]].name, stranger[1])
     return (as_json if order.is_json else as_text)(broker, vendors)
+
+
+def tree(order, stage, *disks):
+    """Reads all books, looks that they are those of brokers and of all their vendors, and for strangers; reports their sums."""
+    entries = [read_book(disk) for disk in disks]
+    books = [Book(some) for some in entries]
+    names = {book.name for book in books}
+    is_wallet_there = any(some[0].site == WALLET for some in entries)
+    if not any(book.is_broker for book in books) or is_wallet_there or len(names) < len(books):
+        raise Ends.refused(refused(69))
+    whole = Tree(books)
+    missing = {sale.vendor for sale in whole.sales} - {book.name for book in whole.vendors}
+    if missing:
+        raise Ends.refused(refused(70, min(missing)))
+    stranger = whole.first_stranger()
+    if stranger:
+        raise stranger_of(*stranger)
+    return lines(whole)
+
+
+def stranger_of(name, ident):
+    return Ends(8, b"stranger %s %s" % (name, id_text(ident).encode()))
 
 
 def sums_of(broker, vendors):
@@ -99,4 +122,5 @@ def chain_of(disk):
 COMMANDS = {
     b"report": (None, (), (b"--json",), parse_report, report),
     b"chain": (None, (), (), parse_report, chain),
+    b"tree": (None, (), (), parse_report, tree),
 }

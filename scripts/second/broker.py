@@ -1,6 +1,7 @@
 """The commands of a broker."""
 from types import SimpleNamespace
 
+import settlement
 import vendor
 from desk import MOST_BALANCE
 from forms import MOST_VALUE, is_name, read_scrip
@@ -102,9 +103,9 @@ def balance_line(house, order):
     return b"balance %s %d\n" % (order.account, house.history.desk.balance(order.account))
 
 
-def input_house(stage):
+def input_house(stage, **test):
     """A house of the book, and the lines that its operator brings."""
-    house = opened(stage, FULL, BROKER)
+    house = opened(stage, FULL, BROKER, **test)
     lines = received(stage, MOST_INPUT + 1)
     house.raise_time()
     return house, lines[:MOST_INPUT]
@@ -185,6 +186,10 @@ def chain(order, stage):
     return chained(kept(stage, BROKER))
 
 
+def settle(order, stage):
+    return settlement.settle(*input_house(stage, is_taken=settlement.is_in_order))
+
+
 # As those of a vendor.
 COMMANDS = {
     b"init": (7, (b"--keep",), (b"--clear",), parse_init, init),
@@ -196,5 +201,6 @@ COMMANDS = {
     b"stock": (2, (), (), parse_stock, stock),
     b"upgrade": (3, (), (), parse_upgrade, upgrade),
     b"chain": (1, (), (), vendor.parse_book, chain),
+    b"settle": (1, (), (), vendor.parse_book, settle),
     b"serve": (3, (), (), vendor.parse_serve, serve),
 }

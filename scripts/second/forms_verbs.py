@@ -1,4 +1,6 @@
-"""The verbs on texts, numbers, scrip, payloads and refusals."""
+"""The verbs on texts, numbers, scrip, payloads, refusals and plain digests."""
+import hashlib
+
 import forms
 from bytes_text import CaseError, bytes_of, shown
 from forms import BAR, Fault, MOMENTS, MOST_EXPIRES, MOST_VALUE, id_text
@@ -50,6 +52,14 @@ def do_digest(setting, words):
     text, = setting.arguments(words, data)
     found = forms.digest_of(text)
     return ["digest " + ("no" if found is None else shown(found))]
+
+
+def hashed(verb):
+    """A verb that makes a digest of bytes, by the standard of its name."""
+    def act(setting, words):
+        text, = setting.arguments(words, data)
+        return ["%s %s" % (verb, hashlib.new(verb, text).hexdigest())]
+    return act
 
 
 def do_whole_number(setting, words):
@@ -149,5 +159,5 @@ VERBS = {
     "digits": reading("digits", lambda text: forms.read_digits(text, 0, 2), shown),
     "before": reading("before", lambda text, stop: forms.read_name(text, 0, stop), shown, stop_byte),
     "refusal": do_refusal, "amount": do_amount, "moment": do_moment, "split": do_split, "total": do_total, "id": do_id,
-    "piece": do_piece,
+    "piece": do_piece, "md5": hashed("md5"), "sha256": hashed("sha256"),
 }

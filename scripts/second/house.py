@@ -147,10 +147,11 @@ def started(stage):
         raise Ends.disk_fault()
 
 
-def opened(stage, limits, site=VENDOR):
-    """The house of a book of this kind of site."""
+def opened(stage, limits, site=VENDOR, is_taken=lambda history, entry: True):
+    """The house of a book of this kind of site, each entry of which passes a test of its command's own, too."""
     history = History()
-    journal = read_through(stage, (site,), lambda entry: follow(history, entry, limits.series))
+    journal = read_through(
+        stage, (site,), lambda entry: is_taken(history, entry) and follow(history, entry, limits.series))
     return House(history, stage, limits, journal)
 
 
@@ -158,9 +159,9 @@ def unlawful(gate):
     return Ends(3, b"unlawful entry at %d" % gate)
 
 
-def kept(stage, site=VENDOR):
+def kept(stage, site=VENDOR, **test):
     """The house of a book, opened for its operator at the reading of the clock."""
-    house = opened(stage, FULL, site)
+    house = opened(stage, FULL, site, **test)
     house.raise_time()
     return house
 

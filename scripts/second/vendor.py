@@ -2,6 +2,7 @@
 from types import SimpleNamespace
 
 import play
+import settlement
 from forms import MOST_VALUE, digest_of, is_name, is_target
 from house import Ends, bench, chained, founded, kept, opened, received
 from ledger import FULL
@@ -169,6 +170,15 @@ def upgrade_issuer(house, vendor_name, issuer, start):
     return b"upgrade %s %d %d\n" % (vendor_name, issuer, start)
 
 
+def parse_statement(words):
+    return SimpleNamespace(
+        book=place(words[0]), issuer=number(words[1], 1, 255), epoch=number(words[2], 0, MOST_EPOCH))
+
+
+def statement(order, stage):
+    return settlement.state(kept(stage, is_taken=settlement.is_in_order), order.issuer, order.epoch)
+
+
 def parse_book(words):
     return SimpleNamespace(book=place(words[0]))
 
@@ -189,4 +199,5 @@ COMMANDS = {
     b"mint": (4, (), (), parse_mint, mint),
     b"upgrade": (3, (), (), parse_upgrade, upgrade),
     b"chain": (1, (), (), parse_book, chain),
+    b"statement": (3, (), (), parse_statement, statement),
 }

@@ -1,15 +1,16 @@
 """The commands of a wallet."""
 from types import SimpleNamespace
 
+import forms
 from broker import MOST_INPUT
-from forms import MOST_VALUE, id_text, is_name, is_target, read_scrip
+from forms import MOMENTS, MOST_VALUE, id_text, is_name, is_target, read_scrip
 from house import Ends, chain_line, founded, read_pieces, read_through, received
 from journal import Halted
 from payloads import DONE, GOT, PEND, REFUSED, SITE, SWITCH, entry_of
 from refusals import Refusal, refused
 from replies import Bad, take as take_reply
 from stage import LinkFault
-from wallet import BUY, GET, WALLET, WalletBook, buy_target, check, drawing, name_of, piece_line
+from wallet import BUY, GET, WALLET, Request, WalletBook, buy_target, check, drawing, name_of, piece_line
 from words import number, place, secret, text
 
 
@@ -38,6 +39,16 @@ def parse_get(words):
     return SimpleNamespace(
         book=place(words[0]), peer=text(is_name, words[1]), ask=GET, target=text(is_target, words[2]),
         limit=number(words[3], 1, MOST_VALUE), connect=place(words[4]))
+
+
+def parse_lines(words):
+    return SimpleNamespace(book=place(words[0]), peer=text(is_name, words[1]))
+
+
+def parse_renew(words):
+    return SimpleNamespace(
+        book=place(words[0]), peer=text(is_name, words[1]), target=text(is_target, words[2]),
+        before=number(words[3], 0, MOMENTS - 1), connect=place(words[4]))
 
 
 def parse_retry(words):
@@ -75,8 +86,8 @@ class Wallet:
         self.enter(PEND, ask=request.ask, peer=request.peer, target=request.target, scrip=request.scrip, secret=request.secret)
         return number_of_entry
 
-    def send(self, number_of_entry):
-        """Sends a kept request on the one link, and settles it by the reply; answers the line."""
+    def send(self, number_of_entry, is_renewal=False):
+        """Sends a kept request on the one link, and settles it by the reply; answers the line. A renewal says no contents."""
         request = self.book.requests[number_of_entry]
         try:
             if not self.stage.next_link():
@@ -86,23 +97,38 @@ class Wallet:
             wrong = refused(64) if reply is None else refused(65) if isinstance(reply, Bad) else check(request, reply)
             if wrong:
                 raise Ends.refused(wrong)
-            if reply.status == 200 and request.ask == GET and reply.contents:
+            if reply.status == 200 and request.ask == GET and reply.contents and not is_renewal:
                 self.stage.say(reply.contents)
         except LinkFault:
             raise Ends.link_fault()
-        return self.settle(number_of_entry, request, reply)
+        change = self.settle(number_of_entry, request, reply)
+        return renewed_line(request, change) if is_renewal else bought_line(request, reply)
 
     def settle(self, number_of_entry, request, reply):
+        """Enters what a reply does to a request; answers the change that came."""
         settled = self.book.settlement(request, reply)
         if isinstance(settled, int):
             self.enter(REFUSED, number=number_of_entry, refusal=settled)
             raise Ends.refused(refused(68, settled))
         price, change, got = settled
         self.enter(DONE, number=number_of_entry, price=price, change=change, got=got)
-        if request.ask == GET:
-            return b""
-        piece = read_scrip(piece_line(reply.contents)[0])
-        return b"got %s %d\n" % (piece.vendor, piece.value)
+        return change
+
+
+def bought_line(request, reply):
+    """The line of what was drawn or bought; of contents, which are said as they came, none."""
+    if request.ask == GET:
+        return b""
+    piece = read_scrip(piece_line(reply.contents)[0])
+    return b"got %s %d\n" % (piece.vendor, piece.value)
+
+
+def renewed_line(request, change):
+    """The line of the change that a renewal brought."""
+    if change is None:
+        return b"renewed %s 0 0\n" % request.peer
+    piece = read_scrip(change)
+    return b"renewed %s %d %d\n" % (request.peer, piece.value, piece.expires)
 
 
 def opened_now(stage):
@@ -152,6 +178,26 @@ def retry(order, stage):
     return wallet.send(oldest)
 
 
+def renew(order, stage):
+    """Pays a target with the piece that ends first, where it ends in time, and keeps the change."""
+    wallet = opened_now(stage)
+    due = [offer for offer in wallet.book.offers(order.peer, wallet.time) if offer[0].expires <= order.before]
+    if not due:
+        raise Ends.refused(refused(80))
+    first = min(due, key=lambda offer: offer[0].expires)
+    return wallet.send(wallet.pend(Request(GET, order.peer, order.target, *first[1:])), is_renewal=True)
+
+
+def lines(order, stage):
+    """Tells the first pieces of a vendor that may be sold on."""
+    wallet = opened_now(stage)
+    told = [offer for offer in wallet.book.offers(order.peer, wallet.time)
+            if offer[0].cust == offer[0].id and not offer[0].props][:256]
+    if not told:
+        raise Ends.refused(refused(62, 0))
+    return b"".join(forms.piece_line(text_of, held) for _, text_of, held in told)
+
+
 def holdings(order, stage):
     return b"".join(holding_line(state, read_scrip(text_of)) for state, text_of, _ in opened_now(stage).book.holdings())
 
@@ -176,4 +222,6 @@ COMMANDS = {
     b"retry": (3, (), (), parse_retry, retry),
     b"list": (1, (), (), parse_book, holdings),
     b"chain": (1, (), (), parse_book, chain),
+    b"lines": (2, (), (), parse_lines, lines),
+    b"renew": (5, (), (), parse_renew, renew),
 }

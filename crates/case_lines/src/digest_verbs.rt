@@ -1,12 +1,14 @@
-//! Lines that make digests, under the terms that a case sets.
+//! Lines that make digests: of bytes, and under the terms that a case sets.
 
 use crate::fault::Fault;
 use crate::show::Lines;
 use crate::state::State;
 use crate::words::{number, small};
 use mc_base::Moment;
+use md5::{Digest as Md5Digest, Md5};
 use scrip_certs::{certificate, customer_secret, sign_reply, sign_request};
 use scrip_form::{Id, Secrets, Terms};
+use sha2::{Digest as Sha2Digest, Sha256};
 use std::alloc::Global;
 
 /// The verbs of this module; None where the verb is none of them.
@@ -23,6 +25,8 @@ pub(crate) fn make(
         b"secret" => secret(state, args, out),
         b"signed" => signed(state, args, out),
         b"replied" => replied(state, args, out),
+        b"md5" => md5(state, args, out),
+        b"sha256" => sha256(state, args, out),
         _ => return None,
     })
 }
@@ -85,7 +89,7 @@ fn series(state: &State, args: &[&[u8]], out: &mut Lines) -> Result<(), Fault> {
     Ok(())
 }
 
-fn show_digest(verb: &str, digest: &[u8; 16], out: &mut Lines) {
+fn show_digest(verb: &str, digest: &[u8], out: &mut Lines) {
     out.start(verb);
     out.digits(digest);
     out.end();
@@ -151,5 +155,23 @@ fn replied(state: &State, args: &[&[u8]], out: &mut Lines) -> Result<(), Fault> 
     let secret = key(&state.names.bytes(secret)?)?;
     let sign = sign_reply(&scrip, &target, &head, &contents, &secret);
     show_digest("replied", &sign, out);
+    Ok(())
+}
+
+/// The MD5 digest of bytes, as RFC 1321 has it.
+fn md5(state: &State, args: &[&[u8]], out: &mut Lines) -> Result<(), Fault> {
+    let [bytes] = *args else {
+        return Err(Fault::Arguments);
+    };
+    show_digest("md5", &Md5::digest(&state.names.bytes(bytes)?), out);
+    Ok(())
+}
+
+/// The SHA-256 digest of bytes, as FIPS 180-4 has it.
+fn sha256(state: &State, args: &[&[u8]], out: &mut Lines) -> Result<(), Fault> {
+    let [bytes] = *args else {
+        return Err(Fault::Arguments);
+    };
+    show_digest("sha256", &Sha256::digest(&state.names.bytes(bytes)?), out);
     Ok(())
 }
