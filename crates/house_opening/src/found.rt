@@ -7,7 +7,9 @@ ghost use Rattle.mc_records.specs.Sizes.{entry_size};
 ghost use Rattle.mc_records.specs.Views.{entry};
 ghost use Rattle.ledger_model.specs.Houses.{site_kind};
 ghost use Rattle.ledger_model.specs.Lawful.{MayFollow};
+ghost use Rattle.scrip_journal.specs.Exits.{IsUncut};
 ghost use Rattle.scrip_journal.specs.Founds.{FoundNoOutput, CountsBy, ReadsOnly};
+ghost use Rattle.scrip_journal.specs.Layout.{Encodes};
 ghost use Rattle.house_state.specs.Founding.{FoundsHouse};
 ghost use Rattle.house_opening.specs.Opening.{house_disk};
 ghost use Rattle.house_opening.specs.Found.{FoundsHouseBy};
@@ -23,7 +25,7 @@ use std::alloc::Global;
 /// Founds the book of a house by its Site entry, with a trade that has learned nothing yet. The house may
 /// grow to these limits; its time is the entry's moment.
 ///
-/// A disk that encodes the empty history is used as it is, and any other of at most nine bytes is written
+/// A disk that encodes the empty history is used as it is and not cut, and any other of at most nine bytes is written
 /// anew. A longer one is left as it is: `NotEmpty` tells its size. `Disk` comes only where the disk failed,
 /// `NoMemory` with nothing written, and no other fault does. A crash in this call leaves what encodes no
 /// entries or the Site entry, or what a crash before could have left, and at most nine bytes where the
@@ -48,6 +50,8 @@ pub fn found_house<D: Disk, T: Trade>(
         → Ran (D.disk disk) (D.disk (house_disk result)) (FoundNoOutput (D.disk disk) (entry site.now)) }
     ensures read { ReadsOnly D.disk disk result }
     ensures fault { CountsBy result (D.disk disk).faults (D.disk (house_disk result)).faults }
+    ensures uncut { (x : List ℕ) → (D.disk disk).contents ≡ Some x → Encodes [] x
+        → IsUncut (D.disk disk) (D.disk (house_disk result)) }
 {
     let bench = match Bench::new(alloc, site, limits, trade) {
         Ok(bench) => bench,

@@ -12,4 +12,5 @@ pub mod Pieces
 pub mod Advancing
 pub mod Heading
 pub mod Appending
+pub mod Uncut
 pub mod FoundLemmas

@@ -1,5 +1,7 @@
 -- What calls hand back, and what a crash in them leaves.
-use Rattle.std.specs.Prelude.{◌≡◌, ◌⊎◌, ℕ, ◌<◌, ◌≤◌, List, [], ◌∷◌, ◌++◌, Result, Ok, Err}
+use Rattle.std.specs.Prelude.{◌≡◌, ◌⊎◌, ℕ, ◌<◌, ◌≤◌, List, [], ◌∷◌, ◌++◌, length, Result, Ok, Err}
+use Rattle.mc_outside.specs.Bytes.{Told}
+use Rattle.mc_outside.specs.DiskView.{DiskView}
 use Rattle.mc_records.specs.Entry.{Entry}
 use Rattle.scrip_journal.specs.Layout.{Encodes}
 use Rattle.scrip_journal.specs.States.{AtRest, WithNext}
@@ -41,3 +43,7 @@ EncodesNoOutput h aside c s = Encodes h c × (s ≡ aside)
 -- with the new entry or without it, with nothing sent
 abbrev pub EitherNoOutput : List Entry → Entry → List ℕ → List ℕ → List ℕ → Type 0
 EitherNoOutput h e aside c s = (Encodes h c ⊎ Encodes (h ++ e ∷ []) c) × (s ≡ aside)
+
+-- the bytes of the disk, where it tells them, are no fewer than before
+abbrev pub IsUncut : DiskView → DiskView → Type 0
+IsUncut before after = Told (λ old new. length old ≤ length new) before.contents after.contents

@@ -8,7 +8,7 @@ ghost use Rattle.mc_records.specs.Sizes.{entry_size};
 ghost use Rattle.mc_records.specs.Views.{entry};
 ghost use Rattle.scrip_journal.specs.Layout.{Encodes};
 ghost use Rattle.scrip_journal.specs.States.{IsJournal};
-ghost use Rattle.scrip_journal.specs.Exits.{EitherNoOutput};
+ghost use Rattle.scrip_journal.specs.Exits.{EitherNoOutput, IsUncut};
 ghost use Rattle.scrip_journal.specs.Founds.{FoundsBookBy, CountsBy, ReadsOnly, ShortNoOutput, FoundNoOutput, book_disk, ClearsSmall, EntersFirst, IsOfWriting};
 
 use crate::ending::ReplayFault;
@@ -22,7 +22,7 @@ use std::alloc::Global;
 
 /// Founds a book by its first entry; it may grow to `limits.journal` bytes, for which the entry has room.
 ///
-/// A disk that encodes the empty history is used as it is, and any other of at most nine bytes is written
+/// A disk that encodes the empty history is used as it is and not cut, and any other of at most nine bytes is written
 /// anew. Any other is left as it is: `NotEmpty` tells its size. `Disk` comes only where the disk failed,
 /// `NoMemory` with nothing written, and no other fault does. A crash in this call leaves what encodes no
 /// entries or this one, or what a crash before could have left, and at most nine bytes where the disk is
@@ -44,6 +44,8 @@ pub fn found_book<D: Disk>(
         → Ran (D.disk disk) (D.disk (book_disk result)) (FoundNoOutput (D.disk disk) (entry first.now)) }
     ensures read { ReadsOnly D.disk disk result }
     ensures fault { CountsBy result (D.disk disk).faults (D.disk (book_disk result)).faults }
+    ensures uncut { (x : List ℕ) → (D.disk disk).contents ≡ Some x → Encodes [] x
+        → IsUncut (D.disk disk) (D.disk (book_disk result)) }
 {
     match empty_book(alloc, disk, limits) {
         Ok(journal) => enter_first(journal, first),
@@ -63,6 +65,8 @@ fn empty_book<D: Disk>(alloc: Global, disk: D, limits: Limits) -> Result<Journal
         → Ran (D.disk disk) (D.disk (book_disk result)) (ShortNoOutput (D.disk disk)) }
     ensures read { ReadsOnly D.disk disk result }
     ensures fault { CountsBy result (D.disk disk).faults (D.disk (book_disk result)).faults }
+    ensures uncut { (x : List ℕ) → (D.disk disk).contents ≡ Some x → Encodes [] x
+        → IsUncut (D.disk disk) (D.disk (book_disk result)) }
 {
     let mut replay = match open_journal(alloc, disk, limits) {
         Ok(replay) => replay,
@@ -126,6 +130,7 @@ fn enter_first<D: Disk>(
     ensures ran { IsJournal D.disk journal []
         → Ran (D.disk journal.disk) (D.disk (book_disk result)) (EitherNoOutput [] (entry first.now) (D.disk journal.disk).aside) }
     ensures fault { CountsBy result (D.disk journal.disk).faults (D.disk (book_disk result)).faults }
+    ensures uncut { IsUncut (D.disk journal.disk) (D.disk (book_disk result)) }
 {
     match journal.append(first) {
         Ok((journal, _)) => Ok(journal),

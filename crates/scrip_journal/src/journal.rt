@@ -8,7 +8,7 @@ ghost use Rattle.mc_records.specs.Chains.{has_switch};
 ghost use Rattle.mc_records.specs.Sizes.{size, entry_size};
 ghost use Rattle.mc_records.specs.Views.{entry};
 ghost use Rattle.scrip_journal.specs.States.{IsJournal, IsStaged};
-ghost use Rattle.scrip_journal.specs.Exits.{staged_disk, written_disk, RoomBy, MatchStageFault, EncodesNoOutput, EitherNoOutput};
+ghost use Rattle.scrip_journal.specs.Exits.{staged_disk, written_disk, RoomBy, MatchStageFault, EncodesNoOutput, EitherNoOutput, IsUncut};
 
 use crate::cursor::{Cursor, put_block, stands_with};
 use crate::staged::{Next, Staged};
@@ -94,6 +94,7 @@ impl<D: Disk> Journal<D> {
             (λ j. j ≡ self)
             (λ d. Rose (D.disk self.disk).faults (D.disk d).faults)) }
         ensures same_count { OnOk result ((D.disk (staged_disk result)).faults ≡ (D.disk self.disk).faults) }
+        ensures uncut { IsUncut (D.disk self.disk) (D.disk (staged_disk result)) }
     {
         let Journal { disk, at } = self;
         let (mut disk, mut at) = (disk, at);
@@ -136,6 +137,7 @@ impl<D: Disk> Journal<D> {
             (λ j. j ≡ self)
             (λ d. Rose (D.disk self.disk).faults (D.disk d).faults)) }
         ensures same_count { OnOk result ((D.disk (written_disk result)).faults ≡ (D.disk self.disk).faults) }
+        ensures uncut { IsUncut (D.disk self.disk) (D.disk (written_disk result)) }
     {
         let staged = match self.stage(r) {
             Ok(staged) => staged,

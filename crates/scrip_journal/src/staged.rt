@@ -5,7 +5,7 @@ ghost use Rattle.mc_outside.specs.Bytes.{Rose};
 ghost use Rattle.mc_outside.specs.DiskView.{Ran};
 ghost use Rattle.mc_records.specs.Entry.{Entry};
 ghost use Rattle.scrip_journal.specs.States.{IsJournal, IsStaged};
-ghost use Rattle.scrip_journal.specs.Exits.{opened_disk, EitherNoOutput};
+ghost use Rattle.scrip_journal.specs.Exits.{opened_disk, EitherNoOutput, IsUncut};
 
 use crate::cursor::Cursor;
 use crate::journal::{Halted, Journal, Receipt};
@@ -59,6 +59,7 @@ impl<D: Disk> Staged<D> {
             → Ran (D.disk self.disk) (D.disk (opened_disk result)) (EitherNoOutput h e (D.disk self.disk).aside) }
         ensures fault { OnErr result (Rose (D.disk self.disk).faults (D.disk (opened_disk result)).faults) }
         ensures same_count { OnOk result ((D.disk (opened_disk result)).faults ≡ (D.disk self.disk).faults) }
+        ensures uncut { IsUncut (D.disk self.disk) (D.disk (opened_disk result)) }
     {
         let Staged { disk, at, next } = self;
         let (mut disk, mut at) = (disk, at);

@@ -5,7 +5,9 @@ ghost use Rattle.mc_outside.specs.DiskView.{Ran};
 ghost use Rattle.mc_records.specs.Entry.{Site};
 ghost use Rattle.mc_records.specs.Limits.{AreInRange};
 ghost use Rattle.mc_records.specs.Sizes.{entry_size};
+ghost use Rattle.scrip_journal.specs.Exits.{IsUncut};
 ghost use Rattle.scrip_journal.specs.Founds.{FoundNoOutput, CountsBy, ReadsOnly};
+ghost use Rattle.scrip_journal.specs.Layout.{Encodes};
 ghost use Rattle.wallet_core.specs.Opening.{wallet_disk, FoundsWalletBy};
 
 use crate::wallet::Wallet;
@@ -20,7 +22,7 @@ use wallet_book::WalletBook;
 /// Founds the book of a wallet of this name. Its journal may grow to `limits.journal` bytes, for which the Site
 /// entry has room; its time is `now`.
 ///
-/// A disk that encodes the empty history is used as it is, and any other of at most nine bytes is written anew. Any
+/// A disk that encodes the empty history is used as it is and not cut, and any other of at most nine bytes is written anew. Any
 /// other is left as it is: `NotEmpty` tells its size. `Disk` comes only where the disk failed, `NoMemory`
 /// with nothing written, and no other fault does. A crash in this call leaves what encodes no entries
 /// or the Site entry, or what a crash before could have left, and at most nine bytes where the disk is written anew.
@@ -40,6 +42,8 @@ pub fn found_wallet<D: Disk>(
         → Ran (D.disk disk) (D.disk (wallet_disk result)) (FoundNoOutput (D.disk disk) (Site now 2 name.now None)) }
     ensures read { ReadsOnly D.disk disk result }
     ensures fault { CountsBy result (D.disk disk).faults (D.disk (wallet_disk result)).faults }
+    ensures uncut { (x : List ℕ) → (D.disk disk).contents ≡ Some x → Encodes [] x
+        → IsUncut (D.disk disk) (D.disk (wallet_disk result)) }
 {
     // What they know of themselves.
     let _seconds = now.seconds();

@@ -3,6 +3,7 @@ use Rattle.mc_records.specs.declared.limits.Limits.{Limits}
 use Rattle.mc_records.specs.Views.{entry}
 use Rattle.scrip_journal.specs.Founds.{FoundNoOutput}
 use Rattle.scrip_journal.proofs.FoundLemmas.{ran_at}
+use Rattle.scrip_journal.proofs.Uncut.{uncut_at}
 use Rattle.house_opening.proofs.found.found_house.Goals as goal
 
 pub returns-in-Ok-found_book-clause-exact : goal.returns-in-Ok-found_book-clause-exact
@@ -20,3 +21,7 @@ pub returns-in-Ok-found_book-clause-ran : goal.returns-in-Ok-found_book-clause-r
 returns-in-Ok-found_book-clause-ran g c x told =
     ran_at g.D.Disk.disk (g.D.Disk.disk c.args.disk) c.in-Ok-found_book.journal.disk c.new-in-Ok-found_book.result.journal.disk (FoundNoOutput (g.D.Disk.disk c.args.disk) (entry c.args.site.now)) c.new-in-Ok-found_book.ensures.disk
     (c.in-Ok-found_book.ensures.ran x told)
+
+pub returns-in-Ok-found_book-clause-uncut : goal.returns-in-Ok-found_book-clause-uncut
+returns-in-Ok-found_book-clause-uncut g c x told stands =
+    uncut_at g.D.Disk.disk _ c.in-Ok-found_book.journal.disk c.new-in-Ok-found_book.result.journal.disk c.new-in-Ok-found_book.ensures.disk (c.in-Ok-found_book.ensures.uncut x told stands)

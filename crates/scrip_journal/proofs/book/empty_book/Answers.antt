@@ -6,6 +6,7 @@ use Rattle.scrip_journal.specs.Replays.{ReadsOn}
 use Rattle.scrip_journal.proofs.Unique.{not_both, chain_or_history}
 use Rattle.scrip_journal.proofs.Reading.{bytes_told}
 use Rattle.scrip_journal.proofs.FoundLemmas.{no_more, cleared, empty_begins, short_then, read_then_emptied}
+use Rattle.scrip_journal.proofs.Uncut.{uncut_same}
 use Rattle.scrip_journal.proofs.book.empty_book.Goals as goal
 
 pub returns-in-Ok-None-clause-exact : goal.returns-in-Ok-None-clause-exact
@@ -77,3 +78,34 @@ returns-in-Err-BadChain-clause-ran g c x told =
     let read = subst (λ (d : g.row.D.Denot). OnlyRead (g.D.Disk.disk c.in-Ok.replay.disk) (g.D.Disk.disk d)) (sym c.close-in-Err-BadChain.ensures) c.next_record.ensures.only_read in
     read_then_emptied g.D.Disk.disk (g.D.Disk.disk c.args.disk) c.in-Ok.replay c.close-in-Err-BadChain.result (book_disk c.empty_small-in-Err-BadChain.result) x c.in-Ok.ensures.read r told read
     (chain_or_history [] [] x c.in-Err-BadChain.field-0-0 c.in-Err-BadChain.field-0-1 c.in-Err-BadChain.field-0-2 unchained) c.empty_small-in-Err-BadChain.ensures.ran
+
+pub returns-in-Ok-None-clause-uncut : goal.returns-in-Ok-None-clause-uncut
+returns-in-Ok-None-clause-uncut g c x told stands =
+    uncut_same _ _ (ap (λ (d : g.row.D.Denot). (g.D.Disk.disk d).contents) c.finish.ensures.disk.0 ∙ (c.next_record.ensures.only_read.contents ∙ c.in-Ok.ensures.read.contents))
+
+pub returns-in-Err-Disk-clause-uncut : goal.returns-in-Err-Disk-clause-uncut
+returns-in-Err-Disk-clause-uncut g c x told stands = uncut_same _ _ ((rw c.in-Err-Disk.field-0-is at c.in-Err-Disk.ensures.read).contents)
+
+pub returns-in-Err-NotJournal-clause-uncut : goal.returns-in-Err-NotJournal-clause-uncut
+returns-in-Err-NotJournal-clause-uncut g c x told stands = absurd ((rw c.in-Err-NotJournal.field-0-is at c.in-Err-NotJournal.ensures.exact x told) (empty_begins x stands))
+
+pub returns-in-Ok-Some-clause-uncut : goal.returns-in-Ok-Some-clause-uncut
+returns-in-Ok-Some-clause-uncut g c x told stands =
+    let r = c.in-Ok.ensures.opened x told in
+    let here = c.next_record.ensures.only_read.contents ∙ (c.in-Ok.ensures.read.contents ∙ told) in
+    let reads = subst (λ (o : Option ℕ). ReadsOn g.D.Disk.disk [] r.bytes c.in-Ok.replay.gate (Ok o) c.next_record.new.self) c.in-Ok-Some.field-0-is (c.in-Ok-Some.ensures.reads [] r) in
+    absurd (no_more g.D.Disk.disk c.next_record.new.self reads.1 x reads.4 here stands)
+
+pub returns-in-Err-BadRecord-clause-uncut : goal.returns-in-Err-BadRecord-clause-uncut
+returns-in-Err-BadRecord-clause-uncut g c x told stands =
+    let r = c.in-Ok.ensures.opened x told in
+    let reads = rw c.in-Err-BadRecord.field-0-is at c.in-Err-BadRecord.ensures.reads [] r in
+    let spoiled = subst (λ (bytes : List ℕ). IsSpoiled [] bytes c.in-Err-BadRecord.field-0-0) (bytes_told g.D.Disk.disk c.in-Ok.replay [] x r (c.in-Ok.ensures.read.contents ∙ told)) reads.0 in
+    absurd (not_both [] [] x c.in-Err-BadRecord.field-0-0 spoiled stands)
+
+pub returns-in-Err-BadChain-clause-uncut : goal.returns-in-Err-BadChain-clause-uncut
+returns-in-Err-BadChain-clause-uncut g c x told stands =
+    let r = c.in-Ok.ensures.opened x told in
+    let reads = rw c.in-Err-BadChain.field-0-is at c.in-Err-BadChain.ensures.reads [] r in
+    let unchained = subst (λ (bytes : List ℕ). IsUnchained [] bytes c.in-Err-BadChain.field-0-0 c.in-Err-BadChain.field-0-1 c.in-Err-BadChain.field-0-2) (bytes_told g.D.Disk.disk c.in-Ok.replay [] x r (c.in-Ok.ensures.read.contents ∙ told)) reads.0 in
+    absurd (chain_or_history [] [] x c.in-Err-BadChain.field-0-0 c.in-Err-BadChain.field-0-1 c.in-Err-BadChain.field-0-2 unchained stands)

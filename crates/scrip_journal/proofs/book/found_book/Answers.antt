@@ -1,6 +1,7 @@
 use Rattle.mc_records.specs.Views.{entry}
 use Rattle.scrip_journal.specs.Founds.{book_disk}
 use Rattle.scrip_journal.proofs.FoundLemmas.{found_quiet, founded, wrote}
+use Rattle.scrip_journal.proofs.Uncut.{uncut_then}
 use Rattle.scrip_journal.proofs.book.found_book.Goals as goal
 
 pub returns-in-Ok-clause-exact : goal.returns-in-Ok-clause-exact
@@ -15,3 +16,6 @@ returns-in-Ok-clause-ran g c x told =
 
 pub returns-in-Ok-clause-read : goal.returns-in-Ok-clause-read
 returns-in-Ok-clause-read g c = wrote g.D.Disk.disk c.args.disk c.enter_first.result c.enter_first.ensures.wrote
+
+pub returns-in-Ok-clause-uncut : goal.returns-in-Ok-clause-uncut
+returns-in-Ok-clause-uncut g c x told stands = uncut_then _ _ _ (c.in-Ok.ensures.uncut x told stands) c.enter_first.ensures.uncut

@@ -2,6 +2,7 @@ use Rattle.std.proofs.Common.{List, ℕ, [], ◌∷◌, None, ap, sym, subst, �
 use Rattle.mc_records.specs.declared.limits.Limits.{Limits}
 use Rattle.mc_records.specs.Entry.{Site}
 use Rattle.wallet_core.specs.Wallet.{WalletStands}
+use Rattle.scrip_journal.proofs.Uncut.{uncut_at}
 use Rattle.wallet_core.proofs.found.found_wallet.Goals as goal
 
 pub returns-in-Ok-clause-exact : goal.returns-in-Ok-clause-exact
@@ -15,3 +16,6 @@ returns-in-Ok-clause-exact g c x told =
       time' = c.new.ensures.time ∙ made.time;
       limits' = c.new.ensures.limits ∙ made.limits;
     }
+
+pub returns-in-Ok-clause-uncut : goal.returns-in-Ok-clause-uncut
+returns-in-Ok-clause-uncut g c x told stands = uncut_at g.D.Disk.disk _ c.in-Ok.journal.disk c.new.result.journal.disk c.new.ensures.disk (c.in-Ok.ensures.uncut x told stands)

@@ -1,4 +1,4 @@
-use Rattle.std.proofs.Common.{◌≡◌, ◌+◌, Bool, ◌||◌, arith, refl, sym, subst, ap, ap₂, take, length, ◌∙◌, List, [], ◌∷◌, ◌++◌, ℕ}
+use Rattle.std.proofs.Common.{◌≡◌, ◌+◌, Bool, ◌||◌, arith, refl, sym, subst, ap, ap₂, take, length, ◌∙◌, List, [], ◌∷◌, ◌++◌, ℕ, Option}
 use Rattle.mc_outside.specs.DiskView.{DiskView, Ran}
 use Rattle.mc_outside.proofs.Counts.{on_ok}
 use Rattle.mc_records.specs.Entry.{Entry, payload}
@@ -11,6 +11,7 @@ use Rattle.scrip_journal.specs.States.{AtRest, IsJournal}
 use Rattle.scrip_journal.specs.Exits.{EncodesNoOutput}
 use Rattle.scrip_journal.proofs.Steps.{stage_ran, stage_sync_ran, is_staged}
 use Rattle.scrip_journal.proofs.Bodies.{block_is, block_long}
+use Rattle.scrip_journal.proofs.Uncut.{NoFewer, uncut_same, uncut_then, uncut_write}
 use Rattle.scrip_journal.proofs.journal.Journal.stage.Goals as goal
 
 -- from what the parts of the journal were to what it was
@@ -66,3 +67,21 @@ returns-clause-staged g c h j =
     c.stands_with-switched.result c.put_block-block.result.1 _
     written c.sync.ensures.same synced c.requires framed (block_long h e _ _ framed (omega (arith, adds h e c.self.inside.at.switched c.put_block-block.result.0 switched c.put_block-block.ensures.size))) refl
     (c.stands_with-switched.ensures ∙ ap₂ (λ (a b : Bool). a || b) switched c.is_switch.ensures ∙ sym (has_switch-more h e)) chain_is
+
+-- likewise
+uncut_parts : {D : Type 0} (view : D → DiskView) (after : Option (List ℕ)) (v j : AtRest D) → v ≡ j → NoFewer (view v.disk).contents after → NoFewer (view j.disk).contents after
+uncut_parts {D = D} view after v j is uncut = subst (λ (k : AtRest D). NoFewer (view k.disk).contents after) is uncut
+
+pub returns-then-at-block-clause-uncut : goal.returns-then-at-block-clause-uncut
+returns-then-at-block-clause-uncut g c = uncut_parts g.D.Disk.disk _ _ _ c.self.view_is (uncut_same _ _ refl)
+
+pub returns-then-is_err-clause-uncut : goal.returns-then-is_err-clause-uncut
+returns-then-is_err-clause-uncut g c = uncut_parts g.D.Disk.disk _ _ _ c.self.view_is (uncut_write c.write_at.result _ _ _ _ c.write_at.ensures.written c.write_at.ensures.failed)
+
+pub returns-then-is_err-2-clause-uncut : goal.returns-then-is_err-2-clause-uncut
+returns-then-is_err-2-clause-uncut g c =
+    uncut_parts g.D.Disk.disk _ _ _ c.self.view_is (uncut_then _ _ _ (uncut_write c.write_at.result _ _ _ _ c.write_at.ensures.written c.write_at.ensures.failed) (uncut_same _ _ c.sync.ensures.same))
+
+pub returns-clause-uncut : goal.returns-clause-uncut
+returns-clause-uncut g c =
+    uncut_parts g.D.Disk.disk _ _ _ c.self.view_is (uncut_then _ _ _ (uncut_write c.write_at.result _ _ _ _ c.write_at.ensures.written c.write_at.ensures.failed) (uncut_same _ _ c.sync.ensures.same))
