@@ -1,4 +1,4 @@
-ghost use Rattle.std.specs.Prelude.{◌≡◌, ◌<◌, ◌+◌, ◌++◌, ◌∷◌, ◌↔◌, ◌==◌, ◌&&◌, nat_lt, ℕ, List, [], Some, option_map, IsTrue, IsFalse, IsNone, IfOk, IfErr};
+ghost use Rattle.std.specs.Prelude.{◌≡◌, ◌<◌, ◌≤◌, ◌+◌, ◌^◌, ◌++◌, ◌∷◌, ◌↔◌, ◌==◌, ◌&&◌, nat_lt, ℕ, List, [], Some, option_map, IsTrue, IsFalse, IsNone, IfOk, IfErr};
 ghost use Rattle.scrip_form.specs.Issuing.{epoch};
 ghost use Rattle.ledger_model.specs.Histories.{History};
 ghost use Rattle.ledger_model.specs.Houses.{fee, upgrade_in};
@@ -81,7 +81,8 @@ impl Desk {
         asked: &Purchase,
         value: Amount,
     ) -> Result<Offer, Refusal>
-        requires { 0 < asked.now.value }
+        requires some { 0 < asked.now.value }
+        requires limit { limits.series ≤ 2 ^ 32 }
         ensures offer { (h : History) → DeskRepresents self.now h → as_line offer_of result
             ≡ sale_by limits.series time (fee h)
             (supply_of h time asked.now.vendor asked.now.value) asked.now.value value }
@@ -103,7 +104,8 @@ impl Desk {
 
     /// What is sold of a vendor, by his stall.
     fn supply(&self, time: Moment, limits: Limits, asked: &Purchase) -> Result<Deed, Refusal>
-        requires { 0 < asked.now.value }
+        requires some { 0 < asked.now.value }
+        requires limit { limits.series ≤ 2 ^ 32 }
         ensures deed { (h : History) → DeskRepresents self.now h → as_line entry_deed result
             ≡ supplied limits.series time asked.now.value (licence_in h asked.now.vendor)
             (licensed_count h asked.now.vendor) (knows_vendor h asked.now.vendor)

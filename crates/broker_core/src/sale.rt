@@ -1,7 +1,6 @@
 //! What is sold of a vendor, by his stall.
 
-ghost use Rattle.std.specs.Prelude.{◌≡◌, ◌<◌, ◌^◌, ℕ, List, Some, Ok, false, IfOk, IfErr};
-ghost use Rattle.scrip_form.specs.Identities.{numbered};
+ghost use Rattle.std.specs.Prelude.{◌≡◌, ◌<◌, ◌≤◌, ◌^◌, ℕ, List, Some, Ok, false, IfOk, IfErr};
 ghost use Rattle.scrip_form.specs.Issuing.{HasPeriod, series_at};
 ghost use Rattle.scrip_form.specs.Scrip.{IsPiece, IsVersion};
 ghost use Rattle.mc_records.specs.Errands.{buy, errand_of};
@@ -35,7 +34,8 @@ pub(crate) fn sold_from(
     limits: Limits,
     asked: &Purchase,
 ) -> Result<Deed, Refusal>
-    requires { 0 < asked.now.value }
+    requires some { 0 < asked.now.value }
+    requires limit { limits.series ≤ 2 ^ 32 }
     ensures deed { (h : History) → Shows h asked.now.vendor stall.now
         → as_line entry_deed result ≡ supplied limits.series time asked.now.value
         (licence_in h asked.now.vendor) (licensed_count h asked.now.vendor)
@@ -73,7 +73,7 @@ fn sold_under(
     asked: &Purchase,
 ) -> Result<Deed, Refusal>
     requires period { HasPeriod terms.now.period terms.now.life }
-    requires number { numbered (series_at terms.now time) count < 2 ^ 64 }
+    requires limit { limits.series ≤ 2 ^ 32 }
     requires some { 0 < asked.now.value }
     ensures deed { as_line entry_deed result
         ≡ sale_of_next limits.series (series_at terms.now time) count }

@@ -59,6 +59,8 @@ fn taken<'q, 'a, T: Trade>(
         → as_line (accept_entry state.now.time q.now.target.now) result ≡ model.taken h state.now.time limits (asked_of q.now) scrip.now spendable.sign }
 {
     let value = scrip.piece().value();
+    // A series has its range.
+    let _limits = state.limits();
     let offer = match trade.offer(state.time(), limits, q.target, value) {
         Ok(offer) => offer,
         Err(refusal) => return Err(refusal),

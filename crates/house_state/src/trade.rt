@@ -1,4 +1,4 @@
-ghost use Rattle.std.specs.Prelude.{◌≡◌, ℕ, ◌↔◌, [], ◌∷◌, ◌++◌, Some, ◌<◌, IfSome, IfOk, IfErr, IsOk, OnOk, OnErr};
+ghost use Rattle.std.specs.Prelude.{◌≡◌, ℕ, ◌↔◌, [], ◌∷◌, ◌++◌, Some, ◌<◌, ◌≤◌, ◌^◌, IfSome, IfOk, IfErr, IsOk, OnOk, OnErr};
 ghost use Rattle.mc_records.specs.declared.limits.Limits.{Limits as Bounds};
 ghost use Rattle.mc_records.specs.Entry.{Entry};
 ghost use Rattle.mc_records.specs.Views.{entry};
@@ -44,6 +44,7 @@ pub trait Trade: Drop {
         target: &[u8],
         value: Amount,
     ) -> Result<Offer, Refusal>
+        requires limit { limits.series ≤ 2 ^ 32 }
         // The price and the deed of the entry, or the refusal, are the ledger's.
         ensures offer { (h : History) → (trade self.now).represents h
             → site_kind h ≡ Some (trade self.now).site

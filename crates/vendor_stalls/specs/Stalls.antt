@@ -2,7 +2,7 @@
 use Rattle.std.specs.Prelude.{ℕ, ◌+◌, ◌==◌, ◌||◌, ◌<◌, ◌≤◌, ◌^◌, ◌≡◌, not, Bool, IsTrue, IfSome, List, [], length, Option, None, option_map, unwrap_or, is_some}
 use Rattle.std.specs.List.{list_any}
 use Rattle.scrip_form.specs.Issuing.{Issuing, HasPeriod}
-use Rattle.change_issue.specs.Registers.{Register, has_room, count_in, next_in}
+use Rattle.change_issue.specs.Registers.{Register, has_room, count_in}
 use Rattle.stock_rack.specs.declared.piece.StockPiece.{StockPiece}
 use Rattle.stock_rack.specs.Racks.{RackView}
 use Rattle.stock_rack.specs.Shelves.{pieces_at}
@@ -51,19 +51,16 @@ stocked_at s value = pieces_at s.racks value
 abbrev pub is_known : StallView → Bool
 is_known s = is_some s.licence || not (length s.ids.ids == 0)
 
--- Under a licence at most 2^32 pieces of a series are sold, all that a series has; and the next identity is a number of
--- 64 bits, also behind the last piece.
+-- Under a licence at most 2^32 pieces of a series are sold, all that a series has.
 pub record IsWithin (r : Register) : Type 0 where
   pub most : r.most ≡ 2 ^ 32
   pub below : (series : ℕ) → count_in r series ≤ 2 ^ 32
-  pub next : (series : ℕ) → series < 2 ^ 32 → next_in r series < 2 ^ 64
   pub period : HasPeriod r.terms.period r.terms.life
 
 -- there is room for one more piece of a series under a licence
 pub record HasPlace (series : ℕ) (r : Register) : Type 0 where
   pub room : IsTrue (has_room r series)
   pub left : count_in r series < 2 ^ 32
-  pub number : next_in r series + 1 < 2 ^ 64
 
 -- where there is a licence, there is room for one more piece of a series
 abbrev pub HasSeries : StallView → ℕ → Type 0

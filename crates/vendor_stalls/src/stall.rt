@@ -68,11 +68,11 @@ impl Stall {
         }
     }
 
-    /// How many pieces of a series were sold under the licence, at most 2^32: the next serial of the series. With it
-    /// the series makes a number of 64 bits.
+    /// How many pieces of a series were sold under the licence, at most 2^32: the next serial of a series that is not
+    /// full.
     pub fn count(&self, series: u32) -> u64
         ensures count { result ≡ sold_count self.now series }
-        ensures number { numbered series result < 2 ^ 64 }
+        ensures most { result ≤ 2 ^ 32 }
     {
         match &self.licence {
             Some(issuer) => issuer.count(series),
@@ -102,7 +102,7 @@ impl Stall {
     }
 
     /// Makes room for one more piece of a series of the licence, if there is one. There is none in a series that is full,
-    /// of which 2^32 pieces were sold, and none for the last number of 64 bits. What is told of the vendor stays.
+    /// of which 2^32 pieces were sold. What is told of the vendor stays.
     pub fn reserve_series(&mut self, series: u32) -> Result<(), NoMemory>
         ensures room { OnOk result (HasSeries self.new series) }
         ensures terms { terms_of self.new ≡ terms_of self.old }
@@ -208,8 +208,7 @@ fn reserve_place(licence: &mut Issuer, series: u32) -> Result<(), NoMemory>
     ensures terms { licence.new.terms ≡ licence.old.terms }
     ensures counts { (s : ℕ) → count_in licence.new s ≡ count_in licence.old s }
 {
-    let count = licence.count(series);
-    if count >= Limits::MOST_SERIES || number_of(series, count) == u64::MAX {
+    if licence.count(series) >= Limits::MOST_SERIES {
         return Err(NoMemory);
     }
     licence.reserve(series)
@@ -227,9 +226,9 @@ fn count_one(licence: &mut Issuer, series: u32)
     licence.count_on(Id::of_number(next), 1);
 }
 
-/// The number that a series makes with a serial, or with how many pieces of it were sold.
+/// The number that a series makes with a serial.
 fn number_of(series: u32, serial: u64) -> u64
-    requires { numbered series serial < 2 ^ 64 }
+    requires { serial < 2 ^ 32 }
     ensures { result ≡ numbered series serial }
 {
     u64::from(series) * (1 << 32) + serial

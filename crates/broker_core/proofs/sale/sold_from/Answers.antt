@@ -1,5 +1,4 @@
 use Rattle.std.proofs.Common.{List, sym, ap, subst, ◌∙◌, ◌<◌, ◌^◌, ℕ}
-use Rattle.scrip_form.specs.Identities.{numbered}
 use Rattle.ledger_model.specs.declared.upgraded.Upgraded.{Upgraded}
 use Rattle.ledger_model.specs.Houses.{version_by}
 use Rattle.broker_core.specs.Moves.{moves_of}
@@ -7,9 +6,6 @@ use Rattle.house_state.specs.Trade.{BringsFor}
 use Rattle.vendor_stalls.proofs.HeldLaws.{piece_fits}
 use Rattle.broker_core.proofs.SaleLaws.{by_licence, made_brings, none_open, one_open, stock_brings, on_ok}
 use Rattle.broker_core.proofs.sale.sold_from.Goals as goal
-
-pub sold_under-requires-clause-number : goal.sold_under-requires-clause-number
-sold_under-requires-clause-number c = subst (λ (series : ℕ). numbered series c.count-count.result < 2 ^ 64) c.series_at.ensures.series c.count-count.ensures.number
 
 pub returns-in-Some-clause-deed : goal.returns-in-Some-clause-deed
 returns-in-Some-clause-deed c h shows =
