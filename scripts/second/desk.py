@@ -22,7 +22,7 @@ class Desk:
 
     def __init__(self):
         self.keys, self.put, self.taken, self.orders = {}, {}, {}, {}
-        self.licences, self.stock, self.sold = {}, {}, []
+        self.licences, self.stock, self.sold, self.licensed = {}, {}, [], {}
 
     def push(self, entry):
         if entry.kind == ACCOUNT:
@@ -52,7 +52,10 @@ class Desk:
         if errand and errand[0] == "credit" and entry.deed[0] == 2:
             add(self.put, errand[1], entry.price)
         elif errand and errand[0] == "buy" and entry.deed[0] == 1:
-            self.sold.append((errand[1], *entry.deed[1:]))
+            _, stock, ident = entry.deed
+            self.sold.append((errand[1], stock, ident))
+            if not stock:
+                add(self.licensed, (errand[1], series_of(ident)), 1)
 
     def balance(self, account):
         return max(0, self.put.get(account, 0) - self.taken.get(account, 0))
@@ -60,8 +63,7 @@ class Desk:
     def next_licensed(self, vendor, time, limit):
         """The identity of the next piece under a licence; None where its series is full."""
         terms = self.licences[vendor]
-        count = sum(of == vendor and not stock and series_of(ident) == terms.series(time)
-                    for of, stock, ident in self.sold)
+        count = self.licensed.get((vendor, terms.series(time)), 0)
         return id_of(terms.issuer, terms.epoch(time), count) if count < limit else None
 
     def for_sale(self, vendor, value, time):
