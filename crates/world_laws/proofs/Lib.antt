@@ -1,0 +1,4 @@
+pub mod Cutting
+pub mod Delivering
+pub mod LinkLemmas
+pub mod RequestLemmas

@@ -1,0 +1,9 @@
+//! What the program's houses and wallets do over disks and links, as events of a schedule of `world_model`: laws over
+//! the public clauses of serving links and of a wallet's commands.
+#![tactic(auto)]
+
+mod links;
+mod requests;
+
+pub use links::served_links_are_delivered;
+pub use requests::paying_is_asking_and_taking;
