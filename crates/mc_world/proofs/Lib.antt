@@ -1,0 +1,11 @@
+pub mod Fronts
+pub mod Told
+pub mod Did
+pub mod Delivering
+pub mod Opening
+pub mod Secrets
+pub mod Entered
+pub mod Wallets
+pub mod Draining
+pub mod Happening
+pub mod Playing
