@@ -3,13 +3,14 @@ import forms_verbs
 import ledger_verbs
 import market
 import replies
+import schedule
 import stage_verbs
 import wallet_verbs
 from bytes_text import CaseError, bytes_of, words_of
 from setting import Setting
 
 VERBS = {**stage_verbs.VERBS, **forms_verbs.VERBS, **ledger_verbs.VERBS,
-         **market.VERBS, **replies.VERBS, **wallet_verbs.VERBS}
+         **market.VERBS, **replies.VERBS, **schedule.VERBS, **wallet_verbs.VERBS}
 
 
 class Runner:
@@ -26,7 +27,7 @@ class Runner:
         """Does one line."""
         verb, _, rest = text.partition(" ")
         if verb == "case":
-            self.setting = Setting(self.names)
+            self.setting = Setting(self.names, self.setting.histories)
             self.print(text)
             return
         words = words_of(rest)
@@ -42,7 +43,7 @@ class Runner:
 
     def file(self, path):
         """Does the lines of a file; answers the number of the line that is wrong, and why."""
-        self.setting = Setting(self.names)
+        self.setting = Setting(self.names, self.setting.histories)
         try:
             with open(path, "rb") as f:
                 lines = f.read().decode("latin-1").split("\n")

@@ -10,14 +10,15 @@ NAME = re.compile("[a-z0-9_]+")
 
 
 class Setting:
-    """The next stage, the last one, limits, terms, an issuer and kept replies."""
+    """The next stage, the last one, limits, terms, an issuer, kept replies, and a schedule."""
 
-    def __init__(self, names):
-        self.names = names
+    def __init__(self, names, histories=None):
+        self.names, self.histories = names, {} if histories is None else histories
         self.book, self.links, self.clock = b"", [], []
         self.failing, self.beside = {"disk": [], "link": []}, []
         self.last, self.hand = None, None
         self.limits, self.terms, self.issuer, self.kept = FULL, None, None, None
+        self.houses, self.wallets, self.events = [], [], []
 
     def name(self, name, data):
         """Gives bytes a name, in place of an older one."""

@@ -24,6 +24,7 @@ pub use digest_verbs::terms;
 pub use fault::Fault;
 pub use journal_verbs::show_chain;
 pub use names::Names;
+pub use payload_verbs::show_entry;
 pub use show::Lines;
 pub use state::{Beside, Setting, State, show_beside, show_book, stage_of};
 pub use verbs::act;

@@ -47,13 +47,18 @@ fn payload(state: &State, args: &[&[u8]], out: &mut Lines) -> Result<(), Fault> 
             return Ok(());
         }
     };
-    out.start("payload");
-    show(&record, out);
-    out.end();
+    show_entry("payload", &record, out);
     if !is_written_so(state.alloc, &record, &bytes)? {
         return Err(Fault::Otherwise);
     }
     Ok(())
+}
+
+/// Prints the fields of an entry behind a verb.
+pub fn show_entry(verb: &str, record: &Record<'_>, out: &mut Lines) {
+    out.start(verb);
+    show(record, out);
+    out.end()
 }
 
 /// Whether both writers write these bytes of an entry, and none where a byte of room lacks.

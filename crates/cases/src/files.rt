@@ -1,27 +1,32 @@
 //! Files of cases, line by line.
 
+use crate::schedule_verbs::Schedules;
 use crate::{
     desk_verbs, ledger_verbs, market_verbs, operator_verbs, program_verbs, reply_verbs,
     wallet_verbs,
 };
 use case_lines::{Fault, Lines, State, number, tokens};
+use std::alloc::Global;
 
 /// How far a file was read.
-#[derive(Clone, Copy)]
+#[derive(Drop)]
 pub(crate) struct Progress {
     /// The number of the line that is read, from 1.
     pub(crate) line: u64,
     cases: u64,
     /// Whether the last line was read.
     has_ended: bool,
+    /// What the lines have said of schedules.
+    schedules: Schedules,
 }
 
 impl Progress {
-    pub(crate) fn new() -> Progress {
+    pub(crate) fn new(alloc: Global) -> Progress {
         Progress {
             line: 0,
             cases: 0,
             has_ended: false,
+            schedules: Schedules::new(alloc),
         }
     }
 
@@ -53,6 +58,7 @@ impl Progress {
         if let Some(what) = line.strip_prefix(b"case ") {
             self.cases = self.cases.saturating_add(1);
             state.forget();
+            self.schedules.forget(state.alloc);
             out.start("case");
             out.word(what);
             out.end();
@@ -65,7 +71,10 @@ impl Progress {
         if *verb == b"end".as_slice() {
             return self.finish(args);
         }
-        act(state, verb, args, out)
+        match self.schedules.act(state, verb, args, out) {
+            Some(done) => done,
+            None => act(state, verb, args, out),
+        }
     }
 
     /// The last line, which has the number of cases.

@@ -11,6 +11,7 @@ mod market_verbs;
 mod operator_verbs;
 mod program_verbs;
 mod reply_verbs;
+mod schedule_verbs;
 mod wallet_verbs;
 
 use case_lines::{Fault, Lines, State};
@@ -51,7 +52,7 @@ fn run_file(rt: &HostRuntime, state: &mut State, path: &str) -> io::Result<bool>
         return Ok(false);
     };
     let mut out = Lines::new(rt.alloc());
-    let mut progress = Progress::new();
+    let mut progress = Progress::new(rt.alloc());
     let done = progress.read(state, &text, &mut out);
     rt.stdout().write_all(out.text())?;
     match fault_of(done, out.is_whole()) {

@@ -104,7 +104,7 @@ pub(crate) fn slow_own_count(h: &Prefix<'_>, series: u64) -> Result<u64, NoMemor
 }
 
 /// How many bytes the journal of the entries has.
-pub(crate) fn slow_size(h: &Prefix<'_>) -> Result<u64, NoMemory>
+pub fn slow_size(h: &Prefix<'_>) -> Result<u64, NoMemory>
     ensures { IfOk result (λ all. all ≡ size h.now) }
 {
     let mut all = 9;

@@ -17,6 +17,7 @@ mod upgrades;
 
 pub use accounts::slow_balance;
 pub use chains::{slow_chain, slow_has_switch};
+pub use counts::slow_size;
 pub use filters::{
     moment_at, slow_fee, slow_is_broker, slow_is_spent, slow_name, slow_terms, slow_time,
 };
