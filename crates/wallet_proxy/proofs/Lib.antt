@@ -1,0 +1,12 @@
+pub mod KeptLemmas
+pub mod ChoiceLaws
+pub mod StepLaws
+pub mod CostLaws
+pub mod AgainLaws
+pub mod WayLaws
+pub mod AnswerLemmas
+pub mod ToldLemmas
+pub mod SettleLemmas
+pub mod PayLemmas
+pub mod ItemLemmas
+pub mod LinkLemmas
