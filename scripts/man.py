@@ -9,8 +9,8 @@ from pathlib import Path
 
 TOP = Path(__file__).resolve().parent.parent
 PAGE = TOP / "docs/millicent.1"
-# Crates that ask the ledger or a cases' line, and carry out no command.
-BESIDE = {"mc_records", "case_lines", "cases", "slow_ledger", "slow_sums", "slow_wallet"}
+# Crates that ask the ledger or a cases' line, play schedules, or have no command over them yet: they carry out none.
+BESIDE = {"mc_records", "case_lines", "cases", "slow_ledger", "slow_sums", "slow_wallet", "mc_world", "wallet_proxy"}
 
 HEAD = r""".\" Written by scripts/man.py from the tables of the program; not by hand.
 .TH MILLICENT 1 "" "Millicent" "User Commands"
