@@ -327,7 +327,7 @@ def kept(out, pool, grower, number):
 
 
 def schedules():
-    generated(500, Numbers(1906))
+    generated(2000, Numbers(1906))
 
 
 if __name__ == "__main__":
