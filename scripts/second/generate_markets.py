@@ -289,18 +289,24 @@ def grown(numbers, bank, vendors, steps):
             held += [(v, back[0])] if back else []
 
 
+def stalled(numbers):
+    """A bank with some fee, and two vendors with goods and the terms of an issuer."""
+    bank, vendors = Bank(fee=numbers.of((0, 1, 3))), [House(name, 0, terms(0, 0x81 + n, 0x91 + n))
+                                                     for n, name in enumerate((b"news.example", b"shop.example"))]
+    for v in vendors:
+        v.goods(b"/a", 3)
+        v.goods(b"/b", 20)
+        v.enter(TERMS, terms=TWO)
+    return bank, vendors
+
+
 def markets():
     out = Cases("Books of a broker and of vendors: their sums and the first stranger in them. First the books of an audit\n"
                 "and the cases at the edge, then markets in which this and that was done.")
     corner_cases(out)
     numbers = Numbers(17)
     for round in range(48):
-        bank, vendors = Bank(fee=numbers.of((0, 1, 3))), [House(name, 0, terms(0, 0x81 + n, 0x91 + n))
-                                                         for n, name in enumerate((b"news.example", b"shop.example"))]
-        for v in vendors:
-            v.goods(b"/a", 3)
-            v.goods(b"/b", 20)
-            v.enter(TERMS, terms=TWO)
+        bank, vendors = stalled(numbers)
         grown(numbers, bank, vendors, numbers.between(8, 30))
         market(out, "market %d" % round, bank, vendors, numbers.of(((0, 1, 2), (1, 0, 2), (2, 1, 0))))
     out.write("markets")

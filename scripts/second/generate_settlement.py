@@ -5,7 +5,7 @@ import io
 from cases import Runner
 from forms import epoch_of, issuer_of, read_scrip
 from generate import NAMES, NOW, Cases, Numbers, cut, raised
-from generate_markets import LIFE, ONE, PERIOD, TWO, Bank, House, grown, news, terms
+from generate_markets import LIFE, ONE, PERIOD, TWO, Bank, grown, news, stalled, terms
 from market import Book, first_stranger
 from payloads import ACCEPT, NOTE, TERMS
 from settlement import MOST_AMOUNT, PAY, STATED, Claim, redeemed, sold
@@ -286,12 +286,8 @@ def fairs(out):
               "paid, unless some piece of it was forged; again; and what the books say then.")
     numbers = Numbers(18)
     for round in range(24):
-        bank, vendors = Bank(fee=numbers.of((0, 1, 3))), [House(name, 0, terms(0, 0x81 + n, 0x91 + n))
-                                                         for n, name in enumerate((b"news.example", b"shop.example"))]
+        bank, vendors = stalled(numbers)
         for v in vendors:
-            v.goods(b"/a", 3)
-            v.goods(b"/b", 20)
-            v.enter(TERMS, terms=TWO)
             bank.license(v.name, TWO)
         grown(numbers, bank, vendors, numbers.between(30, 70))
         fair, time = Fair(), max(house.time for house in (bank, *vendors)) + 2 * (PERIOD + LIFE)

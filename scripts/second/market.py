@@ -125,15 +125,20 @@ def first_stranger(books):
     return next(((n, ident) for n, book in enumerate(books) for ident in strangers(broker, books, book)), None)
 
 
-def book_of(setting, word):
-    """The book that bytes encode."""
+def entries_of(setting, word):
+    """The entries of the book that bytes encode."""
     try:
         replay, entries = Replay(Stage(data(setting, word))), []
         while read := replay.next():
             entries.append(read[1])
     except (NotJournal, BadEntry, BadChain):
         raise CaseError("the book encodes no history")
-    return Book(entries)
+    return entries
+
+
+def book_of(setting, word):
+    """The book that bytes encode."""
+    return Book(entries_of(setting, word))
 
 
 def do_sums(setting, words):

@@ -3,13 +3,12 @@ from bytes_text import CaseError, digest, shown
 from forms import MOMENTS, MOST_VALUE, Fault, is_name, is_target
 from heads import MOST_ITEMS, next_item
 from house import House
-from journal import BadChain, BadEntry, NotJournal, Replay
 from ledger import History, first_unlawful, follow, journal_full
+from market import entries_of
 from payloads import ACCEPT, DONE, DRAW, PEND, REFUSED, SITE, entry_line, entry_of, read_entry
 from refusals import Refusal
 from replies import Reply, next_reply
 from setting import U32, data, number, of_length, up_to
-from stage import Stage
 from wallet import WalletBook, check
 from wallet_verbs import first_against, pended
 
@@ -166,17 +165,6 @@ def play(houses, wallets, limits, events):
 
 
 # ---- lines
-
-
-def entries_of(setting, word):
-    """The entries of the book that bytes encode."""
-    try:
-        replay, entries = Replay(Stage(data(setting, word))), []
-        while read := replay.next():
-            entries.append(read[1])
-    except (NotJournal, BadEntry, BadChain):
-        raise CaseError("the book encodes no history")
-    return entries
 
 
 def do_history(setting, words):
