@@ -87,14 +87,14 @@ def commands():
     """Of each command that is carried out: its words, and what it is for."""
     table, written = source("crates/command_table/src/table.rt"), parameters()
     docs = documented(part(table, "pub enum CommandName {", "\n}", "table.rt"), r"(\w+),", "table.rt")
-    rows = re.findall(r'CommandName::(\w+) => (done|to_come)\(\s*"(\w+)",\s*"(\w+)",\s*&\[(.*?)\],?\s*\),', table, re.S)
+    rows = re.findall(r'CommandName::(\w+) => (done|beside|to_come)\(\s*"(\w+)",\s*"(\w+)",\s*&\[(.*?)\],?\s*\),', table, re.S)
     if [row[0] for row in rows] != [name for name, _ in docs]:
         fail("table.rt: the commands and their rows are not the same")
     docs = dict(docs)
     return [
         (" ".join(["millicent", role, name, *(written[it] for it in re.findall(r"\w+", words))]), docs[command])
         for command, kind, role, name, words in rows
-        if kind == "done"
+        if kind != "to_come"
     ]
 
 
@@ -139,6 +139,10 @@ def line_of(text, name, body):
         literal = re.search(r'b"([^"\\]*)"', put)
         if literal:
             parts.append(literal[1])
+        elif "links" in put:
+            parts.append("LINKS")
+        elif "paid" in put:
+            parts.append("PAID")
         elif "refusal" in put:
             parts.append("NUMBER NAME [VALUE..]")
         elif "name" in put:

@@ -31,6 +31,7 @@ unopened_grew : {O : Type 0} (link : O → LinkView) (disk : O → DiskView) (pa
 unopened_grew link disk passes kind bytes a b ends.Done not = absurd not
 unopened_grew link disk passes kind bytes a b (ends.Served n) not = absurd not
 unopened_grew link disk passes kind bytes a b (ends.Founded name) not = absurd not
+unopened_grew link disk passes kind bytes a b (ends.Proxied n paid) not = absurd not
 unopened_grew link disk passes kind bytes a b (ends.Did line) not = absurd not
 unopened_grew link disk passes kind bytes a b ends.BadWords not = absurd not
 unopened_grew link disk passes kind bytes a b (ends.Stranger name id) not = absurd not
@@ -48,6 +49,7 @@ links_grew : {O : Type 0} (link : O → LinkView) (disk : O → DiskView) (kind 
 links_grew link disk kind links bytes a b ends.Done calm causes served = absurd served
 links_grew link disk kind links bytes a b (ends.Served n) calm causes served = causes.1.0
 links_grew link disk kind links bytes a b (ends.Founded name) calm causes served = absurd served
+links_grew link disk kind links bytes a b (ends.Proxied n paid) calm causes served = absurd served
 links_grew link disk kind links bytes a b (ends.Did line) calm causes served = absurd served
 links_grew link disk kind links bytes a b ends.BadWords calm causes served = absurd served
 links_grew link disk kind links bytes a b (ends.Stranger name id) calm causes served = absurd served
@@ -87,6 +89,7 @@ only_memory : {O : Type 0} (link : O → LinkView) (disk : O → DiskView) (pass
 only_memory link disk passes kind Own h bytes a b ends.Done st lawful pass of_kind calm causes not = absurd not
 only_memory link disk passes kind Own h bytes a b (ends.Served n) st lawful pass of_kind calm causes not = absurd not
 only_memory link disk passes kind Own h bytes a b (ends.Founded name) st lawful pass of_kind calm causes not = absurd not
+only_memory link disk passes kind Own h bytes a b (ends.Proxied n paid) st lawful pass of_kind calm causes not = absurd not
 only_memory link disk passes kind Own h bytes a b (ends.Did line) st lawful pass of_kind calm causes not = absurd not
 only_memory link disk passes kind Own h bytes a b ends.BadWords st lawful pass of_kind calm causes not = absurd not
 only_memory link disk passes kind Own h bytes a b (ends.Stranger name id) st lawful pass of_kind calm causes not = absurd not
@@ -107,6 +110,7 @@ init_well link disk a b (ends.Refused f) calm causes = inr (inr refl)
 init_well link disk a b ends.DiskFault calm causes = absurd (calm.disk' causes)
 init_well link disk a b ends.Done calm causes = absurd causes
 init_well link disk a b (ends.Served n) calm causes = absurd causes
+init_well link disk a b (ends.Proxied n paid) calm causes = absurd causes
 init_well link disk a b (ends.Did line) calm causes = absurd causes
 init_well link disk a b ends.LinkFault calm causes = absurd causes
 init_well link disk a b ends.BadWords calm causes = absurd causes
@@ -121,6 +125,7 @@ links_well : {O : Type 0} (link : O → LinkView) (disk : O → DiskView) (kind 
 links_well link disk kind links bytes a b ends.Done calm causes served = inl refl
 links_well link disk kind links bytes a b (ends.Served n) calm causes served = inl refl
 links_well link disk kind links bytes a b (ends.Founded name) calm causes served = inl refl
+links_well link disk kind links bytes a b (ends.Proxied n paid) calm causes served = inl refl
 links_well link disk kind links bytes a b (ends.Did line) calm causes served = inl refl
 links_well link disk kind links bytes a b ends.NoMemory calm causes served = inr refl
 links_well link disk kind links bytes a b ends.DiskFault calm causes served = absurd (calm.disk' causes)
@@ -143,6 +148,7 @@ did_well : {O : Type 0} (link : O → LinkView) (disk : O → DiskView) (operati
 did_well link disk operation input h task a b ends.Done calm causes did = inl refl
 did_well link disk operation input h task a b (ends.Served n) calm causes did = inl refl
 did_well link disk operation input h task a b (ends.Founded name) calm causes did = inl refl
+did_well link disk operation input h task a b (ends.Proxied n paid) calm causes did = inl refl
 did_well link disk operation input h task a b (ends.Did line) calm causes did = inl refl
 did_well link disk operation input h task a b ends.NoMemory calm causes did = inr (inl refl)
 did_well link disk operation input h task a b (ends.Refused f) calm causes did = inr (inr refl)

@@ -151,6 +151,7 @@ unchanged before task h ends.DiskFault image is = ⊎_elim (λ l. inl l) (λ st.
 unchanged before task h ends.Done image is = is
 unchanged before task h (ends.Served n) image is = is
 unchanged before task h (ends.Founded name) image is = is
+unchanged before task h (ends.Proxied n paid) image is = is
 unchanged before task h ends.BadWords image is = is
 unchanged before task h (ends.Stranger name id) image is = is
 unchanged before task h ends.NotJournal image is = is
@@ -252,6 +253,7 @@ pub causes_opened : {O : Type 0} (link : O → LinkView) (disk : O → DiskView)
 causes_opened link disk operation a x ends.Done b same links causes = absurd causes.1
 causes_opened link disk operation a x (ends.Served n) b same links causes = absurd causes.1
 causes_opened link disk operation a x (ends.Founded name) b same links causes = absurd causes.1
+causes_opened link disk operation a x (ends.Proxied n paid) b same links causes = absurd causes.1
 causes_opened link disk operation a x (ends.Did line) b same links causes = (causes.0 ∙ same, subst (λ (v : LinkView). IsReady operation v (link b)) links causes.1)
 causes_opened link disk operation a x ends.BadWords b same links causes = absurd causes.1
 causes_opened link disk operation a x (ends.Stranger name id) b same links causes = absurd causes.1

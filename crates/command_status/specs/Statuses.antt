@@ -3,11 +3,12 @@ use Rattle.std.specs.Prelude.{ℕ, List, [], ◌++◌, codes, decimal}
 use Rattle.scrip_form.specs.Scrip.{id_digits}
 use Rattle.mc_records.specs.Refusals.{refusal_text}
 use Rattle.command_status.specs.declared.status.Status.{Status}
-use Rattle.command_status.specs.declared.status.Status.TheVariants.{Done, Served, Founded, Did, BadWords, NotJournal, BadEntry, BadChain, UnlawfulEntry, DiskFault, NoMemory, LinkFault, Refused, Stranger}
+use Rattle.command_status.specs.declared.status.Status.TheVariants.{Done, Served, Proxied, Founded, Did, BadWords, NotJournal, BadEntry, BadChain, UnlawfulEntry, DiskFault, NoMemory, LinkFault, Refused, Stranger}
 
 abbrev pub number_of : Status → ℕ
 number_of Done = 0
 number_of (Served links) = 0
+number_of (Proxied links paid) = 0
 number_of (Founded name) = 0
 number_of (Did line) = 0
 number_of BadWords = 2
@@ -24,6 +25,7 @@ number_of (Stranger name id) = 8
 abbrev pub line_of : Status → List ℕ
 line_of Done = []
 line_of (Served links) = codes "served " ++ decimal links ++ codes "\n"
+line_of (Proxied links paid) = codes "proxied " ++ decimal links ++ codes " " ++ decimal paid ++ codes "\n"
 line_of (Founded name) = codes "founded " ++ name ++ codes "\n"
 line_of (Did line) = line
 line_of BadWords = codes "bad words\n"

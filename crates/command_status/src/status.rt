@@ -1,7 +1,7 @@
 //! The statuses that the program ends with.
 
 ghost use Rattle.std.specs.Prelude.{◌≡◌, ◌+◌, ◌≤◌, ◌++◌, length, take, codes, decimal};
-ghost use Rattle.command_status.specs.declared.status.Status.TheVariants.{Refused, Stranger};
+ghost use Rattle.command_status.specs.declared.status.Status.TheVariants.{Proxied, Refused, Stranger};
 ghost use Rattle.command_status.specs.Statuses.{number_of, line_of, IsMade};
 
 use mc_base::List;
@@ -16,6 +16,8 @@ pub enum Status {
     Done,
     /// So many links were served.
     Served(u32),
+    /// So many links of a browser were served, and so much was paid.
+    Proxied(u32, u64),
     /// A site of this name was founded.
     Founded(Name),
     /// What was asked for was done. This is said of it.
@@ -42,7 +44,11 @@ impl Status {
         ensures { result ≡ number_of self.now }
     {
         match self {
-            Status::Done | Status::Served(_) | Status::Founded(_) | Status::Did(_) => 0,
+            Status::Done
+            | Status::Served(_)
+            | Status::Proxied(..)
+            | Status::Founded(_)
+            | Status::Did(_) => 0,
             Status::BadWords => 2,
             Status::NotJournal
             | Status::BadEntry(_)
@@ -75,6 +81,7 @@ impl Status {
         match self {
             Status::Done | Status::Did(_) => 0,
             Status::Served(links) => put_numbered(out, b"served ", u64::from(*links)),
+            Status::Proxied(links, paid) => put_proxied(out, *links, *paid),
             Status::Founded(name) => put_named(out, name),
             Status::BadWords => put(out, 0, b"bad words\n"),
             Status::NotJournal => put(out, 0, b"not a journal\n"),
@@ -98,6 +105,17 @@ fn put_numbered(out: &mut [u8; 256], words: &[u8], number: u64) -> usize
 {
     let at = put(out, 0, words);
     let at = put_number(out, at, number);
+    put(out, at, b"\n")
+}
+
+fn put_proxied(out: &mut [u8; 256], links: u32, paid: u64) -> usize
+    ensures within { result ≤ 256 }
+    ensures line { take result out.new ≡ line_of (Proxied links paid) }
+{
+    let at = put(out, 0, b"proxied ");
+    let at = put_number(out, at, u64::from(links));
+    let at = put(out, at, b" ");
+    let at = put_number(out, at, paid);
     put(out, at, b"\n")
 }
 

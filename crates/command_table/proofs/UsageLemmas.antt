@@ -7,7 +7,7 @@ use Rattle.command_table.specs.Table.{form_of}
 use Rattle.command_table.specs.Usage.{names_behind, next_name}
 
 -- with the name of the next of some commands
-pub name_behind : (before : Option CommandName) (cs : List CommandName) (k : ℕ) (d : CommandName) (written whole : Text) → k < length cs → (form_of (get_or cs k d)).carried_out ≡ true
+pub name_behind : (before : Option CommandName) (cs : List CommandName) (k : ℕ) (d : CommandName) (written whole : Text) → k < length cs → (form_of (get_or cs k d)).offered ≡ true
     → written ++ names_behind before (drop k cs) ≡ whole → (written ++ next_name before (form_of (get_or cs k d))) ++ names_behind (Some (get_or cs k d)) (drop (k + 1) cs) ≡ whole
 unfolding names_behind
 name_behind before cs k d written whole lt is e =
@@ -18,7 +18,7 @@ name_behind before cs k d written whole lt is e =
     ∙ e
 
 -- and where it is not carried out
-pub none_behind : (before : Option CommandName) (cs : List CommandName) (k : ℕ) (d : CommandName) (written whole : Text) → k < length cs → (form_of (get_or cs k d)).carried_out ≡ false
+pub none_behind : (before : Option CommandName) (cs : List CommandName) (k : ℕ) (d : CommandName) (written whole : Text) → k < length cs → (form_of (get_or cs k d)).offered ≡ false
     → written ++ names_behind before (drop k cs) ≡ whole → written ++ names_behind before (drop (k + 1) cs) ≡ whole
 unfolding names_behind
 none_behind before cs k d written whole lt is e =

@@ -8,18 +8,24 @@ use Rattle.command_table.specs.declared.table.CommandName.{CommandName}
 use Rattle.command_table.specs.declared.table.CommandName.TheVariants as names
 use Rattle.command_table.specs.Values.{AreFound, ValuesOf, rules_of}
 
--- how the words of a command are: its role, its name, and its parameters; and whether it is carried out
+-- How the words of a command are: its role, its name, and its parameters; whether it is carried out over one outside; and
+-- whether the program carries it out at all.
 pub record CommandForm : Type 0 where
   pub role : Text
   pub name : Text
   pub parameters : List Parameter
   pub carried_out : Bool
+  pub offered : Bool
 
 abbrev pub done : Text → Text → List Parameter → CommandForm
-done role name parameters = record { role = role; name = name; parameters = parameters; carried_out = true }
+done role name parameters = record { role = role; name = name; parameters = parameters; carried_out = true; offered = true }
+
+-- one that is carried out with links of two sides
+abbrev pub beside : Text → Text → List Parameter → CommandForm
+beside role name parameters = record { role = role; name = name; parameters = parameters; carried_out = false; offered = true }
 
 abbrev pub to_come : Text → Text → List Parameter → CommandForm
-to_come role name parameters = record { role = role; name = name; parameters = parameters; carried_out = false }
+to_come role name parameters = record { role = role; name = name; parameters = parameters; carried_out = false; offered = false }
 
 unfoldable pub form_of : CommandName → CommandForm
 form_of names.VendorInit = done (codes "vendor") (codes "init") (Book ∷ Name ∷ Period ∷ Life ∷ Scrip ∷ Customer ∷ Keep ∷ Clear ∷ [])
@@ -53,7 +59,7 @@ form_of names.WalletRetry = done (codes "wallet") (codes "retry") (Book ∷ Peer
 form_of names.WalletList = done (codes "wallet") (codes "list") (Book ∷ [])
 form_of names.WalletLines = done (codes "wallet") (codes "lines") (Book ∷ Vendor ∷ [])
 form_of names.WalletChain = done (codes "wallet") (codes "chain") (Book ∷ [])
-form_of names.WalletProxy = to_come (codes "wallet") (codes "proxy") (Book ∷ Vendor ∷ Limit ∷ Budget ∷ Listen ∷ Connect ∷ Links ∷ [])
+form_of names.WalletProxy = beside (codes "wallet") (codes "proxy") (Book ∷ Vendor ∷ Limit ∷ Budget ∷ Listen ∷ Connect ∷ Links ∷ [])
 form_of names.WalletRenew = done (codes "wallet") (codes "renew") (Book ∷ Vendor ∷ Target ∷ Before ∷ Connect ∷ [])
 form_of names.AuditReport = done (codes "audit") (codes "report") (Books ∷ Json ∷ [])
 form_of names.AuditChain = done (codes "audit") (codes "chain") (Books ∷ [])

@@ -129,27 +129,48 @@ pub static COMMANDS: [CommandName; 36] = [
     CommandName::AuditTree,
 ];
 
-/// How the words of a command are: its role, its name, and its parameters; and whether it is carried out.
+/// How the words of a command are: its role, its name, and its parameters; whether the program carries it out; and whether
+/// it does so over one outside, as it does all but one.
 #[derive(Clone, Copy)]
 pub(crate) struct CommandForm {
     pub(crate) role: &'static str,
     pub(crate) name: &'static str,
     pub(crate) parameters: &'static [Parameter],
     pub(crate) carried_out: bool,
+    pub(crate) offered: bool,
 }
 
-/// A row of the table, of a command that is carried out.
+/// A row of the table, of a command that is carried out over one outside.
 fn done(role: &'static str, name: &'static str, parameters: &'static [Parameter]) -> CommandForm
     ensures role { result.role.now ≡ role.now }
     ensures name { result.name.now ≡ name.now }
     ensures parameters { result.parameters.now ≡ parameters.now }
     ensures carried_out { result.carried_out ≡ true }
+    ensures offered { result.offered ≡ true }
 {
     CommandForm {
         role,
         name,
         parameters,
         carried_out: true,
+        offered: true,
+    }
+}
+
+/// A row of one that is carried out with links of two sides.
+fn beside(role: &'static str, name: &'static str, parameters: &'static [Parameter]) -> CommandForm
+    ensures role { result.role.now ≡ role.now }
+    ensures name { result.name.now ≡ name.now }
+    ensures parameters { result.parameters.now ≡ parameters.now }
+    ensures carried_out { result.carried_out ≡ false }
+    ensures offered { result.offered ≡ true }
+{
+    CommandForm {
+        role,
+        name,
+        parameters,
+        carried_out: false,
+        offered: true,
     }
 }
 
@@ -159,21 +180,23 @@ fn to_come(role: &'static str, name: &'static str, parameters: &'static [Paramet
     ensures name { result.name.now ≡ name.now }
     ensures parameters { result.parameters.now ≡ parameters.now }
     ensures carried_out { result.carried_out ≡ false }
+    ensures offered { result.offered ≡ false }
 {
     CommandForm {
         role,
         name,
         parameters,
         carried_out: false,
+        offered: false,
     }
 }
 
 impl CommandName {
-    /// Whether it is carried out.
-    pub fn is_carried_out(self) -> bool
-        ensures { result ≡ (form_of self).carried_out }
+    /// Whether the program carries it out.
+    pub fn is_offered(self) -> bool
+        ensures { result ≡ (form_of self).offered }
     {
-        self.form().carried_out
+        self.form().offered
     }
 
     /// The row of the command in the table.
@@ -183,6 +206,7 @@ impl CommandName {
         ensures name { result.name.now ≡ (form_of self).name }
         ensures parameters { result.parameters.now ≡ (form_of self).parameters }
         ensures carried_out { result.carried_out ≡ (form_of self).carried_out }
+        ensures offered { result.offered ≡ (form_of self).offered }
     {
         match self {
             CommandName::VendorInit => done(
@@ -252,7 +276,7 @@ impl CommandName {
             CommandName::WalletList => done("wallet", "list", &[Book]),
             CommandName::WalletLines => done("wallet", "lines", &[Book, Vendor]),
             CommandName::WalletChain => done("wallet", "chain", &[Book]),
-            CommandName::WalletProxy => to_come(
+            CommandName::WalletProxy => beside(
                 "wallet",
                 "proxy",
                 &[Book, Vendor, Limit, Budget, Listen, Connect, Links],

@@ -28,7 +28,7 @@ fn done(named: Option<CommandName>) -> Option<CommandName>
     ensures { result ≡ done_of named }
 {
     match named {
-        Some(name) if name.form().carried_out => Some(name),
+        Some(name) if name.form().offered => Some(name),
         _ => None,
     }
 }
@@ -117,7 +117,7 @@ impl fmt::Display for AllCommands {
     fn fmt<W: fmt::Write>(&self, f: &mut fmt::Formatter<W>) -> fmt::Result {
         let mut before = None;
         for name in &COMMANDS {
-            if name.form().carried_out {
+            if name.form().offered {
                 let next = NextName {
                     before,
                     name: *name,

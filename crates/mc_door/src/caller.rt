@@ -10,8 +10,8 @@ mod tests;
 /// How many seconds a connection may take to be made at one address.
 const CONNECTING: u64 = 10;
 
-/// How many seconds the link may move no byte.
-const PATIENCE: u64 = 30;
+/// How many seconds a link may move no byte.
+pub(crate) const PATIENCE: u64 = 30;
 
 /// The one link over a connection that is made to an address as the link is asked for; no more come. Where no
 /// connection can be made there, none comes at all: the host is not known, refuses, or is not reached within ten
@@ -59,7 +59,7 @@ impl<'a, R: Net> Source for Caller<'a, R> {
         if self.called {
             return Ok(false);
         }
-        let called = connection(self.rt, self.address)?;
+        let called = connection(self.rt, self.address, Duration::from_secs(CONNECTING))?;
         self.called = true;
         match called {
             Called::Taken(stream, peer) => {
@@ -111,15 +111,19 @@ impl<'a, R: Net> Source for Caller<'a, R> {
 
 /// How a call of an address went.
 #[derive(Drop)]
-enum Called<S> {
+pub(crate) enum Called<S> {
     /// This host took the connection.
     Taken(S, SocketAddr),
     /// No host did, and why.
     NotTaken(io::Error),
 }
 
-/// A connection to the first of the address's hosts that takes one.
-fn connection<R: Net>(rt: &R, address: &str) -> io::Result<Called<R::Stream>> {
+/// A connection to the first of the address's hosts that takes one in so much time.
+pub(crate) fn connection<R: Net>(
+    rt: &R,
+    address: &str,
+    time: Duration,
+) -> io::Result<Called<R::Stream>> {
     let hosts = match address.to_socket_addrs(rt) {
         Ok(hosts) => hosts,
         Err(e) if is_unknown(&e) => return Ok(Called::NotTaken(e)),
@@ -128,7 +132,7 @@ fn connection<R: Net>(rt: &R, address: &str) -> io::Result<Called<R::Stream>> {
     let mut reason = ErrorKind::AddrNotAvailable.into();
     let mut fault = None;
     for host in hosts {
-        match rt.connect_timeout(host, Duration::from_secs(CONNECTING)) {
+        match rt.connect_timeout(host, time) {
             Ok(stream) => return Ok(Called::Taken(patient(stream)?, host)),
             Err(e) if is_out_of_reach(e.kind()) => reason = e,
             Err(e) => fault = Some(e),

@@ -48,7 +48,7 @@ rose_at_end a b c line v w true is_b is_c said rose = let same : w.faults ≡ v.
 rose_at_end a b c line v w false is_b is_c said rose = omega (arith, rose, is_b, is_c, (said_in_part line v w said).rose)
 
 -- where no call failed, the line was said, and the number is the status's
-number_stays : (line : List ℕ) (v w : LinkView) (whole : Bool) (n : ℕ) → (Rose v.faults w.faults → ⊥) → Says line whole v w → answered whole n ≡ n
+pub number_stays : (line : List ℕ) (v w : LinkView) (whole : Bool) (n : ℕ) → (Rose v.faults w.faults → ⊥) → Says line whole v w → answered whole n ≡ n
 number_stays line v w true n calm said = refl
 number_stays line v w false n calm said = absurd (calm (said_in_part line v w said).rose)
 
@@ -57,7 +57,7 @@ readings_stay : (line : List ℕ) (v w : LinkView) (whole : Bool) → Says line 
 readings_stay line v w true said = ap (λ (u : LinkView). u.readings) said
 readings_stay line v w false said = ap (λ (u : LinkView). u.readings) (said_in_part line v w said).same
 
-is_calm : {O : Type 0} (link : O → LinkView) (disk : O → DiskView) (a b c : O) (status : Status) (number : ℕ) → Ends link disk status b c number
+pub is_calm : {O : Type 0} (link : O → LinkView) (disk : O → DiskView) (a b c : O) (status : Status) (number : ℕ) → Ends link disk status b c number
     → (Rose (disk a).faults (disk c).faults → ⊥) → (Rose (link a).faults (link c).faults → ⊥) → Calm link disk a b
 is_calm link disk a b c status number ends no_disk no_link = record {
   disk' = λ rose. no_disk (subst (λ (n : ℕ). Rose (disk a).faults n) (sym ends.keeps.faults) rose);
@@ -105,6 +105,7 @@ once_well : (shop : Shop) (v w : LinkView) (status : Status) → (Rose v.faults 
 once_well shop v w ends.Done calm served = inl refl
 once_well shop v w (ends.Served n) calm served = inl refl
 once_well shop v w (ends.Founded name) calm served = inl refl
+once_well shop v w (ends.Proxied n paid) calm served = inl refl
 once_well shop v w (ends.Did line) calm served = inl refl
 once_well shop v w ends.NoMemory calm served = inr refl
 once_well shop v w ends.LinkFault calm served = absurd (calm served.rose)
@@ -123,6 +124,7 @@ play_well count ends.NoMemory told = inr refl
 play_well count ends.Done told = absurd told
 play_well count (ends.Served n) told = absurd told
 play_well count (ends.Founded name) told = absurd told
+play_well count (ends.Proxied n paid) told = absurd told
 play_well count ends.LinkFault told = absurd told
 play_well count ends.BadWords told = absurd told
 play_well count (ends.Stranger name id) told = absurd told
@@ -152,7 +154,7 @@ without_memory link disk book (commands.Chains chained) a c xs number is = inr i
 without_memory link disk book (commands.Tree tree) a c xs number is = inr (inl is)
 
 -- want of memory stays want of memory where the line can't be said
-memory_stays : (whole : Bool) → answered whole 5 ≡ 5
+pub memory_stays : (whole : Bool) → answered whole 5 ≡ 5
 memory_stays true = refl
 memory_stays false = refl
 

@@ -1,4 +1,5 @@
 mod ReadLemmas
 mod SayLemmas
 mod RefusedLemmas
+mod ProxyLemmas
 pub mod CompleteLemmas

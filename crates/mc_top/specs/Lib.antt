@@ -3,3 +3,4 @@ pub mod Saying
 pub mod Wallets
 pub mod Refusals
 pub mod Programs
+pub mod Proxying

@@ -6,6 +6,8 @@ use Rattle.wallet_words.specs.declared.wallet_operation.WalletOperation.{WalletO
 use Rattle.mc_words.specs.Commands.{AreOfNoRow, AreWords}
 use Rattle.site_words.specs.Commands.{book_of, broker_book_of}
 use Rattle.wallet_words.specs.Commands.{connect_of, wallet_book_of}
+use Rattle.wallet_words.specs.declared.proxying.Proxying.{Proxying}
+use Rattle.wallet_words.specs.Proxying.{AreProxyWords, AreNoProxyWords}
 use Rattle.site_words.specs.declared.serving.Server.{Server}
 use Rattle.mc_top.specs.declared.named.Places.{Places}
 
@@ -53,6 +55,15 @@ places_of (Report reporting) = audited_places reporting.books
 places_of (Chains chained) = audited_places chained.books
 places_of (Tree tree) = audited_places tree.books
 
--- the places of the command that the words are of, or none where they are of none
+-- the book of a wallet, where the browser's links come, and where those to the vendor go
+abbrev pub proxied_places : Proxying → Places
+proxied_places p = record { site = Some p.book; founds = false; books = []; listen = Some p.listen; connect = Some p.connect }
+
+-- the places of a wallet that pays for what a browser asks, or none where the words are other ones
+abbrev pub AreProxyPlaces : List (List ℕ) → Places → Type 0
+AreProxyPlaces words places = ((p : Proxying) × AreProxyWords words p × (places ≡ proxied_places p)) ⊎ (AreNoProxyWords words × (places ≡ no_places))
+
+-- The places of the command that the words are of; or, where they are of none that `run` carries out, of a wallet that pays
+-- for what a browser asks.
 abbrev pub ArePlaces : List (List ℕ) → Places → Type 0
-ArePlaces words places = ((c : Command) × AreWords words c × (places ≡ places_of c)) ⊎ (AreOfNoRow words × (places ≡ no_places))
+ArePlaces words places = ((c : Command) × AreWords words c × (places ≡ places_of c)) ⊎ (AreOfNoRow words × AreProxyPlaces words places)

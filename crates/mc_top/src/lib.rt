@@ -4,10 +4,12 @@
 mod named;
 mod naming;
 mod program;
+mod proxying;
 mod wallet;
 mod whole_link;
 
 pub use named::Places;
 pub use naming::places;
 pub use program::{Ran, run};
+pub use proxying::{proxy_words_are_of_no_row, run_proxy};
 pub use whole_link::once;

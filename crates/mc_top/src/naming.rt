@@ -1,15 +1,16 @@
 ghost use Rattle.std.specs.Prelude.{◌≡◌, map, string_bytes, IfOk};
-ghost use Rattle.mc_top.specs.Places.{ArePlaces, audited_places, founded_places, no_places, operated_places, served_places, wallet_places};
+ghost use Rattle.mc_top.specs.Places.{ArePlaces, AreProxyPlaces, audited_places, founded_places, no_places, operated_places, proxied_places, served_places, wallet_places};
 
 use crate::named::Places;
 use mc_base::{List, NoMemory};
 use mc_words::{Command, command_of};
 use site_words::Server;
 use std::alloc::Global;
-use wallet_words::WalletOperation;
+use wallet_words::{Proxying, WalletOperation, proxying_of};
 
 /// Tells what the words, those after the program's name, name: None, or no books, where they are of no
-/// command, or their command names none such.
+/// command, or their command names none such. The words of `run_proxy` name a book, and both a place to listen at and one to
+/// connect to.
 pub fn places(alloc: Global, words: &[String]) -> Result<Places, NoMemory>
     ensures { IfOk result (ArePlaces (map string_bytes words.now)) }
 {
@@ -28,8 +29,31 @@ pub fn places(alloc: Global, words: &[String]) -> Result<Places, NoMemory>
         Some(Command::Tree(tree)) => audited(alloc, tree.books.list()),
         Some(Command::Once(_)) => Ok(nowhere(alloc)),
         Some(Command::Play(_)) => Ok(nowhere(alloc)),
+        None => proxied(alloc, words),
+    }
+}
+
+/// The places of words that are of no command of `run`: those of a wallet that pays for what a browser asks, or none.
+fn proxied(alloc: Global, words: &[String]) -> Result<Places, NoMemory>
+    ensures { IfOk result (AreProxyPlaces (map string_bytes words.now)) }
+{
+    match proxying_of(alloc, words)? {
+        Some(proxying) => proxy_places(alloc, &proxying),
         None => Ok(nowhere(alloc)),
     }
+}
+
+/// The places of a wallet that pays for what a browser asks.
+fn proxy_places(alloc: Global, proxying: &Proxying<'_>) -> Result<Places, NoMemory>
+    ensures { IfOk result (λ places. places ≡ proxied_places proxying.now) }
+{
+    Ok(Places {
+        site: Some(list_of(alloc, proxying.book())?),
+        founds: false,
+        books: List::of(Vec::new(alloc)),
+        listen: Some(list_of(alloc, proxying.listen())?),
+        connect: Some(list_of(alloc, proxying.connect())?),
+    })
 }
 
 /// The places of words that name none. It takes no memory.

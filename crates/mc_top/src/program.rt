@@ -293,7 +293,7 @@ fn play(alloc: Global, playing: &Playing) -> Status
 
 /// Says the line of a status, where it has one, and answers its number; 6 in the place of 0 where the line
 /// could not be said.
-fn end<O: Outside>(out: O, status: Status) -> (O, u8)
+pub(crate) fn end<O: Outside>(out: O, status: Status) -> (O, u8)
     ensures ends { Ends O.link O.disk status out result.0 result.1 }
     ensures number { (result.1 ≡ 2) ↔ (number_of status ≡ 2) }
 {

@@ -8,12 +8,12 @@ use Rattle.mc_words.specs.declared.wrong.WrongWord.TheVariants.{Word, Place}
 use Rattle.command_table.specs.Beginning.{MayBegin}
 use Rattle.command_table.specs.Secrets.{ReadSecrets}
 
--- This command is carried out, and its words may begin with these.
+-- The program carries this command out, and its words may begin with these.
 pub record GoOnAs (name : CommandName) (words : List Text) : Type 0 where
-  pub carried_out : (form_of name).carried_out ≡ true
+  pub offered : (form_of name).offered ≡ true
   pub begin : MayBegin name words
 
--- The words of a command that is carried out may begin with these.
+-- The words of a command that the program carries out may begin with these.
 abbrev pub GoOn : List Text → Type 0
 GoOn words = (name : CommandName) × GoOnAs name words
 

@@ -53,7 +53,7 @@ fn first_wrong(alloc: Global, words: &[String]) -> Result<Option<usize>, AllocEr
     Ok(None)
 }
 
-/// Whether the words of a command that is carried out may begin with these.
+/// Whether the words of a command that the program carries out may begin with these.
 fn go_on(alloc: Global, words: &[String]) -> Result<bool, AllocError>
     ensures { IfOk result (λ r. IsTrue r ↔ GoOn (map string_bytes words.now)) }
 {
@@ -65,11 +65,11 @@ fn go_on(alloc: Global, words: &[String]) -> Result<bool, AllocError>
     Ok(false)
 }
 
-/// Whether this command is carried out, and its words may begin with these.
+/// Whether the program carries this command out, and its words may begin with these.
 fn go_on_as(alloc: Global, name: CommandName, words: &[String]) -> Result<bool, AllocError>
     ensures { IfOk result (λ r. IsTrue r ↔ GoOnAs name (map string_bytes words.now)) }
 {
-    if !name.is_carried_out() {
+    if !name.is_offered() {
         return Ok(false);
     }
     may_begin(alloc, name, words)

@@ -25,8 +25,8 @@ use endings::{tell_clear, tell_fault, tell_no_bytes};
 use entries::latest_moment;
 use input_faults::tell_bad_line;
 use mc_base::{List, NoMemory};
-use mc_door::{call, listen};
-use mc_top::{Places, places, run};
+use mc_door::{call, call_each, listen};
+use mc_top::{Places, places, run, run_proxy};
 use passed::Passed;
 use pending_draws::tell_pending_draws;
 use settling::tell_reply;
@@ -96,8 +96,9 @@ fn words(alloc: Global, rt: &HostRuntime) -> Result<Vec<String>, NoWords> {
 }
 
 /// Opens what the words name, does what they say, and answers the status. A book that is missing is made
-/// only where the command founds it. Where a place to connect to is named the one link goes there; where there is none,
-/// nor a place to listen at, standard input and output are the one link.
+/// only where the command founds it. Where a place to connect to is named the one link goes there; where one to listen at
+/// is named too, links come to that one, and each page that is asked for on them has a link of its own to the other. Where
+/// there is neither, standard input and output are the one link.
 fn start(rt: &HostRuntime, words: &[String], places: &Places) -> u8 {
     let Ok(others) = open_all(rt, places.books.slice()) else {
         return end(rt, b"no memory\n", 5);
@@ -108,7 +109,17 @@ fn start(rt: &HostRuntime, words: &[String], places: &Places) -> u8 {
     };
     tell_before(rt, places, &book, &others);
     match (&places.connect, &places.listen) {
-        (Some(address), _) => ask(rt, words, places, book, others, text(address.slice())),
+        (Some(peer), Some(address)) => {
+            pay(
+                rt,
+                words,
+                places,
+                book,
+                text(address.slice()),
+                text(peer.slice()),
+            )
+        }
+        (Some(address), None) => ask(rt, words, places, book, others, text(address.slice())),
         (None, Some(address)) => serve(rt, words, places, book, others, text(address.slice())),
         (None, None) => work(rt, words, places, book, others),
     }
@@ -172,6 +183,41 @@ fn serve(
     let book = ran.out.finish();
     tell_faults(rt, places, ran.status, &book, (address, link_fault));
     ran.status
+}
+
+/// Runs the command of a wallet that pays for what is asked on links which come to this address, over links to a peer.
+fn pay(
+    rt: &HostRuntime,
+    words: &[String],
+    places: &Places,
+    book: Book<File>,
+    address: &str,
+    peer: &str,
+) -> u8 {
+    let Ok(source) = listen(rt, rt.alloc(), address, rt) else {
+        return end(rt, b"no memory\n", 5);
+    };
+    tell_port(rt, address, source.address());
+    tell_clear(rt, source.address());
+    let path = match &places.site {
+        Some(path) => text(path.slice()),
+        None => "",
+    };
+    let source = Watched::new(source, rt, path, &book);
+    let none: Book<File> = Book::none();
+    let mut up = Site::new(none, call_each(rt, peer, rt), rt.stdout(), rt);
+    let (status, out) = run_proxy(
+        rt.alloc(),
+        words,
+        Site::new(book, source, rt.stdout(), rt),
+        &mut up,
+    );
+    let link_fault = out.link_fault();
+    tell_fault(rt, OUTPUT, out.said_fault());
+    let book = out.finish();
+    tell_faults(rt, places, status, &book, (address, link_fault));
+    tell_fault(rt, peer, up.link_fault());
+    status
 }
 
 /// Runs a command whose one link is standard input and output, or which has none.

@@ -53,6 +53,7 @@ causes_from R S link disk a m b (ends.UnlawfulEntry place) first so second = non
 causes_from R S link disk a m b (ends.Refused f) first so second = (none_then link disk a m b first second.0, so f second.1)
 causes_from R S link disk a m b (ends.Served n) first so second = absurd second
 causes_from R S link disk a m b (ends.Founded name) first so second = absurd second
+causes_from R S link disk a m b (ends.Proxied n paid) first so second = absurd second
 causes_from R S link disk a m b ends.BadWords first so second = absurd second
 causes_from R S link disk a m b (ends.Stranger name id) first so second = absurd second
 

@@ -61,6 +61,7 @@ grew_by link disk a b (ends.UnlawfulEntry place) calm causes = stayed (link a).f
 grew_by link disk a b (ends.Refused f) calm causes = stayed (link a).faults (link b).faults causes.0.link'
 grew_by link disk a b (ends.Served n) calm causes = absurd causes
 grew_by link disk a b (ends.Founded name) calm causes = absurd causes
+grew_by link disk a b (ends.Proxied n paid) calm causes = absurd causes
 grew_by link disk a b ends.BadWords calm causes = absurd causes
 grew_by link disk a b (ends.Stranger name id) calm causes = absurd causes
 
@@ -77,6 +78,7 @@ init_grew link disk a b (ends.BadEntry place) calm causes = absurd causes
 init_grew link disk a b (ends.BadChain place) calm causes = absurd causes
 init_grew link disk a b (ends.UnlawfulEntry place) calm causes = absurd causes
 init_grew link disk a b (ends.Served n) calm causes = absurd causes
+init_grew link disk a b (ends.Proxied n paid) calm causes = absurd causes
 init_grew link disk a b ends.BadWords calm causes = absurd causes
 init_grew link disk a b (ends.Stranger name id) calm causes = absurd causes
 
@@ -115,6 +117,7 @@ only_memory link disk h bytes a b ends.Done st lawful calm causes not = absurd n
 only_memory link disk h bytes a b (ends.Did line) st lawful calm causes not = absurd not
 only_memory link disk h bytes a b (ends.Served n) st lawful calm causes not = absurd not
 only_memory link disk h bytes a b (ends.Founded name) st lawful calm causes not = absurd not
+only_memory link disk h bytes a b (ends.Proxied n paid) st lawful calm causes not = absurd not
 only_memory link disk h bytes a b ends.BadWords st lawful calm causes not = absurd not
 only_memory link disk h bytes a b (ends.Stranger name id) st lawful calm causes not = absurd not
 
@@ -137,6 +140,7 @@ init_well link disk a b (ends.BadEntry place) calm causes = absurd causes
 init_well link disk a b (ends.BadChain place) calm causes = absurd causes
 init_well link disk a b (ends.UnlawfulEntry place) calm causes = absurd causes
 init_well link disk a b (ends.Served n) calm causes = absurd causes
+init_well link disk a b (ends.Proxied n paid) calm causes = absurd causes
 init_well link disk a b ends.BadWords calm causes = absurd causes
 init_well link disk a b (ends.Stranger name id) calm causes = absurd causes
 
@@ -157,6 +161,7 @@ well_by link disk a b (ends.BadChain place) calm causes three = absurd (three re
 well_by link disk a b (ends.UnlawfulEntry place) calm causes three = absurd (three refl)
 well_by link disk a b (ends.Served n) calm causes three = absurd causes
 well_by link disk a b (ends.Founded name) calm causes three = absurd causes
+well_by link disk a b (ends.Proxied n paid) calm causes three = absurd causes
 well_by link disk a b ends.BadWords calm causes three = absurd causes
 well_by link disk a b (ends.Stranger name id) calm causes three = absurd causes
 

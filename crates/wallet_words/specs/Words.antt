@@ -3,6 +3,7 @@ use Rattle.command_table.specs.Table.{form_of}
 use Rattle.command_table.specs.Values.{ValuesOf}
 use Rattle.command_table.specs.declared.table.CommandName.TheVariants as names
 use Rattle.wallet_words.specs.declared.audit_books.AuditBooks.{AuditBooks}
+use Rattle.wallet_words.specs.declared.proxying.Proxying.{Proxying}
 use Rattle.wallet_words.specs.declared.reporting.Reporting.{Reporting}
 use Rattle.wallet_words.specs.declared.wallet_init.WalletFounder.{WalletFounder}
 use Rattle.wallet_words.specs.declared.wallet_operation.Buying.{Buying}
@@ -45,6 +46,10 @@ relaying_values r = (r.book, (r.vendor, tt))
 unfoldable pub renewing_values : Renewing → ValuesOf (form_of names.WalletRenew).parameters
 unfolding form_of
 renewing_values r = (r.book, (r.vendor, (r.target, (r.before, (r.connect, tt)))))
+
+unfoldable pub proxying_values : Proxying → ValuesOf (form_of names.WalletProxy).parameters
+unfolding form_of
+proxying_values p = (p.book, (p.vendor, (p.limit, (p.budget, (p.listen, (p.connect, (p.links, tt)))))))
 
 unfoldable pub reporting_values : Reporting → ValuesOf (form_of names.AuditReport).parameters
 unfolding form_of

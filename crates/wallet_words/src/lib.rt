@@ -4,11 +4,13 @@
 #![tactic(auto)]
 
 mod audit_books;
+mod proxying;
 mod reporting;
 mod wallet_init;
 mod wallet_operation;
 
 pub use audit_books::AuditBooks;
+pub use proxying::{Proxying, proxying_of};
 pub use reporting::Reporting;
 pub use wallet_init::WalletFounder;
 pub use wallet_operation::{

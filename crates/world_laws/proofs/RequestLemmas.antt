@@ -125,6 +125,7 @@ left_settled h t n p r before after status d by = go status by
     go ends.Done by = last ends.Done by
     go (ends.Served k) by = last (ends.Served k) by
     go (ends.Founded name) by = last (ends.Founded name) by
+    go (ends.Proxied links paid) by = last (ends.Proxied links paid) by
     go (ends.Did line) by = last (ends.Did line) by
     go ends.BadWords by = last ends.BadWords by
     go ends.NotJournal by = last ends.NotJournal by

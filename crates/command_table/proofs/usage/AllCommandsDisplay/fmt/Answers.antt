@@ -16,10 +16,10 @@ loop-name-preserved g c = λ plain.
     elim c.if-form.branch [
       | then-form+in_ok-write w ↦
           let next = w.in_ok-write.ensures.writes so_far.1.plain refl in
-          let is = sym c.form.ensures.carried_out ∙ w.if-form.true in
+          let is = sym c.form.ensures.offered ∙ w.if-form.true in
           (_, has_written_to_eq _ _ _ _ _ w.f-is (has_written_append _ _ _ _ _ _ so_far.1 next), rw w.before-is (name_behind c.loop-name.before COMMANDS c.loop-name.name-index _ so_far.0 commands c.loop-name-test.true is so_far.2))
       | else-form w ↦
-          let is = sym c.form.ensures.carried_out ∙ w.if-form.false in
+          let is = sym c.form.ensures.offered ∙ w.if-form.false in
           (so_far.0, has_written_to_eq _ _ _ _ _ w.f-is so_far.1, rw w.before-is (none_behind c.loop-name.before COMMANDS c.loop-name.name-index _ so_far.0 commands c.loop-name-test.true is so_far.2))
     ]
 

@@ -1,0 +1,2 @@
+pub mod ProxiedLemmas
+pub mod EndLemmas
