@@ -1,5 +1,5 @@
 #!/usr/bin/env python3
-"""Writes the man page `docs/millicent.1` from the tables of the program: the words of each command that is carried out and what it is
+"""Writes the man page `docs/millicent.1` from the tables of the program: the words of each command and what it is
 for (`crates/command_table`), the statuses with their lines (`status.rt`), the refusals (`crates/mc_records`), and the forms of the words
 (`docs/FORMATS.md`). With `--check` nothing is written: the status is 1 where the page is not what they say. A table that is not
 found, or a row that can't be read, is an error."""
@@ -84,17 +84,16 @@ def parameters():
 
 
 def commands():
-    """Of each command that is carried out: its words, and what it is for."""
+    """Of each command: its words, and what it is for."""
     table, written = source("crates/command_table/src/table.rt"), parameters()
     docs = documented(part(table, "pub enum CommandName {", "\n}", "table.rt"), r"(\w+),", "table.rt")
-    rows = re.findall(r'CommandName::(\w+) => (done|beside|to_come)\(\s*"(\w+)",\s*"(\w+)",\s*&\[(.*?)\],?\s*\),', table, re.S)
+    rows = re.findall(r'CommandName::(\w+) => row\(\s*"(\w+)",\s*"(\w+)",\s*&\[(.*?)\],?\s*\),', table, re.S)
     if [row[0] for row in rows] != [name for name, _ in docs]:
         fail("table.rt: the commands and their rows are not the same")
     docs = dict(docs)
     return [
         (" ".join(["millicent", role, name, *(written[it] for it in re.findall(r"\w+", words))]), docs[command])
-        for command, kind, role, name, words in rows
-        if kind != "to_come"
+        for command, role, name, words in rows
     ]
 
 

@@ -31,12 +31,12 @@ next_name None form = codes "usage: millicent " ++ form.role ++ codes " " ++ for
 next_name (Some before) form =
     if bytes_eq (form_of before).role form.role then codes "|" ++ form.name else codes " .. or " ++ form.role ++ codes " " ++ form.name
 
--- the names of those that the program carries out, behind another one or at the beginning
+-- the names of commands, behind another one or at the beginning
 unfoldable pub names_behind : Option CommandName → List CommandName → Text
 names_behind before [] = codes " .."
-names_behind before (c ∷ cs) = if (form_of c).offered then next_name before (form_of c) ++ names_behind (Some c) cs else names_behind before cs
+names_behind before (c ∷ cs) = next_name before (form_of c) ++ names_behind (Some c) cs
 
--- the line of all commands that the program carries out
+-- the line of all commands
 unfoldable pub commands : Text
 commands = names_behind None COMMANDS
 
@@ -45,11 +45,6 @@ abbrev pub line_of : Option CommandName → Text
 line_of None = commands
 line_of (Some name) = usage_line (form_of name)
 
--- a command that it carries out
-abbrev pub done_of : Option CommandName → Option CommandName
-done_of None = None
-done_of (Some name) = if (form_of name).offered then Some name else None
-
--- what is told of words: the line of the command that they begin with, where the program carries it out, or that of all
+-- what is told of words: the line of the command that they begin with, or that of all
 abbrev pub told_of : List Text → Text
-told_of words = line_of (done_of (named words))
+told_of words = line_of (named words)

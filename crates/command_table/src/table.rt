@@ -129,166 +129,112 @@ pub static COMMANDS: [CommandName; 36] = [
     CommandName::AuditTree,
 ];
 
-/// How the words of a command are: its role, its name, and its parameters; whether the program carries it out; and whether
-/// it does so over one outside, as it does all but one.
+/// How the words of a command are: its role, its name, and its parameters.
 #[derive(Clone, Copy)]
 pub(crate) struct CommandForm {
     pub(crate) role: &'static str,
     pub(crate) name: &'static str,
     pub(crate) parameters: &'static [Parameter],
-    pub(crate) carried_out: bool,
-    pub(crate) offered: bool,
 }
 
-/// A row of the table, of a command that is carried out over one outside.
-fn done(role: &'static str, name: &'static str, parameters: &'static [Parameter]) -> CommandForm
+/// A row of the table.
+fn row(role: &'static str, name: &'static str, parameters: &'static [Parameter]) -> CommandForm
     ensures role { result.role.now ≡ role.now }
     ensures name { result.name.now ≡ name.now }
     ensures parameters { result.parameters.now ≡ parameters.now }
-    ensures carried_out { result.carried_out ≡ true }
-    ensures offered { result.offered ≡ true }
 {
     CommandForm {
         role,
         name,
         parameters,
-        carried_out: true,
-        offered: true,
-    }
-}
-
-/// A row of one that is carried out with links of two sides.
-fn beside(role: &'static str, name: &'static str, parameters: &'static [Parameter]) -> CommandForm
-    ensures role { result.role.now ≡ role.now }
-    ensures name { result.name.now ≡ name.now }
-    ensures parameters { result.parameters.now ≡ parameters.now }
-    ensures carried_out { result.carried_out ≡ false }
-    ensures offered { result.offered ≡ true }
-{
-    CommandForm {
-        role,
-        name,
-        parameters,
-        carried_out: false,
-        offered: true,
-    }
-}
-
-/// A row of one that is not carried out yet.
-fn to_come(role: &'static str, name: &'static str, parameters: &'static [Parameter]) -> CommandForm
-    ensures role { result.role.now ≡ role.now }
-    ensures name { result.name.now ≡ name.now }
-    ensures parameters { result.parameters.now ≡ parameters.now }
-    ensures carried_out { result.carried_out ≡ false }
-    ensures offered { result.offered ≡ false }
-{
-    CommandForm {
-        role,
-        name,
-        parameters,
-        carried_out: false,
-        offered: false,
     }
 }
 
 impl CommandName {
-    /// Whether the program carries it out.
-    pub fn is_offered(self) -> bool
-        ensures { result ≡ (form_of self).offered }
-    {
-        self.form().offered
-    }
-
     /// The row of the command in the table.
     #[tactic(auto, unfolding(crate::specs::Table::form_of))]
     pub(crate) fn form(self) -> CommandForm
         ensures role { result.role.now ≡ (form_of self).role }
         ensures name { result.name.now ≡ (form_of self).name }
         ensures parameters { result.parameters.now ≡ (form_of self).parameters }
-        ensures carried_out { result.carried_out ≡ (form_of self).carried_out }
-        ensures offered { result.offered ≡ (form_of self).offered }
     {
         match self {
-            CommandName::VendorInit => done(
+            CommandName::VendorInit => row(
                 "vendor",
                 "init",
                 &[Book, Name, Period, Life, Scrip, Customer, Keep, Clear],
             ),
-            CommandName::VendorGoods => done("vendor", "goods", &[Book, Target, Price, Kind]),
-            CommandName::VendorPrice => done("vendor", "price", &[Book, Target, Price]),
-            CommandName::VendorLicence => done(
+            CommandName::VendorGoods => row("vendor", "goods", &[Book, Target, Price, Kind]),
+            CommandName::VendorPrice => row("vendor", "price", &[Book, Target, Price]),
+            CommandName::VendorLicence => row(
                 "vendor",
                 "licence",
                 &[Book, Issuer, Period, Life, Scrip, Customer],
             ),
-            CommandName::VendorMint => done("vendor", "mint", &[Book, Pieces, Value, Reference]),
-            CommandName::VendorServe => done("vendor", "serve", &[Book, Listen, Links]),
-            CommandName::VendorOnce => done(
+            CommandName::VendorMint => row("vendor", "mint", &[Book, Pieces, Value, Reference]),
+            CommandName::VendorServe => row("vendor", "serve", &[Book, Listen, Links]),
+            CommandName::VendorOnce => row(
                 "vendor",
                 "once",
                 &[Name, Target, Price, Secret, Contents],
             ),
-            CommandName::VendorPlay => done("vendor", "play", &[Heads]),
-            CommandName::VendorUpgrade => done("vendor", "upgrade", &[Book, AnyIssuer, Epoch]),
-            CommandName::VendorChain => done("vendor", "chain", &[Book]),
-            CommandName::VendorStatement => done("vendor", "statement", &[Book, Issuer, Epoch]),
-            CommandName::BrokerInit => done(
+            CommandName::VendorPlay => row("vendor", "play", &[Heads]),
+            CommandName::VendorUpgrade => row("vendor", "upgrade", &[Book, AnyIssuer, Epoch]),
+            CommandName::VendorChain => row("vendor", "chain", &[Book]),
+            CommandName::VendorStatement => row("vendor", "statement", &[Book, Issuer, Epoch]),
+            CommandName::BrokerInit => row(
                 "broker",
                 "init",
                 &[Book, Name, Period, Life, Scrip, Customer, Fee, Keep, Clear],
             ),
-            CommandName::BrokerAccount => done("broker", "account", &[Book, Account, Key]),
-            CommandName::BrokerDeposit => done(
+            CommandName::BrokerAccount => row("broker", "account", &[Book, Account, Key]),
+            CommandName::BrokerDeposit => row(
                 "broker",
                 "deposit",
                 &[Book, Account, Amount, Reference],
             ),
-            CommandName::BrokerWithdraw => done(
+            CommandName::BrokerWithdraw => row(
                 "broker",
                 "withdraw",
                 &[Book, Account, Amount, Reference],
             ),
-            CommandName::BrokerBalance => done("broker", "balance", &[Book, Account]),
-            CommandName::BrokerLicence => done("broker", "licence", &[Book]),
-            CommandName::BrokerStock => done("broker", "stock", &[Book, Vendor]),
-            CommandName::BrokerServe => done("broker", "serve", &[Book, Listen, Links]),
-            CommandName::BrokerUpgrade => done("broker", "upgrade", &[Book, Vendor, Epoch]),
-            CommandName::BrokerChain => done("broker", "chain", &[Book]),
-            CommandName::BrokerSettle => done("broker", "settle", &[Book]),
-            CommandName::WalletInit => done("wallet", "init", &[Book, Name]),
-            CommandName::WalletTake => done("wallet", "take", &[Book]),
-            CommandName::WalletDraw => done(
+            CommandName::BrokerBalance => row("broker", "balance", &[Book, Account]),
+            CommandName::BrokerLicence => row("broker", "licence", &[Book]),
+            CommandName::BrokerStock => row("broker", "stock", &[Book, Vendor]),
+            CommandName::BrokerServe => row("broker", "serve", &[Book, Listen, Links]),
+            CommandName::BrokerUpgrade => row("broker", "upgrade", &[Book, Vendor, Epoch]),
+            CommandName::BrokerChain => row("broker", "chain", &[Book]),
+            CommandName::BrokerSettle => row("broker", "settle", &[Book]),
+            CommandName::WalletInit => row("wallet", "init", &[Book, Name]),
+            CommandName::WalletTake => row("wallet", "take", &[Book]),
+            CommandName::WalletDraw => row(
                 "wallet",
                 "draw",
                 &[Book, Broker, Account, Key, Order, Amount, Connect],
             ),
-            CommandName::WalletBuy => done(
+            CommandName::WalletBuy => row(
                 "wallet",
                 "buy",
                 &[Book, Broker, Vendor, Amount, Limit, Connect],
             ),
-            CommandName::WalletGet => done(
-                "wallet",
-                "get",
-                &[Book, Vendor, Target, Limit, Connect],
-            ),
-            CommandName::WalletRetry => done("wallet", "retry", &[Book, Peer, Connect]),
-            CommandName::WalletList => done("wallet", "list", &[Book]),
-            CommandName::WalletLines => done("wallet", "lines", &[Book, Vendor]),
-            CommandName::WalletChain => done("wallet", "chain", &[Book]),
-            CommandName::WalletProxy => beside(
+            CommandName::WalletGet => row("wallet", "get", &[Book, Vendor, Target, Limit, Connect]),
+            CommandName::WalletRetry => row("wallet", "retry", &[Book, Peer, Connect]),
+            CommandName::WalletList => row("wallet", "list", &[Book]),
+            CommandName::WalletLines => row("wallet", "lines", &[Book, Vendor]),
+            CommandName::WalletChain => row("wallet", "chain", &[Book]),
+            CommandName::WalletProxy => row(
                 "wallet",
                 "proxy",
                 &[Book, Vendor, Limit, Budget, Listen, Connect, Links],
             ),
-            CommandName::WalletRenew => done(
+            CommandName::WalletRenew => row(
                 "wallet",
                 "renew",
                 &[Book, Vendor, Target, Before, Connect],
             ),
-            CommandName::AuditReport => done("audit", "report", &[Books, Json]),
-            CommandName::AuditChain => done("audit", "chain", &[Books]),
-            CommandName::AuditTree => done("audit", "tree", &[Books]),
+            CommandName::AuditReport => row("audit", "report", &[Books, Json]),
+            CommandName::AuditChain => row("audit", "chain", &[Books]),
+            CommandName::AuditTree => row("audit", "tree", &[Books]),
         }
     }
 }

@@ -1,7 +1,7 @@
 //! What is told of words that are of no command.
 
 ghost use Rattle.std.specs.Prelude.{◌≡◌, Some, map, string_bytes};
-ghost use Rattle.command_table.specs.Usage.{done_of, line_of, told_of};
+ghost use Rattle.command_table.specs.Usage.{line_of, told_of};
 
 use crate::parameter::{Parameter, Shape};
 use crate::table::{COMMANDS, CommandName, named};
@@ -13,24 +13,11 @@ pub struct Usage {
     name: Option<CommandName>,
 }
 
-/// The line for these words: of the command that they begin with, where it is carried out, or else of all
-/// commands. It takes no memory.
+/// The line for these words: of the command that they begin with, or else of all commands. It takes no memory.
 pub fn usage_of(words: &[String]) -> Usage
     ensures { line_of result.name ≡ told_of (map string_bytes words.now) }
 {
-    Usage {
-        name: done(named(words)),
-    }
-}
-
-/// The command, where it is carried out.
-fn done(named: Option<CommandName>) -> Option<CommandName>
-    ensures { result ≡ done_of named }
-{
-    match named {
-        Some(name) if name.form().offered => Some(name),
-        _ => None,
-    }
+    Usage { name: named(words) }
 }
 
 impl fmt::Display for Usage {
@@ -105,7 +92,7 @@ impl fmt::Display for Parameter {
     }
 }
 
-/// The line of all commands that are carried out.
+/// The line of all commands.
 #[derive(Drop)]
 struct AllCommands;
 
@@ -117,14 +104,12 @@ impl fmt::Display for AllCommands {
     fn fmt<W: fmt::Write>(&self, f: &mut fmt::Formatter<W>) -> fmt::Result {
         let mut before = None;
         for name in &COMMANDS {
-            if name.form().offered {
-                let next = NextName {
-                    before,
-                    name: *name,
-                };
-                write!(f, "{next}")?;
-                before = Some(*name);
-            }
+            let next = NextName {
+                before,
+                name: *name,
+            };
+            write!(f, "{next}")?;
+            before = Some(*name);
         }
         write!(f, " ..")
     }

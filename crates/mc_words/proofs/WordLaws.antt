@@ -30,7 +30,7 @@ words_of_one : (name : CommandName) (words : List Text) (rows : List Row) (c : C
 words_of_one name words rows c read gives = record {
   name = gives.row;
   values = gives.values;
-  are = record { carried_out = gives.carried_out; rows = rows; read = subst (λ (n : CommandName). IsRead n words rows) gives.is read; found' = gives.found' };
+  are = record { one_sided = gives.one_sided; rows = rows; read = subst (λ (n : CommandName). IsRead n words rows) gives.is read; found' = gives.found' };
   made = gives.made;
 }
 
@@ -53,7 +53,7 @@ none_read words name r e is reads other values are =
 
 none_of : (words : List Text) (name : CommandName) (rows : List Row) → IsRead name words rows → GivesCommand name rows None → (values : ValuesOf (form_of name).parameters) → AreOf name words values → ⊥
 none_of words name rows read gives values are =
-    gives are.carried_out values (subst (λ (xs : List Row). AreFound xs (form_of name).parameters values) (read_once name words rows are.rows read are.read) are.found')
+    gives are.one_sided values (subst (λ (xs : List Row). AreFound xs (form_of name).parameters values) (read_once name words rows are.rows read are.read) are.found')
 
 pub none_given : (words : List Text) (name : CommandName) (read : Option (List Row)) (rows : List Row) (r : Option Command) → IsNone r → Some name ≡ named words → read ≡ Some rows → Reads name words read → GivesCommand name rows r
     → AreOfNoRow words

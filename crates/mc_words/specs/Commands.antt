@@ -1,4 +1,4 @@
--- The commands that are carried out, and the words of each.
+-- The commands that have one outside, and the words of each.
 use Rattle.std.specs.Prelude.{◌≡◌, ℕ, List, Option, Some, None, true}
 use Rattle.clap.specs.Walk.{Row}
 use Rattle.command_table.specs.declared.table.CommandName.{CommandName}
@@ -11,7 +11,7 @@ use Rattle.site_words.specs.declared.operation.Operation.TheVariants as operatio
 use Rattle.site_words.specs.declared.broker_operation.BrokerOperation.TheVariants as brokers
 use Rattle.wallet_words.specs.declared.wallet_operation.WalletOperation.TheVariants as wallets
 
--- The command that a row makes of the values of its parameters, in their order; None of a row that is not carried out.
+-- The command that a row makes of the values of its parameters, in their order; None of a row that has links of a second side.
 unfoldable pub command_with : (name : CommandName) → ValuesOf (form_of name).parameters → Option Command
 unfolding form_of
 command_with names.VendorInit v = Some (Init (record { book = v.0; name = v.1.0; period = v.1.1.0; life = v.1.1.1.0; scrip = v.1.1.1.1.0; customer = v.1.1.1.1.1.0; keep = v.1.1.1.1.1.1.0; clear = v.1.1.1.1.1.1.1.0 }))
@@ -62,20 +62,20 @@ pub record AreWords (words : List (List ℕ)) (c : Command) : Type 0 where
 abbrev pub AreNoWords : List (List ℕ) → Type 0
 AreNoWords words = (c : Command) → AreWords words c → ⊥
 
--- they are of no row of the table that is carried out
+-- they are of no row of the table that has one outside
 abbrev pub AreOfNoRow : List (List ℕ) → Type 0
 AreOfNoRow words = (name : CommandName) (values : ValuesOf (form_of name).parameters) → AreOf name words values → ⊥
 
--- of these rows, which were found for a command of this name, the command is made by its row, which is carried out
+-- of these rows, which were found for a command of this name, the command is made by its row, which has one outside
 pub record IsMadeOf (name : CommandName) (rows : List Row) (c : Command) : Type 0 where
   pub row : CommandName
   pub is : name ≡ row
-  pub carried_out : (form_of row).carried_out ≡ true
+  pub one_sided : (form_of row).one_sided ≡ true
   pub values : ValuesOf (form_of row).parameters
   pub found' : AreFound rows (form_of row).parameters values
   pub made : command_with row values ≡ Some c
 
--- What is made of rows that were found: a command, or None where they have no values, or none of this name is carried out.
+-- What is made of rows that were found: a command, or None where they have no values, or the command of this name has links of a second side.
 abbrev pub GivesCommand : CommandName → List Row → Option Command → Type 0
 GivesCommand name rows (Some c) = IsMadeOf name rows c
-GivesCommand name rows None = (form_of name).carried_out ≡ true → (values : ValuesOf (form_of name).parameters) → AreFound rows (form_of name).parameters values → ⊥
+GivesCommand name rows None = (form_of name).one_sided ≡ true → (values : ValuesOf (form_of name).parameters) → AreFound rows (form_of name).parameters values → ⊥

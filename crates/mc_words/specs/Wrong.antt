@@ -1,21 +1,15 @@
 -- The word of bad words that is wrong.
-use Rattle.std.specs.Prelude.{◌≡◌, ℕ, ◌+◌, ◌<◌, ◌≤◌, List, length, take, Option, Some, None, slice_get, true}
+use Rattle.std.specs.Prelude.{◌≡◌, ℕ, ◌+◌, ◌<◌, ◌≤◌, List, length, take, Option, Some, None, slice_get}
 use Rattle.clap.specs.Walk.{Text}
 use Rattle.command_table.specs.declared.table.CommandName.{CommandName}
-use Rattle.command_table.specs.Table.{form_of}
 use Rattle.mc_words.specs.declared.wrong.WrongWord.{WrongWord}
 use Rattle.mc_words.specs.declared.wrong.WrongWord.TheVariants.{Word, Place}
 use Rattle.command_table.specs.Beginning.{MayBegin}
 use Rattle.command_table.specs.Secrets.{ReadSecrets}
 
--- The program carries this command out, and its words may begin with these.
-pub record GoOnAs (name : CommandName) (words : List Text) : Type 0 where
-  pub offered : (form_of name).offered ≡ true
-  pub begin : MayBegin name words
-
--- The words of a command that the program carries out may begin with these.
+-- The words of a command may begin with these.
 abbrev pub GoOn : List Text → Type 0
-GoOn words = (name : CommandName) × GoOnAs name words
+GoOn words = (name : CommandName) × MayBegin name words
 
 -- The first word that no command could have there, given the words before; or each could be there.
 abbrev pub IsFirstWrong : List Text → Option ℕ → Type 0

@@ -50,7 +50,7 @@ pub enum Command<'a> {
 }
 
 /// The command that the words, those after the program's name, are of; None exactly where they are of
-/// no row of the table that is carried out. An Err is want of memory alone.
+/// no row of the table that has one outside. An Err is want of memory alone.
 pub fn command_of<'a>(alloc: Global, words: &'a [String]) -> Result<Option<Command<'a>>, AllocError>
     ensures command { IfOk result (λ r. IfSome r
         (λ command. AreWords (map string_bytes words.entry.now) command)) }
@@ -66,7 +66,7 @@ pub fn command_of<'a>(alloc: Global, words: &'a [String]) -> Result<Option<Comma
     }
 }
 
-/// The command of this name whose values were found; None where none were, or it is not carried out.
+/// The command of this name whose values were found; None where none were, or it has links of a second side.
 #[tactic(auto, unfolding(command_table::specs::Table::form_of))]
 fn command_in<'a>(name: CommandName, found: Found<'a>) -> Option<Command<'a>>
     ensures { GivesCommand name found.entry result }

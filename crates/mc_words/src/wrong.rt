@@ -1,9 +1,9 @@
 //! Which word of bad words is wrong.
 
 ghost use Rattle.std.specs.Prelude.{◌<◌, ◌↔◌, length, map, string_bytes, IfOk, IsTrue};
-ghost use Rattle.mc_words.specs.Wrong.{GoOn, GoOnAs, IsFirstWrong, IsShown, IsToldOf};
+ghost use Rattle.mc_words.specs.Wrong.{GoOn, IsFirstWrong, IsShown, IsToldOf};
 
-use command_table::{COMMANDS, CommandName, may_begin, reads_secrets};
+use command_table::{COMMANDS, may_begin, reads_secrets};
 use std::alloc::{AllocError, Global};
 
 /// What is told of a wrong word.
@@ -53,24 +53,14 @@ fn first_wrong(alloc: Global, words: &[String]) -> Result<Option<usize>, AllocEr
     Ok(None)
 }
 
-/// Whether the words of a command that the program carries out may begin with these.
+/// Whether the words of a command may begin with these.
 fn go_on(alloc: Global, words: &[String]) -> Result<bool, AllocError>
     ensures { IfOk result (λ r. IsTrue r ↔ GoOn (map string_bytes words.now)) }
 {
     for name in &COMMANDS {
-        if go_on_as(alloc, *name, words)? {
+        if may_begin(alloc, *name, words)? {
             return Ok(true);
         }
     }
     Ok(false)
-}
-
-/// Whether the program carries this command out, and its words may begin with these.
-fn go_on_as(alloc: Global, name: CommandName, words: &[String]) -> Result<bool, AllocError>
-    ensures { IfOk result (λ r. IsTrue r ↔ GoOnAs name (map string_bytes words.now)) }
-{
-    if !name.is_offered() {
-        return Ok(false);
-    }
-    may_begin(alloc, name, words)
 }

@@ -22,7 +22,7 @@ pub shop_words : (words : List Text) (read : Option (List Row)) (rows : List Row
     → IfSome r (λ shop. AreOnceWords words shop)
 unfolding form_of
 shop_words words read rows None is reads gives = tt
-shop_words words read rows (Some shop) is reads gives = record { carried_out = refl; rows = rows; read = subst (Reads names.VendorOnce words) is reads; found' = gives }
+shop_words words read rows (Some shop) is reads gives = record { one_sided = refl; rows = rows; read = subst (Reads names.VendorOnce words) is reads; found' = gives }
 
 pub no_shop_words : (words : List Text) (read : Option (List Row)) → read ≡ None → Reads names.VendorOnce words read → AreNoOnceWords words
 no_shop_words words read is reads = λ shop are. subst (Reads names.VendorOnce words) is reads are.rows are.read

@@ -45,12 +45,12 @@ one_proxy words a b fa fb =
     same_values a b (all_found_once fa.rows (form_of names.WalletProxy).parameters (proxying_values a) (proxying_values b) fa.found'
     (subst (λ (rows : List Row). AreFound rows (form_of names.WalletProxy).parameters (proxying_values b)) (read_once names.WalletProxy words fa.rows fb.rows fa.read fb.read) fb.found'))
 
-not_carried_out : (name : CommandName) → names.WalletProxy ≡ name → (form_of name).carried_out ≡ true → ⊥
+not_one_sided : (name : CommandName) → names.WalletProxy ≡ name → (form_of name).one_sided ≡ true → ⊥
 unfolding form_of
-not_carried_out name is carried =
-    let never : false ≡ true = subst (λ (n : CommandName). (form_of n).carried_out ≡ true) (sym is) carried in
+not_one_sided name is carried =
+    let never : false ≡ true = subst (λ (n : CommandName). (form_of n).one_sided ≡ true) (sym is) carried in
     absurd (cc never)
 
--- of none that is carried out over one outside
+-- of none that has one outside
 pub of_no_row : (words : List Text) (p : Proxying) → AreProxyWords words p → (name : CommandName) (values : ValuesOf (form_of name).parameters) → AreOf name words values → ⊥
-of_no_row words p are name values others = not_carried_out name (one_name words are.rows others.rows names.WalletProxy name are.read others.read) others.carried_out
+of_no_row words p are name values others = not_one_sided name (one_name words are.rows others.rows names.WalletProxy name are.read others.read) others.one_sided

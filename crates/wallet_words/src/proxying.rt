@@ -113,7 +113,7 @@ impl<'a> Proxying<'a> {
 }
 
 /// What the words `wallet proxy BOOK VENDOR LIMIT BUDGET LISTEN CONNECT LINKS` say; None exactly where they are other
-/// words. They are of no command that is carried out over one outside. An Err is want of memory alone.
+/// words. They are of no command that has one outside alone. An Err is want of memory alone.
 pub fn proxying_of<'a>(
     alloc: Global,
     words: &'a [String],

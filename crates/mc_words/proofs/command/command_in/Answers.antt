@@ -8,140 +8,140 @@ use Rattle.mc_words.proofs.command.command_in.Goals as goal
 
 pub returns-in-VendorInit : goal.returns-in-VendorInit
 unfolding form_of command_with vendor_founder_values
-returns-in-VendorInit c = record { row = names.VendorInit; is = c.in-VendorInit.is; carried_out = refl; values = vendor_founder_values c.in_ok-vendor-in-VendorInit.vendor; found' = c.in_ok-vendor-in-VendorInit.ensures; made = refl }
+returns-in-VendorInit c = record { row = names.VendorInit; is = c.in-VendorInit.is; one_sided = refl; values = vendor_founder_values c.in_ok-vendor-in-VendorInit.vendor; found' = c.in_ok-vendor-in-VendorInit.ensures; made = refl }
 
 pub returns-in-VendorGoods : goal.returns-in-VendorGoods
 unfolding form_of command_with listing_values
-returns-in-VendorGoods c = record { row = names.VendorGoods; is = c.in-VendorGoods.is; carried_out = refl; values = listing_values c.in_ok-listing-in-VendorGoods.listing; found' = c.in_ok-listing-in-VendorGoods.ensures; made = refl }
+returns-in-VendorGoods c = record { row = names.VendorGoods; is = c.in-VendorGoods.is; one_sided = refl; values = listing_values c.in_ok-listing-in-VendorGoods.listing; found' = c.in_ok-listing-in-VendorGoods.ensures; made = refl }
 
 pub returns-in-VendorPrice : goal.returns-in-VendorPrice
 unfolding form_of command_with pricing_values
-returns-in-VendorPrice c = record { row = names.VendorPrice; is = c.in-VendorPrice.is; carried_out = refl; values = pricing_values c.in_ok-pricing-in-VendorPrice.pricing; found' = c.in_ok-pricing-in-VendorPrice.ensures; made = refl }
+returns-in-VendorPrice c = record { row = names.VendorPrice; is = c.in-VendorPrice.is; one_sided = refl; values = pricing_values c.in_ok-pricing-in-VendorPrice.pricing; found' = c.in_ok-pricing-in-VendorPrice.ensures; made = refl }
 
 pub returns-in-VendorLicence : goal.returns-in-VendorLicence
 unfolding form_of command_with licensing_values
-returns-in-VendorLicence c = record { row = names.VendorLicence; is = c.in-VendorLicence.is; carried_out = refl; values = licensing_values c.in_ok-licensing-in-VendorLicence.licensing; found' = c.in_ok-licensing-in-VendorLicence.ensures; made = refl }
+returns-in-VendorLicence c = record { row = names.VendorLicence; is = c.in-VendorLicence.is; one_sided = refl; values = licensing_values c.in_ok-licensing-in-VendorLicence.licensing; found' = c.in_ok-licensing-in-VendorLicence.ensures; made = refl }
 
 pub returns-in-VendorMint : goal.returns-in-VendorMint
 unfolding form_of command_with minting_values
-returns-in-VendorMint c = record { row = names.VendorMint; is = c.in-VendorMint.is; carried_out = refl; values = minting_values c.in_ok-minting-in-VendorMint.minting; found' = c.in_ok-minting-in-VendorMint.ensures; made = refl }
+returns-in-VendorMint c = record { row = names.VendorMint; is = c.in-VendorMint.is; one_sided = refl; values = minting_values c.in_ok-minting-in-VendorMint.minting; found' = c.in_ok-minting-in-VendorMint.ensures; made = refl }
 
 pub returns-in-VendorUpgrade : goal.returns-in-VendorUpgrade
 unfolding form_of command_with upgrading_values
-returns-in-VendorUpgrade c = record { row = names.VendorUpgrade; is = c.in-VendorUpgrade.is; carried_out = refl; values = upgrading_values c.in_ok-upgrading-in-VendorUpgrade.upgrading; found' = c.in_ok-upgrading-in-VendorUpgrade.ensures; made = refl }
+returns-in-VendorUpgrade c = record { row = names.VendorUpgrade; is = c.in-VendorUpgrade.is; one_sided = refl; values = upgrading_values c.in_ok-upgrading-in-VendorUpgrade.upgrading; found' = c.in_ok-upgrading-in-VendorUpgrade.ensures; made = refl }
 
 pub returns-in-VendorChain : goal.returns-in-VendorChain
 unfolding form_of command_with switching_values
-returns-in-VendorChain c = record { row = names.VendorChain; is = c.in-VendorChain.is; carried_out = refl; values = switching_values c.in_ok-switching-in-VendorChain.switching; found' = c.in_ok-switching-in-VendorChain.ensures; made = refl }
+returns-in-VendorChain c = record { row = names.VendorChain; is = c.in-VendorChain.is; one_sided = refl; values = switching_values c.in_ok-switching-in-VendorChain.switching; found' = c.in_ok-switching-in-VendorChain.ensures; made = refl }
 
 pub returns-in-VendorStatement : goal.returns-in-VendorStatement
 unfolding form_of command_with stating_values
-returns-in-VendorStatement c = record { row = names.VendorStatement; is = c.in-VendorStatement.is; carried_out = refl; values = stating_values c.in_ok-stating-in-VendorStatement.stating; found' = c.in_ok-stating-in-VendorStatement.ensures; made = refl }
+returns-in-VendorStatement c = record { row = names.VendorStatement; is = c.in-VendorStatement.is; one_sided = refl; values = stating_values c.in_ok-stating-in-VendorStatement.stating; found' = c.in_ok-stating-in-VendorStatement.ensures; made = refl }
 
 pub returns-in-VendorServe : goal.returns-in-VendorServe
 unfolding form_of command_with server_values
-returns-in-VendorServe c = record { row = names.VendorServe; is = c.in-VendorServe.is; carried_out = refl; values = server_values c.in_ok-server-in-VendorServe.server; found' = c.in_ok-server-in-VendorServe.ensures; made = refl }
+returns-in-VendorServe c = record { row = names.VendorServe; is = c.in-VendorServe.is; one_sided = refl; values = server_values c.in_ok-server-in-VendorServe.server; found' = c.in_ok-server-in-VendorServe.ensures; made = refl }
 
 pub returns-in-VendorOnce : goal.returns-in-VendorOnce
 unfolding form_of command_with shop_values
-returns-in-VendorOnce c = record { row = names.VendorOnce; is = c.in-VendorOnce.is; carried_out = refl; values = shop_values c.in_ok-shop-in-VendorOnce.shop; found' = c.in_ok-shop-in-VendorOnce.ensures; made = refl }
+returns-in-VendorOnce c = record { row = names.VendorOnce; is = c.in-VendorOnce.is; one_sided = refl; values = shop_values c.in_ok-shop-in-VendorOnce.shop; found' = c.in_ok-shop-in-VendorOnce.ensures; made = refl }
 
 pub returns-in-VendorPlay : goal.returns-in-VendorPlay
 unfolding form_of command_with playing_values
-returns-in-VendorPlay c = record { row = names.VendorPlay; is = c.in-VendorPlay.is; carried_out = refl; values = playing_values c.in_ok-playing-in-VendorPlay.playing; found' = c.in_ok-playing-in-VendorPlay.ensures; made = refl }
+returns-in-VendorPlay c = record { row = names.VendorPlay; is = c.in-VendorPlay.is; one_sided = refl; values = playing_values c.in_ok-playing-in-VendorPlay.playing; found' = c.in_ok-playing-in-VendorPlay.ensures; made = refl }
 
 pub returns-in-BrokerInit : goal.returns-in-BrokerInit
 unfolding form_of command_with broker_founder_values
-returns-in-BrokerInit c = record { row = names.BrokerInit; is = c.in-BrokerInit.is; carried_out = refl; values = broker_founder_values c.in_ok-broker-in-BrokerInit.broker; found' = c.in_ok-broker-in-BrokerInit.ensures; made = refl }
+returns-in-BrokerInit c = record { row = names.BrokerInit; is = c.in-BrokerInit.is; one_sided = refl; values = broker_founder_values c.in_ok-broker-in-BrokerInit.broker; found' = c.in_ok-broker-in-BrokerInit.ensures; made = refl }
 
 pub returns-in-BrokerAccount : goal.returns-in-BrokerAccount
 unfolding form_of command_with opening_values
-returns-in-BrokerAccount c = record { row = names.BrokerAccount; is = c.in-BrokerAccount.is; carried_out = refl; values = opening_values c.in_ok-opening-in-BrokerAccount.opening; found' = c.in_ok-opening-in-BrokerAccount.ensures; made = refl }
+returns-in-BrokerAccount c = record { row = names.BrokerAccount; is = c.in-BrokerAccount.is; one_sided = refl; values = opening_values c.in_ok-opening-in-BrokerAccount.opening; found' = c.in_ok-opening-in-BrokerAccount.ensures; made = refl }
 
 pub returns-in-BrokerDeposit : goal.returns-in-BrokerDeposit
 unfolding form_of command_with payment_values
-returns-in-BrokerDeposit c = record { row = names.BrokerDeposit; is = c.in-BrokerDeposit.is; carried_out = refl; values = payment_values c.in_ok-deposit-in-BrokerDeposit.deposit; found' = c.in_ok-deposit-in-BrokerDeposit.ensures; made = refl }
+returns-in-BrokerDeposit c = record { row = names.BrokerDeposit; is = c.in-BrokerDeposit.is; one_sided = refl; values = payment_values c.in_ok-deposit-in-BrokerDeposit.deposit; found' = c.in_ok-deposit-in-BrokerDeposit.ensures; made = refl }
 
 pub returns-in-BrokerWithdraw : goal.returns-in-BrokerWithdraw
 unfolding form_of command_with payment_values
-returns-in-BrokerWithdraw c = record { row = names.BrokerWithdraw; is = c.in-BrokerWithdraw.is; carried_out = refl; values = payment_values c.in_ok-withdrawal-in-BrokerWithdraw.withdrawal; found' = c.in_ok-withdrawal-in-BrokerWithdraw.ensures; made = refl }
+returns-in-BrokerWithdraw c = record { row = names.BrokerWithdraw; is = c.in-BrokerWithdraw.is; one_sided = refl; values = payment_values c.in_ok-withdrawal-in-BrokerWithdraw.withdrawal; found' = c.in_ok-withdrawal-in-BrokerWithdraw.ensures; made = refl }
 
 pub returns-in-BrokerBalance : goal.returns-in-BrokerBalance
 unfolding form_of command_with inquiry_values
-returns-in-BrokerBalance c = record { row = names.BrokerBalance; is = c.in-BrokerBalance.is; carried_out = refl; values = inquiry_values c.in_ok-inquiry-in-BrokerBalance.inquiry; found' = c.in_ok-inquiry-in-BrokerBalance.ensures; made = refl }
+returns-in-BrokerBalance c = record { row = names.BrokerBalance; is = c.in-BrokerBalance.is; one_sided = refl; values = inquiry_values c.in_ok-inquiry-in-BrokerBalance.inquiry; found' = c.in_ok-inquiry-in-BrokerBalance.ensures; made = refl }
 
 pub returns-in-BrokerLicence : goal.returns-in-BrokerLicence
 unfolding form_of command_with taking_values
-returns-in-BrokerLicence c = record { row = names.BrokerLicence; is = c.in-BrokerLicence.is; carried_out = refl; values = taking_values c.in_ok-taking-in-BrokerLicence.taking; found' = c.in_ok-taking-in-BrokerLicence.ensures; made = refl }
+returns-in-BrokerLicence c = record { row = names.BrokerLicence; is = c.in-BrokerLicence.is; one_sided = refl; values = taking_values c.in_ok-taking-in-BrokerLicence.taking; found' = c.in_ok-taking-in-BrokerLicence.ensures; made = refl }
 
 pub returns-in-BrokerStock : goal.returns-in-BrokerStock
 unfolding form_of command_with stocking_values
-returns-in-BrokerStock c = record { row = names.BrokerStock; is = c.in-BrokerStock.is; carried_out = refl; values = stocking_values c.in_ok-stocking-in-BrokerStock.stocking; found' = c.in_ok-stocking-in-BrokerStock.ensures; made = refl }
+returns-in-BrokerStock c = record { row = names.BrokerStock; is = c.in-BrokerStock.is; one_sided = refl; values = stocking_values c.in_ok-stocking-in-BrokerStock.stocking; found' = c.in_ok-stocking-in-BrokerStock.ensures; made = refl }
 
 pub returns-in-BrokerUpgrade : goal.returns-in-BrokerUpgrade
 unfolding form_of command_with licence_upgrading_values
-returns-in-BrokerUpgrade c = record { row = names.BrokerUpgrade; is = c.in-BrokerUpgrade.is; carried_out = refl; values = licence_upgrading_values c.in_ok-moving-in-BrokerUpgrade.moving; found' = c.in_ok-moving-in-BrokerUpgrade.ensures; made = refl }
+returns-in-BrokerUpgrade c = record { row = names.BrokerUpgrade; is = c.in-BrokerUpgrade.is; one_sided = refl; values = licence_upgrading_values c.in_ok-moving-in-BrokerUpgrade.moving; found' = c.in_ok-moving-in-BrokerUpgrade.ensures; made = refl }
 
 pub returns-in-BrokerChain : goal.returns-in-BrokerChain
 unfolding form_of command_with switching_values
-returns-in-BrokerChain c = record { row = names.BrokerChain; is = c.in-BrokerChain.is; carried_out = refl; values = switching_values c.in_ok-chained-in-BrokerChain.chained; found' = c.in_ok-chained-in-BrokerChain.ensures; made = refl }
+returns-in-BrokerChain c = record { row = names.BrokerChain; is = c.in-BrokerChain.is; one_sided = refl; values = switching_values c.in_ok-chained-in-BrokerChain.chained; found' = c.in_ok-chained-in-BrokerChain.ensures; made = refl }
 
 pub returns-in-BrokerSettle : goal.returns-in-BrokerSettle
 unfolding form_of command_with settling_values
-returns-in-BrokerSettle c = record { row = names.BrokerSettle; is = c.in-BrokerSettle.is; carried_out = refl; values = settling_values c.in_ok-settling-in-BrokerSettle.settling; found' = c.in_ok-settling-in-BrokerSettle.ensures; made = refl }
+returns-in-BrokerSettle c = record { row = names.BrokerSettle; is = c.in-BrokerSettle.is; one_sided = refl; values = settling_values c.in_ok-settling-in-BrokerSettle.settling; found' = c.in_ok-settling-in-BrokerSettle.ensures; made = refl }
 
 pub returns-in-BrokerServe : goal.returns-in-BrokerServe
 unfolding form_of command_with server_values
-returns-in-BrokerServe c = record { row = names.BrokerServe; is = c.in-BrokerServe.is; carried_out = refl; values = server_values c.in_ok-desk-in-BrokerServe.desk; found' = c.in_ok-desk-in-BrokerServe.ensures; made = refl }
+returns-in-BrokerServe c = record { row = names.BrokerServe; is = c.in-BrokerServe.is; one_sided = refl; values = server_values c.in_ok-desk-in-BrokerServe.desk; found' = c.in_ok-desk-in-BrokerServe.ensures; made = refl }
 
 pub returns-in-WalletInit : goal.returns-in-WalletInit
 unfolding form_of command_with wallet_founder_values
-returns-in-WalletInit c = record { row = names.WalletInit; is = c.in-WalletInit.is; carried_out = refl; values = wallet_founder_values c.in_ok-founder-in-WalletInit.founder; found' = c.in_ok-founder-in-WalletInit.ensures; made = refl }
+returns-in-WalletInit c = record { row = names.WalletInit; is = c.in-WalletInit.is; one_sided = refl; values = wallet_founder_values c.in_ok-founder-in-WalletInit.founder; found' = c.in_ok-founder-in-WalletInit.ensures; made = refl }
 
 pub returns-in-WalletTake : goal.returns-in-WalletTake
 unfolding form_of command_with wallet_book_values
-returns-in-WalletTake c = record { row = names.WalletTake; is = c.in-WalletTake.is; carried_out = refl; values = wallet_book_values c.in_ok-filling-in-WalletTake.filling; found' = c.in_ok-filling-in-WalletTake.ensures; made = refl }
+returns-in-WalletTake c = record { row = names.WalletTake; is = c.in-WalletTake.is; one_sided = refl; values = wallet_book_values c.in_ok-filling-in-WalletTake.filling; found' = c.in_ok-filling-in-WalletTake.ensures; made = refl }
 
 pub returns-in-WalletDraw : goal.returns-in-WalletDraw
 unfolding form_of command_with drawing_values
-returns-in-WalletDraw c = record { row = names.WalletDraw; is = c.in-WalletDraw.is; carried_out = refl; values = drawing_values c.in_ok-drawing-in-WalletDraw.drawing; found' = c.in_ok-drawing-in-WalletDraw.ensures; made = refl }
+returns-in-WalletDraw c = record { row = names.WalletDraw; is = c.in-WalletDraw.is; one_sided = refl; values = drawing_values c.in_ok-drawing-in-WalletDraw.drawing; found' = c.in_ok-drawing-in-WalletDraw.ensures; made = refl }
 
 pub returns-in-WalletBuy : goal.returns-in-WalletBuy
 unfolding form_of command_with buying_values
-returns-in-WalletBuy c = record { row = names.WalletBuy; is = c.in-WalletBuy.is; carried_out = refl; values = buying_values c.in_ok-buying-in-WalletBuy.buying; found' = c.in_ok-buying-in-WalletBuy.ensures; made = refl }
+returns-in-WalletBuy c = record { row = names.WalletBuy; is = c.in-WalletBuy.is; one_sided = refl; values = buying_values c.in_ok-buying-in-WalletBuy.buying; found' = c.in_ok-buying-in-WalletBuy.ensures; made = refl }
 
 pub returns-in-WalletGet : goal.returns-in-WalletGet
 unfolding form_of command_with getting_values
-returns-in-WalletGet c = record { row = names.WalletGet; is = c.in-WalletGet.is; carried_out = refl; values = getting_values c.in_ok-getting-in-WalletGet.getting; found' = c.in_ok-getting-in-WalletGet.ensures; made = refl }
+returns-in-WalletGet c = record { row = names.WalletGet; is = c.in-WalletGet.is; one_sided = refl; values = getting_values c.in_ok-getting-in-WalletGet.getting; found' = c.in_ok-getting-in-WalletGet.ensures; made = refl }
 
 pub returns-in-WalletRetry : goal.returns-in-WalletRetry
 unfolding form_of command_with retrying_values
-returns-in-WalletRetry c = record { row = names.WalletRetry; is = c.in-WalletRetry.is; carried_out = refl; values = retrying_values c.in_ok-retrying-in-WalletRetry.retrying; found' = c.in_ok-retrying-in-WalletRetry.ensures; made = refl }
+returns-in-WalletRetry c = record { row = names.WalletRetry; is = c.in-WalletRetry.is; one_sided = refl; values = retrying_values c.in_ok-retrying-in-WalletRetry.retrying; found' = c.in_ok-retrying-in-WalletRetry.ensures; made = refl }
 
 pub returns-in-WalletList : goal.returns-in-WalletList
 unfolding form_of command_with wallet_book_values
-returns-in-WalletList c = record { row = names.WalletList; is = c.in-WalletList.is; carried_out = refl; values = wallet_book_values c.in_ok-telling-in-WalletList.telling; found' = c.in_ok-telling-in-WalletList.ensures; made = refl }
+returns-in-WalletList c = record { row = names.WalletList; is = c.in-WalletList.is; one_sided = refl; values = wallet_book_values c.in_ok-telling-in-WalletList.telling; found' = c.in_ok-telling-in-WalletList.ensures; made = refl }
 
 pub returns-in-WalletLines : goal.returns-in-WalletLines
 unfolding form_of command_with relaying_values
-returns-in-WalletLines c = record { row = names.WalletLines; is = c.in-WalletLines.is; carried_out = refl; values = relaying_values c.in_ok-relaying-in-WalletLines.relaying; found' = c.in_ok-relaying-in-WalletLines.ensures; made = refl }
+returns-in-WalletLines c = record { row = names.WalletLines; is = c.in-WalletLines.is; one_sided = refl; values = relaying_values c.in_ok-relaying-in-WalletLines.relaying; found' = c.in_ok-relaying-in-WalletLines.ensures; made = refl }
 
 pub returns-in-WalletChain : goal.returns-in-WalletChain
 unfolding form_of command_with wallet_book_values
-returns-in-WalletChain c = record { row = names.WalletChain; is = c.in-WalletChain.is; carried_out = refl; values = wallet_book_values c.in_ok-chaining-in-WalletChain.chaining; found' = c.in_ok-chaining-in-WalletChain.ensures; made = refl }
+returns-in-WalletChain c = record { row = names.WalletChain; is = c.in-WalletChain.is; one_sided = refl; values = wallet_book_values c.in_ok-chaining-in-WalletChain.chaining; found' = c.in_ok-chaining-in-WalletChain.ensures; made = refl }
 
 pub returns-in-WalletRenew : goal.returns-in-WalletRenew
 unfolding form_of command_with renewing_values
-returns-in-WalletRenew c = record { row = names.WalletRenew; is = c.in-WalletRenew.is; carried_out = refl; values = renewing_values c.in_ok-renewing-in-WalletRenew.renewing; found' = c.in_ok-renewing-in-WalletRenew.ensures; made = refl }
+returns-in-WalletRenew c = record { row = names.WalletRenew; is = c.in-WalletRenew.is; one_sided = refl; values = renewing_values c.in_ok-renewing-in-WalletRenew.renewing; found' = c.in_ok-renewing-in-WalletRenew.ensures; made = refl }
 
 pub returns-in-AuditReport : goal.returns-in-AuditReport
 unfolding form_of command_with reporting_values
-returns-in-AuditReport c = record { row = names.AuditReport; is = c.in-AuditReport.is; carried_out = refl; values = reporting_values c.in_ok-reporting-in-AuditReport.reporting; found' = c.in_ok-reporting-in-AuditReport.ensures; made = refl }
+returns-in-AuditReport c = record { row = names.AuditReport; is = c.in-AuditReport.is; one_sided = refl; values = reporting_values c.in_ok-reporting-in-AuditReport.reporting; found' = c.in_ok-reporting-in-AuditReport.ensures; made = refl }
 
 pub returns-in-AuditChain : goal.returns-in-AuditChain
 unfolding form_of command_with audit_books_values
-returns-in-AuditChain c = record { row = names.AuditChain; is = c.in-AuditChain.is; carried_out = refl; values = audit_books_values c.in_ok-audited-in-AuditChain.audited; found' = c.in_ok-audited-in-AuditChain.ensures; made = refl }
+returns-in-AuditChain c = record { row = names.AuditChain; is = c.in-AuditChain.is; one_sided = refl; values = audit_books_values c.in_ok-audited-in-AuditChain.audited; found' = c.in_ok-audited-in-AuditChain.ensures; made = refl }
 
 pub returns-in-AuditTree : goal.returns-in-AuditTree
 unfolding form_of command_with audit_books_values
-returns-in-AuditTree c = record { row = names.AuditTree; is = c.in-AuditTree.is; carried_out = refl; values = audit_books_values c.in_ok-tree-in-AuditTree.tree; found' = c.in_ok-tree-in-AuditTree.ensures; made = refl }
+returns-in-AuditTree c = record { row = names.AuditTree; is = c.in-AuditTree.is; one_sided = refl; values = audit_books_values c.in_ok-tree-in-AuditTree.tree; found' = c.in_ok-tree-in-AuditTree.ensures; made = refl }

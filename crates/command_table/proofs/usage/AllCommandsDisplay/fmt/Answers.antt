@@ -1,10 +1,9 @@
-use Rattle.std.proofs.Common.{◌∙◌, [], refl, rules, sym}
-use Rattle.std.proofs.Output.{has_written_append, has_written_of_eq, has_written_to_eq, writes_in_calls_nil}
+use Rattle.std.proofs.Common.{[], refl, rules}
+use Rattle.std.proofs.Output.{has_written_append, has_written_of_eq, writes_in_calls_nil}
 use Rattle.command_table.specs.declared.table.TheConstants.{COMMANDS}
 use Rattle.command_table.specs.Usage.{commands}
-use Rattle.command_table.proofs.UsageLemmas.{ends_behind, name_behind, none_behind}
+use Rattle.command_table.proofs.UsageLemmas.{ends_behind, name_behind}
 use Rattle.command_table.proofs.usage.AllCommandsDisplay.fmt.Goals as goal
-use Rattle.command_table.proofs.usage.AllCommandsDisplay.fmt.Goals.{then-form+in_ok-write, else-form}
 
 pub loop-name-init : goal.loop-name-init
 unfolding commands
@@ -13,15 +12,8 @@ loop-name-init g c = λ plain. ([], record { wrote = writes_in_calls_nil _ _; pl
 pub loop-name-preserved : goal.loop-name-preserved
 loop-name-preserved g c = λ plain.
     let so_far = c.loop-name.invariant plain in
-    elim c.if-form.branch [
-      | then-form+in_ok-write w ↦
-          let next = w.in_ok-write.ensures.writes so_far.1.plain refl in
-          let is = sym c.form.ensures.offered ∙ w.if-form.true in
-          (_, has_written_to_eq _ _ _ _ _ w.f-is (has_written_append _ _ _ _ _ _ so_far.1 next), rw w.before-is (name_behind c.loop-name.before COMMANDS c.loop-name.name-index _ so_far.0 commands c.loop-name-test.true is so_far.2))
-      | else-form w ↦
-          let is = sym c.form.ensures.offered ∙ w.if-form.false in
-          (so_far.0, has_written_to_eq _ _ _ _ _ w.f-is so_far.1, rw w.before-is (none_behind c.loop-name.before COMMANDS c.loop-name.name-index _ so_far.0 commands c.loop-name-test.true is so_far.2))
-    ]
+    let next = c.in_ok-write.ensures.writes so_far.1.plain refl in
+    (_, has_written_append _ _ _ _ _ _ so_far.1 next, name_behind c.loop-name.before COMMANDS c.loop-name.name-index _ so_far.0 commands c.loop-name-test.true so_far.2)
 
 pub returns-clause-writes : goal.returns-clause-writes
 returns-clause-writes g c = λ plain ok.
