@@ -6,7 +6,7 @@
 `./millicent` calls it where the program is missing or older than a source. What a crate was made of (the toolchain, its
 sources, and the same of each crate below it) names the folder that keeps it, out/build/NAME-SUM, so a call that was broken
 off goes on where it was, and after an edit only that crate and those above it are proved again. A crate for which
-many wait goes first; where few can be begun, each gets more than one processor. It tells how far it is on standard error,
+most waits goes first, and may use all processors. It tells how far it is on standard error,
 and ends with 70 where a crate is not proved, or the program can't be linked. It shares no folder with `rt`."""
 import concurrent.futures
 import contextlib
@@ -170,19 +170,17 @@ def prove_all(crates, jobs):
     with concurrent.futures.ThreadPoolExecutor(jobs) as workers:
         while running or (todo and not failed):
             ready = [it for it in todo if all(crates.library(dep).exists() for dep in crates.own(it))]
-            ready = sorted(ready, key=chain.get, reverse=True)[: 0 if failed else jobs - sum(share for _, share in running.values())]
-            # Where few can be begun, each gets more of the processors.
-            free = jobs - sum(share for _, share in running.values())
-            for place, name in enumerate(ready):
-                share = free // len(ready) + (place < free % len(ready))
+            for name in sorted(ready, key=chain.get, reverse=True)[: 0 if failed else jobs - len(running)]:
                 todo.remove(name)
-                running[workers.submit(prove, crates, name, share)] = (name, share)
-            teller.says([name for name, _ in running.values()])
+                # The one that most waits for may use all processors; the others share what it leaves.
+                most = all(chain[name] >= chain[it] for it in (*todo, *running.values()))
+                running[workers.submit(prove, crates, name, jobs if most else 1)] = name
+            teller.says(running.values())
             for it in concurrent.futures.wait(running, timeout=1, return_when=concurrent.futures.FIRST_COMPLETED).done:
-                name, _ = running.pop(it)
+                name = running.pop(it)
                 if it.result():
                     teller.done += 1
-                    teller.says([name for name, _ in running.values()], name)
+                    teller.says(running.values(), name)
                 else:
                     failed = name
     return failed
