@@ -3,10 +3,10 @@ use Rattle.std.proofs.Common.{◌≡◌, ◌<◌, inr, refl, ℕ, zero, suc, Boo
 use Rattle.std.specs.Prelude.{IfSome, slice_get}
 use Rattle.mc_records.specs.declared.limits.TheConstants.Limits.{FULL}
 use Rattle.ledger_model.specs.Histories.{History}
-use Rattle.book_audit.specs.declared.fault.BooksFault.{BooksFault}
-use Rattle.book_audit.specs.declared.fault.BooksFault.TheVariants as founds
-use Rattle.book_audit.specs.Audit.{AreLearned, NamesBook}
-use Rattle.book_sums.specs.declared.book_sums.BookSums.{BookSums}
+use Rattle.audit_search.specs.declared.fault.BooksFault.{BooksFault}
+use Rattle.audit_search.specs.declared.fault.BooksFault.TheVariants as founds
+use Rattle.audit_search.specs.Audit.{AreLearned, NamesBook}
+use Rattle.audit_sums.specs.declared.audit_sums.BookSums.{BookSums}
 use Rattle.audit_cmd.specs.Books.{AreAuditedBy, FindsBy, IsOfAll, CountsBy, told_book, fault_of}
 use Rattle.audit_cmd.specs.Loops.{AreKept, KeptOf}
 

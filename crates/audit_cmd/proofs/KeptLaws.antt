@@ -6,8 +6,8 @@ use Rattle.mc_records.specs.Entry.{Entry, Site}
 use Rattle.mc_records.specs.declared.limits.TheConstants.Limits.{FULL}
 use Rattle.ledger_model.specs.Histories.{History}
 use Rattle.wallet_model.specs.Follows.{is_wallet, IsWalletBook, wallet_allows}
-use Rattle.book_sums.specs.declared.book_sums.BookSums.{BookSums}
-use Rattle.book_audit.specs.Audit.{IsLearned, AreLearned}
+use Rattle.audit_sums.specs.declared.audit_sums.BookSums.{BookSums}
+use Rattle.audit_search.specs.Audit.{IsLearned, AreLearned}
 use Rattle.audit_cmd.specs.Reading.{ReadsAs, IsWalletsHistory, IsKeptOf}
 use Rattle.audit_cmd.specs.Books.{AreTold, IsHousesHistory, IsHistoryOf, IsLawfulBook, HaveWallet}
 use Rattle.audit_cmd.specs.Loops.{KeptOf}

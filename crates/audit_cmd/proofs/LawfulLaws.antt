@@ -14,7 +14,7 @@ use Rattle.scrip_journal.specs.Causes.{Only, FoundsSite, IsOfKind, IsOfOtherKind
 use Rattle.scrip_journal.proofs.Beginnings.{begins_history}
 use Rattle.scrip_journal.proofs.Unique.{one_history, not_both, chain_or_history}
 use Rattle.wallet_model.specs.Follows.{WalletFollows, wallet_allows}
-use Rattle.book_audit.specs.declared.fault.BooksFault.{BooksFault}
+use Rattle.audit_search.specs.declared.fault.BooksFault.{BooksFault}
 use Rattle.audit_cmd.specs.declared.fault.AuditFault.{AuditFault}
 use Rattle.audit_cmd.specs.declared.fault.AuditFault.TheVariants as faults
 use Rattle.audit_cmd.specs.Notes.{site_first}

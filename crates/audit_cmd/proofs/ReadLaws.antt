@@ -16,8 +16,8 @@ use Rattle.house_state.specs.Learning.{Passes}
 use Rattle.house_state.specs.Trade.{TradeView}
 use Rattle.house_core.specs.declared.bench.Bench.{Bench}
 use Rattle.house_core.specs.Bench.{Replays}
-use Rattle.book_sums.specs.Learned.{SumsRepresent}
-use Rattle.book_audit.specs.Audit.{IsLearned}
+use Rattle.audit_sums.specs.Learned.{SumsRepresent}
+use Rattle.audit_search.specs.Audit.{IsLearned}
 use Rattle.audit_cmd.specs.Reading.{HasRead, kept_by, auditor}
 use Rattle.audit_cmd.specs.declared.reading.BookReader.{BookReader}
 use Rattle.audit_cmd.specs.declared.reading.BookReader.TheVariants as readers

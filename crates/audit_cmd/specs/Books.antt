@@ -7,13 +7,13 @@ use Rattle.mc_records.specs.declared.limits.TheConstants.Limits.{FULL}
 use Rattle.ledger_model.specs.Histories.{History}
 use Rattle.ledger_model.specs.Lawful.{IsLawful}
 use Rattle.scrip_journal.specs.Layout.{header, Encodes}
-use Rattle.balanced_books.specs.declared.sums.Report.{Report}
+use Rattle.audit_model.specs.declared.sums.Report.{Report}
 use Rattle.wallet_model.specs.Follows.{is_wallet}
-use Rattle.book_audit.specs.Audit.{Audited}
+use Rattle.audit_search.specs.Audit.{Audited}
 use Rattle.relay_core.specs.declared.tree.Tree.{Tree}
 use Rattle.tree_audit.specs.Audit.{TreeAudited}
-use Rattle.book_audit.specs.declared.fault.BooksFault.{BooksFault}
-use Rattle.book_audit.specs.declared.fault.BooksFault.TheVariants as founds
+use Rattle.audit_search.specs.declared.fault.BooksFault.{BooksFault}
+use Rattle.audit_search.specs.declared.fault.BooksFault.TheVariants as founds
 use Rattle.audit_cmd.specs.declared.fault.AuditFault.{AuditFault}
 use Rattle.audit_cmd.specs.declared.fault.AuditFault.TheVariants as faults
 use Rattle.audit_cmd.specs.Reading.{IsSpoiledFrom, IsUnchainedFrom, IsUnlawfulFrom, IsWalletsHistory}

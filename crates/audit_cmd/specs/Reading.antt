@@ -17,9 +17,9 @@ use Rattle.house_state.specs.Trade.{TradeView}
 use Rattle.vendor_core.specs.Shelf.{shelf_view}
 use Rattle.broker_core.specs.Desk.{desk_view}
 use Rattle.wallet_model.specs.Follows.{WalletFollows, IsWalletBook}
-use Rattle.book_sums.specs.declared.book_sums.BookSums.{BookSums}
-use Rattle.book_sums.specs.Learned.{SumsRepresent}
-use Rattle.book_audit.specs.Audit.{IsLearned}
+use Rattle.audit_sums.specs.declared.audit_sums.BookSums.{BookSums}
+use Rattle.audit_sums.specs.Learned.{SumsRepresent}
+use Rattle.audit_search.specs.Audit.{IsLearned}
 use Rattle.audit_cmd.specs.declared.reader.Reader.{Reader}
 use Rattle.audit_cmd.specs.declared.reading.BookReader.{BookReader}
 use Rattle.audit_cmd.specs.declared.reading.BookReader.TheVariants as readers

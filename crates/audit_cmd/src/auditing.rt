@@ -8,8 +8,8 @@ ghost use Rattle.audit_cmd.specs.Loops.{KeptOf};
 
 use crate::books::{Kept, read_books};
 use crate::fault::{AuditFault, of_books};
-use balanced_books::Report;
-use book_audit::audit_books;
+use audit_model::Report;
+use audit_search::audit_books;
 use mc_outside::Disk;
 use std::alloc::Global;
 

@@ -10,7 +10,7 @@ ghost use Rattle.audit_cmd.specs.Loops.{KeptOf, AuditsAll, audit_causes};
 
 use crate::fault::AuditFault;
 use crate::reading::read_book;
-use book_sums::BookSums;
+use audit_sums::BookSums;
 use mc_base::NoMemory;
 use mc_outside::Disk;
 use scrip_journal::{FIRST_GATE, HouseFault};

@@ -3,7 +3,7 @@
 ghost use Rattle.std.specs.Prelude.{◌≡◌};
 ghost use Rattle.audit_cmd.specs.Books.{fault_of};
 
-use book_audit::BooksFault;
+use audit_search::BooksFault;
 use scrip_form::{Id, Name};
 
 /// Why books on disks are not reported. A book is told by its place in the list, from 0.

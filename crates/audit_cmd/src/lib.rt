@@ -10,8 +10,8 @@ mod reader;
 mod reading;
 mod tree_auditing;
 
+pub use audit_model::{Report, Sums, VendorSums};
 pub use auditing::audit;
-pub use balanced_books::{Report, Sums, VendorSums};
 pub use book_chains::chains;
 pub use chain_reading::ChainLine;
 pub use fault::AuditFault;

@@ -15,7 +15,7 @@ ghost use Rattle.house_state.specs.Learning.{Passes};
 ghost use Rattle.house_core.specs.Bench.{limits_of};
 ghost use Rattle.audit_cmd.specs.Reading.{Reads};
 
-use book_sums::BookSums;
+use audit_sums::BookSums;
 use house_core::Bench;
 use house_state::Trade;
 use mc_base::NoMemory;

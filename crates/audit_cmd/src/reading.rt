@@ -6,8 +6,8 @@ ghost use Rattle.book_opening.specs.Opening.{CountedBy};
 ghost use Rattle.audit_cmd.specs.Reading.{kept_by, read_disk, wallets_disk, ReadsHouse, ReadsWallet, ReadsBook};
 
 use crate::reader::Reader;
+use audit_sums::BookSums;
 use book_opening::{Opener, open_book};
-use book_sums::BookSums;
 use broker_core::Desk;
 use ledger_model::{BROKER_KIND, VENDOR_KIND};
 use mc_base::NoMemory;

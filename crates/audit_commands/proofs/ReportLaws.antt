@@ -4,7 +4,7 @@ use Rattle.std.specs.Prelude.{IfSome}
 use Rattle.std.specs.List.{AllByRecursion}
 use Rattle.mc_outside.specs.DiskView.{DiskView}
 use Rattle.ledger_model.specs.Histories.{History}
-use Rattle.book_audit.specs.declared.fault.BooksFault.{BooksFault}
+use Rattle.audit_search.specs.declared.fault.BooksFault.{BooksFault}
 use Rattle.audit_cmd.specs.declared.fault.AuditFault.{AuditFault}
 use Rattle.audit_cmd.specs.declared.fault.AuditFault.TheVariants as faults
 use Rattle.audit_cmd.specs.Books.{AreTold, counts, decided_by, deciding, IsLawfulBook, AreAuditedBy, FindsBy, IsOfLawful, told_book, CountsBy}

@@ -9,14 +9,14 @@ use Rattle.mc_records.specs.declared.refusal.Refusal.TheVariants as refusals
 use Rattle.mc_records.specs.declared.limits.TheConstants.Limits.{FULL}
 use Rattle.ledger_model.specs.Histories.{History}
 use Rattle.scrip_journal.specs.Layout.{header}
-use Rattle.balanced_books.specs.declared.sums.Report.{Report}
+use Rattle.audit_model.specs.declared.sums.Report.{Report}
 use Rattle.audit_report.specs.Text.{report_text}
 use Rattle.audit_report.specs.Json.{report_json}
 use Rattle.relay_core.specs.declared.tree.Tree.{Tree}
 use Rattle.relay_core.specs.Text.{tree_text}
-use Rattle.book_audit.specs.declared.fault.BooksFault.{BooksFault}
-use Rattle.book_audit.specs.declared.fault.BooksFault.TheVariants as founds
-use Rattle.book_audit.specs.Audit.{Audited}
+use Rattle.audit_search.specs.declared.fault.BooksFault.{BooksFault}
+use Rattle.audit_search.specs.declared.fault.BooksFault.TheVariants as founds
+use Rattle.audit_search.specs.Audit.{Audited}
 use Rattle.tree_audit.specs.Audit.{TreeAudited}
 use Rattle.audit_cmd.specs.declared.fault.AuditFault.{AuditFault}
 use Rattle.audit_cmd.specs.declared.fault.AuditFault.TheVariants as faults

@@ -8,8 +8,8 @@ ghost use Rattle.command_status.specs.Statuses.{number_of};
 ghost use Rattle.audit_commands.specs.Reports.{report_lines, audit_status, IsReportStatus, TellsFound, IfTold, ReportsBooks, ReportCauses, AreCalm, EndsReport};
 
 use audit_cmd::{AuditFault, audit};
+use audit_model::Report;
 use audit_report::{report_json, report_text};
-use balanced_books::Report;
 use command_status::Status;
 use mc_base::{List, NoMemory};
 use mc_outside::Disk;

@@ -2,8 +2,8 @@
 use Rattle.std.proofs.Common.{◌≡◌, false, List, [], ◌∷◌, map, refl}
 use Rattle.serde_json.specs.View.{items_of}
 use Rattle.serde_json.specs.Written.{has_float, items_have_float}
-use Rattle.balanced_books.specs.declared.sums.Report.{Report}
-use Rattle.balanced_books.specs.declared.sums.VendorSums.{VendorSums}
+use Rattle.audit_model.specs.declared.sums.Report.{Report}
+use Rattle.audit_model.specs.declared.sums.VendorSums.{VendorSums}
 use Rattle.audit_report.specs.Json.{report_data, vendor_data}
 
 none_of_vendors : (vs : List VendorSums) → items_have_float (items_of (map vendor_data vs)) ≡ false

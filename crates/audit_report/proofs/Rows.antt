@@ -2,8 +2,8 @@
 use Rattle.std.proofs.Common.{◌≡◌, refl, codes, [], ◌∷◌}
 use Rattle.std.specs.Fmt.{digits}
 use Rattle.serde_json.proofs.OnLiterals.{serde_json_on_literals}
-use Rattle.balanced_books.specs.declared.sums.Report.{Report}
-use Rattle.balanced_books.specs.declared.sums.VendorSums.{VendorSums}
+use Rattle.audit_model.specs.declared.sums.Report.{Report}
+use Rattle.audit_model.specs.declared.sums.VendorSums.{VendorSums}
 use Rattle.audit_report.specs.Text.{report_text}
 use Rattle.audit_report.specs.Json.{report_json}
 

@@ -3,8 +3,8 @@ use Rattle.std.specs.Prelude.{ℕ, List, ◌++◌, map, codes, decimal}
 use Rattle.serde_json.specs.Data.{Data, string, array, object, no_members, member}
 use Rattle.serde_json.specs.View.{items_of}
 use Rattle.serde_json.specs.Written.{compact_text}
-use Rattle.balanced_books.specs.declared.sums.Report.{Report}
-use Rattle.balanced_books.specs.declared.sums.VendorSums.{VendorSums}
+use Rattle.audit_model.specs.declared.sums.Report.{Report}
+use Rattle.audit_model.specs.declared.sums.VendorSums.{VendorSums}
 
 -- a sum, as a text of its digits, so that no reader rounds it
 abbrev pub sum_data : ℕ → Data

@@ -1,7 +1,7 @@
 -- The lines of a report.
 use Rattle.std.specs.Prelude.{ℕ, List, ◌++◌, flat_map, codes, decimal}
-use Rattle.balanced_books.specs.declared.sums.Report.{Report}
-use Rattle.balanced_books.specs.declared.sums.VendorSums.{VendorSums}
+use Rattle.audit_model.specs.declared.sums.Report.{Report}
+use Rattle.audit_model.specs.declared.sums.VendorSums.{VendorSums}
 
 -- the broker's name
 abbrev pub broker_line : List ℕ → List ℕ

@@ -5,7 +5,7 @@ ghost use Rattle.serde_json.specs.View.{view};
 ghost use Rattle.serde_json.specs.Written.{compact_text};
 ghost use Rattle.audit_report.specs.Json.{report_data, vendor_data, report_json};
 
-use balanced_books::{Report, VendorSums};
+use audit_model::{Report, VendorSums};
 use itoa::Buffer;
 use mc_base::NoMemory;
 use scrip_form::Name;

@@ -3,7 +3,7 @@
 ghost use Rattle.std.specs.Prelude.{◌≡◌, ◌++◌, IfOk, OnOk, OnErr, codes, decimal};
 ghost use Rattle.audit_report.specs.Text.{broker_line, number_line, vendor_line, vendor_lines, report_text};
 
-use balanced_books::{Report, VendorSums};
+use audit_model::{Report, VendorSums};
 use itoa::Buffer;
 use mc_base::NoMemory;
 use scrip_form::Name;

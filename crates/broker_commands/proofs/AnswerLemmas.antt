@@ -7,8 +7,8 @@ use Rattle.mc_records.specs.declared.limits.Limits.{Limits}
 use Rattle.mc_records.specs.declared.refusal.Refusal.TheVariants.{NoAccount}
 use Rattle.ledger_model.specs.Histories.{History}
 use Rattle.ledger_model.specs.Accounts.{key_in, balance}
-use Rattle.account_ledger.specs.declared.account_ledger.Standing.{Standing}
-use Rattle.account_ledger.specs.Ledger.{standing_in}
+use Rattle.broker_ledger.specs.declared.broker_ledger.Standing.{Standing}
+use Rattle.broker_ledger.specs.Ledger.{standing_in}
 use Rattle.scrip_journal.specs.Exits.{EncodesNoOutput}
 use Rattle.scrip_journal.specs.Rests.{journal_leaves}
 use Rattle.house_core.specs.declared.house.House.{House}

@@ -24,11 +24,11 @@ use Rattle.ledger_model.specs.Lines.{Refuse}
 use Rattle.ledger_model.specs.Answer.{errand_offer, broker_offer, offer}
 use Rattle.ledger_model.specs.Lawful.{MayFollow}
 use Rattle.ledger_model.specs.Replies.{errand_price, sale_price, price_asked}
-use Rattle.account_ledger.specs.Ledger.{AccountsAnswer}
-use Rattle.vendor_stalls.specs.declared.target.Purchase.{Purchase}
-use Rattle.vendor_stalls.specs.Stalls.{StallView, has_id, empty_stall}
-use Rattle.vendor_stalls.specs.Shown.{Shows}
-use Rattle.vendor_stalls.specs.Vendors.{found_stall, asked_to_buy, StallsAllow, StallsAnswer}
+use Rattle.broker_ledger.specs.Ledger.{AccountsAnswer}
+use Rattle.broker_stalls.specs.declared.target.Purchase.{Purchase}
+use Rattle.broker_stalls.specs.Stalls.{StallView, has_id, empty_stall}
+use Rattle.broker_stalls.specs.Shown.{Shows}
+use Rattle.broker_stalls.specs.Vendors.{found_stall, asked_to_buy, StallsAllow, StallsAnswer}
 use Rattle.house_state.specs.Learning.{Test, untested, ByHouse, ByTrade, MayLearn}
 use Rattle.broker_core.specs.Desk.{IsOfBroker, DeskAllows, HasNothingOf, account_credited, credit_offer, fee_by}
 

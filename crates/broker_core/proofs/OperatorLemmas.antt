@@ -15,8 +15,8 @@ use Rattle.ledger_model.specs.Histories.{History, time}
 use Rattle.ledger_model.specs.Houses.{site_kind, is_broker}
 use Rattle.ledger_model.specs.Lawful.{MayFollow, IsAllowed}
 use Rattle.ledger_model.specs.Stock.{licence_in}
-use Rattle.account_ledger.specs.Ledger.{AccountsAllow}
-use Rattle.account_ledger.specs.Tasks.{task_of}
+use Rattle.broker_ledger.specs.Ledger.{AccountsAllow}
+use Rattle.broker_ledger.specs.Tasks.{task_of}
 use Rattle.house_state.specs.CommandEntries.{IsCommand}
 use Rattle.house_core.specs.declared.outcome.Outcome.{Outcome}
 use Rattle.house_core.specs.declared.outcome.Outcome.TheVariants as outcomes

@@ -20,13 +20,13 @@ use Rattle.ledger_model.specs.Stages.{supplied}
 use Rattle.ledger_model.specs.Replies.{Contents, sale_brought, contents_if}
 use Rattle.house_state.specs.Trade.{piece_brought, BringsFor}
 use Rattle.house_state.specs.Views.{entry_deed}
-use Rattle.stock_rack.specs.declared.piece.StockPiece.{StockPiece}
-use Rattle.stock_rack.specs.Racks.{is_open}
-use Rattle.vendor_stalls.specs.Stalls.{StallView, terms_of, sold_count, stocked_at, is_known}
-use Rattle.vendor_stalls.specs.Listed.{piece_in_stock}
-use Rattle.vendor_stalls.specs.Shown.{Shows}
-use Rattle.vendor_stalls.proofs.ShownLaws.{first_is}
-use Rattle.vendor_stalls.proofs.HeldLaws.{held_is}
+use Rattle.broker_stock.specs.declared.piece.StockPiece.{StockPiece}
+use Rattle.broker_stock.specs.Racks.{is_open}
+use Rattle.broker_stalls.specs.Stalls.{StallView, terms_of, sold_count, stocked_at, is_known}
+use Rattle.broker_stalls.specs.Listed.{piece_in_stock}
+use Rattle.broker_stalls.specs.Shown.{Shows}
+use Rattle.broker_stalls.proofs.ShownLaws.{first_is}
+use Rattle.broker_stalls.proofs.HeldLaws.{held_is}
 use Rattle.broker_core.specs.Sales.{licensed_deed, stock_deed, IsLicensed, sale_of_next}
 
 -- ---- what is supplied

@@ -23,8 +23,8 @@ use Rattle.piece_lines.specs.Rules.{is_stock_of}
 use Rattle.piece_lines.specs.PieceLines.{LineFits, AreLines, IsTold}
 use Rattle.piece_lines.proofs.IdLaws.{text_read}
 use Rattle.piece_lines.proofs.LineLaws.{input_told}
-use Rattle.vendor_stalls.specs.Stalls.{StallView, empty_stall, has_id, was_stocked}
-use Rattle.vendor_stalls.specs.Shown.{Shows}
+use Rattle.broker_stalls.specs.Stalls.{StallView, empty_stall, has_id, was_stocked}
+use Rattle.broker_stalls.specs.Shown.{Shows}
 use Rattle.house_core.specs.Tasks.{Add, Refuse}
 use Rattle.broker_core.specs.Tasks.{stands_twice, first_twice, stock_refusal, stock_lines, stock_task, pieces_in, unless}
 use Rattle.broker_core.proofs.OperatorLemmas.{broker_is}

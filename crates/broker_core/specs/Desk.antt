@@ -11,8 +11,8 @@ use Rattle.ledger_model.specs.Lines.{Stop}
 use Rattle.ledger_model.specs.declared.numbers.TheConstants.{BROKER_KIND}
 use Rattle.kept_replies.specs.declared.deed.Deed.{Deed}
 use Rattle.kept_replies.specs.declared.deed.Deed.TheVariants as kept
-use Rattle.account_ledger.specs.Ledger.{Represents, HasRoom, AccountsAllow}
-use Rattle.vendor_stalls.specs.Vendors.{StallsRepresent, StallsHaveRoom, StallsAllow}
+use Rattle.broker_ledger.specs.Ledger.{Represents, HasRoom, AccountsAllow}
+use Rattle.broker_stalls.specs.Vendors.{StallsRepresent, StallsHaveRoom, StallsAllow}
 use Rattle.house_state.specs.Trade.{TradeView}
 use Rattle.broker_core.specs.declared.desk.Desk.{Desk}
 use Rattle.broker_core.specs.Moves.{MovesRepresent, MovesHaveRoom, MovesAllow}

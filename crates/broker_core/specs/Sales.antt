@@ -10,8 +10,8 @@ use Rattle.kept_replies.specs.declared.deed.Deed.TheVariants as kept
 use Rattle.ledger_model.specs.Lines.{Stop, ◌>>=◌}
 use Rattle.ledger_model.specs.Stages.{next_by}
 use Rattle.ledger_model.specs.Stock.{licensed_piece}
-use Rattle.stock_rack.specs.declared.piece.StockPiece.{StockPiece}
-use Rattle.vendor_stalls.specs.Listed.{piece_in_stock}
+use Rattle.broker_stock.specs.declared.piece.StockPiece.{StockPiece}
+use Rattle.broker_stalls.specs.Listed.{piece_in_stock}
 
 -- a deed that sells scrip of a vendor
 abbrev pub IsSale : Deed → Type 0

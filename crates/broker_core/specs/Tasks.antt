@@ -12,7 +12,7 @@ use Rattle.ledger_model.specs.Stock.{licence_in, ids_of, stock_ids}
 use Rattle.issuer_terms.specs.Terms.{are_same_terms}
 use Rattle.piece_lines.specs.Rules.{is_stock_of}
 use Rattle.piece_lines.specs.PieceLines.{input_lines}
-use Rattle.account_ledger.specs.Tasks as accounts
+use Rattle.broker_ledger.specs.Tasks as accounts
 use Rattle.house_state.specs.CommandEntries.{IsCommand}
 use Rattle.house_core.specs.Tasks.{Task, Add, Stays, Refuse}
 use Rattle.house_core.specs.Upgrading.{upgrade_task}

@@ -8,9 +8,9 @@ ghost use Rattle.ledger_model.specs.Stages.{supplied, sale_by};
 ghost use Rattle.ledger_model.specs.Answer.{supply_of};
 ghost use Rattle.mc_records.specs.Errands.{buy, errand_of};
 ghost use Rattle.mc_records.specs.Views.{entry};
-ghost use Rattle.account_ledger.specs.Ledger.{Represents, HasRoom, AccountsAnswer};
-ghost use Rattle.vendor_stalls.specs.Shown.{Shows};
-ghost use Rattle.vendor_stalls.specs.Vendors.{found_stall, StallsRepresent, StallsHaveRoom, StallsAnswer};
+ghost use Rattle.broker_ledger.specs.Ledger.{Represents, HasRoom, AccountsAnswer};
+ghost use Rattle.broker_stalls.specs.Shown.{Shows};
+ghost use Rattle.broker_stalls.specs.Vendors.{found_stall, StallsRepresent, StallsHaveRoom, StallsAnswer};
 ghost use Rattle.house_state.specs.Learning.{CommandFits, MayRaise};
 ghost use Rattle.house_state.specs.Replying.{IsOfSite};
 ghost use Rattle.house_state.specs.Trade.{BringsFor};
@@ -21,7 +21,8 @@ ghost use Rattle.broker_core.specs.Desk.{DeskRepresents, PartsAllow, DeskAllows,
 
 use crate::moves::Moves;
 use crate::sale::sold_from;
-use account_ledger::{AccountLedger, accounts_follow, order_of};
+use broker_ledger::{AccountLedger, accounts_follow, order_of};
+use broker_stalls::{Purchase, Stall, Stalls, bought, stalls_follow};
 use house_state::{Body, DrawAsk, Offer, SiteKind, Trade, Unlawful, body_of_deed};
 use kept_replies::Deed;
 use mc_base::{Amount, Moment, NoMemory};
@@ -30,7 +31,6 @@ use mc_records::{
 };
 use scrip_form::{Name, Terms};
 use std::alloc::Global;
-use vendor_stalls::{Purchase, Stall, Stalls, bought, stalls_follow};
 
 /// The trade of a broker: the accounts of its customers, the scrip of vendors that it sells, the issuers of vendors that
 /// were moved to the second version, and its fee.

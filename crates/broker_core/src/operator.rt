@@ -3,7 +3,7 @@
 ghost use Rattle.std.specs.Prelude.{◌≡◌, ◌<◌, ◌^◌, ◌∷◌, [], List as Items, ℕ, None, IfErr, IfOk, IfSome, IsSome};
 ghost use Rattle.mc_records.specs.Entry.{Licence, Fits};
 ghost use Rattle.mc_records.specs.Views.{entry};
-ghost use Rattle.account_ledger.specs.Tasks.{task_of};
+ghost use Rattle.broker_ledger.specs.Tasks.{task_of};
 ghost use Rattle.ledger_model.specs.Accounts.{balance};
 ghost use Rattle.ledger_model.specs.Histories.{History};
 ghost use Rattle.ledger_model.specs.Lawful.{MayFollow};

@@ -9,8 +9,8 @@ ghost use Rattle.ledger_model.specs.Houses.{version_by};
 ghost use Rattle.ledger_model.specs.Stock.{licence_in, licensed_count, knows_vendor, for_sale, licensed_piece};
 ghost use Rattle.ledger_model.specs.Lines.{as_line};
 ghost use Rattle.ledger_model.specs.Stages.{supplied};
-ghost use Rattle.vendor_stalls.specs.Listed.{piece_in_stock};
-ghost use Rattle.vendor_stalls.specs.Shown.{Shows};
+ghost use Rattle.broker_stalls.specs.Listed.{piece_in_stock};
+ghost use Rattle.broker_stalls.specs.Shown.{Shows};
 ghost use Rattle.house_state.specs.Replying.{IsOfSite};
 ghost use Rattle.house_state.specs.Trade.{BringsFor};
 ghost use Rattle.house_state.specs.Views.{entry_deed};
@@ -18,12 +18,12 @@ ghost use Rattle.broker_core.specs.Moves.{moves_of, MovesRepresent};
 ghost use Rattle.broker_core.specs.Sales.{IsSale, IsLicensed, sale_of_next, licensed_deed, stock_deed};
 
 use crate::moves::Moves;
+use broker_stalls::{Purchase, Stall, StockPiece};
 use kept_replies::Deed;
 use mc_base::Moment;
 use mc_records::{Limits, Refusal};
 use scrip_certs::{certificate, customer_secret};
 use scrip_form::{Id, Piece, Props, Terms, write_scrip};
-use vendor_stalls::{Purchase, Stall, StockPiece};
 
 /// What is sold of a vendor, whose stall this is: the next piece under his licence, or else the first one of his
 /// stock that is for sale.

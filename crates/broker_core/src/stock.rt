@@ -5,15 +5,15 @@ ghost use Rattle.ledger_model.specs.Histories.{History};
 ghost use Rattle.ledger_model.specs.Stock.{stock_ids};
 ghost use Rattle.house_core.specs.Refusing.{IsAmong};
 ghost use Rattle.piece_lines.specs.Rules.{passes};
-ghost use Rattle.vendor_stalls.specs.Shown.{Shows};
-ghost use Rattle.vendor_stalls.specs.Stalls.{was_stocked};
-ghost use Rattle.vendor_stalls.specs.Vendors.{found_stall};
+ghost use Rattle.broker_stalls.specs.Shown.{Shows};
+ghost use Rattle.broker_stalls.specs.Stalls.{was_stocked};
+ghost use Rattle.broker_stalls.specs.Vendors.{found_stall};
 ghost use Rattle.broker_core.specs.Tasks.{stands_twice, stock_lines, stock_refusal};
 
+use broker_stalls::Stall;
 use mc_records::{MOST_PIECES, Refusal};
 use piece_lines::{PieceRule, read_piece_ids};
 use scrip_form::{Id, Name};
-use vendor_stalls::Stall;
 
 /// Why lines are not taken as stock of a vendor, who has this stall, if he has one; None where they are taken.
 /// It takes no memory.

@@ -1,7 +1,7 @@
 //! Lines that ask for the sums of the books of a broker and of vendors, and for the first stranger in them.
 
 use crate::ledger_verbs::history_of;
-use balanced_books::{Sums, VendorSums};
+use audit_model::{Sums, VendorSums};
 use case_lines::{Fault, Lines, State};
 use ledger_model::History;
 use slow_sums::{slow_first_stranger, slow_sums};

@@ -25,9 +25,9 @@ use Rattle.mc_top.specs.Refusals.{RefusesFounder, RefusesOperator, RefusesPieces
 use Rattle.mc_top.specs.Programs.{ServesOnce, TellsPlay, Founds, Operates, ordered, statement, settlement, Works, Reads, Ends, RunsAs, HasBook, IsDoneOrRefused, EndsWell, answered}
 use Rattle.mc_top.proofs.SayLemmas.{said_in_part}
 use Rattle.mc_top.proofs.RefusedLemmas.{with_reason, strange_reason, site_reason, wallet_reason, operator_reason, payment_reason, renewal_reason, lines_reason, retry_reason, pieces_reason, chain_reason}
-use Rattle.book_commands.proofs.EndLemmas.{Calm, served_grew, operated_grew, init_well, served_well, operated_well}
+use Rattle.site_commands.proofs.EndLemmas.{Calm, served_grew, operated_grew, init_well, served_well, operated_well}
 use Rattle.operator_command.specs.Operations.{OperationView}
-use Rattle.book_commands.specs.Serving.{HasSite}
+use Rattle.site_commands.specs.Serving.{HasSite}
 use Rattle.wallet_model.specs.Asks.{Asking}
 use Rattle.wallet_commands.specs.Books.{HasWallet}
 use Rattle.wallet_commands.specs.Founding.{Inits}
@@ -38,7 +38,7 @@ use Rattle.wallet_commands.specs.Chaining.{Chains}
 use Rattle.wallet_commands.proofs.EndLemmas as wallet_ends
 use Rattle.audit_commands.specs.Reports.{AreCalm, report_lines}
 use Rattle.mc_records.specs.declared.limits.TheConstants.Limits.{FULL}
-use Rattle.book_audit.specs.Audit.{Audited}
+use Rattle.audit_search.specs.Audit.{Audited}
 use Rattle.relay_core.specs.Text.{tree_text}
 use Rattle.tree_audit.specs.Audit.{TreeAudited}
 

@@ -20,14 +20,14 @@ use Rattle.command_input.specs.Inputs.{LosesInput, LostInput}
 use Rattle.command_status.specs.declared.status.Status.{Status}
 use Rattle.command_status.specs.declared.status.Status.TheVariants as ends
 use Rattle.command_status.specs.Statuses.{number_of}
-use Rattle.book_audit.specs.declared.fault.BooksFault.TheVariants as founds
-use Rattle.book_audit.specs.declared.fault.BooksFault.{BooksFault}
+use Rattle.audit_search.specs.declared.fault.BooksFault.TheVariants as founds
+use Rattle.audit_search.specs.declared.fault.BooksFault.{BooksFault}
 use Rattle.audit_commands.specs.Reports.{ReportsBy, EndsReport}
-use Rattle.book_commands.specs.Serving.{HasSite}
-use Rattle.book_commands.specs.Init as sites
+use Rattle.site_commands.specs.Serving.{HasSite}
+use Rattle.site_commands.specs.Init as sites
 use Rattle.site_words.specs.Words.{Founder}
-use Rattle.book_commands.specs.Operator.{OperatesBook}
-use Rattle.book_commands.proofs.OpenLaws as sites_open
+use Rattle.site_commands.specs.Operator.{OperatesBook}
+use Rattle.site_commands.proofs.OpenLaws as sites_open
 use Rattle.wallet_model.specs.Requests.{Pending, oldest_kept}
 use Rattle.wallet_model.specs.Asks.{Asking, pend_entry, due_entry}
 use Rattle.wallet_model.specs.Settling.{settlement, refusal_number}

@@ -17,9 +17,9 @@ use Rattle.vendor_commands.specs.Course.{IsDone}
 use Rattle.vendor_commands.specs.Play.{ArePlayLines}
 use Rattle.mc_top.specs.Saying.{Says}
 use Rattle.command_status.specs.Statuses.{number_of, line_of}
-use Rattle.book_commands.specs.Serving.{HasSite, ServesBook, ServeCauses}
-use Rattle.book_commands.specs.Init.{FoundsBook, InitCauses}
-use Rattle.book_commands.specs.Operator.{OperatesBook, OperateCauses}
+use Rattle.site_commands.specs.Serving.{HasSite, ServesBook, ServeCauses}
+use Rattle.site_commands.specs.Init.{FoundsBook, InitCauses}
+use Rattle.site_commands.specs.Operator.{OperatesBook, OperateCauses}
 use Rattle.operator_command.specs.Operations.{OperationView}
 use Rattle.vendor_commands.specs.Operations.{operation_view}
 use Rattle.broker_commands.specs.Operations as brokers
@@ -29,11 +29,11 @@ use Rattle.site_words.specs.declared.settlement.Stating.{Stating}
 use Rattle.wallet_commands.specs.Founding.{Inits}
 use Rattle.wallet_commands.specs.Books.{HasWallet}
 use Rattle.std.specs.List.{AllByRecursion}
-use Rattle.book_audit.specs.declared.fault.BooksFault.TheVariants as founds
+use Rattle.audit_search.specs.declared.fault.BooksFault.TheVariants as founds
 use Rattle.mc_records.specs.declared.limits.TheConstants.Limits.{FULL}
 use Rattle.ledger_model.specs.Histories.{History}
-use Rattle.book_audit.specs.declared.fault.BooksFault.{BooksFault}
-use Rattle.book_audit.specs.Audit.{Audited}
+use Rattle.audit_search.specs.declared.fault.BooksFault.{BooksFault}
+use Rattle.audit_search.specs.Audit.{Audited}
 use Rattle.tree_audit.specs.Audit.{TreeAudited}
 use Rattle.audit_cmd.specs.Books.{AreTold, IsLawfulBook, AreAuditedBy}
 use Rattle.audit_commands.specs.Reports.{RefusesBy, ReportsBooks, ReportsTree, ReportCauses, TellsChains, ChainCauses, AreCalm, EndsReport, EndsChains}

@@ -16,7 +16,6 @@ ghost use Rattle.mc_top.specs.Programs.{ServesOnce, TellsPlay, Operates, ordered
 
 use crate::wallet::work;
 use audit_commands::{report_books, report_tree, tell_chains};
-use book_commands::{found_book, operate_book, serve_book};
 use broker_commands::DeskOperation;
 use broker_core::Desk;
 use command_status::Status;
@@ -26,6 +25,7 @@ use mc_base::NoMemory;
 use mc_outside::{Disk, Link, Outside};
 use mc_words::{Command, command_of};
 use settle_commands::{SeriesStatement, StatementPayment};
+use site_commands::{found_book, operate_book, serve_book};
 use site_words::{BrokerOperation, Operation, Playing, Shop, Stating};
 use std::alloc::Global;
 use vendor_commands::{VendorOperation, answer_play, serve_once};

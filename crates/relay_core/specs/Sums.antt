@@ -9,8 +9,8 @@ use Rattle.ledger_model.specs.Houses.{site_name}
 use Rattle.ledger_model.specs.Accounts.{all_balances}
 use Rattle.ledger_model.specs.Pieces.{own_out}
 use Rattle.ledger_model.specs.Sums.{paid_in, paid_out, fees, takings, outstanding, lapsed}
-use Rattle.balanced_books.specs.declared.sums.VendorSums.{VendorSums}
-use Rattle.balanced_books.specs.Brokers.{handed_by, relayed, AreBooksOf, AreBalanced}
+use Rattle.audit_model.specs.declared.sums.VendorSums.{VendorSums}
+use Rattle.audit_model.specs.Brokers.{handed_by, relayed, AreBooksOf, AreBalanced}
 use Rattle.relay_core.specs.declared.tree.BrokerSums.{BrokerSums}
 use Rattle.relay_core.specs.declared.tree.Tree.{Tree}
 use Rattle.relayed_books.specs.Tree.{AreOfTree, first_stranger}

@@ -9,12 +9,12 @@ use Rattle.ledger_model.specs.Histories.{History}
 use Rattle.ledger_model.specs.Houses.{site_name}
 use Rattle.ledger_model.specs.Pieces.{minted}
 use Rattle.ledger_model.specs.Stock.{Sale, sales, is_of_stock, sold_piece, stock_sold, licensed_sold}
-use Rattle.balanced_books.specs.Meets.{is_among}
-use Rattle.balanced_books.specs.Books.{HaveOwnNames}
-use Rattle.balanced_books.specs.Brokers.{licensed_by, AreBooksOf, IsGenuineStock, IsHandedOutBy, AreBalanced}
-use Rattle.balanced_books.specs.Strangers.{is_minted}
-use Rattle.balanced_books.proofs.Brokers.{all_balanced}
-use Rattle.balanced_books.proofs.Strange.{minted_here}
+use Rattle.audit_model.specs.Meets.{is_among}
+use Rattle.audit_model.specs.Books.{HaveOwnNames}
+use Rattle.audit_model.specs.Brokers.{licensed_by, AreBooksOf, IsGenuineStock, IsHandedOutBy, AreBalanced}
+use Rattle.audit_model.specs.Strangers.{is_minted}
+use Rattle.audit_model.proofs.Brokers.{all_balanced}
+use Rattle.audit_model.proofs.Strange.{minted_here}
 use Rattle.relayed_books.specs.Tree.{Sold, sold_as, all_sold, sold_over, is_genuine, AreHandedOut, AreOfTree, first_stranger}
 use Rattle.relayed_books.proofs.Strange.{no_stranger}
 

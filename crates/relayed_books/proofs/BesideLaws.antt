@@ -6,7 +6,7 @@ use Rattle.scrip_form.specs.Scrip.{Scrip}
 use Rattle.ledger_model.specs.Histories.{History}
 use Rattle.ledger_model.specs.Houses.{site_name}
 use Rattle.ledger_model.specs.Stock.{Sale, sales, is_licensed, sold_piece}
-use Rattle.balanced_books.specs.Meets.{is_among}
+use Rattle.audit_model.specs.Meets.{is_among}
 use Rattle.relayed_books.specs.Tree.{Sold, sold_as, all_sold, sold_over, is_licensed_beside}
 use Rattle.relayed_books.specs.Beside.{is_beside}
 

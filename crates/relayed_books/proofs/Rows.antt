@@ -14,7 +14,7 @@ use Rattle.ledger_model.specs.Histories.{History}
 use Rattle.ledger_model.specs.Pieces.{own_out}
 use Rattle.ledger_model.specs.Accounts.{all_balances}
 use Rattle.ledger_model.specs.Sums.{paid_in, fees, takings, outstanding, lapsed}
-use Rattle.balanced_books.specs.Brokers.{handed_by, relayed, AreBalanced}
+use Rattle.audit_model.specs.Brokers.{handed_by, relayed, AreBalanced}
 use Rattle.relayed_books.specs.Tree.{first_stranger, AreOfTree}
 
 abbrev terms : ℕ → ℕ → ℕ → Issuing

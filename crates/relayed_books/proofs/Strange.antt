@@ -10,11 +10,11 @@ use Rattle.ledger_model.specs.Houses.{is_broker}
 use Rattle.ledger_model.specs.Pieces.{accepted, accepted_piece, own_out}
 use Rattle.ledger_model.specs.Stock.{sales}
 use Rattle.ledger_model.proofs.ListLaws.{all_append}
-use Rattle.balanced_books.specs.Meets.{is_among, AreAmong}
-use Rattle.balanced_books.specs.Books.{IsBook}
-use Rattle.balanced_books.specs.Brokers.{handed_by}
-use Rattle.balanced_books.specs.Strangers.{stranger, first_by}
-use Rattle.balanced_books.proofs.Strange.{all_merge, sells_nothing}
+use Rattle.audit_model.specs.Meets.{is_among, AreAmong}
+use Rattle.audit_model.specs.Books.{IsBook}
+use Rattle.audit_model.specs.Brokers.{handed_by}
+use Rattle.audit_model.specs.Strangers.{stranger, first_by}
+use Rattle.audit_model.proofs.Strange.{all_merge, sells_nothing}
 use Rattle.relayed_books.specs.Tree.{Sold, sold_by_entry, all_sold, sold_over, clash, StandTogether, is_genuine, AreHandedOut, handed_at, sold_stranger, strangers_from, first_over, first_stranger, AreOfTree}
 use Rattle.relayed_books.proofs.Sales.{sold_in, sold_cons, together_cons, together_uncons, together_append, together_parts, only_brokers}
 

@@ -4,7 +4,7 @@ ghost use Rattle.std.specs.Prelude.{◌≡◌, ◌^◌, ◌≤◌, List, None};
 ghost use Rattle.std.specs.List.{list_any};
 ghost use Rattle.mc_records.specs.declared.limits.Limits.{Limits as Bounds};
 ghost use Rattle.ledger_model.specs.Histories.{History};
-ghost use Rattle.balanced_books.specs.Brokers.{AreBooksOf, AreBalanced};
+ghost use Rattle.audit_model.specs.Brokers.{AreBooksOf, AreBalanced};
 ghost use Rattle.relayed_books.specs.Seen.{mark_from, is_barred};
 ghost use Rattle.relayed_books.specs.Beside.{is_beside};
 ghost use Rattle.relayed_books.specs.Tree.{Sold, clash, sold_over, is_licensed_beside, AreHandedOut, AreOfTree, first_stranger};

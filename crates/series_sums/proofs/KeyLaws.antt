@@ -20,8 +20,8 @@ use Rattle.ledger_model.specs.Histories.{History}
 use Rattle.ledger_model.specs.Pieces.{accepted, accepted_piece}
 use Rattle.ledger_model.specs.Sums.{values}
 use Rattle.ledger_model.proofs.AccountLaws.{turned}
-use Rattle.balanced_books.specs.Parts.{part_of}
-use Rattle.balanced_books.specs.declared.part.Part.{Part}
+use Rattle.audit_model.specs.Parts.{part_of}
+use Rattle.audit_model.specs.declared.part.Part.{Part}
 use Rattle.sum_table.specs.SumTable.{SumTableView, sum_of}
 use Rattle.settle_core.specs.Settlement.{is_of_series, redeemed}
 use Rattle.settle_core.proofs.CountLaws.{redeemed_small}

@@ -4,10 +4,10 @@ ghost use Rattle.std.specs.Prelude.{◌≡◌, ◌≤◌, ◌++◌, length, take
 ghost use Rattle.std.specs.Int.{w32, to_be_bytes};
 ghost use Rattle.mc_records.specs.Views.{entry};
 ghost use Rattle.ledger_model.specs.Pieces.{accepted_piece};
-ghost use Rattle.balanced_books.specs.Parts.{part_of};
+ghost use Rattle.audit_model.specs.Parts.{part_of};
 ghost use Rattle.series_sums.specs.Sold.{licensed_sale, sale_view};
 
-use balanced_books::Part;
+use audit_model::Part;
 use mc_fields::put_both_if_room;
 use mc_records::{Errand, Record, RecordDeed, errands_are_texts, read_errand};
 use scrip_form::{Id, Name};

@@ -21,7 +21,7 @@ use Rattle.ledger_model.specs.Lawful.{IsLawful}
 use Rattle.ledger_model.specs.Laws.{with_id}
 use Rattle.ledger_model.proofs.ListLaws.{counts_cons, all_weaker}
 use Rattle.ledger_model.proofs.AcceptLaws.{accepted_once}
-use Rattle.balanced_books.proofs.Meeting.{StandOnce, distinct_once}
+use Rattle.audit_model.proofs.Meeting.{StandOnce, distinct_once}
 use Rattle.settle_core.specs.Settlement.{is_of_series, redeemed}
 
 -- ---- parts of some pieces

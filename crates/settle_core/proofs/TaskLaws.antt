@@ -14,7 +14,7 @@ use Rattle.ledger_model.specs.Stock.{licence_in, of_issuer}
 use Rattle.ledger_model.specs.Lines.{Stop, Refuse, Repeat, ◌>>=◌, given, refused_if}
 use Rattle.ledger_model.proofs.ListLaws.{found_passes}
 use Rattle.ledger_model.proofs.TableLaws.{line_ok, refused_ok, given_ok, ok_is}
-use Rattle.balanced_books.specs.Books.{AreBooks, IsHandedOut}
+use Rattle.audit_model.specs.Books.{AreBooks, IsHandedOut}
 use Rattle.settle_core.specs.declared.claim.Claim.{Claim}
 use Rattle.settle_core.specs.declared.claim.Payment.{Payment}
 use Rattle.settle_core.specs.declared.claim.Statement.{Statement}

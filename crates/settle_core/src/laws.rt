@@ -7,7 +7,7 @@ ghost use Rattle.mc_records.specs.declared.limits.Limits.{Limits as Bounds};
 ghost use Rattle.mc_records.specs.Entry.{Note};
 ghost use Rattle.ledger_model.specs.Histories.{History};
 ghost use Rattle.ledger_model.specs.Lawful.{IsLawful};
-ghost use Rattle.balanced_books.specs.Books.{AreBooks, IsHandedOut};
+ghost use Rattle.audit_model.specs.Books.{AreBooks, IsHandedOut};
 ghost use Rattle.settle_core.specs.Claims.{ClaimFits, PaymentFits, claim_text, payment_text, claim_of, payment_of};
 ghost use Rattle.settle_core.specs.declared.claim.Claim.{Claim};
 ghost use Rattle.settle_core.specs.declared.claim.Payment.{Payment};

@@ -3,8 +3,8 @@ use Rattle.std.proofs.Common.{◌≡◌, ℕ, ◌+◌, ◌<◌, List, [], ◌∷
 use Rattle.scrip_form.specs.Scrip.{Scrip}
 use Rattle.ledger_model.specs.Histories.{History}
 use Rattle.ledger_model.specs.Pieces.{handed_piece, own_out_from}
-use Rattle.balanced_books.specs.declared.part.Part.{Part}
-use Rattle.balanced_books.specs.Parts.{part_of}
+use Rattle.audit_model.specs.declared.part.Part.{Part}
+use Rattle.audit_model.specs.Parts.{part_of}
 use Rattle.slow_ledger.proofs.SlowLaws.{next, of_next}
 use Rattle.slow_sums.proofs.Lists.{map_append, mapped_option}
 

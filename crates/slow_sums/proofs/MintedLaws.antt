@@ -5,7 +5,7 @@ use Rattle.std.specs.List.{list_any}
 use Rattle.std.proofs.lemmas.List.Folds.{list_any-append}
 use Rattle.ledger_model.specs.Histories.{History}
 use Rattle.ledger_model.specs.Pieces.{minted_pieces, minted_from, run_from}
-use Rattle.balanced_books.specs.declared.part.Part.{Part}
+use Rattle.audit_model.specs.declared.part.Part.{Part}
 use Rattle.slow_sums.specs.Strangers.{same_as}
 use Rattle.slow_ledger.proofs.SlowLaws.{next, of_next}
 

@@ -5,8 +5,8 @@ use Rattle.scrip_form.specs.Scrip.{Scrip}
 use Rattle.mc_records.specs.Entry.{Entry}
 use Rattle.ledger_model.specs.Histories.{History}
 use Rattle.ledger_model.specs.Stock.{Sale, sale_of, sold_piece, is_of_vendor}
-use Rattle.balanced_books.specs.declared.part.Part.{Part}
-use Rattle.balanced_books.specs.Parts.{part_of}
+use Rattle.audit_model.specs.declared.part.Part.{Part}
+use Rattle.audit_model.specs.Parts.{part_of}
 use Rattle.slow_sums.specs.Parts.{sold_to}
 use Rattle.slow_ledger.proofs.SlowLaws.{from_next}
 use Rattle.slow_sums.proofs.Lists.{if_some}

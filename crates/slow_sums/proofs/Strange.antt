@@ -8,10 +8,10 @@ use Rattle.ledger_model.specs.Histories.{History}
 use Rattle.ledger_model.specs.Houses.{site_name, is_broker}
 use Rattle.ledger_model.specs.Pieces.{minted}
 use Rattle.ledger_model.specs.Stock.{Sale, sold_piece}
-use Rattle.balanced_books.specs.Meets.{is_among}
-use Rattle.balanced_books.specs.Strangers.{is_minted, stranger, sold_stranger, entry_strangers, first_stranger, AreOfMarket, first_of}
-use Rattle.balanced_books.specs.declared.part.Part.{Part}
-use Rattle.balanced_books.specs.Parts.{part_of}
+use Rattle.audit_model.specs.Meets.{is_among}
+use Rattle.audit_model.specs.Strangers.{is_minted, stranger, sold_stranger, entry_strangers, first_stranger, AreOfMarket, first_of}
+use Rattle.audit_model.specs.declared.part.Part.{Part}
+use Rattle.audit_model.specs.Parts.{part_of}
 use Rattle.slow_sums.specs.Strangers.{mints_for, vendors_of}
 use Rattle.slow_sums.proofs.Lists.{any_map, any_filter}
 

@@ -5,7 +5,7 @@ use Rattle.scrip_form.specs.Scrip.{Scrip}
 use Rattle.ledger_model.specs.Histories.{History}
 use Rattle.ledger_model.specs.Houses.{site_name, is_broker}
 use Rattle.ledger_model.specs.Pieces.{minted}
-use Rattle.balanced_books.specs.declared.part.Part.{Part}
+use Rattle.audit_model.specs.declared.part.Part.{Part}
 use Rattle.slow_sums.specs.declared.strangers.Stranger.{Stranger}
 
 -- whether a piece has the identity and the value of another

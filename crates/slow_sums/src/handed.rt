@@ -4,10 +4,10 @@ ghost use Rattle.std.specs.Prelude.{◌≡◌, ℕ, ◌<◌, ◌++◌, List, Opt
 ghost use Rattle.mc_records.specs.Entry.{Accept, Draw, Deed};
 ghost use Rattle.ledger_model.specs.Houses.{own_end};
 ghost use Rattle.ledger_model.specs.Pieces.{handed_piece, own_out};
-ghost use Rattle.balanced_books.specs.Parts.{part_of};
+ghost use Rattle.audit_model.specs.Parts.{part_of};
 
 use crate::parts::with;
-use balanced_books::Part;
+use audit_model::Part;
 use mc_base::NoMemory;
 use mc_records::{Errand, Record, read_errand};
 use scrip_form::Id;

@@ -1,9 +1,9 @@
 //! What is left of pieces that were handed out and did not come back.
 
 ghost use Rattle.std.specs.Prelude.{◌≡◌, ◌+◌, IfOk, sum_by};
-ghost use Rattle.balanced_books.specs.Parts.{still_out, gone_by};
+ghost use Rattle.audit_model.specs.Parts.{still_out, gone_by};
 
-use balanced_books::Part;
+use audit_model::Part;
 use mc_base::NoMemory;
 use slow_ledger::{Prefix, slow_is_spent, slow_time};
 

@@ -1,5 +1,5 @@
 //! The sums of the books of a broker and of vendors, and the first stranger in them, by slow programs:
-//! what the definitions of `ledger_model` and `balanced_books` say, each found by going over the entries.
+//! what the definitions of `ledger_model` and `audit_model` say, each found by going over the entries.
 //! Cases ask them; no auditor stands on them.
 #![tactic(auto)]
 

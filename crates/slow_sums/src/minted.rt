@@ -6,7 +6,7 @@ ghost use Rattle.ledger_model.specs.Histories.{History as Entries};
 ghost use Rattle.ledger_model.specs.Pieces.{run_from, minted_pieces, minted as pieces_minted};
 ghost use Rattle.slow_sums.specs.Strangers.{same_as, mints_for};
 
-use balanced_books::Part;
+use audit_model::Part;
 use ledger_model::History;
 use mc_records::Record;
 use scrip_form::Id;

@@ -3,9 +3,9 @@
 ghost use Rattle.std.specs.Prelude.{◌≡◌, ◌<◌, ◌++◌, ◌==◌, ◌&&◌, option_map, option_to_list, length, slice_get, IfOk, IfSome};
 ghost use Rattle.std.specs.List.{list_any};
 ghost use Rattle.ledger_model.specs.Pieces.{accepted_piece};
-ghost use Rattle.balanced_books.specs.Parts.{part_of};
+ghost use Rattle.audit_model.specs.Parts.{part_of};
 
-use balanced_books::Part;
+use audit_model::Part;
 use mc_base::NoMemory;
 use mc_records::Record;
 use slow_ledger::Prefix;

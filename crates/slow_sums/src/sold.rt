@@ -6,12 +6,12 @@ ghost use Rattle.mc_records.specs.Views.{deed_of};
 ghost use Rattle.ledger_model.specs.Houses.{version};
 ghost use Rattle.ledger_model.specs.Stock.{sale_of, sold as pieces_sold, sold_piece, licensed_piece, licence_in};
 ghost use Rattle.slow_ledger.specs.Slow.{sale_for};
-ghost use Rattle.balanced_books.specs.Parts.{part_of};
+ghost use Rattle.audit_model.specs.Parts.{part_of};
 ghost use Rattle.slow_sums.specs.Parts.{sale_by, sold_to};
 
 use crate::parts::with;
 use crate::stock::stocked;
-use balanced_books::Part;
+use audit_model::Part;
 use mc_base::NoMemory;
 use mc_records::{Errand, Record, RecordDeed, read_errand};
 use scrip_form::Id;

@@ -3,9 +3,9 @@
 ghost use Rattle.std.specs.Prelude.{◌≡◌, ◌<◌, ◌==◌, option_map, option_to_list, find, length, slice_get, IfSome};
 ghost use Rattle.mc_records.specs.PieceViews.{pieces_of};
 ghost use Rattle.ledger_model.specs.Stock.{held_piece, held_pieces, stock_of, stock_pieces};
-ghost use Rattle.balanced_books.specs.Parts.{part_of};
+ghost use Rattle.audit_model.specs.Parts.{part_of};
 
-use balanced_books::Part;
+use audit_model::Part;
 use mc_records::{PieceList, Record};
 use scrip_form::Id;
 use slow_ledger::Prefix;

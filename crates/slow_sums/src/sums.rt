@@ -1,11 +1,11 @@
 //! The sums of the books of a broker and of vendors.
 
 ghost use Rattle.std.specs.Prelude.{◌≡◌, IfOk, map};
-ghost use Rattle.balanced_books.specs.Sums.{vendor_sums, sums_of};
+ghost use Rattle.audit_model.specs.Sums.{vendor_sums, sums_of};
 
 use crate::broker::slow_broker;
 use crate::vendor::slow_vendor;
-use balanced_books::{Sums, VendorSums};
+use audit_model::{Sums, VendorSums};
 use ledger_model::History;
 use mc_base::{List, NoMemory};
 use slow_ledger::Prefix;

@@ -2,13 +2,13 @@
 
 ghost use Rattle.std.specs.Prelude.{◌≡◌, ◌<◌, length, slice_get, IfOk, IfSome, map};
 ghost use Rattle.ledger_model.specs.Sums.{price_paid, takings, handed_out};
-ghost use Rattle.balanced_books.specs.Parts.{part_of};
-ghost use Rattle.balanced_books.specs.Sums.{vendor_sums};
+ghost use Rattle.audit_model.specs.Parts.{part_of};
+ghost use Rattle.audit_model.specs.Sums.{vendor_sums};
 
 use crate::handed::with_own;
 use crate::left::{slow_lapsed, slow_outstanding, sum};
 use crate::sold::with_sold;
-use balanced_books::{Part, VendorSums};
+use audit_model::{Part, VendorSums};
 use mc_base::NoMemory;
 use mc_records::Record;
 use scrip_form::Name;

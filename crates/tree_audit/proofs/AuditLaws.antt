@@ -9,20 +9,20 @@ use Rattle.ledger_model.specs.declared.numbers.TheConstants.{BROKER_KIND, VENDOR
 use Rattle.ledger_model.specs.Histories.{History}
 use Rattle.ledger_model.specs.Houses.{site_name, is_broker}
 use Rattle.ledger_model.specs.Stock.{Sale, sales}
-use Rattle.balanced_books.specs.declared.sums.VendorSums.{VendorSums}
-use Rattle.balanced_books.specs.Books.{IsBook, HaveOwnNames}
-use Rattle.balanced_books.specs.Brokers.{AreBooksOf}
-use Rattle.book_sums.specs.declared.rows.Sold.{Sold}
-use Rattle.book_sums.specs.declared.book_sums.BookSums.{BookSums}
-use Rattle.book_sums.specs.Learned.{name_of}
-use Rattle.book_audit.specs.declared.fault.BooksFault.{BooksFault}
-use Rattle.book_audit.specs.declared.fault.BooksFault.TheVariants as faults
-use Rattle.book_audit.specs.Checks.{is_desk}
-use Rattle.book_audit.specs.Filed.{place_in}
-use Rattle.book_audit.specs.Markets.{has_vendor, own_names, IsLeast, HasAll, AreInOrder}
-use Rattle.book_audit.specs.Audit.{IsLearned, AreLearned, has_book, NamesBook}
-use Rattle.book_audit.proofs.MarketLaws as markets
-use Rattle.book_audit.proofs.AuditLaws.{broker_book, vendor_book}
+use Rattle.audit_model.specs.declared.sums.VendorSums.{VendorSums}
+use Rattle.audit_model.specs.Books.{IsBook, HaveOwnNames}
+use Rattle.audit_model.specs.Brokers.{AreBooksOf}
+use Rattle.audit_sums.specs.declared.rows.Sold.{Sold}
+use Rattle.audit_sums.specs.declared.audit_sums.BookSums.{BookSums}
+use Rattle.audit_sums.specs.Learned.{name_of}
+use Rattle.audit_search.specs.declared.fault.BooksFault.{BooksFault}
+use Rattle.audit_search.specs.declared.fault.BooksFault.TheVariants as faults
+use Rattle.audit_search.specs.Checks.{is_desk}
+use Rattle.audit_search.specs.Filed.{place_in}
+use Rattle.audit_search.specs.Markets.{has_vendor, own_names, IsLeast, HasAll, AreInOrder}
+use Rattle.audit_search.specs.Audit.{IsLearned, AreLearned, has_book, NamesBook}
+use Rattle.audit_search.proofs.MarketLaws as markets
+use Rattle.audit_search.proofs.AuditLaws.{broker_book, vendor_book}
 use Rattle.relayed_books.specs.Tree.{AreOfTree, sold_over, first_stranger}
 use Rattle.relayed_books.proofs.Sales.{only_brokers}
 use Rattle.relayed_books.proofs.Balance.{none_balanced}

@@ -12,27 +12,27 @@ use Rattle.ledger_model.specs.Houses.{site_name, is_broker}
 use Rattle.ledger_model.specs.Pieces.{piece_of, own_out, is_spent}
 use Rattle.ledger_model.specs.Stock.{Sale, sale_of, sales}
 use Rattle.ledger_model.specs.Sums.{values, outstanding, lapsed}
-use Rattle.balanced_books.specs.declared.part.Part.{Part}
-use Rattle.balanced_books.specs.Parts.{part_of}
-use Rattle.balanced_books.specs.Meets.{is_among}
-use Rattle.balanced_books.specs.Strangers.{stranger, first_of}
-use Rattle.balanced_books.specs.Brokers.{sold_by, once, again, handed_by}
-use Rattle.book_sums.specs.declared.rows.Acceptance.{Acceptance}
-use Rattle.book_sums.specs.declared.book_sums.BookSums.{BookSums}
-use Rattle.book_sums.specs.Rows.{acceptance_of}
-use Rattle.book_sums.specs.Learned.{name_of, time_of, accepted_of, own_out_of}
-use Rattle.book_audit.specs.declared.shops.Shops.{Shops}
-use Rattle.book_audit.specs.declared.spent.Left.{Left}
-use Rattle.book_audit.specs.declared.check.CheckFault.{CheckFault}
-use Rattle.book_audit.specs.declared.check.CheckFault.TheVariants as faults
-use Rattle.book_audit.specs.Known.{has_part, was_accepted}
-use Rattle.book_audit.specs.Strange.{not_in, next_sale, later_sales, strange_of, first_in}
-use Rattle.book_audit.specs.Checks.{is_desk, left_at}
-use Rattle.book_audit.specs.Audit.{IsLearned, has_book}
-use Rattle.book_audit.proofs.Ties.{is_same, parts_are, accepted_is, out_is, gone_is}
-use Rattle.book_audit.proofs.StrangeLaws.{first_append, tells}
-use Rattle.book_audit.proofs.MarketLaws.{desk_is}
-use Rattle.book_audit.proofs.AuditLaws.{first_alike}
+use Rattle.audit_model.specs.declared.part.Part.{Part}
+use Rattle.audit_model.specs.Parts.{part_of}
+use Rattle.audit_model.specs.Meets.{is_among}
+use Rattle.audit_model.specs.Strangers.{stranger, first_of}
+use Rattle.audit_model.specs.Brokers.{sold_by, once, again, handed_by}
+use Rattle.audit_sums.specs.declared.rows.Acceptance.{Acceptance}
+use Rattle.audit_sums.specs.declared.audit_sums.BookSums.{BookSums}
+use Rattle.audit_sums.specs.Rows.{acceptance_of}
+use Rattle.audit_sums.specs.Learned.{name_of, time_of, accepted_of, own_out_of}
+use Rattle.audit_search.specs.declared.shops.Shops.{Shops}
+use Rattle.audit_search.specs.declared.spent.Left.{Left}
+use Rattle.audit_search.specs.declared.check.CheckFault.{CheckFault}
+use Rattle.audit_search.specs.declared.check.CheckFault.TheVariants as faults
+use Rattle.audit_search.specs.Known.{has_part, was_accepted}
+use Rattle.audit_search.specs.Strange.{not_in, next_sale, later_sales, strange_of, first_in}
+use Rattle.audit_search.specs.Checks.{is_desk, left_at}
+use Rattle.audit_search.specs.Audit.{IsLearned, has_book}
+use Rattle.audit_search.proofs.Ties.{is_same, parts_are, accepted_is, out_is, gone_is}
+use Rattle.audit_search.proofs.StrangeLaws.{first_append, tells}
+use Rattle.audit_search.proofs.MarketLaws.{desk_is}
+use Rattle.audit_search.proofs.AuditLaws.{first_alike}
 use Rattle.relayed_books.specs.Tree.{Sold, sold_as, sold_by_entry, is_genuine, handed_at, sold_stranger, strangers_from}
 use Rattle.tree_audit.specs.declared.check.Checked.{Checked}
 use Rattle.tree_audit.specs.Desks.{AreDesks, sold_at_desks}

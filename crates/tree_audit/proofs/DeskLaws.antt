@@ -7,17 +7,17 @@ use Rattle.mc_records.specs.declared.limits.Limits.{Limits}
 use Rattle.ledger_model.specs.Histories.{History}
 use Rattle.ledger_model.specs.Houses.{is_broker}
 use Rattle.ledger_model.specs.Stock.{Sale, sales, sold}
-use Rattle.balanced_books.specs.declared.part.Part.{Part}
-use Rattle.balanced_books.specs.Parts.{part_of}
-use Rattle.balanced_books.specs.Brokers.{sold_by}
-use Rattle.balanced_books.proofs.Strange.{sells_nothing}
-use Rattle.book_sums.specs.declared.book_sums.BookSums.{BookSums}
-use Rattle.book_audit.specs.declared.shops.Shops.{Shops}
-use Rattle.book_audit.specs.Checks.{is_desk}
-use Rattle.book_audit.specs.Audit.{IsLearned, AreLearned, has_book}
-use Rattle.book_audit.specs.Standing.{StandFor}
-use Rattle.book_audit.proofs.MarketLaws.{desk_is}
-use Rattle.book_audit.proofs.AuditLaws.{vendor_book}
+use Rattle.audit_model.specs.declared.part.Part.{Part}
+use Rattle.audit_model.specs.Parts.{part_of}
+use Rattle.audit_model.specs.Brokers.{sold_by}
+use Rattle.audit_model.proofs.Strange.{sells_nothing}
+use Rattle.audit_sums.specs.declared.audit_sums.BookSums.{BookSums}
+use Rattle.audit_search.specs.declared.shops.Shops.{Shops}
+use Rattle.audit_search.specs.Checks.{is_desk}
+use Rattle.audit_search.specs.Audit.{IsLearned, AreLearned, has_book}
+use Rattle.audit_search.specs.Standing.{StandFor}
+use Rattle.audit_search.proofs.MarketLaws.{desk_is}
+use Rattle.audit_search.proofs.AuditLaws.{vendor_book}
 use Rattle.relayed_books.specs.Tree.{Sold, sold_as, all_sold, sold_over}
 use Rattle.tree_audit.specs.Desks.{IsDeskOf, AreDesksOf, StandsAt, AreDesks, sold_in, sold_at_desks}
 

@@ -4,13 +4,13 @@ use Rattle.std.specs.List.{list_any}
 use Rattle.std.proofs.lemmas.List.Sums.{sum_by-cons}
 use Rattle.scrip_form.specs.Scrip.{Scrip}
 use Rattle.ledger_model.specs.Sums.{values}
-use Rattle.balanced_books.specs.declared.part.Part.{Part}
-use Rattle.balanced_books.specs.Parts.{part_of}
-use Rattle.balanced_books.specs.Brokers.{once_from, again_from}
-use Rattle.book_audit.specs.Known.{has_id}
-use Rattle.book_audit.proofs.Ties.{turned}
-use Rattle.book_audit.proofs.Loops.{any_more}
-use Rattle.book_audit.proofs.TotalLaws.{next_drop}
+use Rattle.audit_model.specs.declared.part.Part.{Part}
+use Rattle.audit_model.specs.Parts.{part_of}
+use Rattle.audit_model.specs.Brokers.{once_from, again_from}
+use Rattle.audit_search.specs.Known.{has_id}
+use Rattle.audit_search.proofs.Ties.{turned}
+use Rattle.audit_search.proofs.Loops.{any_more}
+use Rattle.audit_search.proofs.TotalLaws.{next_drop}
 use Rattle.tree_audit.specs.Handed.{value_of, is_id, fresh, stale}
 
 -- ---- pieces of the ledger

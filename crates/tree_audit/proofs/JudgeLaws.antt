@@ -9,15 +9,15 @@ use Rattle.name_places.specs.NamePlaces.{NamePlacesView, place_of}
 use Rattle.ledger_model.specs.Histories.{History}
 use Rattle.ledger_model.specs.Houses.{site_name}
 use Rattle.ledger_model.specs.Stock.{Sale, sales, sold_piece}
-use Rattle.balanced_books.specs.declared.part.Part.{Part}
-use Rattle.balanced_books.specs.Parts.{part_of}
-use Rattle.balanced_books.specs.Strangers.{is_minted, first_of}
-use Rattle.book_sums.specs.declared.rows.Sold.{Sold as Row}
-use Rattle.book_sums.specs.Rows.{sale_by}
-use Rattle.book_audit.specs.declared.shops.Shops.{Shops}
-use Rattle.book_audit.specs.Audit.{has_book}
-use Rattle.book_audit.specs.Standing.{StandFor, piece_in, has_minted}
-use Rattle.book_audit.proofs.Loops.{one_more}
+use Rattle.audit_model.specs.declared.part.Part.{Part}
+use Rattle.audit_model.specs.Parts.{part_of}
+use Rattle.audit_model.specs.Strangers.{is_minted, first_of}
+use Rattle.audit_sums.specs.declared.rows.Sold.{Sold as Row}
+use Rattle.audit_sums.specs.Rows.{sale_by}
+use Rattle.audit_search.specs.declared.shops.Shops.{Shops}
+use Rattle.audit_search.specs.Audit.{has_book}
+use Rattle.audit_search.specs.Standing.{StandFor, piece_in, has_minted}
+use Rattle.audit_search.proofs.Loops.{one_more}
 use Rattle.relayed_books.specs.Tree.{Sold, sold_as, sold_over, clash, is_genuine, is_licensed_beside, sold_stranger}
 use Rattle.relayed_books.specs.Beside.{is_beside}
 use Rattle.relayed_books.proofs.BesideLaws as beside

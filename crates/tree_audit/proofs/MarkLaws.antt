@@ -3,8 +3,8 @@ use Rattle.std.proofs.Common.{◌≡◌, ℕ, Bool, true, false, cond, not, ◌&
 use Rattle.std.specs.List.{list_any}
 use Rattle.std.proofs.lemmas.Slice.Eq.{bytes_eq-Decides}
 use Rattle.name_places.specs.NamePlaces.{NamePlacesView, place_of}
-use Rattle.balanced_books.specs.declared.part.Part.{Part}
-use Rattle.book_audit.proofs.Ties.{turned}
+use Rattle.audit_model.specs.declared.part.Part.{Part}
+use Rattle.audit_search.proofs.Ties.{turned}
 use Rattle.relayed_books.specs.Tree.{Sold, clash}
 use Rattle.relayed_books.specs.Seen as seen
 use Rattle.relayed_books.specs.Seen.{marked, is_of, mark_from, is_barred}

@@ -12,16 +12,16 @@ use Rattle.ledger_model.specs.Histories.{History}
 use Rattle.ledger_model.specs.Houses.{site_name, is_broker}
 use Rattle.ledger_model.specs.Stock.{Sale, sales}
 use Rattle.ledger_model.proofs.AccountLaws as names
-use Rattle.balanced_books.specs.Books.{HaveOwnNames}
-use Rattle.book_sums.specs.declared.rows.Sold.{Sold}
-use Rattle.book_sums.specs.declared.book_sums.BookSums.{BookSums}
-use Rattle.book_sums.specs.Rows.{sale_by}
-use Rattle.book_sums.specs.Learned.{name_of, sales_of}
-use Rattle.book_audit.specs.Checks.{is_desk}
-use Rattle.book_audit.specs.Markets.{comes_before, IsLeast, HasAll}
-use Rattle.book_audit.specs.Audit.{IsLearned, AreLearned, has_book}
-use Rattle.book_audit.proofs.Loops.{one_more, any_more}
-use Rattle.book_audit.proofs.MarketLaws.{desk_is}
+use Rattle.audit_model.specs.Books.{HaveOwnNames}
+use Rattle.audit_sums.specs.declared.rows.Sold.{Sold}
+use Rattle.audit_sums.specs.declared.audit_sums.BookSums.{BookSums}
+use Rattle.audit_sums.specs.Rows.{sale_by}
+use Rattle.audit_sums.specs.Learned.{name_of, sales_of}
+use Rattle.audit_search.specs.Checks.{is_desk}
+use Rattle.audit_search.specs.Markets.{comes_before, IsLeast, HasAll}
+use Rattle.audit_search.specs.Audit.{IsLearned, AreLearned, has_book}
+use Rattle.audit_search.proofs.Loops.{one_more, any_more}
+use Rattle.audit_search.proofs.MarketLaws.{desk_is}
 use Rattle.tree_audit.specs.Desks.{KnowSales}
 use Rattle.tree_audit.specs.Names.{own_all, desk_sales}
 use Rattle.tree_audit.specs.Audit.{IsLeastMissing}

@@ -10,21 +10,21 @@ use Rattle.ledger_model.specs.Histories.{History}
 use Rattle.ledger_model.specs.Houses.{site_name, is_broker}
 use Rattle.ledger_model.specs.Pieces.{own_out}
 use Rattle.ledger_model.specs.Sums.{values, outstanding, lapsed}
-use Rattle.balanced_books.specs.declared.sums.VendorSums.{VendorSums}
-use Rattle.balanced_books.specs.Strangers.{first_of, first_by}
-use Rattle.balanced_books.specs.Brokers.{sold_by, again, relayed, handed_by}
-use Rattle.balanced_books.proofs.Left.{same_vendor}
-use Rattle.book_sums.specs.declared.book_sums.BookSums.{BookSums}
-use Rattle.book_sums.specs.Learned.{name_of}
-use Rattle.book_audit.specs.declared.spent.Left.{Left}
-use Rattle.book_audit.specs.declared.fault.BooksFault.{BooksFault}
-use Rattle.book_audit.specs.declared.check.CheckFault.{CheckFault}
-use Rattle.book_audit.specs.declared.check.CheckFault.TheVariants as faults
-use Rattle.book_audit.specs.Checks.{is_desk, row_with, fault_at}
-use Rattle.book_audit.specs.Audit.{IsLearned, has_book}
-use Rattle.book_audit.proofs.MarketLaws.{desk_is}
-use Rattle.book_audit.proofs.AuditLaws.{each_has}
-use Rattle.book_audit.proofs.Audited.{accounts_are}
+use Rattle.audit_model.specs.declared.sums.VendorSums.{VendorSums}
+use Rattle.audit_model.specs.Strangers.{first_of, first_by}
+use Rattle.audit_model.specs.Brokers.{sold_by, again, relayed, handed_by}
+use Rattle.audit_model.proofs.Left.{same_vendor}
+use Rattle.audit_sums.specs.declared.audit_sums.BookSums.{BookSums}
+use Rattle.audit_sums.specs.Learned.{name_of}
+use Rattle.audit_search.specs.declared.spent.Left.{Left}
+use Rattle.audit_search.specs.declared.fault.BooksFault.{BooksFault}
+use Rattle.audit_search.specs.declared.check.CheckFault.{CheckFault}
+use Rattle.audit_search.specs.declared.check.CheckFault.TheVariants as faults
+use Rattle.audit_search.specs.Checks.{is_desk, row_with, fault_at}
+use Rattle.audit_search.specs.Audit.{IsLearned, has_book}
+use Rattle.audit_search.proofs.MarketLaws.{desk_is}
+use Rattle.audit_search.proofs.AuditLaws.{each_has}
+use Rattle.audit_search.proofs.Audited.{accounts_are}
 use Rattle.relayed_books.specs.Tree.{Sold, all_sold, sold_over, is_genuine, handed_at, strangers_from, first_over, first_stranger}
 use Rattle.relay_core.specs.declared.tree.BrokerSums.{BrokerSums}
 use Rattle.relay_core.specs.Sums.{sums_of_broker, sums_of_vendor}

@@ -5,11 +5,11 @@ use Rattle.mc_records.specs.declared.limits.Limits.{Limits}
 use Rattle.ledger_model.specs.Histories.{History}
 use Rattle.ledger_model.specs.Houses.{site_name}
 use Rattle.ledger_model.specs.Stock.{sales}
-use Rattle.balanced_books.specs.Brokers.{AreBooksOf}
-use Rattle.book_audit.specs.declared.fault.BooksFault.{BooksFault}
-use Rattle.book_audit.specs.declared.fault.BooksFault.TheVariants as faults
-use Rattle.book_audit.specs.Markets.{comes_before, AreInOrder}
-use Rattle.book_audit.specs.Audit.{has_book}
+use Rattle.audit_model.specs.Brokers.{AreBooksOf}
+use Rattle.audit_search.specs.declared.fault.BooksFault.{BooksFault}
+use Rattle.audit_search.specs.declared.fault.BooksFault.TheVariants as faults
+use Rattle.audit_search.specs.Markets.{comes_before, AreInOrder}
+use Rattle.audit_search.specs.Audit.{has_book}
 use Rattle.relayed_books.specs.Tree.{AreOfTree, first_stranger}
 use Rattle.relay_core.specs.declared.tree.Tree.{Tree}
 use Rattle.relay_core.specs.Sums.{IsTold, AreByName}

@@ -3,17 +3,17 @@ use Rattle.std.specs.Prelude.{◌≡◌, ℕ, Bool, if◌then◌else◌, List, O
 use Rattle.ledger_model.specs.Histories.{History}
 use Rattle.ledger_model.specs.Houses.{site_name, is_broker}
 use Rattle.ledger_model.specs.Sums.{values, outstanding, lapsed}
-use Rattle.balanced_books.specs.declared.part.Part.{Part}
-use Rattle.balanced_books.specs.Strangers.{first_of}
-use Rattle.balanced_books.specs.Brokers.{sold_by, again}
-use Rattle.book_sums.specs.declared.book_sums.BookSums.{BookSums}
-use Rattle.book_sums.specs.Learned.{accepted_of}
-use Rattle.book_audit.specs.declared.spent.Left.{Left}
-use Rattle.book_audit.specs.declared.check.CheckFault.{CheckFault}
-use Rattle.book_audit.specs.declared.check.CheckFault.TheVariants as faults
-use Rattle.book_audit.specs.Known.{has_part}
-use Rattle.book_audit.specs.Strange.{not_in, first_in}
-use Rattle.book_audit.specs.Checks.{left_at}
+use Rattle.audit_model.specs.declared.part.Part.{Part}
+use Rattle.audit_model.specs.Strangers.{first_of}
+use Rattle.audit_model.specs.Brokers.{sold_by, again}
+use Rattle.audit_sums.specs.declared.audit_sums.BookSums.{BookSums}
+use Rattle.audit_sums.specs.Learned.{accepted_of}
+use Rattle.audit_search.specs.declared.spent.Left.{Left}
+use Rattle.audit_search.specs.declared.check.CheckFault.{CheckFault}
+use Rattle.audit_search.specs.declared.check.CheckFault.TheVariants as faults
+use Rattle.audit_search.specs.Known.{has_part}
+use Rattle.audit_search.specs.Strange.{not_in, first_in}
+use Rattle.audit_search.specs.Checks.{left_at}
 use Rattle.relayed_books.specs.Tree.{Sold, is_genuine, handed_at, strangers_from}
 use Rattle.tree_audit.specs.declared.check.Checked.{Checked}
 

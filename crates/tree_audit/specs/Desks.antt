@@ -6,14 +6,14 @@ use Rattle.name_places.specs.NamePlaces.{NamePlacesView, place_of}
 use Rattle.ledger_model.specs.Histories.{History}
 use Rattle.ledger_model.specs.Houses.{is_broker}
 use Rattle.ledger_model.specs.Stock.{sales}
-use Rattle.balanced_books.specs.declared.part.Part.{Part}
-use Rattle.book_sums.specs.declared.rows.Sold.{Sold as Row}
-use Rattle.book_sums.specs.declared.book_sums.BookSums.{BookSums}
-use Rattle.book_sums.specs.Rows.{sale_by}
-use Rattle.book_audit.specs.declared.shops.Shops.{Shops}
-use Rattle.book_audit.specs.Checks.{is_desk}
-use Rattle.book_audit.specs.Audit.{IsLearned, AreLearned, has_book}
-use Rattle.book_audit.specs.Standing.{StandFor, sold_of, piece_in}
+use Rattle.audit_model.specs.declared.part.Part.{Part}
+use Rattle.audit_sums.specs.declared.rows.Sold.{Sold as Row}
+use Rattle.audit_sums.specs.declared.audit_sums.BookSums.{BookSums}
+use Rattle.audit_sums.specs.Rows.{sale_by}
+use Rattle.audit_search.specs.declared.shops.Shops.{Shops}
+use Rattle.audit_search.specs.Checks.{is_desk}
+use Rattle.audit_search.specs.Audit.{IsLearned, AreLearned, has_book}
+use Rattle.audit_search.specs.Standing.{StandFor, sold_of, piece_in}
 use Rattle.relayed_books.specs.Tree.{Sold, sold_as}
 use Rattle.tree_audit.specs.Marks.{AreApart}
 

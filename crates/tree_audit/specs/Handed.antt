@@ -1,11 +1,11 @@
 -- What was handed out of a book, each identity once, by what was kept of the books.
 use Rattle.std.specs.Prelude.{ℕ, Bool, ◌==◌, if◌then◌else◌, List, [], ◌∷◌, ◌++◌, sum_by, Option}
-use Rattle.balanced_books.specs.declared.part.Part.{Part}
-use Rattle.book_sums.specs.declared.book_sums.BookSums.{BookSums}
-use Rattle.book_sums.specs.Learned.{name_of, own_out_of}
-use Rattle.book_audit.specs.declared.shops.Shops.{Shops}
-use Rattle.book_audit.specs.Known.{has_id}
-use Rattle.book_audit.specs.Checks.{is_desk}
+use Rattle.audit_model.specs.declared.part.Part.{Part}
+use Rattle.audit_sums.specs.declared.audit_sums.BookSums.{BookSums}
+use Rattle.audit_sums.specs.Learned.{name_of, own_out_of}
+use Rattle.audit_search.specs.declared.shops.Shops.{Shops}
+use Rattle.audit_search.specs.Known.{has_id}
+use Rattle.audit_search.specs.Checks.{is_desk}
 use Rattle.tree_audit.specs.Desks.{sold_at_desks}
 
 abbrev pub value_of : Part → ℕ

@@ -2,7 +2,7 @@
 use Rattle.std.specs.Prelude.{◌≡◌, ℕ, Bool, true, false, not, ◌&&◌, ◌||◌, ◌==◌, if◌then◌else◌, bytes_eq, List, [], ◌∷◌, Option, Some, None, option_map, unwrap_or}
 use Rattle.std.specs.Map.{lookup}
 use Rattle.name_places.specs.NamePlaces.{NamePlacesView, place_of}
-use Rattle.balanced_books.specs.declared.part.Part.{Part}
+use Rattle.audit_model.specs.declared.part.Part.{Part}
 use Rattle.relayed_books.specs.Tree.{Sold}
 use Rattle.relayed_books.specs.Seen as seen
 use Rattle.relayed_books.specs.Seen.{mark_from}

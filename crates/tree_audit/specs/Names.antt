@@ -1,10 +1,10 @@
 -- Which books stand together, by what was kept of them.
 use Rattle.std.specs.Prelude.{Bool, true, not, ◌&&◌, List, [], ◌∷◌, filter, flat_map, bytes_eq}
 use Rattle.std.specs.List.{list_any}
-use Rattle.book_sums.specs.declared.rows.Sold.{Sold}
-use Rattle.book_sums.specs.declared.book_sums.BookSums.{BookSums}
-use Rattle.book_sums.specs.Learned.{name_of, sales_of}
-use Rattle.book_audit.specs.Checks.{is_desk}
+use Rattle.audit_sums.specs.declared.rows.Sold.{Sold}
+use Rattle.audit_sums.specs.declared.audit_sums.BookSums.{BookSums}
+use Rattle.audit_sums.specs.Learned.{name_of, sales_of}
+use Rattle.audit_search.specs.Checks.{is_desk}
 
 -- whether the names of some books differ
 abbrev pub own_all : List BookSums → Bool

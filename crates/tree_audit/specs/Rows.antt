@@ -1,8 +1,8 @@
 -- The rows of a tree, by what was kept of the books.
-use Rattle.book_sums.specs.declared.book_sums.BookSums.{BookSums}
-use Rattle.book_sums.specs.Learned.{name_of, till_of}
-use Rattle.book_audit.specs.declared.spent.Left.{Left}
-use Rattle.book_audit.specs.Findings.{accounts_of}
+use Rattle.audit_sums.specs.declared.audit_sums.BookSums.{BookSums}
+use Rattle.audit_sums.specs.Learned.{name_of, till_of}
+use Rattle.audit_search.specs.declared.spent.Left.{Left}
+use Rattle.audit_search.specs.Findings.{accounts_of}
 use Rattle.relay_core.specs.declared.tree.BrokerSums.{BrokerSums}
 
 -- the sums of a broker of whose pieces this is left

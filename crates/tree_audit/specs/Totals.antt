@@ -5,13 +5,13 @@ use Rattle.mc_records.specs.declared.limits.Limits.{Limits}
 use Rattle.name_places.specs.NamePlaces.{NamePlacesView}
 use Rattle.ledger_model.specs.Histories.{History}
 use Rattle.ledger_model.specs.Houses.{site_name, is_broker}
-use Rattle.balanced_books.specs.Brokers.{relayed}
-use Rattle.book_sums.specs.declared.book_sums.BookSums.{BookSums}
-use Rattle.book_sums.specs.Learned.{name_of}
-use Rattle.book_audit.specs.declared.shops.Shops.{Shops}
-use Rattle.book_audit.specs.declared.fault.BooksFault.{BooksFault}
-use Rattle.book_audit.specs.declared.fault.BooksFault.TheVariants as faults
-use Rattle.book_audit.specs.Audit.{AreLearned}
+use Rattle.audit_model.specs.Brokers.{relayed}
+use Rattle.audit_sums.specs.declared.audit_sums.BookSums.{BookSums}
+use Rattle.audit_sums.specs.Learned.{name_of}
+use Rattle.audit_search.specs.declared.shops.Shops.{Shops}
+use Rattle.audit_search.specs.declared.fault.BooksFault.{BooksFault}
+use Rattle.audit_search.specs.declared.fault.BooksFault.TheVariants as faults
+use Rattle.audit_search.specs.Audit.{AreLearned}
 use Rattle.relayed_books.specs.Tree.{sold_over, first_stranger}
 use Rattle.relay_core.specs.Sums.{sums_of_broker, sums_of_vendor}
 use Rattle.tree_audit.specs.declared.licences.Licences.{Licences}

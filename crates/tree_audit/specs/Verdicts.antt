@@ -2,11 +2,11 @@
 use Rattle.std.specs.Prelude.{ℕ, Bool, not, ◌&&◌, ◌||◌, if◌then◌else◌, List, [], ◌∷◌, ◌++◌, Option, None, Some, option_map, option_to_list}
 use Rattle.ledger_model.specs.Histories.{History}
 use Rattle.ledger_model.specs.Stock.{Sale}
-use Rattle.balanced_books.specs.declared.part.Part.{Part}
-use Rattle.balanced_books.specs.Strangers.{first_of}
-use Rattle.book_sums.specs.declared.rows.Sold.{Sold as Row}
-use Rattle.book_audit.specs.declared.shops.Shops.{Shops}
-use Rattle.book_audit.specs.Standing.{has_minted}
+use Rattle.audit_model.specs.declared.part.Part.{Part}
+use Rattle.audit_model.specs.Strangers.{first_of}
+use Rattle.audit_sums.specs.declared.rows.Sold.{Sold as Row}
+use Rattle.audit_search.specs.declared.shops.Shops.{Shops}
+use Rattle.audit_search.specs.Standing.{has_minted}
 use Rattle.relayed_books.specs.Tree.{Sold, sold_as, sold_stranger}
 use Rattle.tree_audit.specs.declared.licences.Licences.{Licences}
 use Rattle.tree_audit.specs.Marks.{is_other, seller_view, seller_at}

@@ -1,12 +1,12 @@
 //! The books of brokers with what they have of vendors to sell.
 
 ghost use Rattle.std.specs.Prelude.{◌≡◌, ◌++◌, true, IfOk, OnOk};
-ghost use Rattle.book_audit.specs.Markets.{own_names};
+ghost use Rattle.audit_search.specs.Markets.{own_names};
 ghost use Rattle.tree_audit.specs.Desks.{IsDeskOf, AreDesksOf, sold_in, sold_at_desks};
 
-use balanced_books::Part;
-use book_audit::{Shops, is_desk};
-use book_sums::BookSums;
+use audit_model::Part;
+use audit_search::{Shops, is_desk};
+use audit_sums::BookSums;
 use mc_base::NoMemory;
 use scrip_form::Name;
 use std::alloc::Global;

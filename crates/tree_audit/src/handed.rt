@@ -2,14 +2,14 @@
 
 ghost use Rattle.std.specs.Prelude.{◌≡◌, ◌++◌, ◌+◌, ◌||◌, ℕ, [], sum_by, if◌then◌else◌, IfOk, OnOk};
 ghost use Rattle.std.specs.List.{list_any};
-ghost use Rattle.book_audit.specs.Known.{has_id};
-ghost use Rattle.book_audit.specs.Checks.{is_desk};
+ghost use Rattle.audit_search.specs.Known.{has_id};
+ghost use Rattle.audit_search.specs.Checks.{is_desk};
 ghost use Rattle.tree_audit.specs.Handed.{is_id, fresh, stale, handed_parts, sold_again, value_of};
 
 use crate::desks::append_sold;
-use balanced_books::Part;
-use book_audit::{Shops, is_desk};
-use book_sums::BookSums;
+use audit_model::Part;
+use audit_search::{Shops, is_desk};
+use audit_sums::BookSums;
 use mc_base::NoMemory;
 use std::alloc::Global;
 use std::collections::HashSet;

@@ -4,10 +4,10 @@ ghost use Rattle.std.specs.Prelude.{◌≡◌, ◌++◌, [], List, true, map, op
 ghost use Rattle.ledger_model.specs.Histories.{History};
 ghost use Rattle.ledger_model.specs.Houses.{site_name};
 ghost use Rattle.ledger_model.specs.Stock.{sales as sales_in};
-ghost use Rattle.book_sums.specs.Rows.{sale_by};
-ghost use Rattle.balanced_books.specs.Strangers.{first_of};
-ghost use Rattle.book_audit.specs.Audit.{has_book};
-ghost use Rattle.book_audit.specs.Standing.{StandFor};
+ghost use Rattle.audit_sums.specs.Rows.{sale_by};
+ghost use Rattle.audit_model.specs.Strangers.{first_of};
+ghost use Rattle.audit_search.specs.Audit.{has_book};
+ghost use Rattle.audit_search.specs.Standing.{StandFor};
 ghost use Rattle.relayed_books.specs.Tree.{Sold as Sale, sold_as, all_sold, sold_over, is_genuine as genuine_by, sold_stranger};
 ghost use Rattle.tree_audit.specs.Marks.{MarksShow, LicencesShow};
 ghost use Rattle.tree_audit.specs.Desks.{ArePlacesOf, KnowSales};
@@ -15,9 +15,9 @@ ghost use Rattle.tree_audit.specs.Verdicts.{passes, verdict_on, verdicts};
 
 use crate::licences::Licences;
 use crate::marks::Marks;
-use balanced_books::Part;
-use book_audit::Shops;
-use book_sums::Sold;
+use audit_model::Part;
+use audit_search::Shops;
+use audit_sums::Sold;
 use mc_base::NoMemory;
 use name_places::NamePlaces;
 use scrip_form::{Id, Name};

@@ -6,7 +6,7 @@ ghost use Rattle.name_places.specs.NamePlaces.{NamePlacesView, place_of};
 ghost use Rattle.relayed_books.specs.Tree.{Sold, clash};
 ghost use Rattle.tree_audit.specs.Marks.{MarksShow, AreApart, IsSale, barred_by, mark_with};
 
-use balanced_books::Part;
+use audit_model::Part;
 use mc_base::NoMemory;
 use std::alloc::Global;
 use std::collections::HashMap;

@@ -3,12 +3,12 @@
 ghost use Rattle.std.specs.Prelude.{◌≡◌, ℕ, List, is_some, IfOk, MatchOption};
 ghost use Rattle.std.specs.List.{list_any};
 ghost use Rattle.name_places.specs.NamePlaces.{place_of};
-ghost use Rattle.book_audit.specs.Checks.{is_desk};
-ghost use Rattle.book_audit.specs.Markets.{IsLeast, HasAll};
+ghost use Rattle.audit_search.specs.Checks.{is_desk};
+ghost use Rattle.audit_search.specs.Markets.{IsLeast, HasAll};
 ghost use Rattle.tree_audit.specs.Names.{own_all, desk_sales};
 
-use book_audit::{is_desk, least_beside};
-use book_sums::BookSums;
+use audit_search::{is_desk, least_beside};
+use audit_sums::BookSums;
 use mc_base::NoMemory;
 use name_places::NamePlaces;
 use scrip_form::Name;

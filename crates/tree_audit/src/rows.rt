@@ -4,8 +4,8 @@ ghost use Rattle.std.specs.Prelude.{◌≡◌, IfOk};
 ghost use Rattle.relay_core.specs.Sums.{AreByName};
 ghost use Rattle.tree_audit.specs.Rows.{broker_row};
 
-use book_audit::{Left, accounts_of};
-use book_sums::BookSums;
+use audit_search::{Left, accounts_of};
+use audit_sums::BookSums;
 use mc_base::NoMemory;
 use relay_core::BrokerSums;
 

@@ -3,7 +3,7 @@
 ghost use Rattle.std.specs.Prelude.{◌≡◌, ◌++◌, ◌∷◌, [], ◌+◌, List, length, if◌then◌else◌, OnOk};
 ghost use Rattle.mc_records.specs.declared.limits.Limits.{Limits as Bounds};
 ghost use Rattle.ledger_model.specs.Histories.{History};
-ghost use Rattle.book_audit.specs.Checks.{is_desk, row_with};
+ghost use Rattle.audit_search.specs.Checks.{is_desk, row_with};
 ghost use Rattle.tree_audit.specs.Rows.{broker_row};
 ghost use Rattle.tree_audit.specs.Totals.{Premises, IsFound, NamesAt};
 
@@ -11,9 +11,9 @@ use crate::check::{Checked, check_book};
 use crate::licences::Licences;
 use crate::marks::Marks;
 use crate::rows::broker_row;
-use balanced_books::VendorSums;
-use book_audit::{BooksFault, Shops, is_desk};
-use book_sums::BookSums;
+use audit_model::VendorSums;
+use audit_search::{BooksFault, Shops, is_desk};
+use audit_sums::BookSums;
 use mc_base::NoMemory;
 use name_places::NamePlaces;
 use relay_core::BrokerSums;

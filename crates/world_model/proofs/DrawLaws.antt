@@ -31,7 +31,7 @@ use Rattle.ledger_model.specs.Accounts.{key_in, order_key}
 use Rattle.ledger_model.specs.Pieces.{first_hand, drawn_piece}
 use Rattle.ledger_model.specs.Answer.{answer}
 use Rattle.ledger_model.specs.Lawful.{unbounded, draw_request, IsLawful}
-use Rattle.balanced_books.proofs.OwnIssuer.{own_series_below}
+use Rattle.audit_model.proofs.OwnIssuer.{own_series_below}
 use Rattle.ledger_model.specs.Replies.{Contents, contents_if, held_contents, contents_after, own_held, own_text, own_certificate}
 use Rattle.ledger_model.proofs.TakenLaws.{taken_draw}
 use Rattle.ledger_model.proofs.FollowLaws.{prefix_lawful}

@@ -26,7 +26,7 @@ use Rattle.ledger_model.proofs.TableLaws.{TakenBy, by_scrip, by_draw, taken_by, 
 use Rattle.ledger_model.proofs.AcceptLaws.{offer_below}
 use Rattle.ledger_model.proofs.SerialLaws.{needed_next, next_is}
 use Rattle.ledger_model.proofs.TakenLaws.{taken_sale, taken_credit}
-use Rattle.balanced_books.proofs.OwnIssuer.{own_series_below}
+use Rattle.audit_model.proofs.OwnIssuer.{own_series_below}
 use Rattle.world_model.proofs.Accepted.{text_of, piece_ranges}
 
 -- ---- signatures

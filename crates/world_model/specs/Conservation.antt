@@ -12,7 +12,7 @@ use Rattle.ledger_model.specs.Pieces.{accepted, is_spent}
 use Rattle.ledger_model.specs.Sums.{values, outstanding, lapsed}
 use Rattle.ledger_model.specs.Stock.{sales}
 use Rattle.house_core.specs.Session.{State}
-use Rattle.balanced_books.specs.Books.{HaveOwnNames, IsHandedOut, IsBalanced}
+use Rattle.audit_model.specs.Books.{HaveOwnNames, IsHandedOut, IsBalanced}
 use Rattle.world_model.specs.Worlds.{World}
 use Rattle.world_model.specs.Agreement.{IsHouseBook, IsBookOfWallet}
 

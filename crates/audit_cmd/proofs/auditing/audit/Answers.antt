@@ -1,8 +1,8 @@
 use Rattle.std.proofs.Common.{List, subst}
 use Rattle.std.specs.Prelude.{length}
 use Rattle.mc_records.specs.declared.limits.TheConstants.Limits.{FULL}
-use Rattle.balanced_books.specs.declared.sums.Report.{Report}
-use Rattle.book_audit.specs.Audit.{Audited}
+use Rattle.audit_model.specs.declared.sums.Report.{Report}
+use Rattle.audit_search.specs.Audit.{Audited}
 use Rattle.audit_cmd.specs.Books.{IsLawfulBook, AreTold, decided_by}
 use Rattle.audit_cmd.proofs.Deciding.{all_decide, told_decide, decided_by_all, told_so}
 use Rattle.audit_cmd.proofs.LawfulLaws.{halt_found, none_faulty, no_halt}

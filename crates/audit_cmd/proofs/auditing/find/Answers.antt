@@ -1,9 +1,9 @@
 use Rattle.std.proofs.Common.{◌<◌, List, Err, sym, subst, arith}
 use Rattle.std.specs.Prelude.{IfSome, length}
 use Rattle.mc_records.specs.declared.limits.TheConstants.Limits.{FULL}
-use Rattle.balanced_books.specs.declared.sums.Report.{Report}
-use Rattle.book_sums.specs.declared.book_sums.BookSums.{BookSums}
-use Rattle.book_audit.specs.Audit.{AreLearned, Audited, NamesBook}
+use Rattle.audit_model.specs.declared.sums.Report.{Report}
+use Rattle.audit_sums.specs.declared.audit_sums.BookSums.{BookSums}
+use Rattle.audit_search.specs.Audit.{AreLearned, Audited, NamesBook}
 use Rattle.audit_cmd.specs.declared.fault.AuditFault.{AuditFault}
 use Rattle.audit_cmd.specs.Books.{FindsOf, CountsBy, IsOfAll, told_book}
 use Rattle.audit_cmd.proofs.FoundLaws.{fault_found, fault_calm, fault_of_all, fault_place, kept_audited}

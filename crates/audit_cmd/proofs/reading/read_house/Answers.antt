@@ -1,7 +1,7 @@
 use Rattle.std.proofs.Common.{sym, subst}
 use Rattle.mc_records.specs.declared.limits.TheConstants.Limits.{FULL}
-use Rattle.book_sums.specs.declared.book_sums.BookSums.{BookSums}
-use Rattle.book_audit.specs.Audit.{IsLearned}
+use Rattle.audit_sums.specs.declared.audit_sums.BookSums.{BookSums}
+use Rattle.audit_search.specs.Audit.{IsLearned}
 use Rattle.audit_cmd.proofs.ReadLaws.{kept_learned}
 use Rattle.audit_cmd.proofs.reading.read_house.Goals as goal
 

@@ -1,8 +1,8 @@
 use Rattle.std.proofs.Common.{◌<◌, List, Err, sym, subst, arith}
 use Rattle.std.specs.Prelude.{IfSome, length}
 use Rattle.mc_records.specs.declared.limits.TheConstants.Limits.{FULL}
-use Rattle.book_sums.specs.declared.book_sums.BookSums.{BookSums}
-use Rattle.book_audit.specs.Audit.{AreLearned, NamesBook}
+use Rattle.audit_sums.specs.declared.audit_sums.BookSums.{BookSums}
+use Rattle.audit_search.specs.Audit.{AreLearned, NamesBook}
 use Rattle.relay_core.specs.declared.tree.Tree.{Tree}
 use Rattle.tree_audit.specs.Audit.{TreeAudited}
 use Rattle.audit_cmd.specs.declared.fault.AuditFault.{AuditFault}

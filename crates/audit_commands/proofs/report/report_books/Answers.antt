@@ -1,5 +1,5 @@
 use Rattle.mc_records.specs.declared.limits.TheConstants.Limits.{FULL}
-use Rattle.book_audit.specs.Audit.{Audited}
+use Rattle.audit_search.specs.Audit.{Audited}
 use Rattle.audit_commands.specs.Reports.{report_lines}
 use Rattle.audit_commands.proofs.ReportLaws.{found_words, found_causes, found_reports, found_ends}
 use Rattle.audit_commands.proofs.report.report_books.Goals as goal

@@ -1,5 +1,5 @@
 use Rattle.mc_records.specs.Errands.{pay_in}
-use Rattle.account_ledger.proofs.LearnLaws.{errand_is}
+use Rattle.broker_ledger.proofs.LearnLaws.{errand_is}
 use Rattle.broker_core.proofs.desk.credited.Goals as goal
 
 pub unwrap-account-requires : goal.unwrap-account-requires

@@ -1,7 +1,7 @@
 use Rattle.std.proofs.Common.{ℕ, ◌≤◌, ◌∙◌, ap, arith, [], ◌∷◌}
 use Rattle.mc_records.specs.Entry.{Deposit}
 use Rattle.ledger_model.specs.Histories.{time}
-use Rattle.account_ledger.specs.Tasks as accounts
+use Rattle.broker_ledger.specs.Tasks as accounts
 use Rattle.house_core.specs.Bench.{limits_of}
 use Rattle.broker_core.specs.Tasks.{as_task}
 use Rattle.broker_core.proofs.OperatorLemmas.{added_command, added_may}

@@ -1,5 +1,5 @@
 use Rattle.std.proofs.Common.{◌≡◌}
-use Rattle.account_ledger.specs.Tasks.{task_of}
+use Rattle.broker_ledger.specs.Tasks.{task_of}
 use Rattle.house_core.specs.Bench.{limits_of}
 use Rattle.house_core.specs.declared.outcome.Outcome.TheVariants.{Done, Refused, NoMemory, Halted}
 use Rattle.house_core.specs.Tasks.{Task, TellsAdded}

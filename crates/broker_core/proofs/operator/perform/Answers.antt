@@ -3,7 +3,7 @@ use Rattle.std.specs.Prelude.{◌==◌}
 use Rattle.std.proofs.lemmas.Bool.{or_right}
 use Rattle.mc_records.specs.Refusals.{number_of}
 use Rattle.mc_records.specs.Views.{entry}
-use Rattle.account_ledger.specs.Tasks.{task_of}
+use Rattle.broker_ledger.specs.Tasks.{task_of}
 use Rattle.house_state.proofs.PartLaws.{every_passes}
 use Rattle.house_core.specs.Bench.{limits_of}
 use Rattle.house_core.specs.declared.outcome.Outcome.TheVariants.{Done, Refused, NoMemory, Halted}

@@ -3,7 +3,7 @@ use Rattle.ledger_model.specs.declared.upgraded.Upgraded.{Upgraded}
 use Rattle.ledger_model.specs.Houses.{version_by}
 use Rattle.broker_core.specs.Moves.{moves_of}
 use Rattle.house_state.specs.Trade.{BringsFor}
-use Rattle.vendor_stalls.proofs.HeldLaws.{piece_fits}
+use Rattle.broker_stalls.proofs.HeldLaws.{piece_fits}
 use Rattle.broker_core.proofs.SaleLaws.{by_licence, made_brings, none_open, one_open, stock_brings, on_ok}
 use Rattle.broker_core.proofs.sale.sold_from.Goals as goal
 

@@ -1,7 +1,7 @@
 use Rattle.std.proofs.Common.{ap, sym, ◌∙◌, Option}
 use Rattle.std.specs.Borrow.{Bor}
-use Rattle.vendor_stalls.specs.Stalls.{StallView, was_stocked}
-use Rattle.vendor_stalls.specs.Vendors.{found_stall}
+use Rattle.broker_stalls.specs.Stalls.{StallView, was_stocked}
+use Rattle.broker_stalls.specs.Vendors.{found_stall}
 use Rattle.broker_core.proofs.StockLemmas.{nothing_stocked}
 use Rattle.broker_core.proofs.stock.was_in_stock.Goals as goal
 

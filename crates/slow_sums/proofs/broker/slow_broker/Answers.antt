@@ -1,10 +1,10 @@
 use Rattle.std.proofs.Common.{◌≡◌, ◌∙◌, ◌++◌, ap, map, sum_by, List}
 use Rattle.ledger_model.specs.Pieces.{own_out}
 use Rattle.ledger_model.specs.Sums.{outstanding, lapsed}
-use Rattle.balanced_books.specs.declared.part.Part.{Part}
-use Rattle.balanced_books.specs.Parts.{part_of, still_out, gone_by}
+use Rattle.audit_model.specs.declared.part.Part.{Part}
+use Rattle.audit_model.specs.Parts.{part_of, still_out, gone_by}
 use Rattle.slow_sums.specs.Sums.{broker_sums}
-use Rattle.balanced_books.proofs.Left.{outstanding_is, lapsed_is}
+use Rattle.audit_model.proofs.Left.{outstanding_is, lapsed_is}
 use Rattle.slow_sums.proofs.LeftLaws.{same_broker}
 use Rattle.slow_sums.proofs.broker.slow_broker.Goals as goal
 

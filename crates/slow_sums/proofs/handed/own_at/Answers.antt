@@ -3,7 +3,7 @@ use Rattle.mc_records.specs.Entry.{Accept}
 use Rattle.mc_records.specs.Views.{deed_of}
 use Rattle.ledger_model.specs.Histories.{History}
 use Rattle.ledger_model.specs.Pieces.{handed_piece}
-use Rattle.balanced_books.specs.Parts.{part_of}
+use Rattle.audit_model.specs.Parts.{part_of}
 use Rattle.slow_sums.proofs.handed.own_at.Goals as goal
 
 pub returns-in-Accept : goal.returns-in-Accept

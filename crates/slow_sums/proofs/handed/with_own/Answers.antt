@@ -1,6 +1,6 @@
 use Rattle.std.proofs.Common.{arith, ◌++◌, map}
 use Rattle.ledger_model.specs.Pieces.{own_out}
-use Rattle.balanced_books.specs.Parts.{part_of}
+use Rattle.audit_model.specs.Parts.{part_of}
 use Rattle.slow_sums.proofs.HandedLaws.{own_more}
 use Rattle.slow_sums.proofs.handed.with_own.Goals as goal
 

@@ -1,6 +1,6 @@
 use Rattle.std.proofs.Common.{◌≡◌, ◌++◌, map}
 use Rattle.ledger_model.specs.Pieces.{own_out}
-use Rattle.balanced_books.specs.Parts.{part_of}
+use Rattle.audit_model.specs.Parts.{part_of}
 use Rattle.slow_sums.proofs.HandedLaws.{own_parts}
 use Rattle.slow_sums.proofs.handed.with_own.Given as goal
 

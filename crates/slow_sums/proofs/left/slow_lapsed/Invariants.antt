@@ -1,5 +1,5 @@
 use Rattle.std.proofs.Common.{◌≡◌, ◌+◌, drop, sum_by}
-use Rattle.balanced_books.specs.Parts.{gone_by}
+use Rattle.audit_model.specs.Parts.{gone_by}
 use Rattle.slow_sums.proofs.left.slow_lapsed.Given as goal
 
 abbrev pub invariant-loop-part : goal.invariant-loop-part

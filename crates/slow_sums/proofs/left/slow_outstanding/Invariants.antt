@@ -1,5 +1,5 @@
 use Rattle.std.proofs.Common.{◌≡◌, ◌+◌, drop, sum_by}
-use Rattle.balanced_books.specs.Parts.{still_out}
+use Rattle.audit_model.specs.Parts.{still_out}
 use Rattle.slow_sums.proofs.left.slow_outstanding.Given as goal
 
 abbrev pub invariant-loop-part : goal.invariant-loop-part

@@ -1,6 +1,6 @@
 use Rattle.std.proofs.Common.{arith, ◌++◌, map}
 use Rattle.ledger_model.specs.Stock.{sold}
-use Rattle.balanced_books.specs.Parts.{part_of}
+use Rattle.audit_model.specs.Parts.{part_of}
 use Rattle.slow_sums.proofs.SoldLaws.{sold_more}
 use Rattle.slow_sums.proofs.sold.with_sold.Goals as goal
 

@@ -1,6 +1,6 @@
 use Rattle.std.proofs.Common.{◌≡◌, ◌++◌, map}
 use Rattle.ledger_model.specs.Stock.{sold}
-use Rattle.balanced_books.specs.Parts.{part_of}
+use Rattle.audit_model.specs.Parts.{part_of}
 use Rattle.slow_sums.proofs.SoldLaws.{sold_parts}
 use Rattle.slow_sums.proofs.sold.with_sold.Given as goal
 

@@ -3,7 +3,7 @@ use Rattle.std.specs.Option.{option_or}
 use Rattle.scrip_form.specs.Scrip.{Scrip}
 use Rattle.mc_records.specs.PieceViews.{pieces_of}
 use Rattle.ledger_model.specs.Stock.{held_piece}
-use Rattle.balanced_books.specs.Parts.{part_of}
+use Rattle.audit_model.specs.Parts.{part_of}
 use Rattle.slow_ledger.proofs.SlowLaws.{from_next}
 use Rattle.slow_ledger.proofs.Found.{found_of, found_in_cons}
 use Rattle.slow_sums.proofs.stock.found_in.Goals as goal

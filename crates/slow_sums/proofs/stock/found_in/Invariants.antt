@@ -1,7 +1,7 @@
 use Rattle.std.proofs.Common.{◌≡◌, ◌==◌, drop}
 use Rattle.mc_records.specs.PieceViews.{pieces_of}
 use Rattle.ledger_model.specs.Stock.{held_piece}
-use Rattle.balanced_books.specs.Parts.{part_of}
+use Rattle.audit_model.specs.Parts.{part_of}
 use Rattle.slow_ledger.proofs.Found.{found_of}
 use Rattle.slow_sums.proofs.stock.found_in.Given as goal
 

@@ -2,7 +2,7 @@ use Rattle.std.proofs.Common.{arith, ◌∙◌, eqb, Some, None}
 use Rattle.std.specs.Option.{option_or}
 use Rattle.scrip_form.specs.Scrip.{Scrip}
 use Rattle.ledger_model.specs.Stock.{held_piece, stock_of, stock_in}
-use Rattle.balanced_books.specs.Parts.{part_of}
+use Rattle.audit_model.specs.Parts.{part_of}
 use Rattle.slow_ledger.proofs.SlowLaws.{from_next}
 use Rattle.slow_ledger.proofs.Found.{found_of, found_append}
 use Rattle.slow_sums.proofs.stock.stocked.Goals as goal

@@ -1,6 +1,6 @@
 use Rattle.std.proofs.Common.{◌≡◌, ◌==◌, drop}
 use Rattle.ledger_model.specs.Stock.{held_piece, stock_in}
-use Rattle.balanced_books.specs.Parts.{part_of}
+use Rattle.audit_model.specs.Parts.{part_of}
 use Rattle.slow_ledger.proofs.Found.{found_of}
 use Rattle.slow_sums.proofs.stock.stocked.Given as goal
 

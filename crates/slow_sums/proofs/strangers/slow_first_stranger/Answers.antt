@@ -1,6 +1,6 @@
 use Rattle.std.proofs.Common.{◌∙◌, ap, option_map}
 use Rattle.ledger_model.specs.Histories.{History}
-use Rattle.balanced_books.specs.Strangers.{first_stranger}
+use Rattle.audit_model.specs.Strangers.{first_stranger}
 use Rattle.slow_sums.specs.Strangers.{vendors_of, place_of}
 use Rattle.slow_sums.proofs.Strange.{of_market, no_market}
 use Rattle.slow_sums.proofs.Lists.{if_ok}

@@ -1,5 +1,5 @@
 use Rattle.std.proofs.Common.{◌≡◌, drop}
-use Rattle.balanced_books.specs.Strangers.{strangers, first_of}
+use Rattle.audit_model.specs.Strangers.{strangers, first_of}
 use Rattle.slow_sums.specs.Strangers.{vendors_of}
 use Rattle.slow_sums.proofs.Strange.{first_in}
 use Rattle.slow_sums.proofs.strangers.stranger_in.Given as goal

@@ -1,5 +1,5 @@
 use Rattle.std.proofs.Common.{◌≡◌, drop}
-use Rattle.balanced_books.specs.Strangers.{first_from, first_stranger}
+use Rattle.audit_model.specs.Strangers.{first_from, first_stranger}
 use Rattle.slow_sums.specs.Strangers.{vendors_of}
 use Rattle.slow_sums.proofs.strangers.stranger_of_all.Given as goal
 

@@ -1,5 +1,5 @@
 use Rattle.std.proofs.Common.{◌≡◌, ◌++◌, map, drop}
-use Rattle.balanced_books.specs.Sums.{vendor_sums}
+use Rattle.audit_model.specs.Sums.{vendor_sums}
 use Rattle.slow_sums.proofs.sums.slow_vendors.Given as goal
 
 abbrev pub invariant-loop-vendor : goal.invariant-loop-vendor

@@ -1,8 +1,8 @@
 use Rattle.std.proofs.Common.{◌≡◌, ◌∙◌, ap, sum_by}
 use Rattle.ledger_model.specs.Sums.{handed_out, outstanding, lapsed}
-use Rattle.balanced_books.specs.Parts.{still_out, gone_by}
-use Rattle.balanced_books.specs.Sums.{vendor_sums}
-use Rattle.balanced_books.proofs.Left.{same_vendor, outstanding_is, lapsed_is}
+use Rattle.audit_model.specs.Parts.{still_out, gone_by}
+use Rattle.audit_model.specs.Sums.{vendor_sums}
+use Rattle.audit_model.proofs.Left.{same_vendor, outstanding_is, lapsed_is}
 use Rattle.slow_sums.proofs.vendor.slow_vendor.Goals as goal
 
 pub returns : goal.returns

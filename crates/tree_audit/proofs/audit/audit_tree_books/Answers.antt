@@ -3,13 +3,13 @@ use Rattle.std.specs.Prelude.{is_some, filter, map, MatchOption}
 use Rattle.std.specs.List.{list_any}
 use Rattle.name_places.specs.NamePlaces.{NamePlacesView, place_of}
 use Rattle.ledger_model.specs.Histories.{History}
-use Rattle.book_sums.specs.declared.book_sums.BookSums.{BookSums}
-use Rattle.book_sums.specs.Learned.{name_of}
-use Rattle.book_audit.specs.Checks.{is_desk}
-use Rattle.book_audit.specs.Filed.{place_in}
-use Rattle.book_audit.specs.Findings.{vendors_among as vendors_of}
-use Rattle.book_audit.specs.Markets.{has_vendor, own_names}
-use Rattle.book_audit.specs.Audit.{AreLearned}
+use Rattle.audit_sums.specs.declared.audit_sums.BookSums.{BookSums}
+use Rattle.audit_sums.specs.Learned.{name_of}
+use Rattle.audit_search.specs.Checks.{is_desk}
+use Rattle.audit_search.specs.Filed.{place_in}
+use Rattle.audit_search.specs.Findings.{vendors_among as vendors_of}
+use Rattle.audit_search.specs.Markets.{has_vendor, own_names}
+use Rattle.audit_search.specs.Audit.{AreLearned}
 use Rattle.tree_audit.specs.Desks.{ArePlacesOf}
 use Rattle.tree_audit.specs.Names.{own_all}
 use Rattle.tree_audit.specs.Totals.{vendors_among}

@@ -1,7 +1,7 @@
 use Rattle.std.proofs.Common.{◌≡◌, ℕ, Option, drop}
-use Rattle.book_sums.specs.Learned.{accepted_of}
-use Rattle.book_audit.specs.Known.{knows}
-use Rattle.book_audit.specs.Strange.{not_in, first_in}
+use Rattle.audit_sums.specs.Learned.{accepted_of}
+use Rattle.audit_search.specs.Known.{knows}
+use Rattle.audit_search.specs.Strange.{not_in, first_in}
 use Rattle.tree_audit.proofs.check.first_stranger.Given as goal
 
 abbrev pub invariant-loop-row : goal.invariant-loop-row

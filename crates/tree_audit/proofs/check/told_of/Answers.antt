@@ -1,7 +1,7 @@
 use Rattle.std.proofs.Common.{◌≡◌, ℕ, List, [], Option, map, sym, ap, ◌∙◌, subst}
 use Rattle.ledger_model.specs.Stock.{Sale}
-use Rattle.book_audit.specs.declared.shops.Shops.{Shops}
-use Rattle.book_sums.specs.Rows.{sale_by}
+use Rattle.audit_search.specs.declared.shops.Shops.{Shops}
+use Rattle.audit_sums.specs.Rows.{sale_by}
 use Rattle.relayed_books.specs.Tree.{is_genuine}
 use Rattle.tree_audit.specs.Marks.{MarksShow}
 use Rattle.tree_audit.specs.Desks.{StandsAt}

@@ -3,8 +3,8 @@ use Rattle.std.specs.Prelude.{filter, not, MatchOption}
 use Rattle.mc_records.specs.declared.limits.Limits.{Limits}
 use Rattle.ledger_model.specs.Histories.{History}
 use Rattle.ledger_model.specs.Houses.{is_broker}
-use Rattle.book_audit.specs.declared.shops.Shops.{Shops}
-use Rattle.book_audit.specs.Standing.{StandFor}
+use Rattle.audit_search.specs.declared.shops.Shops.{Shops}
+use Rattle.audit_search.specs.Standing.{StandFor}
 use Rattle.tree_audit.proofs.desks.desk_of.Goals as goal
 
 pub returns : goal.returns

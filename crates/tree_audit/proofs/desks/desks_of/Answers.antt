@@ -1,8 +1,8 @@
 use Rattle.std.proofs.Common.{◌≡◌, List, Option, ◌+◌, take, sym, ap, ◌∙◌, subst}
 use Rattle.std.proofs.lemmas.List.{take_all}
-use Rattle.book_sums.specs.declared.book_sums.BookSums.{BookSums}
-use Rattle.book_audit.specs.declared.shops.Shops.{Shops}
-use Rattle.book_audit.proofs.Loops.{one_more}
+use Rattle.audit_sums.specs.declared.audit_sums.BookSums.{BookSums}
+use Rattle.audit_search.specs.declared.shops.Shops.{Shops}
+use Rattle.audit_search.proofs.Loops.{one_more}
 use Rattle.tree_audit.specs.Desks.{IsDeskOf, AreDesksOf}
 use Rattle.tree_audit.proofs.DeskLaws.{zip_more}
 use Rattle.tree_audit.proofs.desks.desks_of.Goals as goal

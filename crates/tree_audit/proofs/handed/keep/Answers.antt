@@ -1,5 +1,5 @@
 use Rattle.std.proofs.Common.{◌≡◌, ℕ, ◌+◌, Bool, true, false, cond, eqb, List, ◌++◌, sum_by, drop, ap, sym, ◌∙◌}
-use Rattle.book_audit.specs.Known.{has_id}
+use Rattle.audit_search.specs.Known.{has_id}
 use Rattle.tree_audit.specs.Handed.{value_of, fresh, stale}
 use Rattle.tree_audit.proofs.HandedLaws.{was_new, was_seen, fresh_next, fresh_same, stale_next, stale_same, seen_next}
 use Rattle.tree_audit.proofs.handed.keep.Goals as goal

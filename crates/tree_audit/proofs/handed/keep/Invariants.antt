@@ -1,6 +1,6 @@
 use Rattle.std.proofs.Common.{◌≡◌, ℕ, ◌+◌, ◌||◌, ◌++◌, sum_by, take, drop}
 use Rattle.std.specs.List.{list_any}
-use Rattle.book_audit.specs.Known.{has_id}
+use Rattle.audit_search.specs.Known.{has_id}
 use Rattle.tree_audit.specs.Handed.{value_of, is_id, fresh, stale}
 use Rattle.tree_audit.proofs.handed.keep.Given as goal
 

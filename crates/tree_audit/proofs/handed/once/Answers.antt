@@ -1,5 +1,5 @@
 use Rattle.std.proofs.Common.{◌≡◌, ℕ, [], ◌++◌, List, ap, sym, ◌∙◌}
-use Rattle.balanced_books.specs.declared.part.Part.{Part}
+use Rattle.audit_model.specs.declared.part.Part.{Part}
 use Rattle.tree_audit.specs.Handed.{fresh}
 use Rattle.tree_audit.proofs.HandedLaws.{fresh_append}
 use Rattle.tree_audit.proofs.handed.once.Goals as goal

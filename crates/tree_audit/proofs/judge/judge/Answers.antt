@@ -1,7 +1,7 @@
 use Rattle.std.proofs.Common.{◌≡◌, List, Some, None, sym, ap, ap₂, ◌∙◌, subst}
 use Rattle.name_places.specs.NamePlaces.{place_of}
-use Rattle.balanced_books.specs.Strangers.{first_of}
-use Rattle.book_sums.specs.Rows.{sale_by}
+use Rattle.audit_model.specs.Strangers.{first_of}
+use Rattle.audit_sums.specs.Rows.{sale_by}
 use Rattle.relayed_books.specs.Tree.{Sold, sold_as, is_genuine, sold_stranger}
 use Rattle.tree_audit.specs.Marks.{MarksShow}
 use Rattle.tree_audit.specs.Verdicts.{passes, verdict_on}

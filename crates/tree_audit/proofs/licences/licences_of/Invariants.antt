@@ -2,7 +2,7 @@ use Rattle.std.proofs.Common.{List, take}
 use Rattle.std.specs.List.{AllByRecursion}
 use Rattle.mc_records.specs.declared.limits.Limits.{Limits}
 use Rattle.ledger_model.specs.Histories.{History}
-use Rattle.book_audit.specs.Audit.{AreLearned}
+use Rattle.audit_search.specs.Audit.{AreLearned}
 use Rattle.relayed_books.specs.Tree.{sold_over}
 use Rattle.tree_audit.specs.Marks.{LicencesShow}
 use Rattle.tree_audit.specs.Desks.{AreDesks, ArePlacesOf, KnowSales}

@@ -1,6 +1,6 @@
 use Rattle.std.proofs.Common.{◌≡◌, drop}
 use Rattle.std.specs.List.{list_any}
-use Rattle.book_audit.specs.Checks.{is_desk}
+use Rattle.audit_search.specs.Checks.{is_desk}
 use Rattle.tree_audit.proofs.names.has_desk.Given as goal
 
 abbrev pub invariant-loop-book : goal.invariant-loop-book

@@ -2,11 +2,11 @@ use Rattle.std.proofs.Common.{◌≡◌, ℕ, ◌+◌, Bool, List, Option, true,
 use Rattle.std.specs.Prelude.{is_some, MatchOption}
 use Rattle.std.proofs.lemmas.List.{take_all}
 use Rattle.name_places.specs.NamePlaces.{place_of}
-use Rattle.book_sums.specs.declared.rows.Sold.{Sold}
-use Rattle.book_sums.specs.declared.book_sums.BookSums.{BookSums}
-use Rattle.book_sums.specs.Learned.{sales_of}
-use Rattle.book_audit.specs.Checks.{is_desk}
-use Rattle.book_audit.specs.Markets.{IsLeast, HasAll}
+use Rattle.audit_sums.specs.declared.rows.Sold.{Sold}
+use Rattle.audit_sums.specs.declared.audit_sums.BookSums.{BookSums}
+use Rattle.audit_sums.specs.Learned.{sales_of}
+use Rattle.audit_search.specs.Checks.{is_desk}
+use Rattle.audit_search.specs.Markets.{IsLeast, HasAll}
 use Rattle.tree_audit.specs.Names.{desk_sales}
 use Rattle.tree_audit.proofs.NameLaws.{sales_more}
 use Rattle.tree_audit.proofs.names.lacking.Goals as goal

@@ -1,7 +1,7 @@
 use Rattle.std.proofs.Common.{take}
 use Rattle.std.specs.Prelude.{is_some, MatchOption}
 use Rattle.name_places.specs.NamePlaces.{place_of}
-use Rattle.book_audit.specs.Markets.{IsLeast, HasAll}
+use Rattle.audit_search.specs.Markets.{IsLeast, HasAll}
 use Rattle.tree_audit.specs.Names.{desk_sales}
 use Rattle.tree_audit.proofs.names.lacking.Given as goal
 

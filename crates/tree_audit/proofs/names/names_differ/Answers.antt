@@ -2,10 +2,10 @@ use Rattle.std.proofs.Common.{◌≡◌, ℕ, ◌+◌, List, true, false, ◌++�
 use Rattle.std.specs.Prelude.{is_some}
 use Rattle.std.proofs.lemmas.List.{take-append-drop, take_all}
 use Rattle.name_places.specs.NamePlaces.{place_of}
-use Rattle.book_sums.specs.declared.book_sums.BookSums.{BookSums}
-use Rattle.book_sums.specs.Learned.{name_of}
-use Rattle.book_audit.proofs.Loops.{one_more}
-use Rattle.book_audit.proofs.TotalLaws.{next_drop}
+use Rattle.audit_sums.specs.declared.audit_sums.BookSums.{BookSums}
+use Rattle.audit_sums.specs.Learned.{name_of}
+use Rattle.audit_search.proofs.Loops.{one_more}
+use Rattle.audit_search.proofs.TotalLaws.{next_drop}
 use Rattle.tree_audit.specs.Names.{own_all}
 use Rattle.tree_audit.proofs.NameLaws.{has_name, shared, new_name, known_more}
 use Rattle.tree_audit.proofs.names.names_differ.Goals as goal

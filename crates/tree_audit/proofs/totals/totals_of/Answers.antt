@@ -2,9 +2,9 @@ use Rattle.std.proofs.Common.{◌≡◌, ◌≤◌, ℕ, List, Err, true, false,
 use Rattle.std.proofs.lemmas.List.{take_all}
 use Rattle.ledger_model.specs.Histories.{History}
 use Rattle.ledger_model.specs.Houses.{site_name, is_broker}
-use Rattle.book_audit.specs.declared.fault.BooksFault.{BooksFault}
-use Rattle.book_audit.specs.Audit.{has_book}
-use Rattle.book_audit.proofs.AuditLaws.{each_has}
+use Rattle.audit_search.specs.declared.fault.BooksFault.{BooksFault}
+use Rattle.audit_search.specs.Audit.{has_book}
+use Rattle.audit_search.proofs.AuditLaws.{each_has}
 use Rattle.relayed_books.specs.Tree.{sold_over}
 use Rattle.tree_audit.specs.Desks.{KnowSales}
 use Rattle.tree_audit.specs.Totals.{vendors_among, IsFound, NamesAt}

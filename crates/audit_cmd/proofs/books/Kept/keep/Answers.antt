@@ -1,5 +1,5 @@
 use Rattle.std.proofs.Common.{List, [], ◌∷◌, ◌++◌, Option, sym, subst}
-use Rattle.book_sums.specs.declared.book_sums.BookSums.{BookSums}
+use Rattle.audit_sums.specs.declared.audit_sums.BookSums.{BookSums}
 use Rattle.audit_cmd.specs.Reading.{IsKeptOf}
 use Rattle.audit_cmd.specs.Loops.{KeptOf}
 use Rattle.audit_cmd.proofs.KeptLaws.{house_more, wallet_more}

@@ -1,6 +1,6 @@
 use Rattle.std.proofs.Common.{List, ℕ, refl, subst}
-use Rattle.vendor_stalls.specs.Stalls.{empty_stall}
-use Rattle.vendor_stalls.specs.Shown.{Shows}
+use Rattle.broker_stalls.specs.Stalls.{empty_stall}
+use Rattle.broker_stalls.specs.Shown.{Shows}
 use Rattle.broker_core.proofs.SaleLaws.{unknown_vendor}
 use Rattle.broker_core.proofs.desk.Desk.supply.Goals as goal
 

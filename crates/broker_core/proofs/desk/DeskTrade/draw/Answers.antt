@@ -1,4 +1,4 @@
-use Rattle.account_ledger.specs.Ledger.{order_view}
+use Rattle.broker_ledger.specs.Ledger.{order_view}
 use Rattle.broker_core.proofs.DeskLaws.{order_some}
 use Rattle.broker_core.proofs.desk.DeskTrade.draw.Goals as goal
 

@@ -1,6 +1,6 @@
 use Rattle.std.proofs.Common.{◌∙◌, List, ℕ, ap}
 use Rattle.mc_records.specs.Entry.{Upgrade}
-use Rattle.account_ledger.proofs.LearnLaws.{name_is}
+use Rattle.broker_ledger.proofs.LearnLaws.{name_is}
 use Rattle.broker_core.specs.Moves.{MovesView, moves_of}
 use Rattle.broker_core.proofs.MoveLaws.{moves_more, moves_same}
 use Rattle.broker_core.proofs.moves.Moves.learn.Goals as goal

@@ -3,9 +3,9 @@ use Rattle.std.specs.List.{AllByRecursion}
 use Rattle.std.specs.Prelude.{filter_map, option_to_list}
 use Rattle.std.proofs.lemmas.List.{take_all}
 use Rattle.ledger_model.specs.Stock.{Sale}
-use Rattle.book_sums.specs.declared.rows.Sold.{Sold as Row}
-use Rattle.book_sums.specs.Rows.{sale_by}
-use Rattle.book_audit.specs.Audit.{has_book}
+use Rattle.audit_sums.specs.declared.rows.Sold.{Sold as Row}
+use Rattle.audit_sums.specs.Rows.{sale_by}
+use Rattle.audit_search.specs.Audit.{has_book}
 use Rattle.relayed_books.specs.Tree.{Sold, sold_as}
 use Rattle.tree_audit.specs.Marks.{LicencesShow}
 use Rattle.tree_audit.specs.Desks.{sold_rows}

@@ -1,6 +1,6 @@
 use Rattle.std.proofs.Common.{◌≡◌, map, Option, sym, ap, ◌∙◌, subst}
-use Rattle.book_audit.specs.declared.shops.Shops.{Shops}
-use Rattle.book_sums.specs.Rows.{sale_by}
+use Rattle.audit_search.specs.declared.shops.Shops.{Shops}
+use Rattle.audit_sums.specs.Rows.{sale_by}
 use Rattle.tree_audit.specs.Marks.{LicencesShow}
 use Rattle.tree_audit.specs.Desks.{StandsAt}
 use Rattle.tree_audit.proofs.DeskLaws.{none_more, vendor_sold}

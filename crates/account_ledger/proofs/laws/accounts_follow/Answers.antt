@@ -1,8 +1,0 @@
-use Rattle.account_ledger.proofs.FollowLaws.{allowed, answered}
-use Rattle.account_ledger.proofs.laws.accounts_follow.Goals as goal
-
-pub returns-clause-allowed : goal.returns-clause-allowed
-returns-clause-allowed c = allowed
-
-pub returns-clause-answered : goal.returns-clause-answered
-returns-clause-answered c = answered

@@ -1,0 +1,13 @@
+use Rattle.mc_records.specs.Views.{entry}
+use Rattle.audit_sums.specs.Rows.{licence_of, stocked_of}
+use Rattle.audit_sums.proofs.Steps.{after_ok, rows_more, lists_more, sales_more}
+use Rattle.audit_sums.proofs.market.Market.learn.Goals as goal
+
+pub returns : goal.returns
+returns c h shows =
+    let e = entry c.args.r.now in
+    after_ok c.put_stock.result (λ is. record {
+      sales' = sales_more h e _ _ c.sale.result shows.sales' c.sale.ensures c.in_ok-put.ensures;
+      licences' = rows_more licence_of h e _ _ c.licence.result shows.licences' c.licence.ensures c.in_ok-put-2.ensures;
+      stock' = lists_more stocked_of h e _ _ shows.stock' is;
+    }) c.put_stock.ensures

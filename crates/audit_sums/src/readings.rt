@@ -1,0 +1,207 @@
+//! What an entry says of money and of pieces.
+
+ghost use Rattle.std.specs.Prelude.{◌≡◌, ℕ, List, Option, Some, option_map, is_some};
+ghost use Rattle.scrip_form.specs.Issuing.{series_end};
+ghost use Rattle.scrip_form.specs.Identities.{epoch_of};
+ghost use Rattle.mc_records.specs.Entry.{Accept, Draw, Deed};
+ghost use Rattle.mc_records.specs.Views.{deed_of, entry};
+ghost use Rattle.ledger_model.specs.Histories.{History};
+ghost use Rattle.ledger_model.specs.Houses.{terms_in};
+ghost use Rattle.ledger_model.specs.Pieces.{handed_piece};
+ghost use Rattle.ledger_model.specs.Stock.{sale_of};
+ghost use Rattle.ledger_model.specs.Sums as model;
+ghost use Rattle.ledger_model.specs.Sums.{amount_in, amount_out, fee_of, price_paid};
+ghost use Rattle.audit_model.specs.Parts.{part_of};
+ghost use Rattle.audit_sums.specs.Rows.{acceptance_of, run_of, sale_by};
+
+use crate::rows::{Acceptance, Run, Sold};
+use audit_model::Part;
+use mc_records::{Errand, Record, RecordDeed, errands_are_texts, read_errand};
+use scrip_form::{Id, Name, Terms};
+
+// ---- money
+
+/// What a deposit brought in, in units; other entries 0.
+pub(crate) fn deposited(r: &Record<'_>) -> u64
+    ensures { result ≡ amount_in (entry r.now) }
+{
+    match r {
+        Record::Deposit { amount, .. } => *amount,
+        _ => 0,
+    }
+}
+
+/// What a withdrawal took out.
+pub(crate) fn withdrawn(r: &Record<'_>) -> u64
+    ensures { result ≡ amount_out (entry r.now) }
+{
+    match r {
+        Record::Withdraw { amount, .. } => *amount,
+        _ => 0,
+    }
+}
+
+/// The price that was taken for a piece.
+pub(crate) fn price(r: &Record<'_>) -> u64
+    ensures { result ≡ price_paid (entry r.now) }
+{
+    match r {
+        Record::Accept { price, .. } => *price,
+        _ => 0,
+    }
+}
+
+/// What was credited to an account.
+pub(crate) fn credited(r: &Record<'_>) -> u64
+    ensures { result ≡ model.amount_credited (entry r.now) }
+{
+    match r {
+        Record::Accept {
+            price,
+            deed: RecordDeed::Credit { .. },
+            ..
+        } => *price,
+        _ => 0,
+    }
+}
+
+/// What was drawn out of an account.
+pub(crate) fn drawn(r: &Record<'_>) -> u64
+    ensures { result ≡ model.amount_drawn (entry r.now) }
+{
+    let Record::Draw { target, .. } = r else {
+        return 0;
+    };
+    match read_errand(target) {
+        Some(Errand::Draw { amount, .. }) => amount,
+        _ => 0,
+    }
+}
+
+/// The fee of an entry, where a sale costs so much.
+pub(crate) fn fee_taken(fee: u64, r: &Record<'_>) -> u64
+    ensures { result ≡ fee_of fee (entry r.now) }
+{
+    match r {
+        Record::Accept {
+            deed: RecordDeed::Sale { .. },
+            ..
+        } => fee,
+        _ => 0,
+    }
+}
+
+// ---- pieces
+
+/// What is kept of the piece that an entry accepts.
+pub(crate) fn acceptance(r: &Record<'_>) -> Option<Acceptance>
+    ensures { result ≡ acceptance_of (entry r.now) }
+{
+    let Record::Accept { scrip, .. } = r else {
+        return None;
+    };
+    Some(Acceptance {
+        piece: Part::read(scrip),
+        sale: sale(r).is_some(),
+    })
+}
+
+/// What an entry sells.
+pub(crate) fn sale(r: &Record<'_>) -> Option<Sold>
+    ensures { option_map sale_by result ≡ sale_of (entry r.now) }
+{
+    errands_are_texts();
+    let Record::Accept {
+        target,
+        deed: RecordDeed::Sale { stock, id },
+        ..
+    } = r
+    else {
+        return None;
+    };
+    let Some(Errand::Buy { vendor, amount }) = read_errand(target) else {
+        return None;
+    };
+    let vendor = Name::new(vendor).unwrap();
+    Some(Sold {
+        vendor,
+        value: amount,
+        stock: *stock,
+        id: *id,
+    })
+}
+
+/// The pieces that an entry mints.
+pub(crate) fn run(r: &Record<'_>) -> Option<Run>
+    ensures { result ≡ run_of (entry r.now) }
+{
+    match r {
+        Record::Mint {
+            count,
+            value,
+            first,
+            ..
+        } => Some(Run {
+            first: *first,
+            count: *count,
+            value: *value,
+        }),
+        _ => None,
+    }
+}
+
+/// The piece that an entry hands out in the house's own series, whose terms these are.
+pub(crate) fn handed(terms: &Terms, r: &Record<'_>) -> Option<Part>
+    ensures { (h : History) → terms_in h 0 ≡ Some terms.now
+        → result ≡ option_map part_of (handed_piece h (entry r.now)) }
+{
+    match r {
+        Record::Accept {
+            scrip,
+            price,
+            change,
+            ..
+        } => change_of(terms, scrip, *price, *change),
+        Record::Draw { target, drawn, .. } => drawn_by(terms, target, *drawn),
+        _ => None,
+    }
+}
+
+/// The end of a series of these terms, by an identity of it.
+pub(crate) fn end_of(terms: &Terms, id: Id) -> u64
+    ensures { result ≡ series_end terms.now (epoch_of id) }
+{
+    let (_, epoch, _) = id.parts();
+    terms.series_end(epoch)
+}
+
+/// The change of a scrip text at a price.
+fn change_of(terms: &Terms, scrip: &[u8], price: u64, change: Option<Id>) -> Option<Part>
+    ensures { (h : History) (m : ℕ) (target : List ℕ) (sign : Option (List ℕ)) (deed : Deed)
+        → terms_in h 0 ≡ Some terms.now
+        → result ≡ option_map part_of (handed_piece h (Accept m scrip.now target sign price change deed)) }
+{
+    match (change, Part::read(scrip)) {
+        (Some(id), Some(paid)) => Some(Part {
+            id,
+            value: paid.value.saturating_sub(price),
+            expires: end_of(terms, id),
+        }),
+        _ => None,
+    }
+}
+
+/// What was drawn by a target.
+fn drawn_by(terms: &Terms, target: &[u8], drawn: Id) -> Option<Part>
+    ensures { (h : History) (m : ℕ) (sign : List ℕ) → terms_in h 0 ≡ Some terms.now
+        → result ≡ option_map part_of (handed_piece h (Draw m target.now sign drawn)) }
+{
+    match read_errand(target) {
+        Some(Errand::Draw { amount, .. }) => Some(Part {
+            id: drawn,
+            value: amount,
+            expires: end_of(terms, drawn),
+        }),
+        _ => None,
+    }
+}

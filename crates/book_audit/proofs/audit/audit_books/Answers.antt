@@ -1,9 +1,0 @@
-use Rattle.book_audit.proofs.Audited.{audited}
-use Rattle.book_audit.proofs.Kept.{names_book}
-use Rattle.book_audit.proofs.audit.audit_books.Goals as goal
-
-pub returns-clause-audited : goal.returns-clause-audited
-returns-clause-audited c limits hs le all = audited limits le c.args.books.now hs all c.find.result c.find.ensures
-
-pub returns-clause-named : goal.returns-clause-named
-returns-clause-named c = names_book c.args.books.now c.find.result c.find.ensures

@@ -1,5 +1,0 @@
-use Rattle.std.proofs.Common.{[]}
-use Rattle.book_audit.proofs.market.least_lacking.Goals as goal
-
-pub returns : goal.returns
-returns c = c.least_beside.ensures [] tt

@@ -1,6 +1,0 @@
-use Rattle.std.proofs.Common.{◌≡◌, ◌++◌, drop, filter, option_map, option_to_list}
-use Rattle.book_audit.specs.Checks.{is_desk}
-use Rattle.book_audit.proofs.market.only_broker.Given as goal
-
-abbrev pub invariant-loop-book : goal.invariant-loop-book
-invariant-loop-book l = option_to_list (option_map (λ s. s.now) l.found) ++ filter is_desk (drop l.book-index l.books) ≡ filter is_desk l.books

@@ -1,0 +1,8 @@
+use Rattle.broker_ledger.proofs.FollowLaws.{allowed, answered}
+use Rattle.broker_ledger.proofs.laws.accounts_follow.Goals as goal
+
+pub returns-clause-allowed : goal.returns-clause-allowed
+returns-clause-allowed c = allowed
+
+pub returns-clause-answered : goal.returns-clause-answered
+returns-clause-answered c = answered

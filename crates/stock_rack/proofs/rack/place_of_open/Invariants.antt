@@ -1,6 +1,0 @@
-use Rattle.stock_rack.specs.Racks.{IsPassed}
-use Rattle.stock_rack.proofs.rack.place_of_open.Given as goal
-
--- none of those that were looked at is for sale
-abbrev pub invariant-loop-place : goal.invariant-loop-place
-invariant-loop-place l = IsPassed l.now l.place l.pieces.items

@@ -1,5 +1,0 @@
-use Rattle.vendor_stalls.proofs.ListedLaws.{read_whole}
-use Rattle.vendor_stalls.proofs.listed.piece_of.Goals as goal
-
-pub returns : goal.returns
-returns c = rw c.piece.ensures (read_whole c.args.scrip.now.text c.args.scrip.now.piece c.args.scrip.now.cert c.text.ensures.spelled)
