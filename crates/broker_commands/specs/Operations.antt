@@ -14,7 +14,7 @@ use Rattle.site_words.specs.declared.broker_operation.BrokerOperation.TheVariant
 use Rattle.site_words.specs.declared.broker_operation.Inquiry.{Inquiry}
 use Rattle.site_words.specs.declared.broker_operation.LicenceUpgrading.{LicenceUpgrading}
 use Rattle.site_words.specs.declared.broker_operation.Opening.{Opening}
-use Rattle.site_words.specs.declared.broker_operation.Payment.{Payment}
+use Rattle.site_words.specs.declared.broker_operation.Movement.{Movement}
 use Rattle.site_words.specs.declared.broker_operation.Stocking.{Stocking}
 use Rattle.said_lines.specs.Lines.{chain_words, ready, upgrade_line, with_number}
 use Rattle.operator_command.specs.Operations.{OperationView, chain_operation}
@@ -47,7 +47,7 @@ abbrev pub says_balance : List ℕ → List ℕ → History → Task → List �
 says_balance name input h task line = line ≡ with_number (balance_words name) (balance (after task h) name)
 
 -- money is paid into an account, or out of it
-abbrev pub deposit_operation : Payment → OperationView
+abbrev pub deposit_operation : Movement → OperationView
 deposit_operation p = record {
   input = None;
   asks = λ input h t task. task ≡ deposit_task h t p.account p.amount p.reference;
@@ -55,7 +55,7 @@ deposit_operation p = record {
   refusals = 33 ∷ 40 ∷ 45 ∷ 56 ∷ [];
 }
 
-abbrev pub withdraw_operation : Payment → OperationView
+abbrev pub withdraw_operation : Movement → OperationView
 withdraw_operation p = record {
   input = None;
   asks = λ input h t task. task ≡ withdraw_task h t p.account p.amount p.reference;

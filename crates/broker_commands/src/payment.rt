@@ -16,11 +16,11 @@ use house_core::{House, Outcome};
 use mc_outside::Disk;
 use operator_command::without_answer;
 use said_lines::lay_bare;
-use site_words::Payment;
+use site_words::Movement;
 
 /// Pays into an account, and ends its line by the balance.
 pub(crate) fn pay_in<D: Disk>(
-    payment: &Payment<'_>,
+    payment: &Movement<'_>,
     house: House<D, Desk>,
     line: &mut Vec<u8>,
 ) -> Outcome<D, Desk, ()>
@@ -43,7 +43,7 @@ pub(crate) fn pay_in<D: Disk>(
 
 /// Pays out of an account likewise.
 pub(crate) fn pay_out<D: Disk>(
-    payment: &Payment<'_>,
+    payment: &Movement<'_>,
     house: House<D, Desk>,
     line: &mut Vec<u8>,
 ) -> Outcome<D, Desk, ()>

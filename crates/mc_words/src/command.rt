@@ -5,12 +5,12 @@ use command_table::{CommandName, named, read_command};
 use command_words::Found;
 use site_words::{
     BrokerFounder, BrokerOperation, Inquiry, LicenceUpgrading, Licensing, Listing, Minting,
-    Opening, Operation, Payment, Playing, Pricing, Server, Settling, Shop, Stating, Stocking,
+    Movement, Opening, Operation, Playing, Pricing, Server, Settling, Shop, Stating, Stocking,
     Switching, Taking, Upgrading, VendorFounder,
 };
 use std::alloc::{AllocError, Global};
 use wallet_words::{
-    AuditBooks, Buying, Drawing, Getting, Relaying, Renewing, Reporting, Retrying, WalletBook,
+    AuditBooks, BookAlone, Buying, Drawing, Getting, Relaying, Renewing, Reporting, Retrying,
     WalletFounder, WalletOperation,
 };
 
@@ -125,11 +125,11 @@ fn command_in<'a>(name: CommandName, found: Found<'a>) -> Option<Command<'a>>
             Some(Command::BrokerOperate(BrokerOperation::Account(opening)))
         }
         CommandName::BrokerDeposit => {
-            let deposit = Payment::read(&found)?;
+            let deposit = Movement::read(&found)?;
             Some(Command::BrokerOperate(BrokerOperation::Deposit(deposit)))
         }
         CommandName::BrokerWithdraw => {
-            let withdrawal = Payment::read(&found)?;
+            let withdrawal = Movement::read(&found)?;
             Some(Command::BrokerOperate(BrokerOperation::Withdraw(withdrawal)))
         }
         CommandName::BrokerBalance => {
@@ -165,7 +165,7 @@ fn command_in<'a>(name: CommandName, found: Found<'a>) -> Option<Command<'a>>
             Some(Command::WalletInit(founder))
         }
         CommandName::WalletTake => {
-            let filling = WalletBook::read(&found)?;
+            let filling = BookAlone::read(&found)?;
             Some(Command::WalletOperate(WalletOperation::Take(filling)))
         }
         CommandName::WalletDraw => {
@@ -185,7 +185,7 @@ fn command_in<'a>(name: CommandName, found: Found<'a>) -> Option<Command<'a>>
             Some(Command::WalletOperate(WalletOperation::Retry(retrying)))
         }
         CommandName::WalletList => {
-            let telling = WalletBook::read(&found)?;
+            let telling = BookAlone::read(&found)?;
             Some(Command::WalletOperate(WalletOperation::List(telling)))
         }
         CommandName::WalletLines => {
@@ -193,7 +193,7 @@ fn command_in<'a>(name: CommandName, found: Found<'a>) -> Option<Command<'a>>
             Some(Command::WalletOperate(WalletOperation::Lines(relaying)))
         }
         CommandName::WalletChain => {
-            let chaining = WalletBook::read(&found)?;
+            let chaining = BookAlone::read(&found)?;
             Some(Command::WalletOperate(WalletOperation::Chain(chaining)))
         }
         CommandName::WalletRenew => {

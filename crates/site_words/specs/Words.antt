@@ -18,7 +18,7 @@ use Rattle.site_words.specs.declared.operation.Upgrading.{Upgrading}
 use Rattle.site_words.specs.declared.broker_operation.Inquiry.{Inquiry}
 use Rattle.site_words.specs.declared.broker_operation.LicenceUpgrading.{LicenceUpgrading}
 use Rattle.site_words.specs.declared.broker_operation.Opening.{Opening}
-use Rattle.site_words.specs.declared.broker_operation.Payment.{Payment}
+use Rattle.site_words.specs.declared.broker_operation.Movement.{Movement}
 use Rattle.site_words.specs.declared.broker_operation.Stocking.{Stocking}
 use Rattle.site_words.specs.declared.broker_operation.Taking.{Taking}
 use Rattle.site_words.specs.declared.serving.Playing.{Playing}
@@ -66,9 +66,9 @@ unfolding form_of
 opening_values o = (o.book, (o.account, (o.key, tt)))
 
 -- of `broker withdraw` likewise
-unfoldable pub payment_values : Payment → ValuesOf (form_of names.BrokerDeposit).parameters
+unfoldable pub movement_values : Movement → ValuesOf (form_of names.BrokerDeposit).parameters
 unfolding form_of
-payment_values p = (p.book, (p.account, (p.amount, (p.reference, tt))))
+movement_values p = (p.book, (p.account, (p.amount, (p.reference, tt))))
 
 unfoldable pub inquiry_values : Inquiry → ValuesOf (form_of names.BrokerBalance).parameters
 unfolding form_of

@@ -4,7 +4,7 @@ ghost use Rattle.std.specs.Prelude.{◌≡◌};
 ghost use Rattle.command_table.specs.Ranges.{IsWithin};
 ghost use Rattle.command_table.specs.Table.{Gives};
 ghost use Rattle.command_table.specs.declared.table.CommandName.TheVariants.{BrokerAccount, BrokerBalance, BrokerDeposit, BrokerLicence, BrokerStock, BrokerUpgrade};
-ghost use Rattle.site_words.specs.Words.{inquiry_values, licence_upgrading_values, opening_values, payment_values, stocking_values, taking_values};
+ghost use Rattle.site_words.specs.Words.{inquiry_values, licence_upgrading_values, opening_values, movement_values, stocking_values, taking_values};
 ghost use Rattle.site_words.specs.Commands.{broker_book_of};
 
 use crate::switching::Switching;
@@ -21,9 +21,9 @@ pub enum BrokerOperation<'a> {
     /// Opens an account.
     Account(Opening<'a>),
     /// Pays into an account.
-    Deposit(Payment<'a>),
+    Deposit(Movement<'a>),
     /// Pays out of an account.
-    Withdraw(Payment<'a>),
+    Withdraw(Movement<'a>),
     /// Tells the balance of an account.
     Balance(Inquiry<'a>),
     /// Takes a licence of a vendor.
@@ -95,7 +95,7 @@ impl<'a> Opening<'a> {
 
 /// What is paid into an account or out of it.
 #[derive(Drop)]
-pub struct Payment<'a> {
+pub struct Movement<'a> {
     /// The book of the broker.
     pub book: Place<'a>,
     /// The name of the account.
@@ -106,17 +106,17 @@ pub struct Payment<'a> {
     pub reference: Name,
 }
 
-impl<'a> Payment<'a> {
+impl<'a> Movement<'a> {
     /// `broker deposit BOOK ACCOUNT AMOUNT REFERENCE`, and `broker withdraw` likewise.
-    #[tactic(auto, unfolding(command_table::specs::Table::form_of, crate::specs::Words::payment_values))]
-    pub fn read(found: &Found<'a>) -> Option<Payment<'a>>
-        ensures { Gives BrokerDeposit payment_values found.now result }
+    #[tactic(auto, unfolding(command_table::specs::Table::form_of, crate::specs::Words::movement_values))]
+    pub fn read(found: &Found<'a>) -> Option<Movement<'a>>
+        ensures { Gives BrokerDeposit movement_values found.now result }
     {
         let book = place_in(found, Parameter::Book)?;
         let account = name_in(found, Parameter::Account)?;
         let amount = number_in(found, Parameter::Amount)?;
         let reference = name_in(found, Parameter::Reference)?;
-        Some(Payment {
+        Some(Movement {
             book,
             account,
             amount,

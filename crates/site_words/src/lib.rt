@@ -13,7 +13,7 @@ mod shop;
 mod switching;
 
 pub use broker_operation::{
-    BrokerOperation, Inquiry, LicenceUpgrading, Opening, Payment, Stocking, Taking,
+    BrokerOperation, Inquiry, LicenceUpgrading, Movement, Opening, Stocking, Taking,
 };
 pub use founder::{BrokerFounder, Founder, KEEP, VendorFounder};
 pub use operation::{Licensing, Listing, Minting, Operation, Pricing, Upgrading};

@@ -12,16 +12,16 @@ use Rattle.wallet_words.specs.declared.wallet_operation.Getting.{Getting}
 use Rattle.wallet_words.specs.declared.wallet_operation.Relaying.{Relaying}
 use Rattle.wallet_words.specs.declared.wallet_operation.Renewing.{Renewing}
 use Rattle.wallet_words.specs.declared.wallet_operation.Retrying.{Retrying}
-use Rattle.wallet_words.specs.declared.wallet_operation.WalletBook.{WalletBook}
+use Rattle.wallet_words.specs.declared.wallet_operation.BookAlone.{BookAlone}
 
 unfoldable pub wallet_founder_values : WalletFounder → ValuesOf (form_of names.WalletInit).parameters
 unfolding form_of
 wallet_founder_values f = (f.book, (f.name, tt))
 
 -- of `wallet list` and `wallet chain` likewise
-unfoldable pub wallet_book_values : WalletBook → ValuesOf (form_of names.WalletTake).parameters
+unfoldable pub book_alone_values : BookAlone → ValuesOf (form_of names.WalletTake).parameters
 unfolding form_of
-wallet_book_values w = (w.book, tt)
+book_alone_values w = (w.book, tt)
 
 unfoldable pub drawing_values : Drawing → ValuesOf (form_of names.WalletDraw).parameters
 unfolding form_of

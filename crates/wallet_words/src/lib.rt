@@ -14,5 +14,5 @@ pub use proxying::{Proxying, proxying_of};
 pub use reporting::Reporting;
 pub use wallet_init::WalletFounder;
 pub use wallet_operation::{
-    Buying, Drawing, Getting, Relaying, Renewing, Retrying, WalletBook, WalletOperation,
+    BookAlone, Buying, Drawing, Getting, Relaying, Renewing, Retrying, WalletOperation,
 };

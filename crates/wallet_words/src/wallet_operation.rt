@@ -4,7 +4,7 @@ ghost use Rattle.std.specs.Prelude.{◌≡◌, option_map};
 ghost use Rattle.command_table.specs.Ranges.{IsWithin};
 ghost use Rattle.command_table.specs.Table.{Gives};
 ghost use Rattle.command_table.specs.declared.table.CommandName.TheVariants.{WalletBuy, WalletDraw, WalletGet, WalletLines, WalletRenew, WalletRetry, WalletTake};
-ghost use Rattle.wallet_words.specs.Words.{buying_values, drawing_values, getting_values, relaying_values, renewing_values, retrying_values, wallet_book_values};
+ghost use Rattle.wallet_words.specs.Words.{buying_values, drawing_values, getting_values, relaying_values, renewing_values, retrying_values, book_alone_values};
 ghost use Rattle.wallet_words.specs.Commands.{connect_of, wallet_book_of};
 
 use command_table::{
@@ -18,7 +18,7 @@ use scrip_form::{Name, Target};
 #[derive(Drop)]
 pub enum WalletOperation<'a> {
     /// Takes pieces into it.
-    Take(WalletBook<'a>),
+    Take(BookAlone<'a>),
     /// Draws scrip of a broker from an account.
     Draw(Drawing<'a>),
     /// Buys scrip of a vendor from a broker.
@@ -28,11 +28,11 @@ pub enum WalletOperation<'a> {
     /// Sends a kept request again.
     Retry(Retrying<'a>),
     /// Tells what it holds.
-    List(WalletBook<'a>),
+    List(BookAlone<'a>),
     /// Tells the pieces of a vendor that may be sold on.
     Lines(Relaying<'a>),
     /// Switches the chain of the book on, and tells it.
-    Chain(WalletBook<'a>),
+    Chain(BookAlone<'a>),
     /// Pays a cheap target with the piece that ends first, and keeps its change.
     Renew(Renewing<'a>),
 }
@@ -75,19 +75,19 @@ impl<'a> WalletOperation<'a> {
 
 /// The wallet that takes pieces, whose holdings are told, or whose chain is switched on.
 #[derive(Drop)]
-pub struct WalletBook<'a> {
+pub struct BookAlone<'a> {
     /// The book of the wallet.
     pub book: Place<'a>,
 }
 
-impl<'a> WalletBook<'a> {
+impl<'a> BookAlone<'a> {
     /// `wallet take BOOK`, and `wallet list` and `wallet chain` likewise.
-    #[tactic(auto, unfolding(command_table::specs::Table::form_of, crate::specs::Words::wallet_book_values))]
-    pub fn read(found: &Found<'a>) -> Option<WalletBook<'a>>
-        ensures { Gives WalletTake wallet_book_values found.now result }
+    #[tactic(auto, unfolding(command_table::specs::Table::form_of, crate::specs::Words::book_alone_values))]
+    pub fn read(found: &Found<'a>) -> Option<BookAlone<'a>>
+        ensures { Gives WalletTake book_alone_values found.now result }
     {
         let book = place_in(found, Parameter::Book)?;
-        Some(WalletBook { book })
+        Some(BookAlone { book })
     }
 }
 

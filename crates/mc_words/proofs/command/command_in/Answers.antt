@@ -1,8 +1,8 @@
 use Rattle.std.proofs.Common.{refl}
 use Rattle.command_table.specs.declared.table.CommandName.TheVariants as names
 use Rattle.command_table.specs.Table.{form_of}
-use Rattle.site_words.specs.Words.{broker_founder_values, inquiry_values, licence_upgrading_values, licensing_values, listing_values, minting_values, opening_values, payment_values, playing_values, pricing_values, server_values, settling_values, shop_values, stating_values, stocking_values, switching_values, taking_values, upgrading_values, vendor_founder_values}
-use Rattle.wallet_words.specs.Words.{audit_books_values, buying_values, drawing_values, getting_values, relaying_values, renewing_values, reporting_values, retrying_values, wallet_book_values, wallet_founder_values}
+use Rattle.site_words.specs.Words.{broker_founder_values, inquiry_values, licence_upgrading_values, licensing_values, listing_values, minting_values, opening_values, movement_values, playing_values, pricing_values, server_values, settling_values, shop_values, stating_values, stocking_values, switching_values, taking_values, upgrading_values, vendor_founder_values}
+use Rattle.wallet_words.specs.Words.{audit_books_values, buying_values, drawing_values, getting_values, relaying_values, renewing_values, reporting_values, retrying_values, book_alone_values, wallet_founder_values}
 use Rattle.mc_words.specs.Commands.{command_with}
 use Rattle.mc_words.proofs.command.command_in.Goals as goal
 
@@ -59,12 +59,12 @@ unfolding form_of command_with opening_values
 returns-in-BrokerAccount c = record { row = names.BrokerAccount; is = c.in-BrokerAccount.is; one_sided = refl; values = opening_values c.in_ok-opening-in-BrokerAccount.opening; found' = c.in_ok-opening-in-BrokerAccount.ensures; made = refl }
 
 pub returns-in-BrokerDeposit : goal.returns-in-BrokerDeposit
-unfolding form_of command_with payment_values
-returns-in-BrokerDeposit c = record { row = names.BrokerDeposit; is = c.in-BrokerDeposit.is; one_sided = refl; values = payment_values c.in_ok-deposit-in-BrokerDeposit.deposit; found' = c.in_ok-deposit-in-BrokerDeposit.ensures; made = refl }
+unfolding form_of command_with movement_values
+returns-in-BrokerDeposit c = record { row = names.BrokerDeposit; is = c.in-BrokerDeposit.is; one_sided = refl; values = movement_values c.in_ok-deposit-in-BrokerDeposit.deposit; found' = c.in_ok-deposit-in-BrokerDeposit.ensures; made = refl }
 
 pub returns-in-BrokerWithdraw : goal.returns-in-BrokerWithdraw
-unfolding form_of command_with payment_values
-returns-in-BrokerWithdraw c = record { row = names.BrokerWithdraw; is = c.in-BrokerWithdraw.is; one_sided = refl; values = payment_values c.in_ok-withdrawal-in-BrokerWithdraw.withdrawal; found' = c.in_ok-withdrawal-in-BrokerWithdraw.ensures; made = refl }
+unfolding form_of command_with movement_values
+returns-in-BrokerWithdraw c = record { row = names.BrokerWithdraw; is = c.in-BrokerWithdraw.is; one_sided = refl; values = movement_values c.in_ok-withdrawal-in-BrokerWithdraw.withdrawal; found' = c.in_ok-withdrawal-in-BrokerWithdraw.ensures; made = refl }
 
 pub returns-in-BrokerBalance : goal.returns-in-BrokerBalance
 unfolding form_of command_with inquiry_values
@@ -99,8 +99,8 @@ unfolding form_of command_with wallet_founder_values
 returns-in-WalletInit c = record { row = names.WalletInit; is = c.in-WalletInit.is; one_sided = refl; values = wallet_founder_values c.in_ok-founder-in-WalletInit.founder; found' = c.in_ok-founder-in-WalletInit.ensures; made = refl }
 
 pub returns-in-WalletTake : goal.returns-in-WalletTake
-unfolding form_of command_with wallet_book_values
-returns-in-WalletTake c = record { row = names.WalletTake; is = c.in-WalletTake.is; one_sided = refl; values = wallet_book_values c.in_ok-filling-in-WalletTake.filling; found' = c.in_ok-filling-in-WalletTake.ensures; made = refl }
+unfolding form_of command_with book_alone_values
+returns-in-WalletTake c = record { row = names.WalletTake; is = c.in-WalletTake.is; one_sided = refl; values = book_alone_values c.in_ok-filling-in-WalletTake.filling; found' = c.in_ok-filling-in-WalletTake.ensures; made = refl }
 
 pub returns-in-WalletDraw : goal.returns-in-WalletDraw
 unfolding form_of command_with drawing_values
@@ -119,16 +119,16 @@ unfolding form_of command_with retrying_values
 returns-in-WalletRetry c = record { row = names.WalletRetry; is = c.in-WalletRetry.is; one_sided = refl; values = retrying_values c.in_ok-retrying-in-WalletRetry.retrying; found' = c.in_ok-retrying-in-WalletRetry.ensures; made = refl }
 
 pub returns-in-WalletList : goal.returns-in-WalletList
-unfolding form_of command_with wallet_book_values
-returns-in-WalletList c = record { row = names.WalletList; is = c.in-WalletList.is; one_sided = refl; values = wallet_book_values c.in_ok-telling-in-WalletList.telling; found' = c.in_ok-telling-in-WalletList.ensures; made = refl }
+unfolding form_of command_with book_alone_values
+returns-in-WalletList c = record { row = names.WalletList; is = c.in-WalletList.is; one_sided = refl; values = book_alone_values c.in_ok-telling-in-WalletList.telling; found' = c.in_ok-telling-in-WalletList.ensures; made = refl }
 
 pub returns-in-WalletLines : goal.returns-in-WalletLines
 unfolding form_of command_with relaying_values
 returns-in-WalletLines c = record { row = names.WalletLines; is = c.in-WalletLines.is; one_sided = refl; values = relaying_values c.in_ok-relaying-in-WalletLines.relaying; found' = c.in_ok-relaying-in-WalletLines.ensures; made = refl }
 
 pub returns-in-WalletChain : goal.returns-in-WalletChain
-unfolding form_of command_with wallet_book_values
-returns-in-WalletChain c = record { row = names.WalletChain; is = c.in-WalletChain.is; one_sided = refl; values = wallet_book_values c.in_ok-chaining-in-WalletChain.chaining; found' = c.in_ok-chaining-in-WalletChain.ensures; made = refl }
+unfolding form_of command_with book_alone_values
+returns-in-WalletChain c = record { row = names.WalletChain; is = c.in-WalletChain.is; one_sided = refl; values = book_alone_values c.in_ok-chaining-in-WalletChain.chaining; found' = c.in_ok-chaining-in-WalletChain.ensures; made = refl }
 
 pub returns-in-WalletRenew : goal.returns-in-WalletRenew
 unfolding form_of command_with renewing_values
