@@ -14,176 +14,33 @@ import http.server
 import os
 import random
 import shutil
-import socket
+import signal
 import statistics
-import struct
 import subprocess
 import sys
 import tempfile
 import threading
 import time
-import zlib
 from collections import Counter
 from contextlib import contextmanager
 from pathlib import Path
 
 import chromium
 import millicent
-from bank import Bank
 from bench import Beside
-from pages import Vendor
-from serving import LINK_FAULT, LINKS, PROGRAM, Link, free_port
-from wallets import Wallet, compare
+from gateway import AHEAD, LIMIT, LOOK, NAME, PAGES, PARTS, PICTURES, PRICE, STYLE, Market, Nginx, Proxy, one_moment, target
+from serving import LINKS, Link
 
-NAME, ACCOUNT, KEEP = "news.example", "ann", 86_400
-LIMIT, BUDGET, PIECES, PIECE = 25, 10**7, 8, 100_000
-# Links of the proxy of a try: more than it takes.
-ENOUGH = 400
-SETTINGS = Path(__file__).resolve().parent.parent / "examples/proxy/nginx.conf"
-STYLE, PICTURES = "/look.css", ("/sun.png", "/town.png")
-PARTS = {STYLE: 5, PICTURES[0]: 10, PICTURES[1]: 10}
-PAGES = range(1, 4)
-PRICE = 25
-# A page that has another one fetched ahead.
-AHEAD = "/ahead"
 # Loads beside which programs are killed.
 ROUNDS = 30
-WHOLE = PRICE + sum(PARTS.values())
-CSS = b"body { background: #fffbe8; font: 20px serif; margin: 2em } h1 { color: #a03020 } img { border: 4px solid #a03020; margin: 6px }\n"
-LOOK = "rgb(255, 251, 232)"
-
-
-def page(number):
-    """The contents of a page: HTML with a style sheet, two pictures and a link to the next one."""
-    lines = ["<!doctype html>", "<title>Page %d</title>" % number, "<link rel=stylesheet href=%s>" % STYLE,
-             "<h1>Caf\u00e9 news, page %d</h1>" % number, "<p>All of this page was paid for.</p>",
-             "".join("<img src=%s>" % picture for picture in PICTURES),
-             "<p><a href=%s>The next page</a></p>" % target(number % len(PAGES) + 1)]
-    return "\n".join(lines).encode() + b"\n"
-
-
-def target(number):
-    return "/news/%d" % number
-
-
-def picture(width, height, color_of):
-    """A PNG of these colors."""
-    rows = b"".join(b"\0" + bytes(c for x in range(width) for c in color_of(x, y)) for y in range(height))
-    header = struct.pack(">IIBBBBB", width, height, 8, 2, 0, 0, 0)
-    chunks = (b"IHDR", header), (b"IDAT", zlib.compress(rows, 9)), (b"IEND", b"")
-    return b"\x89PNG\r\n\x1a\n" + b"".join(
-        struct.pack(">I", len(data)) + name + data + struct.pack(">I", zlib.crc32(name + data)) for name, data in chunks)
-
-
-def sun(x, y):
-    return (250, 190, 40) if (x - 60) ** 2 + (y - 45) ** 2 < 900 else (90, 150 + y, 230)
-
-
-def town(x, y):
-    return (70, 60, 90) if y > 30 + (x // 20 * 37) % 40 else (240, 170 - y, 120)
-
-
-def one_moment(probe, what, seconds=20):
-    """Waits until this is so."""
-    until = time.monotonic() + seconds
-    while not probe():
-        assert time.monotonic() < until, "%s did not come to be" % what
-        time.sleep(0.02)
-
-
-def connects(address):
-    try:
-        return bool(socket.create_connection(address, 5).close() or True)
-    except OSError:
-        return False
-
-
-class Proxy:
-    """`wallet proxy` over a wallet's book."""
-
-    def __init__(self, wallet, vendor):
-        self.wallet, self.vendor = wallet, vendor
-        self.address, self.process = ("127.0.0.1", free_port()), None
-
-    def start(self, budget=BUDGET, links=ENOUGH):
-        """Runs it, and takes one of its links to see that it does."""
-        words = [PROGRAM, "wallet", "proxy", self.wallet.book, NAME, str(LIMIT), str(budget),
-                 "%s:%d" % self.address, "%s:%d" % self.vendor.address, str(links)]
-        for _ in range(100):
-            self.process, self.links, self.paid = subprocess.Popen(words, stdout=subprocess.PIPE), links, self.booked()
-            while self.process.poll() is None:
-                if connects(self.address):
-                    return
-                time.sleep(0.01)
-            assert self.process.returncode == LINK_FAULT, "the proxy ended with %d" % self.process.returncode
-            time.sleep(0.1)
-
-    def booked(self):
-        """What the wallet's book has as paid."""
-        return sum(entry.price for entry in self.wallet.entries() if entry.kind == millicent.DONE)
-
-    def is_up(self):
-        return self.process is not None and self.process.poll() is None
-
-    def kill(self):
-        self.process.kill()
-        self.process.communicate()
-
-    def end(self):
-        """Uses up the links that are left, by ones that ask nothing. What was paid, as it says and as its book has it."""
-        until = time.monotonic() + 60
-        while self.is_up() and time.monotonic() < until:
-            connects(self.address)
-        said = self.process.communicate(timeout=60)[0].decode()
-        paid = self.booked() - self.paid
-        assert (self.process.returncode, said) == (0, "proxied %d %d\n" % (self.links, paid)), (
-            "the proxy ended with %d and said %r, and %d was paid" % (self.process.returncode, said, paid))
-        return paid
-
-    def stop(self):
-        if self.is_up():
-            self.kill()
-
-
-class Nginx:
-    """nginx with the file of `examples/proxy`, with other ports and another folder, and nothing in its cache."""
-
-    def __init__(self, folder, proxy):
-        self.folder, self.address = folder, ("127.0.0.1", free_port())
-        os.mkdir(folder)
-        settings = SETTINGS.read_text()
-        for old, new in (("127.0.0.1:8090", "%s:%d" % proxy.address), ("127.0.0.1:8080", "%s:%d" % self.address),
-                         ("/var/cache/millicent", folder + "/cache")):
-            assert old in settings, "%s is not in %s" % (old, SETTINGS)
-            settings = settings.replace(old, new)
-        Path(folder, "paid.conf").write_text(settings)
-        temporary = "".join("%s_temp_path %s/%s;\n" % (it, folder, it) for it in ("client_body", "proxy", "fastcgi", "uwsgi", "scgi"))
-        Path(folder, "nginx.conf").write_text(
-            "%sdaemon off;\npid %s/pid;\nerror_log %s/error.log;\nworker_processes 1;\nevents { }\n"
-            "http {\naccess_log %s/access.log;\n%sinclude %s/paid.conf;\n}\n"
-            % ("user root;\n" if os.geteuid() == 0 else "", folder, folder, folder, temporary, folder))
-        words = ["nginx", "-p", folder, "-e", folder + "/error.log", "-c", folder + "/nginx.conf"]
-        self.process = subprocess.Popen(words, stdin=subprocess.DEVNULL)
-        one_moment(lambda: connects(self.address) or self.process.poll() is not None, "nginx")
-        assert self.process.poll() is None, Path(folder, "error.log").read_text()
-
-    def url(self, what, host=None):
-        return "http://%s:%d%s" % (host or self.address[0], self.address[1], what)
-
-    def stop(self):
-        self.process.terminate()
-        self.process.wait(60)
-
-    def faults(self):
-        """What it says went wrong, with the proxy or by itself."""
-        return Path(self.folder, "error.log").read_text()
 
 
 class Elsewhere(http.server.BaseHTTPRequestHandler):
-    """Another site, one of whose pages shows a picture at the address that its query names."""
+    """Another site, one of whose pages shows what is at the address that its query names, and links to it."""
 
     def do_GET(self):
-        said = ("<!doctype html><title>Elsewhere</title><img src=%s>" % self.path.partition("?")[2]).encode()
+        named = self.path.partition("?")[2]
+        said = ("<!doctype html><title>Elsewhere</title><img src=%s><a href=%s>There</a>" % (named, named)).encode()
         self.send_response(200)
         self.send_header("Content-Type", "text/html")
         self.send_header("Content-Length", str(len(said)))
@@ -192,59 +49,6 @@ class Elsewhere(http.server.BaseHTTPRequestHandler):
 
     def log_message(self, *_):
         pass
-
-
-class Market:
-    """A bank with a vendor's licence, the vendor, and the wallet of a customer with some pieces."""
-
-    def __init__(self, folder):
-        self.folder, self.wrongs, self.others = folder, [], set()
-        self.bank, self.vendor = Bank(folder, KEEP), Vendor(folder, NAME, KEEP)
-        self.sites = {"bank": self.bank, NAME: self.vendor}
-        self.bank.found()
-        self.bank.open(ACCOUNT, 10**9)
-        self.bank.command("licence", contents=self.vendor.licence())
-        for number in PAGES:
-            self.sell(target(number), PRICE, page(number), 2)
-        ahead = page(2).replace(b"<h1>", b"<link rel=prefetch href=%s><h1>" % target(3).encode())
-        self.sell(AHEAD, PRICE, ahead, 2)
-        self.sell(STYLE, PARTS[STYLE], CSS)
-        for name, color_of in zip(PICTURES, (sun, town)):
-            self.sell(name, PARTS[name], picture(160, 90, color_of))
-        self.bank.start()
-        self.vendor.start()
-        self.wallet, self.hand = Wallet(folder, Counter(), self.wrongs.append), Wallet(self.folder_of("hand"), Counter(), self.wrongs.append)
-        for order, wallet, count in ((1, self.wallet, PIECES), (2, self.hand, 1)):
-            address = "%s:%d" % self.bank.address
-            wallet.sure("draw", "bank", ACCOUNT, self.bank.keys[ACCOUNT].hex(), str(order), str((PIECE + 1) * count), address)
-            for _ in range(count):
-                wallet.sure("buy", "bank", NAME, str(PIECE), str(PIECE + 1), address)
-        self.others |= {(entry.scrip, entry.target) for entry in self.hand.entries() if entry.kind == millicent.PEND}
-
-    def folder_of(self, name):
-        os.mkdir(os.path.join(self.folder, name))
-        return os.path.join(self.folder, name)
-
-    def sell(self, what, price, contents, kind=0):
-        self.vendor.command("goods", what, str(price), "--kind", str(kind), contents=contents)
-
-    def accepted(self):
-        """How often the vendor was paid for each target."""
-        return Counter(entry.target.decode() for entry in self.vendor.entries() if entry.kind == millicent.ACCEPT)
-
-    def agree(self):
-        """The wallet's book and the sites' have the same payments."""
-        compare(self.wallet.entries(), self.sites, self.wrongs.append, self.others)
-        assert not self.wrongs, "; ".join(self.wrongs)
-
-    def audit(self):
-        ran = subprocess.run([PROGRAM, "audit", "report", self.bank.book, self.vendor.book], stdout=subprocess.PIPE)
-        assert ran.returncode == 0 and ran.stdout.endswith(b"\nbalanced\n"), "status %d, %r" % (ran.returncode, ran.stdout)
-        return " / ".join(ran.stdout.decode().splitlines()[-2:])
-
-    def end(self):
-        for site in self.sites.values():
-            site.end()
 
 
 class Tries:
@@ -259,13 +63,13 @@ class Tries:
         self.nginx = Nginx(os.path.join(self.market.folder, "nginx-%d" % self.number), self.proxy)
         try:
             self.proxy.start()
-            before = self.market.accepted()
+            self.before = self.market.accepted()
             with chromium.Chromium() as self.browser:
                 self.tab = self.browser.tabs[0]
                 said, wanted = getattr(self, name)()
             paid = self.proxy.end() if self.proxy.is_up() else None
             self.market.agree()
-            after = self.market.accepted() - before
+            after = self.market.accepted() - self.before
             assert wanted is None or after == Counter(wanted), "paid for were %r, and not %r" % (dict(after), dict(wanted))
             took = sum(self.prices()[what] * count for what, count in after.items())
             assert paid is None or name in self.RESTARTED or paid == took, "%d was paid, and %d taken" % (paid, took)
@@ -278,6 +82,7 @@ class Tries:
             self.proxy.stop()
             if self.vendor.server.poll() is not None:
                 self.vendor.start()
+            self.vendor.server.send_signal(signal.SIGCONT)
 
     # Tries in which the proxy was started more than once: it says what was paid since.
     RESTARTED = ("proxy_killed", "proxy_killed_asking", "kills", "over_budget")
@@ -309,17 +114,22 @@ class Tries:
         if self.pictures:
             self.tab.picture(os.path.join(self.pictures, what + ".png"))
 
+    def answers(self, what):
+        """The statuses that nginx answered to requests for a target."""
+        return [line.split('" ')[1].split(" ")[0] for line in Path(self.nginx.folder, "access.log").read_text().splitlines()
+                if '"GET %s HTTP/' % what in line]
+
     def said(self):
         return self.tab.text().strip()
 
     @contextmanager
     def held(self):
         """The vendor's process stands still meanwhile."""
-        self.vendor.server.send_signal(19)
+        self.vendor.server.send_signal(signal.SIGSTOP)
         try:
             yield
         finally:
-            self.vendor.server.send_signal(18)
+            self.vendor.server.send_signal(signal.SIGCONT)
 
     def asked(self):
         """How many requests are kept in the wallet's book, and not settled."""
@@ -433,12 +243,9 @@ class Tries:
         """A page that has another fetched ahead, which is then opened."""
         self.tab.load(self.nginx.url(AHEAD))
         self.shown(2)
-        time.sleep(1)
-        log = Path(self.nginx.folder, "access.log").read_text()
-        assert '"GET %s HTTP/1.1" 503' % target(3) in log, "the browser fetched nothing ahead: %s" % log
-        before = self.market.accepted()[target(3)]
+        one_moment(lambda: self.answers(target(3)) == ["503"], "what is fetched ahead")
         self.opened(3)
-        return "fetched ahead: 503; then opened", {**self.whole(3), AHEAD: 1, target(3): self.market.accepted()[target(3)] - before}
+        return "503 to what was fetched ahead, and paid for when it was opened", {**self.whole(3), AHEAD: 1}
 
     def icon(self):
         """What a browser asks for by itself."""
@@ -456,21 +263,23 @@ class Tries:
         return said, self.whole(1)
 
     def another_site(self):
-        """A picture that a page of another site shows is not paid for; past nginx it is."""
+        """A picture that a page of another site shows is not paid for, nor one that it links to; past nginx it is."""
         server = http.server.ThreadingHTTPServer(("127.0.0.1", 0), Elsewhere)
         threading.Thread(target=server.serve_forever, daemon=True).start()
+        asked = self.nginx.url(PICTURES[0])
         try:
-            for host in ("localhost", "127.0.0.1"):
-                asked = self.nginx.url(PICTURES[0])
-                seen = self.tab.load("http://%s:%d/?%s" % (host, server.server_port, asked))
-                assert seen[asked].status == 403, "from %s: %r" % (host, seen)
-            asked = "http://%s:%d%s" % (*self.proxy.address, PICTURES[1])
-            self.tab.load("http://localhost:%d/?%s" % (server.server_port, asked))
-            one_moment(lambda: self.asked() == 0, "the payment")
+            for count, host in enumerate(("localhost", "127.0.0.1"), 1):
+                self.tab.load("http://%s:%d/?%s" % (host, server.server_port, asked))
+                one_moment(lambda: self.answers(PICTURES[0]) == ["403"] * (2 * count - 1), "403")
+                self.tab.events.clear()
+                self.tab.begin("Runtime.evaluate", expression="document.querySelector('a').click()")
+                assert self.tab.loaded()[asked].status == 403, "a link from %s was followed" % host
+            self.tab.load("http://localhost:%d/?http://%s:%d%s" % (server.server_port, *self.proxy.address, PICTURES[1]))
+            one_moment(lambda: self.market.accepted()[PICTURES[1]] > self.before[PICTURES[1]] and self.asked() == 0, "the payment")
         finally:
             server.shutdown()
             server.server_close()
-        return "403 from another name and from another port; the proxy's own port takes it", {PICTURES[1]: 1}
+        return "shown or linked to by another name or another port: 403; the proxy's own port takes it", {PICTURES[1]: 1}
 
     def another_name(self):
         """A name that was made to lead to this machine."""
@@ -502,7 +311,7 @@ class Tries:
     def vendor_killed_asked(self):
         """The same while it has the request of a page, before it has entered it or behind that."""
         for _ in range(3):
-            self.vendor.server.send_signal(19)
+            self.vendor.server.send_signal(signal.SIGSTOP)
             self.tab.events.clear()
             self.tab.begin("Page.navigate", url=self.nginx.url(target(1)))
             one_moment(lambda: self.asked() == 1, "the request")
@@ -528,14 +337,13 @@ class Tries:
 
     def proxy_killed_asking(self):
         """The same while it waits for the vendor, who takes the payment."""
-        before = self.market.accepted()
         with self.held():
             self.tab.events.clear()
             self.tab.begin("Page.navigate", url=self.nginx.url(target(1)))
             one_moment(lambda: self.asked() == 1, "the request")
             self.proxy.kill()
             self.tab.loaded()
-        one_moment(lambda: self.market.accepted() != before, "the payment")
+        one_moment(lambda: self.market.accepted() != self.before, "the payment")
         self.proxy.start()
         self.tab.reload()
         self.shown(1)
@@ -545,21 +353,23 @@ class Tries:
         """Vendor and proxy are killed at random moments and started again, while pages are opened past what is kept. A page may be paid for
         again where the proxy was killed behind its payment."""
         ended, killed = threading.Event(), Counter()
+        began = time.monotonic()
+        self.opened(1)
+        usual = time.monotonic() - began
 
         def kill():
-            while not ended.wait(random.uniform(0, 0.4)):
+            while not ended.wait(random.uniform(0, 4 * usual)):
                 which = random.choice((self.proxy, self.vendor))
                 which.kill()
                 killed[which] += 1
-                time.sleep(random.choice((0, random.uniform(0, 0.1))))
+                time.sleep(random.choice((0, random.uniform(0, usual))))
                 which.start()
         killer = threading.Thread(target=kill)
         killer.start()
         shown = 0
         try:
             for i in range(ROUNDS):
-                url = self.nginx.url(target(i % len(PAGES) + 1))
-                self.tab.load(url)
+                self.tab.load(self.nginx.url(target(i % len(PAGES) + 1)))
                 self.tab.reload(is_forced=True)
                 shown += self.tab.value("document.images.length") == len(PICTURES)
         finally:
@@ -681,7 +491,7 @@ def main():
                 try:
                     print("%-20s %s" % (name, tries.make(name)), flush=True)
                     held += 1
-                except (AssertionError, OSError) as e:
+                except (AssertionError, OSError, LookupError) as e:
                     market.wrongs.clear()
                     print("%-20s DOES NOT HOLD: %s" % (name, e or type(e).__name__), flush=True)
             if given.pages:
