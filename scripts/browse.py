@@ -92,9 +92,9 @@ class Tries:
         return {**PARTS, AHEAD: PRICE, **{target(number): PRICE for number in PAGES}}
 
     @staticmethod
-    def whole(*numbers, count=1):
-        """What is paid for where these pages are opened so often, with their parts, which are kept for the next page."""
-        return Counter({**{target(number): count for number in numbers}, **{part: count for part in PARTS}})
+    def whole(*numbers):
+        """What is paid for where these pages are opened, with their parts, which are kept for the next page."""
+        return Counter([*map(target, numbers), *PARTS])
 
     def shown(self, number, tab=None):
         """The page is shown, with its style and its pictures."""
@@ -162,11 +162,23 @@ class Tries:
         return "loaded again three times, and opened again", self.whole(1)
 
     def forced_reload(self):
-        """With Ctrl-Shift-R the page is fetched anew."""
+        """With Ctrl-Shift-R, and with the cache off in the developer tools, the page is fetched anew, and its parts are not."""
         self.opened(1)
         self.tab.reload(is_forced=True)
         self.shown(1)
-        return "loaded again past what was kept", self.whole(1, count=2)
+        self.tab.call("Network.setCacheDisabled", cacheDisabled=True)
+        self.tab.reload()
+        self.shown(1)
+        return "twice loaded again past what was kept: the page alone", self.whole(1) + Counter({target(1): 2})
+
+    def script(self):
+        """What a script asks for past what is kept."""
+        self.opened(1)
+        for mode in ("reload", "no-store", "no-cache"):
+            for what in (target(1), *PARTS):
+                seen = self.tab.value("fetch('%s', {cache: '%s'}).then(it => it.status)" % (what, mode))
+                assert seen == 200, "%s of %s: %r" % (mode, what, seen)
+        return "what was kept", self.whole(1)
 
     def ten_tabs(self):
         """Ten tabs with one page at once."""
@@ -192,8 +204,8 @@ class Tries:
         for i, tab in enumerate(tabs):
             tab.loaded()
             self.shown(i % 3 + 1, tab)
-        wanted = Counter({target(1): 5, target(2): 4, target(3): 4, **{part: 11 for part in PARTS}})
-        return "opened, and loaded again past what was kept, at once", wanted
+        wanted = self.whole(1, 2, 3) + Counter({target(1): 4, target(2): 3, target(3): 3})
+        return "opened, and all loaded again past what was kept, at once", wanted
 
     def cancelled(self):
         """A load that is stopped while the vendor has the request."""
@@ -469,7 +481,7 @@ class Measured:
         self.market.agree()
 
 
-NAMES = ("page by_name reload forced_reload ten_tabs ten_pages cancelled tab_closed head second_page ahead icon query another_site "
+NAMES = ("page by_name reload forced_reload script ten_tabs ten_pages cancelled tab_closed head second_page ahead icon query another_site "
          "another_name without_nginx vendor_killed vendor_killed_asked proxy_killed proxy_killed_asking kills over_budget").split()
 
 
