@@ -461,7 +461,7 @@ class Measured:
         before = os.path.getsize(self.market.wallet.book), os.path.getsize(self.market.vendor.book)
         asked = b"GET %s HTTP/1.1\r\nHost: 127.0.0.1\r\nConnection: close\r\n\r\n" % target(1).encode()
         here = disk = 0.0
-        beside = Beside(os.path.join(self.market.folder, "beside"), 300)
+        beside = Beside(os.path.join(self.market.folder, "beside"), 150)
         for _ in range(count):
             start = time.perf_counter()
             with Link(self.proxy.address) as link:
