@@ -3,6 +3,7 @@ import base64
 import json
 import os
 import shutil
+import signal
 import socket
 import struct
 import subprocess
@@ -23,7 +24,8 @@ class Chromium:
         self.port = free_port()
         words = ["--headless", "--no-sandbox", "--disable-gpu", "--no-first-run", "--user-data-dir=" + self.folder.name,
                  "--remote-debugging-port=%d" % self.port, "about:blank"]
-        self.process = subprocess.Popen([PROGRAM, *words], stdout=subprocess.DEVNULL, stderr=subprocess.DEVNULL)
+        self.process = subprocess.Popen([PROGRAM, *words], stdout=subprocess.DEVNULL, stderr=subprocess.DEVNULL, start_new_session=True,
+                                        env={**os.environ, "TMPDIR": self.folder.name})
         self.tabs = [Tab(self.port, first_page(self.port))]
 
     def __enter__(self):
@@ -32,7 +34,8 @@ class Chromium:
     def __exit__(self, *_):
         for tab in self.tabs:
             tab.socket.close()
-        self.process.kill()
+        # The group of the process that was started here, and of its own.
+        os.killpg(self.process.pid, signal.SIGKILL)
         self.process.wait()
         self.folder.cleanup()
 
