@@ -73,7 +73,8 @@ HEADS = {"y_get": head("/news/1"), "y_get2": head("/news/2"), "y_none": head("/n
          "y_scrip": '"GET /news/1 HTTP/1.1\\r\\nHost: x\\r\\nMillicent-Scrip: x\\r\\n\\r\\n"'}
 # What many replies have, in place of which their names stand.
 PARTS = {"y_ok": '"HTTP/1.1 200 OK\\r\\nDate: Mon, 12 Jan 1970 "',
-         "y_type": '" GMT\\r\\nCache-Control: no-store\\r\\nContent-Type: text/plain; charset=utf-8\\r\\nContent-Length: 2\\r\\nMillicent-Price: "',
+         "y_type": '" GMT\\r\\nCache-Control: no-store\\r\\nContent-Type: text/plain; charset=utf-8\\r\\n"',
+         "y_price": '"Content-Length: 2\\r\\nMillicent-Price: "',
          "y_change": '"\\r\\nMillicent-Change: MS1|news.example|"', "y_sign": '"\\r\\nMillicent-Sign: "', "y_end": '"\\r\\n\\r\\nhi"',
          "y_date": '" GMT\\r\\nCache-Control: no-store\\r\\nContent-Length: 0\\r\\nMillicent-Refusal: "',
          "y_nothing": '"\\r\\nMillicent-Price: -\\r\\nMillicent-Change: -\\r\\nMillicent-Sign: "'}
@@ -138,7 +139,8 @@ def faults(out):
         up = Vendor(lambda request: [served(history, request, NOW)], calls)
         run_proxy(ONCE.encode().split()[1:], Stage(NAMES["y_holds"], [[NAMES["y_get"] * 3]], [NOW]), up)
         out.case("calls of the vendor's links: " + listed, "clock 1000000", "book $y_holds", "link $y_get*3",
-                 *("upstream " + spelled(b"".join(pieces)) for pieces in up.brought), "fail up " + listed, ONCE, "run wallet list b")
+                 *("upstream " + spelled(b"".join(pieces)) for pieces in up.brought), "fail up " + listed, ONCE,
+                 "run wallet list b")
 
 
 def cut(out):
@@ -173,7 +175,8 @@ class World:
         self.book = bytes_of(holding(*pieces), NAMES)
 
     def answer(self, request):
-        """What the vendor's link brings: mostly his reply, else nothing, a part, an older one, a forged one, or with bytes behind it."""
+        """What the vendor's link brings: mostly his reply; else nothing, a part of it, an older one, a forged one, or
+        bytes behind it."""
         reply, how = served(self.vendor.history, request, self.time), self.numbers.below(14)
         self.old.append(reply)
         if how == 0:
@@ -211,7 +214,8 @@ class World:
         if numbers.below(4) == 0:
             failing["disk"] = self.failing(30, 15)
         words = PROXY % (limit, budget, numbers.of((len(links), len(links), len(links) + 1, 1)))
-        stage = Stage(self.book, [[bytes_of(link, NAMES)] for link in links], [self.time], failing.get("disk", ()), failing.get("link", ()))
+        stage = Stage(self.book, [[bytes_of(link, NAMES)] for link in links], [self.time], failing.get("disk", ()),
+                      failing.get("link", ()))
         up = Vendor(self.answer, failing["up"], numbers.of((100, 100, 100, 2)))
         run_proxy(words.encode().split()[1:], stage, up)
         self.lines += ["clock %d" % self.time, *("link " + link for link in links),
@@ -242,8 +246,8 @@ def entries_of(book):
 
 
 def worlds(out):
-    out.group("A wallet of some pieces pays for what a browser asks in some runs on its book, while replies of the vendor are lost, cut,\n"
-              "given to other requests and changed, calls fail, and time goes on.")
+    out.group("A wallet of some pieces pays for what a browser asks in some runs on its book, while replies of the vendor are\n"
+              "lost, cut, given to other requests and changed, calls fail, and time goes on.")
     numbers = Numbers(25)
     for round in range(240):
         world = World(numbers)

@@ -426,8 +426,8 @@ def end_by_hand(setting, words):
 
 
 VERBS = {
-    "book": set_book, "link": set_link, "upstream": set_upstream, "clock": set_clock, "fail": set_fail, "beside": set_beside, "save": set_saved,
-    "limits": set_limits,
+    "book": set_book, "link": set_link, "upstream": set_upstream, "clock": set_clock, "fail": set_fail, "beside": set_beside,
+    "save": set_saved, "limits": set_limits,
     "run": do_run, "proxy": do_proxy, "serve": do_serve, "desk": do_desk, "found": do_found, "goods": do_goods, "price": do_price,
     "licence": do_licence, "mint": do_mint, "coming": do_coming, "account": do_account,
     "deposit": paying("deposit", DEPOSIT), "withdraw": paying("withdraw", WITHDRAW), "licensed": do_licensed,

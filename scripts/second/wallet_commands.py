@@ -55,7 +55,8 @@ def parse_renew(words):
 def parse_proxy(words):
     return SimpleNamespace(
         book=place(words[0]), peer=text(is_name, words[1]), limit=number(words[2], 1, MOST_VALUE),
-        budget=number(words[3], 1, MOST_VALUE), listen=place(words[4]), connect=place(words[5]), links=number(words[6], 1, MOST_LINKS))
+        budget=number(words[3], 1, MOST_VALUE), listen=place(words[4]), connect=place(words[5]),
+        links=number(words[6], 1, MOST_LINKS))
 
 
 def parse_retry(words):
