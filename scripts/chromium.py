@@ -1,4 +1,4 @@
-"""A page opened by a headless Chromium, which is driven by its DevTools protocol over one WebSocket."""
+"""Pages opened by a headless Chromium, which is driven by its DevTools protocol over one WebSocket a tab."""
 import base64
 import json
 import os
@@ -16,59 +16,122 @@ PROGRAM = shutil.which("chromium")
 
 
 class Chromium:
-    """A browser with an empty profile in a temporary folder. `open` gives a page's status and its text."""
+    """A browser with an empty profile in a temporary folder, and its first tab."""
 
     def __init__(self):
         self.folder = tempfile.TemporaryDirectory(prefix="millicent-chromium-", ignore_cleanup_errors=True)
-        port = free_port()
+        self.port = free_port()
         words = ["--headless", "--no-sandbox", "--disable-gpu", "--no-first-run", "--user-data-dir=" + self.folder.name,
-                 "--remote-debugging-port=%d" % port, "about:blank"]
+                 "--remote-debugging-port=%d" % self.port, "about:blank"]
         self.process = subprocess.Popen([PROGRAM, *words], stdout=subprocess.DEVNULL, stderr=subprocess.DEVNULL)
-        self.numbers = 0
-        self.socket = websocket(port, page_of(port))
-        for domain in ("Network", "Page"):
-            self.call(domain + ".enable")
+        self.tabs = [Tab(self.port, first_page(self.port))]
 
     def __enter__(self):
         return self
 
     def __exit__(self, *_):
-        self.socket.close()
+        for tab in self.tabs:
+            tab.socket.close()
         self.process.kill()
         self.process.wait()
         self.folder.cleanup()
 
-    def call(self, method, **words):
-        """What the browser answers. Events that come before are dropped."""
+    def tab(self):
+        """A new tab."""
+        self.tabs.append(Tab(self.port, told(self.port, "new?about:blank", "PUT")))
+        return self.tabs[-1]
+
+    def open(self, url, fields):
+        """A page's status and its text, opened in the first tab with these fields in its request."""
+        tab = self.tabs[0]
+        tab.call("Network.setExtraHTTPHeaders", headers=fields)
+        return tab.load(url)[url].status, tab.text()
+
+
+class Response:
+    """What a browser was answered: the status, and the type that it took the contents for."""
+
+    def __init__(self, told):
+        self.status, self.type = told["status"], told["mimeType"]
+
+    def __repr__(self):
+        return "%d %s" % (self.status, self.type)
+
+
+class Tab:
+    def __init__(self, port, page):
+        self.socket, self.numbers, self.events = websocket(port, path_of(page, port)), 0, []
+        for domain in ("Network", "Page"):
+            self.call(domain + ".enable")
+
+    def begin(self, method, **words):
+        """Has the browser do this, and waits for nothing."""
         self.numbers += 1
         send_text(self.socket, json.dumps({"id": self.numbers, "method": method, "params": words}))
+
+    def call(self, method, **words):
+        """What the browser answers. Events that come before are kept."""
+        self.begin(method, **words)
         while (said := json.loads(receive_text(self.socket))).get("id") != self.numbers:
-            pass
+            self.events.append(said)
         assert "error" not in said, said
         return said["result"]
 
-    def open(self, url, fields):
-        """Opens a page with these fields in its request."""
-        self.call("Network.setExtraHTTPHeaders", headers=fields)
-        self.numbers += 1
-        send_text(self.socket, json.dumps({"id": self.numbers, "method": "Page.navigate", "params": {"url": url}}))
-        status = None
-        while (event := json.loads(receive_text(self.socket))).get("method") != "Page.loadEventFired":
-            response = event.get("params", {}).get("response", {})
-            if event.get("method") == "Network.responseReceived" and response.get("url") == url:
-                status = response["status"]
-        text = self.call("Runtime.evaluate", expression="document.body.innerText")["result"]["value"]
-        return status, text
+    def until(self, method):
+        """The events up to the next one of this name. Answers to what was begun are dropped."""
+        while not any(event.get("method") == method for event in self.events):
+            self.events.append(json.loads(receive_text(self.socket)))
+        at = next(i for i, event in enumerate(self.events) if event.get("method") == method) + 1
+        past, self.events = self.events[:at], self.events[at:]
+        return past
+
+    def loaded(self):
+        """What the browser was answered, by its address, up to the moment when the page is loaded."""
+        told = [event["params"]["response"] for event in self.until("Page.loadEventFired")
+                if event.get("method") == "Network.responseReceived"]
+        return {response["url"]: Response(response) for response in told}
+
+    def load(self, url):
+        """Opens a page with all of its parts."""
+        self.events.clear()
+        self.begin("Page.navigate", url=url)
+        return self.loaded()
+
+    def reload(self, is_forced=False):
+        self.events.clear()
+        self.begin("Page.reload", ignoreCache=is_forced)
+        return self.loaded()
+
+    def value(self, expression):
+        return self.call("Runtime.evaluate", expression=expression, awaitPromise=True, returnByValue=True)["result"].get("value")
+
+    def text(self):
+        return self.value("document.body.innerText")
+
+    def picture(self, path):
+        """Writes what the tab shows, as a PNG."""
+        with open(path, "wb") as f:
+            f.write(base64.b64decode(self.call("Page.captureScreenshot")["data"]))
 
 
-def page_of(port):
-    """The path of the first page, once the browser listens."""
-    for _ in range(100):
+def told(port, what, method="GET"):
+    """What the browser tells of its pages."""
+    asked = urllib.request.Request("http://127.0.0.1:%d/json/%s" % (port, what), method=method)
+    with urllib.request.urlopen(asked, timeout=30) as reply:
+        return json.load(reply)
+
+
+def path_of(page, port):
+    """The path of a page's WebSocket."""
+    return page["webSocketDebuggerUrl"].split(str(port), 1)[1]
+
+
+def first_page(port):
+    """The first page, once the browser listens."""
+    for _ in range(300):
         try:
-            with urllib.request.urlopen("http://127.0.0.1:%d/json" % port, timeout=5) as reply:
-                pages = [p for p in json.load(reply) if p["type"] == "page"]
-                return pages[0]["webSocketDebuggerUrl"].split(str(port), 1)[1]
-        except (OSError, IndexError):
+            return next(page for page in told(port, "list") if page["type"] == "page")
+        except (OSError, StopIteration):
             time.sleep(0.1)
     raise OSError("the browser does not listen")
 

@@ -151,6 +151,41 @@ class Wallet:
             return millicent.entries_of(f.read())
 
 
+def compare(entries, sites, wrong, others=()):
+    """The payments and draws of a wallet's entries beside those of the sites: each that is done is one entry of its site, with the same
+    price and change, and the sites took nothing else but the requests of others. How many are done; `wrong` is told what is not so."""
+    pends = {number: entry for number, entry in enumerate(entries) if entry.kind == millicent.PEND}
+    done = [(pends[entry.number], entry) for entry in entries if entry.kind == millicent.DONE]
+    took = {name: taken(site, wrong) for name, site in sites.items()}
+    for asked, settled in done:
+        key = asked.scrip, asked.target
+        there = took[asked.peer.decode()].pop(key, None)
+        if there is None:
+            wrong("%r is done, and the site has no such entry, or another one has it" % (key,))
+        elif there != (settled.price, None if settled.change is None else millicent.read_scrip(settled.change).id):
+            wrong("%r is done with %r, and the site has %r" % (key, settled, there))
+    for name, left in took.items():
+        for key in left.keys() - set(others):
+            wrong("%s has %r, which the wallet has not as done" % (name, key))
+    return len(done)
+
+
+def taken(site, wrong):
+    """The price and the change of each request that a site took, by its scrip and its target; none is there twice."""
+    took = {}
+    for entry in site.entries():
+        if entry.kind == millicent.ACCEPT:
+            key, value = (entry.scrip, entry.target), (entry.price, entry.change)
+        elif entry.kind == millicent.DRAW:
+            key, value = (None, entry.target), (millicent.read_errand(entry.target)[3], None)
+        else:
+            continue
+        if key in took:
+            wrong("%s took %r twice" % (site.book, key))
+        took[key] = value
+    return took
+
+
 class Village:
     """A bank, a vendor with his licence at the bank and pieces in its stock, and a wallet."""
 
@@ -240,36 +275,7 @@ class Village:
 
     def compare(self):
         """The wallet's payments and draws beside the entries of the sites."""
-        entries = self.wallet.entries()
-        pends = {number: entry for number, entry in enumerate(entries) if entry.kind == millicent.PEND}
-        done = [(pends[entry.number], entry) for entry in entries if entry.kind == millicent.DONE]
-        taken = {name: self.taken(site) for name, site in self.sites.items()}
-        for asked, settled in done:
-            key = asked.scrip, asked.target
-            there = taken[asked.peer.decode()].pop(key, None)
-            if there is None:
-                self.wrong("%r is done, and the site has no such entry, or another one has it" % (key,))
-            elif there != (settled.price, None if settled.change is None else millicent.read_scrip(settled.change).id):
-                self.wrong("%r is done with %r, and the site has %r" % (key, settled, there))
-        for name, left in taken.items():
-            for key in left:
-                self.wrong("%s has %r, which the wallet has not as done" % (name, key))
-        self.counts["payments and draws that are done"] = len(done)
-
-    def taken(self, site):
-        """The price and the change of each request that a site took, by its scrip and its target; none is there twice."""
-        taken = {}
-        for entry in site.entries():
-            if entry.kind == millicent.ACCEPT:
-                key, value = (entry.scrip, entry.target), (entry.price, entry.change)
-            elif entry.kind == millicent.DRAW:
-                key, value = (None, entry.target), (millicent.read_errand(entry.target)[3], None)
-            else:
-                continue
-            if key in taken:
-                self.wrong("%s took %r twice" % (site.book, key))
-            taken[key] = value
-        return taken
+        self.counts["payments and draws that are done"] = compare(self.wallet.entries(), self.sites, self.wrong)
 
     def pay_out(self):
         """Pays with each piece that the wallet holds, by itself: all are good."""
