@@ -29,14 +29,14 @@ AreInOrder (r ∷ rs) = IsAboveNone r rs × AreInOrder rs
 
 -- What holds of what is stored: the numbers rise, the moments are in order where it is noted, each reply
 -- is to a request of its own and has its mark, and the buffer for the next reply is empty and has room for
--- fewer than 2^32 bytes.
+-- fewer than 2^16 bytes.
 pub record IsStored (replies : List KeptReply) (in_order : Bool) (index : IndexView) (spare : List ℕ) (spare_room : ℕ) : Type 0 where
   pub rising : AreRising replies
   pub order : IsTrue in_order → AreInOrder replies
   pub own : AreToOwnRequests replies
   pub marked : All (λ r. IsTrue (has_mark index r)) replies
   pub empty : spare ≡ []
-  pub short : spare_room < 2 ^ 32
+  pub short : spare_room < 2 ^ 16
 
 -- the room of so many replies in so many places, where there is a place for a mark or not, with a
 -- buffer that may hold so many bytes: none without a free place and one for a mark, and else one more

@@ -293,12 +293,12 @@ fn drop_over(
     }
 }
 
-/// The sum of two sizes. 2^32 or more is want of memory.
+/// The sum of two sizes. 2^16 or more is want of memory.
 fn short_sum(a: usize, b: usize) -> Result<usize, NoMemory>
-    ensures { IfOk result (λ size. (size ≡ a + b) × (size < 2 ^ 32)) }
+    ensures { IfOk result (λ size. (size ≡ a + b) × (size < 2 ^ 16)) }
 {
     let sum = a.checked_add(b).ok_or(NoMemory)?;
-    if sum <= u32::MAX as usize {
+    if sum <= u16::MAX as usize {
         Ok(sum)
     } else {
         Err(NoMemory)

@@ -34,7 +34,7 @@ impl Reply {
     pub(crate) fn of(mut buffer: Vec<u8>, q: &Request<'_>, e: &KeptEntry) -> Reply
         requires empty { buffer.items ≡ [] }
         requires room { text_size (asked_of q.now) + entry_size e.now ≤ vec_capacity buffer }
-        requires short { vec_capacity buffer < 2 ^ 32 }
+        requires short { vec_capacity buffer < 2 ^ 16 }
         ensures { result ≡ record { asked = asked_of q.now; entry = e.now } }
     {
         let entry = EntryParts::put(&mut buffer, e);
