@@ -1,6 +1,7 @@
 -- How the program stores what is kept. No clause of a public call cites this.
-use Rattle.std.specs.Prelude.{◌≡◌, ℕ, ◌+◌, ◌<◌, ◌≤◌, ◌^◌, Bool, false, ◌&&◌, nat_lt, if◌then◌else◌, List, [], ◌∷◌, All, IsTrue, Option, Some, None}
+use Rattle.std.specs.Prelude.{◌≡◌, ℕ, ◌+◌, ◌<◌, ◌≤◌, ◌^◌, Bool, false, ◌&&◌, nat_lt, if◌then◌else◌, List, [], ◌∷◌, All, IsTrue, IsFalse, Option, Some, None}
 use Rattle.std.specs.List.{AllByRecursion}
+use Rattle.std.specs.List.Sorted.{IsPartitionPoint}
 use Rattle.mc_records.specs.Requests.{Asked}
 use Rattle.kept_replies.specs.Requests.{is_same_request}
 use Rattle.kept_replies.specs.Kept.{KeptReply, KeptView, AreRising, is_in_time, with_number}
@@ -21,6 +22,10 @@ has_mark index r = leads index (request_tag r.asked) (is_mark_of r)
 -- the moment of a reply is above the moment of none of some others
 abbrev pub IsAboveNone : KeptReply → List KeptReply → Type 0
 IsAboveNone r others = AllByRecursion (λ o. r.entry.moment ≤ o.entry.moment) others
+
+-- where a number goes among some replies: before are those of lower numbers, and no others
+abbrev pub IsPlaceOf : ℕ → List KeptReply → ℕ → Type 0
+IsPlaceOf n replies at = IsPartitionPoint (λ r. IsTrue (nat_lt r.entry.number n)) (λ r. IsFalse (nat_lt r.entry.number n)) replies at
 
 -- no moment of some replies is below one before it
 abbrev pub AreInOrder : List KeptReply → Type 0

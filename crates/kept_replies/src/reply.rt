@@ -30,7 +30,8 @@ impl Model for Reply {
 }
 
 impl Reply {
-    /// The request and what is kept of its entry, put into an empty buffer that has room for their texts.
+    /// The request and what is kept of its entry, put into an empty buffer that has room for their texts. What
+    /// they do not need of it is given back.
     pub(crate) fn of(mut buffer: Vec<u8>, q: &Request<'_>, e: &KeptEntry) -> Reply
         requires empty { buffer.items ≡ [] }
         requires room { text_size (asked_of q.now) + entry_size e.now ≤ vec_capacity buffer }
@@ -39,6 +40,7 @@ impl Reply {
     {
         let entry = EntryParts::put(&mut buffer, e);
         let asked = AskedParts::put(&mut buffer, q);
+        buffer.shrink_to_fit();
         Reply {
             bytes: buffer,
             asked,
