@@ -31,25 +31,25 @@ IsWithin size span = span.start ≤ span.end × (span.end ≤ size)
 -- one buffer goes on where another ends, so that what stood there stands there still
 pub record StaysIn (old new : List ℕ) : Type 0 where
   pub longer : length old ≤ length new
-  pub parts : (s : Span) → IsWithin (length old) s → part new s ≡ part old s
+  pub parts : (i j : ℕ) → i ≤ j → j ≤ length old → slice_range new i j ≡ slice_range old i j
 
 -- ---- pieces
 
 abbrev pub change_in : List ℕ → ChangeParts → Option Scrip
 change_in bytes changes.None = None
-change_in bytes (changes.Piece version vendor props value id cust expires) =
-    Some (record { version = version; vendor = part bytes vendor; value = value; id = id; cust = cust; expires = expires; props = part bytes props })
+change_in bytes (changes.Piece version name_end props_end value id cust expires) =
+    Some (record { version = version; vendor = slice_range bytes 0 name_end; value = value; id = id; cust = cust; expires = expires; props = slice_range bytes name_end props_end })
 
--- the texts of a piece lie within the buffer, and it is a piece
-pub record PieceIsWithin (size : ℕ) (name text : Span) (p : Scrip) : Type 0 where
-  pub vendor : IsWithin size name
-  pub props : IsWithin size text
+-- the two texts at the front of a buffer end within it, and it is a piece
+pub record PieceIsWithin (size first last : ℕ) (p : Scrip) : Type 0 where
+  pub order : first ≤ last
+  pub within : last ≤ size
   pub piece : IsPiece p
 
 abbrev pub ChangeIsWithin : List ℕ → ChangeParts → Type 0
 ChangeIsWithin bytes changes.None = Unit {0}
-ChangeIsWithin bytes (changes.Piece version vendor props value id cust expires) =
-    PieceIsWithin (length bytes) vendor props (record { version = version; vendor = part bytes vendor; value = value; id = id; cust = cust; expires = expires; props = part bytes props })
+ChangeIsWithin bytes (changes.Piece version name_end props_end value id cust expires) =
+    PieceIsWithin (length bytes) name_end props_end (record { version = version; vendor = slice_range bytes 0 name_end; value = value; id = id; cust = cust; expires = expires; props = slice_range bytes name_end props_end })
 
 -- ---- deeds
 

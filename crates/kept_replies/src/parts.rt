@@ -14,15 +14,16 @@ use mc_base::{Amount, Moment};
 use mc_records::Request;
 use scrip_form::{Id, Name, Piece, Props};
 
-/// Change that may be there, whose name and properties stand in a buffer. Its small parts come first, where
-/// the variant's number stands too.
+/// Change that may be there, whose name and properties stand at the front of a buffer: the name up to
+/// `name_end`, and the properties behind it up to `props_end`. The small parts come first, where the
+/// variant's number stands too.
 #[derive(Clone, Copy, Drop)]
 pub(crate) enum ChangeParts {
     None,
     Piece {
         version: u8,
-        vendor: Span,
-        props: Span,
+        name_end: u8,
+        props_end: u8,
         value: Amount,
         id: Id,
         cust: Id,
@@ -58,8 +59,9 @@ pub(crate) struct EntryParts {
     deed: DeedParts,
 }
 
-/// Puts the texts of a piece behind what the buffer holds.
+/// Puts the texts of a piece into an empty buffer.
 fn put_piece(buffer: &mut Vec<u8>, piece: &Piece) -> ChangeParts
+    requires empty { vec_len buffer.old ≡ 0 }
     requires room { vec_len buffer.old + piece_size piece.now ≤ vec_capacity buffer.old }
     requires short { vec_len buffer.old + piece_size piece.now < 2 ^ 16 }
     ensures len { vec_len buffer.new ≡ vec_len buffer.old + piece_size piece.now }
@@ -74,8 +76,8 @@ fn put_piece(buffer: &mut Vec<u8>, piece: &Piece) -> ChangeParts
     let props = put(buffer, text.bytes());
     ChangeParts::Piece {
         version: piece.version(),
-        vendor,
-        props,
+        name_end: vendor.end as u8,
+        props_end: props.end as u8,
         value: piece.value(),
         id: piece.id(),
         cust: piece.cust(),
@@ -83,8 +85,9 @@ fn put_piece(buffer: &mut Vec<u8>, piece: &Piece) -> ChangeParts
     }
 }
 
-/// Puts the texts of change that may be there.
+/// Puts the texts of change that may be there into an empty buffer.
 fn put_change(buffer: &mut Vec<u8>, change: &Option<Piece>) -> ChangeParts
+    requires empty { vec_len buffer.old ≡ 0 }
     requires room { vec_len buffer.old + change_size change.now ≤ vec_capacity buffer.old }
     requires short { vec_len buffer.old + change_size change.now < 2 ^ 16 }
     ensures len { vec_len buffer.new ≡ vec_len buffer.old + change_size change.now }
@@ -108,15 +111,16 @@ fn change_of(bytes: &[u8], parts: &ChangeParts) -> Option<Piece>
         ChangeParts::None => None,
         ChangeParts::Piece {
             version,
-            vendor,
-            props,
+            name_end,
+            props_end,
             value,
             id,
             cust,
             expires,
         } => {
-            let vendor = Name::new(vendor.of(bytes)).unwrap();
-            let props = Props::new(props.of(bytes)).unwrap();
+            let (front, end) = (*name_end as usize, *props_end as usize);
+            let vendor = Name::new(&bytes[0..front]).unwrap();
+            let props = Props::new(&bytes[front..end]).unwrap();
             let piece = Piece::new(vendor, *value, *id, *cust, *expires, props).unwrap();
             Some(piece.versioned(*version).unwrap())
         }
@@ -185,8 +189,9 @@ fn deed_of(bytes: &[u8], parts: &DeedParts) -> Deed
 }
 
 impl EntryParts {
-    /// Puts the texts of what is kept of an entry behind what the buffer holds.
+    /// Puts the texts of what is kept of an entry into an empty buffer.
     pub(crate) fn put(buffer: &mut Vec<u8>, e: &KeptEntry) -> EntryParts
+        requires empty { vec_len buffer.old ≡ 0 }
         requires room { vec_len buffer.old + entry_size e.now ≤ vec_capacity buffer.old }
         requires short { vec_len buffer.old + entry_size e.now < 2 ^ 16 }
         ensures len { vec_len buffer.new ≡ vec_len buffer.old + entry_size e.now }

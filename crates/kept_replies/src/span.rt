@@ -30,6 +30,7 @@ pub(crate) fn put(buffer: &mut Vec<u8>, text: &[u8]) -> Span
     ensures stays { StaysIn buffer.old.items buffer.new.items }
     ensures part { part buffer.new.items result ≡ text.now }
     ensures within { IsWithin (length buffer.new.items) result }
+    ensures place { (result.start ≡ vec_len buffer.old) × (result.end ≡ vec_len buffer.new) }
 {
     let start = buffer.len() as u16;
     match buffer.extend_from_slice(text) {
