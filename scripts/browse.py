@@ -308,6 +308,27 @@ class Tries:
         assert said.get("errorText") == "net::ERR_ABORTED", said
         return "not shown, but saved", {target(1): 1}
 
+    def connections(self):
+        """Past nginx: six connections that are kept open, with requests on each in turn, and silent ones beside them. Where the proxy
+        ended one, it is asked on another. And one that is closed behind its request, whose page is paid for and lost."""
+        asked = b"GET %s HTTP/1.1\r\nHost: 127.0.0.1\r\n\r\n" % target(1).encode()
+        links, silent, ended = [Link(self.proxy.address) for _ in range(6)], [Link(self.proxy.address) for _ in range(6)], 0
+        for _ in range(5):
+            for i in range(len(links)):
+                try:
+                    reply = links[i].ask(asked)
+                except OSError:
+                    links[i].socket.close()
+                    links[i], ended = Link(self.proxy.address), ended + 1
+                    reply = links[i].ask(asked)
+                assert reply.startswith(b"HTTP/1.1 200 "), reply
+        with Link(self.proxy.address) as gone:
+            gone.send(asked)
+        one_moment(lambda: self.market.accepted()[target(1)] == self.before[target(1)] + 31 and self.asked() == 0, "the payment")
+        for link in links + silent:
+            link.socket.close()
+        return "30 requests on six connections, of which %d met an end; one that was closed: paid for and lost" % ended, {target(1): 31}
+
     def vendor_killed(self):
         """The vendor's program is killed, and started again."""
         self.vendor.kill()
@@ -482,7 +503,7 @@ class Measured:
 
 
 NAMES = ("page by_name reload forced_reload script ten_tabs ten_pages cancelled tab_closed head second_page ahead icon query another_site "
-         "another_name without_nginx vendor_killed vendor_killed_asked proxy_killed proxy_killed_asking kills over_budget").split()
+         "another_name without_nginx connections vendor_killed vendor_killed_asked proxy_killed proxy_killed_asking kills over_budget").split()
 
 
 def main():
