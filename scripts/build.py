@@ -112,7 +112,7 @@ def prove(crates, name, jobs):
     made.parent.mkdir(parents=True, exist_ok=True)
     log = made.parent / "log"
     log.unlink(missing_ok=True)
-    well = call(name, [f"{crates.kit}/bin/rattle", *crates.words(name, jobs), "-o", str(part)], log)
+    well = call(name, [f"{crates.kit}/bin/rattle", *crates.words(name, jobs), "--statements", "-o", str(part)], log)
     # What was edited meanwhile is not what the folder's name says.
     well = well and Crates(crates.kit).sum_of(name) == crates.sum_of(name)
     if well:

@@ -69,7 +69,13 @@ def one_moment(probe, what, seconds=20):
 
 
 def connects(address):
+    """Whether somebody listens at a host and a port, or at a path."""
     try:
+        if isinstance(address, str):
+            with socket.socket(socket.AF_UNIX) as it:
+                it.settimeout(5)
+                it.connect(address)
+            return True
         return bool(socket.create_connection(address, 5).close() or True)
     except OSError:
         return False
@@ -78,14 +84,16 @@ def connects(address):
 class Proxy:
     """`wallet proxy` over a wallet's book."""
 
-    def __init__(self, wallet, vendor):
+    def __init__(self, wallet, vendor, path=None):
+        """Listens at a port of its own, or at the path of a Unix socket."""
         self.wallet, self.vendor = wallet, vendor
-        self.address, self.process = ("127.0.0.1", free_port()), None
+        self.address, self.process = path or ("127.0.0.1", free_port()), None
+        self.listen = path or "%s:%d" % self.address
 
     def start(self, budget=BUDGET, links=ENOUGH):
         """Runs it, and takes one of its links to see that it does."""
         words = [PROGRAM, "wallet", "proxy", self.wallet.book, NAME, str(LIMIT), str(budget),
-                 "%s:%d" % self.address, "%s:%d" % self.vendor.address, str(links)]
+                 self.listen, "%s:%d" % self.vendor.address, str(links)]
         for _ in range(100):
             self.process, self.links, self.paid = subprocess.Popen(words, stdout=subprocess.PIPE), links, self.booked()
             while self.process.poll() is None:
@@ -129,7 +137,7 @@ class Nginx:
         self.folder, self.address = folder, ("127.0.0.1", free_port())
         os.mkdir(folder)
         settings = SETTINGS.read_text()
-        for old, new in (("127.0.0.1:8090", "%s:%d" % proxy.address), ("127.0.0.1:8080", "%s:%d" % self.address),
+        for old, new in (("unix:/run/millicent-proxy/socket", proxy.listen if ":" in proxy.listen else "unix:" + proxy.listen), ("127.0.0.1:8080", "%s:%d" % self.address),
                          ("/var/cache/millicent", folder + "/cache")):
             assert old in settings, "%s is not in %s" % (old, SETTINGS)
             settings = settings.replace(old, new)

@@ -9,8 +9,8 @@ from pathlib import Path
 
 TOP = Path(__file__).resolve().parent.parent
 PAGE = TOP / "docs/millicent.1"
-# Crates that ask the ledger or a cases' line, play schedules, or have no command over them yet: they carry out none.
-BESIDE = {"mc_records", "case_lines", "cases", "slow_ledger", "slow_sums", "slow_wallet", "mc_world", "wallet_proxy"}
+# Crates that ask the ledger or a cases' line, or play schedules: no command stands over them.
+BESIDE = {"mc_records", "case_lines", "cases", "slow_ledger", "slow_sums", "slow_wallet", "mc_world"}
 
 HEAD = r""".\" Written by scripts/man.py from the tables of the program; not by hand.
 .TH MILLICENT 1 "" "Millicent" "User Commands"
@@ -23,7 +23,8 @@ and sells them the scrip of vendors. A wallet holds a customer's pieces, and pay
 broker and of its vendors.
 .PP
 Each of them keeps one book, a file that one process at a time has open. A site, which is a vendor or a broker, is served by one
-process; the other commands do one thing, say it on standard output, and end. Amounts, prices and values are thousandths of a cent.
+process, and so is a browser out of a wallet; the other commands do one thing, say it on standard output, and end. Amounts, prices
+and values are thousandths of a cent.
 .PP
 Secrets are words of a command, so other users of the machine can see them while it runs.
 """
@@ -213,8 +214,8 @@ def page():
     for number in sorted({number for number, _, _ in told}):
         out.append(".TP\n.B %d\n" % number)
         out.append(".br\n".join(ended(line, doc) for n, line, doc in told if n == number))
-    out.append(".SH REFUSALS\nBehind some stands the status of HTTP with which a site tells them, in a field Millicent\\-Refusal. "
-               "A command that ends with status 7 tells one in its line.\n")
+    out.append(".SH REFUSALS\nBehind some stands the status of HTTP with which a site tells them, or a wallet a browser, in a field "
+               "Millicent\\-Refusal. A command that ends with status 7 tells one in its line.\n")
     for number, name, status, when in refusals():
         out.append(".TP\n.B %d %s%s\n%s\n" % (number, name, " (%d)" % status if status else "", plain(when)))
     out.append(FOOT)

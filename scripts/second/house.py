@@ -32,7 +32,51 @@ class Ends(Exception):
         return cls(7, b"refused " + refusal.text().encode())
 
 
-class House:
+class Server:
+    """Serves the links of a stage, each up to its end or the first fault. What it is has `raise_time`, which reads the clock
+    once, and `reply_to`, which answers an item."""
+
+    def serve(self, links):
+        """Serves links one after another; answers how many."""
+        for served in range(links):
+            try:
+                if not self.stage.next_link():
+                    return served
+            except LinkFault:
+                raise Ends.link_fault()
+            self.serve_link()
+            self.stage.end_link()
+        return links
+
+    def serve_link(self):
+        """Answers the items of the link that stands, up to its end or the first fault."""
+        reader = HeadReader()
+        try:
+            while item := reader.take(self.stage):
+                self.raise_time()
+                self.reply_to(item)
+                if item.closes:
+                    return
+        except LinkFault:
+            return
+
+    def fail(self, reply):
+        """Sends the reply of a request whose entry the disk failed to write, and ends the serving."""
+        try:
+            self.send(reply)
+        except LinkFault:
+            pass
+        self.stage.end_link()
+        raise Ends.disk_fault()
+
+    def send(self, reply):
+        """Sends the head and what fits one page with it, and then all that is left."""
+        self.stage.send(reply[:PAGE])
+        if len(reply) > PAGE:
+            self.stage.send(reply[PAGE:])
+
+
+class House(Server):
     """A history with its time, and where it stands on a disk its journal."""
 
     def __init__(self, history, stage, limits, journal, has_clock=True):
@@ -60,30 +104,6 @@ class House:
         if not self.journal.chain.switched:
             self.enter(entry_of(SWITCH, self.time, chain=self.journal.chain.digest))
 
-    def serve(self, links):
-        """Serves links one after another; answers how many."""
-        for served in range(links):
-            try:
-                if not self.stage.next_link():
-                    return served
-            except LinkFault:
-                raise Ends.link_fault()
-            self.serve_link()
-            self.stage.end_link()
-        return links
-
-    def serve_link(self):
-        """Answers the items of the link that stands, up to its end or the first fault."""
-        reader = HeadReader()
-        try:
-            while item := reader.take(self.stage):
-                self.raise_time()
-                self.reply_to(item)
-                if item.closes:
-                    return
-        except LinkFault:
-            return
-
     def reply_to(self, item):
         if item.refusal is not None:
             return self.send(refusal_of(self.history, self.time, None, refused(item.refusal)))
@@ -100,20 +120,9 @@ class House:
             if self.journal:
                 self.journal.add(entry.payload)
         except Halted:
-            try:
-                self.send(refusal_of(self.history, self.time, None, refused(91)))
-            except LinkFault:
-                pass
-            self.stage.end_link()
-            raise Ends.disk_fault()
+            self.fail(refusal_of(self.history, self.time, None, refused(91)))
         self.history.push(entry)
         self.send(reply_of(self.history, len(self.history.entries) - 1))
-
-    def send(self, reply):
-        """Sends the head and what fits one page with it, and then all that is left."""
-        self.stage.send(reply[:PAGE])
-        if len(reply) > PAGE:
-            self.stage.send(reply[PAGE:])
 
 
 def read_through(stage, sites, follow):

@@ -1,6 +1,7 @@
 """The program: what its words ask for, and what it does."""
 import audit
 import broker
+import proxy
 import vendor
 import wallet_commands
 from house import Ends
@@ -24,10 +25,26 @@ def parsed(words):
 
 def run(words, stage, books):
     """Does what the words ask for and says its line; answers the status. `books` are stages that have the books beside."""
-    try:
+    def obey():
         _, order, act = parsed(words)
-        want(len(books) == len(getattr(order, "books", ())))
-        status, line = 0, act(order, stage, *books)
+        want(act is not None and len(books) == len(getattr(order, "books", ())))
+        return act(order, stage, *books)
+    return ended(stage, obey)
+
+
+def run_proxy(words, stage, up):
+    """The same for the words of a wallet that pays for what a browser asks; the links of the stage `up` go to the vendor."""
+    def obey():
+        name, order, _ = parsed(words)
+        want(name == [b"wallet", b"proxy"])
+        return proxy.serve(order, stage, up)
+    return ended(stage, obey)
+
+
+def ended(stage, obey):
+    """Does what some words ask for and says the line; answers the status."""
+    try:
+        status, line = 0, obey()
     except BadWords:
         status, line = 2, b"bad words\n"
     except Ends as end:

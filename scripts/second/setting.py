@@ -14,9 +14,9 @@ class Setting:
 
     def __init__(self, names, histories=None):
         self.names, self.histories = names, {} if histories is None else histories
-        self.book, self.links, self.clock = b"", [], []
-        self.failing, self.beside = {"disk": [], "link": []}, []
-        self.last, self.hand = None, None
+        self.book, self.clock = b"", []
+        self.forget()
+        self.last, self.last_up, self.hand = None, None, None
         self.limits, self.terms, self.issuer, self.kept = FULL, None, None, None
         self.houses, self.wallets, self.events = [], [], []
 
@@ -26,11 +26,21 @@ class Setting:
             raise CaseError("no name: %s" % name)
         self.names[name] = data
 
+    def forget(self):
+        """Forgets links, failing calls and books beside."""
+        self.links, self.upstream, self.beside = [], [], []
+        self.failing = {"disk": [], "link": [], "up": []}
+
     def stage(self):
         """A stage as the lines before it say; links, failing calls and books are then forgotten."""
         self.last = Stage(self.book, self.links, self.clock, self.failing["disk"], self.failing["link"])
-        self.links, self.failing, self.beside = [], {"disk": [], "link": []}, []
+        self.forget()
         return self.last
+
+    def stage_upstream(self):
+        """A stage that has the links to a vendor alone."""
+        self.last_up = Stage(links=self.upstream, failing_link=self.failing["up"])
+        return self.last_up
 
     def stages_beside(self):
         """A stage for each book beside."""

@@ -9,7 +9,7 @@ from house import Ends, House, bench, opened
 from journal import BadChain, BadEntry, Halted, NotJournal, Replay, found
 from ledger import History, Limits, Request, answer, first_unlawful, is_refusal
 from payloads import BROKER, DEPOSIT, VENDOR, WITHDRAW, read_entry
-from program import parsed, places, run
+from program import parsed, places, run, run_proxy
 from refusals import refused
 from setting import U32, changed, data, maybe_data, number, of_length, up_to, word_bytes
 from stage import DiskFault, LinkFault, Stage, change_of
@@ -25,13 +25,17 @@ def set_link(setting, words):
     setting.links.append([data(setting, word) for word in words])
 
 
+def set_upstream(setting, words):
+    setting.upstream.append([data(setting, word) for word in words])
+
+
 def set_clock(setting, words):
     setting.clock = [number(setting, word) for word in words]
 
 
 def set_fail(setting, words):
-    if not words or words[0] not in ("disk", "link"):
-        raise CaseError("fail wants disk or link")
+    if not words or words[0] not in ("disk", "link", "up"):
+        raise CaseError("fail wants disk, link or up")
     setting.failing[words[0]] = [number(setting, word, U32) for word in words[1:]]
 
 
@@ -42,7 +46,7 @@ def set_beside(setting, words):
 
 
 def set_saved(setting, words):
-    """Gives a name to what the last stage left: its book, what was said, or what was sent on a link."""
+    """Gives a name to what the last stage left: its book, what was said, or what was sent on a link, of those to a vendor too."""
     if len(words) < 2:
         raise CaseError("save wants a name")
     setting.name(words[0], left_by(setting, *words[1:]))
@@ -51,14 +55,15 @@ def set_saved(setting, words):
 def left_by(setting, what, *of):
     if what == "book" and not of:
         return setting.book
-    if setting.last is None:
+    stage = setting.last_up if what == "up" else setting.last
+    if stage is None:
         raise CaseError("there is no stage")
     if what == "said" and not of:
-        return setting.last.said
+        return stage.said
     link, = setting.arguments(of, number)
-    if what != "sent" or link >= len(setting.last.sent):
+    if what not in ("sent", "up") or link >= len(stage.sent):
         raise CaseError("there is no such thing to save")
-    return setting.last.sent[link]
+    return stage.sent[link]
 
 
 def set_limits(setting, words):
@@ -73,6 +78,13 @@ def do_run(setting, words):
     beside, stage = setting.stages_beside(), setting.stage()
     status = run([word_bytes(setting, word) for word in words], stage, beside)
     return ["run %d" % status] + setting.ended(stage) + [line for book in beside for line in beside_lines(book)]
+
+
+def do_proxy(setting, words):
+    up, stage = setting.stage_upstream(), setting.stage()
+    status = run_proxy([word_bytes(setting, word) for word in words], stage, up)
+    sent = ["up " + shown(data) for data in up.sent]
+    return ["proxy %d" % status, *setting.ended(stage), *sent, "up calls %d" % up.calls["link"]]
 
 
 def beside_lines(book):
@@ -414,9 +426,9 @@ def end_by_hand(setting, words):
 
 
 VERBS = {
-    "book": set_book, "link": set_link, "clock": set_clock, "fail": set_fail, "beside": set_beside, "save": set_saved,
-    "limits": set_limits,
-    "run": do_run, "serve": do_serve, "desk": do_desk, "found": do_found, "goods": do_goods, "price": do_price,
+    "book": set_book, "link": set_link, "upstream": set_upstream, "clock": set_clock, "fail": set_fail, "beside": set_beside,
+    "save": set_saved, "limits": set_limits,
+    "run": do_run, "proxy": do_proxy, "serve": do_serve, "desk": do_desk, "found": do_found, "goods": do_goods, "price": do_price,
     "licence": do_licence, "mint": do_mint, "coming": do_coming, "account": do_account,
     "deposit": paying("deposit", DEPOSIT), "withdraw": paying("withdraw", WITHDRAW), "licensed": do_licensed,
     "stock": do_stock, "upgrade": do_upgrade, "upgraded": do_upgraded, "switch": switching("switch", VENDOR),

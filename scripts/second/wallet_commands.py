@@ -10,6 +10,7 @@ from payloads import DONE, GOT, PEND, REFUSED, SITE, SWITCH, entry_of
 from refusals import Refusal, refused
 from replies import Bad, take as take_reply
 from stage import LinkFault
+from vendor import MOST_LINKS
 from wallet import BUY, GET, WALLET, Request, WalletBook, buy_target, check, drawing, name_of, piece_line
 from words import number, place, secret, text
 
@@ -49,6 +50,13 @@ def parse_renew(words):
     return SimpleNamespace(
         book=place(words[0]), peer=text(is_name, words[1]), target=text(is_target, words[2]),
         before=number(words[3], 0, MOMENTS - 1), connect=place(words[4]))
+
+
+def parse_proxy(words):
+    return SimpleNamespace(
+        book=place(words[0]), peer=text(is_name, words[1]), limit=number(words[2], 1, MOST_VALUE),
+        budget=number(words[3], 1, MOST_VALUE), listen=place(words[4]), connect=place(words[5]),
+        links=number(words[6], 1, MOST_LINKS))
 
 
 def parse_retry(words):
@@ -224,4 +232,6 @@ COMMANDS = {
     b"chain": (1, (), (), parse_book, chain),
     b"lines": (2, (), (), parse_lines, lines),
     b"renew": (5, (), (), parse_renew, renew),
+    # It has links on two sides: `run_proxy` does it, and `run` knows no such command.
+    b"proxy": (7, (), (), parse_proxy, None),
 }

@@ -40,7 +40,6 @@ impl Opener for ChainReader {
     }
 
     fn begin(self, alloc: Global, first: &Record<'_>) -> Result<Name, LearnFault> {
-        // The check lets a record go only where the types of its parts are named.
         let _pieces: Option<PieceList<'_>> = None;
         match first {
             Record::Site { name, .. } => Ok(Name::new(name).unwrap()),

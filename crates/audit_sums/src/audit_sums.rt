@@ -39,7 +39,6 @@ impl BookSums {
         requires site { IsHouseSite (entry site.now) }
         ensures { SumsRepresent result (entry site.now ∷ []) }
     {
-        // The check lets a record go only where the types of its parts are named.
         let _pieces: Option<PieceList<'_>> = None;
         match site {
             Record::Site {

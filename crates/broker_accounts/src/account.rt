@@ -7,13 +7,14 @@ use scrip_form::Name;
 use std::marker::Model;
 
 /// One account: its name, its key, its balance, which is 2^60 units at most, and its last order, 0
-/// before the first. Contracts see it as the record `AccountView`.
+/// before the first. Contracts see it as the record `AccountView`. The balance comes first, since its
+/// place is a multiple of 16 bytes.
 #[derive(Drop)]
 pub(crate) struct Account {
-    name: Name,
-    key: [u8; 16],
     balance: Total,
     last: u64,
+    name: Name,
+    key: [u8; 16],
 }
 
 impl Model for Account {
@@ -34,10 +35,10 @@ impl Account {
         ensures { result ≡ new_account name key }
     {
         Account {
-            name,
-            key,
             balance: Total::zero(),
             last: 0,
+            name,
+            key,
         }
     }
 

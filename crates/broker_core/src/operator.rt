@@ -43,7 +43,6 @@ pub fn open_account<D: Disk>(
         (limits_of house.bench) house.journal.disk h result }
     ensures refusals { IfRefused (IsAmong (33 ∷ 60 ∷ [])) result }
 {
-    // The check lets a record go only where the types of its parts are named.
     let _parts: Option<(PieceList<'_>, Id, Terms)> = None;
     let accounts = house.trade().accounts();
     let task = accounts.account_task(house.time(), name, key);
@@ -71,7 +70,6 @@ pub fn deposit<'a, D: Disk>(
         (limits_of house.bench) house.journal.disk h result }
     ensures refusals { IfRefused (IsAmong (33 ∷ 40 ∷ 45 ∷ 56 ∷ [])) result }
 {
-    // The check lets a record go only where the types of its parts are named.
     let _parts: Option<(PieceList<'_>, Id, Terms)> = None;
     let accounts = house.trade().accounts();
     let task = accounts.deposit_task(house.time(), name, amount, reference);
@@ -99,7 +97,6 @@ pub fn withdraw<'a, D: Disk>(
         (limits_of house.bench) house.journal.disk h result }
     ensures refusals { IfRefused (IsAmong (33 ∷ 40 ∷ 42 ∷ 56 ∷ [])) result }
 {
-    // The check lets a record go only where the types of its parts are named.
     let _parts: Option<(PieceList<'_>, Id, Terms)> = None;
     let accounts = house.trade().accounts();
     let task = accounts.withdraw_task(house.time(), name, amount, reference);
@@ -124,7 +121,6 @@ pub fn add_licence<D: Disk>(
         (limits_of house.bench) house.journal.disk h result }
     ensures refusals { IfRefused (IsAmong (33 ∷ 59 ∷ [])) result }
 {
-    // The check lets a record go only where the types of its parts are named.
     let _parts: Option<(PieceList<'_>, Id)> = None;
     let task = licence_task(house.trade(), house.time(), vendor, terms);
     perform(house, &task)
@@ -251,7 +247,6 @@ fn enter_stock<D: Disk>(
         (limits_of house.bench) house.journal.disk h result }
     ensures refusals { IfRefused (IsAmong (33 ∷ [])) result }
 {
-    // The check lets a record go only where the types of its parts are named.
     let _parts: Option<(Id, Terms)> = None;
     lines_are_of_pieces();
     let pieces = PieceList::read(elements).unwrap();

@@ -33,7 +33,6 @@ impl AccountLedger {
         ensures entry { IfOk result (λ r. IfSome r (λ r. entry r ≡ Account moment name.now key)) }
         ensures refusals { IfErr result (λ f. IsTrue (list_any (λ n. n == number_of f) (60 ∷ []))) }
     {
-        // What the moment knows of itself.
         let _moment = moment.seconds();
         if let Some(standing) = self.standing(name) {
             return if standing.key == key {
@@ -69,7 +68,6 @@ impl AccountLedger {
         ensures entry { IfOk result (λ r. IfSome r (λ r. entry r ≡ Deposit moment name.now amount reference.now)) }
         ensures refusals { IfErr result (λ f. IsTrue (list_any (λ n. n == number_of f) (40 ∷ 45 ∷ 56 ∷ []))) }
     {
-        // What the moment knows of itself.
         let _moment = moment.seconds();
         if let Some(payment) = self.payment(reference.bytes()) {
             return if is_deposit(payment, name, amount) {
@@ -113,7 +111,6 @@ impl AccountLedger {
         ensures entry { IfOk result (λ r. IfSome r (λ r. entry r ≡ Withdraw moment name.now amount reference.now)) }
         ensures refusals { IfErr result (λ f. IsTrue (list_any (λ n. n == number_of f) (40 ∷ 42 ∷ 56 ∷ []))) }
     {
-        // What the moment knows of itself.
         let _moment = moment.seconds();
         if let Some(payment) = self.payment(reference.bytes()) {
             return if is_withdrawal(payment, name, amount) {

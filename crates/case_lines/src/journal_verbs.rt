@@ -100,7 +100,6 @@ enum Entered {
 }
 
 fn enter(journal: Journal<Stage>, payload: &[u8]) -> Entered {
-    // The check lets a record go only where the types of its parts are named.
     let _pieces: Option<PieceList<'_>> = None;
     let record = match read_record(payload) {
         Ok(record) => record,

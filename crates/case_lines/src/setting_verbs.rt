@@ -5,6 +5,7 @@ use crate::show::Lines;
 use crate::state::{Beside, State};
 use crate::words::{number, numbers, small};
 use mc_records::Limits;
+use mc_stage::Stage;
 use std::alloc::Global;
 
 /// The verbs of this module; None where the verb is none of them.
@@ -18,6 +19,7 @@ pub(crate) fn set(
         b"let" => name(state, args),
         b"book" => book(state, args),
         b"link" => link(state, args),
+        b"upstream" => upstream(state, args),
         b"clock" => clock(state, args),
         b"fail" => fail(state, args),
         b"beside" => beside(state, args),
@@ -44,12 +46,25 @@ fn book(state: &mut State, args: &[&[u8]]) -> Result<(), Fault> {
 }
 
 fn link(state: &mut State, args: &[&[u8]]) -> Result<(), Fault> {
+    let pieces = pieces(state, args)?;
+    state.setting.links.push(pieces)?;
+    Ok(())
+}
+
+/// One more link to the vendor.
+fn upstream(state: &mut State, args: &[&[u8]]) -> Result<(), Fault> {
+    let pieces = pieces(state, args)?;
+    state.setting.upstream.push(pieces)?;
+    Ok(())
+}
+
+/// The pieces that a link brings.
+fn pieces(state: &State, args: &[&[u8]]) -> Result<Vec<Vec<u8>>, Fault> {
     let mut pieces = Vec::new(state.alloc);
     for piece in args {
         pieces.push(state.names.bytes(piece)?)?;
     }
-    state.setting.links.push(pieces)?;
-    Ok(())
+    Ok(pieces)
 }
 
 fn clock(state: &mut State, args: &[&[u8]]) -> Result<(), Fault> {
@@ -65,6 +80,7 @@ fn fail(state: &mut State, args: &[&[u8]]) -> Result<(), Fault> {
     match *what {
         b"disk" => state.setting.failing_disk = all,
         b"link" => state.setting.failing_link = all,
+        b"up" => state.setting.failing_up = all,
         _ => return Err(Fault::Arguments),
     }
     Ok(())
@@ -98,7 +114,7 @@ fn save(state: &mut State, args: &[&[u8]]) -> Result<(), Fault> {
     state.names.put(name, bytes)
 }
 
-/// The bytes of the disk, what was said, or what was sent on a link.
+/// The bytes of the disk, what was said, or what was sent on a link, of those to the vendor too.
 fn left(state: &State, what: &[&[u8]]) -> Result<Vec<u8>, Fault> {
     let Some((kind, of)) = what.split_first() else {
         return Err(Fault::Arguments);
@@ -106,21 +122,28 @@ fn left(state: &State, what: &[&[u8]]) -> Result<Vec<u8>, Fault> {
     if *kind == b"book".as_slice() && of.is_empty() {
         return Ok(Vec::from_slice(state.alloc, &state.setting.book)?);
     }
-    let Some(stage) = &state.stage else {
+    match *kind {
+        b"said" if of.is_empty() => match &state.stage {
+            Some(stage) => Ok(Vec::from_slice(state.alloc, stage.said())?),
+            None => Err(Fault::Missing),
+        },
+        b"sent" => sent(state.alloc, &state.stage, of),
+        b"up" => sent(state.alloc, &state.up, of),
+        _ => Err(Fault::Arguments),
+    }
+}
+
+/// What was sent on a link of a stage.
+fn sent(alloc: Global, stage: &Option<Stage>, of: &[&[u8]]) -> Result<Vec<u8>, Fault> {
+    let [link] = *of else {
+        return Err(Fault::Arguments);
+    };
+    let Some(stage) = stage else {
         return Err(Fault::Missing);
     };
-    match *kind {
-        b"said" if of.is_empty() => Ok(Vec::from_slice(state.alloc, stage.said())?),
-        b"sent" => {
-            let [link] = *of else {
-                return Err(Fault::Arguments);
-            };
-            match stage.sent(small(link)? as usize) {
-                Some(sent) => Ok(Vec::from_slice(state.alloc, sent)?),
-                None => Err(Fault::Missing),
-            }
-        }
-        _ => Err(Fault::Arguments),
+    match stage.sent(small(link)? as usize) {
+        Some(sent) => Ok(Vec::from_slice(alloc, sent)?),
+        None => Err(Fault::Missing),
     }
 }
 

@@ -20,6 +20,9 @@ pub struct Setting {
     pub readings: Vec<u64>,
     pub failing_disk: Vec<u32>,
     pub failing_link: Vec<u32>,
+    /// The links to the vendor, of a wallet that pays for a browser.
+    pub upstream: Vec<Vec<Vec<u8>>>,
+    pub failing_up: Vec<u32>,
     pub beside: Vec<Beside>,
 }
 
@@ -56,6 +59,8 @@ impl Setting {
             readings: Vec::new(alloc),
             failing_disk: Vec::new(alloc),
             failing_link: Vec::new(alloc),
+            upstream: Vec::new(alloc),
+            failing_up: Vec::new(alloc),
             beside: Vec::new(alloc),
         }
     }
@@ -70,6 +75,8 @@ pub struct State {
     pub limits: Limits,
     /// The last stage.
     pub stage: Option<Stage>,
+    /// The last links to a vendor.
+    pub up: Option<Stage>,
     /// Whether calls by hand go on with it.
     pub is_called: bool,
     pub terms: Option<Terms>,
@@ -85,6 +92,7 @@ impl State {
             setting: Setting::new(alloc),
             limits: Limits::FULL,
             stage: None,
+            up: None,
             is_called: false,
             terms: None,
             issuer: None,
@@ -97,6 +105,7 @@ impl State {
         self.setting = Setting::new(self.alloc);
         self.limits = Limits::FULL;
         self.stage = None;
+        self.up = None;
         self.is_called = false;
         self.terms = None;
         self.issuer = None;
@@ -114,6 +123,17 @@ impl State {
             link: List::of(mem::replace(&mut self.setting.failing_link, Vec::new(alloc))),
         };
         Ok(Stage::new(alloc, contents, links, readings, failing)?)
+    }
+
+    /// A stage that has the links to the vendor alone, which are for it alone, as are the calls of theirs that fail.
+    pub fn make_upstream(&mut self) -> Result<Stage, Fault> {
+        let alloc = self.alloc;
+        let links = mem::replace(&mut self.setting.upstream, Vec::new(alloc));
+        let failing = Failing {
+            disk: List::of(Vec::new(alloc)),
+            link: List::of(mem::replace(&mut self.setting.failing_up, Vec::new(alloc))),
+        };
+        Ok(Stage::new(alloc, Vec::new(alloc), links, Vec::new(alloc), failing)?)
     }
 
     /// The bytes of the first link.
@@ -134,8 +154,18 @@ impl State {
         self.stage = Some(stage);
         self.is_called = false;
         self.setting.beside = Vec::new(self.alloc);
+        self.setting.upstream = Vec::new(self.alloc);
+        self.setting.failing_up = Vec::new(self.alloc);
         self.setting.book = contents?;
         Ok(())
+    }
+
+    /// Prints the lines of the links to a vendor.
+    pub fn show_upstream(&mut self, up: Stage, out: &mut Lines) {
+        show_sent("up", &up, out);
+        let (_, calls) = up.calls();
+        out.counted("up calls", calls);
+        self.up = Some(up);
     }
 }
 
@@ -144,14 +174,19 @@ fn show_lines(stage: &Stage, before: &[u8], out: &mut Lines) {
     if !stage.said().is_empty() {
         out.given("said", stage.said());
     }
+    show_sent("sent", stage, out);
+    show_book("book", before, stage.contents(), out);
+    show_calls(stage, out)
+}
+
+/// Prints what was sent on each link that was taken.
+fn show_sent(verb: &str, stage: &Stage, out: &mut Lines) {
     for link in 0..usize::MAX {
         match stage.sent(link) {
-            Some(sent) => out.given("sent", sent),
+            Some(sent) => out.given(verb, sent),
             None => break,
         }
     }
-    show_book("book", before, stage.contents(), out);
-    show_calls(stage, out)
 }
 
 /// Prints how many calls of a stage were made.

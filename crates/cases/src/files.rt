@@ -2,8 +2,8 @@
 
 use crate::schedule_verbs::Schedules;
 use crate::{
-    desk_verbs, ledger_verbs, market_verbs, operator_verbs, program_verbs, reply_verbs,
-    wallet_verbs,
+    desk_verbs, ledger_verbs, market_verbs, operator_verbs, program_verbs, proxy_verbs,
+    reply_verbs, wallet_verbs,
 };
 use case_lines::{Fault, Lines, State, number, tokens};
 use std::alloc::Global;
@@ -104,17 +104,20 @@ fn act(state: &mut State, verb: &[u8], args: &[&[u8]], out: &mut Lines) -> Resul
     }
 }
 
-/// The verbs that ask a wallet's book, or read replies.
+/// The verbs that ask a wallet's book, read replies, or run a wallet that pays for a browser.
 fn on_wallets(
     state: &mut State,
     verb: &[u8],
     args: &[&[u8]],
     out: &mut Lines,
 ) -> Option<Result<(), Fault>> {
-    match wallet_verbs::ask(state, verb, args, out) {
-        Some(done) => Some(done),
-        None => reply_verbs::read(state, verb, args, out),
+    if let Some(done) = wallet_verbs::ask(state, verb, args, out) {
+        return Some(done);
     }
+    if let Some(done) = reply_verbs::read(state, verb, args, out) {
+        return Some(done);
+    }
+    proxy_verbs::act(state, verb, args, out)
 }
 
 /// The verbs that run the program or a house.

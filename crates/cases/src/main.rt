@@ -10,6 +10,7 @@ mod ledger_verbs;
 mod market_verbs;
 mod operator_verbs;
 mod program_verbs;
+mod proxy_verbs;
 mod reply_verbs;
 mod schedule_verbs;
 mod wallet_verbs;

@@ -1,8 +1,11 @@
--- The images that a crash may leave of a book that is being founded.
-use Rattle.std.specs.Prelude.{◌≡◌, ℕ, List}
-use Rattle.mc_outside.specs.DiskView.{DiskView}
+-- What founding a book does with the clock and the disk, whoever founds it.
+use Rattle.std.specs.Prelude.{◌≡◌, ℕ, List, [], ◌∷◌, IsSome}
+use Rattle.mc_outside.specs.DiskView.{DiskView, Ran}
+use Rattle.mc_outside.specs.LinkView.{LinkView}
 use Rattle.mc_records.specs.Entry.{Entry}
 use Rattle.scrip_journal.specs.Founds.{FoundImage}
+use Rattle.millicent_http.specs.declared.clock.Clock.TheVariants.{OfLinks}
+use Rattle.millicent_http.specs.Courses.{AreRead, with_readings}
 use Rattle.command_status.specs.declared.status.Status.{Status}
 use Rattle.command_status.specs.declared.status.Status.TheVariants as ends
 
@@ -16,3 +19,9 @@ FoundingImage before site _ image = FoundImage before site image
 -- A crash pair of it. Where what is sent is told, nothing was sent.
 abbrev pub FoundPair : Type 0 → DiskView → Entry → Status → List ℕ → List ℕ → Type 0
 FoundPair tells before site status image sent = FoundingImage before site status image × (tells → sent ≡ before.aside)
+
+-- The clock was read once, at this moment, and each crash pair is of the Site entry.
+pub record FoundAt {O : Type 0} (link : O → LinkView) (disk : O → DiskView) (site : Entry) (a : O) (status : Status) (b : O) (moment : ℕ) : Type 0 where
+  pub read : AreRead OfLinks (moment ∷ []) (link a).readings (link b).readings
+  pub rest : link b ≡ with_readings (link b).readings (link a)
+  pub pairs : Ran (disk a) (disk b) (FoundPair (IsSome (link a).sessions) (disk a) site status)

@@ -403,7 +403,6 @@ impl<T: Trade> Bench<T> {
             → MatchResult result
             (λ n. HasContents T.trade self.new (h ++ authorized_entry (house_time self.old) q.now.target authorization.now ∷ [])) (λ f. HasContents T.trade self.new h) }
     {
-        // The check lets a record go only where the types of its parts are named.
         let _pieces: Option<PieceList<'_>> = None;
         let record = entry_of(self.state.time(), q.request(), authorization);
         match self.make_room(q, authorization, &record) {

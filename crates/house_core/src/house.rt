@@ -275,7 +275,6 @@ impl<D: Disk, T: Trade> House<D, T> {
             (Leaves (model.Take (authorized_entry (house_time self.bench) q.now.target authorization.entry)) result h (D.disk self.journal.disk).aside) }
     {
         let House { journal, mut bench } = self;
-        // The check lets a record go only where the types of its parts are named.
         let _pieces: Option<PieceList<'_>> = None;
         let record = entry_of(bench.state.time(), q.request(), &authorization);
         match bench.make_room(q, &authorization, &record) {

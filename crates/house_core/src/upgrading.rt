@@ -76,7 +76,6 @@ fn upgrade_record<'a>(moment: Moment, vendor: &'a Name, issuer: u8, from: u32) -
     ensures fits { Fits (entry result) }
     ensures entry { entry result ≡ Upgrade moment vendor.now issuer from }
 {
-    // What the moment knows of itself.
     let _moment = moment.seconds();
     Record::Upgrade {
         moment,

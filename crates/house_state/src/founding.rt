@@ -27,7 +27,6 @@ pub fn found_state(
     requires short { bytes < 2 ^ 32 }
     ensures { IfOk result (λ b. IsStateOf b limits (entry site.now)) }
 {
-    // The check lets a record go only where the types of its parts are named.
     let _pieces: Option<PieceList<'_>> = None;
     match site {
         Record::Site {

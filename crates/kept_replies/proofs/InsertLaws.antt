@@ -11,7 +11,7 @@ use Rattle.mc_records.specs.Requests.{Asked}
 use Rattle.kept_replies.specs.Requests.{is_same_request}
 use Rattle.kept_replies.specs.Kept.{KeptReply, AreRising, IsBelowAll, has_request, has_number, inserted}
 use Rattle.kept_replies.specs.Index.{IndexView, request_tag, leads, is_mark_of}
-use Rattle.kept_replies.specs.Store.{AreInOrder, HaveOneNumber, AreToOwnRequests, has_mark, room_in}
+use Rattle.kept_replies.specs.Store.{AreInOrder, IsPlaceOf, HaveOneNumber, AreToOwnRequests, has_mark, room_in}
 use Rattle.kept_replies.proofs.SearchLaws.{front_is, rest_is}
 use Rattle.kept_replies.proofs.ReplyLaws.{number, AreRising-filter, request_is, request_is_own}
 
@@ -167,6 +167,39 @@ order-inserted new rs at put all last low =
     (order_pushed new rs all (recursion_from_All (λ r. r.entry.moment ≤ new.entry.moment) rs low))
 
 -- ---- a number above all
+
+-- the number of the last reply is below none
+last_is_greatest : (rs : List KeptReply) (i : ℕ) (d : KeptReply) (n : ℕ) → AreRising rs → i + 1 ≡ length rs → number (get_or rs i d) < n → AllByRecursion (λ r. number r < n) rs
+last_is_greatest [] i d n all last low = tt
+last_is_greatest (r ∷ []) i d n all last low = (at_first (omega (arith, last)), tt)
+  where
+    at_first : i ≡ 0 → number r < n
+    at_first first = subst (λ (k : ℕ). number (get_or (r ∷ []) k d) < n) first low
+last_is_greatest (r ∷ s ∷ rs) zero d n all last low = absurd (omega (arith, last))
+last_is_greatest (r ∷ s ∷ rs) (suc i) d n all last low =
+    let more = last_is_greatest (s ∷ rs) i d n all.1 (omega (arith, last)) low in
+    let lt : number s < n = more.0 in
+    (omega (arith, all.0.0, lt), more)
+
+-- behind all goes what is above the last one that is read, where there is one
+pub placed_by_last : (rs : List KeptReply) (len n : ℕ) (o : Option (Bor KeptReply)) (b : Bool) → len ≡ length rs → AreRising rs → (0 < len → IsSome o) → IfSome o (λ r. r.now ≡ get_or rs (len - 1) r.now)
+    → MatchOption o (b ≡ true) (λ r. b ≡ ltb (number r.now) n) → b ≡ true → IsPlaceOf n rs len
+placed_by_last rs len n o b all rising some last said passed = (
+  λ k d lo hi. lt-ltb (number (get_or rs k d)) n (each rs o all rising some last said k d (omega (arith, hi, all))),
+  λ k d lo hi. absurd (omega (arith, lo, hi, all)),
+)
+  where
+    none : false ≡ true → ⊥
+    none e = absurd cc
+
+    each : (rs : List KeptReply) (o : Option (Bor KeptReply)) → len ≡ length rs → AreRising rs → (0 < len → IsSome o) → IfSome o (λ r. r.now ≡ get_or rs (len - 1) r.now)
+        → MatchOption o (b ≡ true) (λ r. b ≡ ltb (number r.now) n) → All (λ r. number r < n) rs
+    each [] o all rising some last said = λ k d lt. absurd (omega (arith, lt))
+    each (r ∷ rs) None all rising some last said = absurd (none (some (omega (arith, all))))
+    each (r ∷ rs) (Some x) all rising some last said =
+        let lt : number x.now < n = ltb-true (number x.now) n (sym said ∙ passed) in
+        let at_last : number (get_or (r ∷ rs) (len - 1) x.now) < n = subst (λ (y : KeptReply). number y < n) last lt in
+        All-from_recursion (λ y. number y < n) (r ∷ rs) (last_is_greatest (r ∷ rs) (len - 1) x.now n rising (omega (arith, all)) at_last)
 
 all_below : (n : ℕ) (rs : List KeptReply) → AllByRecursion (λ r. number r < n) rs → filter (below n) rs ≡ rs
 all_below n [] all = refl

@@ -1,10 +1,11 @@
 -- The marks by which the program finds kept replies: a mark is the number of a reply's entry. No clause
 -- of a public call cites this.
-use Rattle.std.specs.Prelude.{ℕ, ◌-◌, Bool, false, ◌||◌, ◌==◌, nat_lt, if◌then◌else◌, List, length, drop, find, Option, Some, None}
+use Rattle.std.specs.Prelude.{ℕ, ◌-◌, ◌%◌, Bool, false, ◌||◌, ◌==◌, nat_lt, if◌then◌else◌, List, length, drop, find, Option, Some, None}
 use Rattle.std.specs.List.{list_any}
 use Rattle.std.specs.Map.{lookup}
 use Rattle.std.specs.Int.{from_le_bytes, w128}
 use Rattle.mc_records.specs.Requests.{Asked}
+use Rattle.kept_replies.specs.declared.index.TheConstants.{TAGS}
 use Rattle.kept_replies.specs.Kept.{KeptReply}
 
 -- the newest mark of each tag, the older marks, and whether there is a place for one more
@@ -13,9 +14,10 @@ pub record IndexView : Type 0 where
   pub older : List ℕ
   pub has_place : Bool
 
--- the last sixteen bytes of a text as a number, whose least byte is the first; 0 where it is shorter
+-- the last sixteen bytes of a text as a number, whose least byte is the first, modulo the number of tags; 0
+-- where it is shorter
 abbrev pub text_tag : List ℕ → ℕ
-text_tag text = if nat_lt (length text) 16 then 0 else from_le_bytes w128 (drop (length text - 16) text)
+text_tag text = if nat_lt (length text) 16 then 0 else from_le_bytes w128 (drop (length text - 16) text) % TAGS
 
 -- the same of the first of two texts that is there, and 0 where neither is
 abbrev pub tag_if : Option (List ℕ) → Option (List ℕ) → ℕ

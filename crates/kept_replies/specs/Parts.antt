@@ -1,6 +1,6 @@
 -- How the program stores requests, and what is kept of entries, in a buffer. No clause of a public call
 -- cites this.
-use Rattle.std.specs.Prelude.{◌≡◌, ℕ, ◌≤◌, Bool, List, length, Result, Ok, Err, slice_range, Option, option_map, IfSome}
+use Rattle.std.specs.Prelude.{◌≡◌, ℕ, ◌≤◌, Bool, List, length, Result, Ok, Err, slice_range, Option, Some, None, option_map, IfSome}
 use Rattle.scrip_form.specs.Scrip.{Scrip, IsPiece, IsScripText}
 use Rattle.scrip_form.specs.Reading.{scrip_of}
 use Rattle.mc_records.specs.Requests.{Asked}
@@ -8,7 +8,8 @@ use Rattle.kept_replies.specs.declared.span.Span.{Span}
 use Rattle.kept_replies.specs.declared.deed.Deed.{Deed}
 use Rattle.kept_replies.specs.declared.deed.Deed.TheVariants as kept
 use Rattle.kept_replies.specs.declared.deed.KeptEntry.{KeptEntry}
-use Rattle.kept_replies.specs.declared.parts.PieceParts.{PieceParts}
+use Rattle.kept_replies.specs.declared.parts.ChangeParts.{ChangeParts}
+use Rattle.kept_replies.specs.declared.parts.ChangeParts.TheVariants as changes
 use Rattle.kept_replies.specs.declared.sold.SoldParts.{SoldParts}
 use Rattle.kept_replies.specs.declared.parts.DeedParts.{DeedParts}
 use Rattle.kept_replies.specs.declared.parts.DeedParts.TheVariants as parts
@@ -30,24 +31,25 @@ IsWithin size span = span.start ≤ span.end × (span.end ≤ size)
 -- one buffer goes on where another ends, so that what stood there stands there still
 pub record StaysIn (old new : List ℕ) : Type 0 where
   pub longer : length old ≤ length new
-  pub parts : (s : Span) → IsWithin (length old) s → part new s ≡ part old s
+  pub parts : (i j : ℕ) → i ≤ j → j ≤ length old → slice_range new i j ≡ slice_range old i j
 
 -- ---- pieces
 
-abbrev pub piece_in : List ℕ → PieceParts → Scrip
-piece_in bytes p = record { version = p.version; vendor = part bytes p.vendor; value = p.value; id = p.id; cust = p.cust; expires = p.expires; props = part bytes p.props }
+abbrev pub change_in : List ℕ → ChangeParts → Option Scrip
+change_in bytes changes.None = None
+change_in bytes (changes.Piece version name_end props_end value id cust expires) =
+    Some (record { version = version; vendor = slice_range bytes 0 name_end; value = value; id = id; cust = cust; expires = expires; props = slice_range bytes name_end props_end })
 
--- its texts lie within the buffer, and it is a piece
-pub record PieceIsWithin (bytes : List ℕ) (p : PieceParts) : Type 0 where
-  pub vendor : IsWithin (length bytes) p.vendor
-  pub props : IsWithin (length bytes) p.props
-  pub piece : IsPiece (piece_in bytes p)
+-- the two texts at the front of a buffer end within it, and it is a piece
+pub record PieceIsWithin (size first last : ℕ) (p : Scrip) : Type 0 where
+  pub order : first ≤ last
+  pub within : last ≤ size
+  pub piece : IsPiece p
 
-abbrev pub change_in : List ℕ → Option PieceParts → Option Scrip
-change_in bytes change = option_map (piece_in bytes) change
-
-abbrev pub ChangeIsWithin : List ℕ → Option PieceParts → Type 0
-ChangeIsWithin bytes change = IfSome change (PieceIsWithin bytes)
+abbrev pub ChangeIsWithin : List ℕ → ChangeParts → Type 0
+ChangeIsWithin bytes changes.None = Unit {0}
+ChangeIsWithin bytes (changes.Piece version name_end props_end value id cust expires) =
+    PieceIsWithin (length bytes) name_end props_end (record { version = version; vendor = slice_range bytes 0 name_end; value = value; id = id; cust = cust; expires = expires; props = slice_range bytes name_end props_end })
 
 -- ---- deeds
 

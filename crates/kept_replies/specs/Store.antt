@@ -1,6 +1,7 @@
 -- How the program stores what is kept. No clause of a public call cites this.
-use Rattle.std.specs.Prelude.{◌≡◌, ℕ, ◌+◌, ◌<◌, ◌≤◌, ◌^◌, Bool, false, ◌&&◌, nat_lt, if◌then◌else◌, List, [], ◌∷◌, All, IsTrue, Option, Some, None}
+use Rattle.std.specs.Prelude.{◌≡◌, ℕ, ◌+◌, ◌<◌, ◌≤◌, ◌^◌, Bool, false, ◌&&◌, nat_lt, if◌then◌else◌, List, [], ◌∷◌, All, IsTrue, IsFalse, Option, Some, None}
 use Rattle.std.specs.List.{AllByRecursion}
+use Rattle.std.specs.List.Sorted.{IsPartitionPoint}
 use Rattle.mc_records.specs.Requests.{Asked}
 use Rattle.kept_replies.specs.Requests.{is_same_request}
 use Rattle.kept_replies.specs.Kept.{KeptReply, KeptView, AreRising, is_in_time, with_number}
@@ -22,6 +23,10 @@ has_mark index r = leads index (request_tag r.asked) (is_mark_of r)
 abbrev pub IsAboveNone : KeptReply → List KeptReply → Type 0
 IsAboveNone r others = AllByRecursion (λ o. r.entry.moment ≤ o.entry.moment) others
 
+-- where a number goes among some replies: before are those of lower numbers, and no others
+abbrev pub IsPlaceOf : ℕ → List KeptReply → ℕ → Type 0
+IsPlaceOf n replies at = IsPartitionPoint (λ r. IsTrue (nat_lt r.entry.number n)) (λ r. IsFalse (nat_lt r.entry.number n)) replies at
+
 -- no moment of some replies is below one before it
 abbrev pub AreInOrder : List KeptReply → Type 0
 AreInOrder [] = Unit {0}
@@ -29,14 +34,14 @@ AreInOrder (r ∷ rs) = IsAboveNone r rs × AreInOrder rs
 
 -- What holds of what is stored: the numbers rise, the moments are in order where it is noted, each reply
 -- is to a request of its own and has its mark, and the buffer for the next reply is empty and has room for
--- fewer than 2^32 bytes.
+-- fewer than 2^16 bytes.
 pub record IsStored (replies : List KeptReply) (in_order : Bool) (index : IndexView) (spare : List ℕ) (spare_room : ℕ) : Type 0 where
   pub rising : AreRising replies
   pub order : IsTrue in_order → AreInOrder replies
   pub own : AreToOwnRequests replies
   pub marked : All (λ r. IsTrue (has_mark index r)) replies
   pub empty : spare ≡ []
-  pub short : spare_room < 2 ^ 32
+  pub short : spare_room < 2 ^ 16
 
 -- the room of so many replies in so many places, where there is a place for a mark or not, with a
 -- buffer that may hold so many bytes: none without a free place and one for a mark, and else one more

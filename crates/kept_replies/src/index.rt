@@ -9,13 +9,17 @@ use std::alloc::Global;
 use std::collections::HashMap;
 use std::marker::Model;
 
+/// How many tags there are. By this number the remainders of sixteen digits are spread over 64 bits: 2^64
+/// divided by the golden ratio, as in Fibonacci hashing.
+const TAGS: u128 = 0x9e37_79b9_7f4a_7c15;
+
 /// The numbers of the entries of replies, as their marks, by the tags of their requests, so that the
 /// reply to a request is found in a few looks, however many are kept. Contracts see the newest mark of
 /// each tag, the older marks, and whether there is a place for one more.
 #[derive(Drop)]
 pub(crate) struct Index {
     /// The mark that was put last under each tag.
-    newest: HashMap<u128, u64>,
+    newest: HashMap<u64, u64>,
     /// Those in whose place another was put. Two requests hardly ever share a tag.
     older: Vec<u64>,
 }
@@ -55,7 +59,7 @@ impl Index {
 
     /// Puts a mark under a tag, for which there is a place. It leads to what it should, and the others
     /// still do. It takes no memory.
-    pub(crate) fn put(&mut self, tag: u128, mark: u64)
+    pub(crate) fn put(&mut self, tag: u64, mark: u64)
         requires { IsTrue self.old.has_place }
         ensures { (t : ℕ) (p : ℕ → Bool) → IsTrue (leads self.old t p || (tag == t && p mark))
             → IsTrue (leads self.new t p) }
@@ -72,7 +76,7 @@ impl Index {
 
     /// Drops this mark, which was put under this tag; the others lead to what they did. The older marks
     /// are looked through only where it is not the newest of its tag. It takes no memory.
-    pub(crate) fn drop_mark(&mut self, tag: u128, mark: u64)
+    pub(crate) fn drop_mark(&mut self, tag: u64, mark: u64)
         ensures { (t : ℕ) (p : ℕ → Bool) → IsFalse (p mark)
             → IsTrue (leads self.old t p) → IsTrue (leads self.new t p) }
     {
@@ -84,7 +88,7 @@ impl Index {
     }
 
     /// The newest mark of a tag.
-    pub(crate) fn newest(&self, tag: u128) -> Option<u64>
+    pub(crate) fn newest(&self, tag: u64) -> Option<u64>
         ensures { result ≡ lookup (λ t. tag == t) self.now.newest }
     {
         self.newest.get(&tag).copied()
@@ -99,10 +103,10 @@ impl Index {
 }
 
 /// The tag of a request: the last sixteen bytes of its scrip text as a number, whose least byte is
-/// the first, or those of its signature where it has no scrip text; 0 where it has neither, or the
-/// text is shorter. They are digits of a certificate or of a signature, so that requests hardly ever
-/// share a tag, and nobody can make many that do.
-pub(crate) fn tag_of(q: &Request<'_>) -> u128
+/// the first, or those of its signature where it has no scrip text, modulo the number of tags; 0 where
+/// it has neither, or the text is shorter. They are digits of a certificate or of a signature, so that
+/// requests hardly ever share a tag, and nobody can make many that do.
+pub(crate) fn tag_of(q: &Request<'_>) -> u64
     ensures { result ≡ request_tag (asked_of q.now) }
 {
     match q.scrip {
@@ -115,11 +119,11 @@ pub(crate) fn tag_of(q: &Request<'_>) -> u128
 }
 
 /// The tag of a request with this text.
-fn tag_of_text(text: &[u8]) -> u128
+fn tag_of_text(text: &[u8]) -> u64
     ensures { result ≡ text_tag text.now }
 {
     match text.last_chunk::<16>() {
-        Some(last) => u128::from_le_bytes(*last),
+        Some(last) => (u128::from_le_bytes(*last) % TAGS) as u64,
         None => 0,
     }
 }

@@ -3,7 +3,7 @@ ghost use Rattle.std.specs.VecDeque.{deque_len, deque_capacity};
 ghost use Rattle.mc_records.specs.Requests.{asked_of};
 ghost use Rattle.kept_replies.specs.Requests.{text_size, is_same_request};
 ghost use Rattle.kept_replies.specs.Index.{first_led};
-ghost use Rattle.kept_replies.specs.Store.{AreInOrder, has_mark, is_repeat};
+ghost use Rattle.kept_replies.specs.Store.{AreInOrder, IsPlaceOf, has_mark, is_repeat};
 ghost use Rattle.std.specs.Bool.{then_some};
 ghost use Rattle.kept_replies.specs.Kept.{entry_size, AreRising, has_request, has_number, is_in_time, found, NoneInTime, with_number, first_number, inserted, reply_of};
 
@@ -111,7 +111,7 @@ impl Kept {
         let alloc = *self.spare.allocator();
         let buffer = mem::replace(&mut self.spare, Vec::new(alloc));
         self.index.put(tag_of(q), number);
-        let at = self.replies.partition_point(|r| r.number() < number);
+        let at = place_of(&self.replies, number);
         self.in_order = goes_last(self.in_order, &self.replies, at, e.moment);
         match self.replies.insert(at, Reply::of(buffer, q, &e)) {
             Ok(()) => KeptNumber { number, at },
@@ -249,6 +249,20 @@ fn make_place(replies: &mut VecDeque<Reply>) -> Result<(), NoMemory>
     Ok(())
 }
 
+/// Where a number goes among the replies: behind those of lower numbers. The last one is looked at first,
+/// since a new number mostly is above all.
+fn place_of(replies: &VecDeque<Reply>, number: u64) -> usize
+    requires { AreRising replies.now.items }
+    ensures place { IsPlaceOf number replies.now.items result }
+    ensures within { result ≤ deque_len replies.now }
+{
+    let last = replies.back();
+    if last.is_none_or(|last| last.number() < number) {
+        return replies.len();
+    }
+    replies.partition_point(|r| r.number() < number)
+}
+
 /// Whether the moments are still in order where a reply of this moment is put at this place: there is
 /// none behind it, and none before it is of a later moment.
 fn goes_last(in_order: bool, replies: &VecDeque<Reply>, at: usize, moment: Moment) -> bool
@@ -293,12 +307,12 @@ fn drop_over(
     }
 }
 
-/// The sum of two sizes. 2^32 or more is want of memory.
+/// The sum of two sizes. 2^16 or more is want of memory.
 fn short_sum(a: usize, b: usize) -> Result<usize, NoMemory>
-    ensures { IfOk result (λ size. (size ≡ a + b) × (size < 2 ^ 32)) }
+    ensures { IfOk result (λ size. (size ≡ a + b) × (size < 2 ^ 16)) }
 {
     let sum = a.checked_add(b).ok_or(NoMemory)?;
-    if sum <= u32::MAX as usize {
+    if sum <= u16::MAX as usize {
         Ok(sum)
     } else {
         Err(NoMemory)

@@ -1,12 +1,11 @@
 //! What is kept of a reply, with its texts in a buffer: an entry takes few bytes of its own where it
 //! has no piece of another house, and each text only as many as it has.
 
-ghost use Rattle.std.specs.Prelude.{◌≡◌, ◌+◌, ◌≤◌, ◌<◌, ◌^◌, length, vec_len, vec_capacity};
-ghost use Rattle.scrip_form.specs.Scrip.{IsPiece};
+ghost use Rattle.std.specs.Prelude.{◌≡◌, ◌+◌, ◌≤◌, ◌<◌, ◌^◌, length, vec_len, vec_capacity, Some};
 ghost use Rattle.mc_records.specs.Requests.{asked_of};
 ghost use Rattle.kept_replies.specs.Requests.{text_size};
 ghost use Rattle.kept_replies.specs.Kept.{piece_size, change_size, deed_size, entry_size};
-ghost use Rattle.kept_replies.specs.Parts.{StaysIn, piece_in, PieceIsWithin, change_in, ChangeIsWithin, deed_in, DeedIsWithin, asked_in, AskedIsWithin, entry_in, EntryIsWithin};
+ghost use Rattle.kept_replies.specs.Parts.{StaysIn, change_in, ChangeIsWithin, deed_in, DeedIsWithin, asked_in, AskedIsWithin, entry_in, EntryIsWithin};
 
 use crate::sold::{SoldParts, put_sold, sold_of};
 use crate::span::{Span, put, put_if, text_at};
@@ -15,16 +14,21 @@ use mc_base::{Amount, Moment};
 use mc_records::Request;
 use scrip_form::{Id, Name, Piece, Props};
 
-/// A piece, whose name and properties stand in a buffer.
+/// Change that may be there, whose name and properties stand at the front of a buffer: the name up to
+/// `name_end`, and the properties behind it up to `props_end`. The small parts come first, where the
+/// variant's number stands too.
 #[derive(Clone, Copy, Drop)]
-pub(crate) struct PieceParts {
-    version: u8,
-    vendor: Span,
-    props: Span,
-    value: Amount,
-    id: Id,
-    cust: Id,
-    expires: u64,
+pub(crate) enum ChangeParts {
+    None,
+    Piece {
+        version: u8,
+        name_end: u8,
+        props_end: u8,
+        value: Amount,
+        id: Id,
+        cust: Id,
+        expires: u64,
+    },
 }
 
 /// A deed, whose piece stands in a buffer as text.
@@ -50,29 +54,30 @@ pub(crate) struct EntryParts {
     pub(crate) number: u64,
     pub(crate) moment: Moment,
     price: u64,
-    change: Option<PieceParts>,
+    change: ChangeParts,
     secret: [u8; 16],
     deed: DeedParts,
 }
 
-/// Puts the texts of a piece behind what the buffer holds.
-fn put_piece(buffer: &mut Vec<u8>, piece: &Piece) -> PieceParts
+/// Puts the texts of a piece into an empty buffer.
+fn put_piece(buffer: &mut Vec<u8>, piece: &Piece) -> ChangeParts
+    requires empty { vec_len buffer.old ≡ 0 }
     requires room { vec_len buffer.old + piece_size piece.now ≤ vec_capacity buffer.old }
-    requires short { vec_len buffer.old + piece_size piece.now < 2 ^ 32 }
+    requires short { vec_len buffer.old + piece_size piece.now < 2 ^ 16 }
     ensures len { vec_len buffer.new ≡ vec_len buffer.old + piece_size piece.now }
     ensures capacity { vec_capacity buffer.old ≤ vec_capacity buffer.new }
     ensures stays { StaysIn buffer.old.items buffer.new.items }
-    ensures piece { piece_in buffer.new.items result ≡ piece.now }
-    ensures within { PieceIsWithin buffer.new.items result }
+    ensures change { change_in buffer.new.items result ≡ Some piece.now }
+    ensures within { ChangeIsWithin buffer.new.items result }
 {
     let name = piece.vendor();
     let text = piece.props();
     let vendor = put(buffer, name.bytes());
     let props = put(buffer, text.bytes());
-    PieceParts {
+    ChangeParts::Piece {
         version: piece.version(),
-        vendor,
-        props,
+        name_end: vendor.end as u8,
+        props_end: props.end as u8,
         value: piece.value(),
         id: piece.id(),
         cust: piece.cust(),
@@ -80,30 +85,11 @@ fn put_piece(buffer: &mut Vec<u8>, piece: &Piece) -> PieceParts
     }
 }
 
-/// The piece of these parts.
-fn piece_of(bytes: &[u8], parts: &PieceParts) -> Piece
-    requires { PieceIsWithin bytes.now parts.now }
-    ensures { result ≡ piece_in bytes.now parts.now }
-{
-    let vendor = Name::new(parts.vendor.of(bytes)).unwrap();
-    let props = Props::new(parts.props.of(bytes)).unwrap();
-    Piece::new(
-        vendor,
-        parts.value,
-        parts.id,
-        parts.cust,
-        parts.expires,
-        props,
-    )
-    .unwrap()
-    .versioned(parts.version)
-    .unwrap()
-}
-
-/// Puts the texts of change that may be there.
-fn put_change(buffer: &mut Vec<u8>, change: &Option<Piece>) -> Option<PieceParts>
+/// Puts the texts of change that may be there into an empty buffer.
+fn put_change(buffer: &mut Vec<u8>, change: &Option<Piece>) -> ChangeParts
+    requires empty { vec_len buffer.old ≡ 0 }
     requires room { vec_len buffer.old + change_size change.now ≤ vec_capacity buffer.old }
-    requires short { vec_len buffer.old + change_size change.now < 2 ^ 32 }
+    requires short { vec_len buffer.old + change_size change.now < 2 ^ 16 }
     ensures len { vec_len buffer.new ≡ vec_len buffer.old + change_size change.now }
     ensures capacity { vec_capacity buffer.old ≤ vec_capacity buffer.new }
     ensures stays { StaysIn buffer.old.items buffer.new.items }
@@ -111,26 +97,40 @@ fn put_change(buffer: &mut Vec<u8>, change: &Option<Piece>) -> Option<PieceParts
     ensures within { ChangeIsWithin buffer.new.items result }
 {
     match change {
-        Some(piece) => Some(put_piece(buffer, piece)),
-        None => None,
+        Some(piece) => put_piece(buffer, piece),
+        None => ChangeParts::None,
     }
 }
 
 /// The change of these parts.
-fn change_of(bytes: &[u8], parts: &Option<PieceParts>) -> Option<Piece>
+fn change_of(bytes: &[u8], parts: &ChangeParts) -> Option<Piece>
     requires { ChangeIsWithin bytes.now parts.now }
     ensures { result ≡ change_in bytes.now parts.now }
 {
     match parts {
-        Some(parts) => Some(piece_of(bytes, parts)),
-        None => None,
+        ChangeParts::None => None,
+        ChangeParts::Piece {
+            version,
+            name_end,
+            props_end,
+            value,
+            id,
+            cust,
+            expires,
+        } => {
+            let (front, end) = (*name_end as usize, *props_end as usize);
+            let vendor = Name::new(&bytes[0..front]).unwrap();
+            let props = Props::new(&bytes[front..end]).unwrap();
+            let piece = Piece::new(vendor, *value, *id, *cust, *expires, props).unwrap();
+            Some(piece.versioned(*version).unwrap())
+        }
     }
 }
 
 /// Puts the texts of a deed.
 fn put_deed(buffer: &mut Vec<u8>, deed: &Deed) -> DeedParts
     requires room { vec_len buffer.old + deed_size deed.now ≤ vec_capacity buffer.old }
-    requires short { vec_len buffer.old + deed_size deed.now < 2 ^ 32 }
+    requires short { vec_len buffer.old + deed_size deed.now < 2 ^ 16 }
     ensures len { vec_len buffer.new ≡ vec_len buffer.old + deed_size deed.now }
     ensures capacity { vec_capacity buffer.old ≤ vec_capacity buffer.new }
     ensures stays { StaysIn buffer.old.items buffer.new.items }
@@ -189,10 +189,11 @@ fn deed_of(bytes: &[u8], parts: &DeedParts) -> Deed
 }
 
 impl EntryParts {
-    /// Puts the texts of what is kept of an entry behind what the buffer holds.
+    /// Puts the texts of what is kept of an entry into an empty buffer.
     pub(crate) fn put(buffer: &mut Vec<u8>, e: &KeptEntry) -> EntryParts
+        requires empty { vec_len buffer.old ≡ 0 }
         requires room { vec_len buffer.old + entry_size e.now ≤ vec_capacity buffer.old }
-        requires short { vec_len buffer.old + entry_size e.now < 2 ^ 32 }
+        requires short { vec_len buffer.old + entry_size e.now < 2 ^ 16 }
         ensures len { vec_len buffer.new ≡ vec_len buffer.old + entry_size e.now }
         ensures capacity { vec_capacity buffer.old ≤ vec_capacity buffer.new }
         ensures stays { StaysIn buffer.old.items buffer.new.items }
@@ -231,7 +232,7 @@ impl AskedParts {
     /// Puts the texts of a request behind what the buffer holds.
     pub(crate) fn put(buffer: &mut Vec<u8>, q: &Request<'_>) -> AskedParts
         requires room { vec_len buffer.old + text_size (asked_of q.now) ≤ vec_capacity buffer.old }
-        requires short { vec_len buffer.old + text_size (asked_of q.now) < 2 ^ 32 }
+        requires short { vec_len buffer.old + text_size (asked_of q.now) < 2 ^ 16 }
         ensures stays { StaysIn buffer.old.items buffer.new.items }
         ensures asked { asked_in buffer.new.items result ≡ asked_of q.now }
         ensures within { AskedIsWithin (length buffer.new.items) result }

@@ -30,15 +30,17 @@ impl Model for Reply {
 }
 
 impl Reply {
-    /// The request and what is kept of its entry, put into an empty buffer that has room for their texts.
+    /// The request and what is kept of its entry, put into an empty buffer that has room for their texts. What
+    /// they do not need of it is given back.
     pub(crate) fn of(mut buffer: Vec<u8>, q: &Request<'_>, e: &KeptEntry) -> Reply
         requires empty { buffer.items ≡ [] }
         requires room { text_size (asked_of q.now) + entry_size e.now ≤ vec_capacity buffer }
-        requires short { vec_capacity buffer < 2 ^ 32 }
+        requires short { vec_capacity buffer < 2 ^ 16 }
         ensures { result ≡ record { asked = asked_of q.now; entry = e.now } }
     {
         let entry = EntryParts::put(&mut buffer, e);
         let asked = AskedParts::put(&mut buffer, q);
+        buffer.shrink_to_fit();
         Reply {
             bytes: buffer,
             asked,

@@ -34,7 +34,7 @@ pub(crate) fn put_sold(
     secret: &[u8; 16],
 ) -> SoldParts
     requires room { vec_len buffer.old + sold_size piece.now cert.now secret.now ≤ vec_capacity buffer.old }
-    requires short { vec_len buffer.old + sold_size piece.now cert.now secret.now < 2 ^ 32 }
+    requires short { vec_len buffer.old + sold_size piece.now cert.now secret.now < 2 ^ 16 }
     ensures len { vec_len buffer.new ≡ vec_len buffer.old + sold_size piece.now cert.now secret.now }
     ensures capacity { vec_capacity buffer.old ≤ vec_capacity buffer.new }
     ensures stays { StaysIn buffer.old.items buffer.new.items }

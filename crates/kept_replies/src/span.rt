@@ -3,11 +3,11 @@ ghost use Rattle.mc_records.specs.Requests.{seen};
 ghost use Rattle.kept_replies.specs.Requests.{size_of_text};
 ghost use Rattle.kept_replies.specs.Parts.{part, part_if, IsWithin, StaysIn};
 
-/// Where a text stands in a buffer of fewer than 2^32 bytes.
+/// Where a text stands in a buffer of fewer than 2^16 bytes.
 #[derive(Clone, Copy, Drop)]
 pub(crate) struct Span {
-    pub(crate) start: u32,
-    pub(crate) end: u32,
+    pub(crate) start: u16,
+    pub(crate) end: u16,
 }
 
 impl Span {
@@ -24,18 +24,19 @@ impl Span {
 /// stands there still.
 pub(crate) fn put(buffer: &mut Vec<u8>, text: &[u8]) -> Span
     requires room { vec_len buffer.old + length text.now ≤ vec_capacity buffer.old }
-    requires short { vec_len buffer.old + length text.now < 2 ^ 32 }
+    requires short { vec_len buffer.old + length text.now < 2 ^ 16 }
     ensures len { vec_len buffer.new ≡ vec_len buffer.old + length text.now }
     ensures capacity { vec_capacity buffer.old ≤ vec_capacity buffer.new }
     ensures stays { StaysIn buffer.old.items buffer.new.items }
     ensures part { part buffer.new.items result ≡ text.now }
     ensures within { IsWithin (length buffer.new.items) result }
+    ensures place { (result.start ≡ vec_len buffer.old) × (result.end ≡ vec_len buffer.new) }
 {
-    let start = buffer.len() as u32;
+    let start = buffer.len() as u16;
     match buffer.extend_from_slice(text) {
         Ok(()) => Span {
             start,
-            end: buffer.len() as u32,
+            end: buffer.len() as u16,
         },
         Err(_) => unreachable!(),
     }
@@ -44,7 +45,7 @@ pub(crate) fn put(buffer: &mut Vec<u8>, text: &[u8]) -> Span
 /// Puts a text that may be there, likewise.
 pub(crate) fn put_if(buffer: &mut Vec<u8>, text: Option<&[u8]>) -> Option<Span>
     requires room { vec_len buffer.old + size_of_text (seen text) ≤ vec_capacity buffer.old }
-    requires short { vec_len buffer.old + size_of_text (seen text) < 2 ^ 32 }
+    requires short { vec_len buffer.old + size_of_text (seen text) < 2 ^ 16 }
     ensures len { vec_len buffer.new ≡ vec_len buffer.old + size_of_text (seen text.entry) }
     ensures capacity { vec_capacity buffer.old ≤ vec_capacity buffer.new }
     ensures stays { StaysIn buffer.old.items buffer.new.items }

@@ -13,8 +13,9 @@ use Rattle.scrip_form.specs.Scrip.{IsCert}
 use Rattle.scrip_form.specs.Texts.{IsName, is_letter_or_digit, is_name_byte, is_visible}
 use Rattle.command_table.specs.Ranges.{joined}
 use Rattle.licence_lines.specs.Licences.{licence_line, LicenceFits, BeginsNoLicence, GoesOn, BreaksAt}
-use Rattle.licence_lines.specs.Fields.{cut, Fields, then_cut, six_words, fields_of, fields_text, licence_fields, SpellTerms}
-use Rattle.licence_lines.proofs.CutLaws.{IsFree, cut_sound, cut_again}
+use Rattle.licence_lines.specs.Fields.{Fields, six_words, fields_of, fields_text, licence_fields, SpellTerms}
+use Rattle.mc_fields.specs.Cuts.{cut}
+use Rattle.mc_fields.proofs.CutLaws.{IsFree, cut_sound, cut_again, cut_then, cut_on}
 
 -- ---- words have no spaces and no line ends
 
@@ -88,15 +89,7 @@ joined_visible [] certs = refl
 joined_visible (x ∷ []) certs = hex_visible x certs.0.1
 joined_visible (x ∷ y ∷ ys) certs = visible_append (encode_lower x) (44 ∷ joined (y ∷ ys)) (hex_visible x certs.0.1) (joined_visible (y ∷ ys) certs.1)
 
--- ---- cutting
-
-cut_then : {A : Type 0} (line : List ℕ) (next : List ℕ → List ℕ → Option A) (r : A) → then_cut (cut 32 line) next ≡ Some r
-    → (word : List ℕ) × (rest : List ℕ) × (line ≡ word ++ 32 ∷ rest) × (next word rest ≡ Some r)
-cut_then {A = A} line next r is = go (cut 32 line) refl is
-  where
-    go : (o : Option (List ℕ × List ℕ)) → cut 32 line ≡ o → then_cut o next ≡ Some r → (word : List ℕ) × (rest : List ℕ) × (line ≡ word ++ 32 ∷ rest) × (next word rest ≡ Some r)
-    go None e n = absurd cc
-    go (Some x) e n = (x.0, x.1, cut_sound 32 line x.0 x.1 e, n)
+-- ---- words and lines
 
 abbrev six_text : Fields → List ℕ
 six_text f = f.vendor ++ 32 ∷ (f.issuer ++ 32 ∷ (f.period ++ 32 ∷ (f.life ++ 32 ∷ (f.scrip ++ 32 ∷ f.customer))))
@@ -132,9 +125,6 @@ fields_sound line f is =
     let a = cut_then line (λ word rest. if_licence word (six_words rest)) f is in
     let w = word_is a.0 (six_words a.1) f a.3 in
     a.2 ∙ ap₂ onto w.0 (six_sound a.1 f w.1)
-
-cut_on : {A : Type 0} (word rest : List ℕ) (next : List ℕ → List ℕ → Option A) → IsFree 32 word → then_cut (cut 32 (word ++ 32 ∷ rest)) next ≡ next word rest
-cut_on word rest next free = ap (λ (o : Option (List ℕ × List ℕ)). then_cut o next) (cut_again 32 word rest free)
 
 -- the five words before the last have no space
 pub record AreWords (f : Fields) : Type 0 where

@@ -1,4 +1,3 @@
-mod CutLaws
 mod FieldLaws
 mod LengthLaws
 mod OneLicence

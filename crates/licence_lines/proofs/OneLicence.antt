@@ -5,7 +5,8 @@ use Rattle.std.proofs.lemmas.Fmt.{decimal_injective}
 use Rattle.scrip_form.specs.Issuing.{Issuing}
 use Rattle.command_table.proofs.SecretLemmas.{same_secrets}
 use Rattle.licence_lines.specs.Licences.{licence_line, LicenceFits, IsLicenceLine, BreaksAt, IsTold}
-use Rattle.licence_lines.specs.Fields.{cut, Fields, fields_of, fields_text, licence_fields}
+use Rattle.mc_fields.specs.Cuts.{cut}
+use Rattle.licence_lines.specs.Fields.{Fields, fields_of, fields_text, licence_fields}
 use Rattle.licence_lines.proofs.FieldLaws.{licence_words, fields_again, licence_cut}
 
 abbrev Reading : Type 0

@@ -1,12 +1,8 @@
 -- A line cut at its spaces.
-use Rattle.std.specs.Prelude.{◌≡◌, ℕ, ◌==◌, if◌then◌else◌, bytes_eq, List, [], ◌∷◌, ◌++◌, codes, decimal, Option, Some, None, option_map}
+use Rattle.std.specs.Prelude.{◌≡◌, ℕ, if◌then◌else◌, bytes_eq, List, ◌∷◌, ◌++◌, codes, decimal, Option, Some, None}
 use Rattle.scrip_form.specs.Issuing.{Issuing}
+use Rattle.mc_fields.specs.Cuts.{cut, then_cut}
 use Rattle.command_table.specs.Ranges.{joined}
-
--- what stands before the first such byte, and what behind it
-unfoldable pub cut : ℕ → List ℕ → Option (List ℕ × List ℕ)
-cut stop [] = None
-cut stop (c ∷ cs) = if c == stop then Some ([], cs) else option_map (λ x. (c ∷ x.0, x.1)) (cut stop cs)
 
 -- the words behind the first of a licence line
 pub record Fields : Type 0 where
@@ -16,11 +12,6 @@ pub record Fields : Type 0 where
   pub life : List ℕ
   pub scrip : List ℕ
   pub customer : List ℕ
-
--- what is read of both parts
-abbrev pub then_cut : {A : Type 0} → Option (List ℕ × List ℕ) → (List ℕ → List ℕ → Option A) → Option A
-then_cut None next = None
-then_cut (Some x) next = next x.0 x.1
 
 -- six words with a space between each two
 abbrev pub six_words : List ℕ → Option Fields

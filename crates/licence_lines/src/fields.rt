@@ -1,6 +1,8 @@
 ghost use Rattle.std.specs.Prelude.{◌≡◌, option_map};
-ghost use Rattle.licence_lines.specs.Fields.{cut, six_words, fields_of};
+ghost use Rattle.licence_lines.specs.Fields.{six_words, fields_of};
 ghost use Rattle.licence_lines.specs.Views.{fields};
+
+use mc_fields::cut;
 
 /// The words of a licence line behind its first, as they stand.
 #[derive(Drop)]
@@ -41,16 +43,4 @@ fn six_words(line: &[u8]) -> Option<Words<'_>>
         scrip,
         customer,
     })
-}
-
-/// What stands before the first such byte, and what behind it; None exactly where there is none.
-pub(crate) fn cut(stop: u8, bytes: &[u8]) -> Option<(&[u8], &[u8])>
-    ensures { option_map (λ x. (x.0.now, x.1.now)) result ≡ cut stop bytes.now }
-{
-    for (place, byte) in bytes.iter().enumerate() {
-        if *byte == stop {
-            return Some((&bytes[..place], &bytes[place + 1..]));
-        }
-    }
-    None
 }

@@ -6,8 +6,9 @@ ghost use Rattle.licence_lines.specs.Fields.{SpellTerms, fields_text, licence_fi
 ghost use Rattle.licence_lines.specs.Views.{fields};
 ghost use Rattle.licence_lines.specs.Licences.{IsTold, LicenceFits};
 
-use crate::fields::{Words, cut, words_of};
+use crate::fields::{Words, words_of};
 use command_table::{number_from, secrets_of};
+use mc_fields::cut;
 use scrip_form::{Name, Terms};
 
 /// The greatest number of an issuer.

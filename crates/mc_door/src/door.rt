@@ -2,7 +2,7 @@ ghost use Rattle.std.specs.Io.{ReadsAtMost, WritesAtMost};
 
 use crate::connection::Connection;
 use crate::connections::{Connections, MOST};
-use mio::net::TcpListener;
+use crate::socket::Socket;
 use mio::{Events, Interest, Poll, Token};
 use std::alloc::{AllocError, Global};
 use std::io;
@@ -73,7 +73,7 @@ pub(crate) struct Door {
     alloc: Global,
     poll: Poll,
     events: Events,
-    socket: TcpListener,
+    socket: Socket,
     connections: Connections,
     standing: Option<usize>,
     accepting: Accepting,
@@ -91,7 +91,7 @@ impl Door {
     pub(crate) fn open<R: Net, C: Clock>(
         rt: &R,
         alloc: Global,
-        mut socket: TcpListener,
+        mut socket: Socket,
         clock: &C,
     ) -> Result<Option<Door>, AllocError> {
         let connections = Connections::new(alloc)?;
@@ -99,12 +99,7 @@ impl Door {
         let (Ok(poll), Ok(now)) = (Poll::new(rt), Instant::now(clock)) else {
             return Ok(None);
         };
-        let readable = Interest::READABLE;
-        if poll
-            .registry()
-            .register(&mut socket, LISTENER, readable)
-            .is_err()
-        {
+        if socket.register(poll.registry(), LISTENER).is_err() {
             return Ok(None);
         }
         Ok(Some(Door {
@@ -122,8 +117,8 @@ impl Door {
         }))
     }
 
-    pub(crate) fn address(&self) -> io::Result<SocketAddr> {
-        self.socket.local_addr()
+    pub(crate) fn address(&self) -> Option<SocketAddr> {
+        self.socket.address()
     }
 
     /// Ends the standing link, and waits for the next: that of the connection that has been ready for the
@@ -353,7 +348,7 @@ impl Door {
     /// Accepts a connection. False where none waits.
     fn accept(&mut self, now: Instant) -> io::Result<bool> {
         let mut stream = match self.socket.accept() {
-            Ok((stream, _)) => stream,
+            Ok(stream) => stream,
             Err(e) if e.kind() == ErrorKind::WouldBlock => return Ok(false),
             // It broke before it was accepted.
             Err(e) if e.kind() == ErrorKind::ConnectionAborted => return Ok(true),

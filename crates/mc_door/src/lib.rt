@@ -12,6 +12,7 @@ mod connection;
 mod connections;
 mod door;
 mod listener;
+mod socket;
 mod source;
 
 pub use caller::{Caller, call};

@@ -1,12 +1,11 @@
 use crate::door::Door;
+use crate::socket::Socket;
 use crate::source::Source;
-use mio::net::TcpListener;
 use std::alloc::{AllocError, Global};
+use std::io;
 use std::io::ErrorKind;
-use std::net::{Net, SocketAddr, ToSocketAddrs};
-use std::os::fd::OwnedFd;
-use std::rt::Clock;
-use std::{io, net};
+use std::net::{Net, SocketAddr};
+use std::rt::{Clock, Files};
 
 #[cfg(test)]
 mod tests;
@@ -26,46 +25,28 @@ pub struct Listener<C> {
     clock: C,
 }
 
-/// Listens at this address, an IP address or a host's name and a port, where it can be bound. Takes all memory
-/// that connections need, but for the bytes of replies that peers don't take: at most 69,632 for each of 64.
-pub fn listen<R: Net, C: Clock + Drop>(
+/// Listens at this address, where it can be bound: an IP address or a host's name and a port, or the path of a Unix
+/// socket, which begins with a slash. The file there is made, and stays; one that a listener of before left is taken
+/// away first. Takes all memory that connections need, but for the bytes of replies that peers don't take: at most
+/// 69,632 for each of 64.
+pub fn listen<R: Net + Files, C: Clock + Drop>(
     rt: &R,
     alloc: Global,
     address: &str,
     clock: C,
 ) -> Result<Listener<C>, AllocError> {
-    let (door, fault) = match bind(rt, address) {
+    let (door, fault) = match Socket::bind(rt, address) {
         Ok(socket) => (Door::open(rt, alloc, socket, &clock)?, None),
         Err(e) => (None, Some(e)),
     };
     Ok(Listener { door, fault, clock })
 }
 
-/// A socket at the first of the addresses that can be bound.
-fn bind<R: Net>(rt: &R, address: &str) -> io::Result<TcpListener> {
-    let mut last = ErrorKind::NotConnected.into();
-    for address in address.to_socket_addrs(rt)? {
-        match TcpListener::bind(rt, address) {
-            Ok(socket) => return Ok(at_once(socket)),
-            Err(e) => last = e,
-        }
-    }
-    Err(last)
-}
-
-/// What is accepted at the socket then sends its bytes at once, where the system lets it: Linux gives a
-/// connection that option (`TCP_NODELAY`) of its listener.
-fn at_once(socket: TcpListener) -> TcpListener {
-    let stream = net::TcpStream::from(OwnedFd::from(socket));
-    let _ = stream.set_nodelay(true);
-    TcpListener::from(OwnedFd::from(stream))
-}
-
 impl<C> Listener<C> {
-    /// The address that it listens at, where it does.
+    /// The address of the network that it listens at, where it does.
     pub fn address(&self) -> Option<SocketAddr> {
         match &self.door {
-            Some(door) => door.address().ok(),
+            Some(door) => door.address(),
             None => None,
         }
     }

@@ -11,3 +11,4 @@ pub mod Puts
 pub mod FieldBytes
 pub mod FormLaws
 pub mod StopLaws
+pub mod CutLaws

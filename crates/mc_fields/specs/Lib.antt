@@ -5,3 +5,4 @@ pub mod Field
 pub mod Form
 pub mod Puts
 pub mod Stops
+pub mod Cuts

@@ -11,6 +11,7 @@
 
 mod appending;
 mod binary;
+mod cutting;
 mod digits;
 mod literal;
 mod number;
@@ -23,6 +24,7 @@ pub use appending::{append_both, append_each};
 pub use binary::{
     read_counted, read_flag, read_key, read_plain, read_str, read_u8, read_u16, read_u32, read_u64,
 };
+pub use cutting::cut;
 pub use digits::read_hex;
 pub use literal::read_literal;
 pub use number::{number_of, read_number};

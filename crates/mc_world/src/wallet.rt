@@ -61,7 +61,6 @@ pub(crate) fn ask(
     requires book { IsBookOfWallet history.old }
     ensures asks { IfOk result (λ sent. AsksFor limits history.old (asking_of ask.now) reading history.new (option_map (λ v. v.items) sent)) }
 {
-    // The check lets a record go only where the types of its parts are named.
     let _pieces: Option<PieceList<'_>> = None;
     if !can_be_asked(ask) {
         return Ok(None);
@@ -116,7 +115,6 @@ pub(crate) fn take_reply(
     requires book { IsBookOfWallet history.old }
     ensures settles { IfOk result (λ done. SettlesBy limits history.old reply.now number reading history.new done) }
 {
-    // The check lets a record go only where the types of its parts are named.
     let _pieces: Option<PieceList<'_>> = None;
     let read = match read_reply(reply) {
         ReplyRead::Whole(read) => read,

@@ -41,7 +41,6 @@ pub(crate) fn enter_note<D: Disk, T: Trade>(
         (limits_of house.bench) house.journal.disk h result }
     ensures refusals { IfRefused (IsAmong (33 ∷ [])) result }
 {
-    // The check lets a record go only where the types of its parts are named.
     let _parts: Option<(PieceList<'_>, Id, Terms)> = None;
     let record = note(house.time(), tag, bytes);
     match house.enter(&record) {
@@ -59,7 +58,6 @@ fn note<'a>(moment: Moment, tag: &'a [u8], bytes: &'a [u8]) -> Record<'a>
     ensures fits { Fits (entry result) }
     ensures entry { entry result ≡ Note moment tag.now bytes.now }
 {
-    // What the moment knows of itself.
     let _moment = moment.seconds();
     Record::Note { moment, tag, bytes }
 }

@@ -6,7 +6,6 @@ pub mod StatementLaws
 pub mod CountLaws
 pub mod MarketLaws
 pub mod NumberLaws
-pub mod CutLaws
 pub mod PaymentReads
 pub mod TaskLaws
 pub mod StatementTexts

@@ -17,7 +17,8 @@ use Rattle.ledger_model.specs.Histories.{History}
 use Rattle.ledger_model.specs.Lines.{Refuse, Repeat}
 use Rattle.settle_core.specs.declared.claim.Payment.{Payment}
 use Rattle.settle_core.specs.declared.claim.Statement.{Statement}
-use Rattle.settle_core.specs.Claims.{claim_text, payment_text, statement_line, cut, number_in}
+use Rattle.mc_fields.specs.Cuts.{cut}
+use Rattle.settle_core.specs.Claims.{claim_text, payment_text, statement_line, number_in}
 use Rattle.settle_core.specs.Statements.{cert_at, statement_input}
 use Rattle.settle_core.specs.Settlement.{redeemed, sold_under, settled, IsInOrder}
 use Rattle.settle_core.specs.Tasks.{pay_lines, state_lines}

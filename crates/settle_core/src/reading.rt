@@ -1,11 +1,12 @@
 //! Texts of claims and payments, as notes have them.
 
 ghost use Rattle.std.specs.Prelude.{◌≡◌, ◌≤◌, ◌^◌, option_map, decimal, bytes_eq, IfSome};
-ghost use Rattle.settle_core.specs.Claims.{ClaimFits, PaymentFits, cut, number_in, claim_of, payment_of};
+ghost use Rattle.settle_core.specs.Claims.{ClaimFits, PaymentFits, number_in, claim_of, payment_of};
 ghost use Rattle.settle_core.specs.Statements.{claim_in};
 
 use crate::claim::{Claim, Payment};
 use itoa::Buffer;
+use mc_fields::cut;
 use scrip_form::Name;
 
 /// The greatest epoch.
@@ -13,18 +14,6 @@ const LAST_EPOCH: u128 = (1 << 24) - 1;
 
 /// The most that is claimed for a series: what 2^32 pieces of 2^40 units are worth.
 const MOST_CLAIMED: u128 = 1 << 72;
-
-/// What stands before the first such byte, and what behind it; None exactly where there is none.
-pub(crate) fn cut(stop: u8, bytes: &[u8]) -> Option<(&[u8], &[u8])>
-    ensures { option_map (λ x. (x.0.now, x.1.now)) result ≡ cut stop bytes.now }
-{
-    for (place, byte) in bytes.iter().enumerate() {
-        if *byte == stop {
-            return Some((&bytes[..place], &bytes[place + 1..]));
-        }
-    }
-    None
-}
 
 /// Whether the bytes are the decimal text of a number.
 fn is_spelled(number: u128, bytes: &[u8]) -> bool

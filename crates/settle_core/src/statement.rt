@@ -6,8 +6,8 @@ ghost use Rattle.settle_core.specs.Claims.{payment_text, statement_body, stateme
 ghost use Rattle.settle_core.specs.Statements.{StatementFits, statement_text, cert_at, paid_to, words_at, statement_at, statement_input};
 
 use crate::claim::{Claim, Payment, Statement};
-use crate::reading::{claim_in, cut};
-use mc_fields::{Stuck, read_hex, read_literal};
+use crate::reading::claim_in;
+use mc_fields::{Stuck, cut, read_hex, read_literal};
 use scrip_certs::certificate;
 use scrip_form::{Id, Name, Terms};
 

@@ -1,24 +1,16 @@
 -- What founding a site does with the disk of its book, up to the line that is said.
-use Rattle.std.specs.Prelude.{◌≡◌, ℕ, List, [], ◌∷◌, IsSome}
+use Rattle.std.specs.Prelude.{◌≡◌, ℕ, List, [], ◌∷◌}
 use Rattle.mc_outside.specs.Bytes.{Rose}
-use Rattle.mc_outside.specs.DiskView.{DiskView, Ran}
+use Rattle.mc_outside.specs.DiskView.{DiskView}
 use Rattle.mc_outside.specs.LinkView.{LinkView}
 use Rattle.mc_records.specs.declared.refusal.Refusal.TheVariants as refusals
 use Rattle.scrip_journal.specs.Founds.{IsFree, IsTaken}
-use Rattle.millicent_http.specs.declared.clock.Clock.TheVariants.{OfLinks}
-use Rattle.millicent_http.specs.Courses.{AreRead, with_readings}
 use Rattle.command_status.specs.declared.status.Status.{Status}
 use Rattle.command_status.specs.declared.status.Status.TheVariants as ends
-use Rattle.command_status.specs.Founding.{FoundPair}
+use Rattle.command_status.specs.Founding.{FoundAt}
 use Rattle.site_words.specs.Words.{Founder}
 use Rattle.site_commands.specs.Founding.{site_of}
 use Rattle.site_commands.specs.Serving.{EncodesLawful}
-
--- The clock was read once, and each crash pair is of the Site entry of that moment.
-pub record FoundAt {O : Type 0} (link : O → LinkView) (disk : O → DiskView) (kind : ℕ) (founder : Founder) (a : O) (status : Status) (b : O) (moment : ℕ) : Type 0 where
-  pub read : AreRead OfLinks (moment ∷ []) (link a).readings (link b).readings
-  pub rest : link b ≡ with_readings (link b).readings (link a)
-  pub pairs : Ran (disk a) (disk b) (FoundPair (IsSome (link a).sessions) (disk a) (site_of kind founder moment) status)
 
 -- what the disk is then, by how the command ended, where it had these bytes
 abbrev pub FoundsBy : DiskView → ℕ → Founder → List ℕ → ℕ → Status → DiskView → Type 0
@@ -30,7 +22,7 @@ FoundsBy before kind founder bytes moment _ after = ⊥
 
 -- how founding a site of a kind ended
 abbrev pub FoundsBook : {O : Type 0} → (O → LinkView) → (O → DiskView) → ℕ → Founder → List ℕ → O → Status → O → Type 0
-FoundsBook link disk kind founder bytes a status b = (moment : ℕ) × FoundAt link disk kind founder a status b moment × FoundsBy (disk a) kind founder bytes moment status (disk b)
+FoundsBook link disk kind founder bytes a status b = (moment : ℕ) × FoundAt link disk (site_of kind founder moment) a status b moment × FoundsBy (disk a) kind founder bytes moment status (disk b)
 
 -- The count of the disk's faults rose where the disk failed, and stayed else; it ends in no other way than
 -- these.

@@ -18,7 +18,6 @@ pub(crate) fn site<'a>(founder: &'a Founder, kind: SiteKind, moment: Moment) -> 
     ensures site { entry result ≡ site_of (kind_number kind) founder.now moment }
     ensures fits { Fits (site_of (kind_number kind) founder.now moment) }
 {
-    // The check lets a record go only where the types of its parts are named.
     let _pieces: Option<PieceList<'_>> = None;
     Record::Site {
         moment,

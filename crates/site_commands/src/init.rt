@@ -36,7 +36,6 @@ pub fn found_book<O: Outside, T: Trade>(
     ensures founded { (x : List ℕ) → (O.disk out).contents ≡ Some x
         → FoundsBook O.link O.disk (T.trade trade).site founder.now x out result.1 result.0 }
 {
-    // The check lets a record go only where the types of its parts are named.
     let _pieces: Option<PieceList<'_>> = None;
     let kind = trade.kind();
     let moment = out.now();

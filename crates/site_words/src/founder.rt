@@ -164,7 +164,6 @@ impl<'a> VendorFounder<'a> {
         ensures value { result ≡ vendor_founder self.now }
         ensures fee { result.fee ≡ 0 }
     {
-        // What the name knows of itself.
         let _name = self.name.bytes();
         Founder {
             name: self.name,
@@ -238,7 +237,6 @@ impl<'a> BrokerFounder<'a> {
     pub fn founder(&self) -> Founder
         ensures { result ≡ broker_founder self.now }
     {
-        // What the name knows of itself.
         let _name = self.name.bytes();
         Founder {
             name: self.name,

@@ -14,7 +14,6 @@ pub(crate) fn switched_by(h: &Prefix<'_>, n: usize, before: bool) -> bool
     requires { n < length h.now }
     ensures { IfSome (slice_get h.now n) (λ e. result ≡ (before || is_switch e)) }
 {
-    // The check lets a record go only where the types of its parts are named.
     let _pieces: Option<PieceList<'_>> = None;
     before || h.record(n).is_switch()
 }

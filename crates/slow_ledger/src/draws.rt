@@ -71,7 +71,6 @@ fn draw_payload(
 {
     let _seconds = moment.seconds();
     let _number = drawn.number();
-    // The check lets a record go only where the types of its parts are named.
     let _pieces: Option<PieceList<'_>> = None;
     let mut payload = Vec::new(alloc);
     let record = Record::Draw {

@@ -21,7 +21,6 @@ pub fn moment_at(h: &Prefix<'_>, n: usize) -> Moment
     requires { n < length h.now }
     ensures { IfSome (slice_get h.now n) (λ e. result ≡ entries.moment_of e) }
 {
-    // The check lets a record go only where the types of its parts are named.
     let _pieces: Option<PieceList<'_>> = None;
     h.record(n).moment()
 }

@@ -120,7 +120,6 @@ fn accept_payload(
 {
     let Purchase { price, deed } = offered;
     fit(moment, scrip, target, sign, price, &change, &deed);
-    // The check lets a record go only where the types of its parts are named.
     let _pieces: Option<PieceList<'_>> = None;
     let mut payload = Vec::new(alloc);
     let record = Record::Accept {

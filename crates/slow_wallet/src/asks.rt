@@ -86,7 +86,6 @@ pub fn slow_pend_entry<'a>(
     requires { target.now ≡ target_of (asking_view asking.now) }
     ensures { result_map_both entry (λ f. f) result ≡ pend_entry h.now moment (asking_view asking.now) }
 {
-    // The check lets a record go only where the types of its parts are named.
     let _pieces: Option<PieceList<'_>> = None;
     match *asking {
         Asking::Get { vendor, limit, .. } => paid(h, moment, 0, vendor, target, limit),

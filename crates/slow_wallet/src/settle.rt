@@ -78,7 +78,6 @@ pub fn slow_settlement<'a>(
     ensures { IfOk result
         (λ e. entry e ≡ model.settlement h.now moment number (request_view p.now) (received_of r.now)) }
 {
-    // The check lets a record go only where the types of its parts are named.
     let _pieces: Option<PieceList<'_>> = None;
     if r.status != 200 {
         let refusal = refusal_number(r.refusal);

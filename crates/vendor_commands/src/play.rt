@@ -49,7 +49,6 @@ pub fn answer_play(alloc: Global, count: u32) -> Result<List<u8>, NoMemory>
 fn open_play(alloc: Global) -> Result<Bench<Shelf>, NoMemory>
     ensures { IfOk result (λ b. IsOpen b play_opening) }
 {
-    // The check lets a record go only where the types of its parts are named.
     let _pieces: Option<PieceList<'_>> = None;
     let licence = Record::Terms {
         moment: start(),
@@ -72,7 +71,6 @@ fn open_play(alloc: Global) -> Result<Bench<Shelf>, NoMemory>
 fn found_play(alloc: Global) -> Result<Bench<Shelf>, NoMemory>
     ensures { IfOk result (λ b. IsOpen b (play_founding ∷ [])) }
 {
-    // The check lets a record go only where the types of its parts are named.
     let _pieces: Option<PieceList<'_>> = None;
     let site = Record::Site {
         moment: start(),

@@ -31,7 +31,6 @@ const KIND: u8 = 0;
 pub(crate) fn open_shop(alloc: Global, shop: &Shop<'_>) -> Result<Bench<Shelf>, NoMemory>
     ensures { IfOk result (λ b. IsOpen b (opening shop.now)) }
 {
-    // The check lets a record go only where the types of its parts are named.
     let _pieces: Option<PieceList<'_>> = None;
     let goods = Record::Goods {
         moment: start(),
@@ -54,7 +53,6 @@ pub(crate) fn open_shop(alloc: Global, shop: &Shop<'_>) -> Result<Bench<Shelf>, 
 fn found_shop(alloc: Global, shop: &Shop<'_>) -> Result<Bench<Shelf>, NoMemory>
     ensures { IfOk result (λ b. IsOpen b (founding shop.now ∷ [])) }
 {
-    // The check lets a record go only where the types of its parts are named.
     let _pieces: Option<PieceList<'_>> = None;
     let site = Record::Site {
         moment: start(),

@@ -108,7 +108,6 @@ fn enter_goods<D: Disk>(
         (limits_of house.bench) house.journal.disk h result }
     ensures refusals { IfRefused (IsAmong (33 ∷ [])) result }
 {
-    // The check lets a record go only where the types of its parts are named.
     let _parts: Option<(PieceList<'_>, Id, Terms)> = None;
     let goods = Record::Goods {
         moment: house.time(),

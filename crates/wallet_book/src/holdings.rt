@@ -66,7 +66,6 @@ impl Holdings {
         ensures { FindsPiece self.now.list scrip.now.text result }
     {
         let piece = scrip.piece();
-        // What a text that was read knows of itself.
         let _text = scrip.text();
         self.index.get(&piece.vendor(), piece.id())
     }

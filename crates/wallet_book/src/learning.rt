@@ -29,7 +29,6 @@ impl Parts {
             → PartsRepresent self.old.holdings.list self.old.kept.items h
             → LearnsEntry self.new.holdings.list self.new.kept.items h (Got m (pieces_of pieces.now)) result }
     {
-        // What a list of pieces knows of itself.
         let _count = pieces.count();
         bring_all(&mut self.holdings, pieces)
     }

@@ -98,7 +98,6 @@ fn bring(holdings: &mut Holdings, scrip: &ScripRef<'_>, secret: [u8; 16]) -> boo
     ensures brings { Brings holdings.old.list holdings.new.list (record { text = scrip.now.text; secret = secret } ∷ []) result }
     ensures room { holdings.old.room ≤ holdings.new.room + 1 }
 {
-    // What a text that was read knows of itself.
     let _text = scrip.text();
     holdings.bring(scrip, secret)
 }

@@ -1,27 +1,19 @@
 -- Founding the book of a wallet, up to the line that is said.
-use Rattle.std.specs.Prelude.{◌≡◌, ℕ, List, [], ◌∷◌, Some, None, IsSome}
-use Rattle.mc_outside.specs.DiskView.{DiskView, Ran}
+use Rattle.std.specs.Prelude.{◌≡◌, ℕ, List, [], ◌∷◌, Some, None}
+use Rattle.mc_outside.specs.DiskView.{DiskView}
 use Rattle.mc_outside.specs.LinkView.{LinkView}
 use Rattle.mc_records.specs.Entry.{Entry, Site}
 use Rattle.mc_records.specs.declared.refusal.Refusal.TheVariants as refusals
 use Rattle.scrip_journal.specs.Founds.{IsFree, IsTaken}
-use Rattle.millicent_http.specs.declared.clock.Clock.TheVariants.{OfLinks}
-use Rattle.millicent_http.specs.Courses.{AreRead, with_readings}
 use Rattle.command_status.specs.declared.status.Status.{Status}
 use Rattle.command_status.specs.declared.status.Status.TheVariants as ends
-use Rattle.command_status.specs.Founding.{FoundPair}
+use Rattle.command_status.specs.Founding.{FoundAt}
 use Rattle.wallet_commands.specs.Books.{EncodesWallet}
 use Rattle.wallet_commands.specs.Causes.{NoneFailed, DiskFailed}
 
 -- the entry that founds a wallet of this name
 abbrev pub site_of : List ℕ → ℕ → Entry
 site_of name moment = Site moment 2 name None
-
--- The clock was read once, and each crash pair is of the Site entry of that moment.
-pub record FoundAt {O : Type 0} (link : O → LinkView) (disk : O → DiskView) (name : List ℕ) (a : O) (status : Status) (b : O) (moment : ℕ) : Type 0 where
-  pub read : AreRead OfLinks (moment ∷ []) (link a).readings (link b).readings
-  pub rest : link b ≡ with_readings (link b).readings (link a)
-  pub pairs : Ran (disk a) (disk b) (FoundPair (IsSome (link a).sessions) (disk a) (site_of name moment) status)
 
 -- what the disk is then, by how the command ended, where it had these bytes
 abbrev pub FoundsBy : DiskView → List ℕ → List ℕ → ℕ → Status → DiskView → Type 0
@@ -33,7 +25,7 @@ FoundsBy before name bytes moment _ after = ⊥
 
 -- how founding a wallet of this name ended, on an outside whose disk had these bytes
 abbrev pub FoundsBook : {O : Type 0} → (O → LinkView) → (O → DiskView) → List ℕ → List ℕ → O → Status → O → Type 0
-FoundsBook link disk name bytes a status b = (moment : ℕ) × FoundAt link disk name a status b moment × FoundsBy (disk a) name bytes moment status (disk b)
+FoundsBook link disk name bytes a status b = (moment : ℕ) × FoundAt link disk (site_of name moment) a status b moment × FoundsBy (disk a) name bytes moment status (disk b)
 
 -- why it ended so; it ends in no other way than these
 abbrev pub InitCauses : {O : Type 0} → (O → LinkView) → (O → DiskView) → O → Status → O → Type 0

@@ -159,7 +159,6 @@ impl<D: Disk> Wallet<D> {
             request,
             reply,
         } = c;
-        // What the time knows of itself.
         let _seconds = self.book.time().seconds();
         let settled = settled_as(&request, &reply);
         let record = settlement_record(&self.book, number, &request, &reply);

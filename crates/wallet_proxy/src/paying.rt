@@ -66,7 +66,6 @@ pub(crate) fn pay<O: Outside, U: Link>(
         (within_budget allowance.now.budget paid.old (payment_by (kept_get h allowance.now.vendor target.now) (chosen h wallet.book.time allowance.now.vendor allowance.now.limit))))
         after wallet.journal.disk (state_at h (now wallet paid.old (U.link up.old))) paid.new (U.link up.new) result }
 {
-    // What an amount knows of itself.
     let _most = allowance.budget.get();
     match find_way(&wallet, target, allowance, *paid) {
         Ok(Way::Again(number)) => { try_get(wallet, up, number, paid, after, reader, page) }

@@ -94,9 +94,7 @@ pub fn pend_record<'a>(moment: Moment, p: &'a WalletRequest) -> Record<'a>
     ensures entry { entry result ≡ pend_of moment (pending_view p.now) }
     ensures fits { Fits (entry result) }
 {
-    // The check lets a record go only where the types of its parts are named.
     let _pieces: Option<PieceList<'_>> = None;
-    // What a moment knows of itself.
     let _seconds = moment.seconds();
     Record::Pend {
         moment,

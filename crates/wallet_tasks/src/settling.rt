@@ -54,7 +54,6 @@ pub fn settlement_record<'a>(
         → check_of (pending_view p.now) (received_of r.now) ≡ None → CanEnter h (entry result) }
 {
     let moment = book.time();
-    // What a moment knows of itself.
     let _seconds = moment.seconds();
     settled_entry(book, moment, number, p, r)
 }
@@ -71,7 +70,6 @@ fn settled_entry<'a>(
     ensures { entry result
         ≡ settlement_with (texts_of book.now.holdings) moment number (pending_view p.now) (received_of r.now) }
 {
-    // The check lets a record go only where the types of its parts are named.
     let _pieces: Option<PieceList<'_>> = None;
     if r.status != 200 {
         let refusal = refusal_number(r.refusal);

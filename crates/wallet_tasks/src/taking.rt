@@ -43,7 +43,6 @@ pub fn take_pieces(alloc: Global, book: &WalletBook, input: &[u8]) -> Result<Lis
     ensures may { (h : History) → WalletRepresents book.now h → IfOk result (λ bytes. (pieces : Items Held)
         → ArePieces pieces → bytes ≡ pieces_bytes pieces → CanEnter h (Got book.now.time pieces)) }
 {
-    // What the time of a book knows of itself.
     let _seconds = book.time().seconds();
     let mut elements = Vec::new(alloc);
     match read_piece_lines(input, &PieceRule::Any, &mut elements) {
@@ -91,7 +90,6 @@ fn first_twice(book: &WalletBook, pieces: &PieceList<'_>) -> Option<Id>
     while let Some(list) = rest {
         let (piece, more) = list.split_first();
         let scrip = piece.0;
-        // What a text that was read knows of itself.
         let _text = scrip.text();
         if is_twice(book, pieces, &scrip) {
             return Some(scrip.piece().id());
@@ -112,7 +110,6 @@ fn is_twice(book: &WalletBook, pieces: &PieceList<'_>, scrip: &ScripRef<'_>) -> 
 fn stands_twice(pieces: &PieceList<'_>, scrip: &ScripRef<'_>) -> bool
     ensures { result ≡ nat_lt 1 (count_by (λ q. are_one_piece q.text scrip.now.text) (pieces_of pieces.now)) }
 {
-    // What a list of pieces knows of itself.
     let _count = pieces.count();
     let mut count: u16 = 0;
     let mut rest = Some(*pieces);

@@ -2,8 +2,11 @@ use super::*;
 use std::cell::Cell;
 use std::io::{Read, Write};
 use std::net::{Shutdown, TcpStream};
+use std::os::fd::OwnedFd;
+use std::os::unix::net::UnixStream;
 use std::test::Fail;
 use std::time::Duration;
+use std::{env, fs, process};
 
 const HEAD: &[u8] = b"GET /news/1 HTTP/1.1\r\nHost: news.example\r\n\r\n";
 
@@ -174,8 +177,11 @@ fn a_connection_has_its_time(rt: HostRuntime) -> Result<(), Fail> {
 
 #[test]
 fn bytes_leave_at_once(rt: HostRuntime) -> Result<(), Fail> {
-    let socket = bind(&rt, "127.0.0.1:0")?;
-    let _peer = TcpStream::connect(&rt, socket.local_addr()?)?;
+    let socket = Socket::bind(&rt, "127.0.0.1:0")?;
+    let Some(address) = socket.address() else {
+        return Err(ErrorKind::NotConnected.into());
+    };
+    let _peer = TcpStream::connect(&rt, address)?;
     let mut taken = socket.accept();
     for _ in 0..1000 {
         if taken.is_ok() {
@@ -183,6 +189,44 @@ fn bytes_leave_at_once(rt: HostRuntime) -> Result<(), Fail> {
         }
         taken = socket.accept();
     }
-    assert!(rt; taken?.0.nodelay()?);
+    assert!(rt; taken?.nodelay()?);
+    Ok(())
+}
+
+/// A connection to a listener at this path, on which a head was sent.
+fn peer_at(rt: &HostRuntime, path: &str) -> io::Result<TcpStream> {
+    let mut peer = TcpStream::from(OwnedFd::from(UnixStream::connect(rt, path)?));
+    peer.set_read_timeout(Some(Duration::from_secs(10)))?;
+    peer.write_all(HEAD)?;
+    Ok(peer)
+}
+
+/// Whether links come to a listener at this path.
+fn is_served(rt: &HostRuntime, path: &str) -> Result<bool, Fail> {
+    let mut links = listen(rt, rt.alloc(), path, rt)?;
+    let mut peer = peer_at(rt, path)?;
+    Ok(answered(&mut links, &mut peer)? == (HEAD.len(), 5))
+}
+
+/// Whether no link can be taken at this path.
+fn is_taken(rt: &HostRuntime, path: &str) -> Result<bool, Fail> {
+    let mut links = listen(rt, rt.alloc(), path, rt)?;
+    Ok(links.next().is_err())
+}
+
+#[test]
+fn a_path_is_taken_from_the_gone_alone(rt: HostRuntime) -> Result<(), Fail> {
+    let folder = env::temp_dir(&rt)?;
+    let folder = folder.as_str();
+    let path = format!(in rt.alloc(); "{folder}/mc_door-{}", process::id(rt.process()))?;
+    assert!(rt; is_served(&rt, &path)?);
+    assert!(rt; is_served(&rt, &path)?);
+    let links = listen(&rt, rt.alloc(), &path, &rt)?;
+    assert!(rt; is_taken(&rt, &path)?);
+    drop(links);
+    fs::remove_file(&rt, &path)?;
+    fs::write(&rt, &path, "no socket")?;
+    assert!(rt; is_taken(&rt, &path)?);
+    fs::remove_file(&rt, &path)?;
     Ok(())
 }

@@ -1,4 +1,4 @@
-use Rattle.std.proofs.Common.{map, string_bytes, get_or, sym, subst, arith, below_more}
+use Rattle.std.proofs.Common.{map, string_bytes, get_or, refl, sym, subst, arith, below_more}
 use Rattle.std.proofs.lemmas.List.{get_or_default}
 use Rattle.command_table.specs.declared.table.CommandName.{CommandName}
 use Rattle.command_table.specs.declared.table.TheConstants.{COMMANDS}
@@ -21,3 +21,6 @@ returns c = (
       let at = stands_at goes.0 in
       c.loop-name.invariant at.0 (omega (arith, at.1, c.loop-name-test.false)) goes.0 (subst (λ (n : CommandName). MayBegin n (map string_bytes c.args.words.now)) (sym at.2) goes.1)),
 )
+
+pub returns-then-branch : goal.returns-then-branch
+returns-then-branch c = (λ t. (_, c.in_ok-may_begin.ensures.0 c.if-branch.true), λ goes. refl)

@@ -13,8 +13,8 @@ use Rattle.house_state.specs.Views.{kind_number}
 use Rattle.site_commands.specs.Founding.{site_of}
 use Rattle.command_status.specs.declared.status.Status.TheVariants as ends
 use Rattle.command_status.specs.Faults.{fault_status}
+use Rattle.command_status.specs.Founding.{FoundAt}
 use Rattle.operator_command.specs.Operations.{full}
-use Rattle.site_commands.specs.Init.{FoundAt}
 use Rattle.site_commands.proofs.InitLemmas.{first_has_room, found_pairs, unfounded_pairs, fault_causes, founded_for, not_founded}
 use Rattle.site_commands.proofs.init.found_book.Goals as goal
 
@@ -56,7 +56,7 @@ returns-in-Ok-clause-founded g c x told =
     let e : Entry = site_of (g.T.Trade.trade c.args.trade).site c.args.founder.now c.now-moment.result in
     let same_site : entry c.site-site.result ≡ e = c.site-site.ensures.site ∙ ap (λ (k : ℕ). site_of k c.args.founder.now c.now-moment.result) c.kind-kind.ensures in
     let by = subst (λ (f : Entry). FoundsHouseBy {D = g.row.O.Denot} {T = g.row.T.Denot} g.O.Disk.disk g.T.Trade.trade full f x (Ok c.in-Ok.house)) same_site (c.in-Ok.ensures.exact x at) in
-    let found : FoundAt g.O.Link.link g.O.Disk.disk (g.T.Trade.trade c.args.trade).site c.args.founder.now c.args.out (ends.Founded c.name.result.now) b c.now-moment.result = record {
+    let found : FoundAt g.O.Link.link g.O.Disk.disk (site_of (g.T.Trade.trade c.args.trade).site c.args.founder.now c.now-moment.result) c.args.out (ends.Founded c.name.result.now) b c.now-moment.result = record {
       read = subst (λ (v : LinkView). AreRead OfLinks (c.now-moment.result ∷ []) (g.O.Link.link c.args.out).readings v.readings) (sym same) c.now-moment.ensures.read;
       rest = subst (λ (v : LinkView). v ≡ with_readings v.readings (g.O.Link.link c.args.out)) (sym same) c.now-moment.ensures.rest;
       pairs = found_pairs g.O.Link.link g.O.Disk.disk c.args.out m b e g.met.O.Outside.sent_aside keeps c.now-moment.ensures.rest (subst (λ (f : Entry). Ran (g.O.Disk.disk m) (g.O.Disk.disk b) (FoundNoOutput (g.O.Disk.disk m) f)) same_site (c.in-Ok.ensures.ran x at));
@@ -74,7 +74,7 @@ returns-in-Err-clause-founded g c x told =
     let same_site : entry c.site-site.result ≡ e = c.site-site.ensures.site ∙ ap (λ (k : ℕ). site_of k c.args.founder.now c.now-moment.result) c.kind-kind.ensures in
     let same : g.O.Link.link b ≡ g.O.Link.link m = g.met.O.Outside.disk_keeps _ _ c.in-Err.ensures.moved in
     let by = subst (λ (f : Entry). FoundsHouseBy {D = g.row.O.Denot} {T = g.row.T.Denot} g.O.Disk.disk g.T.Trade.trade full f x (Err c.in-Err.fault)) same_site (c.in-Err.ensures.exact x at) in
-    let found : FoundAt g.O.Link.link g.O.Disk.disk kind c.args.founder.now c.args.out (fault_status c.in-Err.fault) b c.now-moment.result = record {
+    let found : FoundAt g.O.Link.link g.O.Disk.disk (site_of kind c.args.founder.now c.now-moment.result) c.args.out (fault_status c.in-Err.fault) b c.now-moment.result = record {
       read = subst (λ (v : LinkView). AreRead OfLinks (c.now-moment.result ∷ []) (g.O.Link.link c.args.out).readings v.readings) (sym same) c.now-moment.ensures.read;
       rest = subst (λ (v : LinkView). v ≡ with_readings v.readings (g.O.Link.link c.args.out)) (sym same) c.now-moment.ensures.rest;
       pairs = unfounded_pairs g.O.Link.link g.O.Disk.disk g.T.Trade.trade e x c.args.out m c.in-Err.fault g.met.O.Outside.sent_aside keeps c.now-moment.ensures.rest by c.in-Err.ensures.read

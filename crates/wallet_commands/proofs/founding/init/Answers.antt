@@ -6,7 +6,8 @@ use Rattle.millicent_http.specs.Courses.{AreRead, with_readings}
 use Rattle.command_status.specs.Faults.{fault_status}
 use Rattle.command_status.specs.declared.status.Status.TheVariants as ends
 use Rattle.wallet_core.specs.declared.wallet.Wallet.{Wallet}
-use Rattle.wallet_commands.specs.Founding.{site_of, FoundAt}
+use Rattle.command_status.specs.Founding.{FoundAt}
+use Rattle.wallet_commands.specs.Founding.{site_of}
 use Rattle.wallet_commands.proofs.CauseLemmas.{founding_causes}
 use Rattle.wallet_commands.proofs.BookLemmas.{on_disk}
 use Rattle.wallet_commands.proofs.FoundLemmas.{first_has_room, found_pairs, unfounded_pairs, not_founded}
@@ -29,7 +30,7 @@ returns-in-Ok-clause-founded g c x told =
     let at : (g.O.Disk.disk m).contents ≡ Some x = keeps.contents ∙ told in
     let same : g.O.Link.link b ≡ g.O.Link.link m = g.met.O.Outside.disk_keeps _ _ c.in-Ok.ensures.moved in
     let by = c.in-Ok.ensures.exact x at in
-    let found : FoundAt g.O.Link.link g.O.Disk.disk c.args.name.now c.args.out (ends.Founded c.args.name.now) b c.now-moment.result = record {
+    let found : FoundAt g.O.Link.link g.O.Disk.disk (site_of c.args.name.now c.now-moment.result) c.args.out (ends.Founded c.args.name.now) b c.now-moment.result = record {
       read = subst (λ (v : LinkView). AreRead OfLinks (c.now-moment.result ∷ []) (g.O.Link.link c.args.out).readings v.readings) (sym same) c.now-moment.ensures.read;
       rest = subst (λ (v : LinkView). v ≡ with_readings v.readings (g.O.Link.link c.args.out)) (sym same) c.now-moment.ensures.rest;
       pairs = found_pairs g.O.Link.link g.O.Disk.disk c.args.out m b (site_of c.args.name.now c.now-moment.result) g.met.O.Outside.sent_aside keeps c.now-moment.ensures.rest (c.in-Ok.ensures.ran x at);
@@ -52,7 +53,7 @@ returns-in-Err-clause-founded g c x told =
     let keeps = g.met.O.Outside.link_keeps _ _ c.now-moment.ensures.moved in
     let at : (g.O.Disk.disk m).contents ≡ Some x = keeps.contents ∙ told in
     let same : g.O.Link.link b ≡ g.O.Link.link m = g.met.O.Outside.disk_keeps _ _ c.in-Err.ensures.moved in
-    let found : FoundAt g.O.Link.link g.O.Disk.disk c.args.name.now c.args.out (fault_status c.in-Err.fault) b c.now-moment.result = record {
+    let found : FoundAt g.O.Link.link g.O.Disk.disk (site_of c.args.name.now c.now-moment.result) c.args.out (fault_status c.in-Err.fault) b c.now-moment.result = record {
       read = subst (λ (v : LinkView). AreRead OfLinks (c.now-moment.result ∷ []) (g.O.Link.link c.args.out).readings v.readings) (sym same) c.now-moment.ensures.read;
       rest = subst (λ (v : LinkView). v ≡ with_readings v.readings (g.O.Link.link c.args.out)) (sym same) c.now-moment.ensures.rest;
       pairs = unfounded_pairs g.O.Link.link g.O.Disk.disk c.args.name.now c.now-moment.result x c.args.out m c.in-Err.fault g.met.O.Outside.sent_aside keeps c.now-moment.ensures.rest (c.in-Err.ensures.exact x at) c.in-Err.ensures.read (c.in-Err.ensures.ran x at);

@@ -1,12 +1,9 @@
-use Rattle.std.proofs.Common.{◌≡◌, ◌+◌, true, false, ltb, refl, ap, ◌∙◌, arith, rules, of_calls}
+use Rattle.std.proofs.Common.{◌≡◌, ◌+◌, refl, ap, ◌∙◌, arith}
 use Rattle.std.specs.List.{insert}
-use Rattle.std.specs.List.Sorted.{IsPartitionPoint}
 use Rattle.std.proofs.lemmas.Bool.{eq-eqb}
-use Rattle.std.proofs.lemmas.List.Sorted.{IsPartitionPoint-from_clause, IsPartitionedBy-ltb}
 use Rattle.mc_records.specs.Requests.{asked_of}
 use Rattle.kept_replies.specs.Requests.{text_size}
 use Rattle.kept_replies.specs.Kept.{KeptReply, AreRising, inserted, entry_size}
-use Rattle.kept_replies.proofs.ReplyLaws.{number, IsNonDecreasingBy-rising}
 use Rattle.kept_replies.proofs.InsertLaws.{insert_is, AreRising-inserted, own-inserted, marked-inserted, order-inserted, within_room}
 use Rattle.kept_replies.proofs.kept.Kept.keep.Goals as goal
 use Rattle.kept_replies.proofs.kept.Kept.keep.Goals.{In-Ok}
@@ -14,19 +11,12 @@ use Rattle.kept_replies.proofs.kept.Kept.keep.Goals.{In-Ok}
 abbrev new : In-Ok → KeptReply
 new c = record { asked = asked_of c.args.q.now; entry = c.args.e }
 
--- the place that was searched for
-point : (c : In-Ok) → IsPartitionPoint (λ r. ltb (number r) c.args.e.number ≡ true) (λ r. ltb (number r) c.args.e.number ≡ false) c.self.inside.replies.items c.partition_point-at.result
-point c =
-    let rs = c.self.inside.replies.items in
-    let n = c.args.e.number in
-    IsPartitionPoint-from_clause (λ r. ltb (number r) n) rs c.partition_point-at.result c.partition_point-at.ensures.partitioned (IsPartitionedBy-ltb number rs n (IsNonDecreasingBy-rising rs c.self.invariant.rising)) (λ a r f k. search (rules, of_calls))
-
-put_there : (c : In-Ok) → insert c.self.inside.replies.items c.partition_point-at.result (new c) ≡ inserted (new c) c.self.inside.replies.items
-put_there c = insert_is (new c) c.self.inside.replies.items c.partition_point-at.result (point c) (rw (← c.self.view_is) at c.requires.new_number)
+put_there : (c : In-Ok) → insert c.self.inside.replies.items c.place_of-at.result (new c) ≡ inserted (new c) c.self.inside.replies.items
+put_there c = insert_is (new c) c.self.inside.replies.items c.place_of-at.result c.place_of-at.ensures.place (rw (← c.self.view_is) at c.requires.new_number)
 
 now_kept : (c : In-Ok) → c.insert.new.self.items ≡ inserted (new c) c.self.inside.replies.items
 now_kept c =
-    c.in-Ok.ensures.items ∙ ap (λ (r : KeptReply). insert c.self.inside.replies.items c.partition_point-at.result r) c.of.ensures ∙ put_there c
+    c.in-Ok.ensures.items ∙ ap (λ (r : KeptReply). insert c.self.inside.replies.items c.place_of-at.result r) c.of.ensures ∙ put_there c
 
 rise : (c : In-Ok) → AreRising c.insert.new.self.items
 rise c = rw (now_kept c) (AreRising-inserted (new c) c.self.inside.replies.items c.self.invariant.rising)
@@ -44,7 +34,7 @@ invariant_of-self c =
       rising = rise c;
       order = λ noted.
           let last = c.goes_last-self-inside.ensures noted in
-          rw (now_kept c) (order-inserted (new c) rs c.partition_point-at.result (put_there c) last.0 last.1 last.2);
+          rw (now_kept c) (order-inserted (new c) rs c.place_of-at.result (put_there c) last.0 last.1 last.2);
       own = rw (now_kept c) (own-inserted (new c) rs (rw (← c.self.view_is) at c.requires.new_request) c.self.invariant.own);
       marked = rw (now_kept c) (marked-inserted (new c) rs c.tag_of.result c.args.e.number c.self.inside.index c.put.new.self c.tag_of.ensures (eq-eqb c.args.e.number c.args.e.number refl) c.put.ensures c.self.invariant.marked);
       empty = rw c.replace-buffer.ensures.after c.new.ensures.items;

@@ -5,7 +5,7 @@ use Rattle.std.specs.List.{list_any}
 use Rattle.std.proofs.lemmas.Bool.{eqb-true, false_from_ne_true, or_parts}
 use Rattle.std.proofs.lemmas.Option.{same_Some}
 use Rattle.std.proofs.lemmas.List.{take_all, length-drop}
-use Rattle.licence_lines.specs.Fields.{cut}
+use Rattle.mc_fields.specs.Cuts.{cut, then_cut}
 
 abbrev found : List ℕ → List ℕ → Option (List ℕ × List ℕ)
 found word rest = Some (word, rest)
@@ -65,3 +65,16 @@ cut_again stop [] rest free = rw (eq-eqb stop stop refl) refl
 cut_again stop (c ∷ cs) rest free =
     let parts = or_parts (eqb c stop) (list_any (λ b. b == stop) cs) free in
     rw (parts.0, cut_again stop cs rest parts.1) refl
+
+-- what is read of both parts was read of them
+pub cut_then : {A : Type 0} (line : List ℕ) (next : List ℕ → List ℕ → Option A) (r : A) → then_cut (cut 32 line) next ≡ Some r
+    → (word : List ℕ) × (rest : List ℕ) × (line ≡ word ++ 32 ∷ rest) × (next word rest ≡ Some r)
+cut_then {A = A} line next r is = go (cut 32 line) refl is
+  where
+    go : (o : Option (List ℕ × List ℕ)) → cut 32 line ≡ o → then_cut o next ≡ Some r → (word : List ℕ) × (rest : List ℕ) × (line ≡ word ++ 32 ∷ rest) × (next word rest ≡ Some r)
+    go None e n = absurd cc
+    go (Some x) e n = (x.0, x.1, cut_sound 32 line x.0 x.1 e, n)
+
+-- and is read of them again
+pub cut_on : {A : Type 0} (word rest : List ℕ) (next : List ℕ → List ℕ → Option A) → IsFree 32 word → then_cut (cut 32 (word ++ 32 ∷ rest)) next ≡ next word rest
+cut_on word rest next free = ap (λ (o : Option (List ℕ × List ℕ)). then_cut o next) (cut_again 32 word rest free)

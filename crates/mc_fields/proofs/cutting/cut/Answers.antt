@@ -1,6 +1,6 @@
 use Rattle.std.proofs.Common.{arith}
-use Rattle.licence_lines.proofs.CutLaws.{cut_there, cut_nowhere}
-use Rattle.licence_lines.proofs.fields.cut.Goals as goal
+use Rattle.mc_fields.proofs.CutLaws.{cut_there, cut_nowhere}
+use Rattle.mc_fields.proofs.cutting.cut.Goals as goal
 
 pub returns-then-byte-stop : goal.returns-then-byte-stop
 returns-then-byte-stop c = cut_there c.args.stop c.args.bytes.now c.loop-place.place c.loop-place-test.true c.loop-place.invariant c.if-byte-stop.true
