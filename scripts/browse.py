@@ -58,8 +58,8 @@ class Tries:
 
     def make(self, name):
         """Makes a try, and sums up. What it saw."""
-        self.name, self.number = name, self.number + 1
-        self.proxy = Proxy(self.wallet, self.vendor)
+        self.number += 1
+        self.proxy = Proxy(self.wallet, self.vendor, None if name in self.AT_A_PORT else os.path.join(self.market.folder, "proxy"))
         self.nginx = Nginx(os.path.join(self.market.folder, "nginx-%d" % self.number), self.proxy)
         try:
             self.proxy.start()
@@ -84,6 +84,8 @@ class Tries:
                 self.vendor.start()
             self.vendor.server.send_signal(signal.SIGCONT)
 
+    # Tries in which the proxy is reached past nginx. In all others it listens at a Unix socket.
+    AT_A_PORT = ("head", "another_site", "without_nginx", "connections")
     # Tries in which the proxy was started more than once: it says what was paid since.
     RESTARTED = ("proxy_killed", "proxy_killed_asking", "kills", "over_budget")
 

@@ -137,8 +137,8 @@ class Nginx:
         self.folder, self.address = folder, ("127.0.0.1", free_port())
         os.mkdir(folder)
         settings = SETTINGS.read_text()
-        for old, new in (("unix:/run/millicent-proxy/socket", proxy.listen if ":" in proxy.listen else "unix:" + proxy.listen), ("127.0.0.1:8080", "%s:%d" % self.address),
-                         ("/var/cache/millicent", folder + "/cache")):
+        for old, new in (("unix:/run/millicent-proxy/socket", ("unix:" if proxy.listen.startswith("/") else "") + proxy.listen),
+                         ("127.0.0.1:8080", "%s:%d" % self.address), ("/var/cache/millicent", folder + "/cache")):
             assert old in settings, "%s is not in %s" % (old, SETTINGS)
             settings = settings.replace(old, new)
         Path(folder, "paid.conf").write_text(settings)
