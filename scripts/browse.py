@@ -71,6 +71,9 @@ class Tries:
             self.market.agree()
             after = self.market.accepted() - self.before
             assert wanted is None or after == Counter(wanted), "paid for were %r, and not %r" % (dict(after), dict(wanted))
+            passed = Counter(asked for _, kept, _, asked in self.nginx.answers() if kept in ("MISS", "BYPASS", "EXPIRED"))
+            is_asked = all(count <= passed[what] for what, count in after.items())
+            assert name in self.AT_A_PORT or is_asked, "paid for were %r, and the proxy was asked for %r" % (dict(after), dict(passed))
             took = sum(self.prices()[what] * count for what, count in after.items())
             assert paid is None or name in self.RESTARTED or paid == took, "%d was paid, and %d taken" % (paid, took)
             return "%s; paid for %d, %d in all" % (said, sum(after.values()), took)
@@ -118,8 +121,7 @@ class Tries:
 
     def answers(self, what):
         """The statuses that nginx answered to requests for a target."""
-        return [line.split('" ')[1].split(" ")[0] for line in Path(self.nginx.folder, "access.log").read_text().splitlines()
-                if '"GET %s HTTP/' % what in line]
+        return [status for status, _, word, asked in self.nginx.answers() if (word, asked) == ("GET", what)]
 
     def said(self):
         return self.tab.text().strip()

@@ -145,7 +145,8 @@ class Nginx:
         temporary = "".join("%s_temp_path %s/%s;\n" % (it, folder, it) for it in ("client_body", "proxy", "fastcgi", "uwsgi", "scgi"))
         Path(folder, "nginx.conf").write_text(
             "%sdaemon off;\npid %s/pid;\nerror_log %s/error.log;\nworker_processes 1;\nevents { }\n"
-            "http {\naccess_log %s/access.log;\n%sinclude %s/paid.conf;\n}\n"
+            "http {\nlog_format told '$status $upstream_cache_status $request_method $request_uri';\naccess_log %s/access.log told;\n"
+            "%sinclude %s/paid.conf;\n}\n"
             % ("user root;\n" if os.geteuid() == 0 else "", folder, folder, folder, temporary, folder))
         words = ["nginx", "-p", folder, "-e", folder + "/error.log", "-c", folder + "/nginx.conf"]
         self.process = subprocess.Popen(words, stdin=subprocess.DEVNULL)
@@ -158,6 +159,10 @@ class Nginx:
     def stop(self):
         self.process.terminate()
         self.process.wait(60)
+
+    def answers(self):
+        """What it was asked for: the status, whether it was kept, the word and the target of each request."""
+        return [line.split() for line in Path(self.folder, "access.log").read_text().splitlines()]
 
     def faults(self):
         """What it says went wrong, with the proxy or by itself."""
