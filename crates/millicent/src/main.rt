@@ -25,7 +25,7 @@ use endings::{tell_clear, tell_fault, tell_no_bytes};
 use entries::latest_moment;
 use input_faults::tell_bad_line;
 use mc_base::{List, NoMemory};
-use mc_door::{call, call_each, listen};
+use mc_door::{Listener, call, call_each, listen};
 use mc_top::{Places, places, run, run_proxy};
 use passed::Passed;
 use pending_draws::tell_pending_draws;
@@ -153,6 +153,24 @@ fn ask(
     ran.status
 }
 
+/// The links that come to this address. Which port the system chose is told, and which address is no loopback; and, as links are
+/// taken, that the book's name leads to another file. An Err is want of memory.
+fn door<'a>(
+    rt: &'a HostRuntime,
+    places: &'a Places,
+    book: &Book<File>,
+    address: &str,
+) -> Result<Watched<'a, Listener<&'a HostRuntime>>, AllocError> {
+    let source = listen(rt, rt.alloc(), address, rt)?;
+    tell_port(rt, address, source.address());
+    tell_clear(rt, source.address());
+    let path = match &places.site {
+        Some(path) => text(path.slice()),
+        None => "",
+    };
+    Ok(Watched::new(source, rt, path, book))
+}
+
 /// Runs a command that serves links which come to this address.
 fn serve(
     rt: &HostRuntime,
@@ -162,16 +180,9 @@ fn serve(
     others: Vec<Book<File>>,
     address: &str,
 ) -> u8 {
-    let Ok(source) = listen(rt, rt.alloc(), address, rt) else {
+    let Ok(source) = door(rt, places, &book, address) else {
         return end(rt, b"no memory\n", 5);
     };
-    tell_port(rt, address, source.address());
-    tell_clear(rt, source.address());
-    let path = match &places.site {
-        Some(path) => text(path.slice()),
-        None => "",
-    };
-    let source = Watched::new(source, rt, path, &book);
     let ran = run(
         rt.alloc(),
         words,
@@ -194,16 +205,9 @@ fn pay(
     address: &str,
     peer: &str,
 ) -> u8 {
-    let Ok(source) = listen(rt, rt.alloc(), address, rt) else {
+    let Ok(source) = door(rt, places, &book, address) else {
         return end(rt, b"no memory\n", 5);
     };
-    tell_port(rt, address, source.address());
-    tell_clear(rt, source.address());
-    let path = match &places.site {
-        Some(path) => text(path.slice()),
-        None => "",
-    };
-    let source = Watched::new(source, rt, path, &book);
     let none: Book<File> = Book::none();
     let mut up = Site::new(none, call_each(rt, peer, rt), rt.stdout(), rt);
     let (status, out) = run_proxy(
