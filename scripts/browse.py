@@ -27,8 +27,7 @@ from pathlib import Path
 
 import chromium
 import millicent
-from bench import Beside
-from gateway import AHEAD, LIMIT, LOOK, NAME, PAGES, PARTS, PICTURES, PRICE, STYLE, Market, Nginx, Proxy, one_moment, target
+from gateway import AHEAD, LIMIT, LOOK, NAME, PAGES, PARTS, PICTURES, PRICE, STYLE, Market, Nginx, Proxy, beside_the_disk, one_moment, target
 from serving import LINKS, Link
 
 # Loads beside which programs are killed.
@@ -484,17 +483,7 @@ class Measured:
     def rate(self, count):
         """Pages a second, a connection each, beside a loop of the same entries on the disk."""
         before = os.path.getsize(self.market.wallet.book), os.path.getsize(self.market.vendor.book)
-        asked = b"GET %s HTTP/1.1\r\nHost: 127.0.0.1\r\nConnection: close\r\n\r\n" % target(1).encode()
-        here = disk = 0.0
-        beside = Beside(os.path.join(self.market.folder, "beside"), 150)
-        for _ in range(count):
-            start = time.perf_counter()
-            with Link(self.proxy.address) as link:
-                assert link.ask(asked).startswith(b"HTTP/1.1 200 ")
-            middle = time.perf_counter()
-            beside.add()
-            beside.add()
-            here, disk = here + middle - start, disk + time.perf_counter() - middle
+        here, disk = beside_the_disk(self.market, self.proxy, count)
         sizes = [(os.path.getsize(site.book) - size) / count for site, size in zip((self.market.wallet, self.market.vendor), before)]
         print("%.0f pages a second, the disk's limit of two entries, four syncs: %.0f, %.2f of it; with the vendor's entry, which is on the "
               "same disk here, %.2f of the limit of six; %.0f bytes of the wallet's book and %.0f of the vendor's a page"

@@ -11,8 +11,9 @@ from pathlib import Path
 
 import millicent
 from bank import Bank
+from bench import Beside
 from pages import Vendor
-from serving import LINK_FAULT, PROGRAM, free_port
+from serving import LINK_FAULT, PROGRAM, Link, free_port
 from wallets import Wallet, compare
 
 NAME, ACCOUNT, KEEP = "news.example", "ann", 86_400
@@ -128,6 +129,22 @@ class Proxy:
     def stop(self):
         if self.is_up():
             self.kill()
+
+
+def beside_the_disk(market, proxy, count):
+    """How long so many pages take through the proxy, a connection each, and a loop of their two entries on the disk, in turns."""
+    asked = b"GET %s HTTP/1.1\r\nHost: 127.0.0.1\r\nConnection: close\r\n\r\n" % target(1).encode()
+    here = disk = 0.0
+    beside = Beside(os.path.join(market.folder, "beside"), 150)
+    for _ in range(count):
+        start = time.perf_counter()
+        with Link(proxy.address) as link:
+            assert link.ask(asked).startswith(b"HTTP/1.1 200 ")
+        middle = time.perf_counter()
+        beside.add()
+        beside.add()
+        here, disk = here + middle - start, disk + time.perf_counter() - middle
+    return here, disk
 
 
 class Nginx:

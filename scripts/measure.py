@@ -6,12 +6,15 @@
 Serving stands beside a plain loop over sockets (`plain.c`), which does the same writes and syncs and nothing else; the two take turns,
 so that both meet the same load of the machine. Opening and auditing a book stand beside the digests that its entries need, by `md5sum`
 and `sha256sum`: four of each payment, and of the book's bytes for its chain. A kept reply stands beside the 250 bytes that it should
-take. PAYMENTS (2,000) are served of each kind; the book that is opened and audited has BOOK (300,000). It wants a C compiler, `cc`."""
+take. Pages through `wallet proxy` stand beside the two entries of the wallet's book that each takes. PAYMENTS (2,000) are served of each
+kind, and a tenth as many pages; the book that is opened and audited has BOOK (300,000). It wants a C compiler, `cc`."""
 import os
 import subprocess
 import sys
+import tempfile
 
 from bench import entry_size, fresh, took
+from gateway import Market, Proxy, beside_the_disk
 from grow import BLOCK, blocks, md5sum, pay, timed, used
 from serving import PROGRAM, Link, Site, free_port
 from shop import Shop
@@ -96,6 +99,19 @@ def reading(shop, count):
         row(what, "%.2f s, %.2f us each" % (here, here / count * 1e6), "%.2f s, its digests" % limit, limit / here)
 
 
+def proxying(count):
+    with tempfile.TemporaryDirectory(prefix="millicent-") as folder:
+        market = Market(folder)
+        proxy = Proxy(market.wallet, market.vendor)
+        try:
+            proxy.start(links=2 * count)
+            here, disk = beside_the_disk(market, proxy, count)
+        finally:
+            proxy.stop()
+            market.end()
+    row("pages through the proxy", "%.0f a second" % (count / here), "%.0f, their entries on the disk" % (count / disk), disk / here)
+
+
 def main():
     words = [int(word) for word in sys.argv[1:]]
     count, book = (words + [2_000, 300_000][len(words):])[:2]
@@ -105,6 +121,7 @@ def main():
         shop.start()
         serving(shop, count)
         reading(shop, book)
+    proxying(max(100, count // 10))
 
 
 if __name__ == "__main__":
