@@ -21,7 +21,7 @@ pub enum CommandName {
     VendorGoods,
     /// Sells goods at another price.
     VendorPrice,
-    /// Licenses another house to issue the vendor's scrip.
+    /// Licenses another site to issue the vendor's scrip.
     VendorLicence,
     /// Mints pieces of the vendor's own scrip.
     VendorMint,

@@ -79,7 +79,7 @@ pub fn orders_rise()
         → IsLawful limits h → count_by (bytes_eq name) (account_names h) ≤ 1 }
 {}
 
-/// In a lawful history the pieces of a vendor's stock are the vendor's, first-hand and of issuer 0. No
+/// In a lawful history the pieces of a vendor's stock are the vendor's and first-hand, of any issuer. No
 /// identity of it stands twice, and none is sold twice out of stock.
 pub fn stock_is_sold_once()
     ensures fits { (limits : Bounds) (h : History) (vendor : List ℕ)

@@ -27,17 +27,17 @@ pub enum Refusal {
     BadScrip(u64),
     /// 22: The scrip is of another vendor.
     WrongVendor,
-    /// 23: The house has no terms for an issuer that the scrip names.
+    /// 23: The site has no terms for an issuer that the scrip names.
     UnknownIssuer,
     /// 24: The expiry is not the end of the piece's series: the expiry, the end.
     ExpiryMismatch(u64, u64),
     /// 25: The certificate is not the one that the terms give.
     BadCertificate,
-    /// 26: The house time has come to the end of the series: the end, the house time.
+    /// 26: The time of the site has come to the end of the series: the end, that time.
     Expired(u64, u64),
     /// 27: The identity was accepted before.
     Spent,
-    /// 28: No signature, and the house takes no request without one.
+    /// 28: No signature, and the site takes no request without one.
     NeedSignature,
     /// 29: The signature is not the one of this request.
     BadSignature,
@@ -107,7 +107,7 @@ pub enum Refusal {
     VersionSet(u64),
     /// 73: The epoch is not above the present one: the present epoch.
     TooEarly(u64),
-    /// 74: The series has not ended: its end, the house time.
+    /// 74: The series has not ended: its end, the time of the site.
     SeriesOpen(u64, u64),
     /// 75: The certificate of a statement is not right.
     BadStatement,

@@ -20,7 +20,6 @@ use Rattle.command_input.specs.Inputs.{LosesInput, LostInput}
 use Rattle.command_status.specs.declared.status.Status.{Status}
 use Rattle.command_status.specs.declared.status.Status.TheVariants as ends
 use Rattle.command_status.specs.Statuses.{number_of}
-use Rattle.audit_search.specs.declared.fault.BooksFault.TheVariants as founds
 use Rattle.audit_search.specs.declared.fault.BooksFault.{BooksFault}
 use Rattle.audit_commands.specs.Reports.{ReportsBy, EndsReport}
 use Rattle.site_commands.specs.Serving.{HasSite}
