@@ -7,3 +7,5 @@ pub mod WalletLaws
 pub mod LawfulLaws
 pub mod ChainLaws
 pub mod FoundLaws
+pub mod ReportLaws
+pub mod ToldChains

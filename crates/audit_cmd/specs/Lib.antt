@@ -4,3 +4,4 @@ pub mod Books
 pub mod Places
 pub mod Loops
 pub mod Chains
+pub mod Reports

@@ -8,6 +8,9 @@ mod chain_reading;
 mod fault;
 mod reader;
 mod reading;
+mod report;
+mod telling;
+mod tree;
 mod tree_auditing;
 
 pub use audit_model::{Report, Sums, VendorSums};
@@ -16,4 +19,7 @@ pub use book_chains::chains;
 pub use chain_reading::ChainLine;
 pub use fault::AuditFault;
 pub use relay_core::{BrokerSums, Tree};
+pub use report::report_books;
+pub use telling::tell_chains;
+pub use tree::report_tree;
 pub use tree_auditing::audit_tree;

@@ -18,7 +18,7 @@ use slow_ledger::{Prefix, slow_chain, slow_lawful, slow_size};
 use slow_wallet::slow_wallet_book;
 use std::alloc::Global;
 use std::mem;
-use wallet_tasks::Ask;
+use wallet_core::Ask;
 
 /// A history that has a name.
 #[derive(Drop)]

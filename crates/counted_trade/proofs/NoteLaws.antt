@@ -13,8 +13,8 @@ use Rattle.settle_core.specs.Claims.{ClaimFits}
 use Rattle.settle_core.specs.Settlement.{stated_by, paid_by, statements, payments, is_for, is_paid_for, stated_amount, paid_amount, IsInOrder}
 use Rattle.settle_core.proofs.Walks.{stated_in_order, paid_in_order}
 use Rattle.settle_core.proofs.PaymentLaws.{names}
-use Rattle.series_sums.specs.Series.{series_key}
-use Rattle.series_sums.proofs.KeyLaws.{same_series, same_sold_series}
+use Rattle.counted_trade.specs.Series.{series_key}
+use Rattle.counted_trade.proofs.KeyLaws.{same_series, same_sold_series}
 use Rattle.counted_trade.specs.Notes.{StatedStand, PaidStand, HasRoomToState, HasRoomToPay}
 
 -- what putting the amount of a key says

@@ -6,7 +6,7 @@ use Rattle.mc_records.specs.Entry.{Entry}
 use Rattle.ledger_model.specs.Histories.{History}
 use Rattle.ledger_model.specs.Houses.{terms_of, all_terms}
 use Rattle.settle_core.specs.Settlement.{AreInOrder}
-use Rattle.series_sums.specs.Series.{CountsSeries, HasRoom}
+use Rattle.counted_trade.specs.Series.{CountsSeries, HasRoom}
 use Rattle.counted_trade.specs.Licences.{LicencesStand, HasRoomToLicense}
 use Rattle.counted_trade.specs.Notes.{StatedStand, PaidStand, HasRoomToState, HasRoomToPay}
 use Rattle.counted_trade.specs.declared.counts.Counts.{Counts}

@@ -2,3 +2,6 @@ pub mod Licences
 pub mod Notes
 pub mod Counts
 pub mod Counted
+pub mod Sold
+pub mod Series
+pub mod Tasks

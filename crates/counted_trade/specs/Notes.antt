@@ -4,7 +4,7 @@ use Rattle.mc_records.specs.Entry.{Entry}
 use Rattle.ledger_model.specs.Histories.{History}
 use Rattle.sum_table.specs.SumTable.{SumTableView, amount_of}
 use Rattle.settle_core.specs.Settlement.{stated_by, paid_by, stated_amount, paid_amount}
-use Rattle.series_sums.specs.Series.{series_key}
+use Rattle.counted_trade.specs.Series.{series_key}
 
 -- under each series stands what was stated of it, where something was
 pub record StatedStand (t : SumTableView) (h : History) : Type 0 where

@@ -10,6 +10,7 @@ ghost use Rattle.settle_core.specs.Claims.{ClaimFits, PaymentFits, claim_of, pay
 ghost use Rattle.settle_core.specs.Settlement.{stated_bytes, paid_bytes, stated_amount, paid_amount, redeemed, sold_under, IsTextOf, StatedInOrder, PaidInOrder, IsInOrder};
 ghost use Rattle.counted_trade.specs.Counts.{CountsRepresent, HasRoomForTerms, HasRoomToCount};
 
+use crate::SeriesSums;
 use crate::licences::Licences;
 use crate::notes::{
     count_paid, count_stated, noted, paid_for, reserve_paid, reserve_stated, stated_of,
@@ -18,7 +19,6 @@ use house_state::terms_of;
 use mc_base::{Moment, NoMemory};
 use mc_records::Record;
 use scrip_form::{Name, Terms};
-use series_sums::SeriesSums;
 use settle_core::{Claim, Payment, read_claim, read_payment};
 use std::alloc::Global;
 use sum_table::SumTable;

@@ -7,10 +7,10 @@ ghost use Rattle.settle_core.specs.Claims.{ClaimFits, PaymentFits};
 ghost use Rattle.settle_core.specs.Settlement.{noted, stated_by, paid_by, stated_amount, paid_amount, IsInOrder};
 ghost use Rattle.counted_trade.specs.Notes.{StatedStand, PaidStand, HasRoomToState, HasRoomToPay};
 
+use crate::put_key;
 use mc_base::NoMemory;
 use mc_records::Record;
 use scrip_form::Name;
-use series_sums::put_key;
 use settle_core::{Claim, Payment, read_claim, read_payment};
 use sum_table::SumTable;
 

@@ -13,7 +13,7 @@ use Rattle.ledger_model.specs.Answer.{fitted}
 use Rattle.scrip_journal.specs.Founds.{IsTaken}
 use Rattle.millicent_http.specs.declared.clock.Clock.TheVariants.{OfLinks}
 use Rattle.millicent_http.specs.Courses.{AreRead}
-use Rattle.reply_reader.specs.Replies.{Received}
+use Rattle.millicent_http.specs.Received.{Received}
 use Rattle.house_state.specs.Learning.{Test}
 use Rattle.operator_command.specs.Operations.{OperationView}
 use Rattle.command_input.specs.Inputs.{LosesInput, LostInput}
@@ -21,7 +21,7 @@ use Rattle.command_status.specs.declared.status.Status.{Status}
 use Rattle.command_status.specs.declared.status.Status.TheVariants as ends
 use Rattle.command_status.specs.Statuses.{number_of}
 use Rattle.audit_search.specs.declared.fault.BooksFault.{BooksFault}
-use Rattle.audit_commands.specs.Reports.{ReportsBy, EndsReport}
+use Rattle.audit_cmd.specs.Reports.{ReportsBy, EndsReport}
 use Rattle.site_commands.specs.Serving.{HasSite}
 use Rattle.site_commands.specs.Init as sites
 use Rattle.site_words.specs.Words.{Founder}
@@ -30,13 +30,13 @@ use Rattle.site_commands.proofs.OpenLaws as sites_open
 use Rattle.wallet_model.specs.Requests.{Pending, oldest_kept}
 use Rattle.wallet_model.specs.Asks.{Asking, pend_entry, due_entry}
 use Rattle.wallet_model.specs.Settling.{settlement, refusal_number}
-use Rattle.wallet_tasks.specs.Taking.{take_entry}
+use Rattle.wallet_core.specs.Taking.{take_entry}
 use Rattle.wallet_commands.specs.Books.{HasWallet, EncodesWallet}
 use Rattle.wallet_commands.specs.Founding as wallets
 use Rattle.wallet_commands.specs.Payments.{Learned, Settles, Stays, Breaks, Learns, StaysKept}
 use Rattle.wallet_commands.specs.declared.saying.Saying.{Saying}
 use Rattle.wallet_commands.specs.declared.saying.Saying.TheVariants as sayings
-use Rattle.wallet_tasks.specs.Settled.{bought}
+use Rattle.wallet_core.specs.Settled.{bought}
 use Rattle.wallet_commands.specs.Lines.{got_line, renewed_line}
 use Rattle.wallet_commands.specs.Paying.{ended_by, ended_as, first_brought, EndsAs, UsesLinkAs, PaysAs, PaysBy, PaysBook, RenewsBook, NotAsked, Clocked, RetriesBy, RetriesBook}
 use Rattle.wallet_commands.specs.Listing.{ListsHeld, SaysHeld}

@@ -36,7 +36,7 @@ use Rattle.audit_search.specs.declared.fault.BooksFault.{BooksFault}
 use Rattle.audit_search.specs.Audit.{Audited}
 use Rattle.tree_audit.specs.Audit.{TreeAudited}
 use Rattle.audit_cmd.specs.Books.{AreTold, IsLawfulBook, AreAuditedBy}
-use Rattle.audit_commands.specs.Reports.{RefusesBy, ReportsBooks, ReportsTree, ReportCauses, TellsChains, ChainCauses, AreCalm, EndsReport, EndsChains}
+use Rattle.audit_cmd.specs.Reports.{RefusesBy, ReportsBooks, ReportsTree, ReportCauses, TellsChains, ChainCauses, AreCalm, EndsReport, EndsChains}
 use Rattle.mc_words.specs.Commands.{AreWords}
 use Rattle.mc_top.specs.Wallets.{WorksOn}
 use Rattle.mc_top.specs.Refusals.{RefusesFounder, RefusesOperator, RefusesCustomer}

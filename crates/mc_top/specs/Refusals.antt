@@ -13,7 +13,7 @@ use Rattle.scrip_journal.specs.Layout.{Encodes}
 use Rattle.scrip_journal.specs.Founds.{IsTaken}
 use Rattle.millicent_http.specs.declared.clock.Clock.TheVariants.{OfLinks}
 use Rattle.millicent_http.specs.Courses.{AreRead}
-use Rattle.reply_reader.specs.Replies.{Received}
+use Rattle.millicent_http.specs.Received.{Received}
 use Rattle.command_input.specs.Inputs.{TakesInput, IsInput}
 use Rattle.command_status.specs.declared.status.Status.TheVariants as ends
 use Rattle.house_core.specs.Tasks.{Task, IsRefused}
@@ -24,7 +24,7 @@ use Rattle.wallet_model.specs.Requests.{Pending, pending_of, oldest_kept}
 use Rattle.wallet_model.specs.Asks.{Asking, pend_entry, due_entry}
 use Rattle.held_lines.specs.Resold.{resold_for}
 use Rattle.wallet_model.specs.Settling.{settlement}
-use Rattle.wallet_tasks.specs.Taking.{take_entry}
+use Rattle.wallet_core.specs.Taking.{take_entry}
 use Rattle.wallet_commands.specs.declared.taking.TheConstants.{MOST_LINES}
 use Rattle.wallet_commands.specs.Payments.{Settles, Learns, StaysKept}
 use Rattle.wallet_commands.specs.Paying.{ended_by, Clocked}

@@ -5,7 +5,7 @@ ghost use Rattle.mc_words.specs.declared.command.Command.{Command as Commanded};
 ghost use Rattle.mc_words.specs.Commands.{AreNoWords, AreOfNoRow, AreWords};
 ghost use Rattle.command_status.specs.Statuses.{number_of};
 ghost use Rattle.std.specs.List.{AllZip};
-ghost use Rattle.audit_commands.specs.Reports.{AreCalm};
+ghost use Rattle.audit_cmd.specs.Reports.{AreCalm};
 ghost use Rattle.mc_top.specs.Saying.{IsSaid, Says};
 ghost use Rattle.mc_top.specs.Programs as programs;
 ghost use Rattle.house_state.specs.declared.offer.SiteKind.TheVariants.{Vendor, Broker};
@@ -15,7 +15,7 @@ ghost use Rattle.broker_commands.specs.Operations as brokers;
 ghost use Rattle.mc_top.specs.Programs.{ServesOnce, TellsPlay, Operates, ordered, settlement, statement, Audits, AuditsTree, Tells, Obeys, Ends, Refuses, RunsAs, HasBook, EndsWell, HaveOtherBooks, count_of};
 
 use crate::wallet::work;
-use audit_commands::{report_books, report_tree, tell_chains};
+use audit_cmd::{report_books, report_tree, tell_chains};
 use broker_commands::DeskOperation;
 use broker_core::Desk;
 use command_status::Status;

@@ -2,14 +2,14 @@
 
 ghost use Rattle.std.specs.Prelude.{◌≡◌};
 ghost use Rattle.command_status.specs.Statuses.{number_of};
-ghost use Rattle.wallet_tasks.specs.Asks.{asking_of, HasAmounts};
+ghost use Rattle.wallet_core.specs.Asks.{asking_of, HasAmounts};
 ghost use Rattle.mc_top.specs.Wallets.{WorksOn, bought, drawn, got};
 
 use command_status::Status;
 use mc_outside::Outside;
 use std::alloc::Global;
 use wallet_commands::{chain, list, list_held, pay, renew, retry, take};
-use wallet_tasks::Ask;
+use wallet_core::Ask;
 use wallet_words::{Buying, Drawing, Getting, WalletOperation};
 
 /// Has something done with the book of a wallet, and tells how it ended.

@@ -17,7 +17,8 @@ use Rattle.wallet_book.specs.Book.{BookView, WalletRepresents, FoundsWallet, Lea
 use Rattle.wallet_book.proofs.BookLaws.{time_more}
 use Rattle.wallet_book.specs.Kept.{kept_in, Retries}
 use Rattle.wallet_core.specs.First.{tells_chain}
-use Rattle.reply_reader.specs.Replies.{Received, IsReply, IsBad, Needs}
+use Rattle.millicent_http.specs.Received.{Received}
+use Rattle.reply_reader.specs.Replies.{IsReply, IsBad, Needs}
 use Rattle.reply_reader.proofs.ReplyLemmas.{one_reply, reply_not_bad, reply_not_short}
 use Rattle.ledger_model.specs.Answer.{fitted}
 use Rattle.wallet_model.specs.Requests.{Pending, pending_of, pending_in, is_kept, oldest_kept}
@@ -25,9 +26,9 @@ use Rattle.mc_base.specs.declared.amount.TheConstants.Amount.{MOST}
 use Rattle.scrip_form.specs.Texts.{IsName}
 use Rattle.wallet_model.specs.Asks.{Asking, draw, pend_entry, request_bytes}
 use Rattle.wallet_model.specs.Settling.{check_of, settlement}
-use Rattle.wallet_tasks.specs.declared.request.WalletRequest.{WalletRequest}
-use Rattle.wallet_tasks.specs.Asks.{Answers}
-use Rattle.wallet_tasks.specs.Requests.{pending_view, pend_of, CanEnter}
+use Rattle.wallet_core.specs.declared.request.WalletRequest.{WalletRequest}
+use Rattle.wallet_core.specs.Asks.{Answers}
+use Rattle.wallet_core.specs.Requests.{pending_view, pend_of, CanEnter}
 use Rattle.world_model.specs.Worlds.{CanBeAsked, wallet_time}
 use Rattle.world_model.specs.Agreement.{IsBookOfWallet}
 use Rattle.world_model.proofs.Lists.{followed_at}

@@ -8,7 +8,7 @@ use Rattle.mc_records.specs.Sizes.{size}
 use Rattle.ledger_model.specs.Histories.{History}
 use Rattle.ledger_model.specs.Lawful.{IsLawful}
 use Rattle.wallet_model.specs.Follows.{IsWalletBook}
-use Rattle.wallet_tasks.specs.Asks.{asking_of}
+use Rattle.wallet_core.specs.Asks.{asking_of}
 use Rattle.world_model.specs.Worlds.{World, Event, HasBytes, Enter, Ask, Again, Forge, Deliver, Return, Restart, opens, Plays}
 use Rattle.world_model.specs.Signings.{IsSound}
 use Rattle.world_model.specs.Agreement.{DoneIsAccepted, AcceptedOnce, DoneOnce, DoneIsDrawn, PiecesOnce, AcceptedIsAsked, RepeatSettles}

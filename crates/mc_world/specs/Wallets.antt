@@ -4,7 +4,8 @@ use Rattle.mc_records.specs.declared.limits.Limits.{Limits}
 use Rattle.mc_records.specs.Entry.{Entry}
 use Rattle.ledger_model.specs.Histories.{History, time}
 use Rattle.ledger_model.specs.Answer.{fitted}
-use Rattle.reply_reader.specs.Replies.{Received, IsReply}
+use Rattle.millicent_http.specs.Received.{Received}
+use Rattle.reply_reader.specs.Replies.{IsReply}
 use Rattle.wallet_model.specs.Requests.{Pending, pending_of, pending_in, is_kept, oldest_kept}
 use Rattle.wallet_model.specs.Asks.{Asking, pend_entry, request_bytes}
 use Rattle.wallet_model.specs.Settling.{check_of, settlement}

@@ -3,7 +3,7 @@
 use ledger_model::History;
 use mc_records::Limits;
 use scrip_form::Name;
-use wallet_tasks::Ask;
+use wallet_core::Ask;
 
 /// The histories that houses and wallets begin with, and the limits of all. Houses are vendors and brokers.
 #[derive(Drop)]

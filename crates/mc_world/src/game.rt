@@ -6,7 +6,7 @@ ghost use Rattle.mc_records.specs.Limits.{AreInRange};
 ghost use Rattle.world_model.specs.Worlds as worlds;
 ghost use Rattle.world_model.specs.Worlds.{Happens};
 ghost use Rattle.world_model.specs.Conservation.{AreLawful};
-ghost use Rattle.wallet_tasks.specs.Asks.{asking_of};
+ghost use Rattle.wallet_core.specs.Asks.{asking_of};
 ghost use Rattle.mc_world.specs.Games.{world_of, event_of};
 
 use crate::entering::enter;
@@ -21,7 +21,7 @@ use std::alloc::Global;
 use std::marker::Model;
 use std::mem;
 use std::vec::Vec;
-use wallet_tasks::Ask;
+use wallet_core::Ask;
 
 /// A message, with the number of the wallet that sent it; None where it was forged.
 #[derive(Drop)]

@@ -9,8 +9,8 @@ ghost use Rattle.ledger_model.specs.Histories.{History as Entries};
 ghost use Rattle.ledger_model.specs.Answer.{fitted};
 ghost use Rattle.wallet_model.specs.Asks.{request_bytes};
 ghost use Rattle.wallet_book.specs.Book.{WalletRepresents};
-ghost use Rattle.wallet_tasks.specs.Asks.{asking_of, HasAmounts};
-ghost use Rattle.wallet_tasks.specs.Requests.{pending_view};
+ghost use Rattle.wallet_core.specs.Asks.{asking_of, HasAmounts};
+ghost use Rattle.wallet_core.specs.Requests.{pending_view};
 ghost use Rattle.world_model.specs.Worlds.{CanBeAsked};
 ghost use Rattle.world_model.specs.Agreement.{IsBookOfWallet};
 ghost use Rattle.mc_world.specs.Wallets.{IsOpened, AsksFor, SendsAgainFor, SettlesBy};
@@ -23,7 +23,7 @@ use scrip_form::Name;
 use std::alloc::Global;
 use std::vec::Vec;
 use wallet_book::WalletBook;
-use wallet_tasks::{
+use wallet_core::{
     Ask, WalletRequest, check_reply, kept_request, pend_record, put_request, request_for,
     settlement_record,
 };

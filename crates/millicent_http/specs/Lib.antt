@@ -11,3 +11,5 @@ pub mod Courses
 pub mod Runs
 pub mod Occurs
 pub mod ReplyHeads
+pub mod Decimals
+pub mod Received

@@ -20,7 +20,7 @@ use Rattle.millicent_http.specs.ReplyHeads.{statuses}
 use Rattle.millicent_http.proofs.ItemLemmas.{max_head_is}
 use Rattle.scrip_form.specs.Scrip.{IsScripText}
 use Rattle.scrip_form.specs.Texts.{is_visible}
-use Rattle.reply_reader.specs.Decimals.{decimal_of}
+use Rattle.millicent_http.specs.Decimals.{decimal_of}
 use Rattle.reply_reader.specs.Said.{refusal_said}
 use Rattle.reply_reader.specs.Replies.{IsReply}
 use Rattle.reply_reader.specs.Written.{IsWord, IsSiteReply, received_back}

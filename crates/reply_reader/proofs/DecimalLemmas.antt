@@ -8,7 +8,7 @@ use Rattle.std.proofs.lemmas.Fmt.{decimal_is_IsNumeral}
 use Rattle.mc_fields.specs.Texts.{IsNumber}
 use Rattle.mc_fields.specs.Reading.{literal_at, field_of, number_machine}
 use Rattle.mc_fields.proofs.NumberField.{number_whole, no_number}
-use Rattle.reply_reader.specs.Decimals.{decimal_until}
+use Rattle.millicent_http.specs.Decimals.{decimal_until}
 
 -- a number has one spelling, and a spelling one number
 pub decimal_one : (m n : ℕ) → m < 2 ^ 64 → n < 2 ^ 64 → decimal m ≡ decimal n → m ≡ n

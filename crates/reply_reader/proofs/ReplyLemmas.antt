@@ -9,7 +9,8 @@ use Rattle.millicent_http.specs.Items.{max_head, EndsNoItem}
 use Rattle.millicent_http.proofs.EndLemmas.{first_end_stays, first_end_unique, text_stays, range_stays}
 use Rattle.millicent_http.proofs.ItemLemmas.{take_more}
 use Rattle.reply_reader.specs.Said.{HeadSaid, head_said, HeadSays, SaysNothing}
-use Rattle.reply_reader.specs.Replies.{Received, received_with, head_text, Says, IsReply, IsBad, Needs, IsShort}
+use Rattle.millicent_http.specs.Received.{Received}
+use Rattle.reply_reader.specs.Replies.{received_with, head_text, Says, IsReply, IsBad, Needs, IsShort}
 
 -- ---- one reading
 

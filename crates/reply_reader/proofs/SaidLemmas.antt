@@ -8,7 +8,7 @@ use Rattle.mc_records.specs.Dates.{date_of}
 use Rattle.mc_records.specs.Refusals.{refusal_text}
 use Rattle.mc_records.specs.Replies.{Reply, reply_head, reason, media_type, or_dash}
 use Rattle.millicent_http.specs.Fields.{values, same_name}
-use Rattle.reply_reader.specs.Decimals.{decimal_of}
+use Rattle.millicent_http.specs.Decimals.{decimal_of}
 use Rattle.reply_reader.specs.Said.{HeadSaid, said_by, refusal_said}
 use Rattle.reply_reader.specs.Replies.{received_with, IsReply}
 use Rattle.reply_reader.proofs.HeadLines.{is_line, clean_field, field_line, is_trimmed, status_start, response_tree, reply_lines, with_field, with_allow, reply_fields}

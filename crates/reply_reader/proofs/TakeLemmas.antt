@@ -11,7 +11,8 @@ use Rattle.reply_reader.specs.declared.reply.ReplyFault.TheVariants.{BadReply, N
 use Rattle.reply_reader.specs.declared.arrival.Arrived.{Arrived}
 use Rattle.reply_reader.specs.declared.reader.TheConstants.{REPLY_ROOM}
 use Rattle.reply_reader.specs.Said.{HeadSaid, HeadSays, SaysNothing}
-use Rattle.reply_reader.specs.Replies.{Received, received_with, head_text, Says, IsShort}
+use Rattle.millicent_http.specs.Received.{Received}
+use Rattle.reply_reader.specs.Replies.{received_with, head_text, Says, IsShort}
 use Rattle.reply_reader.specs.Takes.{WaitedFor, EndsAs, TookReply}
 use Rattle.reply_reader.specs.Arrivals.{Stopped, HasHead, HeadArrives, ContentsArrive}
 use Rattle.reply_reader.proofs.ReplyLemmas.{says_stays}

@@ -1,4 +1,3 @@
-pub mod Decimals
 pub mod Said
 pub mod Replies
 pub mod Seen

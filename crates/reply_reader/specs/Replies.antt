@@ -1,17 +1,9 @@
 -- The reply at the front of the bytes of a link, over the whole list of the bytes.
-use Rattle.std.specs.Prelude.{◌≡◌, ◌⊎◌, ℕ, ◌+◌, ◌<◌, ◌≤◌, List, length, take, slice_range, Option}
+use Rattle.std.specs.Prelude.{◌≡◌, ◌⊎◌, ℕ, ◌+◌, ◌<◌, ◌≤◌, List, length, take, slice_range}
 use Rattle.millicent_http.specs.HeadEnds.{line_ends, HasNoEnd, IsFirstEnd}
 use Rattle.millicent_http.specs.Items.{max_head, EndsNoItem}
+use Rattle.millicent_http.specs.Received.{Received}
 use Rattle.reply_reader.specs.Said.{HeadSaid, HeadSays, SaysNothing}
-
--- a reply: its status, the values of its Millicent fields, and its contents
-pub record Received : Type 0 where
-  pub status : ℕ
-  pub refusal : Option (List ℕ)
-  pub price : List ℕ
-  pub change : List ℕ
-  pub sign : List ℕ
-  pub contents : List ℕ
 
 -- what a head says, with these contents
 abbrev pub received_with : HeadSaid → List ℕ → Received

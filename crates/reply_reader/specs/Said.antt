@@ -5,7 +5,7 @@ use Rattle.httparse.specs.Grammar.{ResponseHead, ReadsResponse, status_code}
 use Rattle.httparse.specs.Spans.{name_and_value}
 use Rattle.mc_records.specs.declared.ranges.TheConstants.{MOST_CONTENTS}
 use Rattle.millicent_http.specs.Fields.{values}
-use Rattle.reply_reader.specs.Decimals.{decimal_of, decimal_until}
+use Rattle.millicent_http.specs.Decimals.{decimal_of, decimal_until}
 
 -- the status, the values of the Millicent fields, and how many bytes of contents follow the head
 pub record HeadSaid : Type 0 where

@@ -5,7 +5,8 @@ use Rattle.reply_reader.specs.declared.reply.ReplyRef.{ReplyRef}
 use Rattle.reply_reader.specs.declared.reply.ReplyRead.{ReplyRead}
 use Rattle.reply_reader.specs.declared.reply.ReplyRead.TheVariants.{Whole, Bad, Short}
 use Rattle.reply_reader.specs.declared.reply.ReplyFault.{ReplyFault}
-use Rattle.reply_reader.specs.Replies.{Received, IsReply, IsBad, Needs}
+use Rattle.millicent_http.specs.Received.{Received}
+use Rattle.reply_reader.specs.Replies.{IsReply, IsBad, Needs}
 
 abbrev pub received_of : ReplyRef → Received
 received_of r = record { status = r.status; refusal = seen r.refusal; price = r.price.now; change = r.change.now; sign = r.sign.now; contents = r.contents.now }

@@ -4,7 +4,8 @@ use Rattle.mc_outside.specs.LinkView.{LinkView, after_recv, after_eof, Failed}
 use Rattle.reply_reader.specs.declared.reply.ReplyFault.{ReplyFault}
 use Rattle.reply_reader.specs.declared.reply.ReplyFault.TheVariants.{BadReply, NoReply, Fault}
 use Rattle.reply_reader.specs.declared.reader.TheConstants.{REPLY_ROOM}
-use Rattle.reply_reader.specs.Replies.{Received, IsReply, IsBad, IsShort}
+use Rattle.millicent_http.specs.Received.{Received}
+use Rattle.reply_reader.specs.Replies.{IsReply, IsBad, IsShort}
 
 -- the answer by the bytes that came, from the link that heard them to the link after
 abbrev pub EndsAs : List ℕ → Result Received ReplyFault → LinkView → LinkView → Type 0

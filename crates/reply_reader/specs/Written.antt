@@ -9,7 +9,7 @@ use Rattle.scrip_form.specs.Scrip.{IsScripText}
 use Rattle.scrip_form.specs.Texts.{is_visible}
 use Rattle.millicent_http.specs.Items.{max_head}
 use Rattle.millicent_http.specs.ReplyHeads.{is_status}
-use Rattle.reply_reader.specs.Replies.{Received}
+use Rattle.millicent_http.specs.Received.{Received}
 
 -- a word: at least one byte, and each visible
 pub record IsWord (text : List ℕ) : Type 0 where

@@ -1,5 +1,5 @@
 ghost use Rattle.std.specs.Prelude.{◌≡◌, ◌^◌, ◌≤◌, IfSome};
-ghost use Rattle.reply_reader.specs.Decimals.{decimal_of};
+ghost use Rattle.millicent_http.specs.Decimals.{decimal_of};
 ghost use Rattle.reply_reader.specs.Said.{is_refusal_text};
 
 use mc_fields::{number_of, read_number};

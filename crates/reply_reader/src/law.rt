@@ -1,6 +1,7 @@
 ghost use Rattle.std.specs.Prelude.{◌≡◌, ◌++◌, ◌^◌, ◌<◌, ℕ, List, length, decimal};
 ghost use Rattle.mc_records.specs.Replies.{Reply, reply_head};
-ghost use Rattle.reply_reader.specs.Replies.{Received, IsReply, IsBad, Needs, IsShort};
+ghost use Rattle.millicent_http.specs.Received.{Received};
+ghost use Rattle.reply_reader.specs.Replies.{IsReply, IsBad, Needs, IsShort};
 ghost use Rattle.reply_reader.specs.Written.{IsWord, IsSiteReply, received_back};
 
 /// Bytes begin one reply at the most. Those that begin with a reply are not bad, nor less than a reply,

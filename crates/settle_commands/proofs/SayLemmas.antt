@@ -3,7 +3,7 @@ use Rattle.std.proofs.Common.{◌≡◌, ℕ, List, [], ◌++◌, Result, Ok, su
 use Rattle.ledger_model.specs.Histories.{History}
 use Rattle.house_core.specs.Tasks.{Task}
 use Rattle.settle_core.specs.declared.claim.Statement.{Statement}
-use Rattle.settle_calls.specs.Tasks.{TellsStated}
+use Rattle.counted_trade.specs.Tasks.{TellsStated}
 use Rattle.settle_commands.specs.Operations.{SaysStatement, paid_line, says_paid}
 
 -- the statement behind an empty line, by the numbers of the words

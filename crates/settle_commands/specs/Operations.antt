@@ -10,7 +10,7 @@ use Rattle.settle_core.specs.declared.claim.Statement.{Statement}
 use Rattle.settle_core.specs.Claims.{payment_text, statement_line}
 use Rattle.settle_core.specs.Markets.{payment_at}
 use Rattle.settle_core.specs.Statements.{statement_input}
-use Rattle.settle_calls.specs.Tasks.{state_task, pay_task}
+use Rattle.counted_trade.specs.Tasks.{state_task, pay_task}
 use Rattle.settle_commands.specs.declared.settling.StatementPayment.{StatementPayment}
 use Rattle.settle_commands.specs.declared.settling.TheConstants.{MOST_LINES}
 use Rattle.settle_commands.specs.declared.stating.SeriesStatement.{SeriesStatement}

@@ -12,7 +12,7 @@ ghost use Rattle.settle_core.specs.Statements.{StatementFits, statement_text};
 ghost use Rattle.settle_commands.specs.Operations.{settle_operation, begins_paid, paid_line};
 
 use crate::unasking::Unasking;
-use counted_trade::Counted;
+use counted_trade::{Counted, pay_statement};
 use house_core::{House, Outcome};
 use mc_base::NoMemory;
 use mc_outside::Disk;
@@ -20,7 +20,6 @@ use mc_records::Refusal;
 use operator_command::{OperatorCommand, without_answer};
 use said_lines::{READY, lay_bare, put, ready};
 use scrip_form::Name;
-use settle_calls::pay_statement;
 use settle_core::{Statement, payment_in, read_statement};
 use std::alloc::Global;
 

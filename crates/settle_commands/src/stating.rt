@@ -12,13 +12,12 @@ ghost use Rattle.settle_commands.specs.Operations.{state_operation, begins_state
 
 use crate::unasking::Unasking;
 use command_table::{Epoch, Issuer};
-use counted_trade::Counted;
+use counted_trade::{Counted, state_series};
 use house_core::{House, Outcome};
 use mc_base::NoMemory;
 use mc_outside::Disk;
 use operator_command::{OperatorCommand, without_answer};
 use scrip_form::Name;
-use settle_calls::state_series;
 use std::alloc::Global;
 
 /// The series that a vendor's operator states.

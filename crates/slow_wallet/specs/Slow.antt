@@ -7,7 +7,7 @@ use Rattle.wallet_model.specs.Holdings as pieces
 use Rattle.wallet_model.specs.Holdings.{brings, PieceState, moves}
 use Rattle.wallet_model.specs.Newness.{are_one_piece}
 use Rattle.wallet_book.specs.Holdings.{state_of}
-use Rattle.wallet_tasks.specs.Requests.{request_view}
+use Rattle.wallet_core.specs.Requests.{request_view}
 use Rattle.slow_wallet.specs.declared.holdings.Holding.{Holding}
 use Rattle.slow_wallet.specs.declared.kept.Numbered.{Numbered}
 use Rattle.slow_wallet.specs.declared.came.Likeness.{Likeness}

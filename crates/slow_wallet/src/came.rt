@@ -13,7 +13,7 @@ use crate::requests::slow_pending;
 use crate::states::{is_held, slow_state};
 use mc_records::{PieceList, Record};
 use slow_ledger::Prefix;
-use wallet_tasks::are_one_piece;
+use wallet_core::are_one_piece;
 
 /// By what texts are compared.
 #[derive(Clone, Copy, Drop)]

@@ -13,7 +13,7 @@ use crate::states::{is_held, slow_state};
 use mc_base::Moment;
 use mc_records::Refusal;
 use slow_ledger::Prefix;
-use wallet_tasks::piece_of;
+use wallet_core::piece_of;
 
 /// A piece that can be spent now, and its value.
 #[derive(Clone, Copy, Drop)]

@@ -6,7 +6,7 @@ ghost use Rattle.slow_wallet.specs.Slow.{kept_view, kept_at};
 
 use crate::requests::{slow_is_kept, slow_pending};
 use slow_ledger::Prefix;
-use wallet_tasks::RequestRef;
+use wallet_core::RequestRef;
 
 /// A request with the number of its entry.
 #[derive(Clone, Copy, Drop)]

@@ -27,4 +27,4 @@ pub use sending::slow_request_bytes;
 pub use settle::slow_settlement;
 pub use states::slow_state;
 pub use wallet_book::State;
-pub use wallet_tasks::RequestRef as Pending;
+pub use wallet_core::RequestRef as Pending;

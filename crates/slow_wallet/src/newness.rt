@@ -13,7 +13,7 @@ ghost use Rattle.wallet_model.specs.Follows.{settled_texts};
 use crate::came::{Likeness, listed, slow_came};
 use mc_records::PieceList;
 use slow_ledger::Prefix;
-use wallet_tasks::{are_one_piece, is_change};
+use wallet_core::{are_one_piece, is_change};
 
 fn is_listed_at(pieces: &PieceList<'_>, k: u16, text: &[u8]) -> bool
     ensures { IfSome (slice_get (pieces_of pieces.now) k)

@@ -9,7 +9,7 @@ ghost use Rattle.piece_lines.specs.Answers.{AreAppended};
 ghost use Rattle.wallet_model.specs.Received.{line_read};
 ghost use Rattle.wallet_model.specs.Settling as model;
 ghost use Rattle.reply_reader.specs.Seen.{received_of};
-ghost use Rattle.wallet_tasks.specs.Requests.{request_view};
+ghost use Rattle.wallet_core.specs.Requests.{request_view};
 
 use itoa::Buffer;
 use mc_base::NoMemory;
@@ -20,7 +20,7 @@ use piece_lines::{PieceLinesFault, PieceRule, read_piece_lines};
 use reply_reader::ReplyRef;
 use scrip_certs::{hex_of, sign_reply};
 use std::alloc::Global;
-use wallet_tasks::{RequestRef, fits_request};
+use wallet_core::{RequestRef, fits_request};
 
 // ---- the piece in the contents
 

@@ -5,11 +5,11 @@ ghost use Rattle.std.specs.List.{list_any};
 ghost use Rattle.mc_records.specs.Requests.{seen};
 ghost use Rattle.wallet_model.specs.Requests as model;
 ghost use Rattle.wallet_model.specs.Requests.{settles};
-ghost use Rattle.wallet_tasks.specs.Requests.{request_view};
+ghost use Rattle.wallet_core.specs.Requests.{request_view};
 
 use mc_records::Record;
 use slow_ledger::Prefix;
-use wallet_tasks::RequestRef;
+use wallet_core::RequestRef;
 
 /// The request of the entry of a number; None exactly where there is none.
 pub fn slow_pending<'a>(h: &'a Prefix<'_>, number: u64) -> Option<RequestRef<'a>>

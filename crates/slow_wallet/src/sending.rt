@@ -7,14 +7,14 @@ ghost use Rattle.mc_records.specs.Requests.{seen};
 ghost use Rattle.scrip_certs.specs.Digests.{request_text};
 ghost use Rattle.hex.specs.Hex.{encode_lower};
 ghost use Rattle.wallet_model.specs.Asks as model;
-ghost use Rattle.wallet_tasks.specs.Requests.{request_view};
+ghost use Rattle.wallet_core.specs.Requests.{request_view};
 
 use mc_base::NoMemory;
 use mc_fields::append_both;
 use millicent_http::or_dash;
 use scrip_certs::{hex_of, sign_request};
 use std::alloc::{AllocError, Global};
-use wallet_tasks::RequestRef;
+use wallet_core::RequestRef;
 
 fn write_field(out: &mut Vec<u8>, name: &[u8], value: &[u8]) -> Result<(), AllocError>
     ensures { Appends out.old.items out.new.items (texts.field name.now value.now) result }

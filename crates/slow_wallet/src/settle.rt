@@ -6,7 +6,7 @@ ghost use Rattle.mc_records.specs.Views.{entry, held_of};
 ghost use Rattle.wallet_model.specs.Holdings.{texts_came};
 ghost use Rattle.wallet_model.specs.Settling as model;
 ghost use Rattle.reply_reader.specs.Seen.{received_of};
-ghost use Rattle.wallet_tasks.specs.Requests.{request_view};
+ghost use Rattle.wallet_core.specs.Requests.{request_view};
 
 use crate::newness::slow_is_new;
 use crate::replies::one_line;
@@ -15,7 +15,7 @@ use mc_records::{PieceList, Record};
 use reply_reader::ReplyRef;
 use slow_ledger::Prefix;
 use std::alloc::Global;
-use wallet_tasks::{RequestRef, is_dash, paid_price, refusal_number};
+use wallet_core::{RequestRef, is_dash, paid_price, refusal_number};
 
 /// The change of a reply, where it is new to a book.
 fn change_came<'a>(h: &Prefix<'_>, change: &'a [u8]) -> Option<&'a [u8]>

@@ -16,7 +16,7 @@ use Rattle.ledger_model.specs.Answer.{fitted}
 use Rattle.scrip_journal.specs.Layout.{Encodes}
 use Rattle.scrip_journal.specs.Causes.{Only, IsUnlawfulAt, IsOfOther, IsOfOtherKind}
 use Rattle.scrip_journal.proofs.Beginnings.{begins_history}
-use Rattle.reply_reader.specs.Replies.{Received}
+use Rattle.millicent_http.specs.Received.{Received}
 use Rattle.command_input.specs.Inputs.{LostInput}
 use Rattle.command_status.specs.declared.status.Status.{Status}
 use Rattle.command_status.specs.declared.status.Status.TheVariants as ends
@@ -28,8 +28,8 @@ use Rattle.wallet_model.specs.Holdings.{holdings}
 use Rattle.wallet_model.specs.Follows.{wallet_allows, WalletFollows, IsWalletBook}
 use Rattle.wallet_model.specs.Asks.{Offered, Asking, pend_entry, due_entry}
 use Rattle.wallet_model.specs.Settling.{settlement}
-use Rattle.wallet_tasks.specs.Settled.{bought}
-use Rattle.wallet_tasks.specs.Taking.{take_entry}
+use Rattle.wallet_core.specs.Settled.{bought}
+use Rattle.wallet_core.specs.Taking.{take_entry}
 use Rattle.held_lines.specs.Resold.{resold_for}
 use Rattle.wallet_commands.specs.declared.saying.Saying.{Saying}
 use Rattle.wallet_commands.specs.declared.saying.Saying.TheVariants as sayings

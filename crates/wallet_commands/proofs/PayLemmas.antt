@@ -24,10 +24,10 @@ use Rattle.wallet_model.specs.Requests.{Pending, pending_of, oldest_kept}
 use Rattle.wallet_model.specs.Asks.{Asking, get, buy, draw, Offered, chosen, due, paid_with, pend_entry, or_none_due, due_entry}
 use Rattle.wallet_model.proofs.BookLaws.{book_grows}
 use Rattle.wallet_book.specs.Kept.{kept_in, Retries}
-use Rattle.wallet_tasks.specs.declared.ask.Ask.{Ask}
-use Rattle.wallet_tasks.specs.declared.ask.Ask.TheVariants as what_is
-use Rattle.wallet_tasks.specs.Asks.{asking_of, pend_with_entry}
-use Rattle.wallet_tasks.proofs.AskLaws.{due_pays}
+use Rattle.wallet_core.specs.declared.ask.Ask.{Ask}
+use Rattle.wallet_core.specs.declared.ask.Ask.TheVariants as what_is
+use Rattle.wallet_core.specs.Asks.{asking_of, pend_with_entry}
+use Rattle.wallet_core.proofs.AskLaws.{due_pays}
 use Rattle.wallet_core.specs.declared.wallet.Wallet.{Wallet}
 use Rattle.wallet_core.specs.declared.outcome.WalletOut.{WalletOut}
 use Rattle.wallet_core.specs.declared.outcome.WalletOut.TheVariants as outs

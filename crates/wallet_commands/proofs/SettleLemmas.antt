@@ -18,7 +18,7 @@ use Rattle.ledger_model.specs.Lines as lines
 use Rattle.ledger_model.specs.Answer.{fitted}
 use Rattle.scrip_journal.specs.Layout.{Encodes}
 use Rattle.scrip_journal.specs.Rests.{journal_leaves}
-use Rattle.reply_reader.specs.Replies.{Received}
+use Rattle.millicent_http.specs.Received.{Received}
 use Rattle.command_status.specs.declared.status.Status.TheVariants as ends
 use Rattle.wallet_model.specs.Requests.{Pending}
 use Rattle.wallet_model.specs.Settling.{check_of, settlement, refusal_number}
@@ -31,9 +31,9 @@ use Rattle.wallet_book.specs.Holdings.{text_of, texts_of}
 use Rattle.wallet_book.specs.Parts.{held_texts}
 use Rattle.wallet_book.specs.Book.{BookView, WalletRepresents}
 use Rattle.wallet_book.proofs.PartLaws.{came_texts}
-use Rattle.wallet_tasks.specs.declared.settling.Settlement.{Settlement}
-use Rattle.wallet_tasks.specs.declared.settling.Settlement.TheVariants as settled
-use Rattle.wallet_tasks.specs.Settled.{bought, IsSettledAs}
+use Rattle.wallet_core.specs.declared.settling.Settlement.{Settlement}
+use Rattle.wallet_core.specs.declared.settling.Settlement.TheVariants as settled
+use Rattle.wallet_core.specs.Settled.{bought, IsSettledAs}
 use Rattle.wallet_core.specs.declared.wallet.Wallet.{Wallet}
 use Rattle.wallet_core.specs.declared.outcome.WalletOut.{WalletOut}
 use Rattle.wallet_core.specs.declared.outcome.WalletOut.TheVariants as outs

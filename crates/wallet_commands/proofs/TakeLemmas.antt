@@ -17,7 +17,7 @@ use Rattle.command_input.specs.Inputs.{IsInput, LostInput}
 use Rattle.command_status.specs.declared.status.Status.{Status}
 use Rattle.command_status.specs.declared.status.Status.TheVariants as ends
 use Rattle.wallet_model.specs.Holdings.{brings}
-use Rattle.wallet_tasks.specs.Taking.{take_entry}
+use Rattle.wallet_core.specs.Taking.{take_entry}
 use Rattle.wallet_core.specs.declared.wallet.Wallet.{Wallet}
 use Rattle.wallet_core.specs.declared.outcome.WalletOut.{WalletOut}
 use Rattle.wallet_core.specs.declared.outcome.WalletOut.TheVariants as outs

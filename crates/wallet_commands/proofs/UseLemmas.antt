@@ -14,7 +14,7 @@ use Rattle.scrip_journal.specs.Rests.{journal_leaves}
 use Rattle.millicent_http.specs.Courses.{NoLink}
 use Rattle.reply_reader.specs.declared.reply.ReplyFault.{ReplyFault}
 use Rattle.reply_reader.specs.declared.reply.ReplyFault.TheVariants as replies
-use Rattle.reply_reader.specs.Replies.{Received}
+use Rattle.millicent_http.specs.Received.{Received}
 use Rattle.reply_reader.specs.Takes.{EndsAs, TookReply}
 use Rattle.command_status.specs.declared.status.Status.{Status}
 use Rattle.command_status.specs.declared.status.Status.TheVariants as ends

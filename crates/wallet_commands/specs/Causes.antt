@@ -10,7 +10,7 @@ use Rattle.command_input.specs.Inputs.{IsInput}
 use Rattle.command_status.specs.declared.status.Status.{Status}
 use Rattle.command_status.specs.declared.status.Status.TheVariants as ends
 use Rattle.reply_reader.specs.declared.reply.ReplyFault.TheVariants as replies
-use Rattle.reply_reader.specs.Replies.{Received}
+use Rattle.millicent_http.specs.Received.{Received}
 use Rattle.reply_reader.specs.Takes.{TookReply}
 use Rattle.wallet_model.specs.Settling.{refusal_number}
 use Rattle.wallet_commands.specs.declared.taking.TheConstants.{MOST_LINES}

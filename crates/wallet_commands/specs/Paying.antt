@@ -13,7 +13,7 @@ use Rattle.ledger_model.specs.Answer.{fitted}
 use Rattle.scrip_journal.specs.Layout.{Encodes}
 use Rattle.millicent_http.specs.declared.clock.Clock.TheVariants.{OfLinks}
 use Rattle.millicent_http.specs.Courses.{AreRead, with_readings}
-use Rattle.reply_reader.specs.Replies.{Received}
+use Rattle.millicent_http.specs.Received.{Received}
 use Rattle.command_status.specs.declared.status.Status.{Status}
 use Rattle.command_status.specs.declared.status.Status.TheVariants as ends
 use Rattle.scrip_form.specs.Scrip.{Scrip}
@@ -22,7 +22,7 @@ use Rattle.wallet_model.specs.Holdings.{brings}
 use Rattle.wallet_model.specs.Requests.{Pending, pending_of, oldest_kept}
 use Rattle.wallet_model.specs.Asks.{Asking, pend_entry, due_entry, request_bytes}
 use Rattle.wallet_model.specs.Settling.{settlement, refusal_number}
-use Rattle.wallet_tasks.specs.Settled.{bought}
+use Rattle.wallet_core.specs.Settled.{bought}
 use Rattle.wallet_commands.specs.declared.saying.Saying.{Saying}
 use Rattle.wallet_commands.specs.declared.saying.Saying.TheVariants as sayings
 use Rattle.wallet_commands.specs.Lines.{got_line, renewed_line}

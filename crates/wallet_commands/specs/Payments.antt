@@ -6,7 +6,7 @@ use Rattle.mc_records.specs.declared.refusal.Refusal.TheVariants as refusals
 use Rattle.millicent_http.specs.Courses.{NoLink}
 use Rattle.reply_reader.specs.declared.reply.ReplyFault.{ReplyFault}
 use Rattle.reply_reader.specs.declared.reply.ReplyFault.TheVariants as replies
-use Rattle.reply_reader.specs.Replies.{Received}
+use Rattle.millicent_http.specs.Received.{Received}
 use Rattle.reply_reader.specs.Takes.{TookReply}
 use Rattle.wallet_model.specs.Requests.{Pending}
 use Rattle.wallet_model.specs.Asks.{request_bytes}

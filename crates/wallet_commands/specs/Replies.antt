@@ -9,14 +9,14 @@ use Rattle.scrip_journal.specs.Layout.{Encodes}
 use Rattle.mc_records.specs.Entry.{Entry}
 use Rattle.reply_reader.specs.declared.reply.ReplyFault.{ReplyFault}
 use Rattle.reply_reader.specs.declared.reply.ReplyFault.TheVariants as replies
-use Rattle.reply_reader.specs.Replies.{Received}
+use Rattle.millicent_http.specs.Received.{Received}
 use Rattle.reply_reader.specs.Takes.{TookReply}
 use Rattle.command_status.specs.declared.status.Status.{Status}
 use Rattle.command_status.specs.declared.status.Status.TheVariants as ends
 use Rattle.wallet_model.specs.Requests.{Pending}
 use Rattle.wallet_model.specs.Settling.{check_of}
-use Rattle.wallet_tasks.specs.declared.settling.Settlement.{Settlement}
-use Rattle.wallet_tasks.specs.declared.settling.Settlement.TheVariants as settled
+use Rattle.wallet_core.specs.declared.settling.Settlement.{Settlement}
+use Rattle.wallet_core.specs.declared.settling.Settlement.TheVariants as settled
 use Rattle.scrip_form.specs.Scrip.{Scrip}
 use Rattle.ledger_model.specs.Pieces.{piece_of}
 use Rattle.wallet_book.specs.declared.holding.Holding.{Holding}

@@ -2,7 +2,7 @@
 use Rattle.std.specs.Prelude.{◌≡◌, ℕ, ◌==◌, ◌&&◌, if◌then◌else◌, List, [], ◌++◌, option_map}
 use Rattle.mc_outside.specs.Bytes.{Rose, Told, AddsPart}
 use Rattle.mc_outside.specs.LinkView.{LinkView}
-use Rattle.reply_reader.specs.Replies.{Received}
+use Rattle.millicent_http.specs.Received.{Received}
 use Rattle.wallet_model.specs.Requests.{Pending}
 use Rattle.wallet_commands.specs.declared.saying.Saying.{Saying}
 use Rattle.wallet_commands.specs.declared.saying.Saying.TheVariants as sayings

@@ -16,7 +16,7 @@ use Rattle.command_status.specs.declared.status.Status.{Status}
 use Rattle.command_status.specs.declared.status.Status.TheVariants as ends
 use Rattle.command_input.specs.Inputs.{IsInput, LostInput}
 use Rattle.wallet_model.specs.Holdings.{brings}
-use Rattle.wallet_tasks.specs.Taking.{take_entry}
+use Rattle.wallet_core.specs.Taking.{take_entry}
 use Rattle.wallet_core.specs.declared.outcome.WalletOut.{WalletOut}
 use Rattle.wallet_commands.specs.declared.taking.TheConstants.{MOST_LINES}
 use Rattle.wallet_commands.specs.Lines.{taken_line}

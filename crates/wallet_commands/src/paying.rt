@@ -2,7 +2,7 @@
 
 ghost use Rattle.std.specs.Prelude.{◌≡◌, ◌+◌, ◌≤◌, [], List as Items, ℕ, Some, IfOk, vec_len, vec_capacity};
 ghost use Rattle.command_status.specs.Statuses.{number_of};
-ghost use Rattle.wallet_tasks.specs.Asks.{HasAmounts, asking_of};
+ghost use Rattle.wallet_core.specs.Asks.{HasAmounts, asking_of};
 ghost use Rattle.mc_records.specs.declared.limits.TheConstants.Limits.{FULL};
 ghost use Rattle.wallet_model.specs.Requests.{oldest_kept};
 ghost use Rattle.wallet_model.specs.Asks.{pend_entry};
@@ -22,8 +22,7 @@ use reply_reader::ReplyReader;
 use said_lines::READY;
 use scrip_form::Name;
 use std::alloc::Global;
-use wallet_core::{Wallet, WalletOut, open_wallet};
-use wallet_tasks::Ask;
+use wallet_core::{Ask, Wallet, WalletOut, open_wallet};
 
 /// Opens the book on the outside's disk as that of a wallet, and pays for what is asked: at the reading of the clock the
 /// request is entered with the piece that it pays with, a draw without; it is sent on the next link; and the reply

@@ -5,7 +5,7 @@ ghost use Rattle.command_status.specs.Statuses.{number_of};
 ghost use Rattle.mc_records.specs.declared.limits.TheConstants.Limits.{FULL};
 ghost use Rattle.wallet_model.specs.Asks.{due_entry};
 ghost use Rattle.wallet_book.specs.declared.holding.Holding.{Holding as Piece};
-ghost use Rattle.wallet_tasks.specs.declared.ask.Ask.TheVariants.{Get};
+ghost use Rattle.wallet_core.specs.declared.ask.Ask.TheVariants.{Get};
 ghost use Rattle.wallet_commands.specs.declared.saying.Saying.TheVariants.{Renewal};
 ghost use Rattle.wallet_commands.specs.Books.{IsKnown, Opened};
 ghost use Rattle.wallet_commands.specs.Causes.{WalletCauses};
@@ -23,8 +23,7 @@ use reply_reader::ReplyReader;
 use said_lines::READY;
 use scrip_form::{Name, Target};
 use std::alloc::Global;
-use wallet_core::{Wallet, WalletOut, open_wallet, renew_place};
-use wallet_tasks::Ask;
+use wallet_core::{Ask, Wallet, WalletOut, open_wallet, renew_place};
 
 /// Opens the book on the outside's disk as that of a wallet, and pays for a target of a vendor with the piece that ends
 /// first of those that are held, are not expired at the reading of the clock, and end at a moment at the latest; the

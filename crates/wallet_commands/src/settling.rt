@@ -23,8 +23,7 @@ use mc_records::Refusal;
 use reply_reader::{ReplyFault, ReplyReader, ReplyRef};
 use said_lines::READY;
 use scrip_form::Piece;
-use wallet_core::{Wallet, WalletOut};
-use wallet_tasks::Settlement;
+use wallet_core::{Settlement, Wallet, WalletOut};
 
 /// Uses the next link for a kept request: sends it, reads the reply to it, and settles it by that. `line` is empty,
 /// with room for the line that is said, which tells `saying`. Hands the outside back, and tells how it ended.

@@ -16,13 +16,13 @@ use Rattle.wallet_model.specs.Holdings.{texts_came}
 use Rattle.wallet_model.specs.Laws.{HasItsPiece}
 use Rattle.wallet_model.specs.Settling.{fits_request, is_proved, check_of}
 use Rattle.wallet_model.proofs.FitLaws.{settlement_fits, requests_have}
-use Rattle.reply_reader.specs.Replies.{Received}
+use Rattle.millicent_http.specs.Received.{Received}
 use Rattle.wallet_book.specs.Kept.{kept_in}
-use Rattle.wallet_tasks.specs.declared.request.WalletRequest.{WalletRequest}
-use Rattle.wallet_tasks.specs.Requests.{pending_view, pend_of}
-use Rattle.wallet_tasks.specs.Asks as asks
-use Rattle.wallet_tasks.specs.Settled.{settlement_with}
-use Rattle.wallet_tasks.proofs.SettledLaws.{by_texts}
+use Rattle.wallet_core.specs.declared.request.WalletRequest.{WalletRequest}
+use Rattle.wallet_core.specs.Requests.{pending_view, pend_of}
+use Rattle.wallet_core.specs.Asks as asks
+use Rattle.wallet_core.specs.Settled.{settlement_with}
+use Rattle.wallet_core.proofs.SettledLaws.{by_texts}
 use Rattle.wallet_core.specs.Answers.{MayCheck}
 
 -- ---- a settlement by the texts of the pieces that came

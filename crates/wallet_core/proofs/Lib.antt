@@ -5,3 +5,7 @@ pub mod OutcomeLaws
 pub mod SwitchLaws
 pub mod CallLaws
 pub mod DueLaws
+pub mod LineLaws
+pub mod SettledLaws
+pub mod AskLaws
+pub mod TakenLaws

@@ -7,7 +7,7 @@ use Rattle.mc_records.specs.declared.refusal.Refusal.TheVariants.{BadInput, Twic
 use Rattle.mc_records.specs.Entry.{Entry}
 use Rattle.ledger_model.specs.Histories.{History}
 use Rattle.wallet_book.specs.Choosing.{IsNoFunds}
-use Rattle.wallet_tasks.specs.Taking.{IsTakeRefusal}
+use Rattle.wallet_core.specs.Taking.{IsTakeRefusal}
 use Rattle.wallet_core.specs.declared.wallet.Wallet.{Wallet}
 use Rattle.wallet_core.specs.declared.outcome.WalletOut.{WalletOut}
 use Rattle.wallet_core.specs.declared.outcome.WalletOut.TheVariants.{Done, Refused, NoMemory, Halted}

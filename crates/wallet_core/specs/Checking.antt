@@ -3,7 +3,7 @@ use Rattle.std.specs.Prelude.{◌≡◌, ℕ, ◌≤◌, List, take, Option, Som
 use Rattle.mc_records.specs.declared.refusal.Refusal.{Refusal}
 use Rattle.wallet_model.specs.Requests.{Pending}
 use Rattle.wallet_model.specs.Asks.{request_bytes}
-use Rattle.reply_reader.specs.Replies.{Received}
+use Rattle.millicent_http.specs.Received.{Received}
 
 -- a reply that settles the request of a number
 pub record CheckedView : Type 0 where

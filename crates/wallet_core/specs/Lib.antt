@@ -8,3 +8,7 @@ pub mod Answers
 pub mod Outcomes
 pub mod Switching
 pub mod Rests
+pub mod Requests
+pub mod Asks
+pub mod Taking
+pub mod Settled

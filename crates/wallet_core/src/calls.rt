@@ -9,10 +9,10 @@ ghost use Rattle.wallet_model.specs.Requests.{Pending};
 ghost use Rattle.wallet_model.specs.Settling.{check_of, settlement};
 ghost use Rattle.reply_reader.specs.Seen.{received_of};
 ghost use Rattle.wallet_book.specs.Kept.{kept_in};
-ghost use Rattle.wallet_tasks.specs.Asks.{asking_of, HasAmounts, PaysAt, pend_with_entry};
-ghost use Rattle.wallet_tasks.specs.Requests.{pending_view, pend_of};
-ghost use Rattle.wallet_tasks.specs.Settled.{IsSettledAs};
-ghost use Rattle.wallet_tasks.specs.Taking.{take_entry};
+ghost use Rattle.wallet_core.specs.Asks.{asking_of, HasAmounts, PaysAt, pend_with_entry};
+ghost use Rattle.wallet_core.specs.Requests.{pending_view, pend_of};
+ghost use Rattle.wallet_core.specs.Settled.{IsSettledAs};
+ghost use Rattle.wallet_core.specs.Taking.{take_entry};
 ghost use Rattle.wallet_core.specs.Wallet.{WalletStands};
 ghost use Rattle.wallet_core.specs.Outcomes.{HandsBack, Performs};
 ghost use Rattle.wallet_core.specs.Answers.{TellsNumber, TellsCount, TellsOnly, Any, IsFull, MayTake, MayPend, MayCheck};
@@ -21,13 +21,13 @@ ghost use Rattle.wallet_core.specs.Checking.{Checks, IsWritten};
 use crate::checked::{Checked, has_its_piece};
 use crate::outcome::WalletOut;
 use crate::wallet::Wallet;
-use mc_outside::Disk;
-use mc_records::{Record, Refusal};
-use reply_reader::ReplyRef;
-use wallet_tasks::{
+use crate::{
     Ask, Settlement, TakeFault, WalletRequest, check_reply, kept_request, pend_record, put_request,
     request_for, request_with, settled_as, settlement_record, take_pieces, taken_list,
 };
+use mc_outside::Disk;
+use mc_records::{Record, Refusal};
+use reply_reader::ReplyRef;
 
 impl<D: Disk> Wallet<D> {
     /// Takes the pieces of 1 to 256 piece lines at the wallet's time, by one Got entry. Answers how many they are.

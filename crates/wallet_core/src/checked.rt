@@ -4,10 +4,10 @@ ghost use Rattle.std.specs.Prelude.{◌↔◌, IsTrue, IsSome};
 ghost use Rattle.ledger_model.specs.Pieces.{piece_of};
 ghost use Rattle.wallet_model.specs.Laws.{HasItsPiece};
 
+use crate::WalletRequest;
 use reply_reader::ReplyRef;
 use scrip_form::read_scrip;
 use std::marker::Model;
-use wallet_tasks::WalletRequest;
 
 /// A reply that settles a request, for `Wallet::settle_reply`. Only `Wallet::check_reply` makes one. Contracts see the
 /// number of the request, what it asks, and the reply.
@@ -24,7 +24,7 @@ impl<'a> Model for Checked<'a> {
     ghost use Rattle.wallet_model.specs.Laws.{HasItsPiece};
     ghost use Rattle.wallet_model.specs.Settling.{check_of};
     ghost use Rattle.reply_reader.specs.Seen.{received_of};
-    ghost use Rattle.wallet_tasks.specs.Requests.{pending_view};
+    ghost use Rattle.wallet_core.specs.Requests.{pending_view};
     ghost use Rattle.wallet_core.specs.Checking.{CheckedView};
 
     ghost Value = { CheckedView };

@@ -3,20 +3,40 @@
 //! one that switches it (`switching.rt`).
 #![tactic(auto)]
 
+mod ask;
+mod asking;
 mod calls;
 mod checked;
+mod checking;
+mod contents;
 mod entering;
 mod found;
 mod links;
 mod opening;
 mod outcome;
+mod prices;
 mod renewing;
+mod request;
+mod sending;
+mod settling;
 mod switching;
+mod taking;
 mod wallet;
 
+pub use ask::Ask;
+pub use asking::{request_for, request_with};
 pub use checked::Checked;
+pub use checking::{check_reply, fits_request};
+pub use contents::{are_one_piece, piece_of};
 pub use found::found_wallet;
 pub use opening::open_wallet;
 pub use outcome::WalletOut;
+pub use prices::is_dash;
 pub use renewing::renew_place;
+pub use request::{RequestRef, WalletRequest, kept_request, pend_record};
+pub use sending::put_request;
+pub use settling::{
+    Settlement, is_change, paid_price, refusal_number, settled_as, settlement_record,
+};
+pub use taking::{TakeFault, take_pieces, taken_list};
 pub use wallet::Wallet;

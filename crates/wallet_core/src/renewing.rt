@@ -3,8 +3,8 @@
 ghost use Rattle.std.specs.Prelude.{◌≡◌, List, ℕ, IfSome, option_map};
 ghost use Rattle.ledger_model.specs.Histories.{History};
 ghost use Rattle.wallet_model.specs.Asks.{due};
-ghost use Rattle.wallet_tasks.specs.Asks.{PaysAt};
-ghost use Rattle.wallet_tasks.specs.declared.ask.Ask.TheVariants.{Get};
+ghost use Rattle.wallet_core.specs.Asks.{PaysAt};
+ghost use Rattle.wallet_core.specs.declared.ask.Ask.TheVariants.{Get};
 ghost use Rattle.wallet_core.specs.Wallet.{WalletStands};
 
 use crate::wallet::Wallet;

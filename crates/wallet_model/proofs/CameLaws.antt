@@ -15,7 +15,7 @@ use Rattle.wallet_model.specs.Requests.{Pending, is_kept}
 use Rattle.wallet_model.specs.Holdings.{brings, change_held, pieces_from, pieces_came, texts_came, holding}
 use Rattle.wallet_model.specs.Newness.{are_one_piece, is_new, are_new}
 use Rattle.wallet_model.specs.Follows.{is_wallet, settled_texts, wallet_allows, WalletFollows, IsWalletBook}
-use Rattle.reply_reader.specs.Replies.{Received}
+use Rattle.millicent_http.specs.Received.{Received}
 use Rattle.wallet_model.specs.Settling.{price_of, change_came, if_new, contents_came, got_came, settlement}
 use Rattle.wallet_model.specs.Laws.{has_piece}
 use Rattle.wallet_model.proofs.BookLaws.{walked, all_of_book}

@@ -17,12 +17,12 @@ use Rattle.piece_lines.specs.PieceLines.{input_lines}
 use Rattle.piece_lines.proofs.InputLaws.{are_pieces_read}
 use Rattle.ledger_model.specs.Histories.{History}
 use Rattle.ledger_model.specs.Pieces.{piece_of}
-use Rattle.reply_reader.specs.Decimals.{decimal_of}
+use Rattle.millicent_http.specs.Decimals.{decimal_of}
 use Rattle.wallet_model.specs.Requests.{Pending, pending_of, pending_in}
 use Rattle.wallet_model.specs.Holdings.{texts_came, has_held}
 use Rattle.wallet_model.specs.Follows.{is_wallet, is_of_vendor, asks_rightly, wallet_allows, WalletFollows, IsWalletBook}
 use Rattle.wallet_model.specs.Newness.{is_new}
-use Rattle.reply_reader.specs.Replies.{Received}
+use Rattle.millicent_http.specs.Received.{Received}
 use Rattle.wallet_model.specs.Settling.{price_of, is_change, is_paid_by, sole, one_line, brings_drawn, brings_asked, fits_at, fits_request, is_proved, check_of, number_before, refusal_number, change_came, if_new, contents_came, got_came, settlement}
 use Rattle.wallet_model.specs.Laws.{HasItsPiece}
 use Rattle.wallet_model.proofs.BookLaws.{walked, all_of_book}

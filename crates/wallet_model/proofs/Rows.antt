@@ -19,7 +19,7 @@ use Rattle.wallet_model.specs.Requests.{Pending, kept_requests, oldest_kept, kep
 use Rattle.wallet_model.specs.Holdings.{holdings, held, pending, disputed, used, dead}
 use Rattle.wallet_model.specs.Follows.{wallet_allows, IsWalletBook}
 use Rattle.wallet_model.specs.Asks.{get, buy, draw, pend_entry, request_bytes}
-use Rattle.reply_reader.specs.Replies.{Received}
+use Rattle.millicent_http.specs.Received.{Received}
 use Rattle.wallet_model.specs.Settling.{check_of, settlement}
 
 abbrev news : List ℕ

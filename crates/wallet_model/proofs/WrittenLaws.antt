@@ -17,7 +17,7 @@ use Rattle.wallet_model.specs.Holdings.{PieceState, used, refused_state, moves, 
 use Rattle.wallet_model.specs.Newness.{is_new, are_new}
 use Rattle.wallet_model.specs.Follows.{is_wallet, is_of_vendor, is_draw, asks_rightly, settled_texts, entry_allowed, wallet_allows, WalletFollows, IsWalletBook}
 use Rattle.wallet_model.specs.Asks.{Offered, offered_at, is_fit, fit_for, lesser, sooner, chosen_of, chosen, Asking, get, buy, draw, paid_with, pend_entry}
-use Rattle.reply_reader.specs.Replies.{Received}
+use Rattle.millicent_http.specs.Received.{Received}
 use Rattle.wallet_model.specs.Settling.{price_of, change_came, if_new, contents_came, got_came, refusal_number, settlement}
 use Rattle.wallet_model.specs.Laws.{CanAsk}
 use Rattle.wallet_model.proofs.PieceLaws.{state_more}

@@ -1,7 +1,7 @@
 -- The reply text of a reply as a wallet read it.
 use Rattle.std.specs.Prelude.{ℕ, List, ◌++◌, codes, decimal}
 use Rattle.mc_records.specs.Replies.{or_dash}
-use Rattle.reply_reader.specs.Replies.{Received}
+use Rattle.millicent_http.specs.Received.{Received}
 
 -- up to and with its line feed, of the values as they stand in the reply
 abbrev pub line_read : Received → List ℕ

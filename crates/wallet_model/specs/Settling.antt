@@ -16,11 +16,11 @@ use Rattle.piece_lines.specs.Rules.{passes}
 use Rattle.piece_lines.specs.PieceLines.{input_lines}
 use Rattle.ledger_model.specs.Histories.{History}
 use Rattle.ledger_model.specs.Pieces.{piece_of}
-use Rattle.reply_reader.specs.Decimals.{decimal_of}
+use Rattle.millicent_http.specs.Decimals.{decimal_of}
 use Rattle.wallet_model.specs.Requests.{Pending}
 use Rattle.wallet_model.specs.Holdings.{texts_came}
 use Rattle.wallet_model.specs.Newness.{is_new}
-use Rattle.reply_reader.specs.Replies.{Received}
+use Rattle.millicent_http.specs.Received.{Received}
 use Rattle.wallet_model.specs.Received.{line_read}
 
 -- ---- the values of a 200

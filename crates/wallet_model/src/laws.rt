@@ -12,7 +12,7 @@ ghost use Rattle.wallet_model.specs.Holdings.{brings, pieces_came, texts_came, m
 ghost use Rattle.wallet_model.specs.Newness.{is_new, are_new};
 ghost use Rattle.wallet_model.specs.Follows.{is_wallet, WalletFollows, IsWalletBook, IsFirstAgainst};
 ghost use Rattle.wallet_model.specs.Asks.{Asking, pend_entry};
-ghost use Rattle.reply_reader.specs.Replies.{Received};
+ghost use Rattle.millicent_http.specs.Received.{Received};
 ghost use Rattle.wallet_model.specs.Settling.{check_of, contents_came, refusal_number, settlement};
 ghost use Rattle.wallet_model.specs.Laws.{is_pending, is_last, moved, has_piece, CanAsk, HasItsPiece};
 

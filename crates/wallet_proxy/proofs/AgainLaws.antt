@@ -12,7 +12,7 @@ use Rattle.ledger_model.specs.Histories.{History}
 use Rattle.ledger_model.specs.Lines.{Stop, Refuse, refused_if, ◌>>=◌}
 use Rattle.ledger_model.specs.Answer.{fitted}
 use Rattle.millicent_http.specs.Items.{request}
-use Rattle.reply_reader.specs.Replies.{Received}
+use Rattle.millicent_http.specs.Received.{Received}
 use Rattle.wallet_model.specs.Requests.{Pending, kept_get, kept_requests}
 use Rattle.wallet_model.specs.Asks.{Offered, lesser, fit_for, chosen, chosen_of, greatest_value}
 use Rattle.wallet_model.specs.Settling.{check_of, settlement, price_of, refusal_number}

@@ -9,7 +9,7 @@ use Rattle.ledger_model.specs.Histories.{History}
 use Rattle.ledger_model.proofs.ListLaws.{counts_cons, counts_append, sum_snoc}
 use Rattle.millicent_http.specs.Items.{Item, request, refused}
 use Rattle.millicent_http.specs.Steps.{Did, Run, state_after}
-use Rattle.reply_reader.specs.Replies.{Received}
+use Rattle.millicent_http.specs.Received.{Received}
 use Rattle.wallet_model.specs.Requests.{Pending}
 use Rattle.wallet_model.specs.Settling.{check_of, settlement, done_entry, change_came, price_of, refusal_number}
 use Rattle.wallet_model.specs.Holdings.{texts_came}

@@ -13,7 +13,7 @@ use Rattle.ledger_model.specs.Histories.{History}
 use Rattle.ledger_model.specs.Pieces.{piece_of}
 use Rattle.mc_outside.specs.LinkView.{LinkView}
 use Rattle.millicent_http.specs.Items.{Item, request, refused}
-use Rattle.reply_reader.specs.Replies.{Received}
+use Rattle.millicent_http.specs.Received.{Received}
 use Rattle.wallet_model.specs.Requests.{Pending, pending_in, pending_of, kept_get, kept_requests, requests, numbered, is_open}
 use Rattle.wallet_model.specs.Asks.{Offered, chosen, request_bytes}
 use Rattle.wallet_model.specs.Settling.{check_of, settlement, done_entry, change_came, price_of, fits_request, fits_at, is_paid_by, is_change, is_proved, brings_asked, refusal_number}

@@ -5,7 +5,7 @@ use Rattle.mc_records.specs.declared.refusal.Refusal.{Refusal}
 use Rattle.mc_records.specs.declared.refusal.Refusal.TheVariants.{NoLink, NoReply, BadReply, Unproved, UpstreamFault}
 use Rattle.mc_records.specs.Entry.{Entry, Pend, Done, Refused}
 use Rattle.ledger_model.specs.Histories.{History}
-use Rattle.reply_reader.specs.Replies.{Received}
+use Rattle.millicent_http.specs.Received.{Received}
 use Rattle.wallet_model.specs.Requests.{Pending, pending_in, kept_get}
 use Rattle.wallet_model.specs.Asks.{request_bytes}
 use Rattle.wallet_model.specs.Settling.{check_of, settlement, price_of}

@@ -16,7 +16,7 @@ use Rattle.millicent_http.specs.Takes.{TookItem}
 use Rattle.millicent_http.specs.declared.clock.Clock.TheVariants.{OfLinks}
 use Rattle.millicent_http.specs.Steps.{Did, sent_of, state_after}
 use Rattle.millicent_http.specs.Courses.{AreRead, with_readings, Replied, AreFirst, HadLink, HadLinks, NoLink, ServedAll, ServedSome}
-use Rattle.reply_reader.specs.Replies.{Received}
+use Rattle.millicent_http.specs.Received.{Received}
 use Rattle.wallet_core.specs.declared.wallet.Wallet.{Wallet}
 use Rattle.wallet_core.specs.Wallet.{WalletStands}
 use Rattle.link_turns.specs.declared.turn.Turn.{Turn}

@@ -28,8 +28,7 @@ use reply_reader::ReplyReader;
 use scrip_form::Target;
 use scrip_journal::Halted;
 use wallet_book::Holding;
-use wallet_core::{Wallet, WalletOut};
-use wallet_tasks::Ask;
+use wallet_core::{Ask, Wallet, WalletOut};
 
 /// How a target is paid for.
 #[derive(Clone, Copy)]

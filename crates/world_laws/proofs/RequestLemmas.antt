@@ -17,7 +17,8 @@ use Rattle.ledger_model.specs.Answer.{fitted}
 use Rattle.ledger_model.proofs.FollowLaws.{size_snoc}
 use Rattle.command_status.specs.declared.status.Status.{Status}
 use Rattle.command_status.specs.declared.status.Status.TheVariants as ends
-use Rattle.reply_reader.specs.Replies.{Received, IsReply}
+use Rattle.millicent_http.specs.Received.{Received}
+use Rattle.reply_reader.specs.Replies.{IsReply}
 use Rattle.wallet_model.specs.Requests.{Pending, pending_of, pending_in, is_kept, oldest_kept}
 use Rattle.wallet_model.specs.Asks.{Asking, get, buy, draw, Offered, chosen, paid_with, pend_entry, request_bytes}
 use Rattle.wallet_model.specs.Settling.{check_of, settlement}

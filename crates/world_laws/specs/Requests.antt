@@ -7,7 +7,8 @@ use Rattle.mc_records.specs.Entry.{Entry}
 use Rattle.mc_records.specs.Sizes.{size}
 use Rattle.ledger_model.specs.Histories.{History, time}
 use Rattle.scrip_journal.specs.Layout.{Encodes}
-use Rattle.reply_reader.specs.Replies.{Received, IsReply}
+use Rattle.millicent_http.specs.Received.{Received}
+use Rattle.reply_reader.specs.Replies.{IsReply}
 use Rattle.command_status.specs.declared.status.Status.{Status}
 use Rattle.wallet_model.specs.Follows.{IsWalletBook}
 use Rattle.wallet_model.specs.Requests.{Pending, oldest_kept}

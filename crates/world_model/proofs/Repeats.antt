@@ -23,7 +23,8 @@ use Rattle.millicent_http.specs.Steps.{Did, sent_of, state_after}
 use Rattle.millicent_http.specs.declared.reader.TheConstants.{MAX_ITEMS}
 use Rattle.millicent_http.proofs.ItemLemmas.{items_unique}
 use Rattle.house_core.specs.Session.{State, raised}
-use Rattle.reply_reader.specs.Replies.{Received, IsReply}
+use Rattle.millicent_http.specs.Received.{Received}
+use Rattle.reply_reader.specs.Replies.{IsReply}
 use Rattle.reply_reader.proofs.ReplyLemmas.{one_reply}
 use Rattle.wallet_model.specs.Requests.{Pending, pending_of, pending_in, is_kept, oldest_kept}
 use Rattle.wallet_model.specs.Holdings.{texts_came}

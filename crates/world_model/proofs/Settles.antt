@@ -36,7 +36,8 @@ use Rattle.ledger_model.specs.Replies.{Contents, no_contents, goods_brought, sal
 use Rattle.ledger_model.proofs.AcceptLaws.{accept_through, offer_below}
 use Rattle.ledger_model.proofs.ReplyLaws.{own_reply}
 use Rattle.millicent_http.specs.Items.{max_head}
-use Rattle.reply_reader.specs.Replies.{Received, IsReply}
+use Rattle.millicent_http.specs.Received.{Received}
+use Rattle.reply_reader.specs.Replies.{IsReply}
 use Rattle.reply_reader.specs.Written.{IsSiteReply}
 use Rattle.reply_reader.proofs.BackLemmas.{reads_back}
 use Rattle.wallet_model.specs.Requests.{Pending}

@@ -20,8 +20,9 @@ use Rattle.mc_records.specs.declared.refusal.Refusal.TheVariants.{BadReply, Unpr
 use Rattle.mc_records.specs.Replies.{or_dash, reply_text}
 use Rattle.ledger_model.specs.Replies.{Contents, taken_values}
 use Rattle.millicent_http.specs.Fields.{values}
-use Rattle.reply_reader.specs.Decimals.{decimal_of}
-use Rattle.reply_reader.specs.Replies.{Received, IsReply}
+use Rattle.millicent_http.specs.Decimals.{decimal_of}
+use Rattle.millicent_http.specs.Received.{Received}
+use Rattle.reply_reader.specs.Replies.{IsReply}
 use Rattle.reply_reader.specs.Said.{HeadSaid, the_one, given, length_said, refusal_said, said_by}
 use Rattle.reply_reader.proofs.DecimalLemmas.{decimal_one}
 use Rattle.reply_reader.proofs.CleanLemmas.{decimal_visible}

@@ -13,7 +13,7 @@ use Rattle.ledger_model.proofs.ListLaws.{all_append}
 use Rattle.ledger_model.proofs.TableLaws.{fitted_ok}
 use Rattle.ledger_model.proofs.FollowLaws.{size_snoc}
 use Rattle.house_core.specs.Session.{State}
-use Rattle.reply_reader.specs.Replies.{Received}
+use Rattle.millicent_http.specs.Received.{Received}
 use Rattle.wallet_model.specs.Requests.{Pending, pending_of, pending_in, is_kept}
 use Rattle.wallet_model.specs.Holdings.{texts_came}
 use Rattle.wallet_model.specs.Asks.{Asking, request_bytes}

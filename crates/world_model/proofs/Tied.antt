@@ -11,7 +11,7 @@ use Rattle.ledger_model.specs.Histories.{History, time}
 use Rattle.ledger_model.specs.Lawful.{MayFollow, request_of}
 use Rattle.ledger_model.proofs.ListLaws.{all_weaker, all_append}
 use Rattle.house_core.specs.Session.{State}
-use Rattle.reply_reader.specs.Replies.{Received}
+use Rattle.millicent_http.specs.Received.{Received}
 use Rattle.wallet_model.specs.Requests.{Pending, pending_of, pending_in, is_kept}
 use Rattle.wallet_model.specs.Follows.{WalletFollows}
 use Rattle.wallet_model.specs.Asks.{request_bytes}

@@ -20,7 +20,7 @@ use Rattle.ledger_model.specs.Answer.{fitted}
 use Rattle.ledger_model.specs.Pieces.{piece_of}
 use Rattle.ledger_model.proofs.TableLaws.{fitted_ok}
 use Rattle.ledger_model.proofs.ListLaws.{all_append}
-use Rattle.reply_reader.specs.Replies.{Received}
+use Rattle.millicent_http.specs.Received.{Received}
 use Rattle.wallet_model.specs.Requests.{Pending, pending_of, pending_in}
 use Rattle.wallet_model.specs.Holdings.{Holding, holding, holdings, brings, change_held, secret_at, pieces_came}
 use Rattle.wallet_model.specs.Asks.{Offered, offered_at, is_fit, fit_for, chosen, Asking, get, buy, draw, paid_with, pend_entry}

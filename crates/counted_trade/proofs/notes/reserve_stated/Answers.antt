@@ -1,5 +1,5 @@
 use Rattle.std.proofs.Common.{◌∙◌}
-use Rattle.series_sums.specs.Series.{series_key}
+use Rattle.counted_trade.specs.Series.{series_key}
 use Rattle.counted_trade.proofs.notes.reserve_stated.Goals as goal
 
 pub returns-in-Some-clause-same : goal.returns-in-Some-clause-same

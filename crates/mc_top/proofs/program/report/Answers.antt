@@ -1,5 +1,5 @@
 use Rattle.std.proofs.Common.{Bool, subst}
-use Rattle.audit_commands.specs.Reports.{ReportsBooks}
+use Rattle.audit_cmd.specs.Reports.{ReportsBooks}
 use Rattle.mc_top.proofs.program.report.Goals as goal
 
 pub returns-clause-audited : goal.returns-clause-audited

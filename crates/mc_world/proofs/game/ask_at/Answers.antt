@@ -1,6 +1,6 @@
 use Rattle.std.proofs.Common.{ℕ, arith}
 use Rattle.std.specs.Global.{Vec}
-use Rattle.wallet_tasks.specs.Asks.{asking_of}
+use Rattle.wallet_core.specs.Asks.{asking_of}
 use Rattle.mc_world.specs.Games.{world_of}
 use Rattle.mc_world.proofs.Happening.{get_none, get_at, wallet_at, asked_absent, asked_nothing, asked_something}
 use Rattle.mc_world.proofs.game.ask_at.Goals as goal

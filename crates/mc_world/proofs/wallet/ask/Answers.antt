@@ -1,7 +1,7 @@
 use Rattle.std.proofs.Common.{refl, sym, ap, ◌∙◌, ℕ}
 use Rattle.mc_records.specs.Views.{entry}
-use Rattle.wallet_tasks.specs.Asks.{asking_of}
-use Rattle.wallet_tasks.specs.Requests.{pending_view, pend_of}
+use Rattle.wallet_core.specs.Asks.{asking_of}
+use Rattle.wallet_core.specs.Requests.{pending_view, pend_of}
 use Rattle.mc_world.proofs.Wallets.{raised_at, cannot_ask, no_answer, no_room_to_ask, has_asked}
 use Rattle.mc_world.proofs.wallet.ask.Goals as goal
 

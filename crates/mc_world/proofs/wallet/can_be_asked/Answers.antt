@@ -1,6 +1,6 @@
 use Rattle.std.proofs.Common.{◌≡◌, ap}
 use Rattle.wallet_model.specs.Asks.{draw}
-use Rattle.wallet_tasks.specs.Asks.{asking_of}
+use Rattle.wallet_core.specs.Asks.{asking_of}
 use Rattle.mc_world.proofs.Wallets.{draw_can}
 use Rattle.mc_world.proofs.wallet.can_be_asked.Goals as goal
 

@@ -1,6 +1,6 @@
 use Rattle.std.proofs.Common.{refl, ap, ◌∙◌, Option, false, option_map, unwrap_or}
 use Rattle.wallet_model.specs.Requests as model
-use Rattle.wallet_tasks.specs.Requests.{request_view}
+use Rattle.wallet_core.specs.Requests.{request_view}
 use Rattle.slow_wallet.proofs.requests.slow_pays_with.Goals as goal
 
 pub returns-in-Some : goal.returns-in-Some

@@ -1,7 +1,7 @@
 use Rattle.std.proofs.Common.{◌∙◌, sym, ap, subst}
 use Rattle.mc_outside.specs.LinkView.{LinkView}
 use Rattle.wallet_model.specs.Asks.{pend_entry}
-use Rattle.wallet_tasks.specs.Asks.{asking_of}
+use Rattle.wallet_core.specs.Asks.{asking_of}
 use Rattle.wallet_core.specs.Answers.{TellsNumber}
 use Rattle.command_status.specs.declared.status.Status.TheVariants as ends
 use Rattle.wallet_commands.specs.declared.saying.Saying.TheVariants as sayings

@@ -3,9 +3,9 @@ use Rattle.std.specs.Prelude.{IsTrue}
 use Rattle.mc_outside.specs.LinkView.{LinkView}
 use Rattle.mc_records.specs.declared.refusal.Refusal.TheVariants.{DiskFault, NoMemory}
 use Rattle.reply_reader.specs.Seen.{received_of}
-use Rattle.reply_reader.specs.Replies.{Received}
+use Rattle.millicent_http.specs.Received.{Received}
 use Rattle.wallet_model.specs.Settling.{check_of, settlement}
-use Rattle.wallet_tasks.specs.Settled.{IsSettledAs}
+use Rattle.wallet_core.specs.Settled.{IsSettledAs}
 use Rattle.wallet_book.specs.Kept.{kept_in}
 use Rattle.wallet_core.specs.declared.outcome.WalletOut.TheVariants as outs
 use Rattle.wallet_core.specs.Checking.{CheckedView}

@@ -1,5 +1,5 @@
 use Rattle.std.proofs.Common.{sym, ◌++◌}
-use Rattle.series_sums.specs.Series.{series_key}
+use Rattle.counted_trade.specs.Series.{series_key}
 use Rattle.counted_trade.proofs.counts.Counts.new.Goals as goal
 
 pub returns : goal.returns

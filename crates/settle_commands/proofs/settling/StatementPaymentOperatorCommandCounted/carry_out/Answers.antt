@@ -4,8 +4,8 @@ use Rattle.mc_records.specs.declared.refusal.Refusal.TheVariants.{BadInput}
 use Rattle.operator_command.proofs.CommandLemmas.{back_as, performs_as, performs_refused, refused_as}
 use Rattle.counted_trade.specs.Counted.{counted_view}
 use Rattle.settle_core.specs.Statements.{statement_input}
-use Rattle.settle_calls.specs.Tasks.{TellsPaid}
-use Rattle.settle_calls.proofs.PayLemmas.{broken}
+use Rattle.counted_trade.specs.Tasks.{TellsPaid}
+use Rattle.counted_trade.proofs.PayLemmas.{broken}
 use Rattle.settle_commands.specs.Operations.{settle_operation}
 use Rattle.settle_commands.proofs.SayLemmas.{says_payment}
 use Rattle.settle_commands.proofs.settling.StatementPaymentOperatorCommandCounted.carry_out.Goals as goal

@@ -2,7 +2,7 @@ use Rattle.std.proofs.Common.{ℕ, ap₂, ◌∙◌}
 use Rattle.house_core.specs.Bench.{house_time}
 use Rattle.operator_command.proofs.CommandLemmas.{back_as, performs_as, refused_as}
 use Rattle.counted_trade.specs.Counted.{counted_view}
-use Rattle.settle_calls.specs.Tasks.{state_task, TellsStated}
+use Rattle.counted_trade.specs.Tasks.{state_task, TellsStated}
 use Rattle.settle_commands.specs.Operations.{state_operation}
 use Rattle.settle_commands.proofs.SayLemmas.{says_statement}
 use Rattle.settle_commands.proofs.stating.SeriesStatementOperatorCommandCounted.carry_out.Goals as goal

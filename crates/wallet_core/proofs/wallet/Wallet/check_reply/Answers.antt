@@ -3,7 +3,7 @@ use Rattle.std.proofs.Common.{◌≡◌, ◌∙◌, Some, sym, subst}
 use Rattle.std.proofs.lemmas.Bool.{false≢true}
 use Rattle.wallet_model.specs.Requests.{Pending}
 use Rattle.wallet_model.specs.Laws.{HasItsPiece}
-use Rattle.wallet_tasks.specs.Requests.{pending_view}
+use Rattle.wallet_core.specs.Requests.{pending_view}
 use Rattle.wallet_core.proofs.CallLaws.{kept_has, checks_so}
 use Rattle.wallet_core.proofs.wallet.Wallet.check_reply.Goals as goal
 

@@ -1,7 +1,7 @@
 use Rattle.std.proofs.Common.{◌≡◌, ◌∙◌, ℕ, Ok, sym, ap}
 use Rattle.mc_records.specs.Entry.{Entry}
 use Rattle.mc_records.specs.Views.{entry}
-use Rattle.wallet_tasks.specs.Requests.{pending_view, pend_of}
+use Rattle.wallet_core.specs.Requests.{pending_view, pend_of}
 use Rattle.wallet_core.specs.Answers.{TellsNumber, Any, IsFull}
 use Rattle.wallet_core.proofs.OutcomeLaws.{performs_as, tells_more}
 use Rattle.wallet_core.proofs.wallet.Wallet.keep.Goals as goal

@@ -1,6 +1,6 @@
 use Rattle.wallet_model.specs.Asks.{pend_entry}
-use Rattle.wallet_tasks.specs.Asks.{asking_of}
-use Rattle.wallet_tasks.specs.Requests.{pending_view, pend_of}
+use Rattle.wallet_core.specs.Asks.{asking_of}
+use Rattle.wallet_core.specs.Requests.{pending_view, pend_of}
 use Rattle.wallet_core.specs.Answers.{TellsNumber, Any, IsFull, MayPend}
 use Rattle.wallet_core.proofs.CallLaws.{answered, not_answered}
 use Rattle.wallet_core.proofs.OutcomeLaws.{performs_as, refuses, tells_more, full_pend, funds_may}

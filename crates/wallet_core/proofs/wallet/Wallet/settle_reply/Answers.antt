@@ -5,9 +5,9 @@ use Rattle.wallet_model.specs.Settling.{settlement}
 use Rattle.reply_reader.specs.Seen.{received_of}
 use Rattle.wallet_book.specs.Holdings.{texts_of}
 use Rattle.wallet_book.specs.Kept.{kept_in}
-use Rattle.wallet_tasks.specs.declared.settling.Settlement.{Settlement}
-use Rattle.wallet_tasks.specs.Requests.{pending_view}
-use Rattle.wallet_tasks.specs.Settled.{IsSettledAs}
+use Rattle.wallet_core.specs.declared.settling.Settlement.{Settlement}
+use Rattle.wallet_core.specs.Requests.{pending_view}
+use Rattle.wallet_core.specs.Settled.{IsSettledAs}
 use Rattle.wallet_core.specs.Checking.{CheckedView}
 use Rattle.wallet_core.specs.Outcomes.{Performs}
 use Rattle.wallet_core.specs.Answers.{TellsOnly, IsFull}

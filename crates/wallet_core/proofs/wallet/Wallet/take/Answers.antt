@@ -1,7 +1,7 @@
 use Rattle.std.proofs.Common.{◌≡◌, ◌∙◌, ℕ, List, Ok, Err, sym, ap₂}
 use Rattle.mc_records.specs.Entry.{Entry, Held, Got}
 use Rattle.mc_records.specs.PieceViews.{pieces_of}
-use Rattle.wallet_tasks.specs.Taking.{take_entry}
+use Rattle.wallet_core.specs.Taking.{take_entry}
 use Rattle.wallet_core.specs.Answers.{TellsCount, Any, IsFull, MayTake}
 use Rattle.wallet_core.proofs.OutcomeLaws.{performs_as, refuses, wants_memory, tells_more, full_take, take_may}
 use Rattle.wallet_core.proofs.wallet.Wallet.take.Goals as goal

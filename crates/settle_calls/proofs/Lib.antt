@@ -1,4 +1,0 @@
-pub mod TaskLemmas
-pub mod JudgeLemmas
-pub mod NoteLemmas
-pub mod PayLemmas

@@ -1,0 +1,170 @@
+//! The request of what is asked.
+
+ghost use Rattle.std.specs.Prelude.{◌≡◌, ◌≤◌, ◌<◌, Some, IfOk, IfErr};
+ghost use Rattle.mc_base.specs.declared.amount.TheConstants.Amount.{MOST};
+ghost use Rattle.mc_records.specs.Errands as errands;
+ghost use Rattle.mc_records.specs.Errands.{IsErrand, errand_text};
+ghost use Rattle.ledger_model.specs.Histories.{History};
+ghost use Rattle.wallet_model.specs.Asks.{chosen, paid_with, pend_entry};
+ghost use Rattle.wallet_model.specs.Follows.{WalletFollows};
+ghost use Rattle.wallet_book.specs.Book.{WalletRepresents};
+ghost use Rattle.wallet_book.specs.Choosing.{IsNoFunds};
+ghost use Rattle.wallet_book.specs.Holdings.{IsSpelled, text_of};
+ghost use Rattle.wallet_core.specs.Asks.{asking_of, HasAmounts, Answers, pend_with_entry, PaysAt};
+ghost use Rattle.wallet_core.specs.Requests.{pending_view, pend_of};
+
+use crate::ask::Ask;
+use crate::request::{WalletRequest, text_of};
+use mc_base::Amount;
+use mc_fields::{put, put_number};
+use mc_records::{Refusal, errands_are_texts};
+use scrip_form::{Name, Target};
+use wallet_book::{Holding, WalletBook};
+
+/// The request of what is asked, which pays with the piece that is chosen; a draw pays with none. `Err` is 62
+/// `NoFunds` with the greatest value of the held pieces of the house that are not expired, 0 where there are none.
+/// It takes no memory.
+pub fn request_for(book: &WalletBook, ask: &Ask) -> Result<WalletRequest, Refusal>
+    requires { HasAmounts ask.now }
+    ensures exact { (h : History) → WalletRepresents book.now h
+        → Answers book.now.time (pend_entry h book.now.time (asking_of ask.now)) result }
+    ensures follows { (h : History) → WalletRepresents book.now h
+        → IfOk result (λ p. WalletFollows h (pend_of book.now.time (pending_view p))) }
+    ensures ask { IfOk result (λ p. p.ask < 3) }
+    ensures refused { IfErr result IsNoFunds }
+{
+    match ask {
+        Ask::Get {
+            vendor,
+            target,
+            limit,
+        } => paying(book, 0, vendor, target, *limit),
+        Ask::Buy {
+            broker,
+            vendor,
+            amount,
+            limit,
+        } => paying(book, 1, broker, &buy_target(vendor, *amount), *limit),
+        Ask::Draw {
+            broker,
+            account,
+            key,
+            order,
+            amount,
+        } => Ok(WalletRequest {
+            ask: 2,
+            peer: *broker,
+            target: draw_target(account, *order, *amount),
+            scrip: None,
+            secret: *key,
+        }),
+    }
+}
+
+/// The request of a get or a buy that pays with the piece of a place among the holdings, which is held, not expired
+/// and of the house that is asked. It takes no memory.
+pub fn request_with(book: &WalletBook, place: usize, ask: &Ask) -> WalletRequest
+    requires amounts { HasAmounts ask.now }
+    requires pays { PaysAt book.now place ask.now }
+    ensures exact { (h : History) → WalletRepresents book.now h
+        → pend_with_entry h book.now.time place (asking_of ask.now) ≡ Some (pend_of book.now.time (pending_view result)) }
+    ensures follows { (h : History) → WalletRepresents book.now h
+        → WalletFollows h (pend_of book.now.time (pending_view result)) }
+    ensures ask { result.ask < 3 }
+{
+    let holding = match book.holdings().get(place) {
+        Some(holding) => holding,
+        // A piece stands there.
+        None => unreachable!(),
+    };
+    match ask {
+        Ask::Get { vendor, target, .. } => with_piece(0, vendor, target, holding),
+        Ask::Buy {
+            broker,
+            vendor,
+            amount,
+            ..
+        } => with_piece(1, broker, &buy_target(vendor, *amount), holding),
+        // A draw pays with no piece.
+        Ask::Draw { .. } => unreachable!(),
+    }
+}
+
+/// A request that pays with the piece that is chosen.
+fn paying(
+    book: &WalletBook,
+    ask: u8,
+    peer: &Name,
+    target: &Target,
+    limit: Amount,
+) -> Result<WalletRequest, Refusal>
+    ensures exact { (h : History) → WalletRepresents book.now h
+        → Answers book.now.time (paid_with book.now.time ask peer.now target.now (chosen h book.now.time peer.now limit)) result }
+    ensures ask { IfOk result (λ p. p.ask ≡ ask) }
+    ensures refused { IfErr result IsNoFunds }
+{
+    let place = match book.choose(peer, limit) {
+        Ok(place) => place,
+        Err(refusal) => return Err(refusal),
+    };
+    match book.holdings().get(place) {
+        Some(holding) => Ok(with_piece(ask, peer, target, holding)),
+        // What is chosen is one of the pieces.
+        None => Err(Refusal::NoFunds(0)),
+    }
+}
+
+/// A request that pays with a piece.
+fn with_piece(ask: u8, peer: &Name, target: &Target, holding: &Holding) -> WalletRequest
+    ensures request { result ≡ record { ask = ask; peer = peer.now; target = target.now; scrip = Some (text_of holding.now); secret = holding.now.secret } }
+    ensures spelled { IsSpelled holding.now }
+{
+    WalletRequest {
+        ask,
+        peer: *peer,
+        target: *target,
+        scrip: Some(text_of(holding)),
+        secret: holding.secret,
+    }
+}
+
+/// The target of a request to buy scrip of a vendor.
+fn buy_target(vendor: &Name, amount: Amount) -> Target
+    requires { 1 ≤ amount }
+    ensures target { result ≡ errand_text (errands.buy vendor.now amount) }
+    ensures errand { IsErrand (errands.buy vendor.now amount) }
+{
+    let mut out = [0; 128];
+    let at = put(&mut out, 0, b"/buy/");
+    let at = put(&mut out, at, vendor.bytes());
+    let at = put(&mut out, at, b"/");
+    let at = put_number(&mut out, at, amount.get());
+    errands_are_texts();
+    match Target::new(&out[..at]) {
+        Some(target) => target,
+        // What was written is a target.
+        None => unreachable!(),
+    }
+}
+
+/// The target of a request to draw scrip out of an account.
+fn draw_target(account: &Name, order: u64, amount: Amount) -> Target
+    requires order { (1 ≤ order) × (order ≤ MOST) }
+    requires amount { 1 ≤ amount }
+    ensures target { result ≡ errand_text (errands.draw account.now order amount) }
+    ensures errand { IsErrand (errands.draw account.now order amount) }
+{
+    let mut out = [0; 128];
+    let at = put(&mut out, 0, b"/draw/");
+    let at = put(&mut out, at, account.bytes());
+    let at = put(&mut out, at, b"/");
+    let at = put_number(&mut out, at, order);
+    let at = put(&mut out, at, b"/");
+    let at = put_number(&mut out, at, amount.get());
+    errands_are_texts();
+    match Target::new(&out[..at]) {
+        Some(target) => target,
+        // What was written is a target.
+        None => unreachable!(),
+    }
+}

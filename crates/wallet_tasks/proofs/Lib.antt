@@ -1,4 +1,0 @@
-pub mod LineLaws
-pub mod SettledLaws
-pub mod AskLaws
-pub mod TakenLaws

@@ -1,4 +1,0 @@
-pub mod Requests
-pub mod Asks
-pub mod Taking
-pub mod Settled
