@@ -1,6 +1,6 @@
 //! A wallet's book by slow programs: what the definitions of `wallet_model` say of a history, each found by
 //! going over its entries. Cases ask them; no wallet stands on them. What asks no history, as whether the values of a
-//! reply fit a request, is `wallet_tasks`' own.
+//! reply fit a request, is `wallet_core`'s own.
 #![tactic(auto)]
 
 mod asks;
