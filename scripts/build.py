@@ -14,6 +14,7 @@ import fcntl
 import hashlib
 import os
 import pathlib
+import re
 import shutil
 import signal
 import subprocess
@@ -23,6 +24,9 @@ import time
 ROOT = pathlib.Path(__file__).resolve().parent.parent
 ROOM = ROOT / "out/build"
 PROGRAM = "millicent"
+COSTS = ROOT / "docs/COSTS.md"
+# How many bytes of sources a second's proof has, where nothing better is known.
+PACE = 1_500
 # What one check takes at most, in bytes, but for the last and largest.
 MEMORY = 1_600_000_000
 AT_WORK = set()
@@ -75,8 +79,13 @@ class Crates:
     def library(self, name):
         return ROOM / f"{name}-{self.sum_of(name)}" / f"{name}.rlib"
 
+    def seconds(self):
+        """How long the proof of each crate takes: as it was measured, else by the bytes of its sources."""
+        measured = dict(re.findall(r"^\| `(\w+)` \| (\d+) \|", COSTS.read_text(encoding="utf-8"), re.M))
+        return {name: int(measured.get(name) or self.size(name) // PACE) for name in self.uses}
+
     def size(self, name):
-        """How long a proof takes, roughly: the bytes of its sources."""
+        """The bytes of its sources."""
         return sum(file.stat().st_size for file in self.files(name)[1])
 
     def words(self, name, jobs):
@@ -156,9 +165,9 @@ class Teller:
 
 def waited_for(crates, names):
     """How much work waits for each crate: the longest chain of crates that stand on it, and itself."""
-    found = {}
+    seconds, found = crates.seconds(), {}
     for name in reversed(names):
-        found[name] = crates.size(name) + max((found[it] for it in names if name in crates.own(it)), default=0)
+        found[name] = seconds[name] + max((found[it] for it in names if name in crates.own(it)), default=seconds[PROGRAM])
     return found
 
 

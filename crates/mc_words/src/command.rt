@@ -1,4 +1,5 @@
-ghost use Rattle.std.specs.Prelude.{map, string_bytes, IfOk, IfSome, IsNone};
+ghost use Rattle.std.specs.Prelude.{◌≢◌, map, string_bytes, IfOk, IfSome, IsNone};
+ghost use Rattle.command_table.specs.declared.table.CommandName.TheVariants.{AuditReport, AuditChain, AuditTree};
 ghost use Rattle.mc_words.specs.Commands.{AreOfNoRow, AreWords, GivesCommand};
 
 use command_table::{CommandName, named, read_command};
@@ -72,134 +73,6 @@ fn command_in<'a>(name: CommandName, found: Found<'a>) -> Option<Command<'a>>
     ensures { GivesCommand name found.entry result }
 {
     match name {
-        CommandName::VendorInit => {
-            let vendor = VendorFounder::read(&found)?;
-            Some(Command::Init(vendor))
-        }
-        CommandName::VendorGoods => {
-            let listing = Listing::read(&found)?;
-            Some(Command::Operate(Operation::Goods(listing)))
-        }
-        CommandName::VendorPrice => {
-            let pricing = Pricing::read(&found)?;
-            Some(Command::Operate(Operation::Price(pricing)))
-        }
-        CommandName::VendorLicence => {
-            let licensing = Licensing::read(&found)?;
-            Some(Command::Operate(Operation::Licence(licensing)))
-        }
-        CommandName::VendorMint => {
-            let minting = Minting::read(&found)?;
-            Some(Command::Operate(Operation::Mint(minting)))
-        }
-        CommandName::VendorUpgrade => {
-            let upgrading = Upgrading::read(&found)?;
-            Some(Command::Operate(Operation::Upgrade(upgrading)))
-        }
-        CommandName::VendorChain => {
-            let switching = Switching::read(&found)?;
-            Some(Command::Operate(Operation::Chain(switching)))
-        }
-        CommandName::VendorStatement => {
-            let stating = Stating::read(&found)?;
-            Some(Command::State(stating))
-        }
-        CommandName::VendorServe => {
-            let server = Server::read(&found)?;
-            Some(Command::Serve(server))
-        }
-        CommandName::VendorOnce => {
-            let shop = Shop::read(&found)?;
-            Some(Command::Once(shop))
-        }
-        CommandName::VendorPlay => {
-            let playing = Playing::read(&found)?;
-            Some(Command::Play(playing))
-        }
-        CommandName::BrokerInit => {
-            let broker = BrokerFounder::read(&found)?;
-            Some(Command::BrokerInit(broker))
-        }
-        CommandName::BrokerAccount => {
-            let opening = Opening::read(&found)?;
-            Some(Command::BrokerOperate(BrokerOperation::Account(opening)))
-        }
-        CommandName::BrokerDeposit => {
-            let deposit = Movement::read(&found)?;
-            Some(Command::BrokerOperate(BrokerOperation::Deposit(deposit)))
-        }
-        CommandName::BrokerWithdraw => {
-            let withdrawal = Movement::read(&found)?;
-            Some(Command::BrokerOperate(BrokerOperation::Withdraw(withdrawal)))
-        }
-        CommandName::BrokerBalance => {
-            let inquiry = Inquiry::read(&found)?;
-            Some(Command::BrokerOperate(BrokerOperation::Balance(inquiry)))
-        }
-        CommandName::BrokerLicence => {
-            let taking = Taking::read(&found)?;
-            Some(Command::BrokerOperate(BrokerOperation::Licence(taking)))
-        }
-        CommandName::BrokerStock => {
-            let stocking = Stocking::read(&found)?;
-            Some(Command::BrokerOperate(BrokerOperation::Stock(stocking)))
-        }
-        CommandName::BrokerUpgrade => {
-            let moving = LicenceUpgrading::read(&found)?;
-            Some(Command::BrokerOperate(BrokerOperation::Upgrade(moving)))
-        }
-        CommandName::BrokerChain => {
-            let chained = Switching::read(&found)?;
-            Some(Command::BrokerOperate(BrokerOperation::Chain(chained)))
-        }
-        CommandName::BrokerSettle => {
-            let settling = Settling::read(&found)?;
-            Some(Command::Settle(settling))
-        }
-        CommandName::BrokerServe => {
-            let desk = Server::read(&found)?;
-            Some(Command::BrokerServe(desk))
-        }
-        CommandName::WalletInit => {
-            let founder = WalletFounder::read(&found)?;
-            Some(Command::WalletInit(founder))
-        }
-        CommandName::WalletTake => {
-            let filling = BookAlone::read(&found)?;
-            Some(Command::WalletOperate(WalletOperation::Take(filling)))
-        }
-        CommandName::WalletDraw => {
-            let drawing = Drawing::read(&found)?;
-            Some(Command::WalletOperate(WalletOperation::Draw(drawing)))
-        }
-        CommandName::WalletBuy => {
-            let buying = Buying::read(&found)?;
-            Some(Command::WalletOperate(WalletOperation::Buy(buying)))
-        }
-        CommandName::WalletGet => {
-            let getting = Getting::read(&found)?;
-            Some(Command::WalletOperate(WalletOperation::Get(getting)))
-        }
-        CommandName::WalletRetry => {
-            let retrying = Retrying::read(&found)?;
-            Some(Command::WalletOperate(WalletOperation::Retry(retrying)))
-        }
-        CommandName::WalletList => {
-            let telling = BookAlone::read(&found)?;
-            Some(Command::WalletOperate(WalletOperation::List(telling)))
-        }
-        CommandName::WalletLines => {
-            let relaying = Relaying::read(&found)?;
-            Some(Command::WalletOperate(WalletOperation::Lines(relaying)))
-        }
-        CommandName::WalletChain => {
-            let chaining = BookAlone::read(&found)?;
-            Some(Command::WalletOperate(WalletOperation::Chain(chaining)))
-        }
-        CommandName::WalletRenew => {
-            let renewing = Renewing::read(&found)?;
-            Some(Command::WalletOperate(WalletOperation::Renew(renewing)))
-        }
         CommandName::AuditReport => {
             let reporting = Reporting::read(found)?;
             Some(Command::Report(reporting))
@@ -212,6 +85,150 @@ fn command_in<'a>(name: CommandName, found: Found<'a>) -> Option<Command<'a>>
             let tree = AuditBooks::read(found)?;
             Some(Command::Tree(tree))
         }
+        _ => command_from(name, &found),
+    }
+}
+
+/// The same of a name that is no auditor's.
+#[tactic(auto, unfolding(command_table::specs::Table::form_of))]
+fn command_from<'a>(name: CommandName, found: &Found<'a>) -> Option<Command<'a>>
+    requires report { name ≢ AuditReport }
+    requires chain { name ≢ AuditChain }
+    requires tree { name ≢ AuditTree }
+    ensures { GivesCommand name found.now result }
+{
+    match name {
+        CommandName::VendorInit => {
+            let vendor = VendorFounder::read(found)?;
+            Some(Command::Init(vendor))
+        }
+        CommandName::VendorGoods => {
+            let listing = Listing::read(found)?;
+            Some(Command::Operate(Operation::Goods(listing)))
+        }
+        CommandName::VendorPrice => {
+            let pricing = Pricing::read(found)?;
+            Some(Command::Operate(Operation::Price(pricing)))
+        }
+        CommandName::VendorLicence => {
+            let licensing = Licensing::read(found)?;
+            Some(Command::Operate(Operation::Licence(licensing)))
+        }
+        CommandName::VendorMint => {
+            let minting = Minting::read(found)?;
+            Some(Command::Operate(Operation::Mint(minting)))
+        }
+        CommandName::VendorUpgrade => {
+            let upgrading = Upgrading::read(found)?;
+            Some(Command::Operate(Operation::Upgrade(upgrading)))
+        }
+        CommandName::VendorChain => {
+            let switching = Switching::read(found)?;
+            Some(Command::Operate(Operation::Chain(switching)))
+        }
+        CommandName::VendorStatement => {
+            let stating = Stating::read(found)?;
+            Some(Command::State(stating))
+        }
+        CommandName::VendorServe => {
+            let server = Server::read(found)?;
+            Some(Command::Serve(server))
+        }
+        CommandName::VendorOnce => {
+            let shop = Shop::read(found)?;
+            Some(Command::Once(shop))
+        }
+        CommandName::VendorPlay => {
+            let playing = Playing::read(found)?;
+            Some(Command::Play(playing))
+        }
+        CommandName::BrokerInit => {
+            let broker = BrokerFounder::read(found)?;
+            Some(Command::BrokerInit(broker))
+        }
+        CommandName::BrokerAccount => {
+            let opening = Opening::read(found)?;
+            Some(Command::BrokerOperate(BrokerOperation::Account(opening)))
+        }
+        CommandName::BrokerDeposit => {
+            let deposit = Movement::read(found)?;
+            Some(Command::BrokerOperate(BrokerOperation::Deposit(deposit)))
+        }
+        CommandName::BrokerWithdraw => {
+            let withdrawal = Movement::read(found)?;
+            Some(Command::BrokerOperate(BrokerOperation::Withdraw(withdrawal)))
+        }
+        CommandName::BrokerBalance => {
+            let inquiry = Inquiry::read(found)?;
+            Some(Command::BrokerOperate(BrokerOperation::Balance(inquiry)))
+        }
+        CommandName::BrokerLicence => {
+            let taking = Taking::read(found)?;
+            Some(Command::BrokerOperate(BrokerOperation::Licence(taking)))
+        }
+        CommandName::BrokerStock => {
+            let stocking = Stocking::read(found)?;
+            Some(Command::BrokerOperate(BrokerOperation::Stock(stocking)))
+        }
+        CommandName::BrokerUpgrade => {
+            let moving = LicenceUpgrading::read(found)?;
+            Some(Command::BrokerOperate(BrokerOperation::Upgrade(moving)))
+        }
+        CommandName::BrokerChain => {
+            let chained = Switching::read(found)?;
+            Some(Command::BrokerOperate(BrokerOperation::Chain(chained)))
+        }
+        CommandName::BrokerSettle => {
+            let settling = Settling::read(found)?;
+            Some(Command::Settle(settling))
+        }
+        CommandName::BrokerServe => {
+            let desk = Server::read(found)?;
+            Some(Command::BrokerServe(desk))
+        }
+        CommandName::WalletInit => {
+            let founder = WalletFounder::read(found)?;
+            Some(Command::WalletInit(founder))
+        }
+        CommandName::WalletTake => {
+            let filling = BookAlone::read(found)?;
+            Some(Command::WalletOperate(WalletOperation::Take(filling)))
+        }
+        CommandName::WalletDraw => {
+            let drawing = Drawing::read(found)?;
+            Some(Command::WalletOperate(WalletOperation::Draw(drawing)))
+        }
+        CommandName::WalletBuy => {
+            let buying = Buying::read(found)?;
+            Some(Command::WalletOperate(WalletOperation::Buy(buying)))
+        }
+        CommandName::WalletGet => {
+            let getting = Getting::read(found)?;
+            Some(Command::WalletOperate(WalletOperation::Get(getting)))
+        }
+        CommandName::WalletRetry => {
+            let retrying = Retrying::read(found)?;
+            Some(Command::WalletOperate(WalletOperation::Retry(retrying)))
+        }
+        CommandName::WalletList => {
+            let telling = BookAlone::read(found)?;
+            Some(Command::WalletOperate(WalletOperation::List(telling)))
+        }
+        CommandName::WalletLines => {
+            let relaying = Relaying::read(found)?;
+            Some(Command::WalletOperate(WalletOperation::Lines(relaying)))
+        }
+        CommandName::WalletChain => {
+            let chaining = BookAlone::read(found)?;
+            Some(Command::WalletOperate(WalletOperation::Chain(chaining)))
+        }
+        CommandName::WalletRenew => {
+            let renewing = Renewing::read(found)?;
+            Some(Command::WalletOperate(WalletOperation::Renew(renewing)))
+        }
         CommandName::WalletProxy => None,
+        CommandName::AuditReport | CommandName::AuditChain | CommandName::AuditTree => {
+            unreachable!()
+        }
     }
 }
