@@ -14,3 +14,4 @@ pub mod Heading
 pub mod Appending
 pub mod Uncut
 pub mod FoundLemmas
+pub mod Switching
