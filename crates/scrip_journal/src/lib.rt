@@ -7,6 +7,7 @@
 #![tactic(auto)]
 
 mod book;
+mod chain;
 mod cursor;
 mod ending;
 mod fault;
