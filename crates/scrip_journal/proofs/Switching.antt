@@ -32,8 +32,8 @@ pub switch_adds : (h : List Entry) (m : ℕ) (switched : Bool) → switched ≡ 
 switch_adds h m switched is = omega (arith, switch_long m (chain h) (length-chain h), ap tail_bytes is, length-tail h (Switch m (chain h)), tail_size-by h)
 
 -- a chain that a journal knows is that of its entries
-pub known_chain : {D : Type 0} (view : D → DiskView) (j : AtRest D) (h : List Entry) (c : List ℕ) → IsJournal view j h → j.chain ≡ Some c → c ≡ chain h
-known_chain view j h c is known = subst (λ (o : Option (List ℕ)). IsChainOf o h) known is.chain_is
+pub chain_found : {D : Type 0} (view : D → DiskView) (j : AtRest D) (h : List Entry) (c : List ℕ) → IsJournal view j h → j.chain ≡ Some c → c ≡ chain h
+chain_found view j h c is known = subst (λ (o : Option (List ℕ)). IsChainOf o h) known is.chain_is
 
 -- nothing was done
 pub ran_unwritten : {D : Type 0} (view : D → DiskView) (j : AtRest D) (h : List Entry) (e : Entry) → IsDisk (view j.disk) → IsJournal view j h → Ran (view j.disk) (view j.disk) (EitherNoOutput h e (view j.disk).aside)

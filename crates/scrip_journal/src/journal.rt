@@ -90,6 +90,7 @@ impl<D: Disk> Journal<D> {
         // Each crash pair of the call encodes the entries as they were, and nothing is sent.
         ensures ran { (h : List Entry) → IsJournal D.disk self h
             → Ran (D.disk self.disk) (D.disk (staged_disk result)) (EncodesNoOutput h (D.disk self.disk).aside) }
+        ensures room { RoomBy result self.limit (size_with self (entry r.now)) }
         ensures full { (h : List Entry) → self.size ≡ size h → self.switched ≡ has_switch h
             → RoomBy result self.limit (size h + entry_size h (entry r.now)) }
         ensures fault { IfErr result (λ f. MatchStageFault f
@@ -200,6 +201,7 @@ impl<D: Disk> Journal<D> {
         // sent.
         ensures ran { (h : List Entry) → IsJournal D.disk self h
             → Ran (D.disk self.disk) (D.disk (written_disk result)) (EitherNoOutput h (entry r.now) (D.disk self.disk).aside) }
+        ensures room { RoomBy result self.limit (size_with self (entry r.now)) }
         ensures full { (h : List Entry) → self.size ≡ size h → self.switched ≡ has_switch h
             → RoomBy result self.limit (size h + entry_size h (entry r.now)) }
         ensures fault { IfErr result (λ f. MatchStageFault f
