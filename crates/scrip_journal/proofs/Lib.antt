@@ -14,4 +14,4 @@ pub mod Heading
 pub mod Appending
 pub mod Uncut
 pub mod FoundLemmas
-pub mod Switching
+pub mod SwitchLaws

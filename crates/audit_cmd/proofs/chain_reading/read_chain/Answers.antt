@@ -1,5 +1,5 @@
 use Rattle.std.proofs.Common.{sym, ◌∙◌}
-use Rattle.scrip_journal.proofs.Switching.{chain_found}
+use Rattle.scrip_journal.proofs.SwitchLaws.{chain_found}
 use Rattle.audit_cmd.proofs.ChainLaws.{chain_fault}
 use Rattle.audit_cmd.proofs.chain_reading.read_chain.Goals as goal
 

@@ -9,7 +9,7 @@ use Rattle.mc_records.proofs.ChainLaws.{length-chain}
 use Rattle.ledger_model.specs.Stages.{fitted_by}
 use Rattle.scrip_journal.specs.Exits.{EitherNoOutput}
 use Rattle.scrip_journal.specs.declared.switching.TheConstants.{SWITCH_PAYLOAD}
-use Rattle.scrip_journal.proofs.Switching.{switch_long}
+use Rattle.scrip_journal.proofs.SwitchLaws.{switch_long}
 use Rattle.house_state.specs.HouseState.{size_with, tail_of}
 use Rattle.house_state.proofs.Tabled.{fitted_stands}
 use Rattle.house_core.specs.declared.house.House.{House}

@@ -1,4 +1,4 @@
-use Rattle.std.proofs.Common.{◌≡◌, ◌∙◌, ◌+◌, ◌<◌, false, refl, sym, ap, arith}
+use Rattle.std.proofs.Common.{◌≡◌, ◌∙◌, ◌+◌, ◌<◌, false, refl, sym, ap, subst, arith}
 use Rattle.mc_outside.specs.Bytes.{Rose}
 use Rattle.mc_outside.specs.DiskView.{Ran}
 use Rattle.mc_records.specs.declared.limits.Limits.{Limits}
@@ -7,7 +7,9 @@ use Rattle.mc_records.specs.Entry.{Switch}
 use Rattle.mc_records.specs.Sizes.{size, entry_size}
 use Rattle.mc_records.proofs.ChainLaws.{length-chain}
 use Rattle.scrip_journal.specs.Exits.{EitherNoOutput}
-use Rattle.scrip_journal.proofs.Switching.{switch_long}
+use Rattle.scrip_journal.proofs.SwitchLaws.{switch_long}
+use Rattle.wallet_core.specs.declared.outcome.WalletOut.TheVariants.{Halted}
+use Rattle.wallet_core.specs.Switching.{Switches}
 use Rattle.wallet_core.proofs.EnterLaws.{not_full}
 use Rattle.wallet_core.proofs.SwitchLaws.{may_switch, switch_learned, switch_room, switched_already, switch_done, switch_refused, switch_halted}
 use Rattle.wallet_core.proofs.wallet.Wallet.switch.Goals as goal
@@ -53,10 +55,11 @@ returns-in-Err-Disk-clause-exact g c = λ h st.
     let none : has_switch h ≡ false = sym st.journal.switched_is ∙ sym c.if-is_switched.ensures.value in
     let rose : Rose (g.D.Disk.disk c.args.self.journal.disk).faults (g.D.Disk.disk c.in-Err-Disk.halted).faults = rw c.in-Err-Disk.field-0-is at c.in-Err-Disk.ensures.fault in
     let ran : Ran (g.D.Disk.disk c.args.self.journal.disk) (g.D.Disk.disk c.in-Err-Disk.halted) (EitherNoOutput h e (g.D.Disk.disk c.args.self.journal.disk).aside) = rw c.in-Err-Disk.field-0-is at (c.in-Err-Disk.ensures.ran h st.journal) in
-    switch_halted g.D.Disk.disk c.args.self h st none t c.time-moment.ensures c.in-Err-Disk.halted
+    subst (λ (d : g.row.D.Denot). Switches g.D.Disk.disk c.args.self h (Halted d)) (sym c.in-Err-Disk.halted-is)
+    (switch_halted g.D.Disk.disk c.args.self h st none t c.time-moment.ensures c.in-Err-Disk.halted
     (record {
       fits = c.in-Ok.ensures.fitted h e st.book (sym (switch_long t (chain h) (length-chain h)));
       follows = may_switch c.args.self.book h t st.book none c.time-moment.ensures;
       rose = rose;
     })
-    ran
+    ran)

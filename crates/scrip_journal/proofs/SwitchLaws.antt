@@ -1,5 +1,7 @@
 -- What writing a Switch leaves.
-use Rattle.std.proofs.Common.{◌≡◌, ℕ, ◌+◌, ◌≤◌, Bool, List, [], ◌∷◌, ◌++◌, length, Option, Some, inl, refl, ap, subst, arith, length-append}
+use Rattle.std.proofs.Common.{◌≡◌, ◌∙◌, ℕ, ◌+◌, ◌<◌, ◌≤◌, Bool, false, List, [], ◌∷◌, ◌++◌, length, Option, Some, inl, ⊎_elim, ◌↔◌, refl, sym, ap, subst, arith, length-append}
+use Rattle.std.specs.Prelude.{IsTrue}
+use Rattle.std.proofs.lemmas.Bool.{true≢false, cases_lt}
 use Rattle.mc_fields.specs.Field.{one, eight, number_bytes}
 use Rattle.mc_fields.proofs.FieldBytes.{length-number_bytes}
 use Rattle.mc_outside.specs.DiskView.{DiskView, IsDisk, OnlyRead, Ran}
@@ -30,6 +32,10 @@ switch_long m c long = omega (
 -- what it adds to a journal of this history
 pub switch_adds : (h : List Entry) (m : ℕ) (switched : Bool) → switched ≡ has_switch h → entry_size h (Switch m (chain h)) ≡ framed_size SWITCH_PAYLOAD (tail_bytes switched)
 switch_adds h m switched is = omega (arith, switch_long m (chain h) (length-chain h), ap tail_bytes is, length-tail h (Switch m (chain h)), tail_size-by h)
+
+-- what is not full has room
+pub within_limit : (full : Bool) (limit needed : ℕ) → IsTrue full ↔ (limit < needed) → full ≡ false → needed ≤ limit
+within_limit full limit needed decides spare = ⊎_elim (λ over. absurd (true≢false (sym (decides.1 over) ∙ spare))) (λ within. within) (cases_lt limit needed)
 
 -- a chain that a journal knows is that of its entries
 pub chain_found : {D : Type 0} (view : D → DiskView) (j : AtRest D) (h : List Entry) (c : List ℕ) → IsJournal view j h → j.chain ≡ Some c → c ≡ chain h
