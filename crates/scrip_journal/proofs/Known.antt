@@ -9,8 +9,8 @@ use Rattle.mc_records.proofs.SizeLaws.{tail-by, no_tail}
 use Rattle.scrip_journal.specs.States.{IsChainOf, IsKnown, known_chain, chain_with}
 
 pub not_so : (b : Bool) → (b ≡ true → false ≡ true) → b ≡ false
-not_so true no = sym (no refl)
-not_so false no = refl
+not_so true never = sym (never refl)
+not_so false never = refl
 
 -- a chain that is known
 pub chain_known : (c : Option (List ℕ)) (h : List Entry) → IsChainOf c h → IsSome c → known_chain c ≡ chain h
@@ -24,12 +24,12 @@ chain_goes_on (Some x) h e is known = ap (λ (k : List ℕ). chain_after k (payl
 
 -- and where a Switch stands it is known
 pub chain_at_switch : (c : Option (List ℕ)) (h : List Entry) (e : Entry) → IsChainOf c h → has_switch h ≡ true → known_chain (chain_with c (payload e)) ≡ chain (h ++ e ∷ [])
-chain_at_switch None h e is on = let no : false ≡ true = sym is ∙ on in absurd (cc no)
+chain_at_switch None h e is on = let both : false ≡ true = sym is ∙ on in absurd (cc both)
 chain_at_switch (Some x) h e is on = ap (λ (k : List ℕ). chain_after k (payload e)) is ∙ sym (chain-more h e)
 
 front_false : (a b : Bool) → (a || b) ≡ false → a ≡ false
-front_false true b no = no
-front_false false b no = refl
+front_false true b off = off
+front_false false b off = refl
 
 -- the tail of an entry, by the chain with it
 pub tail_of : (switched : Bool) (c : Option (List ℕ)) (h : List Entry) (e : Entry) → switched ≡ has_switch h → IsChainOf c (h ++ e ∷ []) → tail_by switched (known_chain c) ≡ tail h e

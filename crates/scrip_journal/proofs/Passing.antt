@@ -49,13 +49,12 @@ comes_next before more x bytes rest s fits most shape begins =
     ap (next_of before) (append_cancel_left (body before) rest (1 ∷ (framed before x ++ left)) whole) ∙ entered_there before x left (fits_at before more x fits) (size_grows before more x most)
 
 -- a reading does not end there
-pub IsFailed : Ending → Type 0
+abbrev pub IsFailed : Ending → Type 0
 IsFailed Failed = Unit {0}
 IsFailed _ = ⊥
 
 no_stop : (e : Ending) (n : Next) (x : Entry) → n ≡ entered x → EndedBy (Some e) n → IsFailed e
-unfolding IsFailed
-no_stop Closed n x is by = let no : at_end ≡ entered x = sym by ∙ is in cc no
+no_stop Closed n x is by = cc (sym by ∙ is)
 no_stop (Spoiled place) n x is by = cc (sym by ∙ is)
 no_stop (Unchained place stood computed) n x is by = cc (sym by ∙ is)
 no_stop Failed n x is by = tt
@@ -157,6 +156,32 @@ module _ {D : Type 0} (view : D → DiskView) (old : Reading D) (h : List Entry)
     ended_by = subst (λ (e : Option Ending). EndedBy e (next_of h r.rest)) (sym ended) tt;
     synced = λ c l. r.synced c (read.leaves c l);
   }
+
+-- The entries were passed once more, and then it stands at the gate again: whatever was read, only what is known of the
+-- chain may be more.
+pub found_again : {D : Type 0} (view : D → DiskView) (old a b new : Reading D) (gate entries : ℕ) (c : Option (List ℕ)) → old.ended ≡ None → old.switched ≡ false → gate ≡ old.gate → entries ≡ old.entries
+    → a ≡ record old { gate = 8; entries = 0; switched = false; chain = Some first_chain; held = []; last = [] } → OnlyRead (view a.disk) (view b.disk) → b.limit ≡ a.limit → b.ended ≡ None
+    → ((h : List Entry) → IsReading view old h → IsChainOf c h) → new ≡ record b { gate = gate; entries = entries; switched = false; chain = c; held = []; last = [] } → LookedOn view old new
+found_again {D = D} view old a b new gate entries c on off gate_is entries_is first read limit going chain_is last =
+    let from : a.disk ≡ old.disk = ap (λ (v : Reading D). v.disk) first in
+    let to : new.disk ≡ b.disk = ap (λ (v : Reading D). v.disk) last in
+    let only : OnlyRead (view old.disk) (view new.disk) =
+    subst (λ (d : D). OnlyRead (view old.disk) (view d)) (sym to) (subst (λ (d : D). OnlyRead (view d) (view b.disk)) from read) in
+    let gates : new.gate ≡ old.gate = ap (λ (v : Reading D). v.gate) last ∙ gate_is in
+    let counts : new.entries ≡ old.entries = ap (λ (v : Reading D). v.entries) last ∙ entries_is in
+    let switches : new.switched ≡ old.switched = ap (λ (v : Reading D). v.switched) last ∙ sym off in
+    let ends : new.ended ≡ None = ap (λ (v : Reading D). v.ended) last ∙ going in
+    record {
+      gate = gates;
+      entries = counts;
+      limit = ap (λ (v : Reading D). v.limit) last ∙ limit ∙ ap (λ (v : Reading D). v.limit) first;
+      switched = switches;
+      ended = ends ∙ sym on;
+      only_read = only;
+      reading = λ h r.
+          let known : IsChainOf new.chain h = subst (λ (k : Option (List ℕ)). IsChainOf k h) (sym (ap (λ (v : Reading D). v.chain) last)) (chain_is h r) in
+          stands_again view old h r new only gates counts switches known (ap (λ (v : Reading D). v.held) last) ends;
+    }
 
 -- ---- a journal that is read so
 
