@@ -1,5 +1,5 @@
 -- What looking for an entry leaves of a reading, where more of its chain may be known then.
-use Rattle.std.proofs.Common.{◌≡◌, ℕ, Bool, true, false, not, ◌||◌, List, drop, Some, Result, Ok, Err, IfErr, refl, sym, ◌∙◌, ap₂, subst}
+use Rattle.std.proofs.Common.{◌≡◌, ℕ, List, drop, Some, Result, Ok, Err, IfErr, sym, ◌∙◌, ap₂, subst}
 use Rattle.mc_outside.specs.DiskView.{DiskView}
 use Rattle.mc_outside.proofs.Runs.{read_then}
 use Rattle.mc_records.specs.Entry.{Entry}
@@ -51,8 +51,3 @@ ends_looked view a b e looked ends h r =
 pub if_err : {T E : Type 0} (P Q : E → Type 0) (r : Result T E) → ((e : E) → P e → Q e) → IfErr r P → IfErr r Q
 if_err P Q (Ok x) then' is = is
 if_err P Q (Err e) then' is = then' e is
-
--- where it is no Switch, or the chain is known, the chain is known where it is a Switch
-pub known_there : (switches known : Bool) → (not switches || known) ≡ true → switches ≡ true → known ≡ true
-known_there true known either is = either
-known_there false known either is = absurd (cc is)

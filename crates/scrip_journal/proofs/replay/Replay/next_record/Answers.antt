@@ -6,7 +6,7 @@ use Rattle.scrip_journal.proofs.Advancing.{none_of, advanced_on, advanced_to_end
 use Rattle.scrip_journal.proofs.replay.Replay.next_record.Goals as goal
 
 pub look_known-requires : goal.look_known-requires
-look_known-requires g c = none_of c.self.inside.ended c.in_default.not-Some
+look_known-requires g c = record { going = none_of c.self.inside.ended c.in_default.not-Some }
 
 pub returns-in-Ok : goal.returns-in-Ok
 returns-in-Ok g c =
