@@ -1,5 +1,5 @@
 -- What one call of `next_record` does, from its steps.
-use Rattle.std.proofs.Common.{◌≡◌, ℕ, Bool, true, List, drop, Option, Some, None, Ok, Err, refl, sym, ◌∙◌, ap₂, subst, arith}
+use Rattle.std.proofs.Common.{◌≡◌, ℕ, true, List, Option, Some, None, Ok, Err, refl, sym, ◌∙◌, subst, arith}
 use Rattle.std.specs.Prelude.{IsSome}
 use Rattle.mc_outside.specs.DiskView.{DiskView}
 use Rattle.mc_records.specs.Entry.{Entry}

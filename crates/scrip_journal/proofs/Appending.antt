@@ -1,8 +1,8 @@
 -- The disk of a journal, while an entry is staged and its gate is opened.
-use Rattle.std.proofs.Common.{◌≡◌, ℕ, ◌+◌, List, length, Result, Ok, Err, inl, ap, subst, arith}
+use Rattle.std.proofs.Common.{◌≡◌, ℕ, ◌+◌, List, Result, Err, inl, ap, subst, arith}
 use Rattle.mc_outside.specs.DiskView.{DiskView, DiskGoes, OnlyRead, Ran}
 use Rattle.mc_outside.proofs.Runs.{ran_then, ran_weaker}
-use Rattle.mc_records.specs.Entry.{Entry, payload}
+use Rattle.mc_records.specs.Entry.{Entry}
 use Rattle.mc_records.specs.Chains.{has_switch}
 use Rattle.mc_records.specs.Sizes.{tail_bytes, size, entry_size}
 use Rattle.mc_records.proofs.SizeLaws.{length-tail, tail_size-by}

@@ -1,5 +1,5 @@
 -- How a reading ends at a gate, and what is held where it goes on.
-use Rattle.std.proofs.Common.{◌≡◌, ◌≢◌, ◌⊎◌, ⊎_elim, inl, inr, Bool, true, false, ℕ, ◌+◌, ◌^◌, ◌≤◌, ◌<◌, List, [], ◌∷◌, ◌++◌, length, take, drop, Option, Some, Err, refl, sym, ◌∙◌, ap, ap₂, subst, arith, append_assoc, length-append}
+use Rattle.std.proofs.Common.{◌≡◌, ◌≢◌, ◌⊎◌, ⊎_elim, inl, inr, Bool, true, ℕ, ◌+◌, ◌≤◌, ◌<◌, List, [], ◌∷◌, ◌++◌, length, take, drop, Option, Some, Err, refl, sym, ◌∙◌, ap, ap₂, subst, arith, append_assoc, length-append}
 use Rattle.std.specs.Int.{to_be_bytes, from_be_bytes, w32}
 use Rattle.std.proofs.lemmas.List.{take-append-le, drop-append-le, take-append-drop, length-drop, length-take, take_at, drop_at, drop-drop}
 use Rattle.std.proofs.lemmas.Bool.{cases_lt}
@@ -9,11 +9,11 @@ use Rattle.mc_outside.proofs.Runs.{read_then}
 use Rattle.mc_records.specs.declared.sizes.TheConstants.{PAYLOAD_BOUND}
 use Rattle.mc_records.specs.declared.limits.TheConstants.Limits.{MOST_JOURNAL}
 use Rattle.mc_records.specs.Entry.{Entry, Fits, payload}
-use Rattle.mc_records.specs.Chains.{chain, has_switch, is_switch}
+use Rattle.mc_records.specs.Chains.{has_switch, is_switch}
 use Rattle.mc_records.specs.Sizes.{tail, tail_by, tail_bytes, tail_size}
 use Rattle.mc_records.proofs.SizeLaws.{tail-by, tail_size-by}
 use Rattle.mc_records.specs.Forms.{entry_of}
-use Rattle.scrip_journal.specs.Layout.{body, entered, spoiled, unchained, next_tail, next_of}
+use Rattle.scrip_journal.specs.Layout.{body, spoiled, unchained, next_tail, next_of}
 use Rattle.scrip_journal.specs.States.{Reading, EndedBy, IsChainOf, known_chain, chain_with}
 use Rattle.scrip_journal.specs.Replays.{HeldOf, ReadAhead, IsCut, AllHeld, IsPayload, IsFrame, IsTold, EndsHere}
 use Rattle.scrip_journal.specs.declared.replay.Found.{Found}

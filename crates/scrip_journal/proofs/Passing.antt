@@ -1,5 +1,5 @@
 -- How entries that were read are passed once more.
-use Rattle.std.proofs.Common.{◌≡◌, ℕ, ◌+◌, ◌<◌, ◌≤◌, Bool, true, false, List, [], ◌∷◌, ◌++◌, length, drop, Option, Some, None, refl, sym, ◌∙◌, ap, subst, arith, append-nil, append_assoc}
+use Rattle.std.proofs.Common.{◌≡◌, ℕ, ◌+◌, ◌<◌, ◌≤◌, false, List, [], ◌∷◌, ◌++◌, Option, Some, None, refl, sym, ◌∙◌, ap, subst, arith, append-nil, append_assoc}
 use Rattle.std.specs.Prelude.{IsSome}
 use Rattle.std.specs.List.{AllByRecursion}
 use Rattle.std.proofs.lemmas.List.{append_cancel_left}
@@ -8,16 +8,15 @@ use Rattle.mc_outside.specs.DiskView.{DiskView, OnlyRead}
 use Rattle.mc_records.specs.declared.limits.TheConstants.Limits.{MOST_JOURNAL}
 use Rattle.mc_records.specs.Entry.{Entry, Fits}
 use Rattle.mc_records.specs.Chains.{first_chain, chain}
-use Rattle.mc_records.specs.Sizes.{size, size_from}
+use Rattle.mc_records.specs.Sizes.{size}
 use Rattle.mc_records.proofs.ChainLaws.{chain-none}
-use Rattle.scrip_journal.specs.Layout.{header, framed, gated, body, Encodes, Next, at_end, entered, next_of}
+use Rattle.scrip_journal.specs.Layout.{header, framed, gated, body, Encodes, Next, entered, next_of}
 use Rattle.scrip_journal.specs.States.{AtRest, Reading, IsJournal, IsReading, IsChainOf, EndedBy, known_chain}
 use Rattle.scrip_journal.specs.Replays.{ReadAhead, EndsHere, IsFrame, TookEntry, LookedOn, Passes, RestsBehind}
 use Rattle.scrip_journal.specs.declared.ending.Ending.{Ending}
 use Rattle.scrip_journal.specs.declared.ending.Ending.TheVariants.{Closed, Spoiled, Unchained, Failed}
 use Rattle.scrip_journal.specs.declared.replay.Found.{Found}
 use Rattle.scrip_journal.proofs.Beginnings.{size_apart, size_grows}
-use Rattle.scrip_journal.proofs.Bodies.{body_more}
 use Rattle.scrip_journal.proofs.Known.{chain_known}
 use Rattle.scrip_journal.proofs.Looked.{ends_reading}
 use Rattle.scrip_journal.proofs.Reading.{some_same, still_reading, next_reading}

@@ -2,7 +2,7 @@ use Rattle.std.proofs.Common.{◌≡◌, ◌+◌, Bool, ◌||◌, arith, refl, s
 use Rattle.mc_outside.specs.DiskView.{DiskView, Ran}
 use Rattle.mc_outside.proofs.Counts.{on_ok}
 use Rattle.mc_records.specs.Entry.{Entry, payload}
-use Rattle.mc_records.specs.Chains.{has_switch, is_switch}
+use Rattle.mc_records.specs.Chains.{has_switch}
 use Rattle.mc_records.specs.Sizes.{tail, tail_by, tail_bytes, entry_size}
 use Rattle.mc_records.specs.Views.{entry}
 use Rattle.mc_records.proofs.ChainLaws.{has_switch-more}

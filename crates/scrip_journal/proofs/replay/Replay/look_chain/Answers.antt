@@ -1,4 +1,4 @@
-use Rattle.std.proofs.Common.{◌≡◌, ◌+◌, ◌≤◌, Bool, true, false, not, Option, List, ℕ, length, take, drop, refl, sym, ◌∙◌, ap, subst, arith}
+use Rattle.std.proofs.Common.{◌≡◌, ◌+◌, ◌≤◌, true, Option, List, ℕ, length, take, drop, sym, ◌∙◌, ap, subst, arith}
 use Rattle.mc_records.specs.Sizes.{tail_bytes}
 use Rattle.mc_records.proofs.PayloadSizes.{payload_is_short}
 use Rattle.scrip_journal.specs.States.{Reading, known_chain, chain_with}
