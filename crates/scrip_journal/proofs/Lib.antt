@@ -7,7 +7,10 @@ pub mod Unique
 pub mod Beginnings
 pub mod Windows
 pub mod Looking
+pub mod Known
 pub mod Reading
+pub mod Looked
+pub mod Passing
 pub mod Pieces
 pub mod Advancing
 pub mod Heading

@@ -35,7 +35,7 @@ impl<D> Model for Journal<D> {
 
     ghost view = { λ j. record { disk = j.disk; size = j.at.gate + 1; entries = j.at.entries; limit = j.at.limit; switched = j.at.switched; chain = j.at.chain } };
 
-    ghost invariant = { λ j. (j.at.gate < MOST_JOURNAL) × (j.at.entries ≤ j.at.gate) × (j.at.limit ≤ MOST_JOURNAL) × (length j.at.buf.items ≡ BUFFER) × IsKnown j.at.switched j.at.chain };
+    ghost invariant = { λ j. ((j.at.gate < MOST_JOURNAL) × (j.at.entries ≤ j.at.gate) × (j.at.limit ≤ MOST_JOURNAL) × (length j.at.buf.items ≡ BUFFER)) × IsKnown j.at.switched j.at.chain };
 }
 
 /// A journal whose disk failed while an entry was written. The entry is in doubt: from here on only

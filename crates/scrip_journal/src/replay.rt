@@ -72,7 +72,7 @@ impl<D> Model for Replay<D> {
 
     ghost view = { λ r. record { disk = r.disk; gate = r.gate; entries = r.entries; limit = r.limit; switched = r.switched; chain = r.chain; before = r.before; held = slice_range r.buf.items r.start r.end; last = slice_range r.buf.items r.from r.to; ended = r.ended } };
 
-    ghost invariant = { λ r. (r.gate < MOST_JOURNAL) × (r.entries ≤ r.gate) × (r.limit ≤ MOST_JOURNAL) × (length r.buf.items ≡ BUFFER) × (r.start ≤ r.end) × (r.end ≤ BUFFER) × (r.from ≤ r.to) × (r.to ≤ r.start) × IsKnown r.switched r.chain };
+    ghost invariant = { λ r. ((r.gate < MOST_JOURNAL) × (r.entries ≤ r.gate) × (r.limit ≤ MOST_JOURNAL) × (length r.buf.items ≡ BUFFER) × (r.start ≤ r.end) × (r.end ≤ BUFFER) × (r.from ≤ r.to) × (r.to ≤ r.start)) × IsKnown r.switched r.chain };
 }
 
 impl<D: Disk> Replay<D> {

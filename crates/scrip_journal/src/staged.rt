@@ -38,7 +38,7 @@ impl<D> Model for Staged<D> {
 
     ghost view = { λ s. record { disk = s.disk; gate = s.at.gate; size = s.next.gate + 1; entries = s.at.entries; limit = s.at.limit; switched = s.next.switched; chain = s.next.chain } };
 
-    ghost invariant = { λ s. (s.at.gate < s.next.gate) × (s.next.gate < MOST_JOURNAL) × (s.at.entries ≤ s.at.gate) × (s.at.limit ≤ MOST_JOURNAL) × (length s.at.buf.items ≡ BUFFER) × IsKnown s.next.switched s.next.chain };
+    ghost invariant = { λ s. ((s.at.gate < s.next.gate) × (s.next.gate < MOST_JOURNAL) × (s.at.entries ≤ s.at.gate) × (s.at.limit ≤ MOST_JOURNAL) × (length s.at.buf.items ≡ BUFFER)) × IsKnown s.next.switched s.next.chain };
 }
 
 impl<D: Disk> Staged<D> {
