@@ -77,7 +77,9 @@ fn enter_all(mut journal: Journal<Stage>, payloads: &[Vec<u8>], out: &mut Lines)
         }
     }
     out.counted("size", journal.size());
-    if journal.is_switched() && let Some(chain) = journal.chain() {
+    if journal.is_switched()
+        && let Some(chain) = journal.chain()
+    {
         show_chain(journal.entries(), &chain, out);
     }
     journal.close()

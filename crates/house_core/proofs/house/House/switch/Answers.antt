@@ -54,8 +54,7 @@ returns-in-Ok-append_switch-clause-exact g c h st =
     let both = applied c.apply_entry-applied.result _ _ _ _ _ _ (may_enter g.T.Trade.passes limits h n c.in-Ok-append_switch.chain written.2 may)
     (applies.exact h st.house.represents may.in_order written.2) (applies.contents h st.house.represents st.house.contents) in
     enters g.D.Disk.disk g.T.Trade.trade (λ (task : Task). task ≡ switch_task h t) TellsAdded limits (λ k. Some k) c.args.self.journal.disk h e (Done after c.in-Ok-append_switch.receipt)
-    (asks_switch h t n none c.time-moment.ensures) (λ done. tells_last h e)
-    (
+    (asks_switch h t n none c.time-moment.ensures) (λ done. tells_last h e) (
       has_switched g.D.Disk.disk g.T.Trade.trade c.args.self after h n c.in-Ok-append_switch.chain c.in-Ok-append_switch.receipt written.2 st written.0 wrote.limit applies.limits written.1 both.0 both.1,
       fitted_stands st.house.represents.state limits e ∙ sym fits,
     )
