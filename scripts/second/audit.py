@@ -8,6 +8,7 @@ from ledger import FULL, History, follow
 from market import Book, broker_sums, first_stranger, vendor_sums
 from payloads import BROKER, SITE, VENDOR
 from refusals import refused
+from stage import DiskFault
 from tree import Tree, lines
 from wallet import WALLET, WalletBook
 from words import place
@@ -115,6 +116,10 @@ def chain_of(disk):
         entries.append(entry)
         return entries[0].kind == SITE
     journal = read_through(disk, (VENDOR, BROKER, WALLET), follow_first)
+    try:
+        journal.find_chain()
+    except DiskFault:
+        raise Ends.disk_fault()
     return chain_line(entries[0].name, journal)
 
 

@@ -6,11 +6,13 @@ import generate_desks
 import generate_payments
 from cases import Runner
 from generate import NAMES, Cases, cut, raised
-from journal import Replay
+from journal import Chain, Replay
 from payloads import SWITCH, entry_of
 from stage import Stage
 
 CHOICES = (0, 1, 7)
+# So often is the disk read more where a Switch stands: what is before it, for its chain, and then what is behind its gate anew.
+READ_AGAIN = 2
 # The roles whose command switches a chain on, each with a book, and what comes behind the Switch.
 OPERATORS = [("vendor", "$shop", ["link $pays", "run vendor serve b l 1"]),
              ("broker", "$f_rich", ["link $f_draw", "run broker serve b l 1"]),
@@ -28,10 +30,11 @@ def earlier_names():
 def switched(out, name):
     """Gives the book of a name with a Switch as its last entry the name that `s_` begins; how it is spelled."""
     book = NAMES[name]
-    replay, time = Replay(Stage(book)), 0
+    replay, chain, time = Replay(Stage(book)), Chain(), 0
     while read := replay.next():
+        chain.push(read[1].payload)
         time = max(time, read[1].moment)
-    payload = entry_of(SWITCH, time, chain=replay.chain.digest).payload
+    payload = entry_of(SWITCH, time, chain=chain.digest).payload
     out.let("s_" + name, "$%s[:%d]+x01%08x+x%s+$shut" % (name, replay.at, len(payload), payload.hex()))
     return "$s_" + name
 
@@ -61,7 +64,7 @@ def switching(out):
     """Each call of the disk fails while a book is switched, and while the first entry behind the Switch is written."""
     out.group("Each call of the disk fails while a book is switched, and then the disk crashes and it is switched again.")
     for book, verb, serve in (("$shop", "switch", "serve"), ("$f_market", "switched", "desk")):
-        for call in range(7):
+        for call in range(8):
             for choice in CHOICES:
                 out.case("%s: disk call %d, crash %d" % (verb, call, choice), "book " + book, "fail disk %d" % call,
                          verb + " 1000000", "crash %d" % choice, "replay", verb + " 1000100", serve + " 0", "replay")
@@ -72,7 +75,7 @@ def operators(out):
     out.group("Each call of the disk fails while a command switches a book, and then the disk crashes, the command is given again, and\n"
               "the book takes an entry.")
     for role, book, then in OPERATORS:
-        for call in range(7):
+        for call in range(8):
             for choice in CHOICES:
                 out.case("%s chain: disk call %d, crash %d" % (role, call, choice), "book " + book, "clock 1000000", "fail disk %d" % call,
                          "run %s chain b" % role, "crash %d" % choice, "run %s chain b" % role, *then, "replay")
@@ -102,7 +105,7 @@ def commands(out):
         if book not in spelled:
             spelled[book] = switched(out, book)
     for name, book, links, words, disk, after in orders:
-        for call in range(disk + 1):
+        for call in range(disk + READ_AGAIN + 1):
             for choice in CHOICES:
                 out.case("switched, %s: disk call %d, crash %d" % (name, call, choice), "book " + spelled[book], *links,
                          "clock 1000000", "fail disk %d" % call, words, "crash %d" % choice, "replay", *after)

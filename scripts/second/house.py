@@ -102,7 +102,7 @@ class House(Server):
     def switch(self):
         """Switches the chain on, where it is not."""
         if not self.journal.chain.switched:
-            self.enter(entry_of(SWITCH, self.time, chain=self.journal.chain.digest))
+            self.enter(entry_of(SWITCH, self.time, chain=self.history.chain.digest))
 
     def reply_to(self, item):
         if item.refusal is not None:

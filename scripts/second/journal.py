@@ -32,13 +32,14 @@ class BadChain(Exception):
 
 
 class Chain:
-    """The chain of some entries, and whether a Switch is among them: the next one then has its chain behind it."""
+    """The chain of some entries, None where it is not known, and whether a Switch is among them: the next one then has its
+    chain behind it."""
 
-    def __init__(self):
-        self.digest, self.switched = bytes(32), False
+    def __init__(self, digest=bytes(32)):
+        self.digest, self.switched = digest, False
 
     def after(self, payload):
-        return hashlib.sha256(self.digest + payload).digest()
+        return self.digest and hashlib.sha256(self.digest + payload).digest()
 
     def tail(self, payload):
         return self.after(payload) if self.switched else b""
@@ -50,6 +51,18 @@ class Chain:
 def may_switch(chain, entry):
     """Whether a Switch may follow entries of this chain: it is the first, and tells their chain."""
     return not chain.switched and entry.chain == chain.digest
+
+
+def read_again(stage, gate):
+    """The digest of the entries up to a gate, before which no Switch stands: they are read once more, from the first one on,
+    each time as many bytes as fit the buffer behind those from a gate on that are held."""
+    digest, at, held = bytes(32), len(HEADER), b""
+    while at < gate:
+        while len(held) < (end := 5 + int.from_bytes(held[1:5], "big")):
+            held += stage.read(at + len(held), BUFFER - len(held))
+        digest = hashlib.sha256(digest + held[5:end]).digest()
+        at, held = at + end, held[end:]
+    return digest
 
 
 class Halted(Exception):
@@ -64,15 +77,23 @@ class Journal:
     """A journal to which entries are added."""
 
     def __init__(self, stage, size=len(HEADER) + 1, entries=0, chain=None):
-        self.stage, self.size, self.entries, self.chain = stage, size, entries, chain or Chain()
+        self.stage, self.size, self.entries, self.chain = stage, size, entries, chain or Chain(None)
 
     def is_full(self, payload, limit):
         return self.size + 5 + len(payload) + len(self.chain.tail(payload)) > limit
 
+    def find_chain(self):
+        """Has the entries read once more for their chain, where it is not known."""
+        if self.chain.digest is None:
+            self.chain.digest = read_again(self.stage, self.size - 1)
+
     def add(self, payload):
-        """Writes an entry behind the closed gate, with its chain where it has one, and then opens that."""
+        """Writes an entry behind the closed gate, with its chain where it has one, and then opens that. Of a Switch the chain
+        of the entries before it is found first."""
         tail = self.chain.tail(payload)
         try:
+            if payload[0] == SWITCH:
+                self.find_chain()
             self.stage.write(self.size, len(payload).to_bytes(4, "big") + payload + tail + b"\0")
             self.stage.sync()
         except DiskFault:
@@ -96,12 +117,13 @@ def found(stage):
 
 
 class Replay:
-    """A journal that is read: it is synced, and each byte is read once."""
+    """A journal that is read: it is synced, and each byte is read once; but where a Switch stands what is before the first one
+    is read once more for its chain, and then what is behind its gate anew."""
 
     def __init__(self, stage):
         # Of the bytes that are held the first `used` are read.
         self.stage, self.held, self.used, self.at = stage, b"", 0, 0
-        self.entries, self.chain = 0, Chain()
+        self.entries, self.chain = 0, Chain(None)
         stage.sync()
         if self.peek(len(HEADER)) != HEADER:
             raise NotJournal
@@ -142,6 +164,10 @@ class Replay:
             entry = read_entry(payload)
         except Fault as fault:
             raise BadEntry(place + 4 + fault.place)
+        if entry.kind == SWITCH and self.chain.digest is None:
+            self.chain.digest = read_again(self.stage, gate)
+            self.held, self.used, self.at = b"", 0, gate
+            return self.next()
         self.drop(length)
         computed = self.chain.tail(payload)
         stood = self.need(len(computed))

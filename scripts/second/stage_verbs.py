@@ -254,7 +254,7 @@ def kept_by(setting, verb, time, enter, site=VENDOR):
     except Ends as end:
         came = "halted" if end.status == 4 else end.line.decode().rstrip("\n")
     lines = ["lines " + shown(told)] if verb == "mint" else []
-    if verb in ("switch", "switched") and came != "halted":
+    if verb in ("switch", "switched") and came == "done":
         lines = [chain_line(house.journal.entries, house.journal.chain)]
     return lines + [verb + " " + came] + setting.ended(stage)
 

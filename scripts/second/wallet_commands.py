@@ -86,7 +86,7 @@ class Wallet:
     def switch(self):
         """Switches the chain on, where it is not."""
         if not self.journal.chain.switched:
-            self.enter(SWITCH, chain=self.journal.chain.digest)
+            self.enter(SWITCH, chain=self.book.chain.digest)
 
     def pend(self, request):
         """Enters a request that is now kept; its number."""

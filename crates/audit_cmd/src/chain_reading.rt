@@ -60,7 +60,8 @@ impl Opener for ChainReader {
     ghost told_first = { λ o h e may. tt };
 }
 
-/// Reads the book that the disk has, of any site, and says its chain. Nothing is written, and the disk comes back.
+/// Reads the book that the disk has, of any site, and says its chain: a book without a Switch is read twice. Nothing is
+/// written, and the disk comes back.
 ///
 /// `NotJournal` comes where the disk does not begin with the header of a journal, `BadRecord` where its bytes can't
 /// stand, from the place told on, and `BadChain` where an entry's chain at the place told is another than the one computed.
@@ -73,14 +74,18 @@ pub(crate) fn read_chain<D: Disk>(alloc: Global, disk: D) -> Result<(D, ChainLin
     ensures fault { CountedBy result (D.disk disk).faults (D.disk (read_disk result)).faults }
 {
     match open_book(alloc, disk, Limits::FULL, ChainReader) {
-        Ok((journal, name)) => {
-            let line = ChainLine {
-                name,
-                entries: journal.entries(),
-                chain: journal.chain(),
-            };
-            Ok((journal.close(), line))
-        }
+        Ok((journal, name)) => match journal.find_chain() {
+            Ok((journal, chain)) => {
+                let entries = journal.entries();
+                let line = ChainLine {
+                    name,
+                    entries,
+                    chain,
+                };
+                Ok((journal.close(), line))
+            }
+            Err(halted) => Err(HouseFault::Disk(halted.close())),
+        },
         Err(fault) => Err(fault),
     }
 }

@@ -1,23 +1,25 @@
 -- What comes of reading the entries of a book one by one.
-use Rattle.std.proofs.Common.{◌≡◌, ℕ, ◌+◌, ◌≤◌, Option, Some, None, Result, Ok, Err, List, [], ◌∷◌, ◌++◌, MatchResult, inl, inr, refl, sym, ◌∙◌, subst, arith, append-nil, append_assoc}
+use Rattle.std.proofs.Common.{◌≡◌, ℕ, ◌+◌, ◌≤◌, true, Option, Some, None, Result, Ok, Err, List, [], ◌∷◌, ◌++◌, MatchResult, inl, inr, refl, sym, ◌∙◌, ap, subst, arith, append-nil, append_assoc}
 use Rattle.mc_outside.specs.DiskView.{DiskView, OnlyRead}
 use Rattle.mc_outside.proofs.Runs.{read_then}
 use Rattle.mc_records.specs.Entry.{Entry, Fits, payload}
+use Rattle.mc_records.specs.Chains.{chain, is_switch}
 use Rattle.mc_records.specs.Following.{AllFollowBy}
 use Rattle.mc_records.specs.Sizes.{size, entry_size}
 use Rattle.mc_records.specs.declared.limits.TheConstants.Limits.{MOST_JOURNAL}
 use Rattle.scrip_journal.specs.Layout.{Encodes, IsSpoiled, IsUnchained}
 use Rattle.scrip_journal.specs.States.{Reading, IsReading}
-use Rattle.scrip_journal.specs.Replays.{ReadsOn}
-use Rattle.scrip_journal.specs.declared.ending.ReplayFault.TheVariants.{BadRecord, BadChain}
-use Rattle.scrip_journal.specs.Causes.{IsOfKind, IsOfOther, BeginsWithEntries, SpoilsAt, UnchainsAt, IsUnlawfulAt}
+use Rattle.scrip_journal.specs.Replays.{ReadsOn, CausedBy}
+use Rattle.scrip_journal.specs.declared.ending.ReplayFault.{ReplayFault}
+use Rattle.scrip_journal.specs.declared.ending.ReplayFault.TheVariants.{BadRecord, BadChain, Disk}
+use Rattle.scrip_journal.specs.Causes.{IsOfKind, IsOfOther, BeginsWithEntries, IsUnlawfulAt}
 use Rattle.scrip_journal.proofs.Bodies.{size_more}
 use Rattle.scrip_journal.proofs.Reading.{bytes_told}
 use Rattle.scrip_journal.proofs.Beginnings.{first_tells, empty_tells, kind_tells}
 use Rattle.book_opening.specs.declared.opening.Halt.{Halt}
 use Rattle.book_opening.specs.declared.opening.Halt.TheVariants as halts
 use Rattle.book_opening.specs.Opener.{OpenerView}
-use Rattle.book_opening.specs.Opening.{AreOfSite, HasLearned, ReadOn, LearnedSome, LearnedAll, HaltsBy, BeginsBy}
+use Rattle.book_opening.specs.Opening.{AreOfSite, HasLearned, ReadOn, LearnedSome, LearnedAll, HaltsBy, HaltCounts, BeginsBy}
 
 abbrev some : {A : Type 0} → A → Option A
 some x = Some x
@@ -52,9 +54,10 @@ begins_so view r h x is told = record { fits = is.fits; most = is.most; begins =
 
 -- the entry behind the next gate
 pub read_entry : {D : Type 0} (view : D → DiskView) (h : List Entry) (bytes : List ℕ) (gate place : ℕ) (new : Reading D) (f : Entry) → ReadsOn view h bytes gate (Ok (Some place)) new
-    → ((e : Entry) → Fits e → new.last ≡ payload e → some f ≡ some e) → (place ≡ gate) × IsReading view new (h ++ f ∷ [])
+    → ((e : Entry) → Fits e → new.last ≡ payload e → some f ≡ some e) → (place ≡ gate) × IsReading view new (h ++ f ∷ []) × (is_switch f ≡ true → new.before ≡ chain h)
 read_entry view h bytes gate place new f reads value =
-    (reads.0, subst (λ (e : Entry). IsReading view new (h ++ e ∷ [])) (sym (some_same f reads.1 (value reads.1 reads.2 reads.3))) reads.4)
+    let one : f ≡ reads.1 = some_same f reads.1 (value reads.1 reads.2 reads.3) in
+    (reads.0, subst (λ (e : Entry). IsReading view new (h ++ e ∷ [])) (sym one) reads.4, λ switch. reads.5 (ap is_switch (sym one) ∙ switch))
 
 -- there is room for it
 pub entry_fits : {D : Type 0} (view : D → DiskView) (h : List Entry) (new : Reading D) (f : Entry) → IsReading view new (h ++ f ∷ []) → size h + entry_size h f ≤ MOST_JOURNAL
@@ -66,33 +69,26 @@ read_on_then view moved a b c goes m n = record { disk_moved = goes; only_read =
 
 -- ---- behind entries that were learned
 
--- where an entry's chain is another, told with equal numbers
-pub unchains_same : (may : List Entry → Entry → Type 0) (kinds : ℕ → Type 0) (x : List ℕ) {place at : ℕ} {stood stands computed comes : List ℕ} → place ≡ at → stood ≡ stands → computed ≡ comes → UnchainsAt may kinds x at stands comes → UnchainsAt may kinds x place stood computed
-unchains_same may kinds x {place = place} {at = at} {stood = stood} {stands = stands} {computed = computed} {comes = comes} same_place same_stood same_computed is =
-    subst (λ (p : ℕ). UnchainsAt may kinds x p stood computed) (sym same_place)
-    (subst (λ (c : List ℕ). UnchainsAt may kinds x at c computed) (sym same_stood)
-    (subst (λ (c : List ℕ). UnchainsAt may kinds x at stands c) (sym same_computed) is))
+-- the count of faults by a fault of the reading
+pub reading_counts : {A : Type 0} (fault : ReplayFault) (before after : ℕ) → CausedBy (Err fault) before after → HaltCounts {A = A} (Err (halts.Reading fault)) before after
+reading_counts (BadRecord place) before after counts = counts
+reading_counts (BadChain place stood computed) before after counts = counts
+reading_counts Disk before after counts = counts
+
+-- why no entry was read behind those that may follow one another
+faulted : {D L : Type 0} (view : D → DiskView) (opener : OpenerView L) (x bytes : List ℕ) (gate : ℕ) (new : Reading D) (h : List Entry) → AllFollowBy opener.may [] h → IsOfKind opener.kinds h → bytes ≡ x
+    → (fault : ReplayFault) → ReadsOn view h bytes gate (Err fault) new → HaltsBy opener x (halts.Reading fault)
+faulted view opener x bytes gate new h follow of same (BadRecord place) reads = record { before = h; follow = follow; of_kind = of; reads = subst (λ (l : List ℕ). IsSpoiled h l place) same reads.0 }
+faulted view opener x bytes gate new h follow of same (BadChain place stood computed) reads = record { before = h; follow = follow; of_kind = of; reads = subst (λ (l : List ℕ). IsUnchained h l place stood computed) same reads.0 }
+faulted view opener x bytes gate new h follow of same Disk reads = tt
 
 module _ {D L : Type 0} (view : D → DiskView) (opener : OpenerView L) (x : List ℕ) (old new : Reading D) (learner : L)
     (told : (view old.disk).contents ≡ Some x) (h : List Entry) (reading : IsReading view old h) (l : HasLearned opener learner h) where
   pub none_left : ReadsOn view h reading.bytes old.gate (Ok None) new → LearnedAll view opener x new learner
   none_left reads = (h, subst (Encodes h) (bytes_told view old h x reading told) reads.0, reads.1, l)
 
-  pub spoils_here : (place : ℕ) → ReadsOn view h reading.bytes old.gate (Err (BadRecord place)) new → SpoilsAt opener.may opener.kinds x place
-  spoils_here place reads = record {
-    before = h;
-    follow = l.follow;
-    of_kind = of_kind opener.kinds h l.of_site;
-    reads = subst (λ (bytes : List ℕ). IsSpoiled h bytes place) (bytes_told view old h x reading told) reads.0;
-  }
-
-  pub unchains_here : (place : ℕ) (stood computed : List ℕ) → ReadsOn view h reading.bytes old.gate (Err (BadChain place stood computed)) new → UnchainsAt opener.may opener.kinds x place stood computed
-  unchains_here place stood computed reads = record {
-    before = h;
-    follow = l.follow;
-    of_kind = of_kind opener.kinds h l.of_site;
-    reads = subst (λ (bytes : List ℕ). IsUnchained h bytes place stood computed) (bytes_told view old h x reading told) reads.0;
-  }
+  pub faults_here : (fault : ReplayFault) → ReadsOn view h reading.bytes old.gate (Err fault) new → HaltsBy opener x (halts.Reading fault)
+  faults_here fault reads = faulted view opener x reading.bytes old.gate new h l.follow (of_kind opener.kinds h l.of_site) (bytes_told view old h x reading told) fault reads
 
   pub learned_more : (m : L) (f : Entry) → IsReading view new (h ++ f ∷ []) → opener.may h f × opener.holds m (h ++ f ∷ []) → LearnedSome view opener new m
   learned_more m f is learns = (
@@ -128,26 +124,12 @@ module _ {D L : Type 0} (view : D → DiskView) (opener : OpenerView L) (x : Lis
       let stands : Encodes [] x = subst (Encodes []) (bytes_told view old [] x r told) reads.0 in
       (empty_tells opener.kinds x stands, inl (stands, refl))
 
-  pub spoils_first : (r : IsReading view old []) (place : ℕ) → ReadsOn view [] r.bytes old.gate (Err (BadRecord place)) new → SpoilsAt opener.may opener.kinds x place
-  spoils_first r place reads = record {
-    before = [];
-    follow = tt;
-    of_kind = tt;
-    reads = subst (λ (bytes : List ℕ). IsSpoiled [] bytes place) (bytes_told view old [] x r told) reads.0;
-  }
-
-  pub unchains_first : (r : IsReading view old []) (place : ℕ) (stood computed : List ℕ) → ReadsOn view [] r.bytes old.gate (Err (BadChain place stood computed)) new → UnchainsAt opener.may opener.kinds x place stood computed
-  unchains_first r place stood computed reads = record {
-    before = [];
-    follow = tt;
-    of_kind = tt;
-    reads = subst (λ (bytes : List ℕ). IsUnchained [] bytes place stood computed) (bytes_told view old [] x r told) reads.0;
-  }
+  pub faults_first : (r : IsReading view old []) (fault : ReplayFault) → ReadsOn view [] r.bytes old.gate (Err fault) new → HaltsBy opener x (halts.Reading fault)
+  faults_first r fault reads = faulted view opener x r.bytes old.gate new [] tt tt (bytes_told view old [] x r told) fault reads
 
   pub first_learned : OnlyRead (view old.disk) (view new.disk) → (e : Entry) → IsReading view new (e ∷ []) → (result : Result L Halt) → BeginsBy opener e result → MatchResult result (LearnedSome view opener new) (HaltsBy opener x)
   first_learned read e is (Ok learner) begun = (e ∷ [], is, begun)
-  first_learned read e is (Err (halts.BadRecord place)) begun = absurd begun
-  first_learned read e is (Err (halts.BadChain place stood computed)) begun = absurd begun
+  first_learned read e is (Err (halts.Reading fault)) begun = absurd begun
   first_learned read e is (Err (halts.Unlawful place)) begun =
       let begins = begins_so view new (e ∷ []) x is (read.contents ∙ told) in (
         first_tells opener.kinds e [] x begins begun.2,
@@ -162,5 +144,4 @@ module _ {D L : Type 0} (view : D → DiskView) (opener : OpenerView L) (x : Lis
         }),
       )
   first_learned read e is (Err halts.WrongKind) begun = record { first = e; other = begun; begins = begins_so view new (e ∷ []) x is (read.contents ∙ told) }
-  first_learned read e is (Err halts.Disk) begun = absurd begun
   first_learned read e is (Err halts.NoMemory) begun = tt

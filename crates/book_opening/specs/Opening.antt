@@ -11,6 +11,7 @@ use Rattle.scrip_journal.specs.Founds.{fault_disk}
 use Rattle.scrip_journal.specs.Causes.{FoundsSite, IsOfOtherKind, SpoilsAt, UnchainsAt, IsUnlawfulAt, IsOfOther}
 use Rattle.scrip_journal.specs.declared.cursor.TheConstants.{FIRST_GATE}
 use Rattle.scrip_journal.specs.declared.ending.Ending.TheVariants.{Closed}
+use Rattle.scrip_journal.specs.declared.ending.ReplayFault.TheVariants as faults
 use Rattle.scrip_journal.specs.declared.fault.HouseFault.{HouseFault}
 use Rattle.scrip_journal.specs.declared.fault.HouseFault.TheVariants.{NotJournal, BadRecord, BadChain, Unlawful, WrongKind, NotEmpty, Disk, NoMemory}
 use Rattle.book_opening.specs.declared.opening.Halt.{Halt}
@@ -78,35 +79,33 @@ LearnedAll view opener bytes r learner = (h : List Entry) × Encodes h bytes × 
 
 -- why a book was not learned, by its bytes
 abbrev pub HaltsBy : {L : Type 0} → OpenerView L → List ℕ → Halt → Type 0
-HaltsBy opener bytes (halts.BadRecord place) = SpoilsAt opener.may opener.kinds bytes place
-HaltsBy opener bytes (halts.BadChain place stood computed) = UnchainsAt opener.may opener.kinds bytes place stood computed
+HaltsBy opener bytes (halts.Reading (faults.BadRecord place)) = SpoilsAt opener.may opener.kinds bytes place
+HaltsBy opener bytes (halts.Reading (faults.BadChain place stood computed)) = UnchainsAt opener.may opener.kinds bytes place stood computed
+HaltsBy opener bytes (halts.Reading faults.Disk) = Unit {0}
 HaltsBy opener bytes (halts.Unlawful place) = IsUnlawfulAt opener.may opener.kinds bytes place
 HaltsBy opener bytes halts.WrongKind = IsOfOther opener.kinds bytes
-HaltsBy opener bytes halts.Disk = Unit {0}
 HaltsBy opener bytes halts.NoMemory = Unit {0}
 
 -- the count of faults rose where the disk failed, and stayed else
 abbrev pub HaltCounts : {A : Type 0} → Result A Halt → ℕ → ℕ → Type 0
-HaltCounts (Err halts.Disk) before after = Rose before after
+HaltCounts (Err (halts.Reading faults.Disk)) before after = Rose before after
 HaltCounts _ before after = after ≡ before
 
 -- the fault with the disk that comes back
 abbrev pub fault_with : {D : Type 0} → D → Halt → HouseFault D
-fault_with d (halts.BadRecord place) = BadRecord d place
-fault_with d (halts.BadChain place stood computed) = BadChain d place stood computed
+fault_with d (halts.Reading (faults.BadRecord place)) = BadRecord d place
+fault_with d (halts.Reading (faults.BadChain place stood computed)) = BadChain d place stood computed
+fault_with d (halts.Reading faults.Disk) = Disk d
 fault_with d (halts.Unlawful place) = Unlawful d place
 fault_with d halts.WrongKind = WrongKind d
-fault_with d halts.Disk = Disk d
 fault_with d halts.NoMemory = NoMemory d
 
 -- what comes of the first entry
 abbrev pub BeginsBy : {L : Type 0} → OpenerView L → Entry → Result L Halt → Type 0
 BeginsBy opener e (Ok learner) = HasLearned opener learner (e ∷ [])
-BeginsBy opener e (Err (halts.BadRecord place)) = ⊥
-BeginsBy opener e (Err (halts.BadChain place stood computed)) = ⊥
+BeginsBy opener e (Err (halts.Reading fault)) = ⊥
 BeginsBy opener e (Err (halts.Unlawful place)) = (place ≡ FIRST_GATE) × (opener.may [] e → ⊥) × (IsOfOtherKind opener.kinds e → ⊥)
 BeginsBy opener e (Err halts.WrongKind) = IsOfOtherKind opener.kinds e
-BeginsBy opener e (Err halts.Disk) = ⊥
 BeginsBy opener e (Err halts.NoMemory) = Unit {0}
 
 -- what comes of the next entry: it is learned, or there is none, or the book is halted

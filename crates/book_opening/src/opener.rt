@@ -1,7 +1,7 @@
 //! Who opens a book.
 
-ghost use Rattle.std.specs.Prelude.{◌≡◌, ◌+◌, ◌≤◌, ◌↔◌, [], List, IsTrue, IfOk, OnOk};
-ghost use Rattle.mc_records.specs.Chains.{chain};
+ghost use Rattle.std.specs.Prelude.{◌≡◌, ◌+◌, ◌≤◌, ◌↔◌, [], List, IsTrue, true, IfOk, OnOk};
+ghost use Rattle.mc_records.specs.Chains.{chain, is_switch};
 ghost use Rattle.mc_records.specs.Entry.{Entry, Fits};
 ghost use Rattle.mc_records.specs.Sizes.{size, entry_size};
 ghost use Rattle.mc_records.specs.Views.{entry};
@@ -35,9 +35,10 @@ pub trait Opener: Drop {
         ensures belongs { IfOk result (opener self).belongs }
         ensures exact { Learns (opener self).may (opener self).holds [] (entry first.now) result };
 
-    /// Whether an entry may be learned, by the chain of the entries before it.
+    /// Whether an entry may be learned, by the chain of the entries before it, which is given for a Switch alone; for any
+    /// other entry any 32 bytes are.
     fn is_told(r: &Record<'_>, before: &[u8; 32]) -> bool
-        ensures { (o : Self) (h : List Entry) → before.now ≡ chain h
+        ensures { (o : Self) (h : List Entry) → (is_switch (entry r.now) ≡ true → before.now ≡ chain h)
             → IsTrue result ↔ (opener o).asks h (entry r.now) };
 
     /// Learns the next entry of a book, of which `is_told` said that it may be learned. `Unlawful` comes exactly where

@@ -21,20 +21,12 @@ use std::alloc::Global;
 /// Why a book was not learned.
 #[derive(Clone, Copy)]
 pub(crate) enum Halt {
-    /// The bytes from this place on can't stand in a journal.
-    BadRecord(u64),
-    /// The bytes from this place on are another chain than the one computed.
-    BadChain {
-        place: u64,
-        stood: [u8; 32],
-        computed: [u8; 32],
-    },
+    /// No entry was read.
+    Reading(ReplayFault),
     /// The entry behind the gate at this place isn't lawful after those before it.
     Unlawful(u64),
     /// The book is that of a site of another kind.
     WrongKind,
-    /// The disk failed.
-    Disk,
     /// Memory was refused.
     NoMemory,
 }
@@ -45,15 +37,17 @@ impl Halt {
         ensures { result ≡ fault_with disk self }
     {
         match self {
-            Halt::BadRecord(place) => HouseFault::BadRecord(disk, place),
-            Halt::BadChain {
-                place,
-                stood,
-                computed,
-            } => HouseFault::BadChain(disk, place, stood, computed),
+            Halt::Reading(ReplayFault::BadRecord { place }) => HouseFault::BadRecord(disk, place),
+            Halt::Reading(
+                ReplayFault::BadChain {
+                    place,
+                    stood,
+                    computed,
+                },
+            ) => HouseFault::BadChain(disk, place, stood, computed),
+            Halt::Reading(ReplayFault::Disk) => HouseFault::Disk(disk),
             Halt::Unlawful(place) => HouseFault::Unlawful(disk, place),
             Halt::WrongKind => HouseFault::WrongKind(disk),
-            Halt::Disk => HouseFault::Disk(disk),
             Halt::NoMemory => HouseFault::NoMemory(disk),
         }
     }
@@ -148,21 +142,7 @@ fn learn_first<D: Disk, O: Opener>(
     match replay.next_record() {
         Ok(Some(_)) => {}
         Ok(None) => return Err(Halt::Unlawful(FIRST_GATE)),
-        Err(ReplayFault::BadRecord { place }) => return Err(Halt::BadRecord(place)),
-        Err(
-            ReplayFault::BadChain {
-                place,
-                stood,
-                computed,
-            },
-        ) => {
-            return Err(Halt::BadChain {
-                place,
-                stood,
-                computed,
-            });
-        }
-        Err(ReplayFault::Disk) => return Err(Halt::Disk),
+        Err(fault) => return Err(Halt::Reading(fault)),
     }
     match replay.record() {
         Some(first) => begin_with(alloc, &first, opener),
@@ -233,30 +213,15 @@ fn learn_next<D: Disk, O: Opener>(
         → (O.opener o).belongs learner.old → LearnedSome D.disk (O.opener o) replay.old learner.old
         → LearnsNext D.disk (O.opener o) x replay.new learner.new result }
 {
-    let before = replay.chain();
     let gate = match replay.next_record() {
         Ok(Some(gate)) => gate,
         Ok(None) => return Ok(false),
-        Err(ReplayFault::BadRecord { place }) => return Err(Halt::BadRecord(place)),
-        Err(
-            ReplayFault::BadChain {
-                place,
-                stood,
-                computed,
-            },
-        ) => {
-            return Err(Halt::BadChain {
-                place,
-                stood,
-                computed,
-            });
-        }
-        Err(ReplayFault::Disk) => return Err(Halt::Disk),
+        Err(fault) => return Err(Halt::Reading(fault)),
     };
     let Some(record) = replay.record() else {
         unreachable!()
     };
-    if !O::is_told(&record, &before) {
+    if !O::is_told(&record, &replay.chain_before()) {
         return Err(Halt::Unlawful(gate));
     }
     match O::learn(learner, &record) {

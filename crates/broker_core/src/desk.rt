@@ -347,6 +347,8 @@ impl Trade for Desk {
     }
 
     fn forget(&mut self, _kept_from: Option<u64>) {}
+
+    ghost switch_room = { λ a m c. (tt, tt, tt) };
 }
 
 /// The account that a target asks credit in; None exactly where it asks for none.

@@ -77,8 +77,10 @@ fn enter_all(mut journal: Journal<Stage>, payloads: &[Vec<u8>], out: &mut Lines)
         }
     }
     out.counted("size", journal.size());
-    if journal.is_switched() {
-        show_chain(journal.entries(), &journal.chain(), out);
+    if journal.is_switched()
+        && let Some(chain) = journal.chain()
+    {
+        show_chain(journal.entries(), &chain, out);
     }
     journal.close()
 }

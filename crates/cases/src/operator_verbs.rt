@@ -1,7 +1,8 @@
 //! Lines by which a vendor's operator enters something into the book, within the limits; and how a house is opened for
 //! that, whatever its trade, and what came of it is shown.
 
-ghost use Rattle.std.specs.Prelude.{◌<◌, ◌≤◌, ◌^◌, [], IfOk, length};
+ghost use Rattle.std.specs.Prelude.{◌<◌, ◌≤◌, ◌^◌, [], IfOk, IsSome, length};
+ghost use Rattle.house_core.specs.House.{IfDone};
 
 use crate::ledger_verbs::show_refusal;
 use crate::program_verbs::unopened;
@@ -244,17 +245,16 @@ pub(crate) fn switched<T: Trade>(
     }
 }
 
-/// What came of switching the chain on; where the house goes on, its chain is printed.
-fn chained<T: Trade, A: Drop>(outcome: Outcome<Stage, T, A>, out: &mut Lines) -> (Entered, Stage) {
+/// What came of switching the chain on; where that is done, its chain is printed.
+fn chained<T: Trade, A: Drop>(outcome: Outcome<Stage, T, A>, out: &mut Lines) -> (Entered, Stage)
+    requires { IfDone (λ x told. IsSome x.journal.chain) outcome }
+{
     match outcome {
         Outcome::Done(house, _) => {
             show_chain(house.entries(), &house.chain(), out);
             (Entered::Done, house.close())
         }
-        Outcome::Refused(house, refusal) => {
-            show_chain(house.entries(), &house.chain(), out);
-            (Entered::Refused(refusal), house.close())
-        }
+        Outcome::Refused(house, refusal) => (Entered::Refused(refusal), house.close()),
         Outcome::NoMemory(house) => (Entered::NoMemory, house.close()),
         Outcome::Halted(halted) => (Entered::Halted, halted.close()),
     }

@@ -1,5 +1,6 @@
 -- What a counted trade means: what its inner one means, and what was counted beside it.
-use Rattle.mc_records.specs.Entry.{Entry}
+use Rattle.std.specs.Prelude.{ℕ, List}
+use Rattle.mc_records.specs.Entry.{Entry, Switch}
 use Rattle.ledger_model.specs.Histories.{History}
 use Rattle.house_state.specs.Learning.{Test}
 use Rattle.house_state.specs.Trade.{TradeView}
@@ -16,6 +17,13 @@ pub record BothRepresent {T : Type 0} (trade : T → TradeView) (c : Counted T) 
 pub record BothHaveRoom {T : Type 0} (trade : T → TradeView) (c : Counted T) (e : Entry) : Type 0 where
   pub inner' : (trade c.inner).has_room e
   pub counts' : HasRoomToCount c.counts e
+
+-- for a Switch, which needs none where the inner one needs none
+pub switch_room : {T : Type 0} (trade : T → TradeView) (c : Counted T) (m : ℕ) (chain : List ℕ) → (trade c.inner).has_room (Switch m chain) → BothHaveRoom trade c (Switch m chain)
+switch_room trade c m chain inner = record {
+  inner' = inner;
+  counts' = record { terms' = tt; licences' = tt; sums' = record { redeemed' = tt; sold' = tt }; stated' = tt; paid' = tt };
+}
 
 -- it is a trade of the inner one's site, and has the contents that the inner one has
 abbrev pub counted_view : {T : Type 0} → (T → TradeView) → Counted T → TradeView

@@ -62,7 +62,7 @@ impl<T: Trade> Counted<T> {
 }
 
 impl<T: Trade> Trade for Counted<T> {
-    ghost use Rattle.counted_trade.specs.Counted.{counted_view, PassesBoth};
+    ghost use Rattle.counted_trade.specs.Counted.{counted_view, switch_room, PassesBoth};
 
     ghost trade = { counted_view T.trade };
 
@@ -115,4 +115,6 @@ impl<T: Trade> Trade for Counted<T> {
     fn forget(&mut self, kept_from: Option<u64>) {
         self.inner.forget(kept_from)
     }
+
+    ghost switch_room = { λ a m c. switch_room T.trade a m c (T.switch_room a.inner m c) };
 }

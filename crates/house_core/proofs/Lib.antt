@@ -16,6 +16,7 @@ pub mod FirstReply
 pub mod Said
 pub mod HouseDisk
 pub mod Committing
+pub mod SwitchLemmas
 pub mod TaskLemmas
 pub mod UpgradeLemmas
 pub mod RefusingLemmas

@@ -1,11 +1,13 @@
 -- What comes of a task.
-use Rattle.std.proofs.Common.{◌≡◌, ℕ, ◌+◌, [], ◌∷◌, ◌++◌, length, refl, arith, length-append}
+use Rattle.std.proofs.Common.{◌≡◌, ℕ, ◌+◌, [], ◌∷◌, ◌++◌, length, Err, refl, arith, length-append}
 use Rattle.mc_outside.specs.DiskView.{DiskView, IsDisk, Ran}
 use Rattle.mc_records.specs.declared.limits.Limits.{Limits}
 use Rattle.mc_records.specs.declared.refusal.Refusal.{Refusal}
 use Rattle.mc_records.specs.Entry.{Entry}
 use Rattle.ledger_model.specs.Histories.{History}
 use Rattle.ledger_model.specs.Answer as answers
+use Rattle.ledger_model.specs.Answer.{fitted}
+use Rattle.ledger_model.specs.Lines as lines
 use Rattle.house_core.specs.declared.house.House.{House}
 use Rattle.house_core.specs.declared.outcome.Outcome.{Outcome}
 use Rattle.house_core.specs.declared.outcome.Outcome.TheVariants as outcomes
@@ -42,6 +44,15 @@ module _ {D T A : Type 0} (view : D → DiskView) (trade : T → TradeView) (Ask
       task = Refuse f;
       asks = asks;
       does = (refl, as_it_stood view trade x h st);
+      ran = ran_nothing view x.journal x.journal.disk h disk st.journal refl;
+    }
+
+    -- its entry does not fit the journal
+    pub unfitted : (e : Entry) (f : Refusal) → Asks (Add e) → fitted h limits e ≡ Err (lines.Refuse f) → Performs view trade Asks Told limits x.journal.disk h (outcomes.Refused x f)
+    unfitted e f asks over = record {
+      task = Add e;
+      asks = asks;
+      does = (over, as_it_stood view trade x h st);
       ran = ran_nothing view x.journal x.journal.disk h disk st.journal refl;
     }
 

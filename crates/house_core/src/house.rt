@@ -1,6 +1,6 @@
 //! A house over a journal: what is accepted is on the disk before its reply can begin.
 
-ghost use Rattle.std.specs.Prelude.{◌≡◌, ◌<◌, ◌≤◌, ◌+◌, ◌*◌, ◌^◌, ◌∷◌, ◌++◌, [], ℕ, List, length, max, IfOk, IfErr, IfSome, MatchResult, OnOk, None, Some, Ok};
+ghost use Rattle.std.specs.Prelude.{◌≡◌, ◌<◌, ◌≤◌, ◌+◌, ◌*◌, ◌^◌, ◌∷◌, ◌++◌, [], ℕ, List, length, max, IfOk, IfErr, IfSome, MatchResult, OnOk, IsSome, None, Some, Ok};
 ghost use Rattle.mc_outside.specs.Bytes.{Rose};
 ghost use Rattle.mc_outside.specs.DiskView.{Ran};
 ghost use Rattle.scrip_form.specs.Identities.{series_of};
@@ -351,11 +351,12 @@ impl<D: Disk, T: Trade> House<D, T> {
         self.journal.entries()
     }
 
-    /// The chain of its entries.
+    /// The chain of its entries, where it is known, as behind `switch`.
     pub fn chain(&self) -> [u8; 32]
+        requires { IsSome self.now.journal.chain }
         ensures { (h : History) → HouseRepresents D.disk T.trade self.now h → result ≡ chain h }
     {
-        self.journal.chain()
+        self.journal.chain().unwrap()
     }
 
     /// The disk, as it is.

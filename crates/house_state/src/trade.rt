@@ -1,6 +1,6 @@
-ghost use Rattle.std.specs.Prelude.{◌≡◌, ℕ, ◌↔◌, [], ◌∷◌, ◌++◌, Some, ◌<◌, ◌≤◌, ◌^◌, IfSome, IfOk, IfErr, IsOk, OnOk, OnErr};
+ghost use Rattle.std.specs.Prelude.{◌≡◌, ℕ, List, ◌↔◌, [], ◌∷◌, ◌++◌, Some, ◌<◌, ◌≤◌, ◌^◌, IfSome, IfOk, IfErr, IsOk, OnOk, OnErr};
 ghost use Rattle.mc_records.specs.declared.limits.Limits.{Limits as Bounds};
-ghost use Rattle.mc_records.specs.Entry.{Entry};
+ghost use Rattle.mc_records.specs.Entry.{Entry, Switch};
 ghost use Rattle.mc_records.specs.Views.{entry};
 ghost use Rattle.ledger_model.specs.Histories.{History};
 ghost use Rattle.ledger_model.specs.Houses.{site_kind};
@@ -115,4 +115,7 @@ pub trait Trade: Drop {
         // No other contents stay.
         ensures freed { (h : History) (n : ℕ) → (trade self.old).represents h
             → (trade self.new).holds n → IsKeptFrom h kept_from n };
+
+    /// A Switch needs no room, so that its chain may be looked for after all that may be refused.
+    ghost switch_room: { (a : Self) (m : ℕ) (c : List ℕ) → (trade a).has_room (Switch m c) };
 }

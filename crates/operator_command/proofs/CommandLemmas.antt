@@ -10,6 +10,7 @@ use Rattle.scrip_journal.specs.Rests.{journal_leaves}
 use Rattle.house_core.specs.declared.house.House.{House}
 use Rattle.house_core.specs.declared.outcome.Outcome.{Outcome}
 use Rattle.house_core.specs.declared.outcome.Outcome.TheVariants as outcomes
+use Rattle.house_core.specs.House as houses
 use Rattle.house_core.specs.House.{HouseRepresents, HandsBack, IfRefused, outcome_disk}
 use Rattle.house_state.specs.Trade.{TradeView}
 use Rattle.house_core.specs.Tasks.{Task, Add, Stays, Refuse, after, IsDoable, Does, LeavesBy, Performs}
@@ -114,3 +115,10 @@ if_done (outcomes.Done x a) P Q more p = more x p
 if_done (outcomes.Refused x f) P Q more p = tt
 if_done (outcomes.NoMemory x) P Q more p = tt
 if_done (outcomes.Halted d) P Q more p = tt
+
+-- what holds of the house where it is done, in other words
+pub known_shown : {D T A : Type 0} (out : Outcome D T A) (P : House D T → Type 0) → houses.IfDone (λ x a. P x) out → IfDone out P
+known_shown (outcomes.Done x a) P is = is
+known_shown (outcomes.Refused x f) P is = tt
+known_shown (outcomes.NoMemory x) P is = tt
+known_shown (outcomes.Halted d) P is = tt

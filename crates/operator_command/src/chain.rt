@@ -1,6 +1,6 @@
 //! The chain of a site's book, whatever the trade.
 
-ghost use Rattle.std.specs.Prelude.{◌≡◌, ◌++◌, ◌≤◌, ◌+◌, List as Items, ℕ, length, vec_len, vec_capacity};
+ghost use Rattle.std.specs.Prelude.{◌≡◌, ◌++◌, ◌≤◌, ◌+◌, List as Items, ℕ, length, vec_len, vec_capacity, IsSome};
 ghost use Rattle.mc_records.specs.Chains.{chain};
 ghost use Rattle.ledger_model.specs.Histories.{History};
 ghost use Rattle.ledger_model.specs.Houses.{site_name};
@@ -32,7 +32,8 @@ pub fn switch_book<D: Disk, T: Trade>(house: House<D, T>, line: &mut Vec<u8>) ->
 
 /// Ends the line of the chain of a book by the house of it, where one goes on.
 fn end_by_house<D: Disk, T: Trade, A>(outcome: &Outcome<D, T, A>, line: &mut Vec<u8>)
-    requires { vec_len line.old + READY ≤ vec_capacity line.old }
+    requires room { vec_len line.old + READY ≤ vec_capacity line.old }
+    requires known { IfDone outcome.now (λ x. IsSome x.journal.chain) }
     ensures { (g : History) → IfDone outcome.now (λ x. HouseRepresents D.disk T.trade x g
         → line.new.items ≡ line.old.items ++ chain_end (length g) (chain g)) }
 {

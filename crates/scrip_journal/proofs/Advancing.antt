@@ -1,15 +1,18 @@
 -- What one call of `next_record` does, from its steps.
-use Rattle.std.proofs.Common.{◌≡◌, ℕ, List, drop, Option, Some, None, Ok, Err, refl, sym, ◌∙◌, subst, arith}
+use Rattle.std.proofs.Common.{◌≡◌, ℕ, true, List, Option, Some, None, Ok, Err, refl, sym, ◌∙◌, subst, arith}
+use Rattle.std.specs.Prelude.{IsSome}
 use Rattle.mc_outside.specs.DiskView.{DiskView}
 use Rattle.mc_records.specs.Entry.{Entry}
 use Rattle.scrip_journal.specs.Layout.{next_of}
 use Rattle.scrip_journal.specs.States.{Reading, IsReading, EndedBy}
 use Rattle.scrip_journal.specs.Answers.{Given, answer_of}
-use Rattle.scrip_journal.specs.Replays.{ReadAhead, FaultsBy, CausedBy, IsFrame, EndsHere, TookEntry, ReadsOn, Advanced, ending_of}
+use Rattle.scrip_journal.specs.Replays.{LookedOn, FaultsBy, CausedBy, IsFrame, EndsReading, TookEntry, ReadsOn, Advanced, ending_of}
 use Rattle.scrip_journal.specs.declared.ending.Ending.{Ending}
 use Rattle.scrip_journal.specs.declared.replay.Found.{Found}
 use Rattle.scrip_journal.specs.declared.ending.Ending.TheVariants.{Closed, Spoiled, Unchained, Failed}
-use Rattle.scrip_journal.proofs.Reading.{gate_place, behind_gate, of_disk, still_reading, ended_reading, next_reading, stands_here, spoiled_here, unchained_here}
+use Rattle.scrip_journal.proofs.Known.{chain_known}
+use Rattle.scrip_journal.proofs.Looked.{same_rest}
+use Rattle.scrip_journal.proofs.Reading.{ended_reading, next_reading, stands_here, spoiled_here, unchained_here}
 
 pub none_of : {A : Type 0} (o : Option A) → ((x : A) → o ≡ Some x → ⊥) → o ≡ None
 none_of None not = refl
@@ -40,34 +43,36 @@ no_place (Spoiled at) place is = cc
 no_place (Unchained at stood computed) place is = cc
 no_place Failed place is = cc
 
-module _ {D : Type 0} (view : D → DiskView) (moved : D → D → Type 0) (old b : Reading D) (last : List ℕ) (on : old.ended ≡ None) (goes : moved old.disk b.disk) (ahead : ReadAhead view (record old { last = last }) b) where
+module _ {D : Type 0} (view : D → DiskView) (moved : D → D → Type 0) (old b : Reading D) (last : List ℕ) (on : old.ended ≡ None) (goes : moved old.disk b.disk) (looked : LookedOn view (record old { last = last }) b) where
   not_again : (given : Given) (new : Reading D) (e : Ending) → old.ended ≡ Some e → (given ≡ answer_of e) × (new ≡ old)
   not_again given new e is = absurd (cc (sym on ∙ is))
 
-  pub advanced_on : (f : Found) (gate : ℕ) (new : Reading D) → (view b.disk).faults ≡ (view old.disk).faults → IsFrame f b.switched b.chain b.gate b.held → TookEntry b f gate new → Advanced view moved old (Ok (Some gate)) new
-  advanced_on f gate new faults frame took = subst (λ (v : Reading D). Advanced view moved old (Ok (Some gate)) v) (sym took.2) (record {
+  pub advanced_on : (f : Found) (gate : ℕ) (new : Reading D) → (view b.disk).faults ≡ (view old.disk).faults → IsFrame f b.switched b.chain b.gate b.held → (f.switches ≡ true → IsSome b.chain) → TookEntry b f gate new → Advanced view moved old (Ok (Some gate)) new
+  advanced_on f gate new faults frame known took = subst (λ (v : Reading D). Advanced view moved old (Ok (Some gate)) v) (sym took.2) (record {
     disk_moved = goes;
-    only_read = ahead.only_read;
+    only_read = looked.only_read;
     again = not_again (Ok (Some gate)) _;
-    ended = ahead.same.ended ∙ on;
-    limit = ahead.same.limit;
-    rises = λ place is. (omega (arith, ahead.same.gate), omega (arith, frame.within));
+    ended = looked.ended ∙ on;
+    limit = looked.limit;
+    rises = λ place is. (omega (arith, looked.gate), omega (arith, frame.within));
     stays = λ is. absurd (cc is);
     still = λ is. absurd (cc is);
     has_payload = λ place is. (frame.next, frame.fits, took.1 frame);
     cause = λ _. faults;
     reads = λ h r.
-        (took.0 ∙ ahead.same.gate, frame.next, frame.fits, took.1 frame, next_reading view b h (still_reading view (record old { last = last }) h (relast view old h last r) b ahead) _ f frame (ahead.same.ended ∙ on) refl);
+        let still = looked.reading h (relast view old h last r) in
+        (took.0 ∙ looked.gate, frame.next, frame.fits, took.1 frame, next_reading view b h still _ f frame (looked.ended ∙ on) known refl, λ switch. chain_known b.chain h still.chain_is (known (frame.switch_is ∙ switch)));
   })
 
   -- what a reading that ended answers
-  reads_no_more : (e : Ending) → EndsHere view (record old { last = last }) e → (h : List Entry) (r : IsReading view old h) → ReadsOn view h r.bytes old.gate (answer_of e) (record b { ended = Some e })
+  reads_no_more : (e : Ending) → EndsReading view (record old { last = last }) e → (h : List Entry) (r : IsReading view old h) → ReadsOn view h r.bytes old.gate (answer_of e) (record b { ended = Some e })
   reads_no_more e ends h r =
       let before = relast view old h last r in
-      let still = still_reading view (record old { last = last }) h before b ahead in
-      let by = ends h r.bytes r.told (gate_place view (record old { last = last }) h before) r.switched_is r.chain_is (of_disk view (record old { last = last }) h before) in
-      let now : IsReading view (record b { ended = Some e }) h = ended_reading view b h still (record b { ended = Some e }) e refl (subst (λ (k : ℕ). EndedBy (Some e) (next_of h (drop k r.bytes))) (sym ahead.same.gate) by) in
-      go e (subst (λ (l : List ℕ). EndedBy (Some e) (next_of h l)) (behind_gate view (record old { last = last }) h before) by) now
+      let still = looked.reading h before in
+      let by : EndedBy (Some e) (next_of h r.rest) = ends h before in
+      let same = same_rest view (record old { last = last }) b looked h before still in
+      let now : IsReading view (record b { ended = Some e }) h = ended_reading view b h still (record b { ended = Some e }) e refl (subst (λ (l : List ℕ). EndedBy (Some e) (next_of h l)) (sym same) by) in
+      go e by now
     where
       go : (f : Ending) → EndedBy (Some f) (next_of h r.rest) → IsReading view (record b { ended = Some f }) h → ReadsOn view h r.bytes old.gate (answer_of f) (record b { ended = Some f })
       go Closed by now = (stands_here view old h r by, now)
@@ -87,18 +92,18 @@ module _ {D : Type 0} (view : D → DiskView) (moved : D → D → Type 0) (old 
   ended_so (Unchained place stood computed) = refl
   ended_so Failed = refl
 
-  pub advanced_to_end : (e : Ending) (given : Given) (new : Reading D) → FaultsBy {X = ℕ} (Err e) (view old.disk).faults (view b.disk).faults → EndsHere view (record old { last = last }) e
+  pub advanced_to_end : (e : Ending) (given : Given) (new : Reading D) → FaultsBy {X = ℕ} (Err e) (view old.disk).faults (view b.disk).faults → EndsReading view (record old { last = last }) e
       → given ≡ answer_of e → new ≡ record b { ended = Some e } → Advanced view moved old given new
   advanced_to_end e given new faults ends given_is new_is =
       subst (λ (g : Given). Advanced view moved old g new) (sym given_is) (subst (λ (v : Reading D). Advanced view moved old (answer_of e) v) (sym new_is) (record {
         disk_moved = goes;
-        only_read = ahead.only_read;
+        only_read = looked.only_read;
         again = not_again (answer_of e) _;
         ended = ended_so e;
-        limit = ahead.same.limit;
+        limit = looked.limit;
         rises = λ place is. absurd (no_place e place is);
-        stays = λ is. ahead.same.gate;
-        still = λ is. ahead.same.switched;
+        stays = λ is. looked.gate;
+        still = λ is. looked.switched;
         has_payload = λ place is. absurd (no_place e place is);
         cause = λ _. caused e faults;
         reads = reads_no_more e ends;

@@ -1,5 +1,5 @@
 -- What the bytes of a book begin with.
-use Rattle.std.proofs.Common.{◌≡◌, ℕ, ◌+◌, ◌^◌, ◌≤◌, List, [], ◌∷◌, ◌++◌, refl, sym, ap, ◌∙◌, subst, arith, append-nil, append_assoc}
+use Rattle.std.proofs.Common.{◌≡◌, ℕ, ◌+◌, ◌≤◌, List, [], ◌∷◌, ◌++◌, refl, sym, ap, ◌∙◌, subst, arith, append-nil, append_assoc}
 use Rattle.std.proofs.lemmas.List.{append_cancel_left}
 use Rattle.std.specs.List.{AllByRecursion}
 use Rattle.mc_outside.specs.Bytes.{BeginsWith}
@@ -11,11 +11,11 @@ use Rattle.scrip_journal.proofs.Unique.{IsStop, no_entry, entered_there, stands_
 use Rattle.scrip_journal.specs.Causes.{BeginsWithEntries, ComesTo, SpoilsAt, UnchainsAt, FoundsSite, IsOfKind, IsOfOther, IsOfOtherKind}
 
 -- the size up to an entry and with it
-size_apart : (front before es : List Entry) → size_from front (before ++ es) ≡ size_from front before + size_from (front ++ before) es
+pub size_apart : (front before es : List Entry) → size_from front (before ++ es) ≡ size_from front before + size_from (front ++ before) es
 size_apart front [] es = omega (arith, ap (λ (l : List Entry). size_from l es) (append-nil front))
 size_apart front (x ∷ xs) es = omega (arith, size_apart (front ++ x ∷ []) xs es, ap (λ (l : List Entry). size_from l es) (append_assoc front (x ∷ []) xs))
 
-size_grows : (before es : List Entry) (e : Entry) → size (before ++ e ∷ es) ≤ MOST_JOURNAL → size before + entry_size before e ≤ MOST_JOURNAL
+pub size_grows : (before es : List Entry) (e : Entry) → size (before ++ e ∷ es) ≤ MOST_JOURNAL → size before + entry_size before e ≤ MOST_JOURNAL
 size_grows before es e most = omega (arith, size_apart [] before (e ∷ es), most)
 
 -- entries behind the same bytes: those that the bytes begin with are the first of those that they encode

@@ -1,13 +1,11 @@
 -- What founding a journal leaves.
-use Rattle.std.proofs.Common.{◌≡◌, ℕ, ◌≤◌, max, false, List, [], ◌∷◌, length, take, Option, Some, refl, sym, ◌∙◌, ap, subst, arith}
+use Rattle.std.proofs.Common.{◌≡◌, ℕ, ◌≤◌, max, false, List, [], ◌∷◌, length, take, Option, Some, None, refl, sym, ◌∙◌, ap, subst, arith}
 use Rattle.std.specs.Prelude.{option_map}
 use Rattle.mc_outside.specs.Bytes.{put}
 use Rattle.mc_outside.specs.DiskView.{DiskView, DiskGoes, CallPairs, Follows, LeavesNoMore, IsSynced, Torn, CutShort, Ran}
 use Rattle.mc_outside.proofs.Runs.{ran_quiet, ran_then}
-use Rattle.mc_records.specs.Chains.{first_chain}
-use Rattle.mc_records.proofs.ChainLaws.{chain-none}
 use Rattle.scrip_journal.specs.Layout.{header, Encodes}
-use Rattle.scrip_journal.specs.States.{AtRest, IsJournal}
+use Rattle.scrip_journal.specs.States.{AtRest, IsJournal, IsChainOf}
 use Rattle.scrip_journal.specs.Opens.{NoLonger}
 
 -- an image of the disk before is no longer than nine bytes or some image
@@ -53,8 +51,8 @@ empty_stands = record { fits = tt; most = omega arith; gate = 0; rest = []; clos
 
 pub is_founded : {D : Type 0} (view : D → DiskView) (a b w : DiskView) (d : D) (x : List ℕ) (j : AtRest D) → a.contents ≡ Some x → b.contents ≡ option_map (take 0) a.contents
     → w.contents ≡ option_map (put 0 (77 ∷ 67 ∷ 74 ∷ 82 ∷ 78 ∷ 76 ∷ 49 ∷ 10 ∷ 0 ∷ [])) b.contents → (view d).contents ≡ w.contents → IsSynced (view d)
-    → j.disk ≡ d → j.size ≡ 9 → j.entries ≡ 0 → j.switched ≡ false → j.chain ≡ first_chain → IsJournal view j []
-is_founded view a b w d x j told cut written same synced disk size entries switched first =
+    → j.disk ≡ d → j.size ≡ 9 → j.entries ≡ 0 → j.switched ≡ false → j.chain ≡ None → IsJournal view j []
+is_founded view a b w d x j told cut written same synced disk size entries switched none =
     let bytes = 77 ∷ 67 ∷ 74 ∷ 82 ∷ 78 ∷ 76 ∷ 49 ∷ 10 ∷ 0 ∷ [] in
     let cut_told : b.contents ≡ Some [] = cut ∙ ap (λ (o : Option (List ℕ)). option_map (take 0) o) told in
     let now_told : (view d).contents ≡ Some bytes = same ∙ written ∙ ap (λ (o : Option (List ℕ)). option_map (put 0 bytes) o) cut_told in
@@ -65,6 +63,6 @@ is_founded view a b w d x j told cut written same synced disk size entries switc
       size_is = size;
       entries_is = entries;
       switched_is = switched;
-      chain_is = first ∙ sym chain-none;
+      chain_is = subst (λ (c : Option (List ℕ)). IsChainOf c []) (sym none) refl;
       synced = λ c l. synced bytes now_told c (subst (λ e. (view e).leaves c) disk l);
     }

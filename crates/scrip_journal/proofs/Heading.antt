@@ -3,15 +3,14 @@ use Rattle.std.proofs.Common.{◌≡◌, ℕ, ◌≤◌, ◌<◌, false, List, [
 use Rattle.std.proofs.lemmas.List.{take_at, take-append-le, take-append-drop}
 use Rattle.mc_outside.specs.Bytes.{BeginsWith}
 use Rattle.mc_records.specs.Chains.{first_chain}
-use Rattle.mc_records.proofs.ChainLaws.{chain-none}
 use Rattle.mc_outside.specs.DiskView.{DiskView, OnlyRead, IsSynced}
 use Rattle.scrip_journal.specs.Layout.{header, next_of}
-use Rattle.scrip_journal.specs.States.{Reading, IsReading, EndedBy}
+use Rattle.scrip_journal.specs.States.{Reading, IsReading, EndedBy, IsChainOf}
 use Rattle.scrip_journal.specs.declared.ending.Ending.{Ending}
 use Rattle.scrip_journal.specs.Replays.{HeldOf, AllHeld, ReadAhead, FoundHeader}
 use Rattle.scrip_journal.proofs.Bodies.{header_long}
 
-module _ {D : Type 0} (view : D → DiskView) (old new : Reading D) (front : old ≡ record { disk = old.disk; gate = 0; entries = 0; limit = old.limit; switched = false; chain = first_chain; held = []; last = []; ended = None }) where
+module _ {D : Type 0} (view : D → DiskView) (old new : Reading D) (front : old ≡ record { disk = old.disk; gate = 0; entries = 0; limit = old.limit; switched = false; chain = None; before = first_chain; held = []; last = []; ended = None }) where
   gate : old.gate ≡ 0
   gate = ap (λ (v : Reading D). v.gate) front
 
@@ -47,8 +46,8 @@ module _ {D : Type 0} (view : D → DiskView) (old new : Reading D) (front : old
 
 -- a disk that was synced and begins with the header is read from its first gate on
 pub opened_reading : {D : Type 0} (view : D → DiskView) (d : D) (old r : Reading D) (x : List ℕ) → old.disk ≡ d → (view d).contents ≡ Some x → IsSynced (view d) → OnlyRead (view old.disk) (view r.disk)
-    → FoundHeader old r → old.entries ≡ 0 → old.switched ≡ false → old.chain ≡ first_chain → old.ended ≡ None → BeginsWith (header ++ r.held) x → IsReading view r []
-opened_reading {D = D} view d old r x is told synced only found entries switched first ended begins =
+    → FoundHeader old r → old.entries ≡ 0 → old.switched ≡ false → old.chain ≡ None → old.ended ≡ None → BeginsWith (header ++ r.held) x → IsReading view r []
+opened_reading {D = D} view d old r x is told synced only found entries switched none ended begins =
     let at_old = ap (λ (e : D). (view e).contents) is ∙ told in
     record {
       bytes = x;
@@ -60,7 +59,7 @@ opened_reading {D = D} view d old r x is told synced only found entries switched
       gate_is = omega (arith, found.gate);
       entries_is = found.entries ∙ entries;
       switched_is = found.switched ∙ switched;
-      chain_is = found.chain ∙ first ∙ sym chain-none;
+      chain_is = subst (λ (c : Option (List ℕ)). IsChainOf c []) (sym (found.chain ∙ none)) refl;
       held_is = (begins.0, refl);
       ended_by = subst (λ (e : Option Ending). EndedBy e (next_of [] (r.held ++ begins.0))) (sym (found.ended ∙ ended)) tt;
       synced = λ c l. subst (λ (e : D). IsSynced (view e)) (sym is) synced x at_old c (only.leaves c l);

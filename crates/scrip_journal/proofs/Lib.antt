@@ -7,10 +7,14 @@ pub mod Unique
 pub mod Beginnings
 pub mod Windows
 pub mod Looking
+pub mod Known
 pub mod Reading
+pub mod Looked
+pub mod Passing
 pub mod Pieces
 pub mod Advancing
 pub mod Heading
 pub mod Appending
 pub mod Uncut
 pub mod FoundLemmas
+pub mod SwitchLaws

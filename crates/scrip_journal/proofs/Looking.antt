@@ -1,5 +1,5 @@
 -- How a reading ends at a gate, and what is held where it goes on.
-use Rattle.std.proofs.Common.{◌≡◌, ◌≢◌, ◌⊎◌, ⊎_elim, inl, inr, Bool, true, false, ℕ, ◌+◌, ◌^◌, ◌≤◌, ◌<◌, List, [], ◌∷◌, ◌++◌, length, take, drop, Some, Err, refl, sym, ◌∙◌, ap, ap₂, subst, arith, append_assoc, length-append}
+use Rattle.std.proofs.Common.{◌≡◌, ◌≢◌, ◌⊎◌, ⊎_elim, inl, inr, Bool, true, ℕ, ◌+◌, ◌≤◌, ◌<◌, List, [], ◌∷◌, ◌++◌, length, take, drop, Option, Some, Err, refl, sym, ◌∙◌, ap, ap₂, subst, arith, append_assoc, length-append}
 use Rattle.std.specs.Int.{to_be_bytes, from_be_bytes, w32}
 use Rattle.std.proofs.lemmas.List.{take-append-le, drop-append-le, take-append-drop, length-drop, length-take, take_at, drop_at, drop-drop}
 use Rattle.std.proofs.lemmas.Bool.{cases_lt}
@@ -9,18 +9,18 @@ use Rattle.mc_outside.proofs.Runs.{read_then}
 use Rattle.mc_records.specs.declared.sizes.TheConstants.{PAYLOAD_BOUND}
 use Rattle.mc_records.specs.declared.limits.TheConstants.Limits.{MOST_JOURNAL}
 use Rattle.mc_records.specs.Entry.{Entry, Fits, payload}
-use Rattle.mc_records.specs.Chains.{chain, chain_after, has_switch, is_switch}
+use Rattle.mc_records.specs.Chains.{has_switch, is_switch}
 use Rattle.mc_records.specs.Sizes.{tail, tail_by, tail_bytes, tail_size}
-use Rattle.mc_records.proofs.ChainLaws.{chain-more}
 use Rattle.mc_records.proofs.SizeLaws.{tail-by, tail_size-by}
 use Rattle.mc_records.specs.Forms.{entry_of}
-use Rattle.scrip_journal.specs.Layout.{body, entered, spoiled, unchained, next_tail, next_of}
-use Rattle.scrip_journal.specs.States.{Reading, EndedBy}
+use Rattle.scrip_journal.specs.Layout.{body, spoiled, unchained, next_tail, next_of}
+use Rattle.scrip_journal.specs.States.{Reading, EndedBy, IsChainOf, known_chain, chain_with}
 use Rattle.scrip_journal.specs.Replays.{HeldOf, ReadAhead, IsCut, AllHeld, IsPayload, IsFrame, IsTold, EndsHere}
 use Rattle.scrip_journal.specs.declared.replay.Found.{Found}
 use Rattle.scrip_journal.specs.declared.ending.Ending.{Ending}
 use Rattle.scrip_journal.specs.declared.ending.Ending.TheVariants.{Closed, Spoiled, Unchained, Failed}
 use Rattle.scrip_journal.proofs.Nexts.{nothing_there, closed_there, length_cut, long_there, far_there, payload_cut, payload_there, behind_payload, tail_cut, tail_other}
+use Rattle.scrip_journal.proofs.Known.{chain_at_switch}
 
 begins_then : (a b c : List ℕ) → BeginsWith a b → BeginsWith b c → BeginsWith a c
 begins_then a b c x y = (x.0 ++ y.0, y.1 ∙ ap (λ (l : List ℕ). l ++ y.0) x.1 ∙ append_assoc a x.0 y.0)
@@ -49,7 +49,7 @@ cut_then view a b c count Failed x cut = cut
 pub ends_then : {D : Type 0} (view : D → DiskView) (a b : Reading D) (e : Ending) → ReadAhead view a b → EndsHere view b e → EndsHere view a e
 ends_then view a b e x ends h bytes told gate switched chained of =
     subst (λ (g : ℕ). EndedBy (Some e) (next_of h (drop g bytes))) x.same.gate
-    (ends h bytes (x.only_read.contents ∙ told) (x.same.gate ∙ gate) (x.same.switched ∙ switched) (x.same.chain ∙ chained) (x.held bytes told of))
+    (ends h bytes (x.only_read.contents ∙ told) (x.same.gate ∙ gate) (x.same.switched ∙ switched) (subst (λ (c : Option (List ℕ)). IsChainOf c h) (sym x.same.chain) chained) (x.held bytes told of))
 
 -- ---- the ends
 
@@ -237,7 +237,7 @@ module _ {D : Type 0} (view : D → DiskView) (a b : Reading D) (ahead : ReadAhe
       ∙ ap spoiled (omega (arith, cut.1, long, ahead.same.gate))
 
   -- another chain stands there
-  pub ends_unchained : (stood computed : List ℕ) → a.switched ≡ true → n + 37 ≤ length b.held → stood ≡ take 32 (drop (n + 5) b.held) → computed ≡ chain_after a.chain (take n (drop 5 b.held)) → stood ≢ computed
+  pub ends_unchained : (stood computed : List ℕ) → a.switched ≡ true → n + 37 ≤ length b.held → stood ≡ take 32 (drop (n + 5) b.held) → computed ≡ known_chain (chain_with a.chain (take n (drop 5 b.held))) → stood ≢ computed
       → EndsHere view a (Unchained (a.gate + 5 + n) stood computed)
   ends_unchained stood computed on whole stood_is computed_is other h bytes told gate switched chained of =
       let all = now_held view a b ahead bytes told of in
@@ -250,7 +250,7 @@ module _ {D : Type 0} (view : D → DiskView) (a b : Reading D) (ahead : ReadAhe
       ap (λ (k : ℕ). take k (here.rest ++ all.0)) size ∙ take-append-le 32 here.rest all.0 (omega (arith, whole, long))
       ∙ ap (λ (l : List ℕ). take 32 l) (sym (behind_held n p.next p.length_is here.rest b.held here.shape)) ∙ sym stood_is in
       let tail_is : tail h p.next ≡ computed =
-      tail-by h p.next ∙ ap₂ tail_by (sym switched ∙ on) (chain-more h p.next ∙ ap₂ chain_after (sym chained) (sym (payload_held n p.next p.length_is here.rest b.held here.shape)) ∙ sym computed_is) in
+      tail-by h p.next ∙ ap₂ tail_by (sym switched ∙ on) (sym (chain_at_switch a.chain h p.next chained (sym switched ∙ on)) ∙ ap (λ (l : List ℕ). known_chain (chain_with a.chain l)) (sym (payload_held n p.next p.length_is here.rest b.held here.shape)) ∙ sym computed_is) in
       comes h bytes (here.rest ++ all.0) gate switched is
       ∙ tail_other h (a.gate + 5 + n) p.next (here.rest ++ all.0) (omega (arith, whole, long, size, length-append here.rest all.0)) (λ same. other (sym there ∙ same ∙ tail_is))
       ∙ ap₂ (λ (s c : List ℕ). unchained (a.gate + 5 + n) s c) there tail_is
@@ -261,14 +261,14 @@ framed_here f r p switches told =
     let n = f.bytes in
     let behind = behind_held n p.next p.length_is p.rest r.held p.shape in
     let rest : List ℕ = drop (tail_bytes r.switched) p.rest in
-    let parts : p.rest ≡ tail_by r.switched f.chain ++ rest =
+    let parts : p.rest ≡ tail_by r.switched (known_chain f.chain) ++ rest =
     sym (take-append-drop (tail_bytes r.switched) p.rest) ∙ ap (λ (l : List ℕ). l ++ rest) (ap (λ (l : List ℕ). take (tail_bytes r.switched) l) (sym behind) ∙ told.2) in
     record {
       next = p.next;
       fits = p.fits;
       length_is = p.length_is;
       switch_is = switches;
-      chain_is = told.0 ∙ ap (chain_after r.chain) (payload_held n p.next p.length_is p.rest r.held p.shape);
+      chain_is = told.0 ∙ ap (chain_with r.chain) (payload_held n p.next p.length_is p.rest r.held p.shape);
       rest = rest;
       shape = p.shape ∙ ap (λ (l : List ℕ). 1 ∷ (to_be_bytes w32 n ++ (payload p.next ++ l))) parts;
       within = p.within;

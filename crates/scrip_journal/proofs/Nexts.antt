@@ -1,5 +1,5 @@
 -- What comes at a gate, case by case.
-use Rattle.std.proofs.Common.{◌≡◌, ◌≢◌, Bool, true, false, cond, ℕ, ◌+◌, ◌^◌, ◌≤◌, ◌<◌, List, [], ◌∷◌, ◌++◌, length, take, drop, Result, Ok, Err, refl, sym, ◌∙◌, ap, subst, arith, ltb, leb, bytes_eq, length-append, append_assoc}
+use Rattle.std.proofs.Common.{◌≡◌, ◌≢◌, Bool, true, false, cond, ℕ, ◌+◌, ◌≤◌, ◌<◌, List, [], ◌∷◌, ◌++◌, length, take, drop, Result, Ok, Err, refl, sym, ◌∙◌, ap, subst, arith, ltb, leb, bytes_eq, length-append}
 use Rattle.std.specs.Int.{from_be_bytes, to_be_bytes, w32}
 use Rattle.std.proofs.lemmas.List.{take_at, drop_at}
 use Rattle.std.proofs.lemmas.Nat.{from_be_bytes-to_be_bytes_4}
@@ -11,7 +11,6 @@ use Rattle.mc_records.specs.Entry.{Entry, Fits, payload}
 use Rattle.mc_records.specs.Sizes.{tail, tail_size}
 use Rattle.mc_records.proofs.EntryLaws.{payload_only}
 use Rattle.mc_records.proofs.PayloadSizes.{payload_is_short}
-use Rattle.mc_records.proofs.SizeLaws.{length-tail}
 use Rattle.mc_records.specs.Forms.{entry_of}
 use Rattle.scrip_journal.specs.Layout.{body, Next, at_end, entered, spoiled, unchained, next_tail, next_payload, next_framed, next_behind, next_of}
 

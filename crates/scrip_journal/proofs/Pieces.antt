@@ -1,16 +1,16 @@
 -- What a piece read ahead and an entry taken off leave of a reading.
-use Rattle.std.proofs.Common.{◌≡◌, ℕ, ◌+◌, ◌≤◌, Bool, true, false, List, [], ◌∷◌, ◌++◌, length, take, drop, Some, refl, sym, ◌∙◌, ap, subst, arith, append-nil, length-append, length-drop}
+use Rattle.std.proofs.Common.{◌≡◌, ℕ, ◌+◌, ◌≤◌, Bool, List, [], ◌∷◌, ◌++◌, length, take, drop, Option, Some, refl, sym, ◌∙◌, ap, subst, arith, append-nil, length-append, length-drop}
 use Rattle.std.specs.Int.{to_be_bytes, w32}
 use Rattle.std.proofs.lemmas.List.{drop-drop, take_at, drop_at}
 use Rattle.mc_outside.specs.Bytes.{BeginsWith}
 use Rattle.mc_outside.specs.DiskView.{DiskView, OnlyRead}
 use Rattle.mc_records.specs.Entry.{payload}
 use Rattle.mc_records.specs.Sizes.{tail_by, tail_bytes}
-use Rattle.mc_records.proofs.ChainLaws.{length-chain_after}
-use Rattle.scrip_journal.specs.States.{Reading}
+use Rattle.scrip_journal.specs.States.{Reading, known_chain}
 use Rattle.scrip_journal.specs.Replays.{ReadAhead, AllHeld, IsFrame, frame_size}
 use Rattle.scrip_journal.specs.declared.replay.Found.{Found}
 use Rattle.scrip_journal.proofs.Windows.{held_grows, held_all}
+use Rattle.scrip_journal.proofs.Known.{tail_long}
 
 module _ {D : Type 0} (view : D → DiskView) (old new : Reading D) (n : ℕ) (piece : List ℕ) (gate : new.gate ≡ old.gate) (grown : new.held ≡ old.held ++ piece) (only : OnlyRead (view old.disk) (view new.disk)) where
   at_gate : (bytes : List ℕ) → drop new.gate bytes ≡ drop old.gate bytes
@@ -37,22 +37,18 @@ module _ {D : Type 0} (view : D → DiskView) (old new : Reading D) (n : ℕ) (p
       nothing (x ∷ p) e = absurd (omega (arith, e))
 
 -- the payload of a frame stands behind the gate and the length
-pub payload_in : (f : Found) (switched : Bool) (chain : List ℕ) (gate : ℕ) (held : List ℕ) (g : IsFrame f switched chain gate held) → take f.bytes (drop 5 held) ≡ payload g.next
+pub payload_in : (f : Found) (switched : Bool) (chain : Option (List ℕ)) (gate : ℕ) (held : List ℕ) (g : IsFrame f switched chain gate held) → take f.bytes (drop 5 held) ≡ payload g.next
 payload_in f switched chain gate held g =
     let bytes = to_be_bytes w32 f.bytes in
-    let rest = tail_by switched f.chain ++ g.rest in
+    let rest = tail_by switched (known_chain f.chain) ++ g.rest in
     ap (λ (l : List ℕ). take f.bytes (drop 5 l)) g.shape
     ∙ ap (λ (l : List ℕ). take f.bytes l) (drop_at bytes (payload g.next ++ rest) 4 refl)
     ∙ take_at (payload g.next) rest f.bytes g.length_is
 
-pub frame_long : (f : Found) (switched : Bool) (chain : List ℕ) (gate : ℕ) (held : List ℕ) (g : IsFrame f switched chain gate held) → frame_size f switched ≤ length held
+pub frame_long : (f : Found) (switched : Bool) (chain : Option (List ℕ)) (gate : ℕ) (held : List ℕ) (g : IsFrame f switched chain gate held) → frame_size f switched ≤ length held
 frame_long f switched chain gate held g =
-    let rest = tail_by switched f.chain ++ g.rest in
-    omega (arith, ap (λ (l : List ℕ). length l) g.shape, length-append (to_be_bytes w32 f.bytes) (payload g.next ++ rest), length-append (payload g.next) rest, length-append (tail_by switched f.chain) g.rest, g.length_is, chain_long switched)
+    let rest = tail_by switched (known_chain f.chain) ++ g.rest in
+    omega (arith, ap (λ (l : List ℕ). length l) g.shape, length-append (to_be_bytes w32 f.bytes) (payload g.next ++ rest), length-append (payload g.next) rest, length-append (tail_by switched (known_chain f.chain)) g.rest, g.length_is, chain_long)
   where
-    long : length f.chain ≡ 32
-    long = ap (λ (l : List ℕ). length l) g.chain_is ∙ length-chain_after chain (payload g.next)
-
-    chain_long : (b : Bool) → length (tail_by b f.chain) ≡ tail_bytes b
-    chain_long true = long
-    chain_long false = refl
+    chain_long : length (tail_by switched (known_chain f.chain)) ≡ tail_bytes switched
+    chain_long = ap (λ (c : Option (List ℕ)). length (tail_by switched (known_chain c))) g.chain_is ∙ tail_long switched chain (payload g.next)

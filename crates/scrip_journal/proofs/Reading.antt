@@ -1,22 +1,23 @@
 -- How a journal is read on.
-use Rattle.std.proofs.Common.{◌≡◌, ℕ, ◌+◌, Bool, ◌||◌, List, [], ◌∷◌, ◌++◌, length, drop, Option, Some, None, sym, ◌∙◌, ap, ap₂, subst, arith, append_assoc, length-append}
+use Rattle.std.proofs.Common.{◌≡◌, ℕ, ◌+◌, Bool, ◌||◌, List, [], ◌∷◌, ◌++◌, length, drop, Option, Some, None, true, sym, ◌∙◌, ap, ap₂, subst, arith, append_assoc, length-append}
+use Rattle.std.specs.Prelude.{IsSome}
 use Rattle.std.specs.Int.{to_be_bytes, w32}
 use Rattle.std.proofs.lemmas.List.{drop_at}
 use Rattle.mc_outside.specs.Bytes.{BeginsWith}
 use Rattle.mc_outside.specs.DiskView.{DiskView}
 use Rattle.mc_records.specs.Entry.{Entry, payload}
-use Rattle.mc_records.specs.Chains.{chain, chain_after, has_switch}
 use Rattle.mc_records.specs.Sizes.{tail, tail_by, tail_bytes, size}
-use Rattle.mc_records.proofs.ChainLaws.{chain-more, has_switch-more}
-use Rattle.mc_records.proofs.SizeLaws.{length-tail, tail-by, tail_size-by}
+use Rattle.mc_records.proofs.ChainLaws.{has_switch-more}
+use Rattle.mc_records.proofs.SizeLaws.{length-tail, tail_size-by}
 use Rattle.scrip_journal.specs.Layout.{body, framed, next_of, at_end, spoiled, unchained, Encodes, IsSpoiled, IsUnchained}
-use Rattle.scrip_journal.specs.States.{Reading, AtRest, IsReading, IsJournal, EndedBy}
-use Rattle.scrip_journal.specs.Replays.{HeldOf, ReadAhead, IsFrame, frame_size}
+use Rattle.scrip_journal.specs.States.{Reading, AtRest, IsReading, IsJournal, EndedBy, IsChainOf, known_chain}
+use Rattle.scrip_journal.specs.Replays.{HeldOf, ReadAhead, IsFrame, frame_size, RestsBehind}
 use Rattle.scrip_journal.specs.declared.replay.Found.{Found}
 use Rattle.scrip_journal.specs.declared.ending.Ending.{Ending}
 use Rattle.scrip_journal.specs.declared.ending.Ending.TheVariants.{Closed}
 use Rattle.scrip_journal.proofs.Bodies.{body_long, body_more, size_more, fits_more}
 use Rattle.scrip_journal.proofs.Nexts.{at_end_is}
+use Rattle.scrip_journal.proofs.Known.{chain_goes_on, tail_of}
 
 -- a length, the payload of that length and its tail are the frame of an entry
 frame_is : (before : List Entry) (e : Entry) (m : ℕ) (end : List ℕ) → length (payload e) ≡ m → end ≡ tail before e → 1 ∷ (to_be_bytes w32 m ++ (payload e ++ end)) ≡ 1 ∷ framed before e
@@ -53,14 +54,14 @@ module _ {D : Type 0} (view : D → DiskView) (a : Reading D) (h : List Entry) (
     gate_is = ap (λ (n : ℕ). n + 1) x.same.gate ∙ r.gate_is;
     entries_is = x.same.entries ∙ r.entries_is;
     switched_is = x.same.switched ∙ r.switched_is;
-    chain_is = x.same.chain ∙ r.chain_is;
+    chain_is = subst (λ (c : Option (List ℕ)). IsChainOf c h) (sym x.same.chain) r.chain_is;
     held_is = subst (BeginsWith b.held) (ap (λ (g : ℕ). drop g r.bytes) x.same.gate ∙ behind_gate) (x.held r.bytes r.told of_disk);
     ended_by = subst (λ (e : Option Ending). EndedBy e (next_of h r.rest)) (sym x.same.ended) r.ended_by;
     synced = λ c l. r.synced c (x.only_read.leaves c l);
   }
 
   -- the reading ended
-  pub ended_reading : (b : Reading D) (e : Ending) → b ≡ record a { ended = Some e } → EndedBy (Some e) (next_of h (drop a.gate r.bytes)) → IsReading view b h
+  pub ended_reading : (b : Reading D) (e : Ending) → b ≡ record a { ended = Some e } → EndedBy (Some e) (next_of h r.rest) → IsReading view b h
   ended_reading b e is by = subst (λ (v : Reading D). IsReading view v h) (sym is) (record {
     bytes = r.bytes;
     told = r.told;
@@ -73,21 +74,21 @@ module _ {D : Type 0} (view : D → DiskView) (a : Reading D) (h : List Entry) (
     switched_is = r.switched_is;
     chain_is = r.chain_is;
     held_is = r.held_is;
-    ended_by = subst (λ (l : List ℕ). EndedBy (Some e) (next_of h l)) behind_gate by;
+    ended_by = by;
     synced = r.synced;
   })
 
   -- the next entry was taken off
-  pub next_reading : (b : Reading D) (f : Found) (g : IsFrame f a.switched a.chain a.gate a.held) → a.ended ≡ None
-      → b ≡ record a { gate = a.gate + frame_size f a.switched; entries = a.entries + 1; switched = a.switched || f.switches; chain = f.chain; held = drop (frame_size f a.switched) a.held; last = b.last }
+  pub next_reading : (b : Reading D) (f : Found) (g : IsFrame f a.switched a.chain a.gate a.held) → a.ended ≡ None → (f.switches ≡ true → IsSome a.chain)
+      → b ≡ record a { gate = a.gate + frame_size f a.switched; entries = a.entries + 1; switched = a.switched || f.switches; chain = f.chain; before = known_chain a.chain; held = drop (frame_size f a.switched) a.held; last = b.last }
       → IsReading view b (h ++ g.next ∷ [])
-  next_reading b f g on is =
+  next_reading b f g on known is =
       let more = r.held_is in
       let n = f.bytes in
       let bytes = to_be_bytes w32 n in
-      let end = tail_by a.switched f.chain in
-      let chain_is : f.chain ≡ chain (h ++ g.next ∷ []) = g.chain_is ∙ ap (λ (c : List ℕ). chain_after c (payload g.next)) r.chain_is ∙ sym (chain-more h g.next) in
-      let end_is : end ≡ tail h g.next = ap₂ tail_by r.switched_is chain_is ∙ sym (tail-by h g.next) in
+      let end = tail_by a.switched (known_chain f.chain) in
+      let chain_is : IsChainOf f.chain (h ++ g.next ∷ []) = subst (λ (c : Option (List ℕ)). IsChainOf c (h ++ g.next ∷ [])) (sym g.chain_is) (chain_goes_on a.chain h g.next r.chain_is (λ on. known (g.switch_is ∙ on))) in
+      let end_is : end ≡ tail h g.next = tail_of a.switched f.chain h g.next r.switched_is chain_is in
       let end_long : length end ≡ tail_bytes a.switched = ap (λ (l : List ℕ). length l) end_is ∙ length-tail h g.next ∙ tail_size-by h ∙ ap tail_bytes (sym r.switched_is) in
       let front : List ℕ = 1 ∷ (bytes ++ (payload g.next ++ end)) in
       let long : length front ≡ frame_size f a.switched = omega (arith, length-append bytes (payload g.next ++ end), length-append (payload g.next) end, g.length_is, end_long) in
@@ -128,14 +129,14 @@ module _ {D : Type 0} (view : D → DiskView) (a : Reading D) (h : List Entry) (
   unchained_here place stood computed e = record { fits = r.fits; most = r.most; rest = r.rest; shape = r.shape; next_is = e }
 
 -- a reading that ended at a closed gate leaves a journal
-pub finished : {D : Type 0} (view : D → DiskView) (a : Reading D) (h : List Entry) (j : AtRest D) → a.ended ≡ Some Closed → j ≡ record { disk = a.disk; size = a.gate + 1; entries = a.entries; limit = a.limit; switched = a.switched; chain = a.chain } → IsReading view a h → IsJournal view j h
-finished {D = D} view a h j ended is r = subst (λ (v : AtRest D). IsJournal view v h) (sym is) (record {
+pub finished : {D : Type 0} (view : D → DiskView) (a : Reading D) (h : List Entry) (j : AtRest D) → a.ended ≡ Some Closed → RestsBehind a j → IsReading view a h → IsJournal view j h
+finished {D = D} view a h j ended rests r = record {
   bytes = r.bytes;
-  told = r.told;
+  told = ap (λ (d : D). (view d).contents) rests.disk ∙ r.told;
   stands = stands_here view a h r (subst (λ (e : Option Ending). EndedBy e (next_of h r.rest)) ended r.ended_by);
-  size_is = r.gate_is;
-  entries_is = r.entries_is;
-  switched_is = r.switched_is;
-  chain_is = r.chain_is;
-  synced = r.synced;
-})
+  size_is = rests.size_is ∙ r.gate_is;
+  entries_is = rests.entries ∙ r.entries_is;
+  switched_is = rests.switched ∙ r.switched_is;
+  chain_is = subst (λ (c : Option (List ℕ)). IsChainOf c h) (sym rests.chain) r.chain_is;
+  synced = λ c l. r.synced c (subst (λ (d : D). (view d).leaves c) rests.disk l);
+}

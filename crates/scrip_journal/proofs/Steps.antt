@@ -1,15 +1,15 @@
 -- What the calls of a journal leave, from what the disk's calls promise.
-use Rattle.std.proofs.Common.{◌≡◌, ◌⊎◌, inl, ℕ, Bool, ◌+◌, ◌≤◌, ◌^◌, List, [], ◌∷◌, ◌++◌, length, drop, Option, Some, refl, sym, ◌∙◌, ap, subst, arith, append_assoc, length-append}
+use Rattle.std.proofs.Common.{◌≡◌, ◌⊎◌, inl, ℕ, Bool, ◌+◌, ◌≤◌, List, [], ◌∷◌, ◌++◌, length, drop, Option, Some, refl, sym, ◌∙◌, ap, subst, arith, append_assoc, length-append}
 use Rattle.std.specs.Prelude.{option_map}
 use Rattle.mc_outside.specs.Bytes.{put}
 use Rattle.mc_outside.specs.DiskView.{DiskView, DiskGoes, CallPairs, Follows, LeavesNoMore, IsSynced, Torn, Ran}
 use Rattle.mc_outside.proofs.Runs.{ran_quiet, ran_then}
 use Rattle.mc_records.specs.declared.limits.TheConstants.Limits.{MOST_JOURNAL}
 use Rattle.mc_records.specs.Entry.{Entry, Fits}
-use Rattle.mc_records.specs.Chains.{chain, has_switch}
+use Rattle.mc_records.specs.Chains.{has_switch}
 use Rattle.mc_records.specs.Sizes.{size}
 use Rattle.scrip_journal.specs.Layout.{framed, body, Encodes}
-use Rattle.scrip_journal.specs.States.{AtRest, WithNext, IsJournal, IsStaged}
+use Rattle.scrip_journal.specs.States.{AtRest, WithNext, IsJournal, IsStaged, IsChainOf}
 use Rattle.scrip_journal.specs.Exits.{EncodesNoOutput, EitherNoOutput}
 use Rattle.scrip_journal.proofs.Bytes.{torn_behind, written_behind, torn_gate, written_gate}
 use Rattle.scrip_journal.proofs.Bodies.{stands_either, stands_more, body_long, size_more, framed_long}
@@ -40,9 +40,9 @@ module _ {D : Type 0} (view : D → DiskView) (j : AtRest D) (h : List Entry) (i
       ran_then (view j.disk) b c (EncodesNoOutput h (view j.disk).aside) (stage_ran b n g pairs follows)
       (ran_quiet b c (Encodes h) (view j.disk).aside g.aside g2 pairs2 (stage_leaves b n follows) (λ i l. stage_leaves b n follows i (less i l)))
 
-  pub is_staged : (b : DiskView) (c : D) (block : List ℕ) (n : ℕ) (e : Entry) (switched : Bool) (after : List ℕ) (s : WithNext D) → b.contents ≡ option_map (put (gate + 1) block) (view j.disk).contents → (view c).contents ≡ b.contents
+  pub is_staged : (b : DiskView) (c : D) (block : List ℕ) (n : ℕ) (e : Entry) (switched : Bool) (after : Option (List ℕ)) (s : WithNext D) → b.contents ≡ option_map (put (gate + 1) block) (view j.disk).contents → (view c).contents ≡ b.contents
       → IsSynced (view c) → Fits e → block ≡ framed h e ++ 0 ∷ [] → length block ≡ n → s ≡ record { disk = c; gate = gate; size = gate + n + 1; entries = j.entries; limit = j.limit; switched = switched; chain = after }
-      → switched ≡ has_switch (h ++ e ∷ []) → after ≡ chain (h ++ e ∷ []) → IsStaged view s h e
+      → switched ≡ has_switch (h ++ e ∷ []) → IsChainOf after (h ++ e ∷ []) → IsStaged view s h e
   is_staged b c block n e switched after s written same synced e_fits block_is n_is s_is switched_is chain_is =
       let bytes = put (gate + 1) block is.bytes in
       let dr = drop (gate + 1 + length block) is.bytes in

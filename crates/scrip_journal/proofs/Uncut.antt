@@ -1,5 +1,5 @@
 -- What calls leave of how many bytes a disk tells.
-use Rattle.std.proofs.Common.{◌≡◌, ℕ, ◌+◌, ◌-◌, ◌≤◌, List, [], ◌∷◌, ◌++◌, length, take, drop, replicate, Option, Some, option_map, Result, Ok, Err, OnOk, OnErr, ◌∙◌, ap, sym, subst, arith, length-append}
+use Rattle.std.proofs.Common.{◌≡◌, ℕ, ◌+◌, ◌-◌, ◌≤◌, List, ◌++◌, length, take, drop, replicate, Option, option_map, Result, Ok, Err, OnOk, OnErr, ◌∙◌, ap, sym, subst, arith, length-append}
 use Rattle.std.proofs.lemmas.List.{length-take, length-drop, length-replicate}
 use Rattle.mc_outside.specs.Bytes.{put, Told}
 use Rattle.mc_outside.specs.DiskView.{DiskView, Torn}

@@ -1,7 +1,7 @@
 -- Why a book is not opened, by its bytes. Whoever opens one says which entries may follow which (`may`), and books
 -- of which kinds of site are opened (`kinds`): those of one kind (`Only`), as for a house or a wallet, or of any,
 -- as for who audits.
-use Rattle.std.specs.Prelude.{◌≡◌, ◌⊎◌, ℕ, ◌+◌, ◌≤◌, ◌^◌, List, [], ◌∷◌, ◌++◌}
+use Rattle.std.specs.Prelude.{◌≡◌, ◌⊎◌, ℕ, ◌+◌, ◌≤◌, List, [], ◌∷◌, ◌++◌}
 use Rattle.std.specs.List.{AllByRecursion}
 use Rattle.mc_outside.specs.Bytes.{BeginsWith}
 use Rattle.mc_records.specs.Entry.{Entry, Site, Fits}

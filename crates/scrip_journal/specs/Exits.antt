@@ -1,8 +1,9 @@
 -- What calls hand back, and what a crash in them leaves.
-use Rattle.std.specs.Prelude.{◌≡◌, ◌⊎◌, ℕ, ◌<◌, ◌≤◌, List, [], ◌∷◌, ◌++◌, length, Result, Ok, Err}
+use Rattle.std.specs.Prelude.{◌≡◌, ◌⊎◌, ℕ, ◌+◌, ◌<◌, ◌≤◌, List, [], ◌∷◌, ◌++◌, length, Result, Ok, Err}
 use Rattle.mc_outside.specs.Bytes.{Told}
 use Rattle.mc_outside.specs.DiskView.{DiskView}
-use Rattle.mc_records.specs.Entry.{Entry}
+use Rattle.mc_records.specs.Entry.{Entry, payload}
+use Rattle.mc_records.specs.Sizes.{framed_size, tail_bytes}
 use Rattle.scrip_journal.specs.Layout.{Encodes}
 use Rattle.scrip_journal.specs.States.{AtRest, WithNext}
 use Rattle.scrip_journal.specs.declared.journal.StageFault.{StageFault}
@@ -14,8 +15,8 @@ staged_disk (Ok s) = s.disk
 staged_disk (Err (Full j)) = j.disk
 staged_disk (Err (Disk d)) = d
 
--- and from opening a gate
-abbrev pub opened_disk : {D : Type 0} → Result (AtRest D × ℕ) D → D
+-- and from opening a gate, which gives a number, or from finding a chain
+abbrev pub opened_disk : {D X : Type 0} → Result (AtRest D × X) D → D
 opened_disk (Ok r) = r.0.disk
 opened_disk (Err d) = d
 
@@ -35,6 +36,10 @@ MatchStageFault (Disk d) P Q = Q d
 abbrev pub RoomBy : {D A : Type 0} → Result A (StageFault D) → ℕ → ℕ → Type 0
 RoomBy (Err (Full j)) limit needed = limit < needed
 RoomBy _ limit needed = needed ≤ limit
+
+-- how many bytes the journal has with one entry more
+abbrev pub size_with : {D : Type 0} → AtRest D → Entry → ℕ
+size_with j e = j.size + framed_size (length (payload e)) (tail_bytes j.switched)
 
 -- a crash pair that encodes these entries, with nothing sent
 abbrev pub EncodesNoOutput : List Entry → List ℕ → List ℕ → List ℕ → Type 0

@@ -1,6 +1,7 @@
 pub mod Layout
 pub mod States
 pub mod Exits
+pub mod Switching
 pub mod Replays
 pub mod Opens
 pub mod Rests

@@ -1,13 +1,14 @@
 -- What the calls of a journal that is read answer.
-use Rattle.std.specs.Prelude.{◌≡◌, ℕ, ◌+◌, ◌^◌, ◌<◌, ◌≤◌, Bool, ◌||◌, List, [], ◌∷◌, ◌++◌, length, take, drop, Option, Some, None, Result, Ok, Err}
+use Rattle.std.specs.Prelude.{◌≡◌, ℕ, ◌+◌, ◌<◌, ◌≤◌, Bool, ◌||◌, List, [], ◌∷◌, ◌++◌, length, take, drop, true, Option, Some, None, Result, Ok, Err}
+use Rattle.std.specs.List.{AllByRecursion}
 use Rattle.std.specs.Int.{w32, to_be_bytes}
 use Rattle.mc_outside.specs.Bytes.{BeginsWith, Rose}
 use Rattle.mc_outside.specs.DiskView.{DiskView, OnlyRead}
 use Rattle.mc_records.specs.Entry.{Entry, Fits, payload}
-use Rattle.mc_records.specs.Chains.{chain, chain_after, has_switch, is_switch}
-use Rattle.mc_records.specs.Sizes.{tail_by, tail_bytes}
+use Rattle.mc_records.specs.Chains.{chain, has_switch, is_switch}
+use Rattle.mc_records.specs.Sizes.{tail_by, tail_bytes, size}
 use Rattle.scrip_journal.specs.Layout.{body, next_of, Encodes, IsSpoiled, IsUnchained}
-use Rattle.scrip_journal.specs.States.{Reading, IsReading, EndedBy}
+use Rattle.scrip_journal.specs.States.{AtRest, Reading, IsReading, EndedBy, IsChainOf, known_chain, chain_with}
 use Rattle.scrip_journal.specs.Answers.{Given, answer_of}
 use Rattle.scrip_journal.specs.declared.ending.Ending.{Ending}
 use Rattle.scrip_journal.specs.declared.ending.Ending.TheVariants.{Closed, Spoiled, Unchained, Failed}
@@ -25,10 +26,11 @@ ending_of (Err (BadChain place stood computed)) = Some (Unchained place stood co
 ending_of (Err Disk) = Some Failed
 
 -- A reading of some bytes behind these entries: none where the bytes encode them, and the next one
--- where it is there; a bad record where they can't stand, a bad chain where the next one has another.
+-- where it is there, with the chain of those before it where it is a Switch; a bad record where they can't stand, a bad
+-- chain where the next one has another.
 abbrev pub ReadsOn : {D : Type 0} → (D → DiskView) → List Entry → List ℕ → ℕ → Given → Reading D → Type 0
 ReadsOn view h bytes gate (Ok None) new = Encodes h bytes × IsReading view new h
-ReadsOn view h bytes gate (Ok (Some place)) new = (place ≡ gate) × (e : Entry) × Fits e × (new.last ≡ payload e) × IsReading view new (h ++ e ∷ [])
+ReadsOn view h bytes gate (Ok (Some place)) new = (place ≡ gate) × (e : Entry) × Fits e × (new.last ≡ payload e) × IsReading view new (h ++ e ∷ []) × (is_switch e ≡ true → new.before ≡ chain h)
 ReadsOn view h bytes gate (Err (BadRecord place)) new = IsSpoiled h bytes place × IsReading view new h
 ReadsOn view h bytes gate (Err (BadChain place stood computed)) new = IsUnchained h bytes place stood computed × IsReading view new h
 ReadsOn view h bytes gate (Err Disk) new = IsReading view new h
@@ -96,7 +98,7 @@ FaultsBy _ before after = after ≡ before
 
 -- the reading ends so, by what comes at the gate
 abbrev pub EndsHere : {D : Type 0} → (D → DiskView) → Reading D → Ending → Type 0
-EndsHere view r ending = (h : List Entry) (bytes : List ℕ) → (view r.disk).contents ≡ Some bytes → r.gate ≡ length (body h) → r.switched ≡ has_switch h → r.chain ≡ chain h → HeldOf bytes r → EndedBy (Some ending) (next_of h (drop r.gate bytes))
+EndsHere view r ending = (h : List Entry) (bytes : List ℕ) → (view r.disk).contents ≡ Some bytes → r.gate ≡ length (body h) → r.switched ≡ has_switch h → IsChainOf r.chain h → HeldOf bytes r → EndedBy (Some ending) (next_of h (drop r.gate bytes))
 
 -- From the gate at this place on an open gate is held, and an entry whose payload has this length; where a Switch
 -- stands, there may be room for its chain.
@@ -108,32 +110,47 @@ pub record IsPayload (n : ℕ) (switched : Bool) (gate : ℕ) (held : List ℕ) 
   pub shape : held ≡ 1 ∷ (to_be_bytes w32 n ++ (payload next ++ rest))
   pub within : gate + n + tail_bytes switched + 6 ≤ MOST_JOURNAL
 
--- The chain that is computed of a payload of this length that is held, and which stands behind it where a Switch
--- stands.
-abbrev pub IsTold : {D : Type 0} → ℕ → Reading D → List ℕ → Type 0
-IsTold n r computed = (computed ≡ chain_after r.chain (take n (drop 5 r.held))) × (n + 5 + tail_bytes r.switched ≤ length r.held) × (take (tail_bytes r.switched) (drop (n + 5) r.held) ≡ tail_by r.switched computed)
+-- The chain that is computed of a payload of this length that is held, where that before it is known, and which stands
+-- behind it where a Switch stands.
+abbrev pub IsTold : {D : Type 0} → ℕ → Reading D → Option (List ℕ) → Type 0
+IsTold n r computed = (computed ≡ chain_with r.chain (take n (drop 5 r.held))) × (n + 5 + tail_bytes r.switched ≤ length r.held) × (take (tail_bytes r.switched) (drop (n + 5) r.held) ≡ tail_by r.switched (known_chain computed))
 
 -- From the gate at this place on an open gate is held, and an entry of this payload, with its chain where a Switch
 -- stands.
-pub record IsFrame (f : Found) (switched : Bool) (before : List ℕ) (gate : ℕ) (held : List ℕ) : Type 0 where
+pub record IsFrame (f : Found) (switched : Bool) (before : Option (List ℕ)) (gate : ℕ) (held : List ℕ) : Type 0 where
   pub next : Entry
   pub fits : Fits next
   pub length_is : length (payload next) ≡ f.bytes
   pub switch_is : f.switches ≡ is_switch next
-  pub chain_is : f.chain ≡ chain_after before (payload next)
+  pub chain_is : f.chain ≡ chain_with before (payload next)
   pub rest : List ℕ
-  pub shape : held ≡ 1 ∷ (to_be_bytes w32 f.bytes ++ (payload next ++ (tail_by switched f.chain ++ rest)))
+  pub shape : held ≡ 1 ∷ (to_be_bytes w32 f.bytes ++ (payload next ++ (tail_by switched (known_chain f.chain) ++ rest)))
   pub within : gate + f.bytes + tail_bytes switched + 6 ≤ MOST_JOURNAL
 
 -- how many bytes an entry of this payload has up to the next gate
 abbrev pub frame_size : Found → Bool → ℕ
 frame_size f switched = f.bytes + 5 + tail_bytes switched
 
+-- The disk was read, from the gate on or once more up to it. The reading stands at this gate still, behind the same
+-- entries; more of their chain may be known.
+pub record LookedOn {D : Type 0} (view : D → DiskView) (old new : Reading D) : Type 0 where
+  pub gate : new.gate ≡ old.gate
+  pub entries : new.entries ≡ old.entries
+  pub limit : new.limit ≡ old.limit
+  pub switched : new.switched ≡ old.switched
+  pub ended : new.ended ≡ old.ended
+  pub only_read : OnlyRead (view old.disk) (view new.disk)
+  pub reading : (h : List Entry) → IsReading view old h → IsReading view new h
+
+-- the reading ends so, by what comes behind the entries that were read
+abbrev pub EndsReading : {D : Type 0} → (D → DiskView) → Reading D → Ending → Type 0
+EndsReading view r ending = (h : List Entry) (is : IsReading view r h) → EndedBy (Some ending) (next_of h is.rest)
+
 -- the entry was taken off the front of the bytes held
 abbrev pub TookEntry : {D : Type 0} → Reading D → Found → ℕ → Reading D → Type 0
 TookEntry old f gate new =
     (gate ≡ old.gate) × ((frame : IsFrame f old.switched old.chain old.gate old.held) → new.last ≡ payload frame.next)
-    × (new ≡ record old { gate = old.gate + frame_size f old.switched; entries = old.entries + 1; switched = old.switched || f.switches; chain = f.chain; held = drop (frame_size f old.switched) old.held; last = new.last })
+    × (new ≡ record old { gate = old.gate + frame_size f old.switched; entries = old.entries + 1; switched = old.switched || f.switches; chain = f.chain; before = known_chain old.chain; held = drop (frame_size f old.switched) old.held; last = new.last })
 
 -- the eight bytes of the header were taken off, and all else is as it was
 pub record FoundHeader {D : Type 0} (old new : Reading D) : Type 0 where
@@ -143,3 +160,24 @@ pub record FoundHeader {D : Type 0} (old new : Reading D) : Type 0 where
   pub switched : new.switched ≡ old.switched
   pub chain : new.chain ≡ old.chain
   pub ended : new.ended ≡ old.ended
+
+-- ---- a second reading
+
+-- The bytes of the disk begin with these entries, and the reading has passed the first ones of them.
+pub record Passes {D : Type 0} (view : D → DiskView) (r : Reading D) (h : List Entry) : Type 0 where
+  pub passed : List Entry
+  pub behind : List Entry
+  pub parts : h ≡ passed ++ behind
+  pub fits : AllByRecursion Fits h
+  pub most : size h ≤ MOST_JOURNAL
+  pub reading : IsReading view r passed
+  pub begins : BeginsWith (body h) reading.bytes
+
+-- the journal rests behind the gate of the reading
+pub record RestsBehind {D : Type 0} (r : Reading D) (j : AtRest D) : Type 0 where
+  pub disk : j.disk ≡ r.disk
+  pub size_is : j.size ≡ r.gate + 1
+  pub entries : j.entries ≡ r.entries
+  pub limit : j.limit ≡ r.limit
+  pub switched : j.switched ≡ r.switched
+  pub chain : j.chain ≡ r.chain

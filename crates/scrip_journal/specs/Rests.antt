@@ -1,11 +1,11 @@
 -- What stays of a journal while links work.
-use Rattle.std.specs.Prelude.{◌≡◌, refl, ℕ, List}
+use Rattle.std.specs.Prelude.{◌≡◌, refl, ℕ, List, Option}
 use Rattle.std.proofs.Common.{◌∙◌}
 use Rattle.std.proofs.Common.{subst, sym}
 use Rattle.mc_outside.specs.DiskView.{DiskView, LinkKeeps}
 use Rattle.mc_records.specs.Entry.{Entry}
 use Rattle.scrip_journal.specs.Layout.{Encodes}
-use Rattle.scrip_journal.specs.States.{AtRest, IsJournal}
+use Rattle.scrip_journal.specs.States.{AtRest, IsJournal, IsChainOf}
 
 -- only the disk may have changed
 pub record RestsAs {D : Type 0} (old new : AtRest D) : Type 0 where
@@ -34,6 +34,6 @@ journal_keeps view j k h is keeps rests = record {
   size_is = rests.size ∙ is.size_is;
   entries_is = rests.entries ∙ is.entries_is;
   switched_is = rests.switched ∙ is.switched_is;
-  chain_is = rests.chain ∙ is.chain_is;
+  chain_is = subst (λ (c : Option (List ℕ)). IsChainOf c h) (sym rests.chain) is.chain_is;
   synced = λ c l. is.synced c ((keeps.leaves c).0 l);
 }

@@ -1,16 +1,15 @@
 ghost use Rattle.std.specs.Prelude.{◌≡◌, ◌+◌, ◌-◌, ◌≤◌, ◌<◌, ◌++◌, ◌∷◌, ◌||◌, [], length, take, IfOk};
 ghost use Rattle.std.specs.Int.{w32, to_be_bytes};
 ghost use Rattle.mc_records.specs.Entry.{Fits, payload};
-ghost use Rattle.mc_records.specs.Chains as chains;
 ghost use Rattle.mc_records.specs.Sizes.{tail_by, tail_bytes};
 ghost use Rattle.mc_records.specs.Views.{entry};
+ghost use Rattle.scrip_journal.specs.States.{chain_with, known_chain};
 ghost use Rattle.mc_records.specs.declared.ranges.TheConstants.{CHAIN_BYTES};
 ghost use Rattle.mc_records.specs.declared.sizes.TheConstants.{FRAME, PAYLOAD_BOUND};
 
+use crate::chain::{chain_with, known_chain};
 use mc_base::NoMemory;
-use mc_records::{
-    CHAIN_BYTES, FRAME, Record, chain_after, payloads_are_short, put_record, tail_len,
-};
+use mc_records::{CHAIN_BYTES, FRAME, Record, payloads_are_short, put_record, tail_len};
 use std::alloc::Global;
 
 /// The place of the first gate: behind the header.
@@ -21,15 +20,15 @@ pub const FIRST_GATE: u64 = 8;
 pub(crate) const BUFFER: usize = 131_104;
 
 /// Where the gate stands behind the last entry, how many entries stand before it, how many bytes the
-/// journal may have, whether a Switch is among the entries, their chain, and the buffer through which the
-/// journal is read and written.
+/// journal may have, whether a Switch is among the entries, their chain, where it is known, and the buffer through
+/// which the journal is read and written.
 #[derive(Drop)]
 pub(crate) struct Cursor {
     pub(crate) gate: u64,
     pub(crate) entries: u64,
     pub(crate) limit: u64,
     pub(crate) switched: bool,
-    pub(crate) chain: [u8; 32],
+    pub(crate) chain: Option<[u8; 32]>,
     pub(crate) buf: Vec<u8>,
 }
 
@@ -49,21 +48,21 @@ pub(crate) fn new_buffer(alloc: Global) -> Result<Vec<u8>, NoMemory>
 
 /// Writes the block of an entry at the front of the buffer: the length of its payload, the payload, its chain
 /// where a Switch stands, and a closed gate. Answers how many bytes that are, and the chain of the entries up to
-/// and with this one.
+/// and with this one, where that of those before is known.
 pub(crate) fn put_block(
     buf: &mut Vec<u8>,
     r: &Record<'_>,
     switched: bool,
-    before: &[u8; 32],
-) -> (usize, [u8; 32])
+    before: Option<[u8; 32]>,
+) -> (usize, Option<[u8; 32]>)
     requires buffer { length buf.old.items ≡ BUFFER }
     requires fits { Fits (entry r.now) }
     ensures buffer { length buf.new.items ≡ BUFFER }
-    ensures chain { result.1 ≡ chains.chain_after before.now (payload (entry r.now)) }
+    ensures chain { result.1 ≡ chain_with before (payload (entry r.now)) }
     ensures size { result.0 ≡ length (payload (entry r.now)) + tail_bytes switched + FRAME }
     ensures within { result.0 ≤ BUFFER }
     ensures block { take result.0 buf.new.items
-        ≡ to_be_bytes w32 (length (payload (entry r.now))) ++ (payload (entry r.now) ++ (tail_by switched result.1 ++ 0 ∷ [])) }
+        ≡ to_be_bytes w32 (length (payload (entry r.now))) ++ (payload (entry r.now) ++ (tail_by switched (known_chain result.1) ++ 0 ∷ [])) }
 {
     write_block(buf, r, switched, before)
 }
@@ -73,21 +72,21 @@ fn write_block(
     out: &mut [u8],
     r: &Record<'_>,
     switched: bool,
-    before: &[u8; 32],
-) -> (usize, [u8; 32])
+    before: Option<[u8; 32]>,
+) -> (usize, Option<[u8; 32]>)
     requires buffer { length out.old ≡ BUFFER }
     requires fits { Fits (entry r.now) }
     ensures buffer { length out.new ≡ BUFFER }
-    ensures chain { result.1 ≡ chains.chain_after before.now (payload (entry r.now)) }
+    ensures chain { result.1 ≡ chain_with before (payload (entry r.now)) }
     ensures size { result.0 ≡ length (payload (entry r.now)) + tail_bytes switched + FRAME }
     ensures within { result.0 ≤ BUFFER }
     ensures block { take result.0 out.new
-        ≡ to_be_bytes w32 (length (payload (entry r.now))) ++ (payload (entry r.now) ++ (tail_by switched result.1 ++ 0 ∷ [])) }
+        ≡ to_be_bytes w32 (length (payload (entry r.now))) ++ (payload (entry r.now) ++ (tail_by switched (known_chain result.1) ++ 0 ∷ [])) }
 {
     let (head, rest) = out.split_at_mut(4);
     let bytes = put_payload(rest, r);
-    let chain = chain_after(before, &rest[..bytes]);
-    put_tail(rest, bytes, switched, &chain);
+    let chain = chain_with(before, &rest[..bytes]);
+    put_tail(rest, bytes, switched, &known_chain(chain));
     head.copy_from_slice(&(bytes as u32).to_be_bytes());
     (bytes + (tail_len(switched) + FRAME) as usize, chain)
 }

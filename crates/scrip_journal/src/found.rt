@@ -13,7 +13,7 @@ use crate::fault::OpenFault;
 use crate::journal::Journal;
 use mc_base::NoMemory;
 use mc_outside::Disk;
-use mc_records::{FIRST_CHAIN, Limits};
+use mc_records::Limits;
 use std::alloc::Global;
 
 /// The header, and the closed gate of a journal without entries.
@@ -61,7 +61,7 @@ pub fn found_journal<D: Disk>(
         entries: 0,
         limit: limits.journal,
         switched: false,
-        chain: FIRST_CHAIN,
+        chain: None,
         buf,
     };
     Ok(Journal { disk, at })

@@ -1,24 +1,25 @@
 //! A journal at rest, and what its calls end as.
 
-ghost use Rattle.std.specs.Prelude.{◌≡◌, ◌+◌, ◌∷◌, ◌++◌, [], List, length, IfOk, IfErr, OnOk};
+ghost use Rattle.std.specs.Prelude.{◌≡◌, ◌≤◌, ◌+◌, ◌∷◌, ◌++◌, ◌↔◌, [], List, length, IfOk, IfErr, OnOk, OnErr, IsSome, IsTrue, Some, true};
 ghost use Rattle.mc_outside.specs.Bytes.{Rose};
-ghost use Rattle.mc_outside.specs.DiskView.{Ran};
+ghost use Rattle.mc_outside.specs.DiskView.{Ran, OnlyRead};
 ghost use Rattle.mc_records.specs.Entry.{Entry, Fits};
-ghost use Rattle.mc_records.specs.Chains.{has_switch};
+ghost use Rattle.mc_records.specs.Chains.{has_switch, is_switch};
 ghost use Rattle.mc_records.specs.Sizes.{size, entry_size};
 ghost use Rattle.mc_records.specs.Views.{entry};
 ghost use Rattle.scrip_journal.specs.States.{IsJournal, IsStaged};
-ghost use Rattle.scrip_journal.specs.Exits.{staged_disk, written_disk, RoomBy, MatchStageFault, EncodesNoOutput, EitherNoOutput, IsUncut};
+ghost use Rattle.scrip_journal.specs.Exits.{staged_disk, opened_disk, written_disk, size_with, RoomBy, MatchStageFault, EncodesNoOutput, EitherNoOutput, IsUncut};
 
 use crate::cursor::{Cursor, put_block, stands_with};
+use crate::replay::Replay;
 use crate::staged::{Next, Staged};
-use mc_outside::Disk;
-use mc_records::Record;
+use mc_outside::{Disk, DiskFault};
+use mc_records::{FRAME, Record, payloads_are_short, tail_len};
 use std::marker::Model;
 
 /// A journal at rest, which owns its disk and never lends it. Contracts see the disk, the place after
 /// the closed gate as its size, how many entries there are, how many bytes it may have, whether a Switch is among
-/// the entries, and their chain.
+/// the entries, and their chain, where it is known: behind a Switch, or to who asked for it.
 pub struct Journal<D> {
     pub(crate) disk: D,
     pub(crate) at: Cursor,
@@ -26,7 +27,7 @@ pub struct Journal<D> {
 
 impl<D> Model for Journal<D> {
     ghost use Rattle.std.specs.Prelude.{◌≡◌, ◌+◌, ◌<◌, ◌≤◌, length};
-    ghost use Rattle.scrip_journal.specs.States.{AtRest};
+    ghost use Rattle.scrip_journal.specs.States.{AtRest, IsKnown};
     ghost use Rattle.scrip_journal.specs.declared.cursor.TheConstants.{BUFFER};
     ghost use Rattle.mc_records.specs.declared.limits.TheConstants.Limits.{MOST_JOURNAL};
 
@@ -34,7 +35,7 @@ impl<D> Model for Journal<D> {
 
     ghost view = { λ j. record { disk = j.disk; size = j.at.gate + 1; entries = j.at.entries; limit = j.at.limit; switched = j.at.switched; chain = j.at.chain } };
 
-    ghost invariant = { λ j. (j.at.gate < MOST_JOURNAL) × (j.at.entries ≤ j.at.gate) × (j.at.limit ≤ MOST_JOURNAL) × (length j.at.buf.items ≡ BUFFER) };
+    ghost invariant = { λ j. ((j.at.gate < MOST_JOURNAL) × (j.at.entries ≤ j.at.gate) × (j.at.limit ≤ MOST_JOURNAL) × (length j.at.buf.items ≡ BUFFER)) × IsKnown j.at.switched j.at.chain };
 }
 
 /// A journal whose disk failed while an entry was written. The entry is in doubt: from here on only
@@ -75,7 +76,8 @@ pub enum StageFault<D> {
 }
 
 impl<D: Disk> Journal<D> {
-    /// Writes an entry behind the closed gate, and waits until it lasts. It takes no memory.
+    /// Writes an entry behind the closed gate, and waits until it lasts. It takes no memory. For a Switch the chain
+    /// of the entries is found first, where it is not known.
     ///
     /// A crash in this call leaves the entries as they were. `Full` comes exactly where the journal
     /// would pass its limit, and hands it back unchanged; `Disk` only where the disk failed.
@@ -88,6 +90,7 @@ impl<D: Disk> Journal<D> {
         // Each crash pair of the call encodes the entries as they were, and nothing is sent.
         ensures ran { (h : List Entry) → IsJournal D.disk self h
             → Ran (D.disk self.disk) (D.disk (staged_disk result)) (EncodesNoOutput h (D.disk self.disk).aside) }
+        ensures room { RoomBy result self.limit (size_with self (entry r.now)) }
         ensures full { (h : List Entry) → self.size ≡ size h → self.switched ≡ has_switch h
             → RoomBy result self.limit (size h + entry_size h (entry r.now)) }
         ensures fault { IfErr result (λ f. MatchStageFault f
@@ -95,10 +98,77 @@ impl<D: Disk> Journal<D> {
             (λ d. Rose (D.disk self.disk).faults (D.disk d).faults)) }
         ensures same_count { OnOk result ((D.disk (staged_disk result)).faults ≡ (D.disk self.disk).faults) }
         ensures uncut { IsUncut (D.disk self.disk) (D.disk (staged_disk result)) }
+        ensures known { IfOk result (λ s. is_switch (entry r.now) ≡ true → IsSome s.chain) }
+        ensures keeps { IsSome self.chain → IfOk result (λ s. IsSome s.chain) }
+    {
+        if r.is_switch() && self.chain().is_none() {
+            self.stage_first(r)
+        } else {
+            self.stage_next(r)
+        }
+    }
+
+    /// Stages the first Switch, or any entry, with the chain of the entries, which is found first.
+    fn stage_first(self, r: &Record<'_>) -> Result<Staged<D>, StageFault<D>>
+        requires { Fits (entry r.now) }
+        ensures moved { D.disk_moved self.disk (staged_disk result) }
+        ensures staged { IfOk result (λ s. (h : List Entry) → IsJournal D.disk self h
+            → IsStaged D.disk s h (entry r.now)) }
+        ensures limit { IfOk result (λ s. (s.limit ≡ self.limit) × (s.entries ≡ self.entries)) }
+        ensures ran { (h : List Entry) → IsJournal D.disk self h
+            → Ran (D.disk self.disk) (D.disk (staged_disk result)) (EncodesNoOutput h (D.disk self.disk).aside) }
+        ensures room { RoomBy result self.limit (size_with self (entry r.now)) }
+        ensures fault { IfErr result (λ f. MatchStageFault f
+            (λ j. j ≡ self)
+            (λ d. Rose (D.disk self.disk).faults (D.disk d).faults)) }
+        ensures same_count { OnOk result ((D.disk (staged_disk result)).faults ≡ (D.disk self.disk).faults) }
+        ensures uncut { IsUncut (D.disk self.disk) (D.disk (staged_disk result)) }
+        ensures known { IfOk result (λ s. IsSome s.chain) }
+    {
+        if !self.has_room(r) {
+            return Err(StageFault::Full(self));
+        }
+        let journal = match self.find_chain() {
+            Ok((journal, _)) => journal,
+            Err(halted) => return Err(StageFault::Disk(halted)),
+        };
+        match journal.stage_next(r) {
+            Ok(staged) => Ok(staged),
+            Err(StageFault::Full(_journal)) => unreachable!(),
+            Err(StageFault::Disk(halted)) => Err(StageFault::Disk(halted)),
+        }
+    }
+
+    /// Whether the journal has room for an entry.
+    fn has_room(&self, r: &Record<'_>) -> bool
+        requires { Fits (entry r.now) }
+        ensures { IsTrue result ↔ (size_with self.now (entry r.now) ≤ self.now.limit) }
+    {
+        payloads_are_short();
+        self.at.gate + r.payload_len() + tail_len(self.at.switched) + FRAME < self.at.limit
+    }
+
+    /// Stages an entry; where it is a Switch, the chain of the entries is known.
+    fn stage_next(self, r: &Record<'_>) -> Result<Staged<D>, StageFault<D>>
+        requires fits { Fits (entry r.now) }
+        requires known { is_switch (entry r.now) ≡ true → IsSome self.chain }
+        ensures moved { D.disk_moved self.disk (staged_disk result) }
+        ensures staged { IfOk result (λ s. (h : List Entry) → IsJournal D.disk self h
+            → IsStaged D.disk s h (entry r.now)) }
+        ensures limit { IfOk result (λ s. (s.limit ≡ self.limit) × (s.entries ≡ self.entries)) }
+        ensures ran { (h : List Entry) → IsJournal D.disk self h
+            → Ran (D.disk self.disk) (D.disk (staged_disk result)) (EncodesNoOutput h (D.disk self.disk).aside) }
+        ensures room { RoomBy result self.limit (size_with self (entry r.now)) }
+        ensures fault { IfErr result (λ f. MatchStageFault f
+            (λ j. j ≡ self)
+            (λ d. Rose (D.disk self.disk).faults (D.disk d).faults)) }
+        ensures same_count { OnOk result ((D.disk (staged_disk result)).faults ≡ (D.disk self.disk).faults) }
+        ensures uncut { IsUncut (D.disk self.disk) (D.disk (staged_disk result)) }
+        ensures keeps { IsSome self.chain → IfOk result (λ s. IsSome s.chain) }
     {
         let Journal { disk, at } = self;
         let (mut disk, mut at) = (disk, at);
-        let (block, chain) = put_block(&mut at.buf, r, at.switched, &at.chain);
+        let (block, chain) = put_block(&mut at.buf, r, at.switched, at.chain);
         if at.limit <= at.gate + block as u64 {
             return Err(StageFault::Full(Journal { disk, at }));
         }
@@ -131,6 +201,7 @@ impl<D: Disk> Journal<D> {
         // sent.
         ensures ran { (h : List Entry) → IsJournal D.disk self h
             → Ran (D.disk self.disk) (D.disk (written_disk result)) (EitherNoOutput h (entry r.now) (D.disk self.disk).aside) }
+        ensures room { RoomBy result self.limit (size_with self (entry r.now)) }
         ensures full { (h : List Entry) → self.size ≡ size h → self.switched ≡ has_switch h
             → RoomBy result self.limit (size h + entry_size h (entry r.now)) }
         ensures fault { IfErr result (λ f. MatchStageFault f
@@ -138,6 +209,8 @@ impl<D: Disk> Journal<D> {
             (λ d. Rose (D.disk self.disk).faults (D.disk d).faults)) }
         ensures same_count { OnOk result ((D.disk (written_disk result)).faults ≡ (D.disk self.disk).faults) }
         ensures uncut { IsUncut (D.disk self.disk) (D.disk (written_disk result)) }
+        ensures known { IfOk result (λ w. is_switch (entry r.now) ≡ true → IsSome w.0.chain) }
+        ensures keeps { IsSome self.chain → IfOk result (λ w. IsSome w.0.chain) }
     {
         let staged = match self.stage(r) {
             Ok(staged) => staged,
@@ -165,16 +238,42 @@ impl<D: Disk> Journal<D> {
 
     /// Whether a Switch is among the entries, so that the next one has its chain behind it.
     pub fn is_switched(&self) -> bool
-        ensures { result ≡ self.now.switched }
+        ensures value { result ≡ self.now.switched }
+        ensures known { result ≡ true → IsSome self.now.chain }
     {
         self.at.switched
     }
 
-    /// The chain of the entries.
-    pub fn chain(&self) -> [u8; 32]
+    /// The chain of the entries, where it is known.
+    pub fn chain(&self) -> Option<[u8; 32]>
         ensures { result ≡ self.now.chain }
     {
         self.at.chain
+    }
+
+    /// The chain of the entries: where it is not known, the entries are read from the disk once more. Nothing is
+    /// written, and it takes no memory.
+    pub fn find_chain(self) -> Result<(Journal<D>, [u8; 32]), Halted<D>>
+        ensures moved { D.disk_moved self.disk (opened_disk result) }
+        ensures read { OnlyRead (D.disk self.disk) (D.disk (opened_disk result)) }
+        ensures stands { IfOk result (λ r. (h : List Entry) → IsJournal D.disk self h
+            → IsJournal D.disk r.0 h) }
+        ensures known { IfOk result (λ r. r.0.chain ≡ Some r.1) }
+        ensures same { IfOk result (λ r. (r.0.size ≡ self.size) × (r.0.entries ≡ self.entries)
+            × (r.0.limit ≡ self.limit) × (r.0.switched ≡ self.switched)) }
+        ensures fault { OnErr result (Rose (D.disk self.disk).faults (D.disk (opened_disk result)).faults) }
+        ensures same_count { OnOk result ((D.disk (opened_disk result)).faults ≡ (D.disk self.disk).faults) }
+    {
+        if let Some(chain) = self.chain() {
+            return Ok((self, chain));
+        }
+        let mut replay = Replay::behind(self);
+        match replay.find_chain() {
+            Ok(chain) => Ok((replay.rest(), chain)),
+            Err(DiskFault) => Err(Halted {
+                disk: replay.close(),
+            }),
+        }
     }
 
     /// The disk, as it is.

@@ -7,6 +7,7 @@
 #![tactic(auto)]
 
 mod book;
+mod chain;
 mod cursor;
 mod ending;
 mod fault;
@@ -17,6 +18,7 @@ mod links;
 mod open;
 mod replay;
 mod staged;
+mod switching;
 
 pub use book::found_book;
 pub use cursor::FIRST_GATE;
@@ -30,3 +32,4 @@ pub use law::{
 pub use open::open_journal;
 pub use replay::Replay;
 pub use staged::Staged;
+pub use switching::SWITCH_PAYLOAD;

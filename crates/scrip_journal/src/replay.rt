@@ -1,26 +1,26 @@
 //! Reading a journal from its first entry on.
 
-ghost use Rattle.std.specs.Prelude.{◌≡◌, ◌≢◌, ◌↔◌, ◌⊎◌, ◌+◌, ◌-◌, ◌^◌, ◌≤◌, ◌<◌, ◌++◌, [], ◌∷◌, List, ℕ, length, take, drop, slice_range, vec_len, option_map, IfOk, IfErr, OnOk, IfSome, IfNone, Err, Some, None, IsTrue, true, false};
+ghost use Rattle.std.specs.Prelude.{◌≡◌, ◌≢◌, ◌↔◌, ◌⊎◌, ◌+◌, ◌-◌, ◌^◌, ◌≤◌, ◌<◌, ◌++◌, [], ◌∷◌, List, ℕ, length, take, drop, slice_range, vec_len, option_map, IfOk, IfErr, OnOk, IfSome, IfNone, IsSome, Err, Some, None, IsTrue, true, false};
 ghost use Rattle.std.specs.Int.{w32, to_be_bytes, from_be_bytes};
 ghost use Rattle.mc_outside.specs.Bytes.{BeginsWith, HasCause};
 ghost use Rattle.mc_outside.specs.DiskView.{OnlyRead};
-ghost use Rattle.mc_records.specs.Chains as chains;
 ghost use Rattle.mc_records.specs.Chains.{first_chain, is_switch};
 ghost use Rattle.mc_records.specs.Entry.{Entry, Fits, payload};
 ghost use Rattle.mc_records.specs.Forms.{entry_of};
 ghost use Rattle.mc_records.specs.Sizes.{tail_bytes};
 ghost use Rattle.mc_records.specs.Views.{entry};
-ghost use Rattle.scrip_journal.specs.States.{IsReading, IsJournal};
+ghost use Rattle.scrip_journal.specs.States.{IsReading, IsJournal, chain_with};
 ghost use Rattle.scrip_journal.specs.Layout.{header};
-ghost use Rattle.scrip_journal.specs.Replays.{Advanced, ReadAhead, FaultsBy, IsPayload, IsFrame, IsTold, EndsHere, IsCut, AllHeld, TookEntry, FoundHeader};
+ghost use Rattle.scrip_journal.specs.Replays.{Advanced, ReadAhead, LookedOn, FaultsBy, IsPayload, IsFrame, IsTold, EndsHere, EndsReading, IsCut, AllHeld, TookEntry, FoundHeader, RestsBehind};
 ghost use Rattle.mc_records.specs.declared.sizes.TheConstants.{PAYLOAD_BOUND};
 ghost use Rattle.scrip_journal.specs.declared.ending.Ending.TheVariants.{Closed};
 
+use crate::chain::{chain_with, known_chain};
 use crate::cursor::{BUFFER, Cursor, FIRST_GATE, stands_with};
 use crate::ending::{Ending, ReplayFault};
 use crate::journal::Journal;
 use mc_outside::{Disk, DiskFault};
-use mc_records::{FIRST_CHAIN, Limits, PAYLOAD_BOUND, Record, chain_after, read_record, tail_len};
+use mc_records::{FIRST_CHAIN, Limits, PAYLOAD_BOUND, Record, read_record, tail_len};
 use std::marker::Model;
 
 /// What a journal begins with.
@@ -31,17 +31,19 @@ const LAST_PLACE: u64 = Limits::MOST_JOURNAL;
 
 /// A journal that is read, entry by entry, from its first on. It owns its disk and never lends it.
 /// Contracts see the disk, the place of the next gate, how many entries stand before it, whether a Switch is among
-/// them, their chain, the bytes from the gate on that were read ahead, the payload read last, and how the reading
-/// ended.
+/// them, their chain, where it is known, the chain of those before the one read last, where that is a Switch, the bytes
+/// from the gate on that were read ahead, the payload read last, and how the reading ended.
 ///
-/// The disk is read once, in large pieces.
+/// The disk is read once, in large pieces, and where a Switch stands what is before the first one once more, for its
+/// chain: of a book without one no chain is computed.
 pub struct Replay<D> {
     disk: D,
-    gate: u64,
-    entries: u64,
+    pub(crate) gate: u64,
+    pub(crate) entries: u64,
     limit: u64,
     switched: bool,
-    chain: [u8; 32],
+    pub(crate) chain: Option<[u8; 32]>,
+    before: [u8; 32],
     buf: Vec<u8>,
     // the bytes read ahead lie in `start..end` of the buffer, and the payload read last before, in `from..to`
     start: usize,
@@ -52,25 +54,25 @@ pub struct Replay<D> {
 }
 
 /// An entry that was looked at: the length of its payload, whether it is a Switch, and the chain of the entries up
-/// to and with it.
+/// to and with it, where it is known.
 #[derive(Clone, Copy)]
 pub(crate) struct Found {
     bytes: usize,
     switches: bool,
-    chain: [u8; 32],
+    chain: Option<[u8; 32]>,
 }
 
 impl<D> Model for Replay<D> {
     ghost use Rattle.std.specs.Prelude.{◌≡◌, ◌+◌, ◌-◌, ◌<◌, ◌≤◌, ◌^◌, length, slice_range};
-    ghost use Rattle.scrip_journal.specs.States.{Reading};
+    ghost use Rattle.scrip_journal.specs.States.{Reading, IsKnown};
     ghost use Rattle.scrip_journal.specs.declared.cursor.TheConstants.{BUFFER};
     ghost use Rattle.mc_records.specs.declared.limits.TheConstants.Limits.{MOST_JOURNAL};
 
     ghost Value = { Reading D };
 
-    ghost view = { λ r. record { disk = r.disk; gate = r.gate; entries = r.entries; limit = r.limit; switched = r.switched; chain = r.chain; held = slice_range r.buf.items r.start r.end; last = slice_range r.buf.items r.from r.to; ended = r.ended } };
+    ghost view = { λ r. record { disk = r.disk; gate = r.gate; entries = r.entries; limit = r.limit; switched = r.switched; chain = r.chain; before = r.before; held = slice_range r.buf.items r.start r.end; last = slice_range r.buf.items r.from r.to; ended = r.ended } };
 
-    ghost invariant = { λ r. (r.gate < MOST_JOURNAL) × (r.entries ≤ r.gate) × (r.limit ≤ MOST_JOURNAL) × (length r.buf.items ≡ BUFFER) × (r.start ≤ r.end) × (r.end ≤ BUFFER) × (r.from ≤ r.to) × (r.to ≤ r.start) };
+    ghost invariant = { λ r. ((r.gate < MOST_JOURNAL) × (r.entries ≤ r.gate) × (r.limit ≤ MOST_JOURNAL) × (length r.buf.items ≡ BUFFER) × (r.start ≤ r.end) × (r.end ≤ BUFFER) × (r.from ≤ r.to) × (r.to ≤ r.start)) × IsKnown r.switched r.chain };
 }
 
 impl<D: Disk> Replay<D> {
@@ -91,7 +93,7 @@ impl<D: Disk> Replay<D> {
         }
         self.from = 0;
         self.to = 0;
-        match self.look() {
+        match self.look_known() {
             Ok(found) => Ok(Some(self.advance(&found))),
             Err(ending) => {
                 self.ended = Some(ending);
@@ -114,18 +116,18 @@ impl<D: Disk> Replay<D> {
         }
     }
 
-    /// The chain of the entries before the next gate.
-    pub fn chain(&self) -> [u8; 32]
-        ensures { result ≡ self.now.chain }
+    /// The chain of the entries before the one that was read last, where that is a Switch; else any 32 bytes.
+    pub fn chain_before(&self) -> [u8; 32]
+        ensures { result ≡ self.now.before }
     {
-        self.chain
+        self.before
     }
 
     /// A reading from the front of the disk on.
     pub(crate) fn at_front(disk: D, limit: u64, buf: Vec<u8>) -> Replay<D>
         requires limit { limit ≤ Limits.MOST_JOURNAL }
         requires buffer { length buf.items ≡ BUFFER }
-        ensures { result ≡ record { disk = disk; gate = 0; entries = 0; limit = limit; switched = false; chain = first_chain; held = []; last = []; ended = None } }
+        ensures { result ≡ record { disk = disk; gate = 0; entries = 0; limit = limit; switched = false; chain = None; before = first_chain; held = []; last = []; ended = None } }
     {
         Replay {
             disk,
@@ -133,7 +135,8 @@ impl<D: Disk> Replay<D> {
             entries: 0,
             limit,
             switched: false,
-            chain: FIRST_CHAIN,
+            chain: None,
+            before: FIRST_CHAIN,
             buf,
             start: 0,
             end: 0,
@@ -145,7 +148,7 @@ impl<D: Disk> Replay<D> {
 
     /// Reads the header at the front of the disk. False where another eight bytes, or fewer, stand there.
     pub(crate) fn read_header(&mut self) -> Result<bool, DiskFault>
-        requires { self.old ≡ record { disk = self.old.disk; gate = 0; entries = 0; limit = self.old.limit; switched = false; chain = first_chain; held = []; last = []; ended = None } }
+        requires { self.old ≡ record { disk = self.old.disk; gate = 0; entries = 0; limit = self.old.limit; switched = false; chain = None; before = first_chain; held = []; last = []; ended = None } }
         ensures moved { D.disk_moved self.old.disk self.new.disk }
         ensures only_read { OnlyRead (D.disk self.old.disk) (D.disk self.new.disk) }
         ensures cause { HasCause (D.disk self.old.disk).faults (D.disk self.new.disk).faults result }
@@ -189,6 +192,13 @@ impl<D: Disk> Replay<D> {
         ensures size { result.size ≡ self.gate + 1 }
         ensures journal { (h : List Entry) → IsReading D.disk self h → IsJournal D.disk result h }
     {
+        self.rest()
+    }
+
+    /// A journal that rests behind the last entry that was read.
+    pub(crate) fn rest(self) -> Journal<D>
+        ensures { RestsBehind self result }
+    {
         let Replay {
             disk,
             gate,
@@ -196,6 +206,7 @@ impl<D: Disk> Replay<D> {
             limit,
             switched,
             chain,
+            before: _,
             buf,
             start: _,
             end: _,
@@ -214,6 +225,53 @@ impl<D: Disk> Replay<D> {
         Journal { disk, at }
     }
 
+    /// A reading that stands behind the last entry of a journal.
+    pub(crate) fn behind(journal: Journal<D>) -> Replay<D>
+        ensures rests { RestsBehind result journal }
+        ensures going { (result.held ≡ []) × (result.ended ≡ None) }
+    {
+        let Journal { disk, at } = journal;
+        let Cursor {
+            gate,
+            entries,
+            limit,
+            switched,
+            chain,
+            buf,
+        } = at;
+        Replay {
+            disk,
+            gate,
+            entries,
+            limit,
+            switched,
+            chain,
+            before: FIRST_CHAIN,
+            buf,
+            start: 0,
+            end: 0,
+            from: 0,
+            to: 0,
+            ended: None,
+        }
+    }
+
+    /// Stands at the gate at this place, behind so many entries, none of which is a Switch, with nothing held.
+    pub(crate) fn stand_at(&mut self, gate: u64, entries: u64, chain: Option<[u8; 32]>)
+        requires gate { gate < Limits.MOST_JOURNAL }
+        requires entries { entries ≤ gate }
+        ensures { self.new ≡ record self.old { gate = gate; entries = entries; switched = false; chain = chain; held = []; last = [] } }
+    {
+        self.gate = gate;
+        self.entries = entries;
+        self.switched = false;
+        self.chain = chain;
+        self.start = 0;
+        self.end = 0;
+        self.from = 0;
+        self.to = 0;
+    }
+
     /// The disk, as it is.
     pub fn close(self) -> D
         ensures { result ≡ self.disk }
@@ -225,6 +283,7 @@ impl<D: Disk> Replay<D> {
             limit: _,
             switched: _,
             chain: _,
+            before: _,
             buf: _,
             start: _,
             end: _,
@@ -235,9 +294,34 @@ impl<D: Disk> Replay<D> {
         disk
     }
 
+    /// Looks for an entry behind the next gate. Where it is a Switch the chain of the entries before it is known then:
+    /// before the first Switch it is found now, and what is behind the gate is read anew.
+    fn look_known(&mut self) -> Result<Found, Ending>
+        requires going { self.old.ended ≡ None }
+        ensures moved { D.disk_moved self.old.disk self.new.disk }
+        ensures looked { LookedOn D.disk self.old self.new }
+        ensures cause { FaultsBy result (D.disk self.old.disk).faults (D.disk self.new.disk).faults }
+        ensures frame { IfOk result
+            (λ f. IsFrame f self.new.switched self.new.chain self.new.gate self.new.held) }
+        ensures known { IfOk result (λ f. f.switches ≡ true → IsSome self.new.chain) }
+        ensures ends { IfErr result (EndsReading D.disk self.old) }
+    {
+        let found = match self.look() {
+            Ok(found) => found,
+            Err(ending) => return Err(ending),
+        };
+        if !found.switches || self.chain.is_some() {
+            return Ok(found);
+        }
+        if self.find_chain().is_err() {
+            return Err(Ending::Failed);
+        }
+        self.look()
+    }
+
     /// Looks for an entry behind the next gate. It is then wholly in the buffer, with its chain where it has one;
     /// or the reading ends here.
-    fn look(&mut self) -> Result<Found, Ending>
+    pub(crate) fn look(&mut self) -> Result<Found, Ending>
         ensures moved { D.disk_moved self.old.disk self.new.disk }
         ensures ahead { ReadAhead D.disk self.old self.new }
         ensures cause { FaultsBy result (D.disk self.old.disk).faults (D.disk self.new.disk).faults }
@@ -294,8 +378,8 @@ impl<D: Disk> Replay<D> {
     }
 
     /// Looks for the chain behind a payload of this length, where a Switch stands, and answers the one that is
-    /// computed.
-    fn look_chain(&mut self, bytes: usize) -> Result<[u8; 32], Ending>
+    /// computed, where that before it is known.
+    fn look_chain(&mut self, bytes: usize) -> Result<Option<[u8; 32]>, Ending>
         requires payload { IsPayload bytes self.old.switched self.old.gate self.old.held }
         ensures moved { D.disk_moved self.old.disk self.new.disk }
         ensures ahead { ReadAhead D.disk self.old self.new }
@@ -312,23 +396,24 @@ impl<D: Disk> Replay<D> {
             return Ok(computed);
         }
         let stood = self.chain_behind(bytes);
-        if !is_same(&stood, &computed) {
+        let chain = known_chain(computed);
+        if !is_same(&stood, &chain) {
             return Err(Ending::Unchained {
                 place: self.gate + 5 + bytes as u64,
                 stood,
-                computed,
+                computed: chain,
             });
         }
         Ok(computed)
     }
 
-    /// The chain of the entries up to and with that whose payload of this length is held.
-    fn payload_chain(&self, bytes: usize) -> [u8; 32]
+    /// The chain of the entries up to and with that whose payload of this length is held, where that before it is known.
+    fn payload_chain(&self, bytes: usize) -> Option<[u8; 32]>
         requires { bytes + 5 ≤ length self.now.held }
-        ensures { result ≡ chains.chain_after self.now.chain (take bytes (drop 5 self.now.held)) }
+        ensures { result ≡ chain_with self.now.chain (take bytes (drop 5 self.now.held)) }
     {
         let from = self.start + 5;
-        chain_after(&self.chain, &self.buf[from..from + bytes])
+        chain_with(self.chain, &self.buf[from..from + bytes])
     }
 
     /// The chain that stands behind a payload of this length.
@@ -441,8 +526,9 @@ impl<D: Disk> Replay<D> {
     }
 
     /// Takes the entry that was looked at. Answers the place of its gate.
-    fn advance(&mut self, found: &Found) -> u64
+    pub(crate) fn advance(&mut self, found: &Found) -> u64
         requires frame { IsFrame found.now self.old.switched self.old.chain self.old.gate self.old.held }
+        requires known { found.now.switches ≡ true → IsSome self.old.chain }
         ensures { TookEntry self.old found.now result self.new }
     {
         let gate = self.gate;
@@ -455,6 +541,7 @@ impl<D: Disk> Replay<D> {
         self.gate = gate + size as u64;
         self.entries += 1;
         self.switched = stands_with(self.switched, found.switches);
+        self.before = known_chain(self.chain);
         self.chain = chain;
         gate
     }

@@ -13,12 +13,12 @@ use mc_outside::Disk;
 use std::marker::Model;
 
 /// What a journal will be with the next entry: the place of the gate behind it, whether a Switch is then among the
-/// entries, and their chain.
+/// entries, and their chain, where it is known.
 #[derive(Drop)]
 pub(crate) struct Next {
     pub(crate) gate: u64,
     pub(crate) switched: bool,
-    pub(crate) chain: [u8; 32],
+    pub(crate) chain: Option<[u8; 32]>,
 }
 
 /// A journal with a next entry on the disk, behind the gate that is still closed.
@@ -30,7 +30,7 @@ pub struct Staged<D> {
 
 impl<D> Model for Staged<D> {
     ghost use Rattle.std.specs.Prelude.{◌≡◌, ◌+◌, ◌<◌, ◌≤◌, length};
-    ghost use Rattle.scrip_journal.specs.States.{WithNext};
+    ghost use Rattle.scrip_journal.specs.States.{WithNext, IsKnown};
     ghost use Rattle.scrip_journal.specs.declared.cursor.TheConstants.{BUFFER};
     ghost use Rattle.mc_records.specs.declared.limits.TheConstants.Limits.{MOST_JOURNAL};
 
@@ -38,7 +38,7 @@ impl<D> Model for Staged<D> {
 
     ghost view = { λ s. record { disk = s.disk; gate = s.at.gate; size = s.next.gate + 1; entries = s.at.entries; limit = s.at.limit; switched = s.next.switched; chain = s.next.chain } };
 
-    ghost invariant = { λ s. (s.at.gate < s.next.gate) × (s.next.gate < MOST_JOURNAL) × (s.at.entries ≤ s.at.gate) × (s.at.limit ≤ MOST_JOURNAL) × (length s.at.buf.items ≡ BUFFER) };
+    ghost invariant = { λ s. ((s.at.gate < s.next.gate) × (s.next.gate < MOST_JOURNAL) × (s.at.entries ≤ s.at.gate) × (s.at.limit ≤ MOST_JOURNAL) × (length s.at.buf.items ≡ BUFFER)) × IsKnown s.next.switched s.next.chain };
 }
 
 impl<D: Disk> Staged<D> {
@@ -53,6 +53,7 @@ impl<D: Disk> Staged<D> {
         ensures number { IfOk result (λ r. (r.1 ≡ self.entries)
             × (r.0.entries ≡ self.entries + 1)) }
         ensures limit { IfOk result (λ r. r.0.limit ≡ self.limit) }
+        ensures known { IfOk result (λ r. r.0.chain ≡ self.chain) }
         // Each crash pair of the call encodes the entries with the new one or without it, and nothing is
         // sent.
         ensures ran { (h : List Entry) (e : Entry) → IsStaged D.disk self h e

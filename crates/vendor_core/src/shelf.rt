@@ -260,4 +260,6 @@ impl Trade for Shelf {
     fn forget(&mut self, kept_from: Option<u64>) {
         self.catalogue.forget(kept_from);
     }
+
+    ghost switch_room = { λ a m c. tt };
 }

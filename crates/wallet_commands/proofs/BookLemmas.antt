@@ -1,5 +1,5 @@
 -- The book of a wallet, as it is opened and while links work.
-use Rattle.std.proofs.Common.{◌≡◌, ◌∙◌, inl, ◌⊎◌, ℕ, List, refl, sym, ap, subst, Some, Err}
+use Rattle.std.proofs.Common.{◌≡◌, ◌∙◌, inl, ◌⊎◌, ℕ, List, Option, refl, sym, ap, subst, Some, Err}
 use Rattle.std.specs.Prelude.{IsSome}
 use Rattle.mc_outside.specs.DiskView.{DiskView, LinkKeeps, Ran}
 use Rattle.mc_outside.specs.LinkView.{LinkView}
@@ -7,7 +7,7 @@ use Rattle.mc_outside.proofs.Runs.{ran_then, ran_weaker}
 use Rattle.mc_records.specs.declared.limits.TheConstants.Limits.{FULL}
 use Rattle.ledger_model.specs.Histories.{History}
 use Rattle.scrip_journal.specs.Layout.{Encodes}
-use Rattle.scrip_journal.specs.States.{AtRest, IsJournal}
+use Rattle.scrip_journal.specs.States.{AtRest, IsChainOf, IsJournal}
 use Rattle.scrip_journal.specs.Rests.{RestsAs, journal_leaves}
 use Rattle.scrip_journal.proofs.Unique.{one_history}
 use Rattle.scrip_journal.specs.declared.fault.HouseFault.{HouseFault}
@@ -41,7 +41,7 @@ journal_had disk j k h keeps rests is = record {
   size_is = sym rests.size ∙ is.size_is;
   entries_is = sym rests.entries ∙ is.entries_is;
   switched_is = sym rests.switched ∙ is.switched_is;
-  chain_is = sym rests.chain ∙ is.chain_is;
+  chain_is = subst (λ (c : Option (List ℕ)). IsChainOf c h) rests.chain is.chain_is;
   synced = λ c l. is.synced c ((keeps.leaves c).1 l);
 }
 

@@ -8,6 +8,7 @@ ghost use Rattle.ledger_model.specs.Houses.{site_name};
 ghost use Rattle.said_lines.specs.Lines.{chain_words};
 ghost use Rattle.wallet_core.specs.Wallet.{WalletStands};
 ghost use Rattle.wallet_core.specs.Outcomes.{outcome_disk};
+ghost use Rattle.wallet_core.specs.Switching.{KnowsChain};
 ghost use Rattle.wallet_commands.specs.Books.{Opened};
 ghost use Rattle.wallet_commands.specs.Causes.{WalletCauses};
 ghost use Rattle.wallet_commands.specs.Paying.{Clocked};
@@ -73,7 +74,8 @@ fn chain_by_clock<O: Outside>(mut wallet: Wallet<O>, mut line: Vec<u8>) -> (O, S
 
 /// Ends the line of the chain of a book by the wallet of it, where one goes on. It takes no memory.
 fn end_by_wallet<D: Disk, A>(outcome: &WalletOut<D, A>, line: &mut Vec<u8>)
-    requires { vec_len line.old + READY ≤ vec_capacity line.old }
+    requires room { vec_len line.old + READY ≤ vec_capacity line.old }
+    requires known { KnowsChain outcome.now }
     ensures { EndsLine D.disk outcome.now line.old.items line.new.items }
 {
     match outcome {

@@ -1,5 +1,5 @@
 -- What comes of switching the book of a wallet.
-use Rattle.std.specs.Prelude.{◌≡◌, ℕ, Bool, true, false, length, Option, Some, None, Ok}
+use Rattle.std.specs.Prelude.{◌≡◌, ℕ, Bool, true, false, length, Option, Some, None, IsSome, Ok}
 use Rattle.mc_outside.specs.DiskView.{DiskView, Ran}
 use Rattle.mc_records.specs.Chains.{chain, has_switch}
 use Rattle.mc_records.specs.Entry.{Entry, Switch}
@@ -18,6 +18,11 @@ TellsAdded h e answer = answer ≡ Some (length h)
 abbrev pub StaysAsItWas : {D : Type 0} → (D → DiskView) → Wallet D → History → WalletOut D (Option ℕ) → Type 0
 StaysAsItWas view old h (Done x None) = IsAsItWas view old x h × Ran (view old.journal.disk) (view x.journal.disk) (EncodesNoOutput h (view old.journal.disk).aside)
 StaysAsItWas view old h _ = ⊥
+
+-- where it is done, the chain of the wallet that goes on is known
+abbrev pub KnowsChain : {D A : Type 0} → WalletOut D A → Type 0
+KnowsChain (Done x a) = IsSome x.journal.chain
+KnowsChain _ = Unit {0}
 
 -- where a Switch stands, and where none does
 abbrev pub SwitchesBy : {D : Type 0} → Bool → (D → DiskView) → Wallet D → History → WalletOut D (Option ℕ) → Type 0

@@ -1,7 +1,7 @@
 //! Adding an entry to a wallet's book.
 
-ghost use Rattle.std.specs.Prelude.{◌≡◌, ◌+◌, nat_le, Ok, IfErr};
-ghost use Rattle.mc_records.specs.Entry.{Fits, moment_of};
+ghost use Rattle.std.specs.Prelude.{◌≡◌, ◌+◌, nat_le, length, Ok, IfErr};
+ghost use Rattle.mc_records.specs.Entry.{Entry, Fits, moment_of, payload};
 ghost use Rattle.mc_records.specs.Views.{entry};
 ghost use Rattle.ledger_model.specs.Histories.{History};
 ghost use Rattle.ledger_model.specs.Answer.{fitted};
@@ -53,7 +53,8 @@ impl<D: Disk> Wallet<D> {
         ensures told { TellsOnly IsFull Any result }
     {
         let mut wallet = self;
-        match room_for(&wallet.book, r) {
+        let bytes = r.payload_len();
+        match room_for(&wallet.book, bytes) {
             Ok(()) => (),
             Err(full) => return WalletOut::Refused(wallet, full),
         }
@@ -81,7 +82,7 @@ impl<D: Disk> Wallet<D> {
             }
             // It fits, so this comes only where the wallet stands for no history.
             Err(StageFault::Full(journal)) => {
-                let full = Refusal::JournalFull(book.size(), r.payload_len());
+                let full = Refusal::JournalFull(book.size(), bytes);
                 WalletOut::Refused(
                     Wallet {
                         alloc,
@@ -96,19 +97,19 @@ impl<D: Disk> Wallet<D> {
     }
 }
 
-/// Refused with 33 `JournalFull` where a book's journal would pass its limit with one entry more.
-fn room_for(book: &WalletBook, r: &Record<'_>) -> Result<(), Refusal>
-    requires { Fits (entry r.now) }
-    ensures fitted { (h : History) → WalletRepresents book.now h
-        → IsFitted (fitted h book.now.limits (entry r.now)) (entry r.now) result }
+/// Refused with 33 `JournalFull` where a book's journal would pass its limit with one entry more, with a payload of so
+/// many bytes.
+pub(crate) fn room_for(book: &WalletBook, bytes: u64) -> Result<(), Refusal>
+    ensures fitted { (h : History) (e : Entry) → WalletRepresents book.now h → bytes ≡ length (payload e)
+        → IsFitted (fitted h book.now.limits e) e result }
     ensures refused { IfErr result IsFull }
 {
-    let (size, payload) = (book.size(), r.payload_len());
+    let size = book.size();
     let tail = tail_len(book.is_switched());
-    if is_within(size, payload, tail, book.limits().journal) {
+    if is_within(size, bytes, tail, book.limits().journal) {
         Ok(())
     } else {
-        Err(Refusal::JournalFull(size, payload))
+        Err(Refusal::JournalFull(size, bytes))
     }
 }
 

@@ -3,7 +3,7 @@ use Rattle.mc_records.specs.Chains.{chain}
 use Rattle.ledger_model.specs.Houses.{site_name}
 use Rattle.house_core.specs.Tasks.{TellsAdded}
 use Rattle.said_lines.specs.Lines.{chain_words, chain_end, chain_line}
-use Rattle.operator_command.proofs.CommandLemmas.{back_as, performs_shown, if_done, refused_as}
+use Rattle.operator_command.proofs.CommandLemmas.{back_as, performs_shown, if_done, known_shown, refused_as}
 use Rattle.operator_command.proofs.chain.switch_book.Goals as goal
 
 pub returns-clause-back : goal.returns-clause-back
@@ -20,3 +20,6 @@ returns-clause-exact g c h input st begun =
 
 pub returns-clause-refusals : goal.returns-clause-refusals
 returns-clause-refusals g c = rw c.without_answer.ensures (refused_as _ c.switch-switched.result c.switch-switched.ensures.refusals)
+
+pub end_by_house-requires-clause-known : goal.end_by_house-requires-clause-known
+end_by_house-requires-clause-known g c = known_shown c.switch-switched.result _ c.switch-switched.ensures.known

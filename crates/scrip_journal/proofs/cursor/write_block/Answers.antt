@@ -15,4 +15,4 @@ returns-clause-block c =
     let total : bytes + (c.tail_len.result + 5) ≡ 4 + (bytes + tail_bytes c.args.switched + 1) = omega (arith, c.tail_len.ensures.value) in
     ap₂ (λ (k : ℕ) (h : List ℕ). take k (h ++ rest)) total head
     ∙ take_front (to_be_bytes w32 n) rest (bytes + tail_bytes c.args.switched + 1)
-    ∙ ap (λ (l : List ℕ). to_be_bytes w32 n ++ l) (c.put_tail.ensures.written ∙ ap (λ (l : List ℕ). l ++ (tail_by c.args.switched c.chain_after-chain.result ++ 0 ∷ [])) c.put_payload-bytes.ensures.payload)
+    ∙ ap (λ (l : List ℕ). to_be_bytes w32 n ++ l) (c.put_tail.ensures.written ∙ ap₂ (λ (l t : List ℕ). l ++ (tail_by c.args.switched t ++ 0 ∷ [])) c.put_payload-bytes.ensures.payload c.known_chain.ensures)

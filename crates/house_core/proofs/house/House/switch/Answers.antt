@@ -1,44 +1,96 @@
-use Rattle.std.proofs.Common.{◌≡◌, ℕ, false, List, Some, sym, ap, ap₂, ◌∙◌}
-use Rattle.std.specs.Prelude.{if◌then◌else◌}
-use Rattle.mc_records.specs.Chains.{chain, has_switch}
-use Rattle.mc_records.specs.Entry.{Switch}
-use Rattle.ledger_model.specs.Histories.{History}
+use Rattle.std.proofs.Common.{◌≡◌, ◌∙◌, ◌<◌, ◌+◌, ◌≤◌, false, Some, refl, sym, ap, subst, arith}
+use Rattle.mc_outside.specs.Bytes.{Rose}
+use Rattle.mc_outside.specs.DiskView.{Ran}
+use Rattle.mc_records.specs.declared.limits.Limits.{Limits}
+use Rattle.mc_records.specs.Chains.{chain, first_chain, has_switch}
+use Rattle.mc_records.specs.Entry.{Entry, Switch}
+use Rattle.mc_records.specs.Sizes.{size, entry_size}
+use Rattle.mc_records.proofs.ChainLaws.{length-chain}
+use Rattle.ledger_model.specs.Stages.{fitted_by}
+use Rattle.scrip_journal.specs.Exits.{EitherNoOutput}
+use Rattle.scrip_journal.specs.declared.switching.TheConstants.{SWITCH_PAYLOAD}
+use Rattle.scrip_journal.proofs.SwitchLaws.{switch_long}
+use Rattle.house_state.specs.HouseState.{size_with, tail_of}
+use Rattle.house_state.proofs.Tabled.{fitted_stands}
+use Rattle.house_core.specs.declared.house.House.{House}
 use Rattle.house_core.specs.Bench.{house_time, limits_of}
-use Rattle.house_core.specs.declared.outcome.Outcome.TheVariants.{Done, Refused, NoMemory, Halted}
-use Rattle.house_core.specs.Tasks.{Task, Add, Stays, TellsAdded, switch_task}
-use Rattle.house_core.proofs.TaskLemmas.{enters, tells_last}
+use Rattle.house_core.specs.declared.outcome.Outcome.TheVariants.{Done, Halted}
+use Rattle.house_core.specs.Tasks.{Task, TellsAdded, switch_task}
+use Rattle.house_core.proofs.HouseDisk.{not_full_of, applied, time_stays}
+use Rattle.house_core.proofs.RefusingLemmas.{full_among}
+use Rattle.house_core.proofs.SwitchLemmas.{asks_switch, may_switch, may_enter, has_switched}
+use Rattle.house_core.proofs.TaskLemmas.{enters, unfitted, tells_last}
 use Rattle.house_core.proofs.house.House.switch.Goals as goal
 
-unswitched : (h : History) (m n : ℕ) (c : List ℕ) → has_switch h ≡ false → n ≡ m → c ≡ chain h → Add (Switch n c) ≡ switch_task h m
-unswitched h m n c none time same = ap₂ (λ (k : ℕ) (d : List ℕ). Add (Switch k d)) time same ∙ sym (ap (λ b. if b then Stays else Add (Switch m (chain h))) none)
-
-pub returns-in-Done-clause-exact : goal.returns-in-Done-clause-exact
-returns-in-Done-clause-exact g c h st =
+pub returns-in-Err-clause-exact : goal.returns-in-Err-clause-exact
+returns-in-Err-clause-exact g c h st =
     let t = house_time c.args.self.bench in
-    let asks = unswitched h t c.time.result c.chain.result (sym st.journal.switched_is ∙ sym c.if-is_switched.ensures) c.time.ensures (c.chain.ensures ∙ st.journal.chain_is) in
-    enters g.D.Disk.disk g.T.Trade.trade (λ (task : Task). task ≡ switch_task h t) TellsAdded (limits_of c.args.self.bench) (λ n. Some n)
-    c.args.self.journal.disk h (Switch c.time.result c.chain.result) (Done c.in-Done.house c.in-Done.receipt) asks (λ done. tells_last h (Switch c.time.result c.chain.result)) (c.in-Done.ensures.exact h st) (c.in-Done.ensures.ran h st)
+    let b = c.args.self.bench.state in
+    let e = Switch t (chain h) in
+    let none : has_switch h ≡ false = sym st.journal.switched_is ∙ sym c.if-is_switched.ensures.value in
+    let over = c.in-Err.ensures.lines e (sym (switch_long t (chain h) (length-chain h))) ∙ ap (λ (l : Limits). fitted_by l.journal b.size (tail_of b) e) c.limits.ensures.limits in
+    unfitted g.D.Disk.disk g.T.Trade.trade (λ (task : Task). task ≡ switch_task h t) TellsAdded (limits_of c.args.self.bench) c.args.self h (g.met.D.Disk.is_disk c.args.self.journal.disk) st
+    e c.in-Err.refusal (asks_switch h t t none refl) (fitted_stands st.house.represents.state (limits_of c.args.self.bench) e ∙ sym over)
 
-pub returns-in-Refused-clause-exact : goal.returns-in-Refused-clause-exact
-returns-in-Refused-clause-exact g c h st =
+pub returns-in-Err-clause-refusals : goal.returns-in-Err-clause-refusals
+returns-in-Err-clause-refusals g c =
+    let b = c.args.self.bench.state in
+    full_among _ b.size (tail_of b) (Switch 0 first_chain) _ (c.in-Err.ensures.lines (Switch 0 first_chain) (sym (switch_long 0 first_chain refl)))
+
+pub returns-in-Ok-append_switch-clause-exact : goal.returns-in-Ok-append_switch-clause-exact
+returns-in-Ok-append_switch-clause-exact g c h st =
     let t = house_time c.args.self.bench in
-    let asks = unswitched h t c.time.result c.chain.result (sym st.journal.switched_is ∙ sym c.if-is_switched.ensures) c.time.ensures (c.chain.ensures ∙ st.journal.chain_is) in
-    enters g.D.Disk.disk g.T.Trade.trade (λ (task : Task). task ≡ switch_task h t) TellsAdded (limits_of c.args.self.bench) (λ n. Some n)
-    c.args.self.journal.disk h (Switch c.time.result c.chain.result) (Refused c.in-Refused.house c.in-Refused.refusal) asks (λ done. absurd done) (c.in-Refused.ensures.exact h st) (c.in-Refused.ensures.ran h st)
+    let b = c.args.self.bench.state in
+    let limits = limits_of c.args.self.bench in
+    let n = c.time-moment.result in
+    let e = Switch n (chain h) in
+    let none : has_switch h ≡ false = sym st.journal.switched_is ∙ sym c.if-is_switched.ensures.value in
+    let fits = c.in-Ok.ensures.lines e (sym (switch_long n (chain h) (length-chain h))) ∙ ap (λ (l : Limits). fitted_by l.journal b.size (tail_of b) e) c.limits.ensures.limits in
+    let may = may_switch g.T.Trade.trade c.args.self.bench limits h n st.house.represents none c.time-moment.ensures in
+    let wrote = c.in-Ok-append_switch.ensures in
+    let written = wrote.written h st.journal in
+    let applies = c.apply_entry-applied.ensures in
+    let after : House g.row.D.Denot g.row.T.Denot = record { journal = c.in-Ok-append_switch.journal; bench = c.apply_entry-applied.new.self } in
+    let both = applied c.apply_entry-applied.result _ _ _ _ _ _ (may_enter g.T.Trade.passes limits h n c.in-Ok-append_switch.chain written.2 may)
+    (applies.exact h st.house.represents may.in_order written.2) (applies.contents h st.house.represents st.house.contents) in
+    enters g.D.Disk.disk g.T.Trade.trade (λ (task : Task). task ≡ switch_task h t) TellsAdded limits (λ k. Some k) c.args.self.journal.disk h e (Done after c.in-Ok-append_switch.receipt)
+    (asks_switch h t n none c.time-moment.ensures) (λ done. tells_last h e) (
+      has_switched g.D.Disk.disk g.T.Trade.trade c.args.self after h n c.in-Ok-append_switch.chain c.in-Ok-append_switch.receipt written.2 st written.0 wrote.limit applies.limits written.1 both.0 both.1,
+      fitted_stands st.house.represents.state limits e ∙ sym fits,
+    )
+    (wrote.ran h st.journal)
 
-pub returns-in-NoMemory-clause-exact : goal.returns-in-NoMemory-clause-exact
-returns-in-NoMemory-clause-exact g c h st =
+pub returns-in-Ok-append_switch-clause-back : goal.returns-in-Ok-append_switch-clause-back
+returns-in-Ok-append_switch-clause-back g c =
+    let come : c.time-moment.result ≤ house_time c.args.self.bench = omega (arith, c.time-moment.ensures) in
+    record {
+      moved' = c.in-Ok-append_switch.ensures.moved;
+      keeps = record { time = time_stays c.apply_entry-applied.result _ _ _ come c.apply_entry-applied.ensures.time; limits = c.apply_entry-applied.ensures.limits };
+      counts = c.in-Ok-append_switch.ensures.same_count;
+    }
+
+pub apply_entry-applied-requires-clause-trade : goal.apply_entry-applied-requires-clause-trade
+apply_entry-applied-requires-clause-trade g c = g.met.T.Trade.switch_room c.args.self.bench.trade c.time-moment.result c.in-Ok-append_switch.chain
+
+pub returns-in-Err-Full-clause-exact : goal.returns-in-Err-Full-clause-exact
+returns-in-Err-Full-clause-exact g c h st =
+    let b = c.args.self.bench.state in
+    let e = Switch c.time-moment.result (chain h) in
+    let full : c.args.self.journal.limit < size h + entry_size h e = rw c.in-Err-Full.field-0-is at (c.in-Err-Full.ensures.full h st.journal.size_is st.journal.switched_is) in
+    let fits = subst (λ (l : Limits). size_with b SWITCH_PAYLOAD ≤ l.journal) c.limits.ensures.limits c.in-Ok.ensures.room in
+    absurd (not_full_of b h c.args.self.journal.limit SWITCH_PAYLOAD e st.house.represents.state (sym (switch_long c.time-moment.result (chain h) (length-chain h))) fits st.limit full)
+
+pub returns-in-Err-Disk-clause-exact : goal.returns-in-Err-Disk-clause-exact
+returns-in-Err-Disk-clause-exact g c h st =
     let t = house_time c.args.self.bench in
-    let asks = unswitched h t c.time.result c.chain.result (sym st.journal.switched_is ∙ sym c.if-is_switched.ensures) c.time.ensures (c.chain.ensures ∙ st.journal.chain_is) in
-    enters g.D.Disk.disk g.T.Trade.trade (λ (task : Task). task ≡ switch_task h t) TellsAdded (limits_of c.args.self.bench) (λ n. Some n)
-    c.args.self.journal.disk h (Switch c.time.result c.chain.result) (NoMemory c.in-NoMemory.house) asks (λ done. absurd done) (c.in-NoMemory.ensures.exact h st) (c.in-NoMemory.ensures.ran h st)
-
-pub returns-in-Halted-clause-exact : goal.returns-in-Halted-clause-exact
-returns-in-Halted-clause-exact g c h st =
-    let t = house_time c.args.self.bench in
-    let asks = unswitched h t c.time.result c.chain.result (sym st.journal.switched_is ∙ sym c.if-is_switched.ensures) c.time.ensures (c.chain.ensures ∙ st.journal.chain_is) in
-    enters g.D.Disk.disk g.T.Trade.trade (λ (task : Task). task ≡ switch_task h t) TellsAdded (limits_of c.args.self.bench) (λ n. Some n)
-    c.args.self.journal.disk h (Switch c.time.result c.chain.result) (Halted c.in-Halted.halted) asks (λ done. absurd done) (c.in-Halted.ensures.exact h st) (c.in-Halted.ensures.ran h st)
-
-pub returns-in-Refused-clause-refusals : goal.returns-in-Refused-clause-refusals
-returns-in-Refused-clause-refusals g c = c.in-Refused.ensures.refusals
+    let b = c.args.self.bench.state in
+    let limits = limits_of c.args.self.bench in
+    let n = c.time-moment.result in
+    let e = Switch n (chain h) in
+    let none : has_switch h ≡ false = sym st.journal.switched_is ∙ sym c.if-is_switched.ensures.value in
+    let fits = c.in-Ok.ensures.lines e (sym (switch_long n (chain h) (length-chain h))) ∙ ap (λ (l : Limits). fitted_by l.journal b.size (tail_of b) e) c.limits.ensures.limits in
+    let may = may_switch g.T.Trade.trade c.args.self.bench limits h n st.house.represents none c.time-moment.ensures in
+    let rose : Rose (g.D.Disk.disk c.args.self.journal.disk).faults (g.D.Disk.disk c.in-Err-Disk.halted).faults = rw c.in-Err-Disk.field-0-is at c.in-Err-Disk.ensures.fault in
+    let ran : Ran (g.D.Disk.disk c.args.self.journal.disk) (g.D.Disk.disk c.in-Err-Disk.halted) (EitherNoOutput h e (g.D.Disk.disk c.args.self.journal.disk).aside) = rw c.in-Err-Disk.field-0-is at (c.in-Err-Disk.ensures.ran h st.journal) in
+    enters g.D.Disk.disk g.T.Trade.trade (λ (task : Task). task ≡ switch_task h t) TellsAdded limits (λ k. Some k) c.args.self.journal.disk h e (Halted c.in-Err-Disk.halted)
+    (asks_switch h t n none c.time-moment.ensures) (λ done. absurd done) (may, rose, fitted_stands st.house.represents.state limits e ∙ sym fits) ran

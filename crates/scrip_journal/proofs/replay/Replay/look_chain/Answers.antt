@@ -1,8 +1,7 @@
-use Rattle.std.proofs.Common.{◌≡◌, ◌+◌, ◌≤◌, Bool, true, false, not, List, ℕ, length, take, drop, refl, sym, ◌∙◌, ap, subst, arith}
-use Rattle.mc_records.specs.Chains.{chain_after}
+use Rattle.std.proofs.Common.{◌≡◌, ◌+◌, ◌≤◌, true, Option, List, ℕ, length, take, drop, sym, ◌∙◌, ap, subst, arith}
 use Rattle.mc_records.specs.Sizes.{tail_bytes}
 use Rattle.mc_records.proofs.PayloadSizes.{payload_is_short}
-use Rattle.scrip_journal.specs.States.{Reading}
+use Rattle.scrip_journal.specs.States.{Reading, known_chain, chain_with}
 use Rattle.scrip_journal.specs.Replays.{IsCut, EndsHere}
 use Rattle.scrip_journal.specs.declared.ending.Ending.TheVariants.{Unchained}
 use Rattle.scrip_journal.proofs.Looking.{ends_in_chain, ends_unchained}
@@ -25,7 +24,7 @@ returns-then-not-is_same-clause-ends g c =
     let on : c.args.self.now.switched ≡ true = sym ahead.same.switched ∙ sym (ap (λ (v : Reading g.row.D.Denot). v.switched) c.self-2.view_is) ∙ c.if-not-self.false in
     let size : c.tail_len.result ≡ 32 = c.tail_len.ensures.value ∙ ap (λ (v : Reading g.row.D.Denot). tail_bytes v.switched) c.self.view_is ∙ ap tail_bytes on in
     let whole : c.args.bytes + 37 ≤ length c.hold.new.self.held = omega (arith, size, c.in_default.ensures.enough) in
-    subst (λ (k : ℕ). EndsHere g.D.Disk.disk c.args.self.now (Unchained (k + 5 + c.args.bytes) c.chain_behind-stood.result c.payload_chain-computed.result)) gate
-    (ends_unchained g.D.Disk.disk c.args.self.now c.hold.new.self ahead c.args.bytes c.requires.payload c.chain_behind-stood.result c.payload_chain-computed.result on whole c.chain_behind-stood.ensures
-    (c.payload_chain-computed.ensures ∙ ap (λ (k : List ℕ). chain_after k (take c.args.bytes (drop 5 c.hold.new.self.held))) ahead.same.chain)
+    subst (λ (k : ℕ). EndsHere g.D.Disk.disk c.args.self.now (Unchained (k + 5 + c.args.bytes) c.chain_behind-stood.result c.known_chain-chain.result)) gate
+    (ends_unchained g.D.Disk.disk c.args.self.now c.hold.new.self ahead c.args.bytes c.requires.payload c.chain_behind-stood.result c.known_chain-chain.result on whole c.chain_behind-stood.ensures
+    (c.known_chain-chain.ensures ∙ ap known_chain c.payload_chain-computed.ensures ∙ ap (λ (k : Option (List ℕ)). known_chain (chain_with k (take c.args.bytes (drop 5 c.hold.new.self.held)))) ahead.same.chain)
     (λ same. absurd (cc (c.if-not-is_same.ensures.1 same))))

@@ -1,4 +1,4 @@
-use Rattle.std.proofs.Common.{◌≡◌, ◌+◌, ◌<◌, ◌≤◌, refl, sym, ◌∙◌, ap, subst, arith, List, [], ◌∷◌, ℕ}
+use Rattle.std.proofs.Common.{◌≡◌, ◌+◌, refl, sym, ◌∙◌, ap, subst, arith, List, [], ◌∷◌, ℕ}
 use Rattle.std.specs.Int.{w32, from_be_bytes}
 use Rattle.mc_records.specs.Chains.{is_switch}
 use Rattle.mc_records.specs.Sizes.{tail_bytes}

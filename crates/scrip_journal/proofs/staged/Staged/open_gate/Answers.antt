@@ -16,25 +16,25 @@ of_parts {D = D} view b h e v s is ran = subst (λ (k : WithNext D). IsStaged vi
 pub returns-then-is_err-clause-ran : goal.returns-then-is_err-clause-ran
 returns-then-is_err-clause-ran g c h e =
     of_parts g.D.Disk.disk (g.D.Disk.disk c.write_at.new.self) h e _ _ c.self.view_is (λ k.
-    open_ran g.D.Disk.disk _ h e k (omega (arith, c.self.invariant.1)) _ (g.met.D.Disk.disk_goes _ _ c.write_at.ensures.moved) c.write_at.ensures.pairs c.write_at.ensures.crash)
+    open_ran g.D.Disk.disk _ h e k (omega (arith, c.self.invariant.0.1)) _ (g.met.D.Disk.disk_goes _ _ c.write_at.ensures.moved) c.write_at.ensures.pairs c.write_at.ensures.crash)
 
 pub returns-then-is_err-2-clause-ran : goal.returns-then-is_err-2-clause-ran
 returns-then-is_err-2-clause-ran g c h e =
     of_parts g.D.Disk.disk (g.D.Disk.disk c.sync.new.self) h e _ _ c.self.view_is (λ k.
-    open_sync_ran g.D.Disk.disk _ h e k (omega (arith, c.self.invariant.1)) _ _ (g.met.D.Disk.disk_goes _ _ c.write_at.ensures.moved) c.write_at.ensures.pairs c.write_at.ensures.crash
+    open_sync_ran g.D.Disk.disk _ h e k (omega (arith, c.self.invariant.0.1)) _ _ (g.met.D.Disk.disk_goes _ _ c.write_at.ensures.moved) c.write_at.ensures.pairs c.write_at.ensures.crash
     (g.met.D.Disk.disk_goes _ _ c.sync.ensures.moved) c.sync.ensures.pairs c.sync.ensures.crash)
 
 pub returns-clause-ran : goal.returns-clause-ran
 returns-clause-ran g c h e =
     of_parts g.D.Disk.disk (g.D.Disk.disk c.sync.new.self) h e _ _ c.self.view_is (λ k.
-    open_sync_ran g.D.Disk.disk _ h e k (omega (arith, c.self.invariant.1)) _ _ (g.met.D.Disk.disk_goes _ _ c.write_at.ensures.moved) c.write_at.ensures.pairs c.write_at.ensures.crash
+    open_sync_ran g.D.Disk.disk _ h e k (omega (arith, c.self.invariant.0.1)) _ _ (g.met.D.Disk.disk_goes _ _ c.write_at.ensures.moved) c.write_at.ensures.pairs c.write_at.ensures.crash
     (g.met.D.Disk.disk_goes _ _ c.sync.ensures.moved) c.sync.ensures.pairs c.sync.ensures.crash)
 
 pub returns-clause-opened : goal.returns-clause-opened
 returns-clause-opened g c h e k =
     let written = on_ok c.write_at.result _ (sym c.is_err.ensures.value ∙ c.if-is_err.false) c.write_at.ensures.written in
     let synced = on_ok c.sync.result _ (sym c.is_err-2.ensures.value ∙ c.if-is_err-2.false) c.sync.ensures.synced in
-    is_opened g.D.Disk.disk _ h e (subst (λ (v : WithNext g.row.D.Denot). IsStaged g.D.Disk.disk v h e) (sym c.self.view_is) k) (omega (arith, c.self.invariant.1)) (g.D.Disk.disk c.write_at.new.self) c.sync.new.self _ written c.sync.ensures.same synced refl
+    is_opened g.D.Disk.disk _ h e (subst (λ (v : WithNext g.row.D.Denot). IsStaged g.D.Disk.disk v h e) (sym c.self.view_is) k) (omega (arith, c.self.invariant.0.1)) (g.D.Disk.disk c.write_at.new.self) c.sync.new.self _ written c.sync.ensures.same synced refl
 
 -- likewise
 uncut_parts : {D : Type 0} (view : D → DiskView) (after : Option (List ℕ)) (v j : WithNext D) → v ≡ j → NoFewer (view v.disk).contents after → NoFewer (view j.disk).contents after

@@ -21,7 +21,7 @@ returns-in-Ok-append-clause-exact g c = λ h st.
     record {
       adds = (
         record {
-          fits = c.in-Ok.ensures.fitted h st.book;
+          fits = c.in-Ok.ensures.fitted h (entry c.args.r.now) st.book c.payload_len-bytes.ensures;
           stands = record {
             journal = journal;
             book = both.1;
@@ -37,7 +37,7 @@ returns-in-Ok-append-clause-exact g c = λ h st.
 pub returns-in-Err-Full-clause-exact : goal.returns-in-Err-Full-clause-exact
 returns-in-Err-Full-clause-exact g c = λ h st.
     let full : c.args.self.journal.limit < size h + entry_size h (entry c.args.r.now) = rw c.in-Err-Full.field-0-is at (c.in-Err-Full.ensures.full h st.journal.size_is st.journal.switched_is) in
-    absurd (not_full c.args.self.book h (entry c.args.r.now) (c.in-Ok.ensures.fitted h st.book) (omega (arith, full, st.limit)))
+    absurd (not_full c.args.self.book h (entry c.args.r.now) (c.in-Ok.ensures.fitted h (entry c.args.r.now) st.book c.payload_len-bytes.ensures) (omega (arith, full, st.limit)))
 
 pub returns-in-Err-Disk-clause-exact : goal.returns-in-Err-Disk-clause-exact
 returns-in-Err-Disk-clause-exact g c = λ h st.
@@ -45,7 +45,7 @@ returns-in-Err-Disk-clause-exact g c = λ h st.
     let ran : Ran (g.D.Disk.disk c.args.self.journal.disk) (g.D.Disk.disk c.in-Err-Disk.halted) (EitherNoOutput h (entry c.args.r.now) (g.D.Disk.disk c.args.self.journal.disk).aside) = rw c.in-Err-Disk.field-0-is at (c.in-Err-Disk.ensures.ran h st.journal) in
     record {
       adds = record {
-        fits = c.in-Ok.ensures.fitted h st.book;
+        fits = c.in-Ok.ensures.fitted h (entry c.args.r.now) st.book c.payload_len-bytes.ensures;
         follows = c.requires.may h st;
         rose = subst (λ (d : g.row.D.Denot). Rose (g.D.Disk.disk c.args.self.journal.disk).faults (g.D.Disk.disk d).faults) (sym c.in-Err-Disk.halted-is) rose;
       };
@@ -66,6 +66,6 @@ returns-in-Err-reserve-clause-exact g c = λ h st.
 
 pub returns-in-Err-clause-exact : goal.returns-in-Err-clause-exact
 returns-in-Err-clause-exact g c = λ h st. record {
-  adds = (c.in-Err.ensures.fitted h st.book, as_it_stood g.D.Disk.disk c.args.self h st);
+  adds = (c.in-Err.ensures.fitted h (entry c.args.r.now) st.book c.payload_len-bytes.ensures, as_it_stood g.D.Disk.disk c.args.self h st);
   ran = ran_nothing g.D.Disk.disk c.args.self.journal h (g.met.D.Disk.is_disk c.args.self.journal.disk) st.journal;
 }

@@ -1,26 +1,65 @@
-use Rattle.std.proofs.Common.{◌∙◌, sym}
-use Rattle.wallet_core.proofs.SwitchLaws.{may_switch, switched_already, switch_done, switch_refused, switch_wants, switch_halted}
+use Rattle.std.proofs.Common.{◌≡◌, ◌∙◌, ◌+◌, ◌<◌, false, refl, sym, ap, subst, arith}
+use Rattle.mc_outside.specs.Bytes.{Rose}
+use Rattle.mc_outside.specs.DiskView.{Ran}
+use Rattle.mc_records.specs.declared.limits.Limits.{Limits}
+use Rattle.mc_records.specs.Chains.{chain, has_switch}
+use Rattle.mc_records.specs.Entry.{Switch}
+use Rattle.mc_records.specs.Sizes.{size, entry_size}
+use Rattle.mc_records.proofs.ChainLaws.{length-chain}
+use Rattle.scrip_journal.specs.Exits.{EitherNoOutput}
+use Rattle.scrip_journal.proofs.SwitchLaws.{switch_long}
+use Rattle.wallet_core.specs.declared.outcome.WalletOut.TheVariants.{Halted}
+use Rattle.wallet_core.specs.Switching.{Switches}
+use Rattle.wallet_core.proofs.EnterLaws.{not_full}
+use Rattle.wallet_core.proofs.SwitchLaws.{may_switch, switch_learned, switch_room, switched_already, switch_done, switch_refused, switch_halted}
 use Rattle.wallet_core.proofs.wallet.Wallet.switch.Goals as goal
 
 pub returns-then-is_switched-clause-exact : goal.returns-then-is_switched-clause-exact
-returns-then-is_switched-clause-exact g c = λ h st. switched_already g.D.Disk.disk c.args.self h st (g.met.D.Disk.is_disk c.args.self.journal.disk) (sym c.if-is_switched.ensures)
+returns-then-is_switched-clause-exact g c = λ h st. switched_already g.D.Disk.disk c.args.self h st (g.met.D.Disk.is_disk c.args.self.journal.disk) (sym c.if-is_switched.ensures.value)
 
-pub add-requires-clause-may : goal.add-requires-clause-may
-add-requires-clause-may g c = λ h st.
-    may_switch c.args.self.book h c.time.result c.chain.result st.book (sym st.journal.switched_is ∙ sym c.if-is_switched.ensures) c.time.ensures (c.chain.ensures ∙ st.journal.chain_is)
+pub returns-in-Err-clause-exact : goal.returns-in-Err-clause-exact
+returns-in-Err-clause-exact g c = λ h st.
+    let t = c.args.self.book.time in
+    let none : has_switch h ≡ false = sym st.journal.switched_is ∙ sym c.if-is_switched.ensures.value in
+    switch_refused g.D.Disk.disk c.args.self h st none t refl c.in-Err.full (g.met.D.Disk.is_disk c.args.self.journal.disk) (c.in-Err.ensures.fitted h (Switch t (chain h)) st.book (sym (switch_long t (chain h) (length-chain h))))
 
-pub returns-in-Done-clause-exact : goal.returns-in-Done-clause-exact
-returns-in-Done-clause-exact g c = λ h st.
-    switch_done g.D.Disk.disk c.args.self h st (sym c.if-is_switched.ensures) c.time.result c.chain.result c.time.ensures c.chain.ensures c.in-Done.wallet c.in-Done.receipt (c.in-Done.ensures.exact h st)
+pub returns-in-Ok-append_switch-clause-exact : goal.returns-in-Ok-append_switch-clause-exact
+returns-in-Ok-append_switch-clause-exact g c = λ h st.
+    let t = c.time-moment.result in
+    let none : has_switch h ≡ false = sym st.journal.switched_is ∙ sym c.if-is_switched.ensures.value in
+    let wrote = c.in-Ok-append_switch.ensures in
+    let written = wrote.written h st.journal in
+    let knows = c.learn-learned.ensures in
+    let told = c.in-Ok-append_switch.chain in
+    let may = may_switch c.args.self.book h t st.book none c.time-moment.ensures in
+    let both = switch_learned c.learn-learned.new.self h t told c.learn-learned.result written.2 may (knows.exact h st.book written.2 (switch_room g.D.Disk.disk c.in-Ok-append_switch.journal h t told written.2 written.0)) in
+    switch_done g.D.Disk.disk c.args.self h st none t c.time-moment.ensures _ c.in-Ok-append_switch.receipt
+    (record {
+      fits = c.in-Ok.ensures.fitted h (Switch t (chain h)) st.book (sym (switch_long t (chain h) (length-chain h)));
+      stands = record { journal = written.0; book = both.1; limit = wrote.limit ∙ st.limit ∙ ap (λ (l : Limits). l.journal) (sym knows.limits) };
+      time' = omega (arith, knows.time both.0, c.time-moment.ensures);
+    })
+    written.1 (wrote.ran h st.journal)
 
-pub returns-in-Refused-clause-exact : goal.returns-in-Refused-clause-exact
-returns-in-Refused-clause-exact g c = λ h st.
-    switch_refused g.D.Disk.disk c.args.self h st (sym c.if-is_switched.ensures) c.time.result c.chain.result c.time.ensures c.chain.ensures c.in-Refused.wallet c.in-Refused.full (c.in-Refused.ensures.exact h st)
+pub returns-in-Err-Full-clause-exact : goal.returns-in-Err-Full-clause-exact
+returns-in-Err-Full-clause-exact g c = λ h st.
+    let t = c.time-moment.result in
+    let e = Switch t (chain h) in
+    let full : c.args.self.journal.limit < size h + entry_size h e = rw c.in-Err-Full.field-0-is at (c.in-Err-Full.ensures.full h st.journal.size_is st.journal.switched_is) in
+    absurd (not_full c.args.self.book h e (c.in-Ok.ensures.fitted h e st.book (sym (switch_long t (chain h) (length-chain h)))) (omega (arith, full, st.limit)))
 
-pub returns-in-NoMemory-clause-exact : goal.returns-in-NoMemory-clause-exact
-returns-in-NoMemory-clause-exact g c = λ h st.
-    switch_wants g.D.Disk.disk c.args.self h st (sym c.if-is_switched.ensures) c.time.result c.chain.result c.time.ensures c.chain.ensures c.in-NoMemory.wallet (c.in-NoMemory.ensures.exact h st)
-
-pub returns-in-Halted-clause-exact : goal.returns-in-Halted-clause-exact
-returns-in-Halted-clause-exact g c = λ h st.
-    switch_halted g.D.Disk.disk c.args.self h st (sym c.if-is_switched.ensures) c.time.result c.chain.result c.time.ensures c.chain.ensures c.in-Halted.halted (c.in-Halted.ensures.exact h st)
+pub returns-in-Err-Disk-clause-exact : goal.returns-in-Err-Disk-clause-exact
+returns-in-Err-Disk-clause-exact g c = λ h st.
+    let t = c.time-moment.result in
+    let e = Switch t (chain h) in
+    let none : has_switch h ≡ false = sym st.journal.switched_is ∙ sym c.if-is_switched.ensures.value in
+    let rose : Rose (g.D.Disk.disk c.args.self.journal.disk).faults (g.D.Disk.disk c.in-Err-Disk.halted).faults = rw c.in-Err-Disk.field-0-is at c.in-Err-Disk.ensures.fault in
+    let ran : Ran (g.D.Disk.disk c.args.self.journal.disk) (g.D.Disk.disk c.in-Err-Disk.halted) (EitherNoOutput h e (g.D.Disk.disk c.args.self.journal.disk).aside) = rw c.in-Err-Disk.field-0-is at (c.in-Err-Disk.ensures.ran h st.journal) in
+    subst (λ (d : g.row.D.Denot). Switches g.D.Disk.disk c.args.self h (Halted d)) (sym c.in-Err-Disk.halted-is)
+    (switch_halted g.D.Disk.disk c.args.self h st none t c.time-moment.ensures c.in-Err-Disk.halted
+    (record {
+      fits = c.in-Ok.ensures.fitted h e st.book (sym (switch_long t (chain h) (length-chain h)));
+      follows = may_switch c.args.self.book h t st.book none c.time-moment.ensures;
+      rose = rose;
+    })
+    ran)
