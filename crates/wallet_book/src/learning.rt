@@ -164,9 +164,10 @@ impl Parts {
     }
 }
 
-/// The numbers of the two refusals after which a piece is not held again: `Expired` and `Spent`.
+/// The number of `Expired`.
 const EXPIRED: u16 = 26;
 
+/// The number of `Spent`.
 const SPENT: u16 = 27;
 
 /// What a signed refusal of this number leaves the piece as that the request paid with: `Spent` disputed, `Expired` dead,
