@@ -1,6 +1,6 @@
 -- The trade's half of what makes an entry lawful, for a counted trade and its inner one.
 use Rattle.std.proofs.Common.{ℕ}
-use Rattle.mc_records.specs.Entry.{Entry, Site, AddTerms, Goods, Accept, Mint, Account, Deposit, Withdraw, Draw, Licence, Stock, Got, Pend, Done, Refused, Upgrade, Switch, Note}
+use Rattle.mc_records.specs.Entry.{Entry, Note}
 use Rattle.ledger_model.specs.Histories.{History}
 use Rattle.house_state.specs.Learning.{Test, ByTrade, Passes}
 use Rattle.settle_core.specs.Settlement.{IsInOrder}
@@ -8,24 +8,8 @@ use Rattle.counted_trade.specs.Counted.{PassesBoth}
 
 -- the halves of two tests are the same but for what a note has to pass
 half_by : (P Q : Test) (kind : ℕ) (h : History) (e : Entry) → (Passes P h e → Passes Q h e) → ByTrade P kind h e → ByTrade Q kind h e
-half_by P Q kind h (Site m k name house) passes half = half
-half_by P Q kind h (AddTerms m terms) passes half = half
-half_by P Q kind h (Goods m target price k contents) passes half = half
-half_by P Q kind h (Accept m scrip target sign price change deed) passes half = half
-half_by P Q kind h (Mint m reference count value first) passes half = half
-half_by P Q kind h (Account m name key) passes half = half
-half_by P Q kind h (Deposit m name amount reference) passes half = half
-half_by P Q kind h (Withdraw m name amount reference) passes half = half
-half_by P Q kind h (Draw m target sign drawn) passes half = half
-half_by P Q kind h (Licence m vendor terms) passes half = half
-half_by P Q kind h (Stock m vendor pieces) passes half = half
-half_by P Q kind h (Got m pieces) passes half = absurd half
-half_by P Q kind h (Pend m ask peer target scrip secret) passes half = absurd half
-half_by P Q kind h (Done m number price change got) passes half = absurd half
-half_by P Q kind h (Refused m number refusal) passes half = absurd half
-half_by P Q kind h (Upgrade m vendor issuer from) passes half = half
-half_by P Q kind h (Switch m c) passes half = half
 half_by P Q kind h (Note m tag bytes) passes half = passes half
+half_by P Q kind h e passes half = half
 
 both : (P : Test) (h : History) (e : Entry) → IsInOrder h e → Passes P h e → Passes (PassesBoth P) h e
 both P h (Note m tag bytes) order passes = record { inner' = passes; in_order = order }

@@ -4,7 +4,7 @@ use Rattle.std.proofs.lemmas.Bool.{eqb-true}
 use Rattle.std.proofs.lemmas.List.{length-append}
 use Rattle.std.specs.Prelude.{◌==◌, ◌-◌, Result, Ok, Err, OnOk}
 use Rattle.mc_records.specs.declared.sizes.TheConstants.{EMPTY_JOURNAL, FRAME}
-use Rattle.mc_records.specs.Entry.{House, Entry, Site, AddTerms, Goods, Accept, Mint, Account, Deposit, Withdraw, Draw, Licence, Stock, Got, Pend, Done, Refused, Upgrade, Switch, Note, moment_of, payload}
+use Rattle.mc_records.specs.Entry.{House, Entry, Site, moment_of, payload}
 use Rattle.mc_records.specs.Chains.{has_switch, is_switch}
 use Rattle.mc_records.specs.Sizes.{tail_bytes, entry_size}
 use Rattle.mc_records.proofs.ChainLaws.{has_switch-first}
@@ -73,24 +73,8 @@ time_more [] e = omega arith
 time_more (x ∷ xs) e = omega (arith, time_more xs e)
 
 allows : (h : History) (e : Entry) → is_wallet h ≡ true → entry_allowed h e ≡ true → wallet_allows h e ≡ true
-allows h (Got m pieces) wallet is = rw (wallet, is) refl
-allows h (Pend m ask peer target scrip secret) wallet is = rw (wallet, is) refl
-allows h (Done m n price change got) wallet is = rw (wallet, is) refl
-allows h (Refused m n refusal) wallet is = rw (wallet, is) refl
 allows h (Site m kind name house) wallet is = absurd cc
-allows h (AddTerms m terms) wallet is = absurd cc
-allows h (Goods m target price kind contents) wallet is = absurd cc
-allows h (Accept m scrip target sign price change deed) wallet is = absurd cc
-allows h (Mint m reference count value first) wallet is = absurd cc
-allows h (Account m name key) wallet is = absurd cc
-allows h (Deposit m name amount reference) wallet is = absurd cc
-allows h (Withdraw m name amount reference) wallet is = absurd cc
-allows h (Draw m target sign drawn) wallet is = absurd cc
-allows h (Licence m vendor terms) wallet is = absurd cc
-allows h (Stock m vendor pieces) wallet is = absurd cc
-allows h (Upgrade m vendor issuer from) wallet is = absurd cc
-allows h (Switch m c) wallet is = rw (wallet, is) refl
-allows h (Note m tag bytes) wallet is = rw wallet refl
+allows h e wallet is = rw (wallet, is) refl
 
 first_only : (h : History) (kind : ℕ) → IsWalletBook h → (length h == 0 && kind == 2) ≡ true → ⊥
 first_only [] kind book is = book
@@ -98,23 +82,7 @@ first_only (x ∷ xs) kind book is = let none : suc (length xs) ≡ 0 = eqb-true
 
 forbids : (h : History) (e : Entry) → IsWalletBook h → entry_allowed h e ≡ false → wallet_allows h e ≡ true → ⊥
 forbids h (Site m kind name house) book is may = first_only h kind book may
-forbids h (Got m pieces) book is may = let it = both_right (is_wallet h) _ may in cc (it, is)
-forbids h (Pend m ask peer target scrip secret) book is may = let it = both_right (is_wallet h) _ may in cc (it, is)
-forbids h (Done m n price change got) book is may = let it = both_right (is_wallet h) _ may in cc (it, is)
-forbids h (Refused m n refusal) book is may = let it = both_right (is_wallet h) _ may in cc (it, is)
-forbids h (AddTerms m terms) book is may = let it = both_right (is_wallet h) _ may in cc (it, is)
-forbids h (Goods m target price kind contents) book is may = let it = both_right (is_wallet h) _ may in cc (it, is)
-forbids h (Accept m scrip target sign price change deed) book is may = let it = both_right (is_wallet h) _ may in cc (it, is)
-forbids h (Mint m reference count value first) book is may = let it = both_right (is_wallet h) _ may in cc (it, is)
-forbids h (Account m name key) book is may = let it = both_right (is_wallet h) _ may in cc (it, is)
-forbids h (Deposit m name amount reference) book is may = let it = both_right (is_wallet h) _ may in cc (it, is)
-forbids h (Withdraw m name amount reference) book is may = let it = both_right (is_wallet h) _ may in cc (it, is)
-forbids h (Draw m target sign drawn) book is may = let it = both_right (is_wallet h) _ may in cc (it, is)
-forbids h (Licence m vendor terms) book is may = let it = both_right (is_wallet h) _ may in cc (it, is)
-forbids h (Stock m vendor pieces) book is may = let it = both_right (is_wallet h) _ may in cc (it, is)
-forbids h (Upgrade m vendor issuer from) book is may = let it = both_right (is_wallet h) _ may in cc (it, is)
-forbids h (Switch m c) book is may = let it = both_right (is_wallet h) _ may in cc (it, is)
-forbids h (Note m tag bytes) book is may = cc is
+forbids h e book is may = let it = both_right (is_wallet h) (entry_allowed h e) may in cc (it, is)
 
 -- an entry that the history does not allow may not follow
 pub not_allowed : (old : BookView) (h : History) (e : Entry) → WalletRepresents old h → entry_allowed h e ≡ false → WalletFollows h e → ⊥

@@ -1,21 +1,21 @@
 -- Pieces and kept requests with one entry more.
-use Rattle.std.proofs.Common.{◌≡◌, ℕ, zero, suc, ◌<◌, true, List, [], ◌∷◌, ◌++◌, length, map, Option, Some, None, refl, sym, ap, subst, ◌∙◌, append-nil, arith, set}
+use Rattle.std.proofs.Common.{◌≡◌, ℕ, zero, suc, ◌<◌, true, false, List, [], ◌∷◌, ◌++◌, length, map, Option, Some, None, refl, sym, ap, subst, ◌∙◌, append-nil, arith, set}
 use Rattle.std.proofs.lemmas.List.{length-map, length-append}
 use Rattle.std.proofs.lemmas.Option.{slice_get_within}
 use Rattle.std.specs.Prelude.{slice_get, option_and_then, IfSome}
 use Rattle.std.specs.List.{AllByRecursion}
-use Rattle.mc_records.specs.Entry.{Held, Entry, Got, Pend, Switch, Note}
+use Rattle.mc_records.specs.Entry.{Held, Entry, Got, Pend}
 use Rattle.ledger_model.specs.Histories.{History}
 use Rattle.ledger_model.proofs.ListLaws.{all_append}
-use Rattle.wallet_model.specs.Requests.{Pending, kept_requests}
+use Rattle.wallet_model.specs.Requests.{Pending, pending_of, settles, kept_requests}
 use Rattle.wallet_model.specs.Holdings as model
-use Rattle.wallet_model.specs.Holdings.{PieceState, held, pending, used, holdings, holding, pieces_came, texts_came, moves, state_in, brings, change_held, secret_at, refused_state}
+use Rattle.wallet_model.specs.Holdings.{PieceState, holdings, holding, texts_came, moves, brings}
 use Rattle.wallet_model.specs.Newness.{are_new}
 use Rattle.wallet_model.specs.Follows.{wallet_allows, IsWalletBook}
 use Rattle.wallet_model.specs.Laws.{moved}
 use Rattle.wallet_model.proofs.PieceLaws.{holdings_more}
 use Rattle.wallet_model.proofs.CameLaws.{came_once, map_both}
-use Rattle.wallet_model.proofs.KeptLaws.{kept_got, kept_switch, kept_note, kept_pend}
+use Rattle.wallet_model.proofs.KeptLaws.{kept_still, kept_pend}
 use Rattle.wallet_model.proofs.PaidLaws.{book_next}
 use Rattle.wallet_book.specs.declared.holding.State.{State}
 use Rattle.wallet_book.specs.declared.holding.State.TheVariants as states
@@ -59,22 +59,24 @@ learned_got h xs ys ks m ps book is allowed fit new brought =
       pieces =
           holdings_more h e ∙ ap (λ (zs : List model.Holding). zs ++ map (holding (h ++ e ∷ [])) ps) (unmoved (λ t. moves h t e) (holdings h) (λ t. refl) ∙ is.pieces)
           ∙ ap (λ (zs : List model.Holding). map holding_of xs ++ zs) (fresh_pieces h e ps book allowed fit fresh) ∙ sym brought;
-      kept = kept_got h m ps ∙ kept_with xs ys ks ps h is.kept is.placed more;
+      kept = kept_still h e refl (λ n. refl) ∙ kept_with xs ys ks ps h is.kept is.placed more;
       placed = placed_with xs ys ks ps is.placed more;
     }
 
--- a Switch and a Note leave the pieces and the kept requests
-pub learned_switch : (h : History) (xs : List Holding) (ks : List Kept) (m : ℕ) (c : List ℕ) → PartsRepresent xs ks h → PartsRepresent xs ks (h ++ Switch m c ∷ [])
-learned_switch h xs ks m c is = record {
-  pieces = holdings_more h (Switch m c) ∙ ap (λ (zs : List model.Holding). zs ++ []) (unmoved (λ t. moves h t (Switch m c)) (holdings h) (λ t. refl) ∙ is.pieces) ∙ append-nil (map holding_of xs);
-  kept = kept_switch h m c ∙ is.kept;
-  placed = is.placed;
-}
+-- an entry that asks, settles and brings nothing, and is on no piece
+pub record IsStill (e : Entry) : Type 0 where
+  pub no_request : pending_of e ≡ None
+  pub no_settlement : (n : ℕ) → settles n e ≡ false
+  pub no_piece : (h : History) → brings h e ≡ []
+  pub no_move : (h : History) (text : List ℕ) → moves h text e ≡ None
 
-pub learned_note : (h : History) (xs : List Holding) (ks : List Kept) (m : ℕ) (tag bytes : List ℕ) → PartsRepresent xs ks h → PartsRepresent xs ks (h ++ Note m tag bytes ∷ [])
-learned_note h xs ks m tag bytes is = record {
-  pieces = holdings_more h (Note m tag bytes) ∙ ap (λ (zs : List model.Holding). zs ++ []) (unmoved (λ t. moves h t (Note m tag bytes)) (holdings h) (λ t. refl) ∙ is.pieces) ∙ append-nil (map holding_of xs);
-  kept = kept_note h m tag bytes ∙ is.kept;
+-- leaves the pieces and the kept requests
+pub learned_still : (h : History) (xs : List Holding) (ks : List Kept) (e : Entry) → IsStill e → PartsRepresent xs ks h → PartsRepresent xs ks (h ++ e ∷ [])
+learned_still h xs ks e still is = record {
+  pieces =
+      holdings_more h e ∙ ap (λ (ps : List Held). map (moved_by (λ t. moves h t e)) (holdings h) ++ map (holding (h ++ e ∷ [])) ps) (still.no_piece h)
+      ∙ ap (λ (zs : List model.Holding). zs ++ []) (unmoved (λ t. moves h t e) (holdings h) (still.no_move h) ∙ is.pieces) ∙ append-nil (map holding_of xs);
+  kept = kept_still h e still.no_request still.no_settlement ∙ is.kept;
   placed = is.placed;
 }
 

@@ -23,7 +23,7 @@ use Rattle.wallet_book.specs.declared.kept.Kept.{Kept}
 use Rattle.wallet_book.specs.Holdings.{state_of, text_of, holding_of, AreSpelled}
 use Rattle.wallet_book.specs.Parts.{PartsRepresent, HasText, Brings, held_texts, put_in, in_state_at, LearnsEntry, asks_with, FindsPayment}
 use Rattle.wallet_book.proofs.PartLaws.{came_texts, brings_both, brings_less}
-use Rattle.wallet_book.proofs.EntryLaws.{learned_got, learned_pend, learned_draw, learned_switch}
+use Rattle.wallet_book.proofs.EntryLaws.{learned_got, learned_pend, learned_draw, learned_still}
 use Rattle.wallet_book.proofs.SettledLaws.{not_found, without, settled_pieces_of, learns_refused, learns_done}
 
 -- ---- Got
@@ -132,4 +132,4 @@ settled_texts_fit secret (Some t) (Some p) c g = (c, (g, tt))
 
 pub switches : (h : History) (xs : List Holding) (ks : List Kept) (m : ℕ) (c : List ℕ) (switched : Bool) → PartsRepresent xs ks h → has_switch h ≡ switched → c ≡ chain h → LearnsEntry xs ks h (Switch m c) (not switched)
 switches h xs ks m c true is on tells = rw on refl
-switches h xs ks m c false is on tells = (rw (on, (bytes_eq-Decides c (chain h)).1 tells) refl, learned_switch h xs ks m c is)
+switches h xs ks m c false is on tells = (rw (on, (bytes_eq-Decides c (chain h)).1 tells) refl, learned_still h xs ks (Switch m c) (record { no_request = refl; no_settlement = λ n. refl; no_piece = λ g. refl; no_move = λ g t. refl }) is)

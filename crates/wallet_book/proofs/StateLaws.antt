@@ -2,7 +2,7 @@
 use Rattle.std.proofs.Common.{◌≡◌, ℕ, zero, suc, Bool, true, false, ◌&&◌, ◌||◌, cond, List, [], ◌∷◌, ◌++◌, Option, Some, None, refl, sym, ap, subst, ◌∙◌, unwrap_or, bytes_eq, map, inl, inr}
 use Rattle.std.proofs.lemmas.Slice.Eq.{bytes_eq-Decides}
 use Rattle.std.specs.List.{list_any}
-use Rattle.mc_records.specs.Entry.{Held, Entry, Site, AddTerms, Goods, Accept, Mint, Account, Deposit, Withdraw, Draw, Licence, Stock, Got, Pend, Done, Refused, Upgrade, Switch, Note}
+use Rattle.mc_records.specs.Entry.{Held, Entry, Pend, Done, Refused}
 use Rattle.mc_records.specs.Following.{AllFollowBy}
 use Rattle.ledger_model.specs.Histories.{History}
 use Rattle.ledger_model.specs.Pieces.{piece_of}
@@ -57,26 +57,11 @@ unmoved h (Pend m ask peer target (Some scrip) secret) text all allowed none fre
         let at : scrip ≡ text = (bytes_eq-Decides scrip text).0 same in
         let has : has_piece h text ≡ true = subst (λ (t : List ℕ). has_piece h t ≡ true) at (asks_has h ask peer target scrip (both_right (is_wallet h) _ allowed)) in
         cc (has, none))
-unmoved h (Pend m ask peer target None secret) text all allowed none free = refl
 unmoved h (Done m n price change got) text all allowed none free =
     let pays = pays_none h n text all (both_left (is_kept h n) _ (both_right (is_wallet h) _ allowed)) free in rw pays refl
 unmoved h (Refused m n refusal) text all allowed none free =
     let pays = pays_none h n text all (both_right (is_wallet h) _ allowed) free in rw pays refl
-unmoved h (Site m kind name house) text all allowed none free = refl
-unmoved h (AddTerms m terms) text all allowed none free = refl
-unmoved h (Goods m target price kind contents) text all allowed none free = refl
-unmoved h (Accept m scrip target sign price change deed) text all allowed none free = refl
-unmoved h (Mint m reference count value first) text all allowed none free = refl
-unmoved h (Account m name key) text all allowed none free = refl
-unmoved h (Deposit m name amount reference) text all allowed none free = refl
-unmoved h (Withdraw m name amount reference) text all allowed none free = refl
-unmoved h (Draw m target sign drawn) text all allowed none free = refl
-unmoved h (Licence m vendor terms) text all allowed none free = refl
-unmoved h (Stock m vendor pieces) text all allowed none free = refl
-unmoved h (Upgrade m vendor issuer from) text all allowed none free = refl
-unmoved h (Switch m c) text all allowed none free = refl
-unmoved h (Note m tag bytes) text all allowed none free = refl
-unmoved h (Got m pieces) text all allowed none free = refl
+unmoved h e text all allowed none free = refl
 
 earlier : (h : History) (e : Entry) (text : List ℕ) → has_piece (h ++ e ∷ []) text ≡ false → has_piece h text ≡ false
 earlier h e text none = elim (by_cases (has_piece h text)) [

@@ -164,14 +164,20 @@ impl Parts {
     }
 }
 
-/// What a signed refusal of this number leaves the piece as that the request paid with: 27 `Spent` disputed, 26 `Expired`
-/// dead, and any other held.
+/// The number of `Expired`.
+const EXPIRED: u16 = 26;
+
+/// The number of `Spent`.
+const SPENT: u16 = 27;
+
+/// What a signed refusal of this number leaves the piece as that the request paid with: `Spent` disputed, `Expired` dead,
+/// and any other held.
 pub fn refused_state(refusal: u16) -> State
     ensures { state_of result ≡ refused_state refusal }
 {
     match refusal {
-        27 => State::Disputed,
-        26 => State::Dead,
+        SPENT => State::Disputed,
+        EXPIRED => State::Dead,
         _ => State::Held,
     }
 }

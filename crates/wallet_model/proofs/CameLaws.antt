@@ -8,7 +8,7 @@ use Rattle.std.specs.List.{list_any}
 use Rattle.mc_fields.specs.Reading.{literal_at}
 use Rattle.scrip_form.specs.Scrip.{Scrip}
 use Rattle.scrip_form.specs.Reading.{scrip_of, scrip_at}
-use Rattle.mc_records.specs.Entry.{Held, Entry, Site, AddTerms, Goods, Accept, Mint, Account, Deposit, Withdraw, Draw, Licence, Stock, Got, Pend, Done, Refused, Upgrade, Switch, Note}
+use Rattle.mc_records.specs.Entry.{Held, Entry, Got, Done}
 use Rattle.ledger_model.specs.Histories.{History}
 use Rattle.ledger_model.specs.Pieces.{piece_of}
 use Rattle.wallet_model.specs.Requests.{Pending, is_kept}
@@ -119,22 +119,7 @@ brings_new : (h : History) (e : Entry) → wallet_allows h e ≡ true → are_ne
 brings_new h (Got m pieces) allowed = both_right (is_wallet h) _ allowed
 brings_new h (Done m n price change got) allowed =
     ap (are_new (texts_came h)) (settled_brings h n change got) ∙ both_right (is_kept h n) _ (both_right (is_wallet h) _ allowed)
-brings_new h (Site m kind name house) allowed = refl
-brings_new h (AddTerms m terms) allowed = refl
-brings_new h (Goods m target price kind contents) allowed = refl
-brings_new h (Accept m scrip target sign price change deed) allowed = refl
-brings_new h (Mint m reference count value first) allowed = refl
-brings_new h (Account m name key) allowed = refl
-brings_new h (Deposit m name amount reference) allowed = refl
-brings_new h (Withdraw m name amount reference) allowed = refl
-brings_new h (Draw m target sign drawn) allowed = refl
-brings_new h (Licence m vendor terms) allowed = refl
-brings_new h (Stock m vendor pieces) allowed = refl
-brings_new h (Upgrade m vendor issuer from) allowed = refl
-brings_new h (Switch m c) allowed = refl
-brings_new h (Note m tag bytes) allowed = refl
-brings_new h (Pend m ask peer target scrip secret) allowed = refl
-brings_new h (Refused m n refusal) allowed = refl
+brings_new h e allowed = refl
 
 CameNew : History → Type 0
 CameNew h = are_new [] (texts_came h) ≡ true

@@ -5,7 +5,7 @@ use Rattle.std.specs.Prelude.{◌==◌, not, option_map, option_to_list, filter_
 use Rattle.std.specs.List.{list_any, enumerate_from, cons_option}
 use Rattle.std.proofs.lemmas.List.Elements.{filter-append}
 use Rattle.std.proofs.lemmas.List.Folds.{list_any-append}
-use Rattle.mc_records.specs.Entry.{Held, Entry, Got, Pend, Done, Refused, Switch, Note}
+use Rattle.mc_records.specs.Entry.{Held, Entry, Pend, Done, Refused}
 use Rattle.ledger_model.specs.Histories.{History}
 use Rattle.ledger_model.proofs.ListLaws.{counts_cons}
 use Rattle.wallet_model.specs.Requests.{Pending, pending_of, pending_in, settles, is_kept, numbered, requests, is_open, kept_requests}
@@ -118,23 +118,12 @@ kept_refused h m n refusal =
     kept_split h (Refused m n refusal)
     ∙ ap (λ (xs : List (ℕ × Pending)). filter (λ x. not (n == x.0)) (filter (is_open h) xs)) (append-nil (requests h))
 
--- pieces that come change nothing of it
-pub kept_got : (h : History) (m : ℕ) (pieces : List Held) → kept_requests (h ++ Got m pieces ∷ []) ≡ kept_requests h
-kept_got h m pieces =
-    kept_split h (Got m pieces)
-    ∙ filter_true (filter (is_open h) (requests h ++ []))
-    ∙ ap (filter (is_open h)) (append-nil (requests h))
-
--- nor do a Switch and a Note
-pub kept_switch : (h : History) (m : ℕ) (c : List ℕ) → kept_requests (h ++ Switch m c ∷ []) ≡ kept_requests h
-kept_switch h m c =
-    kept_split h (Switch m c)
-    ∙ filter_true (filter (is_open h) (requests h ++ []))
-    ∙ ap (filter (is_open h)) (append-nil (requests h))
-
-pub kept_note : (h : History) (m : ℕ) (tag bytes : List ℕ) → kept_requests (h ++ Note m tag bytes ∷ []) ≡ kept_requests h
-kept_note h m tag bytes =
-    kept_split h (Note m tag bytes)
+-- an entry that asks nothing and settles nothing changes nothing of it
+pub kept_still : (h : History) (e : Entry) → pending_of e ≡ None → ((n : ℕ) → settles n e ≡ false) → kept_requests (h ++ e ∷ []) ≡ kept_requests h
+kept_still h e asks settles_none =
+    kept_split h e
+    ∙ ap (λ (o : Option Pending). filter (λ x. not (settles x.0 e)) (filter (is_open h) (requests h ++ option_to_list (option_map (λ p. (length h, p)) o)))) asks
+    ∙ filter_as (λ x. not (settles x.0 e)) (λ x. true) (filter (is_open h) (requests h ++ [])) (λ x. ap not (settles_none x.0))
     ∙ filter_true (filter (is_open h) (requests h ++ []))
     ∙ ap (filter (is_open h)) (append-nil (requests h))
 

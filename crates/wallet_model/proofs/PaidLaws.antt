@@ -6,7 +6,7 @@ use Rattle.std.proofs.lemmas.List.Folds.{list_any-append}
 use Rattle.std.proofs.lemmas.Slice.Eq.{bytes_eq-Decides}
 use Rattle.std.specs.Prelude.{◌==◌, not, is_some}
 use Rattle.std.specs.List.{list_any}
-use Rattle.mc_records.specs.Entry.{Held, Entry, Site, AddTerms, Goods, Accept, Mint, Account, Deposit, Withdraw, Draw, Licence, Stock, Got, Pend, Done, Refused, Upgrade, Switch, Note}
+use Rattle.mc_records.specs.Entry.{Held, Entry, Pend, Done, Refused}
 use Rattle.mc_records.specs.Following.{AllFollowBy}
 use Rattle.ledger_model.specs.Histories.{History}
 use Rattle.ledger_model.proofs.ListLaws.{counts_cons, counts_append, counts_none}
@@ -16,14 +16,10 @@ use Rattle.wallet_model.specs.Follows.{is_wallet, asks_rightly, wallet_allows, W
 use Rattle.wallet_model.specs.Laws.{is_pending, is_last}
 use Rattle.wallet_model.proofs.BookLaws.{walked, all_split, all_of_book}
 use Rattle.wallet_model.proofs.PieceLaws.{state_more}
-use Rattle.wallet_model.proofs.KeptLaws.{by_cases, both_left, both_right, not_true, kept_pend, kept_done, kept_refused, kept_got, kept_switch, kept_note, not_kept, kept_at, count_without}
+use Rattle.wallet_model.proofs.KeptLaws.{by_cases, both_left, both_right, not_true, kept_pend, kept_done, kept_refused, kept_still, not_kept, kept_at, count_without}
 
 abbrev one_if : Bool → ℕ
 one_if b = cond b 1 0
-
-both_false : (b : Bool) → (b && false) ≡ true → ⊥
-both_false true h = cc
-both_false false h = cc
 
 -- ---- an entry settles what is kept
 
@@ -35,22 +31,7 @@ settles_kept h (Done m k price change got) n allowed is =
 settles_kept h (Refused m k refusal) n allowed is =
     let at : k ≡ n = eqb-true k n is in
     subst (λ (j : ℕ). is_kept h j ≡ true) at (both_right (is_wallet h) _ allowed)
-settles_kept h (Site m kind name house) n allowed is = absurd cc
-settles_kept h (AddTerms m terms) n allowed is = absurd cc
-settles_kept h (Goods m target price kind contents) n allowed is = absurd cc
-settles_kept h (Accept m scrip target sign price change deed) n allowed is = absurd cc
-settles_kept h (Mint m reference count value first) n allowed is = absurd cc
-settles_kept h (Account m name key) n allowed is = absurd cc
-settles_kept h (Deposit m name amount reference) n allowed is = absurd cc
-settles_kept h (Withdraw m name amount reference) n allowed is = absurd cc
-settles_kept h (Draw m target sign drawn) n allowed is = absurd cc
-settles_kept h (Licence m vendor terms) n allowed is = absurd cc
-settles_kept h (Stock m vendor pieces) n allowed is = absurd cc
-settles_kept h (Upgrade m vendor issuer from) n allowed is = absurd cc
-settles_kept h (Switch m c) n allowed is = absurd cc
-settles_kept h (Note m tag bytes) n allowed is = absurd cc
-settles_kept h (Got m pieces) n allowed is = absurd cc
-settles_kept h (Pend m ask peer target scrip secret) n allowed is = absurd cc
+settles_kept h e n allowed is = absurd cc
 
 -- and stands before
 pub kept_below : (h : History) (n : ℕ) → is_kept h n ≡ true → n < length h
@@ -231,10 +212,6 @@ draw_step h m ask peer target secret before text =
     omega (arith, kept, one, now, before.counted text)
 
 counted_step : (h : History) (e : Entry) → Paid h → wallet_allows h e ≡ true → (text : List ℕ) → kept_on (h ++ e ∷ []) text ≡ one_if (is_pending (state_in (h ++ e ∷ []) text))
-counted_step [] (Site m kind name house) before allowed text = refl
-counted_step (x ∷ xs) (Site m kind name house) before allowed text =
-    absurd (let none : suc (length xs) ≡ 0 = eqb-true (suc (length xs)) 0 (both_left (suc (length xs) == 0) _ allowed) in omega (arith, none))
-counted_step h (Got m pieces) before allowed text = quiet_step h (Got m pieces) before (kept_got h m pieces) text refl
 counted_step h (Pend m ask peer target (Some scrip) secret) before allowed text =
     pend_step h m ask peer target scrip secret before (asks_held h ask peer target scrip (both_right (is_wallet h) _ allowed)) text
 counted_step h (Pend m ask peer target None secret) before allowed text = draw_step h m ask peer target secret before text
@@ -242,19 +219,7 @@ counted_step h (Done m n price change got) before allowed text =
     settle_step h (Done m n price change got) n used before (both_left (is_kept h n) _ (both_right (is_wallet h) _ allowed)) refl (kept_done h m n price change got) text refl
 counted_step h (Refused m n refusal) before allowed text =
     settle_step h (Refused m n refusal) n (refused_state refusal) before (both_right (is_wallet h) _ allowed) (refused_ends refusal) (kept_refused h m n refusal) text refl
-counted_step h (AddTerms m terms) before allowed text = absurd (both_false (is_wallet h) allowed)
-counted_step h (Goods m target price kind contents) before allowed text = absurd (both_false (is_wallet h) allowed)
-counted_step h (Accept m scrip target sign price change deed) before allowed text = absurd (both_false (is_wallet h) allowed)
-counted_step h (Mint m reference count value first) before allowed text = absurd (both_false (is_wallet h) allowed)
-counted_step h (Account m name key) before allowed text = absurd (both_false (is_wallet h) allowed)
-counted_step h (Deposit m name amount reference) before allowed text = absurd (both_false (is_wallet h) allowed)
-counted_step h (Withdraw m name amount reference) before allowed text = absurd (both_false (is_wallet h) allowed)
-counted_step h (Draw m target sign drawn) before allowed text = absurd (both_false (is_wallet h) allowed)
-counted_step h (Licence m vendor terms) before allowed text = absurd (both_false (is_wallet h) allowed)
-counted_step h (Stock m vendor pieces) before allowed text = absurd (both_false (is_wallet h) allowed)
-counted_step h (Upgrade m vendor issuer from) before allowed text = absurd (both_false (is_wallet h) allowed)
-counted_step h (Switch m c) before allowed text = quiet_step h (Switch m c) before (kept_switch h m c) text refl
-counted_step h (Note m tag bytes) before allowed text = quiet_step h (Note m tag bytes) before (kept_note h m tag bytes) text refl
+counted_step h e before allowed text = quiet_step h e before (kept_still h e refl (λ n. refl)) text refl
 
 paid_step : (h : History) (e : Entry) → Paid h → WalletFollows h e → Paid (h ++ e ∷ [])
 paid_step h e before follows = record {
@@ -318,22 +283,7 @@ no_move h (Refused m n refusal) text paid allowed last = go (pays_with h n text)
     go : (b : Bool) → pays_with h n text ≡ b → cond b (Some (refused_state refusal)) None ≡ None
     go false is = refl
     go true is = absurd (not_both (state_in h text) last (pays_pending h n text paid (both_right (is_wallet h) _ allowed) is))
-no_move h (Pend m ask peer target None secret) text paid allowed last = refl
-no_move h (Got m pieces) text paid allowed last = refl
-no_move h (Site m kind name house) text paid allowed last = refl
-no_move h (AddTerms m terms) text paid allowed last = refl
-no_move h (Goods m target price kind contents) text paid allowed last = refl
-no_move h (Accept m scrip target sign price change deed) text paid allowed last = refl
-no_move h (Mint m reference count value first) text paid allowed last = refl
-no_move h (Account m name key) text paid allowed last = refl
-no_move h (Deposit m name amount reference) text paid allowed last = refl
-no_move h (Withdraw m name amount reference) text paid allowed last = refl
-no_move h (Draw m target sign drawn) text paid allowed last = refl
-no_move h (Licence m vendor terms) text paid allowed last = refl
-no_move h (Stock m vendor pieces) text paid allowed last = refl
-no_move h (Upgrade m vendor issuer from) text paid allowed last = refl
-no_move h (Switch m c) text paid allowed last = refl
-no_move h (Note m tag bytes) text paid allowed last = refl
+no_move h e text paid allowed last = refl
 
 record Stays (text : List ℕ) (s : PieceState) (h : History) : Type 0 where
   paid : Paid h

@@ -1,5 +1,6 @@
 use Rattle.std.proofs.Common.{refl}
-use Rattle.wallet_book.proofs.EntryLaws.{learned_note}
+use Rattle.mc_records.specs.Entry.{Note}
+use Rattle.wallet_book.proofs.EntryLaws.{learned_still}
 use Rattle.wallet_book.proofs.LearnLaws.{switches}
 use Rattle.wallet_book.proofs.book.learn_entry.Goals as goal
 
@@ -19,4 +20,4 @@ pub returns-in-Switch : goal.returns-in-Switch
 returns-in-Switch c = λ h book is number on tells. rw c.in-Switch.is (switches h _ _ c.in-Switch.moment c.in-Switch.chain c.args.switched is on (rw c.in-Switch.is at tells))
 
 pub returns-in-Note : goal.returns-in-Note
-returns-in-Note c = λ h book is number on tells. rw c.in-Note.is (refl, learned_note h _ _ c.in-Note.moment c.in-Note.tag.now c.in-Note.bytes.now is)
+returns-in-Note c = λ h book is number on tells. rw c.in-Note.is (refl, learned_still h _ _ (Note c.in-Note.moment c.in-Note.tag.now c.in-Note.bytes.now) (record { no_request = refl; no_settlement = λ n. refl; no_piece = λ g. refl; no_move = λ g t. refl }) is)
