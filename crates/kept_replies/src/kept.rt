@@ -8,6 +8,7 @@ ghost use Rattle.std.specs.Bool.{then_some};
 ghost use Rattle.kept_replies.specs.Kept.{entry_size, AreRising, has_request, has_number, is_in_time, found, NoneInTime, with_number, first_number, inserted, reply_of};
 
 use crate::index::{Index, tag_of};
+use crate::parts::MOST_BESIDE;
 use crate::reply::Reply;
 use crate::{KeptEntry, KeptNumber};
 use mc_base::{Moment, NoMemory};
@@ -76,7 +77,7 @@ impl Kept {
     {
         make_place(&mut self.replies)?;
         self.index.reserve()?;
-        let size = short_sum(text_size_of(q)?, more)?;
+        let size = short_sum(short_sum(text_size_of(q)?, more)?, MOST_BESIDE)?;
         if self.spare.capacity() != size {
             let alloc = *self.spare.allocator();
             self.spare = Vec::with_capacity(alloc, size)?;
