@@ -132,11 +132,7 @@ impl DeedParts {
 
 impl EntryParts {
     /// Puts what is kept of an entry, beside the scrip text of its request, into an empty buffer.
-    pub(crate) fn put(
-        buffer: &mut Vec<u8>,
-        e: &KeptEntry,
-        scrip: Option<&[u8]>,
-    ) -> EntryParts
+    pub(crate) fn put(buffer: &mut Vec<u8>, e: &KeptEntry, scrip: Option<&[u8]>) -> EntryParts
         requires empty { vec_len buffer.old ≡ 0 }
         requires room { MOST_BESIDE + entry_size e.now ≤ vec_capacity buffer.old }
         requires short { MOST_BESIDE + entry_size e.now < 2 ^ 16 }
