@@ -67,7 +67,7 @@ impl Kept {
     }
 
     /// Makes room for this request, with an entry whose texts have so many bytes ([`KeptEntry::size`]); of
-    /// others nothing is said. What is kept stays as it is, after an `Err` too. 65,536 bytes of texts or more
+    /// others nothing is said. What is kept stays as it is, after an `Err` too. More than 65,202 bytes of texts
     /// are want of memory; those of a head and its entry are fewer, since a head has at most 8,192.
     pub fn reserve(&mut self, q: &Request<'_>, more: usize) -> Result<(), NoMemory>
         ensures keep { self.new.keep ≡ self.old.keep }
