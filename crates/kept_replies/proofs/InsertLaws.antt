@@ -10,6 +10,7 @@ use Rattle.std.proofs.lemmas.Bool.{leb-true, ltb-true, lt-ltb, le-ltb, eqb-false
 use Rattle.mc_records.specs.Requests.{Asked}
 use Rattle.kept_replies.specs.Requests.{is_same_request}
 use Rattle.kept_replies.specs.Kept.{KeptReply, AreRising, IsBelowAll, has_request, has_number, inserted}
+use Rattle.kept_replies.specs.declared.parts.TheConstants.{MOST_BESIDE}
 use Rattle.kept_replies.specs.Index.{IndexView, request_tag, leads, is_mark_of}
 use Rattle.kept_replies.specs.Store.{AreInOrder, IsPlaceOf, HaveOneNumber, AreToOwnRequests, has_mark, room_in}
 use Rattle.kept_replies.proofs.SearchLaws.{front_is, rest_is}
@@ -77,11 +78,11 @@ insert_is new rs at point fresh =
     ap (λ (t : List KeptReply). t ++ new ∷ drop at rs) (front_is (below (number new)) rs at point)
     ∙ ap (λ (t : List KeptReply). filter (below (number new)) rs ++ new ∷ t) (rest_is (below (number new)) rs at point ∙ not_below (number new) rs fresh)
 
--- what has fewer bytes than there is room has no more than the buffer may hold
-pub within_room : (replies places bytes size : ℕ) (has_place : Bool) → size < room_in replies places has_place bytes → size ≤ bytes
+-- what has fewer bytes than there is room has no more than the buffer may hold, with what an entry may need beside
+pub within_room : (replies places bytes size : ℕ) (has_place : Bool) → size < room_in replies places has_place bytes → MOST_BESIDE + size ≤ bytes
 within_room replies places bytes size has_place lt = go (ltb replies places && has_place) lt
   where
-    go : (b : Bool) → size < cond b (bytes + 1) 0 → size ≤ bytes
+    go : (b : Bool) → size < cond b (bytes + 1 - MOST_BESIDE) 0 → MOST_BESIDE + size ≤ bytes
     go true less = omega (arith, less)
     go false less = absurd (omega (arith, less))
 

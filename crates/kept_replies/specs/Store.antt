@@ -1,10 +1,11 @@
 -- How the program stores what is kept. No clause of a public call cites this.
-use Rattle.std.specs.Prelude.{◌≡◌, ℕ, ◌+◌, ◌<◌, ◌≤◌, ◌^◌, Bool, false, ◌&&◌, nat_lt, if◌then◌else◌, List, [], ◌∷◌, All, IsTrue, IsFalse, Option, Some, None}
+use Rattle.std.specs.Prelude.{◌≡◌, ℕ, ◌+◌, ◌-◌, ◌<◌, ◌≤◌, ◌^◌, Bool, false, ◌&&◌, nat_lt, if◌then◌else◌, List, [], ◌∷◌, All, IsTrue, IsFalse, Option, Some, None}
 use Rattle.std.specs.List.{AllByRecursion}
 use Rattle.std.specs.List.Sorted.{IsPartitionPoint}
 use Rattle.mc_records.specs.Requests.{Asked}
 use Rattle.kept_replies.specs.Requests.{is_same_request}
 use Rattle.kept_replies.specs.Kept.{KeptReply, KeptView, AreRising, is_in_time, with_number}
+use Rattle.kept_replies.specs.declared.parts.TheConstants.{MOST_BESIDE}
 use Rattle.kept_replies.specs.Index.{IndexView, request_tag, leads, is_mark_of}
 
 -- two replies have one number where they are to the same request
@@ -45,9 +46,9 @@ pub record IsStored (replies : List KeptReply) (in_order : Bool) (index : IndexV
 
 -- the room of so many replies in so many places, where there is a place for a mark or not, with a
 -- buffer that may hold so many bytes: none without a free place and one for a mark, and else one more
--- than these bytes
+-- than these bytes without those that an entry may need beside its texts
 abbrev pub room_in : ℕ → ℕ → Bool → ℕ → ℕ
-room_in replies places has_place bytes = if nat_lt replies places && has_place then bytes + 1 else 0
+room_in replies places has_place bytes = if nat_lt replies places && has_place then bytes + 1 - MOST_BESIDE else 0
 
 -- whether a reply that may be there is to this request, and in time
 abbrev pub is_found : ℕ → ℕ → Asked → Option KeptReply → Bool

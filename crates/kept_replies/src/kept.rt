@@ -8,6 +8,7 @@ ghost use Rattle.std.specs.Bool.{then_some};
 ghost use Rattle.kept_replies.specs.Kept.{entry_size, AreRising, has_request, has_number, is_in_time, found, NoneInTime, with_number, first_number, inserted, reply_of};
 
 use crate::index::{Index, tag_of};
+use crate::parts::MOST_BESIDE;
 use crate::reply::Reply;
 use crate::{KeptEntry, KeptNumber};
 use mc_base::{Moment, NoMemory};
@@ -66,7 +67,7 @@ impl Kept {
     }
 
     /// Makes room for this request, with an entry whose texts have so many bytes ([`KeptEntry::size`]); of
-    /// others nothing is said. What is kept stays as it is, after an `Err` too. 65,536 bytes of texts or more
+    /// others nothing is said. What is kept stays as it is, after an `Err` too. More than 65,202 bytes of texts
     /// are want of memory; those of a head and its entry are fewer, since a head has at most 8,192.
     pub fn reserve(&mut self, q: &Request<'_>, more: usize) -> Result<(), NoMemory>
         ensures keep { self.new.keep ≡ self.old.keep }
@@ -76,7 +77,7 @@ impl Kept {
     {
         make_place(&mut self.replies)?;
         self.index.reserve()?;
-        let size = short_sum(text_size_of(q)?, more)?;
+        let size = short_sum(short_sum(text_size_of(q)?, more)?, MOST_BESIDE)?;
         if self.spare.capacity() != size {
             let alloc = *self.spare.allocator();
             self.spare = Vec::with_capacity(alloc, size)?;

@@ -3,7 +3,9 @@
 //! No call of this crate but `Kept::reserve` takes memory.
 #![tactic(auto)]
 
+mod change;
 mod deed;
+mod digits;
 mod index;
 mod kept;
 mod number;

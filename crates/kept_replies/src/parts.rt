@@ -1,229 +1,192 @@
-//! What is kept of a reply, with its texts in a buffer: an entry takes few bytes of its own where it
-//! has no piece of another house, and each text only as many as it has.
+//! What is kept of a reply, by as many bytes as it needs: its parts lie one behind the other, and beside them
+//! stands where each ends.
 
-ghost use Rattle.std.specs.Prelude.{◌≡◌, ◌+◌, ◌≤◌, ◌<◌, ◌^◌, length, vec_len, vec_capacity, Some};
-ghost use Rattle.mc_records.specs.Requests.{asked_of};
+ghost use Rattle.std.specs.Prelude.{◌≡◌, ◌+◌, ◌≤◌, ◌<◌, ◌^◌, length, vec_len, vec_capacity};
+ghost use Rattle.mc_records.specs.Requests.{seen, asked_of};
 ghost use Rattle.kept_replies.specs.Requests.{text_size};
-ghost use Rattle.kept_replies.specs.Kept.{piece_size, change_size, deed_size, entry_size};
-ghost use Rattle.kept_replies.specs.Parts.{StaysIn, change_in, ChangeIsWithin, deed_in, DeedIsWithin, asked_in, AskedIsWithin, entry_in, EntryIsWithin};
+ghost use Rattle.kept_replies.specs.Kept.{deed_size, entry_size};
+ghost use Rattle.kept_replies.specs.Parts.{StaysIn, number_at, deed_end, deed_in, DeedIsWithin, asked_in, AskedIsWithin, entry_end, entry_in, EntryIsWithin};
 
-use crate::sold::{SoldParts, put_sold, sold_of};
-use crate::span::{Span, put, put_if, text_at};
+use crate::change::ChangeParts;
+use crate::digits::{number_of, put_number};
+use crate::sold::{put_sold, sold_of};
+use crate::span::{put, put_if, text_at};
 use crate::{Deed, KeptEntry};
-use mc_base::{Amount, Moment};
+use mc_base::Moment;
 use mc_records::Request;
-use scrip_form::{Id, Name, Piece, Props};
 
-/// Change that may be there, whose name and properties stand at the front of a buffer: the name up to
-/// `name_end`, and the properties behind it up to `props_end`. The small parts come first, where the
-/// variant's number stands too.
-#[derive(Clone, Copy, Drop)]
-pub(crate) enum ChangeParts {
-    None,
-    Piece {
-        version: u8,
-        name_end: u8,
-        props_end: u8,
-        value: Amount,
-        id: Id,
-        cust: Id,
-        expires: u64,
-    },
-}
+/// The most bytes that an entry takes beside its texts: its moment, its price, its secret, its change as a text,
+/// and the number of its deed.
+pub(crate) const MOST_BESIDE: usize = 333;
 
-/// A deed, whose piece stands in a buffer as text.
+/// Where a deed ends: a number, or the text of a piece with its certificate and the secret behind it.
 #[derive(Clone, Copy, Drop)]
 pub(crate) enum DeedParts {
-    Goods { goods: u64 },
-    Sale { sold: SoldParts, stock: bool },
-    Credit { balance: u64 },
-    Draw { drawn: SoldParts },
+    Goods { end: u16 },
+    Sale { stock: bool, end: u16 },
+    Credit { end: u16 },
+    Draw { end: u16 },
 }
 
-/// The texts of a request.
-#[derive(Clone, Copy, Drop)]
-pub(crate) struct AskedParts {
-    target: Span,
-    scrip: Option<Span>,
-    sign: Option<Span>,
-}
-
-/// What is kept of an entry, whose pieces are such ones.
+/// Where the moment, the price, the change and the deed end. The secret stands behind the price.
 #[derive(Clone, Copy, Drop)]
 pub(crate) struct EntryParts {
-    pub(crate) number: u64,
-    pub(crate) moment: Moment,
-    price: u64,
-    change: ChangeParts,
-    secret: [u8; 16],
-    deed: DeedParts,
+    pub(crate) moment: u8,
+    pub(crate) price: u8,
+    pub(crate) change: ChangeParts,
+    pub(crate) deed: DeedParts,
 }
 
-/// Puts the texts of a piece into an empty buffer.
-fn put_piece(buffer: &mut Vec<u8>, piece: &Piece) -> ChangeParts
-    requires empty { vec_len buffer.old ≡ 0 }
-    requires room { vec_len buffer.old + piece_size piece.now ≤ vec_capacity buffer.old }
-    requires short { vec_len buffer.old + piece_size piece.now < 2 ^ 16 }
-    ensures len { vec_len buffer.new ≡ vec_len buffer.old + piece_size piece.now }
-    ensures capacity { vec_capacity buffer.old ≤ vec_capacity buffer.new }
-    ensures stays { StaysIn buffer.old.items buffer.new.items }
-    ensures change { change_in buffer.new.items result ≡ Some piece.now }
-    ensures within { ChangeIsWithin buffer.new.items result }
-{
-    let name = piece.vendor();
-    let text = piece.props();
-    let vendor = put(buffer, name.bytes());
-    let props = put(buffer, text.bytes());
-    ChangeParts::Piece {
-        version: piece.version(),
-        name_end: vendor.end as u8,
-        props_end: props.end as u8,
-        value: piece.value(),
-        id: piece.id(),
-        cust: piece.cust(),
-        expires: piece.expires(),
-    }
+/// Where the texts of a request end, and which of them are there.
+#[derive(Clone, Copy, Drop)]
+pub(crate) struct AskedParts {
+    pub(crate) target: u16,
+    pub(crate) scrip: u16,
+    pub(crate) sign: u16,
+    pub(crate) has_scrip: bool,
+    pub(crate) has_sign: bool,
 }
 
-/// Puts the texts of change that may be there into an empty buffer.
-fn put_change(buffer: &mut Vec<u8>, change: &Option<Piece>) -> ChangeParts
-    requires empty { vec_len buffer.old ≡ 0 }
-    requires room { vec_len buffer.old + change_size change.now ≤ vec_capacity buffer.old }
-    requires short { vec_len buffer.old + change_size change.now < 2 ^ 16 }
-    ensures len { vec_len buffer.new ≡ vec_len buffer.old + change_size change.now }
-    ensures capacity { vec_capacity buffer.old ≤ vec_capacity buffer.new }
-    ensures stays { StaysIn buffer.old.items buffer.new.items }
-    ensures change { change_in buffer.new.items result ≡ change.now }
-    ensures within { ChangeIsWithin buffer.new.items result }
-{
-    match change {
-        Some(piece) => put_piece(buffer, piece),
-        None => ChangeParts::None,
-    }
-}
-
-/// The change of these parts.
-fn change_of(bytes: &[u8], parts: &ChangeParts) -> Option<Piece>
-    requires { ChangeIsWithin bytes.now parts.now }
-    ensures { result ≡ change_in bytes.now parts.now }
-{
-    match parts {
-        ChangeParts::None => None,
-        ChangeParts::Piece {
-            version,
-            name_end,
-            props_end,
-            value,
-            id,
-            cust,
-            expires,
-        } => {
-            let (front, end) = (*name_end as usize, *props_end as usize);
-            let vendor = Name::new(&bytes[0..front]).unwrap();
-            let props = Props::new(&bytes[front..end]).unwrap();
-            let piece = Piece::new(vendor, *value, *id, *cust, *expires, props).unwrap();
-            Some(piece.versioned(*version).unwrap())
-        }
-    }
-}
-
-/// Puts the texts of a deed.
-fn put_deed(buffer: &mut Vec<u8>, deed: &Deed) -> DeedParts
-    requires room { vec_len buffer.old + deed_size deed.now ≤ vec_capacity buffer.old }
-    requires short { vec_len buffer.old + deed_size deed.now < 2 ^ 16 }
-    ensures len { vec_len buffer.new ≡ vec_len buffer.old + deed_size deed.now }
-    ensures capacity { vec_capacity buffer.old ≤ vec_capacity buffer.new }
-    ensures stays { StaysIn buffer.old.items buffer.new.items }
-    ensures deed { deed_in buffer.new.items result ≡ deed.now }
-    ensures within { DeedIsWithin buffer.new.items result }
-{
-    match deed {
-        Deed::Goods { goods } => DeedParts::Goods { goods: *goods },
-        Deed::Sale {
-            piece,
-            cert,
-            secret,
-            stock,
-        } => DeedParts::Sale {
-            sold: put_sold(buffer, piece, cert, secret),
-            stock: *stock,
-        },
-        Deed::Credit { balance } => DeedParts::Credit { balance: *balance },
-        Deed::Draw {
-            piece,
-            cert,
-            secret,
-        } => DeedParts::Draw {
-            drawn: put_sold(buffer, piece, cert, secret),
-        },
-    }
-}
-
-/// The deed of these parts.
-fn deed_of(bytes: &[u8], parts: &DeedParts) -> Deed
-    requires { DeedIsWithin bytes.now parts.now }
-    ensures { result ≡ deed_in bytes.now parts.now }
-{
-    match parts {
-        DeedParts::Goods { goods } => Deed::Goods { goods: *goods },
-        DeedParts::Sale { sold, stock } => {
-            let (piece, cert, secret) = sold_of(bytes, sold);
-            let stock = *stock;
+impl DeedParts {
+    /// Puts a deed behind what the buffer holds.
+    fn put(buffer: &mut Vec<u8>, deed: &Deed) -> DeedParts
+        requires room { vec_len buffer.old + 8 + deed_size deed.now ≤ vec_capacity buffer.old }
+        requires short { vec_len buffer.old + 8 + deed_size deed.now < 2 ^ 16 }
+        ensures end { deed_end result ≡ vec_len buffer.new }
+        ensures most { vec_len buffer.new ≤ vec_len buffer.old + 8 + deed_size deed.now }
+        ensures capacity { vec_capacity buffer.old ≤ vec_capacity buffer.new }
+        ensures stays { StaysIn buffer.old.items buffer.new.items }
+        ensures deed { deed_in buffer.new.items (vec_len buffer.old) result ≡ deed.now }
+        ensures within { DeedIsWithin buffer.new.items (vec_len buffer.old) result }
+    {
+        match deed {
+            Deed::Goods { goods } => DeedParts::Goods {
+                end: put_number(buffer, *goods),
+            },
             Deed::Sale {
                 piece,
                 cert,
                 secret,
                 stock,
-            }
-        }
-        DeedParts::Credit { balance } => Deed::Credit { balance: *balance },
-        DeedParts::Draw { drawn } => {
-            let (piece, cert, secret) = sold_of(bytes, drawn);
+            } => DeedParts::Sale {
+                stock: *stock,
+                end: put_sold(buffer, piece, cert, secret),
+            },
+            Deed::Credit { balance } => DeedParts::Credit {
+                end: put_number(buffer, *balance),
+            },
             Deed::Draw {
                 piece,
                 cert,
                 secret,
+            } => DeedParts::Draw {
+                end: put_sold(buffer, piece, cert, secret),
+            },
+        }
+    }
+
+    /// Where it ends.
+    fn end(self) -> u16
+        ensures { result ≡ deed_end self }
+    {
+        match self {
+            DeedParts::Goods { end }
+            | DeedParts::Sale { end, .. }
+            | DeedParts::Credit { end }
+            | DeedParts::Draw { end } => end,
+        }
+    }
+
+    /// The deed.
+    fn deed(self, bytes: &[u8], start: u16) -> Deed
+        requires { DeedIsWithin bytes.now start self }
+        ensures { result ≡ deed_in bytes.now start self }
+    {
+        match self {
+            DeedParts::Goods { end } => Deed::Goods {
+                goods: number_of(&bytes[start as usize..end as usize]),
+            },
+            DeedParts::Sale { stock, end } => {
+                let (piece, cert, secret) = sold_of(bytes, start, end);
+                Deed::Sale {
+                    piece,
+                    cert,
+                    secret,
+                    stock,
+                }
+            }
+            DeedParts::Credit { end } => Deed::Credit {
+                balance: number_of(&bytes[start as usize..end as usize]),
+            },
+            DeedParts::Draw { end } => {
+                let (piece, cert, secret) = sold_of(bytes, start, end);
+                Deed::Draw {
+                    piece,
+                    cert,
+                    secret,
+                }
             }
         }
     }
 }
 
 impl EntryParts {
-    /// Puts the texts of what is kept of an entry into an empty buffer.
-    pub(crate) fn put(buffer: &mut Vec<u8>, e: &KeptEntry) -> EntryParts
+    /// Puts what is kept of an entry, beside the scrip text of its request, into an empty buffer.
+    pub(crate) fn put(buffer: &mut Vec<u8>, e: &KeptEntry, scrip: Option<&[u8]>) -> EntryParts
         requires empty { vec_len buffer.old ≡ 0 }
-        requires room { vec_len buffer.old + entry_size e.now ≤ vec_capacity buffer.old }
-        requires short { vec_len buffer.old + entry_size e.now < 2 ^ 16 }
-        ensures len { vec_len buffer.new ≡ vec_len buffer.old + entry_size e.now }
+        requires room { MOST_BESIDE + entry_size e.now ≤ vec_capacity buffer.old }
+        requires short { MOST_BESIDE + entry_size e.now < 2 ^ 16 }
+        ensures end { entry_end result ≡ vec_len buffer.new }
+        ensures most { vec_len buffer.new ≤ MOST_BESIDE + entry_size e.now }
         ensures capacity { vec_capacity buffer.old ≤ vec_capacity buffer.new }
-        ensures stays { StaysIn buffer.old.items buffer.new.items }
-        ensures entry { entry_in buffer.new.items result ≡ e.now }
-        ensures within { EntryIsWithin buffer.new.items result }
+        ensures entry { entry_in e.now.number buffer.new.items result (seen scrip.entry) ≡ e.now }
+        ensures within { EntryIsWithin buffer.new.items result (seen scrip.entry) }
     {
-        let change = put_change(buffer, &e.change);
-        let deed = put_deed(buffer, &e.deed);
+        let moment = put_number(buffer, e.moment.seconds());
+        let price = put_number(buffer, e.price);
+        put(buffer, &e.secret);
+        let change = ChangeParts::put(buffer, &e.change, scrip);
+        let deed = DeedParts::put(buffer, &e.deed);
         EntryParts {
-            number: e.number,
-            moment: e.moment,
-            price: e.price,
+            moment: moment as u8,
+            price: price as u8,
             change,
-            secret: e.secret,
             deed,
         }
     }
 
-    /// What is kept of the entry.
-    pub(crate) fn entry(&self, bytes: &[u8]) -> KeptEntry
-        requires { EntryIsWithin bytes.now self.now }
-        ensures { result ≡ entry_in bytes.now self.now }
+    /// Where it ends.
+    pub(crate) fn end(self) -> u16
+        ensures { result ≡ entry_end self }
     {
+        self.deed.end()
+    }
+
+    /// The moment.
+    pub(crate) fn moment(self, bytes: &[u8]) -> Moment
+        requires order { self.moment ≤ length bytes.now }
+        requires last { number_at bytes.now 0 self.moment < 2 ^ 35 }
+        ensures { result ≡ number_at bytes.now 0 self.moment }
+    {
+        Moment::clamped(number_of(&bytes[..self.moment as usize]))
+    }
+
+    /// What is kept of the entry of this number, beside the scrip text of its request.
+    pub(crate) fn entry(self, number: u64, bytes: &[u8], scrip: Option<&[u8]>) -> KeptEntry
+        requires { EntryIsWithin bytes.now self (seen scrip) }
+        ensures { result ≡ entry_in number bytes.now self (seen scrip.entry) }
+    {
+        let price = self.price as usize;
+        let start = u16::from(self.price) + 16;
+        let mut secret = [0; 16];
+        secret.copy_from_slice(&bytes[price..price + 16]);
         KeptEntry {
-            number: self.number,
-            moment: self.moment,
-            price: self.price,
-            change: change_of(bytes, &self.change),
-            secret: self.secret,
-            deed: deed_of(bytes, &self.deed),
+            number,
+            moment: self.moment(bytes),
+            price: number_of(&bytes[self.moment as usize..price]),
+            change: self.change.piece(bytes, start, scrip),
+            secret,
+            deed: self.deed.deed(bytes, self.change.end(start)),
         }
     }
 }
@@ -234,8 +197,8 @@ impl AskedParts {
         requires room { vec_len buffer.old + text_size (asked_of q.now) ≤ vec_capacity buffer.old }
         requires short { vec_len buffer.old + text_size (asked_of q.now) < 2 ^ 16 }
         ensures stays { StaysIn buffer.old.items buffer.new.items }
-        ensures asked { asked_in buffer.new.items result ≡ asked_of q.now }
-        ensures within { AskedIsWithin (length buffer.new.items) result }
+        ensures asked { asked_in buffer.new.items (vec_len buffer.old) result ≡ asked_of q.now }
+        ensures within { AskedIsWithin (length buffer.new.items) (vec_len buffer.old) result }
     {
         let target = put(buffer, q.target);
         let scrip = put_if(buffer, q.scrip);
@@ -244,18 +207,20 @@ impl AskedParts {
             target,
             scrip,
             sign,
+            has_scrip: q.scrip.is_some(),
+            has_sign: q.sign.is_some(),
         }
     }
 
     /// The request.
-    pub(crate) fn request<'a>(&self, bytes: &'a [u8]) -> Request<'a>
-        requires { AskedIsWithin (length bytes.now) self.now }
-        ensures { asked_of result ≡ asked_in bytes.now self.now }
+    pub(crate) fn request<'a>(&self, bytes: &'a [u8], start: u16) -> Request<'a>
+        requires { AskedIsWithin (length bytes.now) start self.now }
+        ensures { asked_of result ≡ asked_in bytes.now start self.now }
     {
         Request {
-            target: self.target.of(bytes),
-            scrip: text_at(bytes, self.scrip),
-            sign: text_at(bytes, self.sign),
+            target: &bytes[start as usize..self.target as usize],
+            scrip: text_at(self.has_scrip, bytes, self.target, self.scrip),
+            sign: text_at(self.has_sign, bytes, self.scrip, self.sign),
         }
     }
 }

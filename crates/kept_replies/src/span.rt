@@ -1,70 +1,46 @@
-ghost use Rattle.std.specs.Prelude.{◌≡◌, ◌+◌, ◌≤◌, ◌<◌, ◌^◌, length, vec_len, vec_capacity, IfSome};
+ghost use Rattle.std.specs.Prelude.{◌≡◌, ◌+◌, ◌≤◌, ◌<◌, ◌^◌, length, vec_len, vec_capacity, slice_range};
 ghost use Rattle.mc_records.specs.Requests.{seen};
 ghost use Rattle.kept_replies.specs.Requests.{size_of_text};
-ghost use Rattle.kept_replies.specs.Parts.{part, part_if, IsWithin, StaysIn};
+ghost use Rattle.kept_replies.specs.Parts.{StaysIn, text_if, is_there};
 
-/// Where a text stands in a buffer of fewer than 2^16 bytes.
-#[derive(Clone, Copy, Drop)]
-pub(crate) struct Span {
-    pub(crate) start: u16,
-    pub(crate) end: u16,
-}
-
-impl Span {
-    /// Its text in the buffer.
-    pub(crate) fn of(self, bytes: &[u8]) -> &[u8]
-        requires { IsWithin (length bytes.now) self }
-        ensures { result.now ≡ part bytes.now self }
-    {
-        &bytes[self.start as usize..self.end as usize]
-    }
-}
-
-/// Puts the text behind what the buffer holds, and answers where it stands. What stood there before
-/// stands there still.
-pub(crate) fn put(buffer: &mut Vec<u8>, text: &[u8]) -> Span
+/// Puts the text behind what the buffer holds, and answers where it ends. What stood there before stands there
+/// still.
+pub(crate) fn put(buffer: &mut Vec<u8>, text: &[u8]) -> u16
     requires room { vec_len buffer.old + length text.now ≤ vec_capacity buffer.old }
     requires short { vec_len buffer.old + length text.now < 2 ^ 16 }
-    ensures len { vec_len buffer.new ≡ vec_len buffer.old + length text.now }
+    ensures end { result ≡ vec_len buffer.new }
+    ensures len { result ≡ vec_len buffer.old + length text.now }
     ensures capacity { vec_capacity buffer.old ≤ vec_capacity buffer.new }
     ensures stays { StaysIn buffer.old.items buffer.new.items }
-    ensures part { part buffer.new.items result ≡ text.now }
-    ensures within { IsWithin (length buffer.new.items) result }
-    ensures place { (result.start ≡ vec_len buffer.old) × (result.end ≡ vec_len buffer.new) }
+    ensures part { slice_range buffer.new.items (vec_len buffer.old) result ≡ text.now }
 {
-    let start = buffer.len() as u16;
     match buffer.extend_from_slice(text) {
-        Ok(()) => Span {
-            start,
-            end: buffer.len() as u16,
-        },
+        Ok(()) => buffer.len() as u16,
         Err(_) => unreachable!(),
     }
 }
 
 /// Puts a text that may be there, likewise.
-pub(crate) fn put_if(buffer: &mut Vec<u8>, text: Option<&[u8]>) -> Option<Span>
+pub(crate) fn put_if(buffer: &mut Vec<u8>, text: Option<&[u8]>) -> u16
     requires room { vec_len buffer.old + size_of_text (seen text) ≤ vec_capacity buffer.old }
     requires short { vec_len buffer.old + size_of_text (seen text) < 2 ^ 16 }
-    ensures len { vec_len buffer.new ≡ vec_len buffer.old + size_of_text (seen text.entry) }
+    ensures end { result ≡ vec_len buffer.new }
+    ensures len { result ≡ vec_len buffer.old + size_of_text (seen text.entry) }
     ensures capacity { vec_capacity buffer.old ≤ vec_capacity buffer.new }
     ensures stays { StaysIn buffer.old.items buffer.new.items }
-    ensures part { part_if buffer.new.items result ≡ seen text.entry }
-    ensures within { IfSome result (IsWithin (length buffer.new.items)) }
+    ensures part { text_if (is_there (seen text.entry)) buffer.new.items (vec_len buffer.old) result ≡ seen text.entry }
 {
     match text {
-        Some(text) => Some(put(buffer, text)),
-        None => None,
+        Some(text) => put(buffer, text),
+        None => buffer.len() as u16,
     }
 }
 
-/// The text of a span that may be there.
-pub(crate) fn text_at(bytes: &[u8], span: Option<Span>) -> Option<&[u8]>
-    requires { IfSome span (IsWithin (length bytes.now)) }
-    ensures { seen result ≡ part_if bytes.now span }
+/// The text between two places, where there is one.
+pub(crate) fn text_at(there: bool, bytes: &[u8], start: u16, end: u16) -> Option<&[u8]>
+    requires order { start ≤ end }
+    requires within { end ≤ length bytes.now }
+    ensures { seen result ≡ text_if there bytes.now start end }
 {
-    match span {
-        Some(span) => Some(span.of(bytes)),
-        None => None,
-    }
+    there.then_some(&bytes[start as usize..end as usize])
 }

@@ -24,8 +24,8 @@ rise c = rw (now_kept c) (AreRising-inserted (new c) c.self.inside.replies.items
 pub of-requires-clause-room : goal.of-requires-clause-room
 of-requires-clause-room c =
     let inside = c.self.inside in
-    rw c.replace-buffer.ensures.value
-    (within_room inside.replies.len inside.replies.cap inside.spare.cap (text_size (asked_of c.args.q.now) + entry_size c.args.e) inside.index.has_place (rw (← c.self.view_is) at c.requires.room))
+    let within = within_room inside.replies.len inside.replies.cap inside.spare.cap (text_size (asked_of c.args.q.now) + entry_size c.args.e) inside.index.has_place (rw (← c.self.view_is) at c.requires.room) in
+    rw c.replace-buffer.ensures.value (omega (arith, within))
 
 pub invariant_of-self : goal.invariant_of-self
 invariant_of-self c =
