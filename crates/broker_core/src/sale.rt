@@ -22,8 +22,8 @@ use broker_stalls::{Purchase, Stall, StockPiece};
 use kept_replies::Deed;
 use mc_base::Moment;
 use mc_records::{Limits, Refusal};
-use scrip_certs::{certificate, customer_secret};
-use scrip_form::{Id, Piece, Props, Terms, write_scrip};
+use scrip_certs::{certificate_of, customer_secret};
+use scrip_form::{Id, Piece, Terms};
 
 /// What is sold of a vendor, whose stall this is: the next piece under his licence, or else the first one of his
 /// stock that is for sale.
@@ -98,17 +98,8 @@ fn licensed_piece(terms: &Terms, version: u8, asked: &Purchase, id: Id) -> Piece
     ensures { result ≡ licensed_piece version terms.now asked.now.vendor asked.now.value id }
 {
     let (_, epoch, _) = id.parts();
-    let no_props = Props::new(b"").unwrap();
-    let piece = Piece::new(
-        asked.vendor,
-        asked.value,
-        id,
-        id,
-        terms.series_end(epoch),
-        no_props,
-    )
-    .unwrap();
-    piece.versioned(version).unwrap()
+    let expires = terms.series_end(epoch);
+    Piece::first_hand(version, asked.vendor, asked.value, id, expires).unwrap()
 }
 
 /// The sale of a piece that is made under a licence, with its certificate and the secret of its customer, whose identity
@@ -116,11 +107,9 @@ fn licensed_piece(terms: &Terms, version: u8, asked: &Purchase, id: Id) -> Piece
 fn licensed_sale(terms: &Terms, piece: Piece) -> Deed
     ensures { result ≡ licensed_deed terms.now piece }
 {
-    let mut text = [0; 512];
-    let len = write_scrip(&piece, &[0; 16], &mut text);
     Deed::Sale {
         piece,
-        cert: certificate(terms, &text[..len - 32], piece.id()),
+        cert: certificate_of(terms, &piece),
         secret: customer_secret(terms, piece.cust(), piece.version()),
         stock: false,
     }
@@ -151,7 +140,5 @@ fn piece_in_stock(piece: &StockPiece, asked: &Purchase) -> Option<Piece>
         → result ≡ Some (piece_in_stock asked.now.vendor asked.now.value piece.now) }
 {
     let id = Id::of_number(piece.id);
-    let no_props = Props::new(b"").unwrap();
-    let sold = Piece::new(asked.vendor, asked.value, id, id, piece.expires, no_props)?;
-    sold.versioned(piece.version)
+    Piece::first_hand(piece.version, asked.vendor, asked.value, id, piece.expires)
 }

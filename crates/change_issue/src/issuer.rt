@@ -225,9 +225,6 @@ fn issued_piece(
     let expires = terms.series_end(terms.epoch_of(now));
     match cust {
         Some(cust) => Piece::new(vendor, value, id, cust, expires, props).unwrap(),
-        None => {
-            let no_props = Props::new(b"").unwrap();
-            Piece::new(vendor, value, id, id, expires, no_props).unwrap()
-        }
+        None => Piece::first_hand(1, vendor, value, id, expires).unwrap(),
     }
 }

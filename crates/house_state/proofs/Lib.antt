@@ -7,4 +7,3 @@ pub mod EndLaws
 pub mod WindowCounts
 pub mod Entering
 pub mod Drawn
-pub mod SpellLaws

@@ -30,12 +30,11 @@ use change_issue::Issuer;
 use kept_replies::{Kept, KeptEntry, KeptNumber};
 use ledger_model::Upgraded;
 use mc_base::{Moment, NoMemory, Total};
-use mc_fields::put;
 use mc_records::{
     EMPTY_JOURNAL, FRAME, Limits, PieceList, Record, Refusal, Request, SiteTerms, tail_len,
 };
-use scrip_certs::{certificate, customer_secret, hex_of};
-use scrip_form::{Id, Name, Piece, Terms, write_scrip};
+use scrip_certs::{certificate_of, customer_secret, write_certified};
+use scrip_form::{Id, Name, Piece, Terms};
 use spent_windows::{Look, Steps, Windows};
 use std::alloc::Global;
 use std::marker::Model;
@@ -231,9 +230,7 @@ impl HouseState {
     pub fn own_certificate(&self, piece: &Piece) -> [u8; 16]
         ensures { result ≡ digests.certificate self.now.own.terms (scrip_body piece.now) piece.now.id }
     {
-        let mut out = [0; 512];
-        let len = write_scrip(piece, &[0; 16], &mut out);
-        certificate(self.own_terms(), &out[..len - 32], piece.id())
+        certificate_of(self.own_terms(), piece)
     }
 
     /// Writes the scrip text of a piece of the house's own to the front, and answers its length, at most 293.
@@ -241,10 +238,7 @@ impl HouseState {
         ensures short { result ≤ 293 }
         ensures text { take result out.new ≡ own_scrip self.now piece.now }
     {
-        let len = write_scrip(piece, &[0; 16], out);
-        let body = len - 32;
-        let cert = certificate(self.own_terms(), &out[..body], piece.id());
-        put(out, body, &hex_of(&cert))
+        write_certified(self.own_terms(), piece, out)
     }
 
     /// The secret of a customer, by the terms of the issuer of his identity, in the version of its series.

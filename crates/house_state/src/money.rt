@@ -3,8 +3,6 @@
 ghost use Rattle.std.specs.Prelude.{◌≡◌, ◌+◌, ◌-◌, ◌≤◌, ◌<◌, ◌^◌, ℕ, List, [], Some, None, option_map, min, MatchOption, IsTrue};
 ghost use Rattle.scrip_form.specs.Identities.{series_of};
 ghost use Rattle.scrip_form.specs.Issuing.{series_at};
-ghost use Rattle.scrip_form.specs.Scrip.{scrip_body};
-ghost use Rattle.scrip_certs.specs.Digests as digests;
 ghost use Rattle.change_issue.specs.Registers.{has_room, count_in, issued_in, redeemed_in, next_in};
 ghost use Rattle.change_issue.specs.IssuedPieces.{issued_piece};
 ghost use Rattle.house_state.specs.HouseState.{at_series, change_count, change_worth, deed_drawn, in_version};
@@ -14,18 +12,8 @@ use change_issue::Issuer;
 use kept_replies::Deed;
 use ledger_model::Upgraded;
 use mc_base::{Amount, Coin, Moment, Total};
-use scrip_certs::{certificate, customer_secret};
-use scrip_form::{Id, Name, Piece, Props, Terms, write_scrip};
-
-/// A piece of the house's own with its certificate under these terms.
-fn certified(terms: &Terms, piece: Piece) -> (Piece, [u8; 16])
-    ensures { result ≡ (piece, digests.certificate terms.now (scrip_body piece) piece.id) }
-{
-    let mut out = [0; 512];
-    let len = write_scrip(&piece, &[0; 16], &mut out);
-    let cert = certificate(terms, &out[..len - 32], piece.id());
-    (piece, cert)
-}
+use scrip_certs::{certificate_of, customer_secret};
+use scrip_form::{Id, Name, Piece, Props};
 
 /// The coin of a piece in two: what is paid at this price, and the rest.
 fn parted(coin: Coin, price: u64) -> (Coin, Coin)
@@ -110,11 +98,11 @@ pub(crate) fn drawn(
 {
     let no_props = Props::new(b"").unwrap();
     let piece = own.issue(time, vendor, Coin::minted(amount), None, no_props);
-    let (piece, cert) = certified(own.terms(), versions::in_version(upgrades, piece));
-    let secret = customer_secret(own.terms(), piece.cust(), piece.version());
+    let piece = versions::in_version(upgrades, piece);
+    let terms = own.terms();
     Deed::Draw {
         piece,
-        cert,
-        secret,
+        cert: certificate_of(terms, &piece),
+        secret: customer_secret(terms, piece.cust(), piece.version()),
     }
 }

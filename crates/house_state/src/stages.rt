@@ -19,7 +19,7 @@ use crate::offer::DrawAsk;
 use crate::verdict::Spendable;
 use change_issue::Issuer;
 use mc_base::Moment;
-use mc_records::{Refusal, Request};
+use mc_records::{Refusal, Request, grown_size};
 use scrip_certs::{certificate, hex_of, sign_request};
 use scrip_form::{Id, ScripRef, Terms};
 use spent_windows::Look;
@@ -185,9 +185,8 @@ pub fn fitted(state: &HouseState, limit: u64, payload: u64) -> Result<(), Refusa
     ensures full { OnErr result (limit < size_with state.now payload) }
     ensures site { IfErr result IsOfSite }
 {
-    let least = state.size_with(0);
-    if limit < least || limit - least < payload {
-        return Err(Refusal::JournalFull(state.size(), payload));
+    match grown_size(state.size(), payload, state.is_switched(), limit) {
+        Ok(_size) => Ok(()),
+        Err(full) => Err(full),
     }
-    Ok(())
 }

@@ -45,5 +45,5 @@ pub use record::{Record, RecordDeed, RecordFault, SiteTerms};
 pub use refusal::Refusal;
 pub use refusal_text::{MOST_REFUSAL_BYTES, put_refusal_text};
 pub use request::Request;
-pub use sizes::{EMPTY_JOURNAL, FRAME, PAYLOAD_BOUND, tail_len};
+pub use sizes::{EMPTY_JOURNAL, FRAME, PAYLOAD_BOUND, grown_size, tail_len};
 pub use writing::put_record;

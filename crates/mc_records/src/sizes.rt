@@ -1,14 +1,15 @@
 //! The length of an entry's payload, by the table of its fields.
 
-ghost use Rattle.std.specs.Prelude.{◌≡◌, ◌<◌, ◌≤◌, ◌^◌, length, flat_map};
+ghost use Rattle.std.specs.Prelude.{◌≡◌, ◌+◌, ◌<◌, ◌≤◌, ◌^◌, length, flat_map, IfOk, IfErr};
 ghost use Rattle.mc_fields.specs.Field.{spelled};
 ghost use Rattle.mc_records.specs.Entry.{Fits, payload, secrets_fields};
-ghost use Rattle.mc_records.specs.Sizes.{tail_bytes};
+ghost use Rattle.mc_records.specs.Sizes.{tail_bytes, framed_size};
 ghost use Rattle.mc_records.specs.Views.{entry};
 ghost use Rattle.mc_records.specs.Cells.{cell_bytes, group_bytes};
 
 use crate::cells::{Cell, Group, table};
 use crate::record::Record;
+use crate::refusal::Refusal;
 
 /// The bytes of a journal of no entries: the header and the first gate.
 pub const EMPTY_JOURNAL: u64 = 9;
@@ -26,6 +27,22 @@ pub fn tail_len(switched: bool) -> u64
     ensures short { result ≤ 32 }
 {
     if switched { 32 } else { 0 }
+}
+
+/// How many bytes a journal of so many has with one entry more, whose payload has so many, where a Switch stands and
+/// where none does; refused with 33 JournalFull where that would pass a limit.
+pub fn grown_size(size: u64, payload: u64, switched: bool, limit: u64) -> Result<u64, Refusal>
+    ensures fits { IfOk result (λ n. (n ≡ size + framed_size payload (tail_bytes switched)) × (n ≤ limit)) }
+    ensures full { IfErr result (λ f. (f ≡ Refusal.JournalFull size payload)
+        × (limit < size + framed_size payload (tail_bytes switched))) }
+{
+    let entry = u128::from(payload) + u128::from(tail_len(switched)) + u128::from(FRAME);
+    let grown = u128::from(size) + entry;
+    if grown <= u128::from(limit) {
+        Ok(grown as u64)
+    } else {
+        Err(Refusal::JournalFull(size, payload))
+    }
 }
 
 impl Record<'_> {

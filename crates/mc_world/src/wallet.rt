@@ -1,7 +1,7 @@
 //! What a wallet of a world does. Between events it is its history; for each event it is opened by that, entry by
 //! entry.
 
-ghost use Rattle.std.specs.Prelude.{◌≡◌, ◌≤◌, ◌+◌, ◌↔◌, nat_le, true, false, Ok, IsTrue, IfOk, option_map};
+ghost use Rattle.std.specs.Prelude.{◌≡◌, ◌≤◌, ◌↔◌, true, false, Ok, IsTrue, IfOk, option_map};
 ghost use Rattle.mc_base.specs.declared.amount.TheConstants.Amount.{MOST};
 ghost use Rattle.mc_records.specs.Entry.{Fits, IsKey};
 ghost use Rattle.mc_records.specs.Views.{entry};
@@ -17,7 +17,7 @@ ghost use Rattle.mc_world.specs.Wallets.{IsOpened, AsksFor, SendsAgainFor, Settl
 
 use ledger_model::History;
 use mc_base::{Amount, Moment, NoMemory};
-use mc_records::{FRAME, Limits, PieceList, Record, tail_len};
+use mc_records::{Limits, PieceList, Record, grown_size};
 use reply_reader::{ReplyRead, read_reply};
 use scrip_form::Name;
 use std::alloc::Global;
@@ -201,17 +201,11 @@ fn has_room(book: &WalletBook, r: &Record<'_>) -> bool
     ensures full { (h : Entries) → WalletRepresents book.now h → result ≡ false
         → fitted h book.now.limits (entry r.now) ≡ Ok (entry r.now) → ⊥ }
 {
-    let (size, payload) = (book.size(), r.payload_len());
-    let tail = tail_len(book.is_switched());
-    is_within(size, payload, tail, book.limits().journal)
-}
-
-/// Whether a journal of so many bytes stays within a limit with a payload and a tail of so many more.
-fn is_within(size: u64, payload: u64, tail: u64, limit: u64) -> bool
-    ensures { result ≡ nat_le (size + payload + tail + FRAME) limit }
-{
-    u128::from(size) + u128::from(payload) + u128::from(tail) + u128::from(FRAME)
-        <= u128::from(limit)
+    let (payload, limit) = (r.payload_len(), book.limits().journal);
+    match grown_size(book.size(), payload, book.is_switched(), limit) {
+        Ok(_size) => true,
+        Err(_full) => false,
+    }
 }
 
 /// The bytes of a request.

@@ -5,8 +5,8 @@ ghost use Rattle.play_heads.specs.PlayHeads.{issuer_terms, play_head, paying_hea
 
 use crate::piece::{own_piece, play_terms};
 use mc_fields::put;
-use scrip_certs::{certificate, hex_of};
-use scrip_form::{Piece, write_scrip};
+use scrip_certs::write_certified;
+use scrip_form::Piece;
 
 /// Writes the head of a number to the front of `out`, and answers its length, which is at most 351.
 ///
@@ -55,8 +55,6 @@ fn put_scrip(out: &mut [u8; 512], at: usize, piece: &Piece) -> usize
         ++ scrip_text piece.now (certificate issuer_terms (scrip_body piece.now) piece.now.id) }
 {
     let mut text = [0; 512];
-    let len = write_scrip(piece, &[0; 16], &mut text);
-    let cert = certificate(&play_terms(), &text[..len - 32], piece.id());
-    let len = write_scrip(piece, &cert, &mut text);
+    let len = write_certified(&play_terms(), piece, &mut text);
     put(out, at, &text[..len])
 }

@@ -3,7 +3,7 @@ ghost use Rattle.play_heads.specs.PlayHeads as play;
 ghost use Rattle.play_heads.specs.PlayHeads.{issuer_terms, piece_of};
 
 use mc_base::Amount;
-use scrip_form::{Id, Name, Piece, Props, Secrets, Terms};
+use scrip_form::{Id, Name, Piece, Secrets, Terms};
 
 /// How long a series is issued, in seconds. So many pieces of one epoch have a number.
 const PERIOD: u32 = 2048;
@@ -46,6 +46,5 @@ fn piece(epoch: u32, serial: u32, value: u64) -> Piece
     let amount = Amount::new(value).unwrap();
     let id = Id::of_parts(1, epoch, serial).unwrap();
     let expires = (u64::from(epoch) + 1) * u64::from(PERIOD);
-    let no_props = Props::new(b"").unwrap();
-    Piece::new(name, amount, id, id, expires, no_props).unwrap()
+    Piece::first_hand(1, name, amount, id, expires).unwrap()
 }

@@ -1,9 +1,12 @@
-ghost use Rattle.std.specs.Prelude.{◌≡◌};
+ghost use Rattle.std.specs.Prelude.{◌≡◌, ◌≤◌, take};
 ghost use Rattle.scrip_form.specs.Issuing as issuing;
+ghost use Rattle.scrip_form.specs.Scrip.{scrip_body, scrip_text};
 ghost use Rattle.scrip_certs.specs.Digests as digests;
 
 use crate::hasher::Hasher;
-use scrip_form::{Id, Secrets, Terms};
+use crate::hex_text::hex_of;
+use mc_fields::put;
+use scrip_form::{Id, Piece, Secrets, Terms, write_body};
 
 /// The certificate of a piece: the digest of the body of its scrip text and of the scrip secret that
 /// its identity selects, in the version of the body.
@@ -15,6 +18,27 @@ pub fn certificate(terms: &Terms, body: &[u8], id: Id) -> [u8; 16]
     hasher.update(body);
     hasher.update(&selected(&terms.scrip(), id));
     hasher.finalize()
+}
+
+/// The certificate that a piece has under these terms.
+pub fn certificate_of(terms: &Terms, piece: &Piece) -> [u8; 16]
+    ensures { result ≡ digests.certificate terms.now (scrip_body piece.now) piece.now.id }
+{
+    let mut body = [0; 512];
+    let len = write_body(piece, &mut body);
+    certificate(terms, &body[..len], piece.id())
+}
+
+/// Writes the scrip text of a piece with the certificate that it has under these terms to the front of `out`, and
+/// answers its length, which is at most 293.
+pub fn write_certified(terms: &Terms, piece: &Piece, out: &mut [u8; 512]) -> usize
+    ensures short { result ≤ 293 }
+    ensures text { take result out.new
+        ≡ scrip_text piece.now (digests.certificate terms.now (scrip_body piece.now) piece.now.id) }
+{
+    let body = write_body(piece, out);
+    let cert = certificate(terms, &out[..body], piece.id());
+    put(out, body, &hex_of(&cert))
 }
 
 /// The secret of a customer, which he is handed beside his first piece: the digest of the eight bytes

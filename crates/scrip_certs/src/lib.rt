@@ -15,7 +15,7 @@ mod hasher;
 mod hex_text;
 mod signatures;
 
-pub use certificates::{certificate, customer_secret};
+pub use certificates::{certificate, certificate_of, customer_secret, write_certified};
 pub use hasher::Hasher;
 pub use hex_text::{hex_of, of_hex};
 pub use signatures::{add_request, sign_reply, sign_request};

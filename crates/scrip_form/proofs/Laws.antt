@@ -144,7 +144,8 @@ no_text_begins_another a b rest f g e =
 
 -- ---- the body
 
-text_in_parts : (p : Scrip) (cert : List ℕ) → scrip_text p cert ≡ scrip_body p ++ encode_lower cert
+-- a text is its body, and the digits of the certificate
+pub text_in_parts : (p : Scrip) (cert : List ℕ) → scrip_text p cert ≡ scrip_body p ++ encode_lower cert
 unfolding scrip_text scrip_body
 text_in_parts p cert = simp append_assoc
 
@@ -212,13 +213,16 @@ one_piece text p q cert other f g =
 
 -- ---- the writer
 
--- the text, as it is put together from the left
-pub record IsWritten (text : List ℕ) (p : Scrip) (cert : List ℕ) : Type 0 where
-  pub parts : text ≡ ((((((((([] ++ codes "MS") ++ barred (decimal p.version)) ++ barred p.vendor) ++ barred (decimal p.value)) ++ barred (id_digits p.id)) ++ barred (id_digits p.cust)) ++ barred (decimal p.expires)) ++ barred p.props) ++ encode_lower cert)
+-- the body, as it is put together from the left
+pub record IsWritten (body : List ℕ) (p : Scrip) : Type 0 where
+  pub parts : body ≡ (((((((([] ++ codes "MS") ++ barred (decimal p.version)) ++ barred p.vendor) ++ barred (decimal p.value)) ++ barred (id_digits p.id)) ++ barred (id_digits p.cust)) ++ barred (decimal p.expires)) ++ barred p.props)
 
-pub text_written : (text : List ℕ) (p : Scrip) (cert : List ℕ) → IsPiece p → IsCert cert → IsWritten text p cert → IsTextOf text p cert
-unfolding scrip_text
-text_written text p cert piece is_cert w = record { is_piece = piece; is_cert = is_cert; spelled = w.parts ∙ simp append_assoc }
+pub body_written : (body : List ℕ) (p : Scrip) → IsWritten body p → body ≡ scrip_body p
+unfolding scrip_body
+body_written body p w = w.parts ∙ simp (append_assoc, append-nil)
+
+pub text_written : (text : List ℕ) (p : Scrip) (cert : List ℕ) → IsPiece p → IsCert cert → text ≡ scrip_body p ++ encode_lower cert → IsTextOf text p cert
+text_written text p cert piece is_cert parts = record { is_piece = piece; is_cert = is_cert; spelled = parts ∙ sym (text_in_parts p cert) }
 
 barred_length : (field : List ℕ) → length (barred field) ≡ length field + 1
 barred_length field = length-append field (codes "|")
@@ -226,24 +230,22 @@ barred_length field = length-append field (codes "|")
 id_length : (n : ℕ) → length (id_digits n) ≡ 16
 id_length n = length-encode_with lower_digits (to_be_bytes w64 n)
 
--- no text is longer than 293 bytes
-pub text_is_short : (bytes : List ℕ) (p : Scrip) (cert : List ℕ) → IsTextOf bytes p cert → length bytes ≤ 293
-unfolding scrip_text
-text_is_short bytes p cert is =
-    let value : length (decimal p.value) ≤ 13 = length-decimal-le 13 p.value (omega arith) (omega (arith, is.is_piece.most)) (omega (arith, is.is_piece.most)) in
-    let expires : length (decimal p.expires) ≤ 15 = length-decimal-le 15 p.expires (omega arith) (omega (arith, is.is_piece.last)) (omega (arith, is.is_piece.last)) in
-    let r6 = barred p.props ++ encode_lower cert in
+-- no body is longer than 261 bytes
+pub body_is_short : (p : Scrip) → IsPiece p → length (scrip_body p) ≤ 261
+unfolding scrip_body
+body_is_short p is =
+    let version : length (decimal p.version) ≤ 1 = length-decimal-le 1 p.version (omega arith) (omega (arith, is.version.within)) (omega (arith, is.version.within)) in
+    let value : length (decimal p.value) ≤ 13 = length-decimal-le 13 p.value (omega arith) (omega (arith, is.most)) (omega (arith, is.most)) in
+    let expires : length (decimal p.expires) ≤ 15 = length-decimal-le 15 p.expires (omega arith) (omega (arith, is.last)) (omega (arith, is.last)) in
+    let r6 = barred p.props ++ [] in
     let r5 = barred (decimal p.expires) ++ r6 in
     let r4 = barred (id_digits p.cust) ++ r5 in
     let r3 = barred (id_digits p.id) ++ r4 in
     let r2 = barred (decimal p.value) ++ r3 in
     let r1 = barred p.vendor ++ r2 in
     let r0 = barred (decimal p.version) ++ r1 in
-    let version : length (decimal p.version) ≤ 1 = length-decimal-le 1 p.version (omega arith) (omega (arith, is.is_piece.version.within)) (omega (arith, is.is_piece.version.within)) in
-    let all : length bytes ≡ length (codes "MS" ++ r0) = ap length is.spelled in
-    omega (
+    let all : length (codes "MS" ++ r0) ≤ 261 = omega (
       arith,
-      all,
       length-append (codes "MS") r0,
       length-append (barred (decimal p.version)) r1,
       barred_length (decimal p.version),
@@ -253,7 +255,7 @@ text_is_short bytes p cert is =
       length-append (barred (id_digits p.id)) r4,
       length-append (barred (id_digits p.cust)) r5,
       length-append (barred (decimal p.expires)) r6,
-      length-append (barred p.props) (encode_lower cert),
+      length-append (barred p.props) [],
       barred_length p.vendor,
       barred_length (decimal p.value),
       barred_length (id_digits p.id),
@@ -262,13 +264,16 @@ text_is_short bytes p cert is =
       barred_length p.props,
       id_length p.id,
       id_length p.cust,
-      length-encode_with lower_digits cert,
-      is.is_cert.0,
-      is.is_piece.vendor.short,
-      is.is_piece.props.short,
+      is.vendor.short,
+      is.props.short,
       value,
       expires,
-    )
+    ) in
+    all
+
+-- no text is longer than 293 bytes
+pub text_is_short : (bytes : List ℕ) (p : Scrip) (cert : List ℕ) → IsTextOf bytes p cert → length bytes ≤ 293
+text_is_short bytes p cert is = omega (arith, body_length bytes p cert is, body_is_short p is.is_piece)
 
 -- ---- reading all of the bytes, as a function
 

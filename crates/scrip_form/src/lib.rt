@@ -37,4 +37,4 @@ pub use secrets::Secrets;
 pub use small_text::with_zeros;
 pub use target::{Target, TargetRule};
 pub use terms::Terms;
-pub use write::{digits_of_id, write_scrip};
+pub use write::{digits_of_id, write_body, write_scrip};

@@ -1,4 +1,4 @@
-ghost use Rattle.std.specs.Prelude.{◌≡◌, ◌↔◌, ◌<◌, ◌≤◌, ◌^◌, IsSome, IfSome};
+ghost use Rattle.std.specs.Prelude.{◌≡◌, ◌↔◌, ◌<◌, ◌≤◌, ◌^◌, [], IsSome, IfSome};
 ghost use Rattle.scrip_form.specs.Scrip.{Scrip, IsVersion, IsPiece};
 
 use crate::id::Id;
@@ -69,6 +69,21 @@ impl Piece {
             expires,
             props,
         })
+    }
+
+    /// The piece of these parts as it is first handed out, in a version: its customer's identity is its own, and it has
+    /// no properties. None exactly where the version is neither 1 nor 2, the value is 0, or `expires` is 0 or above 2^49.
+    pub fn first_hand(
+        version: u8,
+        vendor: Name,
+        value: Amount,
+        id: Id,
+        expires: u64,
+    ) -> Option<Piece>
+        ensures valid { IsSome result ↔ (IsVersion version × (0 < value) × (0 < expires) × (expires ≤ Piece.LAST_END)) }
+        ensures piece { IfSome result (λ p. p ≡ record { version = version; vendor = vendor; value = value; id = id; cust = id; expires = expires; props = [] }) }
+    {
+        Piece::new(vendor, value, id, id, expires, Props::of(b""))?.versioned(version)
     }
 
     /// The version that it is spelled in, 1 or 2.

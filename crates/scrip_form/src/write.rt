@@ -16,6 +16,17 @@ pub fn write_scrip(p: &Piece, cert: &[u8; 16], out: &mut [u8; 512]) -> usize
     ensures text { IsTextOf (take result out.new) p.now cert.now }
     ensures body { take (result - 32) out.new ≡ scrip_body p.now }
 {
+    let _vendor = p.vendor();
+    let body = write_body(p, out);
+    put(out, body, &digits_of_cert(cert))
+}
+
+/// Writes the body of the text of the piece, which is the text before its certificate, to the front of `out`, and
+/// answers its length, which is at most 261.
+pub fn write_body(p: &Piece, out: &mut [u8; 512]) -> usize
+    ensures short { result ≤ 261 }
+    ensures body { take result out.new ≡ scrip_body p.now }
+{
     let (vendor, props) = (p.vendor(), p.props());
     let (mut version, mut value, mut expires) = (Buffer::new(), Buffer::new(), Buffer::new());
     let at = put(out, 0, b"MS");
@@ -25,8 +36,7 @@ pub fn write_scrip(p: &Piece, cert: &[u8; 16], out: &mut [u8; 512]) -> usize
     let at = put_field(out, at, &digits_of_id(p.id()));
     let at = put_field(out, at, &digits_of_id(p.cust()));
     let at = put_field(out, at, expires.format(p.expires()).as_bytes());
-    let at = put_field(out, at, props.bytes());
-    put(out, at, &digits_of_cert(cert))
+    put_field(out, at, props.bytes())
 }
 
 /// Writes a field and its `|`.

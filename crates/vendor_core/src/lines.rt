@@ -17,7 +17,7 @@ use house_core::House;
 use house_state::put_piece_line;
 use mc_base::{Amount, NoMemory};
 use mc_outside::Disk;
-use scrip_form::{Id, Name, Piece, Props, Terms};
+use scrip_form::{Id, Name, Piece, Terms};
 
 /// Puts the lines of so many pieces of a value into an empty list, with identities that follow the first, as
 /// the house makes them now. After an `Err` the list is empty.
@@ -61,9 +61,7 @@ fn new_piece(name: Name, terms: Terms, version: u8, id: Id, value: Amount) -> Pi
 {
     let (_, epoch, _) = id.parts();
     let expires = terms.series_end(epoch);
-    let no_props = Props::new(b"").unwrap();
-    let piece = Piece::new(name, value, id, id, expires, no_props).unwrap();
-    piece.versioned(version).unwrap()
+    Piece::first_hand(version, name, value, id, expires).unwrap()
 }
 
 /// Puts the line of a piece of the house's own behind what a list has. After an `Err` the list is as it was.

@@ -1,6 +1,6 @@
 //! What a wallet keeps in place of its book.
 
-ghost use Rattle.std.specs.Prelude.{◌||◌, ◌≡◌, ◌==◌, ◌+◌, ◌-◌, ◌^◌, ◌<◌, ◌≤◌, ◌&&◌, ◌∷◌, [], ℕ, length, max, nat_le, true, vec_len, vec_capacity, map, find, option_map, OnOk, IfErr, IfSome, MatchOption};
+ghost use Rattle.std.specs.Prelude.{◌||◌, ◌≡◌, ◌==◌, ◌+◌, ◌-◌, ◌^◌, ◌<◌, ◌≤◌, ◌&&◌, ◌∷◌, [], ℕ, length, max, true, vec_len, vec_capacity, map, find, option_map, OnOk, IfErr, IfSome};
 ghost use Rattle.mc_records.specs.declared.refusal.Refusal.TheVariants.{Nothing};
 ghost use Rattle.mc_records.specs.Chains.{TellsChain, has_switch};
 ghost use Rattle.mc_records.specs.Entry.{Fits, moment_of, payload};
@@ -26,7 +26,7 @@ use crate::holding::Holding;
 use crate::kept::Kept;
 use crate::parts::Parts;
 use mc_base::{Amount, Moment, NoMemory};
-use mc_records::{EMPTY_JOURNAL, FRAME, Limits, Record, Refusal, tail_len};
+use mc_records::{EMPTY_JOURNAL, FRAME, Limits, Record, Refusal, grown_size};
 use scrip_form::{Name, ScripRef, Target};
 use std::alloc::Global;
 use std::marker::Model;
@@ -253,9 +253,10 @@ impl WalletBook {
         if moment.seconds() < self.last.seconds() {
             return false;
         }
-        let size = match grown(self.size, r.payload_len(), tail_len(self.switched)) {
-            Some(size) => size,
-            None => return false,
+        let payload = r.payload_len();
+        let size = match grown_size(self.size, payload, self.switched, Limits::MOST_JOURNAL) {
+            Ok(size) => size,
+            Err(_full) => return false,
         };
         if !learn_entry(&mut self.parts, self.count, self.switched, r) {
             return false;
@@ -279,22 +280,6 @@ fn name_of(site: &Record<'_>) -> Name
         Record::Site { name, .. } => Name::new(name).unwrap(),
         // Only a Site entry founds a wallet.
         _ => unreachable!(),
-    }
-}
-
-/// How many bytes a journal of so many has with a payload and a tail of so many more; None exactly where no journal
-/// has so many.
-fn grown(size: u64, payload: u64, tail: u64) -> Option<u64>
-    ensures { MatchOption result (Limits.MOST_JOURNAL < size + (payload + tail) + FRAME) (λ s. (s ≡ size + (payload + tail) + FRAME) × (s ≤ Limits.MOST_JOURNAL)) }
-{
-    let size = size
-        .checked_add(payload)?
-        .checked_add(tail)?
-        .checked_add(FRAME)?;
-    if size <= Limits::MOST_JOURNAL {
-        Some(size)
-    } else {
-        None
     }
 }
 

@@ -1,6 +1,6 @@
 //! Adding an entry to a wallet's book.
 
-ghost use Rattle.std.specs.Prelude.{◌≡◌, ◌+◌, nat_le, length, Ok, IfErr};
+ghost use Rattle.std.specs.Prelude.{◌≡◌, length, Ok, IfErr};
 ghost use Rattle.mc_records.specs.Entry.{Entry, Fits, moment_of, payload};
 ghost use Rattle.mc_records.specs.Views.{entry};
 ghost use Rattle.ledger_model.specs.Histories.{History};
@@ -16,7 +16,7 @@ use crate::outcome::WalletOut;
 use crate::wallet::Wallet;
 use mc_base::NoMemory;
 use mc_outside::Disk;
-use mc_records::{FRAME, Record, Refusal, tail_len};
+use mc_records::{Record, Refusal, grown_size};
 use scrip_journal::{Receipt, StageFault};
 use wallet_book::WalletBook;
 
@@ -104,19 +104,9 @@ pub(crate) fn room_for(book: &WalletBook, bytes: u64) -> Result<(), Refusal>
         → IsFitted (fitted h book.now.limits e) e result }
     ensures refused { IfErr result IsFull }
 {
-    let size = book.size();
-    let tail = tail_len(book.is_switched());
-    if is_within(size, bytes, tail, book.limits().journal) {
-        Ok(())
-    } else {
-        Err(Refusal::JournalFull(size, bytes))
+    let limit = book.limits().journal;
+    match grown_size(book.size(), bytes, book.is_switched(), limit) {
+        Ok(_size) => Ok(()),
+        Err(full) => Err(full),
     }
-}
-
-/// Whether a journal of so many bytes stays within a limit with a payload and a tail of so many more.
-fn is_within(size: u64, payload: u64, tail: u64, limit: u64) -> bool
-    ensures { result ≡ nat_le (size + payload + tail + FRAME) limit }
-{
-    u128::from(size) + u128::from(payload) + u128::from(tail) + u128::from(FRAME)
-        <= u128::from(limit)
 }
