@@ -9,7 +9,7 @@ use Rattle.mc_records.specs.Sizes.{size, entry_size}
 use Rattle.mc_records.specs.declared.limits.TheConstants.Limits.{MOST_JOURNAL}
 use Rattle.scrip_journal.specs.Layout.{Encodes, IsSpoiled, IsUnchained}
 use Rattle.scrip_journal.specs.States.{Reading, IsReading}
-use Rattle.scrip_journal.specs.Replays.{ReadsOn, CausedBy}
+use Rattle.scrip_journal.specs.Replays.{ReadsOn}
 use Rattle.scrip_journal.specs.declared.ending.ReplayFault.{ReplayFault}
 use Rattle.scrip_journal.specs.declared.ending.ReplayFault.TheVariants.{BadRecord, BadChain, Disk}
 use Rattle.scrip_journal.specs.Causes.{IsOfKind, IsOfOther, BeginsWithEntries, IsUnlawfulAt}
@@ -19,7 +19,7 @@ use Rattle.scrip_journal.proofs.Beginnings.{first_tells, empty_tells, kind_tells
 use Rattle.book_opening.specs.declared.opening.Halt.{Halt}
 use Rattle.book_opening.specs.declared.opening.Halt.TheVariants as halts
 use Rattle.book_opening.specs.Opener.{OpenerView}
-use Rattle.book_opening.specs.Opening.{AreOfSite, HasLearned, ReadOn, LearnedSome, LearnedAll, HaltsBy, HaltCounts, BeginsBy}
+use Rattle.book_opening.specs.Opening.{AreOfSite, HasLearned, ReadOn, LearnedSome, LearnedAll, HaltsBy, BeginsBy}
 
 abbrev some : {A : Type 0} → A → Option A
 some x = Some x
@@ -68,12 +68,6 @@ pub read_on_then : {D : Type 0} (view : D → DiskView) (moved : D → D → Typ
 read_on_then view moved a b c goes m n = record { disk_moved = goes; only_read = read_then (view a.disk) (view b.disk) (view c.disk) m.only_read n.only_read; limit = n.limit ∙ m.limit }
 
 -- ---- behind entries that were learned
-
--- the count of faults by a fault of the reading
-pub reading_counts : {A : Type 0} (fault : ReplayFault) (before after : ℕ) → CausedBy (Err fault) before after → HaltCounts {A = A} (Err (halts.Reading fault)) before after
-reading_counts (BadRecord place) before after counts = counts
-reading_counts (BadChain place stood computed) before after counts = counts
-reading_counts Disk before after counts = counts
 
 -- why no entry was read behind those that may follow one another
 faulted : {D L : Type 0} (view : D → DiskView) (opener : OpenerView L) (x bytes : List ℕ) (gate : ℕ) (new : Reading D) (h : List Entry) → AllFollowBy opener.may [] h → IsOfKind opener.kinds h → bytes ≡ x

@@ -1,4 +1,4 @@
-use Rattle.std.proofs.Common.{[], Option, Ok, ℕ, sym, subst}
+use Rattle.std.proofs.Common.{[], Option, Ok, ℕ, subst}
 use Rattle.mc_records.specs.Views.{entry}
 use Rattle.scrip_journal.specs.Replays.{ReadsOn}
 use Rattle.book_opening.proofs.OpeningLemmas.{no_entries, faults_first, read_entry, first_learned}

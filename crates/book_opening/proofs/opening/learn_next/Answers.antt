@@ -1,4 +1,4 @@
-use Rattle.std.proofs.Common.{◌∙◌, Option, Ok, ℕ, refl, sym, subst}
+use Rattle.std.proofs.Common.{◌∙◌, Option, Ok, ℕ, refl, subst}
 use Rattle.mc_records.specs.Views.{entry}
 use Rattle.scrip_journal.specs.Replays.{ReadsOn}
 use Rattle.book_opening.proofs.OpeningLemmas.{none_left, faults_here, read_entry, entry_fits, learned_more, breaks_here}
