@@ -1,5 +1,5 @@
 -- What a desk represents at one more entry, and what it answers.
-use Rattle.std.proofs.Common.{◌≡◌, ℕ, ◌<◌, false, ◌||◌, List, [], ◌∷◌, ◌++◌, Option, Some, None, Err, option_map, unwrap_or, refl, sym, ap, ◌∙◌, arith}
+use Rattle.std.proofs.Common.{◌≡◌, ℕ, ◌<◌, false, ◌||◌, List, [], ◌∷◌, ◌++◌, Option, Some, None, Err, option_map, unwrap_or, refl, sym, ap, ◌∙◌, arith, rules}
 use Rattle.std.specs.Borrow.{Bor}
 use Rattle.std.specs.Prelude.{is_some, ◌==◌, ◌↔◌}
 use Rattle.std.proofs.lemmas.Option.{same_Some}
@@ -14,7 +14,7 @@ use Rattle.mc_records.specs.declared.record.Record.{Record}
 use Rattle.mc_records.specs.declared.record.Record.TheVariants as records
 use Rattle.mc_records.specs.Errands.{Errand, buy, pay_in, draw, errand_of}
 use Rattle.mc_records.proofs.ErrandLaws.{errand_told}
-use Rattle.mc_records.specs.Entry.{Deed, Entry, Site, AddTerms, Goods, Accept, Mint, Account, Deposit, Withdraw, Draw, Licence, Stock, Got, Pend, Done, Refused, Upgrade, Switch, Note}
+use Rattle.mc_records.specs.Entry.{Deed, Entry, Site, AddTerms, Goods, Accept, Mint, Account, Deposit, Withdraw, Draw, Licence, Stock, Upgrade}
 use Rattle.ledger_model.specs.declared.numbers.TheConstants.{BROKER_KIND}
 use Rattle.ledger_model.specs.Histories.{History}
 use Rattle.ledger_model.specs.Houses.{site_kind, is_vendor, fee}
@@ -128,18 +128,13 @@ sold_by law limits number h e may = tt
 
 -- The trade's half is what accounts, stalls and moved issuers allow. Every note passes.
 pub by_trade : (h : History) (e : Entry) → IsOfBroker e → DeskAllows h e ↔ ByTrade untested BROKER_KIND h e
-by_trade h (Site m kind name house) is = (λ a. tt, λ b. ((tt, tt), tt))
 by_trade h (Account m name key) is = (λ a. (refl, a.0.0), λ b. ((b.1, tt), tt))
 by_trade h (Deposit m name amount reference) is = (λ a. (refl, a.0.0.0, a.0.0.1, a.0.0.2), λ b. (((b.1, b.2, b.3), tt), tt))
 by_trade h (Withdraw m name amount reference) is = (λ a. (refl, a.0.0.0, a.0.0.1, a.0.0.2), λ b. (((b.1, b.2, b.3), tt), tt))
-by_trade h (Accept m scrip target sign price change deed) is = (λ a. tt, λ b. ((tt, tt), tt))
-by_trade h (Draw m target sign drawn) is = (λ a. tt, λ b. ((tt, tt), tt))
 by_trade h (Licence m vendor terms) is = (λ a. (refl, a.0.1), λ b. ((tt, b.1), tt))
 by_trade h (Stock m vendor pieces) is = (λ a. (refl, a.0.1), λ b. ((tt, b.1), tt))
 by_trade h (Upgrade m vendor issuer from) is = (λ a other. (refl, a.1 other), λ b. ((tt, tt), λ other. (b other).1))
-by_trade h (Switch m chain) is = (λ a. tt, λ b. ((tt, tt), tt))
-by_trade h (Note m tag bytes) is = (λ a. tt, λ b. ((tt, tt), tt))
-by_trade h e is = absurd is
+by_trade h e is = (λ a. search rules, λ b. search rules)
 
 no_other : (kind : ℕ) → kind ≡ 0 → kind ≡ 1 → ⊥
 no_other kind a b = absurd (omega (arith, a, b))
@@ -149,11 +144,7 @@ pub not_by_trade : (passes : Test) (h : History) (e : Entry) → (IsOfBroker e �
 not_by_trade passes h (AddTerms m terms) is b = no_other BROKER_KIND b.0 refl
 not_by_trade passes h (Goods m target price k contents) is b = no_other BROKER_KIND b.0 refl
 not_by_trade passes h (Mint m reference count value first) is b = no_other BROKER_KIND b.0 refl
-not_by_trade passes h (Got m pieces) is b = b
-not_by_trade passes h (Pend m ask peer target scrip secret) is b = b
-not_by_trade passes h (Done m number price change got) is b = b
-not_by_trade passes h (Refused m number refusal) is b = b
-not_by_trade passes h e is b = is tt
+not_by_trade passes h e is b = search rules
 
 -- ---- a vendor of whom nothing is there
 

@@ -6,7 +6,7 @@ use Rattle.std.proofs.lemmas.Slice.Eq.{bytes_eq-Decides}
 use Rattle.scrip_form.specs.Identities.{series_of, numbered}
 use Rattle.scrip_form.specs.Issuing.{Issuing, epoch, series_at}
 use Rattle.scrip_form.specs.Scrip.{Scrip}
-use Rattle.mc_records.specs.Entry.{Entry, Site, AddTerms, Goods, Accept, Mint, Draw, Upgrade, Switch, Fits, moment_of, payload}
+use Rattle.mc_records.specs.Entry.{Entry, Site, Accept, Mint, Draw, Upgrade, Switch, Fits, moment_of, payload}
 use Rattle.mc_records.specs.Chains.{TellsChain}
 use Rattle.change_issue.specs.Registers.{count_in, next_in}
 use Rattle.ledger_model.specs.Histories.{History}
@@ -17,7 +17,6 @@ use Rattle.ledger_model.specs.Stock.{upgrade_terms}
 use Rattle.ledger_model.specs.Lawful.{MayUpgrade}
 use Rattle.ledger_model.specs.Pieces.{first_hand, run_from, minted_pieces, own_count, next_identity}
 use Rattle.ledger_model.specs.Quiet.{AcceptsNothing}
-use Rattle.ledger_model.proofs.QuietLaws.{quiet}
 use Rattle.ledger_model.proofs.SerialLaws.{count-cons}
 use Rattle.house_state.specs.Learning.{is_by_house, ByHouse, CommandFits}
 use Rattle.house_state.specs.CommandEntries.{IsCommand}
@@ -31,12 +30,9 @@ use Rattle.house_core.proofs.Entered.{Says}
 
 accepts_nothing : (e : Entry) → IsCommand e → AcceptsNothing e
 accepts_nothing (Site m kind name house) is = absurd is
-accepts_nothing (AddTerms m terms) is = record { piece = refl; handed = λ before. refl; repeats = λ keep t q. refl; price = refl; reply = λ before. refl }
-accepts_nothing (Goods m target price k contents) is = record { piece = refl; handed = λ before. refl; repeats = λ keep t q. refl; price = refl; reply = λ before. refl }
 accepts_nothing (Accept m scrip target sign price change deed) is = absurd is
-accepts_nothing (Mint m reference count value first) is = record { piece = refl; handed = λ before. refl; repeats = λ keep t q. refl; price = refl; reply = λ before. refl }
 accepts_nothing (Draw m target sign drawn) is = absurd is
-accepts_nothing e is = (quiet e (omega arith) (λ same. absurd (omega (arith, same)))).accepts_nothing
+accepts_nothing e is = record { piece = refl; handed = λ before. refl; repeats = λ keep t q. refl; price = refl; reply = λ before. refl }
 
 -- ---- minted pieces
 

@@ -12,7 +12,7 @@ use Rattle.mc_records.specs.declared.refusal.Refusal.TheVariants.{BadReply, Unpr
 use Rattle.mc_records.specs.Errands as errands
 use Rattle.mc_records.specs.Errands.{errand_text}
 use Rattle.mc_records.proofs.TargetLaws.{errand_is_target}
-use Rattle.mc_records.specs.Entry.{Held, HeldFits, Entry, Site, AddTerms, Goods, Accept, Mint, Account, Deposit, Withdraw, Draw, Licence, Stock, Got, Pend, Done, Refused, Upgrade, Switch, Note, IsKey, Fits, moment_of}
+use Rattle.mc_records.specs.Entry.{Held, HeldFits, Entry, Site, Got, Pend, Done, IsKey, Fits, moment_of}
 use Rattle.mc_records.specs.Following.{AllFollowBy}
 use Rattle.mc_records.specs.Sizes.{size_from}
 use Rattle.ledger_model.specs.Histories.{History, time}
@@ -35,23 +35,7 @@ use Rattle.world_model.proofs.Lists.{all_get, grown}
 
 pub fits_moment : (e : Entry) → Fits e → moment_of e < 2 ^ 35
 fits_moment (Site m kind name house) f = f.moment
-fits_moment (AddTerms m terms) f = f.moment
-fits_moment (Goods m target price kind contents) f = f.moment
-fits_moment (Accept m scrip target sign price change deed) f = f.moment
-fits_moment (Mint m reference count value first) f = f.moment
-fits_moment (Account m name key) f = f.moment
-fits_moment (Deposit m name amount reference) f = f.moment
-fits_moment (Withdraw m name amount reference) f = f.moment
-fits_moment (Draw m target sign drawn) f = f.moment
-fits_moment (Licence m vendor terms) f = f.moment
-fits_moment (Stock m vendor pieces) f = f.moment
-fits_moment (Got m pieces) f = f.moment
-fits_moment (Pend m ask peer target scrip secret) f = f.moment
-fits_moment (Done m n price change got) f = f.moment
-fits_moment (Refused m n refusal) f = f.moment
-fits_moment (Upgrade m vendor issuer from) f = f.moment
-fits_moment (Switch m chain) f = f.moment
-fits_moment (Note m tag bytes) f = f.moment
+fits_moment e f = f.moment
 
 pub fits_time : (h : History) → AllByRecursion Fits h → time h < 2 ^ 35
 fits_time [] all = omega arith
