@@ -1,11 +1,11 @@
 //! Change, by the bytes that it needs beside the scrip text of the request: mostly its value, its identity and
 //! its expiry, since the rest of it is as in the piece that was paid with.
 
-ghost use Rattle.std.specs.Prelude.{◌≡◌, ◌+◌, ◌≤◌, ◌<◌, ◌^◌, length, vec_len, vec_capacity, IsTrue, Some, slice_range};
+ghost use Rattle.std.specs.Prelude.{◌≡◌, ◌+◌, ◌≤◌, ◌<◌, vec_len, vec_capacity, IsTrue, Some};
 ghost use Rattle.mc_records.specs.Requests.{seen};
 ghost use Rattle.scrip_form.specs.Scrip.{IsScripText};
 ghost use Rattle.scrip_form.specs.Reading.{scrip_of};
-ghost use Rattle.kept_replies.specs.Parts.{StaysIn, IsScripThere, like_read, like_text, piece_read, number_at, change_end, change_in, ChangeIsWithin, IsLike, AreAlike};
+ghost use Rattle.kept_replies.specs.Parts.{StaysIn, IsScripThere, like_read, like_text, piece_read, change_end, change_in, ChangeIsWithin, IsLike, AreAlike};
 
 use crate::digits::{number_of, put_number};
 use crate::sold::{LONGEST, put_piece};

@@ -1,6 +1,6 @@
 //! Numbers by as many bytes as they need, the least byte first.
 
-ghost use Rattle.std.specs.Prelude.{◌≡◌, ◌+◌, ◌≤◌, ◌<◌, ◌^◌, length, vec_len, vec_capacity, slice_range};
+ghost use Rattle.std.specs.Prelude.{◌≡◌, ◌+◌, ◌≤◌, ◌<◌, ◌^◌, vec_len, vec_capacity, slice_range};
 ghost use Rattle.kept_replies.specs.Parts.{StaysIn, number_in};
 
 use crate::span::put;

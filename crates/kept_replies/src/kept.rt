@@ -1,7 +1,7 @@
-ghost use Rattle.std.specs.Prelude.{◌≡◌, ◌+◌, ◌<◌, ◌≤◌, ◌^◌, ◌↔◌, [], All, IsTrue, IsFalse, IsNone, IfSome, IfOk, OnOk, filter, find, length, option_map, option_copied};
+ghost use Rattle.std.specs.Prelude.{◌≡◌, ◌+◌, ◌<◌, ◌≤◌, ◌^◌, ◌↔◌, [], All, IsTrue, IsFalse, IsNone, IsSome, IfSome, IfOk, OnOk, filter, find, length, remove, option_map, option_copied};
 ghost use Rattle.std.specs.VecDeque.{deque_len, deque_capacity};
 ghost use Rattle.mc_records.specs.Requests.{asked_of};
-ghost use Rattle.kept_replies.specs.Requests.{text_size, is_same_request};
+ghost use Rattle.kept_replies.specs.Requests.{text_size};
 ghost use Rattle.kept_replies.specs.Index.{first_led};
 ghost use Rattle.kept_replies.specs.Store.{AreInOrder, IsPlaceOf, has_mark, is_repeat};
 ghost use Rattle.std.specs.Bool.{then_some};
@@ -10,6 +10,7 @@ ghost use Rattle.kept_replies.specs.Kept.{entry_size, AreRising, has_request, ha
 use crate::index::{Index, tag_of};
 use crate::parts::MOST_BESIDE;
 use crate::reply::Reply;
+use crate::together::put_together;
 use crate::{KeptEntry, KeptNumber};
 use mc_base::{Moment, NoMemory};
 use mc_records::Request;
@@ -33,19 +34,21 @@ pub struct Kept {
     in_order: bool,
     /// The marks of the replies.
     index: Index,
-    /// Empty, for the texts of the next reply.
+    /// Empty, for the bytes of the next reply.
     spare: Vec<u8>,
+    /// Where that buffer goes.
+    place: Option<Box<Vec<u8>>>,
 }
 
 impl Model for Kept {
-    ghost use Rattle.std.specs.Prelude.{vec_capacity};
+    ghost use Rattle.std.specs.Prelude.{vec_capacity, is_some, ◌&&◌};
     ghost use Rattle.std.specs.VecDeque.{deque_len, deque_capacity};
     ghost use Rattle.kept_replies.specs.Kept.{KeptView};
     ghost use Rattle.kept_replies.specs.Store.{IsStored, room_in};
 
     ghost Value = { KeptView };
 
-    ghost view = { λ k. record { keep = k.keep; replies = k.replies.items; room = room_in (deque_len k.replies) (deque_capacity k.replies) k.index.has_place (vec_capacity k.spare) } };
+    ghost view = { λ k. record { keep = k.keep; replies = k.replies.items; room = room_in (deque_len k.replies) (deque_capacity k.replies) (k.index.has_place && is_some k.place) (vec_capacity k.spare) } };
 
     ghost invariant = { λ k. IsStored k.replies.items k.in_order k.index k.spare.items (vec_capacity k.spare) };
 }
@@ -63,6 +66,7 @@ impl Kept {
             in_order: true,
             index: Index::new(alloc),
             spare: Vec::new(alloc),
+            place: None,
         }
     }
 
@@ -77,6 +81,7 @@ impl Kept {
     {
         make_place(&mut self.replies)?;
         self.index.reserve()?;
+        make_box(&mut self.place, *self.spare.allocator())?;
         let size = short_sum(short_sum(text_size_of(q)?, more)?, MOST_BESIDE)?;
         if self.spare.capacity() != size {
             let alloc = *self.spare.allocator();
@@ -110,12 +115,15 @@ impl Kept {
         ensures rising { AreRising self.new.replies }
     {
         let number = e.number;
+        let Some(place) = self.place.take() else {
+            unreachable!();
+        };
         let alloc = *self.spare.allocator();
         let buffer = mem::replace(&mut self.spare, Vec::new(alloc));
         self.index.put(tag_of(q), number);
         let at = place_of(&self.replies, number);
         self.in_order = goes_last(self.in_order, &self.replies, at, e.moment);
-        match self.replies.insert(at, Reply::of(buffer, q, &e)) {
+        match self.replies.insert(at, Reply::of(buffer, place, q, &e)) {
             Ok(()) => KeptNumber { number, at },
             Err(_) => unreachable!(),
         }
@@ -238,16 +246,27 @@ impl Kept {
     }
 }
 
-/// Makes a place for one more reply, and where memory is asked for, for an eighth more than there are:
-/// a reply is large, so that twice as many places would be much that lies unused.
+/// Makes a place for one more reply, after those before it were put together, and where memory is asked
+/// for, for an eighth more than there are: twice as many places would be much that lies unused.
 fn make_place(replies: &mut VecDeque<Reply>) -> Result<(), NoMemory>
     ensures replies { replies.new.items ≡ replies.old.items }
     ensures place { OnOk result (deque_len replies.new < deque_capacity replies.new) }
 {
+    put_together(replies)?;
     if replies.len() < replies.capacity() {
         return Ok(());
     }
     replies.reserve_exact(replies.len() / 8 + 1)?;
+    Ok(())
+}
+
+/// Makes a place for a buffer, where there is none.
+fn make_box(place: &mut Option<Box<Vec<u8>>>, alloc: Global) -> Result<(), NoMemory>
+    ensures { OnOk result (IsSome place.new) }
+{
+    if place.is_none() {
+        *place = Some(Box::new(alloc, Vec::new(alloc))?);
+    }
     Ok(())
 }
 
@@ -300,13 +319,21 @@ fn drop_over(
     while let Some(reply) = replies.get(at) {
         if !reply.is_in_time(keep, now) {
             index.drop_mark(tag_of(&reply.request()), reply.number());
-            replies.remove(at);
+            drop_at(replies, at);
         } else if in_order {
             break;
         } else {
             at += 1;
         }
     }
+}
+
+/// Drops the reply at a place.
+fn drop_at(replies: &mut VecDeque<Reply>, at: usize)
+    requires { at < deque_len replies.old }
+    ensures { replies.new.items ≡ remove replies.old.items at }
+{
+    replies.remove(at);
 }
 
 /// The sum of two sizes. 2^16 or more is want of memory.

@@ -3,6 +3,7 @@
 //! No call of this crate but `Kept::reserve` takes memory.
 #![tactic(auto)]
 
+mod body;
 mod change;
 mod deed;
 mod digits;
@@ -13,6 +14,7 @@ mod parts;
 mod reply;
 mod sold;
 mod span;
+mod together;
 
 pub use deed::{Deed, KeptEntry};
 pub use kept::Kept;

@@ -4,36 +4,43 @@ ghost use Rattle.kept_replies.specs.Requests.{is_same_text, is_same_request, tex
 ghost use Rattle.kept_replies.specs.Kept.{entry_size, is_in_time};
 
 use crate::KeptEntry;
+use crate::body::{Body, Parts};
 use crate::parts::{AskedParts, EntryParts, MOST_BESIDE};
 use mc_base::Moment;
 use mc_records::Request;
+use std::alloc::AllocError;
 use std::marker::Model;
+use std::rc::Rc;
 
-/// A request, and what is kept of its entry, one behind the other in bytes of their own. Contracts see
-/// what is asked, and what is kept.
+/// A request, and what is kept of its entry, one behind the other in bytes. Contracts see what is asked, and what is
+/// kept.
 #[derive(Drop)]
 pub(crate) struct Reply {
     number: u64,
-    bytes: Vec<u8>,
-    entry: EntryParts,
-    asked: AskedParts,
+    body: Body,
 }
 
 impl Model for Reply {
     ghost use Rattle.kept_replies.specs.Kept.{KeptReply};
-    ghost use Rattle.kept_replies.specs.Parts.{asked_in, entry_in, entry_end, AreWithin};
+    ghost use Rattle.kept_replies.specs.Parts.{entry_in};
+    ghost use Rattle.kept_replies.specs.Body.{body_parts, body_bytes, body_asked, IsBody};
 
     ghost Value = { KeptReply };
 
-    ghost view = { λ r. record { asked = asked_in r.bytes.items (entry_end r.entry) r.asked; entry = entry_in r.number r.bytes.items r.entry (asked_in r.bytes.items (entry_end r.entry) r.asked).scrip } };
+    ghost view = { λ r. record { asked = body_asked r.body; entry = entry_in r.number (body_bytes r.body) (body_parts r.body).entry (body_asked r.body).scrip } };
 
-    ghost invariant = { λ r. AreWithin r.bytes.items r.asked r.entry };
+    ghost invariant = { λ r. IsBody r.body };
 }
 
 impl Reply {
-    /// The request and what is kept of its entry, put into an empty buffer that has room for them. What they do
-    /// not need of it is given back.
-    pub(crate) fn of(mut buffer: Vec<u8>, q: &Request<'_>, e: &KeptEntry) -> Reply
+    /// The request and what is kept of its entry, put into an empty buffer that has room for them, and that into its place.
+    /// What they do not need of the buffer is given back.
+    pub(crate) fn of(
+        mut buffer: Vec<u8>,
+        mut place: Box<Vec<u8>>,
+        q: &Request<'_>,
+        e: &KeptEntry,
+    ) -> Reply
         requires empty { buffer.items ≡ [] }
         requires room { MOST_BESIDE + entry_size e.now + text_size (asked_of q.now) ≤ vec_capacity buffer }
         requires short { vec_capacity buffer < 2 ^ 16 }
@@ -42,11 +49,13 @@ impl Reply {
         let entry = EntryParts::put(&mut buffer, e, q.scrip);
         let asked = AskedParts::put(&mut buffer, q);
         buffer.shrink_to_fit();
+        Box::replace(&mut place, buffer);
         Reply {
             number: e.number,
-            bytes: buffer,
-            entry,
-            asked,
+            body: Body::Own {
+                parts: Parts { entry, asked },
+                bytes: place,
+            },
         }
     }
 
@@ -59,7 +68,8 @@ impl Reply {
     pub(crate) fn moment(&self) -> Moment
         ensures { result ≡ self.now.entry.moment }
     {
-        self.entry.moment(&self.bytes)
+        let entry = self.body.parts().entry;
+        entry.moment(self.body.bytes())
     }
 
     /// What is kept of the entry.
@@ -67,13 +77,36 @@ impl Reply {
         ensures { result ≡ self.now.entry }
     {
         let scrip = self.request().scrip;
-        self.entry.entry(self.number, &self.bytes, scrip)
+        let entry = self.body.parts().entry;
+        entry.entry(self.number, self.body.bytes(), scrip)
     }
 
     pub(crate) fn request(&self) -> Request<'_>
         ensures { asked_of result ≡ self.now.asked }
     {
-        self.asked.request(&self.bytes, self.entry.end())
+        self.body.request()
+    }
+
+    /// Whether its bytes stand in a buffer of their own.
+    pub(crate) fn is_own(&self) -> bool {
+        self.body.is_own()
+    }
+
+    /// Its bytes.
+    pub(crate) fn bytes(&self) -> &[u8] {
+        self.body.bytes()
+    }
+
+    /// Has its bytes stand in this buffer from this place on, if they do, and gives back one of their own. Where they would
+    /// end there.
+    pub(crate) fn share(&mut self, block: &Rc<Vec<u8>>, start: usize) -> Result<usize, AllocError>
+        ensures { self.new ≡ self.old }
+    {
+        let end = start.saturating_add(self.body.bytes().len());
+        if let Some(body) = self.body.shared(block, start)? {
+            self.body = body;
+        }
+        Ok(end)
     }
 
     /// Whether it is to this request.

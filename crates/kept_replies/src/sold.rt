@@ -1,6 +1,6 @@
 //! Scrip that was sold or drawn, with its text and its customer secret in a buffer.
 
-ghost use Rattle.std.specs.Prelude.{◌≡◌, ◌+◌, ◌-◌, ◌≤◌, ◌<◌, ◌^◌, length, vec_len, vec_capacity, slice_range, Ok};
+ghost use Rattle.std.specs.Prelude.{◌≡◌, ◌+◌, ◌-◌, ◌≤◌, ◌<◌, ◌^◌, vec_len, vec_capacity, slice_range, Ok};
 ghost use Rattle.scrip_form.specs.Scrip.{IsScripText};
 ghost use Rattle.scrip_form.specs.Reading.{scrip_of};
 ghost use Rattle.kept_replies.specs.Kept.{sold_size};

@@ -25,7 +25,7 @@ loop-reply-preserved-then-not-is_in_time c =
     let r = c.in-Some.reply.now in
     let looked = (goal.at.loop-reply-preserved-then-not-is_in_time c).After-is_in_time in
     let fails : is_in_time c.args.keep c.args.now (get_or rs at r) ≡ false = judged looked ∙ c.if-not-is_in_time.true in
-    let left : c.remove.new.self.items ≡ remove rs at = search rules in
+    let left : c.drop_at.new.replies.items ≡ remove rs at = c.drop_at.ensures in
     let its : c.number.result ≡ number (get_or rs at r) = c.number.ensures ∙ ap number (there looked) in
     rw left (record {
       within = omega (arith, length-remove rs at (within looked), within looked);

@@ -1,4 +1,4 @@
-use Rattle.std.proofs.Common.{◌≡◌, ◌+◌, refl, ap, ◌∙◌, arith}
+use Rattle.std.proofs.Common.{◌≡◌, ◌+◌, ◌&&◌, is_some, refl, ap, ◌∙◌, arith}
 use Rattle.std.specs.List.{insert}
 use Rattle.std.proofs.lemmas.Bool.{eq-eqb}
 use Rattle.mc_records.specs.Requests.{asked_of}
@@ -24,7 +24,7 @@ rise c = rw (now_kept c) (AreRising-inserted (new c) c.self.inside.replies.items
 pub of-requires-clause-room : goal.of-requires-clause-room
 of-requires-clause-room c =
     let inside = c.self.inside in
-    let within = within_room inside.replies.len inside.replies.cap inside.spare.cap (text_size (asked_of c.args.q.now) + entry_size c.args.e) inside.index.has_place (rw (← c.self.view_is) at c.requires.room) in
+    let within = within_room inside.replies.len inside.replies.cap inside.spare.cap (text_size (asked_of c.args.q.now) + entry_size c.args.e) (inside.index.has_place && is_some inside.place) (rw (← c.self.view_is) at c.requires.room) in
     rw c.replace-buffer.ensures.value (omega (arith, within))
 
 pub invariant_of-self : goal.invariant_of-self
