@@ -1,9 +1,9 @@
 -- Which sites are houses, and what a vendor does not have.
-use Rattle.std.proofs.Common.{◌≡◌, ℕ, zero, suc, ◌<◌, Bool, true, false, not, cond, List, [], ◌∷◌, Option, Some, None, bytes_eq, refl, ap, arith, option_map}
+use Rattle.std.proofs.Common.{◌≡◌, ℕ, zero, suc, ◌<◌, Bool, true, false, not, cond, List, [], ◌∷◌, Option, Some, None, bytes_eq, refl, ap, arith, rules, option_map}
 use Rattle.std.specs.Prelude.{◌==◌, unwrap_or, MatchOption}
 use Rattle.mc_records.specs.declared.limits.Limits.{Limits}
 use Rattle.mc_records.specs.declared.refusal.Refusal.TheVariants.{WrongVendor}
-use Rattle.mc_records.specs.Entry.{Entry, Site, AddTerms, Goods, Accept, Mint, Account, Deposit, Withdraw, Draw, Licence, Stock, Upgrade, Switch, Note}
+use Rattle.mc_records.specs.Entry.{Entry, Site, Accept, Draw, Upgrade}
 use Rattle.ledger_model.specs.Histories.{History}
 use Rattle.ledger_model.specs.Houses.{site_kind, IsHouseKind, is_vendor, is_broker, terms_in}
 use Rattle.scrip_form.specs.Issuing.{epoch}
@@ -30,23 +30,13 @@ none_terms m vendor issuer from x = go (issuer == 0) (bytes_eq vendor []) x
 -- only an entry that founds a house may be the first
 pub first_founds : (limits : Limits) (e : Entry) → MayFollow limits [] e → IsHouseSite e
 first_founds limits (Site m kind name house) may = may.allowed.1
-first_founds limits (AddTerms m terms) may = absurd (cc may.allowed.0)
-first_founds limits (Goods m target price kind contents) may = absurd (cc may.allowed.0)
 first_founds limits (Accept m scrip target sign price change deed) may =
     let t = accept_answer [] m (unbounded limits) (request_of scrip target sign) m scrip target sign price change deed may.allowed in
     let vendor = line_ok (refused_if (not (bytes_eq t.scrip.piece.vendor [])) WrongVendor) _ t.secret t.is_genuine in
     absurd (cc vendor.2)
-first_founds limits (Mint m reference count value first) may = absurd (cc may.allowed.0)
-first_founds limits (Account m name key) may = absurd (cc may.allowed.0)
-first_founds limits (Deposit m name amount reference) may = absurd (cc may.allowed.0)
-first_founds limits (Withdraw m name amount reference) may = absurd (cc may.allowed.0)
 first_founds limits (Draw m target sign drawn) may = absurd (cc (draw_answer [] m (unbounded limits) (draw_request target sign) m target sign drawn may.allowed).at_broker)
-first_founds limits (Licence m vendor terms) may = absurd (cc may.allowed.0)
-first_founds limits (Stock m vendor pieces) may = absurd (cc may.allowed.0)
 first_founds limits (Upgrade m vendor issuer from) may = absurd (none_terms m vendor issuer from may.allowed.coming)
-first_founds limits (Switch m c) may = absurd (cc may.allowed.0)
-first_founds limits (Note m tag bytes) may = absurd (cc may.allowed)
-first_founds limits e may = absurd may.allowed
+first_founds limits e may = absurd (search (rules, may.allowed))
 
 one_kind : (kind : ℕ) → IsHouseKind kind → (kind == 1) ≡ not (kind == 0)
 one_kind zero house = refl
