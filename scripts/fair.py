@@ -87,7 +87,7 @@ class Clocks:
             by = random.randint(*JUMPS[what][1:])
             self.counts[what] += 1
             if what == ALL:
-                self.go_on(by if random.random() < 0.7 else self.furthest - self.ahead)
+                self.go_on(by if random.random() < 0.7 else max(0, self.furthest - self.ahead))
             else:
                 self.set(random.choice(list(self.off)), by)
 
@@ -98,7 +98,7 @@ class House(Site):
     def __init__(self, fair, role, name, *words):
         super().__init__(fair.folder, name)
         self.fair, self.role, self.name, self.lock = fair, role, name, threading.RLock()
-        self.how = fair.clocks.give(name)
+        self.how, self.usual = fair.clocks.give(name), 0.01
         self.own = millicent.Terms(0, PERIOD, LIFE, (secret(),), (secret(),))
         self.operate("init", name, *words_of(self.own), *words, "--keep", str(KEEP), again=("50",))
 
@@ -106,9 +106,10 @@ class House(Site):
         """An operator's command, which is given again where it was killed, and then may be refused with other numbers; its status and what it says."""
         kills = 0
         while True:
-            within = random.uniform(0, 0.03) if random.random() < 0.3 else None
+            begun, within = time.monotonic(), random.uniform(0, 1.2 * self.usual) if random.random() < 0.3 else None
             status, said = run([self.role, command, self.book, *words], contents, within, **self.how)
             if status != KILLED:
+                self.usual += (time.monotonic() - begun - self.usual) / 8
                 break
             kills += 1
             self.fair.counts["operators' commands that were killed"] += 1
@@ -139,7 +140,7 @@ class House(Site):
             self.fair.counts["sites that were killed"] += 1
             if random.random() < 0.3:
                 self.launch()
-                time.sleep(random.uniform(0, 0.03))
+                time.sleep(random.uniform(0, 1.2 * self.usual))
                 self.kill()
                 self.fair.counts["sites that were killed at the start"] += 1
             time.sleep(random.choice((0, random.uniform(0, 0.3))))
@@ -252,7 +253,7 @@ class Reader(Customer):
         budget, done = random.choice((LIMIT, 200, 10**6)), self.done()
         self.proxy.start(budget, random.randint(2, 30))
         is_killed = threading.Event()
-        killer = threading.Timer(random.choice((60, random.uniform(0, 2))), lambda: (is_killed.set(), self.proxy.process.kill()))
+        killer = threading.Timer(random.choice((60, random.uniform(0, 1))), lambda: (is_killed.set(), self.proxy.process.kill()))
         killer.start()
         read, status = 0, None
         while self.proxy.is_up() and status != b"402":
@@ -313,8 +314,6 @@ class Fair:
                 broker.operate("account", name, self.keys[name].hex())
                 self.deposit(broker, name, FIRST)
         self.stock(64)
-        for site in self.sites:
-            site.start()
         self.customers = [Customer(self, "ann", self.bank), Customer(self, "ben", self.kiosk), Reader(self, "cat", self.bank)]
         self.till_faults, self.tills, self.is_upgraded, self.to_switch = Counter(), [], False, [self.shop, self.kiosk]
         self.till_links = {"bank": Rough(self.bank, self.till_faults)}
@@ -431,6 +430,8 @@ class Fair:
 
     def run(self):
         """The fair, until its time has passed or something does not hold."""
+        for site in self.sites:
+            site.start()
         deeds = [(customer.step, 0.02) for customer in self.customers]
         deeds += [(lambda: random.choice(self.sites).fail(), 1.2), (self.clocks.jump, 2), (self.operate, 5)]
         threads = [threading.Thread(target=self.always, args=deed, daemon=True) for deed in deeds]
@@ -447,10 +448,13 @@ class Fair:
     def always(self, deed, rest):
         """Does this again and again, with pauses of so many seconds at most."""
         while not self.ended.wait(random.uniform(0, rest)):
-            try:
-                deed()
-            except Exception:
-                self.wrong(traceback.format_exc())
+            self.attempt(deed)
+
+    def attempt(self, deed):
+        try:
+            deed()
+        except Exception:
+            self.wrong(traceback.format_exc())
 
     def all_counts(self):
         people = self.customers + self.tills
@@ -586,15 +590,14 @@ def requests(entries, kind=millicent.PEND):
 
 def main():
     folder = tempfile.mkdtemp(prefix="millicent-")
-    fair = None
+    fair = Fair(folder, int(sys.argv[1]) if len(sys.argv) > 1 else 1200)
     try:
-        fair = Fair(folder, int(sys.argv[1]) if len(sys.argv) > 1 else 1200)
         fair.run()
         for part in (fair.end, fair.audit, fair.look_at_chains, fair.close, fair.audit, fair.look):
             if not fair.violations:
-                part()
+                fair.attempt(part)
     finally:
-        for site in getattr(fair, "sites", ()):
+        for site in fair.sites:
             site.end()
     counts = sum(fair.all_counts(), Counter())
     for what, count in sorted(counts.items() | {("violations", fair.violations)}):
