@@ -96,7 +96,7 @@ class Proxy:
         words = [PROGRAM, "wallet", "proxy", self.wallet.book, NAME, str(LIMIT), str(budget),
                  self.listen, "%s:%d" % self.vendor.address, str(links)]
         for _ in range(100):
-            self.process, self.links, self.paid = subprocess.Popen(words, stdout=subprocess.PIPE), links, self.booked()
+            self.process, self.links, self.paid = subprocess.Popen(words, stdout=subprocess.PIPE, **self.wallet.how), links, self.booked()
             while self.process.poll() is None:
                 if connects(self.address):
                     return

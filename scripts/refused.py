@@ -21,19 +21,36 @@ PROGRAM = os.environ.get("CASES", str(HERE.parent / "crates/cases/out/cases"))
 PATIENCE = 120
 
 
+def build(folder):
+    """The library that refuses."""
+    library = os.path.join(folder, "refuse.so")
+    subprocess.run(["cc", "-O2", "-shared", "-fPIC", "-o", library, HERE / "refuse.c", "-ldl"], check=True)
+    return library
+
+
+class Run:
+    """A program that runs while this growth of memory is refused, none for 0."""
+
+    def __init__(self, library, growth, words, **how):
+        self.read, told = os.pipe()
+        room = {**os.environ, "LD_PRELOAD": library, "REFUSE": str(growth), "REFUSE_TOLD": str(told)}
+        self.process = subprocess.Popen(words, env=room, pass_fds=(told,), stdout=subprocess.PIPE, **how)
+        os.close(told)
+
+    def end(self, contents=None):
+        """Its status, None where it hangs, what it printed, and how many growths there were."""
+        try:
+            printed, status = self.process.communicate(contents, timeout=PATIENCE)[0], self.process.returncode
+        except subprocess.TimeoutExpired:
+            self.process.kill()
+            printed, status = self.process.communicate()[0], None
+        with os.fdopen(self.read, "rb") as it:
+            return status, printed, int(it.read() or 0)
+
+
 def run(library, file, growth):
-    """One run in which this growth is refused, none for 0: its status, what it printed, and how many growths there were."""
-    read, told = os.pipe()
-    room = {**os.environ, "LD_PRELOAD": library, "REFUSE": str(growth), "REFUSE_TOLD": str(told)}
-    try:
-        ran = subprocess.run([PROGRAM, "names.cases", file], cwd=DATA, env=room, pass_fds=(told,), stdin=subprocess.DEVNULL,
-                             stdout=subprocess.PIPE, timeout=PATIENCE)
-        status, printed = ran.returncode, ran.stdout
-    except subprocess.TimeoutExpired:
-        status, printed = None, b""
-    os.close(told)
-    with os.fdopen(read, "rb") as it:
-        return status, printed, int(it.read() or 0)
+    """One run over a file."""
+    return Run(library, growth, [PROGRAM, "names.cases", file], cwd=DATA, stdin=subprocess.DEVNULL).end()
 
 
 def refused(library, file):
@@ -55,8 +72,7 @@ def refused(library, file):
 
 def main(files):
     with tempfile.TemporaryDirectory(prefix="millicent-") as folder:
-        library = os.path.join(folder, "refuse.so")
-        subprocess.run(["cc", "-O2", "-shared", "-fPIC", "-o", library, HERE / "refuse.c", "-ldl"], check=True)
+        library = build(folder)
         return 0 if all([refused(library, file) for file in files or ["rows.cases"]]) else 1
 
 

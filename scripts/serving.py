@@ -3,6 +3,7 @@ import os
 import random
 import socket
 import subprocess
+import threading
 import time
 from pathlib import Path
 
@@ -10,7 +11,7 @@ import millicent
 
 PROGRAM = os.environ.get("MILLICENT", str(Path(__file__).resolve().parent.parent / "crates/millicent/out/millicent"))
 LINKS = 2**32 - 1
-LINK_FAULT = 6
+LINK_FAULT, KILLED = 6, -9
 
 
 def secret():
@@ -33,6 +34,17 @@ def words_of(terms):
     """The words of a command that give these terms: period, life, secrets of scrip, secrets of customers."""
     secrets = (",".join(s.hex() for s in each) for each in (terms.scrip, terms.customer))
     return [str(terms.period), str(terms.life), *secrets]
+
+
+def run(words, contents=b"", within=None, **how):
+    """Runs the program with these words: its status and what it says. Where a time is given it is killed then, if it has not ended. The status is None
+    where it has not ended after a minute."""
+    process = subprocess.Popen([PROGRAM, *words], stdin=subprocess.PIPE, stdout=subprocess.PIPE, **how)
+    killer = threading.Timer(60 if within is None else within, process.kill)
+    killer.start()
+    said, _ = process.communicate(contents)
+    killer.cancel()
+    return None if within is None and process.returncode == KILLED else process.returncode, said
 
 
 class Link:
@@ -75,6 +87,8 @@ class Link:
 class Site:
     """A site of a role, whose book lies in a folder."""
     role = None
+    # How its programs are run besides.
+    how = {}
 
     def __init__(self, folder, name):
         self.book = os.path.join(folder, name + ".book")
@@ -92,11 +106,11 @@ class Site:
     def command(self, command, *words, contents=b""):
         """Has the program do an operator's command to the book, which is not served then; what it says."""
         words = [PROGRAM, self.role, command, self.book, *words]
-        return subprocess.run(words, check=True, input=contents, stdout=subprocess.PIPE).stdout.decode()
+        return subprocess.run(words, check=True, input=contents, stdout=subprocess.PIPE, **self.how).stdout.decode()
 
     def launch(self, links=LINKS):
         words = [PROGRAM, self.role, "serve", self.book, "%s:%d" % self.address, str(links)]
-        self.server = subprocess.Popen(words, stdout=subprocess.PIPE)
+        self.server = subprocess.Popen(words, stdout=subprocess.PIPE, **self.how)
 
     def start(self, links=LINKS):
         """Serves the book, and takes one link to see that it is served. Where the port is not free yet it

@@ -18,10 +18,11 @@ from collections import Counter
 import millicent
 from bank import Bank
 from pages import PAGE, PRICE, Vendor
-from serving import PROGRAM, Link, free_port
+from serving import PROGRAM, Link, free_port, run
 
 KEEP, FIRST = 86_400, 10**6
 ACCOUNT, MINTED = "ann", 50
+NOTHING = b"refused 67 Nothing\n"
 
 
 class Lossy:
@@ -112,8 +113,8 @@ def received(link, end=None):
 class Wallet:
     """A wallet whose commands are killed now and then."""
 
-    def __init__(self, folder, counts, wrong):
-        self.book, self.counts, self.wrong = os.path.join(folder, "wallet.book"), counts, wrong
+    def __init__(self, folder, counts, wrong, **how):
+        self.book, self.counts, self.wrong, self.how = os.path.join(folder, "wallet.book"), counts, wrong, how
         self.is_killed, self.usual = False, 0.01
         self.sure("init", "w")
 
@@ -126,14 +127,10 @@ class Wallet:
     def run(self, command, *words, contents=b"", within=None):
         """A command's status and what it says; -9 where it was killed within so many seconds."""
         begun = time.monotonic()
-        wallet = subprocess.Popen([PROGRAM, "wallet", command, self.book, *words], stdin=subprocess.PIPE, stdout=subprocess.PIPE)
-        if within is not None:
-            time.sleep(within)
-            wallet.kill()
-        said, _ = wallet.communicate(contents, timeout=60)
-        if wallet.returncode == 0:
+        status, said = run(["wallet", command, self.book, *words], contents, within, **self.how)
+        if status == 0:
             self.usual += (time.monotonic() - begun - self.usual) / 8
-        return wallet.returncode, said
+        return status, said
 
     def try_out(self, command, *words):
         """A payment, which may be killed, and may end in each way that leaves the request kept or settled."""
@@ -141,10 +138,14 @@ class Wallet:
         status, said = self.run(command, *words, within=within)
         number = said.split(b" ")[1].decode() if status == 7 else ""
         self.counts["%s: %s" % (command, {-9: "killed", 0: "done"}.get(status, ("status %d %s" % (status, number)).strip()))] += 1
-        known = status in (-9, 0, 6) or status == 7 and number in ("62", "63", "64", "65", "66", "67", "68")
+        known = status in (-9, 0, 6) or status == 7 and number in ("62", "63", "64", "65", "66", "67", "68", "80")
         if not known:
             self.wrong("wallet %s ended with status %d and said %r" % (command, status, said))
         return status, said
+
+    def settle(self, peer, address, most):
+        """Tries each kept request to a site again, so often at most; whether none is left."""
+        return any(self.try_out("retry", peer, address) == (7, NOTHING) for _ in range(most))
 
     def entries(self):
         with open(self.book, "rb") as f:
@@ -266,11 +267,7 @@ class Village:
         for name, link in self.links.items():
             link.is_whole = True
             # At most as many are kept as there were commands.
-            for _ in range(self.counts["commands"] + 1):
-                status, said = self.wallet.try_out("retry", name, link.address)
-                if (status, said) == (7, b"refused 67 Nothing\n"):
-                    break
-            else:
+            if not self.wallet.settle(name, link.address, self.counts["commands"] + 1):
                 self.wrong("a request to %s stays kept" % name)
 
     def compare(self):

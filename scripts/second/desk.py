@@ -22,7 +22,7 @@ class Desk:
 
     def __init__(self):
         self.keys, self.put, self.taken, self.orders = {}, {}, {}, {}
-        self.licences, self.stock, self.sold, self.licensed = {}, {}, [], {}
+        self.licences, self.stock, self.sold, self.licensed = {}, {}, set(), {}
 
     def push(self, entry):
         if entry.kind == ACCOUNT:
@@ -53,7 +53,7 @@ class Desk:
             add(self.put, errand[1], entry.price)
         elif errand and errand[0] == "buy" and entry.deed[0] == 1:
             _, stock, ident = entry.deed
-            self.sold.append((errand[1], stock, ident))
+            self.sold.add((errand[1], stock, ident))
             if not stock:
                 add(self.licensed, (errand[1], series_of(ident)), 1)
 
