@@ -73,19 +73,18 @@ pub(crate) fn read_chain<D: Disk>(alloc: Global, disk: D) -> Result<(D, ChainLin
     ensures exact { (x : List ℕ) → (D.disk disk).contents ≡ Some x → ReadsChain x result }
     ensures fault { CountedBy result (D.disk disk).faults (D.disk (read_disk result)).faults }
 {
-    match open_book(alloc, disk, Limits::FULL, ChainReader) {
-        Ok((journal, name)) => match journal.find_chain() {
-            Ok((journal, chain)) => {
-                let entries = journal.entries();
-                let line = ChainLine {
-                    name,
-                    entries,
-                    chain,
-                };
-                Ok((journal.close(), line))
-            }
-            Err(halted) => Err(HouseFault::Disk(halted.close())),
-        },
-        Err(fault) => Err(fault),
-    }
+    let (journal, name) = match open_book(alloc, disk, Limits::FULL, ChainReader) {
+        Ok(opened) => opened,
+        Err(fault) => return Err(fault),
+    };
+    let (journal, chain) = match journal.find_chain() {
+        Ok(found) => found,
+        Err(halted) => return Err(HouseFault::Disk(halted.close())),
+    };
+    let line = ChainLine {
+        name,
+        entries: journal.entries(),
+        chain,
+    };
+    Ok((journal.close(), line))
 }

@@ -17,6 +17,10 @@ use Rattle.house_core.specs.House.{HouseRepresents, HasEntered}
 use Rattle.house_core.specs.Tasks.{Add, Stays, switch_task}
 use Rattle.house_core.proofs.HouseDisk.{has_entered}
 
+-- where one stands there is nothing to do
+pub asks_none : (h : History) (m : ℕ) → has_switch h ≡ true → Stays ≡ switch_task h m
+asks_none h m is = sym (ap (λ b. if b then Stays else Add (Switch m (chain h))) is)
+
 -- a book without a Switch asks for one
 pub asks_switch : (h : History) (m n : ℕ) → has_switch h ≡ false → n ≡ m → Add (Switch n (chain h)) ≡ switch_task h m
 asks_switch h m n none time = ap (λ (k : ℕ). Add (Switch k (chain h))) time ∙ sym (ap (λ b. if b then Stays else Add (Switch m (chain h))) none)

@@ -39,18 +39,17 @@ impl<D: Disk, T: Trade> House<D, T> {
             return Outcome::NoMemory(House { journal, bench });
         }
         let moment = bench.state.time();
-        match journal.append_switch(moment) {
-            Ok((journal, receipt, chain)) => {
-                // It may follow, so an `Err` comes only where the house represents no history.
-                let _applied = bench.apply_entry(&Record::Switch { moment, chain }, SWITCH_PAYLOAD);
-                Outcome::Done(House { journal, bench }, Some(receipt))
-            }
+        let (journal, receipt, chain) = match journal.append_switch(moment) {
+            Ok(switched) => switched,
             // It fits, so this comes only where the house represents no history.
             Err(StageFault::Full(journal)) => {
                 let full = Refusal::JournalFull(bench.state.size(), SWITCH_PAYLOAD);
-                Outcome::Refused(House { journal, bench }, full)
+                return Outcome::Refused(House { journal, bench }, full);
             }
-            Err(StageFault::Disk(halted)) => Outcome::Halted(halted),
-        }
+            Err(StageFault::Disk(halted)) => return Outcome::Halted(halted),
+        };
+        // It may follow, so an `Err` comes only where the house represents no history.
+        let _applied = bench.apply_entry(&Record::Switch { moment, chain }, SWITCH_PAYLOAD);
+        Outcome::Done(House { journal, bench }, Some(receipt))
     }
 }

@@ -39,33 +39,32 @@ impl<D: Disk> Wallet<D> {
             mut book,
         } = self;
         let moment = book.time();
-        match journal.append_switch(moment) {
-            Ok((journal, receipt, chain)) => {
-                // It may follow, so it is learned wherever the wallet stands for a history.
-                let _learned = book.learn(&Record::Switch { moment, chain });
-                WalletOut::Done(
-                    Wallet {
-                        alloc,
-                        journal,
-                        book,
-                    },
-                    Some(receipt),
-                )
-            }
+        let (journal, receipt, chain) = match journal.append_switch(moment) {
+            Ok(switched) => switched,
             // It fits, so this comes only where the wallet stands for no history.
             Err(StageFault::Full(journal)) => {
                 let full = Refusal::JournalFull(book.size(), SWITCH_PAYLOAD);
-                WalletOut::Refused(
+                return WalletOut::Refused(
                     Wallet {
                         alloc,
                         journal,
                         book,
                     },
                     full,
-                )
+                );
             }
-            Err(StageFault::Disk(halted)) => WalletOut::Halted(halted),
-        }
+            Err(StageFault::Disk(halted)) => return WalletOut::Halted(halted),
+        };
+        // It may follow, so it is learned wherever the wallet stands for a history.
+        let _learned = book.learn(&Record::Switch { moment, chain });
+        WalletOut::Done(
+            Wallet {
+                alloc,
+                journal,
+                book,
+            },
+            Some(receipt),
+        )
     }
 
     /// How many entries its book has.

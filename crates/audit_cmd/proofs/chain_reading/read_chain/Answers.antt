@@ -3,8 +3,8 @@ use Rattle.scrip_journal.proofs.SwitchLaws.{chain_found}
 use Rattle.audit_cmd.proofs.ChainLaws.{chain_fault}
 use Rattle.audit_cmd.proofs.chain_reading.read_chain.Goals as goal
 
-pub returns-in-Ok-find_chain-clause-exact : goal.returns-in-Ok-find_chain-clause-exact
-returns-in-Ok-find_chain-clause-exact g c x told =
+pub returns-clause-exact : goal.returns-clause-exact
+returns-clause-exact g c x told =
     let opened = c.in-Ok.ensures.exact x told in
     let found = c.in-Ok-find_chain.ensures in
     let journal = found.stands opened.history opened.journal in
@@ -14,7 +14,7 @@ returns-in-Ok-find_chain-clause-exact g c x told =
       site = opened.learned.holds'.site;
       name = opened.learned.holds'.is;
       entries = sym (c.entries.ensures ∙ journal.entries_is);
-      chain' = sym (chain_found g.D.Disk.disk c.in-Ok-find_chain.journal opened.history c.in-Ok-find_chain.chain journal found.known);
+      chain' = sym (chain_found g.D.Disk.disk c.in-Ok-find_chain.found.0 opened.history c.in-Ok-find_chain.found.1 journal found.known);
     }
 
 pub returns-in-Err-clause-exact : goal.returns-in-Err-clause-exact

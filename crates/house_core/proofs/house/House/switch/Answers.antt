@@ -1,4 +1,4 @@
-use Rattle.std.proofs.Common.{◌≡◌, ◌∙◌, ◌<◌, ◌+◌, ◌≤◌, false, Some, refl, sym, ap, subst, arith}
+use Rattle.std.proofs.Common.{◌≡◌, ◌∙◌, ◌<◌, ◌+◌, ◌≤◌, false, None, Some, refl, sym, ap, subst, arith}
 use Rattle.mc_outside.specs.Bytes.{Rose}
 use Rattle.mc_outside.specs.DiskView.{Ran}
 use Rattle.mc_records.specs.declared.limits.Limits.{Limits}
@@ -15,12 +15,18 @@ use Rattle.house_state.proofs.Tabled.{fitted_stands}
 use Rattle.house_core.specs.declared.house.House.{House}
 use Rattle.house_core.specs.Bench.{house_time, limits_of}
 use Rattle.house_core.specs.declared.outcome.Outcome.TheVariants.{Done, Halted}
-use Rattle.house_core.specs.Tasks.{Task, TellsAdded, switch_task}
+use Rattle.house_core.specs.Tasks.{Task, Performs, TellsAdded, switch_task}
 use Rattle.house_core.proofs.HouseDisk.{not_full_of, applied, time_stays}
 use Rattle.house_core.proofs.RefusingLemmas.{full_among}
-use Rattle.house_core.proofs.SwitchLemmas.{asks_switch, may_switch, may_enter, has_switched}
-use Rattle.house_core.proofs.TaskLemmas.{enters, unfitted, tells_last}
+use Rattle.house_core.proofs.SwitchLemmas.{asks_none, asks_switch, may_switch, may_enter, has_switched}
+use Rattle.house_core.proofs.TaskLemmas.{enters, unfitted, stays, tells_last}
 use Rattle.house_core.proofs.house.House.switch.Goals as goal
+
+pub returns-then-is_switched-clause-exact : goal.returns-then-is_switched-clause-exact
+returns-then-is_switched-clause-exact g c h st =
+    let t = house_time c.args.self.bench in
+    stays g.D.Disk.disk g.T.Trade.trade (λ (task : Task). task ≡ switch_task h t) TellsAdded (limits_of c.args.self.bench) c.args.self h (g.met.D.Disk.is_disk c.args.self.journal.disk) st
+    None (asks_none h t (sym st.journal.switched_is ∙ sym c.if-is_switched.ensures.value)) refl
 
 pub returns-in-Err-clause-exact : goal.returns-in-Err-clause-exact
 returns-in-Err-clause-exact g c h st =
@@ -37,8 +43,8 @@ returns-in-Err-clause-refusals g c =
     let b = c.args.self.bench.state in
     full_among _ b.size (tail_of b) (Switch 0 first_chain) _ (c.in-Err.ensures.lines (Switch 0 first_chain) (sym (switch_long 0 first_chain refl)))
 
-pub returns-in-Ok-append_switch-clause-exact : goal.returns-in-Ok-append_switch-clause-exact
-returns-in-Ok-append_switch-clause-exact g c h st =
+pub returns-clause-exact : goal.returns-clause-exact
+returns-clause-exact g c h st =
     let t = house_time c.args.self.bench in
     let b = c.args.self.bench.state in
     let limits = limits_of c.args.self.bench in
@@ -50,18 +56,18 @@ returns-in-Ok-append_switch-clause-exact g c h st =
     let wrote = c.in-Ok-append_switch.ensures in
     let written = wrote.written h st.journal in
     let applies = c.apply_entry-applied.ensures in
-    let after : House g.row.D.Denot g.row.T.Denot = record { journal = c.in-Ok-append_switch.journal; bench = c.apply_entry-applied.new.self } in
-    let both = applied c.apply_entry-applied.result _ _ _ _ _ _ (may_enter g.T.Trade.passes limits h n c.in-Ok-append_switch.chain written.2 may)
+    let after : House g.row.D.Denot g.row.T.Denot = record { journal = c.in-Ok-append_switch.switched.0; bench = c.apply_entry-applied.new.self } in
+    let both = applied c.apply_entry-applied.result _ _ _ _ _ _ (may_enter g.T.Trade.passes limits h n c.in-Ok-append_switch.switched.2 written.2 may)
     (applies.exact h st.house.represents may.in_order written.2) (applies.contents h st.house.represents st.house.contents) in
-    enters g.D.Disk.disk g.T.Trade.trade (λ (task : Task). task ≡ switch_task h t) TellsAdded limits (λ k. Some k) c.args.self.journal.disk h e (Done after c.in-Ok-append_switch.receipt)
+    enters g.D.Disk.disk g.T.Trade.trade (λ (task : Task). task ≡ switch_task h t) TellsAdded limits (λ k. Some k) c.args.self.journal.disk h e (Done after c.in-Ok-append_switch.switched.1)
     (asks_switch h t n none c.time-moment.ensures) (λ done. tells_last h e) (
-      has_switched g.D.Disk.disk g.T.Trade.trade c.args.self after h n c.in-Ok-append_switch.chain c.in-Ok-append_switch.receipt written.2 st written.0 wrote.limit applies.limits written.1 both.0 both.1,
+      has_switched g.D.Disk.disk g.T.Trade.trade c.args.self after h n c.in-Ok-append_switch.switched.2 c.in-Ok-append_switch.switched.1 written.2 st written.0 wrote.limit applies.limits written.1 both.0 both.1,
       fitted_stands st.house.represents.state limits e ∙ sym fits,
     )
     (wrote.ran h st.journal)
 
-pub returns-in-Ok-append_switch-clause-back : goal.returns-in-Ok-append_switch-clause-back
-returns-in-Ok-append_switch-clause-back g c =
+pub returns-clause-back : goal.returns-clause-back
+returns-clause-back g c =
     let come : c.time-moment.result ≤ house_time c.args.self.bench = omega (arith, c.time-moment.ensures) in
     record {
       moved' = c.in-Ok-append_switch.ensures.moved;
@@ -70,7 +76,7 @@ returns-in-Ok-append_switch-clause-back g c =
     }
 
 pub apply_entry-applied-requires-clause-trade : goal.apply_entry-applied-requires-clause-trade
-apply_entry-applied-requires-clause-trade g c = g.met.T.Trade.switch_room c.args.self.bench.trade c.time-moment.result c.in-Ok-append_switch.chain
+apply_entry-applied-requires-clause-trade g c = g.met.T.Trade.switch_room c.args.self.bench.trade c.time-moment.result c.in-Ok-append_switch.switched.2
 
 pub returns-in-Err-Full-clause-exact : goal.returns-in-Err-Full-clause-exact
 returns-in-Err-Full-clause-exact g c h st =
@@ -92,5 +98,6 @@ returns-in-Err-Disk-clause-exact g c h st =
     let may = may_switch g.T.Trade.trade c.args.self.bench limits h n st.house.represents none c.time-moment.ensures in
     let rose : Rose (g.D.Disk.disk c.args.self.journal.disk).faults (g.D.Disk.disk c.in-Err-Disk.halted).faults = rw c.in-Err-Disk.field-0-is at c.in-Err-Disk.ensures.fault in
     let ran : Ran (g.D.Disk.disk c.args.self.journal.disk) (g.D.Disk.disk c.in-Err-Disk.halted) (EitherNoOutput h e (g.D.Disk.disk c.args.self.journal.disk).aside) = rw c.in-Err-Disk.field-0-is at (c.in-Err-Disk.ensures.ran h st.journal) in
-    enters g.D.Disk.disk g.T.Trade.trade (λ (task : Task). task ≡ switch_task h t) TellsAdded limits (λ k. Some k) c.args.self.journal.disk h e (Halted c.in-Err-Disk.halted)
-    (asks_switch h t n none c.time-moment.ensures) (λ done. absurd done) (may, rose, fitted_stands st.house.represents.state limits e ∙ sym fits) ran
+    subst (λ (d : g.row.D.Denot). Performs g.D.Disk.disk g.T.Trade.trade (λ (task : Task). task ≡ switch_task h t) TellsAdded limits c.args.self.journal.disk h (Halted d)) (sym c.in-Err-Disk.halted-is)
+    (enters g.D.Disk.disk g.T.Trade.trade (λ (task : Task). task ≡ switch_task h t) TellsAdded limits (λ k. Some k) c.args.self.journal.disk h e (Halted c.in-Err-Disk.halted)
+    (asks_switch h t n none c.time-moment.ensures) (λ done. absurd done) (may, rose, fitted_stands st.house.represents.state limits e ∙ sym fits) ran)

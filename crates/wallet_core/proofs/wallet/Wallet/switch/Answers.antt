@@ -23,17 +23,17 @@ returns-in-Err-clause-exact g c = λ h st.
     let none : has_switch h ≡ false = sym st.journal.switched_is ∙ sym c.if-is_switched.ensures.value in
     switch_refused g.D.Disk.disk c.args.self h st none t refl c.in-Err.full (g.met.D.Disk.is_disk c.args.self.journal.disk) (c.in-Err.ensures.fitted h (Switch t (chain h)) st.book (sym (switch_long t (chain h) (length-chain h))))
 
-pub returns-in-Ok-append_switch-clause-exact : goal.returns-in-Ok-append_switch-clause-exact
-returns-in-Ok-append_switch-clause-exact g c = λ h st.
+pub returns-clause-exact : goal.returns-clause-exact
+returns-clause-exact g c = λ h st.
     let t = c.time-moment.result in
     let none : has_switch h ≡ false = sym st.journal.switched_is ∙ sym c.if-is_switched.ensures.value in
     let wrote = c.in-Ok-append_switch.ensures in
     let written = wrote.written h st.journal in
     let knows = c.learn-learned.ensures in
-    let told = c.in-Ok-append_switch.chain in
+    let told = c.in-Ok-append_switch.switched.2 in
     let may = may_switch c.args.self.book h t st.book none c.time-moment.ensures in
-    let both = switch_learned c.learn-learned.new.self h t told c.learn-learned.result written.2 may (knows.exact h st.book written.2 (switch_room g.D.Disk.disk c.in-Ok-append_switch.journal h t told written.2 written.0)) in
-    switch_done g.D.Disk.disk c.args.self h st none t c.time-moment.ensures _ c.in-Ok-append_switch.receipt
+    let both = switch_learned c.learn-learned.new.self h t told c.learn-learned.result written.2 may (knows.exact h st.book written.2 (switch_room g.D.Disk.disk c.in-Ok-append_switch.switched.0 h t told written.2 written.0)) in
+    switch_done g.D.Disk.disk c.args.self h st none t c.time-moment.ensures _ c.in-Ok-append_switch.switched.1
     (record {
       fits = c.in-Ok.ensures.fitted h (Switch t (chain h)) st.book (sym (switch_long t (chain h) (length-chain h)));
       stands = record { journal = written.0; book = both.1; limit = wrote.limit ∙ st.limit ∙ ap (λ (l : Limits). l.journal) (sym knows.limits) };
