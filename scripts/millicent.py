@@ -7,12 +7,12 @@ from types import SimpleNamespace
 sys.path.insert(0, str(Path(__file__).resolve().parent / "second"))
 
 from desk import read_errand  # noqa: E402, F401
-from forms import Terms, epoch_of, id_of, issuer_of, read_scrip, reply_signature, request_signature  # noqa: E402, F401
+from forms import Terms, epoch_of, id_of, read_scrip, reply_signature, request_signature  # noqa: E402, F401
 from journal import HEADER, BadEntry, NotJournal, Replay  # noqa: E402
 from ledger import first_unlawful  # noqa: E402, F401
 from market import Book, broker_sums, first_stranger, vendor_sums  # noqa: E402, F401
 from payloads import (  # noqa: E402, F401
-    ACCEPT, ACCOUNT, BROKER, DEPOSIT, DONE, DRAW, GOODS, MINT, PEND, REFUSED, SITE, STOCK, SWITCH, TERMS, VENDOR, entry_of)
+    ACCEPT, ACCOUNT, BROKER, DEPOSIT, DONE, DRAW, GOODS, MINT, PEND, REFUSED, SITE, STOCK, TERMS, VENDOR, entry_of)
 from settlement import redeemed, sold  # noqa: E402, F401
 from stage import Stage  # noqa: E402
 from tree import Tree, lines as tree_lines  # noqa: E402, F401
