@@ -20,7 +20,8 @@ ghost use Rattle.house_state.specs.HouseState.{size_with, HasRoomFor, GoesOn};
 ghost use Rattle.house_state.specs.Views.{entry_deed};
 ghost use Rattle.std.specs.Set.{distinct_count};
 ghost use Rattle.house_state.specs.LiveWindows.{AreUsed, live_windows};
-ghost use Rattle.house_state.specs.Trade.{OfGoods, NamesInForce};
+ghost use Rattle.house_state.specs.Trade.{IsKeptFrom, OfGoods, NamesInForce};
+ghost use Rattle.kept_replies.specs.Kept.{first_number};
 ghost use Rattle.house_state.specs.declared.verdict.Verdict.TheVariants as verdicts;
 ghost use Rattle.house_state.specs.Verdicts.{judged, judged_of, repeat_of, accept_entry, draw_entry, authorized_entry, AreUsedFor, BringsAs, HasRoomToCommit, IsOfNew, MayCommit, OfDeed};
 
@@ -165,6 +166,8 @@ impl<T: Trade> Bench<T> {
             → Represents T.trade self.new h }
         ensures contents { (h : History) → Represents T.trade self.old h
             → HasContents T.trade self.old h → HasContents T.trade self.new h }
+        ensures freed { (h : History) (n : ℕ) → Represents T.trade self.old h
+            → (T.trade self.new.trade).holds n → IsKeptFrom h (first_number self.new.state.kept.replies) n }
     {
         let time = self.state.raise(reading);
         self.trade.forget(self.state.first_kept());

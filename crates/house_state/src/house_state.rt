@@ -13,7 +13,7 @@ ghost use Rattle.house_state.specs.Views.{kind_number};
 ghost use Rattle.house_state.specs.CommandEntries.{IsNoSite};
 ghost use Rattle.house_state.specs.Founding.{IsFounded};
 ghost use Rattle.mc_records.specs.Requests.{asked_of};
-ghost use Rattle.kept_replies.specs.Kept.{found, has_number, is_in_time, reply_of, with_number};
+ghost use Rattle.kept_replies.specs.Kept.{found, has_number, is_in_time, reply_of, with_number, first_number};
 ghost use Rattle.spent_windows.specs.Windows.{is_marked, window_of, AreInOrder};
 ghost use Rattle.house_state.specs.LiveWindows.{AreUsed, AreUsedBut};
 ghost use Rattle.house_state.specs.HouseState.{IsSound, HasRoom, HasRoomToEnter, HasRoomToDraw, HasChange, pieces_size, HasRoomFor, GoesOn, IsEntered, IsDrawn, IsApplied, IsAsBefore, version_of, own_scrip, size_with, series_now, end_by, ended_by};
@@ -282,6 +282,7 @@ impl HouseState {
 
     /// The least number of an entry whose reply is kept.
     pub fn first_kept(&self) -> Option<u64>
+        ensures first { result ≡ first_number self.now.kept.replies }
         ensures least { IfSome result (λ n. All (λ r. n ≤ r.entry.number) self.now.kept.replies) }
         ensures none { IsNone result ↔ (self.now.kept.replies ≡ []) }
     {

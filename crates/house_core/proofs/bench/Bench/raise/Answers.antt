@@ -1,6 +1,7 @@
 use Rattle.std.proofs.Common.{◌≤◌, refl, sym, arith, subst}
-use Rattle.std.specs.Prelude.{max}
+use Rattle.std.specs.Prelude.{Option, max}
 use Rattle.house_state.specs.HouseState.{HouseStateView}
+use Rattle.house_state.specs.Trade.{IsKeptFrom}
 use Rattle.house_state.specs.Representation.{StateRepresents}
 use Rattle.house_core.proofs.KeptLater.{stands_later, contents_later}
 use Rattle.house_core.proofs.bench.Bench.raise.Goals as goal
@@ -19,3 +20,7 @@ pub returns-clause-contents : goal.returns-clause-contents
 returns-clause-contents g c h st has =
     contents_later g.T.Trade.trade c.args.self.now (record { state = c.raise-time.new.self; trade = c.forget.new.self; tally = c.args.self.now.tally }) h (max c.args.self.now.state.time c.args.reading) c.first_kept.result has
     c.raise-time.ensures.replies c.first_kept.ensures.least (λ e. c.first_kept.ensures.none.0 (rw e refl)) (λ n kept held. c.forget.ensures.held h n st.learned kept held)
+
+pub returns-clause-freed : goal.returns-clause-freed
+returns-clause-freed g c h n st held =
+    subst (λ (from : Option ℕ). IsKeptFrom h from n) c.first_kept.ensures.first (c.forget.ensures.freed h n st.learned held)
