@@ -1,17 +1,28 @@
 //! Books are read to be audited, each by one pass over its disk, and audited; or their chains are said.
 #![tactic(auto)]
 
+
 mod auditing;
 mod book_chains;
 mod books;
 mod chain_reading;
+mod check;
+mod desks;
 mod fault;
+mod handed;
+mod judge;
+mod licences;
+mod marks;
+mod names;
 mod reader;
 mod reading;
 mod report;
+mod rows;
 mod telling;
+mod totals;
 mod tree;
 mod tree_auditing;
+mod tree_books;
 
 pub use audit_model::{Report, Sums, VendorSums};
 pub use auditing::audit;

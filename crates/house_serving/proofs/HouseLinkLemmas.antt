@@ -26,7 +26,7 @@ use Rattle.house_serving.specs.declared.links.ServeOut.TheVariants as outs
 use Rattle.house_serving.specs.Orders.{outside_of, history_of, StandsAt, RefinesBy}
 use Rattle.house_serving.specs.InDoubt.{RequestInDoubt, InDoubtTurn, InDoubtLink}
 use Rattle.house_serving.specs.Links.{TurnsHouse, EndsTurns, ServesLink, ServesLinks}
-use Rattle.command_input.proofs.AsideLemmas.{TellsAside, SentNoMore, no_more_still, no_more_taken}
+use Rattle.millicent_http.proofs.AsideLemmas.{TellsAside, SentNoMore, no_more_still, no_more_taken}
 use Rattle.house_serving.proofs.HouseOrders.{house_leaves, stands_kept}
 use Rattle.house_serving.proofs.HouseTurnLemmas.{ReadOn, stands_at}
 use Rattle.house_state.specs.Trade.{TradeView}

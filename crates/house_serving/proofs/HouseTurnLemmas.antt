@@ -47,7 +47,7 @@ use Rattle.link_turns.proofs.OrderLemmas.{went_on, went_quiet, went_sent, went_w
 use Rattle.house_serving.specs.Orders.{outside_of, history_of, StandsAt, RefinesBy}
 use Rattle.house_serving.specs.InDoubt.{RequestInDoubt}
 use Rattle.house_serving.specs.Links.{RepliesTo, AnswersRequest, RefusesHead, TurnsHouse}
-use Rattle.command_input.proofs.AsideLemmas.{TellsAside, SentNoMore, no_more_still, no_more_then, no_more_heard, no_more_finished}
+use Rattle.millicent_http.proofs.AsideLemmas.{TellsAside, SentNoMore, no_more_still, no_more_then, no_more_heard, no_more_finished}
 use Rattle.house_serving.proofs.HouseOrders.{house_leaves, stands_kept}
 use Rattle.house_state.specs.Trade.{TradeView}
 

@@ -11,7 +11,7 @@ use Rattle.scrip_journal.specs.Layout.{Encodes}
 use Rattle.scrip_journal.specs.Exits.{EitherNoOutput}
 use Rattle.millicent_http.specs.Steps.{Did, sent_of, state_after}
 use Rattle.millicent_http.proofs.StepLemmas.{sent_of-append, state_after-append}
-use Rattle.command_input.proofs.AsideLemmas.{TellsAside, SentNoMore, aside_still, aside_sent}
+use Rattle.millicent_http.proofs.AsideLemmas.{TellsAside, SentNoMore, aside_still, aside_sent}
 use Rattle.link_turns.specs.Orders.{IsNext, InOrder, MovedBy, WentBy, IsEither, IsPart, InDoubt, HaltsAt, HaltedBy}
 
 -- ---- bytes

@@ -29,7 +29,7 @@ use Rattle.site_commands.proofs.EndLemmas.{Calm, served_grew, operated_grew, ini
 use Rattle.operator_command.specs.Operations.{OperationView}
 use Rattle.site_commands.specs.Serving.{HasSite}
 use Rattle.wallet_model.specs.Asks.{Asking}
-use Rattle.wallet_commands.specs.Books.{HasWallet}
+use Rattle.wallet_core.specs.OnDisk.{HasWallet}
 use Rattle.wallet_commands.specs.Founding.{Inits}
 use Rattle.wallet_commands.specs.Taking.{Takes}
 use Rattle.wallet_commands.specs.Listing.{ListsLines}
@@ -40,7 +40,7 @@ use Rattle.audit_cmd.specs.Reports.{AreCalm, report_lines}
 use Rattle.mc_records.specs.declared.limits.TheConstants.Limits.{FULL}
 use Rattle.audit_search.specs.Audit.{Audited}
 use Rattle.relay_core.specs.Text.{tree_text}
-use Rattle.tree_audit.specs.Audit.{TreeAudited}
+use Rattle.audit_cmd.specs.Audit.{TreeAudited}
 
 -- a call that failed is seen at the end
 rose_at_end : (a b c : ℕ) (line : List ℕ) (v w : LinkView) (whole : Bool) → b ≡ v.faults → c ≡ w.faults → Says line whole v w → Rose a b → Rose a c

@@ -8,8 +8,8 @@ use Rattle.command_status.specs.Statuses.{number_of, line_of}
 use Rattle.command_status.proofs.OpenLaws.{Calm}
 use Rattle.wallet_words.specs.declared.proxying.Proxying.{Proxying}
 use Rattle.mc_words.specs.Commands.{AreOfNoRow}
-use Rattle.wallet_commands.specs.Books.{HasWallet}
-use Rattle.proxy_command.proofs.EndLemmas.{proxied_well, proxied_grew}
+use Rattle.wallet_core.specs.OnDisk.{HasWallet}
+use Rattle.wallet_proxy.proofs.EndLemmas.{proxied_well, proxied_grew}
 use Rattle.mc_top.specs.declared.named.Places.{Places}
 use Rattle.mc_top.specs.Places.{ArePlaces, AreProxyPlaces}
 use Rattle.mc_top.specs.Programs.{IsDoneOrShort}

@@ -16,7 +16,7 @@ use Rattle.millicent_http.specs.Courses.{AreRead}
 use Rattle.millicent_http.specs.Received.{Received}
 use Rattle.house_state.specs.Learning.{Test}
 use Rattle.operator_command.specs.Operations.{OperationView}
-use Rattle.command_input.specs.Inputs.{LosesInput, LostInput}
+use Rattle.millicent_http.specs.Inputs.{LosesInput, LostInput}
 use Rattle.command_status.specs.declared.status.Status.{Status}
 use Rattle.command_status.specs.declared.status.Status.TheVariants as ends
 use Rattle.command_status.specs.Statuses.{number_of}
@@ -31,7 +31,7 @@ use Rattle.wallet_model.specs.Requests.{Pending, oldest_kept}
 use Rattle.wallet_model.specs.Asks.{Asking, pend_entry, due_entry}
 use Rattle.wallet_model.specs.Settling.{settlement, refusal_number}
 use Rattle.wallet_core.specs.Taking.{take_entry}
-use Rattle.wallet_commands.specs.Books.{HasWallet, EncodesWallet}
+use Rattle.wallet_core.specs.OnDisk.{HasWallet, EncodesWallet}
 use Rattle.wallet_commands.specs.Founding as wallets
 use Rattle.wallet_commands.specs.Payments.{Learned, Settles, Stays, Breaks, Learns, StaysKept}
 use Rattle.wallet_commands.specs.declared.saying.Saying.{Saying}
@@ -43,7 +43,7 @@ use Rattle.wallet_commands.specs.Listing.{ListsHeld, SaysHeld}
 use Rattle.held_lines.specs.Resold.{resold_for}
 use Rattle.wallet_commands.specs.Taking.{TookBy, TakesBook}
 use Rattle.wallet_commands.specs.Chaining.{switch_entry, ChainedBy, HasChained, ChainsBook}
-use Rattle.wallet_commands.proofs.EndLemmas.{not_of_other}
+use Rattle.wallet_core.proofs.DiskLemmas.{not_of_other}
 use Rattle.mc_top.specs.Refusals.{RefusesFounder, RefusesOperator, RefusesEntry, RefusesPieces, RefusesRequest, RefusesAsking, RefusesAgain, RefusesSwitch, IsAtTime, RefusesPayment, RefusesRenewal, RefusesLines}
 use Rattle.mc_top.specs.Programs.{IsDoneOrRefused, HaveBooks, IsDoneOrStrange}
 

@@ -27,14 +27,14 @@ use Rattle.counted_trade.specs.Counted.{PassesBoth}
 use Rattle.settle_commands.specs.Operations.{stating, settling}
 use Rattle.site_words.specs.declared.settlement.Stating.{Stating}
 use Rattle.wallet_commands.specs.Founding.{Inits}
-use Rattle.wallet_commands.specs.Books.{HasWallet}
+use Rattle.wallet_core.specs.OnDisk.{HasWallet}
 use Rattle.std.specs.List.{AllByRecursion}
 use Rattle.audit_search.specs.declared.fault.BooksFault.TheVariants as founds
 use Rattle.mc_records.specs.declared.limits.TheConstants.Limits.{FULL}
 use Rattle.ledger_model.specs.Histories.{History}
 use Rattle.audit_search.specs.declared.fault.BooksFault.{BooksFault}
 use Rattle.audit_search.specs.Audit.{Audited}
-use Rattle.tree_audit.specs.Audit.{TreeAudited}
+use Rattle.audit_cmd.specs.Audit.{TreeAudited}
 use Rattle.audit_cmd.specs.Books.{AreTold, IsLawfulBook, AreAuditedBy}
 use Rattle.audit_cmd.specs.Reports.{RefusesBy, ReportsBooks, ReportsTree, ReportCauses, TellsChains, ChainCauses, AreCalm, EndsReport, EndsChains}
 use Rattle.mc_words.specs.Commands.{AreWords}

@@ -7,7 +7,7 @@ use Rattle.command_status.specs.declared.status.Status.{Status}
 use Rattle.command_status.specs.declared.status.Status.TheVariants as ends
 use Rattle.wallet_words.specs.declared.proxying.Proxying.{Proxying}
 use Rattle.wallet_proxy.specs.Proxy.{Bounds}
-use Rattle.proxy_command.specs.Proxying.{ProxiesBook, ProxyCauses}
+use Rattle.wallet_proxy.specs.Proxying.{ProxiesBook, ProxyCauses}
 use Rattle.mc_top.specs.Programs.{Ends, Unread}
 
 -- what the words say that may be paid, to whom, out of a journal of this program's limits

@@ -14,7 +14,7 @@ use Rattle.scrip_journal.specs.Founds.{IsTaken}
 use Rattle.millicent_http.specs.declared.clock.Clock.TheVariants.{OfLinks}
 use Rattle.millicent_http.specs.Courses.{AreRead}
 use Rattle.millicent_http.specs.Received.{Received}
-use Rattle.command_input.specs.Inputs.{TakesInput, IsInput}
+use Rattle.millicent_http.specs.Inputs.{TakesInput, IsInput}
 use Rattle.command_status.specs.declared.status.Status.TheVariants as ends
 use Rattle.house_core.specs.Tasks.{Task, IsRefused}
 use Rattle.operator_command.specs.Operations.{OperationView, full}

@@ -4,14 +4,14 @@ ghost use Rattle.mc_words.specs.Commands.{AreOfNoRow};
 ghost use Rattle.command_status.specs.Statuses.{number_of};
 ghost use Rattle.wallet_words.specs.declared.proxying.Proxying.{Proxying as Proxied};
 ghost use Rattle.wallet_words.specs.Proxying.{AreProxyWords, AreNoProxyWords};
-ghost use Rattle.wallet_commands.specs.Books.{HasWallet};
+ghost use Rattle.wallet_core.specs.OnDisk.{HasWallet};
 ghost use Rattle.mc_top.specs.Programs.{Ends, IsDoneOrShort};
 ghost use Rattle.mc_top.specs.Proxying.{Proxies, RunsProxy, RefusesWords};
 
 use crate::program::end;
 use command_status::Status;
 use mc_outside::{Link, Outside};
-use proxy_command::serve_wallet;
+use wallet_proxy::serve_wallet;
 use std::alloc::Global;
 use wallet_words::{Proxying, proxying_of};
 

@@ -13,3 +13,5 @@ pub mod StepLemmas
 pub mod LinkCalls
 pub mod CourseLemmas
 pub mod RunLemmas
+pub mod InputLemmas
+pub mod AsideLemmas

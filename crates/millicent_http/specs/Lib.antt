@@ -13,3 +13,4 @@ pub mod Occurs
 pub mod ReplyHeads
 pub mod Decimals
 pub mod Received
+pub mod Inputs

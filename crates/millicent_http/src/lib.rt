@@ -3,6 +3,7 @@
 
 mod clock;
 mod fields;
+mod input;
 mod item;
 mod law;
 mod occurs;
@@ -16,6 +17,7 @@ mod send;
 mod whole;
 
 pub use clock::Clock;
+pub use input::{InputFault, input_of};
 pub use item::{After, HeadOut, HeadRefusal, ItemRef};
 pub use law::{a_refusal_has_a_status, a_request_asks_a_target, one_reading};
 pub use reader::{HeadReader, MAX_HEAD, MAX_ITEMS};

@@ -16,8 +16,8 @@ use Rattle.command_status.specs.Statuses.{number_of}
 use Rattle.site_commands.specs.Serving.{HasSite, NotOpened, ServesLinksOf, ServesBook, BookCauses, ServeEnds, ServeCauses}
 use Rattle.site_commands.specs.Init.{FoundCauses}
 use Rattle.site_commands.specs.Operator.{DidBy, OperatesBook, OperateEnds, OperateCauses}
-use Rattle.command_input.specs.Inputs.{LosesInput}
-use Rattle.command_input.proofs.InputLemmas.{taken_counts}
+use Rattle.millicent_http.specs.Inputs.{LosesInput}
+use Rattle.millicent_http.proofs.InputLemmas.{taken_counts}
 pub use Rattle.command_status.proofs.OpenLaws.{Calm}
 use Rattle.command_status.proofs.OpenLaws.{begins_with_header, not_spoiled, not_unchained}
 use Rattle.site_commands.proofs.OpenLaws.{not_unlawful, not_of_other}

@@ -17,7 +17,7 @@ use Rattle.house_core.specs.declared.house.House.{House}
 use Rattle.scrip_journal.specs.Founds.{fault_disk, FoundImage, FoundNoOutput, CountsBy, ReadsOnly}
 use Rattle.scrip_journal.proofs.FoundLemmas.{found_before}
 use Rattle.house_opening.specs.Found.{FoundedFor, FoundsHouseBy}
-use Rattle.command_input.proofs.AsideLemmas.{TellsAside, no_more_still, aside_still, quiet_link}
+use Rattle.millicent_http.proofs.AsideLemmas.{TellsAside, no_more_still, aside_still, quiet_link}
 use Rattle.operator_command.specs.Operations.{full}
 use Rattle.site_words.specs.Words.{Founder}
 use Rattle.site_commands.specs.Founding.{site_of}

@@ -26,10 +26,10 @@ use Rattle.house_core.proofs.HouseDisk.{house_keeps}
 use Rattle.house_state.specs.Learning.{Test}
 use Rattle.house_state.specs.Trade.{TradeView}
 use Rattle.house_core.specs.Tasks.{Task, Add, Stays, Refuse, Does, LeavesBy, Performs}
-use Rattle.command_input.proofs.AsideLemmas.{TellsAside, SentNoMore, no_more_then, no_more_still, taken_quiet, aside_still, quiet_link}
+use Rattle.millicent_http.proofs.AsideLemmas.{TellsAside, SentNoMore, no_more_then, no_more_still, taken_quiet, aside_still, quiet_link}
 use Rattle.command_status.specs.declared.status.Status.{Status}
 use Rattle.command_status.specs.declared.status.Status.TheVariants as ends
-use Rattle.command_input.specs.Inputs.{TakesInput, LosesInput}
+use Rattle.millicent_http.specs.Inputs.{TakesInput, LosesInput}
 use Rattle.operator_command.specs.Operations.{full, OperationView}
 use Rattle.site_commands.specs.Endings.{outcome_status}
 use Rattle.site_commands.specs.Serving.{EncodesLawful}

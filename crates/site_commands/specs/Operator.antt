@@ -16,7 +16,7 @@ use Rattle.house_opening.specs.Opening.{OpenedFor}
 use Rattle.house_core.specs.Tasks.{Task, Add, Stays, after, IsDoable, IsRefused}
 use Rattle.command_status.specs.declared.status.Status.{Status}
 use Rattle.command_status.specs.declared.status.Status.TheVariants as ends
-use Rattle.command_input.specs.Inputs.{TakesInput, LosesInput}
+use Rattle.millicent_http.specs.Inputs.{TakesInput, LosesInput}
 use Rattle.operator_command.specs.Operations.{OperationView, full}
 use Rattle.site_commands.specs.Serving.{EncodesLawful, EncodesEither, NotOpened, BookCauses}
 

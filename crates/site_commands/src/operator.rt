@@ -6,7 +6,7 @@ ghost use Rattle.site_commands.specs.Operator.{OperatesBook, OperatesOpened, Ope
 ghost use Rattle.site_commands.specs.Endings.{outcome_status};
 ghost use Rattle.command_status.specs.Statuses.{number_of};
 
-use command_input::{InputFault, input_of};
+use millicent_http::{InputFault, input_of};
 use command_status::{Status, not_opened};
 use house_core::{House, Outcome};
 use house_opening::open_house;

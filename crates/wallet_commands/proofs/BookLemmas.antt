@@ -1,36 +1,21 @@
 -- The book of a wallet, as it is opened and while links work.
-use Rattle.std.proofs.Common.{◌≡◌, ◌∙◌, inl, ◌⊎◌, ℕ, List, Option, refl, sym, ap, subst, Some, Err}
+use Rattle.std.proofs.Common.{◌≡◌, ◌∙◌, inl, ◌⊎◌, ℕ, List, Option, sym, ap, subst, Some}
 use Rattle.std.specs.Prelude.{IsSome}
 use Rattle.mc_outside.specs.DiskView.{DiskView, LinkKeeps, Ran}
 use Rattle.mc_outside.specs.LinkView.{LinkView}
 use Rattle.mc_outside.proofs.Runs.{ran_then, ran_weaker}
-use Rattle.mc_records.specs.declared.limits.TheConstants.Limits.{FULL}
 use Rattle.ledger_model.specs.Histories.{History}
 use Rattle.scrip_journal.specs.Layout.{Encodes}
 use Rattle.scrip_journal.specs.States.{AtRest, IsChainOf, IsJournal}
-use Rattle.scrip_journal.specs.Rests.{RestsAs, journal_leaves}
+use Rattle.scrip_journal.specs.Rests.{RestsAs}
 use Rattle.scrip_journal.proofs.Unique.{one_history}
-use Rattle.scrip_journal.specs.declared.fault.HouseFault.{HouseFault}
-use Rattle.scrip_journal.specs.declared.fault.HouseFault.TheVariants as faults
-use Rattle.scrip_journal.specs.Founds.{fault_disk}
-use Rattle.command_status.specs.Faults.{fault_status}
 use Rattle.wallet_book.specs.Book.{BookView, WalletRepresents}
 use Rattle.wallet_core.specs.declared.wallet.Wallet.{Wallet}
 use Rattle.wallet_core.specs.Wallet.{WalletStands}
 use Rattle.wallet_core.specs.Rests.{WalletRests}
-use Rattle.wallet_core.specs.Opening.{OpensWallet}
-use Rattle.wallet_commands.specs.Books.{EncodesWallet, Untouched, NotOpened, OldPair}
-use Rattle.command_input.proofs.AsideLemmas.{TellsAside, SentNoMore, quiet_link}
-
--- a wallet that stands for a history has it on its disk
-pub on_disk : {O : Type 0} (disk : O → DiskView) (x : Wallet O) (h : History) → WalletStands disk x h → EncodesWallet (disk x.journal.disk) h
-on_disk disk x h st = record {
-  bytes = st.journal.bytes;
-  told = st.journal.told;
-  stands = st.journal.stands;
-  lawful = st.book.lawful;
-  lasts = λ image l. journal_leaves disk x.journal h st.journal image l;
-}
+use Rattle.wallet_commands.specs.Books.{OldPair}
+use Rattle.wallet_core.specs.OnDisk.{Untouched}
+use Rattle.millicent_http.proofs.AsideLemmas.{TellsAside, SentNoMore, quiet_link}
 
 -- what a journal has it had before links worked
 journal_had : {O : Type 0} (disk : O → DiskView) (j k : AtRest O) (h : History) → LinkKeeps (disk j.disk) (disk k.disk) → RestsAs j k → IsJournal disk k h → IsJournal disk j h
@@ -59,18 +44,6 @@ one_book disk x h g st other =
     let same : Some st.journal.bytes ≡ Some other.journal.bytes = sym st.journal.told ∙ other.journal.told in
     let bytes : st.journal.bytes ≡ other.journal.bytes = cc in
     one_history h g st.journal.bytes st.journal.stands (subst (Encodes g) (sym bytes) other.journal.stands)
-
--- a book was not opened, by what is answered
-pub not_opened : {O : Type 0} (link : O → LinkView) (disk : O → DiskView) (bytes : List ℕ) (a : O) (fault : HouseFault O) → OpensWallet {D = O} disk FULL bytes (Err fault) → Untouched link disk a (fault_disk fault)
-    → NotOpened link disk bytes a (fault_status fault) (fault_disk fault)
-not_opened link disk bytes a (faults.NotJournal d) opens same = (opens, same)
-not_opened link disk bytes a (faults.BadRecord d place) opens same = (opens, same)
-not_opened link disk bytes a (faults.BadChain d place stood computed) opens same = ((stood, computed, opens), same)
-not_opened link disk bytes a (faults.Unlawful d place) opens same = (opens, same)
-not_opened link disk bytes a (faults.WrongKind d) opens same = (refl, opens, same)
-not_opened link disk bytes a (faults.NotEmpty d size) opens same = absurd opens
-not_opened link disk bytes a (faults.Disk d) opens same = same
-not_opened link disk bytes a (faults.NoMemory d) opens same = same
 
 -- ---- crash pairs up to the wallet that did nothing yet
 

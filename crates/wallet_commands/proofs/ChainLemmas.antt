@@ -20,8 +20,8 @@ use Rattle.wallet_core.specs.Outcomes.{outcome_disk}
 use Rattle.wallet_core.specs.Switching.{TellsAdded, SwitchesBy, Switches}
 use Rattle.wallet_commands.specs.Books.{OldPair, AddPair}
 use Rattle.wallet_commands.specs.Chaining.{switch_entry, EndsLine, chained_status, ChainedBy, HasChained}
-use Rattle.command_input.proofs.AsideLemmas.{TellsAside}
-use Rattle.wallet_commands.proofs.BookLemmas.{on_disk}
+use Rattle.millicent_http.proofs.AsideLemmas.{TellsAside}
+use Rattle.wallet_core.proofs.DiskLemmas.{on_disk}
 use Rattle.wallet_commands.proofs.PayLemmas.{AtClock, entry_pairs, unwritten, doubted, old, aside_at}
 
 -- the entry of a Switch at a time, by whether one stands

@@ -1,31 +1,28 @@
 -- How a wallet's command ends whose book encodes the lawful history of a wallet, where no call failed.
-use Rattle.std.proofs.Common.{◌≡◌, ◌≤◌, ◌⊎◌, ◌∙◌, inl, inr, ℕ, Bool, true, false, List, [], ◌∷◌, ◌++◌, length, max, refl, sym, ap, subst, arith, Option, Some, None, Result, Ok, Err}
+use Rattle.std.proofs.Common.{◌≡◌, ◌≤◌, ◌⊎◌, ◌∙◌, inl, inr, ℕ, Bool, true, false, List, [], ◌∷◌, ◌++◌, length, max, refl, sym, ap, arith, Option, Some, None, Result, Ok, Err}
 use Rattle.std.specs.Prelude.{◌==◌, option_map, unwrap_or}
-use Rattle.std.proofs.lemmas.Bool.{eqb-true}
 use Rattle.mc_outside.specs.DiskView.{DiskView}
 use Rattle.mc_outside.specs.LinkView.{LinkView}
 use Rattle.scrip_form.specs.Scrip.{Scrip}
 use Rattle.mc_records.specs.declared.limits.TheConstants.Limits.{FULL}
 use Rattle.mc_records.specs.declared.refusal.Refusal.{Refusal}
 use Rattle.mc_records.specs.declared.refusal.Refusal.TheVariants as refusals
-use Rattle.mc_records.specs.Entry.{Entry, Site}
-use Rattle.mc_records.specs.Following.{AllFollowBy}
+use Rattle.mc_records.specs.Entry.{Entry}
 use Rattle.ledger_model.specs.Histories.{History, time}
 use Rattle.ledger_model.specs.Lines as lines
 use Rattle.ledger_model.specs.Answer.{fitted}
 use Rattle.scrip_journal.specs.Layout.{Encodes}
-use Rattle.scrip_journal.specs.Causes.{Only, IsUnlawfulAt, IsOfOther, IsOfOtherKind}
-use Rattle.scrip_journal.proofs.Beginnings.{begins_history}
+use Rattle.scrip_journal.specs.Causes.{Only}
 use Rattle.millicent_http.specs.Received.{Received}
-use Rattle.command_input.specs.Inputs.{LostInput}
+use Rattle.millicent_http.specs.Inputs.{LostInput}
 use Rattle.command_status.specs.declared.status.Status.{Status}
 use Rattle.command_status.specs.declared.status.Status.TheVariants as ends
 use Rattle.command_status.specs.Statuses.{number_of}
 pub use Rattle.command_status.proofs.OpenLaws.{Calm}
-use Rattle.command_status.proofs.OpenLaws.{begins_with_header, not_spoiled, not_unchained, not_unlawful}
+use Rattle.command_status.proofs.OpenLaws.{begins_with_header, not_spoiled, not_unchained}
 use Rattle.wallet_model.specs.Requests.{Pending, oldest_kept}
 use Rattle.wallet_model.specs.Holdings.{holdings}
-use Rattle.wallet_model.specs.Follows.{wallet_allows, WalletFollows, IsWalletBook}
+use Rattle.wallet_model.specs.Follows.{WalletFollows, IsWalletBook}
 use Rattle.wallet_model.specs.Asks.{Offered, Asking, pend_entry, due_entry}
 use Rattle.wallet_model.specs.Settling.{settlement}
 use Rattle.wallet_core.specs.Settled.{bought}
@@ -34,7 +31,7 @@ use Rattle.held_lines.specs.Resold.{resold_for}
 use Rattle.wallet_commands.specs.declared.saying.Saying.{Saying}
 use Rattle.wallet_commands.specs.declared.saying.Saying.TheVariants as sayings
 use Rattle.wallet_commands.specs.Lines.{got_line, holding_lines}
-use Rattle.wallet_commands.specs.Books.{HasWallet, EncodesWallet, NotOpened}
+use Rattle.wallet_core.specs.OnDisk.{HasWallet, EncodesWallet, NotOpened}
 use Rattle.wallet_commands.specs.Causes.{WalletCauses}
 use Rattle.wallet_commands.specs.Founding.{InitCauses}
 use Rattle.wallet_commands.specs.Taking.{TookBy, TakesBook}
@@ -42,6 +39,7 @@ use Rattle.wallet_commands.specs.Listing.{ListsBook, SaysHeld, ListsHeld}
 use Rattle.wallet_commands.specs.Chaining.{ChainedBy, ChainsBook, switch_entry}
 use Rattle.wallet_commands.specs.Payments.{Learned, Settles, Stays, Breaks}
 use Rattle.wallet_commands.specs.Paying.{ended_by, renewed_by, ended_as, SettlesAs, EndsAs, UsesLinkAs, PaysAs, PaysBook, RenewsBook, RetriesBy, RetriesBook}
+use Rattle.wallet_core.proofs.DiskLemmas.{not_of_other, no_entry_breaks}
 
 -- ---- the count of the links' faults did not fall
 
@@ -83,24 +81,6 @@ init_grew link disk a b ends.BadWords calm causes = absurd causes
 init_grew link disk a b (ends.Stranger name id) calm causes = absurd causes
 
 -- ---- a lawful book is opened
-
-all_of : (h : History) → IsWalletBook h → AllFollowBy WalletFollows [] h
-all_of [] lawful = absurd lawful
-all_of (e ∷ es) lawful = lawful
-
-first_is_wallet : (e : Entry) → wallet_allows [] e ≡ true → IsOfOtherKind (Only 2) e → ⊥
-first_is_wallet (Site m kind name house) allowed other = other (eqb-true kind 2 allowed)
-first_is_wallet e allowed other = other
-
-pub not_of_other : (h : History) (bytes : List ℕ) → Encodes h bytes → IsWalletBook h → IsOfOther (Only 2) bytes → ⊥
-not_of_other h bytes st lawful other =
-    let more = begins_history h (other.first ∷ []) bytes st other.begins in
-    let all : AllFollowBy WalletFollows [] (other.first ∷ more.0) = subst (λ (g : History). AllFollowBy WalletFollows [] g) more.1 (all_of h lawful) in
-    first_is_wallet other.first all.0.allowed other.other
-
--- no entry of it breaks
-pub no_entry_breaks : (h : History) (bytes : List ℕ) (place : ℕ) → Encodes h bytes → IsWalletBook h → IsUnlawfulAt WalletFollows (Only 2) bytes place → ⊥
-no_entry_breaks h bytes place st lawful unlawful = not_unlawful WalletFollows (Only 2) h bytes place st (λ empty. subst IsWalletBook empty lawful) (all_of h lawful) unlawful
 
 -- it was opened, unless memory was refused
 only_memory : {O : Type 0} (link : O → LinkView) (disk : O → DiskView) (h : History) (bytes : List ℕ) (a b : O) (status : Status) → Encodes h bytes → IsWalletBook h → Calm link disk a b → WalletCauses link disk a status b

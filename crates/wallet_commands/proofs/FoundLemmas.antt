@@ -20,7 +20,7 @@ use Rattle.wallet_core.specs.declared.wallet.Wallet.{Wallet}
 use Rattle.wallet_core.specs.Opening.{FoundsWalletBy}
 use Rattle.command_status.specs.Founding.{FoundingImage}
 use Rattle.wallet_commands.specs.Founding.{site_of, FoundsBy}
-use Rattle.command_input.proofs.AsideLemmas.{TellsAside, no_more_still, aside_still, quiet_link}
+use Rattle.millicent_http.proofs.AsideLemmas.{TellsAside, no_more_still, aside_still, quiet_link}
 
 site_fits : (name : List ℕ) (moment : ℕ) → IsName name → moment < 2 ^ 35 → Fits (site_of name moment)
 site_fits name moment is last = record { moment = last; name = is; house = tt }

@@ -38,8 +38,9 @@ use Rattle.wallet_commands.specs.declared.saying.Saying.{Saying}
 use Rattle.wallet_commands.specs.declared.saying.Saying.TheVariants as sayings
 use Rattle.wallet_commands.specs.Books.{EncodesEither, IsKnown, Opened, OldPair, EntryPair}
 use Rattle.wallet_commands.specs.Paying.{UsesLink, UsesLinkAs, NotAsked, PaysAs, Clocked, RetriesBy}
-use Rattle.command_input.proofs.AsideLemmas.{TellsAside, no_more_still, aside_still}
-use Rattle.wallet_commands.proofs.BookLemmas.{on_disk, one_book, tells_on, old_pairs}
+use Rattle.millicent_http.proofs.AsideLemmas.{TellsAside, no_more_still, aside_still}
+use Rattle.wallet_commands.proofs.BookLemmas.{one_book, tells_on, old_pairs}
+use Rattle.wallet_core.proofs.DiskLemmas.{on_disk}
 use Rattle.wallet_commands.proofs.KeptLemmas.{entered_is_kept, oldest_is_kept}
 
 -- ---- what is entered

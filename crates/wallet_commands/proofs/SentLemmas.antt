@@ -6,7 +6,7 @@ use Rattle.mc_outside.specs.Bytes.{BeginsWith}
 use Rattle.mc_outside.specs.DiskView.{DiskView, LinkKeeps, Ran}
 use Rattle.mc_outside.specs.LinkView.{Session, LinkView, on_last, send, fresh, all_sent, after_send, next_taken}
 use Rattle.mc_outside.proofs.Runs.{ran_link}
-use Rattle.command_input.proofs.AsideLemmas.{TellsAside, SentNoMore, some_of, is_there}
+use Rattle.millicent_http.proofs.AsideLemmas.{TellsAside, SentNoMore, some_of, is_there}
 
 -- the next link was taken, and these bytes were sent on it
 sent_next : (ss : List Session) (x : List ℕ) → all_sent (on_last (send x) (ss ++ fresh ∷ [])) ≡ all_sent ss ++ x

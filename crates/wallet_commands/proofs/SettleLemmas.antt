@@ -44,13 +44,13 @@ use Rattle.wallet_core.specs.Answers.{TellsOnly, IsFull}
 use Rattle.wallet_commands.specs.declared.saying.Saying.{Saying}
 use Rattle.wallet_commands.specs.declared.saying.Saying.TheVariants as sayings
 use Rattle.wallet_commands.specs.Lines.{renewed_line}
-use Rattle.wallet_commands.specs.Books.{EncodesWallet}
+use Rattle.wallet_core.specs.OnDisk.{EncodesWallet}
 use Rattle.wallet_commands.specs.Causes.{SettleRefused, CausesBy, NoneFailed}
 use Rattle.wallet_commands.specs.Saying.{said_as, IsSaid, IsSaidInPart}
 use Rattle.wallet_commands.specs.Paying.{ended_by, ended_as, first_brought, SettlesAs, EndsAs, entered_by, settled_by}
 use Rattle.wallet_commands.specs.Replies.{settlement_status, came_behind, told_status, settled_status, learned_by, SettledPair, EndsReply}
-use Rattle.command_input.proofs.AsideLemmas.{TellsAside, SentNoMore, no_more_still, aside_still, quiet_link}
-use Rattle.wallet_commands.proofs.BookLemmas.{on_disk}
+use Rattle.millicent_http.proofs.AsideLemmas.{TellsAside, SentNoMore, no_more_still, aside_still, quiet_link}
+use Rattle.wallet_core.proofs.DiskLemmas.{on_disk}
 use Rattle.wallet_commands.proofs.CauseLemmas.{full_check}
 
 -- ---- the check

@@ -13,7 +13,7 @@ use Rattle.ledger_model.specs.Lines as lines
 use Rattle.ledger_model.specs.Answer.{fitted}
 use Rattle.millicent_http.specs.declared.clock.Clock.TheVariants.{OfLinks}
 use Rattle.millicent_http.specs.Courses.{AreRead, with_readings}
-use Rattle.command_input.specs.Inputs.{IsInput, LostInput}
+use Rattle.millicent_http.specs.Inputs.{IsInput, LostInput}
 use Rattle.command_status.specs.declared.status.Status.{Status}
 use Rattle.command_status.specs.declared.status.Status.TheVariants as ends
 use Rattle.wallet_model.specs.Holdings.{brings}
@@ -28,8 +28,9 @@ use Rattle.wallet_commands.specs.declared.taking.TheConstants.{MOST_LINES}
 use Rattle.wallet_commands.specs.Lines.{taken_line}
 use Rattle.wallet_commands.specs.Books.{Opened, OldPair, AddPair}
 use Rattle.wallet_commands.specs.Taking.{taken_status, TookBy, Unread, Took}
-use Rattle.command_input.proofs.AsideLemmas.{TellsAside, SentNoMore, no_more_then, no_more_still, aside_still, input_quiet}
-use Rattle.wallet_commands.proofs.BookLemmas.{on_disk, tells_on, old_pairs}
+use Rattle.millicent_http.proofs.AsideLemmas.{TellsAside, SentNoMore, no_more_then, no_more_still, aside_still, input_quiet}
+use Rattle.wallet_commands.proofs.BookLemmas.{tells_on, old_pairs}
+use Rattle.wallet_core.proofs.DiskLemmas.{on_disk}
 use Rattle.wallet_commands.proofs.PayLemmas.{entry_pairs, unwritten, doubted}
 
 -- ---- what is taken

@@ -29,9 +29,9 @@ use Rattle.wallet_commands.specs.Payments.{Stays, Breaks, SentPart, Learns, Read
 use Rattle.wallet_commands.specs.Paying as paying
 use Rattle.wallet_commands.specs.Paying.{UsePair, UsesLinkAs, settled_by}
 use Rattle.wallet_commands.specs.Replies.{learned_by, learned_of, SettledPair, EndsReply, ReadsReply}
-use Rattle.command_input.proofs.AsideLemmas.{TellsAside, SentNoMore, no_more_then, no_more_still, no_more_heard, no_more_finished, aside_still, still_told, quiet_link}
+use Rattle.millicent_http.proofs.AsideLemmas.{TellsAside, SentNoMore, no_more_then, no_more_still, no_more_heard, no_more_finished, aside_still, still_told, quiet_link}
 use Rattle.wallet_commands.proofs.SentLemmas.{SentMore, more_none, more_on_next, still_tells, aside_more, begins_itself, begins_take, begun_link}
-use Rattle.wallet_commands.proofs.BookLemmas.{on_disk}
+use Rattle.wallet_core.proofs.DiskLemmas.{on_disk}
 
 -- ---- reading the reply
 

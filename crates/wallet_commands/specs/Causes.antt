@@ -6,7 +6,7 @@ use Rattle.mc_outside.specs.LinkView.{LinkView, next_taken, none_left, after_sen
 use Rattle.mc_records.specs.declared.refusal.Refusal.{Refusal}
 use Rattle.mc_records.specs.declared.refusal.Refusal.TheVariants as refusals
 use Rattle.millicent_http.specs.Courses.{with_readings}
-use Rattle.command_input.specs.Inputs.{IsInput}
+use Rattle.millicent_http.specs.Inputs.{IsInput}
 use Rattle.command_status.specs.declared.status.Status.{Status}
 use Rattle.command_status.specs.declared.status.Status.TheVariants as ends
 use Rattle.reply_reader.specs.declared.reply.ReplyFault.TheVariants as replies

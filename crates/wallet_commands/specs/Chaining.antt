@@ -15,7 +15,8 @@ use Rattle.said_lines.specs.Lines.{chain_end, chain_line}
 use Rattle.wallet_core.specs.declared.outcome.WalletOut.{WalletOut}
 use Rattle.wallet_core.specs.declared.outcome.WalletOut.TheVariants as outs
 use Rattle.wallet_core.specs.Wallet.{WalletStands}
-use Rattle.wallet_commands.specs.Books.{EncodesWallet, EncodesEither, NotOpened, AddPair, outcome_status}
+use Rattle.wallet_commands.specs.Books.{EncodesEither, AddPair, outcome_status}
+use Rattle.wallet_core.specs.OnDisk.{EncodesWallet, NotOpened}
 use Rattle.wallet_commands.specs.Causes.{WalletCauses}
 use Rattle.wallet_commands.specs.Paying.{Wanted, Clocked}
 

@@ -8,7 +8,7 @@ use Rattle.scrip_journal.specs.Founds.{IsFree, IsTaken}
 use Rattle.command_status.specs.declared.status.Status.{Status}
 use Rattle.command_status.specs.declared.status.Status.TheVariants as ends
 use Rattle.command_status.specs.Founding.{FoundAt}
-use Rattle.wallet_commands.specs.Books.{EncodesWallet}
+use Rattle.wallet_core.specs.OnDisk.{EncodesWallet}
 use Rattle.wallet_commands.specs.Causes.{NoneFailed, DiskFailed}
 
 -- the entry that founds a wallet of this name

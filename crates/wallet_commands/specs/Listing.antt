@@ -11,7 +11,7 @@ use Rattle.wallet_model.specs.Holdings.{holdings}
 use Rattle.wallet_model.specs.Asks.{Offered}
 use Rattle.held_lines.specs.Resold.{resold_for, lines_of}
 use Rattle.wallet_commands.specs.Lines.{holding_lines}
-use Rattle.wallet_commands.specs.Books.{EncodesWallet, Untouched, NotOpened}
+use Rattle.wallet_core.specs.OnDisk.{EncodesWallet, Untouched, NotOpened}
 use Rattle.wallet_commands.specs.Causes.{WalletCauses}
 use Rattle.wallet_commands.specs.Paying.{NotAsked, Clocked}
 

@@ -26,7 +26,8 @@ use Rattle.wallet_core.specs.Settled.{bought}
 use Rattle.wallet_commands.specs.declared.saying.Saying.{Saying}
 use Rattle.wallet_commands.specs.declared.saying.Saying.TheVariants as sayings
 use Rattle.wallet_commands.specs.Lines.{got_line, renewed_line}
-use Rattle.wallet_commands.specs.Books.{EncodesWallet, EncodesEither, Untouched, NotOpened, OldPair, EntryPair}
+use Rattle.wallet_commands.specs.Books.{EncodesEither, OldPair, EntryPair}
+use Rattle.wallet_core.specs.OnDisk.{EncodesWallet, Untouched, NotOpened}
 use Rattle.wallet_commands.specs.Causes.{WalletCauses}
 use Rattle.wallet_commands.specs.Saying.{said_as, IsSaid, IsSaidInPart}
 use Rattle.wallet_commands.specs.Payments.{Learned, Settles, Stays, Breaks, Learns}

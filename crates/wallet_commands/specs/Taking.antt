@@ -14,13 +14,14 @@ use Rattle.millicent_http.specs.declared.clock.Clock.TheVariants.{OfLinks}
 use Rattle.millicent_http.specs.Courses.{AreRead, with_readings}
 use Rattle.command_status.specs.declared.status.Status.{Status}
 use Rattle.command_status.specs.declared.status.Status.TheVariants as ends
-use Rattle.command_input.specs.Inputs.{IsInput, LostInput}
+use Rattle.millicent_http.specs.Inputs.{IsInput, LostInput}
 use Rattle.wallet_model.specs.Holdings.{brings}
 use Rattle.wallet_core.specs.Taking.{take_entry}
 use Rattle.wallet_core.specs.declared.outcome.WalletOut.{WalletOut}
 use Rattle.wallet_commands.specs.declared.taking.TheConstants.{MOST_LINES}
 use Rattle.wallet_commands.specs.Lines.{taken_line}
-use Rattle.wallet_commands.specs.Books.{EncodesWallet, EncodesEither, NotOpened, OldPair, AddPair, outcome_status}
+use Rattle.wallet_commands.specs.Books.{EncodesEither, OldPair, AddPair, outcome_status}
+use Rattle.wallet_core.specs.OnDisk.{EncodesWallet, NotOpened}
 use Rattle.wallet_commands.specs.Causes.{WalletCauses}
 
 -- how a command ends that took pieces, or did not

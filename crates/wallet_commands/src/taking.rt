@@ -10,7 +10,7 @@ ghost use Rattle.wallet_commands.specs.Taking.{TakesBook, Unread, Took, taken_st
 
 use crate::clock::raise_by_clock;
 use crate::lines::{line_room, put_taken};
-use command_input::{InputFault, input_of};
+use millicent_http::{InputFault, input_of};
 use command_status::{Status, not_opened};
 use mc_base::List;
 use mc_outside::Outside;

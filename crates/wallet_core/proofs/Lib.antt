@@ -9,3 +9,4 @@ pub mod LineLaws
 pub mod SettledLaws
 pub mod AskLaws
 pub mod TakenLaws
+pub mod DiskLemmas

@@ -12,3 +12,4 @@ pub mod Requests
 pub mod Asks
 pub mod Taking
 pub mod Settled
+pub mod OnDisk

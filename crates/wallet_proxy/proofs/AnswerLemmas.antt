@@ -9,7 +9,7 @@ use Rattle.ledger_model.specs.Histories.{History}
 use Rattle.scrip_journal.specs.Layout.{Encodes}
 use Rattle.scrip_journal.specs.Rests.{journal_leaves}
 use Rattle.scrip_journal.specs.Exits.{EitherNoOutput}
-use Rattle.command_input.proofs.AsideLemmas.{TellsAside, SentNoMore}
+use Rattle.millicent_http.proofs.AsideLemmas.{TellsAside, SentNoMore}
 use Rattle.millicent_http.specs.declared.item.After.{After}
 use Rattle.millicent_http.specs.Steps.{Did}
 use Rattle.wallet_book.specs.Book.{BookView}

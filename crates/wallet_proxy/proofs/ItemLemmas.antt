@@ -10,7 +10,7 @@ use Rattle.mc_records.specs.declared.request.Request.{Request}
 use Rattle.mc_records.specs.Requests.{Asked, asked_of}
 use Rattle.mc_records.specs.Entry.{Entry}
 use Rattle.ledger_model.specs.Histories.{History}
-use Rattle.command_input.proofs.AsideLemmas.{TellsAside, SentNoMore, no_more_still, no_more_then, no_more_heard, no_more_finished}
+use Rattle.millicent_http.proofs.AsideLemmas.{TellsAside, SentNoMore, no_more_still, no_more_then, no_more_heard, no_more_finished}
 use Rattle.millicent_http.specs.declared.item.After.{After}
 use Rattle.millicent_http.specs.declared.item.After.TheVariants as afters
 use Rattle.millicent_http.specs.declared.item.HeadRefusal.{HeadRefusal}

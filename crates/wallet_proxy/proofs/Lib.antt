@@ -10,3 +10,5 @@ pub mod SettleLemmas
 pub mod PayLemmas
 pub mod ItemLemmas
 pub mod LinkLemmas
+pub mod ProxiedLemmas
+pub mod EndLemmas

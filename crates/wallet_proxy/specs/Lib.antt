@@ -6,3 +6,4 @@ pub mod Proxy
 pub mod Payments
 pub mod Links
 pub mod Laws
+pub mod Proxying

@@ -7,6 +7,7 @@ mod allowance;
 mod law;
 mod links;
 mod paying;
+mod serving;
 mod settling;
 mod told;
 mod turn;
@@ -14,3 +15,4 @@ mod upstream;
 
 pub use law::{a_run_pays_as_booked, an_item_pays_once, what_is_kept_is_paid_once};
 pub use links::{ProxyOut, proxy_links};
+pub use serving::serve_wallet;

@@ -23,7 +23,7 @@ use Rattle.wallet_model.specs.Requests.{Pending, pending_of, pending_in, is_kept
 use Rattle.wallet_model.specs.Asks.{Asking, get, buy, draw, Offered, chosen, paid_with, pend_entry, request_bytes}
 use Rattle.wallet_model.specs.Settling.{check_of, settlement}
 use Rattle.wallet_book.specs.Kept.{kept_in}
-use Rattle.wallet_commands.specs.Books.{EncodesWallet}
+use Rattle.wallet_core.specs.OnDisk.{EncodesWallet}
 use Rattle.wallet_commands.specs.Payments.{Learned, Settles, Stays, Breaks, Learns}
 use Rattle.wallet_commands.specs.Paying.{ended_by, SettlesBy, EndsBy, UsesLink, PaysBy, RetriesBy}
 use Rattle.wallet_commands.specs.Saying.{contents_said, IsSaid}

@@ -14,7 +14,7 @@ use Rattle.wallet_model.specs.Follows.{IsWalletBook}
 use Rattle.wallet_model.specs.Requests.{Pending, oldest_kept}
 use Rattle.wallet_model.specs.Asks.{Asking, pend_entry, request_bytes}
 use Rattle.wallet_model.specs.Settling.{settlement}
-use Rattle.wallet_commands.specs.Books.{EncodesWallet}
+use Rattle.wallet_core.specs.OnDisk.{EncodesWallet}
 use Rattle.wallet_commands.specs.Paying.{PaysBy, RetriesBy}
 use Rattle.world_model.specs.Worlds.{World, CanBeAsked, wallet_time, with_wallet, with_message, Asks, SendsAgain, Returns}
 

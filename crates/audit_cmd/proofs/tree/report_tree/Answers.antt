@@ -1,5 +1,5 @@
 use Rattle.mc_records.specs.declared.limits.TheConstants.Limits.{FULL}
-use Rattle.tree_audit.specs.Audit.{TreeAudited}
+use Rattle.audit_cmd.specs.Audit.{TreeAudited}
 use Rattle.relay_core.specs.Text.{tree_text}
 use Rattle.audit_cmd.proofs.ReportLaws.{found_words, found_causes, found_reports, found_ends}
 use Rattle.audit_cmd.proofs.tree.report_tree.Goals as goal

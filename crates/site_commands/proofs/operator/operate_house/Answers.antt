@@ -1,9 +1,9 @@
 use Rattle.std.proofs.Common.{◌≡◌, ℕ, List, inl, inr, refl, ap, ◌∙◌, sym, subst}
 use Rattle.mc_outside.specs.LinkView.{LinkView}
 use Rattle.command_status.specs.declared.status.Status.TheVariants as ends
-use Rattle.command_input.specs.Inputs.{TakesInput, LosesInput}
-use Rattle.command_input.proofs.InputLemmas.{loses_rose}
-use Rattle.command_input.proofs.AsideLemmas.{no_more_still, not_taken_quiet}
+use Rattle.millicent_http.specs.Inputs.{TakesInput, LosesInput}
+use Rattle.millicent_http.proofs.InputLemmas.{loses_rose}
+use Rattle.millicent_http.proofs.AsideLemmas.{no_more_still, not_taken_quiet}
 use Rattle.house_core.specs.House.{outcome_disk}
 use Rattle.site_commands.specs.Operator.{IsReady}
 use Rattle.site_commands.proofs.OperatorLemmas.{operated, operated_causes, ready_by, by_links, unread, unread_at_once}

@@ -2,9 +2,10 @@ use Rattle.std.proofs.Common.{◌∙◌, inl, inr, ap, refl}
 use Rattle.scrip_journal.specs.Founds.{fault_disk}
 use Rattle.said_lines.specs.Lines.{chain_words}
 use Rattle.wallet_core.specs.declared.wallet.Wallet.{Wallet}
-use Rattle.wallet_commands.specs.Books.{Untouched, Opened}
+use Rattle.wallet_commands.specs.Books.{Opened}
+use Rattle.wallet_core.specs.OnDisk.{Untouched}
 use Rattle.wallet_commands.proofs.CauseLemmas.{causes_opened, none_on_disk, opening_causes}
-use Rattle.wallet_commands.proofs.BookLemmas.{on_disk, not_opened}
+use Rattle.wallet_core.proofs.DiskLemmas.{on_disk, not_opened}
 use Rattle.wallet_commands.proofs.chaining.chain.Goals as goal
 
 pub chain_by_clock-requires-clause-begun : goal.chain_by_clock-requires-clause-begun

@@ -9,7 +9,7 @@ use Rattle.wallet_core.specs.declared.wallet.Wallet.{Wallet}
 use Rattle.command_status.specs.Founding.{FoundAt}
 use Rattle.wallet_commands.specs.Founding.{site_of}
 use Rattle.wallet_commands.proofs.CauseLemmas.{founding_causes}
-use Rattle.wallet_commands.proofs.BookLemmas.{on_disk}
+use Rattle.wallet_core.proofs.DiskLemmas.{on_disk}
 use Rattle.wallet_commands.proofs.FoundLemmas.{first_has_room, found_pairs, unfounded_pairs, not_founded}
 use Rattle.wallet_commands.proofs.founding.init.Goals as goal
 

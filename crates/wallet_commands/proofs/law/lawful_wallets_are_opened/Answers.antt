@@ -1,7 +1,7 @@
 use Rattle.scrip_journal.specs.Causes.{Only}
 use Rattle.command_status.proofs.OpenLaws.{begins_with_header, not_spoiled, not_unchained}
 use Rattle.wallet_model.specs.Follows.{WalletFollows}
-use Rattle.wallet_commands.proofs.EndLemmas.{no_entry_breaks, not_of_other}
+use Rattle.wallet_core.proofs.DiskLemmas.{no_entry_breaks, not_of_other}
 use Rattle.wallet_commands.proofs.law.lawful_wallets_are_opened.Goals as goal
 
 pub returns-clause-header : goal.returns-clause-header

@@ -2,9 +2,9 @@ use Rattle.std.proofs.Common.{◌∙◌, inl, inr, ap}
 use Rattle.scrip_journal.specs.Founds.{fault_disk}
 use Rattle.command_status.specs.declared.status.Status.TheVariants as ends
 use Rattle.wallet_core.specs.declared.wallet.Wallet.{Wallet}
-use Rattle.wallet_commands.specs.Books.{Untouched}
+use Rattle.wallet_core.specs.OnDisk.{Untouched}
 use Rattle.wallet_commands.proofs.CauseLemmas.{opening_causes}
-use Rattle.wallet_commands.proofs.BookLemmas.{on_disk, not_opened}
+use Rattle.wallet_core.proofs.DiskLemmas.{on_disk, not_opened}
 use Rattle.wallet_commands.proofs.LineLemmas.{lines_of_holdings}
 use Rattle.wallet_commands.proofs.listing.list.Goals as goal
 

@@ -4,11 +4,12 @@ use Rattle.command_status.specs.declared.status.Status.TheVariants as ends
 use Rattle.wallet_core.specs.declared.wallet.Wallet.{Wallet}
 use Rattle.held_lines.specs.declared.lines.LinesFault.TheVariants as faults
 use Rattle.held_lines.specs.Resold.{resold_for, Appends}
-use Rattle.wallet_commands.specs.Books.{Untouched, Opened}
+use Rattle.wallet_commands.specs.Books.{Opened}
+use Rattle.wallet_core.specs.OnDisk.{Untouched}
 use Rattle.wallet_commands.specs.Listing.{SaysHeld}
 use Rattle.wallet_commands.specs.Paying.{NotAsked}
 use Rattle.wallet_commands.proofs.CauseLemmas.{opening_causes}
-use Rattle.wallet_commands.proofs.BookLemmas.{not_opened}
+use Rattle.wallet_core.proofs.DiskLemmas.{not_opened}
 use Rattle.wallet_commands.proofs.PayLemmas.{AtClock, clocked_by, not_asked}
 use Rattle.wallet_commands.proofs.HeldLemmas.{said_lines}
 use Rattle.wallet_commands.proofs.listing.list_held.Goals as goal

@@ -1,9 +1,10 @@
 use Rattle.std.proofs.Common.{inl, inr, refl}
 use Rattle.scrip_journal.specs.Founds.{fault_disk}
 use Rattle.wallet_core.specs.declared.wallet.Wallet.{Wallet}
-use Rattle.wallet_commands.specs.Books.{Untouched, Opened}
+use Rattle.wallet_commands.specs.Books.{Opened}
+use Rattle.wallet_core.specs.OnDisk.{Untouched}
 use Rattle.wallet_commands.proofs.CauseLemmas.{causes_opened, none_on_disk, opening_causes}
-use Rattle.wallet_commands.proofs.BookLemmas.{on_disk, not_opened}
+use Rattle.wallet_core.proofs.DiskLemmas.{on_disk, not_opened}
 use Rattle.wallet_commands.proofs.paying.retry.Goals as goal
 
 pub returns-in-Err-clause-causes : goal.returns-in-Err-clause-causes

@@ -12,7 +12,8 @@ use Rattle.wallet_core.specs.Rests.{wallet_keeps}
 use Rattle.wallet_commands.specs.Causes.{CheckRefused, ReadRefused}
 use Rattle.wallet_commands.specs.Replies.{EndsReply}
 use Rattle.wallet_commands.proofs.CauseLemmas.{causes_from, none_linked, read_so}
-use Rattle.wallet_commands.proofs.BookLemmas.{stood, on_disk}
+use Rattle.wallet_commands.proofs.BookLemmas.{stood}
+use Rattle.wallet_core.proofs.DiskLemmas.{on_disk}
 use Rattle.wallet_commands.proofs.UseLemmas.{took_counts, took_rose, read_reply, no_reply}
 use Rattle.wallet_commands.proofs.settling.settle_by_reply.Goals as goal
 

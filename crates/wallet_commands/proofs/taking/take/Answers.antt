@@ -2,9 +2,10 @@ use Rattle.std.proofs.Common.{inl, inr, ap}
 use Rattle.mc_outside.specs.LinkView.{LinkView}
 use Rattle.scrip_journal.specs.Founds.{fault_disk}
 use Rattle.wallet_core.specs.declared.wallet.Wallet.{Wallet}
-use Rattle.wallet_commands.specs.Books.{Untouched, Opened}
+use Rattle.wallet_commands.specs.Books.{Opened}
+use Rattle.wallet_core.specs.OnDisk.{Untouched}
 use Rattle.wallet_commands.proofs.CauseLemmas.{causes_opened, opening_causes}
-use Rattle.wallet_commands.proofs.BookLemmas.{not_opened}
+use Rattle.wallet_core.proofs.DiskLemmas.{not_opened}
 use Rattle.wallet_commands.proofs.taking.take.Goals as goal
 
 pub returns-in-Ok-clause-causes : goal.returns-in-Ok-clause-causes

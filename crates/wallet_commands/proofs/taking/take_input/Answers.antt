@@ -2,7 +2,7 @@ use Rattle.std.proofs.Common.{◌≡◌, ◌∙◌, inl, inr, ℕ, List, refl, s
 use Rattle.mc_outside.specs.LinkView.{LinkView}
 use Rattle.mc_records.specs.declared.refusal.Refusal.{Refusal}
 use Rattle.ledger_model.specs.Histories.{History}
-use Rattle.command_input.specs.Inputs.{IsInput, LostInput}
+use Rattle.millicent_http.specs.Inputs.{IsInput, LostInput}
 use Rattle.command_status.specs.declared.status.Status.TheVariants as ends
 use Rattle.wallet_book.specs.Book.{BookView}
 use Rattle.wallet_core.specs.Rests.{wallet_keeps}
@@ -13,8 +13,8 @@ use Rattle.wallet_commands.specs.Causes.{OnlyClocked, RefusedBy}
 use Rattle.wallet_commands.specs.Taking.{taken_status}
 use Rattle.wallet_commands.specs.Lines.{taken_line}
 use Rattle.wallet_commands.specs.declared.taking.TheConstants.{MOST_LINES}
-use Rattle.command_input.proofs.InputLemmas.{lost_rose, input_counts}
-use Rattle.command_input.proofs.AsideLemmas.{no_more_still, lost_quiet}
+use Rattle.millicent_http.proofs.InputLemmas.{lost_rose, input_counts}
+use Rattle.millicent_http.proofs.AsideLemmas.{no_more_still, lost_quiet}
 use Rattle.wallet_commands.proofs.CauseLemmas.{causes_from, none_linked, none_then, taken_so, outcome_causes}
 use Rattle.wallet_commands.proofs.TakeLemmas.{unread, took}
 use Rattle.wallet_commands.proofs.taking.take_input.Goals as goal

@@ -1,2 +1,0 @@
-pub mod ProxiedLemmas
-pub mod EndLemmas
