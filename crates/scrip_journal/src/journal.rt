@@ -1,11 +1,12 @@
 //! A journal at rest, and what its calls end as.
 
-ghost use Rattle.std.specs.Prelude.{◌≡◌, ◌≤◌, ◌+◌, ◌∷◌, ◌++◌, ◌↔◌, [], List, length, IfOk, IfErr, OnOk, OnErr, IsSome, IsTrue, Some, true};
+ghost use Rattle.std.specs.Prelude.{◌≡◌, ◌<◌, ◌+◌, ◌∷◌, ◌++◌, ◌↔◌, [], List, length, IfOk, IfErr, OnOk, OnErr, IsSome, IsTrue, Some, true};
 ghost use Rattle.mc_outside.specs.Bytes.{Rose};
 ghost use Rattle.mc_outside.specs.DiskView.{Ran, OnlyRead};
 ghost use Rattle.mc_records.specs.Entry.{Entry, Fits};
 ghost use Rattle.mc_records.specs.Chains.{has_switch, is_switch};
-ghost use Rattle.mc_records.specs.Sizes.{size, entry_size};
+ghost use Rattle.mc_records.specs.Sizes.{size, entry_size, framed_size, tail_bytes};
+ghost use Rattle.mc_records.specs.declared.sizes.TheConstants.{PAYLOAD_BOUND};
 ghost use Rattle.mc_records.specs.Views.{entry};
 ghost use Rattle.scrip_journal.specs.States.{IsJournal, IsStaged};
 ghost use Rattle.scrip_journal.specs.Exits.{staged_disk, opened_disk, written_disk, size_with, RoomBy, MatchStageFault, EncodesNoOutput, EitherNoOutput, IsUncut};
@@ -125,7 +126,8 @@ impl<D: Disk> Journal<D> {
         ensures uncut { IsUncut (D.disk self.disk) (D.disk (staged_disk result)) }
         ensures known { IfOk result (λ s. IsSome s.chain) }
     {
-        if !self.has_room(r) {
+        payloads_are_short();
+        if self.is_full(r.payload_len()) {
             return Err(StageFault::Full(self));
         }
         let journal = match self.find_chain() {
@@ -139,13 +141,12 @@ impl<D: Disk> Journal<D> {
         }
     }
 
-    /// Whether the journal has room for an entry.
-    fn has_room(&self, r: &Record<'_>) -> bool
-        requires { Fits (entry r.now) }
-        ensures { IsTrue result ↔ (size_with self.now (entry r.now) ≤ self.now.limit) }
+    /// Whether the journal would pass its limit with one entry more, with a payload of so many bytes.
+    pub(crate) fn is_full(&self, payload: u64) -> bool
+        requires { payload < PAYLOAD_BOUND }
+        ensures { IsTrue result ↔ (self.now.limit < self.now.size + framed_size payload (tail_bytes self.now.switched)) }
     {
-        payloads_are_short();
-        self.at.gate + r.payload_len() + tail_len(self.at.switched) + FRAME < self.at.limit
+        self.at.limit <= self.at.gate + payload + tail_len(self.at.switched) + FRAME
     }
 
     /// Stages an entry; where it is a Switch, the chain of the entries is known.

@@ -1,13 +1,12 @@
 //! Writing a Switch, which tells the chain of the entries before it.
 
-ghost use Rattle.std.specs.Prelude.{◌≡◌, ◌+◌, ◌<◌, ◌↔◌, ◌∷◌, ◌++◌, [], List, length, IfOk, IfErr, OnOk, IsSome, IsTrue};
+ghost use Rattle.std.specs.Prelude.{◌≡◌, ◌+◌, ◌∷◌, ◌++◌, [], List, length, IfOk, IfErr, OnOk, IsSome};
 ghost use Rattle.mc_outside.specs.Bytes.{Rose};
 ghost use Rattle.mc_outside.specs.DiskView.{Ran};
 ghost use Rattle.mc_records.specs.Chains as chains;
 ghost use Rattle.mc_records.specs.Chains.{has_switch};
 ghost use Rattle.mc_records.specs.Entry.{Entry, Switch};
-ghost use Rattle.mc_records.specs.Sizes.{size, entry_size, framed_size, tail_bytes};
-ghost use Rattle.mc_records.specs.declared.sizes.TheConstants.{PAYLOAD_BOUND};
+ghost use Rattle.mc_records.specs.Sizes.{size, entry_size};
 ghost use Rattle.scrip_journal.specs.States.{IsJournal};
 ghost use Rattle.scrip_journal.specs.Exits.{RoomBy, MatchStageFault, EitherNoOutput, IsUncut};
 ghost use Rattle.scrip_journal.specs.Switching.{switched_disk};
@@ -15,7 +14,7 @@ ghost use Rattle.scrip_journal.specs.Switching.{switched_disk};
 use crate::journal::{Journal, Receipt, StageFault};
 use mc_base::Moment;
 use mc_outside::Disk;
-use mc_records::{FRAME, PAYLOAD_BOUND, Record, tail_len};
+use mc_records::Record;
 
 /// How many bytes the payload of a Switch has: its kind, its moment and a chain.
 pub const SWITCH_PAYLOAD: u64 = 41;
@@ -60,13 +59,5 @@ impl<D: Disk> Journal<D> {
             Err(StageFault::Full(_journal)) => unreachable!(),
             Err(StageFault::Disk(halted)) => Err(StageFault::Disk(halted)),
         }
-    }
-
-    /// Whether the journal would pass its limit with one entry more, with a payload of so many bytes.
-    fn is_full(&self, payload: u64) -> bool
-        requires { payload < PAYLOAD_BOUND }
-        ensures { IsTrue result ↔ (self.now.limit < self.now.size + framed_size payload (tail_bytes self.now.switched)) }
-    {
-        self.at.limit <= self.at.gate + payload + tail_len(self.at.switched) + FRAME
     }
 }
