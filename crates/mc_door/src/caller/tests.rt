@@ -31,10 +31,16 @@ fn one_link_over_a_connection_that_is_made(rt: HostRuntime) -> Result<(), Fail> 
     let port = socket.local_addr()?.port();
     let address = format!(in rt.alloc(); "localhost:{port}")?;
     let mut links = call(&rt, &address);
-    assert!(rt; links.send(b"early").is_err());
-    assert!(rt; links.next()?);
+    begin(&rt, &mut links)?;
     let (mut peer, _) = socket.accept()?;
     talk(&rt, &mut links, &mut peer)
+}
+
+/// Nothing is sent before there is a link.
+fn begin(rt: &impl Abort, links: &mut Caller<'_, HostRuntime>) -> Result<(), Fail> {
+    assert!(rt; links.send(b"early").is_err());
+    assert!(rt; links.next()?);
+    Ok(())
 }
 
 /// Whether no link comes, however often one is asked for.

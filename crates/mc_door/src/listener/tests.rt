@@ -4,6 +4,7 @@ use std::io::{Read, Write};
 use std::net::{Shutdown, TcpStream};
 use std::os::fd::OwnedFd;
 use std::os::unix::net::UnixStream;
+use std::process::Abort;
 use std::test::Fail;
 use std::time::Duration;
 use std::{env, fs, process};
@@ -74,9 +75,18 @@ fn the_first_whole_head_is_the_first_served(rt: HostRuntime) -> Result<(), Fail>
     let _silent = peer_of(&rt, &links, b"")?;
     let mut slow = peer_of(&rt, &links, &HEAD[..20])?;
     let mut peer = peer_of(&rt, &links, HEAD)?;
-    assert_eq!(rt; answered(&mut links, &mut peer)?, (HEAD.len(), 5));
+    whole_first(&rt, &mut links, &mut slow, &mut peer)
+}
+
+fn whole_first<C: Clock>(
+    rt: &impl Abort,
+    links: &mut Listener<C>,
+    slow: &mut TcpStream,
+    peer: &mut TcpStream,
+) -> Result<(), Fail> {
+    assert_eq!(rt; answered(links, peer)?, (HEAD.len(), 5));
     slow.write_all(&HEAD[20..])?;
-    assert_eq!(rt; answered(&mut links, &mut slow)?, (HEAD.len(), 5));
+    assert_eq!(rt; answered(links, slow)?, (HEAD.len(), 5));
     Ok(())
 }
 
@@ -86,9 +96,17 @@ fn an_idle_link_gives_way_by_a_fault(rt: HostRuntime) -> Result<(), Fail> {
     let mut idle = peer_of(&rt, &links, HEAD)?;
     assert_eq!(rt; taken(&mut links)?, HEAD.len());
     let _other = peer_of(&rt, &links, HEAD)?;
-    assert!(rt; heard(&mut links).is_err());
-    assert_eq!(rt; answer(&mut links)?, HEAD.len());
-    assert_eq!(rt; read(&mut idle)?, 0);
+    gives_way(&rt, &mut links, &mut idle)
+}
+
+fn gives_way<C: Clock>(
+    rt: &impl Abort,
+    links: &mut Listener<C>,
+    idle: &mut TcpStream,
+) -> Result<(), Fail> {
+    assert!(rt; heard(links).is_err());
+    assert_eq!(rt; answer(links)?, HEAD.len());
+    assert_eq!(rt; read(idle)?, 0);
     Ok(())
 }
 
@@ -96,12 +114,20 @@ fn an_idle_link_gives_way_by_a_fault(rt: HostRuntime) -> Result<(), Fail> {
 fn the_last_reply_arrives(rt: HostRuntime) -> Result<(), Fail> {
     let mut links = listen(&rt, rt.alloc(), "127.0.0.1:0", &rt)?;
     let mut peer = peer_of(&rt, &links, HEAD)?;
+    arrives(&rt, &mut links, &mut peer)
+}
+
+fn arrives<C: Clock>(
+    rt: &impl Abort,
+    links: &mut Listener<C>,
+    peer: &mut TcpStream,
+) -> Result<(), Fail> {
     peer.shutdown(Shutdown::Write)?;
-    assert_eq!(rt; taken(&mut links)?, HEAD.len());
-    assert_eq!(rt; heard(&mut links)?, 0);
+    assert_eq!(rt; taken(links)?, HEAD.len());
+    assert_eq!(rt; heard(links)?, 0);
     assert_eq!(rt; links.send(b"last")?, 4);
     links.finish();
-    assert_eq!(rt; read(&mut peer)?, 4);
+    assert_eq!(rt; read(peer)?, 4);
     assert!(rt; links.next().is_err());
     Ok(())
 }
@@ -150,10 +176,17 @@ fn a_reply_that_is_not_taken_holds_up_nobody(rt: HostRuntime) -> Result<(), Fail
     let mut idle = peer_of(&rt, &links, HEAD)?;
     assert!(rt; links.next()?);
     let _other = peer_of(&rt, &links, HEAD)?;
-    let page = Vec::from_elem(rt.alloc(), 7u8, 65_536)?;
-    let sent = send_much(&mut links, &page);
-    assert_eq!(rt; taken(&mut links)?, HEAD.len());
-    assert_eq!(rt; read_much(&mut links, &mut idle, sent)?, sent);
+    holds_up_nobody(&rt, &mut links, &mut idle)
+}
+
+fn holds_up_nobody<C: Clock>(
+    rt: &impl Abort,
+    links: &mut Listener<C>,
+    idle: &mut TcpStream,
+) -> Result<(), Fail> {
+    let sent = send_much(links, &[7; 65_536]);
+    assert_eq!(rt; taken(links)?, HEAD.len());
+    assert_eq!(rt; read_much(links, idle, sent)?, sent);
     Ok(())
 }
 
@@ -165,13 +198,26 @@ fn a_connection_has_its_time(rt: HostRuntime) -> Result<(), Fail> {
     };
     let mut links = listen(&rt, rt.alloc(), "127.0.0.1:0", clock)?;
     let mut silent = peer_of(&rt, &links, b"")?;
-    for _ in 0..4 {
-        turn(&mut links, 10)?;
-    }
-    assert_eq!(rt; read(&mut silent)?, 0);
+    is_ended(&rt, &mut links, &mut silent)?;
     let _peer = peer_of(&rt, &links, HEAD)?;
-    assert_eq!(rt; taken(&mut links)?, HEAD.len());
-    assert!(rt; heard(&mut links).is_err());
+    is_faulty_then(&rt, &mut links)
+}
+
+fn is_ended<C: Clock>(
+    rt: &impl Abort,
+    links: &mut Listener<C>,
+    silent: &mut TcpStream,
+) -> Result<(), Fail> {
+    for _ in 0..4 {
+        turn(links, 10)?;
+    }
+    assert_eq!(rt; read(silent)?, 0);
+    Ok(())
+}
+
+fn is_faulty_then<C: Clock>(rt: &impl Abort, links: &mut Listener<C>) -> Result<(), Fail> {
+    assert_eq!(rt; taken(links)?, HEAD.len());
+    assert!(rt; heard(links).is_err());
     Ok(())
 }
 
@@ -182,14 +228,17 @@ fn bytes_leave_at_once(rt: HostRuntime) -> Result<(), Fail> {
         return Err(ErrorKind::NotConnected.into());
     };
     let _peer = TcpStream::connect(&rt, address)?;
-    let mut taken = socket.accept();
     for _ in 0..1000 {
-        if taken.is_ok() {
-            break;
+        match socket.accept() {
+            Ok(taken) => return sends_at_once(&rt, &taken),
+            Err(_) => {}
         }
-        taken = socket.accept();
     }
-    assert!(rt; taken?.nodelay()?);
+    Err(ErrorKind::TimedOut.into())
+}
+
+fn sends_at_once(rt: &impl Abort, taken: &mio::net::TcpStream) -> Result<(), Fail> {
+    assert!(rt; taken.nodelay()?);
     Ok(())
 }
 
@@ -219,14 +268,23 @@ fn a_path_is_taken_from_the_gone_alone(rt: HostRuntime) -> Result<(), Fail> {
     let folder = env::temp_dir(&rt)?;
     let folder = folder.as_str();
     let path = format!(in rt.alloc(); "{folder}/mc_door-{}", process::id(rt.process()))?;
-    assert!(rt; is_served(&rt, &path)?);
-    assert!(rt; is_served(&rt, &path)?);
-    let links = listen(&rt, rt.alloc(), &path, &rt)?;
-    assert!(rt; is_taken(&rt, &path)?);
-    drop(links);
-    fs::remove_file(&rt, &path)?;
-    fs::write(&rt, &path, "no socket")?;
-    assert!(rt; is_taken(&rt, &path)?);
-    fs::remove_file(&rt, &path)?;
+    assert!(rt; is_taken_from_the_gone(&rt, &path)?);
+    assert!(rt; is_kept(&rt, &path)?);
     Ok(())
+}
+
+/// Whether a socket that nobody serves any more gives way, and one that is served does not.
+fn is_taken_from_the_gone(rt: &HostRuntime, path: &str) -> Result<bool, Fail> {
+    let gives_way = is_served(rt, path)? && is_served(rt, path)?;
+    let _links = listen(rt, rt.alloc(), path, rt)?;
+    Ok(gives_way && is_taken(rt, path)?)
+}
+
+/// Whether a file that is no socket stays.
+fn is_kept(rt: &HostRuntime, path: &str) -> Result<bool, Fail> {
+    fs::remove_file(rt, path)?;
+    fs::write(rt, path, "no socket")?;
+    let stays = is_taken(rt, path)?;
+    fs::remove_file(rt, path)?;
+    Ok(stays)
 }
