@@ -10,13 +10,15 @@ ghost use Rattle.house_core.specs.Bench.{Represents, IsHouse, KeepsReply, Refine
 ghost use Rattle.house_core.specs.Tallies.{RefusedBy, tallied, told};
 ghost use Rattle.house_state.specs.LiveWindows.{AreUsed};
 ghost use Rattle.house_state.specs.Replying.{IsOfSite};
+ghost use Rattle.house_state.specs.Representation.{StateRepresents};
+ghost use Rattle.house_state.specs.Trade.{draw_asked};
 ghost use Rattle.house_core.specs.Session.{raised, Says, said_reply, refused_reply};
 
 use crate::bench::Bench;
 use crate::fault::BenchFault;
 use crate::reply::{ReplyRoom, SigningRoom, refusal_head};
 use crate::signing::{customer_of, signed_refusal, taken_reply};
-use house_state::{Presented, Trade, without_scrip};
+use house_state::{DrawAsk, HouseState, Presented, Trade, without_scrip};
 use kept_replies::KeptNumber;
 use link_turns::Reply;
 use mc_base::Moment;
@@ -127,9 +129,11 @@ impl<T: Trade> Bench<T> {
             → result ≡ ledger.refusal_of h (house_time self.now) q.now refusal.now }
     {
         let time = self.state.time();
-        let request = self.as_counted(q.request());
+        let own = q.request();
+        let ask = self.trade.draw(own.target);
+        let request = as_counted(&ask, own);
         let price = self.price_told(request.target, refusal);
-        match self.secret_of_refusal(q, refusal) {
+        match self.secret_of_refusal(&ask, q, refusal) {
             Some(secret) => signed_refusal(time, &request, refusal, price, &secret, room),
             None => Reply::of(&refusal_head(time, refusal, price), b"", &mut room.page),
         }
@@ -171,38 +175,48 @@ impl<T: Trade> Bench<T> {
         }
     }
 
-    /// The secret under which the reply to the refusal of a request is signed, where it is signed.
-    fn secret_of_refusal(&self, q: &Presented<'_>, refusal: &Refusal) -> Option<[u8; 16]>
-        ensures { (h : History) → Represents T.trade self.now h
+    /// The secret under which the reply to the refusal of a request is signed, where it is signed. The draw that the
+    /// request asks for is known.
+    fn secret_of_refusal(
+        &self,
+        ask: &Option<DrawAsk>,
+        q: &Presented<'_>,
+        refusal: &Refusal,
+    ) -> Option<[u8; 16]>
+        ensures { (h : History) → Represents T.trade self.now h → ask.now ≡ draw_asked h q.now.target
             → result ≡ ledger.secret_of_refusal h q.now refusal.now }
     {
         if refusal.is_signed() {
-            self.asker_secret(q)
+            asker_secret(&self.state, ask, q)
         } else {
             None
         }
     }
+}
 
-    /// The secret of whoever asks: the key of the account of a draw, else that of the customer of the
-    /// request's piece.
-    fn asker_secret(&self, q: &Presented<'_>) -> Option<[u8; 16]>
-        ensures { (h : History) → Represents T.trade self.now h
-            → result ≡ ledger.asker_secret h (draw_in h q.now.target) q.now.scrip }
-    {
-        match self.trade.draw(q.request().target) {
-            Some(ask) => ask.key,
-            None => customer_of(&self.state, q),
-        }
+/// The secret of whoever asks: the key of the account of the draw that is asked for, else that of the customer of the
+/// request's piece.
+fn asker_secret(
+    state: &HouseState,
+    ask: &Option<DrawAsk>,
+    q: &Presented<'_>,
+) -> Option<[u8; 16]>
+    ensures { (h : History) → StateRepresents state.now h → ask.now ≡ draw_asked h q.now.target
+        → result ≡ ledger.asker_secret h (draw_in h q.now.target) q.now.scrip }
+{
+    match ask {
+        Some(ask) => ask.key,
+        None => customer_of(state, q),
     }
+}
 
-    /// The request as its column of the answer sees it: the scrip text of a draw does not count.
-    fn as_counted<'q>(&self, q: &Request<'q>) -> Request<'q>
-        ensures { (h : History) → Represents T.trade self.now h
-            → asked_of result ≡ as_counted (draw_in h q.now.target.now) (asked_of q.now) }
-    {
-        match self.trade.draw(q.target) {
-            Some(_) => without_scrip(q),
-            None => *q,
-        }
+/// The request as its column of the answer sees it: the scrip text of a draw does not count.
+fn as_counted<'q>(ask: &Option<DrawAsk>, q: &Request<'q>) -> Request<'q>
+    ensures { (h : History) → ask.now ≡ draw_asked h q.now.target.now
+        → asked_of result ≡ as_counted (draw_in h q.now.target.now) (asked_of q.now) }
+{
+    match ask {
+        Some(_) => without_scrip(q),
+        None => *q,
     }
 }
