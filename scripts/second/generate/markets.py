@@ -185,7 +185,11 @@ def corner_cases(out):
     bank, n, s = row()
     bank.pay(forged(bank, bank.own, 77, 30), b"/buy/news.example/9")
     market(out, "a piece of the bank's own that it never handed out", bank, [n, s])
+    corners_of_stock(out)
+    other_corners(out)
 
+
+def corners_of_stock(out):
     bank, s, sold = with_stock(2, 50, 3)
     s.pay(sold[0], b"/shop/1")
     market(out, "stock is sold piece by piece, and then there is none", bank, [s])
@@ -211,6 +215,8 @@ def corner_cases(out):
     bank.pay(bank.draw(b"ann", 9, 500), b"/buy/shop.example/60")
     market(out, "stock of another value than it was minted for is a stranger where it is sold", bank, [s])
 
+
+def other_corners(out):
     bank, s, sold = with_stock(1, 50, 1)
     more = s.mint(1, 7, b"m2")
     s.pay(more[0], b"/shop/1")

@@ -46,6 +46,12 @@ def faults():
 def bytes_and_bounds():
     out = Cases("Each byte raised by one, and cut at every place: scrip texts, payloads, books, heads. And lengths at\n"
                 "their bounds.")
+    for part in (texts, books, head_bytes, each_byte, lengths, numbers_at_bounds):
+        part(out)
+    out.write("bytes")
+
+
+def texts(out):
     for name in ("p1", "q60"):
         out.case("scrip %s, each byte raised by one" % name, *("scrip " + spelled for spelled in raised(name)))
         out.case("scrip %s, cut at every place" % name, *("scrip " + spelled for spelled in cut(name)))
@@ -59,6 +65,9 @@ def bytes_and_bounds():
         out.case("%s, the %d bytes at %d" % (name, size, start), *(
             "payload $%s[:%d]+%s+$%s[%d:]" % (name, start, digits(n, size), name, start + size)
             for power in range(8 * size) for n in (2**power - 1, 2**power)))
+
+
+def books(out):
     out.group("The book of a vendor after one payment, with each byte raised by one, is served. A request follows\n"
               "that pays 60.")
     for at, spelled in enumerate(raised("paid_shop")):
@@ -69,6 +78,9 @@ def bytes_and_bounds():
         out.case("byte %d" % at, "book " + spelled, "link $get2+$scrip+$minted1+$ee", "clock 1000000", "serve 1")
     for at, spelled in enumerate(cut("other")):
         out.case("cut at %d" % at, "book " + spelled, "serve 0")
+
+
+def head_bytes(out):
     out.group("Heads with each byte raised by one, and cut at every place.")
     heads = [("a paid request",
               '"GET /a HTTP/1.1\\r\\nHost: n\\r\\nMillicent-Scrip: MS1|x\\r\\nMillicent-Sign: 0a\\r\\n\\r\\n"'),
@@ -80,6 +92,9 @@ def bytes_and_bounds():
         out.case(name + ", cut at every place", *("link " + one for one in cut("h")), "heads")
         out.case(name + ", cut, and then whole", *(
             line for one in cut("h")[::3] for line in ("link %s+$h" % one, "whole", "heads")))
+
+
+def each_byte(out):
     out.group("Each byte as a byte of a method, a target, a field's name, a field's value and a host.")
     for name, front, behind in [
             ("method", "G", "T /a HTTP/1.1\\r\\nHost: n\\r\\n\\r\\n"),
@@ -94,6 +109,9 @@ def bytes_and_bounds():
     out.case("each byte first in a name", *("name x%02x61" % byte for byte in range(256)))
     out.case("each byte in props", *("props x%02x" % byte for byte in range(256)))
     out.case("each byte in a target", *("target x2f%02x" % byte for byte in range(256)))
+
+
+def lengths(out):
     out.group("Lengths of targets, names and references at their bounds.")
     for size in (1, 2, 511, 512, 513):
         target = '"/"*%d' % size
@@ -107,6 +125,9 @@ def bytes_and_bounds():
                  "run vendor mint b 1 50 m1", "link $unpaid", "run vendor serve b l 1")
         out.case("a reference of %d bytes" % size, "book $shop", "clock 1000000", *(
             'run vendor mint b %d 50 "r"*%d' % (count, size) for count in (2, 2, 3)))
+
+
+def numbers_at_bounds(out):
     for value in (0, 1, 2**32, 2**40 - 1, 2**40, 2**40 + 1):
         out.case("a value of %d" % value, "book $shop", "clock 1000000", "run vendor mint b 1 %d m1" % value,
                  "run vendor price b /news/1 %d" % value, "link $unpaid", "run vendor serve b l 1")
@@ -118,7 +139,6 @@ def bytes_and_bounds():
                  "run vendor init b news.example 4096 8192 $ones $twos --keep %d --clear" % keep, 'link "hi"',
                  "run vendor goods b /news/1 25", "run vendor licence b 1 4096 8192 $threes $fours",
                  *("link $pays",) * 3, "clock 1000000 %d %d" % (NOW + keep - 1, NOW + keep), "run vendor serve b l 3")
-    out.write("bytes")
 
 
 def heads():
@@ -224,64 +244,17 @@ class History:
         self.add(4, digits(len(text), 2), "$" + name, string(target), *flag, digits(price, 8), *change, "x00")
 
 
+TARGETS = ["/news/1", "/news/2", "/x", "/" + "y" * 30]
+
+
 def answers():
     out = Cases("Requests to books of a vendor with several issuers, minted pieces, sales, signatures: the answers of\n"
                 "the ledger and of a house, over times, targets and limits.")
-    pool = []
-
-    def piece(name, issuer, value, identity, cust, props="", vendor="news.example", expires=None, spoil=False):
-        text = issuer.scrip_text(vendor, value, identity, cust, props, expires)
-        if spoil:
-            text = text[:-1] + ("0" if text[-1] != "0" else "1")
-        out.let(name, '"%s"' % text)
-        home = {0: OWN, 1: ONE, 2: TWO, 9: NINE}.get(cust >> 56)
-        return name, text, value, identity, home.customer_secret(cust) if home else bytes(16)
-
     out.group("Pieces: good ones, minted ones, and ones that no house takes.")
-    numbers = Numbers(7)
-    for number in range(44):
-        issuer = (ONE, ONE, TWO, NINE)[number % 4]
-        moment = NOW + (0, 0, 4096, 100000)[number // 4 % 4]
-        identity = issuer.identity(moment, number)
-        cust = identity if number % 3 else OWN.identity(NOW, 100 + number)
-        pool.append(piece("s%d" % number, issuer, numbers.of((1, 7, 24, 25, 26, 60, 100, 1000, 2**40)), identity, cust,
-                          numbers.of(("", "", "a=1", "x.y,z-0"))))
-    minted = [piece("m%d" % serial, OWN, 50, identity, identity)
-              for serial in range(6) for identity in [OWN.identity(NOW, serial)]]
-    bad = [piece("b0", ONE, 100, ONE.identity(NOW, 90), ONE.identity(NOW, 90), spoil=True),
-           piece("b1", ONE, 100, ONE.identity(NOW, 91), ONE.identity(NOW, 91), vendor="shop.example"),
-           piece("b2", ONE, 100, ONE.identity(NOW, 92), ONE.identity(NOW, 92), expires=1011713),
-           piece("b3", STRANGE, 100, STRANGE.identity(NOW, 93), STRANGE.identity(NOW, 93)),
-           piece("b4", ONE, 100, ONE.identity(NOW, 94), STRANGE.identity(NOW, 94)),
-           piece("b5", TWO, 100, TWO.identity(NOW + 8192, 95), TWO.identity(NOW + 4096, 96)),
-           piece("b6", ONE, 100, ONE.identity(NOW - 20000, 97), ONE.identity(NOW, 98))]
-    targets = ["/news/1", "/news/2", "/x", "/" + "y" * 30]
+    good, minted, bad = good_pieces(out), minted_pieces(out), bad_pieces(out)
     numbers = Numbers(44)
     for round in range(70):
-        h = History(numbers.below(4) > 0, numbers.of((60, 600, 600, 86400)), NOW)
-        h.put("/news/1", 25, "Good morning.")
-        h.terms(ONE)
-        if numbers.below(2):
-            h.terms(TWO)
-        if numbers.below(2):
-            h.terms(NINE)
-        if numbers.below(2):
-            h.mint("m1", numbers.between(1, 6), 50)
-        for step in range(numbers.below(8)):
-            h.time += numbers.of((0, 0, 0, 1, 100, 599, 600, 4096))
-            deed = numbers.below(6)
-            if deed == 0:
-                h.put(numbers.of(targets[:3]), numbers.of((1, 24, 25, 60, 1000)), numbers.of(("", "hi", "other")))
-            elif deed == 1:
-                h.mint("r%d" % step, numbers.between(1, 3), numbers.of((1, 50, 2**40)))
-            else:
-                target = numbers.of([t for t in h.goods])
-                good = [p for p in pool if p[2] >= h.goods[target] and p[3] not in h.spent and p[3] >> 56 in h.issuers
-                        and (int(p[1].split("|")[5]) > h.time)]
-                if good:
-                    p = numbers.of(good)
-                    sign = signature(p[1], target, p[4]) if not h.clear or numbers.below(2) else None
-                    h.sell(p, target, sign)
+        h = sold_to(numbers, good)
         book = "+".join(["$front", *("x01%08x+%s" % (length(s), s) for s in h.entries), "$shut"])
         lines = ["book " + book, "lawful"]
         size = 9 + sum(5 + length(s) for s in h.entries)
@@ -289,29 +262,100 @@ def answers():
             if ask == 8:
                 lines.append("limits %d %d" % (numbers.of((2**40, 2**40, size, size + 125 + numbers.below(30))),
                                                max([1, *h.counts.values()]) + numbers.of((0, 0, 0, 1, 2**31))))
-            time = h.time + numbers.of((0, 0, 0, 0, 0, 0, 1, 60, 600, 4096, 11711, 11712, 86400, 200000))
-            if h.sold and numbers.below(3) == 0:
-                moment, name, target, sign = numbers.of(h.sold)
-                time = max(h.time, moment + numbers.of((0, h.keep - 1, h.keep)))
-                if numbers.below(5) == 0:
-                    sign = numbers.of((None, sign, "0" * 32))
-                if numbers.below(6) == 0:
-                    target = numbers.of(targets)
-            else:
-                open_to = [p for p in pool if p[3] not in h.spent and p[3] >> 56 in h.issuers] or pool
-                p = numbers.of(numbers.of((open_to, open_to, open_to, open_to, open_to, pool, minted, bad)))
-                name, target = p[0], numbers.of(targets[:1] * 6 + targets)
-                right = signature(p[1], target, p[4])
-                wrong = signature(p[1], "/news/9", p[4])
-                sign = numbers.of((right, right if not h.clear else None, None, None, right, wrong, ""))
-                if numbers.below(25) == 0:
-                    name = None
-            text = "$" + name if name else "-"
-            if name and numbers.below(25) == 0:
-                text += "[:%d]" % numbers.below(length(text))
-            lines.append('answer %d "%s" %s %s' % (time, target, text, "-" if sign is None else '"%s"' % sign))
+            lines.append(asked(numbers, h, good, minted, bad))
         out.case("book %d, of %d entries" % (round, len(h.entries)), *lines)
     out.write("answers")
+
+
+def piece(out, name, issuer, value, identity, cust, props="", vendor="news.example", expires=None, spoil=False):
+    """A piece under a name: the name, the text, the value, the identity, and its customer's secret."""
+    text = issuer.scrip_text(vendor, value, identity, cust, props, expires)
+    if spoil:
+        text = text[:-1] + ("0" if text[-1] != "0" else "1")
+    out.let(name, '"%s"' % text)
+    home = {0: OWN, 1: ONE, 2: TWO, 9: NINE}.get(cust >> 56)
+    return name, text, value, identity, home.customer_secret(cust) if home else bytes(16)
+
+
+def good_pieces(out):
+    numbers, pool = Numbers(7), []
+    for number in range(44):
+        issuer = (ONE, ONE, TWO, NINE)[number % 4]
+        moment = NOW + (0, 0, 4096, 100000)[number // 4 % 4]
+        identity = issuer.identity(moment, number)
+        cust = identity if number % 3 else OWN.identity(NOW, 100 + number)
+        pool.append(piece(out, "s%d" % number, issuer, numbers.of((1, 7, 24, 25, 26, 60, 100, 1000, 2**40)), identity, cust,
+                          numbers.of(("", "", "a=1", "x.y,z-0"))))
+    return pool
+
+
+def minted_pieces(out):
+    return [piece(out, "m%d" % serial, OWN, 50, identity, identity)
+            for serial in range(6) for identity in [OWN.identity(NOW, serial)]]
+
+
+def bad_pieces(out):
+    return [piece(out, "b0", ONE, 100, ONE.identity(NOW, 90), ONE.identity(NOW, 90), spoil=True),
+            piece(out, "b1", ONE, 100, ONE.identity(NOW, 91), ONE.identity(NOW, 91), vendor="shop.example"),
+            piece(out, "b2", ONE, 100, ONE.identity(NOW, 92), ONE.identity(NOW, 92), expires=1011713),
+            piece(out, "b3", STRANGE, 100, STRANGE.identity(NOW, 93), STRANGE.identity(NOW, 93)),
+            piece(out, "b4", ONE, 100, ONE.identity(NOW, 94), STRANGE.identity(NOW, 94)),
+            piece(out, "b5", TWO, 100, TWO.identity(NOW + 8192, 95), TWO.identity(NOW + 4096, 96)),
+            piece(out, "b6", ONE, 100, ONE.identity(NOW - 20000, 97), ONE.identity(NOW, 98))]
+
+
+def sold_to(numbers, pool):
+    """A history in which goods change, pieces are minted, and some are paid with."""
+    h = History(numbers.below(4) > 0, numbers.of((60, 600, 600, 86400)), NOW)
+    h.put("/news/1", 25, "Good morning.")
+    h.terms(ONE)
+    if numbers.below(2):
+        h.terms(TWO)
+    if numbers.below(2):
+        h.terms(NINE)
+    if numbers.below(2):
+        h.mint("m1", numbers.between(1, 6), 50)
+    for step in range(numbers.below(8)):
+        h.time += numbers.of((0, 0, 0, 1, 100, 599, 600, 4096))
+        deed = numbers.below(6)
+        if deed == 0:
+            h.put(numbers.of(TARGETS[:3]), numbers.of((1, 24, 25, 60, 1000)), numbers.of(("", "hi", "other")))
+        elif deed == 1:
+            h.mint("r%d" % step, numbers.between(1, 3), numbers.of((1, 50, 2**40)))
+        else:
+            target = numbers.of([t for t in h.goods])
+            good = [p for p in pool if p[2] >= h.goods[target] and p[3] not in h.spent and p[3] >> 56 in h.issuers
+                    and (int(p[1].split("|")[5]) > h.time)]
+            if good:
+                p = numbers.of(good)
+                sign = signature(p[1], target, p[4]) if not h.clear or numbers.below(2) else None
+                h.sell(p, target, sign)
+    return h
+
+
+def asked(numbers, h, pool, minted, bad):
+    """A request after a history: one that it took, given again or nearly so, or a new one."""
+    time = h.time + numbers.of((0, 0, 0, 0, 0, 0, 1, 60, 600, 4096, 11711, 11712, 86400, 200000))
+    if h.sold and numbers.below(3) == 0:
+        moment, name, target, sign = numbers.of(h.sold)
+        time = max(h.time, moment + numbers.of((0, h.keep - 1, h.keep)))
+        if numbers.below(5) == 0:
+            sign = numbers.of((None, sign, "0" * 32))
+        if numbers.below(6) == 0:
+            target = numbers.of(TARGETS)
+    else:
+        open_to = [p for p in pool if p[3] not in h.spent and p[3] >> 56 in h.issuers] or pool
+        p = numbers.of(numbers.of((open_to, open_to, open_to, open_to, open_to, pool, minted, bad)))
+        name, target = p[0], numbers.of(TARGETS[:1] * 6 + TARGETS)
+        right = signature(p[1], target, p[4])
+        wrong = signature(p[1], "/news/9", p[4])
+        sign = numbers.of((right, right if not h.clear else None, None, None, right, wrong, ""))
+        if numbers.below(25) == 0:
+            name = None
+    text = "$" + name if name else "-"
+    if name and numbers.below(25) == 0:
+        text += "[:%d]" % numbers.below(length(text))
+    return 'answer %d "%s" %s %s' % (time, target, text, "-" if sign is None else '"%s"' % sign)
 
 
 class BrokerHistory:
