@@ -10,10 +10,13 @@ refused to the second with 27, and its change is in the first. A pending piece m
 import argparse
 import sys
 import time
+from pathlib import Path
 
-import millicent
-from forms import piece_line
-from millicent import WalletBook, read_scrip
+sys.path.insert(0, str(Path(__file__).resolve().parent / "lib"))
+
+import millicent  # noqa: E402
+from forms import piece_line  # noqa: E402
+from millicent import WalletBook, read_scrip  # noqa: E402
 
 
 def main():

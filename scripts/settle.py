@@ -11,15 +11,19 @@ status is 0 where the request was settled."""
 import argparse
 import socket
 import subprocess
+import sys
 import time
+from pathlib import Path
 
-import millicent
-from forms import reply_signature
-from ledger import reply_bytes
-from millicent import WalletBook
-from refusals import refused
-from serving import PROGRAM
-from wallet import DRAW
+sys.path.insert(0, str(Path(__file__).resolve().parent / "lib"))
+
+import millicent  # noqa: E402
+from forms import reply_signature  # noqa: E402
+from ledger import reply_bytes  # noqa: E402
+from millicent import WalletBook  # noqa: E402
+from refusals import refused  # noqa: E402
+from serving import PROGRAM  # noqa: E402
+from wallet import DRAW  # noqa: E402
 
 
 def refusal_of(request):
