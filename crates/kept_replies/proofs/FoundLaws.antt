@@ -1,8 +1,7 @@
 -- The reply that a request finds, by the marks.
-use Rattle.std.proofs.Common.{◌≡◌, ℕ, zero, suc, ◌+◌, ◌<◌, ◌≤◌, Bool, true, false, cond, ◌&&◌, ltb, eqb, List, [], ◌∷◌, length, get_or, find, All, IsTrue, IsNone, option_map, slice_get, Option, Some, None, MatchOption, inl, inr, refl, sym, subst, ap, ◌∙◌, arith}
+use Rattle.std.proofs.Common.{◌≡◌, ℕ, zero, suc, ◌+◌, ◌<◌, ◌≤◌, Bool, true, false, cond, ◌&&◌, ltb, eqb, List, [], ◌∷◌, length, get_or, find, All, IsTrue, IsNone, IfSome, option_map, slice_get, Option, Some, None, MatchOption, inl, inr, refl, sym, subst, ap, ◌∙◌, arith}
 use Rattle.std.specs.Bool.{then_some}
 use Rattle.std.specs.Borrow.{Bor}
-use Rattle.std.specs.Map.{lookup}
 use Rattle.std.specs.List.Sorted.{IsPartitionPoint}
 use Rattle.std.proofs.lemmas.List.Elements.{All-head, All-tail, All-weaker, All-from_recursion}
 use Rattle.std.proofs.lemmas.Bool.{both_ways, false_from_ne_true, and_parts, and_cases, ltb-true, ltb-false, eqb-true, eqb-false, eq-eqb, ne_eqb}
@@ -10,10 +9,10 @@ use Rattle.std.proofs.lemmas.Option.{same_Some, MatchOption-at_some, MatchOption
 use Rattle.mc_records.specs.Requests.{Asked}
 use Rattle.kept_replies.specs.Requests.{is_same_request}
 use Rattle.kept_replies.specs.Kept.{KeptReply, KeptView, AreRising, NoneInTime, is_in_time, with_number}
-use Rattle.kept_replies.specs.Index.{IndexView, request_tag, leads, first_led, is_mark_of}
+use Rattle.kept_replies.specs.Index.{IndexView, request_tag, leads, is_mark_of}
 use Rattle.kept_replies.specs.Store.{HaveOneNumber, AreToOwnRequests, has_mark, is_repeat, is_found}
 use Rattle.kept_replies.proofs.SearchLaws.{find_passes, find_from_all, find_none, none_passes}
-use Rattle.kept_replies.proofs.IndexLaws.{leads_weaker, led_passes, not_led}
+use Rattle.kept_replies.proofs.IndexLaws.{leads_weaker}
 use Rattle.kept_replies.proofs.ReplyLaws.{number, request_is, request_is_own}
 
 -- ---- by its number
@@ -160,13 +159,12 @@ numbered kept now q n repeat = go (with_number kept.replies n) refl repeat
     go None there passes = absurd cc
     go (Some r) there passes = ap some (eqb-true (number r) n (find_passes (λ x. eqb (number x) n) kept.replies r there))
 
--- the first mark that leads to a repeat is the number of the reply that is asked for
-pub number_found : (kept : KeptView) (index : IndexView) (now : ℕ) (q : Asked) (newest o : Option ℕ) → AreRising kept.replies → AreToOwnRequests kept.replies → All (λ r. has_mark index r ≡ true) kept.replies
-    → newest ≡ lookup (λ t. eqb (request_tag q) t) index.newest → first_led (is_repeat kept now q) newest index.older ≡ o → o ≡ number_if (find (asks kept now q) kept.replies)
-number_found kept index now q newest None rising own marked its is =
-    sym (ap number_if (none_led kept index now q rising marked (not_led (is_repeat kept now q) index newest (request_tag q) its is)))
-number_found kept index now q newest (Some n) rising own marked its is =
-    let repeat = led_passes (is_repeat kept now q) newest index.older n is in
+-- a mark that leads to a repeat is the number of the reply that is asked for, and where the marks lead to none, none is found
+pub number_found : (kept : KeptView) (index : IndexView) (now : ℕ) (q : Asked) (o : Option ℕ) → AreRising kept.replies → AreToOwnRequests kept.replies → All (λ r. has_mark index r ≡ true) kept.replies
+    → IfSome o (λ n. is_repeat kept now q n ≡ true) → (IsNone o → leads index (request_tag q) (is_repeat kept now q) ≡ false) → o ≡ number_if (find (asks kept now q) kept.replies)
+number_found kept index now q None rising own marked repeat none =
+    sym (ap number_if (none_led kept index now q rising marked (none refl)))
+number_found kept index now q (Some n) rising own marked repeat none =
     sym (ap number_if (found_there kept now q n own repeat) ∙ numbered kept now q n repeat)
 
 -- there is none where of each reply to the request the keeping time is over, and nowhere else

@@ -1,5 +1,5 @@
 -- Lists that are looked through and filtered, of whatever they are.
-use Rattle.std.proofs.Common.{◌≡◌, ℕ, zero, suc, Bool, true, false, cond, not, ◌||◌, List, [], ◌∷◌, get_or, take, drop, filter, find, All, Some, None, is_some, inl, inr, refl, sym, ap, ◌∙◌, subst, arith}
+use Rattle.std.proofs.Common.{◌≡◌, ℕ, zero, suc, Bool, true, false, cond, not, ◌||◌, List, [], ◌∷◌, get_or, take, drop, filter, find, All, Option, Some, None, IfSome, is_some, inl, inr, refl, sym, ap, ◌∙◌, subst, arith}
 use Rattle.std.specs.List.{list_any}
 use Rattle.std.specs.List.Sorted.{IsPartitionPoint}
 use Rattle.std.proofs.lemmas.Bool.{or_cases, or_left, or_right, both_ways, false_from_ne_true}
@@ -56,6 +56,10 @@ find_passes p (x ∷ xs) found is = go (p x) refl (find_passes p xs found) is
     go : (b : Bool) → p x ≡ b → (find p xs ≡ Some found → p found ≡ true) → cond b (Some x) (find p xs) ≡ Some found → p found ≡ true
     go true here more e = rw (← same_Some x found e) here
     go false here more e = more e
+
+pub find_passes_if : {X : Type 0} (p : X → Bool) (xs : List X) (o : Option X) → o ≡ find p xs → IfSome o (λ x. p x ≡ true)
+find_passes_if p xs None is = tt
+find_passes_if p xs (Some x) is = find_passes p xs x (sym is)
 
 -- what holds of all holds of what is found
 pub find_from_all : {X : Type 0} (P : X → Type 0) (p : X → Bool) (xs : List X) (found : X) → All P xs → find p xs ≡ Some found → P found

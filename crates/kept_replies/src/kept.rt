@@ -1,13 +1,14 @@
-ghost use Rattle.std.specs.Prelude.{◌≡◌, ◌+◌, ◌<◌, ◌≤◌, ◌^◌, ◌↔◌, [], All, IsTrue, IsFalse, IsNone, IsSome, IfSome, IfOk, OnOk, filter, find, length, remove, option_map, option_copied};
+ghost use Rattle.std.specs.Prelude.{◌≡◌, ◌+◌, ◌<◌, ◌≤◌, ◌^◌, ◌↔◌, ◌||◌, [], All, IsTrue, IsFalse, IsNone, IsSome, IfSome, IfOk, OnOk, filter, find, length, remove, option_map, option_copied};
 ghost use Rattle.std.specs.VecDeque.{deque_len, deque_capacity};
 ghost use Rattle.mc_records.specs.Requests.{asked_of};
 ghost use Rattle.kept_replies.specs.Requests.{text_size};
-ghost use Rattle.kept_replies.specs.Index.{first_led};
+ghost use Rattle.kept_replies.specs.Index.{slot_leads};
 ghost use Rattle.kept_replies.specs.Store.{AreInOrder, IsPlaceOf, has_mark, is_repeat};
 ghost use Rattle.std.specs.Bool.{then_some};
+ghost use Rattle.std.specs.List.{list_any};
 ghost use Rattle.kept_replies.specs.Kept.{entry_size, AreRising, has_request, has_number, is_in_time, found, NoneInTime, with_number, first_number, inserted, reply_of};
 
-use crate::index::{Index, tag_of};
+use crate::index::{Index, mark_in, tag_of};
 use crate::parts::MOST_BESIDE;
 use crate::reply::Reply;
 use crate::together::put_together;
@@ -98,8 +99,10 @@ impl Kept {
         ensures none { IsNone result ↔ NoneInTime self.now now (asked_of q.now) }
         ensures rising { AreRising self.now.replies }
     {
-        let newest = self.index.newest(tag_of(q));
-        self.first_repeat(newest, self.index.older(), now, q)
+        let tag = tag_of(q);
+        let first = self.index.first(tag);
+        let second = self.index.second(tag);
+        self.first_repeat(first, second, self.index.older(), tag, now, q)
     }
 
     /// Keeps an entry for repeats of this request, for which there is room with it, and answers its number;
@@ -203,24 +206,52 @@ impl Kept {
         (reply.number() == number).then_some((at, reply))
     }
 
-    /// The first mark that leads to a repeat of this request: the newest of its tag, or
+    /// The first mark that leads to a repeat of this request, which has this tag: one in these slots, or
     /// else one of the older marks.
     fn first_repeat(
         &self,
-        newest: Option<u64>,
+        first: &[u64],
+        second: &[u64],
         older: &[u64],
+        tag: u64,
         now: Moment,
         q: &Request<'_>,
     ) -> Option<KeptNumber>
-        ensures { result ≡ first_led (is_repeat self.now now (asked_of q.now)) newest older.now }
+        ensures repeat { IfSome result (λ n. IsTrue (is_repeat self.now now (asked_of q.now) n)) }
+        ensures none { IsNone result → IsFalse (list_any (slot_leads tag (is_repeat self.now now (asked_of q.now))) first.now
+            || list_any (slot_leads tag (is_repeat self.now now (asked_of q.now))) second.now
+            || list_any (is_repeat self.now now (asked_of q.now)) older.now) }
     {
-        let Some(mark) = newest else {
-            return self.first_older(older, now, q);
-        };
-        match self.repeat(mark, now, q) {
+        match self.first_in(first, tag, now, q) {
             Some(number) => Some(number),
-            None => self.first_older(older, now, q),
+            None => match self.first_in(second, tag, now, q) {
+                Some(number) => Some(number),
+                None => self.first_older(older, now, q),
+            },
         }
+    }
+
+    /// The first mark of this tag in these slots that leads to a repeat of this request.
+    fn first_in(&self, slots: &[u64], tag: u64, now: Moment, q: &Request<'_>) -> Option<KeptNumber>
+        ensures repeat { IfSome result (λ n. IsTrue (is_repeat self.now now (asked_of q.now) n)) }
+        ensures none { IsNone result → IsFalse (list_any (slot_leads tag (is_repeat self.now now (asked_of q.now))) slots.now) }
+    {
+        for slot in slots {
+            match self.repeat_in(*slot, tag, now, q) {
+                Some(number) => return Some(number),
+                None => (),
+            }
+        }
+        None
+    }
+
+    /// The number of the mark in a slot, where it was put under this tag, and is that of a repeat.
+    fn repeat_in(&self, slot: u64, tag: u64, now: Moment, q: &Request<'_>) -> Option<KeptNumber>
+        ensures repeat { IfSome result (λ n. IsTrue (is_repeat self.now now (asked_of q.now) n)) }
+        ensures none { IsNone result → IsFalse (slot_leads tag (is_repeat self.now now (asked_of q.now)) slot) }
+    {
+        let mark = mark_in(slot, tag)?;
+        self.repeat(mark, now, q)
     }
 
     /// The first of these marks that leads to a repeat of this request.

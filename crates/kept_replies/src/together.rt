@@ -8,8 +8,9 @@ use std::alloc::AllocError;
 use std::collections::VecDeque;
 use std::rc::Rc;
 
-/// How many replies share a buffer.
-const TOGETHER: usize = 32;
+/// How many replies share a buffer. Beside their bytes it takes some 64: a count, its place and length, and two
+/// headers; so one for each reply.
+const TOGETHER: usize = 64;
 
 /// Where the last replies, as many as share a buffer, have buffers of their own, puts their bytes into one. What is
 /// kept stays as it is, after an `Err` too.
