@@ -11,7 +11,7 @@ use Rattle.broker_ledger.specs.declared.broker_ledger.Standing.{Standing}
 use Rattle.broker_ledger.specs.Ledger.{standing_in}
 use Rattle.scrip_journal.specs.Exits.{EncodesNoOutput}
 use Rattle.scrip_journal.specs.Rests.{journal_leaves}
-use Rattle.house_core.specs.declared.house.House.{House}
+use Rattle.house_core.specs.HouseView.{HouseView}
 use Rattle.house_core.specs.declared.outcome.Outcome.{Outcome}
 use Rattle.house_core.specs.declared.outcome.Outcome.TheVariants as outcomes
 use Rattle.house_core.specs.House.{HouseRepresents}
@@ -75,7 +75,7 @@ pub balance_found : (h : History) (name : List ℕ) (s : Standing) → standing_
 balance_found h name s some = same_balance (key_in h name) _ (balance h name) s (λ key. refl) some
 
 -- nothing is entered, and the line is said
-pub performs_stays : {D T : Type 0} (disk : D → DiskView) (trade : T → TradeView) (Wanted : Task → Type 0) (Told : Task → History → Unit {0} → Type 0) (limits : Limits) (x : House D T) (h : History)
+pub performs_stays : {D T : Type 0} (disk : D → DiskView) (trade : T → TradeView) (Wanted : Task → Type 0) (Told : Task → History → Unit {0} → Type 0) (limits : Limits) (x : HouseView D T) (h : History)
     → ((d : D) → IsDisk (disk d)) → HouseRepresents disk trade x h → Wanted Stays → Told Stays h tt → Performs disk trade Wanted Told limits x.journal.disk h (outcomes.Done x tt)
 performs_stays {D = D} disk trade Wanted Told limits x h is_disk st wanted told = record {
   task = Stays;

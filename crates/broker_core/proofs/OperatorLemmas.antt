@@ -20,7 +20,7 @@ use Rattle.broker_ledger.specs.Tasks.{task_of}
 use Rattle.house_state.specs.CommandEntries.{IsCommand}
 use Rattle.house_core.specs.declared.outcome.Outcome.{Outcome}
 use Rattle.house_core.specs.declared.outcome.Outcome.TheVariants as outcomes
-use Rattle.house_core.specs.declared.house.House.{House}
+use Rattle.house_core.specs.HouseView.{HouseView}
 use Rattle.house_core.specs.House.{HouseRepresents, IfDone, outcome_disk}
 use Rattle.house_core.specs.Tasks.{Task, Add, Stays, Refuse, Does, LeavesBy, Performs}
 use Rattle.house_state.specs.Trade.{TradeView}
@@ -109,7 +109,7 @@ told_as b (outcomes.Halted d) = outcomes.Halted d
 
 module _ {D T A B : Type 0} (view : D → DiskView) (trade : T → TradeView) (Told : Task → History → A → Type 0) (Tells : Task → History → B → Type 0) (limits : Limits) (disk : D) (h : History) (b : B) where
   -- what a house says of each history that it represents
-  abbrev Says : House D T → Type 0
+  abbrev Says : HouseView D T → Type 0
   Says x = (task : Task) (g : History) → HouseRepresents view trade x g → Tells task g b
 
   does_as : (task : Task) (r : Outcome D T A) → IfDone (λ x a. Says x) r → Does view trade Told limits disk h task r → Does view trade Tells limits disk h task (told_as b r)

@@ -13,7 +13,7 @@ use Rattle.ledger_model.specs.Answer as answers
 use Rattle.ledger_model.specs.Answer.{Answer, answer, answered}
 use Rattle.ledger_model.specs.Stages.{read_by}
 use Rattle.ledger_model.proofs.TableLaws.{read_ok}
-use Rattle.house_core.specs.declared.bench.Bench.{Bench}
+use Rattle.house_core.specs.BenchView.{BenchView}
 use Rattle.house_state.specs.declared.verdict.Authorization.{Authorization}
 use Rattle.house_state.specs.declared.verdict.NotAuthorized.{NotAuthorized}
 use Rattle.house_state.specs.declared.verdict.NotAuthorized.TheVariants as stops
@@ -29,14 +29,14 @@ use Rattle.house_state.proofs.Tabled.{scrip_asked}
 
 -- ---- a request that makes no entry
 
-pub makes_none : {T : Type 0} (trade : T → TradeView) (b : Bench T) (h : History) (q : Asked) (s : NotAuthorized) → Represents trade b h
+pub makes_none : {T : Type 0} (trade : T → TradeView) (b : BenchView T) (h : History) (q : Asked) (s : NotAuthorized) → Represents trade b h
     → answered (Err (stop_of s)) ≡ answer h (house_time b) (limits_of b) q → Accepts trade b h (answer h (house_time b) (limits_of b) q) (stopped_with s)
 makes_none trade b h q (stops.Refused f) st e = subst (λ (a : Answer). Accepts trade b h a (Err (faults.Refused f))) e (refl, st)
 makes_none trade b h q (stops.Again n) st e = subst (λ (a : Answer). Accepts trade b h a (Ok n)) e (refl, st)
 
 -- ---- replies that are kept
 
-pub stopped_kept : {T : Type 0} (b : Bench T) (s : NotAuthorized) → RepeatsKept b.state s → IfOk (stopped_with s) (KeepsReply b)
+pub stopped_kept : {T : Type 0} (b : BenchView T) (s : NotAuthorized) → RepeatsKept b.state s → IfOk (stopped_with s) (KeepsReply b)
 stopped_kept b (stops.Refused f) is = tt
 stopped_kept b (stops.Again n) is = is
 
@@ -137,5 +137,5 @@ on_is_ok (Ok x) P is p = p
 on_is_ok (Err e) P is p = absurd (cc is)
 
 -- a house where room was made represents what it represented
-pub holds_roomed : {T : Type 0} (trade : T → TradeView) (old new : Bench T) (h : History) → IsRoomed trade old new → Represents trade old h → Represents trade new h
+pub holds_roomed : {T : Type 0} (trade : T → TradeView) (old new : BenchView T) (h : History) → IsRoomed trade old new → Represents trade old h → Represents trade new h
 holds_roomed trade old new h is st = record { state = stands_as_before st.state is.state; learned = is.represents h st.learned; of_kind = rw is.site' st.of_kind }

@@ -9,7 +9,7 @@ use Rattle.kept_replies.specs.declared.deed.Deed.TheVariants as kept
 use Rattle.kept_replies.specs.Kept.{KeptReply}
 use Rattle.ledger_model.specs.Histories.{History}
 use Rattle.ledger_model.specs.Goods.{is_goods_of}
-use Rattle.house_core.specs.declared.bench.Bench.{Bench}
+use Rattle.house_core.specs.BenchView.{BenchView}
 use Rattle.house_state.specs.Trade.{Replaces, OfGoods, NamesInForce, TradeView}
 use Rattle.house_state.specs.declared.verdict.NotAuthorized.{NotAuthorized}
 use Rattle.house_state.specs.declared.verdict.NotAuthorized.TheVariants as stops
@@ -77,7 +77,7 @@ held_by old new keeps (kept.Credit balance) held = tt
 held_by old new keeps (kept.Draw piece cert secret) held = tt
 
 -- the kept replies are the same, and the trade holds what it held
-pub contents_as_before : {T : Type 0} (trade : T → TradeView) (b c : Bench T) (h : History) → HasContents trade b h → c.state.kept.replies ≡ b.state.kept.replies
+pub contents_as_before : {T : Type 0} (trade : T → TradeView) (b c : BenchView T) (h : History) → HasContents trade b h → c.state.kept.replies ≡ b.state.kept.replies
     → ((n : ℕ) → (trade b.trade).holds n → (trade c.trade).holds n) → HasContents trade c h
 contents_as_before trade b c h has same keeps = record {
   in_force = subst (All (IsInForceFor h)) (sym same) has.in_force;
@@ -86,7 +86,7 @@ contents_as_before trade b c h has same keeps = record {
 }
 
 -- there is one reply more, of an entry that puts no goods
-pub contents_taken : {T : Type 0} (trade : T → TradeView) (b c : Bench T) (h : History) (e : Entry) (r : KeptReply) → HasContents trade b h → ((target : List ℕ) → is_goods_of target e ≡ false)
+pub contents_taken : {T : Type 0} (trade : T → TradeView) (b c : BenchView T) (h : History) (e : Entry) (r : KeptReply) → HasContents trade b h → ((target : List ℕ) → is_goods_of target e ≡ false)
     → c.state.kept.replies ≡ b.state.kept.replies ++ r ∷ [] → ((n : ℕ) → (trade b.trade).holds n → (trade c.trade).holds n) → OfGoods (trade b.trade).holds r.entry.deed → NamesInForce h r.entry.deed
     → HasContents trade c (h ++ e ∷ [])
 contents_taken trade b c h e r has quiet more keeps held in_force =
@@ -98,7 +98,7 @@ contents_taken trade b c h e r has quiet more keeps held in_force =
     }
 
 -- a request that makes no entry
-pub keeps_all : {T : Type 0} (trade : T → TradeView) (b : Bench T) (h : History) (q : Asked) (s : NotAuthorized) → HasContents trade b h
+pub keeps_all : {T : Type 0} (trade : T → TradeView) (b : BenchView T) (h : History) (q : Asked) (s : NotAuthorized) → HasContents trade b h
     → answered (Err (stop_of s)) ≡ answer h (house_time b) (limits_of b) q → KeepsContents trade b h (answer h (house_time b) (limits_of b) q) (stopped_with s)
 keeps_all trade b h q (stops.Refused f) has e = subst (λ (a : Answer). KeepsContents trade b h a (Err (faults.Refused f))) e has
 keeps_all trade b h q (stops.Again n) has e = subst (λ (a : Answer). KeepsContents trade b h a (Ok n)) e has
@@ -131,7 +131,7 @@ in_force_by h e number within (kept.Sale piece cert secret stock) later = tt
 in_force_by h e number within (kept.Credit balance) later = tt
 in_force_by h e number within (kept.Draw piece cert secret) later = tt
 
-pub contents_applied : {T : Type 0} (trade : T → TradeView) (b c : Bench T) (h : History) (e : Entry) → HasContents trade b h → All (IsReply h) b.state.kept.replies → c.state.kept.replies ≡ b.state.kept.replies
+pub contents_applied : {T : Type 0} (trade : T → TradeView) (b c : BenchView T) (h : History) (e : Entry) → HasContents trade b h → All (IsReply h) b.state.kept.replies → c.state.kept.replies ≡ b.state.kept.replies
     → ((n : ℕ) → (trade b.trade).holds n → (trade c.trade).holds n) → HasContents trade c (h ++ e ∷ [])
 contents_applied trade b c h e has replies same keeps =
     let still = contents_as_before trade b c h has same keeps in
@@ -141,12 +141,12 @@ contents_applied trade b c h e has replies same keeps =
       held = still.held;
     }
 
-pub contents_of_none : {T : Type 0} (trade : T → TradeView) (b : Bench T) (h : History) → b.state.kept.replies ≡ [] → HasContents trade b h
+pub contents_of_none : {T : Type 0} (trade : T → TradeView) (b : BenchView T) (h : History) → b.state.kept.replies ≡ [] → HasContents trade b h
 contents_of_none trade b h none = record {
   in_force = subst (All (IsInForceFor h)) (sym none) (All-nil (IsInForceFor h));
   held = subst (All (λ r. OfGoods (trade b.trade).holds r.entry.deed)) (sym none) (All-nil (λ r. OfGoods (trade b.trade).holds r.entry.deed));
 }
 
 -- and so is a house where room was made
-pub contents_roomed : {T : Type 0} (trade : T → TradeView) (b c : Bench T) (h : History) → IsRoomed trade b c → HasContents trade b h → HasContents trade c h
+pub contents_roomed : {T : Type 0} (trade : T → TradeView) (b c : BenchView T) (h : History) → IsRoomed trade b c → HasContents trade b h → HasContents trade c h
 contents_roomed trade b c h is has = contents_as_before trade b c h has is.state.replies is.held

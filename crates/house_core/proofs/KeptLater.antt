@@ -15,7 +15,7 @@ use Rattle.spent_windows.specs.Windows.{WindowView, is_marked}
 use Rattle.ledger_model.specs.Histories.{History}
 use Rattle.ledger_model.specs.Houses.{all_terms}
 use Rattle.house_state.specs.HouseState.{HouseStateView, ended_by, MayMove, HasRoomFor, GoesOn}
-use Rattle.house_core.specs.declared.bench.Bench.{Bench}
+use Rattle.house_core.specs.BenchView.{BenchView}
 use Rattle.house_state.specs.Trade.{Replaces, LiesBehind, IsKeptFrom, OfGoods, TradeView}
 use Rattle.house_state.specs.Representation.{StateRepresents, IsReply}
 use Rattle.house_core.specs.Bench.{IsInForceFor, HasContents}
@@ -110,7 +110,7 @@ goes_later b t spent kept kind (Upgrade m vendor issuer from) goes =
     λ house. let moves : MayMove b m vendor issuer from = goes house in record { own = moves.own; new = moves.new; coming = moves.coming }
 goes_later b t spent kept kind e goes = goes
 
-pub contents_later : {T : Type 0} (trade : T → TradeView) (b c : Bench T) (h : History) (t : ℕ) (from : Option ℕ)
+pub contents_later : {T : Type 0} (trade : T → TradeView) (b c : BenchView T) (h : History) (t : ℕ) (from : Option ℕ)
     → HasContents trade b h → c.state.kept.replies ≡ filter (is_in_time b.state.kept.keep t) b.state.kept.replies
     → IfSome from (λ n. All (λ r. n ≤ r.entry.number) c.state.kept.replies) → (from ≡ None → c.state.kept.replies ≡ [])
     → ((n : ℕ) → IsKeptFrom h from n → (trade b.trade).holds n → (trade c.trade).holds n) → HasContents trade c h
@@ -122,7 +122,7 @@ contents_later {T = T} trade b c h t from has replies least none keeps =
     record { in_force = in_force; held = all_held (trade b.trade).holds (trade c.trade).holds h from c.state.kept.replies keeps least none in_force held }
 
 -- the same, where the trade forgets nothing
-pub contents_raised : {T : Type 0} (trade : T → TradeView) (b c : Bench T) (h : History) (t : ℕ)
+pub contents_raised : {T : Type 0} (trade : T → TradeView) (b c : BenchView T) (h : History) (t : ℕ)
     → HasContents trade b h → c.state.kept.replies ≡ filter (is_in_time b.state.kept.keep t) b.state.kept.replies
     → ((n : ℕ) → (trade b.trade).holds n → (trade c.trade).holds n) → HasContents trade c h
 contents_raised trade b c h t has replies keeps =

@@ -8,7 +8,7 @@ use Rattle.ledger_model.proofs.TableLaws.{read_ok}
 use Rattle.ledger_model.specs.Lines.{Stop, Refuse, Repeat}
 use Rattle.ledger_model.specs.Answer as answers
 use Rattle.ledger_model.specs.Answer.{Answer, answered}
-use Rattle.house_core.specs.declared.bench.Bench.{Bench}
+use Rattle.house_core.specs.BenchView.{BenchView}
 use Rattle.house_state.specs.declared.verdict.Authorized.{Authorized}
 use Rattle.house_state.specs.declared.verdict.Authorized.TheVariants as by
 use Rattle.scrip_journal.specs.declared.fault.LearnFault.{LearnFault}
@@ -19,7 +19,7 @@ use Rattle.house_state.specs.HouseState.{HouseStateView}
 use Rattle.house_state.specs.Trade.{TradeView}
 
 -- an entry that does not follow is not replayed
-pub follow_fails : {T : Type 0} (trade : T → TradeView) (passes : History → Entry → Type 0) (b : Bench T) (limits : Limits) (h : History) (e : Entry) (end : LearnFault)
+pub follow_fails : {T : Type 0} (trade : T → TradeView) (passes : History → Entry → Type 0) (b : BenchView T) (limits : Limits) (h : History) (e : Entry) (end : LearnFault)
     → Follows trade passes b limits h e (Err end) → Replays trade passes b limits h e (Err end)
 follow_fails trade passes b limits h e ends.Unlawful f = f.0
 follow_fails trade passes b limits h e ends.NoMemory f = tt

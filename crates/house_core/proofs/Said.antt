@@ -7,7 +7,7 @@ use Rattle.mc_records.specs.Requests.{Asked}
 use Rattle.ledger_model.specs.Histories.{History}
 use Rattle.ledger_model.specs.Answer as answers
 use Rattle.ledger_model.specs.Answer.{Answer, answer}
-use Rattle.house_core.specs.declared.bench.Bench.{Bench}
+use Rattle.house_core.specs.BenchView.{BenchView}
 use Rattle.house_core.specs.declared.tally.Tally.{Tally}
 use Rattle.house_core.specs.declared.fault.BenchFault.{BenchFault}
 use Rattle.house_core.specs.declared.fault.BenchFault.TheVariants as faults
@@ -21,7 +21,7 @@ said_of (Ok number) = Ok number
 said_of (Err (faults.Refused f)) = Err f
 said_of (Err faults.NoMemory) = Err refusals.NoMemory
 
-came : {T : Type 0} (trade : T → TradeView) (s : State) (b : Bench T) (a : Answer) (r : Result ℕ BenchFault) → house_time b ≡ s.time
+came : {T : Type 0} (trade : T → TradeView) (s : State) (b : BenchView T) (a : Answer) (r : Result ℕ BenchFault) → house_time b ≡ s.time
     → Accepts trade b s.history a r → KeepsContents trade b s.history a r → Reaches trade (Says a (said_of r) s) b
 came trade s b (answers.Take e) (Ok n) time accepts keeps = record {
   history = s.history ++ e ∷ [];
@@ -49,7 +49,7 @@ came trade s b (answers.Refused f) (Err faults.NoMemory) time accepts keeps = ab
 came trade s b (answers.Refused f) (Ok n) time accepts keeps = absurd accepts
 
 -- the house time was raised to a reading, and then a request was accepted or not
-pub says : {T : Type 0} (trade : T → TradeView) (old mid new : Bench T) (reading : ℕ) (q : Asked) (r : Result ℕ BenchFault)
+pub says : {T : Type 0} (trade : T → TradeView) (old mid new : BenchView T) (reading : ℕ) (q : Asked) (r : Result ℕ BenchFault)
     → house_time mid ≡ max (house_time old) reading → limits_of mid ≡ limits_of old → house_time new ≡ house_time mid
     → ((h : History) → Represents trade old h → Represents trade mid h)
     → ((h : History) → Represents trade old h → HasContents trade old h → HasContents trade mid h)
@@ -65,7 +65,7 @@ says trade old mid new reading q r time limits still same contents accepts keeps
     came trade s new (answer h s.time (limits_of old) q) r (still ∙ time) accepted kept
 
 -- what a house counts is no part of what it represents
-pub counted_beside : {T : Type 0} (trade : T → TradeView) (P : State → Type 0) (b : Bench T) (tally : Tally) → Reaches trade P b → Reaches trade P (record b { tally = tally })
+pub counted_beside : {T : Type 0} (trade : T → TradeView) (P : State → Type 0) (b : BenchView T) (tally : Tally) → Reaches trade P b → Reaches trade P (record b { tally = tally })
 counted_beside trade P b tally came = record {
   history = came.history;
   house = record {

@@ -8,7 +8,7 @@ use Rattle.ledger_model.specs.Histories.{History}
 use Rattle.ledger_model.specs.Answer as answers
 use Rattle.ledger_model.specs.Answer.{fitted}
 use Rattle.ledger_model.specs.Lines as lines
-use Rattle.house_core.specs.declared.house.House.{House}
+use Rattle.house_core.specs.HouseView.{HouseView}
 use Rattle.house_core.specs.declared.outcome.Outcome.{Outcome}
 use Rattle.house_core.specs.declared.outcome.Outcome.TheVariants as outcomes
 use Rattle.house_core.specs.House.{HouseRepresents, Entered, Leaves, outcome_disk}
@@ -38,7 +38,7 @@ module _ {D T A : Type 0} (view : D → DiskView) (trade : T → TradeView) (Ask
   enters f disk h e (outcomes.NoMemory x) asks told is ran = record { task = Add e; asks = asks; does = is; ran = ran }
   enters f disk h e (outcomes.Halted d) asks told is ran = record { task = Add e; asks = asks; does = is; ran = ran }
 
-  module _ (x : House D T) (h : History) (disk : IsDisk (view x.journal.disk)) (st : HouseRepresents view trade x h) where
+  module _ (x : HouseView D T) (h : History) (disk : IsDisk (view x.journal.disk)) (st : HouseRepresents view trade x h) where
     pub refuses : (f : Refusal) → Asks (Refuse f) → Performs view trade Asks Told limits x.journal.disk h (outcomes.Refused x f)
     refuses f asks = record {
       task = Refuse f;

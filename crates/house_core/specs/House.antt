@@ -20,8 +20,8 @@ use Rattle.scrip_journal.specs.Layout.{Encodes}
 use Rattle.scrip_journal.specs.States.{IsJournal}
 use Rattle.scrip_journal.specs.Rests.{RestsAs, rests_none, rests_then}
 use Rattle.scrip_journal.specs.Exits.{EncodesNoOutput, EitherNoOutput}
-use Rattle.house_core.specs.declared.house.House.{House}
-use Rattle.house_core.specs.declared.settled.Settled.{Settled}
+use Rattle.house_core.specs.HouseView.{HouseView}
+use Rattle.house_core.specs.SettledView.{SettledView}
 use Rattle.house_core.specs.declared.outcome.Outcome.{Outcome}
 use Rattle.house_core.specs.declared.outcome.Response.{Response}
 use Rattle.house_core.specs.declared.outcome.Response.TheVariants.{New, Again}
@@ -31,7 +31,7 @@ use Rattle.house_state.specs.Representation.{has_ended}
 use Rattle.house_state.specs.Trade.{TradeView}
 
 -- The journal and the bench represent the history, and the journal has the house's limit.
-pub record HouseRepresents {D T : Type 0} (view : D → DiskView) (trade : T → TradeView) (x : House D T) (h : History) : Type 0 where
+pub record HouseRepresents {D T : Type 0} (view : D → DiskView) (trade : T → TradeView) (x : HouseView D T) (h : History) : Type 0 where
   pub journal : IsJournal view x.journal h
   pub house : IsHouse trade x.bench h
   pub limit : x.journal.limit ≡ (limits_of x.bench).journal
@@ -56,7 +56,7 @@ outcome_disk (NoMemory x) = x.journal.disk
 outcome_disk (Halted d) = d
 
 -- P of the house that comes back, where one does
-abbrev pub OfHouse : {D T A : Type 0} → (House D T → Type 0) → Outcome D T A → Type 0
+abbrev pub OfHouse : {D T A : Type 0} → (HouseView D T → Type 0) → Outcome D T A → Type 0
 OfHouse P (Done x a) = P x
 OfHouse P (Refused x f) = P x
 OfHouse P (NoMemory x) = P x
@@ -70,7 +70,7 @@ IfRefused P (NoMemory x) = Unit {0}
 IfRefused P (Halted d) = Unit {0}
 
 -- P of the house and of what was answered, where it is done
-abbrev pub IfDone : {D T A : Type 0} → (House D T → A → Type 0) → Outcome D T A → Type 0
+abbrev pub IfDone : {D T A : Type 0} → (HouseView D T → A → Type 0) → Outcome D T A → Type 0
 IfDone P (Done x a) = P x a
 IfDone P (Refused x f) = Unit {0}
 IfDone P (NoMemory x) = Unit {0}
@@ -83,28 +83,28 @@ CountsFaults _ before after = after ≡ before
 
 -- What each call that may write an entry hands back: the house, which keeps what this says, or the disk where that failed.
 -- Calls of Disk alone led there, and the count of faults rose exactly where the house halted.
-pub record HandsBack {D T A : Type 0} (view : D → DiskView) (moved : D → D → Type 0) (Keeps : House D T → Type 0) (disk : D) (result : Outcome D T A) : Type 0 where
+pub record HandsBack {D T A : Type 0} (view : D → DiskView) (moved : D → D → Type 0) (Keeps : HouseView D T → Type 0) (disk : D) (result : Outcome D T A) : Type 0 where
   pub moved' : moved disk (outcome_disk result)
   pub keeps : OfHouse Keeps result
   pub counts : CountsFaults result (view disk).faults (view (outcome_disk result)).faults
 
 -- the house has the time and the limits of this one
-pub record KeepsTime {D T : Type 0} (old new : House D T) : Type 0 where
+pub record KeepsTime {D T : Type 0} (old new : HouseView D T) : Type 0 where
   pub time : house_time new.bench ≡ house_time old.bench
   pub limits : limits_of new.bench ≡ limits_of old.bench
 
 -- the same, but for the house time, which was raised to this moment where that is later
-pub record RaisedTo {D T : Type 0} (moment : ℕ) (old new : House D T) : Type 0 where
+pub record RaisedTo {D T : Type 0} (moment : ℕ) (old new : HouseView D T) : Type 0 where
   pub time : house_time new.bench ≡ max (house_time old.bench) moment
   pub limits : limits_of new.bench ≡ limits_of old.bench
 
 -- the house represents the history, and its disk was not touched
-pub record IsAsItWas {D T : Type 0} (view : D → DiskView) (trade : T → TradeView) (disk : D) (x : House D T) (h : History) : Type 0 where
+pub record IsAsItWas {D T : Type 0} (view : D → DiskView) (trade : T → TradeView) (disk : D) (x : HouseView D T) (h : History) : Type 0 where
   pub represents : HouseRepresents view trade x h
   pub disk' : x.journal.disk ≡ disk
 
 -- The entry is on the disk and is entered under the next number.
-pub record HasEntered {D T : Type 0} (view : D → DiskView) (trade : T → TradeView) (x : House D T) (h : History) (e : Entry) (number : ℕ) : Type 0 where
+pub record HasEntered {D T : Type 0} (view : D → DiskView) (trade : T → TradeView) (x : HouseView D T) (h : History) (e : Entry) (number : ℕ) : Type 0 where
   pub represents : HouseRepresents view trade x (h ++ e ∷ [])
   pub number' : number ≡ length h
 
@@ -134,7 +134,7 @@ Responds view trade disk h _ _ = ⊥
 
 -- The same, where a request that comes again is not for the call: it is refused as one whose piece is
 -- spent, and the house stays as it was.
-abbrev pub Accepted : {D T : Type 0} → (D → DiskView) → (T → TradeView) → D → History → Answer → Outcome D T Settled → Type 0
+abbrev pub Accepted : {D T : Type 0} → (D → DiskView) → (T → TradeView) → D → History → Answer → Outcome D T SettledView → Type 0
 Accepted view trade disk h (answers.Take e) (Done x s) = HasEntered view trade x h e s.number × AskedFor h (house_time x.bench) e s.fresh
 Accepted view trade disk h (answers.Take e) (NoMemory x) = IsAsItWas view trade disk x h
 Accepted view trade disk h (answers.Take e) (Halted d) = Rose (view disk).faults (view d).faults
@@ -165,12 +165,12 @@ SendsOn h before after c s = Encodes h c × (BeginsWith before s × BeginsWith s
 -- ---- while links work
 
 -- only the disk of the journal may have changed
-pub record HouseRests {D T : Type 0} (old new : House D T) : Type 0 where
+pub record HouseRests {D T : Type 0} (old new : HouseView D T) : Type 0 where
   pub journal : RestsAs old.journal new.journal
   pub bench : new.bench ≡ old.bench
 
-pub house_rests_none : {D T : Type 0} (a : House D T) → HouseRests a a
+pub house_rests_none : {D T : Type 0} (a : HouseView D T) → HouseRests a a
 house_rests_none a = record { journal = rests_none a.journal; bench = refl }
 
-pub house_rests_then : {D T : Type 0} (a b c : House D T) → HouseRests a b → HouseRests b c → HouseRests a c
+pub house_rests_then : {D T : Type 0} (a b c : HouseView D T) → HouseRests a b → HouseRests b c → HouseRests a c
 house_rests_then a b c m n = record { journal = rests_then a.journal b.journal c.journal m.journal n.journal; bench = n.bench ∙ m.bench }

@@ -1,3 +1,6 @@
+pub mod BenchView
+pub mod HouseView
+pub mod SettledView
 pub mod Session
 pub mod Tallies
 pub mod Bench

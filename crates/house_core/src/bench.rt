@@ -36,14 +36,23 @@ use mc_base::{Moment, NoMemory};
 use mc_records::{Limits, PieceList, Record, RecordDeed, Refusal, Request, payloads_are_short};
 use scrip_journal::LearnFault;
 use std::alloc::Global;
+use std::marker::Model;
 
-/// A house without a journal: its state and the trade that it carries.
+/// A house without a journal: its state and the trade that it carries. Contracts see it as the record `BenchView`.
 #[derive(Drop)]
 pub struct Bench<T> {
     pub(crate) state: HouseState,
     pub(crate) trade: T,
     /// How the items were answered that it served.
     pub(crate) tally: Tally,
+}
+
+impl<T> Model for Bench<T> {
+    ghost use Rattle.house_core.specs.BenchView.{BenchView};
+
+    ghost Value = { BenchView T };
+
+    ghost view = { λ b. record { state = b.state; trade = b.trade; tally = b.tally } };
 }
 
 impl<T: Trade> Bench<T> {

@@ -41,12 +41,21 @@ use mc_records::{Limits, PieceList, Record, Refusal, Request};
 use scrip_form::{Id, Name, Piece, Terms};
 use scrip_journal::{Journal, Receipt, StageFault};
 use std::alloc::Global;
+use std::marker::Model;
 
 /// A house over a journal that it owns and never lends. It is handed back by each call that writes an
-/// entry, unless the disk fails in that call.
+/// entry, unless the disk fails in that call. Contracts see it as the record `HouseView`.
 pub struct House<D, T> {
     pub(crate) journal: Journal<D>,
     pub(crate) bench: Bench<T>,
+}
+
+impl<D, T> Model for House<D, T> {
+    ghost use Rattle.house_core.specs.HouseView.{HouseView};
+
+    ghost Value = { HouseView D T };
+
+    ghost view = { λ x. record { journal = x.journal; bench = x.bench } };
 }
 
 impl<D: Disk, T: Trade> House<D, T> {

@@ -10,7 +10,7 @@ use Rattle.scrip_journal.specs.Causes.{Only, FoundsSite}
 use Rattle.scrip_journal.specs.declared.fault.LearnFault.{LearnFault}
 use Rattle.scrip_journal.specs.declared.fault.LearnFault.TheVariants as faults
 use Rattle.book_opening.specs.Opener.{Learns}
-use Rattle.house_core.specs.declared.bench.Bench.{Bench}
+use Rattle.house_core.specs.BenchView.{BenchView}
 use Rattle.house_core.specs.Bench.{HasContents, Replays}
 use Rattle.house_state.specs.Trade.{TradeView}
 use Rattle.house_core.proofs.Entered.{time_snoc}
@@ -25,12 +25,12 @@ site_enters passes limits kind (Site m k name house) founds is = record {
 site_enters passes limits kind e founds is = absurd founds
 
 -- why it was not learned
-pub fault_told : {T A : Type 0} (trade : T → TradeView) (passes : Test) (b : Bench T) (limits : Limits) (holds : A → History → Type 0) (h : History) (e : Entry) (fault : LearnFault)
+pub fault_told : {T A : Type 0} (trade : T → TradeView) (passes : Test) (b : BenchView T) (limits : Limits) (holds : A → History → Type 0) (h : History) (e : Entry) (fault : LearnFault)
     → Replays trade passes b limits h e (Err fault) → Learns (MayEnter passes limits) holds h e (Err fault)
 fault_told trade passes b limits holds h e faults.Unlawful replays = replays
 fault_told trade passes b limits holds h e faults.NoMemory replays = tt
 
-pub learned : {T : Type 0} (trade : T → TradeView) (passes : Test) (b : Bench T) (own limits : Limits) (h : History) (e : Entry) (result : Result (Unit {0}) LearnFault) → own ≡ limits
+pub learned : {T : Type 0} (trade : T → TradeView) (passes : Test) (b : BenchView T) (own limits : Limits) (h : History) (e : Entry) (result : Result (Unit {0}) LearnFault) → own ≡ limits
     → Replays trade passes b own h e result → IfOk result (λ u. HasContents trade b (h ++ e ∷ [])) → Learns (MayEnter passes limits) (λ u. StandsAt trade b) h e result
 learned trade passes b own limits h e (Ok u) same replays contents = (
   subst (λ (l : Limits). MayEnter passes l h e) same replays.0,

@@ -16,8 +16,8 @@ use Rattle.scrip_journal.specs.Causes.{Only}
 use Rattle.scrip_journal.specs.declared.fault.HouseFault.{HouseFault}
 use Rattle.scrip_journal.specs.declared.fault.HouseFault.TheVariants.{NotJournal, BadRecord, BadChain, Unlawful, WrongKind, NotEmpty, Disk, NoMemory}
 use Rattle.book_opening.specs.Opener.{OpenerView}
-use Rattle.house_core.specs.declared.bench.Bench.{Bench}
-use Rattle.house_core.specs.declared.house.House.{House}
+use Rattle.house_core.specs.BenchView.{BenchView}
+use Rattle.house_core.specs.HouseView.{HouseView}
 use Rattle.house_core.specs.Bench.{IsHouse, house_time, limits_of}
 use Rattle.house_core.specs.House.{HouseRepresents}
 use Rattle.house_state.specs.Learning.{Test, MayEnter}
@@ -25,7 +25,7 @@ use Rattle.house_state.specs.Trade.{TradeView}
 use Rattle.house_opening.specs.declared.opening.HouseOpener.{HouseOpener}
 
 -- the disk that comes back, whatever is answered
-abbrev pub house_disk : {D T : Type 0} → Result (House D T) (HouseFault D) → D
+abbrev pub house_disk : {D T : Type 0} → Result (HouseView D T) (HouseFault D) → D
 house_disk (Ok x) = x.journal.disk
 house_disk (Err f) = fault_disk f
 
@@ -51,7 +51,7 @@ IsOfOther kind bytes = causes.IsOfOther (Only kind) bytes
 
 -- The bytes encode a history of a site of this kind, each entry of which may follow those before it and passes this test
 -- where it is a Note; and the house represents it too, at the time of the history.
-pub record OpenedFor {D T : Type 0} (view : D → DiskView) (trade : T → TradeView) (passes : Test) (limits : Limits) (kind : ℕ) (bytes : List ℕ) (x : House D T) : Type 0 where
+pub record OpenedFor {D T : Type 0} (view : D → DiskView) (trade : T → TradeView) (passes : Test) (limits : Limits) (kind : ℕ) (bytes : List ℕ) (x : HouseView D T) : Type 0 where
   pub history : History
   pub of_bytes : layout.Encodes history bytes
   pub of_kind : site_kind history ≡ Some kind
@@ -61,7 +61,7 @@ pub record OpenedFor {D T : Type 0} (view : D → DiskView) (trade : T → Trade
   pub limits' : limits_of x.bench ≡ limits
 
 -- what is answered by the bytes of the disk, at a trade with this kind of site
-abbrev pub OpensHouse : {D T : Type 0} → (D → DiskView) → (T → TradeView) → Test → Limits → ℕ → List ℕ → Result (House D T) (HouseFault D) → Type 0
+abbrev pub OpensHouse : {D T : Type 0} → (D → DiskView) → (T → TradeView) → Test → Limits → ℕ → List ℕ → Result (HouseView D T) (HouseFault D) → Type 0
 OpensHouse view trade passes limits kind bytes (Ok x) = OpenedFor view trade passes limits kind bytes x
 OpensHouse view trade passes limits kind bytes (Err (NotJournal d)) = BeginsWith header bytes → ⊥
 OpensHouse view trade passes limits kind bytes (Err (BadRecord d place)) = SpoilsAt passes limits kind bytes place
@@ -75,12 +75,12 @@ OpensHouse view trade passes limits kind bytes (Err (NoMemory d)) = Unit {0}
 -- ---- who opens it
 
 -- the house represents the history, at its time
-pub record StandsAt {T : Type 0} (trade : T → TradeView) (b : Bench T) (h : History) : Type 0 where
+pub record StandsAt {T : Type 0} (trade : T → TradeView) (b : BenchView T) (h : History) : Type 0 where
   pub house : IsHouse trade b h
   pub time' : house_time b ≡ time h
 
 -- A book is opened as a house by the ledger, where it is of the kind of site of the trade.
-abbrev pub opener_of : {T : Type 0} → (T → TradeView) → Test → HouseOpener T → OpenerView (Bench T)
+abbrev pub opener_of : {T : Type 0} → (T → TradeView) → Test → HouseOpener T → OpenerView (BenchView T)
 opener_of trade passes o = record {
   ready = AreInRange o.limits × (trade o.trade).represents [];
   may = MayEnter passes o.limits;

@@ -7,7 +7,7 @@ use Rattle.mc_records.specs.declared.limits.Limits.{Limits}
 use Rattle.millicent_http.specs.declared.clock.Clock.{Clock}
 use Rattle.millicent_http.specs.Steps.{Did, BySteps, state_after}
 use Rattle.millicent_http.proofs.StepLemmas.{state_after-append}
-use Rattle.house_core.specs.declared.bench.Bench.{Bench}
+use Rattle.house_core.specs.BenchView.{BenchView}
 use Rattle.house_core.specs.declared.tally.Tally.{Tally}
 use Rattle.house_core.specs.Session.{State, Step}
 use Rattle.house_core.specs.Tallies.{Repeated, ToldState, ToldStep, tallied, told_by}
@@ -20,7 +20,7 @@ use Rattle.house_serving.specs.Counting.{Counts, told_state}
 use Rattle.house_serving.proofs.OtherStates.{after_over, all_over}
 
 -- where steps have one property, they have another
-pub counts_so : {T : Type 0} (trade : T → TradeView) (P Q : List (Did ToldState) → ToldState → Type 0) (a b : Bench T)
+pub counts_so : {T : Type 0} (trade : T → TradeView) (P Q : List (Did ToldState) → ToldState → Type 0) (a b : BenchView T)
     → ((ds : List (Did ToldState)) (s : ToldState) → P ds s → Q ds s) → Counts trade P a b → Counts trade Q a b
 counts_so trade P Q a b so went h told house =
     let came = went h told house in
@@ -35,7 +35,7 @@ counts_so trade P Q a b so went h told house =
     }
 
 -- steps and others after them
-pub counts_then : {T : Type 0} (trade : T → TradeView) (P Q R : List (Did ToldState) → ToldState → Type 0) (a b c : Bench T)
+pub counts_then : {T : Type 0} (trade : T → TradeView) (P Q R : List (Did ToldState) → ToldState → Type 0) (a b c : BenchView T)
     → ((ds es : List (Did ToldState)) (s : ToldState) → P ds s → Q es (state_after s ds) → R (ds ++ es) s)
     → Counts trade P a b → Counts trade Q b c → Counts trade R a c
 counts_then trade P Q R a b c so first second h told house =
@@ -57,7 +57,7 @@ counts_then trade P Q R a b c so first second h told house =
     }
 
 -- no step was done
-pub counts_nowhere : {T : Type 0} (trade : T → TradeView) (P : List (Did ToldState) → ToldState → Type 0) (b : Bench T)
+pub counts_nowhere : {T : Type 0} (trade : T → TradeView) (P : List (Did ToldState) → ToldState → Type 0) (b : BenchView T)
     → ((s : ToldState) → P [] s) → Counts trade P b b
 counts_nowhere trade P b so h told house = record {
   steps = [];
@@ -70,7 +70,7 @@ counts_nowhere trade P b so h told house = record {
 }
 
 -- what links were served by counted steps they were served by steps
-pub counts_served : {T : Type 0} (trade : T → TradeView) (limits : Limits) (clock : Clock) (links : ℕ) (result : Result ℕ BenchEnd) (a b : Bench T) (before after : LinkView)
+pub counts_served : {T : Type 0} (trade : T → TradeView) (limits : Limits) (clock : Clock) (links : ℕ) (result : Result ℕ BenchEnd) (a b : BenchView T) (before after : LinkView)
     → Counts trade (λ steps s. Served (ToldStep limits) clock links result steps s before after) a b
     → Refines trade (BySteps (λ steps s. Served (Step limits) clock links result steps s before after)) a b
 counts_served trade limits clock links result a b before after went h house =

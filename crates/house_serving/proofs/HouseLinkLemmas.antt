@@ -13,7 +13,7 @@ use Rattle.millicent_http.specs.Steps.{Did, sent_of, state_after}
 use Rattle.millicent_http.specs.Courses.{HadLinks, NoLink}
 use Rattle.millicent_http.proofs.LinkCalls.{heard_on}
 use Rattle.millicent_http.proofs.CourseLemmas.{links_start, links_go_on}
-use Rattle.house_core.specs.declared.house.House.{House}
+use Rattle.house_core.specs.HouseView.{HouseView}
 use Rattle.house_core.specs.Bench.{limits_of, state_of}
 use Rattle.house_core.specs.House.{HouseRepresents}
 use Rattle.house_core.specs.Session.{State, Step}
@@ -32,12 +32,12 @@ use Rattle.house_serving.proofs.HouseTurnLemmas.{ReadOn, stands_at}
 use Rattle.house_state.specs.Trade.{TradeView}
 
 -- the state that a house is in after its steps
-went_at : {O T : Type 0} (link : O → LinkView) (disk : O → DiskView) (trade : T → TradeView) (a : O) (s : State) (xs : List (Did State)) (x : House O T) → RefinesBy link disk trade a s xs x
+went_at : {O T : Type 0} (link : O → LinkView) (disk : O → DiskView) (trade : T → TradeView) (a : O) (s : State) (xs : List (Did State)) (x : HouseView O T) → RefinesBy link disk trade a s xs x
     → state_of (state_after s xs).history x.bench ≡ state_after s xs
 went_at link disk trade a s xs x went = ap (λ (t : ℕ). record { history = (state_after s xs).history; time = t }) went.stands.time
 
 -- links did what sends nothing, after some steps
-pub went_still : {O T : Type 0} (link : O → LinkView) (disk : O → DiskView) (trade : T → TradeView) (a : O) (s : State) (xs : List (Did State)) (x y : House O T) → ReadOn link disk x y
+pub went_still : {O T : Type 0} (link : O → LinkView) (disk : O → DiskView) (trade : T → TradeView) (a : O) (s : State) (xs : List (Did State)) (x y : HouseView O T) → ReadOn link disk x y
     → SentNoMore (link x.journal.disk) (link y.journal.disk) → RefinesBy link disk trade a s xs x → RefinesBy link disk trade a s xs y
 went_still link disk trade a s xs x y on same went =
     let t : State = state_after s xs in
@@ -48,11 +48,11 @@ went_still link disk trade a s xs x y on same went =
 -- ---- the turns of a link
 
 -- by these turns a house came so far on a link
-abbrev pub ServingHouse : {O T : Type 0} → (O → LinkView) → (O → DiskView) → (T → TradeView) → Limits → O → State → House O T → Held → Type 0
+abbrev pub ServingHouse : {O T : Type 0} → (O → LinkView) → (O → DiskView) → (T → TradeView) → Limits → O → State → HouseView O T → Held → Type 0
 ServingHouse link disk trade limits a s x k =
     (steps : List (Did State)) × RefinesBy link disk trade a s steps x × IsServing (Step limits) OfLinks steps s (link a) k (link x.journal.disk)
 
-pub house_starts : {O T : Type 0} (link : O → LinkView) (disk : O → DiskView) (trade : T → TradeView) (x : House O T) (h : History) (k : Held) → TellsAside link (λ o. (disk o).aside) → IsDisk (disk x.journal.disk) → k ≡ nothing_held
+pub house_starts : {O T : Type 0} (link : O → LinkView) (disk : O → DiskView) (trade : T → TradeView) (x : HouseView O T) (h : History) (k : Held) → TellsAside link (λ o. (disk o).aside) → IsDisk (disk x.journal.disk) → k ≡ nothing_held
     → HouseRepresents disk trade x h → ServingHouse link disk trade (limits_of x.bench) x.journal.disk (state_of h x.bench) x k
 house_starts link disk trade x h k tells is empty st = (
   [],
@@ -61,15 +61,15 @@ house_starts link disk trade x h k tells is empty st = (
 )
 
 -- the next turn, from the state that the house is in
-turn_from : {O T : Type 0} (link : O → LinkView) (disk : O → DiskView) (trade : T → TradeView) (limits : Limits) (a : O) (s : State) (xs : List (Did State)) (x : House O T) (k m : Held)
-    (r : Result (House O T × Turn) O) → RefinesBy link disk trade a s xs x → limits_of x.bench ≡ limits
+turn_from : {O T : Type 0} (link : O → LinkView) (disk : O → DiskView) (trade : T → TradeView) (limits : Limits) (a : O) (s : State) (xs : List (Did State)) (x : HouseView O T) (k m : Held)
+    (r : Result (HouseView O T × Turn) O) → RefinesBy link disk trade a s xs x → limits_of x.bench ≡ limits
     → ((h : History) → HouseRepresents disk trade x h → TurnsHouse link disk trade (limits_of x.bench) x.journal.disk (state_of h x.bench) k m r)
     → TurnsHouse link disk trade limits x.journal.disk (state_after s xs) k m r
 turn_from link disk trade limits a s xs x k m r went same turned =
     subst (λ (t : State). TurnsHouse link disk trade limits x.journal.disk t k m r) (went_at link disk trade a s xs x went)
     (subst (λ (l : Limits). TurnsHouse link disk trade l x.journal.disk (state_of (state_after s xs).history x.bench) k m r) same (turned (state_after s xs).history went.stands.house))
 
-pub house_goes_on : {O T : Type 0} (link : O → LinkView) (disk : O → DiskView) (trade : T → TradeView) (limits : Limits) (a : O) (s : State) (x y : House O T) (k m : Held) → TellsAside link (λ o. (disk o).aside)
+pub house_goes_on : {O T : Type 0} (link : O → LinkView) (disk : O → DiskView) (trade : T → TradeView) (limits : Limits) (a : O) (s : State) (x y : HouseView O T) (k m : Held) → TellsAside link (λ o. (disk o).aside)
     → limits_of x.bench ≡ limits → ServingHouse link disk trade limits a s x k
     → ((h : History) → HouseRepresents disk trade x h → TurnsHouse link disk trade (limits_of x.bench) x.journal.disk (state_of h x.bench) k m (Ok (y, turns.GoOn)))
     → ServingHouse link disk trade limits a s y m
@@ -81,7 +81,7 @@ house_goes_on link disk trade limits a s x y k m tells same so turned =
       serving_goes_on (Step limits) OfLinks xs next.0 s (link a) k m (link x.journal.disk) (link y.journal.disk) so.2 next.2,
     )
 
-pub house_ends : {O T : Type 0} (link : O → LinkView) (disk : O → DiskView) (trade : T → TradeView) (limits : Limits) (a : O) (s : State) (x y : House O T) (k m : Held) (turn : Turn) → TellsAside link (λ o. (disk o).aside)
+pub house_ends : {O T : Type 0} (link : O → LinkView) (disk : O → DiskView) (trade : T → TradeView) (limits : Limits) (a : O) (s : State) (x y : HouseView O T) (k m : Held) (turn : Turn) → TellsAside link (λ o. (disk o).aside)
     → limits_of x.bench ≡ limits → (turn ≡ turns.GoOn → ⊥) → ServingHouse link disk trade limits a s x k
     → ((h : History) → HouseRepresents disk trade x h → TurnsHouse link disk trade (limits_of x.bench) x.journal.disk (state_of h x.bench) k m (Ok (y, turn)))
     → EndsTurns link disk trade limits a s (Ok (y, turn))
@@ -112,7 +112,7 @@ doubt_link limits xs s before now k e said after so doubt = record {
   in_doubt = subst (λ (v : LinkView). RequestInDoubt limits doubt.q (state_after s xs) e said v after) (heard_on before now so.got doubt.more (sent_of xs) now.readings so.link) doubt.in_doubt;
 }
 
-pub house_halts : {O T : Type 0} (link : O → LinkView) (disk : O → DiskView) (trade : T → TradeView) (limits : Limits) (a : O) (s : State) (x : House O T) (k m : Held) (d : O) → TellsAside link (λ o. (disk o).aside)
+pub house_halts : {O T : Type 0} (link : O → LinkView) (disk : O → DiskView) (trade : T → TradeView) (limits : Limits) (a : O) (s : State) (x : HouseView O T) (k m : Held) (d : O) → TellsAside link (λ o. (disk o).aside)
     → limits_of x.bench ≡ limits → ServingHouse link disk trade limits a s x k
     → ((h : History) → HouseRepresents disk trade x h → TurnsHouse link disk trade (limits_of x.bench) x.journal.disk (state_of h x.bench) k m (Err d))
     → EndsTurns {O = O} {T = T} link disk trade limits a s (Err d)
@@ -129,7 +129,7 @@ house_halts link disk trade limits a s x k m d tells same so turned =
 -- ---- a link
 
 -- a link was ended by its last turn
-pub link_served : {O T : Type 0} (link : O → LinkView) (disk : O → DiskView) (trade : T → TradeView) (limits : Limits) (a : O) (s : State) (x y : House O T) (turn : Turn) → ReadOn link disk x y
+pub link_served : {O T : Type 0} (link : O → LinkView) (disk : O → DiskView) (trade : T → TradeView) (limits : Limits) (a : O) (s : State) (x y : HouseView O T) (turn : Turn) → ReadOn link disk x y
     → link y.journal.disk ≡ record (link x.journal.disk) { stands = false } → EndsTurns link disk trade limits a s (Ok (x, turn)) → ServesLink link disk trade limits a s (Ok y)
 link_served link disk trade limits a s x y turn on is ended = (
   ended.0,
@@ -151,11 +151,11 @@ link_halted link disk trade limits a s c d tells keeps goes is ended = (
 
 -- ---- links one after another
 
-abbrev pub LinkedHouse : {O T : Type 0} → (O → LinkView) → (O → DiskView) → (T → TradeView) → Limits → ℕ → O → State → House O T → Type 0
+abbrev pub LinkedHouse : {O T : Type 0} → (O → LinkView) → (O → DiskView) → (T → TradeView) → Limits → ℕ → O → State → HouseView O T → Type 0
 LinkedHouse link disk trade limits n a s x =
     (steps : List (Did State)) × RefinesBy link disk trade a s steps x × HadLinks (Step limits) OfLinks n steps s (link a) (link x.journal.disk)
 
-pub linked_starts : {O T : Type 0} (link : O → LinkView) (disk : O → DiskView) (trade : T → TradeView) (limits : Limits) (x : House O T) (h : History) → TellsAside link (λ o. (disk o).aside) → IsDisk (disk x.journal.disk) → HouseRepresents disk trade x h
+pub linked_starts : {O T : Type 0} (link : O → LinkView) (disk : O → DiskView) (trade : T → TradeView) (limits : Limits) (x : HouseView O T) (h : History) → TellsAside link (λ o. (disk o).aside) → IsDisk (disk x.journal.disk) → HouseRepresents disk trade x h
     → LinkedHouse link disk trade limits 0 x.journal.disk (state_of h x.bench) x
 linked_starts link disk trade limits x h tells is st = (
   [],
@@ -164,7 +164,7 @@ linked_starts link disk trade limits x h tells is st = (
 )
 
 -- the link that was taken was served, from the state that the house is in
-link_from : {O T : Type 0} (link : O → LinkView) (disk : O → DiskView) (trade : T → TradeView) (limits : Limits) (a : O) (s : State) (xs : List (Did State)) (y : House O T) (r : Result (House O T) O)
+link_from : {O T : Type 0} (link : O → LinkView) (disk : O → DiskView) (trade : T → TradeView) (limits : Limits) (a : O) (s : State) (xs : List (Did State)) (y : HouseView O T) (r : Result (HouseView O T) O)
     → RefinesBy link disk trade a s xs y → limits_of y.bench ≡ limits
     → ((h : History) → HouseRepresents disk trade y h → ServesLink link disk trade (limits_of y.bench) y.journal.disk (state_of h y.bench) r)
     → ServesLink link disk trade limits y.journal.disk (state_after s xs) r
@@ -172,7 +172,7 @@ link_from link disk trade limits a s xs y r went same served =
     subst (λ (t : State). ServesLink link disk trade limits y.journal.disk t r) (went_at link disk trade a s xs y went)
     (subst (λ (l : Limits). ServesLink link disk trade l y.journal.disk (state_of (state_after s xs).history y.bench) r) same (served (state_after s xs).history went.stands.house))
 
-pub linked_goes_on : {O T : Type 0} (link : O → LinkView) (disk : O → DiskView) (trade : T → TradeView) (limits : Limits) (n m : ℕ) (a : O) (s : State) (x y z : House O T) → m ≡ suc n → ReadOn link disk x y
+pub linked_goes_on : {O T : Type 0} (link : O → LinkView) (disk : O → DiskView) (trade : T → TradeView) (limits : Limits) (n m : ℕ) (a : O) (s : State) (x y z : HouseView O T) → m ≡ suc n → ReadOn link disk x y
     → link y.journal.disk ≡ next_taken (link x.journal.disk) → limits_of y.bench ≡ limits → LinkedHouse link disk trade limits n a s x
     → ((h : History) → HouseRepresents disk trade y h → ServesLink link disk trade (limits_of y.bench) y.journal.disk (state_of h y.bench) (Ok z))
     → LinkedHouse link disk trade limits m a s z
@@ -186,12 +186,12 @@ linked_goes_on link disk trade limits n m a s x y z more on taken same so served
     )
 
 -- as many links as were asked for
-pub linked_house_all : {O T : Type 0} (link : O → LinkView) (disk : O → DiskView) (trade : T → TradeView) (limits : Limits) (links n : ℕ) (a : O) (s : State) (x : House O T) → n ≡ links
+pub linked_house_all : {O T : Type 0} (link : O → LinkView) (disk : O → DiskView) (trade : T → TradeView) (limits : Limits) (links n : ℕ) (a : O) (s : State) (x : HouseView O T) → n ≡ links
     → LinkedHouse link disk trade limits n a s x → ServesLinks link disk trade limits links a s (outs.Done x n)
 linked_house_all link disk trade limits links n a s x all so = (so.0, so.1, inl (all, so.2))
 
 -- all that came
-pub linked_house_over : {O T : Type 0} (link : O → LinkView) (disk : O → DiskView) (trade : T → TradeView) (limits : Limits) (links n : ℕ) (a : O) (s : State) (x y : House O T) → n < links → ReadOn link disk x y
+pub linked_house_over : {O T : Type 0} (link : O → LinkView) (disk : O → DiskView) (trade : T → TradeView) (limits : Limits) (links n : ℕ) (a : O) (s : State) (x y : HouseView O T) → n < links → ReadOn link disk x y
     → link y.journal.disk ≡ none_left (link x.journal.disk) → LinkedHouse link disk trade limits n a s x → ServesLinks link disk trade limits links a s (outs.Done y n)
 linked_house_over link disk trade limits links n a s x y few on over so = (
   so.0,
@@ -200,7 +200,7 @@ linked_house_over link disk trade limits links n a s x y few on over so = (
 )
 
 -- the next one could not be taken
-pub linked_house_broke : {O T : Type 0} (link : O → LinkView) (disk : O → DiskView) (trade : T → TradeView) (limits : Limits) (links n : ℕ) (a : O) (s : State) (x y : House O T) → n < links → ReadOn link disk x y
+pub linked_house_broke : {O T : Type 0} (link : O → LinkView) (disk : O → DiskView) (trade : T → TradeView) (limits : Limits) (links n : ℕ) (a : O) (s : State) (x y : HouseView O T) → n < links → ReadOn link disk x y
     → NoLink (link x.journal.disk) (link y.journal.disk) → LinkedHouse link disk trade limits n a s x → ServesLinks link disk trade limits links a s (outs.Link y)
 linked_house_broke link disk trade limits links n a s x y few on fault so = (
   so.0,
@@ -209,7 +209,7 @@ linked_house_broke link disk trade limits links n a s x y few on fault so = (
 )
 
 -- the disk failed on the next one
-pub linked_house_halts : {O T : Type 0} (link : O → LinkView) (disk : O → DiskView) (trade : T → TradeView) (limits : Limits) (links n : ℕ) (a : O) (s : State) (x y : House O T) (d : O) → n < links → ReadOn link disk x y
+pub linked_house_halts : {O T : Type 0} (link : O → LinkView) (disk : O → DiskView) (trade : T → TradeView) (limits : Limits) (links n : ℕ) (a : O) (s : State) (x y : HouseView O T) (d : O) → n < links → ReadOn link disk x y
     → link y.journal.disk ≡ next_taken (link x.journal.disk) → limits_of y.bench ≡ limits → LinkedHouse link disk trade limits n a s x
     → ((h : History) → HouseRepresents disk trade y h → ServesLink link disk trade (limits_of y.bench) y.journal.disk (state_of h y.bench) (Err d))
     → ServesLinks {O = O} {T = T} link disk trade limits links a s (outs.Halted d)

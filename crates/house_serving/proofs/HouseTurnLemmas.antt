@@ -27,9 +27,9 @@ use Rattle.scrip_journal.specs.Exits.{EitherNoOutput}
 use Rattle.millicent_http.specs.declared.clock.Clock.TheVariants.{OfLinks}
 use Rattle.millicent_http.specs.Steps.{Did}
 use Rattle.millicent_http.specs.Courses.{AreRead, with_readings}
-use Rattle.house_core.specs.declared.bench.Bench.{Bench}
-use Rattle.house_core.specs.declared.house.House.{House}
-use Rattle.house_core.specs.declared.settled.Settled.{Settled}
+use Rattle.house_core.specs.BenchView.{BenchView}
+use Rattle.house_core.specs.HouseView.{HouseView}
+use Rattle.house_core.specs.SettledView.{SettledView}
 use Rattle.house_core.specs.declared.outcome.Outcome.TheVariants as outcomes
 use Rattle.house_core.specs.declared.outcome.Response.{Response}
 use Rattle.house_core.specs.declared.outcome.Response.TheVariants.{New, Again}
@@ -62,26 +62,26 @@ failed_so (Err e) P Q so p = so p
 
 -- ---- what an outcome says of the answer
 
-done_is : {D T : Type 0} (view : D → DiskView) (trade : T → TradeView) (d : D) (h : History) (a : Answer) (x : House D T) (s : Settled) (u v : DiskView) (aside : List ℕ)
+done_is : {D T : Type 0} (view : D → DiskView) (trade : T → TradeView) (d : D) (h : History) (a : Answer) (x : HouseView D T) (s : SettledView) (u v : DiskView) (aside : List ℕ)
     → Responds view trade d h a (outcomes.Done x (New s)) → Ran u v (Leaves {D = D} {T = T} {A = Response} a (outcomes.Done x (New s)) h aside)
     → (e : Entry) × (a ≡ answers.Take e) × HasEntered view trade x h e s.number × Ran u v (EitherNoOutput h e aside)
 done_is view trade d h (answers.Take e) x s u v aside responds ran = (e, refl, responds.0, ran)
 done_is view trade d h (answers.Refused f) x s u v aside responds ran = absurd responds
 done_is view trade d h (answers.Again n) x s u v aside responds ran = absurd responds
 
-again_is : {D T : Type 0} (view : D → DiskView) (trade : T → TradeView) (d : D) (h : History) (a : Answer) (x : House D T) (n : ℕ)
+again_is : {D T : Type 0} (view : D → DiskView) (trade : T → TradeView) (d : D) (h : History) (a : Answer) (x : HouseView D T) (n : ℕ)
     → Responds view trade d h a (outcomes.Done x (Again n)) → (a ≡ answers.Again n) × IsAsItWas view trade d x h
 again_is view trade d h (answers.Take e) x n responds = absurd responds
 again_is view trade d h (answers.Refused f) x n responds = absurd responds
 again_is view trade d h (answers.Again m) x n responds = (ap (λ (k : ℕ). answers.Again k) (sym responds.0), responds.1)
 
-refused_is : {D T : Type 0} (view : D → DiskView) (trade : T → TradeView) (d : D) (h : History) (a : Answer) (x : House D T) (f : Refusal)
+refused_is : {D T : Type 0} (view : D → DiskView) (trade : T → TradeView) (d : D) (h : History) (a : Answer) (x : HouseView D T) (f : Refusal)
     → Responds view trade d h a (outcomes.Refused x f) → (a ≡ answers.Refused f) × IsAsItWas view trade d x h
 refused_is view trade d h (answers.Take e) x f responds = absurd responds
 refused_is view trade d h (answers.Refused g) x f responds = (ap (λ (r : Refusal). answers.Refused r) (sym responds.0), responds.1)
 refused_is view trade d h (answers.Again n) x f responds = absurd responds
 
-starved_is : {D T : Type 0} (view : D → DiskView) (trade : T → TradeView) (d : D) (h : History) (a : Answer) (x : House D T)
+starved_is : {D T : Type 0} (view : D → DiskView) (trade : T → TradeView) (d : D) (h : History) (a : Answer) (x : HouseView D T)
     → Responds view trade d h a (outcomes.NoMemory x) → (e : Entry) × (a ≡ answers.Take e) × IsAsItWas view trade d x h
 starved_is view trade d h (answers.Take e) x responds = (e, refl, responds)
 starved_is view trade d h (answers.Refused f) x responds = absurd responds
@@ -97,7 +97,7 @@ halted_is view trade d e' h (answers.Again n) u v aside responds ran = absurd re
 -- ---- the reply to a request at the house time
 
 -- A reply was sent from one house to the next, whose bench is the same.
-pub record SentOn {O T : Type 0} (link : O → LinkView) (disk : O → DiskView) (y z : House O T) : Type 0 where
+pub record SentOn {O T : Type 0} (link : O → LinkView) (disk : O → DiskView) (y z : HouseView O T) : Type 0 where
   pub tells : TellsAside link (λ o. (disk o).aside)
   pub is_link : IsLink (link y.journal.disk)
   pub standing : IsTrue (link y.journal.disk).stands
@@ -106,13 +106,13 @@ pub record SentOn {O T : Type 0} (link : O → LinkView) (disk : O → DiskView)
   pub rests : HouseRests y z
 
 -- a reply was sent, or a prefix of it, when what it speaks of was there
-reply_went : {O T : Type 0} (link : O → LinkView) (disk : O → DiskView) (trade : T → TradeView) (y z : House O T) (s : State) (d : Did State) → SentOn link disk y z → StandsAt disk trade y d.after
+reply_went : {O T : Type 0} (link : O → LinkView) (disk : O → DiskView) (trade : T → TradeView) (y z : HouseView O T) (s : State) (d : Did State) → SentOn link disk y z → StandsAt disk trade y d.after
     → (link z.journal.disk).sessions ≡ (after_send d.sent (link y.journal.disk)).sessions → RefinesBy link disk trade y.journal.disk s (d ∷ []) z
 reply_went link disk trade y z s d on st sent =
     went_sent link disk outside_of (StandsAt disk trade) history_of (house_leaves disk trade) on.tells y z s d on.is_link on.standing st (stands_kept disk trade y z d.after on.keeps on.rests st) on.keeps on.goes sent
 
 -- nothing new is entered: the reply is the first one of an entry, or a refusal
-pub replied_old : {O T : Type 0} (link : O → LinkView) (disk : O → DiskView) (trade : T → TradeView) (limits : Limits) (q : Asked) (after : After) (y z : House O T) (s : State)
+pub replied_old : {O T : Type 0} (link : O → LinkView) (disk : O → DiskView) (trade : T → TradeView) (limits : Limits) (q : Asked) (after : After) (y z : HouseView O T) (s : State)
     (reply : List ℕ) (r : Result (Unit {0}) LinkFault) → SentOn link disk y z → HouseRepresents disk trade y s.history → house_time y.bench ≡ s.time
     → Gives s q (answer s.history s.time limits q) reply s
     → OnOk r (link z.journal.disk ≡ after_send reply (link y.journal.disk)) → OnErr r ((n : ℕ) × (n < length reply) × Failed (after_send (take n reply) (link y.journal.disk)) (link z.journal.disk))
@@ -128,8 +128,8 @@ replied_old {T = T} link disk trade limits q after y z s reply r on st time give
     )
 
 -- the entry of the request was written and entered, and its first reply was sent
-pub replied_new : {O T : Type 0} (link : O → LinkView) (disk : O → DiskView) (trade : T → TradeView) (limits : Limits) (q : Asked) (after : After) (a : O) (y z : House O T) (s : State)
-    (settled : Settled) (r : Result (Unit {0}) LinkFault) → SentOn link disk y z → house_time y.bench ≡ s.time → (disk y.journal.disk).aside ≡ (disk a).aside → (disk y.journal.disk).faults ≡ (disk a).faults → link y.journal.disk ≡ link a
+pub replied_new : {O T : Type 0} (link : O → LinkView) (disk : O → DiskView) (trade : T → TradeView) (limits : Limits) (q : Asked) (after : After) (a : O) (y z : HouseView O T) (s : State)
+    (settled : SettledView) (r : Result (Unit {0}) LinkFault) → SentOn link disk y z → house_time y.bench ≡ s.time → (disk y.journal.disk).aside ≡ (disk a).aside → (disk y.journal.disk).faults ≡ (disk a).faults → link y.journal.disk ≡ link a
     → Responds disk trade a s.history (answer s.history s.time limits q) (outcomes.Done y (New settled))
     → Ran (disk a) (disk y.journal.disk) (Leaves {D = O} {T = T} {A = Response} (answer s.history s.time limits q) (outcomes.Done y (New settled)) s.history (disk a).aside)
     → OnOk r ((h : History) → HouseRepresents disk trade y h → link z.journal.disk ≡ after_send (reply_of h settled.number) (link y.journal.disk))
@@ -153,7 +153,7 @@ replied_new {T = T} link disk trade limits q after a y z s settled r on time qui
     )
 
 -- the request is refused
-pub replied_refused : {O T : Type 0} (link : O → LinkView) (disk : O → DiskView) (trade : T → TradeView) (limits : Limits) (q : Asked) (after : After) (a : O) (y z : House O T) (s : State)
+pub replied_refused : {O T : Type 0} (link : O → LinkView) (disk : O → DiskView) (trade : T → TradeView) (limits : Limits) (q : Asked) (after : After) (a : O) (y z : HouseView O T) (s : State)
     (f : Refusal) (r : Result (Unit {0}) LinkFault) → SentOn link disk y z → house_time y.bench ≡ s.time
     → Responds disk trade a s.history (answer s.history s.time limits q) (outcomes.Refused y f)
     → OnOk r ((h : History) → HouseRepresents disk trade y h → link z.journal.disk ≡ after_send (refusal_of h (house_time y.bench) q f) (link y.journal.disk))
@@ -169,7 +169,7 @@ replied_refused {O = O} link disk trade limits q after a y z s f r on time respo
     (told_so r _ _ (λ g. g s.history is.1.represents) sent) (failed_so r _ _ (λ g. g s.history is.1.represents) fault))
 
 -- memory was refused for the request
-pub replied_starved : {O T : Type 0} (link : O → LinkView) (disk : O → DiskView) (trade : T → TradeView) (limits : Limits) (q : Asked) (after : After) (a : O) (y z : House O T) (s : State)
+pub replied_starved : {O T : Type 0} (link : O → LinkView) (disk : O → DiskView) (trade : T → TradeView) (limits : Limits) (q : Asked) (after : After) (a : O) (y z : HouseView O T) (s : State)
     (r : Result (Unit {0}) LinkFault) → SentOn link disk y z → house_time y.bench ≡ s.time
     → Responds disk trade a s.history (answer s.history s.time limits q) (outcomes.NoMemory y)
     → OnOk r ((h : History) → HouseRepresents disk trade y h → link z.journal.disk ≡ after_send (refusal_of h (house_time y.bench) q refusals.NoMemory) (link y.journal.disk))
@@ -185,7 +185,7 @@ replied_starved {O = O} link disk trade limits q after a y z s r on time respond
     (told_so r _ _ (λ g. g s.history is.2.represents) sent) (failed_so r _ _ (λ g. g s.history is.2.represents) fault))
 
 -- the request comes again, and gets the first reply of its entry
-pub replied_again : {O T : Type 0} (link : O → LinkView) (disk : O → DiskView) (trade : T → TradeView) (limits : Limits) (q : Asked) (after : After) (a : O) (y z : House O T) (s : State)
+pub replied_again : {O T : Type 0} (link : O → LinkView) (disk : O → DiskView) (trade : T → TradeView) (limits : Limits) (q : Asked) (after : After) (a : O) (y z : HouseView O T) (s : State)
     (number : ℕ) (r : Result (Unit {0}) LinkFault) → SentOn link disk y z → house_time y.bench ≡ s.time
     → Responds disk trade a s.history (answer s.history s.time limits q) (outcomes.Done y (Again number))
     → OnOk r ((h : History) → HouseRepresents disk trade y h → link z.journal.disk ≡ after_send (reply_of h number) (link y.journal.disk))
@@ -222,11 +222,11 @@ replied_halted link disk trade limits q after a b c s r tells is_b is_link on qu
 -- ---- an item, at a reading of the clock
 
 -- a house that represents a history is in a state
-pub stands_at : {O T : Type 0} (disk : O → DiskView) (trade : T → TradeView) (x : House O T) (h : History) → HouseRepresents disk trade x h → StandsAt disk trade x (state_of h x.bench)
+pub stands_at : {O T : Type 0} (disk : O → DiskView) (trade : T → TradeView) (x : HouseView O T) (h : History) → HouseRepresents disk trade x h → StandsAt disk trade x (state_of h x.bench)
 stands_at disk trade x h st = record { house = st; time = refl }
 
 -- A house was raised to a reading of the clock.
-pub record RaisedBy {O T : Type 0} (link : O → LinkView) (disk : O → DiskView) (trade : T → TradeView) (x y : House O T) (reading : ℕ) : Type 0 where
+pub record RaisedBy {O T : Type 0} (link : O → LinkView) (disk : O → DiskView) (trade : T → TradeView) (x y : HouseView O T) (reading : ℕ) : Type 0 where
   pub tells : TellsAside link (λ o. (disk o).aside)
   pub keeps : LinkKeeps (disk x.journal.disk) (disk y.journal.disk)
   pub goes : LinkGoes (link x.journal.disk) (link y.journal.disk)
@@ -237,14 +237,14 @@ pub record RaisedBy {O T : Type 0} (link : O → LinkView) (disk : O → DiskVie
   pub read : AreRead OfLinks (reading ∷ []) (link x.journal.disk).readings (link y.journal.disk).readings
 
 -- nothing was sent while it was raised
-raised_quiet : {O T : Type 0} (link : O → LinkView) (disk : O → DiskView) (trade : T → TradeView) (x y : House O T) (reading : ℕ) (h : History)
+raised_quiet : {O T : Type 0} (link : O → LinkView) (disk : O → DiskView) (trade : T → TradeView) (x y : HouseView O T) (reading : ℕ) (h : History)
     → RaisedBy link disk trade x y reading → HouseRepresents disk trade x h → RefinesBy link disk trade x.journal.disk (state_of h y.bench) [] y
 raised_quiet link disk trade x y reading h up st =
     went_quiet link disk outside_of (StandsAt disk trade) history_of (house_leaves disk trade) up.tells x y (state_of h x.bench) (state_of h y.bench) refl (stands_at disk trade x h st) up.keeps up.goes (stands_at disk trade y h (up.represents h st))
     (no_more_still (link x.journal.disk) (link y.journal.disk) (ap (λ (v : LinkView). v.sessions) up.rest))
 
 -- a step after it, as a step from before
-raised_went : {O T : Type 0} (link : O → LinkView) (disk : O → DiskView) (trade : T → TradeView) (x y z : House O T) (reading : ℕ) (h : History) (step : Did State)
+raised_went : {O T : Type 0} (link : O → LinkView) (disk : O → DiskView) (trade : T → TradeView) (x y z : HouseView O T) (reading : ℕ) (h : History) (step : Did State)
     → RaisedBy link disk trade x y reading → HouseRepresents disk trade x h → RefinesBy link disk trade y.journal.disk (state_of h y.bench) (step ∷ []) z
     → RefinesBy link disk trade x.journal.disk (state_of h x.bench) (step ∷ []) z
 raised_went link disk trade x y z reading h step up st went =
@@ -252,13 +252,13 @@ raised_went link disk trade x y z reading h step up st went =
     (went_on link disk outside_of (StandsAt disk trade) history_of (house_leaves disk trade) up.tells x.journal.disk (state_of h y.bench) [] (step ∷ []) y z (raised_quiet link disk trade x y reading h up st) went)
 
 -- the state at the reading
-raised_is : {O T : Type 0} (link : O → LinkView) (disk : O → DiskView) (trade : T → TradeView) (x y : House O T) (reading : ℕ) (h : History) → RaisedBy link disk trade x y reading
+raised_is : {O T : Type 0} (link : O → LinkView) (disk : O → DiskView) (trade : T → TradeView) (x y : HouseView O T) (reading : ℕ) (h : History) → RaisedBy link disk trade x y reading
     → state_of h y.bench ≡ raised (state_of h x.bench) reading
 raised_is link disk trade x y reading h up = ap (λ (t : ℕ). record { history = h; time = t }) up.time
 
 -- a request was answered
-pub request_answered : {O T : Type 0} (link : O → LinkView) (disk : O → DiskView) (trade : T → TradeView) (q : Asked) (after : After) (x y : House O T) (reading : ℕ) (h : History)
-    (r : Result (House O T × Turn) O) → RaisedBy link disk trade x y reading → HouseRepresents disk trade x h
+pub request_answered : {O T : Type 0} (link : O → LinkView) (disk : O → DiskView) (trade : T → TradeView) (q : Asked) (after : After) (x y : HouseView O T) (reading : ℕ) (h : History)
+    (r : Result (HouseView O T × Turn) O) → RaisedBy link disk trade x y reading → HouseRepresents disk trade x h
     → RepliesTo link disk trade (limits_of y.bench) q after y.journal.disk (state_of h y.bench) r
     → AnswersRequest link disk trade (limits_of x.bench) q after x.journal.disk (state_of h x.bench) r
 request_answered link disk trade q after x y reading h (Ok r) up st replied =
@@ -291,7 +291,7 @@ request_answered link disk trade q after x y reading h (Err d) up st replied =
     )
 
 -- a head was refused
-pub head_answered : {O T : Type 0} (link : O → LinkView) (disk : O → DiskView) (trade : T → TradeView) (f : Refusal) (after : After) (x y z : House O T) (reading : ℕ) (h : History)
+pub head_answered : {O T : Type 0} (link : O → LinkView) (disk : O → DiskView) (trade : T → TradeView) (f : Refusal) (after : After) (x y z : HouseView O T) (reading : ℕ) (h : History)
     (r : Result (Unit {0}) LinkFault) → RaisedBy link disk trade x y reading → SentOn link disk y z → HouseRepresents disk trade x h
     → OnOk r ((h : History) → HouseRepresents disk trade y h → link z.journal.disk ≡ after_send (head_refusal (house_time y.bench) f) (link y.journal.disk))
     → OnErr r ((h : History) → HouseRepresents disk trade y h
@@ -313,41 +313,41 @@ head_answered {T = T} link disk trade f after x y z reading h r up on st sent fa
 -- ---- a turn
 
 -- the house as a reader of heads left it
-pub record ReadOn {O T : Type 0} (link : O → LinkView) (disk : O → DiskView) (x y : House O T) : Type 0 where
+pub record ReadOn {O T : Type 0} (link : O → LinkView) (disk : O → DiskView) (x y : HouseView O T) : Type 0 where
   pub tells : TellsAside link (λ o. (disk o).aside)
   pub keeps : LinkKeeps (disk x.journal.disk) (disk y.journal.disk)
   pub goes : LinkGoes (link x.journal.disk) (link y.journal.disk)
   pub rests : HouseRests x y
 
-read_quiet : {O T : Type 0} (link : O → LinkView) (disk : O → DiskView) (trade : T → TradeView) (x y : House O T) (h : History) → ReadOn link disk x y → HouseRepresents disk trade x h
+read_quiet : {O T : Type 0} (link : O → LinkView) (disk : O → DiskView) (trade : T → TradeView) (x y : HouseView O T) (h : History) → ReadOn link disk x y → HouseRepresents disk trade x h
     → SentNoMore (link x.journal.disk) (link y.journal.disk) → RefinesBy link disk trade x.journal.disk (state_of h x.bench) [] y
 read_quiet {T = T} link disk trade x y h on st same =
     let s : State = state_of h x.bench in
     let at = stands_at disk trade x h st in
     went_quiet link disk outside_of (StandsAt disk trade) history_of (house_leaves disk trade) on.tells x y s s refl at on.keeps on.goes (stands_kept disk trade x y s on.keeps on.rests at) same
 
-pub read_stands : {O T : Type 0} (link : O → LinkView) (disk : O → DiskView) (trade : T → TradeView) (x y : House O T) (h : History) → ReadOn link disk x y → HouseRepresents disk trade x h
+pub read_stands : {O T : Type 0} (link : O → LinkView) (disk : O → DiskView) (trade : T → TradeView) (x y : HouseView O T) (h : History) → ReadOn link disk x y → HouseRepresents disk trade x h
     → HouseRepresents disk trade y h
 read_stands link disk trade x y h on st = house_keeps disk trade x y h st on.keeps on.rests
 
 -- an item that was taken was answered
-item_turns : {O T : Type 0} (link : O → LinkView) (disk : O → DiskView) (trade : T → TradeView) (item : Bool → Item) (after : After) (x y z : House O T) (h : History) (old new : Held) (turn : Turn) (more : List ℕ) (closing : Bool)
+item_turns : {O T : Type 0} (link : O → LinkView) (disk : O → DiskView) (trade : T → TradeView) (item : Bool → Item) (after : After) (x y z : HouseView O T) (h : History) (old new : Held) (turn : Turn) (more : List ℕ) (closing : Bool)
     → ReadOn link disk x y → HouseRepresents disk trade x h → TookItem (with_more old more).bytes old.given (item closing) after new → link y.journal.disk ≡ after_recv more (link x.journal.disk)
     → ((step : Did State) × RefinesBy link disk trade y.journal.disk (state_of h y.bench) (step ∷ []) z × ((closes : Bool) → AnsweredItem (Step (limits_of y.bench)) OfLinks (item closes) after turn step (state_of h y.bench) (link y.journal.disk) (link z.journal.disk)))
     → (steps : List (Did State)) × RefinesBy link disk trade x.journal.disk (state_of h x.bench) steps z × Turned (Step (limits_of x.bench)) OfLinks turn steps (state_of h x.bench) old (link x.journal.disk) new (link z.journal.disk)
 item_turns {T = T} link disk trade item after x y z h old new turn more closing on st took came did =
     let step : Did State = did.0 in
-    let from : RefinesBy link disk trade y.journal.disk (state_of h x.bench) (step ∷ []) z = subst (λ (b : Bench T). RefinesBy link disk trade y.journal.disk (state_of h b) (step ∷ []) z) on.rests.bench did.1 in
+    let from : RefinesBy link disk trade y.journal.disk (state_of h x.bench) (step ∷ []) z = subst (λ (b : BenchView T). RefinesBy link disk trade y.journal.disk (state_of h b) (step ∷ []) z) on.rests.bench did.1 in
     let answered : AnsweredItem (Step (limits_of x.bench)) OfLinks (item closing) after turn step (state_of h x.bench) (link y.journal.disk) (link z.journal.disk) =
-    subst (λ (b : Bench T). AnsweredItem (Step (limits_of b)) OfLinks (item closing) after turn step (state_of h b) (link y.journal.disk) (link z.journal.disk)) on.rests.bench (did.2 closing) in (
+    subst (λ (b : BenchView T). AnsweredItem (Step (limits_of b)) OfLinks (item closing) after turn step (state_of h b) (link y.journal.disk) (link z.journal.disk)) on.rests.bench (did.2 closing) in (
       step ∷ [],
       went_on link disk outside_of (StandsAt disk trade) history_of (house_leaves disk trade) on.tells x.journal.disk (state_of h x.bench) [] (step ∷ []) y z
           (read_quiet link disk trade x y h on st (no_more_heard (link x.journal.disk) (link y.journal.disk) more (ap (λ (v : LinkView). v.sessions) came))) from,
       item_turned (Step (limits_of x.bench)) OfLinks turn step (state_of h x.bench) old (link x.journal.disk) (link y.journal.disk) more (item closing) after new (link z.journal.disk) took came answered,
     )
 
-pub head_turns : {O T : Type 0} (link : O → LinkView) (disk : O → DiskView) (trade : T → TradeView) (q : Request) (after : After) (x y : House O T) (h : History) (old new : Held) (out : HeadOut)
-    (r : Result (House O T × Turn) O) → Took old (link x.journal.disk) out new (link y.journal.disk) → out ≡ outs.Head q after → ReadOn link disk x y → HouseRepresents disk trade x h
+pub head_turns : {O T : Type 0} (link : O → LinkView) (disk : O → DiskView) (trade : T → TradeView) (q : Request) (after : After) (x y : HouseView O T) (h : History) (old new : Held) (out : HeadOut)
+    (r : Result (HouseView O T × Turn) O) → Took old (link x.journal.disk) out new (link y.journal.disk) → out ≡ outs.Head q after → ReadOn link disk x y → HouseRepresents disk trade x h
     → AnswersRequest link disk trade (limits_of y.bench) (asked_of q) after y.journal.disk (state_of h y.bench) r
     → TurnsHouse link disk trade (limits_of x.bench) x.journal.disk (state_of h x.bench) old new r
 head_turns link disk trade q after x y h old new out (Ok r) took is on st did =
@@ -358,7 +358,7 @@ head_turns {T = T} link disk trade q after x y h old new out (Err d) took is on 
     let e : Entry = did.0 in
     let said : List ℕ = did.1 in
     let in_doubt : RequestInDoubt (limits_of x.bench) (asked_of q) (state_of h x.bench) e said (link y.journal.disk) (link d) =
-    subst (λ (b : Bench T). RequestInDoubt (limits_of b) (asked_of q) (state_of h b) e said (link y.journal.disk) (link d)) on.rests.bench did.3 in (
+    subst (λ (b : BenchView T). RequestInDoubt (limits_of b) (asked_of q) (state_of h b) e said (link y.journal.disk) (link d)) on.rests.bench did.3 in (
       e,
       said,
       halts_quiet link disk on.tells x.journal.disk y.journal.disk h [] e said d on.keeps on.goes (no_more_heard (link x.journal.disk) (link y.journal.disk) took.got (ap (λ (v : LinkView). v.sessions) leads.1))
@@ -374,15 +374,15 @@ head_turns {T = T} link disk trade q after x y h old new out (Err d) took is on 
       },
     )
 
-pub refused_turns : {O T : Type 0} (link : O → LinkView) (disk : O → DiskView) (trade : T → TradeView) (f : HeadRefusal) (after : After) (x y : House O T) (h : History) (old new : Held) (out : HeadOut)
-    (r : House O T × Turn) → Took old (link x.journal.disk) out new (link y.journal.disk) → out ≡ outs.Refused f after → ReadOn link disk x y → HouseRepresents disk trade x h
+pub refused_turns : {O T : Type 0} (link : O → LinkView) (disk : O → DiskView) (trade : T → TradeView) (f : HeadRefusal) (after : After) (x y : HouseView O T) (h : History) (old new : Held) (out : HeadOut)
+    (r : HouseView O T × Turn) → Took old (link x.journal.disk) out new (link y.journal.disk) → out ≡ outs.Refused f after → ReadOn link disk x y → HouseRepresents disk trade x h
     → RefusesHead link disk trade (limits_of y.bench) (as_refusal f) after y.journal.disk (state_of h y.bench) r
     → TurnsHouse link disk trade (limits_of x.bench) x.journal.disk (state_of h x.bench) old new (Ok r)
 refused_turns link disk trade f after x y h old new out r took is on st did =
     let leads = leads_so old (link x.journal.disk) out (outs.Refused f after) new (link y.journal.disk) took is in
     item_turns link disk trade (refused (as_refusal f)) after x y r.0 h old new r.1 took.got leads.0.0 on st leads.0.1 leads.1 did
 
-pub end_turns : {O T : Type 0} (link : O → LinkView) (disk : O → DiskView) (trade : T → TradeView) (x y : House O T) (h : History) (old new : Held) (out : HeadOut)
+pub end_turns : {O T : Type 0} (link : O → LinkView) (disk : O → DiskView) (trade : T → TradeView) (x y : HouseView O T) (h : History) (old new : Held) (out : HeadOut)
     → Took old (link x.journal.disk) out new (link y.journal.disk) → out ≡ outs.End → ReadOn link disk x y → HouseRepresents disk trade x h
     → TurnsHouse link disk trade (limits_of x.bench) x.journal.disk (state_of h x.bench) old new (Ok (y, End))
 end_turns link disk trade x y h old new out took is on st =
@@ -393,7 +393,7 @@ end_turns link disk trade x y h old new out took is on st =
     (no_more_finished (after_recv took.got (link x.journal.disk)) (link y.journal.disk) (ap (λ (v : LinkView). v.sessions) leads.2)) in
     ([], read_quiet link disk trade x y h on st same, record { none_done = refl; more = took.got; none = leads.1; then' = leads.2 })
 
-pub fault_turns : {O T : Type 0} (link : O → LinkView) (disk : O → DiskView) (trade : T → TradeView) (x y : House O T) (h : History) (old new : Held) (out : HeadOut)
+pub fault_turns : {O T : Type 0} (link : O → LinkView) (disk : O → DiskView) (trade : T → TradeView) (x y : HouseView O T) (h : History) (old new : Held) (out : HeadOut)
     → Took old (link x.journal.disk) out new (link y.journal.disk) → out ≡ outs.Fault → ReadOn link disk x y → HouseRepresents disk trade x h
     → TurnsHouse link disk trade (limits_of x.bench) x.journal.disk (state_of h x.bench) old new (Ok (y, NotReceived))
 fault_turns link disk trade x y h old new out took is on st =

@@ -6,7 +6,7 @@ use Rattle.millicent_http.specs.declared.clock.Clock.{Clock}
 use Rattle.millicent_http.specs.Steps.{Did, state_after, StepRelation}
 use Rattle.millicent_http.specs.Courses.{HadLink, HadLinks, NoLink}
 use Rattle.millicent_http.proofs.CourseLemmas.{links_start, links_go_on}
-use Rattle.house_core.specs.declared.bench.Bench.{Bench}
+use Rattle.house_core.specs.BenchView.{BenchView}
 use Rattle.house_serving.specs.declared.serving.BenchEnd.TheVariants as ends
 use Rattle.house_serving.specs.Counting.{Counts}
 use Rattle.house_core.specs.Tallies.{ToldState, ToldStep}
@@ -32,17 +32,17 @@ links_broke Step clock links n steps s before now next few fault so = record { n
 -- ---- from one house to another
 
 -- so many links were taken
-abbrev pub Linked : {T : Type 0} → (T → TradeView) → Limits → Clock → ℕ → Bench T → LinkView → Bench T → LinkView → Type 0
+abbrev pub Linked : {T : Type 0} → (T → TradeView) → Limits → Clock → ℕ → BenchView T → LinkView → BenchView T → LinkView → Type 0
 Linked trade limits clock n a before b now = Counts trade (λ steps s. HadLinks (ToldStep limits) clock n steps s before now) a b
 
 -- one link was taken
-abbrev pub LinkedOne : {T : Type 0} → (T → TradeView) → Limits → Clock → Bench T → LinkView → Bench T → LinkView → Type 0
+abbrev pub LinkedOne : {T : Type 0} → (T → TradeView) → Limits → Clock → BenchView T → LinkView → BenchView T → LinkView → Type 0
 LinkedOne trade limits clock a before b now = Counts trade (λ steps s. HadLink (ToldStep limits) clock steps s before now) a b
 
-pub linked_none : {T : Type 0} (trade : T → TradeView) (limits : Limits) (clock : Clock) (b : Bench T) (v : LinkView) → Linked trade limits clock 0 b v b v
+pub linked_none : {T : Type 0} (trade : T → TradeView) (limits : Limits) (clock : Clock) (b : BenchView T) (v : LinkView) → Linked trade limits clock 0 b v b v
 linked_none trade limits clock b v = counts_nowhere trade (λ (steps : List (Did ToldState)) (s : ToldState). HadLinks (ToldStep limits) clock 0 steps s v v) b (λ (s : ToldState). links_start (ToldStep limits) clock s v)
 
-pub linked_more : {T : Type 0} (trade : T → TradeView) (limits now_limits : Limits) (clock : Clock) (n m : ℕ) (a b c : Bench T) (before now taken next : LinkView)
+pub linked_more : {T : Type 0} (trade : T → TradeView) (limits now_limits : Limits) (clock : Clock) (n m : ℕ) (a b c : BenchView T) (before now taken next : LinkView)
     → now_limits ≡ limits → m ≡ suc n → taken ≡ next_taken now → Linked trade limits clock n a before b now → LinkedOne trade now_limits clock b taken c next
     → Linked trade limits clock m a before c next
 linked_more trade limits now_limits clock n m a b c before now taken next same more took so had =
@@ -51,19 +51,19 @@ linked_more trade limits now_limits clock n m a b c before now taken next same m
     (λ (ds es : List (Did ToldState)) (s : ToldState) (x : HadLinks (ToldStep limits) clock n ds s before now) (y : HadLink (ToldStep limits) clock es (state_after s ds) taken next). links_go_on (ToldStep limits) clock n m ds es s before now taken next more took x y)
     so (subst (λ (l : Limits). LinkedOne trade l clock b taken c next) same had)
 
-pub linked_all : {T : Type 0} (trade : T → TradeView) (limits : Limits) (clock : Clock) (links n : ℕ) (a b : Bench T) (before now : LinkView) → n ≡ links
+pub linked_all : {T : Type 0} (trade : T → TradeView) (limits : Limits) (clock : Clock) (links n : ℕ) (a b : BenchView T) (before now : LinkView) → n ≡ links
     → Linked trade limits clock n a before b now → Counts trade (λ steps s. Served (ToldStep limits) clock links (Ok n) steps s before now) a b
 linked_all trade limits clock links n a b before now all so =
     counts_so trade (λ (steps : List (Did ToldState)) (s : ToldState). HadLinks (ToldStep limits) clock n steps s before now) (λ (steps : List (Did ToldState)) (s : ToldState). Served (ToldStep limits) clock links (Ok n) steps s before now) a b
     (λ (steps : List (Did ToldState)) (s : ToldState) (x : HadLinks (ToldStep limits) clock n steps s before now). links_all (ToldStep limits) clock links n steps s before now all x) so
 
-pub linked_over : {T : Type 0} (trade : T → TradeView) (limits : Limits) (clock : Clock) (links n : ℕ) (a b : Bench T) (before now next : LinkView) → n < links → next ≡ none_left now
+pub linked_over : {T : Type 0} (trade : T → TradeView) (limits : Limits) (clock : Clock) (links n : ℕ) (a b : BenchView T) (before now next : LinkView) → n < links → next ≡ none_left now
     → Linked trade limits clock n a before b now → Counts trade (λ steps s. Served (ToldStep limits) clock links (Ok n) steps s before next) a b
 linked_over trade limits clock links n a b before now next few over so =
     counts_so trade (λ (steps : List (Did ToldState)) (s : ToldState). HadLinks (ToldStep limits) clock n steps s before now) (λ (steps : List (Did ToldState)) (s : ToldState). Served (ToldStep limits) clock links (Ok n) steps s before next) a b
     (λ (steps : List (Did ToldState)) (s : ToldState) (x : HadLinks (ToldStep limits) clock n steps s before now). links_over (ToldStep limits) clock links n steps s before now next few over x) so
 
-pub linked_broke : {T : Type 0} (trade : T → TradeView) (limits : Limits) (clock : Clock) (links n : ℕ) (a b : Bench T) (before now next : LinkView) → n < links → NoLink now next
+pub linked_broke : {T : Type 0} (trade : T → TradeView) (limits : Limits) (clock : Clock) (links n : ℕ) (a b : BenchView T) (before now next : LinkView) → n < links → NoLink now next
     → Linked trade limits clock n a before b now → Counts trade (λ steps s. Served (ToldStep limits) clock links (Err ends.Link) steps s before next) a b
 linked_broke trade limits clock links n a b before now next few fault so =
     counts_so trade (λ (steps : List (Did ToldState)) (s : ToldState). HadLinks (ToldStep limits) clock n steps s before now) (λ (steps : List (Did ToldState)) (s : ToldState). Served (ToldStep limits) clock links (Err ends.Link) steps s before next) a b

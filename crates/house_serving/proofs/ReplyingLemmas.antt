@@ -8,7 +8,7 @@ use Rattle.millicent_http.proofs.ReadLemmas.{read_item, read_all, read_closed}
 use Rattle.millicent_http.specs.Steps.{Did, sent_of, state_after, BySteps, Run, IsSession}
 use Rattle.millicent_http.proofs.StepLemmas.{run_more, sent_one}
 use Rattle.millicent_http.proofs.CourseLemmas.{none_more}
-use Rattle.house_core.specs.declared.bench.Bench.{Bench}
+use Rattle.house_core.specs.BenchView.{BenchView}
 use Rattle.house_core.specs.Bench.{Refines}
 use Rattle.house_core.specs.Session.{State, Step}
 use Rattle.house_serving.proofs.RefinesLemmas.{went_so, stepped_so, stepped_then, stepped_nowhere}
@@ -104,35 +104,35 @@ ended limits moment link i rest written steps s few ends so = (
 
 -- ---- from one house to another
 
-abbrev pub Replying : {T : Type 0} → (T → TradeView) → Limits → ℕ → List ℕ → ℕ → Bench T → List ℕ → List ℕ → Bench T → Type 0
+abbrev pub Replying : {T : Type 0} → (T → TradeView) → Limits → ℕ → List ℕ → ℕ → BenchView T → List ℕ → List ℕ → BenchView T → Type 0
 Replying trade limits moment link i a rest written b = Refines trade (BySteps (IsReplying limits moment link i rest written)) a b
 
-went_step : {T : Type 0} (trade : T → TradeView) (limits now_limits : Limits) (moment : ℕ) (b c : Bench T) (written more : List ℕ) (item : Item) → now_limits ≡ limits
+went_step : {T : Type 0} (trade : T → TradeView) (limits now_limits : Limits) (moment : ℕ) (b c : BenchView T) (written more : List ℕ) (item : Item) → now_limits ≡ limits
     → Refines trade (λ s t. Stepped now_limits moment item written more s t) b c → Refines trade (BySteps (IsStep limits moment item written more)) b c
 went_step trade limits now_limits moment b c written more item same stepped =
     went_so trade (λ (s t : State). Stepped limits moment item written more s t) (BySteps (IsStep limits moment item written more)) b c (as_step limits moment item written more)
     (subst (λ (l : Limits). Refines trade (λ s t. Stepped l moment item written more s t) b c) same stepped)
 
-pub replying_starts : {T : Type 0} (trade : T → TradeView) (limits : Limits) (moment : ℕ) (link : List ℕ) (b : Bench T) (written : List ℕ) → written ≡ []
+pub replying_starts : {T : Type 0} (trade : T → TradeView) (limits : Limits) (moment : ℕ) (link : List ℕ) (b : BenchView T) (written : List ℕ) → written ≡ []
     → Replying trade limits moment link 0 b link written b
 replying_starts trade limits moment link b written empty =
     stepped_nowhere trade (IsReplying limits moment link 0 link written) b (λ (s : State). starts limits moment link s written empty)
 
-pub replying_goes_on : {T : Type 0} (trade : T → TradeView) (limits now_limits : Limits) (moment : ℕ) (link : List ℕ) (i : ℕ) (a b c : Bench T) (rest tail written more : List ℕ) (item : Item)
+pub replying_goes_on : {T : Type 0} (trade : T → TradeView) (limits now_limits : Limits) (moment : ℕ) (link : List ℕ) (i : ℕ) (a b c : BenchView T) (rest tail written more : List ℕ) (item : Item)
     → now_limits ≡ limits → NextItem rest item tail → closes item ≡ false → Replying trade limits moment link i a rest written b
     → Refines trade (λ s t. Stepped now_limits moment item written more s t) b c → Replying trade limits moment link (i + 1) a tail more c
 replying_goes_on trade limits now_limits moment link i a b c rest tail written more item same next open' so stepped =
     stepped_then trade (IsReplying limits moment link i rest written) (IsStep limits moment item written more) (IsReplying limits moment link (i + 1) tail more) a b c
     (λ (ds es : List (Did State)) (s : State). goes_on limits moment link i rest tail written more item ds es s next open') so (went_step trade limits now_limits moment b c written more item same stepped)
 
-pub replying_closes : {T : Type 0} (trade : T → TradeView) (limits now_limits : Limits) (moment : ℕ) (link : List ℕ) (i : ℕ) (a b c : Bench T) (rest tail written more : List ℕ) (item : Item)
+pub replying_closes : {T : Type 0} (trade : T → TradeView) (limits now_limits : Limits) (moment : ℕ) (link : List ℕ) (i : ℕ) (a b c : BenchView T) (rest tail written more : List ℕ) (item : Item)
     → now_limits ≡ limits → i < 1000 → NextItem rest item tail → closes item ≡ true → Replying trade limits moment link i a rest written b
     → Refines trade (λ s t. Stepped now_limits moment item written more s t) b c → Refines trade (BySteps (Wrote limits moment link more)) a c
 replying_closes trade limits now_limits moment link i a b c rest tail written more item same few next close so stepped =
     stepped_then trade (IsReplying limits moment link i rest written) (IsStep limits moment item written more) (Wrote limits moment link more) a b c
     (λ (ds es : List (Did State)) (s : State). closed limits moment link i rest tail written more item ds es s few next close) so (went_step trade limits now_limits moment b c written more item same stepped)
 
-pub replying_ends : {T : Type 0} (trade : T → TradeView) (limits : Limits) (moment : ℕ) (link : List ℕ) (i : ℕ) (a b : Bench T) (rest written : List ℕ)
+pub replying_ends : {T : Type 0} (trade : T → TradeView) (limits : Limits) (moment : ℕ) (link : List ℕ) (i : ℕ) (a b : BenchView T) (rest written : List ℕ)
     → i ≤ 1000 → (i ≡ 1000) ⊎ EndsNoItem rest → Replying trade limits moment link i a rest written b → Refines trade (BySteps (Wrote limits moment link written)) a b
 replying_ends trade limits moment link i a b rest written few ends so =
     stepped_so trade (IsReplying limits moment link i rest written) (Wrote limits moment link written) a b

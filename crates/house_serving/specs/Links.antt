@@ -20,7 +20,7 @@ use Rattle.link_turns.specs.declared.turn.Turn.{Turn}
 use Rattle.link_turns.specs.Turns.{Sent, AnsweredItem, Turned, Ended}
 use Rattle.link_turns.specs.Sending.{Sends, KeptCounts, TakesNoLink}
 use Rattle.link_turns.specs.Orders.{HaltsAt}
-use Rattle.house_core.specs.declared.house.House.{House}
+use Rattle.house_core.specs.HouseView.{HouseView}
 use Rattle.house_core.specs.Session.{State, Gives, Step}
 use Rattle.house_serving.specs.declared.links.ServeOut.{ServeOut}
 use Rattle.house_serving.specs.declared.links.ServeOut.TheVariants.{Done, Link, NoMemory, Halted}
@@ -64,7 +64,7 @@ ServedEnough link links _ = Unit {0}
 
 -- A request was replied to at the house time: by its first reply or by its refusal, which was sent, or not
 -- the whole of it. Or the disk failed while its entry was written, and it was told so.
-abbrev pub RepliesTo : {O T : Type 0} → (O → LinkView) → (O → DiskView) → (T → TradeView) → Limits → Asked → After → O → State → Result (House O T × Turn) O → Type 0
+abbrev pub RepliesTo : {O T : Type 0} → (O → LinkView) → (O → DiskView) → (T → TradeView) → Limits → Asked → After → O → State → Result (HouseView O T × Turn) O → Type 0
 RepliesTo link disk trade limits q after a s (Ok r) =
     (step : Did State) × (reply : List ℕ) × RefinesBy link disk trade a s (step ∷ []) r.0 × Gives s q (answer s.history s.time limits q) reply step.after
     × Sent after reply r.1 step.sent (link a) (link r.0.journal.disk)
@@ -73,33 +73,33 @@ RepliesTo link disk trade limits q after a s (Err d) =
     × Sends (refusal_of s.history s.time q DiskFault) said (link a) (link d)
 
 -- one request that was taken
-abbrev pub AnswersRequest : {O T : Type 0} → (O → LinkView) → (O → DiskView) → (T → TradeView) → Limits → Asked → After → O → State → Result (House O T × Turn) O → Type 0
+abbrev pub AnswersRequest : {O T : Type 0} → (O → LinkView) → (O → DiskView) → (T → TradeView) → Limits → Asked → After → O → State → Result (HouseView O T × Turn) O → Type 0
 AnswersRequest link disk trade limits q after a s (Ok r) =
     (step : Did State) × RefinesBy link disk trade a s (step ∷ []) r.0 × ((closes : Bool) → AnsweredItem (Step limits) OfLinks (request q closes) after r.1 step s (link a) (link r.0.journal.disk))
 AnswersRequest link disk trade limits q after a s (Err d) =
     (e : Entry) × (said : List ℕ) × HaltsAt link disk a s.history [] e said d × RequestInDoubt limits q s e said (link a) (link d)
 
 -- one head that was refused
-abbrev pub RefusesHead : {O T : Type 0} → (O → LinkView) → (O → DiskView) → (T → TradeView) → Limits → Refusal → After → O → State → House O T × Turn → Type 0
+abbrev pub RefusesHead : {O T : Type 0} → (O → LinkView) → (O → DiskView) → (T → TradeView) → Limits → Refusal → After → O → State → HouseView O T × Turn → Type 0
 RefusesHead link disk trade limits f after a s r =
     (step : Did State) × RefinesBy link disk trade a s (step ∷ []) r.0 × ((closes : Bool) → AnsweredItem (Step limits) OfLinks (refused f closes) after r.1 step s (link a) (link r.0.journal.disk))
 
 -- one turn
-abbrev pub TurnsHouse : {O T : Type 0} → (O → LinkView) → (O → DiskView) → (T → TradeView) → Limits → O → State → Held → Held → Result (House O T × Turn) O → Type 0
+abbrev pub TurnsHouse : {O T : Type 0} → (O → LinkView) → (O → DiskView) → (T → TradeView) → Limits → O → State → Held → Held → Result (HouseView O T × Turn) O → Type 0
 TurnsHouse link disk trade limits a s old new (Ok r) =
     (steps : List (Did State)) × RefinesBy link disk trade a s steps r.0 × Turned (Step limits) OfLinks r.1 steps s old (link a) new (link r.0.journal.disk)
 TurnsHouse link disk trade limits a s old new (Err d) =
     (e : Entry) × (said : List ℕ) × HaltsAt link disk a s.history [] e said d × InDoubtTurn limits s old (link a) e said (link d)
 
 -- the turns of a link
-abbrev pub EndsTurns : {O T : Type 0} → (O → LinkView) → (O → DiskView) → (T → TradeView) → Limits → O → State → Result (House O T × Turn) O → Type 0
+abbrev pub EndsTurns : {O T : Type 0} → (O → LinkView) → (O → DiskView) → (T → TradeView) → Limits → O → State → Result (HouseView O T × Turn) O → Type 0
 EndsTurns link disk trade limits a s (Ok r) =
     (steps : List (Did State)) × RefinesBy link disk trade a s steps r.0 × Ended (Step limits) OfLinks r.1 steps s (link a) (link r.0.journal.disk)
 EndsTurns link disk trade limits a s (Err d) =
     (steps : List (Did State)) × (e : Entry) × (said : List ℕ) × HouseHalted link disk a s steps e said d × InDoubtLink limits steps s (link a) e said (link d)
 
 -- a link
-abbrev pub ServesLink : {O T : Type 0} → (O → LinkView) → (O → DiskView) → (T → TradeView) → Limits → O → State → Result (House O T) O → Type 0
+abbrev pub ServesLink : {O T : Type 0} → (O → LinkView) → (O → DiskView) → (T → TradeView) → Limits → O → State → Result (HouseView O T) O → Type 0
 ServesLink link disk trade limits a s (Ok x) =
     (steps : List (Did State)) × RefinesBy link disk trade a s steps x × HadLink (Step limits) OfLinks steps s (link a) (link x.journal.disk)
 ServesLink link disk trade limits a s (Err d) =

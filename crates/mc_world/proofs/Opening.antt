@@ -14,7 +14,7 @@ use Rattle.ledger_model.proofs.KindLaws.{first_founds}
 use Rattle.ledger_model.proofs.FollowLaws.{size_snoc}
 use Rattle.house_state.specs.Founding.{FoundsHouse}
 use Rattle.house_state.specs.Trade.{TradeView}
-use Rattle.house_core.specs.declared.bench.Bench.{Bench}
+use Rattle.house_core.specs.BenchView.{BenchView}
 use Rattle.house_state.specs.Learning.{Test}
 use Rattle.house_core.specs.Bench.{IsHouse, Represents, HasContents, Replays, house_time, limits_of}
 use Rattle.world_model.proofs.Accepted.{may_at}
@@ -49,12 +49,12 @@ time_last : (h : History) (e : Entry) → time h ≤ moment_of e → time (h ++ 
 time_last h e le = time_snoc h e ∙ larger (time h) (moment_of e) le
 
 -- a house of the first n entries, at their time
-pub record IsOpening {T : Type 0} (trade : T → TradeView) (limits : Limits) (h : History) (n : ℕ) (b : Bench T) : Type 0 where
+pub record IsOpening {T : Type 0} (trade : T → TradeView) (limits : Limits) (h : History) (n : ℕ) (b : BenchView T) : Type 0 where
   pub house : IsHouse trade b (take n h)
   pub time : house_time b ≡ time (take n h)
   pub bounds : limits_of b ≡ limits
 
-pub opened_first : {T : Type 0} (trade : T → TradeView) (limits : Limits) (h : History) (e : Entry) (b : Bench T) → slice_get h 0 ≡ Some e → Represents trade b (e ∷ []) → HasContents trade b (e ∷ [])
+pub opened_first : {T : Type 0} (trade : T → TradeView) (limits : Limits) (h : History) (e : Entry) (b : BenchView T) → slice_get h 0 ≡ Some e → Represents trade b (e ∷ []) → HasContents trade b (e ∷ [])
     → house_time b ≡ moment_of e → limits_of b ≡ limits → IsOpening trade limits h 1 b
 opened_first trade limits h e b is represents contents at bounds =
     let one : take 1 h ≡ e ∷ [] = take_snoc h 0 e is in
@@ -69,7 +69,7 @@ pub tells_chain : (limits : Limits) (h : History) (e : Entry) → MayFollow limi
 tells_chain limits h (Switch m c) may = may.allowed.2
 tells_chain limits h e may = tt
 
-pub opened_more : {T : Type 0} (trade : T → TradeView) (passes : Test) (limits : Limits) (h : History) (n : ℕ) (e : Entry) (b c : Bench T) → IsLawful limits h → size h ≤ MOST_JOURNAL → slice_get h n ≡ Some e → IsOpening trade limits h n b
+pub opened_more : {T : Type 0} (trade : T → TradeView) (passes : Test) (limits : Limits) (h : History) (n : ℕ) (e : Entry) (b c : BenchView T) → IsLawful limits h → size h ≤ MOST_JOURNAL → slice_get h n ≡ Some e → IsOpening trade limits h n b
     → ((g : History) → Represents trade b g → house_time b ≡ time g → TellsChain g e → size g + entry_size g e ≤ MOST_JOURNAL → Replays trade passes c (limits_of b) g e (Ok tt))
     → ((g : History) → Represents trade b g → HasContents trade b g → HasContents trade c (g ++ e ∷ [])) → limits_of c ≡ limits_of b → IsOpening trade limits h (n + 1) c
 opened_more trade passes limits h n e b c lawful most is so exact contents kept =
@@ -84,5 +84,5 @@ opened_more trade passes limits h n e b c lawful most is so exact contents kept 
       bounds = kept ∙ so.bounds;
     }
 
-pub opened_all : {T : Type 0} (trade : T → TradeView) (limits : Limits) (h : History) (n : ℕ) (b : Bench T) → length h ≤ n → IsOpening trade limits h n b → IsHouse trade b h × (house_time b ≡ time h)
+pub opened_all : {T : Type 0} (trade : T → TradeView) (limits : Limits) (h : History) (n : ℕ) (b : BenchView T) → length h ≤ n → IsOpening trade limits h n b → IsHouse trade b h × (house_time b ≡ time h)
 opened_all trade limits h n b le so = (subst (IsHouse trade b) (take_whole h n le) so.house, so.time ∙ ap time (take_whole h n le))

@@ -9,7 +9,7 @@ use Rattle.ledger_model.specs.Histories.{History}
 use Rattle.ledger_model.specs.Answer as answers
 use Rattle.ledger_model.specs.Answer.{Answer, answer}
 use Rattle.house_state.specs.Trade.{TradeView}
-use Rattle.house_core.specs.declared.bench.Bench.{Bench}
+use Rattle.house_core.specs.BenchView.{BenchView}
 use Rattle.house_core.specs.Bench.{IsHouse, Represents, HasContents, Refines, state_of, house_time, limits_of}
 use Rattle.house_core.specs.Session.{State, raised, Says}
 use Rattle.mc_world.specs.Shops.{history_after, IsTold}
@@ -31,7 +31,7 @@ twice t u reading is = grind (arith, is)
 abbrev state_at : History → ℕ → State
 state_at h t = record { history = h; time = t }
 
-pub after_told : {T : Type 0} (trade : T → TradeView) (old mid new : Bench T) (h g : History) (limits : Limits) (reading : ℕ) (q : Asked) (told : Result ℕ Refusal)
+pub after_told : {T : Type 0} (trade : T → TradeView) (old mid new : BenchView T) (h g : History) (limits : Limits) (reading : ℕ) (q : Asked) (told : Result ℕ Refusal)
     → IsHouse trade old h → limits_of old ≡ limits
     → house_time mid ≡ max (house_time old) reading → limits_of mid ≡ limits_of old → ((h : History) → Represents trade old h → Represents trade mid h)
     → ((h : History) → Represents trade old h → HasContents trade old h → HasContents trade mid h)

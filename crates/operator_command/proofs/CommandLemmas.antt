@@ -7,7 +7,7 @@ use Rattle.mc_records.specs.declared.refusal.Refusal.{Refusal}
 use Rattle.ledger_model.specs.Histories.{History}
 use Rattle.scrip_journal.specs.Exits.{EncodesNoOutput}
 use Rattle.scrip_journal.specs.Rests.{journal_leaves}
-use Rattle.house_core.specs.declared.house.House.{House}
+use Rattle.house_core.specs.HouseView.{HouseView}
 use Rattle.house_core.specs.declared.outcome.Outcome.{Outcome}
 use Rattle.house_core.specs.declared.outcome.Outcome.TheVariants as outcomes
 use Rattle.house_core.specs.House as houses
@@ -59,7 +59,7 @@ performs_as {D = D} disk trade Asks Wanted Told Says limits d h out wanted says 
 }
 
 -- and it hands back what the call does
-pub back_as : {D T A : Type 0} (disk : D → DiskView) (moved : D → D → Type 0) (Keeps : House D T → Type 0) (d : D) (out : Outcome D T A) → HandsBack disk moved Keeps d out → HandsBack disk moved Keeps d (without_answer out)
+pub back_as : {D T A : Type 0} (disk : D → DiskView) (moved : D → D → Type 0) (Keeps : HouseView D T → Type 0) (d : D) (out : Outcome D T A) → HandsBack disk moved Keeps d out → HandsBack disk moved Keeps d (without_answer out)
 back_as disk moved Keeps d (outcomes.Done x a) is = record { moved' = is.moved'; keeps = is.keeps; counts = is.counts }
 back_as disk moved Keeps d (outcomes.Refused x f) is = record { moved' = is.moved'; keeps = is.keeps; counts = is.counts }
 back_as disk moved Keeps d (outcomes.NoMemory x) is = record { moved' = is.moved'; keeps = is.keeps; counts = is.counts }
@@ -73,7 +73,7 @@ refused_as P (outcomes.NoMemory x) is = tt
 refused_as P (outcomes.Halted y) is = tt
 
 -- it is refused before the trade is asked
-pub performs_refused : {D T : Type 0} (disk : D → DiskView) (trade : T → TradeView) (Wanted : Task → Type 0) (Told : Task → History → Unit {0} → Type 0) (limits : Limits) (x : House D T) (h : History) (f : Refusal)
+pub performs_refused : {D T : Type 0} (disk : D → DiskView) (trade : T → TradeView) (Wanted : Task → Type 0) (Told : Task → History → Unit {0} → Type 0) (limits : Limits) (x : HouseView D T) (h : History) (f : Refusal)
     → ((d : D) → IsDisk (disk d)) → HouseRepresents disk trade x h → Wanted (Refuse f) → Performs disk trade Wanted Told limits x.journal.disk h (outcomes.Refused x f)
 performs_refused {D = D} disk trade Wanted Told limits x h f is_disk st wanted = record {
   task = Refuse f;
@@ -110,14 +110,14 @@ performs_shown {D = D} disk trade Asks Told Says limits d h out says does = reco
       (ran_weaker (disk d) (disk (outcome_disk out)) _ _ does.ran (λ c s p. leaves_as does.task out h (disk d).aside c s p));
 }
 
-pub if_done : {D T A : Type 0} (out : Outcome D T A) (P Q : House D T → Type 0) → ((x : House D T) → P x → Q x) → IfDone out P → IfDone out Q
+pub if_done : {D T A : Type 0} (out : Outcome D T A) (P Q : HouseView D T → Type 0) → ((x : HouseView D T) → P x → Q x) → IfDone out P → IfDone out Q
 if_done (outcomes.Done x a) P Q more p = more x p
 if_done (outcomes.Refused x f) P Q more p = tt
 if_done (outcomes.NoMemory x) P Q more p = tt
 if_done (outcomes.Halted d) P Q more p = tt
 
 -- what holds of the house where it is done, in other words
-pub known_shown : {D T A : Type 0} (out : Outcome D T A) (P : House D T → Type 0) → houses.IfDone (λ x a. P x) out → IfDone out P
+pub known_shown : {D T A : Type 0} (out : Outcome D T A) (P : HouseView D T → Type 0) → houses.IfDone (λ x a. P x) out → IfDone out P
 known_shown (outcomes.Done x a) P is = is
 known_shown (outcomes.Refused x f) P is = tt
 known_shown (outcomes.NoMemory x) P is = tt

@@ -5,7 +5,7 @@ use Rattle.mc_records.specs.declared.limits.TheConstants.Limits.{MOST_JOURNAL, M
 use Rattle.mc_records.specs.Chains.{chain}
 use Rattle.ledger_model.specs.Histories.{History}
 use Rattle.ledger_model.specs.Houses.{site_name}
-use Rattle.house_core.specs.declared.house.House.{House}
+use Rattle.house_core.specs.HouseView.{HouseView}
 use Rattle.house_core.specs.declared.outcome.Outcome.{Outcome}
 use Rattle.house_core.specs.declared.outcome.Outcome.TheVariants as outcomes
 use Rattle.house_core.specs.Bench.{house_time, limits_of}
@@ -30,7 +30,7 @@ pub record OperationView : Type 1 where
   pub refusals : List ℕ
 
 -- what an operation asks of a history was done with this input over a house, and this line says so
-abbrev pub CarriesOut : {D T : Type 0} → (D → DiskView) → (T → TradeView) → OperationView → House D T → List ℕ → List ℕ → History → Outcome D T (Unit {0}) → Type 0
+abbrev pub CarriesOut : {D T : Type 0} → (D → DiskView) → (T → TradeView) → OperationView → HouseView D T → List ℕ → List ℕ → History → Outcome D T (Unit {0}) → Type 0
 CarriesOut disk trade operation house input line h result = Performs disk trade (operation.asks input h (house_time house.bench)) (λ task g answer. operation.says input h task line) (limits_of house.bench) house.journal.disk h result
 
 -- the outcome of an operation, without what was answered
@@ -41,7 +41,7 @@ without_answer (outcomes.NoMemory x) = outcomes.NoMemory x
 without_answer (outcomes.Halted d) = outcomes.Halted d
 
 -- what holds of the house that goes on, where the task was done
-abbrev pub IfDone : {D T A : Type 0} → Outcome D T A → (House D T → Type 0) → Type 0
+abbrev pub IfDone : {D T A : Type 0} → Outcome D T A → (HouseView D T → Type 0) → Type 0
 IfDone (outcomes.Done x a) P = P x
 IfDone _ P = Unit {0}
 

@@ -13,7 +13,7 @@ use Rattle.ledger_model.specs.Lawful.{IsLawful}
 use Rattle.scrip_journal.specs.declared.fault.HouseFault.{HouseFault}
 use Rattle.scrip_journal.specs.declared.fault.HouseFault.TheVariants as faults
 use Rattle.millicent_http.specs.Courses.{with_readings}
-use Rattle.house_core.specs.declared.house.House.{House}
+use Rattle.house_core.specs.HouseView.{HouseView}
 use Rattle.scrip_journal.specs.Founds.{fault_disk, FoundImage, FoundNoOutput, CountsBy, ReadsOnly}
 use Rattle.scrip_journal.proofs.FoundLemmas.{found_before}
 use Rattle.house_opening.specs.Found.{FoundedFor, FoundsHouseBy}
@@ -55,7 +55,7 @@ read_pairs link disk a m b tells keeps rest read =
 
 -- by why it was not founded
 pub unfounded_pairs : {O T : Type 0} (link : O → LinkView) (disk : O → DiskView) (trade : T → TradeView) (e : Entry) (bytes : List ℕ) (a m : O) (fault : HouseFault O) → TellsAside link (λ o. (disk o).aside) → LinkKeeps (disk a) (disk m)
-    → link m ≡ with_readings (link m).readings (link a) → FoundsHouseBy {D = O} {T = T} disk trade full e bytes (Err fault) → ReadsOnly {D = O} {A = House O T} disk m (Err fault)
+    → link m ≡ with_readings (link m).readings (link a) → FoundsHouseBy {D = O} {T = T} disk trade full e bytes (Err fault) → ReadsOnly {D = O} {A = HouseView O T} disk m (Err fault)
     → Ran (disk m) (disk (fault_disk fault)) (FoundNoOutput (disk m) e) → Ran (disk a) (disk (fault_disk fault)) (FoundPair (IsSome (link a).sessions) (disk a) e (fault_status fault))
 unfounded_pairs link disk trade e bytes a m (faults.NotEmpty d size) tells keeps rest by read ran = read_pairs link disk a m d tells keeps rest read
 unfounded_pairs link disk trade e bytes a m (faults.NoMemory d) tells keeps rest by read ran = read_pairs link disk a m d tells keeps rest read
@@ -78,14 +78,14 @@ fault_causes A disk before (faults.Unlawful d place) counts = absurd counts
 fault_causes A disk before (faults.WrongKind d) counts = absurd counts
 
 -- the disk encodes the Site entry
-pub founded_for : {O T : Type 0} (disk : O → DiskView) (trade : T → TradeView) (e : Entry) (bytes : List ℕ) (x : House O T) → FoundedFor disk trade full e bytes x
+pub founded_for : {O T : Type 0} (disk : O → DiskView) (trade : T → TradeView) (e : Entry) (bytes : List ℕ) (x : HouseView O T) → FoundedFor disk trade full e bytes x
     → EncodesLawful (disk x.journal.disk) (e ∷ [])
 founded_for disk trade e bytes x at =
     stands_lawful disk trade x (e ∷ []) at.house (subst (λ (l : Limits). IsLawful l (e ∷ [])) at.limits' at.house.house.represents.state.lawful)
 
 -- nothing was founded
 pub not_founded : {O T : Type 0} (disk : O → DiskView) (trade : T → TradeView) (kind : ℕ) (founder : Founder) (moment : ℕ) (bytes : List ℕ) (a m : O) (fault : HouseFault O) → LinkKeeps (disk a) (disk m)
-    → FoundsHouseBy {D = O} {T = T} disk trade full (site_of kind founder moment) bytes (Err fault) → ReadsOnly {D = O} {A = House O T} disk m (Err fault) → FoundsBy (disk a) kind founder bytes moment (fault_status fault) (disk (fault_disk fault))
+    → FoundsHouseBy {D = O} {T = T} disk trade full (site_of kind founder moment) bytes (Err fault) → ReadsOnly {D = O} {A = HouseView O T} disk m (Err fault) → FoundsBy (disk a) kind founder bytes moment (fault_status fault) (disk (fault_disk fault))
 not_founded disk trade kind founder moment bytes a m (faults.NotEmpty d size) keeps by read = (size, refl, by, read.contents ∙ keeps.contents)
 not_founded disk trade kind founder moment bytes a m (faults.NoMemory d) keeps by read = read.contents ∙ keeps.contents
 not_founded disk trade kind founder moment bytes a m (faults.Disk d) keeps by read = tt

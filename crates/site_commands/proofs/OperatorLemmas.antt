@@ -16,7 +16,7 @@ use Rattle.ledger_model.specs.Answer.{fitted}
 use Rattle.scrip_journal.specs.Layout.{Encodes}
 use Rattle.millicent_http.specs.declared.clock.Clock.TheVariants.{OfLinks}
 use Rattle.millicent_http.specs.Courses.{AreRead, with_readings}
-use Rattle.house_core.specs.declared.house.House.{House}
+use Rattle.house_core.specs.HouseView.{HouseView}
 use Rattle.house_core.specs.declared.outcome.Outcome.{Outcome}
 use Rattle.house_core.specs.declared.outcome.Outcome.TheVariants as outcomes
 use Rattle.house_core.specs.Bench.{house_time, limits_of}
@@ -36,7 +36,7 @@ use Rattle.site_commands.specs.Serving.{EncodesLawful}
 use Rattle.site_commands.specs.Operator.{DidBy, OperateImage, OperatePair, IsReady, OperateCauses, Operated, Opened, Unread}
 use Rattle.site_commands.proofs.ServedLemmas.{stands_lawful}
 
-lawful_in : {O T : Type 0} (disk : O → DiskView) (trade : T → TradeView) (x : House O T) (h : History) → limits_of x.bench ≡ full → HouseRepresents disk trade x h → EncodesLawful (disk x.journal.disk) h
+lawful_in : {O T : Type 0} (disk : O → DiskView) (trade : T → TradeView) (x : HouseView O T) (h : History) → limits_of x.bench ≡ full → HouseRepresents disk trade x h → EncodesLawful (disk x.journal.disk) h
 lawful_in disk trade x h limits st = stands_lawful disk trade x h st (subst (λ (l : Limits). IsLawful l h) limits st.house.represents.state.lawful)
 
 -- ---- up to the task
@@ -50,13 +50,13 @@ abbrev pub Tells : {O : Type 0} → (O → LinkView) → O → Type 0
 Tells link a = IsSome (link a).sessions
 
 -- Links worked on the outside of a house, which sent nothing: the house is what it was, but for its time.
-pub record Worked {O T : Type 0} (link : O → LinkView) (disk : O → DiskView) (trade : T → TradeView) (x y : House O T) : Type 0 where
+pub record Worked {O T : Type 0} (link : O → LinkView) (disk : O → DiskView) (trade : T → TradeView) (x y : HouseView O T) : Type 0 where
   pub quiet : SentNoMore (link x.journal.disk) (link y.journal.disk)
   pub keeps : LinkKeeps (disk x.journal.disk) (disk y.journal.disk)
   pub represents : (h : History) → HouseRepresents disk trade x h → HouseRepresents disk trade y h
   pub limits' : limits_of y.bench ≡ limits_of x.bench
 
-pub worked_then : {O T : Type 0} (link : O → LinkView) (disk : O → DiskView) (trade : T → TradeView) (x y z : House O T) → Worked link disk trade x y → LinkKeeps (disk x.journal.disk) (disk z.journal.disk) → Worked link disk trade y z → Worked link disk trade x z
+pub worked_then : {O T : Type 0} (link : O → LinkView) (disk : O → DiskView) (trade : T → TradeView) (x y z : HouseView O T) → Worked link disk trade x y → LinkKeeps (disk x.journal.disk) (disk z.journal.disk) → Worked link disk trade y z → Worked link disk trade x z
 worked_then link disk trade x y z a keeps b = record {
   quiet = no_more_then (link x.journal.disk) (link y.journal.disk) (link z.journal.disk) a.quiet b.quiet;
   keeps = keeps;
@@ -65,7 +65,7 @@ worked_then link disk trade x y z a keeps b = record {
 }
 
 -- the crash pairs of it are of before
-worked_pairs : {O T : Type 0} (link : O → LinkView) (disk : O → DiskView) (trade : T → TradeView) (x y : House O T) → TellsAside link (λ o. (disk o).aside) → Worked link disk trade x y
+worked_pairs : {O T : Type 0} (link : O → LinkView) (disk : O → DiskView) (trade : T → TradeView) (x y : HouseView O T) → TellsAside link (λ o. (disk o).aside) → Worked link disk trade x y
     → Ran (disk x.journal.disk) (disk y.journal.disk) (BeforePair (Tells link x.journal.disk) (disk x.journal.disk)) × (Tells link x.journal.disk → (disk y.journal.disk).aside ≡ (disk x.journal.disk).aside)
 worked_pairs link disk trade x y tells worked =
     let same : Tells link x.journal.disk → (disk y.journal.disk).aside ≡ (disk x.journal.disk).aside = λ told'. aside_still link (λ o. (disk o).aside) x.journal.disk y.journal.disk tells told' worked.quiet in (
@@ -74,7 +74,7 @@ worked_pairs link disk trade x y tells worked =
     )
 
 -- The house of a book whose history is this, with its operation's input and the reading of the clock.
-pub record Ready {O T : Type 0} (link : O → LinkView) (disk : O → DiskView) (trade : T → TradeView) (kind : ℕ) (operation : OperationView) (bytes input : List ℕ) (a : O) (y : House O T) (h : History) : Type 0 where
+pub record Ready {O T : Type 0} (link : O → LinkView) (disk : O → DiskView) (trade : T → TradeView) (kind : ℕ) (operation : OperationView) (bytes input : List ℕ) (a : O) (y : HouseView O T) (h : History) : Type 0 where
   pub of_bytes : Encodes h bytes
   pub of_kind : site_kind h ≡ Some kind
   pub house : HouseRepresents disk trade y h
@@ -88,7 +88,7 @@ pub record Ready {O T : Type 0} (link : O → LinkView) (disk : O → DiskView) 
   pub pairs : Ran (disk a) (disk y.journal.disk) (BeforePair (Tells link a) (disk a)) × (Tells link a → (disk y.journal.disk).aside ≡ (disk a).aside)
 
 -- the pairs from the outside that was handed in on
-pub before_pairs : {O T : Type 0} (link : O → LinkView) (disk : O → DiskView) (trade : T → TradeView) (a : O) (x y : House O T) → TellsAside link (λ o. (disk o).aside) → OnlyRead (disk a) (disk x.journal.disk) → link x.journal.disk ≡ link a → Worked link disk trade x y
+pub before_pairs : {O T : Type 0} (link : O → LinkView) (disk : O → DiskView) (trade : T → TradeView) (a : O) (x y : HouseView O T) → TellsAside link (λ o. (disk o).aside) → OnlyRead (disk a) (disk x.journal.disk) → link x.journal.disk ≡ link a → Worked link disk trade x y
     → Ran (disk a) (disk y.journal.disk) (BeforePair (Tells link a) (disk a)) × (Tells link a → (disk y.journal.disk).aside ≡ (disk a).aside)
 before_pairs link disk trade a x y tells read same worked =
     let on : Tells link a → Tells link x.journal.disk = λ told'. subst (λ (v : LinkView). IsSome v.sessions) (sym same) told' in
@@ -100,7 +100,7 @@ before_pairs link disk trade a x y tells read same worked =
     )
 
 -- the clock alone was read
-pub by_clock : {O T : Type 0} (link : O → LinkView) (disk : O → DiskView) (trade : T → TradeView) (x y : House O T) → LinkKeeps (disk x.journal.disk) (disk y.journal.disk) → link y.journal.disk ≡ with_readings (link y.journal.disk).readings (link x.journal.disk)
+pub by_clock : {O T : Type 0} (link : O → LinkView) (disk : O → DiskView) (trade : T → TradeView) (x y : HouseView O T) → LinkKeeps (disk x.journal.disk) (disk y.journal.disk) → link y.journal.disk ≡ with_readings (link y.journal.disk).readings (link x.journal.disk)
     → ((h : History) → HouseRepresents disk trade x h → HouseRepresents disk trade y h) → limits_of y.bench ≡ limits_of x.bench → Worked link disk trade x y
 by_clock link disk trade x y keeps rest stands limits = record {
   quiet = no_more_still (link x.journal.disk) (link y.journal.disk) (ap (λ (v : LinkView). v.sessions) rest);
@@ -112,7 +112,7 @@ by_clock link disk trade x y keeps rest stands limits = record {
 -- ---- without the input
 
 -- links worked on the outside of a house
-pub by_links : {O T : Type 0} (link : O → LinkView) (disk : O → DiskView) (trade : T → TradeView) (x y : House O T) → SentNoMore (link x.journal.disk) (link y.journal.disk) → LinkKeeps (disk x.journal.disk) (disk y.journal.disk) → HouseRests x y → Worked link disk trade x y
+pub by_links : {O T : Type 0} (link : O → LinkView) (disk : O → DiskView) (trade : T → TradeView) (x y : HouseView O T) → SentNoMore (link x.journal.disk) (link y.journal.disk) → LinkKeeps (disk x.journal.disk) (disk y.journal.disk) → HouseRests x y → Worked link disk trade x y
 by_links link disk trade x y quiet keeps rests = record {
   quiet = quiet;
   keeps = keeps;
@@ -121,7 +121,7 @@ by_links link disk trade x y quiet keeps rests = record {
 }
 
 -- an operation was ready once its input was read, and the clock
-pub ready_by : {O T : Type 0} (link : O → LinkView) (disk : O → DiskView) (trade : T → TradeView) (passes : Test) (kind : ℕ) (operation : OperationView) (bytes input : List ℕ) (a : O) (x m y : House O T) (moment : ℕ) → TellsAside link (λ o. (disk o).aside)
+pub ready_by : {O T : Type 0} (link : O → LinkView) (disk : O → DiskView) (trade : T → TradeView) (passes : Test) (kind : ℕ) (operation : OperationView) (bytes input : List ℕ) (a : O) (x m y : HouseView O T) (moment : ℕ) → TellsAside link (λ o. (disk o).aside)
     → (at : Opened link disk trade passes kind bytes a x) → TakesInput operation.input (link x.journal.disk) input (link m.journal.disk) → LinkKeeps (disk x.journal.disk) (disk m.journal.disk) → HouseRests x m
     → LinkKeeps (disk x.journal.disk) (disk y.journal.disk) → LinkKeeps (disk m.journal.disk) (disk y.journal.disk)
     → ((h : History) → HouseRepresents disk trade m h → HouseRepresents disk trade y h) → limits_of y.bench ≡ limits_of m.bench
@@ -163,7 +163,7 @@ unchanged before task h ends.LinkFault image is = is
 unchanged before task h (ends.Refused f) image is = is
 
 -- nothing was done to the book
-pub unread : {O T : Type 0} (link : O → LinkView) (disk : O → DiskView) (trade : T → TradeView) (passes : Test) (kind : ℕ) (operation : OperationView) (bytes : List ℕ) (a : O) (x y : House O T) (status : Status) → TellsAside link (λ o. (disk o).aside) → Opened link disk trade passes kind bytes a x → Worked link disk trade x y
+pub unread : {O T : Type 0} (link : O → LinkView) (disk : O → DiskView) (trade : T → TradeView) (passes : Test) (kind : ℕ) (operation : OperationView) (bytes : List ℕ) (a : O) (x y : HouseView O T) (status : Status) → TellsAside link (λ o. (disk o).aside) → Opened link disk trade passes kind bytes a x → Worked link disk trade x y
     → ((status ≡ ends.LinkFault) × LosesInput operation.input (link x.journal.disk) (link y.journal.disk)) ⊎ ((status ≡ ends.NoMemory) × (link y.journal.disk ≡ link x.journal.disk)) → Unread link disk kind operation bytes a status y.journal.disk
 unread link disk trade passes kind operation bytes a x y status tells at worked lost = record {
   history = at.house.history;
@@ -177,7 +177,7 @@ unread link disk trade passes kind operation bytes a x y status tells at worked 
 }
 
 -- memory was refused before anything was done
-pub unread_at_once : {O T : Type 0} (link : O → LinkView) (disk : O → DiskView) (trade : T → TradeView) (passes : Test) (kind : ℕ) (operation : OperationView) (bytes : List ℕ) (a : O) (x : House O T) → TellsAside link (λ o. (disk o).aside) → LinkKeeps (disk x.journal.disk) (disk x.journal.disk) → Opened link disk trade passes kind bytes a x
+pub unread_at_once : {O T : Type 0} (link : O → LinkView) (disk : O → DiskView) (trade : T → TradeView) (passes : Test) (kind : ℕ) (operation : OperationView) (bytes : List ℕ) (a : O) (x : HouseView O T) → TellsAside link (λ o. (disk o).aside) → LinkKeeps (disk x.journal.disk) (disk x.journal.disk) → Opened link disk trade passes kind bytes a x
     → Unread link disk kind operation bytes a ends.NoMemory x.journal.disk
 unread_at_once link disk trade passes kind operation bytes a x tells keeps at =
     unread link disk trade passes kind operation bytes a x x ends.NoMemory tells at (by_links link disk trade x x (no_more_still (link x.journal.disk) (link x.journal.disk) refl) keeps (house_rests_none x)) (inr (refl, refl))
@@ -185,7 +185,7 @@ unread_at_once link disk trade passes kind operation bytes a x tells keeps at =
 -- ---- the task
 
 -- how the disk is left, by what was done
-did : {O T : Type 0} (disk : O → DiskView) (trade : T → TradeView) (operation : OperationView) (input line : List ℕ) (y : House O T) (h : History) (task : Task) (out : Outcome O T (Unit {0})) → limits_of y.bench ≡ full → IsLawful full h
+did : {O T : Type 0} (disk : O → DiskView) (trade : T → TradeView) (operation : OperationView) (input line : List ℕ) (y : HouseView O T) (h : History) (task : Task) (out : Outcome O T (Unit {0})) → limits_of y.bench ≡ full → IsLawful full h
     → ((o : O) → IsDisk (disk o)) → OfHouse (KeepsTime y) out
     → Does disk trade (λ t g answer. operation.says input h t line) (limits_of y.bench) y.journal.disk h task out → Ran (disk y.journal.disk) (disk (outcome_disk out)) (LeavesBy task out h (disk y.journal.disk).aside)
     → DidBy (disk (outcome_disk out)) operation input h task (outcome_status out line)
@@ -216,7 +216,7 @@ leaves_pair tells before Stays out line h aside image sent same p = (unchanged b
 leaves_pair tells before (Refuse f) out line h aside image sent same p = (unchanged before (Refuse f) h (outcome_status out line) image (inr p.0), λ t. p.1 ∙ same t)
 
 -- an operation that the book's house was ready for
-pub operated : {O T : Type 0} (link : O → LinkView) (disk : O → DiskView) (trade : T → TradeView) (kind : ℕ) (operation : OperationView) (bytes input line : List ℕ) (a : O) (y : House O T) (h : History) (out : Outcome O T (Unit {0}))
+pub operated : {O T : Type 0} (link : O → LinkView) (disk : O → DiskView) (trade : T → TradeView) (kind : ℕ) (operation : OperationView) (bytes input line : List ℕ) (a : O) (y : HouseView O T) (h : History) (out : Outcome O T (Unit {0}))
     → Ready link disk trade kind operation bytes input a y h → ((o : O) → IsDisk (disk o)) → link (outcome_disk out) ≡ link y.journal.disk → OfHouse (KeepsTime y) out
     → Performs disk trade (operation.asks input h (house_time y.bench)) (λ task g answer. operation.says input h task line) (limits_of y.bench) y.journal.disk h out
     → Operated link disk kind operation bytes a (outcome_status out line) (outcome_disk out)

@@ -14,7 +14,7 @@ use Rattle.millicent_http.specs.Steps.{Did, sent_of, state_after}
 use Rattle.millicent_http.specs.Courses.{ServedAll, ServedSome}
 use Rattle.link_turns.specs.Orders.{InOrder, MovedBy, IsEither}
 use Rattle.link_turns.proofs.OrderLemmas.{doubt_told}
-use Rattle.house_core.specs.declared.house.House.{House}
+use Rattle.house_core.specs.HouseView.{HouseView}
 use Rattle.house_core.specs.Bench.{limits_of, state_of}
 use Rattle.house_core.specs.House.{HouseRepresents}
 use Rattle.scrip_journal.specs.Layout.{Encodes}
@@ -76,14 +76,14 @@ read_then_moved tells a b c s steps read moved =
     (subst (λ (l : List ℕ). Ran b c (λ i x. (a.leaves i × (x ≡ a.aside)) ⊎ InOrder history_of tells s l steps i x)) read.aside (ran_weaker b c _ _ moved.ran (λ i x o. inr o)))
 
 -- the state of the house that was opened
-opened_sound : {O T : Type 0} (disk : O → DiskView) (trade : T → TradeView) (passes : Test) (kind : ℕ) (bytes : List ℕ) (x : House O T) (at : OpenedFor disk trade passes full kind bytes x)
+opened_sound : {O T : Type 0} (disk : O → DiskView) (trade : T → TradeView) (passes : Test) (kind : ℕ) (bytes : List ℕ) (x : HouseView O T) (at : OpenedFor disk trade passes full kind bytes x)
     → IsSound full (state_of at.history x.bench)
 opened_sound disk trade passes kind bytes x at = record {
   lawful = subst (λ (l : Limits). IsLawful l at.history) at.limits' at.house.house.represents.state.lawful;
   in_time = at.house.house.represents.state.in_time;
 }
 
-pub stands_lawful : {O T : Type 0} (disk : O → DiskView) (trade : T → TradeView) (x : House O T) (h : History) → HouseRepresents disk trade x h → IsLawful full h → EncodesLawful (disk x.journal.disk) h
+pub stands_lawful : {O T : Type 0} (disk : O → DiskView) (trade : T → TradeView) (x : HouseView O T) (h : History) → HouseRepresents disk trade x h → IsLawful full h → EncodesLawful (disk x.journal.disk) h
 stands_lawful disk trade x h st lawful = record {
   bytes = st.journal.bytes;
   told = st.journal.told;
@@ -93,7 +93,7 @@ stands_lawful disk trade x h st lawful = record {
   lasts = λ image left. subst (λ (x : List ℕ). Encodes h x) (sym (st.journal.synced image left)) st.journal.stands;
 }
 
-served_from : {O T : Type 0} (link : O → LinkView) (disk : O → DiskView) (trade : T → TradeView) (passes : Test) (kind : ℕ) (bytes : List ℕ) (a : O) (x y : House O T) (steps : List (Did State))
+served_from : {O T : Type 0} (link : O → LinkView) (disk : O → DiskView) (trade : T → TradeView) (passes : Test) (kind : ℕ) (bytes : List ℕ) (a : O) (x y : HouseView O T) (steps : List (Did State))
     (at : OpenedFor disk trade passes full kind bytes x) → OnlyRead (disk a) (disk x.journal.disk) → link x.journal.disk ≡ link a → RefinesBy link disk trade x.journal.disk (state_of at.history x.bench) steps y
     → IsLawful full (state_after (state_of at.history x.bench) steps).history → ServedFrom link disk kind bytes a y.journal.disk (state_of at.history x.bench) steps
 served_from link disk trade passes kind bytes a x y steps at read same went lawful = record {
@@ -116,7 +116,7 @@ not_opened link disk trade passes kind bytes a (faults.Disk d) by same read = re
 not_opened link disk trade passes kind bytes a (faults.NoMemory d) by same read = record { link' = same; read = read }
 
 -- the book of the house that was opened is served
-pub serves_book : {O T : Type 0} (link : O → LinkView) (disk : O → DiskView) (trade : T → TradeView) (passes : Test) (kind links : ℕ) (bytes : List ℕ) (a : O) (x : House O T) (out : ServeOut O T)
+pub serves_book : {O T : Type 0} (link : O → LinkView) (disk : O → DiskView) (trade : T → TradeView) (passes : Test) (kind links : ℕ) (bytes : List ℕ) (a : O) (x : HouseView O T) (out : ServeOut O T)
     (at : OpenedFor disk trade passes full kind bytes x) → OnlyRead (disk a) (disk x.journal.disk) → (disk x.journal.disk).faults ≡ (disk a).faults → link x.journal.disk ≡ link a
     → ((h : History) → HouseRepresents disk trade x h → ServesLinks link disk trade (limits_of x.bench) links x.journal.disk (state_of h x.bench) out)
     → ServesLinksOf link disk kind links bytes a (served_status out) (served_outside out)

@@ -8,7 +8,7 @@ use Rattle.ledger_model.specs.Houses.{site_kind}
 use Rattle.scrip_journal.specs.Layout.{Encodes}
 use Rattle.millicent_http.specs.declared.clock.Clock.TheVariants.{OfLinks}
 use Rattle.millicent_http.specs.Courses.{AreRead, with_readings}
-use Rattle.house_core.specs.declared.house.House.{House}
+use Rattle.house_core.specs.HouseView.{HouseView}
 use Rattle.house_core.specs.Refusing.{IsAmong}
 use Rattle.house_state.specs.Learning.{Test}
 use Rattle.house_state.specs.Trade.{TradeView}
@@ -47,7 +47,7 @@ abbrev pub OperatePair : Type 0 → DiskView → Task → History → Status →
 OperatePair tells before task h status image sent = OperateImage before task h status image × (tells → sent ≡ before.aside)
 
 -- a house of a site of this kind was made of the book's bytes, which were only read
-pub record Opened {O T : Type 0} (link : O → LinkView) (disk : O → DiskView) (trade : T → TradeView) (passes : Test) (kind : ℕ) (bytes : List ℕ) (a : O) (x : House O T) : Type 0 where
+pub record Opened {O T : Type 0} (link : O → LinkView) (disk : O → DiskView) (trade : T → TradeView) (passes : Test) (kind : ℕ) (bytes : List ℕ) (a : O) (x : HouseView O T) : Type 0 where
   pub house : OpenedFor disk trade passes full kind bytes x
   pub read : OnlyRead (disk a) (disk x.journal.disk)
   pub link' : link x.journal.disk ≡ link a

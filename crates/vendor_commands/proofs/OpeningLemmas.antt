@@ -9,7 +9,7 @@ use Rattle.mc_records.proofs.SizeLaws.{tail_is_short}
 use Rattle.mc_records.proofs.PayloadSizes.{payload_is_short}
 use Rattle.ledger_model.specs.Histories.{History}
 use Rattle.ledger_model.specs.Answer.{fitted}
-use Rattle.house_core.specs.declared.bench.Bench.{Bench}
+use Rattle.house_core.specs.BenchView.{BenchView}
 use Rattle.vendor_core.specs.declared.shelf.Shelf.{Shelf}
 use Rattle.site_words.specs.Words.{Shop, IsShop}
 use Rattle.vendor_commands.specs.Opening.{terms_of, founding, licence, shop_goods, IsOpen, ComesNext}
@@ -89,5 +89,5 @@ shop_goods_is shop m target price contents = λ i. Goods (m i) (target i) (price
 pub may_enter : {h : History} {e f : Entry} → e ≡ f → ComesNext h f → ComesNext h e
 may_enter {h = h} same may = subst (λ (e : Entry). ComesNext h e) (sym same) may
 
-pub open_with : {b : Bench Shelf} (h : History) {e f : Entry} → e ≡ f → IsOpen b (h ++ e ∷ []) → IsOpen b (h ++ f ∷ [])
+pub open_with : {b : BenchView Shelf} (h : History) {e f : Entry} → e ≡ f → IsOpen b (h ++ e ∷ []) → IsOpen b (h ++ f ∷ [])
 open_with {b = b} h same is = subst (λ (e : Entry). IsOpen b (h ++ e ∷ [])) same is

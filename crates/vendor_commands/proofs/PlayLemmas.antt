@@ -9,7 +9,7 @@ use Rattle.millicent_http.specs.declared.clock.Clock.TheVariants.{OfLinks}
 use Rattle.millicent_http.specs.Steps.{Did, state_after}
 use Rattle.millicent_http.specs.Runs.{IsRunOver}
 use Rattle.millicent_http.proofs.RunLemmas.{served_all}
-use Rattle.house_core.specs.declared.bench.Bench.{Bench}
+use Rattle.house_core.specs.BenchView.{BenchView}
 use Rattle.house_core.specs.declared.tally.Tally.{Tally}
 use Rattle.house_core.specs.Session.{State}
 use Rattle.house_core.specs.Tallies.{Repeated, ToldState, ToldStep, no_tally, tallied, told_by}
@@ -37,7 +37,7 @@ run_of_play count links n limits steps s v w of_full opened empty served is play
     (subst (λ (t : ToldState). IsRunOver (ToldStep limits) (play_links count) (readings_of is.reads) t steps) opened
     (subst (λ (l : List (List ℕ)). IsRunOver (ToldStep limits) l (readings_of is.reads) s steps) played.all run))
 
-pub lines_of_play : (count links n windows : ℕ) (lines : List ℕ) (a b : Bench Shelf) (v w : LinkView) → IsOpen a play_opening
+pub lines_of_play : (count links n windows : ℕ) (lines : List ℕ) (a b : BenchView Shelf) (v w : LinkView) → IsOpen a play_opening
     → Counts shelf_view (λ steps s. Served (ToldStep (limits_of a)) OfLinks links (Ok n) steps s v w) a b
     → (AreUsed (windows_of a) → AreUsed (windows_of b)) → v ≡ no_links → IsPlay count w → HasPlayed count w
     → ((h : History) → Represents shelf_view b h → AreUsed (windows_of b) → windows ≡ distinct_count (λ x y. x == y) (live_windows h (house_time b)))

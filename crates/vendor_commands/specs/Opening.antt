@@ -4,7 +4,7 @@ use Rattle.mc_records.specs.Entry.{Entry, Site, AddTerms, Goods}
 use Rattle.ledger_model.specs.Histories.{History}
 use Rattle.ledger_model.specs.Answer.{fitted}
 use Rattle.house_state.specs.Learning.{MayEnter, untested}
-use Rattle.house_core.specs.declared.bench.Bench.{Bench}
+use Rattle.house_core.specs.BenchView.{BenchView}
 use Rattle.house_core.specs.Bench.{IsHouse, IsTallied, house_time, limits_of, tally_of, windows_of}
 use Rattle.house_state.specs.LiveWindows.{AreUsed}
 use Rattle.house_core.specs.Tallies.{no_tally}
@@ -42,11 +42,11 @@ abbrev pub opened : Shop → State
 opened shop = record { history = opening shop; time = 0 }
 
 -- a house of the trade of a vendor represents a history
-abbrev pub IsVendor : Bench Shelf → History → Type 0
+abbrev pub IsVendor : BenchView Shelf → History → Type 0
 IsVendor b h = IsHouse shelf_view b h
 
 -- a house that just opened, with this history: it has served nothing
-pub record IsOpen (b : Bench Shelf) (h : History) : Type 0 where
+pub record IsOpen (b : BenchView Shelf) (h : History) : Type 0 where
   pub house : IsVendor b h
   pub time : house_time b ≡ 0
   pub limits : limits_of b ≡ full

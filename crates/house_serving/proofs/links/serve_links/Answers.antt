@@ -1,6 +1,6 @@
 use Rattle.std.proofs.Common.{◌≡◌, ◌+◌, refl, arith, ap, ◌∙◌, inl, inr}
 use Rattle.mc_outside.specs.LinkView.{LinkView}
-use Rattle.house_core.specs.declared.bench.Bench.{Bench}
+use Rattle.house_core.specs.BenchView.{BenchView}
 use Rattle.house_core.specs.Bench.{limits_of, state_of}
 use Rattle.link_turns.proofs.CauseLemmas.{counts_none, counts_link, counts_then, rose_then}
 use Rattle.link_turns.proofs.OrderLemmas.{went_nowhere}
@@ -37,7 +37,7 @@ links-preserved g c =
       rests = c.next_link.ensures.moved.1;
     } in
     let taken = rw c.in-Ok-true.field-0-test at c.in-Ok-true.ensures.taken in
-    let same : limits_of y.bench ≡ limits_of c.args.house.bench = ap (λ (b : Bench g.row.T.Denot). limits_of b) on.rests.bench ∙ c.links.invariant.limits in
+    let same : limits_of y.bench ≡ limits_of c.args.house.bench = ap (λ (b : BenchView g.row.T.Denot). limits_of b) on.rests.bench ∙ c.links.invariant.limits in
     record {
       few = omega (arith, c.links-test.true);
       counts = counts_then g.O.Link.link g.O.Disk.disk _ _ _ c.links.invariant.counts (counts_then g.O.Link.link g.O.Disk.disk _ _ _ (counts_link g.O.Link.link g.O.Disk.disk _ _ on.keeps on.goes) c.in-Ok-serve_link.ensures.causes);
@@ -69,7 +69,7 @@ returns-in-Err-serve_link-clause-served g c h st =
       rests = c.next_link.ensures.moved.1;
     } in
     let taken = rw c.in-Ok-true.field-0-test at c.in-Ok-true.ensures.taken in
-    let same : limits_of y.bench ≡ limits_of c.args.house.bench = ap (λ (b : Bench g.row.T.Denot). limits_of b) on.rests.bench ∙ c.links.invariant.limits in
+    let same : limits_of y.bench ≡ limits_of c.args.house.bench = ap (λ (b : BenchView g.row.T.Denot). limits_of b) on.rests.bench ∙ c.links.invariant.limits in
     linked_house_halts g.O.Link.link g.O.Disk.disk g.T.Trade.trade (limits_of c.args.house.bench) c.args.links c.links.served c.args.house.journal.disk (state_of h c.args.house.bench) x y _
     c.links-test.true on taken same (c.links.invariant.linked h st) c.in-Err-serve_link.ensures.served
 

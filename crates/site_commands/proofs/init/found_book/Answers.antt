@@ -5,7 +5,7 @@ use Rattle.mc_records.specs.Views.{entry}
 use Rattle.mc_outside.specs.DiskView.{Ran}
 use Rattle.millicent_http.specs.declared.clock.Clock.TheVariants.{OfLinks}
 use Rattle.millicent_http.specs.Courses.{AreRead, with_readings}
-use Rattle.house_core.specs.declared.house.House.{House}
+use Rattle.house_core.specs.HouseView.{HouseView}
 use Rattle.house_opening.specs.Found.{FoundsHouseBy}
 use Rattle.scrip_journal.specs.Founds.{FoundNoOutput, CountsBy, fault_disk}
 use Rattle.ledger_model.specs.Houses.{IsHouseKind}
@@ -41,8 +41,8 @@ returns-in-Err-clause-causes g c =
     let keeps = g.met.O.Outside.link_keeps _ _ c.now-moment.ensures.moved in
     let same : g.O.Link.link (fault_disk c.in-Err.fault) ≡ g.O.Link.link c.now-moment.new.self = g.met.O.Outside.disk_keeps _ _ c.in-Err.ensures.moved in
     rw (c.not_opened.ensures.disk, c.not_opened.ensures.status) (
-      fault_causes (House g.row.O.Denot g.row.T.Denot) g.O.Disk.disk (g.O.Disk.disk c.args.out) c.in-Err.fault
-          (subst (λ (n : ℕ). CountsBy {D = g.row.O.Denot} {A = House g.row.O.Denot g.row.T.Denot} (Err c.in-Err.fault) n (g.O.Disk.disk (fault_disk c.in-Err.fault)).faults) keeps.faults c.in-Err.ensures.fault),
+      fault_causes (HouseView g.row.O.Denot g.row.T.Denot) g.O.Disk.disk (g.O.Disk.disk c.args.out) c.in-Err.fault
+          (subst (λ (n : ℕ). CountsBy {D = g.row.O.Denot} {A = HouseView g.row.O.Denot g.row.T.Denot} (Err c.in-Err.fault) n (g.O.Disk.disk (fault_disk c.in-Err.fault)).faults) keeps.faults c.in-Err.ensures.fault),
       ap (λ (v : LinkView). v.faults) (same ∙ c.now-moment.ensures.rest),
     )
 

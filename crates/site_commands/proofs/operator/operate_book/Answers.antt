@@ -1,5 +1,5 @@
 use Rattle.std.proofs.Common.{inl, inr}
-use Rattle.house_core.specs.declared.house.House.{House}
+use Rattle.house_core.specs.HouseView.{HouseView}
 use Rattle.site_commands.specs.Operator.{OperateEnds}
 use Rattle.site_commands.proofs.ServedLemmas.{unopened_causes, not_opened}
 use Rattle.site_commands.proofs.OperatorLemmas.{causes_opened}
@@ -21,4 +21,4 @@ returns-in-Ok-clause-operated g c x told =
 pub returns-in-Err-clause-causes : goal.returns-in-Err-clause-causes
 returns-in-Err-clause-causes g c =
     rw (c.not_opened.ensures.disk, c.not_opened.ensures.status)
-    (unopened_causes (House g.row.O.Denot g.row.T.Denot) g.O.Link.link g.O.Disk.disk (OperateEnds g.O.Link.link (g.C.OperatorCommand.operation c.args.command.now)) c.args.out c.in-Err.fault (λ b same. inl same) c.in-Err.ensures.fault (g.met.O.Outside.disk_keeps _ _ c.in-Err.ensures.moved))
+    (unopened_causes (HouseView g.row.O.Denot g.row.T.Denot) g.O.Link.link g.O.Disk.disk (OperateEnds g.O.Link.link (g.C.OperatorCommand.operation c.args.command.now)) c.args.out c.in-Err.fault (λ b same. inl same) c.in-Err.ensures.fault (g.met.O.Outside.disk_keeps _ _ c.in-Err.ensures.moved))

@@ -1,5 +1,5 @@
 use Rattle.std.proofs.Common.{inl, inr}
-use Rattle.house_core.specs.declared.house.House.{House}
+use Rattle.house_core.specs.HouseView.{HouseView}
 use Rattle.site_commands.specs.Serving.{ServeEnds}
 use Rattle.site_commands.proofs.ServedLemmas.{unopened_causes, serve_causes, not_opened, serves_book}
 use Rattle.site_commands.proofs.serving.serve_book.Goals as goal
@@ -21,4 +21,4 @@ returns-in-Err-clause-served g c x told =
 pub returns-in-Err-clause-causes : goal.returns-in-Err-clause-causes
 returns-in-Err-clause-causes g c =
     rw (c.not_opened.ensures.disk, c.not_opened.ensures.status)
-    (unopened_causes (House g.row.O.Denot g.row.T.Denot) g.O.Link.link g.O.Disk.disk (ServeEnds g.O.Link.link g.O.Disk.disk c.args.links) c.args.out c.in-Err.fault (λ b same. same) c.in-Err.ensures.fault (g.met.O.Outside.disk_keeps _ _ c.in-Err.ensures.moved))
+    (unopened_causes (HouseView g.row.O.Denot g.row.T.Denot) g.O.Link.link g.O.Disk.disk (ServeEnds g.O.Link.link g.O.Disk.disk c.args.links) c.args.out c.in-Err.fault (λ b same. same) c.in-Err.ensures.fault (g.met.O.Outside.disk_keeps _ _ c.in-Err.ensures.moved))

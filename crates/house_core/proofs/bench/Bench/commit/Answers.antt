@@ -3,6 +3,7 @@ use Rattle.mc_records.specs.declared.limits.Limits.{Limits}
 use Rattle.mc_records.specs.Requests.{Asked}
 use Rattle.house_core.specs.Bench.{house_time, limits_of}
 use Rattle.house_state.specs.Verdicts.{authorized_entry}
+use Rattle.house_core.specs.BenchView.{BenchView}
 use Rattle.house_core.proofs.Accepting.{holds_roomed}
 use Rattle.house_core.proofs.Committing.{may_as_before, new_as_before}
 use Rattle.house_core.proofs.Contents.{contents_roomed}
@@ -26,7 +27,7 @@ returns-clause-contents g c h st has in_force =
 
 pub apply-requires-clause-is : goal.apply-requires-clause-is
 apply-requires-clause-is g c =
-    rw c.in-Ok.ensures.same.state.time (rw (c.entry_of-record.ensures.same, c.time.ensures) (ap (λ (q : Asked). authorized_entry (house_time c.args.self.now) q.target c.args.authorization.now) c.request.ensures))
+    rw c.in-Ok.ensures.same.state.time (rw (c.entry_of-record.ensures.same, (c.time.ensures ∙ ap (λ (b : BenchView g.row.T.Denot). b.state.time) c.self.view_is)) (ap (λ (q : Asked). authorized_entry (house_time c.args.self.now) q.target c.args.authorization.now) c.request.ensures))
 
 pub apply-requires-clause-new : goal.apply-requires-clause-new
 apply-requires-clause-new g c = new_as_before c.in-Ok.ensures.same.state c.args.q.now c.args.authorization.now c.requires.new

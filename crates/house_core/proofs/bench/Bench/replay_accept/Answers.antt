@@ -8,59 +8,57 @@ use Rattle.ledger_model.specs.Answer.{answer}
 use Rattle.ledger_model.specs.Lawful.{unbounded, request_of}
 use Rattle.house_state.specs.Representation.{scrip_request}
 use Rattle.house_state.specs.Verdicts.{authorized_entry, stop_of}
-use Rattle.house_core.specs.Bench.{Represents, HasContents, house_time, limits_of}
+use Rattle.house_core.specs.Bench.{Represents, HasContents}
 use Rattle.house_core.proofs.Replayed.{stops, said_entry, is_said}
 use Rattle.house_core.proofs.bench.Bench.replay_accept.Goals as goal
 
 pub returns-in-Err-clause-exact : goal.returns-in-Err-clause-exact
-returns-in-Err-clause-exact g c h st =
-    λ may.
-    let t = house_time c.args.self.now in
-    let bounds = unbounded (limits_of c.args.self.now) in
+returns-in-Err-clause-exact g c = rw (← c.self.view_is) (λ h st may.
+    let t = c.self.inside.state.time in
+    let bounds = unbounded (c.self.inside.state.limits) in
     let asked : c.of-q.result ≡ request_of c.args.scrip.now c.args.target.now c.args.sign.now = c.of-q.ensures ∙ c.request_for.ensures ∙ ap (scrip_request c.args.scrip.now c.args.target.now) c.digits_of-digits.ensures in
     let is = c.in-Err.ensures.exact h st.state st.learned st.of_kind
     ∙ ap₂ (λ (l : Limits) (q : Asked). answer h t l q) (c.unbounded_of-limits.ensures ∙ ap unbounded c.limits.ensures.limits) asked in
-    stops (stop_of c.in-Err.field-0) (answer h t bounds (request_of c.args.scrip.now c.args.target.now c.args.sign.now)) _ is may.follows.allowed
+    stops (stop_of c.in-Err.field-0) (answer h t bounds (request_of c.args.scrip.now c.args.target.now c.args.sign.now)) _ is may.follows.allowed)
 
 pub returns-then-not-is_said-clause-exact : goal.returns-then-not-is_said-clause-exact
-returns-then-not-is_said-clause-exact g c h st =
-    λ may.
-    let t = house_time c.args.self.now in
-    let bounds = unbounded (limits_of c.args.self.now) in
+returns-then-not-is_said-clause-exact g c = rw (← c.self.view_is) (λ h st may.
+    let t = c.self.inside.state.time in
+    let bounds = unbounded (c.self.inside.state.limits) in
     let asked : c.of-q.result ≡ request_of c.args.scrip.now c.args.target.now c.args.sign.now = c.of-q.ensures ∙ c.request_for.ensures ∙ ap (scrip_request c.args.scrip.now c.args.target.now) c.digits_of-digits.ensures in
     let is = c.in-Ok.ensures.exact h st.state st.learned st.of_kind
     ∙ ap₂ (λ (l : Limits) (q : Asked). answer h t l q) (c.unbounded_of-limits.ensures ∙ ap unbounded c.limits.ensures.limits) asked in
     let said = is_said t t c.args.scrip.now c.of-q.result.target c.args.target.now c.in-Ok.authorization c.args.sign.now c.args.price c.args.change (deed_of c.args.deed.now)
     (answer h t bounds (request_of c.args.scrip.now c.args.target.now c.args.sign.now)) is may.follows.allowed in
     let yes' = c.is_said.ensures.1 said in
-    absurd (cc)
+    absurd (cc))
 
 pub returns-in-Ok-commit-clause-exact : goal.returns-in-Ok-commit-clause-exact
-returns-in-Ok-commit-clause-exact g c h st =
-    let t = house_time c.args.self.now in
-    let bounds = unbounded (limits_of c.args.self.now) in
+returns-in-Ok-commit-clause-exact g c = rw (← c.self.view_is) (λ h st.
+    let t = c.self.inside.state.time in
+    let bounds = unbounded (c.self.inside.state.limits) in
     let a = c.in-Ok.authorization in
     let e = Accept t c.args.scrip.now c.args.target.now c.args.sign.now c.args.price c.args.change (deed_of c.args.deed.now) in
     let asked : c.of-q.result ≡ request_of c.args.scrip.now c.args.target.now c.args.sign.now = c.of-q.ensures ∙ c.request_for.ensures ∙ ap (scrip_request c.args.scrip.now c.args.target.now) c.digits_of-digits.ensures in
     let is = c.in-Ok.ensures.exact h st.state st.learned st.of_kind
     ∙ ap (λ (l : Limits). answer h t l c.of-q.result) (c.unbounded_of-limits.ensures ∙ ap unbounded c.limits.ensures.limits) in
     let same : authorized_entry t c.of-q.result.target a ≡ e =
-    said_entry c.args.self.now.state c.of-q.result t c.args.scrip.now c.args.target.now a c.args.sign.now c.args.price c.args.change (deed_of c.args.deed.now)
+    said_entry c.self.inside.state c.of-q.result t c.args.scrip.now c.args.target.now a c.args.sign.now c.args.price c.args.change (deed_of c.args.deed.now)
     c.in-Ok.ensures.new (ap (λ (q : Asked). q.scrip) asked) (ap (λ (q : Asked). q.target) asked) (c.is_said.ensures.0 c.if-not-is_said.false) in
     let most : 2 ^ 40 ≤ 2 ^ 40 = omega arith in
-    let taken = c.in-Ok-commit.ensures.exact bounds h st refl most (sym is) in (
+    let taken = (rw (← c.self.view_is) at c.in-Ok-commit.ensures.exact) bounds h st refl most (sym is) in (
       record { follows = record { in_order = st.state.in_time; allowed = sym (is ∙ ap (answer h t bounds) asked) ∙ ap (λ (x : Entry). answers.Take x) same }; passed = tt },
       subst (λ (x : Entry). Represents g.T.Trade.trade c.commit.new.self (h ++ x ∷ [])) same taken.1,
-      c.in-Ok-commit.ensures.time,
-    )
+      (rw (← c.self.view_is) at c.in-Ok-commit.ensures.time),
+    ))
 
 pub returns-in-Ok-commit-clause-contents : goal.returns-in-Ok-commit-clause-contents
-returns-in-Ok-commit-clause-contents g c h st has =
-    let t = house_time c.args.self.now in
+returns-in-Ok-commit-clause-contents g c = rw (← c.self.view_is) (λ h st has.
+    let t = c.self.inside.state.time in
     let a = c.in-Ok.authorization in
     let e = Accept t c.args.scrip.now c.args.target.now c.args.sign.now c.args.price c.args.change (deed_of c.args.deed.now) in
     let asked : c.of-q.result ≡ request_of c.args.scrip.now c.args.target.now c.args.sign.now = c.of-q.ensures ∙ c.request_for.ensures ∙ ap (scrip_request c.args.scrip.now c.args.target.now) c.digits_of-digits.ensures in
     let same : authorized_entry t c.of-q.result.target a ≡ e =
-    said_entry c.args.self.now.state c.of-q.result t c.args.scrip.now c.args.target.now a c.args.sign.now c.args.price c.args.change (deed_of c.args.deed.now)
+    said_entry c.self.inside.state c.of-q.result t c.args.scrip.now c.args.target.now a c.args.sign.now c.args.price c.args.change (deed_of c.args.deed.now)
     c.in-Ok.ensures.new (ap (λ (q : Asked). q.scrip) asked) (ap (λ (q : Asked). q.target) asked) (c.is_said.ensures.0 c.if-not-is_said.false) in
-    subst (λ (x : Entry). HasContents g.T.Trade.trade c.commit.new.self (h ++ x ∷ [])) same (c.in-Ok-commit.ensures.contents h st has (c.in-Ok.ensures.in_force h st.learned st.of_kind))
+    subst (λ (x : Entry). HasContents g.T.Trade.trade c.commit.new.self (h ++ x ∷ [])) same ((rw (← c.self.view_is) at c.in-Ok-commit.ensures.contents) h st has (c.in-Ok.ensures.in_force h st.learned st.of_kind)))

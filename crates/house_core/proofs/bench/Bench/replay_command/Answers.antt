@@ -12,5 +12,5 @@ returns-in-Err-follow-clause-exact g c h st tells room =
 
 -- the entry fits the greatest journal
 pub returns-in-Err-clause-exact : goal.returns-in-Err-clause-exact
-returns-in-Err-clause-exact g c h st tells room =
-    λ may. absurd (omega (arith, c.in-Err.ensures.full, room, length-tail h (entry c.args.r.now), tail_size-by h, ap tail_bytes st.state.switched, st.state.sized, c.payload_len-bytes.ensures))
+returns-in-Err-clause-exact g c = rw (← c.self.view_is) (λ h st tells room may.
+    absurd (omega (arith, c.in-Err.ensures.full, room, length-tail h (entry c.args.r.now), tail_size-by h, ap tail_bytes st.state.switched, st.state.sized, c.payload_len-bytes.ensures)))

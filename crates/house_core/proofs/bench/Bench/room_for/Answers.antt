@@ -5,18 +5,24 @@ use Rattle.house_core.proofs.Accepting.{stands_as_before}
 use Rattle.house_core.proofs.Applied.{house_half}
 use Rattle.house_state.proofs.PartLaws.{halves}
 use Rattle.house_core.proofs.bench.Bench.room_for.Goals as goal
+use Rattle.house_core.proofs.bench.Bench.room_for.Goals.{in-Ok-reserve_for, in-Err-reserve_for}
 
 pub returns-then-not-goes_on-clause-end : goal.returns-then-not-goes_on-clause-end
-returns-then-not-goes_on-clause-end g c h st tells = (
+returns-then-not-goes_on-clause-end g c = rw (← c.self.view_is) (λ h st tells. (
   λ may.
       let e = entry c.args.r.now in
-      let half = house_half st.state (g.T.Trade.trade c.args.self.now.trade).site st.of_kind e c.requires.command tells in
-      let goes = half.1 ((halves g.T.Trade.passes c.args.self.now.state.limits (g.T.Trade.trade c.args.self.now.trade).site h e st.of_kind).0 (may.follows.allowed, may.passed)).0 in
-      let yes' = c.goes_on.ensures.1 (subst (λ (k : ℕ). GoesOn c.args.self.now.state k e) (sym c.kind.ensures) goes) in
+      let half = house_half st.state (g.T.Trade.trade c.self.inside.trade).site st.of_kind e c.requires.command tells in
+      let goes = half.1 ((halves g.T.Trade.passes c.self.inside.state.limits (g.T.Trade.trade c.self.inside.trade).site h e st.of_kind).0 (may.follows.allowed, may.passed)).0 in
+      let yes' = c.goes_on.ensures.1 (subst (λ (k : ℕ). GoesOn c.self.inside.state k e) (sym c.kind.ensures) goes) in
       absurd (cc),
   st,
-)
+))
 
-pub returns-in-Err-reserve_for-clause-end : goal.returns-in-Err-reserve_for-clause-end
-returns-in-Err-reserve_for-clause-end g c h st tells =
-    record { state = stands_as_before st.state c.in-Err-reserve_for.ensures.same; learned = c.in-Ok.ensures.same h st.learned; of_kind = rw c.in-Ok.ensures.site st.of_kind }
+pub returns-clause-end : goal.returns-clause-end
+returns-clause-end g c = rw (← c.self.view_is) (λ h st tells.
+    elim c.match-reserve_for.branch [
+      | in-Ok-reserve_for w ↦ rw w.result-is tt
+      | in-Err-reserve_for w ↦
+          rw w.result-is
+          (record { state = stands_as_before st.state c.reserve_for.ensures.same; learned = c.in-Ok.ensures.same h st.learned; of_kind = rw c.in-Ok.ensures.site st.of_kind })
+    ])

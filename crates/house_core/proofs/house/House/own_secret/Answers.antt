@@ -8,7 +8,7 @@ use Rattle.house_state.proofs.Tabled.{own_terms_are}
 use Rattle.house_core.proofs.house.House.own_secret.Goals as goal
 
 pub returns : goal.returns
-returns g c h terms st own =
+returns g c = rw (← c.self.view_is, ← c.self-inside.view_is) (λ h terms st own.
     let state = st.house.represents.state in
     c.secret_of.ensures
-    ∙ ap₂ (λ (us : List Upgraded) (t : Issuing). customer_secret t c.args.cust (version_by us (series_of c.args.cust))) (sym state.upgrades) (c.own_terms.ensures ∙ own_terms_are state terms own)
+    ∙ ap₂ (λ (us : List Upgraded) (t : Issuing). customer_secret t c.args.cust (version_by us (series_of c.args.cust))) (sym state.upgrades) (c.own_terms.ensures ∙ own_terms_are state terms own))
