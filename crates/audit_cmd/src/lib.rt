@@ -1,7 +1,6 @@
 //! Books are read to be audited, each by one pass over its disk, and audited; or their chains are said.
 #![tactic(auto)]
 
-
 mod auditing;
 mod book_chains;
 mod books;

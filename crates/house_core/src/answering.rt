@@ -196,11 +196,7 @@ impl<T: Trade> Bench<T> {
 
 /// The secret of whoever asks: the key of the account of the draw that is asked for, else that of the customer of the
 /// request's piece.
-fn asker_secret(
-    state: &HouseState,
-    ask: &Option<DrawAsk>,
-    q: &Presented<'_>,
-) -> Option<[u8; 16]>
+fn asker_secret(state: &HouseState, ask: &Option<DrawAsk>, q: &Presented<'_>) -> Option<[u8; 16]>
     ensures { (h : History) → StateRepresents state.now h → ask.now ≡ draw_asked h q.now.target
         → result ≡ ledger.asker_secret h (draw_in h q.now.target) q.now.scrip }
 {

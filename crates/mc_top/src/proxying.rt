@@ -11,8 +11,8 @@ ghost use Rattle.mc_top.specs.Proxying.{Proxies, RunsProxy, RefusesWords};
 use crate::program::end;
 use command_status::Status;
 use mc_outside::{Link, Outside};
-use wallet_proxy::serve_wallet;
 use std::alloc::Global;
+use wallet_proxy::serve_wallet;
 use wallet_words::{Proxying, proxying_of};
 
 /// The program for the words `wallet proxy BOOK VENDOR LIMIT BUDGET LISTEN CONNECT LINKS`, those after its name, which `run`

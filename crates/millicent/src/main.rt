@@ -358,7 +358,9 @@ fn tell_port(rt: &HostRuntime, address: &str, at: Option<SocketAddr>) {
 fn leave(rt: &HostRuntime, path: &str, book: &Book<File>) {
     book.forget_if_empty(rt, path);
     if book.is_open_to_others() {
-        let _ = eprintln!(rt; "millicent: others than its owner may read {path}, which has secrets: chmod 600 {path}");
+        let _ = eprintln!(rt;
+            "millicent: others than its owner may read {path}, which has secrets: chmod 600 {path}"
+        );
     }
 }
 

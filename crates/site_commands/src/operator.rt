@@ -6,7 +6,6 @@ ghost use Rattle.site_commands.specs.Operator.{OperatesBook, OperatesOpened, Ope
 ghost use Rattle.site_commands.specs.Endings.{outcome_status};
 ghost use Rattle.command_status.specs.Statuses.{number_of};
 
-use millicent_http::{InputFault, input_of};
 use command_status::{Status, not_opened};
 use house_core::{House, Outcome};
 use house_opening::open_house;
@@ -14,6 +13,7 @@ use house_state::Trade;
 use mc_base::List;
 use mc_outside::Outside;
 use mc_records::Limits;
+use millicent_http::{InputFault, input_of};
 use operator_command::OperatorCommand;
 use std::alloc::Global;
 

@@ -10,11 +10,11 @@ ghost use Rattle.wallet_commands.specs.Taking.{TakesBook, Unread, Took, taken_st
 
 use crate::clock::raise_by_clock;
 use crate::lines::{line_room, put_taken};
-use millicent_http::{InputFault, input_of};
 use command_status::{Status, not_opened};
 use mc_base::List;
 use mc_outside::Outside;
 use mc_records::Limits;
+use millicent_http::{InputFault, input_of};
 use said_lines::READY;
 use std::alloc::Global;
 use wallet_core::{Wallet, WalletOut, open_wallet};

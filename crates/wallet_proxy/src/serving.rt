@@ -6,6 +6,7 @@ ghost use Rattle.command_status.specs.Statuses.{number_of};
 ghost use Rattle.wallet_proxy.specs.Links.{proxied_outside};
 ghost use Rattle.wallet_proxy.specs.Proxying.{proxied_status, ProxiesBook, ProxyCauses};
 
+use crate::{ProxyOut, proxy_links};
 use command_status::{Status, not_opened};
 use mc_base::Amount;
 use mc_outside::{Link, Outside};
@@ -13,7 +14,6 @@ use mc_records::Limits;
 use scrip_form::Name;
 use std::alloc::Global;
 use wallet_core::open_wallet;
-use crate::{ProxyOut, proxy_links};
 
 /// Opens the book on the outside's disk as that of a wallet, and serves so many links, or all that come: each plain request
 /// on them is paid for, over the next link of `up`, with a piece of the vendor that is worth at least the limit, as long as
