@@ -10,7 +10,7 @@ use Rattle.scrip_journal.specs.States.{AtRest, IsChainOf, IsJournal}
 use Rattle.scrip_journal.specs.Rests.{RestsAs}
 use Rattle.scrip_journal.proofs.Unique.{one_history}
 use Rattle.wallet_book.specs.Book.{BookView, WalletRepresents}
-use Rattle.wallet_core.specs.declared.wallet.Wallet.{Wallet}
+use Rattle.wallet_core.specs.WalletView.{WalletView}
 use Rattle.wallet_core.specs.Wallet.{WalletStands}
 use Rattle.wallet_core.specs.Rests.{WalletRests}
 use Rattle.wallet_commands.specs.Books.{OldPair}
@@ -31,7 +31,7 @@ journal_had disk j k h keeps rests is = record {
 }
 
 -- and what a wallet stands for it stood for before
-pub stood : {O : Type 0} (disk : O → DiskView) (x y : Wallet O) (h : History) → LinkKeeps (disk x.journal.disk) (disk y.journal.disk) → WalletRests x y → WalletStands disk y h → WalletStands disk x h
+pub stood : {O : Type 0} (disk : O → DiskView) (x y : WalletView O) (h : History) → LinkKeeps (disk x.journal.disk) (disk y.journal.disk) → WalletRests x y → WalletStands disk y h → WalletStands disk x h
 stood disk x y h keeps rests st = record {
   journal = journal_had disk x.journal y.journal h keeps rests.journal st.journal;
   book = subst (λ (b : BookView). WalletRepresents b h) rests.book st.book;
@@ -39,7 +39,7 @@ stood disk x y h keeps rests st = record {
 }
 
 -- a wallet stands for one history
-pub one_book : {O : Type 0} (disk : O → DiskView) (x : Wallet O) (h g : History) → WalletStands disk x h → WalletStands disk x g → h ≡ g
+pub one_book : {O : Type 0} (disk : O → DiskView) (x : WalletView O) (h g : History) → WalletStands disk x h → WalletStands disk x g → h ≡ g
 one_book disk x h g st other =
     let same : Some st.journal.bytes ≡ Some other.journal.bytes = sym st.journal.told ∙ other.journal.told in
     let bytes : st.journal.bytes ≡ other.journal.bytes = cc in

@@ -12,7 +12,7 @@ use Rattle.ledger_model.specs.Houses.{site_name}
 use Rattle.ledger_model.specs.Lines as lines
 use Rattle.ledger_model.specs.Answer.{fitted}
 use Rattle.said_lines.specs.Lines.{chain_words, chain_end}
-use Rattle.wallet_core.specs.declared.wallet.Wallet.{Wallet}
+use Rattle.wallet_core.specs.WalletView.{WalletView}
 use Rattle.wallet_core.specs.declared.outcome.WalletOut.{WalletOut}
 use Rattle.wallet_core.specs.declared.outcome.WalletOut.TheVariants as outs
 use Rattle.wallet_core.specs.Wallet.{WalletStands}
@@ -28,7 +28,7 @@ use Rattle.wallet_commands.proofs.PayLemmas.{AtClock, entry_pairs, unwritten, do
 abbrev entry_by : Bool → History → ℕ → Option Entry
 entry_by b h t = if b then None else Some (Switch t (chain h))
 
-module _ {O : Type 0} (disk : O → DiskView) (h : History) (y : Wallet O) (is_disk : (o : O) → IsDisk (disk o)) (st : WalletStands disk y h) where
+module _ {O : Type 0} (disk : O → DiskView) (h : History) (y : WalletView O) (is_disk : (o : O) → IsDisk (disk o)) (st : WalletStands disk y h) where
   -- what became of it
   chained_by : (words line : List ℕ) (b : Bool) (out : WalletOut O (Option ℕ)) → y.book.limits ≡ FULL → words ≡ chain_words (site_name h) → SwitchesBy b disk y h out → EndsLine disk out words line
       → ChainedBy (disk (outcome_disk out)) h (entry_by b h y.book.time) (chained_status line out)
@@ -58,7 +58,7 @@ module _ {O : Type 0} (disk : O → DiskView) (h : History) (y : Wallet O) (is_d
   chained_pairs tells before line false (outs.NoMemory x) stood same performs = unwritten disk tells before h y.journal.disk x.journal.disk stood same performs.ran
   chained_pairs tells before line false (outs.Halted d) stood same performs = entry_pairs {A = Option ℕ} disk tells before h y (Switch y.book.time (chain h)) (outs.Halted d) stood same performs.ran
 
-module _ {O : Type 0} (link : O → LinkView) (disk : O → DiskView) (bytes : List ℕ) (a : O) (x y : Wallet O) (moment : ℕ) (all : TellsAside link (λ o. (disk o).aside)) (at : AtClock link disk bytes a x y moment) where
+module _ {O : Type 0} (link : O → LinkView) (disk : O → DiskView) (bytes : List ℕ) (a : O) (x y : WalletView O) (moment : ℕ) (all : TellsAside link (λ o. (disk o).aside)) (at : AtClock link disk bytes a x y moment) where
   -- once the clock was read
   pub has_chained : (words line : List ℕ) (out : WalletOut O (Option ℕ)) → ((o : O) → IsDisk (disk o)) → y.book.limits ≡ FULL → words ≡ chain_words (site_name at.opened.opened.history) → link (outcome_disk out) ≡ link y.journal.disk
       → Switches disk y at.opened.opened.history out → EndsLine disk out words line

@@ -16,7 +16,7 @@ use Rattle.scrip_journal.proofs.FoundLemmas.{found_before}
 use Rattle.scrip_journal.specs.Founds.{fault_disk, FoundNoOutput, FoundImage, ReadsOnly}
 use Rattle.millicent_http.specs.Courses.{with_readings}
 use Rattle.command_status.specs.Faults.{fault_status}
-use Rattle.wallet_core.specs.declared.wallet.Wallet.{Wallet}
+use Rattle.wallet_core.specs.WalletView.{WalletView}
 use Rattle.wallet_core.specs.Opening.{FoundsWalletBy}
 use Rattle.command_status.specs.Founding.{FoundingImage}
 use Rattle.wallet_commands.specs.Founding.{site_of, FoundsBy}
@@ -52,7 +52,7 @@ read_pairs link disk a m b all keeps rest read =
 
 -- by why nothing was founded
 pub unfounded_pairs : {O : Type 0} (link : O → LinkView) (disk : O → DiskView) (name : List ℕ) (moment : ℕ) (bytes : List ℕ) (a m : O) (fault : HouseFault O) → TellsAside link (λ o. (disk o).aside) → LinkKeeps (disk a) (disk m)
-    → link m ≡ with_readings (link m).readings (link a) → FoundsWalletBy {D = O} disk FULL (site_of name moment) bytes (Err fault) → ReadsOnly {D = O} {A = Wallet O} disk m (Err fault)
+    → link m ≡ with_readings (link m).readings (link a) → FoundsWalletBy {D = O} disk FULL (site_of name moment) bytes (Err fault) → ReadsOnly {D = O} {A = WalletView O} disk m (Err fault)
     → Ran (disk m) (disk (fault_disk fault)) (FoundNoOutput (disk m) (site_of name moment))
     → Ran (disk a) (disk (fault_disk fault)) (λ image sent. FoundingImage (disk a) (site_of name moment) (fault_status fault) image × (IsSome (link a).sessions → sent ≡ (disk a).aside))
 unfounded_pairs link disk name moment bytes a m (faults.NotEmpty d size) all keeps rest by read ran = read_pairs link disk a m d all keeps rest read
@@ -66,7 +66,7 @@ unfounded_pairs link disk name moment bytes a m (faults.WrongKind d) all keeps r
 
 -- nothing was founded
 pub not_founded : {O : Type 0} (disk : O → DiskView) (name : List ℕ) (moment : ℕ) (bytes : List ℕ) (a m : O) (fault : HouseFault O) → LinkKeeps (disk a) (disk m) → FoundsWalletBy {D = O} disk FULL (site_of name moment) bytes (Err fault)
-    → ReadsOnly {D = O} {A = Wallet O} disk m (Err fault) → FoundsBy (disk a) name bytes moment (fault_status fault) (disk (fault_disk fault))
+    → ReadsOnly {D = O} {A = WalletView O} disk m (Err fault) → FoundsBy (disk a) name bytes moment (fault_status fault) (disk (fault_disk fault))
 not_founded disk name moment bytes a m (faults.NotEmpty d size) keeps by read = (size, refl, by, read.contents ∙ keeps.contents)
 not_founded disk name moment bytes a m (faults.NoMemory d) keeps by read = read.contents ∙ keeps.contents
 not_founded disk name moment bytes a m (faults.Disk d) keeps by read = tt

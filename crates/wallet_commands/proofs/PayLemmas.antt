@@ -28,7 +28,7 @@ use Rattle.wallet_core.specs.declared.ask.Ask.{Ask}
 use Rattle.wallet_core.specs.declared.ask.Ask.TheVariants as what_is
 use Rattle.wallet_core.specs.Asks.{asking_of, pend_with_entry}
 use Rattle.wallet_core.proofs.AskLaws.{due_pays}
-use Rattle.wallet_core.specs.declared.wallet.Wallet.{Wallet}
+use Rattle.wallet_core.specs.WalletView.{WalletView}
 use Rattle.wallet_core.specs.declared.outcome.WalletOut.{WalletOut}
 use Rattle.wallet_core.specs.declared.outcome.WalletOut.TheVariants as outs
 use Rattle.wallet_core.specs.Wallet.{WalletStands}
@@ -60,7 +60,7 @@ pub due_asks : (h : History) (t : ℕ) (vendor target : List ℕ) (before : ℕ)
 due_asks h t vendor target before e is = asked_with t 0 vendor target (or_none_due (due h t vendor before)) e is
 
 -- what a wallet does with the piece of the place that is due it does for the renewal
-pub due_performs : {O A : Type 0} (disk : O → DiskView) (y : Wallet O) (h : History) (vendor target : List ℕ) (before limit place : ℕ) (ask : Ask) (T : Entry → A → Type 0) (out : WalletOut O A) → ask ≡ what_is.Get vendor target limit
+pub due_performs : {O A : Type 0} (disk : O → DiskView) (y : WalletView O) (h : History) (vendor target : List ℕ) (before limit place : ℕ) (ask : Ask) (T : Entry → A → Type 0) (out : WalletOut O A) → ask ≡ what_is.Get vendor target limit
     → Some place ≡ option_map (λ o. o.place) (due h y.book.time vendor before) → (e : Entry) × (pend_with_entry h y.book.time place (asking_of ask) ≡ Some e) × Performs disk y h (Ok e) T out
     → Performs disk y h (due_entry h y.book.time vendor target before) T out
 due_performs disk y h vendor target before limit place ask T out what at done =
@@ -72,11 +72,11 @@ told_before None q x same is = let b : is_some q ≡ true = ap is_some is in abs
 told_before (Some y) q x same is = (y, refl)
 
 -- what a wallet is known by stays while the clock is read
-pub known_on : {O : Type 0} (disk : O → DiskView) (x y : Wallet O) → LinkKeeps (disk x.journal.disk) (disk y.journal.disk) → ((h : History) → WalletStands disk x h → WalletStands disk y h) → IsKnown disk x → IsKnown disk y
+pub known_on : {O : Type 0} (disk : O → DiskView) (x y : WalletView O) → LinkKeeps (disk x.journal.disk) (disk y.journal.disk) → ((h : History) → WalletStands disk x h → WalletStands disk y h) → IsKnown disk x → IsKnown disk y
 known_on disk x y keeps stands known bytes told = let at = known bytes (sym keeps.contents ∙ told) in (at.0, stands at.0 at.1)
 
 -- the request that was just entered is kept, whatever history the wallet stands for
-pub pend_keeps : {O : Type 0} (disk : O → DiskView) (y z : Wallet O) (todo : History → Result Entry Refusal) (number : ℕ) → ((h : History) (e : Entry) → todo h ≡ Ok e → (p : Pending) × (pending_of e ≡ Some p)) → IsKnown disk y
+pub pend_keeps : {O : Type 0} (disk : O → DiskView) (y z : WalletView O) (todo : History → Result Entry Refusal) (number : ℕ) → ((h : History) (e : Entry) → todo h ≡ Ok e → (p : Pending) × (pending_of e ≡ Some p)) → IsKnown disk y
     → is_some (disk z.journal.disk).contents ≡ is_some (disk y.journal.disk).contents
     → ((h : History) → WalletStands disk y h → Adds disk y h (todo h) (TellsNumber h) (outs.Done z number)) → (g : History) → WalletStands disk z g → (p : Pending) × (kept_in g number ≡ Some p)
 pend_keeps disk y z todo number asks_it known tells adds g st =
@@ -93,7 +93,7 @@ pend_keeps disk y z todo number asks_it known tells adds g st =
 -- ---- while an entry is written
 
 -- with it or without it
-pub entry_pairs : {O A : Type 0} (disk : O → DiskView) (tells : Type 0) (before : DiskView) (h : History) (y : Wallet O) (e : Entry) (out : WalletOut O A) → Ran before (disk y.journal.disk) (OldPair tells before h)
+pub entry_pairs : {O A : Type 0} (disk : O → DiskView) (tells : Type 0) (before : DiskView) (h : History) (y : WalletView O) (e : Entry) (out : WalletOut O A) → Ran before (disk y.journal.disk) (OldPair tells before h)
     → (tells → (disk y.journal.disk).aside ≡ before.aside) → Ran (disk y.journal.disk) (disk (outcome_disk out)) (LeavesBy (Ok e) out h (disk y.journal.disk).aside) → Ran before (disk (outcome_disk out)) (EntryPair tells before h e)
 entry_pairs {O} {A} disk tells before h y e out old same ran =
     ran_then before (disk y.journal.disk) (disk (outcome_disk out)) (EntryPair tells before h e)
@@ -113,7 +113,7 @@ unwritten disk tells before h y z old same ran =
     ran_then before (disk y) (disk z) (OldPair tells before h) old (ran_weaker (disk y) (disk z) _ _ ran (λ c s l. (inr l.0, λ told. l.1 ∙ same told)))
 
 -- it is in doubt
-pub doubted : {O A : Type 0} (disk : O → DiskView) (h : History) (y : Wallet O) (e : Entry) (d : O) (T : Entry → A → Type 0) → IsDisk (disk d) → WalletStands disk y h → Adds {D = O} {A = A} disk y h (Ok e) T (outs.Halted d)
+pub doubted : {O A : Type 0} (disk : O → DiskView) (h : History) (y : WalletView O) (e : Entry) (d : O) (T : Entry → A → Type 0) → IsDisk (disk d) → WalletStands disk y h → Adds {D = O} {A = A} disk y h (Ok e) T (outs.Halted d)
     → Ran (disk y.journal.disk) (disk d) (LeavesBy {D = O} {A = A} (Ok e) (outs.Halted d) h (disk y.journal.disk).aside) → EncodesEither (disk d) h e
 doubted disk h y e d T is_disk st adds ran = record {
   leaves = λ image l. (ran_now (disk y.journal.disk) (disk d) _ is_disk ran image l).0;
@@ -123,7 +123,7 @@ doubted disk h y e d T is_disk st adds ran = record {
 -- ---- at the clock
 
 -- The clock was read once for a wallet of a book that was opened.
-pub record AtClock {O : Type 0} (link : O → LinkView) (disk : O → DiskView) (bytes : List ℕ) (a : O) (x y : Wallet O) (moment : ℕ) : Type 0 where
+pub record AtClock {O : Type 0} (link : O → LinkView) (disk : O → DiskView) (bytes : List ℕ) (a : O) (x y : WalletView O) (moment : ℕ) : Type 0 where
   pub opened : Opened link disk bytes a x
   pub keeps : LinkKeeps (disk x.journal.disk) (disk y.journal.disk)
   pub stands : WalletStands disk y opened.opened.history
@@ -131,7 +131,7 @@ pub record AtClock {O : Type 0} (link : O → LinkView) (disk : O → DiskView) 
   pub rest : link y.journal.disk ≡ with_readings (link y.journal.disk).readings (link x.journal.disk)
   pub read : AreRead OfLinks (moment ∷ []) (link x.journal.disk).readings (link y.journal.disk).readings
 
-module _ {O : Type 0} (link : O → LinkView) (disk : O → DiskView) (bytes : List ℕ) (a : O) (x y : Wallet O) (moment : ℕ) (all : TellsAside link (λ o. (disk o).aside)) (at : AtClock link disk bytes a x y moment) where
+module _ {O : Type 0} (link : O → LinkView) (disk : O → DiskView) (bytes : List ℕ) (a : O) (x y : WalletView O) (moment : ℕ) (all : TellsAside link (λ o. (disk o).aside)) (at : AtClock link disk bytes a x y moment) where
   pub clocked_by : (Does : History → ℕ → LinkView → Type 0) → Does at.opened.opened.history y.book.time (link y.journal.disk) → Clocked link Does bytes a
   clocked_by Does does = record {
     history = at.opened.opened.history;
@@ -152,7 +152,7 @@ module _ {O : Type 0} (link : O → LinkView) (disk : O → DiskView) (bytes : L
       ∙ at.opened.untouched.read.aside
 
   -- nothing was entered
-  pub not_asked : (z : Wallet O) → WalletStands disk z at.opened.opened.history → z.journal ≡ y.journal → NotAsked link disk at.opened.opened.history a (link y.journal.disk) z.journal.disk
+  pub not_asked : (z : WalletView O) → WalletStands disk z at.opened.opened.history → z.journal ≡ y.journal → NotAsked link disk at.opened.opened.history a (link y.journal.disk) z.journal.disk
   not_asked z st same = record {
     left = on_disk disk z at.opened.opened.history st;
     link' = ap (λ (j : AtRest O). link j.disk) same;
@@ -166,7 +166,7 @@ module _ {O : Type 0} (link : O → LinkView) (disk : O → DiskView) (bytes : L
   -- ---- paying
 
   -- it was refused
-  pub pay_refused : (k : Saying) (todo : Result Entry Refusal) (z : Wallet O) (f : Refusal) (T : Entry → ℕ → Type 0) → y.book.limits ≡ FULL → Adds disk y at.opened.opened.history todo T (outs.Refused z f)
+  pub pay_refused : (k : Saying) (todo : Result Entry Refusal) (z : WalletView O) (f : Refusal) (T : Entry → ℕ → Type 0) → y.book.limits ≡ FULL → Adds disk y at.opened.opened.history todo T (outs.Refused z f)
       → PaysAs k link disk at.opened.opened.history y.book.time todo a (link y.journal.disk) (ends.Refused f) z.journal.disk
   pay_refused k (Ok e) z f T limits adds = inl (inr (f, refl, subst (λ (l : Limits). fitted at.opened.opened.history l e ≡ Err (lines.Refuse f)) limits adds.0), not_asked z adds.1.stands adds.1.journal')
   pay_refused k (Err g) z f T limits adds = (inl (ap (λ (r : Refusal). ends.Refused r) adds.0), not_asked z adds.1.stands adds.1.journal')
@@ -179,7 +179,7 @@ module _ {O : Type 0} (link : O → LinkView) (disk : O → DiskView) (bytes : L
       (inl refl, not_asked y at.stands refl)
 
   -- memory was refused
-  pub pay_wants : (k : Saying) (todo : Result Entry Refusal) (z : Wallet O) (T : Entry → ℕ → Type 0) → Adds disk y at.opened.opened.history todo T (outs.NoMemory z)
+  pub pay_wants : (k : Saying) (todo : Result Entry Refusal) (z : WalletView O) (T : Entry → ℕ → Type 0) → Adds disk y at.opened.opened.history todo T (outs.NoMemory z)
       → PaysAs k link disk at.opened.opened.history y.book.time todo a (link y.journal.disk) ends.NoMemory z.journal.disk
   pay_wants k (Ok e) z T adds = inl (inl refl, not_asked z adds.stands adds.journal')
   pay_wants k (Err g) z T adds = (inr refl, not_asked z adds.stands adds.journal')
@@ -191,7 +191,7 @@ module _ {O : Type 0} (link : O → LinkView) (disk : O → DiskView) (bytes : L
   pay_doubted k (Err g) d T is_disk same adds ran = absurd adds
 
   -- the request was entered, and a link used for it
-  pub pay_asked : (k : Saying) (todo : Result Entry Refusal) (z : Wallet O) (number : ℕ) (status : Status) (b : O) → ((e : Entry) → todo ≡ Ok e → (p : Pending) × (pending_of e ≡ Some p)) → link z.journal.disk ≡ link y.journal.disk
+  pub pay_asked : (k : Saying) (todo : Result Entry Refusal) (z : WalletView O) (number : ℕ) (status : Status) (b : O) → ((e : Entry) → todo ≡ Ok e → (p : Pending) × (pending_of e ≡ Some p)) → link z.journal.disk ≡ link y.journal.disk
       → Adds disk y at.opened.opened.history todo (TellsNumber at.opened.opened.history) (outs.Done z number)
       → Ran (disk y.journal.disk) (disk z.journal.disk) (LeavesBy todo (outs.Done z number) at.opened.opened.history (disk y.journal.disk).aside)
       → ((g : History) (p : Pending) → WalletStands disk z g → kept_in g number ≡ Some p → UsesLinkAs k link disk g z.book.time number p z.journal.disk status b)

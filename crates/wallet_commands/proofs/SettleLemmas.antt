@@ -34,7 +34,7 @@ use Rattle.wallet_book.proofs.PartLaws.{came_texts}
 use Rattle.wallet_core.specs.declared.settling.Settlement.{Settlement}
 use Rattle.wallet_core.specs.declared.settling.Settlement.TheVariants as settled
 use Rattle.wallet_core.specs.Settled.{bought, IsSettledAs}
-use Rattle.wallet_core.specs.declared.wallet.Wallet.{Wallet}
+use Rattle.wallet_core.specs.WalletView.{WalletView}
 use Rattle.wallet_core.specs.declared.outcome.WalletOut.{WalletOut}
 use Rattle.wallet_core.specs.declared.outcome.WalletOut.TheVariants as outs
 use Rattle.wallet_core.specs.Wallet.{WalletStands}
@@ -60,13 +60,13 @@ pub passed : (o : Option Refusal) (n : ℕ) (p : Pending) (r : Received) (c : Ch
 passed None n p r c checks = (refl, checks)
 passed (Some f) n p r c checks = absurd checks
 
-refused_ends : (k : Saying) {O : Type 0} (link : O → LinkView) (disk : O → DiskView) (h : History) (t n : ℕ) (p : Pending) (r : Received) (o : Option Refusal) (f : Refusal) (x : Wallet O) → Checks o n p r (Err f) → WalletStands disk x h
+refused_ends : (k : Saying) {O : Type 0} (link : O → LinkView) (disk : O → DiskView) (h : History) (t n : ℕ) (p : Pending) (r : Received) (o : Option Refusal) (f : Refusal) (x : WalletView O) → Checks o n p r (Err f) → WalletStands disk x h
     → EndsAs k h t n p (learned_by r o) (link x.journal.disk) (ends.Refused f) (disk x.journal.disk) (link x.journal.disk)
 refused_ends k link disk h t n p r None f x checks st = absurd checks
 refused_ends k link disk h t n p r (Some g) f x checks st = (ap (λ (e : Refusal). ends.Refused e) checks, on_disk disk x h st, refl)
 
 -- the check refused the reply
-pub refused_reply : (k : Saying) {O : Type 0} (link : O → LinkView) (disk : O → DiskView) (h : History) (t n : ℕ) (p : Pending) (r : Received) (f : Refusal) (x : Wallet O) → IsDisk (disk x.journal.disk) → Checks (check_of p r) n p r (Err f) → WalletStands disk x h
+pub refused_reply : (k : Saying) {O : Type 0} (link : O → LinkView) (disk : O → DiskView) (h : History) (t n : ℕ) (p : Pending) (r : Received) (f : Refusal) (x : WalletView O) → IsDisk (disk x.journal.disk) → Checks (check_of p r) n p r (Err f) → WalletStands disk x h
     → EndsReply k link disk h t n p r x.journal.disk (ends.Refused f) x.journal.disk
 refused_reply k link disk h t n p r f x is_disk checks st = record {
   ends' = refused_ends k link disk h t n p r (check_of p r) f x checks st;
@@ -75,7 +75,7 @@ refused_reply k link disk h t n p r f x is_disk checks st = record {
 
 -- ---- saying failed
 
-pub said_less : (k : Saying) {O : Type 0} (link : O → LinkView) (disk : O → DiskView) (h : History) (t n : ℕ) (p : Pending) (r : Received) (x y : Wallet O) → TellsAside link (λ o. (disk o).aside) → check_of p r ≡ None → WalletStands disk x h → WalletStands disk y h
+pub said_less : (k : Saying) {O : Type 0} (link : O → LinkView) (disk : O → DiskView) (h : History) (t n : ℕ) (p : Pending) (r : Received) (x y : WalletView O) → TellsAside link (λ o. (disk o).aside) → check_of p r ≡ None → WalletStands disk x h → WalletStands disk y h
     → LinkKeeps (disk x.journal.disk) (disk y.journal.disk) → IsSaidInPart (said_as k p r) (link x.journal.disk) (link y.journal.disk) → EndsReply k link disk h t n p r x.journal.disk ends.LinkFault y.journal.disk
 said_less k link disk h t n p r x y all none st now keeps said = record {
   ends' = subst (λ (o : Option Refusal). EndsAs k h t n p (learned_by r o) (link x.journal.disk) ends.LinkFault (disk y.journal.disk) (link y.journal.disk)) (sym none) (on_disk disk y h now, said);
@@ -154,7 +154,7 @@ module _ {O : Type 0} (link : O → LinkView) (disk : O → DiskView) (h : Histo
   done_so (sayings.Renewal vendor) t before after d change (settled.Refused number) said told left = (said, inl (told, left))
 
   -- how the disk is left, and the links, by the outcome
-  settles : (k : Saying) (before : LinkView) (y : Wallet O) (out : WalletOut O Settlement) → y.book.limits ≡ FULL → WalletStands disk y h → ((o : O) → IsDisk (disk o)) → IsSaid (said_as k p r) before (link (outcome_disk out))
+  settles : (k : Saying) (before : LinkView) (y : WalletView O) (out : WalletOut O Settlement) → y.book.limits ≡ FULL → WalletStands disk y h → ((o : O) → IsDisk (disk o)) → IsSaid (said_as k p r) before (link (outcome_disk out))
       → Adds disk y h (Ok (settlement h y.book.time n p r)) (λ e s. IsSettledAs p r s) out → Ran (disk y.journal.disk) (disk (outcome_disk out)) (LeavesBy (Ok (settlement h y.book.time n p r)) out h (disk y.journal.disk).aside)
       → SettlesAs k h y.book.time n p r before (settled_status k (length y.book.holdings) out) (disk (outcome_disk out)) (link (outcome_disk out))
   settles k before y (outs.Done x s) limits st is_disk said adds ran =
@@ -185,7 +185,7 @@ module _ {O : Type 0} (link : O → LinkView) (disk : O → DiskView) (h : Histo
   settle_pair k count tells e (outs.Halted d) aside now c s same leaves = (leaves.0, λ t. leaves.1 ∙ same t)
 
   -- the reply was said as it is to be, and then the settlement was written, or was not
-  pub settled_reply : (k : Saying) (x y : Wallet O) (out : WalletOut O Settlement) → TellsAside link (λ o. (disk o).aside) → ((o : O) → IsDisk (disk o)) → check_of p r ≡ None → y.book.limits ≡ FULL → WalletStands disk x h → WalletStands disk y h
+  pub settled_reply : (k : Saying) (x y : WalletView O) (out : WalletOut O Settlement) → TellsAside link (λ o. (disk o).aside) → ((o : O) → IsDisk (disk o)) → check_of p r ≡ None → y.book.limits ≡ FULL → WalletStands disk x h → WalletStands disk y h
       → LinkKeeps (disk x.journal.disk) (disk y.journal.disk) → IsSaid (said_as k p r) (link x.journal.disk) (link y.journal.disk) → link (outcome_disk out) ≡ link y.journal.disk
       → Adds disk y h (Ok (settlement h y.book.time n p r)) (λ e s. IsSettledAs p r s) out → Ran (disk y.journal.disk) (disk (outcome_disk out)) (LeavesBy (Ok (settlement h y.book.time n p r)) out h (disk y.journal.disk).aside)
       → EndsReply k link disk h y.book.time n p r x.journal.disk (settled_status k (length y.book.holdings) out) (outcome_disk out)

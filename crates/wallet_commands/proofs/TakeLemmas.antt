@@ -18,7 +18,7 @@ use Rattle.command_status.specs.declared.status.Status.{Status}
 use Rattle.command_status.specs.declared.status.Status.TheVariants as ends
 use Rattle.wallet_model.specs.Holdings.{brings}
 use Rattle.wallet_core.specs.Taking.{take_entry}
-use Rattle.wallet_core.specs.declared.wallet.Wallet.{Wallet}
+use Rattle.wallet_core.specs.WalletView.{WalletView}
 use Rattle.wallet_core.specs.declared.outcome.WalletOut.{WalletOut}
 use Rattle.wallet_core.specs.declared.outcome.WalletOut.TheVariants as outs
 use Rattle.wallet_core.specs.Wallet.{WalletStands}
@@ -39,7 +39,7 @@ count_is : (h : History) (e : Entry) (count : ℕ) → TellsCount e count → co
 count_is h (Got m pieces) count is = is
 count_is h e count is = absurd is
 
-took_by : {O : Type 0} (disk : O → DiskView) (h : History) (y : Wallet O) (todo : Result Entry Refusal) (out : WalletOut O ℕ) → y.book.limits ≡ FULL → WalletStands disk y h → ((o : O) → IsDisk (disk o))
+took_by : {O : Type 0} (disk : O → DiskView) (h : History) (y : WalletView O) (todo : Result Entry Refusal) (out : WalletOut O ℕ) → y.book.limits ≡ FULL → WalletStands disk y h → ((o : O) → IsDisk (disk o))
     → Adds disk y h todo TellsCount out → Ran (disk y.journal.disk) (disk (outcome_disk out)) (LeavesBy todo out h (disk y.journal.disk).aside) → TookBy (disk (outcome_disk out)) h todo (taken_status out)
 took_by disk h y (Ok e) (outs.Done x count) limits st is_disk adds ran = (ap taken_line (count_is h e count adds.1), on_disk disk x (h ++ e ∷ []) adds.0.stands)
 took_by disk h y (Ok e) (outs.Refused x f) limits st is_disk adds ran = (subst (λ (l : Limits). fitted h l e ≡ Err (lines.Refuse f)) limits adds.0, on_disk disk x h adds.1.stands)
@@ -50,7 +50,7 @@ took_by disk h y (Err g) (outs.Refused x f) limits st is_disk adds ran = (adds.0
 took_by disk h y (Err g) (outs.NoMemory x) limits st is_disk adds ran = on_disk disk x h adds.stands
 took_by disk h y (Err g) (outs.Halted d) limits st is_disk adds ran = absurd adds
 
-took_pairs : {O : Type 0} (disk : O → DiskView) (tells : Type 0) (before : DiskView) (h : History) (y : Wallet O) (todo : Result Entry Refusal) (out : WalletOut O ℕ) → Ran before (disk y.journal.disk) (OldPair tells before h)
+took_pairs : {O : Type 0} (disk : O → DiskView) (tells : Type 0) (before : DiskView) (h : History) (y : WalletView O) (todo : Result Entry Refusal) (out : WalletOut O ℕ) → Ran before (disk y.journal.disk) (OldPair tells before h)
     → (tells → (disk y.journal.disk).aside ≡ before.aside) → Ran (disk y.journal.disk) (disk (outcome_disk out)) (LeavesBy todo out h (disk y.journal.disk).aside)
     → Ran before (disk (outcome_disk out)) (AddPair tells before h (result_ok todo) (taken_status out))
 took_pairs disk tells before h y (Ok e) (outs.Done x n) old same ran = entry_pairs disk tells before h y e (outs.Done x n) old same ran
@@ -62,9 +62,9 @@ took_pairs disk tells before h y (Err g) (outs.Refused x f) old same ran = unwri
 took_pairs disk tells before h y (Err g) (outs.NoMemory x) old same ran = unwritten disk tells before h y.journal.disk x.journal.disk old same ran
 took_pairs disk tells before h y (Err g) (outs.Halted d) old same ran = unwritten disk tells before h y.journal.disk d old same ran
 
-module _ {O : Type 0} (link : O → LinkView) (disk : O → DiskView) (bytes : List ℕ) (a : O) (x : Wallet O) (all : TellsAside link (λ o. (disk o).aside)) (at : Opened link disk bytes a x) where
+module _ {O : Type 0} (link : O → LinkView) (disk : O → DiskView) (bytes : List ℕ) (a : O) (x : WalletView O) (all : TellsAside link (λ o. (disk o).aside)) (at : Opened link disk bytes a x) where
   -- the input was not read
-  pub unread : (m : Wallet O) (status : Status) → WalletStands disk m at.opened.history → LinkKeeps (disk x.journal.disk) (disk m.journal.disk) → SentNoMore (link x.journal.disk) (link m.journal.disk)
+  pub unread : (m : WalletView O) (status : Status) → WalletStands disk m at.opened.history → LinkKeeps (disk x.journal.disk) (disk m.journal.disk) → SentNoMore (link x.journal.disk) (link m.journal.disk)
       → ((status ≡ ends.LinkFault) × LostInput (link x.journal.disk) (link m.journal.disk)) ⊎ ((status ≡ ends.NoMemory) × (link m.journal.disk ≡ link x.journal.disk)) → Unread link disk bytes a status m.journal.disk
   unread m status st keeps quiet lost = record {
     history = at.opened.history;
@@ -75,7 +75,7 @@ module _ {O : Type 0} (link : O → LinkView) (disk : O → DiskView) (bytes : L
   }
 
   -- the input was read, and then the clock, and the pieces were taken, or not
-  pub took : (m y : Wallet O) (input : List ℕ) (moment : ℕ) (out : WalletOut O ℕ) → ((o : O) → IsDisk (disk o)) → y.book.limits ≡ FULL → m.book.time ≡ x.book.time → IsInput MOST_LINES (link x.journal.disk) input (link m.journal.disk)
+  pub took : (m y : WalletView O) (input : List ℕ) (moment : ℕ) (out : WalletOut O ℕ) → ((o : O) → IsDisk (disk o)) → y.book.limits ≡ FULL → m.book.time ≡ x.book.time → IsInput MOST_LINES (link x.journal.disk) input (link m.journal.disk)
       → LinkKeeps (disk x.journal.disk) (disk y.journal.disk) → WalletStands disk y at.opened.history → y.book.time ≡ max m.book.time moment
       → link y.journal.disk ≡ with_readings (link y.journal.disk).readings (link m.journal.disk) → AreRead OfLinks (moment ∷ []) (link m.journal.disk).readings (link y.journal.disk).readings
       → link (outcome_disk out) ≡ link y.journal.disk → Adds disk y at.opened.history (take_entry at.opened.history y.book.time input) TellsCount out

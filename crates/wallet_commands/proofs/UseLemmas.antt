@@ -21,7 +21,7 @@ use Rattle.command_status.specs.declared.status.Status.TheVariants as ends
 use Rattle.wallet_model.specs.Requests.{Pending}
 use Rattle.wallet_model.specs.Asks.{request_bytes}
 use Rattle.wallet_model.specs.Settling.{check_of}
-use Rattle.wallet_core.specs.declared.wallet.Wallet.{Wallet}
+use Rattle.wallet_core.specs.WalletView.{WalletView}
 use Rattle.wallet_core.specs.Wallet.{WalletStands}
 use Rattle.wallet_core.specs.Checking.{IsWritten}
 use Rattle.wallet_commands.specs.declared.saying.Saying.{Saying}
@@ -60,7 +60,7 @@ took_rose u v took = took.ends.1.rose
 
 module _ (k : Saying) {O : Type 0} (link : O → LinkView) (disk : O → DiskView) (h : History) (n : ℕ) (p : Pending) (all : TellsAside link (λ o. (disk o).aside)) where
   -- a reply was read, and then this became of it
-  pub read_reply : (t : ℕ) (r : Received) (x y : Wallet O) (status : Status) (b : O) → WalletStands disk x h → LinkKeeps (disk x.journal.disk) (disk y.journal.disk) → TookReply (link x.journal.disk) (Ok r) (link y.journal.disk)
+  pub read_reply : (t : ℕ) (r : Received) (x y : WalletView O) (status : Status) (b : O) → WalletStands disk x h → LinkKeeps (disk x.journal.disk) (disk y.journal.disk) → TookReply (link x.journal.disk) (Ok r) (link y.journal.disk)
       → EndsReply k link disk h t n p r y.journal.disk status b → ReadsReply k link disk h t n p x.journal.disk status b
   read_reply t r x y status b st keeps took ends' =
       let a : O = x.journal.disk in
@@ -78,7 +78,7 @@ module _ (k : Saying) {O : Type 0} (link : O → LinkView) (disk : O → DiskVie
       }
 
   -- no reply was read, and the request stays kept
-  pub no_reply : (t : ℕ) (fault : ReplyFault) (x y : Wallet O) (status : Status) → WalletStands disk x h → WalletStands disk y h → LinkKeeps (disk x.journal.disk) (disk y.journal.disk) → TookReply (link x.journal.disk) (Err fault) (link y.journal.disk)
+  pub no_reply : (t : ℕ) (fault : ReplyFault) (x y : WalletView O) (status : Status) → WalletStands disk x h → WalletStands disk y h → LinkKeeps (disk x.journal.disk) (disk y.journal.disk) → TookReply (link x.journal.disk) (Err fault) (link y.journal.disk)
       → paying.EndsAs k h t n p (learned_of p (Err fault)) (link y.journal.disk) status (disk y.journal.disk) (link y.journal.disk) → ReadsReply k link disk h t n p x.journal.disk status y.journal.disk
   no_reply t fault x y status st now keeps took ends' = record {
     answer = Err fault;
@@ -126,7 +126,7 @@ module _ (k : Saying) {O : Type 0} (link : O → LinkView) (disk : O → DiskVie
       }
 
   -- no link came
-  pub came_none : (x y : Wallet O) → WalletStands disk x h → WalletStands disk y h → LinkKeeps (disk x.journal.disk) (disk y.journal.disk) → link y.journal.disk ≡ none_left (link x.journal.disk)
+  pub came_none : (x y : WalletView O) → WalletStands disk x h → WalletStands disk y h → LinkKeeps (disk x.journal.disk) (disk y.journal.disk) → link y.journal.disk ≡ none_left (link x.journal.disk)
       → UsesLinkAs k link disk h t n p x.journal.disk (ends.Refused refusals.NoLink) y.journal.disk
   came_none x y st now keeps none = record {
     learned = Stays refusals.NoLink;
@@ -138,7 +138,7 @@ module _ (k : Saying) {O : Type 0} (link : O → LinkView) (disk : O → DiskVie
   }
 
   -- no link could be taken, or the request was not sent whole
-  pub broke : (x y : Wallet O) → WalletStands disk x h → WalletStands disk y h → LinkKeeps (disk x.journal.disk) (disk y.journal.disk) → NoLink (link x.journal.disk) (link y.journal.disk) ⊎ SentPart (request_bytes p) (link x.journal.disk) (link y.journal.disk)
+  pub broke : (x y : WalletView O) → WalletStands disk x h → WalletStands disk y h → LinkKeeps (disk x.journal.disk) (disk y.journal.disk) → NoLink (link x.journal.disk) (link y.journal.disk) ⊎ SentPart (request_bytes p) (link x.journal.disk) (link y.journal.disk)
       → UsesLinkAs k link disk h t n p x.journal.disk ends.LinkFault y.journal.disk
   broke x y st now keeps (inl none) = record {
     learned = Breaks;

@@ -9,7 +9,7 @@ use Rattle.command_status.specs.declared.status.Status.{Status}
 use Rattle.command_status.specs.declared.status.Status.TheVariants as ends
 use Rattle.mc_records.specs.declared.limits.TheConstants.Limits.{FULL}
 use Rattle.wallet_model.specs.Follows.{IsWalletBook}
-use Rattle.wallet_core.specs.declared.wallet.Wallet.{Wallet}
+use Rattle.wallet_core.specs.WalletView.{WalletView}
 use Rattle.wallet_core.specs.Wallet.{WalletStands}
 use Rattle.wallet_core.specs.Opening.{OpenedFor}
 use Rattle.wallet_core.specs.declared.outcome.WalletOut.{WalletOut}
@@ -23,12 +23,12 @@ pub record EncodesEither (d : DiskView) (h : History) (e : Entry) : Type 0 where
   pub lawful : IsWalletBook (h ++ e ∷ [])
 
 -- a book was opened as that of a wallet
-pub record Opened {O : Type 0} (link : O → LinkView) (disk : O → DiskView) (bytes : List ℕ) (a : O) (x : Wallet O) : Type 0 where
+pub record Opened {O : Type 0} (link : O → LinkView) (disk : O → DiskView) (bytes : List ℕ) (a : O) (x : WalletView O) : Type 0 where
   pub opened : OpenedFor disk FULL bytes x
   pub untouched : Untouched link disk a x.journal.disk
 
 -- Where the disk of a wallet tells its bytes, the wallet stands for a history.
-abbrev pub IsKnown : {O : Type 0} → (O → DiskView) → Wallet O → Type 0
+abbrev pub IsKnown : {O : Type 0} → (O → DiskView) → WalletView O → Type 0
 IsKnown disk x = (bytes : List ℕ) → (disk x.journal.disk).contents ≡ Some bytes → (h : History) × WalletStands disk x h
 
 -- ---- crash pairs

@@ -8,7 +8,7 @@ use Rattle.scrip_journal.specs.Rests.{journal_leaves}
 use Rattle.scrip_journal.specs.declared.fault.HouseFault.{HouseFault}
 use Rattle.scrip_journal.specs.Founds.{fault_disk}
 use Rattle.command_status.specs.Faults.{fault_status}
-use Rattle.wallet_core.specs.declared.wallet.Wallet.{Wallet}
+use Rattle.wallet_core.specs.WalletView.{WalletView}
 use Rattle.wallet_core.specs.Wallet.{WalletStands}
 use Rattle.wallet_core.specs.Opening.{OpensWallet}
 use Rattle.wallet_core.specs.OnDisk.{EncodesWallet, Untouched, NotOpened}
@@ -23,7 +23,7 @@ use Rattle.wallet_model.specs.Follows.{wallet_allows, WalletFollows, IsWalletBoo
 use Rattle.scrip_journal.specs.declared.fault.HouseFault.TheVariants as faults
 
 -- a wallet that stands for a history has it on its disk
-pub on_disk : {O : Type 0} (disk : O → DiskView) (x : Wallet O) (h : History) → WalletStands disk x h → EncodesWallet (disk x.journal.disk) h
+pub on_disk : {O : Type 0} (disk : O → DiskView) (x : WalletView O) (h : History) → WalletStands disk x h → EncodesWallet (disk x.journal.disk) h
 on_disk disk x h st = record {
   bytes = st.journal.bytes;
   told = st.journal.told;

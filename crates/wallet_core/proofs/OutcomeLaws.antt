@@ -8,7 +8,7 @@ use Rattle.mc_records.specs.Entry.{Entry}
 use Rattle.ledger_model.specs.Histories.{History}
 use Rattle.wallet_book.specs.Choosing.{IsNoFunds}
 use Rattle.wallet_core.specs.Taking.{IsTakeRefusal}
-use Rattle.wallet_core.specs.declared.wallet.Wallet.{Wallet}
+use Rattle.wallet_core.specs.WalletView.{WalletView}
 use Rattle.wallet_core.specs.declared.outcome.WalletOut.{WalletOut}
 use Rattle.wallet_core.specs.declared.outcome.WalletOut.TheVariants.{Done, Refused, NoMemory, Halted}
 use Rattle.wallet_core.specs.Wallet.{WalletStands}
@@ -16,35 +16,35 @@ use Rattle.wallet_core.specs.Outcomes.{IsAsItWas, Adds, Performs}
 use Rattle.wallet_core.specs.Answers.{TellsOnly, IsFull, MayTake, MayPend}
 use Rattle.wallet_core.proofs.EnterLaws.{ran_nothing}
 
-pub as_it_stood : {D : Type 0} (view : D → DiskView) (x : Wallet D) (h : History) → WalletStands view x h → IsAsItWas view x x h
+pub as_it_stood : {D : Type 0} (view : D → DiskView) (x : WalletView D) (h : History) → WalletStands view x h → IsAsItWas view x x h
 as_it_stood view x h st = record { stands = st; journal' = refl; time' = refl }
 
 -- what is answered is told in other words
-tells_as : {D A : Type 0} (view : D → DiskView) (old : Wallet D) (h : History) (e : Entry) (T U : Entry → A → Type 0) (r : WalletOut D A) → ((a : A) → T e a → U e a) → Adds view old h (Ok e) T r → Adds view old h (Ok e) U r
+tells_as : {D A : Type 0} (view : D → DiskView) (old : WalletView D) (h : History) (e : Entry) (T U : Entry → A → Type 0) (r : WalletOut D A) → ((a : A) → T e a → U e a) → Adds view old h (Ok e) T r → Adds view old h (Ok e) U r
 tells_as view old h e T U (Done x a) so adds = (adds.0, so a adds.1)
 tells_as view old h e T U (Refused x f) so adds = adds
 tells_as view old h e T U (NoMemory x) so adds = adds
 tells_as view old h e T U (Halted d) so adds = adds
 
 -- an entry is what there was to do, and what is answered is told in other words
-pub performs_as : {D A : Type 0} (view : D → DiskView) (old : Wallet D) (h : History) (e : Entry) (todo : Result Entry Refusal) (T U : Entry → A → Type 0) (r : WalletOut D A)
+pub performs_as : {D A : Type 0} (view : D → DiskView) (old : WalletView D) (h : History) (e : Entry) (todo : Result Entry Refusal) (T U : Entry → A → Type 0) (r : WalletOut D A)
     → todo ≡ Ok e → ((a : A) → T e a → U e a) → Performs view old h (Ok e) T r → Performs view old h todo U r
 performs_as view old h e todo T U r is so performs =
     subst (λ (t : Result Entry Refusal). Performs view old h t U r) (sym is) (record { adds = tells_as view old h e T U r so performs.adds; ran = performs.ran })
 
 -- ---- another answer in the place of one
 
-module _ {D A B : Type 0} (view : D → DiskView) (old : Wallet D) (h : History) (e : Entry) (T : Entry → A → Type 0) (U : Entry → B → Type 0) where
+module _ {D A B : Type 0} (view : D → DiskView) (old : WalletView D) (h : History) (e : Entry) (T : Entry → A → Type 0) (U : Entry → B → Type 0) where
   -- the entry was added
-  pub done_so : (x : Wallet D) (a : A) (b : B) → U e b → Performs view old h (Ok e) T (Done x a) → Performs view old h (Ok e) U (Done x b)
+  pub done_so : (x : WalletView D) (a : A) (b : B) → U e b → Performs view old h (Ok e) T (Done x a) → Performs view old h (Ok e) U (Done x b)
   done_so x a b told is = record { adds = (is.adds.0, told); ran = is.ran }
 
   -- it was refused
-  pub refused_so : (x : Wallet D) (f : Refusal) → Performs view old h (Ok e) T (Refused x f) → Performs view old h (Ok e) U (Refused x f)
+  pub refused_so : (x : WalletView D) (f : Refusal) → Performs view old h (Ok e) T (Refused x f) → Performs view old h (Ok e) U (Refused x f)
   refused_so x f is = record { adds = is.adds; ran = is.ran }
 
   -- memory was refused
-  pub wanting_so : (x : Wallet D) → Performs view old h (Ok e) T (NoMemory x) → Performs view old h (Ok e) U (NoMemory x)
+  pub wanting_so : (x : WalletView D) → Performs view old h (Ok e) T (NoMemory x) → Performs view old h (Ok e) U (NoMemory x)
   wanting_so x is = record { adds = is.adds; ran = is.ran }
 
   -- the disk failed
@@ -77,7 +77,7 @@ pub funds_may : (f : Refusal) → IsNoFunds f → MayPend f
 funds_may (NoFunds greatest) is = tt
 funds_may f is = absurd is
 
-module _ {D A : Type 0} (view : D → DiskView) (x : Wallet D) (h : History) (T : Entry → A → Type 0) (disk : IsDisk (view x.journal.disk)) (st : WalletStands view x h) where
+module _ {D A : Type 0} (view : D → DiskView) (x : WalletView D) (h : History) (T : Entry → A → Type 0) (disk : IsDisk (view x.journal.disk)) (st : WalletStands view x h) where
   -- nothing is done, since it is refused
   pub refuses : (todo : Result Entry Refusal) (f : Refusal) → todo ≡ Err f → Performs view x h todo T (Refused x f)
   refuses todo f is =

@@ -14,7 +14,7 @@ use Rattle.scrip_journal.specs.Exits.{EitherNoOutput}
 use Rattle.wallet_model.specs.Follows.{WalletFollows}
 use Rattle.wallet_model.proofs.WrittenLaws.{switch_follows}
 use Rattle.wallet_book.specs.Book.{BookView, WalletRepresents, Learns}
-use Rattle.wallet_core.specs.declared.wallet.Wallet.{Wallet}
+use Rattle.wallet_core.specs.WalletView.{WalletView}
 use Rattle.wallet_core.specs.declared.outcome.WalletOut.{WalletOut}
 use Rattle.wallet_core.specs.declared.outcome.WalletOut.TheVariants.{Done, Refused, Halted}
 use Rattle.wallet_core.specs.Wallet.{WalletStands}
@@ -35,7 +35,7 @@ switch_learned b h t c told same may learns = learned b h (Switch t (chain h)) t
 pub switch_room : {D : Type 0} (view : D → DiskView) (j : AtRest D) (h : History) (t : ℕ) (c : List ℕ) → c ≡ chain h → IsJournal view j (h ++ Switch t (chain h) ∷ []) → size h + entry_size h (Switch t c) ≤ MOST_JOURNAL
 switch_room view j h t c same is = subst (λ (d : List ℕ). size h + entry_size h (Switch t d) ≤ MOST_JOURNAL) (sym same) (has_room view j h (Switch t (chain h)) is)
 
-module _ {D : Type 0} (view : D → DiskView) (x : Wallet D) (h : History) (st : WalletStands view x h) where
+module _ {D : Type 0} (view : D → DiskView) (x : WalletView D) (h : History) (st : WalletStands view x h) where
   -- where one stands nothing is done
   pub switched_already : IsDisk (view x.journal.disk) → x.journal.switched ≡ true → Switches view x h (Done x None)
   switched_already disk stands =
@@ -49,7 +49,7 @@ module _ {D : Type 0} (view : D → DiskView) (x : Wallet D) (h : History) (st :
         let e : Switch t (chain h) ≡ Switch x.book.time (chain h) = ap (λ (k : ℕ). Switch k (chain h)) time in
         subst (λ (b : Bool). SwitchesBy b view x h out) (sym none) (subst (λ (f : Entry). Performs view x h (Ok f) (TellsAdded h) out) e performs)
 
-    pub switch_done : (y : Wallet D) (n : ℕ) → HasAdded view x y h (Switch t (chain h)) → n ≡ length h → Ran (view x.journal.disk) (view y.journal.disk) (EitherNoOutput h (Switch t (chain h)) (view x.journal.disk).aside) → Switches view x h (Done y (Some n))
+    pub switch_done : (y : WalletView D) (n : ℕ) → HasAdded view x y h (Switch t (chain h)) → n ≡ length h → Ran (view x.journal.disk) (view y.journal.disk) (EitherNoOutput h (Switch t (chain h)) (view x.journal.disk).aside) → Switches view x h (Done y (Some n))
     switch_done y n added number ran = switches (Done y (Some n)) (record { adds = (added, ap (λ (k : ℕ). Some k) number); ran = ran })
 
     pub switch_refused : (f : Refusal) → IsDisk (view x.journal.disk) → fitted h x.book.limits (Switch t (chain h)) ≡ Err (Refuse f) → Switches view x h (Refused x f)

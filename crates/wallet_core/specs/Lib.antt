@@ -1,3 +1,4 @@
+pub mod WalletView
 pub mod Wallet
 pub mod First
 pub mod Opening

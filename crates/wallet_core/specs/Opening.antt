@@ -15,26 +15,26 @@ use Rattle.scrip_journal.specs.declared.fault.HouseFault.TheVariants.{NotJournal
 use Rattle.book_opening.specs.Opener.{OpenerView}
 use Rattle.wallet_model.specs.Follows.{WalletFollows}
 use Rattle.wallet_book.specs.Book.{BookView, WalletRepresents}
-use Rattle.wallet_core.specs.declared.wallet.Wallet.{Wallet}
+use Rattle.wallet_core.specs.WalletView.{WalletView}
 use Rattle.wallet_core.specs.declared.opening.WalletOpener.{WalletOpener}
 use Rattle.wallet_core.specs.Wallet.{WalletStands}
 
 -- the disk that comes back, whatever is answered
-abbrev pub wallet_disk : {D : Type 0} → Result (Wallet D) (HouseFault D) → D
+abbrev pub wallet_disk : {D : Type 0} → Result (WalletView D) (HouseFault D) → D
 wallet_disk (Ok x) = x.journal.disk
 wallet_disk (Err f) = fault_disk f
 
 -- ---- founding
 
 -- The wallet stands for this entry alone, at its moment, on a disk that was free.
-pub record FoundedFor {D : Type 0} (view : D → DiskView) (limits : Limits) (e : Entry) (bytes : List ℕ) (x : Wallet D) : Type 0 where
+pub record FoundedFor {D : Type 0} (view : D → DiskView) (limits : Limits) (e : Entry) (bytes : List ℕ) (x : WalletView D) : Type 0 where
   pub free : IsFree bytes
   pub wallet : WalletStands view x (e ∷ [])
   pub time' : x.book.time ≡ moment_of e
   pub limits' : x.book.limits ≡ limits
 
 -- what is answered by the bytes of the disk
-abbrev pub FoundsWalletBy : {D : Type 0} → (D → DiskView) → Limits → Entry → List ℕ → Result (Wallet D) (HouseFault D) → Type 0
+abbrev pub FoundsWalletBy : {D : Type 0} → (D → DiskView) → Limits → Entry → List ℕ → Result (WalletView D) (HouseFault D) → Type 0
 FoundsWalletBy view limits e bytes (Ok x) = FoundedFor view limits e bytes x
 FoundsWalletBy view limits e bytes (Err (NotEmpty d count)) = IsTaken bytes count
 FoundsWalletBy view limits e bytes (Err (Disk d)) = Unit {0}
@@ -44,7 +44,7 @@ FoundsWalletBy view limits e bytes (Err _) = ⊥
 -- ---- opening
 
 -- The bytes encode a history, and the wallet stands for it, at the time of the history.
-pub record OpenedFor {D : Type 0} (view : D → DiskView) (limits : Limits) (bytes : List ℕ) (x : Wallet D) : Type 0 where
+pub record OpenedFor {D : Type 0} (view : D → DiskView) (limits : Limits) (bytes : List ℕ) (x : WalletView D) : Type 0 where
   pub history : History
   pub of_bytes : Encodes history bytes
   pub wallet : WalletStands view x history
@@ -52,7 +52,7 @@ pub record OpenedFor {D : Type 0} (view : D → DiskView) (limits : Limits) (byt
   pub limits' : x.book.limits ≡ limits
 
 -- what is answered by the bytes of the disk
-abbrev pub OpensWallet : {D : Type 0} → (D → DiskView) → Limits → List ℕ → Result (Wallet D) (HouseFault D) → Type 0
+abbrev pub OpensWallet : {D : Type 0} → (D → DiskView) → Limits → List ℕ → Result (WalletView D) (HouseFault D) → Type 0
 OpensWallet view limits bytes (Ok x) = OpenedFor view limits bytes x
 OpensWallet view limits bytes (Err (NotJournal d)) = BeginsWith header bytes → ⊥
 OpensWallet view limits bytes (Err (BadRecord d place)) = SpoilsAt WalletFollows (Only 2) bytes place

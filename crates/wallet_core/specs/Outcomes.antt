@@ -10,7 +10,7 @@ use Rattle.ledger_model.specs.Answer.{fitted}
 use Rattle.scrip_journal.specs.Exits.{EncodesNoOutput, EitherNoOutput}
 use Rattle.wallet_model.specs.Follows.{WalletFollows}
 use Rattle.wallet_book.specs.Book.{IsSameBook}
-use Rattle.wallet_core.specs.declared.wallet.Wallet.{Wallet}
+use Rattle.wallet_core.specs.WalletView.{WalletView}
 use Rattle.wallet_core.specs.declared.outcome.WalletOut.{WalletOut}
 use Rattle.wallet_core.specs.declared.outcome.WalletOut.TheVariants.{Done, Refused, NoMemory, Halted}
 use Rattle.wallet_core.specs.Wallet.{WalletStands}
@@ -23,7 +23,7 @@ outcome_disk (NoMemory x) = x.journal.disk
 outcome_disk (Halted d) = d
 
 -- P of the wallet that comes back, where one does
-abbrev pub OfWallet : {D A : Type 0} → (Wallet D → Type 0) → WalletOut D A → Type 0
+abbrev pub OfWallet : {D A : Type 0} → (WalletView D → Type 0) → WalletOut D A → Type 0
 OfWallet P (Done x a) = P x
 OfWallet P (Refused x f) = P x
 OfWallet P (NoMemory x) = P x
@@ -35,12 +35,12 @@ CountsFaults (Halted d) before after = Rose before after
 CountsFaults _ before after = after ≡ before
 
 -- The wallet is the one that was given: its journal, its time and all that it has learned. Room may have been made.
-pub record IsUnchanged {D : Type 0} (old x : Wallet D) : Type 0 where
+pub record IsUnchanged {D : Type 0} (old x : WalletView D) : Type 0 where
   pub journal' : x.journal ≡ old.journal
   pub book' : IsSameBook old.book x.book
 
 -- a wallet that is refused something, by a rule or for want of memory, is unchanged
-abbrev pub StaysUnchanged : {D A : Type 0} → Wallet D → WalletOut D A → Type 0
+abbrev pub StaysUnchanged : {D A : Type 0} → WalletView D → WalletOut D A → Type 0
 StaysUnchanged old (Refused x f) = IsUnchanged old x
 StaysUnchanged old (NoMemory x) = IsUnchanged old x
 StaysUnchanged old _ = Unit {0}
@@ -48,7 +48,7 @@ StaysUnchanged old _ = Unit {0}
 -- What each call that may write an entry hands back, whatever the disk tells: the wallet with its limits, unchanged
 -- where nothing was written, or the disk where that failed. Calls of Disk alone led there, and the count of faults rose
 -- exactly where the wallet halted.
-pub record HandsBack {D A : Type 0} (view : D → DiskView) (moved : D → D → Type 0) (old : Wallet D) (result : WalletOut D A) : Type 0 where
+pub record HandsBack {D A : Type 0} (view : D → DiskView) (moved : D → D → Type 0) (old : WalletView D) (result : WalletOut D A) : Type 0 where
   pub moved' : moved old.journal.disk (outcome_disk result)
   pub limits : OfWallet (λ x. x.book.limits ≡ old.book.limits) result
   pub counts : CountsFaults result (view old.journal.disk).faults (view (outcome_disk result)).faults
@@ -57,19 +57,19 @@ pub record HandsBack {D A : Type 0} (view : D → DiskView) (moved : D → D →
 -- ---- what was done
 
 -- The wallet is as it was: its journal was not touched, and it stands for the history at the same time.
-pub record IsAsItWas {D : Type 0} (view : D → DiskView) (old x : Wallet D) (h : History) : Type 0 where
+pub record IsAsItWas {D : Type 0} (view : D → DiskView) (old x : WalletView D) (h : History) : Type 0 where
   pub stands : WalletStands view x h
   pub journal' : x.journal ≡ old.journal
   pub time' : x.book.time ≡ old.book.time
 
 -- The entry fitted, is on the disk and is learned, and the time is the same.
-pub record HasAdded {D : Type 0} (view : D → DiskView) (old x : Wallet D) (h : History) (e : Entry) : Type 0 where
+pub record HasAdded {D : Type 0} (view : D → DiskView) (old x : WalletView D) (h : History) (e : Entry) : Type 0 where
   pub fits : fitted h old.book.limits e ≡ Ok e
   pub stands : WalletStands view x (h ++ e ∷ [])
   pub time' : x.book.time ≡ old.book.time
 
 -- The entry fitted and may follow, and the disk failed while it was written.
-pub record IsInDoubt {D : Type 0} (view : D → DiskView) (old : Wallet D) (d : D) (h : History) (e : Entry) : Type 0 where
+pub record IsInDoubt {D : Type 0} (view : D → DiskView) (old : WalletView D) (d : D) (h : History) (e : Entry) : Type 0 where
   pub fits : fitted h old.book.limits e ≡ Ok e
   pub follows : WalletFollows h e
   pub rose : Rose (view old.journal.disk).faults (view d).faults
@@ -77,7 +77,7 @@ pub record IsInDoubt {D : Type 0} (view : D → DiskView) (old : Wallet D) (d : 
 -- Of an entry that is to be added to a history, or of a refusal in its place: the entry was added, and `Tells` holds
 -- of it and of what is answered; or it does not fit the journal (33), or it is refused so, or memory was refused, and
 -- the wallet is as it was; or the disk failed.
-abbrev pub Adds : {D A : Type 0} → (D → DiskView) → Wallet D → History → Result Entry Refusal → (Entry → A → Type 0) → WalletOut D A → Type 0
+abbrev pub Adds : {D A : Type 0} → (D → DiskView) → WalletView D → History → Result Entry Refusal → (Entry → A → Type 0) → WalletOut D A → Type 0
 Adds view old h (Ok e) Tells (Done x a) = HasAdded view old x h e × Tells e a
 Adds view old h (Ok e) Tells (Refused x f) = (fitted h old.book.limits e ≡ Err (lines.Refuse f)) × IsAsItWas view old x h
 Adds view old h (Ok e) Tells (NoMemory x) = IsAsItWas view old x h
@@ -94,6 +94,6 @@ LeavesBy (Ok e) (Halted d) h aside c s = EitherNoOutput h e aside c s
 LeavesBy _ _ h aside c s = EncodesNoOutput h aside c s
 
 -- what a history asks to be added was added, or not, as told, and a crash in the call left what it may
-pub record Performs {D A : Type 0} (view : D → DiskView) (old : Wallet D) (h : History) (todo : Result Entry Refusal) (Tells : Entry → A → Type 0) (result : WalletOut D A) : Type 0 where
+pub record Performs {D A : Type 0} (view : D → DiskView) (old : WalletView D) (h : History) (todo : Result Entry Refusal) (Tells : Entry → A → Type 0) (result : WalletOut D A) : Type 0 where
   pub adds : Adds view old h todo Tells result
   pub ran : Ran (view old.journal.disk) (view (outcome_disk result)) (LeavesBy todo result h (view old.journal.disk).aside)

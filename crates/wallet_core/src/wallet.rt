@@ -21,15 +21,24 @@ use mc_records::{Limits, Refusal};
 use scrip_form::{Name, Target};
 use scrip_journal::Journal;
 use std::alloc::Global;
+use std::marker::Model;
 use wallet_book::{Holding, WalletBook};
 
 /// A wallet over a journal that it owns and never lends. It is handed back by each call that writes an entry,
-/// unless the disk fails in that call.
+/// unless the disk fails in that call. Contracts see it as the record `WalletView`.
 pub struct Wallet<D> {
     /// Where its memory comes from.
     pub(crate) alloc: Global,
     pub(crate) journal: Journal<D>,
     pub(crate) book: WalletBook,
+}
+
+impl<D> Model for Wallet<D> {
+    ghost use Rattle.wallet_core.specs.WalletView.{WalletView};
+
+    ghost Value = { WalletView D };
+
+    ghost view = { λ w. record { journal = w.journal; book = w.book } };
 }
 
 impl<D: Disk> Wallet<D> {

@@ -13,7 +13,7 @@ use Rattle.millicent_http.proofs.AsideLemmas.{TellsAside, SentNoMore}
 use Rattle.millicent_http.specs.declared.item.After.{After}
 use Rattle.millicent_http.specs.Steps.{Did}
 use Rattle.wallet_book.specs.Book.{BookView}
-use Rattle.wallet_core.specs.declared.wallet.Wallet.{Wallet}
+use Rattle.wallet_core.specs.WalletView.{WalletView}
 use Rattle.wallet_core.specs.Wallet.{WalletStands}
 use Rattle.wallet_core.specs.Rests.{WalletRests, wallet_keeps}
 use Rattle.link_turns.specs.declared.turn.Turn.{Turn}
@@ -33,7 +33,7 @@ module _ {O : Type 0} (link : O → LinkView) (disk : O → DiskView) (all : Tel
   state_leaves x s st c l = journal_leaves disk x.wallet.journal s.history st.book.journal c l
 
   -- what links do leaves it
-  pub stands_kept : (x y : Wallet O) (paid : ℕ) (up : LinkView) (s : ProxyState) → LinkKeeps (disk x.journal.disk) (disk y.journal.disk) → WalletRests x y → StandsAt disk budget (now x paid up) s → StandsAt disk budget (now y paid up) s
+  pub stands_kept : (x y : WalletView O) (paid : ℕ) (up : LinkView) (s : ProxyState) → LinkKeeps (disk x.journal.disk) (disk y.journal.disk) → WalletRests x y → StandsAt disk budget (now x paid up) s → StandsAt disk budget (now y paid up) s
   stands_kept x y paid up s keeps rests st = record {
     book = wallet_keeps disk x y s.history st.book keeps rests;
     time' = ap (λ (b : BookView). b.time) rests.book ∙ st.time';
@@ -44,7 +44,7 @@ module _ {O : Type 0} (link : O → LinkView) (disk : O → DiskView) (all : Tel
 
   module _ (Does : Told → ProxyState → Type 0) (Doubts : List Entry → Entry → LinkView → Type 0) (after : After) where
     -- something was told, when all that it speaks of was there
-    pub answers_told : (x y : Wallet O) (turn : Turn) (s t : ProxyState) (told : Told) (paid : ℕ) (up : LinkView) → IsLink (link x.journal.disk) → IsTrue (link x.journal.disk).stands → StandsAt disk budget (now x paid up) t
+    pub answers_told : (x y : WalletView O) (turn : Turn) (s t : ProxyState) (told : Told) (paid : ℕ) (up : LinkView) → IsLink (link x.journal.disk) → IsTrue (link x.journal.disk).stands → StandsAt disk budget (now x paid up) t
         → LinkKeeps (disk x.journal.disk) (disk y.journal.disk) → LinkGoes (link x.journal.disk) (link y.journal.disk) → WalletRests x y → Does told t
         → (part : List ℕ) × Sent after (told_reply s.time told) turn part (link x.journal.disk) (link y.journal.disk) → Answers link disk budget Does Doubts after x.journal.disk s paid up (Ok (y, turn))
     answers_told x y turn s t told paid up is on st keeps goes rests does sent =
@@ -58,7 +58,7 @@ module _ {O : Type 0} (link : O → LinkView) (disk : O → DiskView) (all : Tel
         )
 
     -- an entry was written before, from another state
-    pub answers_written : (Doubts' : List Entry → Entry → LinkView → Type 0) (a b : O) (s u : ProxyState) (e : Entry) (paid : ℕ) (up : LinkView) (r : Result (Wallet O × Turn) O) → u.history ≡ s.history ++ e ∷ [] → u.time ≡ s.time
+    pub answers_written : (Doubts' : List Entry → Entry → LinkView → Type 0) (a b : O) (s u : ProxyState) (e : Entry) (paid : ℕ) (up : LinkView) (r : Result (WalletView O × Turn) O) → u.history ≡ s.history ++ e ∷ [] → u.time ≡ s.time
         → ((told : Told) (t : ProxyState) → Does told t → (others : List Entry) × (t.history ≡ u.history ++ others)) → ((added : List Entry) (f : Entry) (v : LinkView) → Doubts' added f v → Doubts (e ∷ added) f v)
         → Ran (disk a) (disk b) (EitherNoOutput s.history e (disk a).aside) → (disk b).aside ≡ (disk a).aside → (disk b).faults ≡ (disk a).faults → link b ≡ link a
         → Answers link disk budget Does Doubts' after b u paid up r → Answers link disk budget Does Doubts after a s paid up r
@@ -95,7 +95,7 @@ module _ {O : Type 0} (link : O → LinkView) (disk : O → DiskView) (all : Tel
     )
 
   -- the same in other words, from another state with the same history and time
-  pub answers_as : (Does Does' : Told → ProxyState → Type 0) (Doubts Doubts' : List Entry → Entry → LinkView → Type 0) (after : After) (a : O) (s t : ProxyState) (paid : ℕ) (up : LinkView) (r : Result (Wallet O × Turn) O) → s.history ≡ t.history → s.time ≡ t.time
+  pub answers_as : (Does Does' : Told → ProxyState → Type 0) (Doubts Doubts' : List Entry → Entry → LinkView → Type 0) (after : After) (a : O) (s t : ProxyState) (paid : ℕ) (up : LinkView) (r : Result (WalletView O × Turn) O) → s.history ≡ t.history → s.time ≡ t.time
       → ((told : Told) (u : ProxyState) → Does' told u → Does told u) → ((added : List Entry) (f : Entry) → Doubts' added f up → Doubts added f up)
       → Answers link disk budget Does' Doubts' after a t paid up r → Answers link disk budget Does Doubts after a s paid up r
   answers_as Does Does' Doubts Doubts' after a s t paid up (Ok r) same time so doubt answers = (

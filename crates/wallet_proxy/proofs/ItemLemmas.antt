@@ -26,7 +26,7 @@ use Rattle.millicent_http.specs.Courses.{AreRead, with_readings}
 use Rattle.wallet_model.specs.Requests.{kept_get}
 use Rattle.wallet_model.specs.Asks.{chosen}
 use Rattle.wallet_book.specs.Book.{BookView}
-use Rattle.wallet_core.specs.declared.wallet.Wallet.{Wallet}
+use Rattle.wallet_core.specs.WalletView.{WalletView}
 use Rattle.wallet_core.specs.Wallet.{WalletStands}
 use Rattle.wallet_core.specs.Rests.{WalletRests, wallet_keeps}
 use Rattle.link_turns.specs.declared.turn.Turn.{Turn}
@@ -55,7 +55,7 @@ payment_not b s q is = rw is refl
 -- ---- a reading of the clock
 
 -- A wallet was raised to a reading of the clock.
-pub record RaisedBy {O : Type 0} (link : O → LinkView) (disk : O → DiskView) (x y : Wallet O) (reading : ℕ) : Type 0 where
+pub record RaisedBy {O : Type 0} (link : O → LinkView) (disk : O → DiskView) (x y : WalletView O) (reading : ℕ) : Type 0 where
   pub keeps : LinkKeeps (disk x.journal.disk) (disk y.journal.disk)
   pub goes : LinkGoes (link x.journal.disk) (link y.journal.disk)
   pub stands : (h : History) → WalletStands disk x h → WalletStands disk y h
@@ -64,10 +64,10 @@ pub record RaisedBy {O : Type 0} (link : O → LinkView) (disk : O → DiskView)
   pub read : AreRead OfLinks (reading ∷ []) (link x.journal.disk).readings (link y.journal.disk).readings
 
 module _ {O : Type 0} (link : O → LinkView) (disk : O → DiskView) (all : TellsAside link (λ o. (disk o).aside)) (b : Bounds) where
-  stood : (x : Wallet O) (h : History) (paid : ℕ) (up : LinkView) → WalletStands disk x h → paid ≤ b.budget → StandsAt disk b.budget (now x paid up) (state_at h (now x paid up))
+  stood : (x : WalletView O) (h : History) (paid : ℕ) (up : LinkView) → WalletStands disk x h → paid ≤ b.budget → StandsAt disk b.budget (now x paid up) (state_at h (now x paid up))
   stood x h paid up st few = record { book = st; time' = refl; paid' = refl; up' = refl; within = few }
 
-  module _ (x y : Wallet O) (reading : ℕ) (h : History) (paid : ℕ) (up : LinkView) (was : RaisedBy link disk x y reading) (st : WalletStands disk x h) (few : paid ≤ b.budget) where
+  module _ (x y : WalletView O) (reading : ℕ) (h : History) (paid : ℕ) (up : LinkView) (was : RaisedBy link disk x y reading) (st : WalletStands disk x h) (few : paid ≤ b.budget) where
     abbrev pub s : ProxyState
     s = state_at h (now x paid up)
 
@@ -90,7 +90,7 @@ module _ {O : Type 0} (link : O → LinkView) (disk : O → DiskView) (all : Tel
         (stood y h paid up (was.stands h st) few) (no_more_still (link x.journal.disk) (link y.journal.disk) sessions)) went)
 
     -- a request was answered
-    pub request_answered : (q : Asked) (after : After) (now_paid : ℕ) (now_up : LinkView) (r : Result (Wallet O × Turn) O)
+    pub request_answered : (q : Asked) (after : After) (now_paid : ℕ) (now_up : LinkView) (r : Result (WalletView O × Turn) O)
         → Answers link disk b.budget (PaysBy b t q.target (payment_for b t q)) (DoubtsBy b t q.target (payment_for b t q)) after y.journal.disk t now_paid now_up r
         → AnswersRequest link disk b q after x.journal.disk s now_paid now_up r
     request_answered q after now_paid now_up (Ok r) answers =
@@ -120,7 +120,7 @@ module _ {O : Type 0} (link : O → LinkView) (disk : O → DiskView) (all : Tel
         )
 
     -- a head was refused
-    pub head_answered : (f : Refusal) (after : After) (z : Wallet O) (turn : Turn) → Answers link disk b.budget (λ told u. (told ≡ refusal f) × (u ≡ t)) (λ added e v. ⊥) after y.journal.disk t paid up (Ok (z, turn))
+    pub head_answered : (f : Refusal) (after : After) (z : WalletView O) (turn : Turn) → Answers link disk b.budget (λ told u. (told ≡ refusal f) × (u ≡ t)) (λ added e v. ⊥) after y.journal.disk t paid up (Ok (z, turn))
         → RefusesHead link disk b f after x.journal.disk s paid up (z, turn)
     head_answered f after z turn answers =
         let step : Did ProxyState = answers.0 in
@@ -134,7 +134,7 @@ module _ {O : Type 0} (link : O → LinkView) (disk : O → DiskView) (all : Tel
   -- ---- a turn
 
   -- the wallet as a reader of heads left it
-  module _ (x y : Wallet O) (h : History) (paid : ℕ) (up : LinkView) (keeps : LinkKeeps (disk x.journal.disk) (disk y.journal.disk)) (goes : LinkGoes (link x.journal.disk) (link y.journal.disk)) (rests : WalletRests x y) (st : WalletStands disk x h) (few : paid ≤ b.budget) where
+  module _ (x y : WalletView O) (h : History) (paid : ℕ) (up : LinkView) (keeps : LinkKeeps (disk x.journal.disk) (disk y.journal.disk)) (goes : LinkGoes (link x.journal.disk) (link y.journal.disk)) (rests : WalletRests x y) (st : WalletStands disk x h) (few : paid ≤ b.budget) where
     abbrev pub before : ProxyState
     before = state_at h (now x paid up)
 
@@ -146,7 +146,7 @@ module _ {O : Type 0} (link : O → LinkView) (disk : O → DiskView) (all : Tel
         went_quiet link disk out_of (StandsAt disk b.budget) history_of (state_leaves link disk all b.budget) all (now x paid up) (now y paid up) before before refl (stood x h paid up st few) keeps goes
         (record { book = wallet_keeps disk x y h st keeps rests; time' = ap (λ (k : BookView). k.time) rests.book; paid' = refl; up' = refl; within = few }) quiet
 
-    item_turns : (item : Bool → Item) (after : After) (old new : Held) (turn : Turn) (more : List ℕ) (closing : Bool) (z : Wallet O) (now_paid : ℕ) (now_up : LinkView) → TookItem (with_more old more).bytes old.given (item closing) after new
+    item_turns : (item : Bool → Item) (after : After) (old new : Held) (turn : Turn) (more : List ℕ) (closing : Bool) (z : WalletView O) (now_paid : ℕ) (now_up : LinkView) → TookItem (with_more old more).bytes old.given (item closing) after new
         → link y.journal.disk ≡ after_recv more (link x.journal.disk)
         → (step : Did ProxyState) × Went link disk b.budget y.journal.disk (state_at h (now y paid up)) (step ∷ []) (now z now_paid now_up) × ((closes : Bool) → AnsweredItem (ProxyStep b) OfLinks (item closes) after turn step (state_at h (now y paid up)) (link y.journal.disk) (link z.journal.disk))
         → TurnsProxy link disk b x.journal.disk before now_paid now_up old new (Ok (z, turn))
@@ -161,7 +161,7 @@ module _ {O : Type 0} (link : O → LinkView) (disk : O → DiskView) (all : Tel
           item_turned (ProxyStep b) OfLinks turn step before old (link x.journal.disk) (link y.journal.disk) more (item closing) after new (link z.journal.disk) took came answered,
         )
 
-    pub head_turns : (q : Request) (after : After) (old new : Held) (out : HeadOut) (now_paid : ℕ) (now_up : LinkView) (r : Result (Wallet O × Turn) O) → Took old (link x.journal.disk) out new (link y.journal.disk) → out ≡ outs.Head q after
+    pub head_turns : (q : Request) (after : After) (old new : Held) (out : HeadOut) (now_paid : ℕ) (now_up : LinkView) (r : Result (WalletView O × Turn) O) → Took old (link x.journal.disk) out new (link y.journal.disk) → out ≡ outs.Head q after
         → AnswersRequest link disk b (asked_of q) after y.journal.disk (state_at h (now y paid up)) now_paid now_up r → TurnsProxy link disk b x.journal.disk before now_paid now_up old new r
     head_turns q after old new out now_paid now_up (Ok r) took is did =
         let leads = leads_so old (link x.journal.disk) out (outs.Head q after) new (link y.journal.disk) took is in
@@ -185,7 +185,7 @@ module _ {O : Type 0} (link : O → LinkView) (disk : O → DiskView) (all : Tel
           },
         )
 
-    pub refused_turns : (f : HeadRefusal) (after : After) (old new : Held) (out : HeadOut) (r : Wallet O × Turn) → Took old (link x.journal.disk) out new (link y.journal.disk) → out ≡ outs.Refused f after
+    pub refused_turns : (f : HeadRefusal) (after : After) (old new : Held) (out : HeadOut) (r : WalletView O × Turn) → Took old (link x.journal.disk) out new (link y.journal.disk) → out ≡ outs.Refused f after
         → RefusesHead link disk b (as_refusal f) after y.journal.disk (state_at h (now y paid up)) paid up r → TurnsProxy link disk b x.journal.disk before paid up old new (Ok r)
     refused_turns f after old new out r took is did =
         let leads = leads_so old (link x.journal.disk) out (outs.Refused f after) new (link y.journal.disk) took is in

@@ -16,7 +16,7 @@ use Rattle.millicent_http.specs.declared.clock.Clock.TheVariants.{OfLinks}
 use Rattle.millicent_http.specs.Steps.{Did, sent_of, state_after}
 use Rattle.millicent_http.specs.Courses.{ServedAll, ServedSome}
 use Rattle.command_status.specs.Faults.{fault_status}
-use Rattle.wallet_core.specs.declared.wallet.Wallet.{Wallet}
+use Rattle.wallet_core.specs.WalletView.{WalletView}
 use Rattle.wallet_core.specs.Wallet.{WalletStands}
 use Rattle.wallet_core.specs.Opening.{OpenedFor}
 use Rattle.wallet_core.specs.OnDisk.{Untouched}
@@ -65,10 +65,10 @@ read_then_moved tells a b c s steps read moved =
     (subst (λ (l : List ℕ). Ran b c (λ i x. (a.leaves i × (x ≡ a.aside)) ⊎ InOrder history_of tells s l steps i x)) read.aside (ran_weaker b c _ _ moved.ran (λ i x o. inr o)))
 
 -- the state of the wallet that was opened
-encodes_state : {O : Type 0} (disk : O → DiskView) (bytes : List ℕ) (x : Wallet O) (up : LinkView) (at : OpenedFor disk FULL bytes x) → EncodesState bytes up (state_at at.history (now x 0 up))
+encodes_state : {O : Type 0} (disk : O → DiskView) (bytes : List ℕ) (x : WalletView O) (up : LinkView) (at : OpenedFor disk FULL bytes x) → EncodesState bytes up (state_at at.history (now x 0 up))
 encodes_state disk bytes x up at = record { stands = at.of_bytes; lawful = at.wallet.book.lawful; time' = at.time'; nothing = refl; up' = refl }
 
-proxied_from : {O : Type 0} (link : O → LinkView) (disk : O → DiskView) (bounds : Bounds) (bytes : List ℕ) (a : O) (x y : Wallet O) (paid : ℕ) (up now_up : LinkView) (steps : List (Did ProxyState)) (at : OpenedFor disk FULL bytes x)
+proxied_from : {O : Type 0} (link : O → LinkView) (disk : O → DiskView) (bounds : Bounds) (bytes : List ℕ) (a : O) (x y : WalletView O) (paid : ℕ) (up now_up : LinkView) (steps : List (Did ProxyState)) (at : OpenedFor disk FULL bytes x)
     → OnlyRead (disk a) (disk x.journal.disk) → link x.journal.disk ≡ link a → Went link disk bounds.budget x.journal.disk (state_at at.history (now x 0 up)) steps (now y paid now_up)
     → ProxiedFrom link disk bounds.budget bytes a y.journal.disk up now_up (state_at at.history (now x 0 up)) steps
 proxied_from link disk bounds bytes a x y paid up now_up steps at read same went =
@@ -83,7 +83,7 @@ proxied_from link disk bounds bytes a x y paid up now_up steps at read same went
     }
 
 -- the book of the wallet that was opened is served
-pub proxies_book : {O : Type 0} (link : O → LinkView) (disk : O → DiskView) (vendor : List ℕ) (limit budget links : ℕ) (bytes : List ℕ) (a : O) (x : Wallet O) (up now_up : LinkView) (out : ProxyOut O)
+pub proxies_book : {O : Type 0} (link : O → LinkView) (disk : O → DiskView) (vendor : List ℕ) (limit budget links : ℕ) (bytes : List ℕ) (a : O) (x : WalletView O) (up now_up : LinkView) (out : ProxyOut O)
     (at : OpenedFor disk FULL bytes x) → OnlyRead (disk a) (disk x.journal.disk) → (disk x.journal.disk).faults ≡ (disk a).faults → link x.journal.disk ≡ link a
     → ((h : History) → WalletStands disk x h → ServesLinks link disk (record { vendor = vendor; limit = limit; budget = budget; limits = x.book.limits }) links x.journal.disk (state_at h (now x 0 up)) now_up out)
     → ProxiesLinksOf link disk (record { vendor = vendor; limit = limit; budget = budget; limits = FULL }) links bytes a up (proxied_status out) now_up (proxied_outside out)

@@ -17,7 +17,7 @@ use Rattle.millicent_http.specs.declared.clock.Clock.TheVariants.{OfLinks}
 use Rattle.millicent_http.specs.Steps.{Did, sent_of, state_after}
 use Rattle.millicent_http.specs.Courses.{AreRead, with_readings, Replied, AreFirst, HadLink, HadLinks, NoLink, ServedAll, ServedSome}
 use Rattle.millicent_http.specs.Received.{Received}
-use Rattle.wallet_core.specs.declared.wallet.Wallet.{Wallet}
+use Rattle.wallet_core.specs.WalletView.{WalletView}
 use Rattle.wallet_core.specs.Wallet.{WalletStands}
 use Rattle.link_turns.specs.declared.turn.Turn.{Turn}
 use Rattle.link_turns.specs.Sending.{Sends, KeptCounts, TakesNoLink}
@@ -33,14 +33,14 @@ use Rattle.wallet_proxy.specs.Proxy.{ProxyState, history_of, Bounds, Payment, pa
 
 -- a wallet, what was paid so far, and the links to the vendor
 pub record Now (O : Type 0) : Type 0 where
-  pub wallet : Wallet O
+  pub wallet : WalletView O
   pub paid : ℕ
   pub up : LinkView
 
 abbrev pub out_of : {O : Type 0} → Now O → O
 out_of x = x.wallet.journal.disk
 
-abbrev pub now : {O : Type 0} → Wallet O → ℕ → LinkView → Now O
+abbrev pub now : {O : Type 0} → WalletView O → ℕ → LinkView → Now O
 now wallet paid up = record { wallet = wallet; paid = paid; up = up }
 
 -- It is in this state, and has not paid more than it may.
@@ -66,7 +66,7 @@ Went link disk budget a s steps x = WentBy link disk out_of (StandsAt disk budge
 
 -- At the time of the state something was told, by which the state became that of the wallet that comes back; its reply was sent, or
 -- not the whole of it. Or the disk failed, and it was told so.
-abbrev pub Answers : {O : Type 0} → (O → LinkView) → (O → DiskView) → ℕ → (Told → ProxyState → Type 0) → (List Entry → Entry → LinkView → Type 0) → After → O → ProxyState → ℕ → LinkView → Result (Wallet O × Turn) O → Type 0
+abbrev pub Answers : {O : Type 0} → (O → LinkView) → (O → DiskView) → ℕ → (Told → ProxyState → Type 0) → (List Entry → Entry → LinkView → Type 0) → After → O → ProxyState → ℕ → LinkView → Result (WalletView O × Turn) O → Type 0
 Answers link disk budget Does Doubts after a s paid up (Ok r) =
     (step : Did ProxyState) × (told : Told) × Went link disk budget a s (step ∷ []) (now r.0 paid up) × Does told step.after
     × Sent after (told_reply s.time told) r.1 step.sent (link a) (link r.0.journal.disk)
@@ -88,14 +88,14 @@ pub record RequestInDoubt (b : Bounds) (q : Asked) (s : ProxyState) (added : Lis
   pub sent : Sends (told_reply (raised s reading).time (refusal DiskFault)) said (with_readings after.readings before) after
 
 -- one request that was taken
-abbrev pub AnswersRequest : {O : Type 0} → (O → LinkView) → (O → DiskView) → Bounds → Asked → After → O → ProxyState → ℕ → LinkView → Result (Wallet O × Turn) O → Type 0
+abbrev pub AnswersRequest : {O : Type 0} → (O → LinkView) → (O → DiskView) → Bounds → Asked → After → O → ProxyState → ℕ → LinkView → Result (WalletView O × Turn) O → Type 0
 AnswersRequest link disk b q after a s paid up (Ok r) =
     (step : Did ProxyState) × Went link disk b.budget a s (step ∷ []) (now r.0 paid up) × ((closes : Bool) → AnsweredItem (ProxyStep b) OfLinks (request q closes) after r.1 step s (link a) (link r.0.journal.disk))
 AnswersRequest link disk b q after a s paid up (Err d) =
     (added : List Entry) × (e : Entry) × (said : List ℕ) × HaltsAt link disk a s.history added e said d × RequestInDoubt b q s added e up said (link a) (link d)
 
 -- one head that was refused
-abbrev pub RefusesHead : {O : Type 0} → (O → LinkView) → (O → DiskView) → Bounds → Refusal → After → O → ProxyState → ℕ → LinkView → Wallet O × Turn → Type 0
+abbrev pub RefusesHead : {O : Type 0} → (O → LinkView) → (O → DiskView) → Bounds → Refusal → After → O → ProxyState → ℕ → LinkView → WalletView O × Turn → Type 0
 RefusesHead link disk b f after a s paid up r =
     (step : Did ProxyState) × Went link disk b.budget a s (step ∷ []) (now r.0 paid up) × ((closes : Bool) → AnsweredItem (ProxyStep b) OfLinks (refused f closes) after r.1 step s (link a) (link r.0.journal.disk))
 
@@ -137,21 +137,21 @@ pub record InDoubtLinks (b : Bounds) (links : ℕ) (steps : List (Did ProxyState
   pub ended : after ≡ record stopped { stands = false }
 
 -- one turn
-abbrev pub TurnsProxy : {O : Type 0} → (O → LinkView) → (O → DiskView) → Bounds → O → ProxyState → ℕ → LinkView → Held → Held → Result (Wallet O × Turn) O → Type 0
+abbrev pub TurnsProxy : {O : Type 0} → (O → LinkView) → (O → DiskView) → Bounds → O → ProxyState → ℕ → LinkView → Held → Held → Result (WalletView O × Turn) O → Type 0
 TurnsProxy link disk b a s paid up old new (Ok r) =
     (steps : List (Did ProxyState)) × Went link disk b.budget a s steps (now r.0 paid up) × Turned (ProxyStep b) OfLinks r.1 steps s old (link a) new (link r.0.journal.disk)
 TurnsProxy link disk b a s paid up old new (Err d) =
     (added : List Entry) × (e : Entry) × (said : List ℕ) × HaltsAt link disk a s.history added e said d × InDoubtTurn b s old (link a) added e up said (link d)
 
 -- the turns of a link
-abbrev pub EndsTurns : {O : Type 0} → (O → LinkView) → (O → DiskView) → Bounds → O → ProxyState → ℕ → LinkView → Result (Wallet O × Turn) O → Type 0
+abbrev pub EndsTurns : {O : Type 0} → (O → LinkView) → (O → DiskView) → Bounds → O → ProxyState → ℕ → LinkView → Result (WalletView O × Turn) O → Type 0
 EndsTurns link disk b a s paid up (Ok r) =
     (steps : List (Did ProxyState)) × Went link disk b.budget a s steps (now r.0 paid up) × Ended (ProxyStep b) OfLinks r.1 steps s (link a) (link r.0.journal.disk)
 EndsTurns link disk b a s paid up (Err d) =
     (steps : List (Did ProxyState)) × (added : List Entry) × (e : Entry) × (said : List ℕ) × HaltedBy link disk history_of a s steps added e said d × InDoubtLink b steps s (link a) added e up said (link d)
 
 -- a link
-abbrev pub ServesLink : {O : Type 0} → (O → LinkView) → (O → DiskView) → Bounds → O → ProxyState → ℕ → LinkView → Result (Wallet O) O → Type 0
+abbrev pub ServesLink : {O : Type 0} → (O → LinkView) → (O → DiskView) → Bounds → O → ProxyState → ℕ → LinkView → Result (WalletView O) O → Type 0
 ServesLink link disk b a s paid up (Ok x) =
     (steps : List (Did ProxyState)) × Went link disk b.budget a s steps (now x paid up) × HadLink (ProxyStep b) OfLinks steps s (link a) (link x.journal.disk)
 ServesLink link disk b a s paid up (Err d) =

@@ -5,7 +5,7 @@ use Rattle.millicent_http.specs.declared.clock.Clock.TheVariants.{OfLinks}
 use Rattle.millicent_http.specs.Courses.{AreRead, with_readings}
 use Rattle.command_status.specs.Faults.{fault_status}
 use Rattle.command_status.specs.declared.status.Status.TheVariants as ends
-use Rattle.wallet_core.specs.declared.wallet.Wallet.{Wallet}
+use Rattle.wallet_core.specs.WalletView.{WalletView}
 use Rattle.command_status.specs.Founding.{FoundAt}
 use Rattle.wallet_commands.specs.Founding.{site_of}
 use Rattle.wallet_commands.proofs.CauseLemmas.{founding_causes}
@@ -42,8 +42,8 @@ returns-in-Err-clause-causes g c =
     let keeps = g.met.O.Outside.link_keeps _ _ c.now-moment.ensures.moved in
     let same : g.O.Link.link (fault_disk c.in-Err.fault) ≡ g.O.Link.link c.now-moment.new.self = g.met.O.Outside.disk_keeps _ _ c.in-Err.ensures.moved in
     rw (c.not_opened.ensures.disk, c.not_opened.ensures.status)
-    (founding_causes (Wallet g.row.O.Denot) g.O.Link.link g.O.Disk.disk c.args.out c.in-Err.fault
-    (subst (λ (n : ℕ). CountsBy {D = g.row.O.Denot} {A = Wallet g.row.O.Denot} (Err c.in-Err.fault) n (g.O.Disk.disk (fault_disk c.in-Err.fault)).faults) keeps.faults c.in-Err.ensures.fault)
+    (founding_causes (WalletView g.row.O.Denot) g.O.Link.link g.O.Disk.disk c.args.out c.in-Err.fault
+    (subst (λ (n : ℕ). CountsBy {D = g.row.O.Denot} {A = WalletView g.row.O.Denot} (Err c.in-Err.fault) n (g.O.Disk.disk (fault_disk c.in-Err.fault)).faults) keeps.faults c.in-Err.ensures.fault)
     (ap (λ (v : LinkView). v.faults) (same ∙ c.now-moment.ensures.rest)))
 
 pub returns-in-Err-clause-founded : goal.returns-in-Err-clause-founded

@@ -1,7 +1,7 @@
 use Rattle.std.proofs.Common.{◌∙◌, inl, inr, ap}
 use Rattle.scrip_journal.specs.Founds.{fault_disk}
 use Rattle.command_status.specs.declared.status.Status.TheVariants as ends
-use Rattle.wallet_core.specs.declared.wallet.Wallet.{Wallet}
+use Rattle.wallet_core.specs.WalletView.{WalletView}
 use Rattle.wallet_core.specs.OnDisk.{Untouched}
 use Rattle.wallet_commands.proofs.CauseLemmas.{opening_causes}
 use Rattle.wallet_core.proofs.DiskLemmas.{on_disk, not_opened}
@@ -11,7 +11,7 @@ use Rattle.wallet_commands.proofs.listing.list.Goals as goal
 pub returns-in-Err-clause-causes : goal.returns-in-Err-clause-causes
 returns-in-Err-clause-causes g c =
     rw (c.not_opened.ensures.disk, c.not_opened.ensures.status)
-    (opening_causes (Wallet g.row.O.Denot) g.O.Link.link g.O.Disk.disk c.args.out c.in-Err.fault c.in-Err.ensures.fault (g.met.O.Outside.disk_keeps _ _ c.in-Err.ensures.moved))
+    (opening_causes (WalletView g.row.O.Denot) g.O.Link.link g.O.Disk.disk c.args.out c.in-Err.fault c.in-Err.ensures.fault (g.met.O.Outside.disk_keeps _ _ c.in-Err.ensures.moved))
 
 pub returns-in-Err-clause-listed : goal.returns-in-Err-clause-listed
 returns-in-Err-clause-listed g c x told =

@@ -1,7 +1,7 @@
 use Rattle.std.proofs.Common.{inl, inr, refl, Err}
 use Rattle.scrip_journal.specs.Founds.{fault_disk}
 use Rattle.command_status.specs.declared.status.Status.TheVariants as ends
-use Rattle.wallet_core.specs.declared.wallet.Wallet.{Wallet}
+use Rattle.wallet_core.specs.WalletView.{WalletView}
 use Rattle.held_lines.specs.declared.lines.LinesFault.TheVariants as faults
 use Rattle.held_lines.specs.Resold.{resold_for, Appends}
 use Rattle.wallet_commands.specs.Books.{Opened}
@@ -17,7 +17,7 @@ use Rattle.wallet_commands.proofs.listing.list_held.Goals as goal
 pub returns-in-Err-clause-causes : goal.returns-in-Err-clause-causes
 returns-in-Err-clause-causes g c =
     rw (c.not_opened.ensures.disk, c.not_opened.ensures.status)
-    (opening_causes (Wallet g.row.O.Denot) g.O.Link.link g.O.Disk.disk c.args.out c.in-Err.fault c.in-Err.ensures.fault (g.met.O.Outside.disk_keeps _ _ c.in-Err.ensures.moved))
+    (opening_causes (WalletView g.row.O.Denot) g.O.Link.link g.O.Disk.disk c.args.out c.in-Err.fault c.in-Err.ensures.fault (g.met.O.Outside.disk_keeps _ _ c.in-Err.ensures.moved))
 
 pub returns-in-Err-clause-told : goal.returns-in-Err-clause-told
 returns-in-Err-clause-told g c x told =

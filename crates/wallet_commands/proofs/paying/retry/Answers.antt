@@ -1,6 +1,6 @@
 use Rattle.std.proofs.Common.{inl, inr, refl}
 use Rattle.scrip_journal.specs.Founds.{fault_disk}
-use Rattle.wallet_core.specs.declared.wallet.Wallet.{Wallet}
+use Rattle.wallet_core.specs.WalletView.{WalletView}
 use Rattle.wallet_commands.specs.Books.{Opened}
 use Rattle.wallet_core.specs.OnDisk.{Untouched}
 use Rattle.wallet_commands.proofs.CauseLemmas.{causes_opened, none_on_disk, opening_causes}
@@ -10,7 +10,7 @@ use Rattle.wallet_commands.proofs.paying.retry.Goals as goal
 pub returns-in-Err-clause-causes : goal.returns-in-Err-clause-causes
 returns-in-Err-clause-causes g c =
     rw (c.not_opened.ensures.disk, c.not_opened.ensures.status)
-    (opening_causes (Wallet g.row.O.Denot) g.O.Link.link g.O.Disk.disk c.args.out c.in-Err.fault c.in-Err.ensures.fault (g.met.O.Outside.disk_keeps _ _ c.in-Err.ensures.moved))
+    (opening_causes (WalletView g.row.O.Denot) g.O.Link.link g.O.Disk.disk c.args.out c.in-Err.fault c.in-Err.ensures.fault (g.met.O.Outside.disk_keeps _ _ c.in-Err.ensures.moved))
 
 pub returns-in-Err-clause-tried : goal.returns-in-Err-clause-tried
 returns-in-Err-clause-tried g c x told =

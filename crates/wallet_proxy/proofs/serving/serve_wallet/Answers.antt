@@ -1,6 +1,6 @@
 use Rattle.std.proofs.Common.{inl, inr, refl}
 use Rattle.scrip_journal.specs.Founds.{fault_disk}
-use Rattle.wallet_core.specs.declared.wallet.Wallet.{Wallet}
+use Rattle.wallet_core.specs.WalletView.{WalletView}
 use Rattle.wallet_core.specs.OnDisk.{Untouched}
 use Rattle.wallet_core.proofs.DiskLemmas.{not_opened}
 use Rattle.wallet_proxy.proofs.ProxiedLemmas.{unopened_causes, proxy_causes, proxies_book}
@@ -21,7 +21,7 @@ returns-in-Ok-clause-proxied g c x told =
 pub returns-in-Err-clause-causes : goal.returns-in-Err-clause-causes
 returns-in-Err-clause-causes g c =
     rw (c.not_opened.ensures.disk, c.not_opened.ensures.status)
-    (unopened_causes (Wallet g.row.O.Denot) g.O.Link.link g.O.Disk.disk c.args.links c.args.out (g.U.Link.link c.args.up.now) c.in-Err.fault c.in-Err.ensures.fault (g.met.O.Outside.disk_keeps _ _ c.in-Err.ensures.moved))
+    (unopened_causes (WalletView g.row.O.Denot) g.O.Link.link g.O.Disk.disk c.args.links c.args.out (g.U.Link.link c.args.up.now) c.in-Err.fault c.in-Err.ensures.fault (g.met.O.Outside.disk_keeps _ _ c.in-Err.ensures.moved))
 
 pub returns-in-Err-clause-proxied : goal.returns-in-Err-clause-proxied
 returns-in-Err-clause-proxied g c x told =

@@ -3,4 +3,5 @@ use Rattle.scrip_journal.proofs.SwitchLaws.{chain_found}
 use Rattle.wallet_core.proofs.wallet.Wallet.chain.Goals as goal
 
 pub returns : goal.returns
-returns g c = λ h st. chain_found g.D.Disk.disk c.args.self.now.journal h c.unwrap.result st.journal (sym c.chain.ensures ∙ c.unwrap.ensures)
+returns g c = rw (← c.self.view_is) (λ h st.
+    chain_found g.D.Disk.disk c.self.inside.journal h c.unwrap.result st.journal (sym c.chain.ensures ∙ c.unwrap.ensures))

@@ -8,11 +8,11 @@ use Rattle.wallet_core.proofs.CallLaws.{kept_has, checks_so}
 use Rattle.wallet_core.proofs.wallet.Wallet.check_reply.Goals as goal
 
 pub returns-then-not-has_its_piece-clause-exact : goal.returns-then-not-has_its_piece-clause-exact
-returns-then-not-has_its_piece-clause-exact g c = λ h p st kept.
+returns-then-not-has_its_piece-clause-exact g c = rw (← c.self.view_is) (λ h p st kept.
     let is : Some (pending_view c.in-Some.request) ≡ Some p = c.in-Some.ensures h st.book ∙ kept in
     let same : pending_view c.in-Some.request ≡ p = cc in
     let has : HasItsPiece c.in-Some.request.ask c.in-Some.request.scrip = subst (λ (q : Pending). HasItsPiece q.ask q.scrip) (sym same) (kept_has h c.args.number p st.book.lawful kept) in
-    absurd (false≢true (c.if-not-has_its_piece.ensures.1 has))
+    absurd (false≢true (c.if-not-has_its_piece.ensures.1 has)))
 
 pub returns-in-Some-check_reply-clause-refused : goal.returns-in-Some-check_reply-clause-refused
 returns-in-Some-check_reply-clause-refused g c = checks_so (pending_view c.in-Some.request) (received_of c.args.r.now) c.in-Some-check_reply.refusal (sym c.in-Some-check_reply.ensures)

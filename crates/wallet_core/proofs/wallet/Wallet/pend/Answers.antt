@@ -7,17 +7,17 @@ use Rattle.wallet_core.proofs.OutcomeLaws.{performs_as, refuses, tells_more, ful
 use Rattle.wallet_core.proofs.wallet.Wallet.pend.Goals as goal
 
 pub returns-in-Ok-clause-exact : goal.returns-in-Ok-clause-exact
-returns-in-Ok-clause-exact g c = λ h st.
-    let t = c.args.self.book.time in
+returns-in-Ok-clause-exact g c = rw (← c.self.view_is) (λ h st.
+    let t = c.self.inside.book.time in
     let todo = pend_entry h t (asking_of c.args.ask.now) in
-    performs_as g.D.Disk.disk c.args.self h (pend_of t (pending_view c.in-Ok.request)) todo (TellsNumber h) (TellsNumber h) c.keep.result
-    (answered t todo c.in-Ok.request (c.in-Ok.ensures.exact h st.book)) (λ a told. told) (c.keep.ensures.exact h st)
+    performs_as g.D.Disk.disk (record { journal = c.self.inside.journal; book = c.self.inside.book }) h (pend_of t (pending_view c.in-Ok.request)) todo (TellsNumber h) (TellsNumber h) c.keep.result
+    (answered t todo c.in-Ok.request (c.in-Ok.ensures.exact h st.book)) (λ a told. told) ((rw (← c.self.view_is) at c.keep.ensures.exact) h st))
 
 pub returns-in-Err-clause-exact : goal.returns-in-Err-clause-exact
-returns-in-Err-clause-exact g c = λ h st.
-    let t = c.args.self.book.time in
+returns-in-Err-clause-exact g c = rw (← c.self.view_is) (λ h st.
+    let t = c.self.inside.book.time in
     let todo = pend_entry h t (asking_of c.args.ask.now) in
-    refuses g.D.Disk.disk c.args.self h (TellsNumber h) (g.met.D.Disk.is_disk c.args.self.journal.disk) st todo c.in-Err.refusal (not_answered t todo c.in-Err.refusal (c.in-Err.ensures.exact h st.book))
+    refuses g.D.Disk.disk (record { journal = c.self.inside.journal; book = c.self.inside.book }) h (TellsNumber h) (g.met.D.Disk.is_disk c.self.inside.journal.disk) st todo c.in-Err.refusal (not_answered t todo c.in-Err.refusal (c.in-Err.ensures.exact h st.book)))
 
 pub returns-in-Ok-clause-refused : goal.returns-in-Ok-clause-refused
 returns-in-Ok-clause-refused g c = tells_more IsFull MayPend Any Any c.keep.result full_pend (λ a told. tt) c.keep.ensures.refused
