@@ -104,7 +104,7 @@ learns_of p (Err replies.Fault) u v read = inr (inr read)
 
 module _ (k : Saying) {O : Type 0} (link : O → LinkView) (disk : O → DiskView) (h : History) (t n : ℕ) (p : Pending) (all : TellsAside link (λ o. (disk o).aside)) where
   -- the request was sent whole, and then a reply was read, or none
-  pub used_link : (x y : Wallet O) (status : Status) (b : O) → WalletStands disk x h → LinkKeeps (disk x.journal.disk) (disk y.journal.disk) → link y.journal.disk ≡ after_send (request_bytes p) (next_taken (link x.journal.disk))
+  pub used_link : (x y : WalletView O) (status : Status) (b : O) → WalletStands disk x h → LinkKeeps (disk x.journal.disk) (disk y.journal.disk) → link y.journal.disk ≡ after_send (request_bytes p) (next_taken (link x.journal.disk))
       → ReadsReply k link disk h t n p y.journal.disk status b → UsesLinkAs k link disk h t n p x.journal.disk status b
   used_link x y status b st keeps sent reads =
       let a : O = x.journal.disk in
