@@ -1,5 +1,6 @@
-use Rattle.std.proofs.Common.{◌≡◌, ◌∙◌, ◌+◌, ◌≤◌, inl, inr, ℕ, List, refl, sym, ap, subst, arith, Option, Some, None, Result, Ok, Err}
+use Rattle.std.proofs.Common.{◌≡◌, ◌∙◌, Bool, ◌+◌, ◌≤◌, inl, inr, ℕ, List, refl, sym, ap, subst, arith, Option, Some, None, Result, Ok, Err}
 use Rattle.std.specs.Prelude.{IsTrue}
+use Rattle.mc_outside.specs.Bytes.{Rose}
 use Rattle.mc_outside.specs.LinkView.{LinkView}
 use Rattle.mc_records.specs.declared.refusal.Refusal.TheVariants.{DiskFault, NoMemory}
 use Rattle.reply_reader.specs.Seen.{received_of}
@@ -118,3 +119,18 @@ returns-in-Halted-clause-settled g c h p up budget st kept can =
     (g.met.O.Link.is_link b) (subst (λ (v : LinkView). IsTrue v.stands) (sym same) c.requires.stands) (g.met.O.Outside.link_keeps _ _ c.tell_disk_fault-told.ensures.moved) (g.met.O.Link.link_goes _ _ c.tell_disk_fault-told.ensures.moved)
     (subst (λ (m : ℕ). (said : List ℕ) × Sends (told_reply m (refusal DiskFault)) said (g.O.Link.link b) (g.O.Link.link d)) c.time-time.ensures
     (sends_so (told_reply c.time-time.result (refusal DiskFault)) c.tell_disk_fault-told.result (g.O.Link.link b) (g.O.Link.link d) c.tell_disk_fault-told.ensures.sent c.tell_disk_fault-told.ensures.fault))
+
+pub returns-in-Done-clause-causes : goal.returns-in-Done-clause-causes
+returns-in-Done-clause-causes g c = record {
+  disk' = (g.met.O.Outside.link_keeps _ _ c.tell_settled.ensures.moved).faults ∙ c.in-Done.ensures.back.counts;
+  link' = subst (λ (v : LinkView). v.faults ≤ (g.O.Link.link c.tell_settled.result.0.journal.disk).faults) (g.met.O.Outside.disk_keeps _ _ c.in-Done.ensures.back.moved') (g.met.O.Link.link_goes _ _ c.tell_settled.ensures.moved).faults;
+}
+
+pub returns-in-Done-clause-standing : goal.returns-in-Done-clause-standing
+returns-in-Done-clause-standing g c go =
+    let there = subst (λ (v : LinkView). IsTrue v.stands) (sym (g.met.O.Outside.disk_keeps _ _ c.in-Done.ensures.back.moved')) c.requires.stands in
+    subst (λ (b : Bool). IsTrue b) (sym c.tell_settled.ensures.standing) there
+
+pub returns-in-Halted-clause-causes : goal.returns-in-Halted-clause-causes
+returns-in-Halted-clause-causes g c =
+    subst (λ (n : ℕ). Rose (g.O.Disk.disk c.args.wallet.journal.disk).faults n) (sym (g.met.O.Outside.link_keeps _ _ c.tell_disk_fault-told.ensures.moved).faults) c.in-Halted.ensures.back.counts
