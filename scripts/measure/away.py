@@ -8,11 +8,13 @@ from pathlib import Path
 sys.path.insert(0, str(Path(__file__).resolve().parents[1] / "lib"))
 
 from long_book import LongShop  # noqa: E402
-from paying import fresh, pay_alone  # noqa: E402
-from shop import PRICE, TARGET  # noqa: E402
+from paying import fresh, took  # noqa: E402
+from shop import PRICE, TARGET, Link  # noqa: E402
 from timing import timed  # noqa: E402
 
 STOPS = 5
+# How many seconds a request waits for its reply while the book is opened.
+PATIENCE = 600
 
 
 def change(shop):
@@ -27,7 +29,8 @@ def away(shop):
         shop.kill()
         change(shop)
         shop.start()
-        pay_alone(shop, request)
+        with Link(shop.address, PATIENCE) as link:
+            took(link.ask(request))
     return timed(stop)
 
 
