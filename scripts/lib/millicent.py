@@ -8,7 +8,7 @@ sys.path.insert(0, str(Path(__file__).resolve().parents[1] / "second"))
 
 from desk import read_errand  # noqa: E402, F401
 from forms import Terms, epoch_of, id_of, read_scrip, reply_signature, request_signature  # noqa: E402, F401
-from journal import HEADER, BadEntry, NotJournal, Replay  # noqa: E402
+from journal import HEADER, BadEntry, Chain, NotJournal, Replay  # noqa: E402, F401
 from ledger import first_unlawful  # noqa: E402, F401
 from market import Book, broker_sums, first_stranger, vendor_sums  # noqa: E402, F401
 from payloads import (  # noqa: E402, F401

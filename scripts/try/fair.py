@@ -567,8 +567,10 @@ class Fair:
         for book in books:
             with open(book.book, "rb") as f:
                 replay = millicent.Replay(millicent.Stage(f.read()))
-            name = [entry for _, entry in iter(replay.next, None)][0].name
-            lines.append(b"chain %s %d %s\n" % (name, replay.entries, replay.chain.digest.hex().encode()))
+            entries, chain = [entry for _, entry in iter(replay.next, None)], millicent.Chain()
+            for entry in entries:
+                chain.push(entry.payload)
+            lines.append(b"chain %s %d %s\n" % (entries[0].name, len(entries), chain.digest.hex().encode()))
             self.counts["books with a chain"] += replay.chain.switched
         status, said = run(["audit", "chain", *(book.book for book in books)], **self.clocks.give("auditor"))
         if (status, said) != (0, b"".join(lines)):
