@@ -137,3 +137,16 @@ class Site:
     def end(self):
         if self.server and self.server.poll() is None:
             self.kill()
+
+
+def kill_under_load(site, loads):
+    """Kills a site at a random moment while each of these loads goes on in a thread, until the event that it is given is set."""
+    ended = threading.Event()
+    threads = [threading.Thread(target=load, args=(ended,), daemon=True) for load in loads]
+    for thread in threads:
+        thread.start()
+    time.sleep(random.uniform(0, 0.3))
+    site.kill()
+    ended.set()
+    for thread in threads:
+        thread.join()

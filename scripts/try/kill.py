@@ -3,7 +3,6 @@
 the book with the replies that clients have read. The argument is the number of kills."""
 import random
 import sys
-import threading
 import time
 from collections import Counter
 from pathlib import Path
@@ -11,6 +10,7 @@ from pathlib import Path
 sys.path.insert(0, str(Path(__file__).resolve().parents[1] / "lib"))
 
 import millicent  # noqa: E402
+from serving import kill_under_load  # noqa: E402
 from shop import PRICE, TARGET, Link, Shop  # noqa: E402
 
 THREADS, KEEP, LINK_ITEMS = 4, 86_400, 900
@@ -117,25 +117,13 @@ class Log:
         self.checked = len(self.order)
 
 
-def round_of_load(shop, log):
-    ended = threading.Event()
-    threads = [threading.Thread(target=log.load, args=(ended,)) for _ in range(THREADS)]
-    for thread in threads:
-        thread.start()
-    time.sleep(random.uniform(0, 0.3))
-    shop.kill()
-    ended.set()
-    for thread in threads:
-        thread.join()
-
-
 def main():
     kills = int(sys.argv[1]) if len(sys.argv) > 1 else 200
     with Shop(KEEP) as shop:
         log = Log(shop)
         shop.start()
         while log.counts["kills"] < kills:
-            round_of_load(shop, log)
+            kill_under_load(shop, [log.load] * THREADS)
             log.counts["kills"] += 1
             if random.random() < 0.25 and log.counts["kills"] < kills:
                 shop.launch()

@@ -15,7 +15,7 @@ sys.path.insert(0, str(Path(__file__).resolve().parents[1] / "lib"))
 
 import millicent  # noqa: E402
 from bank import NAME, Bank, drawn  # noqa: E402
-from serving import PROGRAM, Link  # noqa: E402
+from serving import PROGRAM, Link, kill_under_load  # noqa: E402
 
 ACCOUNTS, FIRST, KEEP, LINK_ITEMS = 6, 10**9, 86_400, 900
 
@@ -163,18 +163,6 @@ def look(log, bank, number):
         cut_deposit(log, bank, book, number)
 
 
-def round_of_load(bank, customers):
-    ended = threading.Event()
-    threads = [threading.Thread(target=customer.load, args=(ended,), daemon=True) for customer in customers]
-    for thread in threads:
-        thread.start()
-    time.sleep(random.uniform(0, 0.3))
-    bank.kill()
-    ended.set()
-    for thread in threads:
-        thread.join()
-
-
 def sums(log, bank, customers):
     """At the end: what came in is in accounts and in pieces, and these are what the customers hold."""
     book = read_book(log, bank)
@@ -202,7 +190,7 @@ def main():
             customers = [Customer(log, bank, name) for name in bank.keys]
             bank.start()
             while log.counts["kills"] < kills:
-                round_of_load(bank, customers)
+                kill_under_load(bank, [customer.load for customer in customers])
                 log.count("kills")
                 look(log, bank, log.counts["kills"])
                 if random.random() < 0.25 and log.counts["kills"] < kills:

@@ -26,6 +26,10 @@ class Numbers:
     def between(self, least, most):
         return least + self.below(most - least + 1)
 
+    def listed(self, most):
+        """Up to three numbers below another one, as words in their order."""
+        return " ".join(str(n) for n in sorted({self.below(most) for _ in range(3)}))
+
 
 class Cases:
     """The lines of a file."""
@@ -150,3 +154,28 @@ TWO = Issuer(2, [0x55, 0x56], [0x66, 0x67, 0x68])
 NINE = Issuer(9, [0x99], [0x9a], 2048, 0)
 STRANGE = Issuer(7, [0x77], [0x78])
 STOCKED = Issuer(0, [0x5a], [0x5b])
+
+
+def each_call_fails(out, role, order, again):
+    """Each call of the disk that an order makes fails in turn, with each crash behind it, and each call of the links."""
+    name, book, links, words, disk, link = order
+    before = ["book " + book] if book else []
+    out.group("%s: disk calls." % name)
+    for call in range(disk + 1):
+        for choice in CHOICES:
+            out.case("%s%s: disk call %d, crash %d" % (role, name, call, choice), *before, *links, "clock 1000000",
+                     "fail disk %d" % call, words, "crash %d" % choice, *again(order))
+    out.group("%s: link calls." % name)
+    for call in range(link + 1):
+        out.case("%s%s: link call %d" % (role, name, call), *before, *links, "clock 1000000", "fail link %d" % call, words,
+                 *again(order))
+
+
+def several_calls_fail(out, role, orders, again, rounds, numbers):
+    """Some calls of the disk and of the links fail that any of the orders makes."""
+    out.group("Several calls fail, of the disk and of the links.")
+    for round in range(rounds):
+        order = name, book, links, words, disk, link = numbers.of(orders)
+        out.case("%s%s, %d" % (role, name, round), *(["book " + book] if book else []), *links, *links, "clock 1000000 1000900",
+                 "fail disk " + numbers.listed(disk + 3), "fail link " + numbers.listed(link + 3), words,
+                 "crash %d" % numbers.of((0, 1, 2, 3, 7, 64, 128, 255, 256, 12345)), *again(order))

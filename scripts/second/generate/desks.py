@@ -2,7 +2,7 @@
 `generated_desks.cases`."""
 from bytes_text import bytes_of
 from forms import read_scrip
-from generate import CHOICES, NAMES, NOW, ONE, OWN, STOCKED, TWO, Cases, Numbers, length, signature
+from generate import NAMES, NOW, ONE, OWN, STOCKED, TWO, Cases, Numbers, each_call_fails, length, several_calls_fail, signature
 from program import run
 from stage import Stage
 
@@ -90,25 +90,10 @@ def faults():
     out = Cases("Each call of the disk fails in turn, for each of a broker's commands, and then the disk crashes, the command is\n"
                 "given again, and the book is served; and each call of the links.")
     names(out)
-    for name, book, links, words, disk, link in ORDERS:
-        before, again = ["book " + book] if book else [], (*links, words, *AGAIN)
-        out.group("%s: disk calls." % name)
-        for call in range(disk + 1):
-            for choice in CHOICES:
-                out.case("broker %s: disk call %d, crash %d" % (name, call, choice), *before, *links, "clock 1000000",
-                         "fail disk %d" % call, words, "crash %d" % choice, *again)
-        out.group("%s: link calls." % name)
-        for call in range(link + 1):
-            out.case("broker %s: link call %d" % (name, call), *before, *links, "clock 1000000", "fail link %d" % call, words,
-                     *again)
-    out.group("Several calls fail, of the disk and of the links.")
-    numbers = Numbers(8)
-    for round in range(80):
-        name, book, links, words, disk, link = numbers.of(ORDERS)
-        listed = lambda most: " ".join(str(n) for n in sorted({numbers.below(most) for _ in range(3)}))
-        out.case("broker %s, %d" % (name, round), *(["book " + book] if book else []), *links, *links,
-                 "clock 1000000 1000900", "fail disk " + listed(disk + 3), "fail link " + listed(link + 3), words,
-                 "crash %d" % numbers.of((0, 1, 2, 3, 7, 64, 128, 255, 256, 12345)), *links, words, *AGAIN)
+    again = lambda order: (*order[2], order[3], *AGAIN)
+    for order in ORDERS:
+        each_call_fails(out, "broker ", order, again)
+    several_calls_fail(out, "broker ", ORDERS, again, 80, Numbers(8))
     out.write("desk_faults")
 
 

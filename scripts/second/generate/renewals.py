@@ -79,8 +79,7 @@ def faults(out):
         out.case("lines: disk call %d" % call, *begin, "fail disk %d" % call, told_lines, told_lines)
     numbers = Numbers(23)
     for round in range(40):
-        listed = lambda most: " ".join(str(n) for n in sorted({numbers.below(most) for _ in range(3)}))
-        out.case("renew, %d" % round, *begin, "link $rn_reply", "fail disk " + listed(13), "fail link " + listed(9), words,
+        out.case("renew, %d" % round, *begin, "link $rn_reply", "fail disk " + numbers.listed(13), "fail link " + numbers.listed(9), words,
                  "crash %d" % numbers.of((0, 1, 2, 7, 128, 12345)), *again)
 
 

@@ -246,9 +246,8 @@ def faults(out):
     numbers = Numbers(22)
     for round in range(60):
         name, book, links, words, disk, link = numbers.of(ORDERS)
-        listed = lambda most: " ".join(str(n) for n in sorted({numbers.below(most) for _ in range(3)}))
-        out.case("%s, %d" % (name, round), "book " + book, *links, "clock %d" % END, "fail disk " + listed(disk + 3),
-                 "fail link " + listed(link + 3), words, "crash %d" % numbers.of((0, 1, 2, 7, 128, 12345)), *links, words,
+        out.case("%s, %d" % (name, round), "book " + book, *links, "clock %d" % END, "fail disk " + numbers.listed(disk + 3),
+                 "fail link " + numbers.listed(link + 3), words, "crash %d" % numbers.of((0, 1, 2, 7, 128, 12345)), *links, words,
                  "lawful")
 
 

@@ -2,8 +2,8 @@
 `generated_links.cases`, `generated_answers.cases`, `generated_brokers.cases` and `generated_operators.cases`."""
 from bytes_text import bytes_of
 from generate import (
-    CHOICES, NAMES, NINE, NOW, ONE, OWN, STOCKED, STRANGE, TWO, Cases, Numbers, cut, digits, length, pieces, raised, signature, string,
-    with_byte)
+    NAMES, NINE, NOW, ONE, OWN, STOCKED, STRANGE, TWO, Cases, Numbers, cut, digits, each_call_fails, length, pieces, raised,
+    several_calls_fail, signature, string, with_byte)
 
 
 def faults():
@@ -21,25 +21,9 @@ def faults():
         ("serve, two requests on a link", "$shop", ("link $pays+$pays60",), "run vendor serve b l 1", 10, 6),
     ]
     again = ("link $pays", "link $pays60", "run vendor serve b l 2")
-    for name, book, links, words, disk, link in orders:
-        out.group("%s: disk calls." % name)
-        before = ["book " + book] if book else []
-        for call in range(disk + 1):
-            for choice in CHOICES:
-                out.case("%s: disk call %d, crash %d" % (name, call, choice), *before, *links, "clock 1000000",
-                         "fail disk %d" % call, words, "crash %d" % choice, *again)
-        out.group("%s: link calls." % name)
-        for call in range(link + 1):
-            out.case("%s: link call %d" % (name, call), *before, *links, "clock 1000000", "fail link %d" % call, words,
-                     *again)
-    out.group("Several calls fail, of the disk and of the links.")
-    numbers = Numbers(1)
-    for round in range(60):
-        name, book, links, words, disk, link = numbers.of(orders)
-        listed = lambda most: " ".join(str(n) for n in sorted({numbers.below(most) for _ in range(3)}))
-        out.case("%s, %d" % (name, round), *(["book " + book] if book else []), *links, *links, "clock 1000000 1000900",
-                 "fail disk " + listed(disk + 3), "fail link " + listed(link + 3), words,
-                 "crash %d" % numbers.of((0, 1, 2, 3, 7, 64, 128, 255, 256, 12345)), *again)
+    for order in orders:
+        each_call_fails(out, "", order, lambda _: again)
+    several_calls_fail(out, "", orders, lambda _: again, 60, Numbers(1))
     out.write("faults")
 
 
