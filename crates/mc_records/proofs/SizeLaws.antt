@@ -1,5 +1,5 @@
 -- What the sizes of tails keep, whatever a tail holds.
-use Rattle.std.proofs.Common.{◌≡◌, ℕ, ◌≤◌, Bool, true, false, ◌||◌, List, [], ◌∷◌, ◌++◌, length, refl, sym, ◌∙◌, ap, subst, arith}
+use Rattle.std.proofs.Common.{◌≡◌, ℕ, ◌≤◌, Bool, true, false, ◌||◌, List, [], ◌∷◌, ◌++◌, length, refl, ap, arith}
 use Rattle.mc_records.specs.Entry.{Entry}
 use Rattle.mc_records.specs.Chains.{chain, is_switch, has_switch}
 use Rattle.mc_records.specs.Sizes.{tail, tail_by, tail_bytes, tail_size}

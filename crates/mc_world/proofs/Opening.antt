@@ -6,7 +6,7 @@ use Rattle.mc_records.specs.declared.limits.Limits.{Limits}
 use Rattle.mc_records.specs.declared.limits.TheConstants.Limits.{MOST_JOURNAL}
 use Rattle.mc_records.specs.Chains.{TellsChain}
 use Rattle.mc_records.specs.Entry.{Entry, Site, Switch, Fits, moment_of}
-use Rattle.mc_records.specs.Sizes.{size, size_from, entry_size}
+use Rattle.mc_records.specs.Sizes.{size, entry_size}
 use Rattle.ledger_model.specs.Histories.{History, time}
 use Rattle.ledger_model.specs.Houses.{site_kind}
 use Rattle.ledger_model.specs.Lawful.{MayFollow, IsLawful, IsHouseSite}

@@ -71,6 +71,29 @@ impl Piece {
         })
     }
 
+    pub(crate) fn of(
+        version: u8,
+        vendor: Name,
+        value: Amount,
+        id: Id,
+        cust: Id,
+        expires: u64,
+        props: Props,
+    ) -> Piece
+        requires { IsPiece (record { version = version; vendor = vendor; value = value; id = id; cust = cust; expires = expires; props = props }) }
+        ensures { result ≡ record { version = version; vendor = vendor; value = value; id = id; cust = cust; expires = expires; props = props } }
+    {
+        Piece {
+            version,
+            vendor,
+            value,
+            id,
+            cust,
+            expires,
+            props,
+        }
+    }
+
     /// The piece of these parts as it is first handed out, in a version: its customer's identity is its own, and it has
     /// no properties. None exactly where the version is neither 1 nor 2, the value is 0, or `expires` is 0 or above 2^49.
     pub fn first_hand(

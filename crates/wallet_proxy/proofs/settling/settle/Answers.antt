@@ -1,4 +1,4 @@
-use Rattle.std.proofs.Common.{◌≡◌, ◌∙◌, Bool, ◌+◌, ◌≤◌, inl, inr, ℕ, List, refl, sym, ap, subst, arith, Option, Some, None, Result, Ok, Err}
+use Rattle.std.proofs.Common.{◌≡◌, ◌∙◌, Bool, ◌≤◌, inl, inr, ℕ, List, refl, sym, subst, arith, Some, None, Ok}
 use Rattle.std.specs.Prelude.{IsTrue}
 use Rattle.mc_outside.specs.Bytes.{Rose}
 use Rattle.mc_outside.specs.LinkView.{LinkView}

@@ -2,7 +2,7 @@ use Rattle.std.proofs.Common.{◌≡◌, ℕ, List, ◌++◌, take, codes, appen
 use Rattle.std.specs.Prelude.{decimal}
 use Rattle.scrip_form.specs.Texts.{IsTarget}
 use Rattle.mc_records.specs.Errands.{buy, IsErrand, errand_text}
-use Rattle.wallet_core.proofs.asking.buy_target.Goals as goal
+use Rattle.mc_records.proofs.errand_writing.buy_target.Goals as goal
 
 pub unreachable-requires : goal.unreachable-requires
 unreachable-requires c =

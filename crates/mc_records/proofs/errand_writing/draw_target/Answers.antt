@@ -2,7 +2,7 @@ use Rattle.std.proofs.Common.{◌≡◌, ℕ, List, ◌++◌, take, codes, appen
 use Rattle.std.specs.Prelude.{decimal}
 use Rattle.scrip_form.specs.Texts.{IsTarget}
 use Rattle.mc_records.specs.Errands.{draw, IsErrand, errand_text}
-use Rattle.wallet_core.proofs.asking.draw_target.Goals as goal
+use Rattle.mc_records.proofs.errand_writing.draw_target.Goals as goal
 
 joined : (a k n : List ℕ) → (((a ++ codes "/") ++ k) ++ codes "/") ++ n ≡ a ++ (codes "/" ++ (k ++ (codes "/" ++ n)))
 joined a k n =
