@@ -1,6 +1,6 @@
 //! Readers of the parts of entries, from the front of the bytes.
 
-ghost use Rattle.std.specs.Prelude.{◌≡◌, ◌≤◌, Some, take, option_map};
+ghost use Rattle.std.specs.Prelude.{◌≤◌, Some, take, option_map};
 ghost use Rattle.scrip_form.specs.Texts.{is_name, is_target};
 ghost use Rattle.scrip_form.specs.Reading.{is_scrip};
 ghost use Rattle.mc_fields.specs.Form.{run, repeated, plain, done, plain_at, str_at};

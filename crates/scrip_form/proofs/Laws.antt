@@ -184,10 +184,6 @@ pub version_of_text : (p : Scrip) (cert : List ℕ) → IsVersion p.version → 
 unfolding scrip_text
 version_of_text p cert is = in_version p.version _ is
 
-pub version_of_body : (p : Scrip) → IsVersion p.version → text_version (scrip_body p) ≡ p.version
-unfolding scrip_body
-version_of_body p is = in_version p.version _ is
-
 -- ---- what the reader's answer says of the bytes
 
 pub left-le : (bytes : List ℕ) (left : ℕ) → scrip_at bytes ≡ failed left → left ≤ length bytes

@@ -1,4 +1,4 @@
-ghost use Rattle.std.specs.Prelude.{◌≡◌, ◌↔◌, List, IfOk, IfErr, IsOk, MatchResult, Ok, Err};
+ghost use Rattle.std.specs.Prelude.{◌≡◌, ◌↔◌, IfOk, IfErr, IsOk, MatchResult, Ok, Err};
 ghost use Rattle.mc_fields.specs.Gives.{Gives};
 ghost use Rattle.scrip_form.specs.Reading.{id_at, is_scrip, scrip_at, scrip_of};
 ghost use Rattle.scrip_form.specs.Scrip.{IsPiece, IsTextOf, IsScripText, IsFaultPlace};

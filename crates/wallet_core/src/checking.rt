@@ -1,6 +1,6 @@
 //! Whether a reply settles a request.
 
-ghost use Rattle.std.specs.Prelude.{◌≡◌, ◌==◌, ◌&&◌, ◌++◌, ℕ, List, not, false, bytes_eq, option_map, option_and_then, unwrap_or};
+ghost use Rattle.std.specs.Prelude.{◌≡◌, ◌==◌, ◌&&◌, ◌++◌, ℕ, List, false, bytes_eq, option_map, option_and_then, unwrap_or};
 ghost use Rattle.scrip_certs.specs.Digests as digests;
 ghost use Rattle.scrip_certs.specs.Hashing.{Hashes};
 ghost use Rattle.mc_records.specs.Errands.{errand_of};

@@ -6,13 +6,13 @@ ghost use Rattle.millicent_http.specs.declared.clock.Clock.TheVariants.{OfLinks}
 ghost use Rattle.millicent_http.specs.Courses.{AreRead, with_readings};
 ghost use Rattle.wallet_core.specs.Wallet.{WalletStands};
 
+use crate::wallet::Wallet;
 use mc_base::Moment;
 use mc_outside::{Link, Outside};
-use wallet_core::Wallet;
 
 /// Raises the time of a wallet to the reading of the clock, which is read once, and answers the reading. It takes no
 /// memory.
-pub(crate) fn raise_by_clock<O: Outside>(wallet: &mut Wallet<O>) -> Moment
+pub fn raise_by_clock<O: Outside>(wallet: &mut Wallet<O>) -> Moment
     ensures moved { O.link_moved wallet.old.journal.disk wallet.new.journal.disk }
     ensures stands { (h : History) → WalletStands O.disk wallet.old h
         → WalletStands O.disk wallet.new h }
