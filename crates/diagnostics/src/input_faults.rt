@@ -1,9 +1,9 @@
 //! What is told of a line of the input that a command refused.
 
-use crate::passed::Passed;
 use crate::texts::{before_space, word};
 use command_table::number_from;
 use mc_records::MOST_PIECES;
+use mc_site::Passed;
 use piece_lines::{PieceRule, read_secret};
 use scrip_form::{Name, Piece, read_scrip};
 
@@ -11,7 +11,7 @@ use scrip_form::{Name, Piece, read_scrip};
 const BAD_INPUT: &[u8] = b"refused 53 BadInput ";
 
 /// Tells what is wrong with the line of the input that the command with these words refused, where it did.
-pub(crate) fn tell_bad_line(rt: &impl Eprint, words: &[String], passed: &Passed) {
+pub fn tell_bad_line(rt: &impl Eprint, words: &[String], passed: &Passed) {
     let Some(number) = refused_line(passed.said()) else {
         return;
     };
@@ -149,49 +149,4 @@ fn licence_line_fault(line: &[u8]) -> &'static str {
         return "it has not seven words with one space between each two";
     }
     "one of its words is out of form or range"
-}
-
-#[cfg(test)]
-mod tests {
-    use super::*;
-    use std::test::Fail;
-
-    const MINTED: &str =
-        "MS1|news.example|100|0000000000000001|0000000000000001|12288||0123456789abcdef0123456789abcdef 00112233445566778899aabbccddeeff\n";
-
-    const ISSUED: &str =
-        "MS1|news.example|100|0100000000000001|0100000000000001|12288||0123456789abcdef0123456789abcdef 00112233445566778899aabbccddeeff\n";
-
-    const CHANGE: &str =
-        "MS1|news.example|100|0000000000000001|0000000000000002|12288||0123456789abcdef0123456789abcdef 00112233445566778899aabbccddeeff\n";
-
-    #[test]
-    fn each_line_of_a_stock_has_its_fault(rt: HostRuntime) -> Result<(), Fail> {
-        let own = Name::new(b"news.example").ok_or("no name")?;
-        let other = Name::new(b"shop").ok_or("no name")?;
-        let rows = [
-            ("MS1|a\r\n", "a carriage return stands in it"),
-            ("MS1|a", "it has no line end"),
-            ("\n", "it is empty"),
-            (
-                "MS1|a b\n",
-                "it does not begin with the text of a piece and a space",
-            ),
-            (
-                ISSUED,
-                "the piece is an issuer's, not of the vendor's own making",
-            ),
-            (CHANGE, "the piece is not as its vendor minted it"),
-        ];
-        for (line, fault) in &rows {
-            let rule = PieceRule::StockOf(own);
-            assert_eq!(rt; pieces_input_fault(line.as_bytes(), 1, &rule), *fault);
-        }
-        let rule = PieceRule::StockOf(other);
-        assert_eq!(rt;
-            pieces_input_fault(MINTED.as_bytes(), 1, &rule),
-            "the piece is of another vendor"
-        );
-        Ok(())
-    }
 }

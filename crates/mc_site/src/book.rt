@@ -1,17 +1,18 @@
 ghost use Rattle.std.specs.Prelude.{◌≡◌, ◌≤◌, length, IfOk};
-ghost use Rattle.millicent.specs.Counts.{book_counts};
+ghost use Rattle.mc_site.specs.Counts.{book_counts};
 
 use crate::faults::counted;
 use mc_outside::{Disk, DiskFault};
 use std::fs::{File, Files, OpenFile, OpenOptions};
 use std::io::ErrorKind;
+use std::marker::Model;
 use std::os::fd::{AsRawFd, RawFd};
 use std::os::unix::fs::{FileExt, MetadataExt, OpenOptionsExt};
 use std::path::Path;
 use std::{fs, io};
 
 /// A disk over one open file, or over none: then each call fails. It tells nothing of the bytes: that the
-/// system keeps them is trusted.
+/// system keeps them is trusted. Contracts see how many of its calls failed.
 #[derive(Drop)]
 pub struct Book<F> {
     file: Option<F>,
@@ -22,10 +23,18 @@ pub struct Book<F> {
     made: bool,
 }
 
+impl<F> Model for Book<F> {
+    ghost use Rattle.std.specs.Prelude.{ℕ};
+
+    ghost Value = { ℕ };
+
+    ghost view = { λ b. b.faults };
+}
+
 impl<F> Book<F> {
     /// A disk whose every call fails, and is counted.
     pub fn none() -> Book<F>
-        ensures { result.faults ≡ 0 }
+        ensures { result ≡ 0 }
     {
         Book {
             file: None,
@@ -41,6 +50,13 @@ impl<F> Book<F> {
             Some(_) => self.last_fault,
             None => None,
         }
+    }
+
+    /// How many of its calls failed, up to the greatest number.
+    pub fn faults(&self) -> u64
+        ensures { result ≡ self.now }
+    {
+        self.faults
     }
 
     /// Whether there is a file.
@@ -62,7 +78,7 @@ impl Book<File> {
     /// says why there is none: the file can't be opened, is not a regular one, or is locked by another process
     /// (`cause_of`).
     pub fn open<R: Files<File = File>>(rt: &R, path: &str, create: bool) -> io::Result<Book<File>>
-        ensures { IfOk result (λ book. book.faults ≡ 0) }
+        ensures { IfOk result (λ book. book ≡ 0) }
     {
         let (file, made) = file_at(rt, path, create)?;
         Ok(Book {
@@ -75,7 +91,7 @@ impl Book<File> {
 
     /// As `open`, to read alone: nothing can be written to the book, no file is made, and others may read it, too.
     pub fn open_to_read<R: Files<File = File>>(rt: &R, path: &str) -> io::Result<Book<File>>
-        ensures { IfOk result (λ book. book.faults ≡ 0) }
+        ensures { IfOk result (λ book. book ≡ 0) }
     {
         let file = file_to_read(rt, path)?;
         Ok(Book {
@@ -95,8 +111,8 @@ impl Book<File> {
         }
     }
 
-    /// What its file is known by, whatever its name.
-    pub fn mark(&self) -> Option<FileMark> {
+    /// What its file is known by.
+    pub(crate) fn mark(&self) -> Option<FileMark> {
         match self.opened() {
             Ok(file) => mark_of(file).ok(),
             Err(_) => None,
@@ -116,12 +132,12 @@ impl Book<File> {
     }
 }
 
-/// What an open file is known by.
+/// What an open file is known by, whatever its name.
 #[derive(Clone, Copy)]
-pub struct FileMark {
-    pub inode: u64,
-    pub device: u64,
-    pub descriptor: RawFd,
+pub(crate) struct FileMark {
+    pub(crate) inode: u64,
+    pub(crate) device: u64,
+    pub(crate) descriptor: RawFd,
 }
 
 fn mark_of(file: &File) -> io::Result<FileMark> {
@@ -134,7 +150,7 @@ fn mark_of(file: &File) -> io::Result<FileMark> {
 }
 
 /// Why a book was not opened, in a few words, by what the system tells.
-pub(crate) fn cause_of(kind: ErrorKind) -> &'static str {
+pub fn cause_of(kind: ErrorKind) -> &'static str {
     match kind {
         ErrorKind::WouldBlock => "locked by another process",
         ErrorKind::NotFound => "no such file",
@@ -177,7 +193,8 @@ fn file_at<R: Files<File = File>>(rt: &R, path: &str, create: bool) -> io::Resul
     Ok((file, false))
 }
 
-/// The file at this path, to read alone, under a lock that others who only read may have, too. What is no regular file is not opened, since that may wait.
+/// The file at this path, to read alone, under a lock that others who only read may have, too. What is no regular file
+/// is not opened, since that may wait.
 fn file_to_read<R: Files<File = File>>(rt: &R, path: &str) -> io::Result<File> {
     if !fs::metadata(rt, path)?.is_file() {
         return Err(ErrorKind::Unsupported.into());
@@ -233,8 +250,9 @@ impl<F: OpenFile + FileExt> Book<F> {
         Ok(self.opened()?.metadata()?.len())
     }
 
-    /// Reads from a place of the file, whatever the count of faults.
-    pub(crate) fn read_there(&self, at: u64, buf: &mut [u8]) -> io::Result<usize>
+    /// Reads from a place of the file, whatever the count of faults: up to `buf.len()` bytes, and 0 at the file's end or where
+    /// `buf` is empty. An error is not counted.
+    pub fn read_there(&self, at: u64, buf: &mut [u8]) -> io::Result<usize>
         ensures { IfOk result (λ n. n ≤ length buf.old) }
     {
         self.opened()?.read_at(buf, at)
@@ -297,147 +315,5 @@ impl<F: OpenFile + FileExt> Disk for Book<F> {
     fn sync(&mut self) -> Result<(), DiskFault> {
         let answer = self.sync_data();
         counted(&mut self.faults, &mut self.last_fault, answer, DiskFault)
-    }
-}
-
-#[cfg(test)]
-mod tests {
-    use super::*;
-    use std::alloc::Alloc;
-    use std::process::Abort;
-    use std::test::Fail;
-
-    const PATH: &str = "a.book";
-
-    const LOCKED: &str = "locked.book";
-
-    /// Why there is no book at this path; nothing where there is one.
-    fn refused<R: Files<File = File>>(rt: &R, path: &str, create: bool) -> &'static str {
-        match Book::open(rt, path, create) {
-            Ok(_) => "",
-            Err(error) => cause_of(error.kind()),
-        }
-    }
-
-    /// A book whose file is new keeps what is written, and is never made longer by a cut.
-    fn keeps_bytes<R: Files<File = File> + Alloc + Abort>(
-        rt: &R,
-        book: &mut Book<File>,
-    ) -> Result<(), Fail> {
-        assert_eq!(rt; book.write_at(3, b"abc"), Ok(()));
-        assert_eq!(rt; book.size(), Ok(6));
-        let mut buf = [7; 5];
-        assert_eq!(rt; book.read(2, &mut buf), Ok(4));
-        assert_eq!(rt; buf, *b"\0abc\x07");
-        assert_eq!(rt; book.read(6, &mut buf), Ok(0));
-        assert_eq!(rt; book.cut(7), Ok(()));
-        assert_eq!(rt; book.size(), Ok(6));
-        assert_eq!(rt; book.cut(5), Ok(()));
-        assert_eq!(rt; book.sync(), Ok(()));
-        assert_eq!(rt; fs::read(rt, PATH)?.as_slice(), b"\0\0\0ab".as_slice());
-        assert_eq!(rt; fs::metadata(rt, PATH)?.mode() & 0o777, 0o600);
-        assert_eq!(rt; book.faults, 0);
-        assert!(rt; !book.is_open_to_others());
-        Ok(())
-    }
-
-    /// Its file is taken away where it has no bytes, and only there.
-    fn is_forgotten_if_empty<R: Files<File = File> + Abort>(
-        rt: &R,
-        book: &mut Book<File>,
-    ) -> Result<(), Fail> {
-        book.forget_if_empty(rt, PATH);
-        assert!(rt; fs::exists(rt, PATH)?);
-        assert_eq!(rt; book.cut(0), Ok(()));
-        book.forget_if_empty(rt, PATH);
-        assert!(rt; !fs::exists(rt, PATH)?);
-        Ok(())
-    }
-
-    #[test]
-    fn a_book_over_a_file(rt: HostRuntime) -> Result<(), Fail> {
-        let _ = fs::remove_file(&rt, PATH);
-        assert_eq!(rt; refused(&rt, PATH, false), "no such file");
-        assert!(rt; !fs::exists(&rt, PATH)?);
-        let mut book = Book::open(&rt, PATH, true)?;
-        keeps_bytes(&rt, &mut book)?;
-        is_forgotten_if_empty(&rt, &mut book)
-    }
-
-    #[test]
-    fn each_cause_has_its_words(rt: HostRuntime) -> Result<(), Fail> {
-        let causes = [
-            (ErrorKind::WouldBlock, "locked by another process"),
-            (ErrorKind::NotFound, "no such file"),
-            (ErrorKind::PermissionDenied, "not permitted"),
-            (ErrorKind::IsADirectory, "no regular file"),
-            (ErrorKind::Unsupported, "no regular file"),
-            (ErrorKind::NotADirectory, "no such folder"),
-            (ErrorKind::AlreadyExists, "exists already"),
-            (ErrorKind::StorageFull, "disk full"),
-            (ErrorKind::ReadOnlyFilesystem, "read-only disk"),
-            (ErrorKind::Interrupted, "not to be opened"),
-        ];
-        for (kind, words) in &causes {
-            assert_eq!(rt; cause_of(*kind), *words);
-        }
-        Ok(())
-    }
-
-    #[test]
-    fn no_book_fails_each_call(rt: HostRuntime) -> Result<(), Fail> {
-        let mut book = Book::<File>::none();
-        let mut buf = [0; 4];
-        assert_eq!(rt; book.size(), Err(DiskFault));
-        assert_eq!(rt; book.read(0, &mut buf), Err(DiskFault));
-        assert_eq!(rt; book.write_at(0, b"abc"), Err(DiskFault));
-        assert_eq!(rt; book.cut(0), Err(DiskFault));
-        assert_eq!(rt; book.sync(), Err(DiskFault));
-        assert_eq!(rt; book.faults, 5);
-        Ok(())
-    }
-
-    /// What is open to read alone is read, and not changed.
-    fn is_read_alone(rt: &impl Abort, book: &mut Book<File>) {
-        let mut buf = [0; 4];
-        assert_eq!(rt; book.sync(), Ok(()));
-        assert_eq!(rt; book.read(0, &mut buf), Ok(3));
-        assert_eq!(rt; book.cut(0), Err(DiskFault));
-        assert_eq!(rt; book.write_at(0, b"xyz"), Err(DiskFault));
-        assert_eq!(rt; book.size(), Ok(3));
-    }
-
-    /// Writes a new book, which no other process can open meanwhile.
-    fn lock<R: Files<File = File> + Abort>(rt: &R, book: &mut Book<File>) {
-        assert_eq!(rt; refused(rt, LOCKED, true), "locked by another process");
-        assert_eq!(rt; refused(rt, LOCKED, false), "locked by another process");
-        assert!(rt; Book::open_to_read(rt, LOCKED).is_err());
-        assert_eq!(rt; book.size(), Ok(0));
-        assert_eq!(rt; book.write_at(0, b"abc"), Ok(()));
-    }
-
-    #[test]
-    fn a_locked_book_is_refused(rt: HostRuntime) -> Result<(), Fail> {
-        let mut first = Book::open(&rt, LOCKED, true)?;
-        lock(&rt, &mut first);
-        drop(first);
-        let mut audited = Book::open_to_read(&rt, LOCKED)?;
-        assert!(rt; Book::open_to_read(&rt, LOCKED).is_ok());
-        assert_eq!(rt; refused(&rt, LOCKED, false), "locked by another process");
-        is_read_alone(&rt, &mut audited);
-        drop(audited);
-        Book::open(&rt, LOCKED, true)?.forget_if_empty(&rt, LOCKED);
-        assert!(rt; fs::exists(&rt, LOCKED)?);
-        fs::remove_file(&rt, LOCKED)?;
-        Ok(())
-    }
-
-    #[test]
-    fn no_book_where_no_file_can_be(rt: HostRuntime) -> Result<(), Fail> {
-        assert!(rt; Book::open_to_read(&rt, ".").is_err());
-        assert_eq!(rt; refused(&rt, ".", true), "no regular file");
-        assert_eq!(rt; refused(&rt, "", true), "no such file");
-        assert_eq!(rt; refused(&rt, "none/a.book", true), "no such file");
-        Ok(())
     }
 }

@@ -13,6 +13,7 @@ pub struct Streams<R, W, E> {
 }
 
 impl<R: Read, W: Write, E: Eprint> Streams<R, W, E> {
+    /// The link over these. Where there is `asks`, standard error asks for the input before it is read.
     pub fn new(input: R, output: W, asks: Option<E>) -> Streams<R, W, E> {
         Streams {
             input,

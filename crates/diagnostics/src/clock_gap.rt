@@ -9,7 +9,7 @@ const MOST_AHEAD: u64 = 60;
 const MOST_BEHIND: u64 = 86_400;
 
 /// Tells where the latest moment of the book at this path lies ahead of the clock. Both are in seconds since 1970.
-pub(crate) fn tell_ahead(rt: &impl Eprint, path: &str, latest: u64, now: u64) {
+pub fn tell_ahead(rt: &impl Eprint, path: &str, latest: u64, now: u64) {
     let ahead = latest.saturating_sub(now);
     if ahead > MOST_AHEAD
         && let Ok(date) = HttpDate::from_unix_secs(latest)
@@ -22,7 +22,7 @@ pub(crate) fn tell_ahead(rt: &impl Eprint, path: &str, latest: u64, now: u64) {
 }
 
 /// Tells where it lies far behind the clock.
-pub(crate) fn tell_behind(rt: &impl Eprint, path: &str, latest: u64, now: u64) {
+pub fn tell_behind(rt: &impl Eprint, path: &str, latest: u64, now: u64) {
     let behind = now.saturating_sub(latest);
     if behind > MOST_BEHIND
         && let Ok(date) = HttpDate::from_unix_secs(latest)

@@ -1,13 +1,13 @@
 //! What is told of the reply to a wallet's request: the price, the refusal, and what of it was not taken.
 
-use crate::passed::Passed;
 use crate::texts::{before_space, shown};
 use mc_records::Record;
+use mc_site::Passed;
 use reply_reader::ReplyRef;
 use scrip_form::read_scrip;
 
 /// Tells what the reply of a peer said, by the status with which the command ended, where one was sent to it.
-pub(crate) fn tell_reply(rt: &impl Eprint, peer: &str, status: u8, passed: &Passed) {
+pub fn tell_reply(rt: &impl Eprint, peer: &str, status: u8, passed: &Passed) {
     match status {
         // Settled, though the line about it may not have been said.
         0 | 6 => tell_paid(rt, peer, passed),

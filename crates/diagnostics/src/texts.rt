@@ -22,7 +22,7 @@ pub(crate) fn shown(bytes: &[u8]) -> &str {
 }
 
 /// The word of this number, from 0, without those that stand for nothing; none where there are fewer.
-pub(crate) fn word(words: &[String], number: usize) -> &str {
+pub fn word(words: &[String], number: usize) -> &str {
     let mut left = number;
     for word in words {
         if word.as_str() == "--" {

@@ -1,4 +1,8 @@
-use super::*;
+//! The one link over a connection that is made to a peer.
+
+use mc_door::{Caller, Source, call};
+use std::io;
+use std::io::{Read, Write};
 use std::net::{Shutdown, TcpListener, TcpStream};
 use std::process::Abort;
 use std::test::Fail;

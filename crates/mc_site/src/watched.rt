@@ -14,7 +14,7 @@ const LOOK: u64 = 60;
 /// The links of another source, and where they are taken, once a minute, a look where the name of a book leads.
 /// Where that is not the file that was opened, standard error says so, once.
 #[derive(Drop)]
-pub(crate) struct Watched<'a, S> {
+pub struct Watched<'a, S> {
     source: S,
     rt: &'a HostRuntime,
     path: &'a str,
@@ -26,12 +26,7 @@ pub(crate) struct Watched<'a, S> {
 
 impl<'a, S> Watched<'a, S> {
     /// The links of a source, under the name of this book.
-    pub(crate) fn new(
-        source: S,
-        rt: &'a HostRuntime,
-        path: &'a str,
-        book: &Book<File>,
-    ) -> Watched<'a, S> {
+    pub fn new(source: S, rt: &'a HostRuntime, path: &'a str, book: &Book<File>) -> Watched<'a, S> {
         Watched {
             source,
             rt,

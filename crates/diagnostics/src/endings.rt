@@ -1,14 +1,14 @@
 //! What is told on standard error when a command has ended: why the disk or the link failed, and that goods are empty.
 
-use crate::passed::Passed;
 use crate::texts::shown;
 use mc_records::Record;
+use mc_site::Passed;
 use std::io;
 use std::io::ErrorKind;
 use std::net::SocketAddr;
 
 /// Tells what the system said of a fault, where it said something.
-pub(crate) fn tell_fault(rt: &impl Eprint, what: &str, fault: Option<io::Error>) {
+pub fn tell_fault(rt: &impl Eprint, what: &str, fault: Option<io::Error>) {
     let Some(error) = fault else {
         return;
     };
@@ -23,7 +23,7 @@ pub(crate) fn tell_fault(rt: &impl Eprint, what: &str, fault: Option<io::Error>)
 }
 
 /// Tells that the goods that were entered have no bytes, where they are so.
-pub(crate) fn tell_no_bytes(rt: &impl Eprint, passed: &Passed) {
+pub fn tell_no_bytes(rt: &impl Eprint, passed: &Passed) {
     if let Some(
         Record::Goods {
             target,
@@ -40,7 +40,7 @@ pub(crate) fn tell_no_bytes(rt: &impl Eprint, passed: &Passed) {
 
 /// Tells that scrip that goes to or from this address is not kept from others on its way, where it leaves the
 /// machine.
-pub(crate) fn tell_clear(rt: &impl Eprint, address: Option<SocketAddr>) {
+pub fn tell_clear(rt: &impl Eprint, address: Option<SocketAddr>) {
     if let Some(address) = address
         && !address.ip().is_loopback()
     {

@@ -14,7 +14,7 @@ const MOST_SAID: usize = 64;
 /// The bytes that came on the link, the last entry that was written, and the front of what was said last. Where
 /// memory is refused there is less of them, and so less is told.
 #[derive(Drop)]
-pub(crate) struct Passed {
+pub struct Passed {
     received: Vec<u8>,
     payload: Vec<u8>,
     said: Vec<u8>,
@@ -55,16 +55,18 @@ impl Passed {
             .extend_from_slice(&bytes[..bytes.len().min(MOST_SAID)]);
     }
 
-    pub(crate) fn received(&self) -> &[u8] {
+    /// What came on the link, up to 131,072 bytes.
+    pub fn received(&self) -> &[u8] {
         &self.received
     }
 
-    pub(crate) fn said(&self) -> &[u8] {
+    /// What was said last, up to 64 bytes.
+    pub fn said(&self) -> &[u8] {
         &self.said
     }
 
     /// The entry that was written last.
-    pub(crate) fn record(&self) -> Option<Record<'_>> {
+    pub fn record(&self) -> Option<Record<'_>> {
         match read_record(&self.payload) {
             Ok(record) => Some(record),
             Err(_) => None,
@@ -72,7 +74,7 @@ impl Passed {
     }
 
     /// The reply that came on the link.
-    pub(crate) fn reply(&self) -> Option<ReplyRef<'_>> {
+    pub fn reply(&self) -> Option<ReplyRef<'_>> {
         match read_reply(&self.received) {
             ReplyRead::Whole(reply) => Some(reply),
             ReplyRead::Bad | ReplyRead::Short(_) => None,

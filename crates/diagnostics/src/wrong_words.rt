@@ -6,7 +6,7 @@ use std::alloc::{AllocError, Global};
 
 /// Tells on standard error which word is wrong, where one is, by its place where it may be a secret, and which
 /// words the command has that these begin with, or which commands there are.
-pub(crate) fn tell_usage(rt: &impl Eprint, alloc: Global, words: &[String]) {
+pub fn tell_usage(rt: &impl Eprint, alloc: Global, words: &[String]) {
     match wrong_word(alloc, words) {
         Ok(Some(WrongWord::Word(word))) => {
             let _ = eprintln!(rt; "millicent: {word}: wrong word");

@@ -1,20 +1,16 @@
 //! What is told of the draws of a wallet that no reply has settled: they have no piece, so that a list of pieces has
 //! no line for them.
 
-use crate::book::Book;
 use crate::entries::Entries;
 use crate::texts::shown;
 use mc_records::{Record, read_record};
+use mc_site::Book;
 use std::alloc::{AllocError, Global};
 use std::fs::OpenFile;
 use std::os::unix::fs::FileExt;
 
 /// Tells of each draw of the wallet that is not settled.
-pub(crate) fn tell_pending_draws<F: OpenFile + FileExt>(
-    rt: &impl Eprint,
-    alloc: Global,
-    book: &Book<F>,
-) {
+pub fn tell_pending_draws<F: OpenFile + FileExt>(rt: &impl Eprint, alloc: Global, book: &Book<F>) {
     let (Ok(draws), Ok(mut entries)) = (unsettled(alloc, book), Entries::of(alloc, book)) else {
         return;
     };

@@ -1,28 +1,45 @@
-use super::*;
+//! Links over connections that are made to an address: whose is the next, what ends one, what still arrives.
+
+use mc_door::{Listener, Source, listen};
 use std::cell::Cell;
-use std::io::{Read, Write};
+use std::io::{ErrorKind, Read, Write};
 use std::net::{Shutdown, TcpStream};
 use std::os::fd::OwnedFd;
 use std::os::unix::net::UnixStream;
 use std::process::Abort;
+use std::rt::Clock;
 use std::test::Fail;
 use std::time::Duration;
-use std::{env, fs, process};
+use std::{env, fs, io, process};
 
 const HEAD: &[u8] = b"GET /news/1 HTTP/1.1\r\nHost: news.example\r\n\r\n";
 
-/// A clock that goes on by so many seconds at each reading.
+/// A clock that goes on by so many milliseconds at each reading, and where it is set on.
 #[derive(Drop)]
-struct Hasty {
-    seconds: Cell<u64>,
+struct Dial {
+    millis: Cell<u64>,
     step: u64,
 }
 
-impl Clock for Hasty {
+impl Dial {
+    /// At 0.
+    fn new(step: u64) -> Dial {
+        Dial {
+            millis: Cell::new(0),
+            step,
+        }
+    }
+
+    fn set_on(&self, millis: u64) {
+        self.millis.set(self.millis.get().saturating_add(millis));
+    }
+}
+
+impl Clock for Dial {
     fn monotonic(&self) -> io::Result<Duration> {
-        let seconds = self.seconds.get();
-        self.seconds.set(seconds.saturating_add(self.step));
-        Ok(Duration::from_secs(seconds))
+        let millis = self.millis.get();
+        self.set_on(self.step);
+        Ok(Duration::from_millis(millis))
     }
 
     fn since_1970(&self) -> io::Result<Duration> {
@@ -144,101 +161,81 @@ fn send_much<C: Clock>(links: &mut Listener<C>, page: &[u8]) -> usize {
     sent
 }
 
-/// Reads so many bytes, or up to the end, while the door goes on: how many came.
-fn read_much<C: Clock>(
-    links: &mut Listener<C>,
-    peer: &mut TcpStream,
-    most: usize,
-) -> io::Result<usize> {
+/// A listener over the dial, and its peers: one that takes nothing of its reply until the other's link stands.
+#[derive(Drop)]
+struct Slow<'a> {
+    dial: &'a Dial,
+    links: Listener<&'a Dial>,
+    idle: TcpStream,
+    other: TcpStream,
+}
+
+/// Reads so many bytes, or up to the end, while the other's link goes on: how many came. Each time the door looks for what
+/// came, since it did so 20 milliseconds ago.
+fn read_much(slow: &mut Slow<'_>, most: usize) -> io::Result<usize> {
     let mut got = 0usize;
     for _ in 0..1_000_000 {
-        let n = peer.read(&mut [0; 4096])?;
+        let n = slow.idle.read(&mut [0; 65_536])?;
         got = got.saturating_add(n);
         if n == 0 || got >= most {
             break;
         }
-        turn(links, 0)?;
+        slow.other.write_all(b"more")?;
+        slow.dial.set_on(20);
+        let _ = heard(&mut slow.links)?;
     }
     Ok(got)
 }
 
-/// Has the door look once for what came, for so many milliseconds at most.
-fn turn<C: Clock>(links: &mut Listener<C>, most: u64) -> io::Result<()> {
-    match &mut links.door {
-        Some(door) => door.turn(&links.clock, most),
-        None => Ok(()),
-    }
-}
-
 #[test]
 fn a_reply_that_is_not_taken_holds_up_nobody(rt: HostRuntime) -> Result<(), Fail> {
-    let mut links = listen(&rt, rt.alloc(), "127.0.0.1:0", &rt)?;
-    let mut idle = peer_of(&rt, &links, HEAD)?;
+    let dial = Dial::new(0);
+    let mut links = listen(&rt, rt.alloc(), "127.0.0.1:0", &dial)?;
+    let idle = peer_of(&rt, &links, HEAD)?;
     assert!(rt; links.next()?);
-    let _other = peer_of(&rt, &links, HEAD)?;
-    holds_up_nobody(&rt, &mut links, &mut idle)
+    let other = peer_of(&rt, &links, HEAD)?;
+    let mut slow = Slow {
+        dial: &dial,
+        links,
+        idle,
+        other,
+    };
+    holds_up_nobody(&rt, &mut slow)
 }
 
-fn holds_up_nobody<C: Clock>(
-    rt: &impl Abort,
-    links: &mut Listener<C>,
-    idle: &mut TcpStream,
-) -> Result<(), Fail> {
-    let sent = send_much(links, &[7; 65_536]);
-    assert_eq!(rt; taken(links)?, HEAD.len());
-    assert_eq!(rt; read_much(links, idle, sent)?, sent);
+fn holds_up_nobody(rt: &impl Abort, slow: &mut Slow<'_>) -> Result<(), Fail> {
+    let sent = send_much(&mut slow.links, &[7; 65_536]);
+    assert_eq!(rt; taken(&mut slow.links)?, HEAD.len());
+    assert_eq!(rt; read_much(slow, sent)?, sent);
     Ok(())
 }
 
 #[test]
 fn a_connection_has_its_time(rt: HostRuntime) -> Result<(), Fail> {
-    let clock = Hasty {
-        seconds: Cell::new(0),
-        step: 31,
-    };
-    let mut links = listen(&rt, rt.alloc(), "127.0.0.1:0", clock)?;
+    let mut links = listen(&rt, rt.alloc(), "127.0.0.1:0", Dial::new(31_000))?;
     let mut silent = peer_of(&rt, &links, b"")?;
-    is_ended(&rt, &mut links, &mut silent)?;
     let _peer = peer_of(&rt, &links, HEAD)?;
-    is_faulty_then(&rt, &mut links)
+    is_ended(&rt, &mut links, &mut silent)
 }
 
+/// The one that is silent is ended when the other's link stands, and then that one, since nothing more comes on it.
 fn is_ended<C: Clock>(
     rt: &impl Abort,
     links: &mut Listener<C>,
     silent: &mut TcpStream,
 ) -> Result<(), Fail> {
-    for _ in 0..4 {
-        turn(links, 10)?;
-    }
-    assert_eq!(rt; read(silent)?, 0);
-    Ok(())
-}
-
-fn is_faulty_then<C: Clock>(rt: &impl Abort, links: &mut Listener<C>) -> Result<(), Fail> {
     assert_eq!(rt; taken(links)?, HEAD.len());
+    assert_eq!(rt; read(silent)?, 0);
     assert!(rt; heard(links).is_err());
     Ok(())
 }
 
 #[test]
 fn bytes_leave_at_once(rt: HostRuntime) -> Result<(), Fail> {
-    let socket = Socket::bind(&rt, "127.0.0.1:0")?;
-    let Some(address) = socket.address() else {
-        return Err(ErrorKind::NotConnected.into());
-    };
-    let _peer = TcpStream::connect(&rt, address)?;
-    for _ in 0..1000 {
-        match socket.accept() {
-            Ok(taken) => return sends_at_once(&rt, &taken),
-            Err(_) => {}
-        }
-    }
-    Err(ErrorKind::TimedOut.into())
-}
-
-fn sends_at_once(rt: &impl Abort, taken: &mio::net::TcpStream) -> Result<(), Fail> {
-    assert!(rt; taken.nodelay()?);
+    let mut links = listen(&rt, rt.alloc(), "127.0.0.1:0", &rt)?;
+    let _peer = peer_of(&rt, &links, HEAD)?;
+    assert!(rt; links.next()?);
+    assert!(rt; links.sends_at_once()?);
     Ok(())
 }
 

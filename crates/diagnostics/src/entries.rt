@@ -1,8 +1,8 @@
 //! The entries of a book as the adapter reads them, to tell of them on standard error. Nothing that is done depends
 //! on it.
 
-use crate::book::Book;
 use mc_records::FRAME;
+use mc_site::Book;
 use scrip_journal::FIRST_GATE;
 use std::alloc::{AllocError, Global};
 use std::fs::OpenFile;
@@ -94,7 +94,7 @@ fn is_journal<F: OpenFile + FileExt>(book: &Book<F>) -> bool {
 }
 
 /// The greatest moment of a book's entries, in seconds since 1970; None where it has none.
-pub(crate) fn latest_moment<F: OpenFile + FileExt>(alloc: Global, book: &Book<F>) -> Option<u64> {
+pub fn latest_moment<F: OpenFile + FileExt>(alloc: Global, book: &Book<F>) -> Option<u64> {
     let mut entries = Entries::of(alloc, book).ok()?;
     let mut latest = None;
     for _ in 0..u64::MAX {

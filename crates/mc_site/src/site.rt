@@ -1,5 +1,4 @@
 ghost use Rattle.std.specs.Prelude.{◌≡◌, false};
-ghost use Rattle.millicent.specs.Counts.{site_counts};
 
 use crate::book::Book;
 use crate::faults::counted;
@@ -11,12 +10,14 @@ use std::alloc::Global;
 use std::fs::OpenFile;
 use std::io;
 use std::io::{ErrorKind, Write};
+use std::marker::Model;
 use std::os::unix::fs::FileExt;
 use std::rt::Clock;
 use std::time::{SystemTime, UNIX_EPOCH};
 
 /// The outside of the program: a book, links from a source, a writer for what is said, and a clock. It
-/// tells nothing of the bytes.
+/// tells nothing of the bytes. Contracts see how many of its calls failed and where its links stand, as the record
+/// `Silent`.
 #[derive(Drop)]
 pub struct Site<F, S, W, C> {
     book: Book<F>,
@@ -34,9 +35,18 @@ pub struct Site<F, S, W, C> {
     keeping: Keeping,
 }
 
+impl<F, S, W, C> Model for Site<F, S, W, C> {
+    ghost use Rattle.mc_outside.specs.Silent.{Silent};
+
+    ghost Value = { Silent };
+
+    ghost view = { λ s. record { disk_faults = s.book; link_faults = s.link_faults; stands = s.stands; at_end = s.at_end; over = s.over } };
+}
+
 impl<F, S: Source, W: Write, C: Clock> Site<F, S, W, C> {
+    /// The outside of these parts. No link stands, and none has failed.
     pub fn new(book: Book<F>, source: S, output: W, clock: C) -> Site<F, S, W, C>
-        ensures book { result.book ≡ book }
+        ensures book { result.disk_faults ≡ book }
         ensures fresh { (result.stands ≡ false) × (result.over ≡ false) × (result.link_faults ≡ 0) }
     {
         Site {
@@ -55,12 +65,16 @@ impl<F, S: Source, W: Write, C: Clock> Site<F, S, W, C> {
     }
 
     /// Keeps from now on what passes through, so that it can be told of.
-    pub fn keep(&mut self, alloc: Global) {
+    pub fn keep(&mut self, alloc: Global)
+        ensures { self.new ≡ self.old }
+    {
         self.keeping = Keeping::new(alloc);
     }
 
     /// The book of it.
-    pub fn book(&self) -> &Book<F> {
+    pub fn book(&self) -> &Book<F>
+        ensures { result.now ≡ self.now.disk_faults }
+    {
         &self.book
     }
 
@@ -69,9 +83,21 @@ impl<F, S: Source, W: Write, C: Clock> Site<F, S, W, C> {
         &self.source
     }
 
+    /// What lines are said on.
+    pub fn output(&self) -> &W {
+        &self.output
+    }
+
     /// What the system said of the last fault of a link.
     pub fn link_fault(&self) -> Option<io::Error> {
         self.link_fault
+    }
+
+    /// How many calls of links failed, and of saying a line, up to the greatest number.
+    pub fn link_faults(&self) -> u64
+        ensures { result ≡ self.now.link_faults }
+    {
+        self.link_faults
     }
 
     /// What the system said where a line could not be said.
@@ -90,7 +116,7 @@ impl<F, S: Source, W: Write, C: Clock> Site<F, S, W, C> {
         S: Drop,
         W: Drop,
         C: Drop,
-        ensures { result ≡ self.book }
+        ensures { result ≡ self.disk_faults }
     {
         self.source.finish();
         self.book
@@ -100,11 +126,11 @@ impl<F, S: Source, W: Write, C: Clock> Site<F, S, W, C> {
 impl<F: OpenFile + FileExt, S: Source, W: Write, C: Clock> Disk for Site<F, S, W, C> {
     ghost use Rattle.mc_outside.specs.Silent.{silent_disk, SilentDiskMoved, silent_is_disk, silent_disk_none, silent_disk_then, silent_disk_goes};
 
-    ghost disk = { λ s. silent_disk (site_counts s) };
+    ghost disk = { λ s. silent_disk s };
 
-    ghost disk_moved = { λ a b. SilentDiskMoved (site_counts a) (site_counts b) };
+    ghost disk_moved = { λ a b. SilentDiskMoved a b };
 
-    ghost is_disk = { λ s. silent_is_disk (site_counts s) };
+    ghost is_disk = { λ s. silent_is_disk s };
 
     ghost disk_stays = { λ a. silent_disk_none _ };
 
@@ -137,11 +163,11 @@ impl<F: OpenFile + FileExt, S: Source, W: Write, C: Clock> Disk for Site<F, S, W
 impl<F: OpenFile + FileExt, S: Source, W: Write, C: Clock> Link for Site<F, S, W, C> {
     ghost use Rattle.mc_outside.specs.Silent.{silent_link, SilentLinkMoved, silent_is_link, silent_link_none, silent_link_then, silent_link_goes};
 
-    ghost link = { λ s. silent_link (site_counts s) };
+    ghost link = { λ s. silent_link s };
 
-    ghost link_moved = { λ a b. SilentLinkMoved (site_counts a) (site_counts b) };
+    ghost link_moved = { λ a b. SilentLinkMoved a b };
 
-    ghost is_link = { λ s. silent_is_link (site_counts s) };
+    ghost is_link = { λ s. silent_is_link s };
 
     ghost link_stays = { λ a. silent_link_none _ };
 
@@ -218,7 +244,7 @@ impl<F: OpenFile + FileExt, S: Source, W: Write, C: Clock> Link for Site<F, S, W
 }
 
 /// The reading of a clock in seconds since 1970; 0 where it can't be read.
-pub(crate) fn reading<C: Clock>(clock: &C) -> u64 {
+pub fn reading<C: Clock>(clock: &C) -> u64 {
     match SystemTime::now(clock) {
         Ok(time) => match time.duration_since(UNIX_EPOCH) {
             Ok(since) => since.as_secs(),
@@ -235,111 +261,5 @@ impl<F: OpenFile + FileExt, S: Source, W: Write, C: Clock> Outside for Site<F, S
 
     ghost disk_keeps = { λ a b m. m.links };
 
-    ghost sent_aside = { λ a ss e. silent_sent (site_counts a) ss e };
-}
-
-#[cfg(test)]
-mod tests {
-    use super::*;
-    use crate::streams::Streams;
-    use mc_door::{Listener, listen};
-    use std::fs::File;
-    use std::io::Read;
-    use std::net::{Shutdown, TcpStream};
-    use std::process::Abort;
-    use std::test::Fail;
-
-    #[test]
-    fn a_link_over_streams(rt: HostRuntime) -> Result<(), Fail> {
-        let source = Streams::new(b"in".as_slice(), Vec::new(rt.alloc()), None::<&HostRuntime>);
-        let book: Book<File> = Book::none();
-        let mut site = Site::new(book, source, Vec::new(rt.alloc()), &rt);
-        assert_eq!(rt; site.next_link(), Ok(true));
-        let mut buf = [0; 8];
-        assert_eq!(rt; site.recv(&mut buf), Ok(2));
-        assert_eq!(rt; &buf[..2], b"in".as_slice());
-        assert_eq!(rt; site.recv(&mut buf), Ok(0));
-        assert_eq!(rt; site.send(b"out"), Ok(3));
-        assert_eq!(rt; site.next_link(), Ok(false));
-        assert_eq!(rt; site.next_link(), Ok(false));
-        assert_eq!(rt; site.say(b"said"), Ok(()));
-        assert_eq!(rt; site.output.as_slice(), b"said".as_slice());
-        assert!(rt; site.now().seconds() > 1_700_000_000);
-        assert_eq!(rt; site.link_faults, 0);
-        assert_eq!(rt; site.sync(), Err(DiskFault));
-        assert_eq!(rt; site.link_faults, 0);
-        Ok(())
-    }
-
-    /// The outside whose links are connections, with no book.
-    type Connected<'a> = Site<File, Listener<&'a HostRuntime>, Vec<u8>, &'a HostRuntime>;
-
-    /// Has one link with a peer, which ends what it sends.
-    fn first(rt: &impl Abort, site: &mut Connected<'_>, peer: &mut TcpStream) -> Result<(), Fail> {
-        let mut buf = [0; 8];
-        peer.write_all(b"in\n\n")?;
-        assert_eq!(rt; site.next_link(), Ok(true));
-        assert_eq!(rt; site.recv(&mut buf), Ok(4));
-        assert_eq!(rt; &buf[..4], b"in\n\n".as_slice());
-        assert_eq!(rt; site.send(b"out"), Ok(3));
-        peer.shutdown(Shutdown::Write)?;
-        assert_eq!(rt; site.recv(&mut buf), Ok(0));
-        Ok(())
-    }
-
-    /// Has the next link, with another peer, of which not all is read; the first has got its bytes.
-    fn next(
-        rt: &impl Abort,
-        site: &mut Connected<'_>,
-        peer: &mut TcpStream,
-        other: &mut TcpStream,
-    ) -> Result<(), Fail> {
-        let mut buf = [0; 8];
-        other.write_all(b"more than is read\n\n")?;
-        assert_eq!(rt; site.next_link(), Ok(true));
-        assert_eq!(rt; peer.read(&mut buf)?, 3);
-        assert_eq!(rt; peer.read(&mut buf)?, 0);
-        assert_eq!(rt; site.recv(&mut buf[..4]), Ok(4));
-        assert_eq!(rt; site.send(b"last"), Ok(4));
-        site.end_link();
-        assert_eq!(rt; site.link_faults, 0);
-        Ok(())
-    }
-
-    /// Reads the last bytes that come.
-    fn last(rt: &impl Abort, peer: &mut TcpStream) -> Result<(), Fail> {
-        let mut buf = [0; 8];
-        assert_eq!(rt; peer.read(&mut buf)?, 4);
-        assert_eq!(rt; &buf[..4], b"last".as_slice());
-        assert_eq!(rt; peer.read(&mut buf)?, 0);
-        Ok(())
-    }
-
-    #[test]
-    fn links_over_connections(rt: HostRuntime) -> Result<(), Fail> {
-        let source = listen(&rt, rt.alloc(), "127.0.0.1:0", &rt)?;
-        let Some(address) = source.address() else {
-            return Err(ErrorKind::NotConnected.into());
-        };
-        let mut site = Site::new(Book::none(), source, Vec::new(rt.alloc()), &rt);
-        let mut peer = TcpStream::connect(&rt, address)?;
-        first(&rt, &mut site, &mut peer)?;
-        let mut other = TcpStream::connect(&rt, address)?;
-        next(&rt, &mut site, &mut peer, &mut other)?;
-        let _book = site.finish();
-        last(&rt, &mut other)
-    }
-
-    #[test]
-    fn no_listener_no_links(rt: HostRuntime) -> Result<(), Fail> {
-        let book: Book<File> = Book::none();
-        let source = listen(&rt, rt.alloc(), "no address", &rt)?;
-        let mut site = Site::new(book, source, Vec::new(rt.alloc()), &rt);
-        assert_eq!(rt; site.next_link(), Err(LinkFault));
-        assert_eq!(rt; site.next_link(), Err(LinkFault));
-        assert_eq!(rt; site.link_faults, 2);
-        assert_eq!(rt; site.say(b"said"), Ok(()));
-        assert_eq!(rt; site.output.as_slice(), b"said".as_slice());
-        Ok(())
-    }
+    ghost sent_aside = { λ a ss e. silent_sent a ss e };
 }
