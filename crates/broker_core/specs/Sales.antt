@@ -7,7 +7,7 @@ use Rattle.scrip_certs.specs.Digests.{certificate, customer_secret}
 use Rattle.mc_records.specs.Entry as entries
 use Rattle.kept_replies.specs.declared.deed.Deed.{Deed}
 use Rattle.kept_replies.specs.declared.deed.Deed.TheVariants as kept
-use Rattle.ledger_model.specs.Lines.{Stop}
+use Rattle.ledger_model.specs.Lines.{Stop, ◌>>=◌}
 use Rattle.ledger_model.specs.Stages.{next_by}
 use Rattle.ledger_model.specs.Stock.{licensed_piece}
 use Rattle.broker_stock.specs.declared.piece.StockPiece.{StockPiece}

@@ -8,7 +8,7 @@ use Rattle.mc_records.specs.declared.refusal.Refusal.TheVariants.{JournalFull, S
 use Rattle.mc_records.specs.Refusals.{number_of}
 use Rattle.mc_records.specs.Entry.{Entry, payload}
 use Rattle.mc_records.specs.Sizes.{framed_size}
-use Rattle.ledger_model.specs.Lines.{Stop, Refuse, refused_if}
+use Rattle.ledger_model.specs.Lines.{Stop, Refuse, ◌>>=◌, refused_if}
 use Rattle.ledger_model.specs.Stages.{fitted_by}
 use Rattle.house_core.specs.declared.outcome.Outcome.{Outcome}
 use Rattle.house_core.specs.declared.outcome.Outcome.TheVariants as outcomes

@@ -15,7 +15,7 @@ use Rattle.mc_records.specs.Requests.{Asked}
 use Rattle.ledger_model.specs.Histories.{History}
 use Rattle.ledger_model.specs.Orders.{Order}
 use Rattle.ledger_model.specs.Accounts.{key_in}
-use Rattle.ledger_model.specs.Lines.{Stop, Refuse, Repeat, given, refused_if}
+use Rattle.ledger_model.specs.Lines.{Stop, Refuse, Repeat, ◌>>=◌, given, refused_if}
 use Rattle.ledger_model.specs.Stages.{Offer, supplied, drawable_by, payable_by}
 use Rattle.ledger_model.specs.Answer.{known_in, drawn}
 use Rattle.ledger_model.specs.Stock.{Sale, sale_at, knows_vendor, licensed_count, is_for_sale, for_sale}
