@@ -410,10 +410,10 @@ fn lengths(alloc: Global, histories: &[History]) -> Result<Vec<usize>, Fault> {
 
 /// Prints what each party's history has now, and the messages and the replies.
 fn show(left: &World, counts: &Counts, out: &mut Lines) {
-    show_parties("house", left.houses(), &counts.houses, out);
-    show_parties("wallet", left.wallets(), &counts.wallets, out);
-    show_all("message", left.messages(), out);
-    show_all("reply", left.replies(), out)
+    show_parties("house", &left.houses, &counts.houses, out);
+    show_parties("wallet", &left.wallets, &counts.wallets, out);
+    show_all("message", &left.messages, out);
+    show_all("reply", &left.replies, out)
 }
 
 fn show_parties(word: &str, histories: &[History], counts: &[usize], out: &mut Lines) {
