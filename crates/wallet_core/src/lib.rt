@@ -6,6 +6,7 @@
 mod ask;
 mod asking;
 mod calls;
+mod came;
 mod checked;
 mod checking;
 mod clock;
@@ -37,8 +38,6 @@ pub use prices::is_dash;
 pub use renewing::renew_place;
 pub use request::{RequestRef, WalletRequest, kept_request, pend_record};
 pub use sending::put_request;
-pub use settling::{
-    Settlement, is_change, paid_price, refusal_number, settled_as, settlement_record,
-};
+pub use settling::{Settlement, paid_price, refusal_number, settlement_record};
 pub use taking::{TakeFault, take_pieces, taken_list};
 pub use wallet::Wallet;
