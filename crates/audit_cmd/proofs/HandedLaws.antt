@@ -1,8 +1,12 @@
 -- Pieces of which each identity is taken once.
-use Rattle.std.proofs.Common.{◌≡◌, ℕ, ◌+◌, ◌<◌, Bool, true, false, cond, not, ◌||◌, List, [], ◌∷◌, ◌++◌, sum_by, length, take, drop, get_or, refl, sym, ap, ◌∙◌, arith, eqb, eqb-true, append_assoc}
+use Rattle.std.proofs.Common.{◌≡◌, ℕ, ◌+◌, ◌<◌, Bool, true, false, cond, not, ◌||◌, List, [], ◌∷◌, ◌++◌, map, sum_by, length, take, drop, get_or, refl, sym, ap, ap₂, ◌∙◌, arith, eqb, eqb-true, append_assoc}
 use Rattle.std.specs.List.{list_any}
 use Rattle.std.proofs.lemmas.List.Sums.{sum_by-cons}
+use Rattle.scrip_form.specs.Scrip.{Scrip}
+use Rattle.ledger_model.specs.Sums.{values}
 use Rattle.audit_model.specs.declared.part.Part.{Part}
+use Rattle.audit_model.specs.Parts.{part_of}
+use Rattle.audit_model.specs.Brokers.{once_from, again_from}
 use Rattle.audit_search.specs.Known.{has_id}
 use Rattle.audit_search.proofs.Ties.{turned}
 use Rattle.audit_search.proofs.Loops.{any_more}
@@ -10,6 +14,39 @@ use Rattle.audit_search.proofs.TotalLaws.{next_drop}
 use Rattle.audit_cmd.specs.Handed.{value_of, is_id, fresh, stale}
 
 -- ---- pieces of the ledger
+
+seen_is : (ids : List ℕ) (id : ℕ) → has_id ids id ≡ list_any (λ k. eqb k id) ids
+seen_is [] id = refl
+seen_is (k ∷ ks) id = ap₂ (λ (a b : Bool). a || b) (turned id k) (seen_is ks id)
+
+pub fresh_is : (seen : List ℕ) (ps : List Scrip) → fresh seen (map part_of ps) ≡ map part_of (once_from seen ps)
+fresh_is seen [] = refl
+fresh_is seen (p ∷ ps) =
+    ap (λ (b : Bool). cond b (fresh seen (map part_of ps)) (part_of p ∷ fresh (p.id ∷ seen) (map part_of ps))) (seen_is seen p.id)
+    ∙ go (list_any (λ k. eqb k p.id) seen) (fresh_is seen ps) (fresh_is (p.id ∷ seen) ps)
+  where
+    go : (b : Bool) → fresh seen (map part_of ps) ≡ map part_of (once_from seen ps) → fresh (p.id ∷ seen) (map part_of ps) ≡ map part_of (once_from (p.id ∷ seen) ps)
+        → cond b (fresh seen (map part_of ps)) (part_of p ∷ fresh (p.id ∷ seen) (map part_of ps)) ≡ map part_of (cond b (once_from seen ps) (p ∷ once_from (p.id ∷ seen) ps))
+    go true was one = was
+    go false was one = ap (λ (l : List Part). part_of p ∷ l) one
+
+stale_are : (seen : List ℕ) (ps : List Scrip) → stale seen (map part_of ps) ≡ map part_of (again_from seen ps)
+stale_are seen [] = refl
+stale_are seen (p ∷ ps) =
+    ap (λ (b : Bool). cond b (part_of p ∷ stale seen (map part_of ps)) (stale (p.id ∷ seen) (map part_of ps))) (seen_is seen p.id)
+    ∙ go (list_any (λ k. eqb k p.id) seen) (stale_are seen ps) (stale_are (p.id ∷ seen) ps)
+  where
+    go : (b : Bool) → stale seen (map part_of ps) ≡ map part_of (again_from seen ps) → stale (p.id ∷ seen) (map part_of ps) ≡ map part_of (again_from (p.id ∷ seen) ps)
+        → cond b (part_of p ∷ stale seen (map part_of ps)) (stale (p.id ∷ seen) (map part_of ps)) ≡ map part_of (cond b (p ∷ again_from seen ps) (again_from (p.id ∷ seen) ps))
+    go true was one = ap (λ (l : List Part). part_of p ∷ l) was
+    go false was one = one
+
+values_are : (ps : List Scrip) → sum_by value_of (map part_of ps) ≡ values ps
+values_are [] = refl
+values_are (p ∷ ps) = omega (arith, sum_by-cons value_of (part_of p) (map part_of ps), sum_by-cons (λ (q : Scrip). q.value) p ps, values_are ps)
+
+pub stale_is : (seen : List ℕ) (ps : List Scrip) → sum_by value_of (stale seen (map part_of ps)) ≡ values (again_from seen ps)
+stale_is seen ps = ap (sum_by value_of) (stale_are seen ps) ∙ values_are (again_from seen ps)
 
 -- ---- what was seen
 

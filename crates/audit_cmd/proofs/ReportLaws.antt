@@ -67,6 +67,10 @@ module _ (R : Type 0) {D : Type 0} (view : D → DiskView) (before after : List 
   fault_ends (faults.Stranger book name id) lawful calm is = inr (inr (inr refl))
   fault_ends faults.NoMemory lawful calm is = inr (inl refl)
 
+or_told : {A B C E : Type 0} → A ⊎ B → A ⊎ (B ⊎ (C ⊎ E))
+or_told (inl a) = inl a
+or_told (inr b) = inr (inl b)
+
 -- ---- whatever was found, by an audit that answers so and of which these lines are said
 
 module _ {R : Type 0} (Audits : List History → Result R BooksFault → Type 0) (said : R → List ℕ) where

@@ -49,9 +49,23 @@ module _ {A B : Type 0} where
       let p = zip_parted R ws us x ys a.1 in
       record { front = y ∷ p.front; there = p.there; back = p.back; is = ap (λ (l : List B). y ∷ l) p.is; fronts = (a.0, p.fronts); here = p.here; backs = p.backs }
 
+pub zip_same : {A : Type 0} (R : A → A → Type 0) → ((a : A) → R a a) → (xs : List A) → AllZip R xs xs
+zip_same R f [] = tt
+zip_same R f (x ∷ xs) = (f x, zip_same R f xs)
+
+pub zip_maps : {A : Type 0} (f : A → ℕ) (xs ys : List A) → AllZip (λ x y. f y ≡ f x) xs ys → map f ys ≡ map f xs
+zip_maps f [] [] a = refl
+zip_maps f [] (y ∷ ys) a = absurd a
+zip_maps f (x ∷ xs) [] a = absurd a
+zip_maps f (x ∷ xs) (y ∷ ys) a = λ i. a.0 i ∷ zip_maps f xs ys a.1 i
+
 pub map_append : {A B : Type 0} (f : A → B) (xs ys : List A) → map f (xs ++ ys) ≡ map f xs ++ map f ys
 map_append f [] ys = refl
 map_append f (x ∷ xs) ys = ap (λ l. f x ∷ l) (map_append f xs ys)
+
+pub length_map : {A B : Type 0} (f : A → B) (xs : List A) → length (map f xs) ≡ length xs
+length_map f [] = refl
+length_map f (x ∷ xs) = ap suc (length_map f xs)
 
 -- ---- one place
 

@@ -1,5 +1,5 @@
 -- What an audit finds by what was kept of the books is what their histories say.
-use Rattle.std.proofs.Common.{◌≡◌, ℕ, ◌+◌, Bool, true, false, cond, not, ◌||◌, eqb, eqb-true, true≢false, List, [], ◌∷◌, ◌++◌, map, filter, bytes_eq, Option, Some, option_map, unwrap_or, refl, sym, ap, ap₂, ◌∙◌, subst, IsTrue}
+use Rattle.std.proofs.Common.{◌≡◌, ℕ, ◌+◌, Bool, true, false, cond, not, ◌||◌, eqb, eqb-true, true≢false, List, [], ◌∷◌, ◌++◌, map, filter, bytes_eq, Option, Some, None, option_map, unwrap_or, refl, sym, ap, ap₂, ◌∙◌, subst, IsTrue}
 use Rattle.std.specs.Option.{option_or}
 use Rattle.std.specs.List.{list_any, AllByRecursion}
 use Rattle.std.proofs.lemmas.List.{map-append}
@@ -84,6 +84,20 @@ each_has (h ∷ hs) = go (is_broker h) refl (each_has hs)
         × AllByRecursion (λ x. is_broker x ≡ false → has_book (cond (not d) (h ∷ shops_among hs) (shops_among hs)) (site_name x) ≡ true) hs
     go true e all = ((λ vendor. absurd (true≢false (sym e ∙ vendor))), wider h true hs hs all)
     go false e all = ((λ vendor. ap (λ (a : Bool). a || has_book (shops_among hs) (site_name h)) (same_bytes (site_name h))), wider h false hs hs all)
+
+-- tests that agree find the same
+in_alike : {X : Type 0} (f g : Option Part → Option ℕ) (k : X → Option ℕ) → ((o : Option Part) → f o ≡ g o) → (rows : List Acceptance) (ss : List X) → first_in f k rows ss ≡ first_in g k rows ss
+in_alike f g k same [] ss = refl
+in_alike f g k same (a ∷ rows) ss = rw (same a.piece, in_alike f g k same rows _) refl
+
+not_alike : (p q : ℕ → ℕ → Bool) → ((id value : ℕ) → p id value ≡ q id value) → (o : Option Part) → not_in p o ≡ not_in q o
+not_alike p q same None = refl
+not_alike p q same (Some x) = ap (λ (b : Bool). cond b None (Some x.id)) (same x.id x.value)
+
+-- where two tests of what was handed out agree, they find the same first stranger
+pub first_alike : {X : Type 0} (p q : ℕ → ℕ → Bool) (k : X → Option ℕ) → ((id value : ℕ) → p id value ≡ q id value) → (rows : List Acceptance) (ss : List X)
+    → first_in (not_in p) k rows ss ≡ first_in (not_in q) k rows ss
+first_alike p q k same rows ss = in_alike (not_in p) (not_in q) k (not_alike p q same) rows ss
 
 -- ---- the kind of a book
 

@@ -1,30 +1,30 @@
 -- A shop, and what the histories of the broker and the vendor say.
-use Rattle.std.proofs.Common.{◌≡◌, ℕ, Bool, true, false, cond, eqb, List, [], ◌∷◌, ◌++◌, find, filter_map, bytes_eq, Option, Some, None, option_map, refl, sym, ap, ap₂, ◌∙◌}
+use Rattle.std.proofs.Common.{◌≡◌, ℕ, Bool, true, false, cond, eqb, ◌&&◌, List, [], ◌∷◌, ◌++◌, map, find, filter, filter_map, flat_map, bytes_eq, Option, Some, None, option_map, refl, sym, ap, ap₂, ◌∙◌}
 use Rattle.std.specs.Prelude.{option_and_then}
 use Rattle.std.specs.Option.{option_or}
-use Rattle.std.specs.List.{list_any}
+use Rattle.std.specs.List.{list_any, cons_option}
 use Rattle.std.proofs.lemmas.List.Folds.{find-append}
 use Rattle.std.proofs.lemmas.List.Elements.{filter_map-append}
 use Rattle.std.proofs.lemmas.Slice.Eq.{bytes_eq-Decides}
 use Rattle.scrip_form.specs.Identities.{series_of}
 use Rattle.scrip_form.specs.Issuing.{Issuing}
 use Rattle.scrip_form.specs.Scrip.{Scrip}
-use Rattle.mc_records.specs.Entry.{Held, Licence}
+use Rattle.mc_records.specs.Entry.{Held, Licence, Stock}
 use Rattle.ledger_model.specs.Histories.{History}
 use Rattle.ledger_model.specs.Houses.{site_name, version}
-use Rattle.ledger_model.specs.Pieces.{minted}
-use Rattle.ledger_model.specs.Stock.{licence_terms, is_licence_of, licence_in, held_piece, held_pieces, stock_pieces, licensed_piece, sold_piece}
+use Rattle.ledger_model.specs.Pieces.{piece_of, minted}
+use Rattle.ledger_model.specs.Stock.{licence_terms, is_licence_of, licence_in, stock_of, held_piece, held_pieces, stock_pieces, Sale, is_of_vendor, licensed_piece, sold_piece}
 use Rattle.audit_model.specs.declared.part.Part.{Part}
 use Rattle.audit_model.specs.Parts.{part_of}
 use Rattle.audit_sums.specs.declared.rows.Sold.{Sold}
 use Rattle.audit_sums.specs.declared.rows.Stocked.{Stocked}
 use Rattle.audit_sums.specs.declared.audit_sums.BookSums.{BookSums}
-use Rattle.audit_sums.specs.Rows.{licence_of, sale_by}
+use Rattle.audit_sums.specs.Rows.{licence_of, stocked_of, stocked_held, sale_by}
 use Rattle.audit_sums.specs.Learned.{SumsRepresent}
 use Rattle.audit_search.specs.Known.{knows, is_in_run}
-use Rattle.audit_search.specs.Shops.{licensed, is_stocked, stocked_row, licensed_part, in_stock, part_sold, IsShopOf}
+use Rattle.audit_search.specs.Shops.{licensed, is_stocked, stocked_row, licensed_part, in_stock, part_sold, parts_sold, IsShopOf}
 use Rattle.audit_search.specs.declared.shop.Shop.{Shop}
-use Rattle.audit_search.proofs.Ties.{is_same, minted_are}
+use Rattle.audit_search.proofs.Ties.{turned, is_same, minted_are}
 
 -- ---- licences
 
@@ -62,6 +62,37 @@ found_append id xs ys =
 pub row_append : (name : List ℕ) (id : ℕ) (xs ys : List Stocked) → stocked_row (xs ++ ys) name id ≡ option_or (stocked_row xs name id) (stocked_row ys name id)
 row_append name id xs ys =
     ap (option_map (λ (r : Stocked). r.part)) (find-append (is_stocked name id) xs ys) ∙ or_part (find (is_stocked name id) xs) (find (is_stocked name id) ys)
+
+-- of the pieces of one entry
+held_row : (name vendor : List ℕ) (id : ℕ) (helds : List Held) → stocked_row (filter_map (stocked_held vendor) helds) name id ≡ found id (cond (bytes_eq vendor name) helds [])
+held_row name vendor id helds = go (bytes_eq vendor name) refl helds
+  where
+    one : (b : Bool) → bytes_eq vendor name ≡ b → (o : Option Scrip) (rows : List Stocked) (ps : List Scrip)
+        → stocked_row rows name id ≡ option_map part_of (find (λ p. eqb p.id id) (cond b ps []))
+        → stocked_row (cons_option (option_map (λ (p : Scrip). record { vendor = vendor; part = part_of p }) o) rows) name id ≡ option_map part_of (find (λ p. eqb p.id id) (cond b (cons_option o ps) []))
+    one b e None rows ps ih = ih
+    one true e (Some p) rows ps ih = here (eqb id p.id) refl
+      where
+        here : (t : Bool) → eqb id p.id ≡ t
+            → option_map (λ (r : Stocked). r.part) (cond (bytes_eq vendor name && eqb id p.id) (Some (record { vendor = vendor; part = part_of p })) (find (is_stocked name id) rows))
+            ≡ option_map part_of (cond (eqb p.id id) (Some p) (find (λ q. eqb q.id id) ps))
+        here true f = rw (e, f) (rw (sym (turned id p.id) ∙ f) refl)
+        here false f = rw (e, f) (rw (sym (turned id p.id) ∙ f) ih)
+    one false e (Some p) rows ps ih = rw e ih
+
+    go : (b : Bool) → bytes_eq vendor name ≡ b → (hs : List Held) → stocked_row (filter_map (stocked_held vendor) hs) name id ≡ found id (cond b hs [])
+    go true e [] = refl
+    go false e [] = refl
+    go true e (x ∷ hs) = one true e (piece_of x.text) (filter_map (stocked_held vendor) hs) (held_pieces hs) (go true e hs)
+    go false e (x ∷ hs) = one false e (piece_of x.text) (filter_map (stocked_held vendor) hs) (held_pieces hs) (go false e hs)
+
+pub stocked_is : (name : List ℕ) (id : ℕ) (h : History) → stocked_row (flat_map stocked_of h) name id ≡ option_map part_of (find (λ p. eqb p.id id) (stock_pieces h name))
+stocked_is name id [] = refl
+stocked_is name id (Stock m vendor pieces ∷ es) =
+    row_append name id (filter_map (stocked_held vendor) pieces) (flat_map stocked_of es)
+    ∙ ap₂ (λ (a b : Option Part). option_or a b) (held_row name vendor id pieces) (stocked_is name id es)
+    ∙ sym (found_append id (cond (bytes_eq vendor name) pieces []) (flat_map (stock_of name) es))
+stocked_is name id (e ∷ es) = stocked_is name id es
 
 -- ---- a shop
 
@@ -105,3 +136,25 @@ piece_is b v shop s is same = go s.stock
 
 pub part_is : (b v : History) (shop : Shop) (s : Sold) → IsShopAt b v shop → bytes_eq s.vendor shop.name ≡ true → part_sold shop s ≡ option_map part_of (sold_piece b (sale_by s))
 part_is b v shop s is same = piece_is b v shop s is (name_is s shop.name same ∙ is.on.name')
+
+mapped_cons : (o : Option Scrip) (ps : List Scrip) → cons_option (option_map part_of o) (map part_of ps) ≡ map part_of (cons_option o ps)
+mapped_cons None ps = refl
+mapped_cons (Some p) ps = refl
+
+pub sold_are : (b v : History) (shop : Shop) (rows : List Sold) → IsShopAt b v shop
+    → parts_sold shop rows ≡ map part_of (filter_map (sold_piece b) (filter (is_of_vendor (site_name v)) (map sale_by rows)))
+sold_are b v shop [] is = refl
+sold_are b v shop (s ∷ rows) is =
+    go (bytes_eq s.vendor shop.name) refl (sold_are b v shop rows is)
+    ∙ ap (λ (name : List ℕ). map part_of (filter_map (sold_piece b) (cond (bytes_eq s.vendor name) (sale_by s ∷ filter (is_of_vendor (site_name v)) (map sale_by rows)) (filter (is_of_vendor (site_name v)) (map sale_by rows))))) is.on.name'
+  where
+    rest : List Sale
+    rest = filter (is_of_vendor (site_name v)) (map sale_by rows)
+
+    go : (t : Bool) → bytes_eq s.vendor shop.name ≡ t → parts_sold shop rows ≡ map part_of (filter_map (sold_piece b) rest)
+        → filter_map (part_sold shop) (cond t (s ∷ filter (λ x. bytes_eq x.vendor shop.name) rows) (filter (λ x. bytes_eq x.vendor shop.name) rows))
+        ≡ map part_of (filter_map (sold_piece b) (cond t (sale_by s ∷ rest) rest))
+    go true e ih =
+        ap₂ (λ (o : Option Part) (ps : List Part). cons_option o ps) (part_is b v shop s is e) ih
+        ∙ mapped_cons (sold_piece b (sale_by s)) (filter_map (sold_piece b) rest)
+    go false e ih = ih

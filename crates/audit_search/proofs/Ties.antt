@@ -1,19 +1,19 @@
 -- What was kept of a book, and what its history says of pieces.
-use Rattle.std.proofs.Common.{◌≡◌, ℕ, zero, suc, ◌+◌, Bool, true, false, cond, not, eqb, ltb, leb, ◌&&◌, ◌||◌, List, [], ◌∷◌, ◌++◌, map, filter_map, sum_by, refl, sym, ap, ap₂, ◌∙◌, eq-eqb, eqb-true, arith}
-use Rattle.std.specs.List.{list_any}
+use Rattle.std.proofs.Common.{◌≡◌, ℕ, zero, suc, ◌+◌, Bool, true, false, cond, not, eqb, ltb, leb, ◌&&◌, ◌||◌, List, [], ◌∷◌, ◌++◌, map, filter_map, sum_by, Option, Some, None, option_map, refl, sym, ap, ap₂, ◌∙◌, eq-eqb, eqb-true, arith}
+use Rattle.std.specs.List.{list_any, cons_option}
 use Rattle.std.proofs.lemmas.Bool.Decides.{nat_tests}
 use Rattle.std.proofs.lemmas.List.Folds.{list_any-append}
 use Rattle.std.proofs.lemmas.List.Sums.{sum_by-cons}
 use Rattle.scrip_form.specs.Scrip.{Scrip}
-use Rattle.mc_records.specs.Entry.{Mint}
+use Rattle.mc_records.specs.Entry.{Accept, Mint}
 use Rattle.ledger_model.specs.Histories.{History, time}
-use Rattle.ledger_model.specs.Pieces.{is_spent, run_from, minted_from}
+use Rattle.ledger_model.specs.Pieces.{piece_of, accepted, is_spent, run_from, minted_from}
 use Rattle.ledger_model.specs.Sums.{outstanding, lapsed}
 use Rattle.audit_model.specs.declared.part.Part.{Part}
 use Rattle.audit_model.specs.Parts.{part_of, still_out, gone_by}
 use Rattle.audit_model.proofs.Left.{outstanding_is, lapsed_is}
-use Rattle.audit_sums.specs.Rows.{run_of}
-use Rattle.audit_search.specs.Known.{has_part, is_in_run, out_at, gone_at}
+use Rattle.audit_sums.specs.Rows.{acceptance_of, run_of}
+use Rattle.audit_search.specs.Known.{has_part, is_in_run, is_piece, was_accepted, out_at, gone_at}
 
 pub turned : (a b : ℕ) → eqb a b ≡ eqb b a
 turned a b = go (eqb a b) refl (eqb b a) refl
@@ -29,6 +29,16 @@ abbrev pub is_same : ℕ → ℕ → Scrip → Bool
 is_same id value q = eqb q.id id && eqb q.value value
 
 -- ---- what was accepted
+
+pub accepted_is : (id : ℕ) (h : History) → was_accepted (filter_map acceptance_of h) id ≡ is_spent h id
+accepted_is id [] = refl
+accepted_is id (Accept m scrip target sign price change deed ∷ es) = go (piece_of scrip) (accepted_is id es)
+  where
+    go : (o : Option Scrip) → was_accepted (filter_map acceptance_of es) id ≡ is_spent es id
+        → (is_piece id (option_map part_of o) || was_accepted (filter_map acceptance_of es) id) ≡ list_any (λ p. eqb p.id id) (cons_option o (accepted es))
+    go None ih = ih
+    go (Some p) ih = ap₂ (λ (a b : Bool). a || b) (turned id p.id) ih
+accepted_is id (e ∷ es) = accepted_is id es
 
 -- ---- pieces that are known
 

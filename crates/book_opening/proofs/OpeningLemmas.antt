@@ -7,10 +7,11 @@ use Rattle.mc_records.specs.Chains.{chain, is_switch}
 use Rattle.mc_records.specs.Following.{AllFollowBy}
 use Rattle.mc_records.specs.Sizes.{size, entry_size}
 use Rattle.mc_records.specs.declared.limits.TheConstants.Limits.{MOST_JOURNAL}
-use Rattle.scrip_journal.specs.Layout.{Encodes}
+use Rattle.scrip_journal.specs.Layout.{Encodes, IsSpoiled, IsUnchained}
 use Rattle.scrip_journal.specs.States.{Reading, IsReading}
 use Rattle.scrip_journal.specs.Replays.{ReadsOn}
 use Rattle.scrip_journal.specs.declared.ending.ReplayFault.{ReplayFault}
+use Rattle.scrip_journal.specs.declared.ending.ReplayFault.TheVariants.{BadRecord, BadChain, Disk}
 use Rattle.scrip_journal.specs.Causes.{IsOfKind, IsOfOther, BeginsWithEntries, IsUnlawfulAt}
 use Rattle.scrip_journal.proofs.Bodies.{size_more}
 use Rattle.scrip_journal.proofs.Reading.{bytes_told}
@@ -67,6 +68,13 @@ pub read_on_then : {D : Type 0} (view : D → DiskView) (moved : D → D → Typ
 read_on_then view moved a b c goes m n = record { disk_moved = goes; only_read = read_then (view a.disk) (view b.disk) (view c.disk) m.only_read n.only_read; limit = n.limit ∙ m.limit }
 
 -- ---- behind entries that were learned
+
+-- why no entry was read behind those that may follow one another
+faulted : {D L : Type 0} (view : D → DiskView) (opener : OpenerView L) (x bytes : List ℕ) (gate : ℕ) (new : Reading D) (h : List Entry) → AllFollowBy opener.may [] h → IsOfKind opener.kinds h → bytes ≡ x
+    → (fault : ReplayFault) → ReadsOn view h bytes gate (Err fault) new → HaltsBy opener x (halts.Reading fault)
+faulted view opener x bytes gate new h follow of same (BadRecord place) reads = record { before = h; follow = follow; of_kind = of; reads = subst (λ (l : List ℕ). IsSpoiled h l place) same reads.0 }
+faulted view opener x bytes gate new h follow of same (BadChain place stood computed) reads = record { before = h; follow = follow; of_kind = of; reads = subst (λ (l : List ℕ). IsUnchained h l place stood computed) same reads.0 }
+faulted view opener x bytes gate new h follow of same Disk reads = tt
 
 module _ {D L : Type 0} (view : D → DiskView) (opener : OpenerView L) (x : List ℕ) (old new : Reading D) (learner : L)
     (told : (view old.disk).contents ≡ Some x) (h : List Entry) (reading : IsReading view old h) (l : HasLearned opener learner h) where

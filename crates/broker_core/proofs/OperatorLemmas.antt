@@ -100,6 +100,13 @@ new_licensed t vendor terms o is = ap (λ (x : Option Issuing). licensed t vendo
 
 -- ---- another answer
 
+-- an outcome, with another answer where it is done
+abbrev pub told_as : {D T A B : Type 0} → B → Outcome D T A → Outcome D T B
+told_as b (outcomes.Done x a) = outcomes.Done x b
+told_as b (outcomes.Refused x f) = outcomes.Refused x f
+told_as b (outcomes.NoMemory x) = outcomes.NoMemory x
+told_as b (outcomes.Halted d) = outcomes.Halted d
+
 module _ {D T A B : Type 0} (view : D → DiskView) (trade : T → TradeView) (Told : Task → History → A → Type 0) (Tells : Task → History → B → Type 0) (limits : Limits) (disk : D) (h : History) (b : B) where
   -- what a house says of each history that it represents
   abbrev Says : HouseView D T → Type 0

@@ -1,5 +1,5 @@
 -- The held texts of a Stock entry: what each is read as, and what is kept of them.
-use Rattle.std.proofs.Common.{◌≡◌, ℕ, Bool, true, false, cond, eqb, ◌&&◌, ◌||◌, not, List, [], ◌∷◌, ◌++◌, length, Some, None, option_map, Ok, refl, sym, ap, ap₂, ◌∙◌, append-nil}
+use Rattle.std.proofs.Common.{◌≡◌, ℕ, suc, ◌≤◌, Bool, true, false, cond, eqb, ◌&&◌, ◌||◌, not, List, [], ◌∷◌, ◌++◌, length, Option, Some, None, option_map, Ok, refl, sym, ap, ap₂, ◌∙◌, append-nil, arith}
 use Rattle.std.specs.Prelude.{unwrap_or}
 use Rattle.std.specs.List.{list_any, list_all, cons_option}
 use Rattle.std.proofs.lemmas.Bool.{eqb-true, eq-eqb}
@@ -9,7 +9,8 @@ use Rattle.scrip_form.specs.Reading.{scrip_at, scrip_of}
 use Rattle.scrip_form.proofs.Laws.{scrip_reads}
 use Rattle.mc_records.specs.Entry.{Held}
 use Rattle.ledger_model.specs.Stock.{held_piece, ids_of, may_be_stock, are_new, are_stock}
-use Rattle.broker_stalls.specs.Listed.{stock_piece, listed_at}
+use Rattle.broker_stock.specs.declared.piece.StockPiece.{StockPiece}
+use Rattle.broker_stalls.specs.Listed.{stock_piece, listed_piece, listed_at}
 
 -- what is read of the text of a piece with its certificate
 pub read_whole : (bytes : List ℕ) (p : Scrip) (cert : List ℕ) → IsTextOf bytes p cert → scrip_of bytes ≡ Ok (p, cert)
@@ -74,3 +75,11 @@ moved id (s ∷ seen) known q = swap (eqb id q) (eqb s q) _ ∙ ap (λ b. eqb s 
     swap false b c = refl
 
 -- ---- counts
+
+pub listed_few : (value : ℕ) (helds : List Held) → length (listed_at value helds) ≤ length helds
+listed_few value [] = omega arith
+listed_few value (held ∷ helds) = go (listed_piece value held) (listed_few value helds)
+  where
+    go : (o : Option StockPiece) → length (listed_at value helds) ≤ length helds → length (cons_option o (listed_at value helds)) ≤ suc (length helds)
+    go None few = omega (arith, few)
+    go (Some p) few = omega (arith, few)

@@ -15,9 +15,16 @@ use Rattle.settle_core.specs.Settlement.{stated_amount, paid_amount, redeemed, s
 pub says_no : (P : Type 0) → (P → ⊥) → IsTrue false ↔ P
 says_no P not = (λ ok. absurd (false≢true ok), λ p. absurd (not p))
 
+pub not_some : {A : Type 0} (x : A) → None ≡ Some x → ⊥
+not_some x e = absurd cc
+
 pub none_is : (o : Option ℕ) → is_some o ≡ false → o ≡ None
 none_is None e = refl
 none_is (Some n) e = absurd cc
+
+some_not_none : (o : Option ℕ) → is_some o ≡ true → o ≡ None → ⊥
+some_not_none None is none = false≢true is
+some_not_none (Some n) is none = absurd cc
 
 -- ---- the bytes of a note
 

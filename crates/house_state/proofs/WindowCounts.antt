@@ -1,6 +1,6 @@
 -- Which windows of a house have a marked identity, and how many there are.
 use Rattle.std.proofs.Common.{◌≡◌, ◌≢◌, ℕ, ◌*◌, ◌^◌, ◌<◌, Bool, true, false, cond, eqb, leb, List, [], ◌∷◌, length, map, Option, Some, None, option_map, refl, sym, ap, ap₂, subst, ◌∙◌, arith}
-use Rattle.std.specs.Prelude.{◌&&◌, ◌||◌, unwrap_or, is_some, find}
+use Rattle.std.specs.Prelude.{◌&&◌, ◌||◌, not, unwrap_or, is_some, find, filter}
 use Rattle.std.specs.List.{list_any, AllPairs}
 use Rattle.std.specs.Set.{distinct_count}
 use Rattle.std.specs.Cmp.{both_ways}
@@ -9,7 +9,8 @@ use Rattle.std.proofs.lemmas.Cmp.{nat_eq_equiv}
 use Rattle.std.proofs.lemmas.List.{length-map, get_or-map}
 use Rattle.std.proofs.lemmas.Map.Made.{length-from_keys, IsDistinct-from_AllPairs}
 use Rattle.scrip_form.specs.Issuing.{Issuing}
-use Rattle.spent_windows.specs.Windows.{WindowView, window_of, is_numbered, is_marked, end_of, lasts, later_than, AreInOrder}
+use Rattle.scrip_form.specs.Scrip.{Scrip}
+use Rattle.spent_windows.specs.Windows.{WindowView, window_of, bit_of, has_mark, is_numbered, is_marked, end_of, lasts, later_than, AreInOrder}
 use Rattle.spent_windows.specs.Store.{no_window}
 use Rattle.ledger_model.specs.Histories.{History}
 use Rattle.ledger_model.specs.Pieces.{accepted, is_spent}
@@ -73,6 +74,15 @@ used_marked id ws new more same used k e found = by (eqb (window_of k) (window_o
 abbrev stands : List WindowView → ℕ → Bool
 stands ws number = list_any (eqb number) (map (λ (w : WindowView). w.number) ws)
 
+stands_from : (ws : List WindowView) (number : ℕ) → is_some (find (is_numbered number) ws) ≡ true → stands ws number ≡ true
+stands_from [] number found = absurd cc
+stands_from (w ∷ ws) number found = go (eqb w.number number) refl (stands_from ws number) found
+  where
+    go : (b : Bool) → eqb w.number number ≡ b → (is_some (find (is_numbered number) ws) ≡ true → stands ws number ≡ true)
+        → is_some (cond b (Some w) (find (is_numbered number) ws)) ≡ true → (eqb number w.number || stands ws number) ≡ true
+    go true is more some = rw (eq-eqb number w.number (sym (eqb-true w.number number is))) refl
+    go false is more some = ap (λ (b : Bool). eqb number w.number || b) (more some) ∙ or_true (eqb number w.number)
+
 found_from : (ws : List WindowView) (number : ℕ) → stands ws number ≡ true → is_some (find (is_numbered number) ws) ≡ true
 found_from [] number is = absurd cc
 found_from (w ∷ ws) number is = go (eqb w.number number) refl (found_from ws number)
@@ -83,6 +93,71 @@ found_from (w ∷ ws) number is = go (eqb w.number number) refl (found_from ws n
     go false other more =
         let apart : eqb number w.number ≡ false = ne_eqb number w.number (λ e. eqb-false w.number number other (sym e)) in
         more (ap (λ (b : Bool). b || stands ws number) (sym apart) ∙ is)
+
+an_end : (o : Option WindowView) → is_some o ≡ true → (end : ℕ) × (option_map (λ (w : WindowView). w.end) o ≡ Some end)
+an_end None is = absurd cc
+an_end (Some w) is = (w.end, refl)
+
+-- an identity of a window that stands has an end
+end_there : (ws : List WindowView) (id : ℕ) → stands ws (window_of id) ≡ true → (end : ℕ) × (end_of ws id ≡ Some end)
+unfolding end_of
+end_there ws id is = an_end (find (is_numbered (window_of id)) ws) (found_from ws (window_of id) is)
+
+-- the window of a marked identity stands
+marked_stands : (ws : List WindowView) (id : ℕ) → is_marked ws id ≡ true → stands ws (window_of id) ≡ true
+unfolding is_marked
+marked_stands ws id is = stands_from ws (window_of id) (go (find (is_numbered (window_of id)) ws) is)
+  where
+    go : (o : Option WindowView) → unwrap_or (option_map (λ (w : WindowView). has_mark w (bit_of id)) o) false ≡ true → is_some o ≡ true
+    go None is = absurd cc
+    go (Some w) is = refl
+
+marked_ends : (ws : List WindowView) (id : ℕ) → is_marked ws id ≡ true → (end : ℕ) × (end_of ws id ≡ Some end)
+marked_ends ws id is = end_there ws id (marked_stands ws id is)
+
+-- the windows of those of some pieces whose series has not ended
+abbrev live_of : History → ℕ → List Scrip → List ℕ
+live_of h t ps = map (λ (p : Scrip). window_of p.id) (filter (λ (p : Scrip). not (has_ended h t p.id)) ps)
+
+live_has : (h : History) (t : ℕ) (ps : List Scrip) (id : ℕ) → has_ended h t id ≡ false → list_any (λ (p : Scrip). eqb p.id id) ps ≡ true → list_any (eqb (window_of id)) (live_of h t ps) ≡ true
+live_has h t [] id live is = absurd cc
+live_has h t (p ∷ ps) id live is = go (eqb p.id id) refl (live_has h t ps id live) is
+  where
+    more : (b : Bool) → list_any (eqb (window_of id)) (live_of h t ps) ≡ true
+        → list_any (eqb (window_of id)) (map (λ (x : Scrip). window_of x.id) (cond b (p ∷ filter (λ (x : Scrip). not (has_ended h t x.id)) ps) (filter (λ (x : Scrip). not (has_ended h t x.id)) ps))) ≡ true
+    more true ih = ap (λ (b : Bool). eqb (window_of id) (window_of p.id) || b) ih ∙ or_true (eqb (window_of id) (window_of p.id))
+    more false ih = ih
+
+    go : (b : Bool) → eqb p.id id ≡ b → (list_any (λ (x : Scrip). eqb x.id id) ps ≡ true → list_any (eqb (window_of id)) (live_of h t ps) ≡ true)
+        → (b || list_any (λ (x : Scrip). eqb x.id id) ps) ≡ true → list_any (eqb (window_of id)) (live_of h t (p ∷ ps)) ≡ true
+    go true same ih any =
+        let is_id : p.id ≡ id = eqb-true p.id id same in
+        let goes : has_ended h t p.id ≡ false = ap (has_ended h t) is_id ∙ live in
+        let first : eqb (window_of id) (window_of p.id) ≡ true = eq-eqb (window_of id) (window_of p.id) (ap window_of (sym is_id)) in
+        rw (goes, first) refl
+    go false other ih any = more (not (has_ended h t p.id)) (ih any)
+
+-- such a piece
+abbrev LivePiece : History → ℕ → List Scrip → ℕ → Type 0
+LivePiece h t ps number = (id : ℕ) × (window_of id ≡ number) × (has_ended h t id ≡ false) × (list_any (λ (p : Scrip). eqb p.id id) ps ≡ true)
+
+live_piece : (h : History) (t : ℕ) (ps : List Scrip) (number : ℕ) → list_any (eqb number) (live_of h t ps) ≡ true → LivePiece h t ps number
+live_piece h t [] number is = absurd cc
+live_piece h t (p ∷ ps) number is = go (has_ended h t p.id) refl (live_piece h t ps number) is
+  where
+    later : LivePiece h t ps number → LivePiece h t (p ∷ ps) number
+    later x = (x.0, x.1, x.2, ap (λ (b : Bool). eqb p.id x.0 || b) x.3 ∙ or_true (eqb p.id x.0))
+
+    first : (b : Bool) → eqb number (window_of p.id) ≡ b → has_ended h t p.id ≡ false → (list_any (eqb number) (live_of h t ps) ≡ true → LivePiece h t ps number)
+        → (b || list_any (eqb number) (live_of h t ps)) ≡ true → LivePiece h t (p ∷ ps) number
+    first true same live ih any = (p.id, sym (eqb-true number (window_of p.id) same), live, ap (λ (b : Bool). b || list_any (λ (x : Scrip). eqb x.id p.id) ps) (eq-eqb p.id p.id refl))
+    first false other live ih any = later (ih any)
+
+    go : (b : Bool) → has_ended h t p.id ≡ b → (list_any (eqb number) (live_of h t ps) ≡ true → LivePiece h t ps number)
+        → list_any (eqb number) (map (λ (x : Scrip). window_of x.id) (cond (not b) (p ∷ filter (λ (x : Scrip). not (has_ended h t x.id)) ps) (filter (λ (x : Scrip). not (has_ended h t x.id)) ps))) ≡ true
+        → LivePiece h t (p ∷ ps) number
+    go true ended ih any = later (ih any)
+    go false live ih any = first (eqb number (window_of p.id)) refl live ih any
 
 module _ {b : HouseStateView} {h : History} (st : StateRepresents b h) (sound : IsSound b) where
   -- the series of a marked identity has not ended

@@ -158,6 +158,10 @@ pub memory_stays : (whole : Bool) → answered whole 5 ≡ 5
 memory_stays true = refl
 memory_stays false = refl
 
+or_refused : {A B C : Type 0} → A ⊎ B → A ⊎ (B ⊎ C)
+or_refused (inl a) = inl a
+or_refused (inr b) = inr (inl b)
+
 -- what was done with the book of a wallet
 module _ {O : Type 0} (link : O → LinkView) (disk : O → DiskView) (a b c : O) (read : (link c).readings ≡ (link b).readings) (status : Status) (has : HasWallet (disk a)) (calm : wallet_ends.Calm link disk a b) where
   paid_well : (asking : Asking) → Pays link disk asking a status b → IsDoneOrRefused (RefusesPayment link disk asking a) (number_of status)

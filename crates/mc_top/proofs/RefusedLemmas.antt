@@ -45,7 +45,7 @@ use Rattle.wallet_commands.specs.Taking.{TookBy, TakesBook}
 use Rattle.wallet_commands.specs.Chaining.{switch_entry, ChainedBy, HasChained, ChainsBook}
 use Rattle.wallet_core.proofs.DiskLemmas.{not_of_other}
 use Rattle.mc_top.specs.Refusals.{RefusesFounder, RefusesOperator, RefusesEntry, RefusesPieces, RefusesRequest, RefusesAsking, RefusesAgain, RefusesSwitch, IsAtTime, RefusesPayment, RefusesRenewal, RefusesLines}
-use Rattle.mc_top.specs.Programs.{HaveBooks, IsDoneOrStrange}
+use Rattle.mc_top.specs.Programs.{IsDoneOrRefused, HaveBooks, IsDoneOrStrange}
 
 -- ---- statuses by their numbers
 
@@ -82,6 +82,12 @@ told_stranger ends.DiskFault is = absurd (cc is)
 told_stranger ends.NoMemory is = absurd (cc is)
 told_stranger ends.LinkFault is = absurd (cc is)
 told_stranger (ends.Refused f) is = absurd (cc is)
+
+-- where each refusal that may be told has its reason
+pub with_reason : (Reason : Refusal → Type 0) (status : Status) → (number_of status ≡ 0) ⊎ ((number_of status ≡ 5) ⊎ (number_of status ≡ 7)) → ((f : Refusal) → status ≡ ends.Refused f → Reason f) → IsDoneOrRefused Reason (number_of status)
+with_reason Reason status (inl done) reason = inl done
+with_reason Reason status (inr (inl short)) reason = inr (inl short)
+with_reason Reason status (inr (inr is)) reason = let told = told_refusal status is in inr (inr (is, told.0, reason told.0 told.1))
 
 -- ---- auditors
 

@@ -1,8 +1,9 @@
 -- The bytes of entries, one entry after the other.
-use Rattle.std.proofs.Common.{◌≡◌, ℕ, suc, ◌+◌, ◌≤◌, List, [], ◌∷◌, ◌++◌, length, take, refl, sym, ◌∙◌, ap, arith, append_assoc, length-append}
+use Rattle.std.proofs.Common.{◌≡◌, ◌⊎◌, inl, inr, ℕ, suc, ◌+◌, ◌≤◌, List, [], ◌∷◌, ◌++◌, length, take, refl, sym, ◌∙◌, ap, arith, append_assoc, length-append}
 use Rattle.std.specs.List.{AllByRecursion}
 use Rattle.std.specs.Int.{to_be_bytes, w32}
 use Rattle.std.proofs.lemmas.List.{append-nil}
+use Rattle.std.proofs.lemmas.Bool.{cases_eq}
 use Rattle.mc_records.specs.declared.limits.TheConstants.Limits.{MOST_JOURNAL}
 use Rattle.mc_records.specs.Entry.{Entry, Fits, payload}
 use Rattle.mc_records.specs.Sizes.{tail, entry_size, size_from, size}
@@ -73,3 +74,11 @@ stands_more h e rest c all fits most is = record {
   closed = λ zero_is. absurd (cc zero_is);
   shape = is ∙ sym (append_assoc (body h) (1 ∷ framed h e) (0 ∷ rest)) ∙ ap (λ (l : List ℕ). l ++ 0 ∷ rest) (sym (body_more h e));
 }
+
+-- an entry and a closed gate behind any gate: the entry counts or it doesn't
+pub stands_either : (h : List Entry) (e : Entry) (rest c : List ℕ) (g : ℕ) → AllByRecursion Fits h → Fits e → size h ≤ MOST_JOURNAL → size (h ++ e ∷ []) ≤ MOST_JOURNAL
+    → c ≡ body h ++ g ∷ (framed h e ++ 0 ∷ rest) → Encodes h c ⊎ Encodes (h ++ e ∷ []) c
+stands_either h e rest c g all fits least most is = elim (cases_eq g 1) [
+  | inl opened ↦ inr (stands_more h e rest c all fits most (is ∙ ap (λ (k : ℕ). body h ++ k ∷ (framed h e ++ 0 ∷ rest)) opened))
+  | inr shut ↦ inl (record { fits = all; most = least; gate = g; rest = framed h e ++ 0 ∷ rest; closed = shut; shape = is })
+]

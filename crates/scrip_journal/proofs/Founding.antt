@@ -3,7 +3,7 @@ use Rattle.std.proofs.Common.{◌≡◌, ℕ, ◌≤◌, max, false, List, [], �
 use Rattle.std.specs.Prelude.{option_map}
 use Rattle.mc_outside.specs.Bytes.{put}
 use Rattle.mc_outside.specs.DiskView.{DiskView, DiskGoes, CallPairs, Follows, LeavesNoMore, IsSynced, Torn, CutShort, Ran}
-use Rattle.mc_outside.proofs.Runs.{ran_then}
+use Rattle.mc_outside.proofs.Runs.{ran_quiet, ran_then}
 use Rattle.scrip_journal.specs.Layout.{header, Encodes}
 use Rattle.scrip_journal.specs.States.{AtRest, IsJournal, IsChainOf}
 use Rattle.scrip_journal.specs.Opens.{NoLonger}
@@ -15,6 +15,21 @@ IsShort a c = (d : List ℕ) × a.leaves d × (length c ≤ max 9 (length d))
 at_first : (a : DiskView) (c : List ℕ) → a.leaves c → IsShort a c
 unfolding IsShort
 at_first a c l = (c, l, omega arith)
+
+after_cut : (a b : DiskView) → Follows (CutShort 0) a b → (c : List ℕ) → b.leaves c → IsShort a c
+unfolding IsShort
+after_cut a b follows c l = let from = follows c l in (from.0, from.1, omega (arith, from.2.no_longer))
+
+after_write : (a b w : DiskView) → Follows (CutShort 0) a b → Follows (Torn 0 9) b w → (c : List ℕ) → w.leaves c → IsShort a c
+unfolding IsShort
+after_write a b w cut written c l =
+    let from = written c l in
+    let first = cut from.0 from.1 in
+    (first.0, first.1, omega (arith, from.2.no_longer, first.2.no_longer))
+
+quietly : (a b v : DiskView) → v.aside ≡ a.aside → DiskGoes v b → CallPairs v b → ((c : List ℕ) → v.leaves c → IsShort a c) → ((c : List ℕ) → b.leaves c → IsShort a c) → Ran v b (NoLonger a)
+unfolding IsShort
+quietly a b v same goes pairs before after = ran_quiet v b (IsShort a) a.aside same goes pairs before after
 
 module _ (a b : DiskView) (goes : DiskGoes a b) (pairs : CallPairs a b) (cut : Follows (CutShort 0) a b) where
   pub cut_ran : Ran a b (NoLonger a)

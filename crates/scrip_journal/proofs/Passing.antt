@@ -2,6 +2,7 @@
 use Rattle.std.proofs.Common.{◌≡◌, ℕ, ◌+◌, ◌<◌, ◌≤◌, false, List, [], ◌∷◌, ◌++◌, Option, Some, None, refl, sym, ◌∙◌, ap, subst, arith, append-nil, append_assoc}
 use Rattle.std.specs.Prelude.{IsSome}
 use Rattle.std.specs.List.{AllByRecursion}
+use Rattle.std.proofs.lemmas.List.{append_cancel_left}
 use Rattle.mc_outside.specs.Bytes.{BeginsWith}
 use Rattle.mc_outside.specs.DiskView.{DiskView, OnlyRead}
 use Rattle.mc_records.specs.declared.limits.TheConstants.Limits.{MOST_JOURNAL}
@@ -9,27 +10,53 @@ use Rattle.mc_records.specs.Entry.{Entry, Fits}
 use Rattle.mc_records.specs.Chains.{first_chain, chain}
 use Rattle.mc_records.specs.Sizes.{size}
 use Rattle.mc_records.proofs.ChainLaws.{chain-none}
-use Rattle.scrip_journal.specs.Layout.{header, gated, body, Encodes, entered, next_of}
+use Rattle.scrip_journal.specs.Layout.{header, framed, gated, body, Encodes, Next, entered, next_of}
 use Rattle.scrip_journal.specs.States.{AtRest, Reading, IsJournal, IsReading, IsChainOf, EndedBy, known_chain}
 use Rattle.scrip_journal.specs.Replays.{ReadAhead, EndsHere, IsFrame, TookEntry, LookedOn, Passes, RestsBehind}
 use Rattle.scrip_journal.specs.declared.ending.Ending.{Ending}
-use Rattle.scrip_journal.specs.declared.ending.Ending.TheVariants.{Failed}
+use Rattle.scrip_journal.specs.declared.ending.Ending.TheVariants.{Closed, Spoiled, Unchained, Failed}
 use Rattle.scrip_journal.specs.declared.replay.Found.{Found}
-use Rattle.scrip_journal.proofs.Beginnings.{size_apart}
+use Rattle.scrip_journal.proofs.Beginnings.{size_apart, size_grows}
 use Rattle.scrip_journal.proofs.Known.{chain_known}
 use Rattle.scrip_journal.proofs.Looked.{ends_reading}
 use Rattle.scrip_journal.proofs.Reading.{some_same, still_reading, next_reading}
+use Rattle.scrip_journal.proofs.Unique.{entered_there}
 
 -- ---- the entry that comes next
+
+gated_apart : (front before es : List Entry) → gated front (before ++ es) ≡ gated front before ++ gated (front ++ before) es
+gated_apart front [] es = ap (λ (l : List Entry). gated l es) (sym (append-nil front))
+gated_apart front (x ∷ xs) es =
+    ap (λ (l : List ℕ). 1 ∷ (framed front x ++ l)) (gated_apart (front ++ x ∷ []) xs es ∙ ap (λ (b : List Entry). gated (front ++ x ∷ []) xs ++ gated b es) (append_assoc front (x ∷ []) xs))
+    ∙ sym (append_assoc (1 ∷ framed front x) (gated (front ++ x ∷ []) xs) (gated (front ++ x ∷ xs) es))
+
+body_apart : (before es : List Entry) → body (before ++ es) ≡ body before ++ gated before es
+body_apart before es = ap (λ (l : List ℕ). header ++ l) (gated_apart [] before es) ∙ sym (append_assoc header (gated [] before) (gated before es))
 
 fits_at : (before es : List Entry) (x : Entry) → AllByRecursion Fits (before ++ x ∷ es) → Fits x
 fits_at [] es x all = all.0
 fits_at (y ∷ before) es x all = fits_at before es x all.1
 
+-- behind some entries this one comes, where the bytes begin with them and with it
+comes_next : (before more : List Entry) (x : Entry) (bytes rest s : List ℕ) → AllByRecursion Fits (before ++ x ∷ more) → size (before ++ x ∷ more) ≤ MOST_JOURNAL → bytes ≡ body before ++ rest → bytes ≡ body (before ++ x ∷ more) ++ s
+    → next_of before rest ≡ entered x
+comes_next before more x bytes rest s fits most shape begins =
+    let left : List ℕ = gated (before ++ x ∷ []) more ++ s in
+    let whole : body before ++ rest ≡ body before ++ (1 ∷ (framed before x ++ left)) =
+    sym shape ∙ begins ∙ ap (λ (l : List ℕ). l ++ s) (body_apart before (x ∷ more)) ∙ append_assoc (body before) (gated before (x ∷ more)) s
+    ∙ ap (λ (l : List ℕ). body before ++ (1 ∷ l)) (append_assoc (framed before x) (gated (before ++ x ∷ []) more) s) in
+    ap (next_of before) (append_cancel_left (body before) rest (1 ∷ (framed before x ++ left)) whole) ∙ entered_there before x left (fits_at before more x fits) (size_grows before more x most)
+
 -- a reading does not end there
 abbrev pub IsFailed : Ending → Type 0
 IsFailed Failed = Unit {0}
 IsFailed _ = ⊥
+
+no_stop : (e : Ending) (n : Next) (x : Entry) → n ≡ entered x → EndedBy (Some e) n → IsFailed e
+no_stop Closed n x is by = cc (sym by ∙ is)
+no_stop (Spoiled place) n x is by = cc (sym by ∙ is)
+no_stop (Unchained place stood computed) n x is by = cc (sym by ∙ is)
+no_stop Failed n x is by = tt
 
 -- ---- entries that are passed
 

@@ -1,7 +1,7 @@
 -- Parts of a buffer.
-use Rattle.std.proofs.Common.{◌≡◌, ℕ, suc, ◌+◌, ◌-◌, ◌≤◌, ◌<◌, List, [], ◌∷◌, ◌++◌, length, get_or, take, drop, sym, ◌∙◌, ap, arith, length-drop}
+use Rattle.std.proofs.Common.{◌≡◌, ℕ, suc, ◌+◌, ◌-◌, ◌≤◌, ◌<◌, List, [], ◌∷◌, ◌++◌, length, get_or, take, drop, refl, sym, ◌∙◌, ap, arith, append_assoc, append-nil, length-append, length-drop}
 use Rattle.std.specs.Prelude.{slice_range}
-use Rattle.std.proofs.lemmas.List.{drop_more, drop-take, drop-drop, take-take, length-take}
+use Rattle.std.proofs.lemmas.List.{drop_more, drop-take, drop-drop, take-take, drop_at, take-append-drop, length-take}
 use Rattle.mc_outside.specs.Bytes.{BeginsWith}
 use Rattle.std.proofs.Math.Seq.{take-add}
 
@@ -43,6 +43,20 @@ back_of_window buf start end k fits =
     ap (λ (l : List ℕ). take (end - (start + k)) l) (sym (drop-drop k start buf))
     ∙ sym (drop-take k (end - (start + k)) (drop start buf))
     ∙ ap (λ (m : ℕ). drop k (take m (drop start buf))) (sym whole)
+
+-- a piece of all bytes goes on where what is held ends
+pub held_grows : (all held piece : List ℕ) (n : ℕ) → BeginsWith held all → piece ≡ take n (drop (length held) all) → BeginsWith (held ++ piece) all
+held_grows all held piece n b is =
+    let rest : drop (length held) all ≡ b.0 = ap (λ (l : List ℕ). drop (length held) l) b.1 ∙ drop_at held b.0 (length held) refl in
+    let part : piece ++ drop n b.0 ≡ b.0 = ap (λ (l : List ℕ). l ++ drop n b.0) (is ∙ ap (λ (l : List ℕ). take n l) rest) ∙ take-append-drop n b.0 in
+    (drop n b.0, b.1 ∙ ap (λ (l : List ℕ). held ++ l) (sym part) ∙ sym (append_assoc held piece (drop n b.0)))
+
+-- what begins all bytes and is as long is all of them
+pub held_all : (all held : List ℕ) → BeginsWith held all → length all ≤ length held → all ≡ held
+held_all all held b few = go b.0 b.1 where
+  go : (r : List ℕ) → all ≡ held ++ r → all ≡ held
+  go [] is = is ∙ append-nil held
+  go (x ∷ xs) is = absurd (omega (arith, few, ap (λ (l : List ℕ). length l) is, length-append held (x ∷ xs)))
 
 -- the first byte of a window
 pub first_of_window : (buf : List ℕ) (start end default : ℕ) → start < end → end ≤ length buf → BeginsWith (get_or buf start default ∷ []) (slice_range buf start end)

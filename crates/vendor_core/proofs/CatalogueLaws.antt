@@ -95,6 +95,27 @@ replacement_stays h e r first = (
       ⊎_elim (λ lt. first.1 k (replaces_shorter h (e ∷ []) r.number k lt rep)) (λ le. let over : length h ≤ k = le in omega arith) (cases_lt k (length h)),
 )
 
+-- goods in force are replaced by an entry that puts goods at their target
+replacement_comes : (h : History) (e : Entry) (target : List ℕ) (n : ℕ) → option_map (is_goods_of target) (slice_get h n) ≡ Some true → is_goods_of target e ≡ true
+    → IsInForce h n → IsReplacement (h ++ e ∷ []) (record { number = n; by = length h })
+replacement_comes h e target n at put none =
+    let within : n < length h = mapped_within (is_goods_of target) true h n at in (
+      record {
+        later = within;
+        target = target;
+        replaced = ap (option_map (is_goods_of target)) (get_stays h (e ∷ []) n within) ∙ at;
+        replacing = ap (option_map (is_goods_of target)) (get_end h e) ∙ ap some_bool put;
+      },
+      λ k rep. ⊎_elim (λ lt. absurd (none k (replaces_shorter h (e ∷ []) n k lt rep))) (λ le. le) (cases_lt k (length h)),
+    )
+
+-- the goods of the last entry are in force
+last_in_force : (h : History) (e : Entry) → IsInForce (h ++ e ∷ []) (length h)
+last_in_force h e = λ m rep.
+    let within : m < length (h ++ e ∷ []) = replaced_within (h ++ e ∷ []) (length h) m rep in
+    let later : length h < m = rep.later in
+    absurd (omega (arith, length-append h (e ∷ [])))
+
 -- ---- no goods
 
 pub goods_none : (editions : List (ℕ × Article)) (on_sale : NamePlacesView) (replaced : List Replaced) → editions ≡ [] → ((t : List ℕ) → place_of on_sale t ≡ None) → replaced ≡ []
@@ -154,6 +175,20 @@ goods_same editions new on_sale now replaced h same placed s = record {
 }
 
 -- ---- a Goods entry
+
+-- an edition that was there still is once one is put in
+pub edition_still : (number : ℕ) (a : Article) (editions new : List (ℕ × Article)) → ((n : ℕ) → edition_of new n ≡ cond (eqb number n) (Some a) (edition_of editions n))
+    → (n : ℕ) → IsTrue (is_some (edition_of editions n)) → IsTrue (is_some (edition_of new n))
+edition_still number a editions new puts n there = ap is_some (puts n) ∙ go (eqb number n)
+  where
+    go : (b : Bool) → is_some (cond b (Some a) (edition_of editions n)) ≡ true
+    go true = refl
+    go false = there
+
+-- and the one that is put in is there
+pub edition_new : (number : ℕ) (a : Article) (editions new : List (ℕ × Article)) → ((n : ℕ) → edition_of new n ≡ cond (eqb number n) (Some a) (edition_of editions n))
+    → edition_of new number ≡ Some a
+edition_new number a editions new puts = puts number ∙ ap (λ (b : Bool). cond b (Some a) (edition_of editions number)) (eq-eqb number number refl)
 
 module _ (h : History) (m number : ℕ) (target : List ℕ) (a : Article) (editions new : List (ℕ × Article)) (on_sale now : NamePlacesView) (replaced : List Replaced)
     (is_number : number ≡ length h) (puts : (n : ℕ) → edition_of new n ≡ cond (eqb number n) (Some a) (edition_of editions n))

@@ -19,6 +19,9 @@ bytes_eq_turned xs ys = go (bytes_eq xs ys) (bytes_eq ys xs) refl refl
     go true false p q = sym ((bytes_eq-Decides ys xs).1 (sym ((bytes_eq-Decides xs ys).0 p))) ∙ q
     go false true p q = sym p ∙ (bytes_eq-Decides xs ys).1 (sym ((bytes_eq-Decides ys xs).0 q))
 
+pub bytes_same : (xs : List ℕ) → bytes_eq xs xs ≡ true
+bytes_same xs = (bytes_eq-Decides xs xs).1 refl
+
 -- ---- goods in force
 
 pub goods_snoc : (h : History) (e : Entry) (target : List ℕ) → goods_in (h ++ e ∷ []) target ≡ cond (is_goods_of target e) (Some e) (goods_in h target)

@@ -3,7 +3,7 @@ use Rattle.std.proofs.Common.{◌≡◌, ℕ, zero, suc, ◌+◌, ◌*◌, ◌<�
 use Rattle.std.specs.Prelude.{option_map, unwrap_or}
 use Rattle.std.specs.List.{AllByRecursion}
 use Rattle.std.proofs.lemmas.Bool.{eq-eqb}
-use Rattle.std.proofs.lemmas.List.Elements.{All-from_recursion}
+use Rattle.std.proofs.lemmas.List.Elements.{All-from_recursion, filter_map-append}
 use Rattle.std.proofs.lemmas.Option.{slice_get_within, get_or_from_slice_get}
 use Rattle.std.proofs.Math.Nat.{mul-le-mul, div-mul-le_self}
 use Rattle.scrip_form.specs.Identities.{numbered, epoch_of, series_of}
@@ -13,7 +13,7 @@ use Rattle.mc_records.specs.declared.limits.Limits.{Limits}
 use Rattle.mc_records.specs.Entry.{House, Entry, Site, Mint, Fits, SiteFits, moment_of}
 use Rattle.ledger_model.specs.declared.numbers.TheConstants.{VENDOR_KIND}
 use Rattle.ledger_model.specs.Histories.{History, time}
-use Rattle.ledger_model.specs.Houses.{site_name, site_kind, own_series, terms_in, issuer_in, epoch_in, version}
+use Rattle.ledger_model.specs.Houses.{site_name, site_kind, own_series, terms_of, all_terms, terms_by, terms_in, issuer_in, epoch_in, version}
 use Rattle.ledger_model.specs.Lawful.{AllFollow, IsLawful}
 use Rattle.ledger_model.specs.Pieces.{first_hand, run_from, minted_pieces, own_count}
 use Rattle.vendor_core.specs.Tasks.{mint_lines}
@@ -60,6 +60,11 @@ lines_of_mint h terms n m reference count value first own is = ap₂ lines own i
   where
     lines : Option Issuing → Option Entry → List ℕ
     lines terms' e = unwrap_or (option_map (λ t. piece_lines (version h (site_name h)) t (unwrap_or (option_map (minted_pieces (take n h)) e) [])) terms') []
+
+-- terms stay under a mint
+pub terms_under_mint : (h : History) (m : ℕ) (reference : List ℕ) (count value first issuer : ℕ) → terms_in (h ++ Mint m reference count value first ∷ []) issuer ≡ terms_in h issuer
+terms_under_mint h m reference count value first issuer =
+    ap (λ (terms : List Issuing). terms_by terms issuer) (filter_map-append terms_of h (Mint m reference count value first ∷ []) ∙ append-nil (all_terms h))
 
 -- ---- a run of one series
 

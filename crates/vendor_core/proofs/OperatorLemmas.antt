@@ -1,8 +1,9 @@
 -- What there is to do by the calls of a vendor's operator.
-use Rattle.std.proofs.Common.{◌≡◌, ℕ, ◌<◌, ◌≤◌, Bool, true, false, cond, ◌||◌, [], ◌∷◌, ◌++◌, length, List, Option, Some, None, refl, sym, ap, ap₂, ◌∙◌, take, slice_get, eqb, subst, arith}
+use Rattle.std.proofs.Common.{◌≡◌, ℕ, ◌<◌, ◌≤◌, Bool, true, false, cond, ◌||◌, [], ◌∷◌, ◌++◌, length, List, Option, Some, None, refl, sym, ap, ap₂, ◌∙◌, take, slice_get, eqb, subst, arith, length-append}
 use Rattle.std.specs.Prelude.{◌==◌, option_map, option_and_then, unwrap_or, IsFalse, Ok}
 use Rattle.std.proofs.lemmas.Slice.Eq.{bytes_eq-Decides}
-use Rattle.std.proofs.Math.Seq.{take-append_seam}
+use Rattle.std.proofs.lemmas.Option.{slice_get-get_or}
+use Rattle.std.proofs.Math.Seq.{get_or-append_seam, take-append_seam}
 use Rattle.std.proofs.lemmas.Bool.{lt-ltb, le-ltb}
 use Rattle.mc_outside.specs.DiskView.{DiskView, Ran}
 use Rattle.scrip_form.specs.Issuing.{Issuing}
@@ -74,6 +75,12 @@ own_terms_by h issuer kind =
     (ap (λ (o : Option ℕ). unwrap_or (option_map (λ k. eqb k 0) o) false || issuer == 0) kind) ((bytes_eq-Decides (site_name h) (site_name h)).1 refl)
 
 -- ---- mints
+
+-- the last entry has the number that was the length
+last_there : (h : History) (e : Entry) (n : ℕ) → n ≡ length h → slice_get (h ++ e ∷ []) n ≡ Some e
+last_there h e n is =
+    let within : length h < length (h ++ e ∷ []) = omega (arith, length-append h (e ∷ [])) in
+    ap (λ (k : ℕ). slice_get (h ++ e ∷ []) k) is ∙ slice_get-get_or (h ++ e ∷ []) (length h) e within ∙ ap (λ (x : Entry). Some x) (get_or-append_seam h e [] e)
 
 module _ (limits : Limits) (h : History) (t : ℕ) (reference : List ℕ) (count value first : ℕ) (e : Entry) (same : e ≡ Mint t reference count value first) (new : IsFalse (has_reference h reference)) (run : HasRun h t limits count (Ok first)) where
   pub mint_may_follow : time h ≤ t → site_kind h ≡ Some VENDOR_KIND → MayFollow limits h e

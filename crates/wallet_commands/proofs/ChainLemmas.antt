@@ -1,12 +1,12 @@
 -- How the book of a wallet is switched, and its chain told.
 use Rattle.std.proofs.Common.{◌≡◌, ◌∙◌, ℕ, Bool, true, false, List, [], ◌∷◌, ◌++◌, length, ap, subst, Option, Some, None, Err}
-use Rattle.std.specs.Prelude.{IsSome}
+use Rattle.std.specs.Prelude.{if◌then◌else◌, IsSome}
 use Rattle.mc_outside.specs.DiskView.{DiskView, IsDisk, Ran}
 use Rattle.mc_outside.specs.LinkView.{LinkView}
 use Rattle.mc_records.specs.Chains.{chain, has_switch}
 use Rattle.mc_records.specs.declared.limits.Limits.{Limits}
 use Rattle.mc_records.specs.declared.limits.TheConstants.Limits.{FULL}
-use Rattle.mc_records.specs.Entry.{Switch}
+use Rattle.mc_records.specs.Entry.{Entry, Switch}
 use Rattle.ledger_model.specs.Histories.{History}
 use Rattle.ledger_model.specs.Houses.{site_name}
 use Rattle.ledger_model.specs.Lines as lines
@@ -23,6 +23,10 @@ use Rattle.wallet_commands.specs.Chaining.{switch_entry, EndsLine, chained_statu
 use Rattle.millicent_http.proofs.AsideLemmas.{TellsAside}
 use Rattle.wallet_core.proofs.DiskLemmas.{on_disk}
 use Rattle.wallet_commands.proofs.PayLemmas.{AtClock, entry_pairs, unwritten, doubted, old, aside_at}
+
+-- the entry of a Switch at a time, by whether one stands
+abbrev entry_by : Bool → History → ℕ → Option Entry
+entry_by b h t = if b then None else Some (Switch t (chain h))
 
 module _ {O : Type 0} (disk : O → DiskView) (h : History) (y : WalletView O) (is_disk : (o : O) → IsDisk (disk o)) (st : WalletStands disk y h) where
   -- what became of it

@@ -1,5 +1,6 @@
 -- How a reply settles a kept request, or leaves it kept.
-use Rattle.std.proofs.Common.{◌≡◌, ◌⊎◌, ◌∙◌, inl, inr, ⊎_elim, ℕ, zero, suc, true, false, List, [], ◌∷◌, ◌++◌, length, refl, sym, ap, subst, Option, Some, None, Ok, Err}
+use Rattle.std.proofs.Common.{◌≡◌, ◌⊎◌, ◌∙◌, inl, inr, ⊎_elim, ℕ, zero, suc, true, false, List, [], ◌∷◌, ◌++◌, length, refl, sym, ap, ap₂, subst, Option, Some, None, Ok, Err}
+use Rattle.std.proofs.lemmas.List.{length-map}
 use Rattle.std.specs.Prelude.{◌==◌, IsSome, option_and_then, slice_get}
 use Rattle.std.proofs.lemmas.Bool.{eqb-true, eq-eqb}
 use Rattle.mc_outside.specs.DiskView.{DiskView, IsDisk, LinkKeeps, Ran}
@@ -9,7 +10,7 @@ use Rattle.mc_records.specs.declared.limits.Limits.{Limits}
 use Rattle.mc_records.specs.declared.limits.TheConstants.Limits.{FULL}
 use Rattle.mc_records.specs.declared.refusal.Refusal.{Refusal}
 use Rattle.mc_records.specs.declared.refusal.Refusal.TheVariants as refusals
-use Rattle.mc_records.specs.Entry.{Entry}
+use Rattle.mc_records.specs.Entry.{Held, Entry}
 use Rattle.scrip_form.specs.Scrip.{Scrip}
 use Rattle.ledger_model.specs.Histories.{History}
 use Rattle.ledger_model.specs.Pieces.{piece_of}
@@ -21,10 +22,15 @@ use Rattle.millicent_http.specs.Received.{Received}
 use Rattle.command_status.specs.declared.status.Status.TheVariants as ends
 use Rattle.wallet_model.specs.Requests.{Pending}
 use Rattle.wallet_model.specs.Settling.{check_of, settlement, refusal_number}
+use Rattle.wallet_model.specs.Holdings.{texts_came, brings}
 use Rattle.wallet_model.proofs.BookLaws.{book_grows}
+use Rattle.wallet_model.proofs.CameLaws.{texts_more}
 use Rattle.wallet_model.proofs.KeptLaws.{by_cases}
 use Rattle.wallet_book.specs.declared.holding.Holding.{Holding}
-use Rattle.wallet_book.specs.Holdings.{texts_of}
+use Rattle.wallet_book.specs.Holdings.{text_of, texts_of}
+use Rattle.wallet_book.specs.Parts.{held_texts}
+use Rattle.wallet_book.specs.Book.{BookView, WalletRepresents}
+use Rattle.wallet_book.proofs.PartLaws.{came_texts}
 use Rattle.wallet_core.specs.declared.settling.Settlement.{Settlement}
 use Rattle.wallet_core.specs.declared.settling.Settlement.TheVariants as settled
 use Rattle.wallet_core.specs.Settled.{bought, IsSettledAs}
@@ -37,10 +43,11 @@ use Rattle.wallet_core.specs.Outcomes.{outcome_disk, CountsFaults, Adds, LeavesB
 use Rattle.wallet_core.specs.Answers.{TellsOnly, IsFull}
 use Rattle.wallet_commands.specs.declared.saying.Saying.{Saying}
 use Rattle.wallet_commands.specs.declared.saying.Saying.TheVariants as sayings
+use Rattle.wallet_commands.specs.Lines.{renewed_line}
 use Rattle.wallet_core.specs.OnDisk.{EncodesWallet}
 use Rattle.wallet_commands.specs.Causes.{SettleRefused, CausesBy, NoneFailed}
 use Rattle.wallet_commands.specs.Saying.{said_as, IsSaid, IsSaidInPart}
-use Rattle.wallet_commands.specs.Paying.{ended_by, ended_as, SettlesAs, EndsAs, entered_by, settled_by}
+use Rattle.wallet_commands.specs.Paying.{ended_by, ended_as, first_brought, SettlesAs, EndsAs, entered_by, settled_by}
 use Rattle.wallet_commands.specs.Replies.{settlement_status, came_behind, told_status, settled_status, learned_by, SettledPair, EndsReply}
 use Rattle.millicent_http.proofs.AsideLemmas.{TellsAside, SentNoMore, no_more_still, aside_still, quiet_link}
 use Rattle.wallet_core.proofs.DiskLemmas.{on_disk}
@@ -96,10 +103,44 @@ settled_as p r (settled.Refused number) is =
     let told : number ≡ refusal_number r.refusal = is.1 in
     ap (λ (k : ℕ). ends.Refused (refusals.SiteRefused k)) told ∙ (rw test refl)
 
+came_first : {X : Type 0} (xs ys : List X) → slice_get (xs ++ ys) (length xs) ≡ slice_get ys 0
+came_first [] ys = refl
+came_first (x ∷ xs) ys = came_first xs ys
+
 text_at : (xs : List Holding) (i : ℕ) → came_behind i xs ≡ option_and_then piece_of (slice_get (texts_of xs) i)
 text_at [] i = refl
 text_at (x ∷ xs) zero = refl
 text_at (x ∷ xs) (suc i) = text_at xs i
+
+first_text : (ps : List Held) → option_and_then piece_of (slice_get (held_texts ps) 0) ≡ option_and_then (λ x. piece_of x.text) (slice_get ps 0)
+first_text [] = refl
+first_text (x ∷ ps) = refl
+
+-- The holdings are those of before, and behind them what the settlement brings.
+brought_behind : (h : History) (e : Entry) (old new : BookView) → WalletRepresents old h → WalletRepresents new (h ++ e ∷ []) → came_behind (length old.holdings) new.holdings ≡ first_brought h e
+brought_behind h e old new was is =
+    let after : texts_of new.holdings ≡ texts_came h ++ held_texts (brings h e) = sym (came_texts (h ++ e ∷ []) new.holdings is.parts.pieces) ∙ texts_more h e in
+    let count : length old.holdings ≡ length (texts_came h) = sym (length-map old.holdings text_of) ∙ ap length (sym (came_texts h old.holdings was.parts.pieces)) in
+    text_at new.holdings (length old.holdings)
+    ∙ ap₂ (λ (ts : List (List ℕ)) (i : ℕ). option_and_then piece_of (slice_get ts i)) after count
+    ∙ ap (option_and_then piece_of) (came_first (texts_came h) (held_texts (brings h e)))
+    ∙ first_text (brings h e)
+
+-- what is told of a settlement, by what a command says
+told_as : (k : Saying) (h : History) (e : Entry) (p : Pending) (r : Received) (change : Option Scrip) (s : Settlement) → IsSettledAs p r s → change ≡ first_brought h e → told_status k change s ≡ ended_as k h e p r
+told_as sayings.Contents h e p r change s is came = settled_as p r s is
+told_as (sayings.Renewal vendor) h e p r change (settled.Paid price) is came =
+    let test : (r.status == 200) ≡ true = eq-eqb r.status 200 is.0 in
+    let told = ap (λ (o : Option Scrip). ends.Did (renewed_line vendor o)) came in
+    rw test told
+told_as (sayings.Renewal vendor) h e p r change (settled.Got piece) is came =
+    let test : (r.status == 200) ≡ true = eq-eqb r.status 200 is.0 in
+    let told = ap (λ (o : Option Scrip). ends.Did (renewed_line vendor o)) came in
+    rw test told
+told_as (sayings.Renewal vendor) h e p r change (settled.Refused number) is came =
+    let test : (r.status == 200) ≡ false = other_status r.status 200 is.0 in
+    let told : number ≡ refusal_number r.refusal = is.1 in
+    ap (λ (i : ℕ). ends.Refused (refusals.SiteRefused i)) told ∙ (rw test refl)
 
 module _ {O : Type 0} (link : O → LinkView) (disk : O → DiskView) (h : History) (n : ℕ) (p : Pending) (r : Received) where
   -- it is done

@@ -1,13 +1,16 @@
 -- How pieces are taken.
-use Rattle.std.proofs.Common.{◌≡◌, ◌⊎◌, ◌∙◌, ℕ, List, [], ◌∷◌, length, max, sym, ap, subst}
+use Rattle.std.proofs.Common.{◌≡◌, ◌⊎◌, ◌∙◌, ℕ, List, [], ◌∷◌, ◌++◌, length, max, sym, ap, subst, Result, Ok, Err}
 use Rattle.std.specs.Prelude.{IsSome}
 use Rattle.std.specs.Result.{result_ok}
 use Rattle.mc_outside.specs.DiskView.{DiskView, IsDisk, LinkKeeps, Ran}
 use Rattle.mc_outside.specs.LinkView.{LinkView}
+use Rattle.mc_records.specs.declared.limits.Limits.{Limits}
 use Rattle.mc_records.specs.declared.limits.TheConstants.Limits.{FULL}
+use Rattle.mc_records.specs.declared.refusal.Refusal.{Refusal}
 use Rattle.mc_records.specs.Entry.{Entry, Got}
 use Rattle.ledger_model.specs.Histories.{History, time}
 use Rattle.ledger_model.specs.Lines as lines
+use Rattle.ledger_model.specs.Answer.{fitted}
 use Rattle.millicent_http.specs.declared.clock.Clock.TheVariants.{OfLinks}
 use Rattle.millicent_http.specs.Courses.{AreRead, with_readings}
 use Rattle.millicent_http.specs.Inputs.{IsInput, LostInput}
@@ -22,17 +25,42 @@ use Rattle.wallet_core.specs.Wallet.{WalletStands}
 use Rattle.wallet_core.specs.Answers.{TellsCount}
 use Rattle.wallet_core.specs.Outcomes.{outcome_disk, Adds, LeavesBy}
 use Rattle.wallet_commands.specs.declared.taking.TheConstants.{MOST_LINES}
-use Rattle.wallet_commands.specs.Books.{Opened, AddPair}
+use Rattle.wallet_commands.specs.Lines.{taken_line}
+use Rattle.wallet_commands.specs.Books.{Opened, OldPair, AddPair}
 use Rattle.wallet_commands.specs.Taking.{taken_status, TookBy, Unread, Took}
 use Rattle.millicent_http.proofs.AsideLemmas.{TellsAside, SentNoMore, no_more_then, no_more_still, aside_still, input_quiet}
 use Rattle.wallet_commands.proofs.BookLemmas.{tells_on, old_pairs}
 use Rattle.wallet_core.proofs.DiskLemmas.{on_disk}
+use Rattle.wallet_commands.proofs.PayLemmas.{entry_pairs, unwritten, doubted}
 
 -- ---- what is taken
 
 count_is : (h : History) (e : Entry) (count : ℕ) → TellsCount e count → count ≡ length (brings h e)
 count_is h (Got m pieces) count is = is
 count_is h e count is = absurd is
+
+took_by : {O : Type 0} (disk : O → DiskView) (h : History) (y : WalletView O) (todo : Result Entry Refusal) (out : WalletOut O ℕ) → y.book.limits ≡ FULL → WalletStands disk y h → ((o : O) → IsDisk (disk o))
+    → Adds disk y h todo TellsCount out → Ran (disk y.journal.disk) (disk (outcome_disk out)) (LeavesBy todo out h (disk y.journal.disk).aside) → TookBy (disk (outcome_disk out)) h todo (taken_status out)
+took_by disk h y (Ok e) (outs.Done x count) limits st is_disk adds ran = (ap taken_line (count_is h e count adds.1), on_disk disk x (h ++ e ∷ []) adds.0.stands)
+took_by disk h y (Ok e) (outs.Refused x f) limits st is_disk adds ran = (subst (λ (l : Limits). fitted h l e ≡ Err (lines.Refuse f)) limits adds.0, on_disk disk x h adds.1.stands)
+took_by disk h y (Ok e) (outs.NoMemory x) limits st is_disk adds ran = on_disk disk x h adds.stands
+took_by disk h y (Ok e) (outs.Halted d) limits st is_disk adds ran = doubted disk h y e d TellsCount (is_disk d) st adds ran
+took_by disk h y (Err g) (outs.Done x count) limits st is_disk adds ran = absurd adds
+took_by disk h y (Err g) (outs.Refused x f) limits st is_disk adds ran = (adds.0, on_disk disk x h adds.1.stands)
+took_by disk h y (Err g) (outs.NoMemory x) limits st is_disk adds ran = on_disk disk x h adds.stands
+took_by disk h y (Err g) (outs.Halted d) limits st is_disk adds ran = absurd adds
+
+took_pairs : {O : Type 0} (disk : O → DiskView) (tells : Type 0) (before : DiskView) (h : History) (y : WalletView O) (todo : Result Entry Refusal) (out : WalletOut O ℕ) → Ran before (disk y.journal.disk) (OldPair tells before h)
+    → (tells → (disk y.journal.disk).aside ≡ before.aside) → Ran (disk y.journal.disk) (disk (outcome_disk out)) (LeavesBy todo out h (disk y.journal.disk).aside)
+    → Ran before (disk (outcome_disk out)) (AddPair tells before h (result_ok todo) (taken_status out))
+took_pairs disk tells before h y (Ok e) (outs.Done x n) old same ran = entry_pairs disk tells before h y e (outs.Done x n) old same ran
+took_pairs disk tells before h y (Ok e) (outs.Refused x f) old same ran = unwritten disk tells before h y.journal.disk x.journal.disk old same ran
+took_pairs disk tells before h y (Ok e) (outs.NoMemory x) old same ran = unwritten disk tells before h y.journal.disk x.journal.disk old same ran
+took_pairs {O = O} disk tells before h y (Ok e) (outs.Halted d) old same ran = entry_pairs {A = ℕ} disk tells before h y e (outs.Halted d) old same ran
+took_pairs disk tells before h y (Err g) (outs.Done x n) old same ran = unwritten disk tells before h y.journal.disk x.journal.disk old same ran
+took_pairs disk tells before h y (Err g) (outs.Refused x f) old same ran = unwritten disk tells before h y.journal.disk x.journal.disk old same ran
+took_pairs disk tells before h y (Err g) (outs.NoMemory x) old same ran = unwritten disk tells before h y.journal.disk x.journal.disk old same ran
+took_pairs disk tells before h y (Err g) (outs.Halted d) old same ran = unwritten disk tells before h y.journal.disk d old same ran
 
 module _ {O : Type 0} (link : O → LinkView) (disk : O → DiskView) (bytes : List ℕ) (a : O) (x : WalletView O) (all : TellsAside link (λ o. (disk o).aside)) (at : Opened link disk bytes a x) where
   -- the input was not read

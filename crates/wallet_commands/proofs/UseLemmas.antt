@@ -5,6 +5,7 @@ use Rattle.mc_outside.specs.Bytes.{BeginsWith, Rose}
 use Rattle.mc_outside.specs.DiskView.{DiskView, LinkKeeps}
 use Rattle.mc_outside.specs.LinkView.{LinkView, next_taken, none_left, after_recv, after_send}
 use Rattle.mc_outside.proofs.Runs.{ran_then, ran_weaker}
+use Rattle.mc_records.specs.declared.refusal.Refusal.{Refusal}
 use Rattle.mc_records.specs.declared.refusal.Refusal.TheVariants as refusals
 use Rattle.mc_records.specs.Entry.{Entry}
 use Rattle.ledger_model.specs.Histories.{History}
@@ -24,7 +25,7 @@ use Rattle.wallet_core.specs.WalletView.{WalletView}
 use Rattle.wallet_core.specs.Wallet.{WalletStands}
 use Rattle.wallet_core.specs.Checking.{IsWritten}
 use Rattle.wallet_commands.specs.declared.saying.Saying.{Saying}
-use Rattle.wallet_commands.specs.Payments.{Stays, Breaks, SentPart}
+use Rattle.wallet_commands.specs.Payments.{Stays, Breaks, SentPart, Learns, Read}
 use Rattle.wallet_commands.specs.Paying as paying
 use Rattle.wallet_commands.specs.Paying.{UsePair, UsesLinkAs, settled_by}
 use Rattle.wallet_commands.specs.Replies.{learned_by, learned_of, SettledPair, EndsReply, ReadsReply}
@@ -89,6 +90,17 @@ module _ (k : Saying) {O : Type 0} (link : O → LinkView) (disk : O → DiskVie
   }
 
 -- ---- from the request on
+
+learns_by : (p : Pending) (r : Received) (o : Option Refusal) (u v : LinkView) → check_of p r ≡ o → Read p (Ok r) u v → Learns p (learned_by r o) u v
+learns_by p r None u v is read = (read, is)
+learns_by p r (Some f) u v is read = inr (inr (inr (r, read, is)))
+
+-- what was read is what is learned
+learns_of : (p : Pending) (answer : Result Received ReplyFault) (u v : LinkView) → Read p answer u v → Learns p (learned_of p answer) u v
+learns_of p (Ok r) u v read = learns_by p r (check_of p r) u v refl read
+learns_of p (Err replies.NoReply) u v read = inr (inl (refl, read))
+learns_of p (Err replies.BadReply) u v read = inr (inr (inl (refl, read)))
+learns_of p (Err replies.Fault) u v read = inr (inr read)
 
 module _ (k : Saying) {O : Type 0} (link : O → LinkView) (disk : O → DiskView) (h : History) (t n : ℕ) (p : Pending) (all : TellsAside link (λ o. (disk o).aside)) where
   -- the request was sent whole, and then a reply was read, or none
