@@ -38,13 +38,13 @@ impl Eprint for LastLine {
 }
 
 /// What is told of the only line of an input for a vendor's stock, which was refused.
-fn told(rt: &HostRuntime, vendor: &str, line: &str) -> Result<String, Fail> {
+fn told_of(rt: &HostRuntime, vendor: &str, line: &str) -> Result<String, Fail> {
     let alloc = rt.alloc();
     let source = Streams::new(line.as_bytes(), Vec::new(alloc), None::<&HostRuntime>);
     let book: Book<File> = Book::none();
     let mut site = Site::new(book, source, Vec::new(alloc), rt);
     site.keep(alloc);
-    passes(&mut site)?;
+    refuse(&mut site);
     let words = words_of(alloc, vendor)?;
     let told = LastLine {
         alloc,
@@ -57,11 +57,10 @@ fn told(rt: &HostRuntime, vendor: &str, line: &str) -> Result<String, Fail> {
 }
 
 /// Takes the line, and says that it is refused.
-fn passes<L: Link>(site: &mut L) -> Result<(), Fail> {
+fn refuse<L: Link>(site: &mut L) {
     let _ = site.next_link();
     let _ = site.recv(&mut [0; 256]);
     let _ = site.say(b"refused 53 BadInput 1\n");
-    Ok(())
 }
 
 /// The words of the command that takes a stock of this vendor.
@@ -90,10 +89,10 @@ fn each_line_of_a_stock_has_its_fault(rt: HostRuntime) -> Result<(), Fail> {
         (CHANGE, "the piece is not as its vendor minted it"),
     ];
     for (line, fault) in &rows {
-        let told = told(&rt, "news.example", line)?;
+        let told = told_of(&rt, "news.example", line)?;
         assert_eq!(rt; told.strip_prefix("millicent: line 1: "), Some(*fault));
     }
-    let told = told(&rt, "shop", MINTED)?;
+    let told = told_of(&rt, "shop", MINTED)?;
     assert_eq!(rt;
         told.as_str(),
         "millicent: line 1: the piece is of another vendor"
