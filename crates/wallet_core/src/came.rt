@@ -1,10 +1,13 @@
 //! What a reply brings, read once.
 
 ghost use Rattle.std.specs.Prelude.{◌≡◌, option_map};
+ghost use Rattle.mc_records.specs.PieceViews as views;
 ghost use Rattle.ledger_model.specs.Pieces as pieces;
 ghost use Rattle.wallet_model.specs.Newness.{are_one_piece};
+ghost use Rattle.wallet_model.specs.Settling as model;
 ghost use Rattle.reply_reader.specs.Seen.{received_of};
 ghost use Rattle.wallet_core.specs.Came.{IsCame, ReadsChange};
+ghost use Rattle.wallet_core.specs.Settled.{bought};
 
 use crate::contents::{is_one, one_line, scrip_of};
 use reply_reader::ReplyRef;
@@ -28,11 +31,7 @@ impl<'a> Came<'a> {
         Came {
             reply: *r,
             change: scrip_of(r.change),
-            got: if ask == 0 {
-                None
-            } else {
-                one_line(r.contents)
-            },
+            got: contents_came(ask, r.contents),
         }
     }
 
@@ -67,4 +66,15 @@ impl<'a> Came<'a> {
             None => None,
         }
     }
+}
+
+/// The piece in the contents of a buy or a draw, and its secret.
+fn contents_came(ask: u8, contents: &[u8]) -> Option<(ScripRef<'_>, [u8; 16])>
+    ensures held { option_map views.piece_of result ≡ model.contents_came ask contents.now }
+    ensures piece { option_map (λ x. x.0.piece) result ≡ bought ask contents.now }
+{
+    if ask == 0 {
+        return None;
+    }
+    one_line(contents)
 }
