@@ -9,7 +9,7 @@ use Rattle.command_words.specs.Arguments.{found, optional, value_of}
 use Rattle.command_table.specs.declared.table.CommandName.{CommandName}
 use Rattle.command_table.specs.Table.{form_of, rules}
 use Rattle.command_table.specs.Values.{HaveValues}
-use Rattle.command_table.specs.Beginning.{AreTaken, EndInOption, LackValue, MayBecome, MayBegin}
+use Rattle.command_table.specs.Beginning.{AreTaken, EndInOption, LackValue, MayBecome, MayBegin, is_option}
 use Rattle.command_table.proofs.SpellLemmas.{and_iff}
 
 -- ---- words behind the name of a command
