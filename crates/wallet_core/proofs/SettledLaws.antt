@@ -1,5 +1,5 @@
 -- What a settlement is where the reply passes the check.
-use Rattle.std.proofs.Common.{◌≡◌, ℕ, Bool, true, false, cond, ◌&&◌, ◌||◌, not, List, [], ◌∷◌, Option, Some, None, unwrap_or, refl, sym, ap, subst, ◌∙◌}
+use Rattle.std.proofs.Common.{◌≡◌, ℕ, Bool, true, false, cond, ◌&&◌, not, List, [], ◌∷◌, Option, Some, None, unwrap_or, refl, sym, ap, subst, ◌∙◌}
 use Rattle.std.specs.Prelude.{◌==◌}
 use Rattle.std.specs.List.{list_any}
 use Rattle.scrip_form.specs.Scrip.{Scrip}
@@ -78,11 +78,3 @@ no_piece_is_new texts text none = ap not (go texts)
     go : (ts : List (List ℕ)) → list_any (λ t. are_one_piece t text) ts ≡ false
     go [] = refl
     go (t ∷ ts) = let first : are_one_piece t text ≡ false = ap (is_same_piece (piece_of t)) none ∙ same_as_none (piece_of t) in rw (first, go ts) refl
-
--- new beside one more
-pub new_beside : (t : List ℕ) (texts : List (List ℕ)) (text : List ℕ) → (not (are_one_piece t text) && is_new texts text) ≡ is_new (t ∷ texts) text
-new_beside t texts text = go (are_one_piece t text) (list_any (λ x. are_one_piece x text) texts)
-  where
-    go : (a b : Bool) → (not a && not b) ≡ not (a || b)
-    go true b = refl
-    go false b = refl

@@ -1,9 +1,9 @@
-use Rattle.std.proofs.Common.{◌≡◌, ℕ, List, ◌++◌, Some, length, ◌-◌, sym, ap, ap₂, ◌∙◌, arith}
+use Rattle.std.proofs.Common.{◌≡◌, ℕ, List, ◌++◌, Some, length, ◌-◌, sym, ap₂, ◌∙◌, arith}
 use Rattle.std.proofs.lemmas.List.{take-append-drop}
 use Rattle.mc_records.specs.Entry.{Held}
 use Rattle.wallet_model.specs.Settling.{one_line}
 use Rattle.wallet_core.proofs.LineLaws.{short_line, bad_text, bad_rest, right_line}
-use Rattle.wallet_core.proofs.CameLaws.{piece_read, no_piece, line_piece}
+use Rattle.wallet_core.proofs.CameLaws.{piece_read, no_piece, line_held, line_piece}
 use Rattle.wallet_core.proofs.contents.one_line.Goals as goal
 
 pub returns-then-contents-lt-BEHIND_TEXT : goal.returns-then-contents-lt-BEHIND_TEXT
@@ -31,6 +31,6 @@ returns-in-Ok-read_secret c =
     let x : Held = record { text = text; secret = c.in-Ok-read_secret.read.0 } in
     let line : Some x ≡ one_line contents = right_line contents text c.split_at.result.1.now c.in-Ok-read_secret.read.0 c.in-Ok-read_secret.read.1.now _ _ whole long c.in-Ok.ensures.found.1 c.in-Ok-read_secret.ensures in
     record {
-      held = ap (λ (t : List ℕ). Some (record { text = t; secret = c.in-Ok-read_secret.read.0 })) c.in-Ok.ensures.found.0 ∙ line;
+      held = line_held (one_line contents) c.in-Ok.scrip.text x c.in-Ok.ensures.found.0 line;
       piece = line_piece (one_line contents) x c.in-Ok.scrip.piece line (piece_read text _ c.in-Ok.ensures.same);
     }
