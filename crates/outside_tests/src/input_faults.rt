@@ -58,8 +58,9 @@ fn told_of(rt: &HostRuntime, vendor: &str, line: &str) -> Result<String, Fail> {
 
 /// Takes the line, and says that it is refused.
 fn refuse<L: Link>(site: &mut L) {
-    let _ = site.next_link();
-    let _ = site.recv(&mut [0; 256]);
+    if let Ok(true) = site.next_link() {
+        let _ = site.recv(&mut [0; 256]);
+    }
     let _ = site.say(b"refused 53 BadInput 1\n");
 }
 
