@@ -1,5 +1,5 @@
 -- What is found of books is what is answered of their histories.
-use Rattle.std.proofs.Common.{◌≡◌, ℕ, zero, suc, ◌+◌, ◌≤◌, ◌^◌, Bool, true, false, cond, not, ◌||◌, true≢false, List, [], ◌∷◌, ◌++◌, map, filter, flat_map, length, take, drop, bytes_eq, Option, Some, None, slice_get, Result, Ok, Err, option_map, refl, sym, ap, ap₂, ◌∙◌, subst, arith, IsTrue}
+use Rattle.std.proofs.Common.{◌≡◌, ℕ, zero, suc, ◌+◌, ◌≤◌, ◌^◌, Bool, true, false, cond, not, ◌||◌, true≢false, List, [], ◌∷◌, map, filter, bytes_eq, Option, Some, None, slice_get, Ok, Err, option_map, refl, sym, ap, ◌∙◌, subst, arith}
 use Rattle.std.specs.Prelude.{is_some, MatchOption}
 use Rattle.std.specs.List.{list_any, AllByRecursion}
 use Rattle.std.proofs.lemmas.Slice.Eq.{bytes_eq-Decides}
@@ -8,11 +8,10 @@ use Rattle.name_places.specs.NamePlaces.{NamePlacesView, place_of}
 use Rattle.ledger_model.specs.declared.numbers.TheConstants.{BROKER_KIND, VENDOR_KIND}
 use Rattle.ledger_model.specs.Histories.{History}
 use Rattle.ledger_model.specs.Houses.{site_name, is_broker}
-use Rattle.ledger_model.specs.Stock.{Sale, sales}
+use Rattle.ledger_model.specs.Stock.{sales}
 use Rattle.audit_model.specs.declared.sums.VendorSums.{VendorSums}
-use Rattle.audit_model.specs.Books.{IsBook, HaveOwnNames}
+use Rattle.audit_model.specs.Books.{IsBook}
 use Rattle.audit_model.specs.Brokers.{AreBooksOf}
-use Rattle.audit_sums.specs.declared.rows.Sold.{Sold}
 use Rattle.audit_sums.specs.declared.audit_sums.BookSums.{BookSums}
 use Rattle.audit_sums.specs.Learned.{name_of}
 use Rattle.audit_search.specs.declared.fault.BooksFault.{BooksFault}
@@ -20,17 +19,16 @@ use Rattle.audit_search.specs.declared.fault.BooksFault.TheVariants as faults
 use Rattle.audit_search.specs.Checks.{is_desk}
 use Rattle.audit_search.specs.Filed.{place_in}
 use Rattle.audit_search.specs.Markets.{has_vendor, own_names, IsLeast, HasAll, AreInOrder}
-use Rattle.audit_search.specs.Audit.{IsLearned, AreLearned, has_book, NamesBook}
+use Rattle.audit_search.specs.Audit.{AreLearned, NamesBook}
 use Rattle.audit_search.proofs.MarketLaws as markets
 use Rattle.audit_search.proofs.AuditLaws.{broker_book, vendor_book}
-use Rattle.relayed_books.specs.Tree.{AreOfTree, sold_over, first_stranger}
+use Rattle.relayed_books.specs.Tree.{AreOfTree, sold_over}
 use Rattle.relayed_books.proofs.Sales.{only_brokers}
 use Rattle.relayed_books.proofs.Balance.{none_balanced}
 use Rattle.relay_core.specs.declared.tree.BrokerSums.{BrokerSums}
 use Rattle.relay_core.specs.declared.tree.Tree.{Tree}
-use Rattle.relay_core.specs.Sums.{sums_of_broker, sums_of_vendor, AreByName, IsTold}
+use Rattle.relay_core.specs.Sums.{sums_of_vendor, AreByName}
 use Rattle.audit_cmd.specs.declared.totals.Totals.{Totals}
-use Rattle.audit_cmd.specs.Marks.{AreApart}
 use Rattle.audit_cmd.specs.Desks.{ArePlacesOf, KnowSales}
 use Rattle.audit_cmd.specs.Names.{own_all, desk_sales}
 use Rattle.audit_cmd.specs.Totals.{brokers_among, vendors_among, AreTotals, IsFound, NamesAt}

@@ -34,10 +34,6 @@ knows_more name [] e knows = absurd knows.site
 knows_more name (Site m kind n house ∷ h) e knows = record { site = tt; is = knows.is }
 knows_more name (x ∷ h) e knows = absurd knows.site
 
-pub follows_site : (name : List ℕ) (h : History) (e : Entry) → KnowsSite name h → BeginsAs h e
-follows_site name [] e knows = absurd knows.site
-follows_site name (x ∷ h) e knows = tt
-
 -- ---- faults
 
 no_other : (e : Entry) → IsOfOtherKind AnyKind e → ⊥

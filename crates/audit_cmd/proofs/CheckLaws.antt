@@ -1,5 +1,5 @@
 -- What is found of one book is what its history says.
-use Rattle.std.proofs.Common.{◌≡◌, ℕ, Bool, true, false, cond, not, ◌&&◌, List, [], ◌∷◌, ◌++◌, map, filter, filter_map, sum_by, Option, Some, None, option_map, Result, Ok, Err, refl, sym, ap, ap₂, ◌∙◌, append-nil}
+use Rattle.std.proofs.Common.{◌≡◌, ℕ, Bool, true, false, cond, List, [], ◌∷◌, ◌++◌, map, filter, filter_map, sum_by, Option, Some, None, option_map, Ok, Err, refl, sym, ap, ap₂, ◌∙◌, append-nil}
 use Rattle.std.specs.Prelude.{option_and_then, option_to_list, is_some}
 use Rattle.std.specs.Option.{option_or}
 use Rattle.std.specs.List.{list_any, cons_option}
@@ -16,7 +16,7 @@ use Rattle.audit_model.specs.declared.part.Part.{Part}
 use Rattle.audit_model.specs.Parts.{part_of}
 use Rattle.audit_model.specs.Meets.{is_among}
 use Rattle.audit_model.specs.Strangers.{stranger, first_of}
-use Rattle.audit_model.specs.Brokers.{sold_by, once, again, handed_by}
+use Rattle.audit_model.specs.Brokers.{sold_by, again, handed_by}
 use Rattle.audit_sums.specs.declared.rows.Acceptance.{Acceptance}
 use Rattle.audit_sums.specs.declared.audit_sums.BookSums.{BookSums}
 use Rattle.audit_sums.specs.Rows.{acceptance_of}
@@ -27,13 +27,13 @@ use Rattle.audit_search.specs.declared.check.CheckFault.{CheckFault}
 use Rattle.audit_search.specs.declared.check.CheckFault.TheVariants as faults
 use Rattle.audit_search.specs.Known.{has_part, was_accepted}
 use Rattle.audit_search.specs.Strange.{not_in, next_sale, later_sales, strange_of, first_in}
-use Rattle.audit_search.specs.Checks.{is_desk, left_at}
+use Rattle.audit_search.specs.Checks.{left_at}
 use Rattle.audit_search.specs.Audit.{IsLearned, has_book}
 use Rattle.audit_search.proofs.Ties.{is_same, parts_are, accepted_is, out_is, gone_is}
 use Rattle.audit_search.proofs.StrangeLaws.{first_append, tells}
 use Rattle.audit_search.proofs.MarketLaws.{desk_is}
 use Rattle.audit_search.proofs.AuditLaws.{first_alike}
-use Rattle.relayed_books.specs.Tree.{Sold, sold_as, sold_by_entry, is_genuine, handed_at, sold_stranger, strangers_from}
+use Rattle.relayed_books.specs.Tree.{Sold, sold_as, is_genuine, handed_at, sold_stranger, strangers_from}
 use Rattle.audit_cmd.specs.declared.check.Checked.{Checked}
 use Rattle.audit_cmd.specs.Desks.{AreDesks, sold_at_desks}
 use Rattle.audit_cmd.specs.Handed.{fresh, stale, value_of, handed_parts, sold_again}

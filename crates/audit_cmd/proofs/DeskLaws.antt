@@ -1,5 +1,5 @@
 -- The shops of brokers' books, one by one.
-use Rattle.std.proofs.Common.{◌≡◌, ℕ, zero, suc, ◌+◌, ◌<◌, ◌≤◌, arith, Bool, true, false, cond, not, List, [], ◌∷◌, ◌++◌, map, filter, filter_map, flat_map, length, take, drop, get_or, Option, Some, None, refl, sym, ap, ap₂, ◌∙◌, subst, append-nil}
+use Rattle.std.proofs.Common.{◌≡◌, ℕ, zero, suc, ◌+◌, ◌<◌, ◌≤◌, arith, Bool, true, false, cond, not, List, [], ◌∷◌, ◌++◌, map, filter, filter_map, length, take, drop, get_or, Option, Some, None, refl, sym, ap, ap₂, ◌∙◌, subst, append-nil}
 use Rattle.std.specs.List.{AllZip, AllByRecursion}
 use Rattle.std.proofs.lemmas.List.{map-append}
 use Rattle.std.proofs.lemmas.List.Concat.{flat_map-append}
@@ -13,13 +13,11 @@ use Rattle.audit_model.specs.Brokers.{sold_by}
 use Rattle.audit_model.proofs.Strange.{sells_nothing}
 use Rattle.audit_sums.specs.declared.audit_sums.BookSums.{BookSums}
 use Rattle.audit_search.specs.declared.shops.Shops.{Shops}
-use Rattle.audit_search.specs.Checks.{is_desk}
 use Rattle.audit_search.specs.Audit.{IsLearned, AreLearned, has_book}
-use Rattle.audit_search.specs.Standing.{StandFor}
 use Rattle.audit_search.proofs.MarketLaws.{desk_is}
 use Rattle.audit_search.proofs.AuditLaws.{vendor_book}
 use Rattle.relayed_books.specs.Tree.{Sold, sold_as, all_sold, sold_over}
-use Rattle.audit_cmd.specs.Desks.{IsDeskOf, AreDesksOf, StandsAt, AreDesks, sold_in, sold_at_desks}
+use Rattle.audit_cmd.specs.Desks.{IsDeskOf, AreDesksOf, StandsAt, AreDesks, sold_at_desks}
 
 -- ---- one more element
 

@@ -1,5 +1,5 @@
 -- What is told of a sale, and what one more sale leaves.
-use Rattle.std.proofs.Common.{◌≡◌, ℕ, zero, suc, ◌+◌, ◌<◌, arith, Bool, true, false, cond, not, ◌&&◌, ◌||◌, true≢false, List, [], ◌∷◌, ◌++◌, map, filter_map, length, take, drop, get_or, Option, Some, None, option_map, refl, sym, ap, ap₂, ◌∙◌, subst, append-nil, append_assoc, IsTrue}
+use Rattle.std.proofs.Common.{◌≡◌, ℕ, zero, suc, ◌+◌, ◌<◌, arith, Bool, true, false, cond, not, ◌&&◌, ◌||◌, true≢false, List, [], ◌∷◌, ◌++◌, map, filter_map, length, take, get_or, Option, Some, None, option_map, refl, sym, ap, ap₂, ◌∙◌, subst, append-nil, append_assoc, IsTrue}
 use Rattle.std.specs.Prelude.{option_to_list, is_some}
 use Rattle.std.specs.List.{list_any, cons_option, AllByRecursion}
 use Rattle.std.proofs.lemmas.List.{map-append}
@@ -11,19 +11,17 @@ use Rattle.ledger_model.specs.Houses.{site_name}
 use Rattle.ledger_model.specs.Stock.{Sale, sales, sold_piece}
 use Rattle.audit_model.specs.declared.part.Part.{Part}
 use Rattle.audit_model.specs.Parts.{part_of}
-use Rattle.audit_model.specs.Strangers.{is_minted, first_of}
+use Rattle.audit_model.specs.Strangers.{first_of}
 use Rattle.audit_sums.specs.declared.rows.Sold.{Sold as Row}
 use Rattle.audit_sums.specs.Rows.{sale_by}
 use Rattle.audit_search.specs.declared.shops.Shops.{Shops}
 use Rattle.audit_search.specs.Audit.{has_book}
 use Rattle.audit_search.specs.Standing.{StandFor, piece_in, has_minted}
 use Rattle.audit_search.proofs.Loops.{one_more}
-use Rattle.relayed_books.specs.Tree.{Sold, sold_as, sold_over, clash, is_genuine, is_licensed_beside, sold_stranger}
-use Rattle.relayed_books.specs.Beside.{is_beside}
+use Rattle.relayed_books.specs.Tree.{Sold, sold_as, sold_over, clash, is_genuine, sold_stranger}
 use Rattle.relayed_books.proofs.BesideLaws as beside
-use Rattle.audit_cmd.specs.declared.marks.Marks.{Marks}
 use Rattle.audit_cmd.specs.declared.licences.Licences.{Licences}
-use Rattle.audit_cmd.specs.Marks.{MarksShow, LicencesShow, IsSale, is_other, seller_view, seller_at}
+use Rattle.audit_cmd.specs.Marks.{LicencesShow, IsSale}
 use Rattle.audit_cmd.specs.Desks.{ArePlacesOf, licensed_piece, sold_rows}
 use Rattle.audit_cmd.specs.Verdicts.{passes, verdict_on, verdicts}
 use Rattle.audit_cmd.proofs.LicenceLaws.{beside_is, stock_leaves}

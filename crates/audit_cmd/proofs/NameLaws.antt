@@ -1,13 +1,12 @@
 -- Names that differ, and sales of all brokers.
-use Rattle.std.proofs.Common.{◌≡◌, ℕ, ◌+◌, ◌<◌, Bool, true, false, cond, not, ◌&&◌, ◌||◌, true≢false, List, [], ◌∷◌, ◌++◌, map, filter, flat_map, length, take, get_or, bytes_eq, Option, Some, None, refl, sym, ap, ap₂, ◌∙◌, subst, IsTrue, append-nil}
-use Rattle.std.specs.Prelude.{is_some, MatchOption}
+use Rattle.std.proofs.Common.{◌≡◌, ℕ, ◌+◌, ◌<◌, Bool, true, false, cond, not, ◌&&◌, ◌||◌, List, [], ◌∷◌, ◌++◌, map, filter, flat_map, length, take, get_or, bytes_eq, Option, Some, None, refl, sym, ap, ap₂, ◌∙◌, subst, IsTrue, append-nil}
+use Rattle.std.specs.Prelude.{is_some}
 use Rattle.std.specs.List.{list_any, AllByRecursion}
 use Rattle.std.proofs.lemmas.List.{map-append}
 use Rattle.std.proofs.lemmas.List.Folds.{list_any-append}
 use Rattle.std.proofs.lemmas.List.Concat.{flat_map-append}
 use Rattle.std.proofs.lemmas.List.Elements.{filter-append}
 use Rattle.mc_records.specs.declared.limits.Limits.{Limits}
-use Rattle.name_places.specs.NamePlaces.{NamePlacesView, place_of}
 use Rattle.ledger_model.specs.Histories.{History}
 use Rattle.ledger_model.specs.Houses.{site_name, is_broker}
 use Rattle.ledger_model.specs.Stock.{Sale, sales}
@@ -19,7 +18,7 @@ use Rattle.audit_sums.specs.Rows.{sale_by}
 use Rattle.audit_sums.specs.Learned.{name_of, sales_of}
 use Rattle.audit_search.specs.Checks.{is_desk}
 use Rattle.audit_search.specs.Markets.{comes_before, IsLeast, HasAll}
-use Rattle.audit_search.specs.Audit.{IsLearned, AreLearned, has_book}
+use Rattle.audit_search.specs.Audit.{AreLearned, has_book}
 use Rattle.audit_search.proofs.Loops.{one_more, any_more}
 use Rattle.audit_search.proofs.MarketLaws.{desk_is}
 use Rattle.audit_cmd.specs.Desks.{KnowSales}

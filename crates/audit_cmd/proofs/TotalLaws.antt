@@ -1,5 +1,5 @@
 -- What the loop over all books keeps, at one more book.
-use Rattle.std.proofs.Common.{◌≡◌, ℕ, ◌+◌, ◌<◌, arith, Bool, true, false, cond, not, List, [], ◌∷◌, ◌++◌, map, filter, flat_map, sum_by, length, take, drop, get_or, Option, Some, None, option_map, slice_get, Result, Ok, Err, refl, sym, ap, ap₂, ◌∙◌, subst, append-nil}
+use Rattle.std.proofs.Common.{◌≡◌, ℕ, ◌+◌, ◌<◌, arith, Bool, true, false, cond, not, List, [], ◌∷◌, ◌++◌, map, length, take, drop, get_or, Option, Some, None, Err, refl, sym, ap, ap₂, ◌∙◌, subst, append-nil}
 use Rattle.std.proofs.lemmas.Option.{slice_get-get_or}
 use Rattle.std.proofs.lemmas.List.{map-append}
 use Rattle.std.proofs.lemmas.List.Sums.{sum_by-append, sum_by-cons}
@@ -15,15 +15,12 @@ use Rattle.audit_model.specs.Strangers.{first_of, first_by}
 use Rattle.audit_model.specs.Brokers.{sold_by, again, relayed, handed_by}
 use Rattle.audit_model.proofs.Left.{same_vendor}
 use Rattle.audit_sums.specs.declared.audit_sums.BookSums.{BookSums}
-use Rattle.audit_sums.specs.Learned.{name_of}
 use Rattle.audit_search.specs.declared.spent.Left.{Left}
-use Rattle.audit_search.specs.declared.fault.BooksFault.{BooksFault}
 use Rattle.audit_search.specs.declared.check.CheckFault.{CheckFault}
 use Rattle.audit_search.specs.declared.check.CheckFault.TheVariants as faults
 use Rattle.audit_search.specs.Checks.{is_desk, row_with, fault_at}
-use Rattle.audit_search.specs.Audit.{IsLearned, has_book}
+use Rattle.audit_search.specs.Audit.{IsLearned}
 use Rattle.audit_search.proofs.MarketLaws.{desk_is}
-use Rattle.audit_search.proofs.AuditLaws.{each_has}
 use Rattle.audit_search.proofs.Audited.{accounts_are}
 use Rattle.relayed_books.specs.Tree.{Sold, all_sold, sold_over, is_genuine, handed_at, strangers_from, first_over, first_stranger}
 use Rattle.relay_core.specs.declared.tree.BrokerSums.{BrokerSums}
@@ -33,7 +30,7 @@ use Rattle.audit_cmd.specs.declared.check.Checked.{Checked}
 use Rattle.audit_cmd.specs.declared.totals.Totals.{Totals}
 use Rattle.audit_cmd.specs.Marks.{MarksShow}
 use Rattle.audit_cmd.specs.Rows.{broker_row}
-use Rattle.audit_cmd.specs.Checks.{first_strange, IsSound, IsChecked}
+use Rattle.audit_cmd.specs.Checks.{IsSound, IsChecked}
 use Rattle.audit_cmd.proofs.DeskLaws.{sold_more}
 use Rattle.audit_cmd.specs.Totals.{brokers_among, vendors_among, AreTotals, IsFound, NamesAt}
 

@@ -80,14 +80,6 @@ pub record AreAuditedBy {R : Type 0} (Audits : List History → Result R BooksFa
   pub stand : AllZip IsHousesHistory books histories
   pub audited : Audits histories found
 
--- by that of one broker and vendors
-abbrev pub AreAudited : List (List ℕ) → Result Report BooksFault → Type 0
-AreAudited books found = AreAuditedBy (Audited FULL) books found
-
--- by that of several brokers and vendors
-abbrev pub AreAuditedTrees : List (List ℕ) → Result Tree BooksFault → Type 0
-AreAuditedTrees books found = AreAuditedBy (TreeAudited FULL) books found
-
 -- The books stand for lawful histories, among them that of a wallet.
 pub record HaveWallet (books : List (List ℕ)) : Type 0 where
   pub histories : List History

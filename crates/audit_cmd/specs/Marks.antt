@@ -1,5 +1,5 @@
 -- What is kept of the sales of each identity, and of those under a licence.
-use Rattle.std.specs.Prelude.{◌≡◌, ℕ, Bool, true, false, not, ◌&&◌, ◌||◌, ◌==◌, if◌then◌else◌, bytes_eq, List, [], ◌∷◌, Option, Some, None, option_map, unwrap_or}
+use Rattle.std.specs.Prelude.{◌≡◌, ℕ, Bool, false, not, ◌&&◌, ◌||◌, ◌==◌, if◌then◌else◌, bytes_eq, List, [], ◌∷◌, Option, Some, None, option_map}
 use Rattle.std.specs.Map.{lookup}
 use Rattle.name_places.specs.NamePlaces.{NamePlacesView, place_of}
 use Rattle.audit_model.specs.declared.part.Part.{Part}

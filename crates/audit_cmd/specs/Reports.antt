@@ -80,14 +80,6 @@ RefusesBy Audits books refusals.BadBooks = HaveWallet books ⊎ AreAuditedBy Aud
 RefusesBy Audits books (refusals.MissingBook name) = AreAuditedBy Audits books (Err (founds.MissingBook name))
 RefusesBy Audits books _ = ⊥
 
--- they are not of one broker and of vendors with names of their own, or the broker sold of a vendor without a book
-abbrev pub RefusesBooks : List (List ℕ) → Refusal → Type 0
-RefusesBooks books refusal = RefusesBy (Audited FULL) books refusal
-
--- they are not of brokers and of vendors, each with a name of its own, or a broker sold of a vendor without a book
-abbrev pub RefusesTree : List (List ℕ) → Refusal → Type 0
-RefusesTree books refusal = RefusesBy (TreeAudited FULL) books refusal
-
 -- the refusals that come so
 abbrev pub IsOfBooks : Refusal → Type 0
 IsOfBooks refusals.BadBooks = Unit {0}

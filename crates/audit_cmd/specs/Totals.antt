@@ -1,10 +1,10 @@
 -- What is found of all books.
-use Rattle.std.specs.Prelude.{◌≡◌, ℕ, Bool, true, false, not, List, [], ◌∷◌, map, filter, sum_by, Option, None, Some, slice_get, Result, Ok, Err}
+use Rattle.std.specs.Prelude.{◌≡◌, not, List, map, filter, Option, None, Some, slice_get, Result, Ok, Err}
 use Rattle.std.specs.List.{AllByRecursion}
 use Rattle.mc_records.specs.declared.limits.Limits.{Limits}
 use Rattle.name_places.specs.NamePlaces.{NamePlacesView}
 use Rattle.ledger_model.specs.Histories.{History}
-use Rattle.ledger_model.specs.Houses.{site_name, is_broker}
+use Rattle.ledger_model.specs.Houses.{is_broker}
 use Rattle.audit_model.specs.Brokers.{relayed}
 use Rattle.audit_sums.specs.declared.audit_sums.BookSums.{BookSums}
 use Rattle.audit_sums.specs.Learned.{name_of}

@@ -1,6 +1,6 @@
 //! What was handed out of a book, each identity once.
 
-ghost use Rattle.std.specs.Prelude.{◌≡◌, ◌++◌, ◌+◌, ◌||◌, ℕ, [], sum_by, if◌then◌else◌, IfOk, OnOk};
+ghost use Rattle.std.specs.Prelude.{◌≡◌, ◌++◌, ◌+◌, ◌||◌, ℕ, [], sum_by, IfOk, OnOk};
 ghost use Rattle.std.specs.List.{list_any};
 ghost use Rattle.audit_search.specs.Known.{has_id};
 ghost use Rattle.audit_search.specs.Checks.{is_desk};

@@ -1,6 +1,6 @@
 //! Which sales of a broker can't stand.
 
-ghost use Rattle.std.specs.Prelude.{◌≡◌, ◌++◌, [], List, true, map, option_to_list, IfOk, OnOk};
+ghost use Rattle.std.specs.Prelude.{◌≡◌, ◌++◌, List, true, map, option_to_list, IfOk, OnOk};
 ghost use Rattle.ledger_model.specs.Histories.{History};
 ghost use Rattle.ledger_model.specs.Houses.{site_name};
 ghost use Rattle.ledger_model.specs.Stock.{sales as sales_in};

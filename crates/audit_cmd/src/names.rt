@@ -1,6 +1,6 @@
 //! Which books stand together: those of one or more brokers and of vendors, each with a name of its own.
 
-ghost use Rattle.std.specs.Prelude.{◌≡◌, ℕ, List, is_some, IfOk, MatchOption};
+ghost use Rattle.std.specs.Prelude.{◌≡◌, is_some, IfOk, MatchOption};
 ghost use Rattle.std.specs.List.{list_any};
 ghost use Rattle.name_places.specs.NamePlaces.{place_of};
 ghost use Rattle.audit_search.specs.Checks.{is_desk};

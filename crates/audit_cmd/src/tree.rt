@@ -1,6 +1,6 @@
 //! Reporting the books of several brokers.
 
-ghost use Rattle.std.specs.Prelude.{◌≡◌, ◌⊎◌};
+ghost use Rattle.std.specs.Prelude.{◌≡◌};
 ghost use Rattle.std.specs.List.{AllZip, AllByRecursion};
 ghost use Rattle.mc_outside.specs.DiskView.{OnlyRead};
 ghost use Rattle.audit_cmd.specs.Books.{IsLawfulBook};

@@ -1,6 +1,6 @@
 //! A report as lines of text.
 
-ghost use Rattle.std.specs.Prelude.{◌≡◌, ◌++◌, IfOk, OnOk, OnErr, codes, decimal};
+ghost use Rattle.std.specs.Prelude.{◌≡◌, ◌++◌, IfOk, OnOk, OnErr, decimal};
 ghost use Rattle.audit_report.specs.Text.{broker_line, number_line, vendor_line, vendor_lines, report_text};
 
 use audit_model::{Report, VendorSums};

@@ -1,5 +1,5 @@
 -- What an audit finds by what was kept of the books is what their histories say.
-use Rattle.std.proofs.Common.{◌≡◌, ℕ, ◌+◌, Bool, true, false, cond, not, ◌||◌, eqb, eqb-true, true≢false, List, [], ◌∷◌, ◌++◌, map, filter, filter_map, bytes_eq, Option, Some, None, option_map, unwrap_or, refl, sym, ap, ap₂, ◌∙◌, subst, IsTrue}
+use Rattle.std.proofs.Common.{◌≡◌, ℕ, ◌+◌, Bool, true, false, cond, not, ◌||◌, eqb, eqb-true, true≢false, List, [], ◌∷◌, ◌++◌, map, filter, bytes_eq, Option, Some, None, option_map, unwrap_or, refl, sym, ap, ap₂, ◌∙◌, subst, IsTrue}
 use Rattle.std.specs.Option.{option_or}
 use Rattle.std.specs.List.{list_any, AllByRecursion}
 use Rattle.std.proofs.lemmas.List.{map-append}
@@ -10,7 +10,7 @@ use Rattle.ledger_model.specs.declared.numbers.TheConstants.{BROKER_KIND, VENDOR
 use Rattle.ledger_model.specs.Histories.{History}
 use Rattle.ledger_model.specs.Houses.{site_name, is_broker, is_vendor}
 use Rattle.ledger_model.specs.Pieces.{own_out, is_spent}
-use Rattle.ledger_model.specs.Stock.{Sale, sales, sold, sold_piece}
+use Rattle.ledger_model.specs.Stock.{Sale, sales, sold}
 use Rattle.ledger_model.specs.Sums.{handed_out, outstanding, lapsed}
 use Rattle.ledger_model.proofs.KindLaws.{one_house}
 use Rattle.audit_model.specs.declared.sums.VendorSums.{VendorSums}

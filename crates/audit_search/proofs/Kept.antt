@@ -1,5 +1,5 @@
 -- What functions answer, by what those that they call answered.
-use Rattle.std.proofs.Common.{◌≡◌, ℕ, ◌+◌, ◌<◌, Bool, true, false, List, [], ◌∷◌, ◌++◌, length, take, drop, get_or, sum_by, Option, Some, Result, Ok, Err, IfOk, refl, sym, ap, ap₂, ◌∙◌, subst}
+use Rattle.std.proofs.Common.{◌≡◌, ℕ, ◌+◌, ◌<◌, Bool, true, false, List, [], ◌∷◌, ◌++◌, length, take, drop, get_or, sum_by, Some, Result, Ok, Err, IfOk, refl, sym, ap, ap₂, ◌∙◌, subst}
 use Rattle.std.proofs.lemmas.Option.{slice_get-get_or}
 use Rattle.std.specs.Borrow.{Bor}
 use denote.Param.Members.{Mut}
@@ -16,10 +16,9 @@ use Rattle.audit_model.specs.declared.sums.VendorSums.{VendorSums}
 use Rattle.audit_model.specs.declared.part.Part.{Part}
 use Rattle.audit_sums.specs.declared.rows.Acceptance.{Acceptance}
 use Rattle.audit_sums.specs.declared.audit_sums.BookSums.{BookSums}
-use Rattle.audit_sums.specs.Learned.{name_of, time_of, accepted_of, stock_rows_of, sales_of}
+use Rattle.audit_sums.specs.Learned.{time_of, accepted_of, stock_rows_of, sales_of}
 use Rattle.audit_search.specs.declared.shop.Shop.{Shop}
 use Rattle.audit_search.specs.declared.spent.Left.{Left}
-use Rattle.audit_search.specs.declared.totals.Totals.{Totals}
 use Rattle.audit_search.specs.declared.fault.BooksFault.{BooksFault}
 use Rattle.audit_search.specs.declared.fault.BooksFault.TheVariants as faults
 use Rattle.audit_search.specs.declared.check.CheckFault.{CheckFault}

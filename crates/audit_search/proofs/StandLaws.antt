@@ -8,7 +8,6 @@ use Rattle.ledger_model.specs.Histories.{History}
 use Rattle.ledger_model.specs.Houses.{site_name}
 use Rattle.ledger_model.specs.Stock.{Sale, sold, sold_piece}
 use Rattle.audit_model.specs.Books.{HaveOwnNames}
-use Rattle.audit_model.specs.declared.part.Part.{Part}
 use Rattle.audit_model.specs.Parts.{part_of}
 use Rattle.audit_model.specs.Strangers.{is_minted}
 use Rattle.audit_sums.specs.declared.rows.Sold.{Sold}

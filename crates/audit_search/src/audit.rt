@@ -1,6 +1,6 @@
 //! The audit of books of which all was learned.
 
-ghost use Rattle.std.specs.Prelude.{◌≡◌, ◌≤◌, ◌^◌, List as Items, IfOk};
+ghost use Rattle.std.specs.Prelude.{◌≤◌, ◌^◌, List as Items, IfOk};
 ghost use Rattle.mc_records.specs.declared.limits.Limits.{Limits as Bounds};
 ghost use Rattle.ledger_model.specs.Histories.{History};
 ghost use Rattle.audit_search.specs.Audit.{AreLearned, Audited, NamesBook};

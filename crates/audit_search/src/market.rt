@@ -1,6 +1,6 @@
 //! Which books stand together: those of one broker and of vendors with names of their own.
 
-ghost use Rattle.std.specs.Prelude.{◌≡◌, ◌++◌, map, List, ℕ, true, false, filter, option_map, is_some, IfOk, MatchOption, if◌then◌else◌};
+ghost use Rattle.std.specs.Prelude.{◌≡◌, ◌++◌, map, List, ℕ, filter, option_map, is_some, IfOk, MatchOption, if◌then◌else◌};
 ghost use Rattle.name_places.specs.NamePlaces.{place_of};
 ghost use Rattle.audit_sums.specs.declared.rows.Sold.{Sold as Row};
 ghost use Rattle.audit_sums.specs.Learned.{name_of};

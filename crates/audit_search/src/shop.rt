@@ -1,6 +1,6 @@
 //! What a broker has of a vendor to sell.
 
-ghost use Rattle.std.specs.Prelude.{◌≡◌, ◌++◌, [], ◌==◌, ℕ, if◌then◌else◌, Some, None, option_map, option_to_list, IfOk, OnOk};
+ghost use Rattle.std.specs.Prelude.{◌≡◌, ◌++◌, [], ◌==◌, ℕ, if◌then◌else◌, Some, None, option_to_list, IfOk, OnOk};
 ghost use Rattle.std.specs.Option.{option_or};
 ghost use Rattle.scrip_form.specs.Issuing.{series_end};
 ghost use Rattle.scrip_form.specs.Identities.{epoch_of};

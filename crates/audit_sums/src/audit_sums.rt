@@ -1,6 +1,6 @@
 //! What an audit keeps of a book.
 
-ghost use Rattle.std.specs.Prelude.{◌≡◌, ◌++◌, ◌∷◌, [], max, map, filter_map, flat_map, Some, OnOk};
+ghost use Rattle.std.specs.Prelude.{◌≡◌, ◌++◌, ◌∷◌, [], max, Some, OnOk};
 ghost use Rattle.mc_records.specs.Entry.{Fits};
 ghost use Rattle.mc_records.specs.Views.{entry};
 ghost use Rattle.ledger_model.specs.Histories.{History};

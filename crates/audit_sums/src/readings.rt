@@ -4,7 +4,7 @@ ghost use Rattle.std.specs.Prelude.{◌≡◌, ℕ, List, Option, Some, option_m
 ghost use Rattle.scrip_form.specs.Issuing.{series_end};
 ghost use Rattle.scrip_form.specs.Identities.{epoch_of};
 ghost use Rattle.mc_records.specs.Entry.{Accept, Draw, Deed};
-ghost use Rattle.mc_records.specs.Views.{deed_of, entry};
+ghost use Rattle.mc_records.specs.Views.{entry};
 ghost use Rattle.ledger_model.specs.Histories.{History};
 ghost use Rattle.ledger_model.specs.Houses.{terms_in};
 ghost use Rattle.ledger_model.specs.Pieces.{handed_piece};

@@ -2,7 +2,6 @@
 
 ghost use Rattle.std.specs.Prelude.{◌≡◌, ◌+◌, IfOk, OnOk};
 ghost use Rattle.mc_records.specs.Views.{entry};
-ghost use Rattle.ledger_model.specs.Sums.{amount_in, amount_out, amount_credited, amount_drawn, fee_of, price_paid};
 ghost use Rattle.audit_sums.specs.Learned.{Counts};
 
 use crate::readings::{credited, deposited, drawn, fee_taken, price, withdrawn};

@@ -1,10 +1,9 @@
 //! Which lines are taken as stock.
 
-ghost use Rattle.std.specs.Prelude.{◌≡◌, ◌==◌, ◌||◌, ◌≤◌, ◌∷◌, [], ℕ, nat_lt, count_by, find, length, IfSome};
+ghost use Rattle.std.specs.Prelude.{◌≡◌, ◌==◌, ◌||◌, ◌∷◌, [], find, IfSome};
 ghost use Rattle.ledger_model.specs.Histories.{History};
 ghost use Rattle.ledger_model.specs.Stock.{stock_ids};
 ghost use Rattle.house_core.specs.Refusing.{IsAmong};
-ghost use Rattle.piece_lines.specs.Rules.{passes};
 ghost use Rattle.broker_stalls.specs.Shown.{Shows};
 ghost use Rattle.broker_stalls.specs.Stalls.{was_stocked};
 ghost use Rattle.broker_stalls.specs.Vendors.{found_stall};

@@ -1,5 +1,5 @@
 -- What is kept of the pieces of a Stock entry.
-use Rattle.std.specs.Prelude.{ℕ, ◌==◌, ◌≤◌, false, if◌then◌else◌, List, [], length, Option, Some, None, option_and_then, filter_map}
+use Rattle.std.specs.Prelude.{ℕ, ◌==◌, ◌≤◌, if◌then◌else◌, List, [], length, Option, Some, None, option_and_then, filter_map}
 use Rattle.std.specs.Result.{result_ok}
 use Rattle.scrip_form.specs.Scrip.{Scrip, scrip_text}
 use Rattle.scrip_form.specs.Reading.{scrip_of}

@@ -1,5 +1,5 @@
 -- What a broker has of one vendor to sell.
-use Rattle.std.specs.Prelude.{ℕ, ◌+◌, ◌==◌, ◌||◌, ◌<◌, ◌≤◌, ◌^◌, ◌≡◌, not, Bool, IsTrue, IfSome, List, [], length, Option, None, option_map, unwrap_or, is_some}
+use Rattle.std.specs.Prelude.{ℕ, ◌==◌, ◌||◌, ◌<◌, ◌≤◌, ◌^◌, ◌≡◌, not, Bool, IsTrue, IfSome, List, [], length, Option, None, option_map, unwrap_or, is_some}
 use Rattle.std.specs.List.{list_any}
 use Rattle.scrip_form.specs.Issuing.{Issuing, HasPeriod}
 use Rattle.change_issue.specs.Registers.{Register, has_room, count_in}

@@ -1,10 +1,10 @@
-ghost use Rattle.std.specs.Prelude.{◌≡◌, ◌||◌, ◌&&◌, not, ◌^◌, ℕ, false, [], if◌then◌else◌, ◌==◌, Some, None, option_map, is_none, find, is_some, IsSomeAnd, IfSome, OnOk, true, ◌++◌, ◌<◌, ◌≤◌, length};
+ghost use Rattle.std.specs.Prelude.{◌≡◌, ◌||◌, ◌&&◌, not, ◌^◌, ℕ, false, if◌then◌else◌, ◌==◌, Some, None, option_map, is_none, find, is_some, IfSome, OnOk, true, ◌++◌, ◌<◌, ◌≤◌, length};
 ghost use Rattle.std.specs.Bool.{OnTrue, OnFalse};
 ghost use Rattle.std.specs.List.{list_any};
 ghost use Rattle.std.specs.Option.{option_or};
 ghost use Rattle.scrip_form.specs.Identities.{series_of, numbered};
 ghost use Rattle.scrip_form.specs.Issuing.{HasPeriod};
-ghost use Rattle.change_issue.specs.Registers.{count_in, next_in, IsRaisedAt};
+ghost use Rattle.change_issue.specs.Registers.{count_in, IsRaisedAt};
 ghost use Rattle.mc_records.specs.declared.ranges.TheConstants.{MOST_PIECES};
 ghost use Rattle.mc_records.specs.PieceViews.{pieces_of};
 ghost use Rattle.ledger_model.specs.Stock.{may_be_stock, are_stock, ids_of};

@@ -11,7 +11,7 @@ ghost use Rattle.ledger_model.specs.Taken.{IsFromStock};
 ghost use Rattle.broker_stalls.specs.Stalls.{HasSeries};
 ghost use Rattle.broker_stalls.specs.Listed.{HasRoomFor};
 ghost use Rattle.broker_stalls.specs.Shown.{Shows};
-ghost use Rattle.broker_stalls.specs.Vendors.{stall_of, found_stall, StallsRepresent, AreAlike, HasStall, StallsHaveRoom, StallFits, StallsAllow, StallsAnswer, HasRoomToSell};
+ghost use Rattle.broker_stalls.specs.Vendors.{stall_of, found_stall, StallsRepresent, AreAlike, HasStall, StallsHaveRoom, StallFits, StallsAllow, StallsAnswer};
 
 use crate::stall::Stall;
 use crate::target::bought;

@@ -1,7 +1,7 @@
 //! Lines by which a vendor's operator enters something into the book, within the limits; and how a house is opened for
 //! that, whatever its trade, and what came of it is shown.
 
-ghost use Rattle.std.specs.Prelude.{◌<◌, ◌≤◌, ◌^◌, [], IfOk, IsSome, length};
+ghost use Rattle.std.specs.Prelude.{◌<◌, ◌^◌, [], IfOk, IsSome};
 ghost use Rattle.house_core.specs.House.{IfDone};
 
 use crate::ledger_verbs::show_refusal;

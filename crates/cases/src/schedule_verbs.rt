@@ -1,6 +1,6 @@
 //! Lines that play a schedule: the histories that houses and wallets begin with, events, and what they leave.
 
-ghost use Rattle.std.specs.Prelude.{◌≡◌, ◌≤◌, ◌^◌, IsTrue, IfOk};
+ghost use Rattle.std.specs.Prelude.{◌≤◌, ◌^◌, IsTrue, IfOk};
 ghost use Rattle.std.specs.List.{AllByRecursion};
 ghost use Rattle.mc_records.specs.Limits.{AreInRange};
 ghost use Rattle.mc_records.specs.Sizes.{size};
@@ -410,10 +410,10 @@ fn lengths(alloc: Global, histories: &[History]) -> Result<Vec<usize>, Fault> {
 
 /// Prints what each party's history has now, and the messages and the replies.
 fn show(left: &World, counts: &Counts, out: &mut Lines) {
-    show_parties("house", left.houses(), &counts.houses, out);
-    show_parties("wallet", left.wallets(), &counts.wallets, out);
-    show_all("message", left.messages(), out);
-    show_all("reply", left.replies(), out)
+    show_parties("house", &left.houses, &counts.houses, out);
+    show_parties("wallet", &left.wallets, &counts.wallets, out);
+    show_all("message", &left.messages, out);
+    show_all("reply", &left.replies, out)
 }
 
 fn show_parties(word: &str, histories: &[History], counts: &[usize], out: &mut Lines) {

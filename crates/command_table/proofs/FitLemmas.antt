@@ -193,17 +193,3 @@ fits_iff name rows b each = (
   λ t. fill_all rows (form_of name).parameters (all_distinct name) (each.0 t),
   λ may. each.1 (all_spell rows may.whole (form_of name).parameters may.finds.0 may.finds.1 may.kept),
 )
-
--- rows that have values of a command
-pub some_values : (name : CommandName) → (rows : List Row) × HaveValues (form_of name).parameters rows
-some_values name = let may = fill_all [] (form_of name).parameters (all_distinct name) (open_all (form_of name).parameters) in (may.whole, may.finds)
-  where
-    open_one : (name : Text) (shape : Shape) → MayBe [] name shape
-    open_one name (One sort) = (None, tt, refl)
-    open_one name Places = tt
-    open_one name (Setting sort) = (None, tt, refl)
-    open_one name Flag = tt
-
-    open_all : (parameters : List Parameter) → EachMayBe [] parameters
-    open_all [] = tt
-    open_all (parameter ∷ parameters) = (open_one (name_of parameter) (shape_of parameter), open_all parameters)

@@ -1,4 +1,4 @@
-ghost use Rattle.std.specs.Prelude.{◌≡◌, ◌<◌, ◌∷◌, true, false, length, map, string_bytes, IfOk, IfSome, IsNone};
+ghost use Rattle.std.specs.Prelude.{◌≡◌, ◌<◌, ◌∷◌, length, map, string_bytes, IfOk, IfSome, IsNone};
 ghost use Rattle.command_words.specs.Arguments.{found, optional};
 ghost use Rattle.command_table.specs.Table.{Reads, form_of, rules};
 ghost use Rattle.command_table.specs.Naming.{named};

@@ -1,29 +1,37 @@
 //! What is told of words that are of no command.
 
 ghost use Rattle.std.specs.Prelude.{◌≡◌, Some, map, string_bytes};
-ghost use Rattle.command_table.specs.Usage.{line_of, told_of};
+ghost use Rattle.command_table.specs.Usage.{told_of};
 
 use crate::parameter::{Parameter, Shape};
 use crate::table::{COMMANDS, CommandName, named};
 use std::fmt;
+use std::marker::Model;
 
-/// One line for standard error that tells which words the program has.
+/// One line for standard error that tells which words the program has. Contracts see it as the bytes of the line.
 #[derive(Drop)]
 pub struct Usage {
     name: Option<CommandName>,
 }
 
+impl Model for Usage {
+    ghost use Rattle.std.specs.Prelude.{ℕ, List};
+    ghost use Rattle.command_table.specs.Usage.{line_of};
+
+    ghost Value = { List ℕ };
+
+    ghost view = { λ u. line_of u.name };
+}
+
 /// The line for these words: of the command that they begin with, or else of all commands. It takes no memory.
 pub fn usage_of(words: &[String]) -> Usage
-    ensures { line_of result.name ≡ told_of (map string_bytes words.now) }
+    ensures { result ≡ told_of (map string_bytes words.now) }
 {
     Usage { name: named(words) }
 }
 
 impl fmt::Display for Usage {
-    ghost use Rattle.command_table.specs.Usage.{line_of};
-
-    ghost output = { λ u. Some (line_of u.name) };
+    ghost output = { λ u. Some u };
 
     fn fmt<W: fmt::Write>(&self, f: &mut fmt::Formatter<W>) -> fmt::Result {
         match self.name {

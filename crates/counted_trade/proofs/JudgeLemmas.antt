@@ -1,5 +1,5 @@
 -- What is judged of a statement, line by line.
-use Rattle.std.proofs.Common.{◌≡◌, ℕ, ◌<◌, ◌≤◌, Bool, true, false, cond, not, List, Option, Some, None, Result, Ok, Err, refl, sym, ap, ◌∙◌, bytes_eq, eqb, ltb, option_and_then, ap₂, arith}
+use Rattle.std.proofs.Common.{◌≡◌, ℕ, ◌<◌, ◌≤◌, Bool, true, false, not, List, Option, Some, None, Result, Ok, Err, sym, ap, ◌∙◌, bytes_eq, eqb, ltb, option_and_then, ap₂, arith}
 use Rattle.std.specs.Prelude.{if◌then◌else◌, ◌==◌, IfErr, IsTrue}
 use Rattle.std.specs.List.{list_any, list_all}
 use Rattle.std.proofs.lemmas.Bool.{lt-ltb, le-ltb, eq-eqb, false_from_ne_true, eqb-true}

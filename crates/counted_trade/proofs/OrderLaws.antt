@@ -1,10 +1,9 @@
 -- Which notes are in order, line by line.
-use Rattle.std.proofs.Common.{◌≡◌, ℕ, ◌<◌, ◌≤◌, Bool, true, false, cond, List, Option, Some, None, refl, sym, ap, subst, ◌∙◌, arith, eqb}
-use Rattle.std.specs.Prelude.{◌↔◌, IsTrue, IfSome, MatchOption, is_some, option_and_then}
+use Rattle.std.proofs.Common.{◌≡◌, ℕ, ◌<◌, ◌≤◌, true, false, List, Option, Some, None, refl, sym, subst, ◌∙◌, arith, eqb}
+use Rattle.std.specs.Prelude.{◌↔◌, IsTrue, IfSome, MatchOption, is_some}
 use Rattle.std.proofs.lemmas.Bool.{false≢true, eqb-true, eq-eqb}
 use Rattle.std.proofs.lemmas.Option.{same_Some}
 use Rattle.scrip_form.specs.Issuing.{Issuing, series_end}
-use Rattle.mc_records.specs.Entry.{Entry}
 use Rattle.ledger_model.specs.Histories.{History}
 use Rattle.ledger_model.specs.Houses.{terms_in}
 use Rattle.ledger_model.specs.Stock.{licence_in}

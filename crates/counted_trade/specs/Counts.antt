@@ -1,5 +1,5 @@
 -- What is counted of a history for its settlement.
-use Rattle.std.specs.Prelude.{◌≡◌, ℕ, ◌<◌, IfSome, vec_len, vec_capacity}
+use Rattle.std.specs.Prelude.{◌≡◌, ◌<◌, IfSome, vec_len, vec_capacity}
 use Rattle.std.specs.Global.{Vec}
 use Rattle.scrip_form.specs.Issuing.{Issuing}
 use Rattle.mc_records.specs.Entry.{Entry}

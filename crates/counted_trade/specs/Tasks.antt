@@ -10,7 +10,6 @@ use Rattle.ledger_model.specs.Lines.{Stop}
 use Rattle.house_core.specs.declared.outcome.Outcome.{Outcome}
 use Rattle.house_core.specs.declared.outcome.Outcome.TheVariants as outcomes
 use Rattle.house_core.specs.Tasks.{Task, Add, Stays, Refuse}
-use Rattle.settle_core.specs.declared.claim.Claim.{Claim}
 use Rattle.settle_core.specs.declared.claim.Payment.{Payment}
 use Rattle.settle_core.specs.declared.claim.Statement.{Statement}
 use Rattle.settle_core.specs.Claims.{claim_text, payment_text, statement_line}

@@ -13,13 +13,23 @@ use mc_base::{Amount, Moment, NoMemory};
 use mc_records::{Limits, Record, Refusal};
 use scrip_form::Name;
 use std::alloc::Global;
+use std::marker::Model;
 
 /// A trade that passes every call on to an inner one, and counts beside it what settlement needs. Its own test of a note
-/// is the inner one's and, of a note that settles a series, that it is in order.
+/// is the inner one's and, of a note that settles a series, that it is in order. Contracts see it as the record
+/// `CountedView`.
 #[derive(Drop)]
 pub struct Counted<T> {
     inner: T,
     counts: Counts,
+}
+
+impl<T> Model for Counted<T> {
+    ghost use Rattle.counted_trade.specs.CountedView.{CountedView};
+
+    ghost Value = { CountedView T };
+
+    ghost view = { λ c. record { inner = c.inner; counts = c.counts } };
 }
 
 impl<T: Trade> Counted<T> {

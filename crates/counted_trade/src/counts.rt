@@ -1,10 +1,10 @@
 //! What is counted of a history for its settlement.
 
-ghost use Rattle.std.specs.Prelude.{◌≡◌, ◌≤◌, ◌<◌, ◌^◌, ◌∷◌, ◌++◌, ◌↔◌, [], ℕ, length, option_map, IfSome, IsTrue, OnOk};
+ghost use Rattle.std.specs.Prelude.{◌≡◌, ◌<◌, ◌^◌, ◌∷◌, ◌++◌, ◌↔◌, [], length, option_map, IfSome, IsTrue, OnOk};
 ghost use Rattle.mc_records.specs.Entry.{moment_of};
 ghost use Rattle.mc_records.specs.Views.{entry};
 ghost use Rattle.ledger_model.specs.Histories.{History};
-ghost use Rattle.ledger_model.specs.Houses.{terms_of, all_terms, terms_in};
+ghost use Rattle.ledger_model.specs.Houses.{terms_of, all_terms};
 ghost use Rattle.ledger_model.specs.Stock.{licence_in};
 ghost use Rattle.settle_core.specs.Claims.{ClaimFits, PaymentFits, claim_of, payment_of};
 ghost use Rattle.settle_core.specs.Settlement.{stated_bytes, paid_bytes, stated_amount, paid_amount, redeemed, sold_under, IsTextOf, StatedInOrder, PaidInOrder, IsInOrder};

@@ -1,6 +1,6 @@
 //! The lines of the pieces of a wallet that another may sell.
 
-ghost use Rattle.std.specs.Prelude.{◌≡◌, ◌++◌, ℕ, length, map, OnOk, IfOk};
+ghost use Rattle.std.specs.Prelude.{◌≡◌, ◌++◌, length, map, OnOk, IfOk};
 ghost use Rattle.ledger_model.specs.Histories.{History};
 ghost use Rattle.ledger_model.specs.Pieces.{is_first_hand};
 ghost use Rattle.wallet_model.specs.Holdings as model;

@@ -1,16 +1,15 @@
 //! A house over a journal: what is accepted is on the disk before its reply can begin.
 
-ghost use Rattle.std.specs.Prelude.{◌≡◌, ◌<◌, ◌≤◌, ◌+◌, ◌*◌, ◌^◌, ◌∷◌, ◌++◌, [], ℕ, List, length, max, IfOk, IfErr, IfSome, MatchResult, OnOk, IsSome, None, Some, Ok};
-ghost use Rattle.mc_outside.specs.Bytes.{Rose};
+ghost use Rattle.std.specs.Prelude.{◌≡◌, ◌<◌, ◌≤◌, ◌+◌, ◌*◌, ◌^◌, ◌∷◌, [], ℕ, length, max, IfErr, IfSome, IsSome, None, Some, Ok};
 ghost use Rattle.mc_outside.specs.DiskView.{Ran};
 ghost use Rattle.scrip_form.specs.Identities.{series_of};
 ghost use Rattle.scrip_form.specs.Issuing.{Issuing};
 ghost use Rattle.scrip_form.specs.Scrip.{scrip_body, IsVersion};
 ghost use Rattle.scrip_form.specs.Texts.{IsTarget};
 ghost use Rattle.mc_records.specs.Chains.{chain};
-ghost use Rattle.mc_records.specs.Entry.{Entry, Fits, moment_of};
+ghost use Rattle.mc_records.specs.Entry.{Fits, moment_of};
 ghost use Rattle.mc_records.specs.Requests.{asked_of};
-ghost use Rattle.mc_records.specs.Sizes.{size, entry_size};
+ghost use Rattle.mc_records.specs.Sizes.{size};
 ghost use Rattle.mc_records.specs.Views.{entry};
 ghost use Rattle.ledger_model.specs.Histories.{History};
 ghost use Rattle.ledger_model.specs.Answer as model;
@@ -20,7 +19,6 @@ ghost use Rattle.ledger_model.specs.Lawful.{MayFollow};
 ghost use Rattle.house_state.specs.Learning.{Passes};
 ghost use Rattle.house_state.specs.CommandEntries.{IsCommand};
 ghost use Rattle.scrip_journal.specs.States.{IsJournal};
-ghost use Rattle.scrip_journal.specs.Exits.{EitherNoOutput, MatchStageFault};
 ghost use Rattle.house_state.specs.HouseState.{size_with};
 ghost use Rattle.house_core.specs.Bench.{IsHouse, KeepsReply, house_time, limits_of};
 ghost use Rattle.house_state.specs.Trade.{OfGoods, NamesInForce};

@@ -1,16 +1,14 @@
 //! One turn of serving a link by a house over a journal.
 
-ghost use Rattle.std.specs.Prelude.{◌≡◌, ◌<◌, ◌+◌, [], ◌∷◌, ℕ, max, IsTrue, IfOk};
+ghost use Rattle.std.specs.Prelude.{◌≡◌, ◌<◌, ◌+◌, IsTrue, IfOk};
 ghost use Rattle.scrip_form.specs.Texts.{IsTarget};
 ghost use Rattle.ledger_model.specs.Histories.{History};
 ghost use Rattle.millicent_http.specs.declared.reader.TheConstants.{MAX_ITEMS};
 ghost use Rattle.millicent_http.specs.declared.item.After.TheVariants.{Close};
 ghost use Rattle.millicent_http.specs.HeadRefusals.{as_refusal};
-ghost use Rattle.millicent_http.specs.declared.clock.Clock.TheVariants.{OfLinks};
-ghost use Rattle.millicent_http.specs.Courses.{AreRead, with_readings};
 ghost use Rattle.link_turns.specs.declared.turn.Turn.TheVariants.{GoOn};
 ghost use Rattle.link_turns.specs.Sending.{KeptCounts, PartCauses};
-ghost use Rattle.house_core.specs.Bench.{house_time, limits_of, state_of};
+ghost use Rattle.house_core.specs.Bench.{limits_of, state_of};
 ghost use Rattle.house_core.specs.House.{HouseRepresents};
 ghost use Rattle.house_serving.specs.Links.{RepliesTo, AnswersRequest, RefusesHead, TurnsHouse};
 

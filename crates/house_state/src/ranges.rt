@@ -1,7 +1,6 @@
 //! The parts of an Accept entry and of a Draw entry are in their ranges. Each function reads a part, and does no more.
 
-ghost use Rattle.std.specs.Prelude.{length, IfSome};
-ghost use Rattle.scrip_form.specs.Scrip.{IsScripText};
+ghost use Rattle.std.specs.Prelude.{IfSome};
 ghost use Rattle.scrip_form.specs.Texts.{IsTarget};
 ghost use Rattle.mc_records.specs.Entry.{Fits, IsKey, IsLong, DeedFits};
 ghost use Rattle.house_state.specs.Views.{entry_deed};

@@ -1,6 +1,6 @@
 //! The stages of the answer to a request, each over what it asks.
 
-ghost use Rattle.std.specs.Prelude.{◌≡◌, ◌+◌, ◌<◌, ◌≤◌, ◌==◌, ℕ, nat_lt, find, length, option_map, IfOk, IfErr, IfSome, MatchOption, OnOk, OnErr};
+ghost use Rattle.std.specs.Prelude.{◌≡◌, ◌<◌, ◌≤◌, ◌==◌, nat_lt, find, length, option_map, IfOk, IfErr, IfSome, MatchOption, OnOk, OnErr};
 ghost use Rattle.scrip_form.specs.Issuing.{series_at};
 ghost use Rattle.mc_records.specs.Entry.{IsKey};
 ghost use Rattle.mc_records.specs.Entry as entries;

@@ -76,12 +76,6 @@ slot_fails tag t p slot m is fails = go (not (eqb slot 0) && eqb (slot / MARKS) 
     go true = ap p (its (not (eqb slot 0) && eqb (slot / MARKS) (tag % SHORTS)) is) ∙ fails
     go false = refl
 
--- the slot of a mark leads from its tag to it
-pub slot_passes : (tag t : ℕ) (p : ℕ → Bool) (slot m : ℕ) → marked_in tag slot ≡ Some m → (eqb tag t && p m) ≡ true → slot_leads t p slot ≡ true
-slot_passes tag t p slot m is both =
-    let parts = and_parts (eqb tag t) (p m) both in
-    ap (passes_if p) (ap (λ (x : ℕ). marked_in x slot) (sym (eqb-true tag t parts.0)) ∙ is) ∙ parts.1
-
 -- ---- slots that are replaced
 
 -- what some slots have, another one than the replaced one has

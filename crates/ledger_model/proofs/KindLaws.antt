@@ -10,8 +10,6 @@ use Rattle.scrip_form.specs.Issuing.{epoch}
 use Rattle.ledger_model.specs.Stock.{upgrade_terms}
 use Rattle.ledger_model.specs.declared.numbers.TheConstants.{VENDOR_KIND}
 use Rattle.ledger_model.specs.Lines.{refused_if}
-use Rattle.ledger_model.specs.Orders.{order_of}
-use Rattle.ledger_model.specs.Answer.{draw_in}
 use Rattle.ledger_model.specs.Lawful.{unbounded, request_of, draw_request, MayFollow, IsHouseSite, IsLawful}
 use Rattle.ledger_model.proofs.TableLaws.{line_ok, accept_answer, draw_answer}
 
@@ -56,7 +54,3 @@ one_house limits (e ∷ es) lawful = founded e es (first_founds limits e lawful.
 
 pub no_broker : (h : History) → site_kind h ≡ Some VENDOR_KIND → is_broker h ≡ false
 no_broker h vendor = ap (λ (k : Option ℕ). unwrap_or (option_map (λ kind. kind == 1) k) false) vendor
-
--- has no draws
-pub vendor_draws_nothing : (h : History) (target : List ℕ) → site_kind h ≡ Some VENDOR_KIND → draw_in h target ≡ None
-vendor_draws_nothing h target vendor = ap (λ (b : Bool). cond b (order_of target) None) (no_broker h vendor)

@@ -1,9 +1,9 @@
 -- The version of a series whose epoch has come stays as it is.
-use Rattle.std.proofs.Common.{◌≡◌, ℕ, ◌+◌, ◌*◌, ◌/◌, ◌%◌, ◌<◌, ◌≤◌, ◌^◌, Bool, true, false, cond, ◌&&◌, ◌||◌, List, [], ◌∷◌, ◌++◌, Option, Some, None, refl, sym, ap, ap₂, subst, ◌∙◌, append-nil, append_assoc, arith, eqb, leb, bytes_eq, find, option_and_then, option_map, unwrap_or}
-use Rattle.std.specs.Prelude.{◌==◌, nat_le, MatchOption}
+use Rattle.std.proofs.Common.{◌≡◌, ℕ, ◌+◌, ◌/◌, ◌<◌, ◌≤◌, Bool, true, false, cond, ◌&&◌, ◌||◌, List, [], ◌∷◌, ◌++◌, Option, Some, None, refl, sym, ap, ap₂, subst, ◌∙◌, append-nil, append_assoc, arith, eqb, leb, bytes_eq, option_and_then}
+use Rattle.std.specs.Prelude.{◌==◌, MatchOption}
 use Rattle.std.specs.List.{list_any, cons_option}
 use Rattle.std.specs.Option.{option_or}
-use Rattle.std.proofs.lemmas.Bool.{eqb-true, eq-eqb, lt-leb, and_parts}
+use Rattle.std.proofs.lemmas.Bool.{eqb-true, eq-eqb, lt-leb}
 use Rattle.std.proofs.lemmas.List.Elements.{filter_map-append}
 use Rattle.std.proofs.lemmas.List.Folds.{list_any-append, find-append}
 use Rattle.std.proofs.lemmas.Option.{same_Some}
@@ -11,7 +11,7 @@ use Rattle.std.proofs.lemmas.Slice.Eq.{bytes_eq-Decides}
 use Rattle.std.proofs.Math.Nat.{le-div_iff_mul-le, div-mul-le_self}
 use Rattle.scrip_form.specs.Issuing.{Issuing, epoch}
 use Rattle.mc_records.specs.declared.limits.Limits.{Limits}
-use Rattle.mc_records.specs.Entry.{Entry, Site, Licence, Upgrade, moment_of}
+use Rattle.mc_records.specs.Entry.{Entry, Site, Upgrade}
 use Rattle.ledger_model.specs.declared.upgraded.Upgraded.{Upgraded}
 use Rattle.ledger_model.specs.Histories.{History, time}
 use Rattle.ledger_model.specs.Houses.{site_name, is_vendor, is_broker, terms_of, all_terms, terms_by, terms_in, issuer_in, epoch_in, upgrade_of, upgrades_of, raises, version_by, version}

@@ -1,4 +1,4 @@
-ghost use Rattle.std.specs.Prelude.{◌≡◌, ◌≤◌, ℕ, List, IfSome, IsNone};
+ghost use Rattle.std.specs.Prelude.{◌≡◌, ℕ, List, IfSome, IsNone};
 ghost use Rattle.scrip_form.specs.Issuing.{Issuing};
 ghost use Rattle.mc_fields.specs.Texts.{IsNumber};
 ghost use Rattle.command_table.specs.Ranges.{AreTerms};

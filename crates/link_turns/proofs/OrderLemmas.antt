@@ -33,9 +33,6 @@ begins_same x y same = ([], sym same ∙ sym (append-nil x))
 encodes_none : (h : History) (image : List ℕ) → Encodes h image → Encodes (h ++ []) image
 encodes_none h image is = subst (λ (g : History). Encodes g image) (sym (append-nil h)) is
 
-encodes_bare : (h : History) (more : List Entry) (image : List ℕ) → more ≡ [] → Encodes (h ++ more) image → Encodes h image
-encodes_bare h more image none is = subst (λ (g : History). Encodes g image) (ap (λ (l : List Entry). h ++ l) none ∙ append-nil h) is
-
 module _ {S : Type 0} (history : S → History) where
   -- ---- crash pairs
 

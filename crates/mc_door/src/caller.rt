@@ -4,9 +4,6 @@ use std::io::{ErrorKind, Read, Write};
 use std::net::{Net, OpenStream, SocketAddr, ToSocketAddrs};
 use std::time::Duration;
 
-#[cfg(test)]
-mod tests;
-
 /// How many seconds a connection may take to be made at one address.
 const CONNECTING: u64 = 10;
 

@@ -6,9 +6,6 @@ use std::net::{Net, OpenStream};
 use std::rt::Clock;
 use std::time::{Duration, Instant};
 
-#[cfg(test)]
-mod tests;
-
 /// How many seconds a connection may take to be made at one address.
 const CONNECTING: u64 = 3;
 

@@ -192,6 +192,11 @@ impl Connection {
         }
     }
 
+    /// Whether the system sends at once what it takes, and holds nothing back until the peer has what went before.
+    pub(crate) fn sends_at_once(&self) -> io::Result<bool> {
+        self.stream.nodelay()
+    }
+
     pub(crate) fn has_kept(&self) -> bool {
         self.gone < self.kept.len()
     }

@@ -152,6 +152,14 @@ impl Connections {
         Ok(())
     }
 
+    /// Whether the system sends at once what it takes on a connection.
+    pub(crate) fn sends_at_once(&self, key: usize) -> io::Result<bool> {
+        match self.table.get(key) {
+            Some(connection) => connection.sends_at_once(),
+            None => Err(ErrorKind::NotConnected.into()),
+        }
+    }
+
     /// How long the connection's link has stood, and how long it has moved no byte.
     pub(crate) fn times(&self, key: usize, now: Instant) -> io::Result<(Duration, Duration)> {
         match self.table.get(key) {

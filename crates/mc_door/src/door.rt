@@ -178,6 +178,11 @@ impl Door {
         Err(ErrorKind::TimedOut.into())
     }
 
+    /// Whether the system sends at once what it takes on the standing link.
+    pub(crate) fn sends_at_once(&self) -> io::Result<bool> {
+        self.connections.sends_at_once(self.standing_key()?)
+    }
+
     /// Ends the standing link, where one stands, without waiting for its peer.
     pub(crate) fn end<C: Clock>(&mut self, clock: &C) {
         let Some(key) = self.standing else {

@@ -7,9 +7,6 @@ use std::io::ErrorKind;
 use std::net::{Net, SocketAddr};
 use std::rt::{Clock, Files};
 
-#[cfg(test)]
-mod tests;
-
 /// Links over the connections that are made to an address. Up to 1,000 are open at once, and none of them holds
 /// up another: one waits by itself until its bytes end an item, or its peer has ended it, and as the next link
 /// comes the one that was the first to be so. There is no last link. With no socket no link can be taken.
@@ -48,6 +45,16 @@ impl<C> Listener<C> {
         match &self.door {
             Some(door) => door.address(),
             None => None,
+        }
+    }
+
+    /// Whether the system sends at once what it takes on the standing link (`TCP_NODELAY`), and does not hold a part of a reply
+    /// back until the peer has what went before. An error where no link stands, or where it came over a Unix socket, which
+    /// holds nothing back and has no such option.
+    pub fn sends_at_once(&self) -> io::Result<bool> {
+        match &self.door {
+            Some(door) => door.sends_at_once(),
+            None => Err(self.no_door()),
         }
     }
 

@@ -11,9 +11,6 @@ err_is x y e = cc
 
 -- ---- these very bytes
 
-literal_is : (l c : ℕ) → eqb c l ≡ true → c ≡ l
-literal_is l c e = eqb-true c l e
-
 literal_sound : (text bytes : List ℕ) (a : Unit {0}) (rest : List ℕ) → literal_at text bytes ≡ done (a, rest) → bytes ≡ text ++ rest
 unfolding literal_at
 literal_sound [] bytes a rest e = ap (λ (p : Unit {0} × List ℕ). p.1) (done_is (tt, bytes) (a, rest) e)

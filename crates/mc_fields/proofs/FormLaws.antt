@@ -271,9 +271,6 @@ done_leads = record { path = tt; is_answer = refl; is_spelled = refl }
 pub number_leads : {A : Type 0} {z : Size} {low high : ℕ} {next : ℕ → Form A} {n : ℕ} {x : A} {back : List Field} → low ≤ n → n ≤ high → n < limit z → Leads (next n) x back → Leads (number z low high next) x (field.number z n ∷ back)
 number_leads {z = z} {n = n} above below lt l = record { path = (n, above, below, lt, l.path); is_answer = l.is_answer; is_spelled = ap (λ (t : List Field). field.number z n ∷ t) l.is_spelled }
 
-pub flag_leads : {A : Type 0} {next : Bool → Form A} {b : Bool} {x : A} {back : List Field} → Leads (next b) x back → Leads (flag next) x (field.flag b ∷ back)
-flag_leads {b = b} l = record { path = (b, l.path); is_answer = l.is_answer; is_spelled = ap (λ (t : List Field). field.flag b ∷ t) l.is_spelled }
-
 pub str_leads : {A : Type 0} {test : List ℕ → Bool} {next : List ℕ → Form A} {s : List ℕ} {x : A} {back : List Field} → IsTrue (test s) → length s < 2 ^ 16 → Leads (next s) x back → Leads (str test next) x (field.str s ∷ back)
 str_leads {s = s} ok short l = record { path = (s, ok, short, l.path); is_answer = l.is_answer; is_spelled = ap (λ (t : List Field). field.str s ∷ t) l.is_spelled }
 

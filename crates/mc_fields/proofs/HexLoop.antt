@@ -1,7 +1,7 @@
 -- Reading bytes one after the other, as a loop does.
 use Rattle.std.proofs.Common.{◌≡◌, ℕ, suc, ◌-◌, ◌+◌, ◌*◌, ◌≤◌, ◌<◌, List, [], ◌∷◌, ◌++◌, length, take, set, Ok, Err, refl, sym, ap, ◌∙◌, append_assoc, arith}
 use Rattle.std.proofs.lemmas.List.{append-nil, take_all, take_more_set, length-set}
-use Rattle.mc_fields.specs.Reading.{Read, ◌>>=◌, map_read, digit_at, hex_at}
+use Rattle.mc_fields.specs.Reading.{Read, ◌>>=◌, pair_at, map_read, digit_at, byte_at, hex_at}
 use Rattle.mc_fields.proofs.Formats.{done, failed}
 
 -- what was read before, and what is still read
@@ -18,39 +18,55 @@ pub record IsSoFar (count i : ℕ) (out rest : List ℕ) (total : Read (List ℕ
   pub size : length out ≡ count
   pub reads : with_front (take i out) (hex_at (count - i) rest) ≡ total
 
-hex_joined : (two : List ℕ) (high low : ℕ) (read : Read (List ℕ))
-    → map_read {A = ℕ × (ℕ × List ℕ)} (λ x. (x.0 * 16 + x.1.0) ∷ x.1.1) ((map_read (λ bytes. (low, bytes)) read) >>= λ b. Ok ((high, b.0), b.1)) ≡ map_read (λ bytes. (high * 16 + low) ∷ bytes) read
-hex_joined two high low (Ok x) = refl
-hex_joined two high low (Err e) = refl
+-- what is read behind a value that was
+abbrev with_first : {A B : Type 0} → A → Read B → Read (A × B)
+with_first a read = read >>= λ b. Ok ((a, b.0), b.1)
 
-hex_step : (n : ℕ) (rest one two : List ℕ) (high low : ℕ) → digit_at rest ≡ done (high, one) → digit_at one ≡ done (low, two) → hex_at (suc n) rest ≡ map_read (λ bytes. (high * 16 + low) ∷ bytes) (hex_at n two)
-unfolding hex_at
-hex_step n rest one two high low h l = rw (h, l) (hex_joined two high low (hex_at n two))
+hex_joined : (high low : ℕ) (last : Read (List ℕ))
+    → map_read {A = ℕ × (ℕ × List ℕ)} (λ x. (x.0 * 16 + x.1.0) ∷ x.1.1) (with_first high (with_first low last)) ≡ map_read {A = ℕ × List ℕ} (λ x. x.0 ∷ x.1) (with_first (high * 16 + low) last)
+hex_joined high low (Ok x) = refl
+hex_joined high low (Err e) = refl
 
-pub hex_goes_on : (count i : ℕ) (out rest one two : List ℕ) (high low : ℕ) (total : Read (List ℕ)) → i < count → digit_at rest ≡ done (high, one) → digit_at one ≡ done (low, two)
-    → IsSoFar count i out rest total → IsSoFar count (i + 1) (set out i (high * 16 + low)) two total
-hex_goes_on count i out rest one two high low total lt h l so_far = record {
-  size = length-set out i (high * 16 + low) ∙ so_far.size;
+hex_low : (n high : ℕ) (low : Read ℕ)
+    → map_read {A = ℕ × (ℕ × List ℕ)} (λ x. (x.0 * 16 + x.1.0) ∷ x.1.1) (with_first high (low >>= λ b. with_first b.0 (hex_at n b.1)))
+    ≡ map_read {A = ℕ × List ℕ} (λ x. x.0 ∷ x.1) (map_read {A = ℕ × ℕ} (λ x. x.0 * 16 + x.1) (with_first high low) >>= λ a. with_first a.0 (hex_at n a.1))
+hex_low n high (Ok x) = hex_joined high x.0 (hex_at n x.1)
+hex_low n high (Err e) = refl
+
+hex_high : (n : ℕ) (high : Read ℕ)
+    → map_read {A = ℕ × (ℕ × List ℕ)} (λ x. (x.0 * 16 + x.1.0) ∷ x.1.1) (high >>= λ a. with_first a.0 (pair_at digit_at (hex_at n) a.1))
+    ≡ map_read {A = ℕ × List ℕ} (λ x. x.0 ∷ x.1) (map_read {A = ℕ × ℕ} (λ x. x.0 * 16 + x.1) (high >>= λ a. with_first a.0 (digit_at a.1)) >>= λ a. with_first a.0 (hex_at n a.1))
+hex_high n (Ok x) = hex_low n x.0 (digit_at x.1)
+hex_high n (Err e) = refl
+
+-- so many bytes and one are that one and then the others
+hex_by_byte : (n : ℕ) (rest : List ℕ) → hex_at (suc n) rest ≡ map_read {A = ℕ × List ℕ} (λ x. x.0 ∷ x.1) (pair_at byte_at (hex_at n) rest)
+unfolding hex_at byte_at
+hex_by_byte n rest = hex_high n (digit_at rest)
+
+byte_joined : (b : ℕ) (read : Read (List ℕ)) → map_read {A = ℕ × List ℕ} (λ x. x.0 ∷ x.1) (with_first b read) ≡ map_read (λ bytes. b ∷ bytes) read
+byte_joined b (Ok x) = refl
+byte_joined b (Err e) = refl
+
+hex_step : (n : ℕ) (rest tail : List ℕ) (b : ℕ) → byte_at rest ≡ done (b, tail) → hex_at (suc n) rest ≡ map_read (λ bytes. b ∷ bytes) (hex_at n tail)
+hex_step n rest tail b h = hex_by_byte n rest ∙ rw h (byte_joined b (hex_at n tail))
+
+pub hex_goes_on : (count i : ℕ) (out rest tail : List ℕ) (b : ℕ) (total : Read (List ℕ)) → i < count → byte_at rest ≡ done (b, tail)
+    → IsSoFar count i out rest total → IsSoFar count (i + 1) (set out i b) tail total
+hex_goes_on count i out rest tail b total lt h so_far = record {
+  size = length-set out i b ∙ so_far.size;
   reads =
       let within : i < length out = omega (arith, so_far.size) in
       let k : count - i ≡ suc (count - (i + 1)) = omega arith in
-      let step : with_front (take i out) (hex_at (count - i) rest) ≡ with_front (take i out ++ (high * 16 + low) ∷ []) (hex_at (count - (i + 1)) two) =
-      rw (k, hex_step (count - (i + 1)) rest one two high low h l) (regroup (take i out) (high * 16 + low) (hex_at (count - (i + 1)) two)) in
-      rw (take_more_set out i (high * 16 + low) within) (sym step ∙ so_far.reads);
+      let step : with_front (take i out) (hex_at (count - i) rest) ≡ with_front (take i out ++ b ∷ []) (hex_at (count - (i + 1)) tail) =
+      rw (k, hex_step (count - (i + 1)) rest tail b h) (regroup (take i out) b (hex_at (count - (i + 1)) tail)) in
+      rw (take_more_set out i b within) (sym step ∙ so_far.reads);
 }
 
-pub hex_ends_high : (count i : ℕ) (out rest : List ℕ) (left : ℕ) (total : Read (List ℕ)) → i < count → digit_at rest ≡ failed left → IsSoFar count i out rest total → total ≡ failed left
-unfolding hex_at
-hex_ends_high count i out rest left total lt h so_far =
+pub hex_ends : (count i : ℕ) (out rest : List ℕ) (left : ℕ) (total : Read (List ℕ)) → i < count → byte_at rest ≡ failed left → IsSoFar count i out rest total → total ≡ failed left
+hex_ends count i out rest left total lt h so_far =
     let k : count - i ≡ suc (count - (i + 1)) = omega arith in
-    let one : with_front (take i out) (hex_at (count - i) rest) ≡ failed left = rw (k, h) refl in
-    sym so_far.reads ∙ one
-
-pub hex_ends_low : (count i : ℕ) (out rest one : List ℕ) (high left : ℕ) (total : Read (List ℕ)) → i < count → digit_at rest ≡ done (high, one) → digit_at one ≡ failed left → IsSoFar count i out rest total → total ≡ failed left
-unfolding hex_at
-hex_ends_low count i out rest one high left total lt h l so_far =
-    let k : count - i ≡ suc (count - (i + 1)) = omega arith in
-    let one : with_front (take i out) (hex_at (count - i) rest) ≡ failed left = rw (k, h, l) refl in
+    let one : with_front (take i out) (hex_at (count - i) rest) ≡ failed left = rw (k, hex_by_byte (count - (i + 1)) rest, h) refl in
     sym so_far.reads ∙ one
 
 pub hex_is_read : (count i : ℕ) (out rest : List ℕ) (total : Read (List ℕ)) → count ≤ i → IsSoFar count i out rest total → total ≡ done (out, rest)

@@ -2,7 +2,7 @@
 use Rattle.std.proofs.Common.{◌≡◌, ℕ, zero, suc, ◌-◌, Bool, true, false, cond, ltb, List, [], ◌∷◌, ◌++◌, length, take, drop, Result, Ok, Err, refl, sym, ap, ◌∙◌, append_assoc, arith}
 use Rattle.std.proofs.lemmas.List.{length-append}
 use Rattle.mc_fields.specs.Reading.{Read, ◌>>=◌, whole}
-use Rattle.mc_fields.specs.Field.{Size, two, limit, size, bytes_number, Field, field_bytes, spelled}
+use Rattle.mc_fields.specs.Field.{Size, two, size, bytes_number, Field, field_bytes, spelled}
 use Rattle.mc_fields.specs.Field as field
 use Rattle.mc_fields.specs.Form.{Form, done, number, flag, str, plain, sized_at, flag_at, plain_at, counted_after, counted_at, passing, str_at, run, all_of}
 use Rattle.mc_fields.specs.Stops.{MayStand, GoesOn, StopsAt}

@@ -22,9 +22,6 @@ pub record IsFront (first other : ℕ → Bool) (most : ℕ) (s : List ℕ) : Ty
   pub begins : 0 < length s → first (get_or s 0 0) ≡ true
   pub all : AllPass other s
 
-front_of_text : (first other : ℕ → Bool) (least most : ℕ) (s : List ℕ) → IsText first other least most s → IsFront first other most s
-front_of_text first other least most s is = record { short = is.short; begins = is.begins; all = is.all }
-
 snoc : (s : List ℕ) (c : ℕ) (p : List ℕ) → (s ++ c ∷ []) ++ p ≡ s ++ c ∷ p
 snoc s c p = append_assoc s (c ∷ []) p
 

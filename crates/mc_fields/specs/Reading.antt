@@ -104,6 +104,10 @@ unfoldable pub digit_at : List ℕ → Read ℕ
 digit_at [] = Err 0
 digit_at (c ∷ cs) = or_fault (digit_of c) cs
 
+-- a byte as two digits, the high one first
+unfoldable pub byte_at : List ℕ → Read ℕ
+byte_at bytes = map_read (λ x. x.0 * 16 + x.1) (pair_at digit_at digit_at bytes)
+
 -- so many bytes, each as two digits
 unfoldable pub hex_at : ℕ → List ℕ → Read (List ℕ)
 hex_at zero bytes = Ok ([], bytes)

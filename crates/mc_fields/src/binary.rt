@@ -1,7 +1,6 @@
 //! Readers of one binary field each, from the front of the bytes. A field is one whole: where it is
 //! malformed or not whole, the fault is at its first byte.
 
-ghost use Rattle.std.specs.Prelude.{◌≡◌};
 ghost use Rattle.mc_fields.specs.Field.{one, two, four, eight};
 ghost use Rattle.mc_fields.specs.Form.{sized_at, flag_at, plain_at, counted_at, str_at};
 ghost use Rattle.mc_fields.specs.Texts.{is_text};

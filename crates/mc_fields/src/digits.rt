@@ -1,5 +1,5 @@
-ghost use Rattle.std.specs.Prelude.{◌≡◌, ◌<◌, IfOk, IfSome};
-ghost use Rattle.mc_fields.specs.Reading.{digit_of, digit_at, hex_at};
+ghost use Rattle.std.specs.Prelude.{◌≡◌, ◌<◌, IfSome};
+ghost use Rattle.mc_fields.specs.Reading.{digit_of, byte_at, hex_at};
 ghost use Rattle.mc_fields.specs.Gives.{Gives};
 
 use crate::stuck::Stuck;
@@ -11,29 +11,34 @@ pub fn read_hex<const N: usize>(bytes: &[u8]) -> Result<([u8; N], &[u8]), Stuck>
     let mut out = [0; N];
     let mut rest = bytes;
     for i in 0..N {
-        let (high, tail) = read_digit(rest)?;
-        let (low, tail) = read_digit(tail)?;
-        out[i] = high * 16 + low;
+        let (byte, tail) = read_byte(rest)?;
+        out[i] = byte;
         rest = tail;
     }
     Ok((out, rest))
 }
 
-#[tactic(auto, unfolding(crate::specs::Reading::digit_at))]
-fn read_digit(bytes: &[u8]) -> Result<(u8, &[u8]), Stuck>
-    ensures gives { Gives (λ x. (x.0, x.1.now)) result (digit_at bytes.now) }
-    ensures digit { IfOk result (λ x. x.0 < 16) }
+/// A byte, spelled so.
+#[inline(always)]
+#[tactic(auto, unfolding(crate::specs::Reading::byte_at, crate::specs::Reading::digit_at))]
+fn read_byte(bytes: &[u8]) -> Result<(u8, &[u8]), Stuck>
+    ensures { Gives (λ x. (x.0, x.1.now)) result (byte_at bytes.now) }
 {
     match bytes {
-        [] => Err(Stuck { left: 0 }),
-        [byte, rest @ ..] => match hex_value(*byte) {
-            Some(digit) => Ok((digit, rest)),
-            None => Err(Stuck { left: bytes.len() }),
+        [high, low, rest @ ..] => match (hex_value(*high), hex_value(*low)) {
+            (Some(high), Some(low)) => Ok((high * 16 + low, rest)),
+            (Some(_), None) => Err(Stuck {
+                left: bytes.len() - 1,
+            }),
+            (None, _) => Err(Stuck { left: bytes.len() }),
         },
+        [high] if hex_value(*high).is_none() => Err(Stuck { left: 1 }),
+        _ => Err(Stuck { left: 0 }),
     }
 }
 
 /// The value of a hex digit in lower case.
+#[inline(always)]
 #[tactic(auto, unfolding(crate::specs::Reading::digit_of))]
 fn hex_value(byte: u8) -> Option<u8>
     ensures value { result ≡ digit_of byte }

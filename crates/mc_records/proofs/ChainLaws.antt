@@ -1,6 +1,5 @@
 -- What holds of chains.
-use Rattle.std.proofs.Common.{◌≡◌, ℕ, ◌≤◌, Bool, true, false, ◌||◌, List, [], ◌∷◌, ◌++◌, length, refl, sym, ◌∙◌, ap, arith}
-use Rattle.std.specs.List.{list_any}
+use Rattle.std.proofs.Common.{◌≡◌, ℕ, Bool, true, false, ◌||◌, List, [], ◌∷◌, ◌++◌, length, refl, sym, ◌∙◌, ap}
 use Rattle.sha2.proofs.Facts256.{length-sha256}
 use Rattle.mc_records.specs.declared.ranges.TheConstants.{CHAIN_BYTES}
 use Rattle.mc_records.specs.Entry.{Entry, payload}

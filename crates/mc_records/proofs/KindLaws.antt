@@ -6,7 +6,7 @@ use Rattle.scrip_form.specs.Reading.{is_scrip}
 use Rattle.scrip_form.proofs.TextTests.{name_decides, target_decides, scrip_decides, scrip_is_short}
 use Rattle.mc_fields.specs.Field.{one, four, eight, Field, number, str, plain}
 use Rattle.mc_fields.specs.Form as forms
-use Rattle.mc_fields.specs.Form.{Form, done, followed}
+use Rattle.mc_fields.specs.Form.{Form}
 use Rattle.mc_fields.proofs.FormLaws.{Path, Leads, Tells, done_leads, number_leads, str_leads, plain_leads, part_leads, last_leads, part_tells, last_tells}
 use Rattle.mc_records.specs.Entry.{Entry, Site, AddTerms, Goods, Accept, Mint, Account, Deposit, Withdraw, Draw, Licence, Stock, Got, Pend, Done, Refused, Upgrade, Switch, Note, fields, Fits, IsMoment, IsAmount, IsLong, sign_fields, change_fields, text_fields}
 use Rattle.mc_records.specs.Forms.{long, amount, site_form, add_terms_form, goods_form, accept_form, mint_form, account_form, deposit_form, withdraw_form, draw_form, licence_form, stock_form, got_pieces_form, pend_form, done_form, refused_form, upgrade_form, switch_form, note_form, kind_form, entry_form}

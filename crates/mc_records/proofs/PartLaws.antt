@@ -7,7 +7,7 @@ use Rattle.scrip_form.specs.Issuing.{Issuing}
 use Rattle.scrip_form.proofs.TextTests.{scrip_decides, scrip_is_short}
 use Rattle.mc_fields.specs.Field.{one, two, four, eight, Field, number, flag, str, plain}
 use Rattle.mc_fields.specs.Form as forms
-use Rattle.mc_fields.specs.Form.{Form, done, followed, repeated}
+use Rattle.mc_fields.specs.Form.{Form, done, followed}
 use Rattle.mc_fields.proofs.FormLaws.{Path, answer, path_fields, parts, Leads, joined, Describes, optional_described, repeated_tells, repeated_leads}
 use Rattle.mc_base.specs.declared.amount.TheConstants.Amount.{MOST}
 use Rattle.mc_records.specs.Entry.{Deed, goods_deed, sale, credit, House, HouseFits, SiteFits, Held, HeldFits, ArePieces, AreSecrets, AreTerms, DeedFits, IsLong, IsKey, secrets_fields, terms_fields, house_fields, sign_fields, change_fields, deed_fields, held_fields, pieces_fields, text_fields, got_fields}

@@ -32,10 +32,6 @@ after_ok (Ok x) rest e = let same : (tt, x.1) ≡ (tt, rest) = ok_is (tt, x.1) (
     is_read y k = Ok (y, k)
 after_ok (Err d) rest e = absurd cc
 
-pub after_err : {A : Type 0} (r : Read A) (left : ℕ) → after r ≡ Err left → r ≡ Err left
-after_err (Ok x) left e = absurd cc
-after_err (Err d) left e = cc
-
 -- the first element and the others
 first_of : {A : Type 0} (f : Form A) (n : ℕ) (bytes : List ℕ) → after (run (repeated (suc n) f) bytes) ≡ (after (run f bytes) >>= λ r. after (run (repeated n f) r.1))
 first_of f n bytes = ap after (one_more f n bytes) ∙ again (run f bytes)
@@ -242,9 +238,6 @@ left_no bytes i rest d left h ps good same =
     let n = is_next ps i good.held l.0 in
     let r = sym h ∙ ap (λ (k : List ℕ). after (run held_form k)) l.1 ∙ n.reads in
     absurd cc
-
-pub left_none : (bytes : List ℕ) (i : ℕ) (rest : List ℕ) → AreLeft bytes i rest → MOST_PIECES ≤ i → (ps : List Held) → ArePieces ps → bytes ≡ pieces_bytes ps → ⊥
-left_none bytes i rest left past ps good same = absurd (omega (arith, (left ps good same).0, good.few))
 
 pub more_read : (bytes : List ℕ) (i : ℕ) (rest more : List ℕ) → after (run (repeated i held_form) bytes) ≡ read_to rest → after (run held_form rest) ≡ read_to more → after (run (repeated (i + 1) held_form) bytes) ≡ read_to more
 more_read bytes i rest more h here =

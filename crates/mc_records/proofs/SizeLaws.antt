@@ -1,9 +1,9 @@
 -- What the sizes of tails keep, whatever a tail holds.
-use Rattle.std.proofs.Common.{◌≡◌, ℕ, ◌≤◌, Bool, true, false, ◌||◌, List, [], ◌∷◌, ◌++◌, length, refl, sym, ◌∙◌, ap, subst, arith}
+use Rattle.std.proofs.Common.{◌≡◌, ℕ, ◌≤◌, Bool, true, false, List, [], ◌∷◌, ◌++◌, length, refl, ap, arith}
 use Rattle.mc_records.specs.Entry.{Entry}
-use Rattle.mc_records.specs.Chains.{chain, is_switch, has_switch}
+use Rattle.mc_records.specs.Chains.{chain, has_switch}
 use Rattle.mc_records.specs.Sizes.{tail, tail_by, tail_bytes, tail_size}
-use Rattle.mc_records.proofs.ChainLaws.{length-chain, has_switch-more}
+use Rattle.mc_records.proofs.ChainLaws.{length-chain}
 
 -- how many bytes a tail has that is there or not
 tail_long : (c : List ℕ) (b : Bool) → length c ≡ 32 → length (tail_by b c) ≡ tail_bytes b
@@ -20,11 +20,6 @@ pub tail_size-by : (before : List Entry) → tail_size before ≡ tail_bytes (ha
 unfolding tail_size
 tail_size-by before = refl
 
--- an entry that is no Switch leaves the size of the tails after it as it was, and after a Switch they have a chain
-pub tail_size-more : (before : List Entry) (e : Entry) → tail_size (before ++ e ∷ []) ≡ tail_bytes (has_switch before || is_switch e)
-unfolding tail_size
-tail_size-more before e = ap tail_bytes (has_switch-more before e)
-
 -- the tail of an entry, by whether a Switch stands
 pub tail-by : (before : List Entry) (e : Entry) → tail before e ≡ tail_by (has_switch before) (chain (before ++ e ∷ []))
 unfolding tail
@@ -34,11 +29,6 @@ tail-by before e = refl
 pub no_tail : (before : List Entry) (e : Entry) → has_switch before ≡ false → tail before e ≡ []
 unfolding tail
 no_tail before e none = ap (λ (b : Bool). tail_by b (chain (before ++ e ∷ []))) none
-
--- and with one it is the chain
-pub chain_tail : (before : List Entry) (e : Entry) → has_switch before ≡ true → tail before e ≡ chain (before ++ e ∷ [])
-unfolding tail
-chain_tail before e stands = ap (λ (b : Bool). tail_by b (chain (before ++ e ∷ []))) stands
 
 -- a tail is short
 pub tail_size_is_short : (before : List Entry) → tail_size before ≤ 32

@@ -1,10 +1,10 @@
 //! The table of the fields of each kind of entry, as they are written.
 
-ghost use Rattle.std.specs.Prelude.{◌≡◌, ◌<◌, [], ◌∷◌, ◌++◌, flat_map, option_map};
-ghost use Rattle.mc_fields.specs.Field.{one, two, four, eight, number, flag};
+ghost use Rattle.std.specs.Prelude.{◌≡◌, ◌<◌, [], ◌∷◌, ◌++◌, option_map};
+ghost use Rattle.mc_fields.specs.Field.{one, four, eight, number, flag};
 ghost use Rattle.mc_records.specs.Entry.{fields, secrets_fields, sign_fields, change_fields, deed_fields, text_fields, got_fields};
 ghost use Rattle.mc_records.specs.Requests.{seen};
-ghost use Rattle.mc_records.specs.Views.{entry, deed_of, held_of, house_of};
+ghost use Rattle.mc_records.specs.Views.{entry, deed_of, held_of};
 ghost use Rattle.mc_records.specs.Cells.{group_fields, groups_fields, kind_of};
 
 use crate::piece_list::PieceList;

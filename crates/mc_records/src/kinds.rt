@@ -1,6 +1,5 @@
 //! Readers of the fields of each kind of entry, behind its kind and its moment.
 
-ghost use Rattle.std.specs.Prelude.{◌≡◌};
 ghost use Rattle.mc_fields.specs.Form.{run};
 ghost use Rattle.mc_fields.specs.Gives.{Gives};
 ghost use Rattle.mc_records.specs.Forms.{site_form, add_terms_form, goods_form, accept_form, mint_form, account_form, deposit_form, withdraw_form, draw_form, licence_form, pend_form, done_form, refused_form, upgrade_form, switch_form, note_form};

@@ -1,6 +1,6 @@
 //! Lists of pieces, from the front of the bytes.
 
-ghost use Rattle.std.specs.Prelude.{◌≡◌, ◌≤◌, List, IsTrue, IfSome, IsNone};
+ghost use Rattle.std.specs.Prelude.{◌≡◌, List, IsTrue, IfSome, IsNone};
 ghost use Rattle.mc_fields.specs.Form.{run, repeated};
 ghost use Rattle.mc_fields.specs.Gives.{Gives};
 ghost use Rattle.mc_records.specs.Entry.{Held, ArePieces};

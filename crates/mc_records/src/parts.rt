@@ -1,6 +1,6 @@
 //! Readers of the parts of entries, from the front of the bytes.
 
-ghost use Rattle.std.specs.Prelude.{◌≡◌, ◌≤◌, Some, take, option_map};
+ghost use Rattle.std.specs.Prelude.{◌≤◌, Some, take, option_map};
 ghost use Rattle.scrip_form.specs.Texts.{is_name, is_target};
 ghost use Rattle.scrip_form.specs.Reading.{is_scrip};
 ghost use Rattle.mc_fields.specs.Form.{run, repeated, plain, done, plain_at, str_at};
@@ -13,7 +13,7 @@ use crate::ranges::{CHAIN_BYTES, LEAST_KEEP, MOST_KEEP};
 use crate::record::{RecordDeed, SiteTerms};
 use mc_base::Amount;
 use mc_fields::{Stuck, read_counted, read_flag, read_key, read_str, read_u8, read_u32, read_u64};
-use scrip_form::{Id, NameRule, Secrets, TargetRule, Terms, read_scrip};
+use scrip_form::{Id, NameRule, Secrets, TargetRule, Terms, is_scrip};
 
 pub(crate) fn name(bytes: &[u8]) -> Result<(&[u8], &[u8]), Stuck>
     ensures { Gives (λ x. (x.0.now, x.1.now)) result (str_at is_name bytes.now) }
@@ -49,14 +49,6 @@ pub(crate) fn chain(bytes: &[u8]) -> Result<([u8; 32], &[u8]), Stuck>
     let mut chain = [0; CHAIN_BYTES];
     chain.copy_from_slice(front);
     Ok((chain, rest))
-}
-
-/// Whether the bytes are a scrip text.
-#[tactic(auto, unfolding(scrip_form::specs::Reading::is_scrip))]
-fn is_scrip(bytes: &[u8]) -> bool
-    ensures { result ≡ is_scrip bytes.now }
-{
-    read_scrip(bytes).is_ok()
 }
 
 /// A scrip text that may be there.

@@ -1,6 +1,6 @@
 //! Readers of the two kinds of entry that hold a list of pieces.
 
-ghost use Rattle.std.specs.Prelude.{◌≡◌, ◌≤◌};
+ghost use Rattle.std.specs.Prelude.{◌≤◌};
 ghost use Rattle.mc_fields.specs.Form.{run, repeated};
 ghost use Rattle.mc_fields.specs.Gives.{Gives};
 ghost use Rattle.mc_records.specs.Forms.{held_form, pieces_form, stock_form, got_pieces_form};

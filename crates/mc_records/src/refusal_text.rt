@@ -1,5 +1,4 @@
 ghost use Rattle.std.specs.Prelude.{◌≡◌, ◌+◌, ◌≤◌, ◌++◌, [], ◌∷◌, length, take, decimal};
-ghost use Rattle.scrip_form.specs.Scrip.{id_digits};
 ghost use Rattle.mc_records.specs.Refusals.{spaced, kept_of, refusal_text};
 ghost use Rattle.mc_records.specs.RefusalArgs.{arg_texts};
 

@@ -9,7 +9,7 @@ use Rattle.mc_outside.specs.LinkView.{all_sent}
 use Rattle.mc_stage.specs.Lists.{torn_none, cut_none}
 use Rattle.mc_stage.specs.Model.{Entry, Put, Cut, Sync, Model, start, step, run, run-append, Trace, model, disk_of, IsDiskEntry, DiskMoved}
 use Rattle.mc_stage.specs.Tape.{Played, push_call}
-use Rattle.mc_stage.specs.Trace.{is_disk, disk_goes, images}
+use Rattle.mc_stage.specs.Trace.{is_disk, disk_goes}
 
 abbrev pub here : Trace → Played
 here t = record { first = t.base; calls = t.log }
@@ -89,10 +89,3 @@ sync_crash t p more c l = subst (λ (x : List ℕ). (model t).leaves x) (sym (do
 
 pub sync_synced : (t : Trace) (p : Played) → p ≡ push_call Sync (here t) → IsSynced (disk_of (then t p t.faults))
 sync_synced t p more x told c l = done_leaves t p Sync tt more c l ∙ (let e : Some (model t).contents ≡ Some x = sym (sync_same t p more) ∙ told in cc e)
-
--- an image of the disk
-pub present_image : (t : Trace) (v : List ℕ) → v ≡ (model t).contents → (model t).leaves v
-present_image t v e = subst (model t).leaves (sym e) (images t.log (start t.base) (refl, refl)).0
-
-pub synced_image : (t : Trace) (v : List ℕ) → v ≡ (model t).synced → (model t).leaves v
-synced_image t v e = subst (model t).leaves (sym e) (images t.log (start t.base) (refl, refl)).1

@@ -30,12 +30,6 @@ drop_there f [] i v lt is = absurd (omega (arith, lt))
 drop_there f (x ∷ xs) zero v lt is = ap (λ z. f z ∷ map f xs) (sym is)
 drop_there f (x ∷ xs) (suc i) v lt is = drop_there f xs i v (omega (arith, lt)) is
 
-pub drop_past : {V W : Type 0} (f : V → W) (xs : List V) (i : ℕ) → length xs ≤ i → drop i (map f xs) ≡ []
-drop_past f [] zero le = refl
-drop_past f [] (suc i) le = refl
-drop_past f (x ∷ xs) zero le = absurd (omega (arith, le))
-drop_past f (x ∷ xs) (suc i) le = drop_past f xs i (omega (arith, le))
-
 -- what a look-up gives
 pub get_there : {V : Type 0} (xs : List V) (i : ℕ) (v : V) → i < length xs → v ≡ slice_index_or xs i v → slice_get xs i ≡ Some v
 get_there [] i v lt is = absurd (omega (arith, lt))
@@ -114,9 +108,6 @@ all_given f ps i j place n v lt is over next =
     ∙ ap without_empty (cut_none (drop (suc i) (map f ps)))
     ∙ ap (λ (l : List ℕ). without_empty (l ∷ drop (suc i) (map f ps))) (sym (drop_gone n (drop place (f v)) (omega (arith, over, length-drop place (f v)))))
     ∙ ap (pieces_after n) (sym (piece_there f ps i place v lt is))
-
-pub piece_none : {V : Type 0} (f : V → List ℕ) (ps : List V) (i place : ℕ) → length ps ≤ i → pieces_from i place (map f ps) ≡ []
-piece_none f ps i place le = ap (cut_first place) (drop_past f ps i le)
 
 -- empty pieces are passed over once
 pub twice : (ps : List (List ℕ)) → without_empty ps ≡ without_empty (without_empty ps)

@@ -1,5 +1,5 @@
 -- What an operator's entry comes to at a house that is opened for it.
-use Rattle.std.proofs.Common.{◌≡◌, inr, ℕ, Bool, true, false, [], ◌∷◌, ◌++◌, Option, Some, None, Ok, refl, sym, ap, subst, ◌∙◌}
+use Rattle.std.proofs.Common.{◌≡◌, inr, ℕ, Bool, true, false, Option, Some, None, Ok, refl, sym, ap, subst, ◌∙◌}
 use Rattle.std.specs.Prelude.{◌==◌, not, option_map, unwrap_or}
 use Rattle.std.proofs.lemmas.Bool.{eqb-true}
 use Rattle.mc_records.specs.declared.limits.Limits.{Limits}

@@ -33,9 +33,6 @@ all_snoc P (y ∷ xs) x all p = (all.0, all_snoc P xs x all.1 p)
 pub all_more : {X : Type 0} (P : X → Type 0) (xs : List X) (n : ℕ) (x : X) → slice_get xs n ≡ Some x → AllByRecursion P (take n xs) → P x → AllByRecursion P (take (n + 1) xs)
 all_more P xs n x is all p = subst (AllByRecursion P) (sym (take_snoc xs n x is)) (all_snoc P (take n xs) x all p)
 
-pub all_whole : {X : Type 0} (P : X → Type 0) (xs : List X) (n : ℕ) → length xs ≤ n → AllByRecursion P (take n xs) → AllByRecursion P xs
-all_whole P xs n le all = subst (AllByRecursion P) (take_whole xs n le) all
-
 pub stands : {X Y : Type 0} (f : X → Y) (xs : List X) (n : ℕ) → n < length xs → None ≡ option_map f (slice_get xs n) → ⊥
 stands f [] n lt is = omega (arith, lt)
 stands f (x ∷ xs) zero lt is = cc

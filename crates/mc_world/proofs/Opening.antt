@@ -1,12 +1,12 @@
 -- Opening a house by its history, entry by entry.
-use Rattle.std.proofs.Common.{◌≡◌, ℕ, zero, suc, ◌+◌, ◌≤◌, [], ◌∷◌, ◌++◌, length, take, Option, Some, None, refl, sym, ap, subst, ◌∙◌, arith, slice_get, Ok}
+use Rattle.std.proofs.Common.{◌≡◌, ℕ, zero, suc, ◌+◌, ◌≤◌, [], ◌∷◌, ◌++◌, take, Option, Some, None, refl, sym, ap, subst, ◌∙◌, arith, slice_get, Ok}
 use Rattle.std.specs.Prelude.{max}
 use Rattle.std.proofs.lemmas.Option.{same_Some}
 use Rattle.mc_records.specs.declared.limits.Limits.{Limits}
 use Rattle.mc_records.specs.declared.limits.TheConstants.Limits.{MOST_JOURNAL}
 use Rattle.mc_records.specs.Chains.{TellsChain}
 use Rattle.mc_records.specs.Entry.{Entry, Site, Switch, Fits, moment_of}
-use Rattle.mc_records.specs.Sizes.{size, size_from, entry_size}
+use Rattle.mc_records.specs.Sizes.{size, entry_size}
 use Rattle.ledger_model.specs.Histories.{History, time}
 use Rattle.ledger_model.specs.Houses.{site_kind}
 use Rattle.ledger_model.specs.Lawful.{MayFollow, IsLawful, IsHouseSite}
@@ -19,7 +19,7 @@ use Rattle.house_state.specs.Learning.{Test}
 use Rattle.house_core.specs.Bench.{IsHouse, Represents, HasContents, Replays, house_time, limits_of}
 use Rattle.world_model.proofs.Accepted.{may_at}
 use Rattle.world_model.proofs.HouseSteps.{time_snoc}
-use Rattle.mc_world.proofs.Fronts.{take_snoc, take_whole, size_front}
+use Rattle.mc_world.proofs.Fronts.{take_snoc, size_front}
 
 pub founds : (limits : Limits) (e : Entry) → MayFollow limits [] e → Fits e → FoundsHouse e
 founds limits e may fits = go e (first_founds limits e may) fits
@@ -83,6 +83,3 @@ opened_more trade passes limits h n e b c lawful most is so exact contents kept 
       time = r.2 ∙ sym (time_last (take n h) e r.0.follows.in_order) ∙ sym (ap time next);
       bounds = kept ∙ so.bounds;
     }
-
-pub opened_all : {T : Type 0} (trade : T → TradeView) (limits : Limits) (h : History) (n : ℕ) (b : BenchView T) → length h ≤ n → IsOpening trade limits h n b → IsHouse trade b h × (house_time b ≡ time h)
-opened_all trade limits h n b le so = (subst (IsHouse trade b) (take_whole h n le) so.house, so.time ∙ ap time (take_whole h n le))

@@ -7,7 +7,7 @@ use Rattle.mc_records.specs.declared.limits.Limits.{Limits}
 use Rattle.mc_records.specs.declared.limits.TheConstants.Limits.{MOST_JOURNAL}
 use Rattle.mc_records.specs.Chains.{TellsChain}
 use Rattle.mc_records.specs.declared.refusal.Refusal.{Refusal}
-use Rattle.mc_records.specs.Entry.{Entry, Site, Fits, moment_of}
+use Rattle.mc_records.specs.Entry.{Entry, Site, moment_of}
 use Rattle.mc_records.specs.Sizes.{size, entry_size}
 use Rattle.ledger_model.specs.Histories.{History, time}
 use Rattle.ledger_model.proofs.FollowLaws.{size_snoc}
@@ -28,13 +28,13 @@ use Rattle.wallet_model.specs.Asks.{Asking, draw, pend_entry, request_bytes}
 use Rattle.wallet_model.specs.Settling.{check_of, settlement}
 use Rattle.wallet_core.specs.declared.request.WalletRequest.{WalletRequest}
 use Rattle.wallet_core.specs.Asks.{Answers}
-use Rattle.wallet_core.specs.Requests.{pending_view, pend_of, CanEnter}
+use Rattle.wallet_core.specs.Requests.{pending_view, pend_of}
 use Rattle.world_model.specs.Worlds.{CanBeAsked, wallet_time}
 use Rattle.world_model.specs.Agreement.{IsBookOfWallet}
 use Rattle.world_model.proofs.Lists.{followed_at}
 use Rattle.world_model.proofs.Oldest.{oldest_is}
 use Rattle.mc_world.specs.Wallets.{IsOpened, AsksFor, SendsAgainFor, SettlesBy}
-use Rattle.mc_world.proofs.Fronts.{take_snoc, take_whole, size_front}
+use Rattle.mc_world.proofs.Fronts.{take_snoc, size_front}
 
 -- ---- opening
 
@@ -83,9 +83,6 @@ opened_more limits h n e a b c told book is so time_kept bounds_kept same right 
       time' = at right ∙ ap (λ (t : ℕ). max t (moment_of e)) (time_kept ∙ so.time') ∙ sym (time_more (take n h) e) ∙ sym (ap time next);
       bounds = bounds ∙ bounds_kept ∙ so.bounds;
     }
-
-pub opened_all : (limits : Limits) (h : History) (n : ℕ) (b : BookView) → length h ≤ n → IsOpening limits h n b → IsOpened limits h b
-opened_all limits h n b le so = subst (λ (g : History). IsOpened limits g b) (take_whole h n le) so
 
 -- ---- at a reading of the clock
 
@@ -266,8 +263,3 @@ has_settled limits h bytes n reading b q r e g at kept reads checked is room aft
 pub is_none : (f : Option Refusal) → is_some f ≡ false → f ≡ None
 is_none None none = refl
 is_none (Some x) none = absurd cc
-
--- an entry by which a kept request is settled fits
-pub settlement_has_payload : (h : History) (n : ℕ) (b : BookView) (q : WalletRequest) (r : Received) (f : Option Refusal) (e : Entry) → WalletRepresents b h
-    → ((g : History) → WalletRepresents b g → kept_in g n ≡ Some (pending_view q) → check_of (pending_view q) r ≡ None → CanEnter g e) → Some (pending_view q) ≡ kept_in h n → f ≡ check_of (pending_view q) r → is_some f ≡ false → Fits e
-settlement_has_payload h n b q r f e represents may kept is none = (may h represents (sym kept) (sym is ∙ is_none f none)).fits

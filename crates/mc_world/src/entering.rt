@@ -1,6 +1,6 @@
 //! How an operator's entry is entered into a house of a world.
 
-ghost use Rattle.std.specs.Prelude.{◌≡◌, ◌↔◌, ◌≤◌, ◌++◌, ◌∷◌, [], max, Some, IfOk, IsTrue};
+ghost use Rattle.std.specs.Prelude.{◌≡◌, ◌↔◌, ◌≤◌, [], max, Some, IfOk, IsTrue};
 ghost use Rattle.mc_records.specs.Chains.{TellsChain};
 ghost use Rattle.mc_records.specs.Entry as entries;
 ghost use Rattle.mc_records.specs.Entry.{Entry, Fits, moment_of};

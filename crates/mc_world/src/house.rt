@@ -1,10 +1,10 @@
 //! What a house of a world does. Between links it is its history and its time; for each link it is opened by its
 //! history, entry by entry.
 
-ghost use Rattle.std.specs.Prelude.{◌≡◌, ◌≤◌, ◌<◌, ◌-◌, ◌^◌, min, true, false, [], Some, IfOk, IsTrue};
+ghost use Rattle.std.specs.Prelude.{◌≡◌, ◌<◌, ◌-◌, ◌^◌, min, [], Some, IfOk};
 ghost use Rattle.mc_records.specs.Limits.{AreInRange};
 ghost use Rattle.ledger_model.specs.Histories.{time};
-ghost use Rattle.ledger_model.specs.Houses.{site_kind, is_broker};
+ghost use Rattle.ledger_model.specs.Houses.{site_kind};
 ghost use Rattle.world_model.specs.Worlds.{opens};
 ghost use Rattle.mc_world.specs.Links.{IsDelivered};
 ghost use Rattle.mc_world.specs.Houses.{IsHouseAt};

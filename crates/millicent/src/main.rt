@@ -4,43 +4,20 @@
 
 ghost use Rattle.std.specs.Prelude.{◌≡◌};
 
-mod book;
-mod clock_gap;
-mod endings;
-mod entries;
-mod faults;
-mod input_faults;
-mod passed;
-mod pending_draws;
-mod settling;
-mod site;
-mod streams;
-mod texts;
-mod watched;
-mod wrong_words;
-
-use book::{Book, cause_of};
-use clock_gap::{tell_ahead, tell_behind};
-use endings::{tell_clear, tell_fault, tell_no_bytes};
-use entries::latest_moment;
-use input_faults::tell_bad_line;
+use diagnostics::{
+    latest_moment, tell_ahead, tell_bad_line, tell_behind, tell_clear, tell_fault, tell_no_bytes,
+    tell_pending_draws, tell_reply, tell_usage, word,
+};
 use mc_base::{List, NoMemory};
 use mc_door::{Listener, call, call_each, listen};
+use mc_site::{Book, Passed, Site, Streams, Watched, cause_of, reading};
 use mc_top::{Places, places, run, run_proxy};
-use passed::Passed;
-use pending_draws::tell_pending_draws;
-use settling::tell_reply;
-use site::{Site, reading};
 use std::alloc::{AllocError, Global};
 use std::fs::File;
 use std::io::{IsTerminal, Write};
 use std::net::SocketAddr;
 use std::process::ExitCode;
 use std::{env, fs, io};
-use streams::Streams;
-use texts::word;
-use watched::Watched;
-use wrong_words::tell_usage;
 
 fn main(rt: HostRuntime) -> ExitCode {
     let alloc = rt.alloc();

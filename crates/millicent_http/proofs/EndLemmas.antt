@@ -108,13 +108,6 @@ no_end_front a n le = not_true (ends_at a n) (λ t.
     let long : 2 ≤ length (slice_range a (line_ends a) n) = empty_long (slice_range a (line_ends a) n) t in
     absurd (omega (arith, long, length-take (n - line_ends a) (drop (line_ends a) a))))
 
--- one more byte that ends no empty line
-pub no_end_more : (a : List ℕ) (n : ℕ) → HasNoEnd a n → ends_at a (n + 1) ≡ false → HasNoEnd a (n + 1)
-no_end_more a n h here m at = elim (cases_lt n m) [
-  | inl lt ↦ let e : m ≡ n + 1 = omega arith in rw e here
-  | inr ge ↦ h m ge
-]
-
 pub first_end_here : (a : List ℕ) (n : ℕ) → n + 1 ≤ length a → HasNoEnd a n → ends_at a (n + 1) ≡ true → IsFirstEnd a (n + 1)
 first_end_here a n le h here = record { within = le; ends = here; first = λ m lt. h m (omega arith) }
 

@@ -1,6 +1,6 @@
 //! Readers of the parts of a line, from the front of the bytes.
 
-ghost use Rattle.std.specs.Prelude.{◌≡◌, ◌≤◌, length, IfOk};
+ghost use Rattle.std.specs.Prelude.{◌≤◌, length, IfOk};
 ghost use Rattle.mc_fields.specs.Gives.{Gives};
 ghost use Rattle.scrip_form.specs.Reading.{scrip_at};
 ghost use Rattle.mc_records.specs.Views.{held_of};

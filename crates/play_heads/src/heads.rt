@@ -1,4 +1,4 @@
-ghost use Rattle.std.specs.Prelude.{◌≡◌, ℕ, List, [], ◌≤◌, IsTrue};
+ghost use Rattle.std.specs.Prelude.{◌≡◌, [], ◌≤◌, IsTrue};
 ghost use Rattle.play_heads.specs.Telling.{no_links};
 
 use crate::supply::Supply;

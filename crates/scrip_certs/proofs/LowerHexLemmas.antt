@@ -1,14 +1,14 @@
 -- A text of lower-case digits is what its bytes are written as.
 use Rattle.std.proofs.Common.{◌≡◌, ℕ, ◌+◌, ◌*◌, ◌/◌, ◌%◌, ◌≤◌, ◌<◌, true, false, List, [], ◌∷◌, length, Option, Some, None, Result, Ok, Err, refl, sym, ap, ◌∙◌, subst, arith, inl, inr}
-use Rattle.std.specs.Prelude.{◌&&◌, nat_le, IsOk, is_some, MatchResult, slice_index}
-use Rattle.std.specs.List.{AllPass, AllByRecursion}
-use Rattle.std.proofs.lemmas.Bool.{cases_Bool, false≢true, and_parts, or_cases, leb-true, lt-leb, and_left, and_right, or_left, or_right}
-use Rattle.std.proofs.lemmas.List.Elements.{All-nil, All-cons, All-head, All-tail, All-weaker}
+use Rattle.std.specs.Prelude.{◌&&◌, nat_le, IsOk, is_some, MatchResult}
+use Rattle.std.specs.List.{AllPass}
+use Rattle.std.proofs.lemmas.Bool.{cases_Bool, false≢true, and_parts, or_cases, leb-true, lt-leb, and_left, and_right}
+use Rattle.std.proofs.lemmas.List.Elements.{All-head, All-tail, All-weaker}
 use Rattle.hex.specs.declared.error.FromHexError.{FromHexError}
-use Rattle.hex.specs.Hex.{lower_digits, encode_with, encode_lower, hex_digit_value, is_hex_digit, digit_or_error, value_at, pair_value, decode_pairs, decode_sized, ◌>>=◌}
-use Rattle.hex.proofs.HexLemmas.{length-encode_with, IsOk-decode_sized, decode_sized-twice, decode_of-even}
+use Rattle.hex.specs.Hex.{encode_with, encode_lower, hex_digit_value, is_hex_digit, digit_or_error, value_at, pair_value, decode_pairs, decode_sized, ◌>>=◌}
+use Rattle.hex.proofs.HexLemmas.{IsOk-decode_sized, decode_sized-twice, decode_of-even}
 use Rattle.mc_fields.specs.Reading.{digit_of}
-use Rattle.mc_fields.proofs.HexField.{glyph, glyph-digit_of, digit_of-glyph}
+use Rattle.mc_fields.proofs.HexField.{glyph, glyph-digit_of}
 use Rattle.scrip_certs.specs.LowerHex.{is_lower_digit, IsLowerHex}
 
 abbrev nothing : Option ℕ
@@ -101,28 +101,3 @@ decoded t is r out m =
     (k.0, ap encode_lower k.1 ∙ d.2)
 
 -- ---- what some bytes are written as
-
-lower_of_digit : (c v : ℕ) → digit_of c ≡ Some v → is_lower_digit c ≡ true
-unfolding digit_of
-lower_of_digit c v e = elim (cases_Bool (nat_le 48 c && nat_le c 57)) [
-  | inl low ↦ or_left (nat_le 48 c && nat_le c 57) (nat_le 97 c && nat_le c 102) low
-  | inr not_low ↦ elim (cases_Bool (nat_le 97 c && nat_le c 102)) [
-    | inl high ↦ or_right (nat_le 48 c && nat_le c 57) (nat_le 97 c && nat_le c 102) high
-    | inr not_high ↦ absurd (let k : nothing ≡ Some v = rw (not_low, not_high) at e in cc)
-  ]
-]
-
-glyph_is_lower : (v : ℕ) → v < 16 → is_lower_digit (glyph v) ≡ true
-glyph_is_lower v lt = lower_of_digit (glyph v) v (digit_of-glyph v lt)
-
-digits_are_lower : (bytes : List ℕ) → AllByRecursion (λ b. b < 256) bytes → AllPass is_lower_digit (encode_lower bytes)
-unfolding encode_with glyph
-digits_are_lower [] all = All-nil (λ c. is_lower_digit c ≡ true)
-digits_are_lower (b ∷ bytes) all =
-    let high : is_lower_digit (slice_index lower_digits (b / 16)) ≡ true = glyph_is_lower (b / 16) (omega (arith, all.0)) in
-    let low : is_lower_digit (slice_index lower_digits (b % 16)) ≡ true = glyph_is_lower (b % 16) (omega arith) in
-    All-cons (λ c. is_lower_digit c ≡ true) (slice_index lower_digits (b / 16)) (slice_index lower_digits (b % 16) ∷ encode_lower bytes) high
-    (All-cons (λ c. is_lower_digit c ≡ true) (slice_index lower_digits (b % 16)) (encode_lower bytes) low (digits_are_lower bytes all.1))
-
-pub encode_lower_is_lower : (n : ℕ) (bytes : List ℕ) → length bytes ≡ n → AllByRecursion (λ b. b < 256) bytes → IsLowerHex (2 * n) (encode_lower bytes)
-encode_lower_is_lower n bytes len all = record { len = omega (arith, length-encode_with lower_digits bytes, len); digits = digits_are_lower bytes all }

@@ -1,5 +1,5 @@
 -- The laws of scrip texts and of their reader.
-use Rattle.std.proofs.Common.{Ok, Err, ◌≡◌, ℕ, zero, suc, ◌+◌, ◌-◌, ◌^◌, ◌≤◌, ◌<◌, get_or, true, List, [], ◌∷◌, ◌++◌, length, take, drop, refl, sym, ap, ◌∙◌, subst, append_assoc, arith, inl, inr}
+use Rattle.std.proofs.Common.{Ok, Err, ◌≡◌, ℕ, zero, suc, ◌+◌, ◌-◌, ◌≤◌, ◌<◌, get_or, true, List, [], ◌∷◌, ◌++◌, length, take, drop, refl, sym, ap, ◌∙◌, subst, append_assoc, arith, inl, inr}
 use Rattle.std.specs.Prelude.{codes, decimal}
 use Rattle.std.specs.Int.{w64, to_be_bytes}
 use Rattle.std.proofs.lemmas.Fmt.{length-decimal-le, decimal_digit}
@@ -183,10 +183,6 @@ in_version (suc (suc (suc n))) rest is = absurd (omega (arith, is.within))
 pub version_of_text : (p : Scrip) (cert : List ℕ) → IsVersion p.version → text_version (scrip_text p cert) ≡ p.version
 unfolding scrip_text
 version_of_text p cert is = in_version p.version _ is
-
-pub version_of_body : (p : Scrip) → IsVersion p.version → text_version (scrip_body p) ≡ p.version
-unfolding scrip_body
-version_of_body p is = in_version p.version _ is
 
 -- ---- what the reader's answer says of the bytes
 

@@ -1,5 +1,5 @@
 -- Reading a scrip text: its fields one after the other.
-use Rattle.std.specs.Prelude.{ℕ, ◌^◌, Bool, List, length, Result, is_ok, codes}
+use Rattle.std.specs.Prelude.{ℕ, Bool, List, length, Result, is_ok, codes}
 use Rattle.std.specs.Int.{w64, from_be_bytes}
 use Rattle.mc_fields.specs.Reading.{Read, pair_at, map_read, whole, literal_at, text_at, number_at, hex_at}
 use Rattle.scrip_form.specs.Texts.{is_letter_or_digit, is_name_byte, is_props_byte}

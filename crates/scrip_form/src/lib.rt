@@ -30,7 +30,7 @@ pub use law::{
 pub use name::{Name, NameRule, read_name};
 pub use piece::Piece;
 pub use props::{Props, PropsRule};
-pub use read::{FormFault, read_scrip};
+pub use read::{FormFault, is_scrip, read_scrip};
 pub use scrip_ref::ScripRef;
 pub use scrip_text::ScripText;
 pub use secrets::Secrets;

@@ -1,4 +1,4 @@
-ghost use Rattle.std.specs.Prelude.{◌≡◌, ◌↔◌, ◌<◌, ◌≤◌, ◌^◌, [], IsSome, IfSome};
+ghost use Rattle.std.specs.Prelude.{◌≡◌, ◌↔◌, ◌<◌, ◌≤◌, [], IsSome, IfSome};
 ghost use Rattle.scrip_form.specs.Scrip.{Scrip, IsVersion, IsPiece};
 
 use crate::id::Id;
@@ -69,6 +69,29 @@ impl Piece {
             expires,
             props,
         })
+    }
+
+    pub(crate) fn of(
+        version: u8,
+        vendor: Name,
+        value: Amount,
+        id: Id,
+        cust: Id,
+        expires: u64,
+        props: Props,
+    ) -> Piece
+        requires { IsPiece (record { version = version; vendor = vendor; value = value; id = id; cust = cust; expires = expires; props = props }) }
+        ensures { result ≡ record { version = version; vendor = vendor; value = value; id = id; cust = cust; expires = expires; props = props } }
+    {
+        Piece {
+            version,
+            vendor,
+            value,
+            id,
+            cust,
+            expires,
+            props,
+        }
     }
 
     /// The piece of these parts as it is first handed out, in a version: its customer's identity is its own, and it has

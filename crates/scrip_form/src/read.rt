@@ -1,6 +1,6 @@
-ghost use Rattle.std.specs.Prelude.{◌≡◌, ◌↔◌, List, IfOk, IfErr, IsOk, MatchResult, Ok, Err};
+ghost use Rattle.std.specs.Prelude.{◌≡◌, ◌↔◌, IfOk, IfErr, IsOk, MatchResult, Ok, Err};
 ghost use Rattle.mc_fields.specs.Gives.{Gives};
-ghost use Rattle.scrip_form.specs.Reading.{id_at, scrip_at, scrip_of};
+ghost use Rattle.scrip_form.specs.Reading.{id_at, is_scrip, scrip_at, scrip_of};
 ghost use Rattle.scrip_form.specs.Scrip.{IsPiece, IsTextOf, IsScripText, IsFaultPlace};
 ghost use Rattle.scrip_form.specs.PieceOf.{piece_of};
 
@@ -41,6 +41,17 @@ pub fn read_scrip(bytes: &[u8]) -> Result<ScripRef<'_>, FormFault>
     Ok(ScripRef::of(bytes, fields.piece(), fields.cert))
 }
 
+/// Whether the bytes are a scrip text, where its piece is not wanted.
+#[tactic(auto, unfolding(crate::specs::Reading::is_scrip, crate::specs::Reading::scrip_of))]
+pub fn is_scrip(bytes: &[u8]) -> bool
+    ensures { result ≡ is_scrip bytes.now }
+{
+    match read_fields(bytes) {
+        Ok(fields) => fields.rest.is_empty(),
+        Err(_) => false,
+    }
+}
+
 /// What was read of a text.
 #[derive(Clone, Copy)]
 struct Fields<'a> {
@@ -62,18 +73,15 @@ impl Fields<'_> {
         ensures { result ≡ piece_of self.now }
     {
         let value = Amount::new(self.value).unwrap();
-        let (id, cust) = (Id::of_number(self.id), Id::of_number(self.cust));
-        Piece::new(
+        Piece::of(
+            self.version as u8,
             Name::of(self.vendor),
             value,
-            id,
-            cust,
+            Id::of_number(self.id),
+            Id::of_number(self.cust),
             self.expires,
             Props::of(self.props),
         )
-        .unwrap()
-        .versioned(self.version as u8)
-        .unwrap()
     }
 }
 

@@ -1,5 +1,5 @@
 -- What writing a Switch leaves.
-use Rattle.std.proofs.Common.{◌≡◌, ◌∙◌, ℕ, ◌+◌, ◌<◌, ◌≤◌, Bool, false, List, [], ◌∷◌, ◌++◌, length, Option, Some, inl, ⊎_elim, ◌↔◌, refl, sym, ap, subst, arith, length-append}
+use Rattle.std.proofs.Common.{◌≡◌, ◌∙◌, ℕ, ◌+◌, ◌<◌, ◌≤◌, Bool, false, List, [], ◌++◌, length, Option, Some, inl, ⊎_elim, ◌↔◌, refl, sym, ap, subst, arith, length-append}
 use Rattle.std.specs.Prelude.{IsTrue}
 use Rattle.std.proofs.lemmas.Bool.{true≢false, cases_lt}
 use Rattle.mc_fields.specs.Field.{one, eight, number_bytes}
@@ -9,7 +9,7 @@ use Rattle.mc_outside.proofs.Runs.{ran_none, ran_then, ran_weaker}
 use Rattle.mc_records.specs.declared.ranges.TheConstants.{CHAIN_BYTES}
 use Rattle.mc_records.specs.Entry.{Entry, Switch, payload}
 use Rattle.mc_records.specs.Chains.{chain, has_switch}
-use Rattle.mc_records.specs.Sizes.{size, entry_size, framed_size, tail_bytes}
+use Rattle.mc_records.specs.Sizes.{entry_size, framed_size, tail_bytes}
 use Rattle.mc_records.proofs.ChainLaws.{length-chain}
 use Rattle.mc_records.proofs.SizeLaws.{length-tail, tail_size-by}
 use Rattle.scrip_journal.specs.States.{AtRest, IsChainOf, IsJournal}

@@ -1,6 +1,6 @@
 //! Reading a journal from its first entry on.
 
-ghost use Rattle.std.specs.Prelude.{◌≡◌, ◌≢◌, ◌↔◌, ◌⊎◌, ◌+◌, ◌-◌, ◌^◌, ◌≤◌, ◌<◌, ◌++◌, [], ◌∷◌, List, ℕ, length, take, drop, slice_range, vec_len, option_map, IfOk, IfErr, OnOk, IfSome, IfNone, IsSome, Err, Some, None, IsTrue, true, false};
+ghost use Rattle.std.specs.Prelude.{◌≡◌, ◌≢◌, ◌↔◌, ◌⊎◌, ◌+◌, ◌-◌, ◌^◌, ◌≤◌, ◌<◌, ◌++◌, [], ◌∷◌, List, ℕ, length, take, drop, slice_range, vec_len, option_map, IfOk, IfErr, OnOk, IfSome, IsSome, Err, Some, None, IsTrue, true, false};
 ghost use Rattle.std.specs.Int.{w32, to_be_bytes, from_be_bytes};
 ghost use Rattle.mc_outside.specs.Bytes.{BeginsWith, HasCause};
 ghost use Rattle.mc_outside.specs.DiskView.{OnlyRead};

@@ -1,10 +1,9 @@
 -- The parts of a statement's line, by where they stand in it.
-use Rattle.std.proofs.Common.{◌≡◌, ℕ, ◌+◌, ◌-◌, ◌≤◌, List, [], ◌∷◌, ◌++◌, length, take, drop, Some, sym, ap, ◌∙◌, append-nil, append_assoc, arith}
+use Rattle.std.proofs.Common.{◌≡◌, ℕ, ◌+◌, ◌-◌, List, [], ◌∷◌, ◌++◌, length, take, drop, Some, ap, ◌∙◌, append-nil, append_assoc, arith}
 use Rattle.std.specs.Prelude.{codes}
 use Rattle.std.proofs.lemmas.List.{length-append, take_at}
 use Rattle.hex.specs.Hex.{encode_lower, lower_digits}
 use Rattle.hex.proofs.HexLemmas.{length-encode_with}
-use Rattle.settle_core.specs.declared.claim.Payment.{Payment}
 use Rattle.settle_core.specs.declared.claim.Statement.{Statement}
 use Rattle.settle_core.specs.Claims.{payment_text, statement_body}
 use Rattle.settle_core.specs.Statements.{StatementFits, statement_text, statement_at}

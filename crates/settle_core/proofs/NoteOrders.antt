@@ -1,5 +1,5 @@
 -- What is to be paid, and what is to be stated, is in order as a note; and such notes are short.
-use Rattle.std.proofs.Common.{◌≡◌, ℕ, ◌+◌, ◌≤◌, ◌<◌, ◌^◌, List, ◌∷◌, ◌++◌, length, Option, Ok, sym, subst, arith}
+use Rattle.std.proofs.Common.{◌≡◌, ℕ, ◌+◌, ◌≤◌, ◌<◌, ◌^◌, ◌∷◌, ◌++◌, length, Option, Ok, sym, subst, arith}
 use Rattle.std.specs.Prelude.{codes, decimal, MatchOption}
 use Rattle.std.proofs.lemmas.List.{length-append}
 use Rattle.std.proofs.lemmas.Fmt.{length-decimal-le_wide}
@@ -11,8 +11,8 @@ use Rattle.ledger_model.specs.Lawful.{IsLawful}
 use Rattle.settle_core.specs.declared.claim.Claim.{Claim}
 use Rattle.settle_core.specs.declared.claim.Payment.{Payment}
 use Rattle.settle_core.specs.declared.claim.Statement.{Statement}
-use Rattle.settle_core.specs.Claims.{ClaimFits, PaymentFits, claim_text, payment_text, claim_of, payment_of}
-use Rattle.settle_core.specs.Settlement.{redeemed, StatedInOrder, PaidInOrder, IsInOrder}
+use Rattle.settle_core.specs.Claims.{ClaimFits, PaymentFits, claim_text, payment_text}
+use Rattle.settle_core.specs.Settlement.{StatedInOrder, PaidInOrder, IsInOrder}
 use Rattle.settle_core.specs.Statements.{StatementFits}
 use Rattle.settle_core.specs.Tasks.{claim_at, pay_lines, state_lines}
 use Rattle.settle_core.proofs.TextLaws.{claim_read, payment_read}

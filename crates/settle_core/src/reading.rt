@@ -1,6 +1,6 @@
 //! Texts of claims and payments, as notes have them.
 
-ghost use Rattle.std.specs.Prelude.{◌≡◌, ◌≤◌, ◌^◌, option_map, decimal, bytes_eq, IfSome};
+ghost use Rattle.std.specs.Prelude.{◌≡◌, ◌≤◌, ◌^◌, decimal, bytes_eq, IfSome};
 ghost use Rattle.settle_core.specs.Claims.{ClaimFits, PaymentFits, number_in, claim_of, payment_of};
 ghost use Rattle.settle_core.specs.Statements.{claim_in};
 

@@ -1,6 +1,5 @@
 //! Books whose chain is switched on.
 
-ghost use Rattle.std.specs.Prelude.{◌≡◌};
 ghost use Rattle.command_table.specs.Table.{Gives};
 ghost use Rattle.command_table.specs.declared.table.CommandName.TheVariants.{VendorChain};
 ghost use Rattle.site_words.specs.Words.{switching_values};

@@ -1,7 +1,7 @@
 //! Numbers over the entries of a history, each in one pass. A sum of 2^64 or more is want of memory:
 //! no memory holds a history that has it.
 
-ghost use Rattle.std.specs.Prelude.{◌≡◌, ◌≤◌, ◌<◌, ◌+◌, ℕ, length, drop, slice_get, IfSome, IfOk, List, Option, option_to_list, count_by, position};
+ghost use Rattle.std.specs.Prelude.{◌≡◌, ◌<◌, ◌+◌, ℕ, length, drop, slice_get, IfSome, IfOk, List, Option, option_to_list, count_by, position};
 ghost use Rattle.std.specs.List.{list_any};
 ghost use Rattle.mc_records.specs.Entry.{Accept, Draw, Deed};
 ghost use Rattle.mc_records.specs.Requests.{asked_of, seen};

@@ -1,9 +1,9 @@
 //! The filters of a history, each in one pass over its entries.
 
-ghost use Rattle.std.specs.Prelude.{◌≡◌, ◌<◌, ◌==◌, length, max, None, Some, slice_get, IfSome, if◌then◌else◌, option_map, option_to_list, find, bytes_eq};
+ghost use Rattle.std.specs.Prelude.{◌≡◌, ◌<◌, ◌==◌, length, max, None, Some, slice_get, IfSome, if◌then◌else◌, option_map, option_to_list, bytes_eq};
 ghost use Rattle.std.specs.List.{list_any};
 ghost use Rattle.scrip_form.specs.Texts.{IsTarget};
-ghost use Rattle.mc_records.specs.Views.{entry, house_of};
+ghost use Rattle.mc_records.specs.Views.{house_of};
 ghost use Rattle.mc_records.specs.Entry as entries;
 ghost use Rattle.ledger_model.specs.Histories.{time};
 ghost use Rattle.ledger_model.specs.Houses.{site_name, is_vendor, is_broker, fee, keeping, is_clear, terms_of, terms_by, terms_in};

@@ -1,6 +1,6 @@
 //! What each kind of entry asks of the entries before it, and the first entry that breaks it.
 
-ghost use Rattle.std.specs.Prelude.{◌≡◌, ℕ, List, ◌≤◌, ◌<◌, ◌+◌, ◌↔◌, ◌^◌, ◌++◌, ◌∷◌, [], IsTrue, IsFalse, IsNone, IsSome, None, Some, IfOk, IfSome, slice_get, length, take, option_map};
+ghost use Rattle.std.specs.Prelude.{◌≡◌, ◌≤◌, ◌<◌, ◌+◌, ◌↔◌, IsTrue, IsFalse, IsNone, IsSome, None, Some, IfOk, IfSome, slice_get, length, take};
 ghost use Rattle.mc_records.specs.declared.ranges.TheConstants.{MOST_IN_ACCOUNT};
 ghost use Rattle.mc_records.specs.Entry as entries;
 ghost use Rattle.mc_records.specs.Entry.{Entry, Fits, payload};
@@ -8,7 +8,6 @@ ghost use Rattle.mc_records.specs.Limits.{AreInRange};
 ghost use Rattle.mc_records.specs.declared.limits.Limits.{Limits as Bounds};
 ghost use Rattle.mc_records.specs.Requests.{seen};
 ghost use Rattle.ledger_model.specs.declared.numbers.TheConstants.{MOST_IN_FORCE};
-ghost use Rattle.ledger_model.specs.Histories.{time};
 ghost use Rattle.ledger_model.specs.Houses as houses;
 ghost use Rattle.ledger_model.specs.Houses.{is_vendor, is_broker};
 ghost use Rattle.ledger_model.specs.Accounts.{account_in, balance};

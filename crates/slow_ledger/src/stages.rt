@@ -1,9 +1,9 @@
 //! The stages of the table of answers.
 
-ghost use Rattle.std.specs.Prelude.{◌≡◌, ◌+◌, ◌<◌, ◌^◌, ℕ, nat_lt};
+ghost use Rattle.std.specs.Prelude.{◌≡◌, ◌+◌, ◌<◌, ◌^◌, nat_lt};
 ghost use Rattle.mc_records.specs.Entry as entries;
 ghost use Rattle.mc_records.specs.Limits.{AreInRange};
-ghost use Rattle.mc_records.specs.Requests.{seen, asked_of};
+ghost use Rattle.mc_records.specs.Requests.{seen};
 ghost use Rattle.ledger_model.specs.Houses as houses;
 ghost use Rattle.ledger_model.specs.Houses.{site_name, is_clear};
 ghost use Rattle.ledger_model.specs.Pieces.{is_spent};

@@ -1,9 +1,8 @@
 //! What a broker sold, and what it has to sell.
 
-ghost use Rattle.std.specs.Prelude.{◌≡◌, ◌<◌, ◌≤◌, ◌==◌, ◌&&◌, not, length, slice_get, IfSome, IfOk, Some, None, option_map, option_to_list, if◌then◌else◌, unwrap_or, false, take, count_by, bytes_eq};
+ghost use Rattle.std.specs.Prelude.{◌≡◌, ◌<◌, ◌≤◌, ◌==◌, ◌&&◌, length, slice_get, IfSome, IfOk, Some, None, option_map, option_to_list, if◌then◌else◌, unwrap_or, false, take, count_by};
 ghost use Rattle.std.specs.List.{list_any, list_all};
 ghost use Rattle.scrip_form.specs.Identities.{series_of};
-ghost use Rattle.mc_records.specs.Errands.{errand_of};
 ghost use Rattle.mc_records.specs.PieceViews.{pieces_of};
 ghost use Rattle.ledger_model.specs.Stock as model;
 ghost use Rattle.ledger_model.specs.Stock.{held_pieces, is_licence_of, licence_terms, licence_in, stock_of, stock_ids, ids_of, names_vendor, knows_vendor, sale_of, is_of_stock, is_licensed, is_sold, licensed_count, is_for_sale, for_sale, may_be_stock, are_new, are_stock};

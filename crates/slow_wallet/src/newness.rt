@@ -13,7 +13,7 @@ ghost use Rattle.wallet_model.specs.Follows.{settled_texts};
 use crate::came::{Likeness, listed, slow_came};
 use mc_records::PieceList;
 use slow_ledger::Prefix;
-use wallet_core::{are_one_piece, is_change};
+use wallet_core::are_one_piece;
 
 fn is_listed_at(pieces: &PieceList<'_>, k: u16, text: &[u8]) -> bool
     ensures { IfSome (slice_get (pieces_of pieces.now) k)
@@ -80,6 +80,16 @@ fn change_is_new(h: &Prefix<'_>, change: Option<&[u8]>) -> bool
     match change {
         Some(text) => !slow_came(h, Likeness::Piece, text),
         None => true,
+    }
+}
+
+/// Whether a piece is the change of its settlement, where there is some, by vendor and identity.
+fn is_change(change: Option<&[u8]>, text: &[u8]) -> bool
+    ensures { result ≡ list_any (λ t. model.are_one_piece t text.now) (option_to_list (seen change.entry)) }
+{
+    match change {
+        Some(change) => are_one_piece(change, text),
+        None => false,
     }
 }
 

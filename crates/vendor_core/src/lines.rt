@@ -1,6 +1,6 @@
 //! The lines of minted pieces.
 
-ghost use Rattle.std.specs.Prelude.{◌≡◌, ◌++◌, ◌<◌, ◌≤◌, ◌+◌, ◌^◌, ℕ, IfSome, OnOk, OnErr, [], Some};
+ghost use Rattle.std.specs.Prelude.{◌≡◌, ◌++◌, ◌<◌, ◌≤◌, ◌+◌, ◌^◌, OnOk, OnErr, [], Some};
 ghost use Rattle.scrip_form.specs.Identities.{series_of};
 ghost use Rattle.scrip_form.specs.Issuing.{Issuing};
 ghost use Rattle.scrip_form.specs.Scrip.{IsVersion};

@@ -1,6 +1,6 @@
 //! What the operator of a vendor's site does with its book.
 
-ghost use Rattle.std.specs.Prelude.{◌≡◌, ◌<◌, ◌≤◌, ◌^◌, ◌∷◌, ◌++◌, [], ℕ, length, IsFalse, Some, Ok};
+ghost use Rattle.std.specs.Prelude.{◌≡◌, ◌<◌, ◌≤◌, ◌^◌, ◌∷◌, ◌++◌, [], length, IsFalse, Some, Ok};
 ghost use Rattle.scrip_form.specs.Issuing.{Issuing};
 ghost use Rattle.mc_records.specs.declared.ranges.TheConstants.{MOST_PIECES};
 ghost use Rattle.mc_records.specs.declared.ranges.TheConstants.{MOST_CONTENTS};

@@ -7,7 +7,7 @@ use Rattle.std.specs.List.{list_any, AllByRecursion}
 use Rattle.scrip_form.specs.Scrip.{Scrip}
 use Rattle.ledger_model.specs.Pieces.{piece_of}
 use Rattle.wallet_model.specs.Holdings as model
-use Rattle.wallet_model.specs.Holdings.{PieceState, held, is_held}
+use Rattle.wallet_model.specs.Holdings.{PieceState, is_held}
 use Rattle.wallet_model.specs.Newness.{is_same_piece, are_one_piece, is_new, are_new}
 use Rattle.wallet_model.proofs.CameLaws.{one_piece_itself}
 use Rattle.wallet_model.proofs.KeptLaws.{both_left, both_right, not_true}

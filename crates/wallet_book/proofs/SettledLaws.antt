@@ -7,7 +7,7 @@ use Rattle.mc_records.specs.Entry.{Held, Entry, Done, Refused}
 use Rattle.ledger_model.specs.Histories.{History}
 use Rattle.wallet_model.specs.Requests.{Pending, pending_in, is_kept, kept_requests, pays, pays_with}
 use Rattle.wallet_model.specs.Holdings as model
-use Rattle.wallet_model.specs.Holdings.{PieceState, used, holdings, holding, texts_came, moves, brings, change_held, secret_at, refused_state}
+use Rattle.wallet_model.specs.Holdings.{PieceState, holdings, holding, texts_came, moves, brings, change_held, secret_at, refused_state}
 use Rattle.wallet_model.specs.Newness.{are_new}
 use Rattle.wallet_model.specs.Follows.{is_wallet, settled_texts, entry_allowed, wallet_allows, IsWalletBook}
 use Rattle.wallet_model.specs.Laws.{moved}

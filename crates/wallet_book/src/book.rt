@@ -1,6 +1,6 @@
 //! What a wallet keeps in place of its book.
 
-ghost use Rattle.std.specs.Prelude.{◌||◌, ◌≡◌, ◌==◌, ◌+◌, ◌-◌, ◌^◌, ◌<◌, ◌≤◌, ◌&&◌, ◌∷◌, [], ℕ, length, max, true, vec_len, vec_capacity, map, find, option_map, OnOk, IfErr, IfSome};
+ghost use Rattle.std.specs.Prelude.{◌||◌, ◌≡◌, ◌==◌, ◌+◌, ◌-◌, ◌<◌, ◌≤◌, ◌∷◌, [], length, max, true, vec_len, vec_capacity, map, find, option_map, OnOk, IfErr, IfSome};
 ghost use Rattle.mc_records.specs.declared.refusal.Refusal.TheVariants.{Nothing};
 ghost use Rattle.mc_records.specs.Chains.{TellsChain, has_switch};
 ghost use Rattle.mc_records.specs.Entry.{Fits, moment_of, payload};

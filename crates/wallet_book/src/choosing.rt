@@ -1,8 +1,8 @@
 //! Choosing the piece to pay with.
 
-ghost use Rattle.std.specs.Prelude.{◌≡◌, ◌∷◌, ◌++◌, [], ℕ, max, nat_le, option_map, IfErr, IfSome};
+ghost use Rattle.std.specs.Prelude.{◌≡◌, ℕ, max, option_map, IfErr, IfSome};
 ghost use Rattle.wallet_model.specs.Asks as model;
-ghost use Rattle.wallet_model.specs.Asks.{Offered, chosen_by, due_of};
+ghost use Rattle.wallet_model.specs.Asks.{chosen_by, due_of};
 ghost use Rattle.wallet_book.specs.Holdings.{AreSpelled, holding_of};
 ghost use Rattle.wallet_book.specs.Choosing.{fit_among, Chooses, IsNoFunds, IsFitAt, least_with};
 

@@ -1,19 +1,10 @@
 //! The pieces and the kept requests of a wallet, and how they go on with its entries.
 
-ghost use Rattle.std.specs.Prelude.{◌≡◌, ◌==◌, ◌+◌, ◌<◌, ◌≤◌, ◌∷◌, ◌++◌, [], ℕ, length, not, filter, find, vec_len, vec_capacity, true, IfSome, OnOk, option_map, option_to_list};
+ghost use Rattle.std.specs.Prelude.{◌≡◌, ◌==◌, ◌+◌, ◌<◌, ◌≤◌, ◌∷◌, [], length, not, filter, find, vec_len, vec_capacity, true, IfSome, OnOk, option_map, option_to_list};
 ghost use Rattle.scrip_form.specs.Scrip.{IsScripText};
-ghost use Rattle.scrip_form.specs.Texts.{IsName, IsTarget};
-ghost use Rattle.mc_records.specs.Entry.{Got, Pend, Done, Refused};
-ghost use Rattle.mc_records.specs.Errands.{errand_of};
 ghost use Rattle.mc_records.specs.PieceViews.{pieces_of};
-ghost use Rattle.mc_records.specs.Requests.{seen};
 ghost use Rattle.mc_records.specs.Views.{held_of};
-ghost use Rattle.ledger_model.specs.Histories.{History};
-ghost use Rattle.wallet_model.specs.Newness.{are_new};
-ghost use Rattle.wallet_model.specs.Holdings.{refused_state};
-ghost use Rattle.wallet_model.specs.Follows.{is_buy, is_draw, IsWalletBook};
-ghost use Rattle.wallet_book.specs.Holdings.{texts_of, state_of};
-ghost use Rattle.wallet_book.specs.Parts.{PartsRepresent, Brings, in_state_at, LearnsEntry};
+ghost use Rattle.wallet_book.specs.Parts.{Brings, in_state_at};
 
 use crate::holding::State;
 use crate::holdings::Holdings;

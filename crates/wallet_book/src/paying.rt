@@ -1,7 +1,6 @@
 //! The piece that a request pays with.
 
 ghost use Rattle.std.specs.Prelude.{◌≡◌, [], true, bytes_eq};
-ghost use Rattle.scrip_form.specs.Scrip.{IsScripText};
 ghost use Rattle.mc_records.specs.Errands.{errand_of};
 ghost use Rattle.wallet_model.specs.Newness.{are_new};
 ghost use Rattle.wallet_model.specs.Follows.{is_buy, is_draw};

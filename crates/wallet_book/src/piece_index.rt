@@ -1,6 +1,6 @@
 //! Where a piece stands in a list of pieces, by its vendor and identity.
 
-ghost use Rattle.std.specs.Prelude.{◌≡◌, ◌+◌, ◌≤◌, ◌<◌, ◌==◌, ◌&&◌, bytes_eq, ℕ, List, length, None, Some, OnOk, if◌then◌else◌};
+ghost use Rattle.std.specs.Prelude.{◌≡◌, ◌+◌, ◌≤◌, ◌<◌, ◌==◌, ◌&&◌, bytes_eq, ℕ, List, None, Some, OnOk, if◌then◌else◌};
 ghost use Rattle.wallet_book.specs.PieceIndex.{place_of, key_of};
 
 use mc_base::NoMemory;

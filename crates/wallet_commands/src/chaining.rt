@@ -14,7 +14,6 @@ ghost use Rattle.wallet_commands.specs.Causes.{WalletCauses};
 ghost use Rattle.wallet_commands.specs.Paying.{Clocked};
 ghost use Rattle.wallet_commands.specs.Chaining.{ChainsBook, EndsLine, HasChained, chained_status, switch_entry};
 
-use crate::clock::raise_by_clock;
 use command_status::{Status, not_opened};
 use mc_base::{List, NoMemory};
 use mc_outside::{Disk, Outside};
@@ -23,7 +22,7 @@ use said_lines::{READY, begin_chain, end_chain, lay_bare, ready};
 use scrip_form::Name;
 use scrip_journal::Receipt;
 use std::alloc::Global;
-use wallet_core::{Wallet, WalletOut, open_wallet};
+use wallet_core::{Wallet, WalletOut, open_wallet, raise_by_clock};
 
 /// Opens the book on the outside's disk as that of a wallet, switches it at the reading of the clock, where it was
 /// not, and makes the line of its chain as it then stands. Hands the outside back, and tells how it ended. No link is

@@ -4,7 +4,6 @@
 #![tactic(auto)]
 
 mod chaining;
-mod clock;
 mod founding;
 mod law;
 mod lines;

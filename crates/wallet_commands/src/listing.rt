@@ -8,7 +8,6 @@ ghost use Rattle.wallet_core.specs.Wallet.{WalletStands};
 ghost use Rattle.wallet_commands.specs.Causes.{WalletCauses};
 ghost use Rattle.wallet_commands.specs.Listing.{ListsBook, ListsHeld};
 
-use crate::clock::raise_by_clock;
 use crate::lines::holding_lines;
 use command_status::{Status, not_opened};
 use held_lines::{LinesFault, append_held};
@@ -17,7 +16,7 @@ use mc_outside::{Disk, Outside};
 use mc_records::Limits;
 use scrip_form::Name;
 use std::alloc::Global;
-use wallet_core::{Wallet, open_wallet};
+use wallet_core::{Wallet, open_wallet, raise_by_clock};
 
 /// Opens the book on the outside's disk as that of a wallet, and makes the lines of its pieces. Hands the outside
 /// back, and tells how it ended. Nothing is written, and no link is taken.

@@ -10,7 +10,6 @@ ghost use Rattle.wallet_commands.specs.Books.{IsKnown, Opened};
 ghost use Rattle.wallet_commands.specs.Causes.{WalletCauses};
 ghost use Rattle.wallet_commands.specs.Paying.{PaysBook, PaysBy, RetriesBook, RetriesBy, Clocked};
 
-use crate::clock::raise_by_clock;
 use crate::lines::line_room;
 use crate::saying::Saying;
 use crate::settling::use_link;
@@ -22,7 +21,7 @@ use reply_reader::ReplyReader;
 use said_lines::READY;
 use scrip_form::Name;
 use std::alloc::Global;
-use wallet_core::{Ask, Wallet, WalletOut, open_wallet};
+use wallet_core::{Ask, Wallet, WalletOut, open_wallet, raise_by_clock};
 
 /// Opens the book on the outside's disk as that of a wallet, and pays for what is asked: at the reading of the clock the
 /// request is entered with the piece that it pays with, a draw without; it is sent on the next link; and the reply

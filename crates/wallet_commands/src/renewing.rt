@@ -11,7 +11,6 @@ ghost use Rattle.wallet_commands.specs.Books.{IsKnown, Opened};
 ghost use Rattle.wallet_commands.specs.Causes.{WalletCauses};
 ghost use Rattle.wallet_commands.specs.Paying.{RenewsBook, PaysAs, Clocked};
 
-use crate::clock::raise_by_clock;
 use crate::paying::reply_room;
 use crate::saying::Saying;
 use crate::settling::use_link;
@@ -23,7 +22,7 @@ use reply_reader::ReplyReader;
 use said_lines::READY;
 use scrip_form::{Name, Target};
 use std::alloc::Global;
-use wallet_core::{Ask, Wallet, WalletOut, open_wallet, renew_place};
+use wallet_core::{Ask, Wallet, WalletOut, open_wallet, raise_by_clock, renew_place};
 
 /// Opens the book on the outside's disk as that of a wallet, and pays for a target of a vendor with the piece that ends
 /// first of those that are held, are not expired at the reading of the clock, and end at a moment at the latest; the

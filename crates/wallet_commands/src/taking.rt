@@ -8,7 +8,6 @@ ghost use Rattle.wallet_commands.specs.Books.{Opened};
 ghost use Rattle.wallet_commands.specs.Causes.{WalletCauses};
 ghost use Rattle.wallet_commands.specs.Taking.{TakesBook, Unread, Took, taken_status};
 
-use crate::clock::raise_by_clock;
 use crate::lines::{line_room, put_taken};
 use command_status::{Status, not_opened};
 use mc_base::List;
@@ -17,7 +16,7 @@ use mc_records::Limits;
 use millicent_http::{InputFault, input_of};
 use said_lines::READY;
 use std::alloc::Global;
-use wallet_core::{Wallet, WalletOut, open_wallet};
+use wallet_core::{Wallet, WalletOut, open_wallet, raise_by_clock};
 
 /// The most bytes of the lines that are taken.
 pub const MOST_LINES: usize = 131_072;

@@ -1,10 +1,10 @@
 -- What there is to do, by the tasks of a wallet.
 use Rattle.std.proofs.Common.{◌≡◌, ℕ, zero, suc, ◌<◌, List, [], ◌∷◌, ◌++◌, map, Bool, true, false, cond, Option, Some, None, Ok, Err, refl, sym, ap, subst, arith}
 use Rattle.std.proofs.lemmas.Bool.{false≢true}
-use Rattle.std.specs.Prelude.{Result, ◌==◌, ◌&&◌, not, ◌↔◌, ◌≤◌, IsTrue, IsSome, option_map}
+use Rattle.std.specs.Prelude.{Result, ◌==◌, ◌&&◌, not, ◌↔◌, ◌≤◌, IsTrue, IsSome, option_map, is_ok}
 use Rattle.std.specs.Result.{result_ok}
 use Rattle.scrip_form.specs.Scrip.{Scrip}
-use Rattle.scrip_form.specs.Reading.{scrip_of}
+use Rattle.scrip_form.specs.Reading.{scrip_of, is_scrip}
 use Rattle.ledger_model.specs.Pieces.{piece_of}
 use Rattle.mc_records.specs.declared.refusal.Refusal.{Refusal}
 use Rattle.mc_records.specs.declared.refusal.Refusal.TheVariants.{BadReply, Unproved}
@@ -77,11 +77,14 @@ checks_so p r f is = go (r.status == 200 && not (fits_request p r)) (not (is_pro
 
 -- ---- the piece of a request
 
-pub is_read : (text : List ℕ) (x : Scrip × List ℕ) → scrip_of text ≡ Ok x → IsSome (piece_of text)
-is_read text x is = subst (λ (r : Result (Scrip × List ℕ) ℕ). IsSome (option_map (λ y. y.0) (result_ok r))) (sym is) refl
-
-pub not_read : (text : List ℕ) (place : ℕ) → scrip_of text ≡ Err place → IsSome (piece_of text) → ⊥
-not_read text place is some = false≢true (subst (λ (r : Result (Scrip × List ℕ) ℕ). IsSome (option_map (λ y. y.0) (result_ok r))) is some)
+-- the test tells whether a text has a piece
+pub scrip_has : (text : List ℕ) → IsTrue (is_scrip text) ↔ IsSome (piece_of text)
+unfolding is_scrip
+scrip_has text = go (scrip_of text)
+  where
+    go : (r : Result (Scrip × List ℕ) ℕ) → IsTrue (is_ok r) ↔ IsSome (option_map (λ y. y.0) (result_ok r))
+    go (Ok x) = (λ yes'. refl, λ some. refl)
+    go (Err place) = (λ no'. absurd (false≢true no'), λ some. absurd (false≢true some))
 
 pub draws_have : (ask : ℕ) (scrip : Option (List ℕ)) → 2 ≤ ask → HasItsPiece ask scrip
 draws_have zero scrip le = absurd (omega arith)

@@ -1,5 +1,5 @@
 -- A piece that is fit pays for a get.
-use Rattle.std.proofs.Common.{◌≡◌, ℕ, List, Option, Some, None}
+use Rattle.std.proofs.Common.{ℕ, List, Option, Some, None}
 use Rattle.std.specs.Prelude.{IfSome}
 use Rattle.wallet_book.specs.Choosing.{IsFitAt}
 use Rattle.wallet_book.specs.Book.{BookView}

@@ -7,6 +7,7 @@ pub mod CallLaws
 pub mod DueLaws
 pub mod LineLaws
 pub mod SettledLaws
+pub mod CameLaws
 pub mod AskLaws
 pub mod TakenLaws
 pub mod DiskLemmas

@@ -1,6 +1,5 @@
 -- What a settlement is where the reply passes the check.
-use Rattle.std.proofs.Common.{◌≡◌, ℕ, Bool, true, false, cond, ◌&&◌, ◌||◌, not, List, [], ◌∷◌, ◌++◌, Option, Some, None, unwrap_or, refl, sym, ap, subst, ◌∙◌}
-use Rattle.std.proofs.lemmas.List.Folds.{list_any-append}
+use Rattle.std.proofs.Common.{◌≡◌, ℕ, Bool, true, false, cond, ◌&&◌, not, List, [], ◌∷◌, Option, Some, None, unwrap_or, refl, sym, ap, subst, ◌∙◌}
 use Rattle.std.specs.Prelude.{◌==◌}
 use Rattle.std.specs.List.{list_any}
 use Rattle.scrip_form.specs.Scrip.{Scrip}
@@ -79,12 +78,3 @@ no_piece_is_new texts text none = ap not (go texts)
     go : (ts : List (List ℕ)) → list_any (λ t. are_one_piece t text) ts ≡ false
     go [] = refl
     go (t ∷ ts) = let first : are_one_piece t text ≡ false = ap (is_same_piece (piece_of t)) none ∙ same_as_none (piece_of t) in rw (first, go ts) refl
-
-front_known : (front texts : List (List ℕ)) (text : List ℕ) (b : Bool) → b ≡ list_any (λ t. are_one_piece t text) front → is_new (front ++ texts) text ≡ not (b || list_any (λ t. are_one_piece t text) texts)
-front_known front texts text b is = ap not (list_any-append (λ t. are_one_piece t text) front texts ∙ ap (λ (x : Bool). x || list_any (λ t. are_one_piece t text) texts) (sym is))
-
-pub known_front : (front texts : List (List ℕ)) (text : List ℕ) → true ≡ list_any (λ t. are_one_piece t text) front → false ≡ is_new (front ++ texts) text
-known_front front texts text is = sym (front_known front texts text true is)
-
-pub unknown_front : (front texts : List (List ℕ)) (text : List ℕ) → false ≡ list_any (λ t. are_one_piece t text) front → is_new texts text ≡ is_new (front ++ texts) text
-unknown_front front texts text is = sym (front_known front texts text false is)

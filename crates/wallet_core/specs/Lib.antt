@@ -13,4 +13,5 @@ pub mod Requests
 pub mod Asks
 pub mod Taking
 pub mod Settled
+pub mod Came
 pub mod OnDisk

@@ -1,9 +1,6 @@
 //! The request of what is asked.
 
-ghost use Rattle.std.specs.Prelude.{◌≡◌, ◌≤◌, ◌<◌, Some, IfOk, IfErr};
-ghost use Rattle.mc_base.specs.declared.amount.TheConstants.Amount.{MOST};
-ghost use Rattle.mc_records.specs.Errands as errands;
-ghost use Rattle.mc_records.specs.Errands.{IsErrand, errand_text};
+ghost use Rattle.std.specs.Prelude.{◌≡◌, ◌<◌, Some, IfOk, IfErr};
 ghost use Rattle.ledger_model.specs.Histories.{History};
 ghost use Rattle.wallet_model.specs.Asks.{chosen, paid_with, pend_entry};
 ghost use Rattle.wallet_model.specs.Follows.{WalletFollows};
@@ -16,8 +13,7 @@ ghost use Rattle.wallet_core.specs.Requests.{pending_view, pend_of};
 use crate::ask::Ask;
 use crate::request::{WalletRequest, text_of};
 use mc_base::Amount;
-use mc_fields::{put, put_number};
-use mc_records::{Refusal, errands_are_texts};
+use mc_records::{Refusal, buy_target, draw_target};
 use scrip_form::{Name, Target};
 use wallet_book::{Holding, WalletBook};
 
@@ -125,46 +121,5 @@ fn with_piece(ask: u8, peer: &Name, target: &Target, holding: &Holding) -> Walle
         target: *target,
         scrip: Some(text_of(holding)),
         secret: holding.secret,
-    }
-}
-
-/// The target of a request to buy scrip of a vendor.
-fn buy_target(vendor: &Name, amount: Amount) -> Target
-    requires { 1 ≤ amount }
-    ensures target { result ≡ errand_text (errands.buy vendor.now amount) }
-    ensures errand { IsErrand (errands.buy vendor.now amount) }
-{
-    let mut out = [0; 128];
-    let at = put(&mut out, 0, b"/buy/");
-    let at = put(&mut out, at, vendor.bytes());
-    let at = put(&mut out, at, b"/");
-    let at = put_number(&mut out, at, amount.get());
-    errands_are_texts();
-    match Target::new(&out[..at]) {
-        Some(target) => target,
-        // What was written is a target.
-        None => unreachable!(),
-    }
-}
-
-/// The target of a request to draw scrip out of an account.
-fn draw_target(account: &Name, order: u64, amount: Amount) -> Target
-    requires order { (1 ≤ order) × (order ≤ MOST) }
-    requires amount { 1 ≤ amount }
-    ensures target { result ≡ errand_text (errands.draw account.now order amount) }
-    ensures errand { IsErrand (errands.draw account.now order amount) }
-{
-    let mut out = [0; 128];
-    let at = put(&mut out, 0, b"/draw/");
-    let at = put(&mut out, at, account.bytes());
-    let at = put(&mut out, at, b"/");
-    let at = put_number(&mut out, at, order);
-    let at = put(&mut out, at, b"/");
-    let at = put_number(&mut out, at, amount.get());
-    errands_are_texts();
-    match Target::new(&out[..at]) {
-        Some(target) => target,
-        // What was written is a target.
-        None => unreachable!(),
     }
 }

@@ -18,12 +18,15 @@ ghost use Rattle.wallet_core.specs.Outcomes.{HandsBack, Performs};
 ghost use Rattle.wallet_core.specs.Answers.{TellsNumber, TellsCount, TellsOnly, Any, IsFull, MayTake, MayPend, MayCheck};
 ghost use Rattle.wallet_core.specs.Checking.{Checks, IsWritten};
 
+use crate::came::Came;
 use crate::checked::{Checked, has_its_piece};
+use crate::checking::check_came;
 use crate::outcome::WalletOut;
+use crate::settling::{settled_as, settled_entry};
 use crate::wallet::Wallet;
 use crate::{
-    Ask, Settlement, TakeFault, WalletRequest, check_reply, kept_request, pend_record, put_request,
-    request_for, request_with, settled_as, settlement_record, take_pieces, taken_list,
+    Ask, Settlement, TakeFault, WalletRequest, kept_request, pend_record, put_request, request_for,
+    request_with, take_pieces, taken_list,
 };
 use mc_outside::Disk;
 use mc_records::{Record, Refusal};
@@ -134,11 +137,12 @@ impl<D: Disk> Wallet<D> {
         if !has_its_piece(&request) {
             return Err(Refusal::BadReply);
         }
-        match check_reply(&request, r) {
+        let came = Came::of(request.ask, r);
+        match check_came(&request, &came) {
             None => Ok(Checked {
                 number,
                 request,
-                reply: *r,
+                came,
             }),
             Some(refusal) => Err(refusal),
         }
@@ -157,11 +161,12 @@ impl<D: Disk> Wallet<D> {
         let Checked {
             number,
             request,
-            reply,
+            came,
         } = c;
-        let _seconds = self.book.time().seconds();
-        let settled = settled_as(&request, &reply);
-        let record = settlement_record(&self.book, number, &request, &reply);
+        let moment = self.book.time();
+        let _seconds = moment.seconds();
+        let settled = settled_as(&request, &came);
+        let record = settled_entry(&self.book, moment, number, &request, &came);
         self.enter(&record, settled)
     }
 }

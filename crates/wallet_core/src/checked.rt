@@ -1,12 +1,11 @@
 //! A reply that settles a kept request.
 
-ghost use Rattle.std.specs.Prelude.{◌↔◌, IsTrue, IsSome};
-ghost use Rattle.ledger_model.specs.Pieces.{piece_of};
+ghost use Rattle.std.specs.Prelude.{◌↔◌, IsTrue};
 ghost use Rattle.wallet_model.specs.Laws.{HasItsPiece};
 
 use crate::WalletRequest;
-use reply_reader::ReplyRef;
-use scrip_form::read_scrip;
+use crate::came::Came;
+use scrip_form::is_scrip;
 use std::marker::Model;
 
 /// A reply that settles a request, for `Wallet::settle_reply`. Only `Wallet::check_reply` makes one. Contracts see the
@@ -15,7 +14,7 @@ use std::marker::Model;
 pub struct Checked<'a> {
     pub(crate) number: u64,
     pub(crate) request: WalletRequest,
-    pub(crate) reply: ReplyRef<'a>,
+    pub(crate) came: Came<'a>,
 }
 
 impl<'a> Model for Checked<'a> {
@@ -26,12 +25,13 @@ impl<'a> Model for Checked<'a> {
     ghost use Rattle.reply_reader.specs.Seen.{received_of};
     ghost use Rattle.wallet_core.specs.Requests.{pending_view};
     ghost use Rattle.wallet_core.specs.Checking.{CheckedView};
+    ghost use Rattle.wallet_core.specs.Came.{IsCame};
 
     ghost Value = { CheckedView };
 
-    ghost view = { λ c. record { number = c.number; request = pending_view c.request; reply = received_of c.reply } };
+    ghost view = { λ c. record { number = c.number; request = pending_view c.request; reply = received_of c.came.reply } };
 
-    ghost invariant = { λ c. HasItsPiece c.request.ask c.request.scrip × (check_of (pending_view c.request) (received_of c.reply) ≡ None) × IsLong c.number };
+    ghost invariant = { λ c. HasItsPiece c.request.ask c.request.scrip × (check_of (pending_view c.request) (received_of c.came.reply) ≡ None) × IsLong c.number × IsCame c.request.ask c.came };
 }
 
 /// Whether a request that is no draw pays with a piece.
@@ -44,15 +44,5 @@ pub(crate) fn has_its_piece(request: &WalletRequest) -> bool
     match &request.scrip {
         Some(text) => is_scrip(text.bytes()),
         None => false,
-    }
-}
-
-/// Whether some bytes are a scrip text.
-fn is_scrip(bytes: &[u8]) -> bool
-    ensures { IsTrue result ↔ IsSome (piece_of bytes.now) }
-{
-    match read_scrip(bytes) {
-        Ok(_) => true,
-        Err(_) => false,
     }
 }

@@ -1,19 +1,20 @@
 //! Whether a reply settles a request.
 
-ghost use Rattle.std.specs.Prelude.{◌≡◌, ◌==◌, ◌&&◌, ◌++◌, ℕ, List, not, false, bytes_eq, option_map, option_and_then, unwrap_or};
+ghost use Rattle.std.specs.Prelude.{◌≡◌, ◌==◌, ◌&&◌, ◌++◌, ℕ, List, false, bytes_eq, option_map, option_and_then, unwrap_or};
 ghost use Rattle.scrip_certs.specs.Digests as digests;
 ghost use Rattle.scrip_certs.specs.Hashing.{Hashes};
 ghost use Rattle.mc_records.specs.Errands.{errand_of};
 ghost use Rattle.mc_records.specs.Replies as texts;
 ghost use Rattle.mc_records.specs.Requests.{seen};
-ghost use Rattle.mc_records.specs.Views.{held_of};
 ghost use Rattle.ledger_model.specs.Pieces as pieces;
 ghost use Rattle.wallet_model.specs.Received.{line_read};
 ghost use Rattle.wallet_model.specs.Settling as model;
 ghost use Rattle.reply_reader.specs.Seen.{received_of};
+ghost use Rattle.wallet_core.specs.Came.{IsCame, ReadsLine};
 ghost use Rattle.wallet_core.specs.Requests.{pending_view, request_view};
 
-use crate::contents::{one_line, piece_of};
+use crate::came::Came;
+use crate::contents::piece_of;
 use crate::prices::{is_dash, is_paid_by, price_of};
 use crate::request::{RequestRef, WalletRequest, lent};
 use itoa::Buffer;
@@ -25,15 +26,23 @@ use scrip_form::Piece;
 
 /// Whether a reply settles a request: None where it does, else 65 `BadReply` where its values are not those that
 /// the request may get, or 66 `Unproved` where it is not signed under the request's secret. It takes no memory.
-#[tactic(auto, unfolding(wallet_model::specs::Settling::check_of))]
 pub fn check_reply(p: &WalletRequest, r: &ReplyRef<'_>) -> Option<Refusal>
     ensures { result ≡ model.check_of (pending_view p.now) (received_of r.now) }
 {
+    check_came(p, &Came::of(p.ask, r))
+}
+
+/// Whether a reply that was read settles a request.
+#[tactic(auto, unfolding(wallet_model::specs::Settling::check_of))]
+pub(crate) fn check_came(p: &WalletRequest, came: &Came<'_>) -> Option<Refusal>
+    requires { IsCame p.now.ask came.now }
+    ensures { result ≡ model.check_of (pending_view p.now) (received_of came.now.reply) }
+{
     let p = lent(p);
-    if r.status == 200 && !fits_request(&p, r) {
+    if came.reply.status == 200 && !fits(&p, came) {
         return Some(Refusal::BadReply);
     }
-    if !is_proved(&p, r) {
+    if !is_proved(&p, &came.reply) {
         return Some(Refusal::Unproved);
     }
     None
@@ -46,9 +55,17 @@ pub fn check_reply(p: &WalletRequest, r: &ReplyRef<'_>) -> Option<Refusal>
 pub fn fits_request(p: &RequestRef<'_>, r: &ReplyRef<'_>) -> bool
     ensures { result ≡ model.fits_request (request_view p.now) (received_of r.now) }
 {
-    match price_of(r) {
+    fits(p, &Came::of(p.ask, r))
+}
+
+/// Whether the values of a 200 that was read are those that a request may get.
+fn fits(p: &RequestRef<'_>, came: &Came<'_>) -> bool
+    requires { IsCame p.now.ask came.now }
+    ensures { result ≡ model.fits_request (request_view p.now) (received_of came.now.reply) }
+{
+    match price_of(&came.reply) {
         Some(price) => {
-            is_paid_by(piece_of_scrip(p.scrip), price, r.change) && brings_asked(p, price, r)
+            is_paid_by(piece_of_scrip(p.scrip), price, came) && brings_asked(p, price, came)
         }
         None => false,
     }
@@ -65,50 +82,45 @@ fn piece_of_scrip(scrip: Option<&[u8]>) -> Option<Piece>
 }
 
 /// Whether a 200 brings what was asked.
-fn brings_asked(p: &RequestRef<'_>, price: u64, r: &ReplyRef<'_>) -> bool
-    ensures { result ≡ model.brings_asked (request_view p.now) p.now.ask price (received_of r.now) }
+fn brings_asked(p: &RequestRef<'_>, price: u64, came: &Came<'_>) -> bool
+    requires { IsCame p.now.ask came.now }
+    ensures { result ≡ model.brings_asked (request_view p.now) p.now.ask price (received_of came.now.reply) }
 {
     match p.ask {
         0 => true,
-        1 => brings_bought(p.target, r.contents),
-        _ => brings_drawn(p, price, r),
+        1 => brings_bought(p.target, came),
+        _ => brings_drawn(p, price, came),
     }
 }
 
-fn brings_bought(target: &[u8], contents: &[u8]) -> bool
-    ensures { result ≡ model.brings_bought (errand_of target.now) contents.now }
+fn brings_bought(target: &[u8], came: &Came<'_>) -> bool
+    requires { ReadsLine came.now }
+    ensures { result ≡ model.brings_bought (errand_of target.now) came.now.reply.contents.now }
 {
     match read_errand(target) {
-        Some(Errand::Buy { vendor, amount }) => is_piece_of(vendor, amount, contents),
+        Some(Errand::Buy { vendor, amount }) => is_piece_of(vendor, amount, came),
         _ => false,
     }
 }
 
-fn brings_drawn(p: &RequestRef<'_>, price: u64, r: &ReplyRef<'_>) -> bool
+fn brings_drawn(p: &RequestRef<'_>, price: u64, came: &Came<'_>) -> bool
+    requires { ReadsLine came.now }
     ensures { result
-        ≡ model.brings_drawn p.now.peer.now (errand_of p.now.target.now) price r.now.change.now r.now.contents.now }
+        ≡ model.brings_drawn p.now.peer.now (errand_of p.now.target.now) price came.now.reply.change.now came.now.reply.contents.now }
 {
     match read_errand(p.target) {
-        Some(Errand::Draw { amount, .. }) => is_dash(r.change)
-            && (price == amount && is_piece_of(p.peer, amount, r.contents)),
+        Some(Errand::Draw { amount, .. }) => is_dash(came.reply.change)
+            && (price == amount && is_piece_of(p.peer, amount, came)),
         _ => false,
     }
 }
 
 /// Whether contents are one piece line, of a piece of a vendor with a value.
-fn is_piece_of(vendor: &[u8], value: u64, contents: &[u8]) -> bool
-    ensures { result ≡ model.is_piece_of vendor.now value contents.now }
+fn is_piece_of(vendor: &[u8], value: u64, came: &Came<'_>) -> bool
+    requires { ReadsLine came.now }
+    ensures { result ≡ model.is_piece_of vendor.now value came.now.reply.contents.now }
 {
-    is_of(vendor, value, piece_of_line(one_line(contents)))
-}
-
-fn piece_of_line(line: Option<(&[u8], [u8; 16])>) -> Option<Piece>
-    ensures { result ≡ option_and_then (λ x. pieces.piece_of x.text) (option_map held_of line.entry) }
-{
-    match line {
-        Some((text, _)) => piece_of(text),
-        None => None,
-    }
+    is_of(vendor, value, came.got_piece())
 }
 
 /// Whether a piece is of a vendor with a value.

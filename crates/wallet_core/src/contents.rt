@@ -1,7 +1,7 @@
 //! Pieces as texts: contents that are one piece line, and pieces of one vendor with one identity.
 
-ghost use Rattle.std.specs.Prelude.{◌≡◌, Some, option_map};
-ghost use Rattle.mc_records.specs.Views.{held_of};
+ghost use Rattle.std.specs.Prelude.{◌≡◌, Some, IfSome, option_map, option_and_then};
+ghost use Rattle.mc_records.specs.PieceViews as views;
 ghost use Rattle.ledger_model.specs.Pieces as pieces;
 ghost use Rattle.wallet_model.specs.Newness as newness;
 ghost use Rattle.wallet_model.specs.Settling as model;
@@ -12,23 +12,35 @@ use scrip_form::{Piece, ScripRef, read_scrip};
 /// How many bytes of a piece line stand behind its scrip text: a space, the 32 digits of a secret and an LF.
 const BEHIND_TEXT: usize = 34;
 
-/// The piece whose line some contents are: its text, in the contents, and its secret. It takes no memory.
-pub(crate) fn one_line(contents: &[u8]) -> Option<(&[u8], [u8; 16])>
-    ensures { option_map held_of result ≡ model.one_line contents.now }
+/// The piece whose line some contents are, and its secret. It takes no memory.
+pub(crate) fn one_line(contents: &[u8]) -> Option<(ScripRef<'_>, [u8; 16])>
+    ensures held { option_map views.piece_of result ≡ model.one_line contents.now }
+    ensures piece { option_map (λ x. x.0.piece) result ≡ option_and_then (λ p. pieces.piece_of p.text) (model.one_line contents.now) }
 {
     if contents.len() < BEHIND_TEXT {
         return None;
     }
     let (text, rest) = contents.split_at(contents.len() - BEHIND_TEXT);
-    match read_scrip(text) {
-        Ok(_) => (),
+    let scrip = match read_scrip(text) {
+        Ok(scrip) => scrip,
         Err(_) => return None,
-    }
+    };
     match read_secret(rest) {
         Ok(read) => {
             let secret = read.0;
-            Some((text, secret))
+            Some((scrip, secret))
         }
+        Err(_) => None,
+    }
+}
+
+/// What a text is read as, where it is a scrip text. It takes no memory.
+pub(crate) fn scrip_of(text: &[u8]) -> Option<ScripRef<'_>>
+    ensures text { IfSome result (λ s. s.text ≡ text.now) }
+    ensures piece { option_map (λ s. s.piece) result ≡ pieces.piece_of text.now }
+{
+    match read_scrip(text) {
+        Ok(scrip) => Some(scrip),
         Err(_) => None,
     }
 }

@@ -6,8 +6,10 @@
 mod ask;
 mod asking;
 mod calls;
+mod came;
 mod checked;
 mod checking;
+mod clock;
 mod contents;
 mod entering;
 mod found;
@@ -27,6 +29,7 @@ pub use ask::Ask;
 pub use asking::{request_for, request_with};
 pub use checked::Checked;
 pub use checking::{check_reply, fits_request};
+pub use clock::raise_by_clock;
 pub use contents::{are_one_piece, piece_of};
 pub use found::found_wallet;
 pub use opening::open_wallet;
@@ -35,8 +38,6 @@ pub use prices::is_dash;
 pub use renewing::renew_place;
 pub use request::{RequestRef, WalletRequest, kept_request, pend_record};
 pub use sending::put_request;
-pub use settling::{
-    Settlement, is_change, paid_price, refusal_number, settled_as, settlement_record,
-};
+pub use settling::{Settlement, paid_price, refusal_number, settlement_record};
 pub use taking::{TakeFault, take_pieces, taken_list};
 pub use wallet::Wallet;

@@ -5,8 +5,9 @@ ghost use Rattle.mc_base.specs.declared.amount.TheConstants.Amount.{MOST};
 ghost use Rattle.mc_records.specs.Errands.{last_number};
 ghost use Rattle.reply_reader.specs.Seen.{received_of};
 ghost use Rattle.wallet_model.specs.Settling as model;
+ghost use Rattle.wallet_core.specs.Came.{ReadsChange};
 
-use crate::contents::piece_of;
+use crate::came::Came;
 use mc_base::Amount;
 use mc_fields::number_of;
 use reply_reader::ReplyRef;
@@ -59,16 +60,17 @@ fn is_change(paid: &Piece, price: u64, change: Option<Piece>) -> bool
     }
 }
 
-/// Whether a piece, where there is one, pays a price with this change.
-pub(crate) fn is_paid_by(paid: Option<Piece>, price: u64, change: &[u8]) -> bool
-    requires { price ≤ MOST }
-    ensures { result ≡ model.is_paid_by paid price change.now }
+/// Whether a piece, where there is one, pays a price with the change of a reply.
+pub(crate) fn is_paid_by(paid: Option<Piece>, price: u64, came: &Came<'_>) -> bool
+    requires most { price ≤ MOST }
+    requires read { ReadsChange came.now }
+    ensures { result ≡ model.is_paid_by paid price came.now.reply.change.now }
 {
     match paid {
         Some(paid) => if price == paid.value().get() {
-            is_dash(change)
+            is_dash(came.reply.change)
         } else {
-            price < paid.value().get() && is_change(&paid, price, piece_of(change))
+            price < paid.value().get() && is_change(&paid, price, came.change_piece())
         },
         None => true,
     }

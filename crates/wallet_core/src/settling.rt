@@ -1,11 +1,10 @@
 //! The entry by which a reply settles a request.
 
-ghost use Rattle.std.specs.Prelude.{◌≡◌, ◌++◌, Some, None, option_and_then, option_map, option_to_list, unwrap_or};
-ghost use Rattle.std.specs.List.{list_any};
+ghost use Rattle.std.specs.Prelude.{◌≡◌, ◌++◌, Some, None, IfSome, option_map, option_to_list, unwrap_or};
+ghost use Rattle.mc_records.specs.PieceViews as views;
 ghost use Rattle.mc_records.specs.Requests.{seen};
 ghost use Rattle.mc_records.specs.Views.{entry, held_of};
 ghost use Rattle.ledger_model.specs.Histories.{History};
-ghost use Rattle.ledger_model.specs.Pieces as pieces;
 ghost use Rattle.wallet_model.specs.Newness as newness;
 ghost use Rattle.wallet_model.specs.Settling as model;
 ghost use Rattle.wallet_model.specs.Settling.{check_of};
@@ -13,17 +12,18 @@ ghost use Rattle.reply_reader.specs.Seen.{received_of};
 ghost use Rattle.wallet_book.specs.Book.{WalletRepresents};
 ghost use Rattle.wallet_book.specs.Holdings.{texts_of};
 ghost use Rattle.wallet_book.specs.Kept.{kept_in};
+ghost use Rattle.wallet_core.specs.Came.{IsCame, ReadsChange};
 ghost use Rattle.wallet_core.specs.Requests.{pending_view, CanEnter};
 ghost use Rattle.wallet_core.specs.Settled.{IsSettledAs, settlement_with};
 
-use crate::contents::{are_one_piece, one_line, piece_of};
+use crate::came::Came;
 use crate::prices::{is_dash, price_of};
 use crate::request::WalletRequest;
 use mc_base::Moment;
 use mc_fields::read_number;
 use mc_records::{PieceList, Record};
 use reply_reader::ReplyRef;
-use scrip_form::{Piece, read_scrip};
+use scrip_form::{Piece, ScripRef};
 use wallet_book::WalletBook;
 
 /// How a kept request was settled.
@@ -55,34 +55,34 @@ pub fn settlement_record<'a>(
 {
     let moment = book.time();
     let _seconds = moment.seconds();
-    settled_entry(book, moment, number, p, r)
+    settled_entry(book, moment, number, p, &Came::of(p.ask, r))
 }
 
-/// The entry by which a reply settles the request of a number at a moment.
+/// The entry by which a reply that was read settles the request of a number at a moment.
 #[tactic(auto, unfolding(crate::specs::Settled::settlement_with))]
-fn settled_entry<'a>(
+pub(crate) fn settled_entry<'a>(
     book: &WalletBook,
     moment: Moment,
     number: u64,
     p: &WalletRequest,
-    r: &ReplyRef<'a>,
+    came: &Came<'a>,
 ) -> Record<'a>
+    requires { IsCame p.now.ask came.now }
     ensures { entry result
-        ≡ settlement_with (texts_of book.now.holdings) moment number (pending_view p.now) (received_of r.now) }
+        ≡ settlement_with (texts_of book.now.holdings) moment number (pending_view p.now) (received_of came.now.reply) }
 {
     let _pieces: Option<PieceList<'_>> = None;
-    if r.status != 200 {
-        let refusal = refusal_number(r.refusal);
+    if came.reply.status != 200 {
+        let refusal = refusal_number(came.reply.refusal);
         return Record::Refused {
             moment,
             number,
             refusal,
         };
     }
-    let price = paid_price(r);
-    let change = change_came(book, r.change);
-    let piece = contents_came(p.ask, r.contents);
-    let got = if_new(book, change, piece);
+    let price = paid_price(&came.reply);
+    let change = change_came(book, came);
+    let got = got_came(book, change, came);
     Record::Done {
         moment,
         number,
@@ -92,21 +92,22 @@ fn settled_entry<'a>(
     }
 }
 
-/// How a reply that passes the check settles a request. It takes no memory.
+/// How a reply that was read and passes the check settles a request. It takes no memory.
 #[tactic(auto, unfolding(wallet_model::specs::Settling::check_of))]
-pub fn settled_as(p: &WalletRequest, r: &ReplyRef<'_>) -> Settlement
-    requires { check_of (pending_view p.now) (received_of r.now) ≡ None }
-    ensures { IsSettledAs (pending_view p.now) (received_of r.now) result }
+pub(crate) fn settled_as(p: &WalletRequest, came: &Came<'_>) -> Settlement
+    requires passes { check_of (pending_view p.now) (received_of came.now.reply) ≡ None }
+    requires read { IsCame p.now.ask came.now }
+    ensures { IsSettledAs (pending_view p.now) (received_of came.now.reply) result }
 {
-    if r.status != 200 {
-        let number = refusal_number(r.refusal);
+    if came.reply.status != 200 {
+        let number = refusal_number(came.reply.refusal);
         return Settlement::Refused { number };
     }
     if p.ask == 0 {
-        let price = paid_price(r);
+        let price = paid_price(&came.reply);
         return Settlement::Paid { price };
     }
-    match bought(r.contents) {
+    match came.got_piece() {
         Some(piece) => Settlement::Got { piece },
         // What passes the check brings a piece.
         None => unreachable!(),
@@ -146,51 +147,35 @@ fn first_number(text: &[u8]) -> u16
 }
 
 /// The change of a reply, where it is new.
-fn change_came<'a>(book: &WalletBook, change: &'a [u8]) -> Option<&'a [u8]>
-    ensures { seen result ≡ model.change_came (texts_of book.now.holdings) change.now }
+fn change_came<'a>(book: &WalletBook, came: &Came<'a>) -> Option<&'a [u8]>
+    requires { ReadsChange came.now }
+    ensures new { seen result ≡ model.change_came (texts_of book.now.holdings) came.now.reply.change.now }
+    ensures same { IfSome result (λ t. t.now ≡ came.now.reply.change.now) }
 {
-    if is_dash(change) {
+    if is_dash(came.reply.change) {
         return None;
     }
-    if is_new(book, change) {
-        Some(change)
+    if change_is_new(book, came) {
+        Some(came.reply.change)
     } else {
         None
     }
 }
 
-/// The piece in the contents of a buy or a draw.
-fn contents_came(ask: u8, contents: &[u8]) -> Option<(&[u8], [u8; 16])>
-    ensures { option_map held_of result ≡ model.contents_came ask contents.now }
-{
-    if ask == 0 {
-        return None;
-    }
-    one_line(contents)
-}
-
-/// The piece of the line that contents are.
-fn bought(contents: &[u8]) -> Option<Piece>
-    ensures { result ≡ option_and_then (λ x. pieces.piece_of x.text) (model.one_line contents.now) }
-{
-    match one_line(contents) {
-        Some((text, _)) => piece_of(text),
-        None => None,
-    }
-}
-
-/// A piece, where it is new, to the change too.
-fn if_new<'a>(
+/// The piece in the contents, where it is new, to the change that came too.
+fn got_came<'a>(
     book: &WalletBook,
     change: Option<&[u8]>,
-    got: Option<(&'a [u8], [u8; 16])>,
+    came: &Came<'a>,
 ) -> Option<(&'a [u8], [u8; 16])>
+    requires read { ReadsChange came.now }
+    requires same { IfSome change (λ t. t.now ≡ came.now.reply.change.now) }
     ensures { option_map held_of result
-        ≡ model.if_new (option_to_list (seen change.entry) ++ texts_of book.now.holdings) (option_map held_of got.entry) }
+        ≡ model.if_new (option_to_list (seen change.entry) ++ texts_of book.now.holdings) (option_map views.piece_of came.now.got) }
 {
-    match got {
-        Some(piece) => if is_new_beside(book, change, piece.0) {
-            got
+    match &came.got {
+        Some(got) => if is_new_beside(book, change, came, &got.0) {
+            Some((got.0.text(), got.1))
         } else {
             None
         },
@@ -200,32 +185,30 @@ fn if_new<'a>(
 
 // ---- new pieces
 
-/// Whether a text is of no piece that came.
-fn is_new(book: &WalletBook, text: &[u8]) -> bool
-    ensures { result ≡ newness.is_new (texts_of book.now.holdings) text.now }
+/// Whether the change of a reply is of no piece that came.
+fn change_is_new(book: &WalletBook, came: &Came<'_>) -> bool
+    requires { ReadsChange came.now }
+    ensures { result ≡ newness.is_new (texts_of book.now.holdings) came.now.reply.change.now }
 {
-    match read_scrip(text) {
-        Ok(scrip) => book.is_new(&scrip),
-        Err(_) => true,
+    match &came.change {
+        Some(scrip) => book.is_new(scrip),
+        None => true,
     }
 }
 
-/// Whether a text is of no piece that came, and not of the change.
-fn is_new_beside(book: &WalletBook, change: Option<&[u8]>, text: &[u8]) -> bool
-    ensures { result ≡ newness.is_new (option_to_list (seen change.entry) ++ texts_of book.now.holdings) text.now }
-{
-    if is_change(change, text) {
-        return false;
-    }
-    is_new(book, text)
-}
-
-/// Whether a piece is the change, where there is some, by vendor and identity.
-pub fn is_change(change: Option<&[u8]>, text: &[u8]) -> bool
-    ensures { result ≡ list_any (λ t. newness.are_one_piece t text.now) (option_to_list (seen change.entry)) }
+/// Whether a piece is none that came, and not the change that came.
+fn is_new_beside(
+    book: &WalletBook,
+    change: Option<&[u8]>,
+    came: &Came<'_>,
+    scrip: &ScripRef<'_>,
+) -> bool
+    requires read { ReadsChange came.now }
+    requires same { IfSome change (λ t. t.now ≡ came.now.reply.change.now) }
+    ensures { result ≡ newness.is_new (option_to_list (seen change.entry) ++ texts_of book.now.holdings) scrip.now.text }
 {
     match change {
-        Some(change) => are_one_piece(change, text),
-        None => false,
+        Some(_) => !came.is_change(scrip) && book.is_new(scrip),
+        None => book.is_new(scrip),
     }
 }

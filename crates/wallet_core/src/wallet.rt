@@ -1,6 +1,6 @@
 //! A wallet over a journal.
 
-ghost use Rattle.std.specs.Prelude.{◌≡◌, ℕ, max, map, option_map, IfErr};
+ghost use Rattle.std.specs.Prelude.{◌≡◌, max, map, option_map, IfErr};
 ghost use Rattle.mc_records.specs.declared.refusal.Refusal.TheVariants.{Nothing};
 ghost use Rattle.scrip_journal.specs.States.{IsJournal};
 ghost use Rattle.ledger_model.specs.Histories.{History};

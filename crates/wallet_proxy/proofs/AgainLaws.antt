@@ -1,7 +1,6 @@
 -- A target that is asked for again.
-use Rattle.std.proofs.Common.{◌≡◌, ◌⊎◌, inl, inr, ⊎_elim, ℕ, ◌+◌, Bool, true, false, cond, List, [], ◌∷◌, ◌++◌, length, refl, sym, ap, subst, ◌∙◌, Option, Some, None, unwrap_or, Result, Ok, Err, find}
-use Rattle.std.specs.Prelude.{◌==◌, ◌&&◌, nat_le, nat_lt, IsTrue, bytes_eq}
-use Rattle.std.specs.List.{reduce}
+use Rattle.std.proofs.Common.{◌≡◌, ◌⊎◌, inl, inr, ℕ, ◌+◌, Bool, true, false, cond, List, [], ◌∷◌, ◌++◌, length, refl, sym, ap, subst, ◌∙◌, Option, Some, None, unwrap_or, Result, Ok, Err, find}
+use Rattle.std.specs.Prelude.{◌==◌, ◌&&◌, nat_le, IsTrue, bytes_eq}
 use Rattle.std.proofs.lemmas.Slice.Eq.{bytes_eq-Decides}
 use Rattle.mc_records.specs.declared.limits.Limits.{Limits}
 use Rattle.mc_records.specs.declared.refusal.Refusal.{Refusal}
@@ -9,12 +8,11 @@ use Rattle.mc_records.specs.declared.refusal.Refusal.TheVariants.{NotPlain, Over
 use Rattle.mc_records.specs.Entry.{Entry}
 use Rattle.mc_records.specs.Requests.{Asked}
 use Rattle.ledger_model.specs.Histories.{History}
-use Rattle.ledger_model.specs.Lines.{Stop, Refuse, refused_if, ◌>>=◌}
-use Rattle.ledger_model.specs.Answer.{fitted}
+use Rattle.ledger_model.specs.Lines.{Refuse, refused_if, ◌>>=◌}
 use Rattle.millicent_http.specs.Items.{request}
 use Rattle.millicent_http.specs.Received.{Received}
 use Rattle.wallet_model.specs.Requests.{Pending, kept_get, kept_requests}
-use Rattle.wallet_model.specs.Asks.{Offered, lesser, fit_for, chosen, chosen_of, greatest_value}
+use Rattle.wallet_model.specs.Asks.{Offered, fit_for, chosen, chosen_of, greatest_value}
 use Rattle.wallet_model.specs.Settling.{check_of, settlement, price_of, refusal_number}
 use Rattle.wallet_model.specs.Follows.{IsWalletBook}
 use Rattle.wallet_model.proofs.KeptLaws.{kept_pend}

@@ -1,28 +1,26 @@
 -- How an item is answered: what was written before its reply began, and what was told.
-use Rattle.std.proofs.Common.{◌≡◌, ◌∙◌, inl, inr, ℕ, ◌+◌, ◌<◌, ◌≤◌, List, [], ◌∷◌, ◌++◌, length, take, refl, sym, ap, subst, append-nil, Result, Ok, Err}
-use Rattle.std.specs.Prelude.{IsTrue, OnOk, OnErr}
+use Rattle.std.proofs.Common.{◌≡◌, ◌∙◌, ℕ, ◌+◌, List, [], ◌∷◌, ◌++◌, sym, ap, subst, Result, Ok, Err}
+use Rattle.std.specs.Prelude.{IsTrue}
 use Rattle.mc_outside.specs.Bytes.{Rose}
 use Rattle.mc_outside.specs.DiskView.{DiskView, IsDisk, LinkKeeps, Ran}
-use Rattle.mc_outside.specs.LinkView.{LinkView, IsLink, LinkGoes, after_send, Failed}
+use Rattle.mc_outside.specs.LinkView.{LinkView, IsLink, LinkGoes}
 use Rattle.mc_records.specs.Entry.{Entry}
 use Rattle.ledger_model.specs.Histories.{History}
 use Rattle.scrip_journal.specs.Layout.{Encodes}
 use Rattle.scrip_journal.specs.Rests.{journal_leaves}
 use Rattle.scrip_journal.specs.Exits.{EitherNoOutput}
-use Rattle.millicent_http.proofs.AsideLemmas.{TellsAside, SentNoMore}
+use Rattle.millicent_http.proofs.AsideLemmas.{TellsAside}
 use Rattle.millicent_http.specs.declared.item.After.{After}
 use Rattle.millicent_http.specs.Steps.{Did}
 use Rattle.wallet_book.specs.Book.{BookView}
 use Rattle.wallet_core.specs.WalletView.{WalletView}
-use Rattle.wallet_core.specs.Wallet.{WalletStands}
 use Rattle.wallet_core.specs.Rests.{WalletRests, wallet_keeps}
 use Rattle.link_turns.specs.declared.turn.Turn.{Turn}
-use Rattle.link_turns.specs.declared.turn.Turn.TheVariants.{GoOn, Last, End, NotReceived, NotSent}
 use Rattle.link_turns.specs.Sending.{Sends}
 use Rattle.link_turns.specs.Turns.{Sent}
 use Rattle.link_turns.specs.Orders.{HaltsAt}
 use Rattle.link_turns.proofs.ItemLemmas.{sent_sessions, said_sessions}
-use Rattle.link_turns.proofs.OrderLemmas.{went_sent, went_written, went_from, halts_told, halts_written, halts_quiet}
+use Rattle.link_turns.proofs.OrderLemmas.{went_sent, went_written, went_from, halts_told, halts_written}
 use Rattle.wallet_proxy.specs.Told.{Told, refusal, told_reply}
 use Rattle.wallet_proxy.specs.Proxy.{ProxyState, history_of}
 use Rattle.wallet_proxy.specs.Links.{Now, now, out_of, StandsAt, Answers}

@@ -1,7 +1,7 @@
 -- The piece that pays, and the request that is kept.
-use Rattle.std.proofs.Common.{◌≡◌, ◌∙◌, ℕ, zero, suc, ◌+◌, ◌≤◌, Bool, true, false, cond, List, [], ◌∷◌, ◌++◌, length, Option, Some, None, option_map, unwrap_or, Result, Ok, Err, refl, sym, ap, subst, arith, find, filter, append_assoc}
+use Rattle.std.proofs.Common.{◌≡◌, ◌∙◌, ℕ, zero, suc, ◌+◌, true, List, [], ◌∷◌, ◌++◌, length, Option, Some, None, option_map, unwrap_or, Ok, refl, ap, subst, arith, filter, append_assoc}
 use Rattle.std.proofs.lemmas.List.{length-append}
-use Rattle.std.specs.Prelude.{◌==◌, ◌&&◌, nat_le, filter_map, slice_get, option_and_then, is_some}
+use Rattle.std.specs.Prelude.{◌==◌, nat_le, filter_map, slice_get, option_and_then, is_some}
 use Rattle.std.specs.List.{AllByRecursion, enumerate_from, cons_option}
 use Rattle.std.proofs.lemmas.Bool.{eqb-true, and_parts}
 use Rattle.scrip_form.specs.Scrip.{Scrip}

@@ -1,10 +1,10 @@
 -- What is paid, and what whole runs add.
-use Rattle.std.proofs.Common.{◌≡◌, inl, inr, ℕ, suc, ◌+◌, ◌≤◌, Bool, true, false, cond, List, [], ◌∷◌, ◌++◌, length, count_by, refl, sym, ap, ◌∙◌, append_assoc, append-nil, arith, Option, Some, None, unwrap_or, Result, Ok, Err}
+use Rattle.std.proofs.Common.{◌≡◌, inl, inr, ℕ, ◌+◌, ◌≤◌, Bool, true, false, cond, List, [], ◌∷◌, ◌++◌, length, count_by, refl, sym, ap, ◌∙◌, append_assoc, append-nil, arith, Option, Some, None, unwrap_or, Result, Ok, Err}
 use Rattle.std.specs.Prelude.{◌==◌, ◌||◌, IsTrue}
 use Rattle.std.proofs.lemmas.List.{length-append}
 use Rattle.mc_records.specs.declared.limits.Limits.{Limits}
 use Rattle.mc_records.specs.declared.refusal.Refusal.{Refusal}
-use Rattle.mc_records.specs.Entry.{Entry, Pend, Done, Refused}
+use Rattle.mc_records.specs.Entry.{Entry, Done, Refused}
 use Rattle.ledger_model.specs.Histories.{History}
 use Rattle.ledger_model.proofs.ListLaws.{counts_cons, counts_append, sum_snoc}
 use Rattle.millicent_http.specs.Items.{Item, request, refused}
@@ -14,7 +14,7 @@ use Rattle.wallet_model.specs.Requests.{Pending}
 use Rattle.wallet_model.specs.Settling.{check_of, settlement, done_entry, change_came, price_of, refusal_number}
 use Rattle.wallet_model.specs.Holdings.{texts_came}
 use Rattle.wallet_proxy.specs.Told.{Told}
-use Rattle.wallet_proxy.specs.Proxy.{ProxyState, Bounds, Payment, again, anew, raised, get_with, get_entry, paid_by, with_entry, with_up, Misses, SettlesBy, CameOf, PaysBy, payment_for, Tells, ProxyStep}
+use Rattle.wallet_proxy.specs.Proxy.{ProxyState, Bounds, Payment, again, anew, raised, get_with, get_entry, paid_by, with_entry, with_up, SettlesBy, CameOf, PaysBy, payment_for, Tells, ProxyStep}
 use Rattle.wallet_proxy.specs.Laws.{is_request, is_settling, IsOneGet, Grows, price_told, spent, PaysAsBooked, Keeps}
 use Rattle.wallet_proxy.proofs.StepLaws.{item_grows}
 

@@ -1,14 +1,11 @@
 -- An item, and a turn of a link.
-use Rattle.std.proofs.Common.{◌≡◌, ◌∙◌, inl, inr, ℕ, ◌+◌, ◌<◌, ◌≤◌, Bool, true, false, cond, List, [], ◌∷◌, ◌++◌, length, max, refl, sym, ap, subst, arith, Option, Result, Ok, Err}
-use Rattle.std.specs.Prelude.{IsTrue, IfOk}
+use Rattle.std.proofs.Common.{◌≡◌, ◌∙◌, ℕ, ◌≤◌, Bool, true, false, List, [], ◌∷◌, max, refl, sym, ap, subst, Option, Result, Ok, Err}
 use Rattle.mc_outside.specs.DiskView.{DiskView, LinkKeeps}
 use Rattle.mc_outside.specs.LinkView.{LinkView, LinkGoes, after_recv}
-use Rattle.mc_records.specs.declared.limits.Limits.{Limits}
 use Rattle.mc_records.specs.declared.refusal.Refusal.{Refusal}
 use Rattle.mc_records.specs.declared.refusal.Refusal.TheVariants.{NotPlain, DiskFault}
 use Rattle.mc_records.specs.declared.request.Request.{Request}
 use Rattle.mc_records.specs.Requests.{Asked, asked_of}
-use Rattle.mc_records.specs.Entry.{Entry}
 use Rattle.ledger_model.specs.Histories.{History}
 use Rattle.millicent_http.proofs.AsideLemmas.{TellsAside, SentNoMore, no_more_still, no_more_then, no_more_heard, no_more_finished}
 use Rattle.millicent_http.specs.declared.item.After.{After}
@@ -30,16 +27,15 @@ use Rattle.wallet_core.specs.WalletView.{WalletView}
 use Rattle.wallet_core.specs.Wallet.{WalletStands}
 use Rattle.wallet_core.specs.Rests.{WalletRests, wallet_keeps}
 use Rattle.link_turns.specs.declared.turn.Turn.{Turn}
-use Rattle.link_turns.specs.declared.turn.Turn.TheVariants.{GoOn, Last, End, NotReceived, NotSent}
+use Rattle.link_turns.specs.declared.turn.Turn.TheVariants.{End, NotReceived}
 use Rattle.link_turns.specs.Sending.{Sends}
-use Rattle.link_turns.specs.Turns.{Sent, AnsweredItem, Turned}
-use Rattle.link_turns.specs.Orders.{HaltsAt}
+use Rattle.link_turns.specs.Turns.{AnsweredItem}
 use Rattle.link_turns.proofs.TurnLemmas.{leads_so, item_turned}
 use Rattle.link_turns.proofs.ItemLemmas.{item_answered, said_readings}
 use Rattle.link_turns.proofs.OrderLemmas.{went_on, went_quiet, went_from, halts_quiet}
 use Rattle.wallet_proxy.specs.Told.{Told, refusal, told_reply}
-use Rattle.wallet_proxy.specs.Proxy.{ProxyState, history_of, Bounds, Payment, payment_by, payment_for, within_budget, is_plain, raised, Tells, ProxyStep, PaysBy, DoubtsBy}
-use Rattle.wallet_proxy.specs.Links.{Now, now, out_of, StandsAt, state_at, Went, Answers, RequestInDoubt, AnswersRequest, RefusesHead, InDoubtTurn, TurnsProxy}
+use Rattle.wallet_proxy.specs.Proxy.{ProxyState, history_of, Bounds, payment_by, payment_for, within_budget, is_plain, raised, ProxyStep, PaysBy, DoubtsBy}
+use Rattle.wallet_proxy.specs.Links.{Now, now, out_of, StandsAt, state_at, Went, Answers, RequestInDoubt, AnswersRequest, RefusesHead, TurnsProxy}
 use Rattle.wallet_proxy.proofs.AnswerLemmas.{state_leaves}
 
 -- ---- line 2

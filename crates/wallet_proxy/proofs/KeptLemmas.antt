@@ -1,6 +1,6 @@
 -- The kept requests that a proxy uses a link for.
 use Rattle.std.proofs.Common.{◌≡◌, ℕ, suc, ◌+◌, Bool, true, false, cond, List, [], ◌∷◌, ◌++◌, length, take, find, filter, Option, Some, None, refl, sym, ap, ◌∙◌, arith}
-use Rattle.std.specs.Prelude.{◌==◌, ◌&&◌, not, bytes_eq, option_map, option_and_then, filter_map}
+use Rattle.std.specs.Prelude.{◌==◌, ◌&&◌, bytes_eq, option_map, option_and_then, filter_map}
 use Rattle.std.specs.List.{list_any, enumerate_from, cons_option}
 use Rattle.std.proofs.lemmas.List.Folds.{list_any-append}
 use Rattle.mc_records.specs.Entry.{Entry, Pend}

@@ -1,30 +1,28 @@
 -- What the steps of a proxy promise.
-use Rattle.std.proofs.Common.{◌≡◌, ◌⊎◌, inl, inr, ⊎_elim, ℕ, zero, suc, ◌+◌, ◌≤◌, ◌<◌, Bool, true, false, cond, List, [], ◌∷◌, ◌++◌, length, refl, sym, ap, ◌∙◌, append_assoc, append-nil, subst, arith, Option, Some, None, option_map, unwrap_or, Result, Ok, Err, find, filter}
-use Rattle.std.specs.Prelude.{◌==◌, ◌&&◌, ◌||◌, not, nat_le, nat_lt, IsTrue, is_some, option_and_then, filter_map, slice_get, bytes_eq, codes}
-use Rattle.std.specs.List.{enumerate_from, cons_option, AllByRecursion}
-use Rattle.std.proofs.lemmas.Bool.{eqb-true, leb-true, ltb-true, and_parts, cases_Bool}
+use Rattle.std.proofs.Common.{◌≡◌, ◌⊎◌, inl, inr, ℕ, ◌+◌, ◌≤◌, Bool, true, false, cond, List, [], ◌∷◌, ◌++◌, length, refl, sym, ap, ◌∙◌, append_assoc, append-nil, subst, arith, Option, Some, None, option_map, unwrap_or, Result, Ok, Err}
+use Rattle.std.specs.Prelude.{◌==◌, ◌&&◌, ◌||◌, not, nat_le, nat_lt, IsTrue, is_some, option_and_then, bytes_eq, codes}
+use Rattle.std.proofs.lemmas.Bool.{eqb-true, leb-true, ltb-true, and_parts}
 use Rattle.scrip_form.specs.Scrip.{Scrip}
 use Rattle.mc_records.specs.declared.limits.Limits.{Limits}
 use Rattle.mc_records.specs.declared.refusal.Refusal.{Refusal}
-use Rattle.mc_records.specs.declared.refusal.Refusal.TheVariants.{BadReply, Unproved, NoMemory, SiteRefused, NotPlain, OverBudget}
-use Rattle.mc_records.specs.Entry.{Entry, Pend, Done, Refused}
+use Rattle.mc_records.specs.declared.refusal.Refusal.TheVariants.{BadReply, Unproved, SiteRefused, NotPlain, OverBudget}
+use Rattle.mc_records.specs.Entry.{Entry}
 use Rattle.mc_records.specs.Requests.{Asked}
 use Rattle.ledger_model.specs.Histories.{History}
 use Rattle.ledger_model.specs.Pieces.{piece_of}
 use Rattle.mc_outside.specs.LinkView.{LinkView}
 use Rattle.millicent_http.specs.Items.{Item, request, refused}
 use Rattle.millicent_http.specs.Received.{Received}
-use Rattle.wallet_model.specs.Requests.{Pending, pending_in, pending_of, kept_get, kept_requests, requests, numbered, is_open}
+use Rattle.wallet_model.specs.Requests.{Pending, pending_in, pending_of, kept_get}
 use Rattle.wallet_model.specs.Asks.{Offered, chosen, request_bytes}
-use Rattle.wallet_model.specs.Settling.{check_of, settlement, done_entry, change_came, price_of, fits_request, fits_at, is_paid_by, is_change, is_proved, brings_asked, refusal_number}
-use Rattle.wallet_model.specs.Holdings.{texts_came}
+use Rattle.wallet_model.specs.Settling.{check_of, settlement, price_of, fits_request, fits_at, is_paid_by, is_change, is_proved, brings_asked, refusal_number}
 use Rattle.wallet_model.specs.Follows.{IsWalletBook}
 use Rattle.wallet_book.proofs.HoldingLaws.{get_last}
 use Rattle.wallet_proxy.specs.Told.{Told, refusal, contents}
 use Rattle.wallet_proxy.specs.Upstream.{Fetches}
-use Rattle.wallet_proxy.specs.Proxy.{ProxyState, Bounds, Payment, again, anew, scrip_value, payment_value, payment_by, within_budget, payment_for, is_plain, get_with, get_entry, paid_by, settled_told, settled_state, with_entry, with_up, Misses, SettlesBy, CameOf, Tries, PaysBy, Tells}
+use Rattle.wallet_proxy.specs.Proxy.{ProxyState, Bounds, Payment, again, anew, scrip_value, payment_value, payment_by, within_budget, payment_for, is_plain, get_with, get_entry, paid_by, settled_told, with_entry, with_up, Misses, SettlesBy, CameOf, Tries, PaysBy, Tells}
 use Rattle.wallet_proxy.proofs.ChoiceLaws.{chosen_has, chosen_value, get_is, get_pays, pending_before}
-use Rattle.wallet_proxy.specs.Laws.{is_request, is_settling, IsOneGet, Grows, IsPaidFor, AsksFor, MovesUp}
+use Rattle.wallet_proxy.specs.Laws.{is_request, is_settling, Grows, IsPaidFor, MovesUp}
 
 -- ---- a settlement
 

@@ -1,7 +1,7 @@
 -- What comes of serving links by a proxy.
 use Rattle.std.specs.Prelude.{◌≡◌, ◌⊎◌, ◌≤◌, ◌<◌, ◌+◌, ℕ, Bool, false, IsTrue, List, [], ◌∷◌, ◌++◌, Option, Result, Ok, Err}
 use Rattle.mc_outside.specs.Bytes.{Rose}
-use Rattle.mc_outside.specs.DiskView.{DiskView, LinkKeeps}
+use Rattle.mc_outside.specs.DiskView.{DiskView}
 use Rattle.mc_outside.specs.LinkView.{LinkView, next_taken, after_recv, after_send}
 use Rattle.mc_records.specs.declared.limits.Limits.{Limits}
 use Rattle.mc_records.specs.declared.refusal.Refusal.{Refusal}
@@ -15,7 +15,7 @@ use Rattle.millicent_http.specs.Held.{Held}
 use Rattle.millicent_http.specs.Takes.{TookItem}
 use Rattle.millicent_http.specs.declared.clock.Clock.TheVariants.{OfLinks}
 use Rattle.millicent_http.specs.Steps.{Did, sent_of, state_after}
-use Rattle.millicent_http.specs.Courses.{AreRead, with_readings, Replied, AreFirst, HadLink, HadLinks, NoLink, ServedAll, ServedSome}
+use Rattle.millicent_http.specs.Courses.{AreRead, with_readings, Replied, AreFirst, HadLink, HadLinks, ServedAll, ServedSome}
 use Rattle.millicent_http.specs.Received.{Received}
 use Rattle.wallet_core.specs.WalletView.{WalletView}
 use Rattle.wallet_core.specs.Wallet.{WalletStands}
@@ -27,7 +27,7 @@ use Rattle.wallet_proxy.specs.declared.allowance.Allowance.{Allowance}
 use Rattle.wallet_proxy.specs.declared.links.ProxyOut.{ProxyOut}
 use Rattle.wallet_proxy.specs.declared.links.ProxyOut.TheVariants as outs
 use Rattle.wallet_proxy.specs.Told.{Told, refusal, told_reply}
-use Rattle.wallet_proxy.specs.Proxy.{ProxyState, history_of, Bounds, Payment, payment_for, raised, Tells, ProxyStep, PaysBy, DoubtsBy, paid_by, settled_told}
+use Rattle.wallet_proxy.specs.Proxy.{ProxyState, history_of, Bounds, payment_for, raised, ProxyStep, DoubtsBy, paid_by, settled_told}
 
 -- ---- a proxy between two calls
 

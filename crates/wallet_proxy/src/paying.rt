@@ -1,8 +1,7 @@
 //! Paying for a target.
 
-ghost use Rattle.std.specs.Prelude.{◌≡◌, ◌≤◌, ◌+◌, ℕ, List, [], Some, unwrap_or, option_map, slice_get, IsTrue, IfOk, nat_le, Ok, Err, if◌then◌else◌};
+ghost use Rattle.std.specs.Prelude.{◌≡◌, ◌≤◌, ◌+◌, ℕ, Some, unwrap_or, option_map, slice_get, IsTrue, IfOk, nat_le, Ok, Err, if◌then◌else◌};
 ghost use Rattle.mc_base.specs.declared.amount.TheConstants.Amount.{MOST};
-ghost use Rattle.mc_outside.specs.LinkView.{LinkView};
 ghost use Rattle.mc_records.specs.declared.refusal.Refusal.TheVariants.{OverBudget};
 ghost use Rattle.millicent_http.specs.declared.item.After.TheVariants.{Close};
 ghost use Rattle.ledger_model.specs.Histories.{History};

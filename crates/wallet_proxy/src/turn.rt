@@ -1,14 +1,12 @@
 //! One turn of serving a link by a proxy.
 
-ghost use Rattle.std.specs.Prelude.{◌≡◌, ◌≤◌, ◌<◌, ◌+◌, ℕ, [], ◌∷◌, max, IsTrue, IfOk};
+ghost use Rattle.std.specs.Prelude.{◌≡◌, ◌≤◌, ◌<◌, ◌+◌, ℕ, IsTrue, IfOk};
 ghost use Rattle.scrip_form.specs.Texts.{IsTarget};
 ghost use Rattle.ledger_model.specs.Histories.{History};
 ghost use Rattle.millicent_http.specs.declared.reader.TheConstants.{MAX_ITEMS};
 ghost use Rattle.millicent_http.specs.declared.item.After.TheVariants.{Close};
 ghost use Rattle.mc_records.specs.Requests.{asked_of};
 ghost use Rattle.millicent_http.specs.HeadRefusals.{as_refusal};
-ghost use Rattle.millicent_http.specs.declared.clock.Clock.TheVariants.{OfLinks};
-ghost use Rattle.millicent_http.specs.Courses.{AreRead, with_readings};
 ghost use Rattle.wallet_core.specs.Wallet.{WalletStands};
 ghost use Rattle.link_turns.specs.declared.turn.Turn.TheVariants.{GoOn};
 ghost use Rattle.link_turns.specs.Sending.{KeptCounts, PartCauses};
@@ -21,14 +19,13 @@ use crate::allowance::Allowance;
 use crate::paying::pay;
 use crate::told::refuse;
 use link_turns::{Page, Turn};
-use mc_base::Moment;
 use mc_outside::{Link, Outside};
 use mc_records::{Refusal, Request};
 use millicent_http::{After, HeadOut, HeadReader, HeadRefusal};
 use reply_reader::ReplyReader;
 use scrip_form::Target;
 use scrip_journal::Halted;
-use wallet_core::Wallet;
+use wallet_core::{Wallet, raise_by_clock};
 
 /// Answers the next item of the standing link.
 pub(crate) fn take_turn<O: Outside, U: Link>(
@@ -119,22 +116,4 @@ fn answer_refused<O: Outside>(
 {
     let _reading = raise_by_clock(&mut wallet);
     refuse(wallet, &Refusal::from(head), after, page)
-}
-
-/// Raises the time of a wallet to the reading of the clock, which is read once, and answers the reading. It takes no
-/// memory.
-fn raise_by_clock<O: Outside>(wallet: &mut Wallet<O>) -> Moment
-    ensures moved { O.link_moved wallet.old.journal.disk wallet.new.journal.disk }
-    ensures stands { (h : History) → WalletStands O.disk wallet.old h
-        → WalletStands O.disk wallet.new h }
-    ensures time { wallet.new.book.time ≡ max wallet.old.book.time result }
-    ensures limits { wallet.new.book.limits ≡ wallet.old.book.limits }
-    ensures rest { O.link wallet.new.journal.disk
-        ≡ with_readings (O.link wallet.new.journal.disk).readings (O.link wallet.old.journal.disk) }
-    ensures read { AreRead OfLinks (result ∷ [])
-        (O.link wallet.old.journal.disk).readings (O.link wallet.new.journal.disk).readings }
-{
-    let reading = wallet.now();
-    let _time = wallet.raise(reading);
-    reading
 }

@@ -144,9 +144,6 @@ line_read_back x p cert text secret =
 
 -- ---- the Done entry
 
-abbrev held_some : Held → Option Held
-held_some x = Some x
-
 came_drawn : (now : History) (n : ℕ) (x : Held) (got : Option Held) → if_new (texts_came (take n now)) (Some x) ≡ got → HasDrawn now n (Some x) got
 came_drawn now n x got is = go (is_new (texts_came (take n now)) x.text) refl is
   where

@@ -30,9 +30,6 @@ use Rattle.world_model.proofs.PaidLaws.{paid_accept}
 
 -- ---- one Accept entry
 
-some_piece : Scrip → Option Scrip
-some_piece p = Some p
-
 pub accepts_once : (limits : Limits) (w : World) (events : List Event) (Made : Signing → Type 0) (v : World) (scrip target other : List ℕ) (price cost i k l m : ℕ) → IsSetup limits w → Tied limits w Made v → IsSound limits w events v
     → IsAccepted v scrip target price i k → IsAccepted v scrip other cost l m → (i ≡ l) × (k ≡ m)
 accepts_once limits w events Made v scrip target other price cost i k l m setup tied sound a b =

@@ -1,6 +1,4 @@
-use Rattle.std.proofs.Common.{◌≡◌, ℕ, List, [], Option, map, sym, ap, ◌∙◌, subst}
-use Rattle.ledger_model.specs.Stock.{Sale}
-use Rattle.audit_search.specs.declared.shops.Shops.{Shops}
+use Rattle.std.proofs.Common.{map, sym, ap, ◌∙◌, subst}
 use Rattle.audit_sums.specs.Rows.{sale_by}
 use Rattle.relayed_books.specs.Tree.{is_genuine}
 use Rattle.audit_cmd.specs.Marks.{MarksShow}

@@ -1,7 +1,5 @@
-use Rattle.std.proofs.Common.{◌≡◌, List, Option, true, Some, sym, ◌∙◌, subst}
+use Rattle.std.proofs.Common.{Option, sym, ◌∙◌, subst}
 use Rattle.std.specs.Prelude.{filter, not, MatchOption}
-use Rattle.mc_records.specs.declared.limits.Limits.{Limits}
-use Rattle.ledger_model.specs.Histories.{History}
 use Rattle.ledger_model.specs.Houses.{is_broker}
 use Rattle.audit_search.specs.declared.shops.Shops.{Shops}
 use Rattle.audit_search.specs.Standing.{StandFor}

@@ -1,7 +1,6 @@
-use Rattle.std.proofs.Common.{◌≡◌, List, Option, ◌+◌, take, sym, ap, ◌∙◌, subst}
+use Rattle.std.proofs.Common.{List, take, sym, subst}
 use Rattle.std.proofs.lemmas.List.{take_all}
 use Rattle.audit_sums.specs.declared.audit_sums.BookSums.{BookSums}
-use Rattle.audit_search.specs.declared.shops.Shops.{Shops}
 use Rattle.audit_search.proofs.Loops.{one_more}
 use Rattle.audit_cmd.specs.Desks.{IsDeskOf, AreDesksOf}
 use Rattle.audit_cmd.proofs.DeskLaws.{zip_more}

@@ -1,4 +1,4 @@
-use Rattle.std.proofs.Common.{◌≡◌, ℕ, ◌+◌, Bool, true, false, cond, eqb, List, ◌++◌, sum_by, drop, ap, sym, ◌∙◌}
+use Rattle.std.proofs.Common.{◌≡◌, ℕ, ◌+◌, true, false, cond, eqb, ◌++◌, sum_by, drop, ap, sym, ◌∙◌}
 use Rattle.audit_search.specs.Known.{has_id}
 use Rattle.audit_cmd.specs.Handed.{value_of, fresh, stale}
 use Rattle.audit_cmd.proofs.HandedLaws.{was_new, was_seen, fresh_next, fresh_same, stale_next, stale_same, seen_next}

@@ -1,4 +1,4 @@
-use Rattle.std.proofs.Common.{◌≡◌, ℕ, [], ◌++◌, List, ap, sym, ◌∙◌}
+use Rattle.std.proofs.Common.{ℕ, ◌++◌, List, ap, sym, ◌∙◌}
 use Rattle.audit_model.specs.declared.part.Part.{Part}
 use Rattle.audit_cmd.specs.Handed.{fresh}
 use Rattle.audit_cmd.proofs.HandedLaws.{fresh_append}

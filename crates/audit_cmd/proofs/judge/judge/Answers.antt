@@ -1,10 +1,9 @@
-use Rattle.std.proofs.Common.{◌≡◌, List, Some, None, sym, ap, ap₂, ◌∙◌, subst}
+use Rattle.std.proofs.Common.{◌≡◌, Some, sym, ap, ◌∙◌}
 use Rattle.name_places.specs.NamePlaces.{place_of}
 use Rattle.audit_model.specs.Strangers.{first_of}
-use Rattle.audit_sums.specs.Rows.{sale_by}
-use Rattle.relayed_books.specs.Tree.{Sold, sold_as, is_genuine, sold_stranger}
+use Rattle.relayed_books.specs.Tree.{is_genuine, sold_stranger}
 use Rattle.audit_cmd.specs.Marks.{MarksShow}
-use Rattle.audit_cmd.specs.Verdicts.{passes, verdict_on}
+use Rattle.audit_cmd.specs.Verdicts.{verdict_on}
 use Rattle.audit_cmd.proofs.JudgeLaws.{with_piece, has_piece, sold_nothing, is_sale, has_place, verdict_is, behind, behind_none}
 use Rattle.audit_cmd.proofs.judge.judge.Goals as goal
 

@@ -1,7 +1,7 @@
-use Rattle.std.proofs.Common.{◌≡◌, ◌≤◌, ℕ, ◌+◌, List, length, take, sym, ap, ◌∙◌, subst}
+use Rattle.std.proofs.Common.{◌≤◌, ℕ, List, take, sym, subst}
 use Rattle.std.proofs.lemmas.List.{take_all}
 use Rattle.ledger_model.specs.Histories.{History}
-use Rattle.relayed_books.specs.Tree.{Sold, sold_over}
+use Rattle.relayed_books.specs.Tree.{sold_over}
 use Rattle.audit_cmd.specs.Marks.{LicencesShow}
 use Rattle.audit_cmd.specs.Desks.{KnowSales}
 use Rattle.audit_cmd.proofs.DeskLaws.{book_at, holds_at, sold_more, learned_long}

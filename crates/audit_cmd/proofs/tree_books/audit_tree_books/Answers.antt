@@ -1,18 +1,6 @@
-use Rattle.std.proofs.Common.{◌≡◌, ℕ, List, true, false, true≢false, not, sym, ap, ◌∙◌, subst}
-use Rattle.std.specs.Prelude.{is_some, filter, map, MatchOption}
-use Rattle.std.specs.List.{list_any}
-use Rattle.name_places.specs.NamePlaces.{NamePlacesView, place_of}
-use Rattle.ledger_model.specs.Histories.{History}
-use Rattle.audit_sums.specs.declared.audit_sums.BookSums.{BookSums}
-use Rattle.audit_sums.specs.Learned.{name_of}
-use Rattle.audit_search.specs.Checks.{is_desk}
-use Rattle.audit_search.specs.Filed.{place_in}
-use Rattle.audit_search.specs.Findings.{vendors_among as vendors_of}
-use Rattle.audit_search.specs.Markets.{has_vendor, own_names}
-use Rattle.audit_search.specs.Audit.{AreLearned}
-use Rattle.audit_cmd.specs.Desks.{ArePlacesOf}
-use Rattle.audit_cmd.specs.Names.{own_all}
-use Rattle.audit_cmd.specs.Totals.{vendors_among}
+use Rattle.std.proofs.Common.{◌≡◌, true, false, true≢false, sym, ap, ◌∙◌}
+use Rattle.std.specs.Prelude.{is_some}
+use Rattle.audit_search.specs.Markets.{own_names}
 use Rattle.audit_cmd.proofs.AuditLaws.{places_by, shared_names, no_desk, vendors_own, missing, known, told, fault, names_book}
 use Rattle.audit_cmd.proofs.tree_books.audit_tree_books.Goals as goal
 

@@ -1,4 +1,4 @@
-use Rattle.std.proofs.Common.{List, sym, ap, subst, ◌∙◌, ◌<◌, ◌^◌, ℕ}
+use Rattle.std.proofs.Common.{List, sym, ap, ◌∙◌}
 use Rattle.ledger_model.specs.declared.upgraded.Upgraded.{Upgraded}
 use Rattle.ledger_model.specs.Houses.{version_by}
 use Rattle.broker_core.specs.Moves.{moves_of}

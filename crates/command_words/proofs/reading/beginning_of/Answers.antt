@@ -1,4 +1,4 @@
-use Rattle.std.proofs.Common.{List, [], ◌∷◌, ◌++◌, ap, ap₂, map, sym, ◌∙◌, ◌≡◌, arith}
+use Rattle.std.proofs.Common.{ap, ap₂, map, sym, ◌∙◌, arith}
 use Rattle.std.proofs.lemmas.List.{map-append, map_more}
 use Rattle.clap.specs.Walk.{rule_of}
 use Rattle.clap.specs.Simple.{with_rule}

@@ -1,4 +1,4 @@
-use Rattle.std.proofs.Common.{List, ap, ap₂, sym, ◌∙◌, ◌≡◌, arith}
+use Rattle.std.proofs.Common.{ap, ap₂, sym, ◌∙◌, arith}
 use Rattle.std.proofs.lemmas.List.{map_more}
 use Rattle.clap.specs.Simple.{with_rule}
 use Rattle.command_words.specs.Arguments.{command}

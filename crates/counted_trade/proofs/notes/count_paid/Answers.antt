@@ -1,4 +1,4 @@
-use Rattle.std.proofs.Common.{sym, ◌∙◌, arith}
+use Rattle.std.proofs.Common.{sym, arith}
 use Rattle.mc_records.specs.Views.{entry}
 use Rattle.counted_trade.proofs.NoteLaws.{counted_payment, not_counted_payment}
 use Rattle.counted_trade.proofs.notes.count_paid.Goals as goal

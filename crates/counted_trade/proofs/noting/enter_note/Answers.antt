@@ -1,9 +1,9 @@
-use Rattle.std.proofs.Common.{◌≡◌, ℕ, refl, sym, ap, ◌∙◌}
+use Rattle.std.proofs.Common.{◌≡◌, ℕ, refl, ap, ◌∙◌}
 use Rattle.mc_records.specs.Entry.{Entry, Note}
 use Rattle.mc_records.specs.Views.{entry}
 use Rattle.house_core.specs.Bench.{house_time, limits_of}
 use Rattle.house_core.specs.declared.outcome.Outcome.TheVariants.{Done, Refused, NoMemory, Halted}
-use Rattle.house_core.specs.Tasks.{Task, Add}
+use Rattle.house_core.specs.Tasks.{Add}
 use Rattle.house_core.proofs.TaskLemmas.{enters}
 use Rattle.counted_trade.specs.Counted.{counted_view}
 use Rattle.counted_trade.proofs.NoteLemmas.{note_follows, note_passes}

@@ -2,7 +2,7 @@ use Rattle.std.proofs.Common.{refl}
 use Rattle.command_table.specs.declared.table.CommandName.TheVariants as names
 use Rattle.command_table.specs.Table.{form_of}
 use Rattle.site_words.specs.Words.{broker_founder_values, inquiry_values, licence_upgrading_values, licensing_values, listing_values, minting_values, opening_values, movement_values, playing_values, pricing_values, server_values, settling_values, shop_values, stating_values, stocking_values, switching_values, taking_values, upgrading_values, vendor_founder_values}
-use Rattle.wallet_words.specs.Words.{audit_books_values, buying_values, drawing_values, getting_values, relaying_values, renewing_values, reporting_values, retrying_values, book_alone_values, wallet_founder_values}
+use Rattle.wallet_words.specs.Words.{buying_values, drawing_values, getting_values, relaying_values, renewing_values, retrying_values, book_alone_values, wallet_founder_values}
 use Rattle.mc_words.specs.Commands.{command_with}
 use Rattle.mc_words.proofs.command.command_from.Goals as goal
 

@@ -1,4 +1,4 @@
-use Rattle.std.proofs.Common.{◌≡◌, ◌∙◌, ℕ, List, Option, Some, refl, sym, ap, arith, slice_get}
+use Rattle.std.proofs.Common.{◌∙◌, ℕ, List, Option, Some, refl, sym, ap, arith}
 use Rattle.std.specs.Prelude.{option_map, slice_set}
 use Rattle.std.specs.Global.{Vec}
 use Rattle.mc_world.specs.Games.{world_of}

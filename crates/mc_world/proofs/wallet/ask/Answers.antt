@@ -1,4 +1,4 @@
-use Rattle.std.proofs.Common.{refl, sym, ap, ◌∙◌, ℕ}
+use Rattle.std.proofs.Common.{sym, ap, ◌∙◌, ℕ}
 use Rattle.mc_records.specs.Views.{entry}
 use Rattle.wallet_core.specs.Asks.{asking_of}
 use Rattle.wallet_core.specs.Requests.{pending_view, pend_of}

@@ -1,5 +1,5 @@
 use Rattle.std.proofs.Common.{sym}
-use Rattle.mc_world.proofs.Wallets.{opened_first, opened_more, opened_all, founds}
+use Rattle.mc_world.proofs.Wallets.{opened_first, opened_more, founds}
 use Rattle.mc_world.proofs.wallet.open.Goals as goal
 
 pub new-book-requires-clause-wallet : goal.new-book-requires-clause-wallet

@@ -1,7 +1,6 @@
-use Rattle.std.proofs.Common.{sym, ap, subst, ◌∙◌, ℕ}
+use Rattle.std.proofs.Common.{sym, ◌∙◌}
 use Rattle.mc_records.specs.Views.{entry}
 use Rattle.reply_reader.specs.Seen.{received_of}
-use Rattle.wallet_core.specs.Requests.{pending_view}
 use Rattle.mc_world.proofs.Wallets.{raised_at, bad_reply, short_reply, not_kept, not_checked, no_room_to_settle, has_settled, is_none}
 use Rattle.mc_world.proofs.wallet.take_reply.Goals as goal
 

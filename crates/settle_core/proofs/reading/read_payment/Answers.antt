@@ -1,4 +1,4 @@
-use Rattle.std.proofs.Common.{ℕ, List, Some, refl, sym, ap, ◌∙◌}
+use Rattle.std.proofs.Common.{ℕ, List, Some, refl, ap, ◌∙◌}
 use Rattle.settle_core.specs.Claims.{of_vendor}
 use Rattle.settle_core.proofs.PaymentReads.{no_vendor, read_so}
 use Rattle.settle_core.proofs.reading.read_payment.Goals as goal

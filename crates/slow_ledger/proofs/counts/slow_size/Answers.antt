@@ -1,4 +1,4 @@
-use Rattle.std.proofs.Common.{◌≡◌, ℕ, ◌∙◌, ap, sym, take, arith}
+use Rattle.std.proofs.Common.{◌≡◌, ◌∙◌, ap, sym, take, arith}
 use Rattle.mc_records.specs.Sizes.{tail_bytes, tail_size, size}
 use Rattle.mc_records.proofs.SizeLaws.{tail_size-by}
 use Rattle.slow_ledger.proofs.CountLaws.{size_more, switched_more}

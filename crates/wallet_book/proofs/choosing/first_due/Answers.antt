@@ -1,4 +1,4 @@
-use Rattle.std.proofs.Common.{◌≡◌, ℕ, ◌+◌, ◌<◌, List, length, Option, Some, take, ap, ap₂, sym, subst, ◌∙◌, arith, nat_le}
+use Rattle.std.proofs.Common.{◌≡◌, ℕ, ◌+◌, ◌<◌, List, length, Option, Some, take, ap₂, sym, subst, ◌∙◌, arith, nat_le}
 use Rattle.std.specs.Prelude.{slice_get}
 use Rattle.wallet_book.specs.declared.holding.Holding.{Holding}
 use Rattle.wallet_book.specs.Choosing.{fit_among, HasFirst, least_with}

@@ -1,5 +1,6 @@
-use Rattle.std.proofs.Common.{ℕ, ◌<◌, ◌^◌, ◌∙◌, sym, ap, subst, arith}
+use Rattle.std.proofs.Common.{ℕ, ◌<◌, ◌^◌, ◌∙◌, sym, ap₂, subst, arith}
 use Rattle.mc_records.specs.Entry.{IsMoment}
+use Rattle.millicent_http.specs.Received.{Received}
 use Rattle.reply_reader.specs.Seen.{received_of}
 use Rattle.wallet_book.specs.Holdings.{texts_of}
 use Rattle.wallet_core.specs.Requests.{pending_view, CanEnter}
@@ -10,7 +11,7 @@ use Rattle.wallet_core.proofs.settling.settlement_record.Goals as goal
 pub returns-clause-told : goal.returns-clause-told
 returns-clause-told c =
     let b = c.args.book.now in
-    c.settled_entry.ensures ∙ ap (λ (t : ℕ). settlement_with (texts_of b.holdings) t c.args.number (pending_view c.args.p.now) (received_of c.args.r.now)) c.time-moment.ensures
+    c.settled_entry.ensures ∙ ap₂ (λ (t : ℕ) (r : Received). settlement_with (texts_of b.holdings) t c.args.number (pending_view c.args.p.now) r) c.time-moment.ensures c.of.ensures.reply
 
 pub returns-clause-exact : goal.returns-clause-exact
 returns-clause-exact c = λ h is.

@@ -1,10 +1,10 @@
-use Rattle.std.proofs.Common.{◌≡◌, ◌+◌, ◌∙◌, ℕ, refl, arith, ap, subst, inl, inr, Ok, Err}
+use Rattle.std.proofs.Common.{◌≡◌, ◌+◌, ◌∙◌, refl, arith, ap, subst, inl, inr, Ok, Err}
 use Rattle.mc_outside.specs.LinkView.{LinkView}
 use Rattle.mc_records.specs.declared.limits.Limits.{Limits}
 use Rattle.wallet_book.specs.Book.{BookView}
 use Rattle.link_turns.proofs.CauseLemmas.{counts_none, counts_link, counts_then, rose_then}
 use Rattle.wallet_proxy.specs.Proxy.{Bounds}
-use Rattle.wallet_proxy.specs.Links.{ServesLink, bounds_of, now, state_at}
+use Rattle.wallet_proxy.specs.Links.{ServesLink, now, state_at}
 use Rattle.wallet_proxy.proofs.LinkLemmas.{linked_starts, linked_goes_on, linked_over, linked_broke, linked_halts, linked_all}
 use Rattle.wallet_proxy.proofs.links.proxy_links.Goals as goal
 

@@ -1,10 +1,9 @@
-use Rattle.std.proofs.Common.{◌≡◌, ◌∙◌, ◌+◌, ◌≤◌, inl, inr, ℕ, List, [], ◌∷◌, ◌++◌, length, refl, sym, ap, subst, arith, Option, Some, None, Result, Ok, Err}
+use Rattle.std.proofs.Common.{◌∙◌, ◌+◌, inl, inr, ℕ, List, [], ◌∷◌, ◌++◌, refl, sym, ap, subst, arith, Result}
 use Rattle.std.specs.Prelude.{IsTrue}
 use Rattle.mc_outside.specs.LinkView.{LinkView}
 use Rattle.mc_records.specs.declared.refusal.Refusal.{Refusal}
 use Rattle.mc_records.specs.declared.refusal.Refusal.TheVariants.{DiskFault, NoMemory}
 use Rattle.mc_records.specs.Entry.{Entry}
-use Rattle.ledger_model.specs.Histories.{History}
 use Rattle.wallet_model.specs.Requests.{Pending}
 use Rattle.wallet_model.specs.Asks.{Offered, paid_with}
 use Rattle.wallet_book.specs.Kept.{kept_in}

@@ -1,4 +1,4 @@
-use Rattle.std.proofs.Common.{◌≡◌, ◌∙◌, Bool, ◌+◌, ◌≤◌, inl, inr, ℕ, List, refl, sym, ap, subst, arith, Option, Some, None, Result, Ok, Err}
+use Rattle.std.proofs.Common.{◌≡◌, ◌∙◌, Bool, ◌≤◌, inl, inr, ℕ, List, refl, sym, subst, arith, Some, None, Ok}
 use Rattle.std.specs.Prelude.{IsTrue}
 use Rattle.mc_outside.specs.Bytes.{Rose}
 use Rattle.mc_outside.specs.LinkView.{LinkView}
@@ -134,3 +134,21 @@ returns-in-Done-clause-standing g c go =
 pub returns-in-Halted-clause-causes : goal.returns-in-Halted-clause-causes
 returns-in-Halted-clause-causes g c =
     subst (λ (n : ℕ). Rose (g.O.Disk.disk c.args.wallet.journal.disk).faults n) (sym (g.met.O.Outside.link_keeps _ _ c.tell_disk_fault-told.ensures.moved).faults) c.in-Halted.ensures.back.counts
+
+pub tell_settled-requires-clause-stands : goal.tell_settled-requires-clause-stands
+tell_settled-requires-clause-stands g c = subst (λ (v : LinkView). IsTrue v.stands) (sym (g.met.O.Outside.disk_keeps _ _ c.in-Done.ensures.back.moved')) c.requires.stands
+
+pub tell_disk_fault-told-requires : goal.tell_disk_fault-told-requires
+tell_disk_fault-told-requires g c = record { link = subst (λ (v : LinkView). IsTrue v.stands) (sym (g.met.O.Outside.disk_keeps _ _ c.in-Halted.ensures.back.moved')) c.requires.stands }
+
+pub returns-in-Refused-clause-causes : goal.returns-in-Refused-clause-causes
+returns-in-Refused-clause-causes g c = record {
+  disk' = (g.met.O.Outside.link_keeps _ _ c.refuse-in-Refused.ensures.moved).faults ∙ c.in-Refused.ensures.back.counts;
+  link' = subst (λ (v : LinkView). v.faults ≤ (g.O.Link.link c.refuse-in-Refused.result.0.journal.disk).faults) (g.met.O.Outside.disk_keeps _ _ c.in-Refused.ensures.back.moved') (g.met.O.Link.link_goes _ _ c.refuse-in-Refused.ensures.moved).faults;
+}
+
+pub returns-in-NoMemory-clause-causes : goal.returns-in-NoMemory-clause-causes
+returns-in-NoMemory-clause-causes g c = record {
+  disk' = (g.met.O.Outside.link_keeps _ _ c.refuse-in-NoMemory.ensures.moved).faults ∙ c.in-NoMemory.ensures.back.counts;
+  link' = subst (λ (v : LinkView). v.faults ≤ (g.O.Link.link c.refuse-in-NoMemory.result.0.journal.disk).faults) (g.met.O.Outside.disk_keeps _ _ c.in-NoMemory.ensures.back.moved') (g.met.O.Link.link_goes _ _ c.refuse-in-NoMemory.ensures.moved).faults;
+}

@@ -7,7 +7,7 @@ use Rattle.wallet_core.specs.Rests.{wallet_keeps}
 use Rattle.link_turns.proofs.CauseLemmas.{counts_link, counts_then, causes_then}
 use Rattle.wallet_proxy.specs.Proxy.{Bounds}
 use Rattle.wallet_proxy.specs.Links.{AnswersRequest, RefusesHead, bounds_of, now, state_at}
-use Rattle.link_turns.proofs.TurnLemmas.{head_target, head_given, refused_given, given_if}
+use Rattle.link_turns.proofs.TurnLemmas.{head_target}
 use Rattle.wallet_proxy.proofs.ItemLemmas.{head_turns, refused_turns, end_turns, fault_turns}
 use Rattle.wallet_proxy.proofs.turn.take_turn.Goals as goal
 

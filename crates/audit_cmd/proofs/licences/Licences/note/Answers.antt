@@ -1,4 +1,4 @@
-use Rattle.std.proofs.Common.{◌≡◌, List, Some, None, sym, ap, ◌∙◌, subst}
+use Rattle.std.proofs.Common.{◌≡◌, Some, sym, ap, ◌∙◌, subst}
 use Rattle.name_places.specs.NamePlaces.{place_of}
 use Rattle.audit_cmd.specs.Marks.{IsSale, LicencesShow}
 use Rattle.audit_cmd.proofs.JudgeLaws.{with_piece, has_piece, is_sale, has_place, none_noted, licensed_one, behind}

@@ -1,5 +1,4 @@
-use Rattle.std.proofs.Common.{◌≡◌, map, Option, sym, ap, ◌∙◌, subst}
-use Rattle.audit_search.specs.declared.shops.Shops.{Shops}
+use Rattle.std.proofs.Common.{map, sym, ap, ◌∙◌, subst}
 use Rattle.audit_sums.specs.Rows.{sale_by}
 use Rattle.audit_cmd.specs.Marks.{LicencesShow}
 use Rattle.audit_cmd.specs.Desks.{StandsAt}

@@ -1,4 +1,4 @@
-use Rattle.std.proofs.Common.{◌≡◌, Some, None, sym, ap, ◌∙◌, arith}
+use Rattle.std.proofs.Common.{◌≡◌, Some, sym, ap, ◌∙◌, arith}
 use Rattle.name_places.specs.NamePlaces.{place_of}
 use Rattle.audit_search.specs.Filed.{place_in}
 use Rattle.audit_search.proofs.FiledLaws.{shop_names, place_within, found_there, place_lacks}

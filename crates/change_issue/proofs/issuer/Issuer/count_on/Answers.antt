@@ -2,7 +2,7 @@ use Rattle.std.proofs.Common.{sym, ap, ◌∙◌, arith}
 use Rattle.std.specs.Prelude.{is_some}
 use Rattle.std.specs.Option.{option_copied_mut}
 use Rattle.change_issue.specs.Registers.{Register, SeriesSheet, has_room, count_in, issued_in, redeemed_in}
-use Rattle.change_issue.proofs.RegisterLaws.{has_sheet, written, on_its_sheet, found_on, raised, kept, room_kept}
+use Rattle.change_issue.proofs.RegisterLaws.{has_sheet, written, found_on, raised, kept, room_kept}
 use Rattle.change_issue.proofs.issuer.Issuer.count_on.Goals as goal
 
 pub unwrap-sheet-requires : goal.unwrap-sheet-requires

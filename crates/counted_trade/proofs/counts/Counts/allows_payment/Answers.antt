@@ -1,5 +1,5 @@
-use Rattle.std.proofs.Common.{ℕ, refl, sym, subst, ◌∙◌}
-use Rattle.std.specs.Prelude.{◌↔◌, IsTrue, codes}
+use Rattle.std.proofs.Common.{ℕ, refl, sym, subst}
+use Rattle.std.specs.Prelude.{◌↔◌, IsTrue}
 use Rattle.mc_records.specs.Entry.{moment_of}
 use Rattle.mc_records.specs.Views.{entry}
 use Rattle.settle_core.specs.Claims.{payment_of}

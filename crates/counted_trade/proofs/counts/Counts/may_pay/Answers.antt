@@ -1,10 +1,8 @@
-use Rattle.std.proofs.Common.{◌≡◌, ℕ, ◌≤◌, ◌<◌, false, None, Some, List, refl, sym, ap, subst, ◌∙◌, arith}
+use Rattle.std.proofs.Common.{◌≤◌, ◌<◌, false, sym, ap, ◌∙◌, arith}
 use Rattle.std.specs.Prelude.{is_some}
 use Rattle.std.proofs.lemmas.Bool.{leb-true, le-leb}
-use Rattle.scrip_form.specs.Issuing.{Issuing, series_end}
-use Rattle.ledger_model.specs.Stock.{licence_in}
-use Rattle.settle_core.specs.Settlement.{paid_amount}
-use Rattle.counted_trade.proofs.OrderLaws.{says_no, no_licence_of, of_another, not_ended, paid_already, not_covered, pays}
+use Rattle.scrip_form.specs.Issuing.{series_end}
+use Rattle.counted_trade.proofs.OrderLaws.{says_no, no_licence_of, of_another, not_ended, paid_already, pays}
 use Rattle.counted_trade.proofs.counts.Counts.may_pay.Goals as goal
 
 pub returns-in_default : goal.returns-in_default

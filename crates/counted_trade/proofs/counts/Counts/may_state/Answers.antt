@@ -1,8 +1,7 @@
-use Rattle.std.proofs.Common.{◌≡◌, ℕ, ◌≤◌, ◌<◌, false, None, Some, List, refl, sym, ap, subst, ◌∙◌, arith}
+use Rattle.std.proofs.Common.{◌≡◌, ◌≤◌, ◌<◌, false, None, Some, List, sym, ap, ◌∙◌, arith}
 use Rattle.std.specs.Prelude.{is_some}
 use Rattle.scrip_form.specs.Issuing.{Issuing, series_end}
 use Rattle.ledger_model.specs.Houses.{terms_by, terms_in}
-use Rattle.settle_core.specs.Settlement.{stated_amount}
 use Rattle.counted_trade.proofs.OrderLaws.{says_no, unlicensed, open_series, stated_already, states}
 use Rattle.counted_trade.proofs.counts.Counts.may_state.Goals as goal
 

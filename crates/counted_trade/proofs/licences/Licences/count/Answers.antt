@@ -1,4 +1,4 @@
-use Rattle.std.proofs.Common.{◌≡◌, ℕ, length, Option, Some, cond, bytes_eq, sym, ap, subst, ◌∙◌, arith}
+use Rattle.std.proofs.Common.{◌≡◌, ℕ, length, Some, cond, bytes_eq, sym, ap, subst, ◌∙◌, arith}
 use Rattle.mc_records.specs.declared.record.Record.{Record}
 use Rattle.mc_records.specs.Views.{entry}
 use Rattle.name_places.specs.NamePlaces.{place_of}

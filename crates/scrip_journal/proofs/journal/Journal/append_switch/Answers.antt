@@ -1,12 +1,10 @@
-use Rattle.std.proofs.Common.{◌≡◌, ◌∙◌, ◌+◌, ◌<◌, ◌≤◌, ◌∷◌, ◌++◌, [], List, ℕ, refl, sym, ap, subst, arith}
+use Rattle.std.proofs.Common.{◌+◌, ◌∷◌, ◌++◌, [], List, ℕ, refl, sym, ap, subst, arith}
 use Rattle.mc_outside.specs.DiskView.{Ran}
 use Rattle.mc_records.specs.Chains as chains
 use Rattle.mc_records.specs.Entry.{Switch}
-use Rattle.mc_records.specs.Sizes.{framed_size, tail_bytes}
 use Rattle.scrip_journal.specs.States.{IsJournal}
-use Rattle.scrip_journal.specs.Exits.{size_with, EitherNoOutput}
-use Rattle.scrip_journal.specs.declared.switching.TheConstants.{SWITCH_PAYLOAD}
-use Rattle.scrip_journal.proofs.SwitchLaws.{switch_long, switch_adds, within_limit, chain_found, ran_unwritten, ran_read, ran_read_then}
+use Rattle.scrip_journal.specs.Exits.{EitherNoOutput}
+use Rattle.scrip_journal.proofs.SwitchLaws.{switch_adds, within_limit, chain_found, ran_unwritten, ran_read, ran_read_then}
 use Rattle.scrip_journal.proofs.Uncut.{uncut_same, uncut_then}
 use Rattle.scrip_journal.proofs.journal.Journal.append_switch.Goals as goal
 

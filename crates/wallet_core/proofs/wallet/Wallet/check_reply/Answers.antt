@@ -14,5 +14,5 @@ returns-then-not-has_its_piece-clause-exact g c = rw (← c.self.view_is) (λ h 
     let has : HasItsPiece c.in-Some.request.ask c.in-Some.request.scrip = subst (λ (q : Pending). HasItsPiece q.ask q.scrip) (sym same) (kept_has h c.args.number p st.book.lawful kept) in
     absurd (false≢true (c.if-not-has_its_piece.ensures.1 has)))
 
-pub returns-in-Some-check_reply-clause-refused : goal.returns-in-Some-check_reply-clause-refused
-returns-in-Some-check_reply-clause-refused g c = checks_so (pending_view c.in-Some.request) (received_of c.args.r.now) c.in-Some-check_reply.refusal (sym c.in-Some-check_reply.ensures)
+pub returns-in-Some-check_came-clause-refused : goal.returns-in-Some-check_came-clause-refused
+returns-in-Some-check_came-clause-refused g c = checks_so (pending_view c.in-Some.request) (received_of c.of-came.result.reply) c.in-Some-check_came.refusal (sym c.in-Some-check_came.ensures)

@@ -1,0 +1,61 @@
+//! What is told of words that are of no command.
+
+use command_table::usage_of;
+use mc_words::{WrongWord, wrong_word};
+use std::alloc::{AllocError, Global};
+
+/// Tells on standard error which word is wrong, where one is, by its place where it may be a secret, and which
+/// words the command has that these begin with, or which commands there are.
+pub fn tell_usage(rt: &impl Eprint, alloc: Global, words: &[String]) {
+    match wrong_word(alloc, words) {
+        Ok(Some(WrongWord::Word(word))) => {
+            let _ = eprintln!(rt; "millicent: {word}: wrong word");
+            tell_capitals(rt, alloc, words, word);
+        }
+        Ok(Some(WrongWord::Place(place))) => {
+            let _ = eprintln!(rt; "millicent: word {place}: wrong word");
+            if let Some(word) = words.get(place.saturating_sub(1)) {
+                tell_capitals(rt, alloc, words, word);
+            }
+        }
+        Ok(None) | Err(_) => {}
+    }
+    let line = usage_of(words);
+    let _ = eprintln!(rt; "{line}");
+}
+
+/// Tells where it is the capital letters for which the word is wrong.
+fn tell_capitals(rt: &impl Eprint, alloc: Global, words: &[String], word: &str) {
+    let Ok(small) = in_small_letters(alloc, words, word) else {
+        return;
+    };
+    let is_wrong_still = match wrong_word(alloc, &small) {
+        Ok(Some(WrongWord::Word(other))) => other.eq_ignore_ascii_case(word),
+        Ok(Some(WrongWord::Place(place))) => match small.get(place.saturating_sub(1)) {
+            Some(other) => other.eq_ignore_ascii_case(word),
+            None => true,
+        },
+        Ok(None) => false,
+        Err(_) => true,
+    };
+    if !is_wrong_still {
+        let _ = eprintln!(rt; "millicent: capital letters are wrong there, small ones are right");
+    }
+}
+
+/// The words, with small letters in those that are this one.
+fn in_small_letters(
+    alloc: Global,
+    words: &[String],
+    word: &str,
+) -> Result<Vec<String>, AllocError> {
+    let mut small = Vec::new(alloc);
+    for other in words {
+        let mut copy = other.clone()?;
+        if other.as_str() == word {
+            copy.make_ascii_lowercase();
+        }
+        small.push(copy)?;
+    }
+    Ok(small)
+}

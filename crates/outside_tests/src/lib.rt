@@ -1,0 +1,16 @@
+//! Tests of the program's edge over real files and connections: of `mc_door`, `mc_site` and `diagnostics`, by their public
+//! items alone. Nothing else stands here, so that those crates are proved without them.
+#![tactic(auto)]
+
+#[cfg(test)]
+mod book;
+#[cfg(test)]
+mod caller;
+#[cfg(test)]
+mod callers;
+#[cfg(test)]
+mod input_faults;
+#[cfg(test)]
+mod listener;
+#[cfg(test)]
+mod site;
