@@ -1,4 +1,4 @@
-ghost use Rattle.std.specs.Prelude.{◌≡◌, ◌<◌, IfSome};
+ghost use Rattle.std.specs.Prelude.{◌≡◌, ◌≤◌, ◌<◌, Some, None};
 ghost use Rattle.mc_fields.specs.Reading.{digit_of, byte_at, hex_at};
 ghost use Rattle.mc_fields.specs.Gives.{Gives};
 
@@ -25,28 +25,33 @@ fn read_byte(bytes: &[u8]) -> Result<(u8, &[u8]), Stuck>
     ensures { Gives (λ x. (x.0, x.1.now)) result (byte_at bytes.now) }
 {
     match bytes {
-        [high, low, rest @ ..] => match (hex_value(*high), hex_value(*low)) {
-            (Some(high), Some(low)) => Ok((high * 16 + low, rest)),
-            (Some(_), None) => Err(Stuck {
-                left: bytes.len() - 1,
-            }),
-            (None, _) => Err(Stuck { left: bytes.len() }),
-        },
-        [high] if hex_value(*high).is_none() => Err(Stuck { left: 1 }),
+        [first, second, rest @ ..] => {
+            let high = digit_value(*first);
+            let low = digit_value(*second);
+            if high < 16 && low < 16 {
+                return Ok((high * 16 + low, rest));
+            }
+            let before = if high < 16 { 1 } else { 0 };
+            Err(Stuck {
+                left: bytes.len() - before,
+            })
+        }
+        [first] if digit_value(*first) >= 16 => Err(Stuck { left: 1 }),
         _ => Err(Stuck { left: 0 }),
     }
 }
 
-/// The value of a hex digit in lower case.
+/// The value of a hex digit in lower case, and 16 or more of any other byte. It is a choice of values, not of ways to go:
+/// a processor can't foresee a digit.
 #[inline(always)]
 #[tactic(auto, unfolding(crate::specs::Reading::digit_of))]
-fn hex_value(byte: u8) -> Option<u8>
-    ensures value { result ≡ digit_of byte }
-    ensures digit { IfSome result (λ d. d < 16) }
+fn digit_value(byte: u8) -> u8
+    ensures digit { result < 16 → digit_of byte ≡ Some result }
+    ensures other { 16 ≤ result → digit_of byte ≡ None }
 {
     match byte {
-        b'0'..=b'9' => Some(byte - b'0'),
-        b'a'..=b'f' => Some(byte - 87),
-        _ => None,
+        b'0'..=b'9' => byte - b'0',
+        b'a'..=b'f' => byte - 87,
+        _ => 255,
     }
 }

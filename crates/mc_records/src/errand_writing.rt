@@ -2,6 +2,7 @@
 
 ghost use Rattle.std.specs.Prelude.{◌≡◌, ◌≤◌};
 ghost use Rattle.mc_base.specs.declared.amount.TheConstants.Amount.{MOST};
+ghost use Rattle.scrip_form.specs.Texts.{IsTarget};
 ghost use Rattle.mc_records.specs.Errands as errands;
 ghost use Rattle.mc_records.specs.Errands.{IsErrand, errand_text};
 
@@ -22,11 +23,7 @@ pub fn buy_target(vendor: &Name, amount: Amount) -> Target
     let at = put(&mut out, at, b"/");
     let at = put_number(&mut out, at, amount.get());
     errands_are_texts();
-    match Target::new(&out[..at]) {
-        Some(target) => target,
-        // What was written is a target.
-        None => unreachable!(),
-    }
+    target_of(&out[..at])
 }
 
 /// `/draw/A/K/N`, the target of a request to draw scrip out of an account, of 1 unit at least, under an order of 1 to 2^40.
@@ -44,9 +41,16 @@ pub fn draw_target(account: &Name, order: u64, amount: Amount) -> Target
     let at = put(&mut out, at, b"/");
     let at = put_number(&mut out, at, amount.get());
     errands_are_texts();
-    match Target::new(&out[..at]) {
+    target_of(&out[..at])
+}
+
+/// The target that this text is.
+fn target_of(text: &[u8]) -> Target
+    requires { IsTarget text.now }
+    ensures { result ≡ text.now }
+{
+    match Target::new(text) {
         Some(target) => target,
-        // What was written is a target.
         None => unreachable!(),
     }
 }

@@ -10,14 +10,12 @@ joined a k n =
     ∙ append_assoc (a ++ codes "/") k (codes "/" ++ n)
     ∙ append_assoc a (codes "/") (k ++ (codes "/" ++ n))
 
-pub unreachable-requires : goal.unreachable-requires
-unreachable-requires c =
+pub target_of-requires : goal.target_of-requires
+target_of-requires c =
     let account : List ℕ = c.args.account.now in
     let order : ℕ = c.args.order in
     let errand : IsErrand (draw account order c.args.amount) =
     (c.bytes.ensures.name, record { some = c.requires.order.0; within = c.requires.order.1 }, record { some = c.requires.amount; within = c.get.ensures.most }) in
     let text : take c.put_number-at-2.result c.put_number-at-2.new.out ≡ errand_text (draw account order c.args.amount) =
     rw (c.put_number-at-2.ensures.put, c.put-at-4.ensures.put, c.put_number-at.ensures.put, c.put-at-3.ensures.put, c.put-at-2.ensures.put, c.put-at.ensures.put, c.bytes.ensures.value, c.get.ensures.units) (ap (λ (t : List ℕ). codes "/draw/" ++ t) (joined account (decimal order) (decimal c.args.amount))) in
-    let target : IsTarget (take c.put_number-at-2.result c.put_number-at-2.new.out) = subst IsTarget (sym text) (c.errands_are_texts.ensures.target (draw account order c.args.amount) errand) in
-    let some = c.in-None.ensures.valid.1 target in
-    absurd cc
+    subst IsTarget (sym text) (c.errands_are_texts.ensures.target (draw account order c.args.amount) errand)
