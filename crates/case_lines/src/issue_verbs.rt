@@ -199,7 +199,7 @@ fn put_entry(kept: &mut Kept, q: &Request<'_>, e: KeptEntry) -> Result<bool, Fau
     if kept.find(start, q).is_some() || kept.entry(e.number).is_some() {
         return Ok(false);
     }
-    kept.keep(q, e);
+    kept.keep(q, None, e);
     Ok(true)
 }
 

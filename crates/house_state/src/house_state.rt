@@ -561,7 +561,7 @@ impl HouseState {
             secret: a.secret,
             deed: a.deed,
         };
-        let number = self.kept.keep(q, entry);
+        let number = self.kept.keep(q, Some(a.scrip), entry);
         self.spent.mark(paid.id());
         self.count += 1;
         self.size = size;
@@ -596,7 +596,7 @@ impl HouseState {
             secret: d.key,
             deed,
         };
-        let number = self.kept.keep(q, entry);
+        let number = self.kept.keep(q, None, entry);
         self.count += 1;
         self.size = size;
         number

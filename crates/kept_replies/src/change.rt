@@ -10,7 +10,9 @@ ghost use Rattle.kept_replies.specs.Parts.{StaysIn, IsScripThere, like_read, lik
 use crate::digits::{number_of, put_number};
 use crate::sold::{LONGEST, put_piece};
 use mc_base::Amount;
-use scrip_form::{Id, Piece, read_scrip};
+use scrip_form::{
+    Id, Piece, ScripRef, read_scrip, scrip_of_tells_the_text, scrip_text_is_of_one_piece,
+};
 
 /// Where the parts of change end, each of which begins where the one before it ends: numbers where the change
 /// is as the piece of the request but for them, and else the text of the whole piece, with a certificate of zeros.
@@ -22,12 +24,13 @@ pub(crate) enum ChangeParts {
 }
 
 impl ChangeParts {
-    /// Puts what is needed of change that may be there, beside the scrip text of the request, behind what the
-    /// buffer holds.
+    /// Puts what is needed of change that may be there, beside the scrip text of the request and what was read of
+    /// it, behind what the buffer holds.
     pub(crate) fn put(
         buffer: &mut Vec<u8>,
         change: &Option<Piece>,
         scrip: Option<&[u8]>,
+        paid: Option<&ScripRef<'_>>,
     ) -> ChangeParts
         requires front { vec_len buffer.old ≤ 32 }
         requires room { vec_len buffer.old + LONGEST ≤ vec_capacity buffer.old }
@@ -42,7 +45,7 @@ impl ChangeParts {
         match change {
             None => ChangeParts::None,
             Some(piece) => {
-                if is_like_text(piece, scrip) {
+                if is_like_paid(piece, scrip, paid) {
                     put_like(buffer, piece)
                 } else {
                     ChangeParts::Other {
@@ -109,17 +112,17 @@ fn put_like(buffer: &mut Vec<u8>, piece: &Piece) -> ChangeParts
     }
 }
 
-/// Whether a piece is as that of the text but for its value, its identity and its expiry.
-fn is_like_text(piece: &Piece, scrip: Option<&[u8]>) -> bool
+/// Whether a piece is as that of the text but for its value, its identity and its expiry, where this is what was read of
+/// the text.
+fn is_like_paid(piece: &Piece, scrip: Option<&[u8]>, paid: Option<&ScripRef<'_>>) -> bool
     ensures like { IsTrue result → like_text (seen scrip.entry) piece.now.value piece.now.id piece.now.expires ≡ Some piece.now }
     ensures there { IsTrue result → IsScripThere (seen scrip.entry) }
 {
-    let Some(text) = scrip else {
-        return false;
-    };
-    match read_scrip(text) {
-        Ok(other) => is_like(piece, &other.piece()),
-        Err(_) => false,
+    scrip_of_tells_the_text();
+    scrip_text_is_of_one_piece();
+    match (scrip, paid) {
+        (Some(text), Some(paid)) => paid.text() == text && is_like(piece, &paid.piece()),
+        _ => false,
     }
 }
 

@@ -15,6 +15,7 @@ use crate::together::put_together;
 use crate::{KeptEntry, KeptNumber};
 use mc_base::{Moment, NoMemory};
 use mc_records::Request;
+use scrip_form::ScripRef;
 use std::alloc::Global;
 use std::collections::VecDeque;
 use std::marker::Model;
@@ -106,9 +107,10 @@ impl Kept {
     }
 
     /// Keeps an entry for repeats of this request, for which there is room with it, and answers its number;
-    /// neither the request nor the number is kept yet. It takes no memory, and there may be no room for
-    /// another request then.
-    pub fn keep(&mut self, q: &Request<'_>, e: KeptEntry) -> KeptNumber
+    /// neither the request nor the number is kept yet. With what was read of the request's scrip text, change
+    /// that is like its piece takes fewer bytes. It takes no memory, and there may be no room for another
+    /// request then.
+    pub fn keep(&mut self, q: &Request<'_>, paid: Option<&ScripRef<'_>>, e: KeptEntry) -> KeptNumber
         requires room { text_size (asked_of q.now) + entry_size e < self.old.room }
         requires new_request { IsFalse (has_request self.old.replies (asked_of q.now)) }
         requires new_number { IsFalse (has_number self.old.replies e.number) }
@@ -126,7 +128,10 @@ impl Kept {
         self.index.put(tag_of(q), number);
         let at = place_of(&self.replies, number);
         self.in_order = goes_last(self.in_order, &self.replies, at, e.moment);
-        match self.replies.insert(at, Reply::of(buffer, place, q, &e)) {
+        match self
+            .replies
+            .insert(at, Reply::of(buffer, place, q, paid, &e))
+        {
             Ok(()) => KeptNumber { number, at },
             Err(_) => unreachable!(),
         }

@@ -14,6 +14,7 @@ use crate::span::{put, put_if, text_at};
 use crate::{Deed, KeptEntry};
 use mc_base::Moment;
 use mc_records::Request;
+use scrip_form::ScripRef;
 
 /// The most bytes that an entry takes beside its texts: its moment, its price, its secret, its change as a text,
 /// and the number of its deed.
@@ -131,8 +132,14 @@ impl DeedParts {
 }
 
 impl EntryParts {
-    /// Puts what is kept of an entry, beside the scrip text of its request, into an empty buffer.
-    pub(crate) fn put(buffer: &mut Vec<u8>, e: &KeptEntry, scrip: Option<&[u8]>) -> EntryParts
+    /// Puts what is kept of an entry, beside the scrip text of its request and what was read of it, into an empty
+    /// buffer.
+    pub(crate) fn put(
+        buffer: &mut Vec<u8>,
+        e: &KeptEntry,
+        scrip: Option<&[u8]>,
+        paid: Option<&ScripRef<'_>>,
+    ) -> EntryParts
         requires empty { vec_len buffer.old ≡ 0 }
         requires room { MOST_BESIDE + entry_size e.now ≤ vec_capacity buffer.old }
         requires short { MOST_BESIDE + entry_size e.now < 2 ^ 16 }
@@ -145,7 +152,7 @@ impl EntryParts {
         let moment = put_number(buffer, e.moment.seconds());
         let price = put_number(buffer, e.price);
         put(buffer, &e.secret);
-        let change = ChangeParts::put(buffer, &e.change, scrip);
+        let change = ChangeParts::put(buffer, &e.change, scrip, paid);
         let deed = DeedParts::put(buffer, &e.deed);
         EntryParts {
             moment: moment as u8,

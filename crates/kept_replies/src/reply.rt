@@ -8,6 +8,7 @@ use crate::body::{Body, Parts};
 use crate::parts::{AskedParts, EntryParts, MOST_BESIDE};
 use mc_base::Moment;
 use mc_records::Request;
+use scrip_form::ScripRef;
 use std::alloc::AllocError;
 use std::marker::Model;
 use std::rc::Rc;
@@ -39,6 +40,7 @@ impl Reply {
         mut buffer: Vec<u8>,
         mut place: Box<Vec<u8>>,
         q: &Request<'_>,
+        paid: Option<&ScripRef<'_>>,
         e: &KeptEntry,
     ) -> Reply
         requires empty { buffer.items ≡ [] }
@@ -46,7 +48,7 @@ impl Reply {
         requires short { vec_capacity buffer < 2 ^ 16 }
         ensures { result ≡ record { asked = asked_of q.now; entry = e.now } }
     {
-        let entry = EntryParts::put(&mut buffer, e, q.scrip);
+        let entry = EntryParts::put(&mut buffer, e, q.scrip, paid);
         let asked = AskedParts::put(&mut buffer, q);
         buffer.shrink_to_fit();
         Box::replace(&mut place, buffer);
