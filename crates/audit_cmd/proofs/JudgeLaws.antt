@@ -12,8 +12,8 @@ use Rattle.ledger_model.specs.Stock.{Sale, sales, sold_piece}
 use Rattle.audit_model.specs.declared.part.Part.{Part}
 use Rattle.audit_model.specs.Parts.{part_of}
 use Rattle.audit_model.specs.Strangers.{first_of}
-use Rattle.audit_sums.specs.declared.rows.Sold.{Sold as Row}
-use Rattle.audit_sums.specs.Rows.{sale_by}
+use Rattle.audit_model.specs.declared.sold.Sold.{Sold as Row}
+use Rattle.audit_model.specs.Sales.{sale_by}
 use Rattle.audit_search.specs.declared.shops.Shops.{Shops}
 use Rattle.audit_search.specs.Audit.{has_book}
 use Rattle.audit_search.specs.Standing.{StandFor, piece_in, has_minted}

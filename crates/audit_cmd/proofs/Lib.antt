@@ -3,6 +3,7 @@ pub mod Zips
 pub mod Deciding
 pub mod KeptLaws
 pub mod Loops
+pub mod PlaceLaws
 pub mod WalletLaws
 pub mod LawfulLaws
 pub mod ChainLaws

@@ -9,7 +9,8 @@ use Rattle.scrip_journal.specs.Layout.{header}
 use Rattle.audit_cmd.specs.declared.fault.AuditFault.{AuditFault}
 use Rattle.audit_cmd.specs.declared.fault.AuditFault.TheVariants as faults
 use Rattle.audit_cmd.specs.Books.{AreTold, counts, decided_by, FirstOf, RoseAt, CountsBy}
-use Rattle.audit_cmd.specs.Places.{Causes, ReadsAt}
+use Rattle.audit_cmd.specs.OneBook.{Causes}
+use Rattle.audit_cmd.specs.Places.{ReadsAt}
 use Rattle.audit_cmd.specs.Loops.{ReadsAll, IsCalm, AreReadTo, HaveRead}
 use Rattle.audit_cmd.proofs.Zips.{zip_append, zip_more, zip_weaker, zip_long, zip_parted, zip_same, zip_none, zip_maps, map_append, length_map, Comes, comes_at, get_at, set_at, take_at, take_next, none_left}
 

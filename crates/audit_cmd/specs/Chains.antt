@@ -1,22 +1,20 @@
 -- What reading the chains of books answers, by their bytes.
-use Rattle.std.specs.Prelude.{◌≡◌, ◌⊎◌, ℕ, List, [], ◌∷◌, length, Result, Ok, Err}
+use Rattle.std.specs.Prelude.{◌≡◌, ◌⊎◌, ℕ, List, [], ◌∷◌, length, Result}
 use Rattle.std.specs.Global.{Vec}
 use Rattle.std.specs.List.{AllZip}
-use Rattle.mc_outside.specs.Bytes.{BeginsWith}
 use Rattle.mc_records.specs.Entry.{Entry}
 use Rattle.mc_records.specs.Chains.{chain}
 use Rattle.ledger_model.specs.Histories.{History}
 use Rattle.ledger_model.specs.Houses.{site_name}
-use Rattle.scrip_journal.specs.Layout.{header, Encodes}
+use Rattle.scrip_journal.specs.Layout.{Encodes}
 use Rattle.scrip_journal.specs.Causes.{BeginsWithEntries, SpoilsAt, UnchainsAt}
 use Rattle.scrip_journal.specs.declared.cursor.TheConstants.{FIRST_GATE}
 use Rattle.scrip_journal.specs.declared.fault.HouseFault.{HouseFault}
-use Rattle.scrip_journal.specs.declared.fault.HouseFault.TheVariants.{NotJournal, BadRecord, BadChain, Unlawful, WrongKind, NotEmpty, Disk, NoMemory}
 use Rattle.book_opening.specs.Opener.{OpenerView, IsSite}
 use Rattle.book_opening.specs.Opening.{AreOfSite}
 use Rattle.audit_cmd.specs.declared.chain_reading.ChainLine.{ChainLine}
 use Rattle.audit_cmd.specs.declared.fault.AuditFault.{AuditFault}
-use Rattle.audit_cmd.specs.Places.{Causes}
+use Rattle.audit_cmd.specs.OneBook.{Causes, ReadsBy}
 use Rattle.audit_cmd.specs.Loops.{ReadsAll}
 
 -- ---- which books are read
@@ -75,15 +73,7 @@ chain_causes = record { spoiled = SpoilsChain; unchained = BreaksChain; unlawful
 
 -- what is answered of one book by the bytes of the disk
 abbrev pub ReadsChain : {D : Type 0} → List ℕ → Result (D × ChainLine) (HouseFault D) → Type 0
-ReadsChain bytes (Ok x) = IsLineOf bytes x.1
-ReadsChain bytes (Err (NotJournal d)) = BeginsWith header bytes → ⊥
-ReadsChain bytes (Err (BadRecord d place)) = SpoilsChain bytes place
-ReadsChain bytes (Err (BadChain d place stood computed)) = BreaksChain bytes place stood computed
-ReadsChain bytes (Err (Unlawful d place)) = HasNoSite bytes place
-ReadsChain bytes (Err (WrongKind d)) = ⊥
-ReadsChain bytes (Err (NotEmpty d count)) = ⊥
-ReadsChain bytes (Err (Disk d)) = Unit {0}
-ReadsChain bytes (Err (NoMemory d)) = Unit {0}
+ReadsChain bytes found = ReadsBy chain_causes IsLineOf bytes found
 
 -- the lines are those of the books, in their order
 abbrev pub AreLinesOf : List (List ℕ) → Vec ChainLine → Type 0

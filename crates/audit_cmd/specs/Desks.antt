@@ -7,9 +7,9 @@ use Rattle.ledger_model.specs.Histories.{History}
 use Rattle.ledger_model.specs.Houses.{is_broker}
 use Rattle.ledger_model.specs.Stock.{sales}
 use Rattle.audit_model.specs.declared.part.Part.{Part}
-use Rattle.audit_sums.specs.declared.rows.Sold.{Sold as Row}
+use Rattle.audit_model.specs.declared.sold.Sold.{Sold as Row}
 use Rattle.audit_sums.specs.declared.audit_sums.BookSums.{BookSums}
-use Rattle.audit_sums.specs.Rows.{sale_by}
+use Rattle.audit_model.specs.Sales.{sale_by}
 use Rattle.audit_search.specs.declared.shops.Shops.{Shops}
 use Rattle.audit_search.specs.Checks.{is_desk}
 use Rattle.audit_search.specs.Audit.{IsLearned, AreLearned, has_book}

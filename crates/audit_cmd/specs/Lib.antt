@@ -1,4 +1,5 @@
 pub mod Notes
+pub mod OneBook
 pub mod Reading
 pub mod Books
 pub mod Places

@@ -11,9 +11,9 @@ use Rattle.audit_search.specs.Audit.{AreLearned}
 use Rattle.audit_cmd.specs.declared.fault.AuditFault.{AuditFault}
 use Rattle.audit_cmd.specs.declared.fault.AuditFault.TheVariants as faults
 use Rattle.audit_cmd.specs.declared.books.Kept.{Kept}
-use Rattle.audit_cmd.specs.Reading.{IsSpoiledFrom, IsUnchainedFrom, IsUnlawfulFrom}
+use Rattle.audit_cmd.specs.Reading.{audit_causes}
 use Rattle.audit_cmd.specs.Books.{AreTold, IsHousesHistory, IsLawfulBook, HaveWallet, FirstOf}
-use Rattle.audit_cmd.specs.Places.{Causes}
+use Rattle.audit_cmd.specs.OneBook.{Causes}
 
 -- ---- what is kept
 
@@ -39,10 +39,6 @@ ReadsAll causes IsRead keeps books (Err (faults.Unlawful book place)) = FirstOf 
 ReadsAll causes IsRead keeps books (Err (faults.Disk book)) = AllByRecursion IsRead books
 ReadsAll causes IsRead keeps books (Err faults.NoMemory) = Unit {0}
 ReadsAll causes IsRead keeps books (Err _) = ⊥
-
--- of books that are audited
-abbrev pub audit_causes : Causes
-audit_causes = record { spoiled = IsSpoiledFrom; unchained = IsUnchainedFrom; unlawful = IsUnlawfulFrom }
 
 abbrev pub KeptAll : List (List ℕ) → Kept → Type 0
 KeptAll books kept = KeptOf books kept.wallet kept.houses.items

@@ -1,7 +1,7 @@
 -- Which books stand together, by what was kept of them.
 use Rattle.std.specs.Prelude.{Bool, true, not, ◌&&◌, List, [], ◌∷◌, filter, flat_map, bytes_eq}
 use Rattle.std.specs.List.{list_any}
-use Rattle.audit_sums.specs.declared.rows.Sold.{Sold}
+use Rattle.audit_model.specs.declared.sold.Sold.{Sold}
 use Rattle.audit_sums.specs.declared.audit_sums.BookSums.{BookSums}
 use Rattle.audit_sums.specs.Learned.{name_of, sales_of}
 use Rattle.audit_search.specs.Checks.{is_desk}

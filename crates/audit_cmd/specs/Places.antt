@@ -5,16 +5,8 @@ use Rattle.mc_outside.specs.DiskView.{DiskView, OnlyRead}
 use Rattle.scrip_journal.specs.Layout.{header}
 use Rattle.audit_cmd.specs.declared.fault.AuditFault.{AuditFault}
 use Rattle.audit_cmd.specs.declared.fault.AuditFault.TheVariants as faults
+use Rattle.audit_cmd.specs.OneBook.{Causes}
 use Rattle.audit_cmd.specs.Books.{EndsReading}
-
--- why a book is not read, by its bytes and by what is told of them
-pub record Causes : Type 1 where
-  -- they can't stand from a place on
-  pub spoiled : List ℕ → ℕ → Type 0
-  -- the chain at a place stood so, and was computed otherwise
-  pub unchained : List ℕ → ℕ → List ℕ → List ℕ → Type 0
-  -- the entry behind the gate at a place may not stand there
-  pub unlawful : List ℕ → ℕ → Type 0
 
 -- what is found of the book at a place by its bytes, of which this is kept
 abbrev pub FindsBook : {X : Type 0} → Causes → (List ℕ → X → Type 0) → ℕ → List ℕ → Result X AuditFault → Type 0

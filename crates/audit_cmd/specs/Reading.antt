@@ -20,6 +20,7 @@ use Rattle.wallet_model.specs.Follows.{WalletFollows, IsWalletBook}
 use Rattle.audit_sums.specs.declared.audit_sums.BookSums.{BookSums}
 use Rattle.audit_sums.specs.Learned.{SumsRepresent}
 use Rattle.audit_search.specs.Audit.{IsLearned}
+use Rattle.audit_cmd.specs.OneBook.{Causes, ReadsBy}
 use Rattle.audit_cmd.specs.declared.reader.Reader.{Reader}
 use Rattle.audit_cmd.specs.declared.reading.BookReader.{BookReader}
 use Rattle.audit_cmd.specs.declared.reading.BookReader.TheVariants as readers
@@ -74,11 +75,11 @@ IsUnchainedFrom bytes place stood computed =
 abbrev pub IsUnlawfulFrom : List ℕ → ℕ → Type 0
 IsUnlawfulFrom bytes place = IsUnlawfulAt (MayFollow FULL) IsHouseKind bytes place ⊎ IsUnlawfulAt WalletFollows (Only 2) bytes place
 
--- ---- what is answered
+-- why a book is not audited
+abbrev pub audit_causes : Causes
+audit_causes = record { spoiled = IsSpoiledFrom; unchained = IsUnchainedFrom; unlawful = IsUnlawfulFrom }
 
-abbrev pub read_disk : {D A : Type 0} → Result (D × A) (HouseFault D) → D
-read_disk (Ok x) = x.0
-read_disk (Err f) = fault_disk f
+-- ---- what is answered
 
 -- the disk of a wallet's book that was read, or of one that was not
 abbrev pub wallets_disk : {D : Type 0} → Result D (HouseFault D) → D
@@ -127,12 +128,4 @@ IsKeptOf bytes None = (h : History) × IsWalletsHistory bytes h
 
 -- what is answered of a book of either kind
 abbrev pub ReadsBook : {D : Type 0} → List ℕ → Result (D × Option BookSums) (HouseFault D) → Type 0
-ReadsBook bytes (Ok x) = IsKeptOf bytes x.1
-ReadsBook bytes (Err (NotJournal d)) = BeginsWith header bytes → ⊥
-ReadsBook bytes (Err (BadRecord d place)) = IsSpoiledFrom bytes place
-ReadsBook bytes (Err (BadChain d place stood computed)) = IsUnchainedFrom bytes place stood computed
-ReadsBook bytes (Err (Unlawful d place)) = IsUnlawfulFrom bytes place
-ReadsBook bytes (Err (WrongKind d)) = ⊥
-ReadsBook bytes (Err (NotEmpty d count)) = ⊥
-ReadsBook bytes (Err (Disk d)) = Unit {0}
-ReadsBook bytes (Err (NoMemory d)) = Unit {0}
+ReadsBook bytes found = ReadsBy audit_causes IsKeptOf bytes found

@@ -4,7 +4,7 @@ use Rattle.ledger_model.specs.Histories.{History}
 use Rattle.ledger_model.specs.Stock.{Sale}
 use Rattle.audit_model.specs.declared.part.Part.{Part}
 use Rattle.audit_model.specs.Strangers.{first_of}
-use Rattle.audit_sums.specs.declared.rows.Sold.{Sold as Row}
+use Rattle.audit_model.specs.declared.sold.Sold.{Sold as Row}
 use Rattle.audit_search.specs.declared.shops.Shops.{Shops}
 use Rattle.audit_search.specs.Standing.{has_minted}
 use Rattle.relayed_books.specs.Tree.{Sold, sold_as, sold_stranger}

@@ -4,13 +4,13 @@ ghost use Rattle.std.specs.Prelude.{◌≡◌, ◌<◌, List, ℕ, Some, IfErr, 
 ghost use Rattle.std.specs.List.{AllZip, AllByRecursion};
 ghost use Rattle.mc_outside.specs.DiskView.{OnlyRead};
 ghost use Rattle.audit_cmd.specs.Books.{AreTold, counts, deciding, EndsReading, IsOfLawful, CountsBy};
-ghost use Rattle.audit_cmd.specs.Places.{FindsBook, CountsBook, ReadsAt};
+ghost use Rattle.audit_cmd.specs.Places.{ReadsAt};
 ghost use Rattle.audit_cmd.specs.Chains.{IsLineOf, HasLine, chain_causes, ChainsOf};
 
 use crate::chain_reading::{ChainLine, read_chain};
 use crate::fault::AuditFault;
+use crate::one_book::said_of;
 use mc_outside::Disk;
-use scrip_journal::{FIRST_GATE, HouseFault};
 use std::alloc::Global;
 
 /// Says of each of the books that the disks have whose it is, how many entries it has and their chain, in their order.
@@ -75,52 +75,10 @@ fn line_at<D: Disk>(
     ensures { ReadsAt D.disk D.disk_moved chain_causes IsLineOf place books.old.items books.new.items result }
 {
     let disk = books.remove(place);
-    let (disk, found) = line_of(alloc, disk, place);
+    let (disk, found) = said_of(read_chain(alloc, disk), place);
     match books.insert(place, disk) {
         Ok(()) => found,
         // There was room for it before.
         Err(_) => unreachable!(),
-    }
-}
-
-/// What is found of the book of a disk, which stands at this place of the list.
-fn line_of<D: Disk>(alloc: Global, disk: D, book: usize) -> (D, Result<ChainLine, AuditFault>)
-    ensures moved { D.disk_moved disk result.0 }
-    ensures read { OnlyRead (D.disk disk) (D.disk result.0) }
-    ensures exact { (bytes : List ℕ) → (D.disk disk).contents ≡ Some bytes
-        → FindsBook chain_causes IsLineOf book bytes result.1 }
-    ensures fault { CountsBook book result.1 (D.disk disk).faults (D.disk result.0).faults }
-    ensures place { IfErr result.1 (EndsReading (λ told. told ≡ book)) }
-{
-    match read_chain(alloc, disk) {
-        Ok((disk, line)) => (disk, Ok(line)),
-        Err(HouseFault::NotJournal(disk)) => (disk, Err(AuditFault::NotJournal { book })),
-        Err(HouseFault::BadRecord(disk, place)) => {
-            (disk, Err(AuditFault::BadRecord { book, place }))
-        }
-        Err(HouseFault::BadChain(disk, place, stood, computed)) => (
-            disk,
-            Err(AuditFault::BadChain {
-                book,
-                place,
-                stood,
-                computed,
-            }),
-        ),
-        Err(HouseFault::Unlawful(disk, place)) => {
-            (disk, Err(AuditFault::Unlawful { book, place }))
-        }
-        // The books of all sites are read. Only a disk that does not tell its bytes may say otherwise.
-        Err(HouseFault::WrongKind(disk)) => (
-            disk,
-            Err(AuditFault::Unlawful {
-                book,
-                place: FIRST_GATE,
-            }),
-        ),
-        // A book that is read is not told to have bytes.
-        Err(HouseFault::NotEmpty(..)) => unreachable!(),
-        Err(HouseFault::Disk(disk)) => (disk, Err(AuditFault::Disk { book })),
-        Err(HouseFault::NoMemory(disk)) => (disk, Err(AuditFault::NoMemory)),
     }
 }

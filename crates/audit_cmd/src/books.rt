@@ -4,16 +4,16 @@ ghost use Rattle.std.specs.Prelude.{◌≡◌, ◌<◌, ◌≤◌, ◌+◌, ◌+
 ghost use Rattle.std.specs.List.{AllZip};
 ghost use Rattle.mc_outside.specs.DiskView.{OnlyRead};
 ghost use Rattle.audit_cmd.specs.Books.{AreTold, counts, deciding, EndsReading, CountsBy};
-ghost use Rattle.audit_cmd.specs.Places.{FindsBook, CountsBook, ReadsAt};
-ghost use Rattle.audit_cmd.specs.Reading.{IsKeptOf};
-ghost use Rattle.audit_cmd.specs.Loops.{KeptOf, AuditsAll, audit_causes};
+ghost use Rattle.audit_cmd.specs.Places.{ReadsAt};
+ghost use Rattle.audit_cmd.specs.Reading.{audit_causes, IsKeptOf};
+ghost use Rattle.audit_cmd.specs.Loops.{KeptOf, AuditsAll};
 
 use crate::fault::AuditFault;
+use crate::one_book::said_of;
 use crate::reading::read_book;
 use audit_sums::BookSums;
 use mc_base::NoMemory;
 use mc_outside::Disk;
-use scrip_journal::{FIRST_GATE, HouseFault};
 use std::alloc::Global;
 
 /// What was kept of the books that were read.
@@ -78,57 +78,10 @@ fn read_at<D: Disk>(
     ensures { ReadsAt D.disk D.disk_moved audit_causes IsKeptOf place books.old.items books.new.items result }
 {
     let disk = books.remove(place);
-    let (disk, found) = find_at(alloc, disk, place);
+    let (disk, found) = said_of(read_book(alloc, disk), place);
     match books.insert(place, disk) {
         Ok(()) => found,
         // There was room for it before.
         Err(_) => unreachable!(),
-    }
-}
-
-/// What is found of the book of a disk, which stands at this place of the list.
-fn find_at<D: Disk>(
-    alloc: Global,
-    disk: D,
-    book: usize,
-) -> (D, Result<Option<BookSums>, AuditFault>)
-    ensures moved { D.disk_moved disk result.0 }
-    ensures read { OnlyRead (D.disk disk) (D.disk result.0) }
-    ensures exact { (bytes : List ℕ) → (D.disk disk).contents ≡ Some bytes
-        → FindsBook audit_causes IsKeptOf book bytes result.1 }
-    ensures fault { CountsBook book result.1 (D.disk disk).faults (D.disk result.0).faults }
-    ensures place { IfErr result.1 (EndsReading (λ told. told ≡ book)) }
-{
-    match read_book(alloc, disk) {
-        Ok((disk, kept)) => (disk, Ok(kept)),
-        Err(HouseFault::NotJournal(disk)) => (disk, Err(AuditFault::NotJournal { book })),
-        Err(HouseFault::BadRecord(disk, place)) => {
-            (disk, Err(AuditFault::BadRecord { book, place }))
-        }
-        Err(HouseFault::BadChain(disk, place, stood, computed)) => (
-            disk,
-            Err(AuditFault::BadChain {
-                book,
-                place,
-                stood,
-                computed,
-            }),
-        ),
-        Err(HouseFault::Unlawful(disk, place)) => {
-            (disk, Err(AuditFault::Unlawful { book, place }))
-        }
-        // A site is a vendor, a broker or a wallet. A disk that does not tell its bytes may have shown a wallet's book
-        // first, and then a house's.
-        Err(HouseFault::WrongKind(disk)) => (
-            disk,
-            Err(AuditFault::Unlawful {
-                book,
-                place: FIRST_GATE,
-            }),
-        ),
-        // A book that is read is not told to have bytes.
-        Err(HouseFault::NotEmpty(..)) => unreachable!(),
-        Err(HouseFault::Disk(disk)) => (disk, Err(AuditFault::Disk { book })),
-        Err(HouseFault::NoMemory(disk)) => (disk, Err(AuditFault::NoMemory)),
     }
 }

@@ -3,7 +3,7 @@
 ghost use Rattle.std.specs.Prelude.{◌≡◌, List, ℕ, Some};
 ghost use Rattle.mc_outside.specs.DiskView.{OnlyRead};
 ghost use Rattle.book_opening.specs.Opening.{CountedBy};
-ghost use Rattle.audit_cmd.specs.Reading.{read_disk};
+ghost use Rattle.audit_cmd.specs.OneBook.{read_disk};
 ghost use Rattle.audit_cmd.specs.Chains.{ReadsChain};
 
 use book_opening::{Opener, open_book};

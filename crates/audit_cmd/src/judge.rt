@@ -4,7 +4,7 @@ ghost use Rattle.std.specs.Prelude.{◌≡◌, ◌++◌, List, true, map, option
 ghost use Rattle.ledger_model.specs.Histories.{History};
 ghost use Rattle.ledger_model.specs.Houses.{site_name};
 ghost use Rattle.ledger_model.specs.Stock.{sales as sales_in};
-ghost use Rattle.audit_sums.specs.Rows.{sale_by};
+ghost use Rattle.audit_model.specs.Sales.{sale_by};
 ghost use Rattle.audit_model.specs.Strangers.{first_of};
 ghost use Rattle.audit_search.specs.Audit.{has_book};
 ghost use Rattle.audit_search.specs.Standing.{StandFor};
@@ -15,9 +15,8 @@ ghost use Rattle.audit_cmd.specs.Verdicts.{passes, verdict_on, verdicts};
 
 use crate::licences::Licences;
 use crate::marks::Marks;
-use audit_model::Part;
+use audit_model::{Part, Sold};
 use audit_search::Shops;
-use audit_sums::Sold;
 use mc_base::NoMemory;
 use name_places::NamePlaces;
 use scrip_form::{Id, Name};

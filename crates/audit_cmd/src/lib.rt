@@ -13,6 +13,7 @@ mod judge;
 mod licences;
 mod marks;
 mod names;
+mod one_book;
 mod reader;
 mod reading;
 mod report;

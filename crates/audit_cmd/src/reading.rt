@@ -3,7 +3,8 @@
 ghost use Rattle.std.specs.Prelude.{◌≡◌, List, ℕ, Some};
 ghost use Rattle.mc_outside.specs.DiskView.{OnlyRead};
 ghost use Rattle.book_opening.specs.Opening.{CountedBy};
-ghost use Rattle.audit_cmd.specs.Reading.{kept_by, read_disk, wallets_disk, ReadsHouse, ReadsWallet, ReadsBook};
+ghost use Rattle.audit_cmd.specs.OneBook.{read_disk};
+ghost use Rattle.audit_cmd.specs.Reading.{kept_by, wallets_disk, ReadsHouse, ReadsWallet, ReadsBook};
 
 use crate::reader::Reader;
 use audit_sums::BookSums;
@@ -42,6 +43,7 @@ impl BookReader {
 pub(crate) struct Auditor;
 
 impl Opener for Auditor {
+    ghost use Rattle.audit_cmd.specs.OneBook.{read_disk};
     ghost use Rattle.audit_cmd.specs.Reading.{auditor};
     ghost use Rattle.audit_cmd.specs.Notes.{site_first, tells_chain};
 

@@ -24,7 +24,7 @@ use Rattle.audit_model.specs.Books.{IsBook, HaveOwnNames, AreBooks, IsHandedOut,
 use Rattle.audit_model.proofs.Grouping.{grouped, kept_all}
 use Rattle.audit_model.proofs.Meeting.{StandOnce, split, distinct_once}
 use Rattle.audit_model.proofs.VendorBalance.{vendor_balances, sales_apart}
-use Rattle.audit_model.proofs.Sold.{sale_value, picked_values, licensed_high}
+use Rattle.audit_model.proofs.SoldLaws.{sale_value, picked_values, licensed_high}
 
 -- ---- the broker
 

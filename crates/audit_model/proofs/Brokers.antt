@@ -25,7 +25,7 @@ use Rattle.audit_model.specs.Brokers.{sold_by, licensed_by, once_from, once, aga
 use Rattle.audit_model.proofs.Meeting.{StandOnce}
 use Rattle.audit_model.proofs.OwnIssuer.{own_below}
 use Rattle.audit_model.proofs.VendorBalance.{vendor_balances, sales_apart, never, not_among}
-use Rattle.audit_model.proofs.Sold.{sale_value, IsIssued, picked_values, licensed_high}
+use Rattle.audit_model.proofs.SoldLaws.{sale_value, IsIssued, picked_values, licensed_high}
 use Rattle.audit_model.proofs.Balanced.{own_once, broker_balances, joined}
 
 abbrev has : List ℕ → ℕ → Bool

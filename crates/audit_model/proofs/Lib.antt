@@ -2,7 +2,7 @@ pub mod Grouping
 pub mod Meeting
 pub mod OwnIssuer
 pub mod VendorBalance
-pub mod Sold
+pub mod SoldLaws
 pub mod Balanced
 pub mod Strange
 pub mod Expiry

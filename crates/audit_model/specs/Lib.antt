@@ -4,3 +4,4 @@ pub mod Strangers
 pub mod Brokers
 pub mod Parts
 pub mod Sums
+pub mod Sales

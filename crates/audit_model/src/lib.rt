@@ -5,6 +5,7 @@
 
 mod laws;
 mod part;
+mod sold;
 mod sums;
 
 pub use laws::{
@@ -12,4 +13,5 @@ pub use laws::{
     lawful_books_balance, strangers_were_not_handed_out,
 };
 pub use part::Part;
+pub use sold::Sold;
 pub use sums::{Report, Sums, VendorSums};

@@ -22,9 +22,9 @@ use Rattle.audit_model.specs.Sums.{vendor_sums}
 use Rattle.audit_model.proofs.Strange.{sells_nothing}
 use Rattle.audit_model.proofs.Left.{same_vendor}
 use Rattle.audit_sums.specs.declared.rows.Acceptance.{Acceptance}
-use Rattle.audit_sums.specs.declared.rows.Sold.{Sold}
+use Rattle.audit_model.specs.declared.sold.Sold.{Sold}
 use Rattle.audit_sums.specs.declared.audit_sums.BookSums.{BookSums}
-use Rattle.audit_sums.specs.Rows.{sale_by}
+use Rattle.audit_model.specs.Sales.{sale_by}
 use Rattle.audit_sums.specs.Learned.{SumsRepresent, name_of, kind_of, time_of, accepted_of, stock_rows_of, sales_of}
 use Rattle.audit_search.specs.declared.shop.Shop.{Shop}
 use Rattle.audit_search.specs.Known.{has_part, was_accepted}

@@ -8,9 +8,9 @@ use Rattle.ledger_model.specs.Houses.{site_name, is_broker}
 use Rattle.ledger_model.specs.Stock.{Sale, sales}
 use Rattle.ledger_model.proofs.AccountLaws as names
 use Rattle.audit_model.specs.Books.{HaveOwnNames}
-use Rattle.audit_sums.specs.declared.rows.Sold.{Sold}
+use Rattle.audit_model.specs.declared.sold.Sold.{Sold}
 use Rattle.audit_sums.specs.declared.audit_sums.BookSums.{BookSums}
-use Rattle.audit_sums.specs.Rows.{sale_by}
+use Rattle.audit_model.specs.Sales.{sale_by}
 use Rattle.audit_sums.specs.Learned.{SumsRepresent}
 use Rattle.audit_search.specs.declared.shop.Shop.{Shop}
 use Rattle.audit_search.specs.Checks.{is_desk}

@@ -16,10 +16,11 @@ use Rattle.ledger_model.specs.Pieces.{piece_of, minted}
 use Rattle.ledger_model.specs.Stock.{licence_terms, is_licence_of, licence_in, stock_of, held_piece, held_pieces, stock_pieces, Sale, is_of_vendor, licensed_piece, sold_piece}
 use Rattle.audit_model.specs.declared.part.Part.{Part}
 use Rattle.audit_model.specs.Parts.{part_of}
-use Rattle.audit_sums.specs.declared.rows.Sold.{Sold}
+use Rattle.audit_model.specs.declared.sold.Sold.{Sold}
 use Rattle.audit_sums.specs.declared.rows.Stocked.{Stocked}
 use Rattle.audit_sums.specs.declared.audit_sums.BookSums.{BookSums}
-use Rattle.audit_sums.specs.Rows.{licence_of, stocked_of, stocked_held, sale_by}
+use Rattle.audit_sums.specs.Rows.{licence_of, stocked_of, stocked_held}
+use Rattle.audit_model.specs.Sales.{sale_by}
 use Rattle.audit_sums.specs.Learned.{SumsRepresent}
 use Rattle.audit_search.specs.Known.{knows, is_in_run}
 use Rattle.audit_search.specs.Shops.{licensed, is_stocked, stocked_row, licensed_part, in_stock, part_sold, parts_sold, IsShopOf}

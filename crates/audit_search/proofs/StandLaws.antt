@@ -10,10 +10,10 @@ use Rattle.ledger_model.specs.Stock.{Sale, sold, sold_piece}
 use Rattle.audit_model.specs.Books.{HaveOwnNames}
 use Rattle.audit_model.specs.Parts.{part_of}
 use Rattle.audit_model.specs.Strangers.{is_minted}
-use Rattle.audit_sums.specs.declared.rows.Sold.{Sold}
+use Rattle.audit_model.specs.declared.sold.Sold.{Sold}
 use Rattle.audit_sums.specs.declared.rows.Stocked.{Stocked}
 use Rattle.audit_sums.specs.declared.audit_sums.BookSums.{BookSums}
-use Rattle.audit_sums.specs.Rows.{sale_by}
+use Rattle.audit_model.specs.Sales.{sale_by}
 use Rattle.audit_sums.specs.Learned.{SumsRepresent, stock_rows_of, sales_of}
 use Rattle.audit_search.specs.declared.shop.Shop.{Shop}
 use Rattle.audit_search.specs.declared.shops.Shops.{Shops}

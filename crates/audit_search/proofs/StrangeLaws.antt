@@ -16,8 +16,9 @@ use Rattle.audit_model.specs.Strangers.{handed_of, is_minted, stranger, sold_str
 use Rattle.audit_model.specs.Parts.{part_of}
 use Rattle.audit_model.proofs.Balanced.{no_other}
 use Rattle.audit_model.proofs.Strange.{none_minted}
-use Rattle.audit_sums.specs.declared.rows.Sold.{Sold}
-use Rattle.audit_sums.specs.Rows.{acceptance_of, sale_by}
+use Rattle.audit_model.specs.declared.sold.Sold.{Sold}
+use Rattle.audit_sums.specs.Rows.{acceptance_of}
+use Rattle.audit_model.specs.Sales.{sale_by}
 use Rattle.audit_search.specs.declared.shop.Shop.{Shop}
 use Rattle.audit_search.specs.Known.{knows}
 use Rattle.audit_search.specs.Shops.{in_stock, part_sold}

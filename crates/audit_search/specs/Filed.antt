@@ -1,7 +1,7 @@
 -- Shops that are found by their names, with what was sold of each vendor.
 use Rattle.std.specs.Prelude.{◌≡◌, ℕ, ◌+◌, if◌then◌else◌, List, [], ◌∷◌, map, bytes_eq, Option, Some, None, option_map}
 use Rattle.name_places.specs.NamePlaces.{NamePlacesView, place_of}
-use Rattle.audit_sums.specs.declared.rows.Sold.{Sold}
+use Rattle.audit_model.specs.declared.sold.Sold.{Sold}
 use Rattle.audit_sums.specs.declared.rows.Stocked.{Stocked}
 use Rattle.audit_search.specs.declared.shop.Shop.{Shop}
 use Rattle.audit_search.specs.Shops.{stocked_row, in_stock, parts_sold}

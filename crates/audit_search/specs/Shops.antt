@@ -7,7 +7,7 @@ use Rattle.scrip_form.specs.Identities.{epoch_of}
 use Rattle.audit_model.specs.declared.part.Part.{Part}
 use Rattle.audit_sums.specs.declared.rows.Licence.{Licence}
 use Rattle.audit_sums.specs.declared.rows.Stocked.{Stocked}
-use Rattle.audit_sums.specs.declared.rows.Sold.{Sold}
+use Rattle.audit_model.specs.declared.sold.Sold.{Sold}
 use Rattle.audit_sums.specs.declared.audit_sums.BookSums.{BookSums}
 use Rattle.audit_sums.specs.Learned.{name_of, runs_of, licences_of}
 use Rattle.audit_search.specs.Known.{knows, is_in_run}

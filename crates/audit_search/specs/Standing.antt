@@ -6,8 +6,8 @@ use Rattle.ledger_model.specs.Stock.{sold, sold_piece}
 use Rattle.audit_model.specs.declared.part.Part.{Part}
 use Rattle.audit_model.specs.Parts.{part_of}
 use Rattle.audit_model.specs.Strangers.{is_minted}
-use Rattle.audit_sums.specs.declared.rows.Sold.{Sold}
-use Rattle.audit_sums.specs.Rows.{sale_by}
+use Rattle.audit_model.specs.declared.sold.Sold.{Sold}
+use Rattle.audit_model.specs.Sales.{sale_by}
 use Rattle.audit_search.specs.declared.shops.Shops.{Shops}
 use Rattle.audit_search.specs.Strange.{sold_at, piece_at, minted_at}
 use Rattle.audit_search.specs.Audit.{has_book}

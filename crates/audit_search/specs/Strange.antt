@@ -3,7 +3,7 @@ use Rattle.std.specs.Prelude.{ℕ, Bool, true, false, if◌then◌else◌, List,
 use Rattle.std.specs.Option.{option_or}
 use Rattle.audit_model.specs.declared.part.Part.{Part}
 use Rattle.audit_sums.specs.declared.rows.Acceptance.{Acceptance}
-use Rattle.audit_sums.specs.declared.rows.Sold.{Sold}
+use Rattle.audit_model.specs.declared.sold.Sold.{Sold}
 use Rattle.audit_search.specs.declared.shop.Shop.{Shop}
 use Rattle.audit_search.specs.Known.{knows}
 use Rattle.audit_search.specs.Shops.{part_sold}

@@ -2,7 +2,7 @@
 
 ghost use Rattle.std.specs.Prelude.{◌≡◌, ◌++◌, map, List, ℕ, filter, option_map, is_some, IfOk, MatchOption, if◌then◌else◌};
 ghost use Rattle.name_places.specs.NamePlaces.{place_of};
-ghost use Rattle.audit_sums.specs.declared.rows.Sold.{Sold as Row};
+ghost use Rattle.audit_model.specs.declared.sold.Sold.{Sold as Row};
 ghost use Rattle.audit_sums.specs.Learned.{name_of};
 ghost use Rattle.audit_search.specs.Checks.{is_desk};
 ghost use Rattle.audit_search.specs.Filed.{place_in};
@@ -10,7 +10,8 @@ ghost use Rattle.audit_search.specs.Findings.{vendors_among};
 ghost use Rattle.audit_search.specs.Markets.{only, has_vendor, own_names, IsLeast, HasAll, comes_before};
 
 use crate::check::is_desk;
-use audit_sums::{BookSums, Sold};
+use audit_model::Sold;
+use audit_sums::BookSums;
 use mc_base::NoMemory;
 use name_places::NamePlaces;
 use scrip_form::Name;

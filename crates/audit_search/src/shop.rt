@@ -7,8 +7,8 @@ ghost use Rattle.scrip_form.specs.Identities.{epoch_of};
 ghost use Rattle.audit_search.specs.Shops.{IsShopOf, in_stock, licensed, part_sold};
 
 use crate::known::Known;
-use audit_model::Part;
-use audit_sums::{BookSums, Licence, Sold};
+use audit_model::{Part, Sold};
+use audit_sums::{BookSums, Licence};
 use mc_base::NoMemory;
 use scrip_form::{Id, Name, Terms};
 use std::alloc::Global;

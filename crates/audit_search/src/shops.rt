@@ -12,7 +12,8 @@ ghost use Rattle.audit_search.specs.Findings.{vendors_among, AreShopsOf};
 
 use crate::check::is_desk;
 use crate::shop::Shop;
-use audit_sums::{BookSums, Sold, Stocked};
+use audit_model::Sold;
+use audit_sums::{BookSums, Stocked};
 use mc_base::NoMemory;
 use name_places::NamePlaces;
 use scrip_form::Name;

@@ -10,8 +10,8 @@ ghost use Rattle.audit_search.specs.Standing.{StandFor, sold_of, piece_in, has_m
 
 use crate::market::vendor_names;
 use crate::shops::Shops;
-use audit_model::Part;
-use audit_sums::{BookSums, Sold};
+use audit_model::{Part, Sold};
+use audit_sums::BookSums;
 use mc_base::NoMemory;
 use scrip_form::Name;
 use std::alloc::Global;

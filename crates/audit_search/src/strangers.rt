@@ -7,8 +7,8 @@ ghost use Rattle.audit_search.specs.Strange.{not_in, not_minted, next_sale, late
 
 use crate::known::Known;
 use crate::shops::Shops;
-use audit_model::Part;
-use audit_sums::{Acceptance, BookSums, Sold};
+use audit_model::{Part, Sold};
+use audit_sums::{Acceptance, BookSums};
 use scrip_form::Id;
 
 /// The identity of a piece, where there is one, that is not among those that are known.

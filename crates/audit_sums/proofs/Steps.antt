@@ -4,9 +4,6 @@ use Rattle.std.specs.List.{cons_option}
 use Rattle.std.proofs.lemmas.List.{map-append}
 use Rattle.std.proofs.lemmas.List.Elements.{filter_map-append}
 use Rattle.std.proofs.lemmas.List.Concat.{flat_map-append}
-use Rattle.mc_records.specs.declared.errand.Errand as errands
-use Rattle.mc_records.specs.Errands.{Errand, errand_of}
-use Rattle.mc_records.specs.ErrandViews.{errand}
 use Rattle.mc_records.specs.Entry.{House, Entry, Site, moment_of}
 use Rattle.scrip_form.specs.Issuing.{Issuing}
 use Rattle.ledger_model.specs.Histories.{History, time}
@@ -19,16 +16,9 @@ use Rattle.ledger_model.proofs.SerialLaws.{own_out_snoc}
 use Rattle.audit_model.specs.declared.part.Part.{Part}
 use Rattle.audit_model.specs.Parts.{part_of}
 use Rattle.audit_sums.specs.declared.till.Till.{Till}
-use Rattle.audit_sums.specs.declared.rows.Sold.{Sold}
-use Rattle.audit_sums.specs.Rows.{sale_by}
+use Rattle.audit_model.specs.declared.sold.Sold.{Sold}
+use Rattle.audit_model.specs.Sales.{sale_by}
 use Rattle.audit_sums.specs.Learned.{Counts, ShowsMoney}
-
--- the errand that was read of a target
-pub errand_is : {read e : errands.Errand} (target : List ℕ) → read ≡ e → Some (errand read) ≡ errand_of target → errand_of target ≡ Some (errand e)
-errand_is target same is = sym is ∙ ap (λ (x : errands.Errand). some (errand x)) same
-  where
-    some : Errand → Option Errand
-    some x = Some x
 
 -- what holds after an Ok, by what held after it
 pub after_ok : {A E P Q : Type 0} (r : Result A E) → (P → Q) → OnOk r P → OnOk r Q

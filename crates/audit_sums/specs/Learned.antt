@@ -10,14 +10,15 @@ use Rattle.audit_model.specs.Parts.{part_of}
 use Rattle.audit_model.specs.declared.part.Part.{Part}
 use Rattle.audit_sums.specs.declared.rows.Acceptance.{Acceptance}
 use Rattle.audit_sums.specs.declared.rows.Run.{Run}
-use Rattle.audit_sums.specs.declared.rows.Sold.{Sold}
+use Rattle.audit_model.specs.declared.sold.Sold.{Sold}
 use Rattle.audit_sums.specs.declared.rows.Licence.{Licence}
 use Rattle.audit_sums.specs.declared.rows.Stocked.{Stocked}
 use Rattle.audit_sums.specs.declared.till.Till.{Till}
 use Rattle.audit_sums.specs.declared.pieces.Pieces.{Pieces}
 use Rattle.audit_sums.specs.declared.market.Market.{Market}
 use Rattle.audit_sums.specs.declared.audit_sums.BookSums.{BookSums}
-use Rattle.audit_sums.specs.Rows.{acceptance_of, run_of, licence_of, stocked_of, sale_by}
+use Rattle.audit_sums.specs.Rows.{acceptance_of, run_of, licence_of, stocked_of}
+use Rattle.audit_model.specs.Sales.{sale_by}
 
 -- ---- money
 

@@ -2,11 +2,10 @@
 use Rattle.std.specs.Prelude.{ℕ, List, [], filter_map, Option, Some, None, option_map, is_some}
 use Rattle.mc_records.specs.Entry.{Held, Entry, Accept, Mint, Licence, Stock}
 use Rattle.ledger_model.specs.Pieces.{piece_of}
-use Rattle.ledger_model.specs.Stock.{Sale, sale_of}
+use Rattle.ledger_model.specs.Stock.{sale_of}
 use Rattle.audit_model.specs.Parts.{part_of}
 use Rattle.audit_sums.specs.declared.rows.Acceptance.{Acceptance}
 use Rattle.audit_sums.specs.declared.rows.Run.{Run}
-use Rattle.audit_sums.specs.declared.rows.Sold.{Sold}
 use Rattle.audit_sums.specs.declared.rows.Licence as rows
 use Rattle.audit_sums.specs.declared.rows.Stocked.{Stocked}
 
@@ -37,7 +36,3 @@ stocked_held vendor held = stocked_text vendor held.text
 abbrev pub stocked_of : Entry → List Stocked
 stocked_of (Stock m vendor pieces) = filter_map (stocked_held vendor) pieces
 stocked_of _ = []
-
--- a sale, as it is kept
-abbrev pub sale_by : Sold → Sale
-sale_by s = record { vendor = s.vendor; value = s.value; stock = s.stock; id = s.id }

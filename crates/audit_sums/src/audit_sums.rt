@@ -9,9 +9,9 @@ ghost use Rattle.audit_sums.specs.Learned.{SumsRepresent, name_of, kind_of, time
 
 use crate::market::Market;
 use crate::pieces::Pieces;
-use crate::rows::{Acceptance, Licence, Run, Sold, Stocked};
+use crate::rows::{Acceptance, Licence, Run, Stocked};
 use crate::till::Till;
-use audit_model::Part;
+use audit_model::{Part, Sold};
 use mc_base::{Moment, NoMemory};
 use mc_records::{PieceList, Record};
 use scrip_form::{Name, Terms};

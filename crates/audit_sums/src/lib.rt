@@ -10,5 +10,5 @@ mod rows;
 mod till;
 
 pub use audit_sums::BookSums;
-pub use rows::{Acceptance, Licence, Run, Sold, Stocked};
+pub use rows::{Acceptance, Licence, Run, Stocked};
 pub use till::Till;

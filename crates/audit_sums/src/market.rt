@@ -9,9 +9,8 @@ ghost use Rattle.audit_sums.specs.Rows.{licence_of, stocked_of, stocked_text, st
 ghost use Rattle.audit_sums.specs.Learned.{ShowsMarket};
 
 use crate::pieces::put;
-use crate::readings::sale;
-use crate::rows::{Licence, Sold, Stocked};
-use audit_model::Part;
+use crate::rows::{Licence, Stocked};
+use audit_model::{Part, Sold};
 use mc_base::NoMemory;
 use mc_records::{PieceList, Record};
 use scrip_form::Name;
@@ -45,7 +44,7 @@ impl Market {
         ensures { (h : History) → ShowsMarket self.old h
             → OnOk result (ShowsMarket self.new (h ++ entry r.now ∷ [])) }
     {
-        put(&mut self.sales, sale(r))?;
+        put(&mut self.sales, Sold::read(r))?;
         put(&mut self.licences, licence(r))?;
         put_stock(&mut self.stock, r)
     }

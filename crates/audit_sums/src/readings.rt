@@ -8,16 +8,15 @@ ghost use Rattle.mc_records.specs.Views.{entry};
 ghost use Rattle.ledger_model.specs.Histories.{History};
 ghost use Rattle.ledger_model.specs.Houses.{terms_in};
 ghost use Rattle.ledger_model.specs.Pieces.{handed_piece};
-ghost use Rattle.ledger_model.specs.Stock.{sale_of};
 ghost use Rattle.ledger_model.specs.Sums as model;
 ghost use Rattle.ledger_model.specs.Sums.{amount_in, amount_out, fee_of, price_paid};
 ghost use Rattle.audit_model.specs.Parts.{part_of};
-ghost use Rattle.audit_sums.specs.Rows.{acceptance_of, run_of, sale_by};
+ghost use Rattle.audit_sums.specs.Rows.{acceptance_of, run_of};
 
-use crate::rows::{Acceptance, Run, Sold};
-use audit_model::Part;
-use mc_records::{Errand, Record, RecordDeed, errands_are_texts, read_errand};
-use scrip_form::{Id, Name, Terms};
+use crate::rows::{Acceptance, Run};
+use audit_model::{Part, Sold};
+use mc_records::{Errand, Record, RecordDeed, read_errand};
+use scrip_form::{Id, Terms};
 
 // ---- money
 
@@ -102,32 +101,7 @@ pub(crate) fn acceptance(r: &Record<'_>) -> Option<Acceptance>
     };
     Some(Acceptance {
         piece: Part::read(scrip),
-        sale: sale(r).is_some(),
-    })
-}
-
-/// What an entry sells.
-pub(crate) fn sale(r: &Record<'_>) -> Option<Sold>
-    ensures { option_map sale_by result ≡ sale_of (entry r.now) }
-{
-    errands_are_texts();
-    let Record::Accept {
-        target,
-        deed: RecordDeed::Sale { stock, id },
-        ..
-    } = r
-    else {
-        return None;
-    };
-    let Some(Errand::Buy { vendor, amount }) = read_errand(target) else {
-        return None;
-    };
-    let vendor = Name::new(vendor).unwrap();
-    Some(Sold {
-        vendor,
-        value: amount,
-        stock: *stock,
-        id: *id,
+        sale: Sold::read(r).is_some(),
     })
 }
 

@@ -19,16 +19,6 @@ pub struct Run {
     pub value: u64,
 }
 
-/// What a broker sold: of which vendor, of what value in units, out of stock or under a licence, and under which
-/// identity.
-#[derive(Clone, Copy, Drop)]
-pub struct Sold {
-    pub vendor: Name,
-    pub value: u64,
-    pub stock: bool,
-    pub id: Id,
-}
-
 /// A vendor's licence.
 #[derive(Clone, Copy, Drop)]
 pub struct Licence {

@@ -14,8 +14,9 @@ use Rattle.ledger_model.specs.Histories.{History}
 use Rattle.ledger_model.specs.Stock.{Sale, sale_at, sale_of, sales}
 use Rattle.sum_table.specs.SumTable.{SumTableView, sum_of}
 use Rattle.settle_core.specs.Settlement.{is_of_series, is_sold_in, sold_under}
-use Rattle.counted_trade.specs.declared.sales.Licensed.{Licensed}
-use Rattle.counted_trade.specs.Sold.{unless_stock, licensed_sale, sale_view}
+use Rattle.audit_model.specs.declared.sold.Sold.{Sold}
+use Rattle.audit_model.specs.Sales.{sale_by}
+use Rattle.counted_trade.specs.Sold.{unless_stock, licensed_sale}
 use Rattle.counted_trade.specs.Series.{series_key, key_of, SoldStand, HasRoomToSell}
 use Rattle.counted_trade.proofs.KeyLaws.{Adds, series_parts, same_sold_key}
 
@@ -105,24 +106,24 @@ sold_small (e ∷ es) vendor issuer epoch = go (sale_of e) (sale_worth e) (sold_
 
 -- ---- counting
 
-pub counted_sale : (old new : SumTableView) (h : History) (e : Entry) (x : Licensed) (number : ℕ) → number < 2 ^ 64 → x.id < 2 ^ 64 → number ≡ length h → SoldStand old h
-    → licensed_sale e ≡ Some (sale_view x) → HasRoomToSell old e → Adds old new x.value → SoldStand new (h ++ e ∷ [])
+pub counted_sale : (old new : SumTableView) (h : History) (e : Entry) (x : Sold) (number : ℕ) → number < 2 ^ 64 → x.id < 2 ^ 64 → number ≡ length h → SoldStand old h
+    → licensed_sale e ≡ Some (sale_by x) → HasRoomToSell old e → Adds old new x.value → SoldStand new (h ++ e ∷ [])
 counted_sale old new h e x number short fits long counts is room adding =
-    let by = licensed_is e (sale_view x) is in
+    let by = licensed_is e (sale_by x) is in
     let ready : old.room ≡ Some (key_of x.id ++ x.vendor) = subst (λ (o : Option Sale). IfSome o (λ s. old.room ≡ Some (key_of s.id ++ s.vendor))) is room in
     let i : x.id / 2 ^ 56 < 2 ^ 8 = omega (arith, fits) in
     let k : x.id / 2 ^ 32 % 2 ^ 24 < 2 ^ 24 = omega arith in
     let had : sum_of old (key_of x.id ++ x.vendor) ≡ sold_under h x.vendor (issuer_of x.id) (epoch_of x.id) =
     ap (λ (n : ℕ). sum_of old (to_be_bytes w32 n ++ x.vendor)) (sym (series_parts x.id)) ∙ counts.is x.vendor (issuer_of x.id) (epoch_of x.id) i k in
     let small = sold_small h x.vendor (issuer_of x.id) (epoch_of x.id) in
-    let most : x.value ≤ 2 ^ 40 = sale_worth e (sale_view x) by.is in
+    let most : x.value ≤ 2 ^ 40 = sale_worth e (sale_by x) by.is in
     let below : sum_of old (key_of x.id ++ x.vendor) + x.value < 2 ^ 128 = omega (arith, had, small, most, long, short) in
     record {
       is = λ vendor issuer epoch byte three.
           adding (key_of x.id ++ x.vendor) ready below (series_key issuer epoch ++ vendor)
           ∙ ap (λ (b : Bool). cond b (sum_of old (series_key issuer epoch ++ vendor) + x.value) (sum_of old (series_key issuer epoch ++ vendor))) (same_sold_key vendor x.vendor issuer epoch x.id byte three fits)
           ∙ ap (λ (n : ℕ). cond (bytes_eq x.vendor vendor && is_of_series issuer epoch x.id) (n + x.value) n) (counts.is vendor issuer epoch byte three)
-          ∙ sym (adds_sold h e vendor issuer epoch (sale_view x) by);
+          ∙ sym (adds_sold h e vendor issuer epoch (sale_by x) by);
     }
 
 pub counted_no_sale : (old : SumTableView) (h : History) (e : Entry) → SoldStand old h → licensed_sale e ≡ None → SoldStand old (h ++ e ∷ [])

@@ -1,8 +1,7 @@
 -- What an entry sells under a licence.
-use Rattle.std.specs.Prelude.{false, Option, Some, None, option_and_then, if◌then◌else◌}
+use Rattle.std.specs.Prelude.{Option, Some, None, option_and_then, if◌then◌else◌}
 use Rattle.mc_records.specs.Entry.{Entry}
 use Rattle.ledger_model.specs.Stock.{Sale, sale_of}
-use Rattle.counted_trade.specs.declared.sales.Licensed.{Licensed}
 
 abbrev pub unless_stock : Sale → Option Sale
 unless_stock s = if s.stock then None else Some s
@@ -10,6 +9,3 @@ unless_stock s = if s.stock then None else Some s
 -- the sale of an entry that is one under a licence
 abbrev pub licensed_sale : Entry → Option Sale
 licensed_sale e = option_and_then unless_stock (sale_of e)
-
-abbrev pub sale_view : Licensed → Sale
-sale_view s = record { vendor = s.vendor; value = s.value; stock = false; id = s.id }

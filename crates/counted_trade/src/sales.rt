@@ -5,20 +5,12 @@ ghost use Rattle.std.specs.Int.{w32, to_be_bytes};
 ghost use Rattle.mc_records.specs.Views.{entry};
 ghost use Rattle.ledger_model.specs.Pieces.{accepted_piece};
 ghost use Rattle.audit_model.specs.Parts.{part_of};
-ghost use Rattle.counted_trade.specs.Sold.{licensed_sale, sale_view};
+ghost use Rattle.audit_model.specs.Sales.{sale_by};
+ghost use Rattle.counted_trade.specs.Sold.{licensed_sale};
 
-use audit_model::Part;
+use audit_model::{Part, Sold};
 use mc_fields::put_both_if_room;
-use mc_records::{Errand, Record, RecordDeed, errands_are_texts, read_errand};
-use scrip_form::{Id, Name};
-
-/// A sale under a licence.
-#[derive(Clone, Copy)]
-pub(crate) struct Licensed {
-    pub(crate) vendor: Name,
-    pub(crate) value: u64,
-    pub(crate) id: Id,
-}
+use mc_records::Record;
 
 /// The piece that an entry accepts.
 pub(crate) fn paid(r: &Record<'_>) -> Option<Part>
@@ -31,30 +23,13 @@ pub(crate) fn paid(r: &Record<'_>) -> Option<Part>
 }
 
 /// What an entry sells under a licence.
-pub(crate) fn licensed_in(r: &Record<'_>) -> Option<Licensed>
-    ensures { option_map sale_view result ≡ licensed_sale (entry r.now) }
+pub(crate) fn licensed_in(r: &Record<'_>) -> Option<Sold>
+    ensures { option_map sale_by result ≡ licensed_sale (entry r.now) }
 {
-    errands_are_texts();
-    let Record::Accept {
-        target,
-        deed: RecordDeed::Sale { stock, id },
-        ..
-    } = r
-    else {
-        return None;
-    };
-    if *stock {
-        return None;
+    match Sold::read(r) {
+        Some(sold) if !sold.stock => Some(sold),
+        _ => None,
     }
-    let Some(Errand::Buy { vendor, amount }) = read_errand(target) else {
-        return None;
-    };
-    let vendor = Name::new(vendor).unwrap();
-    Some(Licensed {
-        vendor,
-        value: amount,
-        id: *id,
-    })
 }
 
 /// Writes the key of a series and a vendor, whose name has at most 63 bytes, and answers its length: the four bytes of the

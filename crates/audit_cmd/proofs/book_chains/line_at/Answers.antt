@@ -1,18 +1,12 @@
-use Rattle.std.proofs.Common.{List, refl, ap, ◌∙◌}
-use Rattle.std.specs.List.{insert}
+use Rattle.std.proofs.Common.{refl}
 use Rattle.std.proofs.lemmas.Option.{slice_get_read}
-use Rattle.audit_cmd.proofs.Zips.{put_back}
+use Rattle.audit_cmd.specs.Chains.{chain_causes, IsLineOf}
+use Rattle.audit_cmd.proofs.PlaceLaws.{put_read, reads_at}
 use Rattle.audit_cmd.proofs.book_chains.line_at.Goals as goal
 
 pub returns : goal.returns
-returns g c = record {
-  old = c.remove-disk.result;
-  new = c.line_of-disk.result.0;
-  there = slice_get_read c.args.books.now.items _ c.args.place c.remove-disk.result refl c.requires.there c.remove-disk.ensures.value;
-  put = c.in-Ok.ensures.items ∙ ap (λ (l : List g.row.D.Denot). insert l c.args.place c.line_of-disk.result.0) c.remove-disk.ensures.items ∙ put_back c.args.books.now.items c.args.place c.line_of-disk.result.0 c.requires.there;
-  read = c.line_of-disk.ensures.read;
-  moves = c.line_of-disk.ensures.moved;
-  told = c.line_of-disk.ensures.exact;
-  count = c.line_of-disk.ensures.fault;
-  at = c.line_of-disk.ensures.place;
-}
+returns g c =
+    let before = c.args.books.now.items in
+    let there = slice_get_read before _ c.args.place c.remove-disk.result refl c.requires.there c.remove-disk.ensures.value in
+    let put = put_read before _ _ c.args.place c.said_of-disk.result.0 _ c.requires.there c.remove-disk.ensures.items c.in-Ok.ensures.items c.said_of-disk.ensures.disk in
+    rw c.said_of-disk.ensures.said (reads_at g.D.Disk.disk g.D.Disk.disk_moved chain_causes IsLineOf c.args.place before _ c.remove-disk.result c.read_chain.result (record { moves = c.read_chain.ensures.moved; only = c.read_chain.ensures.read; reads = c.read_chain.ensures.exact; counts = c.read_chain.ensures.fault }) there put)

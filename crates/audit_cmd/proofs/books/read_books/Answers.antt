@@ -2,7 +2,8 @@ use Rattle.std.proofs.Common.{◌≡◌, ◌<◌, ℕ, [], length, refl, ap, Ok,
 use Rattle.mc_outside.proofs.Runs.{read_none}
 use Rattle.audit_cmd.specs.Reading.{IsKeptOf}
 use Rattle.audit_cmd.specs.Books.{IsLawfulBook}
-use Rattle.audit_cmd.specs.Loops.{audit_causes, KeptAll}
+use Rattle.audit_cmd.specs.Reading.{audit_causes}
+use Rattle.audit_cmd.specs.Loops.{KeptAll}
 use Rattle.audit_cmd.proofs.Deciding.{ends_so}
 use Rattle.audit_cmd.proofs.KeptLaws.{none_kept, all_lawful}
 use Rattle.audit_cmd.proofs.Loops.{goes_on, halted_read, halted_moved, counts_stay, halts, halt_counts, whole_read, whole_moved, whole_counts, whole_told}

@@ -1,5 +1,5 @@
 use Rattle.std.proofs.Common.{map, sym, ap, ◌∙◌, subst}
-use Rattle.audit_sums.specs.Rows.{sale_by}
+use Rattle.audit_model.specs.Sales.{sale_by}
 use Rattle.relayed_books.specs.Tree.{is_genuine}
 use Rattle.audit_cmd.specs.Marks.{MarksShow}
 use Rattle.audit_cmd.specs.Desks.{StandsAt}

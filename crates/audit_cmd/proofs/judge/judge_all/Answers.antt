@@ -3,8 +3,8 @@ use Rattle.std.specs.List.{AllByRecursion}
 use Rattle.std.specs.Prelude.{filter_map, option_to_list}
 use Rattle.std.proofs.lemmas.List.{take_all}
 use Rattle.ledger_model.specs.Stock.{Sale}
-use Rattle.audit_sums.specs.declared.rows.Sold.{Sold as Row}
-use Rattle.audit_sums.specs.Rows.{sale_by}
+use Rattle.audit_model.specs.declared.sold.Sold.{Sold as Row}
+use Rattle.audit_model.specs.Sales.{sale_by}
 use Rattle.audit_search.specs.Audit.{has_book}
 use Rattle.relayed_books.specs.Tree.{Sold, sold_as, is_genuine}
 use Rattle.audit_cmd.specs.Marks.{MarksShow}

@@ -3,7 +3,7 @@ use Rattle.std.specs.List.{AllByRecursion}
 use Rattle.ledger_model.specs.Histories.{History}
 use Rattle.ledger_model.specs.Houses.{site_name}
 use Rattle.ledger_model.specs.Stock.{Sale}
-use Rattle.audit_sums.specs.Rows.{sale_by}
+use Rattle.audit_model.specs.Sales.{sale_by}
 use Rattle.audit_search.specs.Audit.{has_book}
 use Rattle.audit_search.specs.Standing.{StandFor}
 use Rattle.relayed_books.specs.Tree.{Sold, sold_over, is_genuine}

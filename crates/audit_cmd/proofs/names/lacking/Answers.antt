@@ -2,7 +2,7 @@ use Rattle.std.proofs.Common.{◌≡◌, ℕ, ◌+◌, Bool, List, Option, true,
 use Rattle.std.specs.Prelude.{is_some, MatchOption}
 use Rattle.std.proofs.lemmas.List.{take_all}
 use Rattle.name_places.specs.NamePlaces.{place_of}
-use Rattle.audit_sums.specs.declared.rows.Sold.{Sold}
+use Rattle.audit_model.specs.declared.sold.Sold.{Sold}
 use Rattle.audit_sums.specs.declared.audit_sums.BookSums.{BookSums}
 use Rattle.audit_sums.specs.Learned.{sales_of}
 use Rattle.audit_search.specs.Checks.{is_desk}

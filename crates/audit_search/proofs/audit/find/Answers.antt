@@ -1,7 +1,7 @@
 use Rattle.std.proofs.Common.{◌≡◌, ℕ, List, true, Option, sym, ap, ◌∙◌, subst}
 use Rattle.std.specs.Prelude.{is_some, MatchOption}
 use Rattle.name_places.specs.NamePlaces.{NamePlacesView, place_of}
-use Rattle.audit_sums.specs.declared.rows.Sold.{Sold}
+use Rattle.audit_model.specs.declared.sold.Sold.{Sold}
 use Rattle.audit_sums.specs.Learned.{sales_of}
 use Rattle.audit_search.specs.Markets.{has_vendor, own_names, IsLeast, HasAll}
 use Rattle.audit_search.proofs.NameLaws.{least_by, all_by_same}

@@ -1,7 +1,7 @@
 use Rattle.std.proofs.Common.{List, ◌++◌, take}
 use Rattle.std.specs.Prelude.{is_some, MatchOption}
 use Rattle.name_places.specs.NamePlaces.{place_of}
-use Rattle.audit_sums.specs.declared.rows.Sold.{Sold}
+use Rattle.audit_model.specs.declared.sold.Sold.{Sold}
 use Rattle.audit_search.specs.Markets.{IsLeast, HasAll}
 use Rattle.audit_search.proofs.market.least_beside.Given as goal
 

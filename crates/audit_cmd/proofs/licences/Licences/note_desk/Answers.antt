@@ -1,5 +1,5 @@
 use Rattle.std.proofs.Common.{map, sym, ap, ◌∙◌, subst}
-use Rattle.audit_sums.specs.Rows.{sale_by}
+use Rattle.audit_model.specs.Sales.{sale_by}
 use Rattle.audit_cmd.specs.Marks.{LicencesShow}
 use Rattle.audit_cmd.specs.Desks.{StandsAt}
 use Rattle.audit_cmd.proofs.DeskLaws.{none_more, vendor_sold}

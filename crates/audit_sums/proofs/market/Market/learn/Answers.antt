@@ -7,7 +7,7 @@ pub returns : goal.returns
 returns c h shows =
     let e = entry c.args.r.now in
     after_ok c.put_stock.result (λ is. record {
-      sales' = sales_more h e _ _ c.sale.result shows.sales' c.sale.ensures c.in_ok-put.ensures;
+      sales' = sales_more h e _ _ c.read.result shows.sales' c.read.ensures c.in_ok-put.ensures;
       licences' = rows_more licence_of h e _ _ c.licence.result shows.licences' c.licence.ensures c.in_ok-put-2.ensures;
       stock' = lists_more stocked_of h e _ _ shows.stock' is;
     }) c.put_stock.ensures
