@@ -6,3 +6,4 @@ pub mod Naming
 pub mod Usage
 pub mod Beginning
 pub mod Secrets
+pub mod Unfit

@@ -14,6 +14,7 @@ mod place;
 mod reading;
 mod secrets;
 mod table;
+mod unfit;
 mod usage;
 mod value;
 mod within;
@@ -23,7 +24,7 @@ pub use books::{Books, books_in};
 pub use contents::Contents;
 pub use parameter::{
     LEAST_KEPT, LEAST_PERIOD, MOST_EPOCH, MOST_HEADS, MOST_ISSUER, MOST_KEPT, MOST_KIND,
-    MOST_LINKS, MOST_MINTED, MOST_SECONDS, Parameter,
+    MOST_LINKS, MOST_MINTED, MOST_SECONDS, Parameter, Shape, Sort,
 };
 pub use place::Place;
 pub use reading::{
@@ -32,6 +33,7 @@ pub use reading::{
 };
 pub use secrets::{reads_secrets, secrets_of};
 pub use table::{COMMANDS, CommandName, named, read_command};
+pub use unfit::unfit_parameter;
 pub use usage::{Usage, usage_of};
 pub use value::{MOST_NUMBER, number_from};
 pub use within::{

@@ -1,6 +1,6 @@
 //! Whether the parameters of a command have words that spell values, or none yet.
 
-ghost use Rattle.std.specs.Prelude.{◌≡◌, ◌≤◌, true, length, decimal, IfSome, IsTrue, ◌↔◌};
+ghost use Rattle.std.specs.Prelude.{◌≡◌, ◌≤◌, true, length, decimal, IfSome, IsNone, IsTrue, ◌↔◌};
 ghost use Rattle.std.specs.List.{AllByRecursion};
 ghost use Rattle.hex.specs.Hex.{encode_lower};
 ghost use Rattle.scrip_form.specs.Texts.{IsName, IsTarget};
@@ -34,15 +34,23 @@ pub(crate) fn fits(name: CommandName, found: &Found<'_>) -> bool
 fn each_may_be(found: &Found<'_>, parameters: &[Parameter]) -> bool
     ensures { IsTrue result ↔ EachMayBe found.now parameters.now }
 {
-    for parameter in parameters {
-        if !may_be(found, *parameter) {
-            return false;
-        }
-    }
-    true
+    first_unfit(found, parameters).is_none()
 }
 
-/// Whether this one does.
+/// The first of these parameters that has words which spell no value of it.
+pub(crate) fn first_unfit(found: &Found<'_>, parameters: &[Parameter]) -> Option<Parameter>
+    ensures none { IsNone result ↔ EachMayBe found.now parameters.now }
+    ensures some { IfSome result (λ p. MayBe found.now (name_of p) (shape_of p) → ⊥) }
+{
+    for parameter in parameters {
+        if !may_be(found, *parameter) {
+            return Some(*parameter);
+        }
+    }
+    None
+}
+
+/// Whether this one has words that spell a value, or none.
 fn may_be(found: &Found<'_>, parameter: Parameter) -> bool
     ensures { IsTrue result ↔ MayBe found.now (name_of parameter) (shape_of parameter) }
 {

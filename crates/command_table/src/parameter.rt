@@ -147,7 +147,7 @@ pub enum Parameter {
 
 impl Parameter {
     /// How it is called in a usage line.
-    pub(crate) fn name(self) -> &'static str
+    pub fn name(self) -> &'static str
         ensures { result.now ≡ name_of self }
     {
         match self {
@@ -188,7 +188,7 @@ impl Parameter {
     }
 
     /// How it is written, and what its words spell.
-    pub(crate) fn shape(self) -> Shape
+    pub fn shape(self) -> Shape
         ensures shape { result ≡ shape_of self }
         ensures range { is_range result ≡ true }
     {

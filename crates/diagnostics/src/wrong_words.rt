@@ -1,11 +1,11 @@
 //! What is told of words that are of no command.
 
-use command_table::usage_of;
+use command_table::{Shape, Sort, unfit_parameter, usage_of};
 use mc_words::{WrongWord, wrong_word};
 use std::alloc::{AllocError, Global};
 
-/// Tells on standard error which word is wrong, where one is, by its place where it may be a secret, and which
-/// words the command has that these begin with, or which commands there are.
+/// Tells on standard error which word is wrong, where one is, by its place where it may be a secret, what may stand there,
+/// and which words the command has that these begin with, or which commands there are.
 pub fn tell_usage(rt: &impl Eprint, alloc: Global, words: &[String]) {
     match wrong_word(alloc, words) {
         Ok(Some(WrongWord::Word(word))) => {
@@ -20,8 +20,39 @@ pub fn tell_usage(rt: &impl Eprint, alloc: Global, words: &[String]) {
         }
         Ok(None) | Err(_) => {}
     }
+    tell_values(rt, alloc, words);
     let line = usage_of(words);
     let _ = eprintln!(rt; "{line}");
+}
+
+/// Tells which values a parameter has, where a word spells none of them.
+fn tell_values(rt: &impl Eprint, alloc: Global, words: &[String]) {
+    let Ok(Some(parameter)) = unfit_parameter(alloc, words) else {
+        return;
+    };
+    match parameter.shape() {
+        Shape::One(sort) => tell_sort(rt, "", parameter.name(), sort),
+        Shape::Places => tell_sort(rt, "", parameter.name(), Sort::Place),
+        Shape::Setting(sort) => tell_sort(rt, "--", parameter.name(), sort),
+        Shape::Flag => {}
+    }
+}
+
+/// Tells which words of this sort the parameter of this name has.
+fn tell_sort(rt: &impl Eprint, hyphens: &str, name: &str, sort: Sort) {
+    let what = match sort {
+        Sort::Number(least, most) => {
+            let _ = eprintln!(rt; "millicent: {hyphens}{name} is a number from {least} to {most}");
+            return;
+        }
+        Sort::Place => "1 to 255 bytes",
+        Sort::Name => "1 to 63 of a to z, 0 to 9, - and ., the first a letter or a digit",
+        Sort::Target => "1 to 512 visible characters, the first /",
+        Sort::Contents => "65,536 bytes at most",
+        Sort::Secret => "32 of 0 to 9 and a to f",
+        Sort::Secrets => "1 to 16 times 32 of 0 to 9 and a to f, with a comma between each two",
+    };
+    let _ = eprintln!(rt; "millicent: {hyphens}{name} is {what}");
 }
 
 /// Tells where it is the capital letters for which the word is wrong.

@@ -1,13 +1,11 @@
 //! What is told on standard error of a line of the input that a command refused.
 
+use crate::told::Told;
 use diagnostics::tell_bad_line;
 use mc_outside::Link;
 use mc_site::{Book, Site, Streams};
 use std::alloc::Global;
-use std::cell::Cell;
-use std::fmt::Display;
 use std::fs::File;
-use std::io;
 use std::test::Fail;
 
 const MINTED: &str =
@@ -19,24 +17,6 @@ const ISSUED: &str =
 const CHANGE: &str =
     "MS1|news.example|100|0000000000000001|0000000000000002|12288||0123456789abcdef0123456789abcdef 00112233445566778899aabbccddeeff\n";
 
-/// A standard error that keeps the last line.
-#[derive(Drop)]
-struct LastLine {
-    alloc: Global,
-    line: Cell<String>,
-}
-
-impl Eprint for LastLine {
-    fn eprint<D: Display + Drop>(&self, value: D) -> io::Result<()> {
-        self.line.set(format!(in self.alloc; "{value}")?);
-        Ok(())
-    }
-
-    fn eprintln<D: Display + Drop>(&self, value: D) -> io::Result<()> {
-        self.eprint(value)
-    }
-}
-
 /// What is told of the only line of an input for a vendor's stock, which was refused.
 fn told_of(rt: &HostRuntime, vendor: &str, line: &str) -> Result<String, Fail> {
     let alloc = rt.alloc();
@@ -46,14 +26,11 @@ fn told_of(rt: &HostRuntime, vendor: &str, line: &str) -> Result<String, Fail> {
     site.keep(alloc);
     refuse(&mut site);
     let words = words_of(alloc, vendor)?;
-    let told = LastLine {
-        alloc,
-        line: Cell::new(String::new(alloc)),
-    };
+    let told = Told::new(alloc);
     if let Some(passed) = site.passed() {
         tell_bad_line(&told, &words, passed);
     }
-    Ok(told.line.replace(String::new(alloc)))
+    Ok(told.text())
 }
 
 /// Takes the line, and says that it is refused.
@@ -76,18 +53,18 @@ fn words_of(alloc: Global, vendor: &str) -> Result<Vec<String>, Fail> {
 #[test]
 fn each_line_of_a_stock_has_its_fault(rt: HostRuntime) -> Result<(), Fail> {
     let rows = [
-        ("MS1|a\r\n", "a carriage return stands in it"),
-        ("MS1|a", "it has no line end"),
-        ("\n", "it is empty"),
+        ("MS1|a\r\n", "a carriage return stands in it\n"),
+        ("MS1|a", "it has no line end\n"),
+        ("\n", "it is empty\n"),
         (
             "MS1|a b\n",
-            "it does not begin with the text of a piece and a space",
+            "it does not begin with the text of a piece and a space\n",
         ),
         (
             ISSUED,
-            "the piece is an issuer's, not of the vendor's own making",
+            "the piece is an issuer's, not of the vendor's own making\n",
         ),
-        (CHANGE, "the piece is not as its vendor minted it"),
+        (CHANGE, "the piece is not as its vendor minted it\n"),
     ];
     for (line, fault) in &rows {
         let told = told_of(&rt, "news.example", line)?;
@@ -96,7 +73,7 @@ fn each_line_of_a_stock_has_its_fault(rt: HostRuntime) -> Result<(), Fail> {
     let told = told_of(&rt, "shop", MINTED)?;
     assert_eq!(rt;
         told.as_str(),
-        "millicent: line 1: the piece is of another vendor"
+        "millicent: line 1: the piece is of another vendor\n"
     );
     Ok(())
 }

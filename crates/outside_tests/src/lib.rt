@@ -14,3 +14,7 @@ mod input_faults;
 mod listener;
 #[cfg(test)]
 mod site;
+#[cfg(test)]
+mod told;
+#[cfg(test)]
+mod wrong_words;

@@ -1,9 +1,9 @@
 use Rattle.std.proofs.Common.{arith, refl}
 use Rattle.command_table.proofs.SpellLemmas.{each_last, each_next}
-use Rattle.command_table.proofs.may.each_may_be.Goals as goal
+use Rattle.command_table.proofs.may.first_unfit.Goals as goal
 
-pub returns-then-not-may_be : goal.returns-then-not-may_be
-returns-then-not-may_be c = (
+pub returns-then-not-may_be-clause-none : goal.returns-then-not-may_be-clause-none
+returns-then-not-may_be-clause-none c = (
   λ t. absurd (cc t),
   λ each.
       let next = (each_next c.args.found.now c.args.parameters.now c.loop-parameter.parameter-index _ c.loop-parameter-test.true).0 (c.loop-parameter.invariant.0 each) in
@@ -18,8 +18,8 @@ loop-parameter-preserved c =
       λ others. c.loop-parameter.invariant.1 (next.1 (c.may_be.ensures.0 c.if-not-may_be.false, others)),
     )
 
-pub returns : goal.returns
-returns c = (
+pub returns-clause-none : goal.returns-clause-none
+returns-clause-none c = (
   λ t. c.loop-parameter.invariant.1 (each_last c.args.found.now c.args.parameters.now c.loop-parameter.parameter-index (omega (arith, c.loop-parameter-test.false))),
   λ each. refl,
 )

@@ -1,0 +1,19 @@
+-- The parameter that has a word of no value.
+use Rattle.std.specs.Prelude.{◌≡◌, List, map, drop, Some}
+use Rattle.clap.specs.Walk.{Row, Text}
+use Rattle.command_words.specs.Arguments.{found, optional}
+use Rattle.command_table.specs.declared.table.CommandName.{CommandName}
+use Rattle.command_table.specs.declared.parameter.Parameter.{Parameter}
+use Rattle.command_table.specs.Parameters.{name_of, shape_of}
+use Rattle.command_table.specs.Table.{form_of, rules}
+use Rattle.command_table.specs.Naming.{named}
+use Rattle.command_table.specs.Values.{MayBe}
+
+-- The words are of this command, `clap` takes those behind its name, none of them being required, and what it finds of the
+-- parameter can't become a value.
+pub record IsUnfit (words : List Text) (parameter : Parameter) : Type 0 where
+  pub name : CommandName
+  pub command : named words ≡ Some name
+  pub rows : List Row
+  pub taken : found (map optional (rules (form_of name))) (drop 2 words) ≡ Some rows
+  pub unfit : MayBe rows (name_of parameter) (shape_of parameter) → ⊥

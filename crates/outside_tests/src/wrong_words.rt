@@ -1,0 +1,56 @@
+//! What is told on standard error of words that are of no command.
+
+use crate::told::Told;
+use diagnostics::tell_usage;
+use std::alloc::Global;
+use std::test::Fail;
+
+/// What is told of these words.
+fn told_of(alloc: Global, words: &[&str]) -> Result<String, Fail> {
+    let mut copies = Vec::new(alloc);
+    for word in words {
+        copies.push(String::from_str(alloc, *word)?)?;
+    }
+    let told = Told::new(alloc);
+    tell_usage(&told, alloc, &copies);
+    Ok(told.text())
+}
+
+#[test]
+fn a_word_of_no_value_is_told_with_the_values(rt: HostRuntime) -> Result<(), Fail> {
+    let price = told_of(
+        rt.alloc(),
+        &["vendor", "price", "news.book", "/news/1", "0"],
+    )?;
+    assert_eq!(rt;
+        price.as_str(),
+        "millicent: 0: wrong word\n\
+         millicent: PRICE is a number from 1 to 1099511627776\n\
+         usage: millicent vendor price BOOK TARGET PRICE\n"
+    );
+    let kind = told_of(
+        rt.alloc(),
+        &[
+            "vendor",
+            "goods",
+            "news.book",
+            "/news/1",
+            "25",
+            "--kind",
+            "3",
+        ],
+    )?;
+    assert_eq!(rt;
+        kind.as_str(),
+        "millicent: 3: wrong word\n\
+         millicent: --kind is a number from 0 to 2\n\
+         usage: millicent vendor goods BOOK TARGET PRICE [--kind VALUE]\n"
+    );
+    let more = told_of(rt.alloc(), &["wallet", "list", "a.book", "b.book"])?;
+    assert_eq!(rt;
+        more.as_str(),
+        "millicent: b.book: wrong word\n\
+         usage: millicent wallet list BOOK\n"
+    );
+    Ok(())
+}
