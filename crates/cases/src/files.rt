@@ -1,11 +1,8 @@
 //! Files of cases, line by line.
 
-use crate::schedule_verbs::Schedules;
-use crate::{
-    desk_verbs, ledger_verbs, market_verbs, operator_verbs, program_verbs, proxy_verbs,
-    reply_verbs, wallet_verbs,
-};
+use crate::program_verbs;
 use case_lines::{Fault, Lines, State, number, tokens};
+use case_wallets::Schedules;
 use std::alloc::Global;
 
 /// How far a file was read.
@@ -95,49 +92,14 @@ fn act(state: &mut State, verb: &[u8], args: &[&[u8]], out: &mut Lines) -> Resul
     if let Some(done) = case_lines::act(state, verb, args, out) {
         return done;
     }
-    if let Some(done) = on_houses(state, verb, args, out) {
+    if let Some(done) = case_houses::act(state, verb, args, out) {
         return done;
     }
-    match on_wallets(state, verb, args, out) {
+    if let Some(done) = case_wallets::act(state, verb, args, out) {
+        return done;
+    }
+    match program_verbs::act(state, verb, args, out) {
         Some(done) => done,
         None => Err(Fault::Verb),
     }
-}
-
-/// The verbs that ask a wallet's book, read replies, or run a wallet that pays for a browser.
-fn on_wallets(
-    state: &mut State,
-    verb: &[u8],
-    args: &[&[u8]],
-    out: &mut Lines,
-) -> Option<Result<(), Fault>> {
-    if let Some(done) = wallet_verbs::ask(state, verb, args, out) {
-        return Some(done);
-    }
-    if let Some(done) = reply_verbs::read(state, verb, args, out) {
-        return Some(done);
-    }
-    proxy_verbs::act(state, verb, args, out)
-}
-
-/// The verbs that run the program or a house.
-fn on_houses(
-    state: &mut State,
-    verb: &[u8],
-    args: &[&[u8]],
-    out: &mut Lines,
-) -> Option<Result<(), Fault>> {
-    if let Some(done) = program_verbs::act(state, verb, args, out) {
-        return Some(done);
-    }
-    if let Some(done) = operator_verbs::enter(state, verb, args, out) {
-        return Some(done);
-    }
-    if let Some(done) = desk_verbs::enter(state, verb, args, out) {
-        return Some(done);
-    }
-    if let Some(done) = market_verbs::ask(state, verb, args, out) {
-        return Some(done);
-    }
-    ledger_verbs::ask(state, verb, args, out)
 }

@@ -4,16 +4,8 @@
 //! program with status 1, and so does a file that cannot be read or does not end with its count of cases.
 #![tactic(auto)]
 
-mod desk_verbs;
 mod files;
-mod ledger_verbs;
-mod market_verbs;
-mod operator_verbs;
 mod program_verbs;
-mod proxy_verbs;
-mod reply_verbs;
-mod schedule_verbs;
-mod wallet_verbs;
 
 use case_lines::{Fault, Lines, State};
 use files::Progress;

@@ -3,7 +3,7 @@
 ghost use Rattle.std.specs.Prelude.{[]};
 ghost use Rattle.mc_records.specs.Limits.{AreInRange};
 
-use crate::program_verbs::unopened;
+use crate::serve_verbs::unopened;
 use broker_core::Desk;
 use case_lines::{Asked, Fault, Lines, State, number, stage_of};
 use house_opening::open_house;
@@ -73,12 +73,12 @@ fn stage_of_book(state: &State) -> Result<Stage, Fault> {
 }
 
 /// The entries of the book.
-pub(crate) fn history(state: &State) -> Result<History, Fault> {
+pub fn history(state: &State) -> Result<History, Fault> {
     history_on(state.alloc, stage_of_book(state)?)
 }
 
 /// The entries of a book of these bytes.
-pub(crate) fn history_of(alloc: Global, book: Vec<u8>) -> Result<History, Fault> {
+pub fn history_of(alloc: Global, book: Vec<u8>) -> Result<History, Fault> {
     history_on(alloc, stage_of(alloc, book, Vec::new(alloc))?)
 }
 
@@ -185,7 +185,7 @@ fn show_house(verdict: &Verdict, out: &mut Lines) {
 }
 
 /// Prints a line that ends with the text of a refusal.
-pub(crate) fn show_refusal(verb: &str, refusal: &Refusal, out: &mut Lines) {
+pub fn show_refusal(verb: &str, refusal: &Refusal, out: &mut Lines) {
     let mut room = [0; MOST_REFUSAL_BYTES];
     let end = put_refusal_text(&mut room, 0, refusal);
     out.start(verb);

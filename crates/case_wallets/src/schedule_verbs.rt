@@ -7,7 +7,7 @@ ghost use Rattle.mc_records.specs.Sizes.{size};
 ghost use Rattle.ledger_model.specs.Lawful.{IsLawful};
 ghost use Rattle.wallet_model.specs.Follows.{IsWalletBook};
 
-use crate::ledger_verbs::history_of;
+use case_houses::history_of;
 use case_lines::{Fault, Lines, State, number, show_entry, small};
 use ledger_model::History;
 use mc_base::Amount;
@@ -29,7 +29,7 @@ struct Named {
 
 /// The histories that have names, and the schedule of the case.
 #[derive(Drop)]
-pub(crate) struct Schedules {
+pub struct Schedules {
     named: Vec<Named>,
     schedule: Schedule,
 }
@@ -60,7 +60,8 @@ impl Schedule {
 }
 
 impl Schedules {
-    pub(crate) fn new(alloc: Global) -> Schedules {
+    /// No histories that have names, and an empty schedule.
+    pub fn new(alloc: Global) -> Schedules {
         Schedules {
             named: Vec::new(alloc),
             schedule: Schedule::new(alloc),
@@ -68,12 +69,12 @@ impl Schedules {
     }
 
     /// Forgets all but the names, as each case begins.
-    pub(crate) fn forget(&mut self, alloc: Global) {
+    pub fn forget(&mut self, alloc: Global) {
         self.schedule = Schedule::new(alloc);
     }
 
     /// The verbs of this module; None where the verb is none of them.
-    pub(crate) fn act(
+    pub fn act(
         &mut self,
         state: &State,
         verb: &[u8],

@@ -5,7 +5,7 @@ ghost use Rattle.std.specs.Prelude.{◌<◌, ◌^◌, [], IfOk, IsSome};
 ghost use Rattle.house_core.specs.House.{IfDone};
 
 use crate::ledger_verbs::show_refusal;
-use crate::program_verbs::unopened;
+use crate::serve_verbs::unopened;
 use case_lines::{Fault, Lines, State, number, show_chain, small, terms};
 use house_core::{House, Outcome};
 use house_opening::open_house;

@@ -4,7 +4,7 @@
 ghost use Rattle.std.specs.Prelude.{◌≡◌};
 ghost use Rattle.slow_wallet.specs.Choices.{target_of, asking_view};
 
-use crate::ledger_verbs::{history, show_refusal};
+use case_houses::{history, show_refusal};
 use case_lines::{Fault, Lines, State, number};
 use mc_base::{Moment, NoMemory};
 use mc_records::Record;
