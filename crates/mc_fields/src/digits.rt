@@ -41,8 +41,7 @@ fn read_byte(bytes: &[u8]) -> Result<(u8, &[u8]), Stuck>
     }
 }
 
-/// The value of a hex digit in lower case, and 16 or more of any other byte. It is a choice of values, not of ways to go:
-/// a processor can't foresee a digit.
+/// The value of a hex digit in lower case, and 16 or more of any other byte.
 #[inline(always)]
 #[tactic(auto, unfolding(crate::specs::Reading::digit_of))]
 fn digit_value(byte: u8) -> u8
