@@ -43,7 +43,6 @@ impl BookReader {
 pub(crate) struct Auditor;
 
 impl Opener for Auditor {
-    ghost use Rattle.audit_cmd.specs.OneBook.{read_disk};
     ghost use Rattle.audit_cmd.specs.Reading.{auditor};
     ghost use Rattle.audit_cmd.specs.Notes.{site_first, tells_chain};
 
