@@ -1,18 +1,18 @@
 //! The parameter of a command that has a word of no value.
 
-ghost use Rattle.std.specs.Prelude.{map, string_bytes, IfOk, IfSome};
-ghost use Rattle.command_table.specs.Unfit.{IsUnfit};
+ghost use Rattle.std.specs.Prelude.{map, string_bytes, IfOk};
+ghost use Rattle.command_table.specs.Unfit.{IsToldUnfit};
 
 use crate::may::first_unfit;
 use crate::parameter::Parameter;
 use crate::table::{named, parts_of, read_beginning_of};
 use std::alloc::{AllocError, Global};
 
-/// The first parameter of the command that words begin with, that has words which spell no value of it; None where the
-/// words are of no command, where `clap` does not take them, even if none were required, or where each spells a value. An
-/// Err is want of memory alone.
+/// A parameter of the command that words begin with, that has words which spell no value of it; None exactly where the words
+/// are of no command, where `clap` does not take them, even if none were required, or where each spells a value. An Err is
+/// want of memory alone.
 pub fn unfit_parameter(alloc: Global, words: &[String]) -> Result<Option<Parameter>, AllocError>
-    ensures { IfOk result (λ p. IfSome p (IsUnfit (map string_bytes words.now))) }
+    ensures { IfOk result (IsToldUnfit (map string_bytes words.now)) }
 {
     let Some(name) = named(words) else {
         return Ok(None);
