@@ -41,16 +41,40 @@ fn read_byte(bytes: &[u8]) -> Result<(u8, &[u8]), Stuck>
     }
 }
 
-/// The value of a hex digit in lower case, and 16 or more of any other byte.
+/// The value of each byte as a hex digit in lower case, and 255 of those that are none. A table has no way to choose, and a
+/// digit can't be foreseen.
+const VALUES: [u8; 256] = [
+    255, 255, 255, 255, 255, 255, 255, 255, 255, 255, 255, 255, 255, 255, 255, 255, 255, 255, 255,
+    255, 255, 255, 255, 255, 255, 255, 255, 255, 255, 255, 255, 255, 255, 255, 255, 255, 255, 255,
+    255, 255, 255, 255, 255, 255, 255, 255, 255, 255, 0, 1, 2, 3, 4, 5, 6, 7, 8, 9, 255, 255, 255,
+    255, 255, 255, 255, 255, 255, 255, 255, 255, 255, 255, 255, 255, 255, 255, 255, 255, 255, 255,
+    255, 255, 255, 255, 255, 255, 255, 255, 255, 255, 255, 255, 255, 255, 255, 255, 255, 10, 11,
+    12, 13, 14, 15, 255, 255, 255, 255, 255, 255, 255, 255, 255, 255, 255, 255, 255, 255, 255, 255,
+    255, 255, 255, 255, 255, 255, 255, 255, 255, 255, 255, 255, 255, 255, 255, 255, 255, 255, 255,
+    255, 255, 255, 255, 255, 255, 255, 255, 255, 255, 255, 255, 255, 255, 255, 255, 255, 255, 255,
+    255, 255, 255, 255, 255, 255, 255, 255, 255, 255, 255, 255, 255, 255, 255, 255, 255, 255, 255,
+    255, 255, 255, 255, 255, 255, 255, 255, 255, 255, 255, 255, 255, 255, 255, 255, 255, 255, 255,
+    255, 255, 255, 255, 255, 255, 255, 255, 255, 255, 255, 255, 255, 255, 255, 255, 255, 255, 255,
+    255, 255, 255, 255, 255, 255, 255, 255, 255, 255, 255, 255, 255, 255, 255, 255, 255, 255, 255,
+    255, 255, 255, 255, 255, 255, 255, 255, 255, 255, 255, 255, 255, 255, 255, 255, 255, 255, 255,
+    255, 255, 255, 255,
+];
+
+/// The value of a hex digit in lower case, and 255 of any other byte.
 #[inline(always)]
-#[tactic(auto, unfolding(crate::specs::Reading::digit_of))]
 fn digit_value(byte: u8) -> u8
     ensures digit { result < 16 → digit_of byte ≡ Some result }
     ensures other { 16 ≤ result → digit_of byte ≡ None }
 {
-    match byte {
-        b'0'..=b'9' => byte - b'0',
-        b'a'..=b'f' => byte - 87,
-        _ => 255,
-    }
+    value_in(&VALUES, byte)
+}
+
+/// The same, by the table.
+#[inline(always)]
+fn value_in(table: &[u8; 256], byte: u8) -> u8
+    requires { table.now ≡ VALUES }
+    ensures digit { result < 16 → digit_of byte ≡ Some result }
+    ensures other { 16 ≤ result → digit_of byte ≡ None }
+{
+    table[byte as usize]
 }
